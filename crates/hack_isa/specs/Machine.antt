@@ -1,0 +1,63 @@
+-- The Hack machine: its state, one step, and a run. (The book, chapters 4 and 5.)
+use Rattle.std.specs.Prelude.{ℕ, zero, suc, ◌+◌, ◌%◌, Bool, nat_lt, nat_eq, if◌then◌else◌, ◌&&◌, List, [], ◌∷◌, slice_index}
+use Rattle.word16.specs.Words.{has_bit}
+use Rattle.hack_isa.specs.Table.{alu_out, instr_of}
+use Rattle.hack_isa.specs.declared.Instr.{Instr}
+use Rattle.hack_isa.specs.declared.Instr.TheVariants.{Address, Compute}
+
+-- A, D, the program counter, and the word at each data address below 24,576
+pub record Machine : Type 0 where
+  pub a : ℕ
+  pub d : ℕ
+  pub pc : ℕ
+  pub memory : ℕ → ℕ
+
+abbrev pub start : Machine
+start = record { a = 0; d = 0; pc = 0; memory = λ k. 0 }
+
+-- What M is: a word of memory, or, from 24,576 on, the key. Of A the lowest 15 bits address memory.
+unfoldable pub read : (ℕ → ℕ) → ℕ → ℕ → ℕ
+read memory key a = if nat_lt (a % 32768) 24576 then memory (a % 32768) else key
+
+-- memory after a write, which changes nothing from 24,576 up
+unfoldable pub write : (ℕ → ℕ) → ℕ → ℕ → ℕ → ℕ
+write memory a v k = if nat_eq k (a % 32768) && nat_lt k 24576 then v else memory k
+
+-- whether a jump's condition holds: less, equal, greater than 0
+unfoldable pub jumps : ℕ → ℕ → Bool
+jumps jump out =
+    if nat_lt 32767 out then has_bit jump 2 else if nat_eq out 0 then has_bit jump 1 else has_bit jump 0
+
+-- one instruction
+abbrev pub perform : Instr → ℕ → Machine → Machine
+perform (Address n) key s = record s { a = n; pc = (s.pc + 1) % 32768 }
+perform (Compute m comp dest jump) key s =
+    let out = alu_out comp s.d (if m then read s.memory key s.a else s.a) in
+    record {
+      a = if has_bit dest 2 then out else s.a;
+      d = if has_bit dest 1 then out else s.d;
+      pc = if jumps jump out then s.a % 32768 else (s.pc + 1) % 32768;
+      memory = if has_bit dest 0 then write s.memory s.a out else s.memory;
+    }
+
+-- the instruction at the program counter; words past the image are 0
+abbrev pub fetch : List ℕ → Machine → Instr
+fetch image s = instr_of (slice_index image s.pc)
+
+unfoldable pub step : List ℕ → ℕ → Machine → Machine
+step image key s = perform (fetch image s) key s
+
+-- a run under a list of keys, one for each step
+abbrev pub run : List ℕ → List ℕ → Machine → Machine
+run image [] s = s
+run image (key ∷ keys) s = run image keys (step image key s)
+
+-- the machine at cycle c from its start, where the key in cycle k is `keys k`
+abbrev pub machine_at : List ℕ → (ℕ → ℕ) → ℕ → Machine
+machine_at image keys zero = start
+machine_at image keys (suc c) = step image (keys c) (machine_at image keys c)
+
+-- what reading an address gives: a word of memory, or the key
+abbrev pub word_seen : Machine → ℕ → ℕ → ℕ
+word_seen s key address = read s.memory key address
+

@@ -1,0 +1,24 @@
+-- Words of 16 bits: numbers below 65,536. (The book, chapter 2: two's complement; sums modulo 2^16.)
+use Rattle.std.specs.Prelude.{ℕ, ◌+◌, ◌-◌, ◌/◌, ◌%◌, ◌^◌, Bool, nat_lt, nat_eq, ℤ, pos, negsuc, if◌then◌else◌}
+
+-- sum, difference and negation modulo 65,536
+abbrev pub word_add : ℕ → ℕ → ℕ
+word_add x y = (x + y) % 65536
+
+abbrev pub word_sub : ℕ → ℕ → ℕ
+word_sub x y = (x + (65536 - y)) % 65536
+
+abbrev pub word_neg : ℕ → ℕ
+word_neg w = (65536 - w) % 65536
+
+-- each of the sixteen bits the other one
+abbrev pub word_not : ℕ → ℕ
+word_not w = 65535 - w
+
+-- the signed reading of a word: w below 32,768, else w - 65,536
+abbrev pub signed : ℕ → ℤ
+signed w = if nat_lt w 32768 then pos w else negsuc (65535 - w)
+
+-- bit k of a number is set
+abbrev pub has_bit : ℕ → ℕ → Bool
+has_bit w k = nat_eq (w / 2 ^ k % 2) 1
