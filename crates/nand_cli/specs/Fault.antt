@@ -1,0 +1,28 @@
+-- The lines of refusals.
+use Rattle.std.specs.Prelude.{◌++◌, ◌∷◌, ℕ, List, [], decimal, codes}
+use Rattle.outer_world.specs.Texts.{fault_line, fault_text}
+use Rattle.nand_cli.specs.declared.refusal.Detail.{Detail}
+use Rattle.nand_cli.specs.declared.refusal.Detail.TheVariants as detail
+use Rattle.nand_cli.specs.declared.refusal.Kind.{Kind}
+use Rattle.nand_cli.specs.declared.refusal.Kind.TheVariants as kind
+use Rattle.nand_cli.specs.declared.refusal.Refusal.{Refusal}
+
+-- the word of a kind
+abbrev pub kind_text : Kind → List ℕ
+kind_text kind.Grammar = codes "Grammar"
+
+-- what stands after the kind
+abbrev pub detail_text : Detail → List ℕ
+detail_text detail.Nothing = []
+detail_text (detail.Number n) = decimal n
+
+-- the line that tells of a refusal
+abbrev pub refusal_line : Refusal → List ℕ
+refusal_line r = fault_line r.path r.line r.column (kind_text r.kind) (detail_text r.detail)
+
+-- the line up to its kind, and what follows it
+abbrev pub front_of : Refusal → List ℕ
+front_of r = r.path ++ 58 ∷ (decimal r.line ++ 58 ∷ (decimal r.column ++ 58 ∷ 32 ∷ kind_text r.kind))
+
+abbrev pub rest_of : Detail → List ℕ
+rest_of d = fault_text [] (detail_text d) ++ 10 ∷ []

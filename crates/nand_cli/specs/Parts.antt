@@ -1,0 +1,60 @@
+-- What the parts of a call say; the call's own contract needs none of it.
+use Rattle.std.specs.Prelude.{◌≡◌, ◌++◌, ◌⊎◌, ℕ, List, [], Option, Result, Ok, Err, Vec, codes}
+use Rattle.std.specs.declared.alloc.Global.{Global}
+use Rattle.outer_world.specs.Faults.{Rose}
+use Rattle.outer_world.specs.Files.{Files, HasFile}
+use Rattle.outer_world.specs.Texts.{fault_line}
+use Rattle.outer_world.specs.Written.{Got, GotPart}
+use Rattle.outer_world.specs.declared.sink.Put.{Put}
+use Rattle.outer_world.specs.declared.sink.Put.TheVariants as put
+use Rattle.nand_cli.specs.Answer.{Before, Ends, Prints, Refuses}
+use Rattle.nand_cli.specs.Fault.{refusal_line}
+use Rattle.nand_cli.specs.Line.{Line}
+use Rattle.nand_cli.specs.Plain.{IsPlain}
+use Rattle.nand_cli.specs.declared.command.Status.{Status}
+use Rattle.nand_cli.specs.declared.refusal.Failure.{Failure}
+use Rattle.nand_cli.specs.declared.refusal.Failure.TheVariants as failure
+
+-- What doing a line put on out and on err; the line of a failure is still to be put.
+abbrev pub Does : Option Files → Line → Option (List ℕ) → Option (List ℕ) → Option (List ℕ) → Option (List ℕ) → Result (Unit {0}) Failure → Type 0
+Does files line out out' err err' (Ok _) =
+    (o : List ℕ) × (e : List ℕ) × Prints files line o e × Got out out' o × Got err err' e
+Does files line out out' err err' (Err (failure.Refused refusal)) =
+    (o : List ℕ) × (e : List ℕ) × Refuses files line o (e ++ refusal_line refusal) × Got out out' o × Got err err' e
+Does files line out out' err err' (Err failure.Read) =
+    (o : List ℕ) × (e : List ℕ) × Before files line o e × Got out out' o × Got err err' e
+Does files line out out' err err' (Err failure.Write) =
+    (s : Status) × (o : List ℕ) × (e : List ℕ) × Ends files line s o e × GotPart out out' o × GotPart err err' e
+Does files line out out' err err' (Err failure.Memory) =
+    (o : List ℕ) × (e : List ℕ) × Before files line o e × Got out out' o × Got err err' e
+
+-- What doing a line says of the counts of faults of shelf, out and err.
+abbrev pub Counts : ℕ → ℕ → ℕ → ℕ → ℕ → ℕ → Result (Unit {0}) Failure → Type 0
+Counts shelf shelf' out out' err err' (Err failure.Read) = Rose shelf shelf' × (out' ≡ out) × (err' ≡ err)
+Counts shelf shelf' out out' err err' (Err failure.Write) = (shelf' ≡ shelf) × (Rose out out' ⊎ Rose err err')
+Counts shelf shelf' out out' err err' _ = (shelf' ≡ shelf) × (out' ≡ out) × (err' ≡ err)
+
+-- What loading the program of a file says.
+abbrev pub Loads : Option Files → List ℕ → Result (Vec ℕ Global) Failure → Type 0
+Loads files path (Ok program) = (text : List ℕ) × HasFile files path text × IsPlain text program.items
+Loads files path (Err (failure.Refused refusal)) =
+    (text : List ℕ) × HasFile files path text × ((program : List ℕ) → ¬ IsPlain text program)
+    × (refusal_line refusal ≡ fault_line path 0 0 (codes "Grammar") [])
+Loads files path (Err failure.Read) = Unit {0}
+Loads files path (Err failure.Write) = ⊥
+Loads files path (Err failure.Memory) = Unit {0}
+
+abbrev pub CountsLoad : ℕ → ℕ → Result (Vec ℕ Global) Failure → Type 0
+CountsLoad shelf shelf' (Err failure.Read) = Rose shelf shelf'
+CountsLoad shelf shelf' _ = shelf' ≡ shelf
+
+-- A failure is the refusal of a file for its grammar, unless memory is wanting.
+abbrev pub IsGrammar : List ℕ → Failure → Type 0
+IsGrammar path (failure.Refused refusal) = refusal_line refusal ≡ fault_line path 0 0 (codes "Grammar") []
+IsGrammar path failure.Memory = Unit {0}
+IsGrammar path _ = ⊥
+
+-- What putting a text on err says of its count and its bytes.
+abbrev pub Says : ℕ → ℕ → Option (List ℕ) → Option (List ℕ) → List ℕ → Put → Type 0
+Says faults faults' written written' text put.Done = (faults' ≡ faults) × Got written written' text
+Says faults faults' written written' text put.Failed = Rose faults faults' × GotPart written written' text
