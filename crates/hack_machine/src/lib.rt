@@ -7,6 +7,8 @@ ghost use Rattle.hack_isa.specs.Table.{instr_of};
 ghost use Rattle.hack_isa.specs.Machine.{read, write, jumps, step, start};
 ghost use Rattle.hack_machine.specs.Loaded.{LoadedMachine, HasRun, machine_of, words_of};
 
+mod level;
+
 use hack_isa::{Instr, alu, decode};
 use std::alloc::{AllocError, Global};
 use std::marker::Model;
