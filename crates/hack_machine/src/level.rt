@@ -1,0 +1,45 @@
+//! The machine as a level: each of its moves is one instruction, and its control point is the program counter.
+ghost use Rattle.std.specs.Prelude.{true};
+ghost use Rattle.hack_machine.specs.Loaded.{machine_of};
+ghost use Rattle.hack_machine.specs.Turns.{HasTaken};
+
+use crate::Hack;
+use machine_io::{Level, Moved};
+use std::alloc::AllocError;
+
+impl Level for Hack {
+    type Point = u16;
+
+    ghost stands = { λ h turns. HasTaken h turns };
+
+    ghost count = { λ h. h.moves };
+
+    ghost word = { λ h. (machine_of h).memory };
+
+    ghost committed = { λ h. h.moves };
+
+    ghost at_point = { λ h. h.pc };
+
+    ghost sure = { true };
+
+    fn step(&mut self, key: u16) -> Result<Moved, AllocError> {
+        Hack::step(self, key);
+        Ok(Moved::Acted)
+    }
+
+    fn moves(&self) -> u64 {
+        Hack::moves(self)
+    }
+
+    fn word_at(&self, a: u16) -> u16 {
+        self.ram(a)
+    }
+
+    fn steps(&self) -> u64 {
+        Hack::moves(self)
+    }
+
+    fn point(&self) -> u16 {
+        self.pc()
+    }
+}

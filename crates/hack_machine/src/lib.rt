@@ -1,0 +1,267 @@
+//! The Hack machine: its memory and registers, one instruction at a time. (The book, chapters 4 and 5.)
+#![tactic(auto)]
+
+ghost use Rattle.std.specs.Prelude.{if◌then◌else◌, ◌≡◌, ◌+◌, ◌<◌, ◌≤◌, ◌%◌, ◌^◌, ◌++◌, [], ◌∷◌, ℕ, List, length, IfOk, slice_index};
+ghost use Rattle.word16.specs.Words.{has_bit};
+ghost use Rattle.hack_isa.specs.Table.{instr_of};
+ghost use Rattle.hack_isa.specs.Machine.{read, write, jumps, step, start};
+ghost use Rattle.hack_machine.specs.Loaded.{LoadedMachine, HasRun, machine_of, words_of};
+
+mod level;
+
+use hack_isa::{Instr, alu, decode};
+use std::alloc::{AllocError, Global};
+use std::marker::Model;
+use word16::bit;
+
+/// The machine with its image: the words of the instruction memory, which are 0 past the image.
+#[derive(Drop)]
+pub struct Hack {
+    a: u16,
+    d: u16,
+    pc: u16,
+    ram: Vec<u16>,
+    image: Vec<u16>,
+    moves: u64,
+}
+
+impl Model for Hack {
+    ghost Value = { LoadedMachine };
+
+    ghost view = { λ h. record { image = h.image.items; a = h.a; d = h.d; pc = h.pc; ram = h.ram.items; moves = h.moves } };
+
+    ghost invariant = { λ h. (length h.ram.items ≡ 24576) × (h.pc < 32768) };
+}
+
+// What the ALU takes beside D: A, or the word that A addresses, which from 24576 on is the key.
+#[tactic(auto, unfolding(hack_isa::specs::Machine::read))]
+fn operand(ram: &[u16], key: u16, memory: bool, a: u16) -> u16
+    requires { length ram.now ≡ 24576 }
+    ensures { result ≡ (if memory then read (words_of ram.now) key a else a) }
+{
+    let at = a % 32768;
+    if !memory {
+        a
+    } else if at < 24576 {
+        ram[at as usize]
+    } else {
+        key
+    }
+}
+
+#[tactic(auto, using(crate::proofs::Memory::stored))]
+fn write_at(ram: &mut Vec<u16>, a: u16, v: u16)
+    requires { length ram.old.items ≡ 24576 }
+    ensures kept { length ram.new.items ≡ length ram.old.items }
+    ensures words { words_of ram.new.items ≡ write (words_of ram.old.items) a v }
+{
+    let at = a % 32768;
+    if at < 24576 {
+        ram[at as usize] = v;
+    }
+}
+
+fn store(ram: &mut Vec<u16>, dest: u8, a: u16, v: u16)
+    requires { length ram.old.items ≡ 24576 }
+    ensures kept { length ram.new.items ≡ length ram.old.items }
+    ensures words { words_of ram.new.items ≡ (if has_bit dest 0 then write (words_of ram.old.items) a v else words_of ram.old.items) }
+{
+    if bit(u16::from(dest), 0) {
+        write_at(ram, a, v);
+    }
+}
+
+// The new value of A or D, whose bit of `dest` is k.
+fn chosen(dest: u8, k: u16, out: u16, old: u16) -> u16
+    requires { k < 3 }
+    ensures { result ≡ (if has_bit dest k then out else old) }
+{
+    if bit(u16::from(dest), k) { out } else { old }
+}
+
+// Whether the condition of a jump holds.
+#[tactic(auto, unfolding(hack_isa::specs::Machine::jumps))]
+fn holds(jump: u8, out: u16) -> bool
+    ensures { result ≡ jumps jump out }
+{
+    let jump = u16::from(jump);
+    if out > 32767 {
+        bit(jump, 2)
+    } else if out == 0 {
+        bit(jump, 1)
+    } else {
+        bit(jump, 0)
+    }
+}
+
+fn landing(jump: u8, out: u16, a: u16, next: u16) -> u16
+    requires { next < 32768 }
+    ensures below { result < 32768 }
+    ensures value { result ≡ (if jumps jump out then a % 32768 else next) }
+{
+    if holds(jump, out) { a % 32768 } else { next }
+}
+
+fn zeros(alloc: Global, n: usize) -> Result<Vec<u16>, AllocError>
+    ensures length { IfOk result (λ v. length v.items ≡ n) }
+    ensures zeros { IfOk result (λ v. (k : ℕ) → words_of v.items k ≡ 0) }
+{
+    vec![in alloc; 0; n]
+}
+
+impl Hack {
+    /// The machine at its start: all registers and words are 0. Fails only where memory is wanted.
+    #[tactic(auto, using(crate::proofs::Memory::all_zero))]
+    pub fn new(alloc: Global, image: &[u16]) -> Result<Hack, AllocError>
+        requires { length image.now ≤ 32768 }
+        ensures image { IfOk result (λ h. h.image ≡ image.now) }
+        ensures start { IfOk result (λ h. machine_of h ≡ start) }
+        ensures run { IfOk result (λ h. HasRun h []) }
+    {
+        Ok(Hack {
+            a: 0,
+            d: 0,
+            pc: 0,
+            ram: zeros(alloc, 24576)?,
+            image: Vec::from_slice(alloc, image)?,
+            moves: 0,
+        })
+    }
+
+    fn fetch(&self) -> Instr
+        ensures { result ≡ instr_of (slice_index self.now.image self.now.pc) }
+    {
+        let pc = self.pc as usize;
+        decode(if pc < self.image.len() {
+            self.image[pc]
+        } else {
+            0
+        })
+    }
+
+    // One instruction, which is not counted yet.
+    #[tactic(auto, unfolding(hack_isa::specs::Machine::step))]
+    fn perform(&mut self, key: u16)
+        ensures image { self.new.image ≡ self.old.image }
+        ensures moves { self.new.moves ≡ self.old.moves }
+        ensures step { machine_of self.new ≡ step self.old.image key (machine_of self.old) }
+    {
+        let next = (self.pc + 1) % 32768;
+        match self.fetch() {
+            Instr::Address(n) => {
+                self.a = n;
+                self.pc = next;
+            }
+            Instr::Compute {
+                memory,
+                comp,
+                dest,
+                jump,
+            } => {
+                let at = self.a;
+                let (out, _, _) = alu(self.d, operand(&self.ram, key, memory, at), comp);
+                store(&mut self.ram, dest, at, out);
+                self.d = chosen(dest, 1, out, self.d);
+                self.a = chosen(dest, 2, out, at);
+                self.pc = landing(jump, out, at, next);
+            }
+        }
+    }
+
+    /// One move: the instruction at the program counter, while `key` is held.
+    pub fn step(&mut self, key: u16)
+        requires { self.old.moves < 2 ^ 63 }
+        ensures image { self.new.image ≡ self.old.image }
+        ensures moves { self.new.moves ≡ self.old.moves + 1 }
+        ensures step { machine_of self.new ≡ step self.old.image key (machine_of self.old) }
+        ensures run { (keys : List ℕ) → HasRun self.old keys → HasRun self.new (keys ++ key ∷ []) }
+    {
+        self.perform(key);
+        self.moves += 1;
+    }
+
+    /// The register A.
+    pub fn a(&self) -> u16
+        ensures { result ≡ self.now.a }
+    {
+        self.a
+    }
+
+    /// The register D.
+    pub fn d(&self) -> u16
+        ensures { result ≡ self.now.d }
+    {
+        self.d
+    }
+
+    /// The program counter, below 32,768.
+    pub fn pc(&self) -> u16
+        ensures counter { result ≡ self.now.pc }
+        ensures below { result < 32768 }
+    {
+        self.pc
+    }
+
+    /// The word at an address below that of the keyboard.
+    pub fn ram(&self, k: u16) -> u16
+        requires { k < 24576 }
+        ensures { result ≡ (machine_of self.now).memory k }
+    {
+        self.ram[k as usize]
+    }
+
+    /// What the machine reads at an address while `key` is held: a word of memory, or from 24,576 on the key.
+    pub fn word_seen(&self, key: u16, address: u16) -> u16
+        ensures { result ≡ read (machine_of self.now).memory key address }
+    {
+        operand(&self.ram, key, true, address)
+    }
+
+    /// The number of moves made.
+    pub fn moves(&self) -> u64
+        ensures { result ≡ self.now.moves }
+    {
+        self.moves
+    }
+}
+
+#[cfg(test)]
+mod tests {
+    use super::*;
+
+    // The program of chapter 4 that puts 2 + 3 into the word 0: @2, D=A, @3, D=D+A, @0, M=D.
+    #[test]
+    fn sum_of_two_and_three(rt: HostRuntime) -> Result<(), AllocError> {
+        let mut hack = Hack::new(rt.alloc(), &[2, 60432, 3, 57488, 0, 58120])?;
+        for _ in 0..5 {
+            assert!(rt; hack.moves() < 5);
+            hack.step(0);
+        }
+        assert_eq!(rt; hack.ram(0), 0);
+        assert_eq!(rt; (hack.a(), hack.d(), hack.pc()), (0, 5, 5));
+        assert!(rt; hack.moves() < 6);
+        hack.step(0);
+        assert_eq!(rt; hack.ram(0), 5);
+        assert_eq!(rt; hack.ram(1), 0);
+        assert_eq!(rt; hack.moves(), 6);
+        Ok(())
+    }
+
+    // @24576, D=M, @1, M=D, @32767, 0;JMP: the key into the word 1, then to the last address, whose word is 0.
+    #[test]
+    fn key_and_last_address(rt: HostRuntime) -> Result<(), AllocError> {
+        let mut hack = Hack::new(rt.alloc(), &[24576, 64528, 1, 58120, 32767, 60039])?;
+        for _ in 0..6 {
+            assert!(rt; hack.moves() < 6);
+            hack.step(65);
+        }
+        assert_eq!(rt; hack.ram(1), 65);
+        assert_eq!(rt; hack.word_seen(66, 1), 65);
+        assert_eq!(rt; hack.word_seen(66, 24576), 66);
+        assert_eq!(rt; hack.pc(), 32767);
+        assert!(rt; hack.moves() < 7);
+        hack.step(0);
+        assert_eq!(rt; (hack.a(), hack.pc()), (0, 0));
+        Ok(())
+    }
+}
