@@ -1,5 +1,5 @@
 -- The lines of addresses, one more at a time.
-use Rattle.std.proofs.Common.{◌≡◌, ◌≤◌, ◌<◌, ◌+◌, ◌-◌, ◌++◌, [], ℕ, List, Bool, refl, sym, ◌∙◌, ap, max, arith}
+use Rattle.std.proofs.Common.{◌≡◌, ◌≤◌, ◌<◌, ◌+◌, ◌-◌, ◌++◌, [], ℕ, List, Bool, ◌∙◌, ap, max, arith}
 use Rattle.std.specs.List.{flat_map, range_with_len}
 use Rattle.machine_io.specs.Words.{shown_line, words_text}
 use Rattle.machine_io.proofs.Counting.{each-append, each-more}

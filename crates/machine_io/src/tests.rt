@@ -1,5 +1,5 @@
 //! The drive, on a machine that counts; and the printed texts.
-ghost use Rattle.std.specs.Prelude.{◌≡◌, ◌+◌, ◌*◌, ◌%◌, ◌<◌, ◌≤◌, ◌^◌, ℕ, sum_by, true};
+ghost use Rattle.std.specs.Prelude.{◌≡◌, ◌+◌, ◌*◌, ◌%◌, ◌<◌, ◌≤◌, ◌^◌, ℕ, sum_by, true, false};
 ghost use Rattle.std.proofs.Common.{rules};
 ghost use Rattle.machine_io.specs.History.{moves_in};
 ghost use Rattle.machine_io.specs.Words.{words_text};

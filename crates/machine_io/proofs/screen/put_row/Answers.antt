@@ -1,4 +1,4 @@
-use Rattle.std.proofs.Common.{◌≡◌, ◌≤◌, ◌<◌, ◌+◌, ◌*◌, refl, ◌∙◌, ap, arith}
+use Rattle.std.proofs.Common.{◌≤◌, ◌<◌, ◌+◌, ◌*◌, refl, ◌∙◌, ap, arith}
 use Rattle.machine_io.specs.Screen.{pixels_of}
 use Rattle.machine_io.proofs.Pixels.{pixels-none, pixels-more, row-all, row-whole}
 use Rattle.machine_io.proofs.Handed.{nothing_handed, handed_as, handed_more, handed_cut}

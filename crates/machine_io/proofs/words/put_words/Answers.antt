@@ -1,6 +1,6 @@
-use Rattle.std.proofs.Common.{◌≡◌, ◌≤◌, refl, ◌∙◌, ap, arith}
+use Rattle.std.proofs.Common.{◌≤◌, refl, ◌∙◌, ap, arith}
 use Rattle.machine_io.specs.Words.{shown_line}
-use Rattle.machine_io.proofs.Lines.{lines, lines-none, lines-step, lines-whole, lines-all}
+use Rattle.machine_io.proofs.Lines.{lines-none, lines-step, lines-whole, lines-all}
 use Rattle.machine_io.proofs.Handed.{nothing_handed, handed_as, handed_more, handed_cut}
 use Rattle.machine_io.proofs.words.put_words.Goals as goal
 

@@ -1,4 +1,4 @@
-use Rattle.std.proofs.Common.{◌≡◌, ◌<◌, ◌+◌, ◌++◌, ◌∷◌, [], List, ℕ, Vec, Global, ap, map, take, refl, sym, subst, length, slice_index_or, ◌∙◌, if◌then◌else◌}
+use Rattle.std.proofs.Common.{◌≡◌, ◌<◌, ◌+◌, ◌++◌, ◌∷◌, [], List, ℕ, Vec, Global, ap, take, refl, sym, subst, length, slice_index_or, ◌∙◌, if◌then◌else◌}
 use Rattle.std.proofs.lemmas.List.{take_more, map-append}
 use Rattle.outer_world.specs.declared.name.Name.{Name}
 use Rattle.outer_world.specs.Files.{IsListing, has_name}
