@@ -10,3 +10,4 @@ pub mod Runs
 pub mod Exits
 pub mod LeavesRead
 pub mod Reread
+pub mod Past

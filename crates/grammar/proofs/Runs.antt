@@ -1,10 +1,11 @@
 -- A run of bytes that pass a test, which begins here.
-use Rattle.std.proofs.Common.{◌≡◌, ℕ, suc, ◌-◌, ◌≤◌, Bool, true, false, cond, List, [], ◌∷◌, length, take, drop, Some, refl, sym, ap, ◌∙◌, arith}
+use Rattle.std.proofs.Common.{◌≡◌, ℕ, suc, ◌-◌, ◌≤◌, Bool, true, false, cond, List, [], ◌∷◌, length, take, drop, Some, Ok, refl, sym, ap, ◌∙◌, arith}
+use Rattle.scan_text.specs.declared.Place.{Place}
 use Rattle.scan_text.specs.declared.Scan.{Scan}
 use Rattle.scan_text.specs.Text.{first, front, behind, walk, is_digit, digits, decimal, capped, number_at, number_of}
 use Rattle.scan_text.specs.View.{left, place}
 use Rattle.scan_text.proofs.Texts.{take_front, drop_front}
-use Rattle.grammar.specs.Cutting.{Moved}
+use Rattle.grammar.specs.Cutting.{Token, Moved, Next}
 
 some_byte : (b : ℕ) (l : List ℕ) (t : Bool) → t ≡ true → 1 ≤ length (cond t (b ∷ l) [])
 some_byte b l true e = omega arith
@@ -35,3 +36,7 @@ stands_at (d ∷ ds) h = refl
 -- a digit begins a number
 pub number_stands : (bs : List ℕ) (b : ℕ) → first bs ≡ Some b → is_digit b ≡ true → number_of bs ≡ Some (capped (decimal 0 (digits bs)))
 number_stands bs b e d = stands_at (digits bs) (run_stands is_digit bs b e d)
+
+-- a token of a whole run
+pub run_token : {T : Type 0} (test : ℕ → Bool) (made : Place → T) (t : T) (old new : Scan) (b : ℕ) → first (left old) ≡ Some b → test b ≡ true → left new ≡ behind test (left old) → place new ≡ walk (place old) (front test (left old)) → t ≡ made (place old) → Next (Token made (length (front test (left old)) - 1)) old (Ok (Some t)) new
+run_token test made t old new b e d l p m = (ap (λ x. Ok (Some x)) m, run_moved test old new b e d l p)
