@@ -1,8 +1,9 @@
 -- A run of bytes that pass a test, which begins here.
-use Rattle.std.proofs.Common.{◌≡◌, ℕ, suc, ◌-◌, ◌≤◌, Bool, true, false, cond, List, [], ◌∷◌, length, take, drop, Some, Ok, refl, sym, ap, ◌∙◌, arith}
+use Rattle.std.proofs.Common.{◌≡◌, ℕ, suc, ◌-◌, ◌<◌, ◌≤◌, Bool, true, false, cond, List, [], ◌∷◌, length, take, drop, Some, Ok, refl, sym, ap, ◌∙◌, arith}
 use Rattle.scan_text.specs.declared.Place.{Place}
 use Rattle.scan_text.specs.declared.Scan.{Scan}
 use Rattle.scan_text.specs.Text.{first, front, behind, walk, is_digit, digits, decimal, capped, number_at, number_of}
+use Rattle.scan_text.specs.Blanks.{line_end}
 use Rattle.scan_text.specs.View.{left, place}
 use Rattle.scan_text.proofs.Texts.{take_front, drop_front}
 use Rattle.grammar.specs.Cutting.{Token, Moved, Next}
@@ -40,3 +41,12 @@ number_stands bs b e d = stands_at (digits bs) (run_stands is_digit bs b e d)
 -- a token of a whole run
 pub run_token : {T : Type 0} (test : ℕ → Bool) (made : Place → T) (t : T) (old new : Scan) (b : ℕ) → first (left old) ≡ Some b → test b ≡ true → left new ≡ behind test (left old) → place new ≡ walk (place old) (front test (left old)) → t ≡ made (place old) → Next (Token made (length (front test (left old)) - 1)) old (Ok (Some t)) new
 run_token test made t old new b e d l p m = (ap (λ x. Ok (Some x)) m, run_moved test old new b e d l p)
+
+-- a line end
+pub end_moved : (old new : Scan) → 0 < line_end (left old) → left new ≡ drop (line_end (left old)) (left old) → place new ≡ walk (place old) (take (line_end (left old)) (left old)) → Moved old new (line_end (left old) - 1)
+end_moved old new some l p =
+    let n : line_end (left old) ≡ suc (line_end (left old) - 1) = omega arith in
+    record {
+      rest = l ∙ ap (λ (k : ℕ). drop k (left old)) n;
+      at = p ∙ ap (λ (k : ℕ). walk (place old) (take k (left old))) n;
+    }

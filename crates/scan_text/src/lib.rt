@@ -1,7 +1,7 @@
 //! A text of bytes, read from left to right, with the place of each byte.
 #![tactic(auto)]
 
-ghost use Rattle.std.specs.Prelude.{◌≡◌, ℕ, Bool, ◌+◌, ◌-◌, ◌<◌, ◌≤◌, ◌^◌, length, Option, Some, None, drop, take, IfSome, IsTrue, ◌↔◌, ◌≢◌};
+ghost use Rattle.std.specs.Prelude.{◌≡◌, ℕ, Bool, ◌+◌, ◌-◌, ◌<◌, ◌≤◌, ◌^◌, length, Option, Some, None, drop, take, IfSome, nat_lt};
 ghost use Rattle.scan_text.specs.Blanks.{starts, line_end, line, is_blank, in_line, ends_block, IsWithin, block, comment, blank, blanks, StandsBehind};
 ghost use Rattle.scan_text.specs.Text.{step, walk, front, behind, Computes, first, is_digit, decimal, capped, start, number_of};
 
@@ -276,13 +276,13 @@ impl<'a> Scan<'a> {
 
     /// Goes over a line end that begins here: a line feed, or a return and a line feed. Tells whether one did.
     pub fn line_end(&mut self) -> bool
-        ensures found { IsTrue result ↔ (line_end self.old.rest.now ≢ 0) }
+        ensures found { result ≡ nat_lt 0 (line_end self.old.rest.now) }
         ensures left { self.new.rest.now ≡ drop (line_end self.old.rest.now) self.old.rest.now }
         ensures place { self.new.place ≡ walk self.old.place (take (line_end self.old.rest.now) self.old.rest.now) }
     {
         let n = line_end_len(self.rest);
         self.skip(n);
-        n != 0
+        n > 0
     }
 
     /// The bytes before the next line end, or before the end of the text.
