@@ -1,0 +1,13 @@
+pub mod Laws
+pub mod Cuts
+pub mod Steps
+pub mod Repeats
+pub mod Lengths
+pub mod Exact
+pub mod Wholes
+pub mod Continues
+pub mod Runs
+pub mod Exits
+pub mod LeavesRead
+pub mod Reread
+pub mod Past

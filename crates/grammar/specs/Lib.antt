@@ -1,0 +1,5 @@
+pub mod Rules
+pub mod Cutting
+pub mod Reading
+pub mod Texts
+pub mod Leaves

@@ -1,0 +1,4 @@
+pub mod Tokens
+pub mod Script
+pub mod Codes
+pub mod View

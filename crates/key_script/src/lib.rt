@@ -1,0 +1,15 @@
+//! Key scripts: which key is held at each moment of a run.
+//!
+//! A script has lines of two decimal numbers, a moment (a number of cycles) and a key's code. Its moments rise.
+#![tactic(auto)]
+
+mod keys;
+mod lexer;
+mod lines;
+mod token;
+
+pub use keys::{Keys, read_keys};
+pub use lines::Line;
+
+#[cfg(test)]
+mod tests;

@@ -1,0 +1,15 @@
+use scan_text::Place;
+
+/// What a token is.
+#[derive(Clone, Copy, Debug, PartialEq, Eq)]
+pub enum Kind {
+    Number(u32),
+    LineEnd,
+}
+
+/// A token, and the place where it begins.
+#[derive(Clone, Copy, Debug, PartialEq, Eq)]
+pub struct Token {
+    pub kind: Kind,
+    pub place: Place,
+}
