@@ -22,6 +22,7 @@ impl Level for Hack {
 
     ghost sure = { true };
 
+    #[inline(always)]
     fn step(&mut self, key: u16) -> Result<Moved, AllocError> {
         Hack::step(self, key);
         Ok(Moved::Acted)
