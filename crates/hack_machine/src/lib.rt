@@ -134,11 +134,11 @@ impl Hack {
         ensures { result ≡ instr_of (slice_index self.now.image self.now.pc) }
     {
         let pc = self.pc as usize;
-        decode(if pc < self.image.len() {
-            self.image[pc]
+        if pc < self.image.len() {
+            decode(self.image[pc])
         } else {
-            0
-        })
+            decode(0)
+        }
     }
 
     // One instruction, which is not counted yet.
