@@ -22,6 +22,7 @@ impl Level for Hack {
 
     ghost sure = { true };
 
+    #[inline(always)]
     fn step(&mut self, key: u16) -> Result<Moved, AllocError> {
         Hack::step(self, key);
         Ok(Moved::Acted)
@@ -41,5 +42,29 @@ impl Level for Hack {
 
     fn point(&self) -> u16 {
         self.pc()
+    }
+}
+
+#[cfg(test)]
+mod tests {
+    use super::*;
+    use std::process::Abort;
+
+    fn two_moves<L: Level, R: Abort>(rt: &R, level: &mut L) -> Result<u16, AllocError> {
+        for _ in 0..2 {
+            assert!(rt; level.moves() < 2);
+            let answer = level.step(0)?;
+            assert!(rt; answer == Moved::Acted);
+        }
+        Ok(level.word_at(2048))
+    }
+
+    // @2048, M=1.
+    #[test]
+    fn moves_as_a_level(rt: HostRuntime) -> Result<(), AllocError> {
+        let mut hack = Hack::new(rt.alloc(), &[2048, 61384])?;
+        assert_eq!(rt; two_moves(&rt, &mut hack)?, 1);
+        assert_eq!(rt; (hack.steps(), hack.point()), (2, 2));
+        Ok(())
     }
 }

@@ -5,7 +5,8 @@ ghost use Rattle.std.specs.Prelude.{if◌then◌else◌, ◌≡◌, ◌+◌, ◌
 ghost use Rattle.word16.specs.Words.{has_bit};
 ghost use Rattle.hack_isa.specs.Table.{instr_of};
 ghost use Rattle.hack_isa.specs.Machine.{read, write, jumps, step, start};
-ghost use Rattle.hack_machine.specs.Loaded.{LoadedMachine, HasRun, machine_of, words_of};
+ghost use Rattle.hack_machine.specs.Loaded.{LoadedMachine, HasRun, RunsThroughCycles, machine_of, words_of};
+ghost use Rattle.hack_machine.specs.Turns.{HasTaken};
 
 mod level;
 
@@ -117,6 +118,7 @@ impl Hack {
         ensures image { IfOk result (λ h. h.image ≡ image.now) }
         ensures start { IfOk result (λ h. machine_of h ≡ start) }
         ensures run { IfOk result (λ h. HasRun h []) }
+        ensures turns { IfOk result (λ h. HasTaken h []) }
     {
         Ok(Hack {
             a: 0,
@@ -132,14 +134,15 @@ impl Hack {
         ensures { result ≡ instr_of (slice_index self.now.image self.now.pc) }
     {
         let pc = self.pc as usize;
-        decode(if pc < self.image.len() {
-            self.image[pc]
+        if pc < self.image.len() {
+            decode(self.image[pc])
         } else {
-            0
-        })
+            decode(0)
+        }
     }
 
     // One instruction, which is not counted yet.
+    #[inline(always)]
     #[tactic(auto, unfolding(hack_isa::specs::Machine::step))]
     fn perform(&mut self, key: u16)
         ensures image { self.new.image ≡ self.old.image }
@@ -169,6 +172,7 @@ impl Hack {
     }
 
     /// One move: the instruction at the program counter, while `key` is held.
+    #[inline(always)]
     pub fn step(&mut self, key: u16)
         requires { self.old.moves < 2 ^ 63 }
         ensures image { self.new.image ≡ self.old.image }
@@ -224,6 +228,12 @@ impl Hack {
         self.moves
     }
 }
+
+/// The law of runs and cycles: no code, only the statement.
+#[tactic(auto, using(crate::proofs::Runs::runs_through_cycles))]
+pub fn cycles_law()
+    ensures { RunsThroughCycles }
+{}
 
 #[cfg(test)]
 mod tests {
