@@ -1,0 +1,42 @@
+-- The table of commands, as data: what `clap` is given, and what says which words are a line.
+use Rattle.std.specs.Prelude.{[], ◌∷◌, List, true, false, Some, codes}
+use Rattle.clap.specs.Walk.{Rule, Text}
+use Rattle.clap.specs.Simple.{App, Shape, new_rule, new_shape}
+
+-- ---- the cells of a row
+
+-- a word that stands by itself, and must stand
+abbrev pub word_rule : Text → Rule
+word_rule name = record (new_rule name) { required = true }
+
+-- `--name V` or `--name=V`, at most once, which must stand
+abbrev pub option_rule : Text → Rule
+option_rule name = record (new_rule name) { long = Some name; required = true }
+
+-- a row: the name of a command, and its cells in order
+abbrev pub command : Text → List Rule → Shape
+command name rules = record (new_shape name) { rules = rules }
+
+-- ---- the rows
+
+-- `exec F --cycles N --from A --to B`
+abbrev pub exec_command : Shape
+exec_command = command (codes "exec")
+    (word_rule (codes "path") ∷ option_rule (codes "cycles") ∷ option_rule (codes "from")
+    ∷ option_rule (codes "to") ∷ [])
+
+-- ---- the table
+
+-- `nand` without its commands: the words begin with a command's name, and one must stand
+abbrev pub bare_table : App
+bare_table = record {
+  top = record (new_shape (codes "nand")) { no_binary_name = true; subcommand_required = true };
+  subs = [];
+}
+
+-- the commands that work
+abbrev pub table : App
+table = record bare_table {
+  top = record bare_table.top { is_leaf = false };
+  subs = exec_command ∷ [];
+}

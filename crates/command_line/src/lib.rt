@@ -1,0 +1,16 @@
+//! The command lines of `nand`, read with `clap` by one table of commands.
+//!
+//! `specs/Table.antt` is the table and `specs/Line.antt` says which words are a line by it; `read`
+//! gives the line of words.
+#![tactic(auto)]
+
+mod commands;
+mod number;
+mod reader;
+mod request;
+
+pub use reader::{LineError, read};
+pub use request::{Exec, Request};
+
+#[cfg(test)]
+mod tests;

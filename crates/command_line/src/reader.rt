@@ -1,0 +1,103 @@
+//! The line that words are.
+ghost use Rattle.std.specs.Prelude.{◌≡◌, ◌≤◌, ℕ, List, Some, IfOk, MatchOption, MatchResult, codes, map, option_map, string_bytes};
+ghost use Rattle.clap.specs.Words.{Row, Text, first_of, subcommand_rows_of};
+ghost use Rattle.command_line.specs.Line.{IsInRange, IsLine, IsNoLine, IsReading, Line, Reads, ReadsNumber, line_of, rows_in};
+
+use crate::commands::table;
+use crate::number::number;
+use crate::request::{Exec, Request};
+use clap::ArgMatches;
+use clap::error::ErrorKind;
+use std::alloc::Global;
+
+const MOST_CYCLES: u32 = 1_000_000_000;
+
+const MOST_ADDRESS: u32 = 32_767;
+
+/// Why words give no request.
+#[derive(Clone, Copy, Debug, PartialEq, Eq)]
+pub enum LineError {
+    /// The words are no line.
+    Usage,
+    /// There was no memory to read them.
+    Memory,
+}
+
+// The first value of an argument.
+fn text_in<'a>(matches: &ArgMatches<'a>, id: &str) -> Option<&'a str>
+    ensures { option_map (λ s. s.now) result ≡ first_of id.now (rows_in matches.now) }
+{
+    matches.get_str(id)
+}
+
+// The first value of an argument, as a number of at most `most`.
+fn number_in(matches: &ArgMatches<'_>, id: &str, most: u32) -> Option<u32>
+    requires { most ≤ 1000000000 }
+    ensures { ReadsNumber (rows_in matches.now) id.now most result }
+{
+    number(text_in(matches, id)?.as_bytes(), most)
+}
+
+fn exec<'a>(matches: &ArgMatches<'a>) -> Option<Request<'a>>
+    ensures { Reads (codes "exec") (rows_in matches.now) result }
+{
+    let path = text_in(matches, "path")?;
+    let Some(cycles) = number_in(matches, "cycles", MOST_CYCLES) else {
+        return None;
+    };
+    let Some(from) = number_in(matches, "from", MOST_ADDRESS) else {
+        return None;
+    };
+    let Some(to) = number_in(matches, "to", MOST_ADDRESS) else {
+        return None;
+    };
+    Some(Request::Exec(Exec {
+        path,
+        cycles,
+        from: from as u16,
+        to: to as u16,
+    }))
+}
+
+// The request of a command and its matches.
+fn reading<'a>(name: &str, matches: &ArgMatches<'a>) -> Option<Request<'a>>
+    ensures { Reads name.now (rows_in matches.now) result }
+{
+    match name {
+        "exec" => exec(matches),
+        _ => None,
+    }
+}
+
+// The request of the command that the matches have entered.
+fn entered<'a>(matches: &ArgMatches<'a>) -> Option<Request<'a>>
+    ensures { MatchOption result ((l : Line) (name : Text) (rows : List Row) → subcommand_rows_of matches.now ≡ Some (name, rows) → ¬ IsReading name rows l) (λ r. (name : Text) × (rows : List Row) × (subcommand_rows_of matches.now ≡ Some (name, rows)) × IsReading name rows (line_of r)) }
+{
+    let Some((name, inner)) = matches.subcommand() else {
+        return None;
+    };
+    reading(name, inner)
+}
+
+/// The line that the words are, the program's own name not among them.
+///
+/// # Errors
+/// `Usage` where they are no line; `Memory` where there is too little of it.
+pub fn read<'a>(alloc: Global, words: &'a [String]) -> Result<Request<'a>, LineError>
+    ensures line { MatchResult result (λ r. IsLine (map string_bytes words.now) (line_of r)) (λ e. e ≡ LineError.Usage → IsNoLine (map string_bytes words.now)) }
+    ensures range { IfOk result (λ r. IsInRange (line_of r)) }
+{
+    let Ok(command) = table(alloc) else {
+        return Err(LineError::Memory);
+    };
+    match command.try_get_matches_from(words) {
+        Ok(matches) => match entered(&matches) {
+            Some(request) => Ok(request),
+            None => Err(LineError::Usage),
+        },
+        Err(error) => match error.kind() {
+            ErrorKind::OutOfMemory => Err(LineError::Memory),
+            _ => Err(LineError::Usage),
+        },
+    }
+}
