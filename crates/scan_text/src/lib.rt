@@ -208,6 +208,7 @@ fn blank_at(bytes: &[u8]) -> Blank
 }
 
 impl<'a> Scan<'a> {
+    /// The whole text, from line 1, column 1.
     pub fn new(text: &'a [u8]) -> Scan<'a>
         requires { length text.now < 2 ^ 32 - 1 }
         ensures left { result.rest.now ≡ text.now }
@@ -219,12 +220,14 @@ impl<'a> Scan<'a> {
         }
     }
 
+    /// The place of the next byte.
     pub fn place(&self) -> Place
         ensures { result ≡ self.now.place }
     {
         self.place
     }
 
+    /// The next byte, or None at the end of the text.
     pub fn peek(&self) -> Option<u8>
         ensures { result ≡ first self.now.rest.now }
     {
@@ -238,7 +241,7 @@ impl<'a> Scan<'a> {
         self.rest
     }
 
-    // Goes over the next n bytes.
+    /// Goes over the next `n` bytes, and hands out their slice of the source.
     pub fn skip(&mut self, n: usize) -> &'a [u8]
         requires { n ≤ length self.old.rest.now }
         ensures text { result.now ≡ take n self.old.rest.now }
@@ -251,6 +254,7 @@ impl<'a> Scan<'a> {
         front
     }
 
+    /// Goes over the longest run of bytes that `keep` keeps, and hands out its slice of the source.
     pub fn take_while<P: Fn(u8) -> bool>(&mut self, keep: P) -> &'a [u8]
         requires { P.IsAlwaysCallable keep }
         ensures text { (test : ℕ → Bool) → Computes (P.post keep) test → result.now ≡ front test self.old.rest.now }
@@ -261,6 +265,7 @@ impl<'a> Scan<'a> {
         self.skip(n)
     }
 
+    /// Goes over decimal digits, if one comes next: their number, where one over 1,000,000,000 is 1,000,000,001.
     pub fn number(&mut self) -> Option<u32>
         ensures value { result ≡ number_of self.old.rest.now }
         ensures left { self.new.rest.now ≡ behind is_digit self.old.rest.now }
