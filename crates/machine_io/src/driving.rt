@@ -8,13 +8,11 @@ use std::alloc::AllocError;
 /// The keys that are held: one for each move, by the number of moves before it.
 pub trait Keyboard {
     /// The code of the key that is held at a move.
-    ghost code: { ℕ → ℕ };
+    ghost code: { Self → ℕ → ℕ };
 
+    /// The code of the key that is held at move `c`, or 0 where none is.
     fn at(&self, c: u64) -> u16
-        ensures { result ≡ code c };
-
-    /// Codes are words.
-    ghost in_words: { (c : ℕ) → code c < 2 ^ 16 };
+        ensures { result ≡ code self.now c };
 }
 
 /// How a drive ends: all moves were made, or the machine gave another answer than `Acted`.
@@ -30,8 +28,8 @@ pub enum End {
 /// machine stands where the moves made so far have led.
 pub fn drive<L: Level, K: Keyboard>(level: &mut L, keys: &K, n: u64) -> Result<End, AllocError>
     requires { L.count level.old + n ≤ 2 ^ 63 }
-    ensures driven { IfOk result (λ end. IsDriven K.code (L.stands level.old) (L.count level.old) n end (L.stands level.new) (L.count level.new)) }
-    ensures refused { OnErr result (IsCutShort K.code (L.stands level.old) (L.count level.old) n (L.stands level.new) (L.count level.new)) }
+    ensures driven { IfOk result (λ end. IsDriven (K.code keys.now) (L.stands level.old) (L.count level.old) n end (L.stands level.new) (L.count level.new)) }
+    ensures refused { OnErr result (IsCutShort (K.code keys.now) (L.stands level.old) (L.count level.old) n (L.stands level.new) (L.count level.new)) }
     ensures sure { L.sure ≡ true → IsOk result }
 {
     for _i in 0..n {

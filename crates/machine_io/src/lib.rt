@@ -3,6 +3,7 @@
 #![tactic(auto)]
 
 mod driving;
+mod keys;
 mod machine;
 mod report;
 mod screen;

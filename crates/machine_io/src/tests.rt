@@ -72,9 +72,7 @@ impl Level for Counter {
 struct Turning;
 
 impl Keyboard for Turning {
-    ghost code = { λ c. 4 + c % 10 };
-
-    ghost in_words = { Prim.search rules };
+    ghost code = { λ _ c. 4 + c % 10 };
 
     fn at(&self, c: u64) -> u16 {
         4 + (c % 10) as u16

@@ -5,4 +5,4 @@ use Rattle.machine_io.proofs.driving.drive.Given as goal
 
 abbrev pub invariant-loop-i : goal.invariant-loop-i
 invariant-loop-i g l =
-    Goes g.K.Keyboard.code (g.L.Level.stands l.initial.level) (g.L.Level.count l.initial.level) l._i [] (g.L.Level.stands l.level) (g.L.Level.count l.level)
+    Goes (g.K.Keyboard.code l.fn.keys) (g.L.Level.stands l.initial.level) (g.L.Level.count l.initial.level) l._i [] (g.L.Level.stands l.level) (g.L.Level.count l.level)

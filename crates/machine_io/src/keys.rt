@@ -1,0 +1,13 @@
+//! The keys of a script as a keyboard.
+ghost use Rattle.key_script.specs.Codes.{code_at};
+
+use crate::driving::Keyboard;
+use key_script::Keys;
+
+impl Keyboard for Keys {
+    ghost code = { λ keys. code_at keys.lines.items };
+
+    fn at(&self, c: u64) -> u16 {
+        Keys::at(self, c)
+    }
+}
