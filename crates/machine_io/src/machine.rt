@@ -1,0 +1,83 @@
+//! A machine that is moved by keys.
+ghost use Rattle.std.specs.Prelude.{◌≡◌, ◌+◌, ◌<◌, ◌≤◌, ◌^◌, ◌++◌, [], ◌∷◌, List, ℕ, Bool, true, IfOk, OnErr, IsOk};
+ghost use Rattle.machine_io.specs.History.{Turn, turn, moves_in, IsSameReading, OnStop};
+ghost use Rattle.machine_io.specs.declared.machine.Moved.{Moved};
+
+use std::alloc::AllocError;
+
+/// Why a machine can't make its next move: a load or store at this address outside the memory, too few values
+/// on the stack, a missing argument or local, or no command to be done.
+#[derive(Clone, Copy, PartialEq, Eq, Debug)]
+pub enum Stray {
+    Address(u16),
+    Values,
+    Argument,
+    Local,
+    Code,
+}
+
+/// What a machine answers to a key. `Full` carries the number of words that the stack would have.
+#[derive(Clone, Copy, PartialEq, Eq, Debug)]
+pub enum Moved {
+    Acted,
+    Stray(Stray),
+    Full(u32),
+    Done,
+}
+
+/// A machine that makes one move at a time.
+///
+/// What a machine has done is told by its history: the list of its turns from the start, each a key with the
+/// answer to it. An impl says by `stands` which histories lead to which of its values.
+pub trait Level {
+    /// How a control point is told.
+    type Point;
+
+    /// The machine stands where this history leads.
+    ghost stands: { Self → List Turn → Type 0 };
+
+    /// The number of moves made.
+    ghost count: { Self → ℕ };
+
+    /// The words of heap and screen by address, from 2048 up to 24575.
+    ghost word: { Self → ℕ → ℕ };
+
+    /// The number of steps of the program's meaning among the moves made.
+    ghost committed: { Self → ℕ };
+
+    /// The control point.
+    ghost at_point: { Self → Self.Point };
+
+    /// Whether the machine's step never wants memory.
+    ghost sure: { Bool };
+
+    /// Makes the next move, in which `key` is held. After an error, and after any answer but `Acted`, what can
+    /// be read of the machine is as it was.
+    fn step(&mut self, key: u16) -> Result<Moved, AllocError>
+        requires { count self.old < 2 ^ 63 }
+        ensures stands { IfOk result (λ answer. (turns : List Turn) → stands self.old turns → stands self.new (turns ++ turn key answer ∷ [])) }
+        ensures counts { IfOk result (λ answer. count self.new ≡ moves_in answer + count self.old) }
+        ensures still { IfOk result (λ answer. OnStop answer (IsSameReading (word self.old) (committed self.old) (at_point self.old) (word self.new) (committed self.new) (at_point self.new))) }
+        ensures refused { OnErr result ((turns : List Turn) → stands self.old turns → stands self.new turns) }
+        ensures refused_count { OnErr result (count self.new ≡ count self.old) }
+        ensures refused_still { OnErr result (IsSameReading (word self.old) (committed self.old) (at_point self.old) (word self.new) (committed self.new) (at_point self.new)) }
+        ensures sure { sure ≡ true → IsOk result };
+
+    /// The number of moves made.
+    fn moves(&self) -> u64
+        ensures { result ≡ count self.now };
+
+    /// The word at an address of heap or screen.
+    fn word_at(&self, a: u16) -> u16
+        requires from { 2048 ≤ a }
+        requires below { a < 24576 }
+        ensures { result ≡ word self.now a };
+
+    /// The number of steps of the program's meaning that were made.
+    fn steps(&self) -> u64
+        ensures { result ≡ committed self.now };
+
+    /// The control point.
+    fn point(&self) -> Self::Point
+        ensures { result ≡ at_point self.now };
+}
