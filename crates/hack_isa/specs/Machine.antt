@@ -56,8 +56,3 @@ run image (key ∷ keys) s = run image keys (step image key s)
 abbrev pub machine_at : List ℕ → (ℕ → ℕ) → ℕ → Machine
 machine_at image keys zero = start
 machine_at image keys (suc c) = step image (keys c) (machine_at image keys c)
-
--- what reading an address gives: a word of memory, or the key
-abbrev pub word_seen : Machine → ℕ → ℕ → ℕ
-word_seen s key address = read s.memory key address
-

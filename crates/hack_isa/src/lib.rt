@@ -1,27 +1,27 @@
-// The Hack instruction set: the ALU, and instructions as words.
+//! The Hack instruction set: the ALU, and instructions as words. (The book, chapters 2 and 4.)
 #![tactic(auto)]
 
 ghost use Rattle.std.specs.Prelude.{◌≡◌, ◌<◌, ◌≤◌, ◌<ℤ◌, ◌↔◌, ◌^◌, ℕ, IsTrue};
-ghost use Rattle.word16.specs.Words.{has_bit};
 ghost use Rattle.hack_isa.specs.Table.{preset, combine, alu_out, DecodesBack, WellFormed, word_of, instr_of};
 
-/// One instruction. The fields of a `Compute` are those of the word: six ALU bits, three of dest, three of jump.
+use word16::bit;
+
+/// One instruction of the machine.
 #[derive(Clone, Copy, PartialEq, Eq, Debug)]
 pub enum Instr {
+    /// `@n`: loads `n`, a number below 32,768, into A.
     Address(u16),
+    /// `dest=comp;jump`, as the fields of the word `111 a cccccc ddd jjj`.
     Compute {
+        /// The bit `a`: M stands in the computation for A.
         memory: bool,
+        /// The six bits of the ALU: zx nx zy ny f no, from bit 5 down to bit 0.
         comp: u8,
+        /// Where the output goes: A is bit 2, D is bit 1, M is bit 0.
         dest: u8,
+        /// Where it jumps, by the output: below 0 is bit 2, 0 is bit 1, above 0 is bit 0.
         jump: u8,
     },
-}
-
-fn bit(w: u16, k: u16) -> bool
-    requires { k < 16 }
-    ensures { result ≡ has_bit w k }
-{
-    w >> k & 1 == 1
 }
 
 fn prepare(zero: bool, negate: bool, x: u16) -> u16
@@ -34,16 +34,22 @@ fn prepare(zero: bool, negate: bool, x: u16) -> u16
 fn joined(sum: bool, inverted: bool, x: u16, y: u16) -> u16
     ensures { result ≡ combine sum inverted x y }
 {
-    let out = if sum { word16::add(x, y) } else { word16::and(x, y) };
+    let out = if sum {
+        word16::add(x, y)
+    } else {
+        word16::and(x, y)
+    };
     if inverted { word16::not(out) } else { out }
 }
 
+/// The ALU's output, whether it is zero, and whether it is negative.
+///
+/// The bits are zx nx zy ny f no, from bit 5 down to bit 0; higher bits are not looked at.
 #[tactic(auto, unfolding(crate::specs::Table::alu_out))]
-/// The ALU's output, and whether it is zero and negative. Of `bits` the six lowest are looked at.
 pub fn alu(x: u16, y: u16, bits: u8) -> (u16, bool, bool)
     ensures out { result.0 ≡ alu_out bits x y }
-    ensures zero { IsTrue result.1 ↔ alu_out bits x y ≡ 0 }
-    ensures negative { IsTrue result.2 ↔ 32768 ≤ alu_out bits x y }
+    ensures zero { IsTrue result.1 ↔ (alu_out bits x y ≡ 0) }
+    ensures negative { IsTrue result.2 ↔ (32768 ≤ alu_out bits x y) }
 {
     let bits = u16::from(bits);
     let x = prepare(bit(bits, 5), bit(bits, 4), x);
@@ -52,9 +58,12 @@ pub fn alu(x: u16, y: u16, bits: u8) -> (u16, bool, bool)
     (out, out == 0, out >= 32768)
 }
 
+/// The word of an instruction.
+#[tactic(auto, using(crate::proofs::RoundTrip::encoded))]
 pub fn encode(instr: &Instr) -> u16
     requires { WellFormed instr.now }
-    ensures { result ≡ word_of instr.now }
+    ensures word { result ≡ word_of instr.now }
+    ensures back { instr_of result ≡ instr.now }
 {
     match *instr {
         Instr::Address(n) => n,
@@ -70,9 +79,11 @@ pub fn encode(instr: &Instr) -> u16
     }
 }
 
+/// The instruction of a word; each word is one. Where the top bit is 1, the next two bits are not looked at.
 #[tactic(auto, unfolding(crate::specs::Table::instr_of))]
 pub fn decode(word: u16) -> Instr
-    ensures { result ≡ instr_of word }
+    ensures instr { result ≡ instr_of word }
+    ensures well_formed { WellFormed result }
 {
     if word < 32768 {
         Instr::Address(word)
@@ -91,3 +102,67 @@ pub fn decode(word: u16) -> Instr
 pub fn round_trip_law()
     ensures { DecodesBack }
 {}
+
+#[cfg(test)]
+mod tests {
+    use super::*;
+
+    // The program of chapter 4 that puts 2 + 3 into the word 0.
+    #[test]
+    fn words_of_add(rt: HostRuntime) {
+        let d_is_a = Instr::Compute {
+            memory: false,
+            comp: 0b110000,
+            dest: 0b010,
+            jump: 0,
+        };
+        let d_is_d_plus_a = Instr::Compute {
+            memory: false,
+            comp: 0b000010,
+            dest: 0b010,
+            jump: 0,
+        };
+        let m_is_d = Instr::Compute {
+            memory: false,
+            comp: 0b001100,
+            dest: 0b001,
+            jump: 0,
+        };
+        assert_eq!(rt; encode(&Instr::Address(2)), 2);
+        assert_eq!(rt; encode(&d_is_a), 60432);
+        assert_eq!(rt; encode(&d_is_d_plus_a), 57488);
+        assert_eq!(rt; encode(&m_is_d), 58120);
+        assert_eq!(rt; decode(3), Instr::Address(3));
+        assert_eq!(rt; decode(60432), d_is_a);
+        assert_eq!(rt; decode(57488), d_is_d_plus_a);
+        assert_eq!(rt; decode(58120), m_is_d);
+    }
+
+    #[test]
+    fn other_bits_of_compute(rt: HostRuntime) {
+        // AM=M-1 and 0;JMP; bits 14 and 13 change nothing.
+        let pop = Instr::Compute {
+            memory: true,
+            comp: 0b110010,
+            dest: 0b101,
+            jump: 0,
+        };
+        assert_eq!(rt; decode(0b1111_1100_1010_1000), pop);
+        assert_eq!(rt; decode(0b1001_1100_1010_1000), pop);
+        assert_eq!(rt; encode(&pop), 0b1111_1100_1010_1000);
+        let go = Instr::Compute {
+            memory: false,
+            comp: 0b101010,
+            dest: 0,
+            jump: 0b111,
+        };
+        assert_eq!(rt; decode(60039), go);
+    }
+
+    #[test]
+    fn difference_below_zero(rt: HostRuntime) {
+        assert_eq!(rt; alu(0, 1, 0b010011), (65535, false, true));
+        assert_eq!(rt; alu(7, 7, 0b010011), (0, true, false));
+        assert_eq!(rt; alu(12, 10, 0b010101), (14, false, false));
+    }
+}

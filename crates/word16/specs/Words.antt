@@ -1,5 +1,6 @@
--- Words of 16 bits: numbers below 65,536. (The book, chapter 2: two's complement; sums modulo 2^16.)
-use Rattle.std.specs.Prelude.{ℕ, ◌+◌, ◌-◌, ◌/◌, ◌%◌, ◌^◌, Bool, nat_lt, nat_eq, ℤ, pos, negsuc, if◌then◌else◌}
+-- Words of 16 bits: numbers below 65,536. (The book, chapter 2: two's complement, and sums modulo 2^16.)
+use Rattle.std.specs.Prelude.{ℕ, ◌+◌, ◌-◌, ◌*◌, ◌/◌, ◌%◌, ◌^◌, Bool, nat_lt, nat_eq, ℤ, pos, negsuc, if◌then◌else◌, List, [], ◌∷◌, map}
+use Rattle.std.specs.List.{range_with_len}
 
 -- sum, difference and negation modulo 65,536
 abbrev pub word_add : ℕ → ℕ → ℕ
@@ -22,3 +23,12 @@ signed w = if nat_lt w 32768 then pos w else negsuc (65535 - w)
 -- bit k of a number is set
 abbrev pub has_bit : ℕ → ℕ → Bool
 has_bit w k = nat_eq (w / 2 ^ k % 2) 1
+
+-- the sixteen bits of a word, the lowest first
+abbrev pub bit_list : ℕ → List Bool
+bit_list w = map (has_bit w) (range_with_len 0 16)
+
+-- the number that a list of bits writes, the lowest first: each bit is worth twice the one before it
+abbrev pub number_of : List Bool → ℕ
+number_of [] = 0
+number_of (bit ∷ bits) = (if bit then 1 else 0) + 2 * number_of bits

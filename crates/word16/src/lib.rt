@@ -1,41 +1,142 @@
-//! Arithmetic on words of 16 bits.
+//! Words of 16 bits: sums, comparisons and bits, by 16-bit operations. (The book, chapter 2.)
 #![tactic(auto)]
 
-ghost use Rattle.std.specs.Prelude.{◌≡◌, bit_and, bit_or};
-ghost use Rattle.word16.specs.Words.{word_add, word_sub, word_neg, word_not};
+ghost use Rattle.std.specs.Prelude.{◌≡◌, ◌<◌, ◌<ℤ◌, ◌↔◌, IsTrue, bit_and, bit_or};
+ghost use Rattle.word16.specs.Words.{word_add, word_sub, word_neg, word_not, signed, has_bit, bit_list, number_of};
 
+/// The sum modulo 65,536.
 pub fn add(a: u16, b: u16) -> u16
     ensures { result ≡ word_add a b }
 {
     a.wrapping_add(b)
 }
 
+/// The difference modulo 65,536.
 pub fn sub(a: u16, b: u16) -> u16
     ensures { result ≡ word_sub a b }
 {
     a.wrapping_sub(b)
 }
 
+/// The word that gives 0 when `w` is added to it.
 pub fn neg(w: u16) -> u16
     ensures { result ≡ word_neg w }
 {
     w.wrapping_neg()
 }
 
+/// Each bit the other one.
 pub fn not(w: u16) -> u16
     ensures { result ≡ word_not w }
 {
     !w
 }
 
+/// The bits that both words have.
 pub fn and(a: u16, b: u16) -> u16
     ensures { result ≡ bit_and a b }
 {
     a & b
 }
 
+/// The bits that either word has.
 pub fn or(a: u16, b: u16) -> u16
     ensures { result ≡ bit_or a b }
 {
     a | b
+}
+
+/// Whether `a` is less than `b` as signed numbers.
+pub fn lt(a: u16, b: u16) -> bool
+    ensures { IsTrue result ↔ (signed a <ℤ signed b) }
+{
+    // With the top bit turned over, the order of the signed readings is that of the words.
+    a ^ 32768 < b ^ 32768
+}
+
+/// Whether `a` is greater than `b` as signed numbers.
+pub fn gt(a: u16, b: u16) -> bool
+    ensures { IsTrue result ↔ (signed b <ℤ signed a) }
+{
+    lt(b, a)
+}
+
+/// Whether the two words are the same.
+pub fn eq(a: u16, b: u16) -> bool
+    ensures { IsTrue result ↔ (a ≡ b) }
+{
+    a == b
+}
+
+/// Bit `k` of a word; bit 0 is the lowest.
+pub fn bit(w: u16, k: u16) -> bool
+    requires { k < 16 }
+    ensures { result ≡ has_bit w k }
+{
+    w >> k & 1 == 1
+}
+
+/// The bits of a word: bit `k` at place `k`.
+#[tactic(auto, using(crate::proofs::Bits::written))]
+pub fn bits_of(w: u16) -> [bool; 16]
+    ensures bits { result ≡ bit_list w }
+    ensures back { number_of result ≡ w }
+{
+    [
+        bit(w, 0),
+        bit(w, 1),
+        bit(w, 2),
+        bit(w, 3),
+        bit(w, 4),
+        bit(w, 5),
+        bit(w, 6),
+        bit(w, 7),
+        bit(w, 8),
+        bit(w, 9),
+        bit(w, 10),
+        bit(w, 11),
+        bit(w, 12),
+        bit(w, 13),
+        bit(w, 14),
+        bit(w, 15),
+    ]
+}
+
+/// The word with these bits: bit `k` is that at place `k`.
+#[tactic(auto, using(crate::proofs::Bits::reading, crate::proofs::Bits::short_tail))]
+pub fn word_of(bits: [bool; 16]) -> u16
+    ensures number { result ≡ number_of bits }
+    ensures back { bit_list result ≡ bits }
+{
+    let mut word = 0;
+    for k in (0..16).rev() {
+        word = 2 * word + u16::from(bits[k]);
+    }
+    word
+}
+
+#[cfg(test)]
+mod tests {
+    use super::*;
+
+    #[test]
+    fn signed_order(rt: HostRuntime) {
+        // -20000 is the word 45536; each difference is past a signed word.
+        assert!(rt; !lt(20000, 45536));
+        assert!(rt; lt(45536, 20000));
+        assert!(rt; gt(32767, 32768));
+        assert!(rt; !gt(32768, 32767));
+        assert!(rt; eq(sub(0, 1), 65535));
+    }
+
+    #[test]
+    fn bits_and_words(rt: HostRuntime) {
+        // 60432 is 1110110000010000, the instruction D=A.
+        let bits = bits_of(60432);
+        assert!(rt; !bits[0]);
+        assert!(rt; bits[4]);
+        assert!(rt; !bits[12]);
+        assert!(rt; bits[15]);
+        assert_eq!(rt; word_of(bits), 60432);
+    }
 }
