@@ -1,6 +1,6 @@
 -- Small programs and where their steps lead, by computation.
 use Rattle.std.specs.Prelude.{◌≡◌, ℕ, ◌-◌, List, [], ◌∷◌, slice_index, Some, option_map}
-use Rattle.jack_meaning.specs.Text.{Argument, Local, Static, Minus, Complement, Subtract, Less, Expression, Literal, Name, This, Unary, Binary, Load, Call, NoMore, More, Statement, Let, LetField, LetThis, Store, Do, If, While, Return, Text, End, Next, Constructor, Function, Method, Subroutine, Class, Program}
+use Rattle.jack_meaning.specs.Text.{Argument, Local, Static, Minus, Complement, Subtract, Less, Expression, Literal, Name, This, Unary, Binary, Load, Call, NoMore, More, Statement, Let, LetField, LetThis, Store, Do, If, While, Return, text_of, Constructor, Function, Method, Subroutine, Class, Program}
 use Rattle.jack_meaning.specs.Meaning.{Outcome, Stray, Done, step, point_of}
 use Rattle.jack_meaning.specs.Runs.{Listening, first_key, run}
 
@@ -16,14 +16,9 @@ IsAt program keys m point a w = option_map (seen a) (run program keys m) ≡ Som
 abbrev pub IsLast : Program → List ℕ → ℕ → Outcome → Type 0
 IsLast program keys m o = option_map (λ l. step program.subroutines (first_key l.keys) l.state) (run program keys m) ≡ Some o
 
--- statements, one after the other
-abbrev pub text : List Statement → Text
-text [] = End
-text (s ∷ ss) = Next s (text ss)
-
 -- a function without arguments
 abbrev pub function : ℕ → ℕ → List Statement → Subroutine
-function class locals ss = record { kind = Function; class = class; arguments = 0; locals = locals; body = text ss }
+function class locals ss = record { kind = Function; class = class; arguments = 0; locals = locals; body = text_of ss }
 
 abbrev pub class_of : ℕ → ℕ → Class
 class_of fields statics = record { fields = fields; statics = statics }
@@ -53,8 +48,8 @@ abbrev pub makes_one : Program
 makes_one =
     small (class_of 0 0 ∷ class_of 0 0 ∷ class_of 1 0 ∷ []) (
     function 2 1 (Let 1 (Local 0) (Call 3 NoMore) ∷ Return 2 (Literal 0) ∷ [])
-    ∷ record { kind = Constructor; class = 2; arguments = 0; locals = 0; body = text (LetThis 0 (Call 4 (More (Literal 1) NoMore)) ∷ LetField 1 0 (Literal 5) ∷ Return 2 This ∷ []) }
-    ∷ record { kind = Function; class = 1; arguments = 1; locals = 0; body = text (Return 1 (Literal 2048) ∷ []) }
+    ∷ record { kind = Constructor; class = 2; arguments = 0; locals = 0; body = text_of (LetThis 0 (Call 4 (More (Literal 1) NoMore)) ∷ LetField 1 0 (Literal 5) ∷ Return 2 This ∷ []) }
+    ∷ record { kind = Function; class = 1; arguments = 1; locals = 0; body = text_of (Return 1 (Literal 2048) ∷ []) }
     ∷ []
     )
 
@@ -74,8 +69,8 @@ lays_heap = record {
 abbrev pub chooses : Program
 chooses =
     main 16384 (
-    If 2 (Literal 2) (text (s_at 3 0 (Literal 1) ∷ [])) (text (s_at 4 0 (Literal 2) ∷ []))
-    ∷ If 5 (Unary Complement (Literal 2)) (text (s_at 6 1 (Literal 1) ∷ [])) (text (s_at 7 1 (Literal 2) ∷ []))
+    If 2 (Literal 2) (text_of (s_at 3 0 (Literal 1) ∷ [])) (text_of (s_at 4 0 (Literal 2) ∷ []))
+    ∷ If 5 (Unary Complement (Literal 2)) (text_of (s_at 6 1 (Literal 1) ∷ [])) (text_of (s_at 7 1 (Literal 2) ∷ []))
     ∷ Return 8 (Literal 0)
     ∷ []
     )
@@ -99,7 +94,7 @@ abbrev pub loops : Program
 loops =
     main 16384 (
     Let 2 (Local 1) (Literal 3)
-    ∷ While 3 (Name (Local 1)) (text (Store 4 (Name (Local 0)) (Name (Local 1)) (Literal 7) ∷ Let 5 (Local 1) (Binary Subtract (Name (Local 1)) (Literal 1)) ∷ []))
+    ∷ While 3 (Name (Local 1)) (text_of (Store 4 (Name (Local 0)) (Name (Local 1)) (Literal 7) ∷ Let 5 (Local 1) (Binary Subtract (Name (Local 1)) (Literal 1)) ∷ []))
     ∷ Return 6 (Literal 0)
     ∷ []
     )
@@ -120,7 +115,7 @@ abbrev pub asks : Program
 asks =
     small (class_of 0 0 ∷ class_of 0 0 ∷ []) (
     function 1 1 (Let 1 (Local 0) (Literal 16384) ∷ s_at 2 0 (Call 3 (More (Literal 100) (More (Literal 58) NoMore))) ∷ Return 3 (Literal 0) ∷ [])
-    ∷ record { kind = Method; class = 1; arguments = 2; locals = 0; body = text (Return 1 (Binary Subtract This (Name (Argument 1))) ∷ []) }
+    ∷ record { kind = Method; class = 1; arguments = 2; locals = 0; body = text_of (Return 1 (Binary Subtract This (Name (Argument 1))) ∷ []) }
     ∷ []
     )
 

@@ -1,6 +1,6 @@
 -- The text of a program: its statements and expressions with their names resolved, in which some parts have become values.
 -- (The language of the book's chapter 9; a string and the operators * and / are calls.)
-use Rattle.std.specs.Prelude.{ℕ, List}
+use Rattle.std.specs.Prelude.{ℕ, List, [], ◌∷◌}
 
 -- A variable, by its number among those of its kind. A method's object is argument 0; the statics are numbered through all classes.
 pub data Variable : Type 0 where
@@ -57,6 +57,11 @@ mutual
   pub data Text : Type 0 where
     End : Text
     Next : Statement → Text → Text
+
+-- statements, one after the other
+abbrev pub text_of : List Statement → Text
+text_of [] = End
+text_of (s ∷ ss) = Next s (text_of ss)
 
 -- one text after another
 abbrev pub joined : Text → Text → Text

@@ -1,0 +1,4 @@
+pub mod Reading
+pub mod Looks
+pub mod Texts
+pub mod Advances
