@@ -1,2 +1,6 @@
 pub mod Looks
 pub mod Blocks
+pub mod Rests
+pub mod Tops
+pub mod Stacks
+pub mod Steps
