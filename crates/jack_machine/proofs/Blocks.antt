@@ -1,6 +1,6 @@
 -- The rows of statements in a statement are what its vectors hold.
-use Rattle.std.proofs.Common.{◌≡◌, ℕ, List, [], ◌∷◌, map, refl, sym, ap, ◌∙◌}
-use Rattle.jack_meaning.specs.Text.{Text, If, While, Next}
+use Rattle.std.proofs.Common.{◌≡◌, ℕ, refl, ap, ◌∙◌}
+use Rattle.jack_meaning.specs.Text.{If, While, Next}
 use Rattle.jack_machine.specs.Reading.{the_expression}
 use Rattle.jack_machine.specs.Texts.{the_statement, the_row, the_block}
 use Rattle.jack_machine.specs.declared.tree.Expression.{Expression}

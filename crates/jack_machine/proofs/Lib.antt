@@ -4,3 +4,4 @@ pub mod Rests
 pub mod Tops
 pub mod Stacks
 pub mod Steps
+pub mod Histories

@@ -1,11 +1,10 @@
 -- How a look at a list of expressions goes on.
-use Rattle.std.proofs.Common.{◌≡◌, ℕ, List, [], ◌∷◌, ◌&&◌, Bool, true, false, if◌then◌else◌, refl, sym, ap, ◌∙◌, ◌+◌, ◌<◌, ◌≤◌, length, get_or, drop, drop-cons, add-one, subst, arith}
-use Rattle.jack_meaning.specs.Text.{Expression, Expressions, NoMore, More, Value, Open, Field, Load, Call}
-use Rattle.jack_meaning.specs.Expressions.{View, Move, Stands, Rewrites, Calls, Strays, within, rewrite, rewrite_first}
+use Rattle.std.proofs.Common.{◌≡◌, ℕ, true, false, refl}
+use Rattle.jack_meaning.specs.Text.{Expression, Expressions, NoMore, More, Field, Load, Call}
+use Rattle.jack_meaning.specs.Expressions.{View}
 use Rattle.word16.specs.Words.{word_add}
-use Rattle.jack_machine.specs.Looks.{Sees, SeesFirst, Loads, is_value, are_values, replaced, replaced_first, passed, passed_first, move_of, move_of_first, is_stand}
+use Rattle.jack_machine.specs.Looks.{Sees, SeesFirst, Loads, is_stand}
 use Rattle.jack_machine.specs.declared.looking.Sight.{Sight}
-use Rattle.jack_machine.specs.declared.looking.Sight.TheVariants as Sight
 
 no_load : false ≡ true → ⊥
 no_load e = cc

@@ -1,5 +1,5 @@
 -- The rest of a text and its first statement, which stands last.
-use Rattle.std.proofs.Common.{rules, Result, Ok, Err, if◌then◌else◌, true, false, ◌≡◌, ℕ, zero, suc, ◌+◌, ◌-◌, ◌<◌, List, [], ◌∷◌, ◌++◌, length, take, map, reverse, refl, sym, ap, ◌∙◌, subst, arith}
+use Rattle.std.proofs.Common.{rules, Result, Ok, Err, if◌then◌else◌, true, false, ◌≡◌, ℕ, zero, suc, List, [], ◌∷◌, ◌++◌, length, take, map, reverse, refl, sym, ap, ◌∙◌, subst, arith}
 use Rattle.std.specs.Prelude.{slice_index_or, slice_set, IsOk, is_ok, nat_eq}
 use Rattle.std.proofs.lemmas.List.{map-append, reverse-append, reverse-reverse}
 use Rattle.jack_meaning.specs.Text.{Statement as AStatement, Let, LetField, LetThis, Store, Do, If, While, Return, Text, End, Next, text_of, joined}

@@ -1,7 +1,6 @@
 -- The frames of a vector.
-use Rattle.std.proofs.Common.{◌≡◌, List, [], ◌∷◌, ◌++◌, map, reverse, refl, ap, ◌∙◌}
+use Rattle.std.proofs.Common.{◌≡◌, List, [], ◌∷◌, ◌++◌, map, reverse, ap, ◌∙◌}
 use Rattle.std.proofs.lemmas.List.{map-append, reverse-append}
-use Rattle.jack_meaning.specs.Meaning.{Frame}
 use Rattle.jack_machine.specs.Frames.{the_frame}
 use Rattle.jack_machine.specs.Machine.{the_stack}
 use Rattle.jack_machine.specs.declared.frames.Frame.{Frame as FrameTree}

@@ -1,8 +1,8 @@
 -- From the step of the top frame to the step of the machine.
-use Rattle.std.proofs.Common.{Result, Ok, Err, ◌≡◌, ℕ, List, [], ◌∷◌, Bool, true, false, refl, sym, ap, ◌∙◌}
+use Rattle.std.proofs.Common.{Result, Ok, Err, ◌≡◌, ℕ, List, ◌∷◌, false, refl, sym, ap, ◌∙◌}
 use Rattle.std.specs.Prelude.{OnErr}
-use Rattle.jack_meaning.specs.Text.{Statement, Let, LetField, LetThis, Store, Do, If, While, Return, Text, End, Next, Subroutine}
-use Rattle.jack_meaning.specs.Meaning.{Frame, State, Outcome, Acts, Done, step, returned, filled_text, with_top}
+use Rattle.jack_meaning.specs.Text.{Let, LetField, LetThis, Store, Do, If, While, Return, Text, End, Next, Subroutine}
+use Rattle.jack_meaning.specs.Meaning.{Frame, State, Acts, step, returned, filled_text}
 use Rattle.jack_machine.specs.Rests.{unfolded_text}
 use Rattle.jack_machine.specs.Texts.{the_rest}
 use Rattle.jack_machine.specs.Frames.{the_frame, the_state, IsSameTop, called}

@@ -1,23 +1,19 @@
 -- The step of the first statement, by its parts and by its act.
 use Rattle.std.specs.Prelude.{IfOk}
-use Rattle.std.proofs.Common.{Result, Ok, Err, ◌≡◌, ℕ, List, [], ◌∷◌, Bool, true, false, Option, Some, None, refl, sym, ap, ◌∙◌, subst}
+use Rattle.std.proofs.Common.{Result, Ok, Err, ◌≡◌, ℕ, List, ◌∷◌, true, false, Some, refl, sym, ap, ◌∙◌}
 use Rattle.jack_meaning.specs.Text.{Expression, Statement, Let, LetField, LetThis, Store, Do, If, While, Return, Text, End, Next, Subroutine}
 use Rattle.jack_meaning.specs.Expressions.{View, Move, Stands, Rewrites, Calls, Strays, within, rewrite}
-use Rattle.jack_meaning.specs.Meaning.{Frame, State, Outcome, Acts, Stray, Done, view_of, step, step_first, step_part, stored, passed_over, new_frame, returned}
+use Rattle.jack_meaning.specs.Meaning.{Frame, State, Outcome, Acts, view_of, step, step_first, step_part, stored, new_frame, returned}
 use Rattle.jack_machine.specs.Advances.{rewrite_statement, passed_statement, opened_statement}
 use Rattle.jack_machine.specs.Effects.{is_no_loop, begins_no_loop, act_of}
 use Rattle.jack_machine.specs.Rests.{TextAdvances, passed_text, opened_text, text_tail}
-use Rattle.jack_machine.specs.Frames.{the_frame, the_state, IsSameTop, IsOutcome, first_outcome, ActsFirst, TopStep, called, StoresAt}
-use Rattle.jack_machine.specs.Looks.{the_view}
+use Rattle.jack_machine.specs.Frames.{the_frame, the_state, IsSameTop, first_outcome, ActsFirst, TopStep, called, StoresAt}
 use Rattle.jack_machine.specs.Texts.{the_rest}
 use Rattle.jack_machine.specs.declared.program.Statement.{Statement as StatementTree}
-use Rattle.jack_machine.specs.declared.looking.Variables.{Variables}
 use Rattle.jack_machine.specs.declared.looking.Memory.{Memory}
 use Rattle.jack_machine.specs.declared.parts.Advance.{Advance}
-use Rattle.jack_machine.specs.declared.parts.Advance.TheVariants as Advance
 use Rattle.jack_machine.specs.declared.frames.Frame.{Frame as FrameTree}
 use Rattle.jack_machine.specs.declared.frames.Act.{Act}
-use Rattle.jack_machine.specs.declared.frames.Act.TheVariants as Act
 use Rattle.std.specs.declared.vec.Vec.{Vec}
 use Rattle.std.specs.declared.alloc.Global.{Global}
 
@@ -45,7 +41,7 @@ module _ (subs : List Subroutine) (key : ℕ) (s : State) (f : Frame) (below : L
   first_by_parts (Store n a i e) rest h =
       ap (step_part subs s f below (rewrite v a) (λ a'. Next (Store n a' i e) rest))
       (ap (step_part subs s f below (rewrite v i) (λ i'. Next (Store n a i' e) rest)) (one_part e (Store n a i) rest (act_of s f below (Store n a i e) rest))
-          ∙ sym (part_within subs s f below (rewrite v i) (λ i'. Store n a i' e) (within (rewrite v e) (Store n a i) Stands) (λ t. Next t rest) (act_of s f below (Store n a i e) rest)))
+      ∙ sym (part_within subs s f below (rewrite v i) (λ i'. Store n a i' e) (within (rewrite v e) (Store n a i) Stands) (λ t. Next t rest) (act_of s f below (Store n a i e) rest)))
       ∙ sym (part_within subs s f below (rewrite v a) (λ a'. Store n a' i e) (within (rewrite v i) (λ i'. Store n a i' e) (within (rewrite v e) (Store n a i) Stands)) (λ t. Next t rest) (act_of s f below (Store n a i e) rest))
   first_by_parts (Do n e) rest h = one_part e (Do n) rest _
   first_by_parts (If n c a b) rest h = one_part c (λ c'. If n c' a b) rest _

@@ -1,10 +1,9 @@
 -- What a step of the machine makes of an expression and of a statement, by the meaning.
-use Rattle.std.specs.Prelude.{◌≡◌, ℕ, List, Bool, true, false, if◌then◌else◌}
+use Rattle.std.specs.Prelude.{◌≡◌, ℕ, List, true, false, if◌then◌else◌}
 use Rattle.jack_meaning.specs.Text.{Expression, Open, Statement, Let, LetField, LetThis, Store, Do, If, While, Return}
 use Rattle.jack_meaning.specs.Expressions.{View, Move, Stands, Rewrites, Calls, Strays, within, rewrite}
 use Rattle.jack_machine.specs.Looks.{is_value, passed, replaced}
 use Rattle.jack_machine.specs.declared.parts.Advance.{Advance}
-use Rattle.jack_machine.specs.declared.parts.Advance.TheVariants as Advance
 
 abbrev pub Advances : View → Expression → Advance → Expression → Type 0
 Advances v old Advance.Stands new = (rewrite v old ≡ Stands) × (is_value old ≡ true) × (new ≡ old)

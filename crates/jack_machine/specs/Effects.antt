@@ -7,7 +7,6 @@ use Rattle.jack_meaning.specs.Meaning.{Frame, State, Outcome, Done, assigned, st
 use Rattle.jack_machine.specs.Reading.{the_variable}
 use Rattle.jack_machine.specs.Rests.{chosen_text, text_tail}
 use Rattle.jack_machine.specs.declared.effects.Effect.{Effect}
-use Rattle.jack_machine.specs.declared.effects.Effect.TheVariants as Effect
 
 -- loops are read as choices before they are looked at
 abbrev pub is_no_loop : Statement → Bool

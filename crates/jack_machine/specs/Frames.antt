@@ -1,5 +1,5 @@
 -- What a step of the top frame does, by the meaning.
-use Rattle.std.specs.Prelude.{◌≡◌, ℕ, List, [], ◌∷◌, Bool, true, false, slice_set}
+use Rattle.std.specs.Prelude.{◌≡◌, ℕ, List, ◌∷◌, Bool, true, false, slice_set}
 use Rattle.jack_meaning.specs.Text.{Variable, Argument, Local, Static, Text, End, Next, Subroutine}
 use Rattle.jack_meaning.specs.Meaning.{Frame, State, Outcome, Acts, Stray, Done, step, new_frame, returned, stored, passed_over, with_top}
 use Rattle.jack_machine.specs.Texts.{the_rest}
@@ -10,7 +10,6 @@ use Rattle.jack_machine.specs.declared.looking.Variables.{Variables}
 use Rattle.jack_machine.specs.declared.looking.Memory.{Memory}
 use Rattle.jack_machine.specs.declared.frames.Frame.{Frame as FrameTree}
 use Rattle.jack_machine.specs.declared.frames.Act.{Act}
-use Rattle.jack_machine.specs.declared.frames.Act.TheVariants as Act
 
 abbrev pub the_frame : FrameTree → Frame
 the_frame f = record { subroutine = f.subroutine; arguments = f.variables.arguments.items; locals = f.variables.locals.items; this = f.variables.this; text = the_rest f.text.items }

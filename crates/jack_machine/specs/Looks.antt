@@ -5,7 +5,6 @@ use Rattle.jack_meaning.specs.Expressions.{View, Move, Stands, Rewrites, Calls, 
 use Rattle.jack_machine.specs.declared.looking.Variables.{Variables}
 use Rattle.jack_machine.specs.declared.looking.Memory.{Memory}
 use Rattle.jack_machine.specs.declared.looking.Sight.{Sight}
-use Rattle.jack_machine.specs.declared.looking.Sight.TheVariants as Sight
 
 -- what a frame's expressions can read
 abbrev pub the_view : Variables → Memory → ℕ → View

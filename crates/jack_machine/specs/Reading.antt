@@ -2,15 +2,10 @@
 use Rattle.jack_meaning.specs.Text.{Argument, Local, Static, Minus, Complement, Plus, Subtract, And, Or, Less, Greater, Equal, Literal, Value, Name, This, Field, Unary, Binary, Load, Call, Open, NoMore, More}
 use Rattle.jack_meaning.specs.Text.{Variable as AVariable, Sign as ASign, Operator as AnOperator, Expression as AnExpression, Expressions}
 use Rattle.jack_machine.specs.declared.tree.Variable.{Variable}
-use Rattle.jack_machine.specs.declared.tree.Variable.TheVariants as Variable
 use Rattle.jack_machine.specs.declared.tree.Sign.{Sign}
-use Rattle.jack_machine.specs.declared.tree.Sign.TheVariants as Sign
 use Rattle.jack_machine.specs.declared.tree.Operator.{Operator}
-use Rattle.jack_machine.specs.declared.tree.Operator.TheVariants as Operator
 use Rattle.jack_machine.specs.declared.tree.Expression.{Expression, Unary', Binary', Load', Call'}
-use Rattle.jack_machine.specs.declared.tree.Expression.TheVariants as Expression
 use Rattle.jack_machine.specs.declared.tree.Arguments.{Arguments, More'}
-use Rattle.jack_machine.specs.declared.tree.Arguments.TheVariants as Arguments
 
 abbrev pub the_variable : Variable → AVariable
 the_variable (Variable.Argument k) = Argument k

@@ -1,12 +1,10 @@
 -- What the machine's statements and programs stand for.
-use Rattle.std.specs.Prelude.{ℕ, List, [], ◌∷◌, map, reverse}
+use Rattle.std.specs.Prelude.{List, map, reverse}
 use Rattle.jack_meaning.specs.Text.{Let, LetField, LetThis, Store, Do, If, While, Return, Text, End, Next, text_of, Constructor, Function, Method}
 use Rattle.jack_meaning.specs.Text.{Statement as AStatement, Kind as AKind, Subroutine as ASubroutine, Class as AClass, Program}
 use Rattle.jack_machine.specs.Reading.{the_variable, the_expression}
 use Rattle.jack_machine.specs.declared.program.Statement.{Statement, If', While', Row_of-Statement, end_of-Statement, more_of-Statement}
-use Rattle.jack_machine.specs.declared.program.Statement.TheVariants as Statement
 use Rattle.jack_machine.specs.declared.program.Kind.{Kind}
-use Rattle.jack_machine.specs.declared.program.Kind.TheVariants as Kind
 use Rattle.jack_machine.specs.declared.program.Subroutine.{Subroutine}
 use Rattle.jack_machine.specs.declared.program.Class.{Class}
 use Rattle.jack_machine.specs.declared.program.Core.{Core}

@@ -2,17 +2,17 @@
 use Rattle.std.specs.Prelude.{◌≡◌, ℕ, Bool, List, [], ◌∷◌, ◌-◌, slice_index}
 use Rattle.machine_io.specs.History.{Turn}
 use Rattle.machine_io.specs.declared.machine.Moved.{Moved}
-use Rattle.machine_io.specs.declared.machine.Moved.TheVariants as Moved
 use Rattle.machine_io.specs.declared.machine.Stray.TheVariants as Why
 use Rattle.outer_world.specs.declared.point.Point.{Point}
-use Rattle.jack_meaning.specs.Text.{Subroutine, Program}
-use Rattle.jack_meaning.specs.Meaning.{Frame, State, Outcome, Acts, Stray, Done, step, start, point_of}
+use Rattle.jack_meaning.specs.Text.{Subroutine}
+use Rattle.jack_meaning.specs.Meaning.{Frame, State, Acts, Stray, Done, step, start, start_text, point_of}
 use Rattle.jack_machine.specs.Rests.{unfolded_text}
 use Rattle.jack_machine.specs.Texts.{the_rest, the_subroutines, the_program}
 use Rattle.jack_machine.specs.Frames.{the_frame, the_state, called}
 use Rattle.jack_machine.specs.Machine.{the_stack}
 use Rattle.jack_machine.specs.declared.frames.Frame.{Frame as FrameTree}
 use Rattle.jack_machine.specs.declared.jack.Jack.{Jack}
+use Rattle.jack_machine.specs.declared.program.Core.{Core}
 
 -- the state that the machine shows
 abbrev pub jack_state : Jack → State
@@ -70,5 +70,16 @@ Leads subs s [] s' = s' ≡ s
 Leads subs s (t ∷ ts) s' = (between : State) × IsTurn subs s t between × Leads subs between ts s'
 
 -- The machine stands where this history leads from the program's start, but that a loop which comes first may be read as a choice.
+abbrev pub StandsAt : Core → State → List Turn → Type 0
+StandsAt core shown turns = (s : State) × Leads (the_subroutines core) (start (the_program core)) turns s × (settled shown ≡ settled s)
+
 abbrev pub Stands : Jack → List Turn → Type 0
-Stands j turns = (s : State) × Leads (the_subroutines j.core) (start (the_program j.core)) turns s × (settled (jack_state j) ≡ settled s)
+Stands j turns = StandsAt j.core (jack_state j) turns
+
+-- the word at an address of heap or screen
+abbrev pub jack_word : Jack → ℕ → ℕ
+jack_word j a = slice_index j.memory.words.items (a - 2048)
+
+-- the first frame, `start`
+abbrev pub start_frame : ℕ → Frame
+start_frame init = record { subroutine = 0; arguments = []; locals = []; this = 0; text = start_text init }

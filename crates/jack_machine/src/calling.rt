@@ -34,7 +34,12 @@ fn copy_body(alloc: Global, body: &[Statement]) -> Result<Vec<Statement>, AllocE
 }
 
 // The frame of a call.
-fn enter_subroutine(alloc: Global, g: u32, subroutine: &Subroutine, arguments: Vec<u16>) -> Result<Frame, AllocError>
+fn enter_subroutine(
+    alloc: Global,
+    g: u32,
+    subroutine: &Subroutine,
+    arguments: Vec<u16>,
+) -> Result<Frame, AllocError>
     ensures { IfOk result (λ f. the_frame f ≡ entered_frame g (the_subroutine subroutine.now) arguments.items) }
 {
     let this = this_in(subroutine.kind, &arguments);
@@ -52,7 +57,12 @@ fn enter_subroutine(alloc: Global, g: u32, subroutine: &Subroutine, arguments: V
 }
 
 /// The frame of a call of the subroutine of this number.
-pub(crate) fn enter(alloc: Global, subroutines: &[Subroutine], g: u32, arguments: Vec<u16>) -> Result<Frame, AllocError>
+pub(crate) fn enter(
+    alloc: Global,
+    subroutines: &[Subroutine],
+    g: u32,
+    arguments: Vec<u16>,
+) -> Result<Frame, AllocError>
     ensures { IfOk result (λ f. the_frame f ≡ new_frame (map the_subroutine subroutines.now) g arguments.items) }
 {
     match subroutines.get(g as usize) {
@@ -70,7 +80,11 @@ pub(crate) fn enter(alloc: Global, subroutines: &[Subroutine], g: u32, arguments
 }
 
 /// A new frame goes on top. Where memory is wanted nothing has changed.
-pub(crate) fn call(top: &mut Frame, below: &mut Vec<Frame>, entered: Frame) -> Result<(), AllocError>
+pub(crate) fn call(
+    top: &mut Frame,
+    below: &mut Vec<Frame>,
+    entered: Frame,
+) -> Result<(), AllocError>
     ensures done { OnOk result (IsEntered top.old below.old.items entered top.new below.new.items) }
     ensures refused { OnErr result (top.new ≡ top.old) }
     ensures refused_below { OnErr result (below.new.items ≡ below.old.items) }

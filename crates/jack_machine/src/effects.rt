@@ -27,14 +27,19 @@ fn effect_of(this: u16, s: &Statement) -> Effect
 {
     match s {
         Statement::Let {
-            variable, value, ..
+            variable,
+            value,
+            ..
         } => Effect::Assigns(*variable, value_in(value)),
         Statement::LetField { field, value, .. } => {
             Effect::Stores(word16::add(this, *field), value_in(value))
         }
         Statement::LetThis { value, .. } => Effect::SetsThis(value_in(value)),
         Statement::Store {
-            base, index, value, ..
+            base,
+            index,
+            value,
+            ..
         } => Effect::Stores(
             word16::add(value_in(base), value_in(index)),
             value_in(value),

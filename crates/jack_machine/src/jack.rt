@@ -2,12 +2,12 @@
 
 ghost use Rattle.std.specs.Prelude.{◌≡◌, ◌+◌, ◌-◌, ◌<◌, ◌≤◌, ◌^◌, ◌++◌, [], ◌∷◌, List, ℕ, IfOk, OnOk, OnErr, true, false, slice_index, replicate, sum_by};
 ghost use Rattle.machine_io.specs.History.{Turn, moves_in};
-ghost use Rattle.jack_meaning.specs.Text.{Class as AClass};
-ghost use Rattle.jack_meaning.specs.Meaning.{start_text, start};
-ghost use Rattle.jack_machine.specs.Texts.{the_rest, the_program};
+ghost use Rattle.jack_meaning.specs.Text.{number_of};
+ghost use Rattle.jack_meaning.specs.Meaning.{start, text_point};
+ghost use Rattle.jack_machine.specs.Texts.{the_statement, the_rest, the_program};
 ghost use Rattle.jack_machine.specs.Effects.{begins_no_loop};
 ghost use Rattle.jack_machine.specs.Frames.{the_frame};
-ghost use Rattle.jack_machine.specs.Whole.{IsSettled, IsCalled, IsSame, IsAlike, JackStep, Stands, jack_state, jack_point};
+ghost use Rattle.jack_machine.specs.Whole.{IsSettled, IsCalled, IsSame, IsAlike, JackStep, Stands, jack_state, jack_point, jack_word, start_frame};
 
 use crate::calling::{call, enter, leave};
 use crate::frames::{Act, Frame, step_top};
@@ -50,7 +50,56 @@ fn make_call(jack: &mut Jack, g: u32) -> Result<(), AllocError>
     call(&mut jack.top, &mut jack.below, entered)
 }
 
+// The words of all statics, 0.
+fn new_statics(alloc: Global, classes: &[Class]) -> Result<Vec<u16>, AllocError>
+    ensures { IfOk result (λ statics. statics.items ≡ replicate (sum_by (λ c. c.statics) classes.now) 0) }
+{
+    let mut statics = Vec::new(alloc);
+    for class in classes {
+        let mut zeros = vec![in alloc; 0u16; class.statics as usize]?;
+        statics.append(&mut zeros)?;
+    }
+    Ok(statics)
+}
+
+// The frame `start`, whose text is `do Sys.init();`.
+fn first_frame(alloc: Global, init: u32) -> Result<Frame, AllocError>
+    ensures { IfOk result (λ f. the_frame f ≡ start_frame init) }
+{
+    let call = Expression::Call(init, Box::new(alloc, Arguments::NoMore)?);
+    let text = vec![in alloc; Statement::Do { number: 1, call }]?;
+    Ok(Frame {
+        subroutine: 0,
+        variables: Variables {
+            arguments: Vec::new(alloc),
+            locals: Vec::new(alloc),
+            this: 0,
+        },
+        text,
+    })
+}
+
 impl Jack {
+    /// The machine at the start of a program: `do Sys.init();`, and all words 0.
+    pub fn new(alloc: Global, core: Core) -> Result<Self, AllocError>
+        ensures start { IfOk result (λ j. jack_state j ≡ start (the_program core)) }
+        ensures core { IfOk result (λ j. j.core ≡ core) }
+        ensures moves { IfOk result (λ j. j.moves ≡ 0) }
+        ensures stands { IfOk result (λ j. Stands j []) }
+    {
+        let statics = new_statics(alloc, &core.classes)?;
+        let words = vec![in alloc; 0u16; 22528]?;
+        let top = first_frame(alloc, core.init)?;
+        Ok(Self {
+            core,
+            top,
+            below: Vec::new(alloc),
+            memory: Memory { statics, words },
+            moves: 0,
+            alloc,
+        })
+    }
+
     /// One step of the meaning under a key. Where memory is wanted, and after any answer but `Acted`, the machine
     /// stands for the same state as before.
     fn make_step(&mut self, key: u16) -> Result<Moved, AllocError>
@@ -85,6 +134,71 @@ impl Jack {
             }
             Act::Strays(a) => Ok(Moved::Stray(Stray::Address(a))),
             Act::Done => Ok(Moved::Done),
+        }
+    }
+}
+
+// The number of a statement.
+fn number_in(s: &Statement) -> u32
+    ensures { result ≡ number_of (the_statement s.now) }
+{
+    match s {
+        Statement::Let { number, .. } => *number,
+        Statement::LetField { number, .. } => *number,
+        Statement::LetThis { number, .. } => *number,
+        Statement::Store { number, .. } => *number,
+        Statement::Do { number, .. } => *number,
+        Statement::If { number, .. } => *number,
+        Statement::While { number, .. } => *number,
+        Statement::Return { number, .. } => *number,
+    }
+}
+
+// The number of the first statement; 2 where none is left.
+fn first_number(text: &[Statement]) -> u32
+    ensures { result ≡ text_point (the_rest text.now) }
+{
+    match text.last() {
+        None => 2,
+        Some(first) => number_in(first),
+    }
+}
+
+impl Level for Jack {
+    type Point = Point;
+
+    ghost stands = { Stands };
+
+    ghost count = { λ j. j.moves };
+
+    ghost word = { jack_word };
+
+    ghost committed = { λ j. j.moves };
+
+    ghost at_point = { jack_point };
+
+    ghost sure = { false };
+
+    fn step(&mut self, key: u16) -> Result<Moved, AllocError> {
+        self.make_step(key)
+    }
+
+    fn moves(&self) -> u64 {
+        self.moves
+    }
+
+    fn word_at(&self, a: u16) -> u16 {
+        word_in(&self.memory.words, a as usize - 2048)
+    }
+
+    fn steps(&self) -> u64 {
+        self.moves
+    }
+
+    fn point(&self) -> Point {
+        Point {
+            sub: self.top.subroutine,
+            number: first_number(&self.top.text),
         }
     }
 }

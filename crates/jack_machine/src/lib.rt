@@ -18,3 +18,6 @@ mod words;
 pub use jack::Jack;
 pub use program::{Class, Core, Kind, Statement, Subroutine};
 pub use tree::{Arguments, Expression, Operator, Sign, Variable};
+
+#[cfg(test)]
+mod tests;

@@ -10,7 +10,7 @@ use crate::words::{operate, sign};
 
 /// A frame's arguments and locals, and its `this`.
 #[derive(Drop)]
-pub struct Variables {
+pub(crate) struct Variables {
     pub arguments: Vec<u16>,
     pub locals: Vec<u16>,
     pub this: u16,
@@ -18,7 +18,7 @@ pub struct Variables {
 
 /// The statics, and the words 2048 to 24575.
 #[derive(Drop)]
-pub struct Memory {
+pub(crate) struct Memory {
     pub statics: Vec<u16>,
     pub words: Vec<u16>,
 }
@@ -26,7 +26,7 @@ pub struct Memory {
 /// What comes next in an expression: it is a value already, a part becomes a value, a part becomes the key, a call
 /// is made, or there is no step because of an address outside the memory.
 #[derive(Clone, Copy, PartialEq, Eq, Debug)]
-pub enum Sight {
+pub(crate) enum Sight {
     Stands(u16),
     Puts(u16),
     Hears,
@@ -66,7 +66,7 @@ fn load(memory: &Memory, address: u16) -> Sight
 
 /// What comes next in an expression.
 #[cycle(look)]
-pub fn look_at(variables: &Variables, memory: &Memory, e: &Expression) -> Sight
+pub(crate) fn look_at(variables: &Variables, memory: &Memory, e: &Expression) -> Sight
     ensures { (key : ℕ) → Sees (the_view variables.now memory.now key) (the_expression e.now) result }
 {
     match e {

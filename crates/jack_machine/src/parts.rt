@@ -16,7 +16,7 @@ use crate::tree::Expression;
 /// What a step did to an expression: it was a value already, a part has become a value, or the key; or what is left
 /// to be done: a call, or nothing because of an address outside the memory.
 #[derive(Clone, Copy, PartialEq, Eq, Debug)]
-pub enum Advance {
+pub(crate) enum Advance {
     Stands,
     Acted,
     Heard,
@@ -44,7 +44,14 @@ fn step_expression(variables: &Variables, memory: &Memory, e: &mut Expression, k
 }
 
 // The same for the three parts of a store: base, index, value.
-fn step_store(variables: &Variables, memory: &Memory, base: &mut Expression, index: &mut Expression, value: &mut Expression, key: u16) -> Advance
+fn step_store(
+    variables: &Variables,
+    memory: &Memory,
+    base: &mut Expression,
+    index: &mut Expression,
+    value: &mut Expression,
+    key: u16,
+) -> Advance
     ensures { (n : ℕ) → StatementAdvances (the_view variables.now memory.now key) (Store n (the_expression base.old) (the_expression index.old) (the_expression value.old)) result (Store n (the_expression base.new) (the_expression index.new) (the_expression value.new)) }
 {
     match step_expression(variables, memory, base, key) {
@@ -57,7 +64,12 @@ fn step_store(variables: &Variables, memory: &Memory, base: &mut Expression, ind
 }
 
 /// Makes the next step of the parts of a statement that is no loop.
-pub(crate) fn step_statement(variables: &Variables, memory: &Memory, s: &mut Statement, key: u16) -> Advance
+pub(crate) fn step_statement(
+    variables: &Variables,
+    memory: &Memory,
+    s: &mut Statement,
+    key: u16,
+) -> Advance
     ensures { StatementAdvances (the_view variables.now memory.now key) (the_statement s.old) result (the_statement s.new) }
 {
     match s {
@@ -65,7 +77,10 @@ pub(crate) fn step_statement(variables: &Variables, memory: &Memory, s: &mut Sta
         Statement::LetField { value, .. } => step_expression(variables, memory, value, key),
         Statement::LetThis { value, .. } => step_expression(variables, memory, value, key),
         Statement::Store {
-            base, index, value, ..
+            base,
+            index,
+            value,
+            ..
         } => step_store(variables, memory, base, index, value, key),
         Statement::Do { call, .. } => step_expression(variables, memory, call, key),
         Statement::If { condition, .. } => step_expression(variables, memory, condition, key),
@@ -83,7 +98,10 @@ pub(crate) fn open_statement(s: &mut Statement)
         Statement::LetField { value, .. } => replace(value, Expression::Open),
         Statement::LetThis { value, .. } => replace(value, Expression::Open),
         Statement::Store {
-            base, index, value, ..
+            base,
+            index,
+            value,
+            ..
         } => {
             if !is_value(base) {
                 replace(base, Expression::Open);
@@ -109,7 +127,10 @@ pub(crate) fn fill_statement(s: &mut Statement, w: u16)
         Statement::LetField { value, .. } => fill(value, w),
         Statement::LetThis { value, .. } => fill(value, w),
         Statement::Store {
-            base, index, value, ..
+            base,
+            index,
+            value,
+            ..
         } => {
             fill(base, w);
             fill(index, w);

@@ -92,7 +92,10 @@ pub(crate) fn arguments(alloc: Global, s: &Statement) -> Result<Vec<u16>, AllocE
         Statement::LetField { value, .. } => arguments_in(alloc, value),
         Statement::LetThis { value, .. } => arguments_in(alloc, value),
         Statement::Store {
-            base, index, value, ..
+            base,
+            index,
+            value,
+            ..
         } => {
             if !is_value(base) {
                 arguments_in(alloc, base)

@@ -5,9 +5,9 @@ ghost use Rattle.jack_meaning.specs.Expressions.{filled, filled_in};
 ghost use Rattle.jack_machine.specs.Reading.{the_expression, the_arguments};
 ghost use Rattle.jack_machine.specs.Looks.{is_value as is_a_value, replaced, replaced_first, are_values as are_all_values};
 
-use crate::tree::{Expression, Arguments};
+use crate::tree::{Arguments, Expression};
 
-pub fn is_value(e: &Expression) -> bool
+pub(crate) fn is_value(e: &Expression) -> bool
     ensures { result ≡ is_a_value (the_expression e.now) }
 {
     match e {
@@ -19,7 +19,7 @@ pub fn is_value(e: &Expression) -> bool
 
 /// Puts a part in place of the leftmost innermost one that is no value.
 #[cycle(replace)]
-pub fn replace(e: &mut Expression, part: Expression)
+pub(crate) fn replace(e: &mut Expression, part: Expression)
     ensures { the_expression e.new ≡ replaced (the_expression part) (the_expression e.old) }
 {
     match e {
@@ -59,7 +59,7 @@ pub fn replace(e: &mut Expression, part: Expression)
     }
 }
 
-pub fn are_values(es: &Arguments) -> bool
+pub(crate) fn are_values(es: &Arguments) -> bool
     ensures { result ≡ are_all_values (the_arguments es.now) }
 {
     match es {
@@ -87,7 +87,7 @@ fn replace_first(es: &mut Arguments, part: Expression)
 
 /// Puts a value in place of the open call.
 #[cycle(fill)]
-pub fn fill(e: &mut Expression, w: u16)
+pub(crate) fn fill(e: &mut Expression, w: u16)
     ensures { the_expression e.new ≡ filled w (the_expression e.old) }
 {
     match e {

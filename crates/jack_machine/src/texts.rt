@@ -19,7 +19,12 @@ use crate::tree::Expression;
 use std::alloc::{AllocError, Global};
 
 /// Makes the next step of the parts of the first statement, where there is one.
-pub(crate) fn step_first(variables: &Variables, memory: &Memory, text: &mut Vec<Statement>, key: u16) -> Option<Advance>
+pub(crate) fn step_first(
+    variables: &Variables,
+    memory: &Memory,
+    text: &mut Vec<Statement>,
+    key: u16,
+) -> Option<Advance>
     ensures { TextAdvances (the_view variables.now memory.now key) (the_rest text.old.items) result (the_rest text.new.items) }
 {
     match text.last_mut() {

@@ -1,5 +1,5 @@
 -- The push has room, so the caller waits below the new frame.
-use Rattle.std.proofs.Common.{◌≡◌, List, [], ◌∷◌, ◌++◌, refl, sym, ap, ◌∙◌, arith}
+use Rattle.std.proofs.Common.{[], ◌∷◌, ◌++◌, ap, ◌∙◌, arith}
 use Rattle.jack_machine.specs.Frames.{the_frame}
 use Rattle.jack_machine.specs.Machine.{the_stack}
 use Rattle.jack_machine.proofs.Rests.{chosen_by}

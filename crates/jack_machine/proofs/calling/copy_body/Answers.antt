@@ -1,5 +1,5 @@
 -- A block the other way round is a text.
-use Rattle.std.proofs.Common.{◌≡◌, ap, ◌∙◌}
+use Rattle.std.proofs.Common.{ap, ◌∙◌}
 use Rattle.jack_meaning.specs.Text.{text_of}
 use Rattle.jack_machine.specs.Texts.{the_rest}
 use Rattle.jack_machine.proofs.Rests.{rest_reverse}

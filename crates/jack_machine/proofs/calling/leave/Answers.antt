@@ -1,5 +1,5 @@
 -- The last frame of the vector is the caller.
-use Rattle.std.proofs.Common.{◌≡◌, List, [], ◌∷◌, ◌++◌, refl, sym, ap, ◌∙◌}
+use Rattle.std.proofs.Common.{ap, ◌∙◌}
 use Rattle.jack_machine.specs.Frames.{the_frame}
 use Rattle.jack_machine.specs.Machine.{the_stack}
 use Rattle.jack_machine.proofs.Tops.{made_frame}

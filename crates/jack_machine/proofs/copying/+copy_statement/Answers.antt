@@ -1,5 +1,5 @@
 -- A statement with others in it: the rows of the copy are copies of the rows.
-use Rattle.std.proofs.Common.{◌≡◌, map, sym, ap, ◌∙◌, List}
+use Rattle.std.proofs.Common.{sym, ap, ◌∙◌}
 use Rattle.jack_meaning.specs.Text.{If, While, text_of}
 use Rattle.jack_machine.specs.Reading.{the_expression}
 use Rattle.jack_machine.specs.Texts.{the_statement, the_block}

@@ -1,10 +1,9 @@
 -- A store inside the memory, and outside.
-use Rattle.std.proofs.Common.{◌≡◌, List, true, false, refl, sym, ap, ◌∙◌}
-use Rattle.jack_meaning.specs.Meaning.{Frame as AFrame, passed_over}
+use Rattle.std.proofs.Common.{refl, ap, ◌∙◌}
 use Rattle.jack_machine.specs.Texts.{the_rest}
 use Rattle.jack_machine.specs.Rests.{text_tail}
 use Rattle.jack_machine.specs.Effects.{outcome_on}
-use Rattle.jack_machine.specs.Frames.{the_state, the_frame, StoresAt}
+use Rattle.jack_machine.specs.Frames.{the_state, the_frame}
 use Rattle.jack_machine.proofs.Tops.{stored_over}
 use Rattle.jack_machine.proofs.frames.apply.Goals as goal
 

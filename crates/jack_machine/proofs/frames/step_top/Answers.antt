@@ -1,8 +1,7 @@
 -- The parts of the first statement are values, or it comes to a call.
-use Rattle.std.proofs.Common.{◌≡◌, List, refl, sym, ap, ◌∙◌, Result, Ok, Err}
-use Rattle.std.specs.Prelude.{IfOk}
+use Rattle.std.proofs.Common.{refl, ap}
 use Rattle.jack_machine.specs.Texts.{the_rest}
-use Rattle.jack_machine.specs.Frames.{the_state, the_frame, TopStep, ActsFirst}
+use Rattle.jack_machine.specs.Frames.{the_state, the_frame}
 use Rattle.jack_machine.proofs.Tops.{first_acts, first_calls, acted, made_frame, if_ok}
 use Rattle.jack_machine.proofs.frames.step_top.Goals as goal
 

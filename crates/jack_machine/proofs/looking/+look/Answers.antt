@@ -1,12 +1,7 @@
 -- What comes next in an expression, by its kind.
-use Rattle.std.proofs.Common.{◌≡◌, List, ℕ, Bool, true, false, get_or, drop, refl, ap, sym, ◌∙◌, subst, drop-cons, add-one, arith}
-use Rattle.jack_meaning.specs.Text.{Call}
-use Rattle.jack_meaning.specs.Expressions.{View}
-use Rattle.jack_machine.specs.Reading.{the_expression}
-use Rattle.jack_machine.specs.Looks.{the_view, Sees, SeesFirst, Loads, is_stand}
-use Rattle.jack_machine.specs.declared.looking.Sight.{Sight}
-use Rattle.jack_machine.specs.declared.looking.Sight.TheVariants as Sight
-use Rattle.jack_machine.proofs.Looks.{sees_after, sees_here, sees_none, sees_call, sees_argument, sees_field, sees_load, no_stand}
+use Rattle.std.proofs.Common.{refl, subst}
+use Rattle.jack_machine.specs.Looks.{the_view, Loads}
+use Rattle.jack_machine.proofs.Looks.{sees_after, sees_here, sees_field, sees_load, no_stand}
 use Rattle.jack_machine.proofs.looking.+look.Goals as goal
 
 pub look_at-returns-in-Field : goal.look_at-returns-in-Field

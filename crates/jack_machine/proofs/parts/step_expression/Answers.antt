@@ -1,5 +1,5 @@
 -- A value stands as it is.
-use Rattle.std.proofs.Common.{◌≡◌, refl}
+use Rattle.std.proofs.Common.{refl}
 use Rattle.jack_machine.proofs.parts.step_expression.Goals as goal
 
 pub returns-in-Stands : goal.returns-in-Stands

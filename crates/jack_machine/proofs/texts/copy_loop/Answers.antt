@@ -1,6 +1,6 @@
 -- The copy is of the same loop.
-use Rattle.std.proofs.Common.{◌≡◌, sym, ap, ◌∙◌}
-use Rattle.jack_meaning.specs.Text.{While, text_of}
+use Rattle.std.proofs.Common.{sym, ap, ◌∙◌}
+use Rattle.jack_meaning.specs.Text.{While}
 use Rattle.jack_machine.specs.Reading.{the_expression}
 use Rattle.jack_machine.specs.Texts.{the_statement, the_block}
 use Rattle.jack_machine.proofs.Blocks.{while_reads}

@@ -1,5 +1,5 @@
 -- The first statement stands last in the vector.
-use Rattle.std.proofs.Common.{◌≡◌, refl, ◌+◌, ◌-◌, ◌<◌, length, suc, take, sym, ap, ◌∙◌, arith}
+use Rattle.std.proofs.Common.{◌≡◌, refl, ◌-◌, ◌<◌, length, suc, take, sym, ap, ◌∙◌, arith}
 use Rattle.std.specs.Vec.{vec_len}
 use Rattle.jack_meaning.specs.Text.{Next}
 use Rattle.jack_meaning.specs.Meaning.{filled_text}

@@ -1,6 +1,5 @@
 -- There is room for the branch, the other way round.
-use Rattle.std.proofs.Common.{◌≡◌, ◌+◌, ◌≤◌, ◌++◌, List, is_ok, if◌then◌else◌, reverse, sym, ap, ◌∙◌, arith}
-use Rattle.std.specs.Prelude.{IsOk}
+use Rattle.std.proofs.Common.{◌++◌, ap, ◌∙◌, arith}
 use Rattle.jack_machine.specs.Texts.{the_rest}
 use Rattle.jack_machine.proofs.Rests.{rest_append, chosen_by}
 use Rattle.jack_machine.proofs.texts.put_before.Goals as goal

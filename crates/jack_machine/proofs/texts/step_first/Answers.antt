@@ -1,10 +1,7 @@
 -- The first statement stands last in the vector.
-use Rattle.std.proofs.Common.{◌≡◌, refl, ◌+◌, ◌-◌, ◌<◌, length, suc, take, sym, ap, ◌∙◌, arith, Some}
+use Rattle.std.proofs.Common.{◌≡◌, refl, ◌-◌, ◌<◌, length, suc, arith}
 use Rattle.std.specs.Vec.{vec_len}
-use Rattle.jack_meaning.specs.Text.{Next}
-use Rattle.jack_machine.specs.Looks.{the_view}
-use Rattle.jack_machine.specs.Rests.{TextAdvances}
-use Rattle.jack_machine.specs.Texts.{the_rest, the_statement}
+use Rattle.jack_machine.specs.Texts.{the_statement}
 use Rattle.jack_machine.proofs.Rests.{rest_last, rest_set}
 use Rattle.jack_machine.proofs.texts.step_first.Goals as goal
 

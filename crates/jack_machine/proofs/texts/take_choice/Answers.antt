@@ -1,5 +1,5 @@
 -- The branch comes next.
-use Rattle.std.proofs.Common.{◌≡◌, sym, ap, ◌∙◌}
+use Rattle.std.proofs.Common.{sym, ap, ◌∙◌}
 use Rattle.jack_meaning.specs.Text.{Next, joined}
 use Rattle.jack_meaning.specs.Meaning.{chosen}
 use Rattle.jack_machine.specs.Texts.{the_rest, the_block, the_statement}

@@ -1,5 +1,4 @@
 -- The loop stood last in the vector.
-use Rattle.std.proofs.Common.{◌≡◌}
 use Rattle.jack_machine.proofs.Rests.{unfolds}
 use Rattle.jack_machine.proofs.texts.unfold.Goals as goal
 

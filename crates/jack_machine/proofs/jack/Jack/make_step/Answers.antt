@@ -1,11 +1,11 @@
 -- The step, by what the top frame did.
-use Rattle.std.proofs.Common.{◌≡◌, List, [], true, false, refl, sym, ap, ◌∙◌}
-use Rattle.jack_meaning.specs.Meaning.{Acts, Done, returned}
+use Rattle.std.proofs.Common.{true, false, sym, ap, ◌∙◌}
+use Rattle.jack_meaning.specs.Meaning.{Acts, returned}
 use Rattle.jack_machine.specs.Texts.{the_subroutines}
 use Rattle.jack_machine.specs.Frames.{the_state}
 use Rattle.jack_machine.specs.Machine.{the_stack}
-use Rattle.jack_machine.specs.Whole.{settled, IsAlike, jack_state}
-use Rattle.jack_machine.proofs.Steps.{settled_step, settled_alike, same_state, alike, called_same, returned_to, on_err}
+use Rattle.jack_machine.specs.Whole.{settled, IsAlike}
+use Rattle.jack_machine.proofs.Steps.{settled_step, alike, called_same, returned_to, on_err}
 use Rattle.jack_machine.proofs.jack.Jack.make_step.Goals as goal
 
 pub returns-in-Acted-clause-step : goal.returns-in-Acted-clause-step
