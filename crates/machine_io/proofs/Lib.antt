@@ -1,1 +1,5 @@
 pub mod Drives
+pub mod Counting
+pub mod Lines
+pub mod Handed
+pub mod Pixels

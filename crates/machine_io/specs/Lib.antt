@@ -1,2 +1,5 @@
 pub mod History
 pub mod Driven
+pub mod Words
+pub mod Screen
+pub mod Report

@@ -1,9 +1,15 @@
-//! The drive, on a machine that counts.
-ghost use Rattle.std.specs.Prelude.{◌≡◌, ◌+◌, ◌*◌, ◌%◌, ◌<◌, ◌≤◌, ◌^◌, ℕ, sum_by, true};
+//! The drive, on a machine that counts; and the printed texts.
+ghost use Rattle.std.specs.Prelude.{◌≡◌, ◌+◌, ◌*◌, ◌%◌, ◌<◌, ◌≤◌, ◌^◌, ℕ, sum_by, true, false};
 ghost use Rattle.std.proofs.Common.{rules};
 ghost use Rattle.machine_io.specs.History.{moves_in};
+ghost use Rattle.machine_io.specs.Words.{words_text};
+ghost use Rattle.outer_world.specs.Written.{Puts};
 
-use crate::{End, Keyboard, Level, Moved, Stray, drive};
+use crate::{
+    End, Head, Keyboard, Level, LevelName, Moved, Show, Stray, drive, show_report, show_screen,
+    show_words,
+};
+use outer_world::{MemorySink, Put, Sink};
 use std::alloc::AllocError;
 use std::test::Fail;
 
@@ -108,5 +114,109 @@ fn drive_stops_at_a_full_machine(rt: HostRuntime) -> Result<(), Fail> {
     let mut level = new_counter(2);
     assert_eq!(rt; drive(&mut level, &Turning, 3)?, End::Full(5));
     assert_eq!(rt; level.moves(), 2);
+    Ok(())
+}
+
+fn word_of(a: u16) -> u16 {
+    match a {
+        16 => 3,
+        18 => 0xffff,
+        19 => 0x8000,
+        16384 => 1,
+        16385 => 0x8000,
+        24575 => 2,
+        _ => 0,
+    }
+}
+
+#[test]
+fn words_have_their_lines(rt: HostRuntime) -> Result<(), Fail> {
+    let mut sink = MemorySink::new(rt.alloc(), 1000, Vec::new(rt.alloc()))?;
+    assert_eq!(rt; show_words(word_of, 16, 19, true, &mut sink), Put::Done);
+    assert_eq!(rt; sink.bytes(), b"16 3\n17 0\n18 -1\n19 -32768\n".as_slice());
+    Ok(())
+}
+
+#[test]
+fn zeros_are_left_out(rt: HostRuntime) -> Result<(), Fail> {
+    let mut sink = MemorySink::new(rt.alloc(), 1000, Vec::new(rt.alloc()))?;
+    assert_eq!(rt; show_words(word_of, 16, 18, false, &mut sink), Put::Done);
+    assert_eq!(rt; sink.bytes(), b"16 3\n18 -1\n".as_slice());
+    Ok(())
+}
+
+#[test]
+fn no_words_from_later_to_earlier(rt: HostRuntime) -> Result<(), Fail> {
+    let mut sink = MemorySink::new(rt.alloc(), 1000, Vec::new(rt.alloc()))?;
+    assert_eq!(rt; show_words(word_of, 18, 16, true, &mut sink), Put::Done);
+    assert_eq!(rt; sink.bytes().len(), 0);
+    Ok(())
+}
+
+#[test]
+fn the_screen_has_its_pixels(rt: HostRuntime) -> Result<(), Fail> {
+    let mut sink = MemorySink::new(rt.alloc(), 200_000, Vec::new(rt.alloc()))?;
+    assert_eq!(rt; show_screen(word_of, &mut sink), Put::Done);
+    assert_eq!(rt; sink.bytes().len(), 256 * 513);
+    let black = sink.bytes().iter().filter(|b| **b == b'#').count();
+    assert_eq!(rt; black, 3);
+    for place in [0, 31, 255 * 513 + 497] {
+        assert_eq!(rt; sink.bytes().get(place).copied(), Some(b'#'), "at {place}");
+    }
+    assert_eq!(rt; sink.bytes().get(512).copied(), Some(b'\n'));
+    Ok(())
+}
+
+#[test]
+fn a_failing_sink_ends_the_screen(rt: HostRuntime) -> Result<(), Fail> {
+    let mut sink = MemorySink::new(rt.alloc(), 5000, Vec::new(rt.alloc()))?;
+    assert_eq!(rt; show_screen(word_of, &mut sink), Put::Failed);
+    assert_eq!(rt; sink.bytes().len(), 5000);
+    Ok(())
+}
+
+#[test]
+fn a_report_has_its_lines(rt: HostRuntime) -> Result<(), Fail> {
+    let mut head = Head {
+        level: LevelName::Vm,
+        moves: 120,
+        steps: 7,
+        subroutine: "Main.main",
+        statement: 2,
+        end: End::Stray(Stray::Address(40000)),
+    };
+    let mut sink = MemorySink::new(rt.alloc(), 1000, Vec::new(rt.alloc()))?;
+    assert_eq!(rt;
+        show_report(&head, Show::Heap, |a| a / 8191 % 2, &mut sink),
+        Put::Failed
+    );
+    let text =
+        b"level vm\nmoves 120\nsteps 7\npoint Main.main 2\nend stray 40000\n8191 1\n8192 1\n";
+    assert!(rt; sink.bytes().starts_with(text));
+    head.end = End::Full(2000);
+    let mut sink = MemorySink::new(rt.alloc(), 1000, Vec::new(rt.alloc()))?;
+    assert_eq!(rt;
+        show_report(&head, Show::Nothing, word_of, &mut sink),
+        Put::Done
+    );
+    assert_eq!(rt;
+        sink.bytes(),
+        b"level vm\nmoves 120\nsteps 7\npoint Main.main 2\nend full 2000\n".as_slice()
+    );
+    Ok(())
+}
+
+// Any level can be shown.
+fn show_level<L: Level, S: Sink>(level: &L, out: &mut S) -> Put
+    ensures { Puts (S.written out.old) (S.written out.new) (words_text (L.word level.now) false 2048 16383) result }
+{
+    show_words(|a| level.word_at(a), 2048, 16383, false, out)
+}
+
+#[test]
+fn a_level_shows_its_words(rt: HostRuntime) -> Result<(), Fail> {
+    let mut sink = MemorySink::new(rt.alloc(), 1000, Vec::new(rt.alloc()))?;
+    assert_eq!(rt; show_level(&new_counter(1), &mut sink), Put::Done);
+    assert_eq!(rt; sink.bytes().len(), 0);
     Ok(())
 }

@@ -3,3 +3,4 @@ pub mod Files
 pub mod Written
 pub mod Texts
 pub mod Reader
+pub mod Plans

@@ -1,7 +1,8 @@
 //! The names in a folder of files in memory.
 ghost use Rattle.std.specs.Prelude.{◌≡◌, ◌≢◌, ℕ, List, MatchOption, true, false, ◌++◌, ◌∷◌};
-ghost use Rattle.std.specs.Prelude.{IfOk, OnOk, [], if◌then◌else◌, map};
+ghost use Rattle.std.specs.Prelude.{IfOk, OnOk, [], if◌then◌else◌};
 ghost use Rattle.outer_world.specs.Files.{IsListing, has_name, has_slash, path_in};
+ghost use Rattle.outer_world.specs.Plans.{files_of};
 
 use crate::Name;
 use std::alloc::{AllocError, Global};
@@ -64,7 +65,7 @@ pub fn names_in(
     files: &[(Name, Vec<u8>)],
     folder: &str,
 ) -> Result<Vec<Name>, AllocError>
-    ensures { IfOk result (λ names. IsListing (map (λ f. (f.0, f.1.items)) files.now) folder.now names.items) }
+    ensures { IfOk result (λ names. IsListing (files_of files.now) folder.now names.items) }
 {
     let mut names = Vec::new(alloc);
     for file in files {

@@ -1,0 +1,39 @@
+-- The laws of layers, at machines whose states are numbers.
+use Rattle.std.specs.Prelude.{◌≡◌, ℕ, ◌+◌, ◌<◌, ◌≤◌, Bool, true, None}
+use Rattle.layers.specs.System.{System}
+use Rattle.layers.specs.Trace.{Trace, steps, heard, point_at, trace_of}
+use Rattle.layers.specs.Layers.{Simulates, Through}
+use Rattle.layers.specs.Headline.{Follows, CarriesRun}
+
+-- the relation that a test decides
+abbrev pub Related : (ℕ → ℕ → Bool) → ℕ → ℕ → Type 0
+Related r u l = r u l ≡ true
+
+-- Two layers, one on the other, are one layer, where the machine between makes no step at its end.
+abbrev pub LayersCompose : Type 0
+LayersCompose = (up mid low : System ℕ) (cost_mid cost : ℕ → ℕ) (r s : ℕ → ℕ → Bool) (bound : ℕ → ℕ)
+    → ((v key : ℕ) → mid.halted v ≡ true → mid.step key v ≡ None)
+    → Simulates up mid cost_mid (Related r) bound → Simulates mid low cost (Related s) cost_mid
+    → Simulates up low cost (Through (Related r) (Related s)) bound
+
+-- A machine that carries the run of a meaning follows it at each cycle.
+abbrev pub RunsFollow : Type 0
+RunsFollow = (up : System ℕ) (start : ℕ) (low : System ℕ) (cost : ℕ → ℕ) (r : ℕ → ℕ → Bool) (bound : ℕ → ℕ) (gap until : ℕ) (keys state : ℕ → ℕ)
+    → CarriesRun up start low cost (Related r) bound gap until keys state
+    → (n : ℕ) → n + gap ≤ until → Follows up start (trace_of low keys state) (λ c. low.word (state c)) gap n
+
+-- what is counted of a run up to cycle n is told by its first cycles
+pub record SameCounts (t t' : Trace) (n : ℕ) : Type 0 where
+  pub steps_are : steps t n ≡ steps t' n
+  pub heard_are : heard t n ≡ heard t' n
+  pub point_is : point_at t n ≡ point_at t' n
+
+-- two traces are the same up to cycle n, whose step has not been made
+pub record SameTrace (t t' : Trace) (n : ℕ) : Type 0 where
+  pub commits : (c : ℕ) → c < n → t.commits c ≡ t'.commits c
+  pub hears : (c : ℕ) → c < n → t.hears c ≡ t'.hears c
+  pub key : (c : ℕ) → c < n → t.key c ≡ t'.key c
+  pub point : (c : ℕ) → c ≤ n → t.point c ≡ t'.point c
+
+abbrev pub CountsAreTold : Type 0
+CountsAreTold = (t t' : Trace) (n : ℕ) → SameTrace t t' n → SameCounts t t' n

@@ -1,0 +1,5 @@
+pub mod System
+pub mod Trace
+pub mod Layers
+pub mod Headline
+pub mod Laws

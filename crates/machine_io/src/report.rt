@@ -1,0 +1,210 @@
+//! The report of a run.
+ghost use Rattle.std.specs.Prelude.{◌≡◌, ◌+◌, ◌-◌, ◌<◌, ◌≤◌, ◌++◌, ◌∷◌, [], ℕ, take, decimal, codes};
+ghost use Rattle.outer_world.specs.Written.{CountsPut, Passes, Puts};
+ghost use Rattle.machine_io.specs.Words.{IsCallable, Gives};
+ghost use Rattle.machine_io.specs.Report.{level_name, end_text, said, counts_text, head_text, shown_text, report_text};
+
+use crate::driving::End;
+use crate::machine::Stray;
+use crate::screen::put_screen;
+use crate::words::put_words;
+use itoa::Buffer;
+use outer_world::{Pieces, Put, Sink};
+
+/// The level at which a program is run: by its meaning, on the stack machine, on the instruction machine, or
+/// on the computer built of gates.
+#[derive(Clone, Copy, PartialEq, Eq, Debug)]
+pub enum LevelName {
+    Jack,
+    Vm,
+    Hack,
+    Gates,
+}
+
+/// What of the words is shown after a report: nothing, the words of the heap that aren't 0, or the screen.
+#[derive(Clone, Copy, PartialEq, Eq, Debug)]
+pub enum Show {
+    Nothing,
+    Heap,
+    Screen,
+}
+
+/// What each report begins with: the level, the numbers of moves and of steps, the control point by the name
+/// of its subroutine and the number of its statement, and the end.
+#[derive(Clone, Copy)]
+pub struct Head<'a> {
+    pub level: LevelName,
+    pub moves: u64,
+    pub steps: u64,
+    pub subroutine: &'a str,
+    pub statement: u32,
+    pub end: End,
+}
+
+impl LevelName {
+    pub fn name(self) -> &'static str
+        ensures { result.now ≡ level_name self }
+    {
+        match self {
+            LevelName::Jack => "jack",
+            LevelName::Vm => "vm",
+            LevelName::Hack => "hack",
+            LevelName::Gates => "gates",
+        }
+    }
+}
+
+// A line of a word, a space and what is said of it.
+fn put_said<S: Sink>(word: &[u8], text: &[u8], out: &mut Pieces<'_, S>) -> Put
+    ensures same_sink { out.new.sink.ghost_name ≡ out.old.sink.ghost_name }
+    ensures passes { Passes (S.written out.old.sink.now) (take out.old.len out.old.buffer) (S.written out.new.sink.now) (take out.new.len out.new.buffer) (said word.now text.now) result }
+    ensures counts { CountsPut (S.faults out.old.sink.now) (S.faults out.new.sink.now) result }
+{
+    out.put_all(&[word, b" ", text, b"\n"])
+}
+
+fn put_number<S: Sink>(word: &[u8], n: u64, out: &mut Pieces<'_, S>) -> Put
+    ensures same_sink { out.new.sink.ghost_name ≡ out.old.sink.ghost_name }
+    ensures passes { Passes (S.written out.old.sink.now) (take out.old.len out.old.buffer) (S.written out.new.sink.now) (take out.new.len out.new.buffer) (said word.now (decimal n)) result }
+    ensures counts { CountsPut (S.faults out.old.sink.now) (S.faults out.new.sink.now) result }
+{
+    let mut buffer = Buffer::new();
+    put_said(word, buffer.format(n).as_bytes(), out)
+}
+
+fn put_level<S: Sink>(level: LevelName, out: &mut Pieces<'_, S>) -> Put
+    ensures same_sink { out.new.sink.ghost_name ≡ out.old.sink.ghost_name }
+    ensures passes { Passes (S.written out.old.sink.now) (take out.old.len out.old.buffer) (S.written out.new.sink.now) (take out.new.len out.new.buffer) (said (codes "level") (level_name level)) result }
+    ensures counts { CountsPut (S.faults out.old.sink.now) (S.faults out.new.sink.now) result }
+{
+    put_said(b"level", level.name().as_bytes(), out)
+}
+
+// The lines of the level and the counts.
+fn put_counts<S: Sink>(level: LevelName, moves: u64, steps: u64, out: &mut Pieces<'_, S>) -> Put
+    ensures same_sink { out.new.sink.ghost_name ≡ out.old.sink.ghost_name }
+    ensures passes { Passes (S.written out.old.sink.now) (take out.old.len out.old.buffer) (S.written out.new.sink.now) (take out.new.len out.new.buffer) (counts_text level moves steps) result }
+    ensures counts { CountsPut (S.faults out.old.sink.now) (S.faults out.new.sink.now) result }
+{
+    match put_level(level, out) {
+        Put::Done => {}
+        Put::Failed => return Put::Failed,
+    }
+    match put_number(b"moves", moves, out) {
+        Put::Done => {}
+        Put::Failed => return Put::Failed,
+    }
+    put_number(b"steps", steps, out)
+}
+
+// The line of the control point.
+fn put_point<S: Sink>(subroutine: &str, statement: u32, out: &mut Pieces<'_, S>) -> Put
+    ensures same_sink { out.new.sink.ghost_name ≡ out.old.sink.ghost_name }
+    ensures passes { Passes (S.written out.old.sink.now) (take out.old.len out.old.buffer) (S.written out.new.sink.now) (take out.new.len out.new.buffer) (said (codes "point") (subroutine.now ++ 32 ∷ decimal statement)) result }
+    ensures counts { CountsPut (S.faults out.old.sink.now) (S.faults out.new.sink.now) result }
+{
+    let mut buffer = Buffer::new();
+    let statement = buffer.format(statement).as_bytes();
+    out.put_all(&[b"point ", subroutine.as_bytes(), b" ", statement, b"\n"])
+}
+
+// The line of the end.
+fn put_end<S: Sink>(end: End, out: &mut Pieces<'_, S>) -> Put
+    ensures same_sink { out.new.sink.ghost_name ≡ out.old.sink.ghost_name }
+    ensures passes { Passes (S.written out.old.sink.now) (take out.old.len out.old.buffer) (S.written out.new.sink.now) (take out.new.len out.new.buffer) (said (codes "end") (end_text end)) result }
+    ensures counts { CountsPut (S.faults out.old.sink.now) (S.faults out.new.sink.now) result }
+{
+    match end {
+        End::Bound => put_said(b"end", b"bound", out),
+        End::Done => put_said(b"end", b"done", out),
+        End::Stray(Stray::Address(a)) => put_number(b"end stray", a as u64, out),
+        End::Stray(Stray::Values) => put_said(b"end", b"stray values", out),
+        End::Stray(Stray::Argument) => put_said(b"end", b"stray argument", out),
+        End::Stray(Stray::Local) => put_said(b"end", b"stray local", out),
+        End::Stray(Stray::Code) => put_said(b"end", b"stray code", out),
+        End::Full(w) => put_number(b"end full", w as u64, out),
+    }
+}
+
+/// Puts the five lines that each report begins with.
+pub fn put_head<S: Sink>(head: &Head<'_>, out: &mut Pieces<'_, S>) -> Put
+    ensures same_sink { out.new.sink.ghost_name ≡ out.old.sink.ghost_name }
+    ensures passes { Passes (S.written out.old.sink.now) (take out.old.len out.old.buffer) (S.written out.new.sink.now) (take out.new.len out.new.buffer) (head_text head.now.level head.now.moves head.now.steps head.now.subroutine.now head.now.statement head.now.end) result }
+    ensures counts { CountsPut (S.faults out.old.sink.now) (S.faults out.new.sink.now) result }
+{
+    match put_counts(head.level, head.moves, head.steps, out) {
+        Put::Done => {}
+        Put::Failed => return Put::Failed,
+    }
+    match put_point(head.subroutine, head.statement, out) {
+        Put::Done => {}
+        Put::Failed => return Put::Failed,
+    }
+    put_end(head.end, out)
+}
+
+/// Puts what is shown of the words of heap and screen.
+pub fn put_shown<W: Fn(u16) -> u16, S: Sink>(show: Show, word: &W, out: &mut Pieces<'_, S>) -> Put
+    requires { IsCallable (W.pre word.now) 2048 24575 }
+    ensures same_sink { out.new.sink.ghost_name ≡ out.old.sink.ghost_name }
+    ensures passes { (words : ℕ → ℕ) → Gives (W.post word.now) 2048 24575 words → Passes (S.written out.old.sink.now) (take out.old.len out.old.buffer) (S.written out.new.sink.now) (take out.new.len out.new.buffer) (shown_text show words) result }
+    ensures counts { CountsPut (S.faults out.old.sink.now) (S.faults out.new.sink.now) result }
+{
+    match show {
+        Show::Nothing => Put::Done,
+        Show::Heap => put_words(word, 2048, 16383, false, out),
+        Show::Screen => put_screen(word, out),
+    }
+}
+
+// Puts a report.
+fn put_report<W: Fn(u16) -> u16, S: Sink>(
+    head: &Head<'_>,
+    show: Show,
+    word: &W,
+    out: &mut Pieces<'_, S>,
+) -> Put
+    requires { IsCallable (W.pre word.now) 2048 24575 }
+    ensures same_sink { out.new.sink.ghost_name ≡ out.old.sink.ghost_name }
+    ensures passes { (words : ℕ → ℕ) → Gives (W.post word.now) 2048 24575 words → Passes (S.written out.old.sink.now) (take out.old.len out.old.buffer) (S.written out.new.sink.now) (take out.new.len out.new.buffer) (report_text head.now.level head.now.moves head.now.steps head.now.subroutine.now head.now.statement head.now.end show words) result }
+    ensures counts { CountsPut (S.faults out.old.sink.now) (S.faults out.new.sink.now) result }
+{
+    match put_head(head, out) {
+        Put::Done => put_shown(show, word, out),
+        Put::Failed => Put::Failed,
+    }
+}
+
+// The same from an empty buffer, which is empty again after it.
+fn put_all<W: Fn(u16) -> u16, S: Sink>(
+    head: &Head<'_>,
+    show: Show,
+    word: &W,
+    out: &mut Pieces<'_, S>,
+) -> Put
+    requires callable { IsCallable (W.pre word.now) 2048 24575 }
+    requires empty { take out.old.len out.old.buffer ≡ [] }
+    ensures same_sink { out.new.sink.ghost_name ≡ out.old.sink.ghost_name }
+    ensures put { (words : ℕ → ℕ) → Gives (W.post word.now) 2048 24575 words → Puts (S.written out.old.sink.now) (S.written out.new.sink.now) (report_text head.now.level head.now.moves head.now.steps head.now.subroutine.now head.now.statement head.now.end show words) result }
+    ensures counts { CountsPut (S.faults out.old.sink.now) (S.faults out.new.sink.now) result }
+{
+    match put_report(head, show, word, out) {
+        Put::Done => out.finish(),
+        Put::Failed => Put::Failed,
+    }
+}
+
+/// Puts the report of a run: its five lines, and what is shown of the words of heap and screen.
+pub fn show_report<W: Fn(u16) -> u16, S: Sink>(
+    head: &Head<'_>,
+    show: Show,
+    word: W,
+    out: &mut S,
+) -> Put
+    requires { IsCallable (W.pre word) 2048 24575 }
+    ensures put { (words : ℕ → ℕ) → Gives (W.post word) 2048 24575 words → Puts (S.written out.old) (S.written out.new) (report_text head.now.level head.now.moves head.now.steps head.now.subroutine.now head.now.statement head.now.end show words) result }
+    ensures counts { CountsPut (S.faults out.old) (S.faults out.new) result }
+{
+    let mut pieces = Pieces::new(out);
+    put_all(head, show, &word, &mut pieces)
+}

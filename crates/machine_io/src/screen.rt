@@ -1,0 +1,89 @@
+//! The screen, as lines of characters.
+ghost use Rattle.std.specs.Prelude.{◌≡◌, ◌+◌, ◌*◌, ◌<◌, ◌≤◌, ◌++◌, ◌∷◌, [], ℕ, take};
+ghost use Rattle.outer_world.specs.Written.{CountsPut, Passes, Puts};
+ghost use Rattle.machine_io.specs.Words.{IsCallable, Gives};
+ghost use Rattle.machine_io.specs.Screen.{shade, pixels_of, row_text, screen_text};
+
+use outer_world::{Pieces, Put, Sink};
+
+const SCREEN: u16 = 16384;
+
+const ROWS: u16 = 256;
+
+const WORDS_OF_ROW: u16 = 32;
+
+fn shade_of(word: u16, bit: usize) -> u8
+    requires { bit < 16 }
+    ensures { result ≡ shade word bit }
+{
+    if word >> bit & 1 == 1 { b'#' } else { b'.' }
+}
+
+// The pixels of a word, the lowest bit leftmost.
+fn pixels(word: u16) -> [u8; 16]
+    ensures { result ≡ pixels_of word }
+{
+    let mut pixels = [b'.'; 16];
+    for bit in 0..16 {
+        pixels[bit] = shade_of(word, bit);
+    }
+    pixels
+}
+
+// The line of a row.
+fn put_row<W: Fn(u16) -> u16, S: Sink>(word: &W, row: u16, out: &mut Pieces<'_, S>) -> Put
+    requires callable { IsCallable (W.pre word.now) 16384 24575 }
+    requires row { row < 256 }
+    ensures same_sink { out.new.sink.ghost_name ≡ out.old.sink.ghost_name }
+    ensures passes { (words : ℕ → ℕ) → Gives (W.post word.now) 16384 24575 words → Passes (S.written out.old.sink.now) (take out.old.len out.old.buffer) (S.written out.new.sink.now) (take out.new.len out.new.buffer) (row_text words row) result }
+    ensures counts { CountsPut (S.faults out.old.sink.now) (S.faults out.new.sink.now) result }
+{
+    let start = SCREEN + WORDS_OF_ROW * row;
+    for k in 0..WORDS_OF_ROW {
+        match out.put(&pixels(word(start + k))) {
+            Put::Done => {}
+            Put::Failed => return Put::Failed,
+        }
+    }
+    out.put(b"\n")
+}
+
+/// Puts the screen as 256 lines of 512 characters, `#` for a pixel that is 1 and `.` for 0.
+pub fn put_screen<W: Fn(u16) -> u16, S: Sink>(word: &W, out: &mut Pieces<'_, S>) -> Put
+    requires { IsCallable (W.pre word.now) 16384 24575 }
+    ensures same_sink { out.new.sink.ghost_name ≡ out.old.sink.ghost_name }
+    ensures passes { (words : ℕ → ℕ) → Gives (W.post word.now) 16384 24575 words → Passes (S.written out.old.sink.now) (take out.old.len out.old.buffer) (S.written out.new.sink.now) (take out.new.len out.new.buffer) (screen_text words) result }
+    ensures counts { CountsPut (S.faults out.old.sink.now) (S.faults out.new.sink.now) result }
+{
+    for row in 0..ROWS {
+        match put_row(word, row, out) {
+            Put::Done => {}
+            Put::Failed => return Put::Failed,
+        }
+    }
+    Put::Done
+}
+
+// The same from an empty buffer, which is empty again after it.
+fn put_all_screen<W: Fn(u16) -> u16, S: Sink>(word: &W, out: &mut Pieces<'_, S>) -> Put
+    requires callable { IsCallable (W.pre word.now) 16384 24575 }
+    requires empty { take out.old.len out.old.buffer ≡ [] }
+    ensures same_sink { out.new.sink.ghost_name ≡ out.old.sink.ghost_name }
+    ensures put { (words : ℕ → ℕ) → Gives (W.post word.now) 16384 24575 words → Puts (S.written out.old.sink.now) (S.written out.new.sink.now) (screen_text words) result }
+    ensures counts { CountsPut (S.faults out.old.sink.now) (S.faults out.new.sink.now) result }
+{
+    match put_screen(word, out) {
+        Put::Done => out.finish(),
+        Put::Failed => Put::Failed,
+    }
+}
+
+/// Puts the screen as 256 lines of 512 characters, `#` for a pixel that is 1 and `.` for 0.
+pub fn show_screen<W: Fn(u16) -> u16, S: Sink>(word: W, out: &mut S) -> Put
+    requires { IsCallable (W.pre word) 16384 24575 }
+    ensures put { (words : ℕ → ℕ) → Gives (W.post word) 16384 24575 words → Puts (S.written out.old) (S.written out.new) (screen_text words) result }
+    ensures counts { CountsPut (S.faults out.old) (S.faults out.new) result }
+{
+    let mut pieces = Pieces::new(out);
+    put_all_screen(&word, &mut pieces)
+}

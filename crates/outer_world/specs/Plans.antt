@@ -1,0 +1,51 @@
+-- Shelves and sinks in memory: what they hold, which of their calls fail, and what they take.
+use Rattle.std.specs.Prelude.{◌≡◌, ◌==◌, ◌≤◌, ◌<◌, ◌+◌, ◌-◌, ◌^◌, ◌⊎◌, [], ◌∷◌, ℕ, Bool, true, false, List, Option, Some, None, Vec, map, min, unwrap_or, if◌then◌else◌}
+use Rattle.std.specs.Global.{Global}
+use Rattle.std.specs.List.{list_any}
+use Rattle.outer_world.specs.Files.{Files}
+use Rattle.outer_world.specs.declared.name.Name.{Name}
+use Rattle.outer_world.specs.declared.shelf.Listing.{Listing}
+use Rattle.outer_world.specs.declared.shelf.Listing.TheVariants as listing
+use Rattle.outer_world.specs.declared.shelf.Reading.{Reading}
+use Rattle.outer_world.specs.declared.shelf.Reading.TheVariants as reading
+use Rattle.outer_world.specs.declared.sink.Put.{Put}
+use Rattle.outer_world.specs.declared.sink.Put.TheVariants as put
+
+-- names and bytes in memory, as files
+abbrev pub files_of : List (Name × Vec ℕ Global) → Files
+files_of files = map (λ file. (file.0, file.1.items)) files
+
+-- a count after one more; it stays at its type's end
+abbrev pub counted : ℕ → ℕ
+counted count = min (count + 1) (2 ^ 64 - 1)
+
+-- a call of this number is planned to fail
+abbrev pub is_planned : List ℕ → ℕ → Bool
+is_planned fails call = list_any (λ planned. planned == call) fails
+
+-- A shelf in memory fails to list where the call is planned to fail, and at no other.
+abbrev pub ListsAsPlanned : Bool → Listing → Type 0
+ListsAsPlanned planned listing.Failed = planned ≡ true
+ListsAsPlanned planned (listing.Names names) = planned ≡ false
+ListsAsPlanned planned listing.Memory = planned ≡ false
+
+-- It fails to read where the call is planned to fail or there is no such file, and nowhere else.
+abbrev pub ReadsAsPlanned : Bool → Option (List ℕ) → Reading → Type 0
+ReadsAsPlanned planned file reading.Failed = (planned ≡ true) ⊎ (file ≡ None)
+ReadsAsPlanned planned file (reading.Bytes bytes) = planned ≡ false
+ReadsAsPlanned planned file (reading.TooLong limit) = planned ≡ false
+ReadsAsPlanned planned file reading.Memory = planned ≡ false
+
+-- how many bytes a call still takes that is planned to fail; where its number stands twice, the first counts
+abbrev pub planned_bytes : List (ℕ × ℕ) → ℕ → Option ℕ
+planned_bytes [] call = None
+planned_bytes (fail ∷ fails) call = if fail.0 == call then Some fail.1 else planned_bytes fails call
+
+-- how many bytes of a piece of n a sink in memory takes: what fits in its room, and no more than planned
+abbrev pub taken_of : Option ℕ → ℕ → ℕ → ℕ
+taken_of plan room n = min (unwrap_or plan n) (min n room)
+
+-- A sink in memory fails where the call is planned to fail or the piece is past its room, and nowhere else.
+abbrev pub PutsAsPlanned : Option ℕ → ℕ → ℕ → Put → Type 0
+PutsAsPlanned plan room n put.Done = (plan ≡ None) × (n ≤ room)
+PutsAsPlanned plan room n put.Failed = ((most : ℕ) × (plan ≡ Some most)) ⊎ (room < n)
