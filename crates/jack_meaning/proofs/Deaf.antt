@@ -1,11 +1,13 @@
 -- A step that hears nothing is the same under every key.
 use Rattle.std.proofs.Common.{◌≡◌, ℕ, ◌-◌, Bool, true, false, List, [], ◌∷◌, refl, ap, ◌∙◌, sym}
-use Rattle.std.specs.Prelude.{if◌then◌else◌, nat_lt, nat_eq, slice_index}
+use Rattle.std.specs.Prelude.{None, if◌then◌else◌, nat_lt, nat_eq, slice_index}
 use Rattle.word16.specs.Words.{word_add}
 use Rattle.jack_meaning.specs.Text.{Variable, Argument, Local, Static, Expression, Literal, Value, Name, This, Field, Unary, Binary, Load, Call, Open, Expressions, NoMore, More, Let, LetField, LetThis, Store, Do, If, While, Return, Text, End, Next, Subroutine}
 use Rattle.jack_meaning.specs.Expressions.{Move, Stands, Rewrites, Calls, Strays, within, View, variable_of, value_of, loaded, rewrite, rewrite_first}
-use Rattle.jack_meaning.specs.Meaning.{Frame, State, view_of, Outcome, step_part, step_first, step_frames, step}
-use Rattle.jack_meaning.specs.Laws.{has_heard, MeaningLaw}
+use Rattle.jack_meaning.specs.Meaning.{Frame, State, view_of, Outcome, Acts, Stray, Done, step_part, step_first, step_frames, step}
+use Rattle.jack_meaning.specs.Level.{next_of, has_heard, is_done, point_in, meaning_of}
+use Rattle.layers.specs.System.{IsMeaning}
+use Rattle.jack_meaning.specs.Laws.{MeaningLaw}
 
 abbrev hears_in : {A : Type 0} → Move A → Bool
 hears_in (Rewrites b a) = b
@@ -99,6 +101,19 @@ heard_alike true true f g = refl
 heard_alike true false f g = sym (g refl)
 heard_alike false y f g = f refl
 
+quiet_done : (o : Outcome) → is_done o ≡ true → (has_heard o ≡ false) × (next_of o ≡ None)
+quiet_done (Acts b s) h = absurd (cc h)
+quiet_done (Stray a) h = absurd (cc h)
+quiet_done Done h = (refl, refl)
+
+is_level : (subs : List Subroutine) → IsMeaning (meaning_of subs)
+is_level subs = record {
+  commits = λ s. refl;
+  pointed = λ s. (point_in s, refl);
+  deaf = λ s key key' h. ap next_of (step_even subs 0 key s h ∙ sym (step_even subs 0 key' s h));
+  stops = λ s key h. let q = quiet_done (step subs 0 s) h in ap next_of (step_even subs 0 key s q.0) ∙ q.1;
+}
+
 pub law : MeaningLaw
 law = record {
   deaf = λ program s key key' h. step_even program.subroutines key key' s h;
@@ -106,4 +121,5 @@ law = record {
   strays = λ program s key key' a h. step_even program.subroutines key key' s (ap has_heard h) ∙ h;
   done = λ program s key key' h. step_even program.subroutines key key' s (ap has_heard h) ∙ h;
   begins = λ program. refl;
+  level = λ program. is_level program.subroutines;
 }

@@ -1,13 +1,9 @@
 -- What holds of every program.
-use Rattle.std.specs.Prelude.{◌≡◌, ℕ, Bool, false}
+use Rattle.std.specs.Prelude.{◌≡◌, ℕ, false}
 use Rattle.jack_meaning.specs.Text.{Program}
-use Rattle.jack_meaning.specs.Meaning.{State, Outcome, Acts, Stray, Done, step, start, point_of}
-
--- whether a step hears the key
-abbrev pub has_heard : Outcome → Bool
-has_heard (Acts heard s) = heard
-has_heard (Stray a) = false
-has_heard Done = false
+use Rattle.layers.specs.System.{IsMeaning}
+use Rattle.jack_meaning.specs.Meaning.{State, Stray, Done, step, start, point_of}
+use Rattle.jack_meaning.specs.Level.{has_heard, meaning_of}
 
 pub record MeaningLaw : Type 0 where
   -- a step that does not hear the key is the same under every key
@@ -20,3 +16,5 @@ pub record MeaningLaw : Type 0 where
   pub done : (program : Program) (s : State) (key key' : ℕ) → step program.subroutines key s ≡ Done → step program.subroutines key' s ≡ Done
   -- the start's point
   pub begins : (program : Program) → point_of (start program).frames ≡ (0, 1)
+  -- what is asked of a program's meaning as a level
+  pub level : (program : Program) → IsMeaning (meaning_of program.subroutines)

@@ -2,6 +2,7 @@ pub mod Words
 pub mod Text
 pub mod Expressions
 pub mod Meaning
-pub mod Runs
+pub mod StackWords
+pub mod Level
 pub mod Laws
 pub mod Rows

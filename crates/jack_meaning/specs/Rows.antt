@@ -1,11 +1,12 @@
 -- Small programs and where their steps lead, by computation.
 use Rattle.std.specs.Prelude.{◌≡◌, ℕ, ◌-◌, List, [], ◌∷◌, slice_index, Some, option_map}
 use Rattle.jack_meaning.specs.Text.{Argument, Local, Static, Minus, Complement, Subtract, Less, Expression, Literal, Name, This, Unary, Binary, Load, Call, NoMore, More, Statement, Let, LetField, LetThis, Store, Do, If, While, Return, text_of, Constructor, Function, Method, Subroutine, Class, Program}
-use Rattle.jack_meaning.specs.Meaning.{Outcome, Stray, Done, step, point_of}
-use Rattle.jack_meaning.specs.Runs.{Listening, first_key, run}
+use Rattle.jack_meaning.specs.Meaning.{State, Outcome, Stray, Done, step, point_of}
+use Rattle.layers.specs.System.{Listening, first_key}
+use Rattle.jack_meaning.specs.Level.{run}
 
 -- the point, and the word at an address
-abbrev pub seen : ℕ → Listening → (ℕ × ℕ) × ℕ
+abbrev pub seen : ℕ → Listening State → (ℕ × ℕ) × ℕ
 seen a l = (point_of l.state.frames, slice_index l.state.words (a - 2048))
 
 -- After m steps over these keys, the program is at this point, and the word at an address is this one.

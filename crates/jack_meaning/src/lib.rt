@@ -1,7 +1,8 @@
 //! The meaning of Jack programs: what each step of a program does, before any compiler or machine.
 //!
-//! The definitions are in `specs/`: `Text` (programs), `Words` (operators), `Expressions` and `Meaning` (the step), `Runs` (runs over
-//! keys, and the room that they want). The two functions here do nothing; their contracts say what holds of the definitions.
+//! The definitions are in `specs/`: `Text` (programs), `Words` (operators), `Expressions` and `Meaning` (the step),
+//! `StackWords` (the room that calls want), `Level` (the meaning as a machine that moves in steps, and its runs over
+//! keys), `Laws` and `Rows`. The two functions here do nothing; their contracts say what holds of the definitions.
 #![tactic(auto)]
 
 ghost use Rattle.jack_meaning.specs.Laws.{MeaningLaw};
