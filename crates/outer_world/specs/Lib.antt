@@ -2,3 +2,4 @@ pub mod Faults
 pub mod Files
 pub mod Written
 pub mod Texts
+pub mod Reader
