@@ -1,0 +1,6 @@
+pub mod Sections
+pub mod Faults
+pub mod Reached
+pub mod Resolved
+pub mod Links
+pub mod Maps

@@ -1,0 +1,10 @@
+//! Linking: a program's functions that are reached by calls, with calls, labels and statics as numbers.
+#![tactic(auto)]
+
+mod fault;
+mod linked;
+mod numbers;
+mod section;
+
+pub use fault::LinkFault;
+pub use linked::{Code, Linked, LinkedFile, LinkedFunction, Step};
