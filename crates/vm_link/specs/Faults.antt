@@ -10,7 +10,7 @@ use Rattle.vm_tree.specs.declared.command.Segment.{Segment}
 use Rattle.vm_tree.specs.declared.command.Segment.TheVariants as segment
 use Rattle.vm_link.specs.declared.fault.LinkFault.{LinkFault}
 use Rattle.vm_link.specs.declared.fault.LinkFault.TheVariants.{NoFunction, TwiceDefined, NoLabel, LabelTwice, NoSysInit, TooManyStatics}
-use Rattle.vm_link.specs.Sections.{Section, is_named, calls, targets, labels, stands_in}
+use Rattle.vm_link.specs.Sections.{Section, is_named, called, target, labels, stands_in}
 
 -- where a program starts
 abbrev pub sys_init : List ℕ
@@ -24,10 +24,15 @@ repeat_after before (name ∷ names) = if stands_in before name then Some name e
 abbrev pub first_repeat : List (List ℕ) → Option (List ℕ)
 first_repeat names = repeat_after [] names
 
--- what the first section gives that gives something
-abbrev pub first_of : (Section → Option (List ℕ)) → List Section → Option (List ℕ)
+-- what the first item gives that gives something
+abbrev pub first_of : {A : Type 0} → (A → Option (List ℕ)) → List A → Option (List ℕ)
 first_of f [] = None
-first_of f (s ∷ ss) = option_or (f s) (first_of f ss)
+first_of f (x ∷ xs) = option_or (f x) (first_of f xs)
+
+-- a name that is not there
+abbrev pub lacking : (List ℕ → Bool) → Option (List ℕ) → Option (List ℕ)
+lacking is_there None = None
+lacking is_there (Some name) = if is_there name then None else Some name
 
 -- the names of the functions, in order of file and text
 abbrev pub names : List Section → List (List ℕ)
@@ -39,11 +44,11 @@ label_twice s = first_repeat (labels s.lines)
 
 -- the first label that a section goes to and has not
 abbrev pub no_label : Section → Option (List ℕ)
-no_label s = find (λ l. not (stands_in (labels s.lines) l)) (targets s.lines)
+no_label s = first_of (λ x. lacking (stands_in (labels s.lines)) (target x.command)) s.lines
 
 -- the first name that a section calls and no function has
 abbrev pub no_function : List Section → Section → Option (List ℕ)
-no_function ss s = find (λ f. not (list_any (is_named f) ss)) (calls s.lines)
+no_function ss s = first_of (λ x. lacking (λ f. list_any (is_named f) ss) (called x.command)) s.lines
 
 abbrev pub no_start : Bool → List Section → Option LinkFault
 no_start bare ss = if bare || list_any (is_named sys_init) ss then None else Some NoSysInit

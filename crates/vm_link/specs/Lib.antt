@@ -4,3 +4,4 @@ pub mod Reached
 pub mod Resolved
 pub mod Links
 pub mod Maps
+pub mod Marks

@@ -1,11 +1,12 @@
 -- Maps from names to numbers.
-use Rattle.std.specs.Prelude.{ℕ, List, Option, Some, None, map, option_map, if◌then◌else◌}
+use Rattle.std.specs.Prelude.{◌≡◌, ℕ, Bool, List, Option, map, option_map, is_some}
+use Rattle.std.specs.List.{position_from}
 use Rattle.std.specs.Borrow.{Bor}
 use Rattle.std.specs.HashMap.{HashMap, get_by}
 use Rattle.std.specs.Str.{bytes_eq}
 use Rattle.std.specs.declared.hash.FoldHasher.{FoldHasher}
 use Rattle.std.specs.declared.hash.BuildHasherDefault.{BuildHasherDefault}
-use Rattle.vm_link.specs.Sections.{Section}
+use Rattle.vm_link.specs.Sections.{Section, is_named}
 use Rattle.vm_link.specs.declared.section.Part.{Part}
 
 abbrev pub Numbers : Type 0
@@ -25,3 +26,11 @@ all_seen ps = map seen ps
 -- the bytes of names
 abbrev pub texts : List (Bor (List ℕ)) → List (List ℕ)
 texts names = map (λ n. n.now) names
+
+-- The map gives each function its number among these sections.
+abbrev pub AreNumbers : Numbers → List Section → Type 0
+AreNumbers m ss = (name : List ℕ) → number m name ≡ position_from (is_named name) 0 ss
+
+-- the map has a number for a name
+abbrev pub has_number : Numbers → List ℕ → Bool
+has_number m name = is_some (number m name)

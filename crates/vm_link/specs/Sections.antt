@@ -73,12 +73,9 @@ label (command.Push s i) = None
 label (command.Pop s i) = None
 label command.Return = None
 
--- the names that lines call, the labels that they go to, and the labels that stand there, in order of text
+-- the names that lines call, and the labels that stand there, in order of text
 abbrev pub calls : List Line → List (List ℕ)
 calls lines = filter_map (λ x. called x.command) lines
-
-abbrev pub targets : List Line → List (List ℕ)
-targets lines = filter_map (λ x. target x.command) lines
 
 abbrev pub labels : List Line → List (List ℕ)
 labels lines = filter_map (λ x. label x.command) lines

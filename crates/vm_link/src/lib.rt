@@ -5,6 +5,7 @@ mod fault;
 mod linked;
 mod numbers;
 mod section;
+mod text_faults;
 
 pub use fault::LinkFault;
 pub use linked::{Code, Linked, LinkedFile, LinkedFunction, Step};

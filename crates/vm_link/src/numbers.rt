@@ -1,12 +1,10 @@
 //! Maps from names to numbers.
 ghost use Rattle.std.specs.Prelude.{◌≡◌, List, ℕ, Some, None, OnOk, IfOk, is_none, option_map, if◌then◌else◌};
-ghost use Rattle.std.specs.List.{position_from};
 ghost use Rattle.std.specs.Option.{option_or};
 ghost use Rattle.std.specs.Str.{bytes_eq};
-ghost use Rattle.vm_link.specs.Sections.{is_named};
 ghost use Rattle.vm_link.specs.Faults.{first_repeat};
 ghost use Rattle.vm_link.specs.Resolved.{label_place, first_place};
-ghost use Rattle.vm_link.specs.Maps.{number, texts, seen, all_seen};
+ghost use Rattle.vm_link.specs.Maps.{number, texts, seen, all_seen, AreNumbers};
 
 use crate::section::{Part, label};
 use std::alloc::{AllocError, Global};
@@ -45,7 +43,7 @@ pub fn first_repeat<'a>(alloc: Global, names: &[&'a str]) -> Result<Option<&'a s
 
 /// The numbers of functions: their places among these sections, from 0.
 pub fn function_numbers<'a>(alloc: Global, parts: &[Part<'a>]) -> Result<Numbers<'a>, AllocError>
-    ensures { IfOk result (λ m. (q : List ℕ) → number m q ≡ position_from (is_named q) 0 (all_seen parts.now)) }
+    ensures { IfOk result (λ m. AreNumbers m (all_seen parts.now)) }
 {
     let mut numbers = HashMap::new(alloc);
     for (place, part) in parts.iter().enumerate() {
