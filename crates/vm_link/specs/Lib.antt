@@ -5,3 +5,4 @@ pub mod Resolved
 pub mod Links
 pub mod Maps
 pub mod Marks
+pub mod Words

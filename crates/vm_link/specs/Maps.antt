@@ -7,6 +7,8 @@ use Rattle.std.specs.Str.{bytes_eq}
 use Rattle.std.specs.declared.hash.FoldHasher.{FoldHasher}
 use Rattle.std.specs.declared.hash.BuildHasherDefault.{BuildHasherDefault}
 use Rattle.vm_link.specs.Sections.{Section, is_named}
+use Rattle.vm_link.specs.Faults.{words_before}
+use Rattle.vm_link.specs.Resolved.{label_place, first_place}
 use Rattle.vm_link.specs.declared.section.Part.{Part}
 
 abbrev pub Numbers : Type 0
@@ -34,3 +36,9 @@ AreNumbers m ss = (name : List ℕ) → number m name ≡ position_from (is_name
 -- the map has a number for a name
 abbrev pub has_number : Numbers → List ℕ → Bool
 has_number m name = is_some (number m name)
+
+-- What is numbered for the lines of a section: functions, labels and the static words of the files before.
+pub record Tells (kept : List Section) (s : Section) (functions places : Numbers) (before : ℕ) : Type 0 where
+  pub functions_are : AreNumbers functions kept
+  pub places_are : (l : List ℕ) → number places l ≡ label_place l (first_place s) s.lines
+  pub before_is : before ≡ words_before kept s.file

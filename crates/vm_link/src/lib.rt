@@ -2,9 +2,13 @@
 #![tactic(auto)]
 
 mod fault;
+mod keep;
 mod linked;
 mod numbers;
+mod reach;
+mod resolve;
 mod section;
+mod statics;
 mod text_faults;
 
 pub use fault::LinkFault;
