@@ -1,3 +1,4 @@
 pub mod Notes
 pub mod Marking
 pub mod Keeping
+pub mod WordLemmas

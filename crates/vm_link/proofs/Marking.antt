@@ -14,7 +14,7 @@ use Rattle.vm_link.specs.Reached.{Reached, IsFunction, start, called}
 use Rattle.vm_link.specs.Maps.{Numbers, number, AreNumbers}
 use Rattle.vm_link.specs.Marks.{marked, waits, unmarked, Marks, AreCalling, AreReached, IsNumber, AreBelow}
 
-⊎_by : {A B C : Type 0} → A ⊎ B → (A → C) → (B → C) → C
+pub ⊎_by : {A B C : Type 0} → A ⊎ B → (A → C) → (B → C) → C
 ⊎_by (inl a) f g = f a
 ⊎_by (inr b) f g = g b
 

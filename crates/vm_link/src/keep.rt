@@ -28,7 +28,8 @@ fn reached_parts<'a>(alloc: Global, parts: &[Part<'a>], numbers: &Numbers<'_>) -
     ensures { IfOk result (λ kept. AreKept false (all_seen parts.now) (all_seen kept.items)) }
 {
     let marks = reached(alloc, parts, numbers)?;
-    select(alloc, parts, &marks)
+    let kept = select(alloc, parts, &marks)?;
+    Ok(kept)
 }
 
 /// The sections that are reached, and with `bare` all.

@@ -1,5 +1,5 @@
 //! Commands with numbers and places.
-ghost use Rattle.std.specs.Prelude.{◌≡◌, ◌≤◌, ◌+◌, ◌++◌, List, IfOk, OnOk, unwrap_or};
+ghost use Rattle.std.specs.Prelude.{◌≡◌, ◌≤◌, ◌+◌, ◌++◌, [], List, IfOk, OnOk, unwrap_or};
 ghost use Rattle.std.specs.List.{filter_map};
 ghost use Rattle.vm_link.specs.Sections.{Section};
 ghost use Rattle.vm_link.specs.Faults.{static_words, words_at, words_before, words_of_lines};
@@ -99,6 +99,16 @@ fn add_lines(code: &mut Vec<Code>, lines: &[Line], functions: &Numbers<'_>, plac
     Ok(())
 }
 
+// An opening text has an empty name.
+fn name_of(alloc: Global, part: &Part<'_>) -> Result<Name, AllocError>
+    ensures { IfOk result (λ name. name ≡ unwrap_or (seen part.now).name []) }
+{
+    match part.name {
+        Some(name) => Name::new(alloc, name),
+        None => Name::new(alloc, ""),
+    }
+}
+
 /// The code of a section.
 pub fn function_of(alloc: Global, part: &Part<'_>, functions: &Numbers<'_>, before: u16) -> Result<LinkedFunction, AllocError>
     requires { before + words_of_lines (seen part.now).lines ≤ 240 }
@@ -107,8 +117,9 @@ pub fn function_of(alloc: Global, part: &Part<'_>, functions: &Numbers<'_>, befo
     let places = label_places(alloc, part)?;
     let mut code = entry(alloc, part)?;
     add_lines(&mut code, part.lines, functions, &places, before)?;
+    let name = name_of(alloc, part)?;
     Ok(LinkedFunction {
-        name: Name::new(alloc, part.name.unwrap_or(""))?,
+        name,
         file: part.file,
         code: List::of(code),
     })
