@@ -1,5 +1,5 @@
 -- The sections that are marked are those that are reached.
-use Rattle.std.proofs.Common.{◌≡◌, ◌+◌, ◌<◌, ◌≤◌, ℕ, zero, suc, Bool, true, false, List, [], ◌∷◌, length, refl, sym, ap, subst, ◌∙◌, arith}
+use Rattle.std.proofs.Common.{◌≡◌, ◌+◌, ◌<◌, ◌≤◌, ℕ, zero, suc, Bool, true, false, List, [], ◌∷◌, length, refl, sym, ap, subst, ◌∙◌, arith, add-zero}
 use Rattle.vm_link.specs.Sections.{Section}
 use Rattle.vm_link.specs.Reached.{Reached, Keeps, none, kept, dropped, AreKept}
 use Rattle.vm_link.specs.Marks.{marked, selected, AreReached}
@@ -18,7 +18,7 @@ keeps_selected P at (true ∷ marks) (s ∷ ss) e only all =
         (λ i h. let z : at + suc i ≡ suc at + i = omega arith in subst P z (only (suc i) h))
         (λ i p. let z : suc at + i ≡ at + suc i = omega arith in all (suc i) (subst P z p)))
 keeps_selected P at (false ∷ marks) (s ∷ ss) e only all =
-    dropped (λ p. let z : at ≡ at + 0 = omega arith in no_true refl (all 0 (subst P z p)))
+    dropped (λ p. no_true refl (all 0 (subst P (sym (add-zero at)) p)))
       (keeps_selected P (suc at) marks ss (omega arith)
         (λ i h. let z : at + suc i ≡ suc at + i = omega arith in subst P z (only (suc i) h))
         (λ i p. let z : suc at + i ≡ at + suc i = omega arith in all (suc i) (subst P z p)))

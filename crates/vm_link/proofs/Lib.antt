@@ -2,3 +2,4 @@ pub mod Notes
 pub mod Marking
 pub mod Keeping
 pub mod WordLemmas
+pub mod LinkLemmas

@@ -4,6 +4,7 @@
 mod fault;
 mod keep;
 mod linked;
+mod linking;
 mod numbers;
 mod reach;
 mod resolve;
@@ -13,3 +14,4 @@ mod text_faults;
 
 pub use fault::LinkFault;
 pub use linked::{Code, Linked, LinkedFile, LinkedFunction, Step};
+pub use linking::link;

@@ -39,7 +39,7 @@ pub struct LinkedFunction {
 #[derive(Drop)]
 pub struct LinkedFile {
     pub name: Name,
-    pub statics: u16,
+    pub statics: u32,
 }
 
 /// A linked program.
