@@ -14,14 +14,14 @@ keeps_selected P at [] (s ∷ ss) e only all = absurd (omega arith)
 keeps_selected P at (b ∷ marks) [] e only all = absurd (omega arith)
 keeps_selected P at (true ∷ marks) (s ∷ ss) e only all =
     kept (let z : at + 0 ≡ at = omega arith in subst P z (only 0 refl))
-      (keeps_selected P (suc at) marks ss (omega arith)
-        (λ i h. let z : at + suc i ≡ suc at + i = omega arith in subst P z (only (suc i) h))
-        (λ i p. let z : suc at + i ≡ at + suc i = omega arith in all (suc i) (subst P z p)))
+    (keeps_selected P (suc at) marks ss (omega arith)
+    (λ i h. let z : at + suc i ≡ suc at + i = omega arith in subst P z (only (suc i) h))
+    (λ i p. let z : suc at + i ≡ at + suc i = omega arith in all (suc i) (subst P z p)))
 keeps_selected P at (false ∷ marks) (s ∷ ss) e only all =
     dropped (λ p. no_true refl (all 0 (subst P (sym (add-zero at)) p)))
-      (keeps_selected P (suc at) marks ss (omega arith)
-        (λ i h. let z : at + suc i ≡ suc at + i = omega arith in subst P z (only (suc i) h))
-        (λ i p. let z : suc at + i ≡ at + suc i = omega arith in all (suc i) (subst P z p)))
+    (keeps_selected P (suc at) marks ss (omega arith)
+    (λ i h. let z : at + suc i ≡ suc at + i = omega arith in subst P z (only (suc i) h))
+    (λ i p. let z : suc at + i ≡ at + suc i = omega arith in all (suc i) (subst P z p)))
 
 pub kept_by : (ss : List Section) (marks : List Bool) → AreReached ss marks → AreKept false ss (selected marks ss)
 kept_by ss marks r = keeps_selected (Reached ss) 0 marks ss r.same_length

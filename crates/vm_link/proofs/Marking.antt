@@ -65,12 +65,19 @@ marks_one marks pending p h e = record {
   added = λ i m. ⊎_by (marked_from marks p i m) (λ same. inr (same, rw same (waits_last pending p))) (λ old. inl old);
   still = λ i w. waits_more pending p i w;
   more = λ i w. ⊎_by (waits_from pending p i w) (λ old. inl old) (λ same. inr (rw same (marked_now marks p h)));
-  less = let u = unmarked_less marks p h e in omega (arith, length-append pending (p ∷ [])) }
+  less = let u = unmarked_less marks p h e in omega (arith, length-append pending (p ∷ []));
+}
 
 -- no more marks
 pub marks_none : (May : ℕ → Type 0) (marks : List Bool) (pending : List ℕ) → Marks May marks marks pending pending
 marks_none May marks pending = record {
-  same_length = refl; kept = λ i m. m; added = λ i m. inl m; still = λ i w. w; more = λ i w. inl w; less = omega arith }
+  same_length = refl;
+  kept = λ i m. m;
+  added = λ i m. inl m;
+  still = λ i w. w;
+  more = λ i w. inl w;
+  less = omega arith;
+}
 
 -- marks after one another
 pub marks_then : (A B : ℕ → Type 0) (a b c : List Bool) (p q r : List ℕ) → ((i : ℕ) → B i → A i) → Marks A a b p q → Marks B b c q r → Marks A a c p r
@@ -80,7 +87,8 @@ marks_then A B a b c p q r weaker f g = record {
   added = λ i m. ⊎_by (g.added i m) (λ old. ⊎_by (f.added i old) (λ o. inl o) (λ n. inr (n.0, g.still i n.1))) (λ n. inr (weaker i n.0, n.1));
   still = λ i w. g.still i (f.still i w);
   more = λ i w. ⊎_by (g.more i w) (λ old. ⊎_by (f.more i old) (λ o. inl o) (λ m. inr (g.kept i m))) (λ m. inr m);
-  less = let x = f.less in let y = g.less in omega arith }
+  less = let x = f.less in let y = g.less in omega arith;
+}
 
 -- what is known while some wait
 pub record Looks (ss : List Section) (m : Numbers) (marks : List Bool) (pending : List ℕ) : Type 0 where
@@ -94,8 +102,13 @@ pub record Looks (ss : List Section) (m : Numbers) (marks : List Bool) (pending 
 -- an equal function
 pub marks_as : (A B : ℕ → Type 0) (a b : List Bool) (p q : List ℕ) → ((i : ℕ) → A i → B i) → Marks A a b p q → Marks B a b p q
 marks_as A B a b p q weaker f = record {
-  same_length = f.same_length; kept = f.kept; still = f.still; more = f.more; less = f.less;
-  added = λ i m. ⊎_by (f.added i m) (λ o. inl o) (λ n. inr (weaker i n.0, n.1)) }
+  same_length = f.same_length;
+  kept = f.kept;
+  still = f.still;
+  more = f.more;
+  less = f.less;
+  added = λ i m. ⊎_by (f.added i m) (λ o. inl o) (λ n. inr (weaker i n.0, n.1));
+}
 
 some_same : {A : Type 0} {i j : A} → Some i ≡ Some j → i ≡ j
 some_same e = cc
@@ -161,16 +174,16 @@ module _ (ss : List Section) (m : Numbers) (numbers : AreNumbers m ss) where
       by_name : (o : Option (List ℕ)) → stands_in (cons_option o (calls xs)) name ≡ true → (stands_in (calls xs) name ≡ true → AreCalling m xs j) → IsNumber m o j ⊎ AreCalling m xs j
       by_name None e go = inr (go e)
       by_name (Some n) e go = ⊎_by (or_cases (bytes_eq name n) (stands_in (calls xs) name) e)
-        (λ same. let eq : name ≡ n = (bytes_eq-Decides name n).0 same in inl (ap (number m) (sym eq) ∙ (numbers name ∙ f)))
-        (λ later. inr (go later))
+          (λ same. let eq : name ≡ n = (bytes_eq-Decides name n).0 same in inl (ap (number m) (sym eq) ∙ (numbers name ∙ f)))
+          (λ later. inr (go later))
 
   pub below : (n : ℕ) → length ss ≡ n → AreBelow m n
   below n l = λ name i e. let h : i < 0 + length ss = position_below (is_named name) 0 ss i (sym (numbers name) ∙ e) in omega arith
 
   pub looks_below : (marks : List Bool) (pending : List ℕ) (place : ℕ) → Looks ss m marks (pending ++ place ∷ []) → place < length ss
   looks_below marks pending place k =
-    let h : place < length marks = marked_below marks place (k.waiting place (waits_last pending place)) in
-    let e = k.same_length in omega arith
+      let h : place < length marks = marked_below marks place (k.waiting place (waits_last pending place)) in
+      let e = k.same_length in omega arith
 
   pub looks_first : (none marks : List Bool) (pending : List ℕ) → length none ≡ length ss → ((i : ℕ) → marked none i ≡ false)
       → Marks (IsNumber m (Some sys_init)) none marks [] pending → ((i : ℕ) → IsNumber m (Some sys_init) i → marked marks i ≡ true) → Looks ss m marks pending
@@ -179,7 +192,8 @@ module _ (ss : List Section) (m : Numbers) (numbers : AreNumbers m ss) where
     only = λ i h. ⊎_by (f.added i h) (λ o. absurd (false_true (unset i) o)) (λ n. start (sym (numbers sys_init) ∙ n.0));
     start = λ i h. all i (numbers sys_init ∙ h);
     waiting = λ i h. ⊎_by (f.more i h) (λ o. absurd (false_true refl o)) (λ n. n);
-    closed = λ i j s h g a. ⊎_by (f.added i h) (λ o. absurd (false_true (unset i) o)) (λ n. inl n.1) }
+    closed = λ i j s h g a. ⊎_by (f.added i h) (λ o. absurd (false_true (unset i) o)) (λ n. inl n.1);
+  }
 
   pub looks_next : (place : ℕ) (s : Section) (marks marks' : List Bool) (pending pending' : List ℕ) → slice_get ss place ≡ Some s
       → Looks ss m marks (pending ++ place ∷ []) → Marks (AreCalling m s.lines) marks marks' pending pending'
@@ -187,16 +201,17 @@ module _ (ss : List Section) (m : Numbers) (numbers : AreNumbers m ss) where
   looks_next place s marks marks' pending pending' here old f all = record {
     same_length = f.same_length ∙ old.same_length;
     only = λ i h. ⊎_by (f.added i h) (λ o. old.only i o) (λ n.
-      let r = call_from s.lines i n.0 in called s r.0 (old.only place (old.waiting place (waits_last pending place))) here r.1 r.2);
+        let r = call_from s.lines i n.0 in called s r.0 (old.only place (old.waiting place (waits_last pending place))) here r.1 r.2);
     start = λ i h. f.kept i (old.start i h);
     waiting = λ i h. ⊎_by (f.more i h) (λ o. f.kept i (old.waiting i (waits_more pending place i o))) (λ n. n);
     closed = λ i j t h g a. ⊎_by (f.added i h)
-      (λ o. ⊎_by (old.closed i j t o g a)
+        (λ o. ⊎_by (old.closed i j t o g a)
         (λ w. ⊎_by (waits_from pending place i w) (λ w'. inl (f.still i w'))
-          (λ same. let same_section : t ≡ s = some_same (sym g ∙ (ap (slice_get ss) same ∙ here)) in
-            inr (all j (subst (λ z. AreCalling m z.lines j) same_section a))))
+        (λ same. let same_section : t ≡ s = some_same (sym g ∙ (ap (slice_get ss) same ∙ here)) in
+        inr (all j (subst (λ z. AreCalling m z.lines j) same_section a))))
         (λ k. inr (f.kept j k)))
-      (λ n. inl n.1) }
+        (λ n. inl n.1);
+  }
 
   pub looks_last : (marks : List Bool) → Looks ss m marks [] → AreReached ss marks
   looks_last marks k = record { same_length = k.same_length; only = k.only; all = all }

@@ -37,7 +37,7 @@ pub noted : (m : Numbers) (name q : List ℕ) (v : ℕ) → is_some (number m na
 noted m name q v absent =
     let e : number m name ≡ None = none_from _ absent in
     rw (bytes_eq-sym q name) (noted_at (bytes_eq name q) (number m q) v
-      (λ same. let eq : name ≡ q = (bytes_eq-Decides name q).0 same in ap (number m) (sym eq) ∙ e))
+    (λ same. let eq : name ≡ q = (bytes_eq-Decides name q).0 same in ap (number m) (sym eq) ∙ e))
 
 -- and after one that is there
 pub kept_number : (m : Numbers) (name q : List ℕ) (v : ℕ) → is_some (number m name) ≡ true

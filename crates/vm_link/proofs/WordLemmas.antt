@@ -38,16 +38,17 @@ pub bases_more : (kept : List Section) (n v : ℕ) (bs : List ℕ) → AreBases 
 bases_more kept n v bs h e = record {
   count = length-append bs (v ∷ []) ∙ ap (λ z. z + 1) h.count;
   at = λ k below. ⊎_by (cases_eq k n)
-    (λ same. subst (λ z. slice_index (bs ++ v ∷ []) z ≡ min (words_before kept z) (2 ^ 64 - 1)) (sym same)
+      (λ same. subst (λ z. slice_index (bs ++ v ∷ []) z ≡ min (words_before kept z) (2 ^ 64 - 1)) (sym same)
       (subst (λ z. slice_index (bs ++ v ∷ []) z ≡ min (words_before kept n) (2 ^ 64 - 1)) h.count (index_last bs v ∙ e)))
-    (λ other. let c = h.count in index_front bs (v ∷ []) k (omega arith) ∙ h.at k (omega arith)) }
+      (λ other. let c = h.count in index_front bs (v ∷ []) k (omega arith) ∙ h.at k (omega arith));
+}
 
 -- one more section, of a file that is counted or of one that is not
 pub words_then : (words : List ℕ) (f w k r : ℕ) → f < length words
     → max (slice_index (slice_set words f (max (slice_index words f) w)) k) r ≡ max (slice_index words k) (if f == k then max w r else r)
 words_then words f w k r h = ⊎_by (cases_eq f k)
     (λ same. subst (λ z. max (slice_index (slice_set words f (max (slice_index words f) w)) z) r ≡ max (slice_index words z) (if f == z then max w r else r)) same
-      (rw (index_set words f (max (slice_index words f) w) h, eq-eqb f f refl) (omega arith)))
+    (rw (index_set words f (max (slice_index words f) w) h, eq-eqb f f refl) (omega arith)))
     (λ other. rw (index_other words f (max (slice_index words f) w) k other, ne_eqb f k other) refl)
 
 pub words_else : (f k w r x n : ℕ) → k < n → n ≤ f → max x r ≡ max x (if f == k then max w r else r)

@@ -76,7 +76,8 @@ abbrev pub function_of : List Section → Section → LinkedFunction
 function_of kept s = record {
   name = unwrap_or s.name [];
   file = s.file;
-  code = entry_of s.name s.locals s.lines ++ filter_map (code_of kept s) s.lines }
+  code = entry_of s.name s.locals s.lines ++ filter_map (code_of kept s) s.lines;
+}
 
 -- the files, which are counted from k
 abbrev pub files_from : List Section → ℕ → List File → List LinkedFile
@@ -88,4 +89,5 @@ linked bare files kept = record {
   functions = map (function_of kept) kept;
   files = files_from kept 0 files;
   start = position_from (is_named sys_init) 0 kept;
-  bare = bare }
+  bare = bare;
+}

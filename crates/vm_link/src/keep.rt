@@ -10,7 +10,11 @@ use crate::section::Part;
 use std::alloc::{AllocError, Global};
 
 // The sections that are marked.
-fn select<'a>(alloc: Global, parts: &[Part<'a>], marks: &[bool]) -> Result<Vec<Part<'a>>, AllocError>
+fn select<'a>(
+    alloc: Global,
+    parts: &[Part<'a>],
+    marks: &[bool],
+) -> Result<Vec<Part<'a>>, AllocError>
     requires { length marks.now ≡ length parts.now }
     ensures { IfOk result (λ kept. all_seen kept.items ≡ selected marks.now (all_seen parts.now)) }
 {
@@ -23,7 +27,11 @@ fn select<'a>(alloc: Global, parts: &[Part<'a>], marks: &[bool]) -> Result<Vec<P
     Ok(kept)
 }
 
-fn reached_parts<'a>(alloc: Global, parts: &[Part<'a>], numbers: &Numbers<'_>) -> Result<Vec<Part<'a>>, AllocError>
+fn reached_parts<'a>(
+    alloc: Global,
+    parts: &[Part<'a>],
+    numbers: &Numbers<'_>,
+) -> Result<Vec<Part<'a>>, AllocError>
     requires { AreNumbers numbers.now (all_seen parts.now) }
     ensures { IfOk result (λ kept. AreKept false (all_seen parts.now) (all_seen kept.items)) }
 {
@@ -33,7 +41,12 @@ fn reached_parts<'a>(alloc: Global, parts: &[Part<'a>], numbers: &Numbers<'_>) -
 }
 
 /// The sections that are reached, and with `bare` all.
-pub fn keep<'a>(alloc: Global, parts: Vec<Part<'a>>, numbers: &Numbers<'_>, bare: bool) -> Result<Vec<Part<'a>>, AllocError>
+pub fn keep<'a>(
+    alloc: Global,
+    parts: Vec<Part<'a>>,
+    numbers: &Numbers<'_>,
+    bare: bool,
+) -> Result<Vec<Part<'a>>, AllocError>
     requires { AreNumbers numbers.now (all_seen parts.items) }
     ensures { IfOk result (λ kept. AreKept bare (all_seen parts.entry.items) (all_seen kept.items)) }
 {

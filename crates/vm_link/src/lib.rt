@@ -15,3 +15,6 @@ mod text_faults;
 pub use fault::LinkFault;
 pub use linked::{Code, Linked, LinkedFile, LinkedFunction, Step};
 pub use linking::link;
+
+#[cfg(test)]
+mod tests;

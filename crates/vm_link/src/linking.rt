@@ -31,7 +31,12 @@ fn too_many(words: u64) -> Option<LinkFault>
 }
 
 // The first fault of what is kept.
-fn kept_fault(alloc: Global, kept: &[Part<'_>], numbers: &Numbers<'_>, words: &[u32]) -> Result<Option<LinkFault>, AllocError>
+fn kept_fault(
+    alloc: Global,
+    kept: &[Part<'_>],
+    numbers: &Numbers<'_>,
+    words: &[u32],
+) -> Result<Option<LinkFault>, AllocError>
     requires { AreWords (all_seen kept.now) (length words.now) words.now }
     ensures { IfOk result (λ fault. (ss : List Section) → AreNumbers numbers.now ss → fault ≡ kept_fault (length words.now) ss (all_seen kept.now)) }
 {
@@ -51,7 +56,12 @@ fn before_of(part: &Part<'_>, bases: &[u64]) -> u16
     bases[part.file] as u16
 }
 
-fn functions(alloc: Global, kept: &[Part<'_>], numbers: &Numbers<'_>, bases: &[u64]) -> Result<Vec<LinkedFunction>, AllocError>
+fn functions(
+    alloc: Global,
+    kept: &[Part<'_>],
+    numbers: &Numbers<'_>,
+    bases: &[u64],
+) -> Result<Vec<LinkedFunction>, AllocError>
     requires numbers { AreNumbers numbers.now (all_seen kept.now) }
     requires fits { AreFitting (all_seen kept.now) bases.now }
     ensures { IfOk result (λ v. v.items ≡ map (function_of (all_seen kept.now)) (all_seen kept.now)) }
@@ -111,7 +121,13 @@ fn link_files(alloc: Global, files: &[File], bare: bool) -> Result<Linked, LinkF
     Ok(linked)
 }
 
-fn linked(alloc: Global, files: &[File], kept: &[Part<'_>], words: &[u32], bare: bool) -> Result<Linked, AllocError>
+fn linked(
+    alloc: Global,
+    files: &[File],
+    kept: &[Part<'_>],
+    words: &[u32],
+    bare: bool,
+) -> Result<Linked, AllocError>
     requires words { AreWords (all_seen kept.now) (length files.now) words.now }
     requires fits { (bases : List ℕ) → AreBases (all_seen kept.now) (length files.now) bases → AreFitting (all_seen kept.now) bases }
     ensures { IfOk result (λ l. l ≡ linked bare files.now (all_seen kept.now)) }

@@ -24,7 +24,12 @@ fn mark(place: usize, marks: &mut Vec<bool>, pending: &mut Vec<usize>) -> Result
 }
 
 // Marks the function of a name.
-fn mark_function(name: Option<&str>, numbers: &Numbers<'_>, marks: &mut Vec<bool>, pending: &mut Vec<usize>) -> Result<(), AllocError>
+fn mark_function(
+    name: Option<&str>,
+    numbers: &Numbers<'_>,
+    marks: &mut Vec<bool>,
+    pending: &mut Vec<usize>,
+) -> Result<(), AllocError>
     requires { AreBelow numbers.now (length marks.old.items) }
     ensures marks { OnOk result (Marks (IsNumber numbers.now (option_map (λ n. n.now) name.entry)) marks.old.items marks.new.items pending.old.items pending.new.items) }
     ensures marked { OnOk result ((i : ℕ) → IsNumber numbers.now (option_map (λ n. n.now) name.entry) i → marked marks.new.items i ≡ true) }
@@ -39,7 +44,12 @@ fn mark_function(name: Option<&str>, numbers: &Numbers<'_>, marks: &mut Vec<bool
 }
 
 // Marks the functions that lines call.
-fn visit(lines: &[Line], numbers: &Numbers<'_>, marks: &mut Vec<bool>, pending: &mut Vec<usize>) -> Result<(), AllocError>
+fn visit(
+    lines: &[Line],
+    numbers: &Numbers<'_>,
+    marks: &mut Vec<bool>,
+    pending: &mut Vec<usize>,
+) -> Result<(), AllocError>
     requires { AreBelow numbers.now (length marks.old.items) }
     ensures marks { OnOk result (Marks (AreCalling numbers.now lines.now) marks.old.items marks.new.items pending.old.items pending.new.items) }
     ensures all { OnOk result ((i : ℕ) → AreCalling numbers.now lines.now i → marked marks.new.items i ≡ true) }
@@ -63,7 +73,11 @@ fn no_marks(alloc: Global, parts: &[Part<'_>]) -> Result<Vec<bool>, AllocError>
 }
 
 /// Marks at the sections that are reached from Sys.init by calls.
-pub fn reached(alloc: Global, parts: &[Part<'_>], numbers: &Numbers<'_>) -> Result<Vec<bool>, AllocError>
+pub fn reached(
+    alloc: Global,
+    parts: &[Part<'_>],
+    numbers: &Numbers<'_>,
+) -> Result<Vec<bool>, AllocError>
     requires { AreNumbers numbers.now (all_seen parts.now) }
     ensures { IfOk result (λ marks. AreReached (all_seen parts.now) marks.items) }
 {

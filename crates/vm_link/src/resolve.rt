@@ -35,18 +35,32 @@ fn index_in(before: u16, segment: Segment, index: u16) -> u16
 }
 
 // A label is no step.
-fn step_of(command: &Command, functions: &Numbers<'_>, places: &Numbers<'_>, before: u16) -> Option<Step>
+fn step_of(
+    command: &Command,
+    functions: &Numbers<'_>,
+    places: &Numbers<'_>,
+    before: u16,
+) -> Option<Step>
     requires { before + static_words command.now ≤ 240 }
     ensures { (kept : List Section) (s : Section) → Tells kept s functions.now places.now before → result ≡ step_of kept s command.now }
 {
     match command {
         Command::Operate(operation) => Some(Step::Operate(*operation)),
-        Command::Push(segment, index) => Some(Step::Push(*segment, index_in(before, *segment, *index))),
-        Command::Pop(segment, index) => Some(Step::Pop(*segment, index_in(before, *segment, *index))),
+        Command::Push(segment, index) => Some(Step::Push(
+            *segment,
+            index_in(before, *segment, *index),
+        )),
+        Command::Pop(segment, index) => Some(Step::Pop(
+            *segment,
+            index_in(before, *segment, *index),
+        )),
         Command::Label(_) => None,
         Command::Goto(label) => Some(Step::Goto(number_or_zero(places, label))),
         Command::IfGoto(label) => Some(Step::IfGoto(number_or_zero(places, label))),
-        Command::Call(name, arguments) => Some(Step::Call(number_or_zero(functions, name), *arguments)),
+        Command::Call(name, arguments) => Some(Step::Call(
+            number_or_zero(functions, name),
+            *arguments,
+        )),
         Command::Return => Some(Step::Return),
     }
 }
@@ -87,7 +101,13 @@ fn entry(alloc: Global, part: &Part<'_>) -> Result<Vec<Code>, AllocError>
     Ok(code)
 }
 
-fn add_lines(code: &mut Vec<Code>, lines: &[Line], functions: &Numbers<'_>, places: &Numbers<'_>, before: u16) -> Result<(), AllocError>
+fn add_lines(
+    code: &mut Vec<Code>,
+    lines: &[Line],
+    functions: &Numbers<'_>,
+    places: &Numbers<'_>,
+    before: u16,
+) -> Result<(), AllocError>
     requires { before + words_of_lines lines.now ≤ 240 }
     ensures { OnOk result ((kept : List Section) (s : Section) → Tells kept s functions.now places.now before → code.new.items ≡ code.old.items ++ filter_map (code_of kept s) lines.now) }
 {
@@ -110,7 +130,12 @@ fn name_of(alloc: Global, part: &Part<'_>) -> Result<Name, AllocError>
 }
 
 /// The code of a section.
-pub fn function_of(alloc: Global, part: &Part<'_>, functions: &Numbers<'_>, before: u16) -> Result<LinkedFunction, AllocError>
+pub fn function_of(
+    alloc: Global,
+    part: &Part<'_>,
+    functions: &Numbers<'_>,
+    before: u16,
+) -> Result<LinkedFunction, AllocError>
     requires { before + words_of_lines (seen part.now).lines ≤ 240 }
     ensures { IfOk result (λ f. (kept : List Section) → AreNumbers functions.now kept → before ≡ words_before kept part.now.file → f ≡ function_of kept (seen part.now)) }
 {

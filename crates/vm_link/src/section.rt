@@ -38,7 +38,12 @@ fn opening_part(file: usize, text: &File) -> Part<'_>
     }
 }
 
-fn add_file<'a>(parts: &mut Vec<Part<'a>>, file: usize, text: &'a File, bare: bool) -> Result<(), AllocError>
+fn add_file<'a>(
+    parts: &mut Vec<Part<'a>>,
+    file: usize,
+    text: &'a File,
+    bare: bool,
+) -> Result<(), AllocError>
     ensures { OnOk result (all_seen parts.new.items ≡ all_seen parts.old.items ++ file_sections bare file text.now) }
 {
     if bare {

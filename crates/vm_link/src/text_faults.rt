@@ -34,7 +34,11 @@ fn lacking<'a>(name: Option<&'a str>, numbers: &Numbers<'_>) -> Option<&'a str>
     ensures { option_map (λ n. n.now) result ≡ lacking (has_number numbers.now) (option_map (λ n. n.now) name.entry) }
 {
     let text = name?;
-    if numbers.contains_key(text) { None } else { Some(text) }
+    if numbers.contains_key(text) {
+        None
+    } else {
+        Some(text)
+    }
 }
 
 // The first label that lines go to and that has no place.
@@ -86,7 +90,12 @@ fn no_label<'a>(alloc: Global, parts: &[Part<'a>]) -> Result<Option<&'a str>, Al
 
 /// The first fault of a program's text: a function twice defined, then a label that stands twice, then a label that is
 /// not there, then a missing start.
-pub fn text_fault(alloc: Global, parts: &[Part<'_>], numbers: &Numbers<'_>, bare: bool) -> Result<Option<LinkFault>, AllocError>
+pub fn text_fault(
+    alloc: Global,
+    parts: &[Part<'_>],
+    numbers: &Numbers<'_>,
+    bare: bool,
+) -> Result<Option<LinkFault>, AllocError>
     requires { AreNumbers numbers.now (all_seen parts.now) }
     ensures { IfOk result (λ fault. fault ≡ text_fault bare (all_seen parts.now)) }
 {

@@ -30,4 +30,4 @@ pub loop-part-preserved : goal.loop-part-preserved
 loop-part-preserved c = let f = c.requires.fits c.loop-part.part-index (seen c.part-item.result) (seen_at seen c.args.kept.now c.loop-part.part-index c.part-item.result c.part-item.result c.loop-part-test.true c.part-item.is) in
     let made = c.in_ok-function.ensures (all_seen c.args.kept.now) c.requires.numbers (c.before_of-before.ensures ∙ f.base) in
     one_more (function_of (all_seen c.args.kept.now)) c.args.kept.now c.loop-part.part-index c.part-item.result c.loop-part.functions.items c.push.new.self.items c.in_ok-function.function _
-      c.loop-part-test.true c.part-item.is c.in_ok-push.ensures.items made c.loop-part.invariant
+    c.loop-part-test.true c.part-item.is c.in_ok-push.ensures.items made c.loop-part.invariant

@@ -30,9 +30,9 @@ waiting-preserved c =
     let old = rw c.in-Some.ensures.items at c.waiting.invariant in
     let h = looks_below (all_seen c.args.parts.now) c.args.numbers.now c.requires c.waiting.marks.items c.pop.new.self.items c.in-Some.place old in
     looks_next (all_seen c.args.parts.now) c.args.numbers.now c.requires c.in-Some.place (seen (get_or c.args.parts.now c.in-Some.place c.index-parts-place.result))
-      c.waiting.marks.items c.visit.new.marks.items c.pop.new.self.items c.visit.new.pending.items
-      (seen_at seen c.args.parts.now c.in-Some.place _ c.index-parts-place.result (rw (length_mapped seen c.args.parts.now) at h) refl)
-      old c.in_ok-visit.ensures.marks c.in_ok-visit.ensures.all
+    c.waiting.marks.items c.visit.new.marks.items c.pop.new.self.items c.visit.new.pending.items
+    (seen_at seen c.args.parts.now c.in-Some.place _ c.index-parts-place.result (rw (length_mapped seen c.args.parts.now) at h) refl)
+    old c.in_ok-visit.ensures.marks c.in_ok-visit.ensures.all
 
 pub offset_bounds-parts-place : goal.offset_bounds-parts-place
 offset_bounds-parts-place c =

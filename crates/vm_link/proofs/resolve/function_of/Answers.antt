@@ -13,5 +13,5 @@ pub returns : goal.returns
 returns c = λ kept numbers before.
     let s = seen c.args.part.now in
     let code = c.of.ensures ∙ (c.in_ok-add_lines.ensures kept s (record { functions_are = numbers; places_are = c.in_ok-places.ensures; before_is = before })
-      ∙ ap (λ (z : List Code). z ++ filter_map (code_of kept s) s.lines) c.in_ok-code.ensures) in
+    ∙ ap (λ (z : List Code). z ++ filter_map (code_of kept s) s.lines) c.in_ok-code.ensures) in
     same_function _ (function_of kept s) c.in_ok-name.ensures (λ i. c.args.part.now.file) code
