@@ -3,3 +3,4 @@ pub mod Marking
 pub mod Keeping
 pub mod WordLemmas
 pub mod LinkLemmas
+pub mod SoundLemmas

@@ -87,6 +87,17 @@ last_none : {A : Type 0} (o p : Option A) → option_or o p ≡ None → p ≡ N
 last_none None p e = e
 last_none (Some x) p e = absurd cc
 
+-- the statics of a section are among the words that there are
+pub room_at : (bare : Bool) (files : List File) (ks : List Section) → AreKept bare (sections bare files) ks → kept_fault (length files) (sections bare files) ks ≡ None
+    → (i : ℕ) (s : Section) → slice_get ks i ≡ Some s → words_before ks s.file + words_of_lines s.lines ≤ 240
+room_at bare files ks k none_found i s here =
+    let n = length files in
+    let file : s.file < length files = below_at n ks i s (below_kept n bare (sections bare files) ks k (below_from n bare 0 files (omega arith))) here in
+    let few : words_before ks (length files) ≤ 240 = words_few (words_before ks n) (last_none (option_map NoFunction (first_of (no_function (sections bare files)) ks)) _ none_found) in
+    let rise = words_rise ks s.file n file in
+    let own = words_within ks i s here in
+    omega arith
+
 -- what is kept of a program without faults fits
 pub fitting : (bare : Bool) (files : List File) (ks : List Section) (bases : List ℕ) → AreKept bare (sections bare files) ks
     → kept_fault (length files) (sections bare files) ks ≡ None → AreBases ks (length files) bases → AreFitting ks bases

@@ -110,7 +110,7 @@ marks_as A B a b p q weaker f = record {
   added = λ i m. ⊎_by (f.added i m) (λ o. inl o) (λ n. inr (weaker i n.0, n.1));
 }
 
-some_same : {A : Type 0} {i j : A} → Some i ≡ Some j → i ≡ j
+pub some_same : {A : Type 0} {i j : A} → Some i ≡ Some j → i ≡ j
 some_same e = cc
 
 -- an item that is looked at
@@ -139,7 +139,7 @@ marked_below [] i h = absurd (false_true refl h)
 marked_below (x ∷ xs) zero h = omega arith
 marked_below (x ∷ xs) (suc i) h = let ih = marked_below xs i h in omega arith
 
-position_below : {A : Type 0} (p : A → Bool) (at : ℕ) (xs : List A) (i : ℕ) → position_from p at xs ≡ Some i → i < at + length xs
+pub position_below : {A : Type 0} (p : A → Bool) (at : ℕ) (xs : List A) (i : ℕ) → position_from p at xs ≡ Some i → i < at + length xs
 position_below p at [] i e = absurd cc
 position_below p at (x ∷ xs) i e = by_test (p x) e (λ h. position_below p (at + 1) xs i h)
   where

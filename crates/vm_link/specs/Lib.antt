@@ -6,3 +6,4 @@ pub mod Links
 pub mod Maps
 pub mod Marks
 pub mod Words
+pub mod Sound

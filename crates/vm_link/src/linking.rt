@@ -5,6 +5,7 @@ ghost use Rattle.vm_link.specs.Sections.{Section, is_named};
 ghost use Rattle.vm_link.specs.Faults.{sys_init, kept_fault, too_many, words_before};
 ghost use Rattle.vm_link.specs.Resolved.{files_from, function_of, linked};
 ghost use Rattle.vm_link.specs.Links.{Links};
+ghost use Rattle.vm_link.specs.Sound.{IsSound};
 ghost use Rattle.vm_link.specs.Words.{AreBases, AreFitting, AreWords, IsFitting};
 ghost use Rattle.vm_link.specs.Maps.{AreNumbers, all_seen, seen};
 
@@ -99,7 +100,8 @@ fn start_of(numbers: &Numbers<'_>) -> Option<usize>
 /// Links a program: without `bare` the functions that are reached from Sys.init by calls, with `bare` all functions and
 /// opening texts.
 pub fn link(alloc: Global, program: Program, bare: bool) -> Result<Linked, LinkFault>
-    ensures { Links bare program result }
+    ensures links { Links bare program result }
+    ensures sound { IfOk result IsSound }
 {
     link_files(alloc, program.as_slice(), bare)
 }

@@ -10,3 +10,6 @@ pub use command::{Command, Line, Operation, Segment};
 pub use list::List;
 pub use printing::print;
 pub use program::{File, Function, Program};
+
+#[cfg(test)]
+mod tests;
