@@ -4,3 +4,4 @@ pub mod Keeping
 pub mod WordLemmas
 pub mod LinkLemmas
 pub mod SoundLemmas
+pub mod Once

@@ -3,6 +3,7 @@
 
 mod fault;
 mod keep;
+mod laws;
 mod linked;
 mod linking;
 mod numbers;
@@ -13,6 +14,7 @@ mod statics;
 mod text_faults;
 
 pub use fault::LinkFault;
+pub use laws::linked_once;
 pub use linked::{Code, Linked, LinkedFile, LinkedFunction, Step};
 pub use linking::link;
 
