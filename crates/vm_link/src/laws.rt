@@ -7,5 +7,4 @@ ghost use Rattle.vm_link.specs.Links.{Links};
 /// Law: a program is linked in one way at most.
 pub fn linked_once()
     ensures { (bare : Bool) (files : List File) (l m : Linked) → Links bare files (Ok l) → Links bare files (Ok m) → l ≡ m }
-{
-}
+{}
