@@ -1,13 +1,13 @@
 //! The command `exec`: words of the memory after a run of the instruction machine.
 ghost use Rattle.std.specs.Prelude.{◌≡◌, ◌≤◌, List, ℕ, IfOk, Option, length};
+ghost use Rattle.command_line.specs.Line.{exec};
 ghost use Rattle.hack_isa.specs.Machine.{machine_at};
 ghost use Rattle.hack_machine.specs.Loaded.{machine_of};
-ghost use Rattle.nand_cli.specs.Line.{exec};
 ghost use Rattle.nand_cli.specs.Parts.{Counts, CountsLoad, Does, Loads};
 
-use crate::line::Exec;
 use crate::plain::program;
 use crate::refusal::{Failure, grammar};
+use command_line::Exec;
 use hack_machine::{Hack, cycles_law};
 use key_script::Keys;
 use machine_io::{Keyboard, drive, show_words};
