@@ -1,5 +1,6 @@
 -- From the matches of `clap` to lines.
-use Rattle.std.proofs.Common.{◌≡◌, ◌≢◌, [], ℕ, List, Option, Some, true, refl, sym, ◌∙◌, subst, codes, inl, inr}
+use Rattle.std.proofs.Common.{◌≡◌, ◌≢◌, [], ℕ, List, Option, Some, true, refl, sym, ◌∙◌, ap, subst, codes, inl, inr}
+use Rattle.std.specs.Str.Parse.{digits_value}
 use Rattle.clap.specs.Kinds.{HasKind, Kinds}
 use Rattle.clap.specs.Walk.{Row, Text}
 use Rattle.clap.specs.Simple.{App, is_simple, subcommand_of}
@@ -9,7 +10,7 @@ use Rattle.clap.specs.declared.error.ErrorKind.TheVariants as kind
 use Rattle.clap.specs.declared.Error.{Error}
 use Rattle.clap.proofs.OnLiterals.{clap_on_literals}
 use Rattle.command_line.specs.Table.{table}
-use Rattle.command_line.specs.Line.{IsInRange, IsLine, IsReading, Line, exec}
+use Rattle.command_line.specs.Line.{AreOneLine, IsInRange, IsLine, IsReading, Line, NumberIn, PathIn, exec}
 
 -- ---- the matches of a command are those of its own lines only
 
@@ -56,3 +57,34 @@ fault_line a ws e is fails other l (free, name, rows, found, reading) =
 
 pub in_range : (ws : List Text) (l : Line) → IsLine ws l → IsInRange l
 in_range ws (exec path c f t) (free, name, rows, found, reading) = (reading.2.2.small, reading.3.2.small, reading.4.2.small)
+
+-- ---- words are at most one line
+
+same_found : {X : Type 0} (found : Option X) (x y : X) → found ≡ Some x → found ≡ Some y → x ≡ y
+same_found found x y e f = cc
+
+same_rows : (found : Option (Text × List Row)) (name other : Text) (rows others : List Row) → found ≡ Some (name, rows) → found ≡ Some (other, others) → rows ≡ others
+same_rows found name other rows others e f =
+    ap (λ (p : Text × List Row). p.1) (same_found {X = Text × List Row} found (name, rows) (other, others) e f)
+
+same_path : (rows : List Row) (path other : Text) → PathIn rows path → PathIn rows other → path ≡ other
+same_path rows path other (e, _) (f, _) = cc
+
+same_number : (rows : List Row) (id : Text) (most n m : ℕ) → NumberIn rows id most n → NumberIn rows id most m → n ≡ m
+same_number rows id most n m (text, e, h) (other, f, k) =
+    let same : text ≡ other = cc in
+    sym h.value ∙ ap (digits_value 10) same ∙ k.value
+
+same_line : (name other : Text) (rows others : List Row) (l m : Line) → rows ≡ others → IsReading name rows l → IsReading other others m → l ≡ m
+same_line name other rows others (exec p c f t) (exec q d g u) same h k =
+    let R : List Row → Type 0 = λ r. IsReading other r (exec q d g u) in
+    let k' = subst R (sym same) k in
+    let path : p ≡ q = same_path rows p q h.1 k'.1 in
+    let cycles : c ≡ d = same_number rows (codes "cycles") 1000000000 c d h.2 k'.2 in
+    let from_on : f ≡ g = same_number rows (codes "from") 32767 f g h.3 k'.3 in
+    let up_to : t ≡ u = same_number rows (codes "to") 32767 t u h.4 k'.4 in
+    cc
+
+pub one_line : AreOneLine
+one_line words l m (_, name, rows, found, h) (_, other, others, found', k) =
+    same_line name other rows others l m (same_rows (subcommand_of table words) name other rows others found found') h k

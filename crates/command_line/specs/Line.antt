@@ -1,5 +1,6 @@
 -- The command lines: which words are a line, and what the line asks for.
-use Rattle.std.specs.Prelude.{◌≡◌, ◌≤◌, ℕ, List, [], Option, Some, None, codes}
+use Rattle.std.specs.Prelude.{◌≡◌, ◌≤◌, ℕ, false, List, [], Option, Some, None, codes, nat_eq}
+use Rattle.std.specs.List.{ends_with}
 use Rattle.std.specs.Str.Parse.{IsNumeral, digits_value}
 use Rattle.clap.specs.Walk.{Row, Text, first_of, rows_of}
 use Rattle.clap.specs.Matches.{found_of}
@@ -24,10 +25,19 @@ pub record IsNumber (text : List ℕ) (most n : ℕ) : Type 0 where
 abbrev pub NumberIn : List Row → Text → ℕ → ℕ → Type 0
 NumberIn rows id most n = (text : Text) × (first_of id rows ≡ Some text) × IsNumber text most n
 
+-- The path of an assembly file: it does not end in `.hack`. Files of words, which end so, come with the
+-- assembler.
+pub record IsAssembly (path : Text) : Type 0 where
+  pub no_image : ends_with nat_eq path (codes ".hack") ≡ false
+
+-- The path that stands in the matches is that of an assembly file.
+abbrev pub PathIn : List Row → Text → Type 0
+PathIn rows path = (first_of (codes "path") rows ≡ Some path) × IsAssembly path
+
 -- The matches of the command `name` are those of the line: a case for each row of the table.
 abbrev pub IsReading : Text → List Row → Line → Type 0
 IsReading name rows (exec path cycles from to) =
-    (name ≡ codes "exec") × (first_of (codes "path") rows ≡ Some path)
+    (name ≡ codes "exec") × PathIn rows path
     × NumberIn rows (codes "cycles") 1000000000 cycles
     × NumberIn rows (codes "from") 32767 from × NumberIn rows (codes "to") 32767 to
 
@@ -41,6 +51,10 @@ IsLine words line =
 
 abbrev pub IsNoLine : List Text → Type 0
 IsNoLine words = (line : Line) → ¬ IsLine words line
+
+-- Words are at most one line.
+abbrev pub AreOneLine : Type 0
+AreOneLine = (words : List Text) (line other : Line) → IsLine words line → IsLine words other → line ≡ other
 
 -- The numbers of a line are within their ranges.
 abbrev pub IsInRange : Line → Type 0
@@ -60,6 +74,11 @@ rows_in m = rows_of (found_of m)
 abbrev pub Reads : Text → List Row → Option Request → Type 0
 Reads name rows (Some r) = IsReading name rows (line_of r)
 Reads name rows None = (line : Line) → ¬ IsReading name rows line
+
+-- the same of a path
+abbrev pub ReadsPath : List Row → Option Text → Type 0
+ReadsPath rows (Some path) = PathIn rows path
+ReadsPath rows None = (path : Text) → ¬ PathIn rows path
 
 -- the same of a number
 abbrev pub ReadsNumber : List Row → Text → ℕ → Option ℕ → Type 0

@@ -9,7 +9,7 @@ mod number;
 mod reader;
 mod request;
 
-pub use reader::{LineError, read};
+pub use reader::{LineError, one_line_law, read};
 pub use request::{Exec, Request};
 
 #[cfg(test)]

@@ -1,7 +1,8 @@
 //! The line that words are.
 ghost use Rattle.std.specs.Prelude.{◌≡◌, ◌≤◌, ℕ, List, Some, IfOk, MatchOption, MatchResult, codes, map, option_map, string_bytes};
+ghost use Rattle.std.specs.Bool.{MatchBool};
 ghost use Rattle.clap.specs.Words.{Row, Text, first_of, subcommand_rows_of};
-ghost use Rattle.command_line.specs.Line.{IsInRange, IsLine, IsNoLine, IsReading, Line, Reads, ReadsNumber, line_of, rows_in};
+ghost use Rattle.command_line.specs.Line.{AreOneLine, IsAssembly, IsInRange, IsLine, IsNoLine, IsReading, Line, Reads, ReadsNumber, ReadsPath, line_of, rows_in};
 
 use crate::commands::table;
 use crate::number::number;
@@ -30,6 +31,21 @@ fn text_in<'a>(matches: &ArgMatches<'a>, id: &str) -> Option<&'a str>
     matches.get_str(id)
 }
 
+// Whether a path is that of an assembly file. Files of words come with the assembler.
+fn is_assembly(path: &str) -> bool
+    ensures { MatchBool result (IsAssembly path.now) (IsAssembly path.now → ⊥) }
+{
+    !path.as_bytes().ends_with(b".hack")
+}
+
+// The path that stands for a program.
+fn path_in<'a>(matches: &ArgMatches<'a>) -> Option<&'a str>
+    ensures { ReadsPath (rows_in matches.now) (option_map (λ s. s.now) result) }
+{
+    let path = text_in(matches, "path")?;
+    if is_assembly(path) { Some(path) } else { None }
+}
+
 // The first value of an argument, as a number of at most `most`.
 fn number_in(matches: &ArgMatches<'_>, id: &str, most: u32) -> Option<u32>
     requires { most ≤ 1000000000 }
@@ -41,7 +57,7 @@ fn number_in(matches: &ArgMatches<'_>, id: &str, most: u32) -> Option<u32>
 fn exec<'a>(matches: &ArgMatches<'a>) -> Option<Request<'a>>
     ensures { Reads (codes "exec") (rows_in matches.now) result }
 {
-    let path = text_in(matches, "path")?;
+    let path = path_in(matches)?;
     let Some(cycles) = number_in(matches, "cycles", MOST_CYCLES) else {
         return None;
     };
@@ -101,3 +117,9 @@ pub fn read<'a>(alloc: Global, words: &'a [String]) -> Result<Request<'a>, LineE
         },
     }
 }
+
+/// The law that makes `the line of words` a thing to speak of: no code, only the statement.
+#[tactic(auto, using(crate::proofs::Lines::one_line))]
+pub fn one_line_law()
+    ensures { AreOneLine }
+{}

@@ -22,7 +22,7 @@ fn exec<'a>(path: &'a str, cycles: u32, from: u16, to: u16) -> Request<'a> {
 
 // Lines of `exec`, each as one text: its words stand apart by single spaces, and two spaces have an
 // empty word between them.
-fn exec_lines() -> [(&'static str, Request<'static>); 24] {
+fn exec_lines() -> [(&'static str, Request<'static>); 25] {
     [
         // the options before, after and about the path, in any order, as one word or two
         (
@@ -65,8 +65,12 @@ fn exec_lines() -> [(&'static str, Request<'static>); 24] {
         ),
         // a path is used as it is
         (
-            "exec prog.hack --cycles 1 --from 2 --to 3",
-            exec("prog.hack", 1, 2, 3),
+            "exec prog.hack.asm --cycles 1 --from 2 --to 3",
+            exec("prog.hack.asm", 1, 2, 3),
+        ),
+        (
+            "exec .hac --cycles 1 --from 2 --to 3",
+            exec(".hac", 1, 2, 3),
         ),
         (
             "exec prog/ --cycles 1 --from 2 --to 3",
@@ -98,7 +102,7 @@ fn exec_lines() -> [(&'static str, Request<'static>); 24] {
 }
 
 // Words that are no line of `exec` or of a command that there is.
-fn exec_faults() -> [&'static str; 40] {
+fn exec_faults() -> [&'static str; 43] {
     [
         // `--` ends the options
         "exec --cycles 1 --from 2 --to 3 -- a b",
@@ -115,6 +119,10 @@ fn exec_faults() -> [&'static str; 40] {
         "build prog",
         "run prog",
         "soak 1 2",
+        // a file of words
+        "exec prog.hack --cycles 1 --from 2 --to 3",
+        "exec .hack --cycles 1 --from 2 --to 3",
+        "exec --cycles 1 --from 2 --to 3 -- -.hack",
         // a path too few, too many
         "exec",
         "exec --cycles 1 --from 2 --to 3",

@@ -1,6 +1,6 @@
 //! The machine as a level: each of its moves is one instruction, its control point is the program counter, and
-//! without a map none of its moves is told to be a step of a program's meaning.
-ghost use Rattle.std.specs.Prelude.{true};
+//! without a map none of its moves is told to be a step of a program's meaning. Its program is its image.
+ghost use Rattle.std.specs.Prelude.{true, List, ℕ};
 ghost use Rattle.hack_machine.specs.Loaded.{machine_of};
 ghost use Rattle.hack_machine.specs.Turns.{HasTaken};
 
@@ -22,6 +22,10 @@ impl Level for Hack {
     ghost at_point = { λ h. h.pc };
 
     ghost sure = { true };
+
+    ghost Program = { List ℕ };
+
+    ghost program = { λ h. h.image };
 
     #[inline(always)]
     fn step(&mut self, key: u16) -> Result<Moved, AllocError> {

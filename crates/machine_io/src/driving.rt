@@ -25,12 +25,13 @@ pub enum End {
 }
 
 /// Makes `n` moves, each under its key, or those before the first answer that is no move. After an error the
-/// machine stands where the moves made so far have led.
+/// machine stands where the moves made so far have led. The program stays what it is.
 pub fn drive<L: Level, K: Keyboard>(level: &mut L, keys: &K, n: u64) -> Result<End, AllocError>
     requires { L.count level.old + n ≤ 2 ^ 63 }
     ensures driven { IfOk result (λ end. IsDriven (K.code keys.now) (L.stands level.old) (L.count level.old) n end (L.stands level.new) (L.count level.new)) }
     ensures refused { OnErr result (IsCutShort (K.code keys.now) (L.stands level.old) (L.count level.old) n (L.stands level.new) (L.count level.new)) }
     ensures sure { L.sure ≡ true → IsOk result }
+    ensures program { L.program level.new ≡ L.program level.old }
 {
     for _i in 0..n {
         let key = keys.at(level.moves());

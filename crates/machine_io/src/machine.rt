@@ -51,8 +51,14 @@ pub trait Level {
     /// Whether the machine's step never wants memory.
     ghost sure: { Bool };
 
+    /// What the program of a machine is told by.
+    ghost Program: { Type 0 };
+
+    /// The program that the machine runs.
+    ghost program: { Self → Program };
+
     /// Makes the next move, in which `key` is held. After an error, and after any answer but `Acted`, what can
-    /// be read of the machine is as it was.
+    /// be read of the machine is as it was. The program stays what it is.
     fn step(&mut self, key: u16) -> Result<Moved, AllocError>
         requires { count self.old < 2 ^ 63 }
         ensures stands { IfOk result (λ answer. (turns : List Turn) → stands self.old turns → stands self.new (turns ++ turn key answer ∷ [])) }
@@ -61,7 +67,8 @@ pub trait Level {
         ensures refused { OnErr result ((turns : List Turn) → stands self.old turns → stands self.new turns) }
         ensures refused_count { OnErr result (count self.new ≡ count self.old) }
         ensures refused_still { OnErr result (IsSameReading (word self.old) (committed self.old) (at_point self.old) (word self.new) (committed self.new) (at_point self.new)) }
-        ensures sure { sure ≡ true → IsOk result };
+        ensures sure { sure ≡ true → IsOk result }
+        ensures program { program self.new ≡ program self.old };
 
     /// The number of moves made.
     fn moves(&self) -> u64

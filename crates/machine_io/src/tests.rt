@@ -36,6 +36,10 @@ impl Level for Counter {
 
     ghost sure = { true };
 
+    ghost Program = { ℕ };
+
+    ghost program = { λ r. r.room };
+
     fn step(&mut self, key: u16) -> Result<Moved, AllocError> {
         if key == 0 {
             return Ok(Moved::Stray(Stray::Values));

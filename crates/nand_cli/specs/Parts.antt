@@ -1,6 +1,7 @@
 -- What the parts of a call say; the call's own contract needs none of it.
 use Rattle.std.specs.Prelude.{◌≡◌, ◌++◌, ◌⊎◌, ℕ, List, [], Option, Result, Ok, Err, Vec, codes}
 use Rattle.std.specs.declared.alloc.Global.{Global}
+use Rattle.command_line.specs.Line.{Line}
 use Rattle.outer_world.specs.Faults.{Rose}
 use Rattle.outer_world.specs.Files.{Files, HasFile}
 use Rattle.outer_world.specs.Texts.{fault_line}
@@ -9,7 +10,6 @@ use Rattle.outer_world.specs.declared.sink.Put.{Put}
 use Rattle.outer_world.specs.declared.sink.Put.TheVariants as put
 use Rattle.nand_cli.specs.Answer.{Before, Ends, Prints, Refuses}
 use Rattle.nand_cli.specs.Fault.{refusal_line}
-use Rattle.nand_cli.specs.Line.{Line}
 use Rattle.nand_cli.specs.Plain.{IsPlain}
 use Rattle.nand_cli.specs.declared.command.Status.{Status}
 use Rattle.nand_cli.specs.declared.refusal.Failure.{Failure}

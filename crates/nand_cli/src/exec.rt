@@ -1,15 +1,18 @@
 //! The command `exec`: words of the memory after a run of the instruction machine.
-ghost use Rattle.std.specs.Prelude.{◌≡◌, List, ℕ, Option};
-ghost use Rattle.nand_cli.specs.Line.{exec};
+ghost use Rattle.std.specs.Prelude.{◌≡◌, ◌≤◌, List, ℕ, IfOk, Option, length};
+ghost use Rattle.command_line.specs.Line.{exec};
+ghost use Rattle.hack_isa.specs.Machine.{machine_at};
+ghost use Rattle.hack_machine.specs.Loaded.{machine_of};
 ghost use Rattle.nand_cli.specs.Parts.{Counts, CountsLoad, Does, Loads};
 
-use crate::line::Exec;
-use crate::machine::Hack;
 use crate::plain::program;
 use crate::refusal::{Failure, grammar};
-use crate::text::put_words;
+use command_line::Exec;
+use hack_machine::{Hack, cycles_law};
+use key_script::Keys;
+use machine_io::{Keyboard, drive, show_words};
 use outer_world::{Put, Reading, Shelf, Sink};
-use std::alloc::Global;
+use std::alloc::{AllocError, Global};
 
 const FILE_LIMIT: u32 = 1_048_576;
 
@@ -32,6 +35,23 @@ fn load<F: Shelf>(alloc: Global, path: &str, shelf: &mut F) -> Result<Vec<u16>, 
     }
 }
 
+// The instruction machine after so many cycles, each under its key.
+fn machine_after<K: Keyboard>(
+    alloc: Global,
+    image: &[u16],
+    keys: &K,
+    cycles: u32,
+) -> Result<Hack, AllocError>
+    requires { length image.now ≤ 32768 }
+    ensures { IfOk result (λ hack. machine_of hack ≡ machine_at image.now (K.code keys.now) cycles) }
+{
+    let mut hack = Hack::new(alloc, image)?;
+    // It acts under each key, so all the moves are made.
+    drive(&mut hack, keys, u64::from(cycles))?;
+    cycles_law();
+    Ok(hack)
+}
+
 /// Does a line of `exec`; err is left as it is.
 pub fn answer_exec<F: Shelf, O: Sink>(
     alloc: Global,
@@ -44,8 +64,15 @@ pub fn answer_exec<F: Shelf, O: Sink>(
     ensures kept { F.files shelf.new ≡ F.files shelf.old }
 {
     let program = load(alloc, request.path, shelf)?;
-    let machine = Hack::run(alloc, &program, request.cycles)?;
-    match put_words(&machine, request.from, request.to, out) {
+    let keys = Keys::none(alloc);
+    let hack = machine_after(alloc, &program, &keys, request.cycles)?;
+    match show_words(
+        |a| hack.word_seen(0, a),
+        request.from,
+        request.to,
+        true,
+        out,
+    ) {
         Put::Done => Ok(()),
         Put::Failed => Err(Failure::Write),
     }

@@ -1,20 +1,34 @@
-use Rattle.std.proofs.Common.{[], refl, ap, ◌∙◌}
-use Rattle.hack_isa.specs.Machine.{Machine, machine_at, read}
-use Rattle.nand_cli.specs.State.{seen}
-use Rattle.nand_cli.specs.Text.{words_text}
+use Rattle.std.proofs.Common.{[], refl, ap, true, rules}
+use Rattle.hack_isa.specs.Machine.{Machine, read}
+use Rattle.hack_machine.specs.Loaded.{machine_of}
+use Rattle.machine_io.specs.Words.{words_text}
+use Rattle.outer_world.proofs.Passing.{Got-nothing}
 use Rattle.nand_cli.specs.declared.command.Status.TheVariants as status
+use Rattle.nand_cli.proofs.Driving.{without_keys}
 use Rattle.nand_cli.proofs.Saying.{GotPart-none}
 use Rattle.nand_cli.proofs.exec.answer_exec.Goals as goal
+
+pub returns-in-Done-clause-does : goal.returns-in-Done-clause-does
+returns-in-Done-clause-does g c = λ err.
+    let request = c.args.request.now in
+    let loaded = c.in_ok-program.ensures.loads in
+    let ran = without_keys _ _ _ request.cycles (machine_of c.in_ok-hack.hack) c.in_ok-hack.ensures c.deref.ensures.value c.none-keys.ensures in (
+      words_text (read (machine_of c.in_ok-hack.hack).memory 0) true request.from request.to,
+      [],
+      (loaded.0, c.in_ok-program.program.items, loaded.1, loaded.2, ap (λ (m : Machine). words_text (read m.memory 0) true request.from request.to) ran, refl),
+      c.in-Done.ensures.put (read (machine_of c.in_ok-hack.hack).memory 0) (λ a w from_on up_to p. search rules),
+      Got-nothing err,
+    )
 
 pub returns-clause-does : goal.returns-clause-does
 returns-clause-does g c = λ err.
     let request = c.args.request.now in
     let loaded = c.in_ok-program.ensures.loads in
-    let ran = c.in_ok-machine.ensures ∙ ap (λ p. machine_at p (λ _. 0) request.cycles) c.deref.ensures.value in (
+    let ran = without_keys _ _ _ request.cycles (machine_of c.in_ok-hack.hack) c.in_ok-hack.ensures c.deref.ensures.value c.none-keys.ensures in (
       status.Done,
-      words_text (read (seen c.in_ok-machine.machine).memory 0) request.from request.to,
+      words_text (read (machine_of c.in_ok-hack.hack).memory 0) true request.from request.to,
       [],
-      (loaded.0, c.in_ok-program.program.items, loaded.1, loaded.2, ap (λ (m : Machine). words_text (read m.memory 0) request.from request.to) ran, refl),
-      c.in-Failed.ensures.put,
+      (loaded.0, c.in_ok-program.program.items, loaded.1, loaded.2, ap (λ (m : Machine). words_text (read m.memory 0) true request.from request.to) ran, refl),
+      c.in-Failed.ensures.put (read (machine_of c.in_ok-hack.hack).memory 0) (λ a w from_on up_to p. search rules),
       GotPart-none _ _,
     )

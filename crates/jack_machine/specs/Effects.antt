@@ -1,0 +1,48 @@
+-- What the first statement of a text does once its parts are values, by the meaning.
+use Rattle.std.specs.Prelude.{◌≡◌, ℕ, List, Bool, true, false, Option, Some, None}
+use Rattle.word16.specs.Words.{word_add}
+use Rattle.jack_meaning.specs.Text.{Statement, Let, LetField, LetThis, Store, Do, If, While, Return, Text, End, Next, joined}
+use Rattle.jack_meaning.specs.Expressions.{value_of}
+use Rattle.jack_meaning.specs.Meaning.{Frame, State, Outcome, Done, assigned, stored, passed_over, returned, chosen}
+use Rattle.jack_machine.specs.Reading.{the_variable}
+use Rattle.jack_machine.specs.Rests.{chosen_text, text_tail}
+use Rattle.jack_machine.specs.declared.effects.Effect.{Effect}
+
+-- loops are read as choices before they are looked at
+abbrev pub is_no_loop : Statement → Bool
+is_no_loop (While n c s) = false
+is_no_loop _ = true
+
+abbrev pub begins_no_loop : Text → Bool
+begins_no_loop (Next s rest) = is_no_loop s
+begins_no_loop End = true
+
+-- what the meaning makes of a statement whose parts are values
+abbrev pub act_of : State → Frame → List Frame → Statement → Text → Outcome
+act_of s f below (Let n x e) rest = assigned s f below rest x (value_of e)
+act_of s f below (LetField n k e) rest = stored s f below rest (word_add f.this k) (value_of e)
+act_of s f below (LetThis n e) rest = passed_over s (record f { this = value_of e }) below rest
+act_of s f below (Store n a i e) rest = stored s f below rest (word_add (value_of a) (value_of i)) (value_of e)
+act_of s f below (Do n e) rest = passed_over s f below rest
+act_of s f below (If n c a b) rest = passed_over s f below (joined (chosen (value_of c) a b) rest)
+act_of s f below (While n c a) rest = Done
+act_of s f below (Return n e) rest = returned s below (value_of e)
+
+-- the same, told by its effect on a text
+abbrev pub outcome_on : State → Frame → List Frame → Text → Effect → Outcome
+outcome_on s f below text (Effect.Assigns x w) = assigned s f below (text_tail text) (the_variable x) w
+outcome_on s f below text (Effect.Stores a w) = stored s f below (text_tail text) a w
+outcome_on s f below text (Effect.SetsThis w) = passed_over s (record f { this = w }) below (text_tail text)
+outcome_on s f below text Effect.Drops = passed_over s f below (text_tail text)
+outcome_on s f below text (Effect.Chooses w) = passed_over s f below (chosen_text w text)
+outcome_on s f below text (Effect.Returns w) = returned s below w
+
+abbrev pub HasEffect : ℕ → Statement → Effect → Type 0
+HasEffect this t effect =
+    (s : State) (f : Frame) (below : List Frame) (rest : Text) → f.this ≡ this → act_of s f below t rest ≡ outcome_on s f below (Next t rest) effect
+
+abbrev pub FirstHas : ℕ → Text → Option Effect → Type 0
+FirstHas this End None = Unit {0}
+FirstHas this (Next t rest) (Some effect) = HasEffect this t effect
+FirstHas this End (Some effect) = ⊥
+FirstHas this (Next t rest) None = ⊥

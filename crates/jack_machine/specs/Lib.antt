@@ -1,0 +1,10 @@
+pub mod Reading
+pub mod Looks
+pub mod Texts
+pub mod Advances
+pub mod Rests
+pub mod Effects
+pub mod Frames
+pub mod Loops
+pub mod Machine
+pub mod Whole

@@ -1,0 +1,32 @@
+-- What the whole machine stands for.
+use Rattle.std.specs.Prelude.{◌≡◌, ℕ, Bool, true, false, List, [], ◌∷◌, map, reverse, replicate}
+use Rattle.jack_meaning.specs.Text.{Subroutine}
+use Rattle.jack_meaning.specs.Meaning.{Frame, this_of, filled_text}
+use Rattle.jack_machine.specs.Rests.{opened_text}
+use Rattle.jack_machine.specs.Frames.{the_frame}
+use Rattle.jack_machine.specs.declared.frames.Frame.{Frame as FrameTree}
+
+-- the frames of a vector, the last one first
+abbrev pub the_stack : List FrameTree → List Frame
+the_stack fs = reverse (map the_frame fs)
+
+-- the frame of a call
+abbrev pub entered_frame : ℕ → Subroutine → List ℕ → Frame
+entered_frame g sub xs = record {
+  subroutine = g;
+  arguments = xs;
+  locals = replicate sub.locals 0;
+  this = this_of sub.kind xs;
+  text = sub.body;
+}
+
+-- the old top frame waits below the new one, with its call open
+pub record IsEntered (top : FrameTree) (below : List FrameTree) (entered top' : FrameTree) (below' : List FrameTree) : Type 0 where
+  pub on_top : top' ≡ entered
+  pub waiting : the_stack below' ≡ record (the_frame top) { text = opened_text (the_frame top).text } ∷ the_stack below
+
+-- the caller goes on with the value, or there is none
+abbrev pub IsReturned : ℕ → FrameTree → List FrameTree → Bool → FrameTree → List FrameTree → Type 0
+IsReturned w top below true top' below' =
+    (f : Frame) × (the_stack below ≡ f ∷ the_stack below') × (the_frame top' ≡ record f { text = filled_text w f.text })
+IsReturned w top below false top' below' = (the_stack below ≡ []) × (the_stack below' ≡ []) × (top' ≡ top)

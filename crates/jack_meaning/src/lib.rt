@@ -1,0 +1,20 @@
+//! The meaning of Jack programs: what each step of a program does, before any compiler or machine.
+//!
+//! The definitions are in `specs/`: `Text` (programs), `Words` (operators), `Expressions` and `Meaning` (the step),
+//! `StackWords` (the room that calls want), `Level` (the meaning as a machine that moves in steps, and its runs over
+//! keys), `Laws` and `Rows`. The two functions here do nothing; their contracts say what holds of the definitions.
+#![tactic(auto)]
+
+ghost use Rattle.jack_meaning.specs.Laws.{MeaningLaw};
+ghost use Rattle.jack_meaning.specs.Rows.{RowsLaw};
+
+/// A step that does not hear the key is the same under every key, a program that has come to its end makes no step
+/// under any key, and the start is at `start 1`.
+pub fn meaning_law()
+    ensures { MeaningLaw }
+{}
+
+/// Small programs make the steps that the book's chapters 9 and 12 say.
+pub fn rows_law()
+    ensures { RowsLaw }
+{}

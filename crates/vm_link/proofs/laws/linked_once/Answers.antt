@@ -1,0 +1,5 @@
+use Rattle.vm_link.proofs.Once as once
+use Rattle.vm_link.proofs.laws.linked_once.Goals as goal
+
+pub returns : goal.returns
+returns c = λ bare files l m a b. once.linked_once bare files l m a b

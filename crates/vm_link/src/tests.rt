@@ -1,0 +1,150 @@
+use super::*;
+use outer_world::Name;
+use std::alloc::Global;
+use std::test::*;
+use vm_tree::{Command, File, Function, Line, List, Program, Segment};
+
+fn name(alloc: Global, text: &str) -> Result<Name, Fail> {
+    Ok(Name::new(alloc, text).ok().ok_or("memory")?)
+}
+
+fn add(lines: &mut List<Line>, command: Command) -> Result<(), Fail> {
+    let line = Line {
+        command,
+        statement: 0,
+        commit: false,
+    };
+    lines.push(line).ok().ok_or("memory")?;
+    Ok(())
+}
+
+fn function(alloc: Global, text: &str, lines: List<Line>) -> Result<Function, Fail> {
+    Ok(Function {
+        name: name(alloc, text)?,
+        locals: 0,
+        lines,
+    })
+}
+
+// A program of one file `Sys`, with Sys.init of these lines and another function.
+fn program(alloc: Global, lines: List<Line>, more: Option<Function>) -> Result<Program, Fail> {
+    let mut functions = List::new(alloc);
+    functions
+        .push(function(alloc, "Sys.init", lines)?)
+        .ok()
+        .ok_or("memory")?;
+    if let Some(function) = more {
+        functions.push(function).ok().ok_or("memory")?;
+    }
+    let mut files = List::new(alloc);
+    files
+        .push(File {
+            name: name(alloc, "Sys")?,
+            opening: List::new(alloc),
+            functions,
+        })
+        .ok()
+        .ok_or("memory")?;
+    Ok(files)
+}
+
+#[test]
+fn empty_program(rt: HostRuntime) {
+    assert!(rt;
+        matches!(
+            link(rt.alloc(), List::new(rt.alloc()), false),
+            Err(LinkFault::NoSysInit)
+        )
+    );
+    assert!(rt; matches!(link(rt.alloc(), List::new(rt.alloc()), true), Ok(_)));
+}
+
+#[test]
+fn function_that_is_not_there(rt: HostRuntime) -> Result<(), Fail> {
+    let mut lines = List::new(rt.alloc());
+    add(&mut lines, Command::Call(name(rt.alloc(), "A.f")?, 0))?;
+    let program = program(rt.alloc(), lines, None)?;
+    let Err(LinkFault::NoFunction(name)) = link(rt.alloc(), program, false) else {
+        return Err(Fail::from("another answer"));
+    };
+    assert_eq!(rt; name.as_str(), "A.f");
+    Ok(())
+}
+
+#[test]
+fn label_that_is_not_there(rt: HostRuntime) -> Result<(), Fail> {
+    let mut lines = List::new(rt.alloc());
+    add(&mut lines, Command::Goto(name(rt.alloc(), "X")?))?;
+    let program = program(rt.alloc(), lines, None)?;
+    let Err(LinkFault::NoLabel(label)) = link(rt.alloc(), program, false) else {
+        return Err(Fail::from("another answer"));
+    };
+    assert_eq!(rt; label.as_str(), "X");
+    Ok(())
+}
+
+#[test]
+fn label_that_stands_twice(rt: HostRuntime) -> Result<(), Fail> {
+    let mut lines = List::new(rt.alloc());
+    add(&mut lines, Command::Label(name(rt.alloc(), "X")?))?;
+    add(&mut lines, Command::Label(name(rt.alloc(), "X")?))?;
+    let program = program(rt.alloc(), lines, None)?;
+    let Err(LinkFault::LabelTwice(label)) = link(rt.alloc(), program, false) else {
+        return Err(Fail::from("another answer"));
+    };
+    assert_eq!(rt; label.as_str(), "X");
+    Ok(())
+}
+
+#[test]
+fn function_twice_defined(rt: HostRuntime) -> Result<(), Fail> {
+    let again = function(rt.alloc(), "Sys.init", List::new(rt.alloc()))?;
+    let program = program(rt.alloc(), List::new(rt.alloc()), Some(again))?;
+    let Err(LinkFault::TwiceDefined(name)) = link(rt.alloc(), program, false) else {
+        return Err(Fail::from("another answer"));
+    };
+    assert_eq!(rt; name.as_str(), "Sys.init");
+    Ok(())
+}
+
+#[test]
+fn statics(rt: HostRuntime) -> Result<(), Fail> {
+    let mut lines = List::new(rt.alloc());
+    add(&mut lines, Command::Push(Segment::Static, 239))?;
+    add(&mut lines, Command::Label(name(rt.alloc(), "E")?))?;
+    add(&mut lines, Command::Goto(name(rt.alloc(), "E")?))?;
+    let few = program(rt.alloc(), lines, None)?;
+    let linked = link(rt.alloc(), few, false).ok().ok_or("a fault")?;
+    assert_eq!(rt; linked.files.as_slice()[0].statics, 240);
+    let mut more = List::new(rt.alloc());
+    add(&mut more, Command::Push(Segment::Static, 240))?;
+    let many = program(rt.alloc(), more, None)?;
+    assert!(rt;
+        matches!(
+            link(rt.alloc(), many, false),
+            Err(LinkFault::TooManyStatics(241))
+        )
+    );
+    Ok(())
+}
+
+// A function that is not reached is dropped, and its missing callee is no fault.
+#[test]
+fn dropped_function(rt: HostRuntime) -> Result<(), Fail> {
+    let mut lines = List::new(rt.alloc());
+    add(&mut lines, Command::Label(name(rt.alloc(), "E")?))?;
+    add(&mut lines, Command::Push(Segment::Constant, 7))?;
+    add(&mut lines, Command::Goto(name(rt.alloc(), "E")?))?;
+    let mut calls = List::new(rt.alloc());
+    add(&mut calls, Command::Call(name(rt.alloc(), "A.f")?, 0))?;
+    let other = function(rt.alloc(), "Sys.other", calls)?;
+    let program = program(rt.alloc(), lines, Some(other))?;
+    let linked = link(rt.alloc(), program, false).ok().ok_or("a fault")?;
+    assert_eq!(rt; linked.functions.as_slice().len(), 1);
+    let code = linked.functions.as_slice()[0].code.as_slice();
+    assert_eq!(rt; code.len(), 3);
+    assert_eq!(rt; code[0].step, Step::Function(0));
+    assert_eq!(rt; code[2].step, Step::Goto(1));
+    assert_eq!(rt; linked.start, Some(0));
+    Ok(())
+}

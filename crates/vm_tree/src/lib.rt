@@ -1,0 +1,15 @@
+//! VM text as a tree: programs, files, functions and commands.
+#![tactic(auto)]
+
+mod command;
+mod list;
+mod printing;
+mod program;
+
+pub use command::{Command, Line, Operation, Segment};
+pub use list::List;
+pub use printing::print;
+pub use program::{File, Function, Program};
+
+#[cfg(test)]
+mod tests;

@@ -1,0 +1,169 @@
+//! The printed form of programs.
+ghost use Rattle.std.specs.Prelude.{◌≡◌, ◌++◌, ◌∷◌, [], take};
+ghost use Rattle.outer_world.specs.Written.{CountsPut, Passes, Puts};
+ghost use Rattle.vm_tree.specs.Printed.{command_text, file_text, function_text, functions_text, lines_text, operation_text, program_text, segment_text, with_number};
+
+use crate::{Command, File, Function, Line, Operation, Program, Segment};
+use itoa::Buffer;
+use outer_world::{Pieces, Put, Sink};
+
+fn operation_text(operation: Operation) -> &'static str
+    ensures { result.now ≡ operation_text operation }
+{
+    match operation {
+        Operation::Add => "add",
+        Operation::Sub => "sub",
+        Operation::Neg => "neg",
+        Operation::Eq => "eq",
+        Operation::Gt => "gt",
+        Operation::Lt => "lt",
+        Operation::And => "and",
+        Operation::Or => "or",
+        Operation::Not => "not",
+    }
+}
+
+fn segment_text(segment: Segment) -> &'static str
+    ensures { result.now ≡ segment_text segment }
+{
+    match segment {
+        Segment::Argument => "argument",
+        Segment::Local => "local",
+        Segment::Static => "static",
+        Segment::Constant => "constant",
+        Segment::This => "this",
+        Segment::That => "that",
+        Segment::Pointer => "pointer",
+        Segment::Temp => "temp",
+    }
+}
+
+// Two words and a number, with the end of the line.
+fn put_with_number<S: Sink>(first: &[u8], second: &str, number: u16, out: &mut Pieces<'_, S>) -> Put
+    ensures same_sink { out.new.sink.ghost_name ≡ out.old.sink.ghost_name }
+    ensures passes { Passes (S.written out.old.sink.now) (take out.old.len out.old.buffer) (S.written out.new.sink.now) (take out.new.len out.new.buffer) (with_number first.now second.now number) result }
+    ensures counts { CountsPut (S.faults out.old.sink.now) (S.faults out.new.sink.now) result }
+{
+    let mut digits = Buffer::new();
+    out.put_all(&[first, second.as_bytes(), b" ", digits.format(number).as_bytes(), b"\n"])
+}
+
+// A word after another, with the end of the line.
+fn put_word<S: Sink>(first: &[u8], second: &str, out: &mut Pieces<'_, S>) -> Put
+    ensures same_sink { out.new.sink.ghost_name ≡ out.old.sink.ghost_name }
+    ensures passes { Passes (S.written out.old.sink.now) (take out.old.len out.old.buffer) (S.written out.new.sink.now) (take out.new.len out.new.buffer) (first.now ++ (second.now ++ 10 ∷ [])) result }
+    ensures counts { CountsPut (S.faults out.old.sink.now) (S.faults out.new.sink.now) result }
+{
+    out.put_all(&[first, second.as_bytes(), b"\n"])
+}
+
+fn put_command<S: Sink>(command: &Command, out: &mut Pieces<'_, S>) -> Put
+    ensures same_sink { out.new.sink.ghost_name ≡ out.old.sink.ghost_name }
+    ensures passes { Passes (S.written out.old.sink.now) (take out.old.len out.old.buffer) (S.written out.new.sink.now) (take out.new.len out.new.buffer) (command_text command.now) result }
+    ensures counts { CountsPut (S.faults out.old.sink.now) (S.faults out.new.sink.now) result }
+{
+    match command {
+        Command::Operate(operation) => put_word(b"", operation_text(*operation), out),
+        Command::Push(segment, index) => put_with_number(b"push ", segment_text(*segment), *index, out),
+        Command::Pop(segment, index) => put_with_number(b"pop ", segment_text(*segment), *index, out),
+        Command::Label(label) => put_word(b"label ", label.as_str(), out),
+        Command::Goto(label) => put_word(b"goto ", label.as_str(), out),
+        Command::IfGoto(label) => put_word(b"if-goto ", label.as_str(), out),
+        Command::Call(name, arguments) => put_with_number(b"call ", name.as_str(), *arguments, out),
+        Command::Return => out.put_all(&[b"return\n"]),
+    }
+}
+
+fn put_line<S: Sink>(line: &Line, out: &mut Pieces<'_, S>) -> Put
+    ensures same_sink { out.new.sink.ghost_name ≡ out.old.sink.ghost_name }
+    ensures passes { Passes (S.written out.old.sink.now) (take out.old.len out.old.buffer) (S.written out.new.sink.now) (take out.new.len out.new.buffer) (command_text line.now.command) result }
+    ensures counts { CountsPut (S.faults out.old.sink.now) (S.faults out.new.sink.now) result }
+{
+    put_command(&line.command, out)
+}
+
+fn put_lines<S: Sink>(lines: &[Line], out: &mut Pieces<'_, S>) -> Put
+    ensures same_sink { out.new.sink.ghost_name ≡ out.old.sink.ghost_name }
+    ensures passes { Passes (S.written out.old.sink.now) (take out.old.len out.old.buffer) (S.written out.new.sink.now) (take out.new.len out.new.buffer) (lines_text lines.now) result }
+    ensures counts { CountsPut (S.faults out.old.sink.now) (S.faults out.new.sink.now) result }
+{
+    for line in lines {
+        match put_line(line, out) {
+            Put::Done => {}
+            Put::Failed => return Put::Failed,
+        }
+    }
+    Put::Done
+}
+
+fn put_function<S: Sink>(function: &Function, out: &mut Pieces<'_, S>) -> Put
+    ensures same_sink { out.new.sink.ghost_name ≡ out.old.sink.ghost_name }
+    ensures passes { Passes (S.written out.old.sink.now) (take out.old.len out.old.buffer) (S.written out.new.sink.now) (take out.new.len out.new.buffer) (function_text function.now) result }
+    ensures counts { CountsPut (S.faults out.old.sink.now) (S.faults out.new.sink.now) result }
+{
+    match put_with_number(b"function ", function.name.as_str(), function.locals, out) {
+        Put::Done => put_lines(function.lines.as_slice(), out),
+        Put::Failed => Put::Failed,
+    }
+}
+
+fn put_functions<S: Sink>(functions: &[Function], out: &mut Pieces<'_, S>) -> Put
+    ensures same_sink { out.new.sink.ghost_name ≡ out.old.sink.ghost_name }
+    ensures passes { Passes (S.written out.old.sink.now) (take out.old.len out.old.buffer) (S.written out.new.sink.now) (take out.new.len out.new.buffer) (functions_text functions.now) result }
+    ensures counts { CountsPut (S.faults out.old.sink.now) (S.faults out.new.sink.now) result }
+{
+    for function in functions {
+        match put_function(function, out) {
+            Put::Done => {}
+            Put::Failed => return Put::Failed,
+        }
+    }
+    Put::Done
+}
+
+fn put_file<S: Sink>(file: &File, out: &mut Pieces<'_, S>) -> Put
+    ensures same_sink { out.new.sink.ghost_name ≡ out.old.sink.ghost_name }
+    ensures passes { Passes (S.written out.old.sink.now) (take out.old.len out.old.buffer) (S.written out.new.sink.now) (take out.new.len out.new.buffer) (file_text file.now) result }
+    ensures counts { CountsPut (S.faults out.old.sink.now) (S.faults out.new.sink.now) result }
+{
+    match put_lines(file.opening.as_slice(), out) {
+        Put::Done => put_functions(file.functions.as_slice(), out),
+        Put::Failed => Put::Failed,
+    }
+}
+
+fn put_files<S: Sink>(files: &[File], out: &mut Pieces<'_, S>) -> Put
+    ensures same_sink { out.new.sink.ghost_name ≡ out.old.sink.ghost_name }
+    ensures passes { Passes (S.written out.old.sink.now) (take out.old.len out.old.buffer) (S.written out.new.sink.now) (take out.new.len out.new.buffer) (program_text files.now) result }
+    ensures counts { CountsPut (S.faults out.old.sink.now) (S.faults out.new.sink.now) result }
+{
+    for file in files {
+        match put_file(file, out) {
+            Put::Done => {}
+            Put::Failed => return Put::Failed,
+        }
+    }
+    Put::Done
+}
+
+// The same with an empty buffer before, and after.
+fn put_program<S: Sink>(program: &Program, out: &mut Pieces<'_, S>) -> Put
+    requires { take out.old.len out.old.buffer ≡ [] }
+    ensures same_sink { out.new.sink.ghost_name ≡ out.old.sink.ghost_name }
+    ensures put { Puts (S.written out.old.sink.now) (S.written out.new.sink.now) (program_text program.now) result }
+    ensures counts { CountsPut (S.faults out.old.sink.now) (S.faults out.new.sink.now) result }
+{
+    match put_files(program.as_slice(), out) {
+        Put::Done => out.finish(),
+        Put::Failed => Put::Failed,
+    }
+}
+
+/// Prints a program: one command a line, its words with one space between them.
+pub fn print<S: Sink>(program: &Program, out: &mut S) -> Put
+    ensures put { Puts (S.written out.old) (S.written out.new) (program_text program.now) result }
+    ensures counts { CountsPut (S.faults out.old) (S.faults out.new) result }
+{
+    let mut pieces = Pieces::new(out);
+    put_program(program, &mut pieces)
+}
