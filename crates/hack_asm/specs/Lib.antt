@@ -1,2 +1,5 @@
 pub mod Roles
 pub mod Tokens
+pub mod Assembly
+pub mod Lines
+pub mod Before

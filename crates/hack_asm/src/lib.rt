@@ -2,4 +2,6 @@
 #![tactic(auto)]
 
 mod lexer;
+mod lines;
 mod token;
+mod words;
