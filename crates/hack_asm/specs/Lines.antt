@@ -1,5 +1,5 @@
 -- The lines of an assembly text.
-use Rattle.std.specs.Prelude.{ℕ, List, [], ◌∷◌, Option, Some, None}
+use Rattle.std.specs.Prelude.{ℕ, List, [], ◌∷◌, Option, Some, None, option_map}
 use Rattle.scan_text.specs.declared.Place.{Place}
 use Rattle.grammar.specs.declared.Fault.{Fault}
 use Rattle.grammar.specs.Rules.{Tree, Skip, Leaf, Pair, Left, Right, Absent, Present, NoMore, listed}
@@ -10,34 +10,59 @@ use Rattle.hack_asm.specs.declared.token.Letter.{Letter}
 use Rattle.hack_asm.specs.declared.token.Letter.TheVariants.{Zero, One, A, D, M}
 use Rattle.hack_asm.specs.declared.token.Operator.{Operator}
 use Rattle.hack_asm.specs.declared.token.Operator.TheVariants.{Plus, Minus, And, Or}
+use Rattle.hack_asm.specs.declared.lines.Prefix.{Prefix}
+use Rattle.hack_asm.specs.declared.lines.Prefix.TheVariants as prefix
 use Rattle.hack_asm.specs.declared.lines.Comp.{Comp}
 use Rattle.hack_asm.specs.declared.lines.Comp.TheVariants as comp
 use Rattle.hack_asm.specs.declared.lines.Dest.{Dest}
 use Rattle.hack_asm.specs.declared.lines.Dest.TheVariants as dest
-use Rattle.hack_asm.specs.declared.lines.Line as declared
-use Rattle.hack_asm.specs.declared.lines.Line.TheVariants as line
+use Rattle.hack_asm.specs.declared.lines.Compute.{Compute}
+use Rattle.hack_asm.specs.declared.lines.Symbol as symbols
+use Rattle.hack_asm.specs.declared.lines.Address as addresses
+use Rattle.hack_asm.specs.declared.lines.Address.TheVariants as address_case
+use Rattle.hack_asm.specs.declared.lines.Item as items
+use Rattle.hack_asm.specs.declared.lines.Item.TheVariants as item_case
 
--- a line, without where its symbol lies in memory
-pub data Line : Type 0 where
-  blank : Line
-  label : List ℕ → Place → Line
-  number : ℕ → Line
-  symbol : List ℕ → Place → Line
-  compute : Dest → Comp → Option ℕ → Line
+-- a symbol, an address and an item without where the name lies in memory
 
-abbrev pub line_of : declared.Line → Line
-line_of line.Blank = blank
-line_of (line.Label s) = label s.name.now s.place
-line_of (line.Number n) = number n
-line_of (line.Symbol s) = symbol s.name.now s.place
-line_of (line.Compute d c j) = compute d c j
+pub record Symbol : Type 0 where
+  pub name : List ℕ
+  pub place : Place
+
+pub data Address : Type 0 where
+  number : ℕ → Address
+  symbol : Symbol → Address
+
+pub data Item : Type 0 where
+  label : Symbol → Item
+  address : Address → Item
+  compute : Compute → Item
+
+abbrev pub symbol_of : symbols.Symbol → Symbol
+symbol_of s = record { name = s.name.now; place = s.place }
+
+abbrev pub address_of : addresses.Address → Address
+address_of (address_case.Number n) = number n
+address_of (address_case.Symbol s) = symbol (symbol_of s)
+
+abbrev pub item_of : items.Item → Item
+item_of (item_case.Label s) = label (symbol_of s)
+item_of (item_case.Address a) = address (address_of a)
+item_of (item_case.Compute c) = compute c
+
+-- A line is an item or blank.
+abbrev pub Line : Type 0
+Line = Option Item
+
+abbrev pub line_of : Option items.Item → Line
+line_of l = option_map item_of l
 
 -- Trees
 
 abbrev pub AsmTree : Type 0
 AsmTree = Tree Said
 
--- the branch of a letter, and of none
+-- the branch of a letter, with what stands behind it, and that of no letter
 abbrev pub branch : Letter → AsmTree → AsmTree
 branch Zero t = Left (Pair Skip t)
 branch One t = Right (Left (Pair Skip t))
@@ -54,37 +79,45 @@ operation_tree Minus y = Left (Pair (Leaf (Operator' Minus)) (Leaf (Letter' y)))
 operation_tree And y = Right (Pair (Leaf (Operator' And)) (Leaf (Letter' y)))
 operation_tree Or y = Right (Pair (Leaf (Operator' Or)) (Leaf (Letter' y)))
 
+abbrev pub unary_tree : Prefix → Letter → AsmTree
+unary_tree prefix.Minus y = Left (Pair Skip (Leaf (Letter' y)))
+unary_tree prefix.Not y = Right (Pair Skip (Leaf (Letter' y)))
+
 abbrev pub comp_tree : Comp → AsmTree
 comp_tree (comp.Alone x) = branch x Absent
 comp_tree (comp.Pair x op y) = branch x (Present (operation_tree op y))
-comp_tree (comp.Negated x) = other (Left (Pair Skip (Leaf (Letter' x))))
-comp_tree (comp.Inverted x) = other (Right (Pair Skip (Leaf (Letter' x))))
+comp_tree (comp.Under p y) = other (unary_tree p y)
 
--- a computation without destination, where it might have had one
-abbrev pub bare_tree : Comp → AsmTree
-bare_tree (comp.Alone x) = branch x Absent
-bare_tree (comp.Pair x op y) = branch x (Present (Right (operation_tree op y)))
-bare_tree (comp.Negated x) = other (Left (Pair Skip (Leaf (Letter' x))))
-bare_tree (comp.Inverted x) = other (Right (Pair Skip (Leaf (Letter' x))))
+-- a computation that may have had one register as its destination
+abbrev pub bare_tree : Option Letter → Comp → AsmTree
+bare_tree None (comp.Alone x) = branch x Absent
+bare_tree None (comp.Pair x op y) = branch x (Present (Right (operation_tree op y)))
+bare_tree None (comp.Under p y) = other (unary_tree p y)
+bare_tree (Some x) c = branch x (Present (Left (Pair Skip (comp_tree c))))
 
 abbrev pub assigned_tree : Dest → Comp → AsmTree
-assigned_tree dest.Nowhere c = Right (bare_tree c)
-assigned_tree (dest.To x) c = Right (branch x (Present (Left (Pair Skip (comp_tree c)))))
+assigned_tree (dest.Register d) c = Right (bare_tree d c)
 assigned_tree (dest.Several bits) c = Left (Pair (Leaf (Several bits)) (Pair Skip (comp_tree c)))
 
 abbrev pub jump_tree : Option ℕ → AsmTree
 jump_tree None = Absent
 jump_tree (Some bits) = Present (Pair Skip (Leaf (Jump bits)))
 
-abbrev pub content_tree : Line → AsmTree
-content_tree blank = Absent
-content_tree (label s at) = Present (Left (Pair Skip (Pair (Leaf (Name s at)) Skip)))
-content_tree (number n) = Present (Right (Left (Pair Skip (Left (Leaf (Number n))))))
-content_tree (symbol s at) = Present (Right (Left (Pair Skip (Right (Leaf (Name s at))))))
-content_tree (compute d c j) = Present (Right (Right (Pair (assigned_tree d c) (jump_tree j))))
+abbrev pub compute_tree : Compute → AsmTree
+compute_tree c = Pair (assigned_tree c.dest c.comp) (jump_tree c.jump)
+
+abbrev pub address_tree : Address → AsmTree
+address_tree (number n) = Pair Skip (Left (Leaf (Number n)))
+address_tree (symbol s) = Pair Skip (Right (Leaf (Name s.name s.place)))
+
+abbrev pub item_tree : Item → AsmTree
+item_tree (label s) = Left (Pair Skip (Pair (Leaf (Name s.name s.place)) Skip))
+item_tree (address a) = Right (Left (address_tree a))
+item_tree (compute c) = Right (Right (compute_tree c))
 
 abbrev pub line_tree : Line → AsmTree
-line_tree l = Pair (content_tree l) Skip
+line_tree None = Pair Absent Skip
+line_tree (Some i) = Pair (Present (item_tree i)) Skip
 
 abbrev pub lines_tree : List Line → AsmTree
 lines_tree ls = listed line_tree ls NoMore

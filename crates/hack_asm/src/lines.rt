@@ -1,21 +1,34 @@
 use crate::token::{Letter, Operator};
 use scan_text::Place;
 
+/// `-` or `!` before a letter.
+#[derive(Clone, Copy, Debug)]
+pub enum Prefix {
+    Minus,
+    Not,
+}
+
 /// A computation as it is written.
 #[derive(Clone, Copy, Debug)]
 pub enum Comp {
     Alone(Letter),
     Pair(Letter, Operator, Letter),
-    Negated(Letter),
-    Inverted(Letter),
+    Under(Prefix, Letter),
 }
 
-/// Where a computation goes: nowhere, to one register, or to several, told by their bits.
+/// Where a computation goes: to one register at most, or to several, told by their bits.
 #[derive(Clone, Copy, Debug)]
 pub enum Dest {
-    Nowhere,
-    To(Letter),
+    Register(Option<Letter>),
     Several(u8),
+}
+
+/// A computation with its destination and the bits of its jump.
+#[derive(Clone, Copy, Debug)]
+pub struct Compute {
+    pub dest: Dest,
+    pub comp: Comp,
+    pub jump: Option<u8>,
 }
 
 /// A symbol, and the place where it stands.
@@ -25,12 +38,17 @@ pub struct Symbol<'a> {
     pub place: Place,
 }
 
-/// A line: nothing, a label, `@` and a number or a symbol, or a computation with the bits of its jump.
+/// What stands behind `@`.
 #[derive(Clone, Copy, Debug)]
-pub enum Line<'a> {
-    Blank,
-    Label(Symbol<'a>),
+pub enum Address<'a> {
     Number(u16),
     Symbol(Symbol<'a>),
-    Compute(Dest, Comp, Option<u8>),
+}
+
+/// What stands on a line that is not blank.
+#[derive(Clone, Copy, Debug)]
+pub enum Item<'a> {
+    Label(Symbol<'a>),
+    Address(Address<'a>),
+    Compute(Compute),
 }
