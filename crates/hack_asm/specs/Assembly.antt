@@ -253,7 +253,7 @@ abbrev pub content : Part
 content = choice label instruction
 
 abbrev pub line : Part
-line = seq (option content) line_end
+line = choice line_end (seq content line_end)
 
 abbrev pub lines : Part
 lines = repeat line

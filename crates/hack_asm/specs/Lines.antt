@@ -116,8 +116,8 @@ item_tree (address a) = Right (Left (address_tree a))
 item_tree (compute c) = Right (Right (compute_tree c))
 
 abbrev pub line_tree : Line → AsmTree
-line_tree None = Pair Absent Skip
-line_tree (Some i) = Pair (Present (item_tree i)) Skip
+line_tree None = Left Skip
+line_tree (Some i) = Right (Pair (item_tree i) Skip)
 
 abbrev pub lines_tree : List Line → AsmTree
 lines_tree ls = listed line_tree ls NoMore

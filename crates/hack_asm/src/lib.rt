@@ -3,5 +3,6 @@
 
 mod lexer;
 mod lines;
+mod rules;
 mod token;
 mod words;

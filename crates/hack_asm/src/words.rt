@@ -204,6 +204,16 @@ pub fn stands(tokens: &[Token], byte: u8) -> bool
     }
 }
 
+/// A number comes next.
+pub fn counts(tokens: &[Token]) -> bool
+    ensures { result ≡ next is_number (map view tokens.now) }
+{
+    match tokens.first() {
+        None => false,
+        Some(token) => matches!(token.kind, Kind::Number(_)),
+    }
+}
+
 /// A line end comes next.
 pub fn ends(tokens: &[Token]) -> bool
     ensures { result ≡ next is_line_end (map view tokens.now) }
