@@ -3,3 +3,4 @@ pub mod Tokens
 pub mod Assembly
 pub mod Lines
 pub mod Before
+pub mod Rest

@@ -3,6 +3,7 @@
 
 mod lexer;
 mod lines;
+mod reading;
 mod rules;
 mod token;
 mod words;
