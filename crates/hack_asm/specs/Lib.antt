@@ -4,3 +4,6 @@ pub mod Assembly
 pub mod Lines
 pub mod Before
 pub mod Rest
+pub mod Faults
+pub mod Program
+pub mod Entered

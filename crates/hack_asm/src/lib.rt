@@ -1,9 +1,12 @@
 //! Assembly and `.hack` texts of the Hack platform. (The book, chapters 4 and 6.)
 #![tactic(auto)]
 
+mod fault;
 mod lexer;
 mod lines;
+mod program;
 mod reading;
 mod rules;
+mod symbols;
 mod token;
 mod words;
