@@ -160,3 +160,40 @@ compute_from t = record { dest = dest_from (one t); comp = value_from (one t); j
 
 compute_back : (c : Compute) → compute_from (compute_tree c) ≡ c
 compute_back c = λ i. record { dest = dest_back c.dest c.comp i; comp = value_back c.dest c.comp i; jump = jump_back c.jump i }
+
+abbrev symbol_from : AsmTree → Symbol
+symbol_from t = the_symbol (leaf t) (record { name = []; place = record { line = 0; column = 0 } })
+
+abbrev address_from : AsmTree → Address
+address_from t = cond (is_left (two t)) (number (the_number (leaf (into (two t))))) (symbol (symbol_from (into (two t))))
+
+address_back : (a : Address) → address_from (address_tree a) ≡ a
+address_back (number n) = refl
+address_back (symbol s) = refl
+
+abbrev item_from : AsmTree → Item
+item_from t = cond (is_left t) (label (symbol_from (one (two (into t))))) (cond (is_left (into t)) (address (address_from (into (into t)))) (compute (compute_from (into (into t)))))
+
+item_back : (i : Item) → item_from (item_tree i) ≡ i
+item_back (label s) = refl
+item_back (address a) = ap address (address_back a)
+item_back (compute c) = ap compute (compute_back c)
+
+abbrev line_from : AsmTree → Line
+line_from t = cond (is_left t) None (Some (item_from (one (into t))))
+
+line_back : (l : Line) → line_from (line_tree l) ≡ l
+line_back None = refl
+line_back (Some i) = ap (λ (j : Item). Some j) (item_back i)
+
+pub lines_are : (ls ms : List Line) → lines_tree ls ≡ lines_tree ms → ls ≡ ms
+lines_are [] [] e = refl
+lines_are [] (m ∷ ms) e = absurd cc
+lines_are (l ∷ ls) [] e = absurd cc
+lines_are (l ∷ ls) (m ∷ ms) e =
+    let first = sym (line_back l) ∙ ap (λ (t : AsmTree). line_from (one t)) e ∙ line_back m in
+    let rest = lines_are ls ms (ap two e) in
+    λ i. first i ∷ rest i
+
+pub spelled_once : (text : List ℕ) (ls ms : List Line) → Spells text ls → Spells text ms → ls ≡ ms
+spelled_once text ls ms a b = lines_are ls ms (ap one (one_tree (assembly (finish text)) whole tt (tokens_of text) (text_tree ls) (text_tree ms) a b))

@@ -7,3 +7,5 @@ pub mod Rest
 pub mod Faults
 pub mod Program
 pub mod Entered
+pub mod Steps
+pub mod Meaning

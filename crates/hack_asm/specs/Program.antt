@@ -134,50 +134,77 @@ with_entry table name n = table ++ (name, n) ∷ []
 
 -- The labels of some lines, which n instructions stand before: a label is the number of the instructions before it. The first one
 -- that is predefined or entered already is refused.
-abbrev pub labels : ℕ → Table → List Line → Result Table Symbol
+abbrev pub enter_label : Line → ℕ → Table → (ℕ → Table → Result Table Wrong) → Result Table Wrong
+enter_label None n table go = go n table
+enter_label (Some (label s)) n table go = if is_some (address_in table s.name) then Err (LabelTwice s.name s.place) else go n (with_entry table s.name n)
+enter_label (Some (address a)) n table go = go (n + 1) table
+enter_label (Some (compute c)) n table go = go (n + 1) table
+
+abbrev pub labels : ℕ → Table → List Line → Result Table Wrong
 labels n table [] = Ok table
-labels n table (None ∷ ls) = labels n table ls
-labels n table (Some (label s) ∷ ls) = if is_some (address_in table s.name) then Err s else labels n (with_entry table s.name n) ls
-labels n table (Some (address a) ∷ ls) = labels (n + 1) table ls
-labels n table (Some (compute c) ∷ ls) = labels (n + 1) table ls
+labels n table (l ∷ ls) = enter_label l n table (λ m t. labels m t ls)
 
 -- the number of instructions
+abbrev pub is_instruction : Line → Bool
+is_instruction None = false
+is_instruction (Some (label s)) = false
+is_instruction (Some (address a)) = true
+is_instruction (Some (compute c)) = true
+
 abbrev pub size : List Line → ℕ
 size [] = 0
-size (None ∷ ls) = size ls
-size (Some (label s) ∷ ls) = size ls
-size (Some (address a) ∷ ls) = size ls + 1
-size (Some (compute c) ∷ ls) = size ls + 1
+size (l ∷ ls) = (if is_instruction l then 1 else 0) + size ls
+
+-- the symbol that a line uses
+abbrev pub used : Line → Option Symbol
+used None = None
+used (Some (label s)) = None
+used (Some (address (number n))) = None
+used (Some (address (symbol s))) = Some s
+used (Some (compute c)) = None
 
 -- the first use of a label that stands behind all 32,768 words
-abbrev pub past_end : Option ℕ → Bool
-past_end None = false
-past_end (Some n) = nat_eq n 32768
+abbrev pub is_past : Option ℕ → Bool
+is_past None = false
+is_past (Some n) = nat_eq n 32768
+
+abbrev pub past_use : Table → Option Symbol → Option Place → Option Place
+past_use table None later = later
+past_use table (Some s) later = if is_past (entry_of table s.name) then Some s.place else later
 
 abbrev pub first_past : Table → List Line → Option Place
 first_past table [] = None
-first_past table (Some (address (symbol s)) ∷ ls) = if past_end (entry_of table s.name) then Some s.place else first_past table ls
-first_past table (_ ∷ ls) = first_past table ls
+first_past table (l ∷ ls) = past_use table (used l) (first_past table ls)
 
 -- The variables: symbols that are neither predefined nor entered get the next address, in order of first use.
+abbrev pub enter_variable : Option Symbol → ℕ → Table → (ℕ → Table → Table) → Table
+enter_variable None next table go = go next table
+enter_variable (Some s) next table go = if is_some (address_in table s.name) then go next table else go (next + 1) (with_entry table s.name next)
+
 abbrev pub variables : ℕ → Table → List Line → Table
 variables next table [] = table
-variables next table (Some (address (symbol s)) ∷ ls) =
-    if is_some (address_in table s.name) then variables next table ls else variables (next + 1) (with_entry table s.name next) ls
-variables next table (_ ∷ ls) = variables next table ls
+variables next table (l ∷ ls) = enter_variable (used l) next table (λ n t. variables n t ls)
 
 -- an address has fifteen bits
 abbrev pub address_word : Option ℕ → ℕ
 address_word None = 0
 address_word (Some n) = n % 32768
 
+-- the word of a line, if it is an instruction
+abbrev pub word_in : Table → Line → Option ℕ
+word_in table None = None
+word_in table (Some (label s)) = None
+word_in table (Some (address (number n))) = Some n
+word_in table (Some (address (symbol s))) = Some (address_word (address_in table s.name))
+word_in table (Some (compute c)) = Some (compute_word c)
+
+abbrev pub with_word : Option ℕ → List ℕ → List ℕ
+with_word None ws = ws
+with_word (Some w) ws = w ∷ ws
+
 abbrev pub words : Table → List Line → List ℕ
 words table [] = []
-words table (None ∷ ls) = words table ls
-words table (Some (label s) ∷ ls) = words table ls
-words table (Some (address (number n)) ∷ ls) = n ∷ words table ls
-words table (Some (address (symbol s)) ∷ ls) = address_word (address_in table s.name) ∷ words table ls
-words table (Some (compute c) ∷ ls) = compute_word c ∷ words table ls
+words table (l ∷ ls) = with_word (word_in table l) (words table ls)
 
 -- The words of a program, or its first fault: labels first, then its size, then uses of a label at 32,768, then the number of
 -- variables.
@@ -189,8 +216,8 @@ abbrev pub if_near : Option Place → Table → List Line → Result (List ℕ) 
 if_near (Some at) table ls = Err (Range at 32768)
 if_near None table ls = with_variables table (variables 16 table ls) ls
 
-abbrev pub labelled : Result Table Symbol → List Line → Result (List ℕ) Wrong
-labelled (Err s) ls = Err (LabelTwice s.name s.place)
+abbrev pub labelled : Result Table Wrong → List Line → Result (List ℕ) Wrong
+labelled (Err w) ls = Err w
 labelled (Ok table) ls = if nat_lt 32768 (size ls) then Err (TooLarge (size ls)) else if_near (first_past table ls) table ls
 
 abbrev pub program : List Line → Result (List ℕ) Wrong

@@ -1,6 +1,7 @@
 //! Assembly and `.hack` texts of the Hack platform. (The book, chapters 4 and 6.)
 #![tactic(auto)]
 
+mod assembling;
 mod fault;
 mod lexer;
 mod lines;
@@ -10,3 +11,9 @@ mod rules;
 mod symbols;
 mod token;
 mod words;
+
+#[cfg(test)]
+mod tests;
+
+pub use assembling::assemble;
+pub use fault::AsmFault;

@@ -1,6 +1,6 @@
 //! The addresses of symbols.
 
-ghost use Rattle.std.specs.Prelude.{◌≡◌, ◌++◌, ◌∷◌, [], None, OnOk, vec_len};
+ghost use Rattle.std.specs.Prelude.{◌≡◌, ◌++◌, ◌∷◌, [], None, OnOk, length};
 ghost use Rattle.hack_asm.specs.Program.{predefined, entry_of, with_entry, address_in};
 ghost use Rattle.hack_asm.specs.Entered.{table_of};
 
@@ -68,6 +68,13 @@ impl<'a> Symbols<'a> {
             Some(n) => Some(n),
             None => self.entry(name),
         }
+    }
+
+    /// The number of symbols that are entered.
+    pub fn len(&self) -> usize
+        ensures { result ≡ length (table_of self.now) }
+    {
+        self.entries.len()
     }
 
     /// Enters a symbol that is not entered.
