@@ -9,3 +9,4 @@ pub mod Program
 pub mod Entered
 pub mod Steps
 pub mod Meaning
+pub mod Image

@@ -3,6 +3,7 @@
 
 mod assembling;
 mod fault;
+mod image;
 mod lexer;
 mod lines;
 mod program;
@@ -17,3 +18,4 @@ mod tests;
 
 pub use assembling::assemble;
 pub use fault::AsmFault;
+pub use image::{put_hack, write_hack};
