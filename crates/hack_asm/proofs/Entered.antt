@@ -5,7 +5,7 @@ use Rattle.grammar.specs.declared.Fault.{Fault}
 use Rattle.grammar.specs.declared.Fault.TheVariants.{Grammar}
 use Rattle.grammar.specs.declared.ReadError.{ReadError}
 use Rattle.grammar.specs.Reading.{Halt}
-use Rattle.grammar.specs.Rules.{Rule, mark, word, end, seq, choice, option, repeat, name, within, Tree, Right, Rules, is_empty, begins, next, enters, here, Reads, marked, worded, at_end, both, left, right, passed, taken, ended, again, named, inside, Stops, not_mark, not_word, past, not_end, first, second, in_left, in_right, neither, in_option, in_repeat, later, in_name, not_inside, too_far, in_within}
+use Rattle.grammar.specs.Rules.{Rule, mark, word, end, seq, choice, option, repeat, name, within, Tree, Right, Rules, is_empty, begins, enters, here, Reads, marked, worded, at_end, both, left, right, passed, taken, ended, again, named, inside, Stops, not_mark, not_word, past, not_end, first, second, in_left, in_right, neither, in_option, in_repeat, later, in_name, not_inside, too_far, in_within}
 use Rattle.grammar.proofs.Steps.{halt, next_left, next_right}
 
 abbrev pub firm : {T S N V : Type 0} → Rule T S N V → Bool

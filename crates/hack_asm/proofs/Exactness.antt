@@ -1,12 +1,11 @@
 -- The lines of a text are determined by its tree.
 use Rattle.std.proofs.Common.{◌≡◌, ℕ, Bool, true, false, cond, List, [], ◌∷◌, Option, Some, None, refl, ap, sym, ◌∙◌}
-use Rattle.grammar.specs.Rules.{Tree, Skip, Node, Leaf, Pair, Left, Right, Absent, Present, NoMore, More}
+use Rattle.grammar.specs.Rules.{Skip, Leaf, Pair, Left, Right, Absent, Present, More}
 use Rattle.grammar.proofs.Wholes.{one_tree}
 use Rattle.hack_asm.specs.declared.token.Letter.{Letter}
 use Rattle.hack_asm.specs.declared.token.Letter.TheVariants.{Zero, One, A, D, M}
 use Rattle.hack_asm.specs.declared.token.Operator.{Operator}
 use Rattle.hack_asm.specs.declared.token.Operator.TheVariants.{Plus, Minus, And, Or}
-use Rattle.hack_asm.specs.declared.lines.Prefix.{Prefix}
 use Rattle.hack_asm.specs.declared.lines.Prefix.TheVariants as prefix
 use Rattle.hack_asm.specs.declared.lines.Comp.{Comp}
 use Rattle.hack_asm.specs.declared.lines.Comp.TheVariants as comp
@@ -14,8 +13,8 @@ use Rattle.hack_asm.specs.declared.lines.Dest.{Dest}
 use Rattle.hack_asm.specs.declared.lines.Dest.TheVariants as dest
 use Rattle.hack_asm.specs.declared.lines.Compute.{Compute}
 use Rattle.hack_asm.specs.Tokens.{tokens_of, finish}
-use Rattle.hack_asm.specs.Assembly.{Said, Sign, Letter', Operator', Several, Jump, Number, Name, LineEnd, assembly, whole}
-use Rattle.hack_asm.specs.Lines.{AsmTree, Symbol, Address, Item, Line, number, symbol, label, address, compute, branch, other, operation_tree, unary_tree, comp_tree, bare_tree, assigned_tree, jump_tree, compute_tree, address_tree, item_tree, line_tree, lines_tree, text_tree, Spells}
+use Rattle.hack_asm.specs.Assembly.{Said, Letter', Operator', Several, Jump, Number, Name, LineEnd, assembly, whole}
+use Rattle.hack_asm.specs.Lines.{AsmTree, Symbol, Address, Item, Line, number, symbol, label, address, compute, branch, operation_tree, comp_tree, bare_tree, assigned_tree, jump_tree, compute_tree, address_tree, item_tree, line_tree, lines_tree, text_tree, Spells}
 
 -- the parts of a tree
 

@@ -3,7 +3,7 @@ use Rattle.std.proofs.Common.{◌≡◌, ℕ, Bool, true, false, cond, List, [],
 use Rattle.std.specs.Prelude.{◌||◌}
 use Rattle.scan_text.specs.declared.Place.{Place}
 use Rattle.grammar.specs.declared.Fault.{Fault}
-use Rattle.grammar.specs.Rules.{Rule, seq, choice, begins, Tree, Skip, Leaf, Pair, Left, Right, Absent, Present, enters, next, Reads, marked, worded, both, left, right, passed, taken, Stops, second, first, in_left, in_right, in_option}
+use Rattle.grammar.specs.Rules.{seq, choice, begins, Skip, Leaf, Pair, Left, Right, Absent, Present, enters, next, Reads, marked, worded, both, left, passed, taken, Stops, second, in_left, in_option}
 use Rattle.grammar.proofs.Steps.{next_left, next_right}
 use Rattle.hack_asm.specs.declared.token.Letter.{Letter}
 use Rattle.hack_asm.specs.declared.token.Letter.TheVariants.{Zero, One, A, D, M}
@@ -14,7 +14,7 @@ use Rattle.hack_asm.specs.declared.token.Role.TheVariants as role
 use Rattle.hack_asm.specs.declared.words.Before.{Before}
 use Rattle.hack_asm.specs.declared.words.Before.TheVariants.{Sum, Join}
 use Rattle.hack_asm.specs.Tokens.{Word}
-use Rattle.hack_asm.specs.Assembly.{Said, Letter', Operator', Part, assembly, letter_role, role_said, operator_role, is_zero, is_one, is_a, is_d, is_m, by_letter, letter, some_letter, operation, maybe_operation, adds, meets, assigns, assignment, after_letter, comp, sign, unary, assigned, several_role, is_several, Several}
+use Rattle.hack_asm.specs.Assembly.{Said, Letter', Operator', Part, assembly, letter_role, role_said, operator_role, is_zero, is_one, is_a, is_d, is_m, by_letter, some_letter, operation, adds, meets, assigns, assignment, after_letter, comp, sign, unary, assigned, several_role, is_several, Several}
 use Rattle.hack_asm.specs.Lines.{AsmTree, branch, other, operation_tree}
 use Rattle.hack_asm.specs.Before.{letter_by, letter_next, operator_by, operator_next, assigns_next, several_by, several_next, suits}
 use Rattle.hack_asm.proofs.Entered.{firm, entered, skip, skip_stops}

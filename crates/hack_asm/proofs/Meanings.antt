@@ -1,5 +1,5 @@
 -- A text means one thing.
-use Rattle.std.proofs.Common.{◌≡◌, ℕ, List, Option, Some, None, Result, Ok, Err, refl, sym, ap, ◌∙◌, inl, inr, subst}
+use Rattle.std.proofs.Common.{◌≡◌, ℕ, List, Option, Some, None, Result, Ok, Err, refl, sym, ap, ◌∙◌, inl, inr}
 use Rattle.grammar.specs.declared.Fault.{Fault}
 use Rattle.grammar.specs.declared.Fault.TheVariants as fault
 use Rattle.grammar.specs.declared.ReadError.{ReadError}
@@ -7,7 +7,6 @@ use Rattle.grammar.specs.declared.ReadError.TheVariants as errors
 use Rattle.grammar.specs.Reading.{Halt, memory, fault as told}
 use Rattle.grammar.proofs.Wholes.{not_both, first_fault}
 use Rattle.hack_asm.specs.declared.fault.AsmFault.{AsmFault}
-use Rattle.hack_asm.specs.declared.fault.AsmFault.TheVariants as asm
 use Rattle.hack_asm.specs.Tokens.{tokens_of, finish}
 use Rattle.hack_asm.specs.Assembly.{assembly, whole}
 use Rattle.hack_asm.specs.Lines.{Line, Spells, Refuses, text_tree}

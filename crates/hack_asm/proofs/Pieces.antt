@@ -1,21 +1,19 @@
 -- The pieces of an assembly text that are runs of bytes.
-use Rattle.std.proofs.Common.{◌≡◌, ℕ, suc, ◌+◌, ◌-◌, ◌<◌, ◌≤◌, Bool, true, false, cond, List, [], ◌∷◌, length, take, drop, Option, Some, None, Ok, refl, sym, ap, subst, ◌∙◌, arith, map}
-use Rattle.std.specs.Prelude.{min, nat_lt, slice_get}
+use Rattle.std.proofs.Common.{◌≡◌, ℕ, suc, ◌-◌, ◌≤◌, Bool, true, false, cond, List, [], ◌∷◌, length, take, drop, Some, None, Ok, refl, sym, ap, subst, ◌∙◌, arith}
+use Rattle.std.specs.Prelude.{min, nat_lt}
 use Rattle.std.proofs.lemmas.Bool.{le-ltb}
-use Rattle.scan_text.specs.declared.Place.{Place}
 use Rattle.scan_text.specs.declared.Scan.{Scan}
 use Rattle.scan_text.specs.Text.{first, front, behind, walk, is_digit, digits, decimal, capped, number_of}
-use Rattle.scan_text.specs.Blanks.{starts, line, line_end}
+use Rattle.scan_text.specs.Blanks.{starts, line}
 use Rattle.scan_text.proofs.Gone.{take_line}
 use Rattle.scan_text.specs.View.{left, place}
 use Rattle.grammar.specs.declared.Fault.TheVariants.{Grammar, Range}
-use Rattle.grammar.specs.Cutting.{Piece, Passed, Wrong, Token, Next, Moved, last_of}
+use Rattle.grammar.specs.Cutting.{Piece, Passed, Wrong, Next}
 use Rattle.grammar.proofs.Runs.{run_text, run_moved, number_stands}
 use Rattle.hack_asm.specs.declared.token.Kind.{Kind}
 use Rattle.hack_asm.specs.declared.token.Kind.TheVariants.{Number, Symbol}
-use Rattle.hack_asm.specs.declared.token.Role.{Role}
 use Rattle.hack_asm.specs.Roles.{role_of}
-use Rattle.hack_asm.specs.Tokens.{Word, made, word_of, number_piece, symbol_piece, comment_piece, is_letter, is_symbol_byte}
+use Rattle.hack_asm.specs.Tokens.{Word, word_of, number_piece, symbol_piece, comment_piece, is_letter, is_symbol_byte}
 
 -- a token of a whole run
 run_taken : (test : ℕ → Bool) (kind : Kind) (old new : Scan) (b : ℕ) (w : Word) → first (left old) ≡ Some b → test b ≡ true → left new ≡ behind test (left old) → place new ≡ walk (place old) (front test (left old)) → w.kind ≡ kind → w.role ≡ role_of w.text → w.text ≡ front test (left old) → w.place ≡ place old → Next (word_of kind (length (front test (left old)) - 1) (left old)) old (Ok (Some w)) new
@@ -55,8 +53,10 @@ pub comment_passed : (old new : Scan) → first (left old) ≡ Some 47 → first
 comment_passed old new e f l p =
     let n = line_passed (left old) e in
     subst (λ (q : Piece Word). Next q old (Ok None) new)
-    (ap (λ (x : Bool). cond x (Passed (length (line (left old)) - 1)) (Wrong Grammar)) (sym (starts_by (drop 1 (left old)) f)))
-    (refl, record {
-      rest = l ∙ ap (λ (k : ℕ). drop k (left old)) (sym n);
-      at = p ∙ ap (walk (place old)) (sym (take_line (left old)) ∙ ap (λ (k : ℕ). take k (left old)) (sym n));
-    })
+    (ap (λ (x : Bool). cond x (Passed (length (line (left old)) - 1)) (Wrong Grammar)) (sym (starts_by (drop 1 (left old)) f))) (
+      refl,
+      record {
+        rest = l ∙ ap (λ (k : ℕ). drop k (left old)) (sym n);
+        at = p ∙ ap (walk (place old)) (sym (take_line (left old)) ∙ ap (λ (k : ℕ). take k (left old)) (sym n));
+      },
+    )

@@ -4,10 +4,9 @@ use Rattle.std.proofs.lemmas.List.{drop-drop, drop-map}
 use Rattle.std.proofs.Math.Seq.{drop-append_seam}
 use Rattle.scan_text.specs.declared.Place.{Place}
 use Rattle.grammar.specs.declared.Fault.{Fault}
-use Rattle.grammar.specs.declared.Fault.TheVariants.{Grammar}
 use Rattle.grammar.specs.declared.ReadError.{ReadError}
 use Rattle.grammar.specs.Reading.{Halt}
-use Rattle.grammar.specs.Rules.{Rule, Rules, Tree, Skip, Pair, NoMore, enters, here, Reads, marked, worded, both, at_end, left, right, passed, taken, ended, again, named, inside, Stops, first, second, not_end, listed}
+use Rattle.grammar.specs.Rules.{Rule, Rules, Tree, enters, Reads, marked, worded, both, at_end, left, right, passed, taken, ended, again, named, inside, Stops, first, second, not_end}
 use Rattle.grammar.proofs.Steps.{halt}
 use Rattle.grammar.proofs.Repeats.{Along, Along-ended, Along-stopped}
 use Rattle.grammar.proofs.Lengths.{shorter}

@@ -1,6 +1,6 @@
 -- The grammar of assembly: labels `(L)`, addresses `@n` and `@s`, and computations `dest=comp;jump`, one or none a line. (The book,
 -- chapters 4 and 6.)
-use Rattle.std.specs.Prelude.{ℕ, Bool, true, false, List, [], ◌∷◌, Result, Ok, ◌==◌, ◌||◌, ◌&&◌}
+use Rattle.std.specs.Prelude.{ℕ, Bool, true, false, List, Result, Ok, ◌==◌, ◌||◌, ◌&&◌}
 use Rattle.scan_text.specs.declared.Place.{Place}
 use Rattle.grammar.specs.declared.Fault.{Fault}
 use Rattle.grammar.specs.Rules.{Rule, mark, word, seq, choice, option, repeat, end, Rules}

@@ -1,11 +1,11 @@
 -- The lines of an assembly text.
-use Rattle.std.specs.Prelude.{ℕ, List, [], ◌∷◌, Option, Some, None, option_map}
+use Rattle.std.specs.Prelude.{ℕ, List, Option, Some, None, option_map}
 use Rattle.scan_text.specs.declared.Place.{Place}
 use Rattle.grammar.specs.declared.Fault.{Fault}
 use Rattle.grammar.specs.Rules.{Tree, Skip, Leaf, Pair, Left, Right, Absent, Present, NoMore, listed}
 use Rattle.grammar.specs.Texts.{Spelled, Refused}
 use Rattle.hack_asm.specs.Tokens.{tokens_of, finish}
-use Rattle.hack_asm.specs.Assembly.{Said, Sign, Letter', Operator', Several, Jump, Number, Name, assembly, whole}
+use Rattle.hack_asm.specs.Assembly.{Said, Letter', Operator', Several, Jump, Number, Name, assembly, whole}
 use Rattle.hack_asm.specs.declared.token.Letter.{Letter}
 use Rattle.hack_asm.specs.declared.token.Letter.TheVariants.{Zero, One, A, D, M}
 use Rattle.hack_asm.specs.declared.token.Operator.{Operator}

@@ -18,7 +18,7 @@ use Rattle.hack_asm.specs.declared.lines.Dest.TheVariants as dest
 use Rattle.hack_asm.specs.declared.lines.Compute.{Compute}
 use Rattle.hack_asm.specs.Assembly.{is_m}
 use Rattle.hack_asm.specs.Faults.{Wrong, Range, LabelTwice, TooLarge, TooManyVariables}
-use Rattle.hack_asm.specs.Lines.{Line, Item, Address, Symbol, number, symbol, label, address, compute}
+use Rattle.hack_asm.specs.Lines.{Line, Symbol, number, symbol, label, address, compute}
 
 -- The word of a computation (the book's table of comp, chapter 4)
 

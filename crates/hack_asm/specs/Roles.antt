@@ -1,7 +1,6 @@
 -- The words of an instruction. (The book, chapter 4: dest, comp and jump.)
-use Rattle.std.specs.Prelude.{ℕ, Bool, List, [], ◌∷◌, Option, Some, None, if◌then◌else◌, codes}
+use Rattle.std.specs.Prelude.{ℕ, List, [], ◌∷◌, if◌then◌else◌, codes}
 use Rattle.std.specs.Str.{bytes_eq}
-use Rattle.hack_asm.specs.declared.token.Letter.{Letter}
 use Rattle.hack_asm.specs.declared.token.Letter.TheVariants as letter
 use Rattle.hack_asm.specs.declared.token.Operator.TheVariants as operator
 use Rattle.hack_asm.specs.declared.token.Role.{Role}

@@ -10,11 +10,10 @@ mod program;
 mod reading;
 mod rules;
 mod symbols;
-mod token;
-mod words;
-
 #[cfg(test)]
 mod tests;
+mod token;
+mod words;
 
 pub use assembling::assemble;
 pub use fault::AsmFault;

@@ -312,10 +312,7 @@ fn words<'a>(
 }
 
 /// The words of a program, told by its lines.
-pub fn assemble_lines<'a>(
-    alloc: Global,
-    lines: &[Option<Item<'a>>],
-) -> Result<Vec<u16>, AsmFault>
+pub fn assemble_lines<'a>(alloc: Global, lines: &[Option<Item<'a>>]) -> Result<Vec<u16>, AsmFault>
     ensures { Yields (λ v. v.items) result (program (map line_of lines.now)) }
 {
     let mut symbols = labels(alloc, lines)?;

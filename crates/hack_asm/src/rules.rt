@@ -11,7 +11,10 @@ ghost use Rattle.hack_asm.specs.Assembly.{Name};
 
 use crate::lines::{Address, Comp, Compute, Dest, Item, Prefix, Symbol};
 use crate::token::{Letter, Operator, Token};
-use crate::words::{Before, assigns, counts, ends, first_letter, jump, letter, line_end, number, operator, several, sign, stands, symbol};
+use crate::words::{
+    Before, assigns, counts, ends, first_letter, jump, letter, line_end, number, operator, several,
+    sign, stands, symbol,
+};
 use grammar::ReadError;
 use scan_text::Place;
 
@@ -46,10 +49,7 @@ fn unary<'a>(
     Ok(((Prefix::Not, second), rest))
 }
 
-fn comp<'a>(
-    tokens: &'a [Token<'a>],
-    end: Place,
-) -> Result<(Comp, &'a [Token<'a>]), ReadError>
+fn comp<'a>(tokens: &'a [Token<'a>], end: Place) -> Result<(Comp, &'a [Token<'a>]), ReadError>
     ensures { ParsesBy view (assembly end) comp comp_tree (λ _. tt) tt tokens.now result }
 {
     let Some((first, rest)) = first_letter(tokens) else {
@@ -98,10 +98,7 @@ fn assigned<'a>(
     Ok(((Dest::Register(register), comp), rest))
 }
 
-fn compute<'a>(
-    tokens: &'a [Token<'a>],
-    end: Place,
-) -> Result<(Compute, &'a [Token<'a>]), ReadError>
+fn compute<'a>(tokens: &'a [Token<'a>], end: Place) -> Result<(Compute, &'a [Token<'a>]), ReadError>
     ensures { ParsesBy view (assembly end) compute compute_tree (λ _. tt) tt tokens.now result }
 {
     let ((dest, comp), rest) = assigned(tokens, end)?;
@@ -144,10 +141,7 @@ fn address<'a>(
 }
 
 // What a line says that is not blank.
-fn item<'a>(
-    tokens: &'a [Token<'a>],
-    end: Place,
-) -> Result<(Item<'a>, &'a [Token<'a>]), ReadError>
+fn item<'a>(tokens: &'a [Token<'a>], end: Place) -> Result<(Item<'a>, &'a [Token<'a>]), ReadError>
     ensures { ParsesBy view (assembly end) content (λ i. item_tree (item_of i)) (λ _. tt) tt tokens.now result }
 {
     if stands(tokens, b'(') {

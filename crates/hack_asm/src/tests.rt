@@ -34,15 +34,26 @@ fn programs(rt: HostRuntime) -> Result<(), Fail> {
         .ok()
         .ok_or("a program")?;
     assert_eq!(rt; add.as_slice(), [2, 60432, 3, 57488, 0, 58120].as_slice());
-    let spin = assemble(alloc, b" @i // a variable\r\n\tM = 1\n(LOOP)\n\n@LOOP\n0;JMP")
-        .ok()
-        .ok_or("a program")?;
+    let spin = assemble(
+        alloc,
+        b" @i // a variable\r\n\tM = 1\n(LOOP)\n\n@LOOP\n0;JMP",
+    )
+    .ok()
+    .ok_or("a program")?;
     assert_eq!(rt; spin.as_slice(), [16, 61384, 2, 60039].as_slice());
-    let symbols = assemble(alloc, b"@SCREEN\n@KBD\n@R15\n@b\n@a\n@b\n@32767\n@007\nDAM=A+D;JLE\n")
+    let symbols = assemble(
+        alloc,
+        b"@SCREEN\n@KBD\n@R15\n@b\n@a\n@b\n@32767\n@007\nDAM=A+D;JLE\n",
+    )
+    .ok()
+    .ok_or("a program")?;
+    assert_eq!(rt;
+        symbols.as_slice(),
+        [16384, 24576, 15, 16, 17, 16, 32767, 7, 57534].as_slice()
+    );
+    let empty = assemble(alloc, b"// a\r\n// b\r\n")
         .ok()
         .ok_or("a program")?;
-    assert_eq!(rt; symbols.as_slice(), [16384, 24576, 15, 16, 17, 16, 32767, 7, 57534].as_slice());
-    let empty = assemble(alloc, b"// a\r\n// b\r\n").ok().ok_or("a program")?;
     assert!(rt; empty.is_empty());
     Ok(())
 }

@@ -27,11 +27,7 @@ fn grammar_fault(place: Place) -> ReadError
     ReadError::Fault(Fault::Grammar(place))
 }
 
-fn sign_at<'a>(
-    tokens: &'a [Token<'a>],
-    end: Place,
-    byte: u8,
-) -> Result<&'a [Token<'a>], ReadError>
+fn sign_at<'a>(tokens: &'a [Token<'a>], end: Place, byte: u8) -> Result<&'a [Token<'a>], ReadError>
     ensures { Gives (λ x. map view x.now) result (mark_at (assembly end) (is_sign byte) (map view tokens.now)) }
 {
     let Some((token, rest)) = tokens.split_first() else {
@@ -46,11 +42,7 @@ fn sign_at<'a>(
     Ok(rest)
 }
 
-pub fn sign<'a>(
-    tokens: &'a [Token<'a>],
-    end: Place,
-    byte: u8,
-) -> Result<&'a [Token<'a>], ReadError>
+pub fn sign<'a>(tokens: &'a [Token<'a>], end: Place, byte: u8) -> Result<&'a [Token<'a>], ReadError>
     ensures { PassesBy view (assembly end) (sign byte) tt tokens.now result }
 {
     sign_at(tokens, end, byte)
@@ -104,10 +96,7 @@ pub fn symbol<'a>(
     symbol_at(tokens, end)
 }
 
-fn number_at<'a>(
-    tokens: &'a [Token<'a>],
-    end: Place,
-) -> Result<(u16, &'a [Token<'a>]), ReadError>
+fn number_at<'a>(tokens: &'a [Token<'a>], end: Place) -> Result<(u16, &'a [Token<'a>]), ReadError>
     ensures { Gives (λ x. (Number x.0, tt, map view x.1.now)) result (word_at (assembly end) is_number free number tt (map view tokens.now)) }
 {
     let Some((token, rest)) = tokens.split_first() else {
@@ -176,10 +165,7 @@ pub fn letter<'a>(
     letter_at(tokens, end, before)
 }
 
-pub fn number<'a>(
-    tokens: &'a [Token<'a>],
-    end: Place,
-) -> Result<(u16, &'a [Token<'a>]), ReadError>
+pub fn number<'a>(tokens: &'a [Token<'a>], end: Place) -> Result<(u16, &'a [Token<'a>]), ReadError>
     ensures { ParsesBy view (assembly end) (word is_number free number) (λ n. Leaf (Number n)) (λ _. tt) tt tokens.now result }
 {
     number_at(tokens, end)

@@ -1,4 +1,4 @@
-use Rattle.std.proofs.Common.{◌≡◌, List, map, Ok, subst, sym, ap, ◌∙◌}
+use Rattle.std.proofs.Common.{List, map, Ok, subst, sym, ap, ◌∙◌}
 use Rattle.std.proofs.lemmas.Result.{err_from_is_err_and}
 use Rattle.scan_text.specs.declared.Place.{Place}
 use Rattle.grammar.specs.Rules.{Stops}

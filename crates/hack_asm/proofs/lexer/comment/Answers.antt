@@ -1,4 +1,4 @@
-use Rattle.std.proofs.Common.{rules, sym, ap, ◌∙◌, Some}
+use Rattle.std.proofs.Common.{sym, ap, ◌∙◌, Some}
 use Rattle.scan_text.specs.Text.{first}
 use Rattle.hack_asm.proofs.Pieces.{comment_passed}
 use Rattle.hack_asm.proofs.lexer.comment.Goals as goal

@@ -1,6 +1,6 @@
-use Rattle.std.proofs.Common.{◌≡◌, ◌<◌, ◌-◌, length, true, false, sym, ◌∙◌, refl, map, ap, arith, drop, length-drop}
+use Rattle.std.proofs.Common.{◌≡◌, ◌<◌, length, refl, map, arith, drop, length-drop}
 use Rattle.std.proofs.lemmas.Result.{err_from_is_err_and}
-use Rattle.grammar.proofs.Repeats.{Along-start, Along-more}
+use Rattle.grammar.proofs.Repeats.{Along-more}
 use Rattle.hack_asm.specs.Tokens.{view}
 use Rattle.hack_asm.specs.Assembly.{assembly, line}
 use Rattle.hack_asm.specs.Lines.{line_of, line_tree}

@@ -1,4 +1,4 @@
-use Rattle.std.proofs.Common.{◌≡◌, ◌<◌, List, subst, drop, map, arith, length, length-drop}
+use Rattle.std.proofs.Common.{List, subst, drop, map, arith, length-drop}
 use Rattle.hack_asm.specs.declared.token.Token.{Token}
 use Rattle.hack_asm.specs.Tokens.{Word, view}
 use Rattle.hack_asm.specs.Assembly.{line}

@@ -1,14 +1,10 @@
-use Rattle.std.proofs.Common.{◌≡◌, true, false, Some, None, sym, ap, ◌∙◌, refl, map, subst}
-use Rattle.std.specs.Prelude.{option_map}
+use Rattle.std.proofs.Common.{sym, refl}
 use Rattle.std.proofs.lemmas.Result.{err_from_is_err_and}
-use Rattle.grammar.specs.Rules.{both, left, passed, taken, second, first, in_left, in_option}
+use Rattle.grammar.specs.Rules.{passed, taken, in_option}
 use Rattle.grammar.proofs.Steps.{halt}
-use Rattle.grammar.proofs.Exits.{halt_first, halt_second, halt_left, halt_option}
-use Rattle.hack_asm.specs.Tokens.{view}
 use Rattle.hack_asm.specs.Assembly.{assembly}
-use Rattle.hack_asm.proofs.Entered.{skip, skip_stops, halt_skip}
 use Rattle.hack_asm.proofs.Letters.{with_letter, with_letter_stops, without_letter, without_letter_stops}
-use Rattle.hack_asm.specs.Assembly.{unary, maybe_operation, after_letter}
+use Rattle.hack_asm.specs.Assembly.{unary, maybe_operation}
 use Rattle.hack_asm.specs.Tokens.{Word}
 use Rattle.hack_asm.specs.Assembly.{Said}
 use Rattle.hack_asm.proofs.Entered.{entered}

@@ -1,12 +1,8 @@
-use Rattle.std.proofs.Common.{◌≡◌, true, false, Some, None, sym, ap, ◌∙◌, refl, map, subst}
-use Rattle.std.specs.Prelude.{option_map}
+use Rattle.std.proofs.Common.{sym, ◌∙◌, refl}
 use Rattle.std.proofs.lemmas.Result.{err_from_is_err_and}
-use Rattle.grammar.specs.Rules.{both, left, passed, taken, second, first, in_left, in_option}
-use Rattle.grammar.proofs.Steps.{halt}
-use Rattle.grammar.proofs.Exits.{halt_first, halt_second, halt_left, halt_option}
-use Rattle.hack_asm.specs.Tokens.{view}
-use Rattle.hack_asm.specs.Assembly.{assembly}
-use Rattle.hack_asm.proofs.Entered.{skip, skip_stops, halt_skip}
+use Rattle.grammar.specs.Rules.{left}
+use Rattle.grammar.proofs.Exits.{halt_left}
+use Rattle.hack_asm.proofs.Entered.{skip, halt_skip}
 use Rattle.hack_asm.proofs.rules.item.Goals as goal
 
 pub returns-in_err-symbol : goal.returns-in_err-symbol
