@@ -2,5 +2,7 @@
 #![tactic(auto)]
 
 mod token;
+mod tree;
 
 pub use token::{Keyword, Kind, Token};
+pub use tree::{Call, Constant, Expression, Name, Operator, Sign, Statement, Term};

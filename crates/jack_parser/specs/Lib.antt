@@ -1,0 +1,3 @@
+pub mod Jack
+pub mod Starts
+pub mod Trees

@@ -1,0 +1,5 @@
+//! The reader of Jack classes (book, chapter 10).
+#![tactic(auto)]
+
+mod expressions;
+mod words;
