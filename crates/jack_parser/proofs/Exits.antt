@@ -9,6 +9,7 @@ use Rattle.jack_parser.specs.declared.words.Start.TheVariants as starts
 use Rattle.jack_tree.specs.Tokens.{Word}
 use Rattle.jack_parser.specs.Starts.{start_of}
 use Rattle.jack_parser.specs.Jack.{jack, Part, Said, term, group, negation, variable, constant, expression, rule_of}
+use Rattle.jack_parser.proofs.StatementRules.{let_read, let_halts, if_read, if_halts, while_read, while_halts, do_read, do_halts, return_read, return_halts}
 use Rattle.jack_parser.proofs.Terms.{group_term, group_stops, negation_term, negation_stops, variable_term, variable_stops, constant_term, constant_stops}
 
 pub halt_group : {end : Place} {s : ℕ} {ts : List Word} {e : ReadError} → start_of ts ≡ starts.Group → Halt (Stops Word ℕ Part Said (jack end) s group ts) e → Halt (Stops Word ℕ Part Said (jack end) s (name term) ts) e
@@ -27,3 +28,5 @@ pub halt_expression : {end : Place} {s : ℕ} {ts : List Word} {e : ReadError} �
 halt_expression h = halt (λ f p. in_name p) h
 
 pub ruleset jack_exits = (exits, halt_group, group_term, halt_negation, negation_term, halt_variable, variable_term, halt_constant, constant_term, halt_expression)
+
+pub ruleset statement_exits = (exits, let_read, let_halts, if_read, if_halts, while_read, while_halts, do_read, do_halts, return_read, return_halts)

@@ -1,3 +1,5 @@
 pub mod Terms
 pub mod Arguments
 pub mod Exits
+pub mod StatementRules
+pub mod Blocks

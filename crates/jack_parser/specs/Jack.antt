@@ -201,9 +201,13 @@ block = seq (symbol_of 123) (seq (repeat (name statement)) (symbol_of 125))
 abbrev pub let_rule : JackRule
 let_rule = seq (key keyword.Let) (seq identifier (seq (option subscript) (seq (symbol_of 61) (seq (name expression) (symbol_of 59)))))
 
+-- else { stmt* }
+abbrev pub else_rule : JackRule
+else_rule = seq (keyword_of keyword.Else) block
+
 -- if ( exp ) { stmt* } [else { stmt* }]
 abbrev pub if_rule : JackRule
-if_rule = seq (key keyword.If) (seq group (seq block (option (seq (keyword_of keyword.Else) block))))
+if_rule = seq (key keyword.If) (seq group (seq block (option else_rule)))
 
 -- while ( exp ) { stmt* }
 abbrev pub while_rule : JackRule

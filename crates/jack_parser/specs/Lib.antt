@@ -1,3 +1,4 @@
 pub mod Jack
 pub mod Starts
 pub mod Trees
+pub mod StatementTrees

@@ -1,9 +1,11 @@
 -- The kinds of terms and statements, by their first token.
-use Rattle.std.specs.Prelude.{ℕ, List, [], ◌∷◌, if◌then◌else◌, ◌==◌, ◌||◌}
+use Rattle.std.specs.Prelude.{◌≡◌, true, false, ℕ, List, [], ◌∷◌, if◌then◌else◌, ◌==◌, ◌||◌}
 use Rattle.jack_tree.specs.declared.token.Kind.{Kind}
 use Rattle.jack_tree.specs.declared.token.Kind.TheVariants as kind
 use Rattle.jack_tree.specs.Tokens.{Word}
-use Rattle.jack_parser.specs.Jack.{is_value}
+use Rattle.grammar.specs.Rules.{next}
+use Rattle.jack_tree.specs.declared.token.Keyword.TheVariants as keyword
+use Rattle.jack_parser.specs.Jack.{is_value, is_keyword}
 use Rattle.jack_parser.specs.declared.words.Start.{Start}
 use Rattle.jack_parser.specs.declared.words.Start.TheVariants as starts
 
@@ -17,3 +19,19 @@ start_by kind.Identifier = starts.Name
 abbrev pub start_of : List Word → Start
 start_of [] = starts.Other
 start_of (t ∷ ts) = start_by t.kind
+
+-- which statement begins, by its first token
+abbrev pub Lets : List Word → Type 0
+Lets ts = next (is_keyword keyword.Let) ts ≡ true
+
+abbrev pub Ifs : List Word → Type 0
+Ifs ts = (next (is_keyword keyword.Let) ts ≡ false) × (next (is_keyword keyword.If) ts ≡ true)
+
+abbrev pub Whiles : List Word → Type 0
+Whiles ts = (next (is_keyword keyword.Let) ts ≡ false) × (next (is_keyword keyword.If) ts ≡ false) × (next (is_keyword keyword.While) ts ≡ true)
+
+abbrev pub Does : List Word → Type 0
+Does ts = (next (is_keyword keyword.Let) ts ≡ false) × (next (is_keyword keyword.If) ts ≡ false) × (next (is_keyword keyword.While) ts ≡ false) × (next (is_keyword keyword.Do) ts ≡ true)
+
+abbrev pub Returns : List Word → Type 0
+Returns ts = (next (is_keyword keyword.Let) ts ≡ false) × (next (is_keyword keyword.If) ts ≡ false) × (next (is_keyword keyword.While) ts ≡ false) × (next (is_keyword keyword.Do) ts ≡ false) × (next (is_keyword keyword.Return) ts ≡ true)

@@ -4,7 +4,7 @@ ghost use Rattle.jack_tree.specs.Tokens.{view};
 ghost use Rattle.std.specs.Prelude.{map, ◌≡◌, ◌<◌, ◌≤◌, ◌-◌, ◌+◌, ◌^◌, take, drop, length, Some, None, Result, Ok, List, IfOk, ℕ, IfSome, is_some, [], ◌||◌};
 ghost use Rattle.grammar.specs.Reading.{ParsesBy, PassesBy, Gives, word_at, mark_at};
 ghost use Rattle.grammar.specs.Rules.{Leaf, next, here};
-ghost use Rattle.jack_parser.specs.Jack.{jack, is_symbol, is_keyword, is_identifier, is_constant, free, check_constant, named, placed, fixed, constant_said, identifier, constant, operator, unary, key, operates, negates, term_opens, deeper, Said, symbol_of, keyword_of, is_operator, is_unary, unquoted};
+ghost use Rattle.jack_parser.specs.Jack.{jack, is_symbol, is_keyword, is_identifier, is_constant, free, check_constant, named, placed, fixed, constant_said, identifier, constant, operator, unary, key, operates, negates, term_opens, statement_opens, deeper, Said, symbol_of, keyword_of, is_operator, is_unary, unquoted};
 ghost use Rattle.jack_parser.specs.Starts.{start_of};
 ghost use Rattle.jack_parser.specs.Trees.{name_said, operator_said, operator_byte, sign_said, sign_byte, constant_leaf_said, IsString};
 
@@ -389,6 +389,31 @@ pub fn term_begins(tokens: &[Token]) -> bool
         Kind::Symbol(b'(' | b'-' | b'~') => true,
         _ => false,
     }
+}
+
+/// A statement can begin here.
+pub fn statement_begins(tokens: &[Token]) -> bool
+    ensures { result ≡ next statement_opens (map view tokens.now) }
+{
+    let Some(token) = tokens.first() else {
+        return false;
+    };
+    let Kind::Keyword(keyword) = token.kind else {
+        return false;
+    };
+    if keyword == Keyword::Let {
+        return true;
+    }
+    if keyword == Keyword::If {
+        return true;
+    }
+    if keyword == Keyword::While {
+        return true;
+    }
+    if keyword == Keyword::Do {
+        return true;
+    }
+    keyword == Keyword::Return
 }
 
 /// The place of the next token.
