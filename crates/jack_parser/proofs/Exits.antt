@@ -30,3 +30,5 @@ halt_expression h = halt (λ f p. in_name p) h
 pub ruleset jack_exits = (exits, halt_group, group_term, halt_negation, negation_term, halt_variable, variable_term, halt_constant, constant_term, halt_expression)
 
 pub ruleset statement_exits = (exits, let_read, let_halts, if_read, if_halts, while_read, while_halts, do_read, do_halts, return_read, return_halts)
+
+pub ruleset part_exits = (exits)

@@ -3,3 +3,4 @@ pub mod Arguments
 pub mod Exits
 pub mod StatementRules
 pub mod Blocks
+pub mod Parameters

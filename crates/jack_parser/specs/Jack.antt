@@ -4,7 +4,7 @@ use denote.Enum.Bare.{sameb}
 use Rattle.scan_text.specs.declared.Place.{Place}
 use Rattle.grammar.specs.declared.Fault.{Fault}
 use Rattle.grammar.specs.declared.Fault.TheVariants.{Range}
-use Rattle.grammar.specs.Rules.{Rule, mark, word, seq, choice, option, repeat, name, within, Rules}
+use Rattle.grammar.specs.Rules.{Rule, mark, word, seq, choice, option, repeat, name, within, end, Rules}
 use Rattle.jack_tree.specs.contracts.token.Keyword.{the_type}
 use Rattle.jack_tree.specs.declared.token.Keyword.{Keyword}
 use Rattle.jack_tree.specs.declared.token.Keyword.TheVariants as keyword
@@ -120,6 +120,53 @@ deeper depth at = if nat_le 256 depth then Err (Range at 257) else Ok (depth + 1
 abbrev pub back : ℕ → ℕ → ℕ
 back outer inner = outer
 
+abbrev pub types : Keyword → Bool
+types keyword.Int = true
+types keyword.Char = true
+types keyword.Boolean = true
+types k = false
+
+abbrev pub returns : Keyword → Bool
+returns keyword.Void = true
+returns k = types k
+
+abbrev pub scopes : Keyword → Bool
+scopes keyword.Static = true
+scopes keyword.Field = true
+scopes k = false
+
+abbrev pub forms : Keyword → Bool
+forms keyword.Constructor = true
+forms keyword.Function = true
+forms keyword.Method = true
+forms k = false
+
+abbrev pub any_keyword : (Keyword → Bool) → Bool → Kind → Bool
+any_keyword is named (kind.Keyword k) = is k
+any_keyword is named kind.Identifier = named
+any_keyword is named k = false
+
+-- int, char, boolean, or the name of a class
+abbrev pub is_type : Word → Bool
+is_type t = any_keyword types true t.kind
+
+-- the same, or void
+abbrev pub is_result : Word → Bool
+is_result t = any_keyword returns true t.kind
+
+abbrev pub is_scope : Word → Bool
+is_scope t = any_keyword scopes false t.kind
+
+abbrev pub is_form : Word → Bool
+is_form t = any_keyword forms false t.kind
+
+abbrev pub type_by : Kind → List ℕ → Place → Said
+type_by kind.Identifier text at = Placed kind.Identifier text at
+type_by k text at = Fixed k
+
+abbrev pub type_said : Word → Said
+type_said t = type_by t.kind t.text t.place
+
 pub data Part : Type 0 where
   expression : Part
   term : Part
@@ -220,6 +267,58 @@ do_rule = seq (key keyword.Do) (seq identifier (seq invoked (symbol_of 59)))
 -- return [exp] ;
 abbrev pub return_rule : JackRule
 return_rule = seq (key keyword.Return) (seq (option (name expression)) (symbol_of 59))
+
+-- name (, name)*
+abbrev pub next_name : JackRule
+next_name = seq (symbol_of 44) identifier
+
+abbrev pub names_rule : JackRule
+names_rule = seq identifier (repeat next_name)
+
+abbrev pub type_rule : JackRule
+type_rule = word is_type free type_said
+
+abbrev pub result_rule : JackRule
+result_rule = word is_result free type_said
+
+-- (static|field) type name (, name)* ;
+abbrev pub scope_rule : JackRule
+scope_rule = word is_scope free fixed
+
+abbrev pub class_variables : JackRule
+class_variables = seq scope_rule (seq type_rule (seq names_rule (symbol_of 59)))
+
+-- var type name (, name)* ;
+abbrev pub locals_rule : JackRule
+locals_rule = seq (keyword_of keyword.Var) (seq type_rule (seq names_rule (symbol_of 59)))
+
+-- [type name (, type name)*]
+abbrev pub parameter : JackRule
+parameter = seq type_rule identifier
+
+abbrev pub next_parameter : JackRule
+next_parameter = seq (symbol_of 44) parameter
+
+abbrev pub parameter_list : JackRule
+parameter_list = seq parameter (repeat next_parameter)
+
+abbrev pub parameters : JackRule
+parameters = option parameter_list
+
+-- (constructor|function|method) (void|type) name ( parameters ) { locals* stmt* }
+abbrev pub form_rule : JackRule
+form_rule = word is_form free fixed
+
+abbrev pub subroutine : JackRule
+subroutine = seq form_rule (seq result_rule (seq identifier (seq (symbol_of 40) (seq parameters (seq (symbol_of 41) (seq (symbol_of 123) (seq (repeat locals_rule) (seq (repeat (name statement)) (symbol_of 125)))))))))
+
+-- class name { variables* subroutines* }
+abbrev pub class_rule : JackRule
+class_rule = seq (keyword_of keyword.Class) (seq identifier (seq (symbol_of 123) (seq (repeat class_variables) (seq (repeat subroutine) (symbol_of 125)))))
+
+-- a class, and nothing behind it
+abbrev pub whole : JackRule
+whole = seq class_rule end
 
 abbrev pub any_statement : JackRule
 any_statement = choice let_rule (choice if_rule (choice while_rule (choice do_rule return_rule)))

@@ -2,3 +2,5 @@ pub mod Jack
 pub mod Starts
 pub mod Trees
 pub mod StatementTrees
+pub mod ClassTrees
+pub mod Whole

@@ -13,7 +13,7 @@ use jack_tree::{Constant, Keyword, Kind, Name, Operator, Sign, Token};
 use scan_text::Place;
 use std::alloc::Global;
 
-fn grammar_fault(place: Place) -> ReadError
+pub fn grammar_fault(place: Place) -> ReadError
     ensures { result ≡ ReadError.Fault (Fault.Grammar place) }
 {
     ReadError::Fault(Fault::Grammar(place))

@@ -5,4 +5,7 @@ mod token;
 mod tree;
 
 pub use token::{Keyword, Kind, Token};
-pub use tree::{Call, Constant, Expression, Name, Operator, Sign, Statement, Term};
+pub use tree::{
+    Call, Class, ClassVariables, Constant, Expression, Form, Locals, Name, Names, Operator,
+    Parameter, Scope, Sign, Statement, Subroutine, Term, Type,
+};

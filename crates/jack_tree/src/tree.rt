@@ -1,5 +1,6 @@
 //! Trees, with the places of names, strings, `this` and statements.
 
+use outer_world::Name as FileName;
 use scan_text::Place;
 
 /// A text of the source, and the place where its token begins: a name, or what is between the quotes of a string.
@@ -81,4 +82,75 @@ pub enum Statement {
     While(Place, Expression, Vec<Statement>),
     Do(Place, Call),
     Return(Place, Option<Expression>),
+}
+
+/// What a value is said to be.
+#[derive(Debug, Drop)]
+pub enum Type {
+    Int,
+    Char,
+    Boolean,
+    Class(Name),
+}
+
+/// One name or more, separated by commas.
+#[derive(Debug, Drop)]
+pub struct Names {
+    pub first: Name,
+    pub more: Vec<Name>,
+}
+
+/// Whether a class has a variable once, or each of its objects has one.
+#[derive(Clone, Copy, Debug, PartialEq, Eq)]
+pub enum Scope {
+    Static,
+    Field,
+}
+
+/// `static` or `field`, a type and names.
+#[derive(Debug, Drop)]
+pub struct ClassVariables {
+    pub scope: Scope,
+    pub kind: Type,
+    pub names: Names,
+}
+
+/// `var`, a type and names.
+#[derive(Debug, Drop)]
+pub struct Locals {
+    pub kind: Type,
+    pub names: Names,
+}
+
+#[derive(Debug, Drop)]
+pub struct Parameter {
+    pub kind: Type,
+    pub name: Name,
+}
+
+#[derive(Clone, Copy, Debug, PartialEq, Eq)]
+pub enum Form {
+    Constructor,
+    Function,
+    Method,
+}
+
+/// A subroutine; without a result it is `void`.
+#[derive(Drop)]
+pub struct Subroutine {
+    pub form: Form,
+    pub result: Option<Type>,
+    pub name: Name,
+    pub parameters: Vec<Parameter>,
+    pub locals: Vec<Locals>,
+    pub statements: Vec<Statement>,
+}
+
+/// A class, with the name of its file.
+#[derive(Drop)]
+pub struct Class {
+    pub file: FileName,
+    pub name: Name,
+    pub variables: Vec<ClassVariables>,
+    pub subroutines: Vec<Subroutine>,
 }
