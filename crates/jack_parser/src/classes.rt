@@ -7,13 +7,13 @@ ghost use Rattle.jack_tree.specs.Tokens.{view};
 ghost use Rattle.jack_parser.specs.Jack.{jack, names_rule, class_variables, locals_rule, parameter, parameter_list, parameters, subroutine, class_rule};
 ghost use Rattle.jack_parser.specs.ClassTrees.{names_tree, variables_tree, locals_tree, parameter_tree, parameters_with, parameters_tree, subroutine_tree, class_tree};
 
-use crate::declared::{form, form_begins, result_type, scope, scope_begins, type_begins, type_name};
+use crate::declared::{
+    form, form_begins, result_type, scope, scope_begins, type_begins, type_name,
+};
 use crate::statements::statements;
 use crate::words::{identifier, keyword, keyword_stands, stands, symbol};
 use grammar::ReadError;
-use jack_tree::{
-    Class, ClassVariables, Keyword, Locals, Names, Parameter, Subroutine, Token,
-};
+use jack_tree::{Class, ClassVariables, Keyword, Locals, Names, Parameter, Subroutine, Token};
 use outer_world::Name as FileName;
 use scan_text::Place;
 use std::alloc::Global;

@@ -90,10 +90,7 @@ pub fn result_type<'a>(
     result_type_at(alloc, tokens, end)
 }
 
-fn scope_at<'a>(
-    tokens: &'a [Token<'a>],
-    end: Place,
-) -> Result<(Scope, &'a [Token<'a>]), ReadError>
+fn scope_at<'a>(tokens: &'a [Token<'a>], end: Place) -> Result<(Scope, &'a [Token<'a>]), ReadError>
     ensures reads { (depth : ℕ) → Gives (λ x. (scope_said x.0, depth, map view x.1.now)) result (word_at (jack end) is_scope free fixed depth (map view tokens.now)) }
     ensures shorter { IfOk result (λ r. length r.1.now < length tokens.now) }
 {
@@ -118,10 +115,7 @@ pub fn scope<'a>(
     scope_at(tokens, end)
 }
 
-fn form_at<'a>(
-    tokens: &'a [Token<'a>],
-    end: Place,
-) -> Result<(Form, &'a [Token<'a>]), ReadError>
+fn form_at<'a>(tokens: &'a [Token<'a>], end: Place) -> Result<(Form, &'a [Token<'a>]), ReadError>
     ensures reads { (depth : ℕ) → Gives (λ x. (form_said x.0, depth, map view x.1.now)) result (word_at (jack end) is_form free fixed depth (map view tokens.now)) }
     ensures shorter { IfOk result (λ r. length r.1.now < length tokens.now) }
 {

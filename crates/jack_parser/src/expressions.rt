@@ -9,8 +9,8 @@ ghost use Rattle.jack_parser.specs.Starts.{start_of};
 ghost use Rattle.jack_parser.specs.Trees.{term_tree, exp_tree, args_tree, list_with, called_tree, invoked_tree, group_tree, front_said, name_said};
 
 use crate::words::{
-    Start, call_begins, constant, deeper, here, identifier, operates, operator, stands, start_at, symbol,
-    term_begins, unary,
+    Start, call_begins, constant, deeper, here, identifier, operates, operator, stands, start_at,
+    symbol, term_begins, unary,
 };
 use grammar::{Fault, ReadError};
 use jack_tree::{Call, Expression, Name, Term, Token};

@@ -4,10 +4,12 @@
 mod classes;
 mod declared;
 mod expressions;
+mod laws;
 mod reading;
 mod statements;
 mod words;
 
+pub use laws::lawful;
 pub use reading::parse_class;
 
 #[cfg(test)]

@@ -24,7 +24,9 @@ fn class(rt: HostRuntime) -> Result<(), Fail> {
     assert!(rt; class.subroutines[0].name.place == at(1, 35));
     assert_eq!(rt; class.subroutines[0].statements.len(), 1);
     // operators are taken from left to right
-    let Statement::Return(place, Some(Expression::Binary(_, operator, right))) = &class.subroutines[0].statements[0] else {
+    let Statement::Return(place, Some(Expression::Binary(_, operator, right))) =
+        &class.subroutines[0].statements[0]
+    else {
         return Err(Fail::from("the statement returns a difference"));
     };
     assert!(rt; *place == at(1, 43));
@@ -53,11 +55,16 @@ fn is_class(alloc: Global, text: &[u8]) -> bool {
 #[test]
 fn faults(rt: HostRuntime) {
     let alloc = rt.alloc();
-    assert!(rt; fault(alloc, b"class C { function void f() { let x = ; } }") == Some(Fault::Grammar(at(1, 39))));
+    assert!(rt;
+        fault(alloc, b"class C { function void f() { let x = ; } }")
+            == Some(Fault::Grammar(at(1, 39)))
+    );
     assert!(rt; fault(alloc, b"/* a") == Some(Fault::Grammar(at(1, 1))));
     assert!(rt; fault(alloc, b"") == Some(Fault::Grammar(at(1, 1))));
     assert!(rt; fault(alloc, b"class C { } }") == Some(Fault::Grammar(at(1, 13))));
-    assert!(rt; fault(alloc, b"class C { function void f() { do x; } }") == Some(Fault::Grammar(at(1, 35))));
+    assert!(rt;
+        fault(alloc, b"class C { function void f() { do x; } }") == Some(Fault::Grammar(at(1, 35)))
+    );
     // a token's fault comes first
     assert!(rt; fault(alloc, b"class { 32768") == Some(Fault::Range(at(1, 9), 32768)));
 }
@@ -65,7 +72,8 @@ fn faults(rt: HostRuntime) {
 // `if` and `else`, `while`, calls, elements, strings and signs.
 #[test]
 fn forms(rt: HostRuntime) {
-    let text = b"class Main { static Array a, b; constructor Main new(int x, char y) { var int i; var boolean p, q; let a[i] = -b[~1]; if (x) { } else { while (true) { do f(); do Main.g(1, \"s\", this); } } return; } }";
+    let text =
+        b"class Main { static Array a, b; constructor Main new(int x, char y) { var int i; var boolean p, q; let a[i] = -b[~1]; if (x) { } else { while (true) { do f(); do Main.g(1, \"s\", this); } } return; } }";
     assert!(rt; is_class(rt.alloc(), text));
     assert!(rt; is_class(rt.alloc(), b"class C {}"));
 }

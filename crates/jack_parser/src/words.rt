@@ -212,10 +212,7 @@ pub fn operator<'a>(
     operator_at(tokens, end)
 }
 
-fn unary_at<'a>(
-    tokens: &'a [Token<'a>],
-    end: Place,
-) -> Result<(Sign, &'a [Token<'a>]), ReadError>
+fn unary_at<'a>(tokens: &'a [Token<'a>], end: Place) -> Result<(Sign, &'a [Token<'a>]), ReadError>
     ensures reads { (depth : ℕ) → Gives (λ x. (sign_said x.0, depth, map view x.1.now)) result (word_at (jack end) negates free fixed depth (map view tokens.now)) }
     ensures shorter { IfOk result (λ r. length r.1.now < length tokens.now) }
 {
@@ -367,7 +364,8 @@ pub fn start_at(tokens: &[Token]) -> Start
         return Start::Other;
     };
     match token.kind {
-        Kind::Keyword(Keyword::True | Keyword::False | Keyword::Null | Keyword::This) => Start::Constant,
+        Kind::Keyword(Keyword::True | Keyword::False | Keyword::Null | Keyword::This) =>
+            Start::Constant,
         Kind::Integer(_) | Kind::Text => Start::Constant,
         Kind::Identifier => Start::Name,
         Kind::Symbol(b'(') => Start::Group,

@@ -138,7 +138,6 @@ argument_list-more-preserved t c = rw c.in_ok-push-2.ensures.items record {
 pub argument_list-returns-clause-reads : goal.argument_list-returns-clause-reads
 argument_list-returns-clause-reads t c = done c.more.invariant.so_far (sym c.stands.ensures ∙ c.more-test.false)
 
-
 pub variable-returns-then-call_begins-clause-reads : goal.variable-returns-then-call_begins-clause-reads
 variable-returns-then-call_begins-clause-reads t c =
     rw (call_is c.in_ok-new-2.field-0, c.in_ok-new-2.ensures.ok, c.in_ok-call.ensures.front) (variable_term c.requires.begun (both c.in_ok-name.ensures.reads (taken (next_right (is_symbol 91) (λ t. is_symbol 40 t || is_symbol 46 t) (map view c.in_ok-name.rest.now) true (sym c.if-stands.ensures) (sym c.if-call_begins.ensures)) (right (sym c.if-stands.ensures) (sym c.if-call_begins.ensures) c.in_ok-call.ensures.reads))))
