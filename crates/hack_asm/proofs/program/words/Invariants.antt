@@ -1,0 +1,8 @@
+use Rattle.std.proofs.Common.{◌≡◌, ◌++◌, drop, map}
+use Rattle.hack_asm.specs.Lines.{line_of}
+use Rattle.hack_asm.specs.Program.{words}
+use Rattle.hack_asm.specs.Entered.{table_of}
+use Rattle.hack_asm.proofs.program.words.Given as goal
+
+abbrev pub invariant-loop-line : goal.invariant-loop-line
+invariant-loop-line l = l.words.items ++ words (table_of l.symbols) (map line_of (drop l.line-index l.lines)) ≡ words (table_of l.symbols) (map line_of l.lines)

@@ -1,0 +1,12 @@
+pub mod Roles
+pub mod Tokens
+pub mod Assembly
+pub mod Lines
+pub mod Before
+pub mod Rest
+pub mod Faults
+pub mod Program
+pub mod Entered
+pub mod Steps
+pub mod Meaning
+pub mod Image

@@ -1,0 +1,224 @@
+-- What the lines of an assembly text mean: symbols have their addresses, and each instruction is a word. (The book, chapter 6: the
+-- first pass enters the labels into a table of symbols, the second one the variables.)
+use Rattle.std.specs.Prelude.{ℕ, ◌+◌, ◌-◌, ◌%◌, Bool, true, false, List, [], ◌∷◌, ◌++◌, Option, Some, None, Result, Ok, Err, if◌then◌else◌, codes, length, nat_lt, nat_eq, ◌||◌, is_some}
+use Rattle.std.specs.Str.{bytes_eq}
+use Rattle.scan_text.specs.declared.Place.{Place}
+use Rattle.hack_isa.specs.Table.{word_of}
+use Rattle.hack_isa.specs.declared.Instr.TheVariants as instr
+use Rattle.hack_asm.specs.declared.token.Letter.{Letter}
+use Rattle.hack_asm.specs.declared.token.Letter.TheVariants.{Zero, One, A, D, M}
+use Rattle.hack_asm.specs.declared.token.Operator.{Operator}
+use Rattle.hack_asm.specs.declared.token.Operator.TheVariants.{Plus, Minus, And, Or}
+use Rattle.hack_asm.specs.declared.lines.Prefix.{Prefix}
+use Rattle.hack_asm.specs.declared.lines.Prefix.TheVariants as prefix
+use Rattle.hack_asm.specs.declared.lines.Comp.{Comp}
+use Rattle.hack_asm.specs.declared.lines.Comp.TheVariants as comp
+use Rattle.hack_asm.specs.declared.lines.Dest.{Dest}
+use Rattle.hack_asm.specs.declared.lines.Dest.TheVariants as dest
+use Rattle.hack_asm.specs.declared.lines.Compute.{Compute}
+use Rattle.hack_asm.specs.Assembly.{is_m}
+use Rattle.hack_asm.specs.Faults.{Wrong, Range, LabelTwice, TooLarge, TooManyVariables}
+use Rattle.hack_asm.specs.Lines.{Line, Symbol, number, symbol, label, address, compute}
+
+-- The word of a computation (the book's table of comp, chapter 4)
+
+-- M stands for A, with the bit a
+abbrev pub plain : Letter → Letter
+plain Zero = Zero
+plain One = One
+plain A = A
+plain D = D
+plain M = A
+
+abbrev pub alone_bits : Letter → ℕ
+alone_bits Zero = 0b101010
+alone_bits One = 0b111111
+alone_bits D = 0b001100
+alone_bits A = 0b110000
+alone_bits M = 0
+
+abbrev pub under_bits : Prefix → Letter → ℕ
+under_bits prefix.Minus One = 0b111010
+under_bits prefix.Minus D = 0b001111
+under_bits prefix.Minus A = 0b110011
+under_bits prefix.Not D = 0b001101
+under_bits prefix.Not A = 0b110001
+under_bits _ _ = 0
+
+abbrev pub sum_bits : Letter → Letter → ℕ
+sum_bits D One = 0b011111
+sum_bits One D = 0b011111
+sum_bits A One = 0b110111
+sum_bits One A = 0b110111
+sum_bits D A = 0b000010
+sum_bits A D = 0b000010
+sum_bits _ _ = 0
+
+abbrev pub difference_bits : Letter → Letter → ℕ
+difference_bits D One = 0b001110
+difference_bits A One = 0b110010
+difference_bits D A = 0b010011
+difference_bits A D = 0b000111
+difference_bits _ _ = 0
+
+-- `&` and `|` stand between D and A in either order
+abbrev pub pair_bits : Letter → Operator → Letter → ℕ
+pair_bits x Plus y = sum_bits x y
+pair_bits x Minus y = difference_bits x y
+pair_bits x And y = 0b000000
+pair_bits x Or y = 0b010101
+
+abbrev pub comp_bits : Comp → ℕ
+comp_bits (comp.Alone x) = alone_bits (plain x)
+comp_bits (comp.Pair x op y) = pair_bits (plain x) op (plain y)
+comp_bits (comp.Under p y) = under_bits p (plain y)
+
+abbrev pub has_memory : Comp → Bool
+has_memory (comp.Alone x) = is_m x
+has_memory (comp.Pair x op y) = is_m x || is_m y
+has_memory (comp.Under p y) = is_m y
+
+abbrev pub register_bit : Letter → ℕ
+register_bit A = 4
+register_bit D = 2
+register_bit M = 1
+register_bit _ = 0
+
+-- three bits
+abbrev pub dest_bits : Dest → ℕ
+dest_bits (dest.Register None) = 0
+dest_bits (dest.Register (Some x)) = register_bit x
+dest_bits (dest.Several bits) = bits % 8
+
+abbrev pub jump_bits : Option ℕ → ℕ
+jump_bits None = 0
+jump_bits (Some bits) = bits % 8
+
+abbrev pub compute_word : Compute → ℕ
+compute_word c = word_of (instr.Compute (has_memory c.comp) (comp_bits c.comp) (dest_bits c.dest) (jump_bits c.jump))
+
+-- Symbols
+
+abbrev pub Table : Type 0
+Table = List (List ℕ × ℕ)
+
+abbrev pub entry_of : Table → List ℕ → Option ℕ
+entry_of [] name = None
+entry_of (e ∷ es) name = if bytes_eq name e.0 then Some e.1 else entry_of es name
+
+abbrev pub predefined_symbols : Table
+predefined_symbols =
+    (codes "R0", 0) ∷ (codes "R1", 1) ∷ (codes "R2", 2) ∷ (codes "R3", 3) ∷ (codes "R4", 4) ∷ (codes "R5", 5)
+    ∷ (codes "R6", 6) ∷ (codes "R7", 7) ∷ (codes "R8", 8) ∷ (codes "R9", 9) ∷ (codes "R10", 10) ∷ (codes "R11", 11)
+    ∷ (codes "R12", 12) ∷ (codes "R13", 13) ∷ (codes "R14", 14) ∷ (codes "R15", 15)
+    ∷ (codes "SP", 0) ∷ (codes "LCL", 1) ∷ (codes "ARG", 2) ∷ (codes "THIS", 3) ∷ (codes "THAT", 4)
+    ∷ (codes "SCREEN", 16384) ∷ (codes "KBD", 24576) ∷ []
+
+abbrev pub address_among : Table → List ℕ → Option ℕ
+address_among [] name = None
+address_among (e ∷ es) name = if bytes_eq e.0 name then Some e.1 else address_among es name
+
+abbrev pub predefined : List ℕ → Option ℕ
+predefined name = address_among predefined_symbols name
+
+-- the address of a symbol that is predefined or entered
+abbrev pub or_entry : Option ℕ → Option ℕ → Option ℕ
+or_entry (Some n) m = Some n
+or_entry None m = m
+
+abbrev pub address_in : Table → List ℕ → Option ℕ
+address_in table name = or_entry (predefined name) (entry_of table name)
+
+abbrev pub with_entry : Table → List ℕ → ℕ → Table
+with_entry table name n = table ++ (name, n) ∷ []
+
+-- The labels of some lines, which n instructions stand before: a label is the number of the instructions before it. The first one
+-- that is predefined or entered already is refused.
+abbrev pub enter_label : Line → ℕ → Table → (ℕ → Table → Result Table Wrong) → Result Table Wrong
+enter_label None n table go = go n table
+enter_label (Some (label s)) n table go = if is_some (address_in table s.name) then Err (LabelTwice s.name s.place) else go n (with_entry table s.name n)
+enter_label (Some (address a)) n table go = go (n + 1) table
+enter_label (Some (compute c)) n table go = go (n + 1) table
+
+abbrev pub labels : ℕ → Table → List Line → Result Table Wrong
+labels n table [] = Ok table
+labels n table (l ∷ ls) = enter_label l n table (λ m t. labels m t ls)
+
+-- the number of instructions
+abbrev pub is_instruction : Line → Bool
+is_instruction None = false
+is_instruction (Some (label s)) = false
+is_instruction (Some (address a)) = true
+is_instruction (Some (compute c)) = true
+
+abbrev pub size : List Line → ℕ
+size [] = 0
+size (l ∷ ls) = (if is_instruction l then 1 else 0) + size ls
+
+-- the symbol that a line uses
+abbrev pub used : Line → Option Symbol
+used None = None
+used (Some (label s)) = None
+used (Some (address (number n))) = None
+used (Some (address (symbol s))) = Some s
+used (Some (compute c)) = None
+
+-- the first use of a label that stands behind all 32,768 words
+abbrev pub is_past : Option ℕ → Bool
+is_past None = false
+is_past (Some n) = nat_eq n 32768
+
+abbrev pub past_use : Table → Option Symbol → Option Place → Option Place
+past_use table None later = later
+past_use table (Some s) later = if is_past (entry_of table s.name) then Some s.place else later
+
+abbrev pub first_past : Table → List Line → Option Place
+first_past table [] = None
+first_past table (l ∷ ls) = past_use table (used l) (first_past table ls)
+
+-- The variables: symbols that are neither predefined nor entered get the next address, in order of first use.
+abbrev pub enter_variable : Option Symbol → ℕ → Table → (ℕ → Table → Table) → Table
+enter_variable None next table go = go next table
+enter_variable (Some s) next table go = if is_some (address_in table s.name) then go next table else go (next + 1) (with_entry table s.name next)
+
+abbrev pub variables : ℕ → Table → List Line → Table
+variables next table [] = table
+variables next table (l ∷ ls) = enter_variable (used l) next table (λ n t. variables n t ls)
+
+-- an address has fifteen bits
+abbrev pub address_word : Option ℕ → ℕ
+address_word None = 0
+address_word (Some n) = n % 32768
+
+-- the word of a line, if it is an instruction
+abbrev pub word_in : Table → Line → Option ℕ
+word_in table None = None
+word_in table (Some (label s)) = None
+word_in table (Some (address (number n))) = Some n
+word_in table (Some (address (symbol s))) = Some (address_word (address_in table s.name))
+word_in table (Some (compute c)) = Some (compute_word c)
+
+abbrev pub with_word : Option ℕ → List ℕ → List ℕ
+with_word None ws = ws
+with_word (Some w) ws = w ∷ ws
+
+abbrev pub words : Table → List Line → List ℕ
+words table [] = []
+words table (l ∷ ls) = with_word (word_in table l) (words table ls)
+
+-- The words of a program, or its first fault: labels first, then its size, then uses of a label at 32,768, then the number of
+-- variables.
+abbrev pub with_variables : Table → Table → List Line → Result (List ℕ) Wrong
+with_variables table all ls =
+    if nat_lt 16368 (length all - length table) then Err (TooManyVariables (length all - length table)) else Ok (words all ls)
+
+abbrev pub if_near : Option Place → Table → List Line → Result (List ℕ) Wrong
+if_near (Some at) table ls = Err (Range at 32768)
+if_near None table ls = with_variables table (variables 16 table ls) ls
+
+abbrev pub labelled : Result Table Wrong → List Line → Result (List ℕ) Wrong
+labelled (Err w) ls = Err w
+labelled (Ok table) ls = if nat_lt 32768 (size ls) then Err (TooLarge (size ls)) else if_near (first_past table ls) table ls
+
+abbrev pub program : List Line → Result (List ℕ) Wrong
+program ls = labelled (labels 0 [] ls) ls

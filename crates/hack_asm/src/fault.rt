@@ -1,0 +1,52 @@
+ghost use Rattle.std.specs.Prelude.{◌≡◌};
+ghost use Rattle.hack_asm.specs.Faults.{asm_fault};
+ghost use Rattle.hack_asm.specs.declared.fault.AsmFault.TheVariants.{Memory};
+
+use grammar::{Fault, ReadError};
+use scan_text::Place;
+use std::alloc::{AllocError, AllocFailed};
+
+/// Why a text is not assembled.
+#[derive(Debug, Drop)]
+pub enum AsmFault {
+    /// The grammar's first rule stops here, or no token begins here.
+    Grammar(Place),
+    /// A number past its limit: one over 32,767, a use of a label that stands at 32,768, a file over 1,048,576 bytes.
+    Range(Place, u32),
+    /// A label that is predefined or stands twice, with its name.
+    LabelTwice(Vec<u8>, Place),
+    /// The number of words, where that is over 32,768.
+    TooLarge(usize),
+    /// The number of variables, where that is over 16,368.
+    TooManyVariables(usize),
+    Memory,
+}
+
+impl From<AllocError> for AsmFault {
+    ghost from_gives = { λ _ e. e ≡ Memory };
+
+    fn from(_e: AllocError) -> AsmFault {
+        AsmFault::Memory
+    }
+}
+
+impl<T: Drop> From<AllocFailed<T>> for AsmFault {
+    ghost from_gives = { λ _ e. e ≡ Memory };
+
+    fn from(_e: AllocFailed<T>) -> AsmFault {
+        AsmFault::Memory
+    }
+}
+
+impl From<ReadError> for AsmFault {
+    ghost from_gives = { λ r e. e ≡ asm_fault r };
+
+    fn from(r: ReadError) -> AsmFault {
+        match r {
+            ReadError::Memory => AsmFault::Memory,
+            ReadError::Fault(Fault::Grammar(at)) => AsmFault::Grammar(at),
+            ReadError::Fault(Fault::Range(at, v)) => AsmFault::Range(at, v),
+            ReadError::Fault(Fault::NotRising(at)) => AsmFault::Grammar(at),
+        }
+    }
+}

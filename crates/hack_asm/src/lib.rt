@@ -1,0 +1,20 @@
+//! Assembly and `.hack` texts of the Hack platform. (The book, chapters 4 and 6.)
+#![tactic(auto)]
+
+mod assembling;
+mod fault;
+mod image;
+mod lexer;
+mod lines;
+mod program;
+mod reading;
+mod rules;
+mod symbols;
+#[cfg(test)]
+mod tests;
+mod token;
+mod words;
+
+pub use assembling::assemble;
+pub use fault::AsmFault;
+pub use image::{put_hack, write_hack};

@@ -1,0 +1,54 @@
+use crate::token::{Letter, Operator};
+use scan_text::Place;
+
+/// `-` or `!` before a letter.
+#[derive(Clone, Copy, Debug)]
+pub enum Prefix {
+    Minus,
+    Not,
+}
+
+/// A computation as it is written.
+#[derive(Clone, Copy, Debug)]
+pub enum Comp {
+    Alone(Letter),
+    Pair(Letter, Operator, Letter),
+    Under(Prefix, Letter),
+}
+
+/// Where a computation goes: to one register at most, or to several, told by their bits.
+#[derive(Clone, Copy, Debug)]
+pub enum Dest {
+    Register(Option<Letter>),
+    Several(u8),
+}
+
+/// A computation with its destination and the bits of its jump.
+#[derive(Clone, Copy, Debug)]
+pub struct Compute {
+    pub dest: Dest,
+    pub comp: Comp,
+    pub jump: Option<u8>,
+}
+
+/// A symbol, and the place where it stands.
+#[derive(Clone, Copy, Debug)]
+pub struct Symbol<'a> {
+    pub name: &'a [u8],
+    pub place: Place,
+}
+
+/// What stands behind `@`.
+#[derive(Clone, Copy, Debug)]
+pub enum Address<'a> {
+    Number(u16),
+    Symbol(Symbol<'a>),
+}
+
+/// What stands on a line that is not blank.
+#[derive(Clone, Copy, Debug)]
+pub enum Item<'a> {
+    Label(Symbol<'a>),
+    Address(Address<'a>),
+    Compute(Compute),
+}

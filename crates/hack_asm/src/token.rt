@@ -1,0 +1,48 @@
+use scan_text::Place;
+
+/// What a token is. A sign is told by its byte.
+#[derive(Clone, Copy, Debug, PartialEq, Eq)]
+pub enum Kind {
+    Sign(u8),
+    Number(u16),
+    Symbol,
+    LineEnd,
+}
+
+/// What a computation is made of: the constants, and the registers.
+#[derive(Clone, Copy, Debug, PartialEq, Eq)]
+pub enum Letter {
+    Zero,
+    One,
+    A,
+    D,
+    M,
+}
+
+#[derive(Clone, Copy, Debug, PartialEq, Eq)]
+pub enum Operator {
+    Plus,
+    Minus,
+    And,
+    Or,
+}
+
+/// What a token can be in an instruction, by its bytes: a letter, an operator, several letters of a destination, told
+/// by their bits, or a jump, told by its bits.
+#[derive(Clone, Copy, Debug, PartialEq, Eq)]
+pub enum Role {
+    Letter(Letter),
+    Operator(Operator),
+    Several(u8),
+    Jump(u8),
+    Plain,
+}
+
+/// A token: its bytes in the source, and the place where it begins. A line end keeps no bytes.
+#[derive(Clone, Copy, Debug)]
+pub struct Token<'a> {
+    pub kind: Kind,
+    pub role: Role,
+    pub text: &'a [u8],
+    pub place: Place,
+}

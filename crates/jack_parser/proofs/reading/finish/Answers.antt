@@ -1,0 +1,6 @@
+use Rattle.grammar.proofs.Steps.{Ends-end}
+use Rattle.jack_parser.specs.Jack.{jack}
+use Rattle.jack_parser.proofs.reading.finish.Goals as goal
+
+pub returns : goal.returns
+returns c = λ end depth. Ends-end (jack end) depth _ _ (c.at_end.ensures end)

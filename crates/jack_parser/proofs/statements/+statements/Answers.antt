@@ -1,0 +1,79 @@
+use Rattle.std.proofs.Common.{◌≡◌, ◌∙◌, ◌≤◌, length, sym, arith, map, false, [], refl}
+use Rattle.std.specs.Prelude.{◌||◌}
+use Rattle.std.proofs.lemmas.Result.{err_from_is_err_and}
+use Rattle.grammar.specs.Rules.{name, both, named, in_name, passed, taken, ended, neither, not_inside}
+use Rattle.grammar.specs.Reading.{fault}
+use Rattle.grammar.proofs.Steps.{next_right}
+use Rattle.grammar.proofs.Repeats.{Along-start, Along-more, Along-ended, Along-halts}
+use Rattle.grammar.proofs.Exits.{halt_second, halt_option, halt_repeat, halt_name, halt_within_at, halt_too_far, inside_at}
+use Rattle.jack_tree.specs.declared.token.Keyword.TheVariants as keyword
+use Rattle.jack_tree.specs.Tokens.{view}
+use Rattle.jack_parser.specs.Jack.{jack, statement, is_keyword}
+use Rattle.jack_parser.specs.StatementTrees.{statement_tree}
+use Rattle.jack_parser.proofs.Blocks.{while_is, if_is}
+use Rattle.jack_parser.proofs.StatementRules.{while_read, if_read}
+use Rattle.jack_parser.proofs.statements.+statements.Goals as goal
+
+pub else_block-returns-then-not-keyword_stands-clause-reads : goal.else_block-returns-then-not-keyword_stands-clause-reads
+else_block-returns-then-not-keyword_stands-clause-reads t c = passed (sym c.if-not-keyword_stands.ensures)
+
+pub else_block-returns-in_err-body-clause-reads : goal.else_block-returns-in_err-body-clause-reads
+else_block-returns-in_err-body-clause-reads t c =
+    let p = err_from_is_err_and c.from_residual-in_err-body.result c.from_residual-in_err-body.ensures.1 in
+    rw (p.1, p.2) (halt_option (sym c.if-not-keyword_stands.ensures) (halt_second c.in_ok-rest.ensures.reads c.in_err-body.ensures.reads))
+
+pub else_block-returns-clause-reads : goal.else_block-returns-clause-reads
+else_block-returns-clause-reads t c = taken (sym c.if-not-keyword_stands.ensures) (both c.in_ok-rest.ensures.reads c.in_ok-body.ensures.reads)
+
+pub statements-returns-then-not-statement_begins-clause-reads : goal.statements-returns-then-not-statement_begins-clause-reads
+statements-returns-then-not-statement_begins-clause-reads t c = rw c.new-statements.ensures.items (ended (sym c.if-not-statement_begins.ensures))
+
+pub statements-returns-in_err-first-clause-reads : goal.statements-returns-in_err-first-clause-reads
+statements-returns-in_err-first-clause-reads t c =
+    let p = err_from_is_err_and c.from_residual.result c.from_residual.ensures.1 in
+    rw (p.1, p.2) (halt_repeat (sym c.if-not-statement_begins.ensures) c.in_err-first.ensures.reads)
+
+pub statements-statements-init : goal.statements-statements-init
+statements-statements-init t c = rw (c.in_ok-push.ensures.items, c.new-statements.ensures.items) record {
+  along = Along-more (jack c.args.end) (name statement) statement_tree _ _ [] _ _ _ _ _ (Along-start (jack c.args.end) (name statement) statement_tree _ _ [] refl) (sym c.if-not-statement_begins.ensures) c.in_ok-first.ensures.reads;
+  no_longer = omega (arith, c.in_ok-first.ensures.shorter);
+}
+
+pub statements-returns-in_err-statement-clause-reads : goal.statements-returns-in_err-statement-clause-reads
+statements-returns-in_err-statement-clause-reads t c =
+    let p = err_from_is_err_and c.from_residual-in_err-statement.result c.from_residual-in_err-statement.ensures.1 in
+    rw (p.1, p.2) (Along-halts (jack c.args.end) (name statement) statement_tree _ _ _ _ _ _ c.statements.invariant.along (sym c.statement_begins-in-statements.ensures ∙ c.statements-test.true) c.in_err-statement.ensures.reads)
+
+pub statements-statements-preserved : goal.statements-statements-preserved
+statements-statements-preserved t c = rw c.in_ok-push-2.ensures.items record {
+  along = Along-more (jack c.args.end) (name statement) statement_tree _ _ _ _ _ _ _ _ c.statements.invariant.along (sym c.statement_begins-in-statements.ensures ∙ c.statements-test.true) c.in_ok-statement.ensures.reads;
+  no_longer = omega (arith, c.in_ok-statement.ensures.shorter, c.statements.invariant.no_longer);
+}
+
+pub statements-returns-clause-reads : goal.statements-returns-clause-reads
+statements-returns-clause-reads t c = Along-ended (jack c.args.end) (name statement) statement_tree _ _ _ _ _ c.statements.invariant.along (sym c.statement_begins-in-statements.ensures ∙ c.statements-test.false)
+
+pub statement-returns-then-not-statement_begins-clause-reads : goal.statement-returns-then-not-statement_begins-clause-reads
+statement-returns-then-not-statement_begins-clause-reads t c = rw c.here.ensures (fault (in_name (not_inside (sym c.if-not-statement_begins.ensures))))
+
+pub statement-returns-in_err-inner-clause-reads : goal.statement-returns-in_err-inner-clause-reads
+statement-returns-in_err-inner-clause-reads t c =
+    let p = err_from_is_err_and c.from_residual.result c.from_residual.ensures.1 in
+    rw (p.1, p.2) (halt_name (halt_too_far (sym c.if-not-statement_begins.ensures) c.here-2.ensures (sym c.in_err-inner.ensures.value)))
+
+pub statement-returns-in_err-statement-clause-reads : goal.statement-returns-in_err-statement-clause-reads
+statement-returns-in_err-statement-clause-reads t c =
+    let p = err_from_is_err_and c.from_residual-in_err-statement.result c.from_residual-in_err-statement.ensures.1 in
+    rw (p.1, p.2) (halt_name (halt_within_at (sym c.if-not-statement_begins.ensures) c.here-2.ensures (sym c.in_ok-inner.ensures.value) c.in_err-statement.ensures.reads))
+
+pub statement-returns-clause-reads : goal.statement-returns-clause-reads
+statement-returns-clause-reads t c = named (inside_at (sym c.if-not-statement_begins.ensures) c.here-2.ensures (sym c.in_ok-inner.ensures.value) c.in_ok-statement.ensures.reads)
+
+pub any_statement-returns-clause-reads : goal.any_statement-returns-clause-reads
+any_statement-returns-clause-reads t c = rw c.here.ensures (fault (neither (sym c.if-keyword_stands.ensures) (next_right (is_keyword keyword.If) (λ t. is_keyword keyword.While t || (is_keyword keyword.Do t || is_keyword keyword.Return t)) (map view c.args.tokens.now) false (sym c.if-keyword_stands-2.ensures) (next_right (is_keyword keyword.While) (λ t. is_keyword keyword.Do t || is_keyword keyword.Return t) (map view c.args.tokens.now) false (sym c.if-keyword_stands-3.ensures) (next_right (is_keyword keyword.Do) (λ t. is_keyword keyword.Return t) (map view c.args.tokens.now) false (sym c.if-keyword_stands-4.ensures) (sym c.if-keyword_stands-5.ensures))))))
+
+pub while_statement-returns-clause-reads : goal.while_statement-returns-clause-reads
+while_statement-returns-clause-reads t c = rw (while_is c.in_ok-place.place c.in_ok-condition.condition c.in_ok-body.body) (while_read c.requires.begun (both c.in_ok-place.ensures.reads (both c.in_ok-condition.ensures.reads c.in_ok-body.ensures.reads)))
+
+pub if_statement-returns-clause-reads : goal.if_statement-returns-clause-reads
+if_statement-returns-clause-reads t c = rw (if_is c.in_ok-place.place c.in_ok-condition.condition c.in_ok-body.body c.in_ok-other.other) (if_read c.requires.begun (both c.in_ok-place.ensures.reads (both c.in_ok-condition.ensures.reads (both c.in_ok-body.ensures.reads c.in_ok-other.ensures.reads))))

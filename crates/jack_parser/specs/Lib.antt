@@ -1,0 +1,6 @@
+pub mod Jack
+pub mod Starts
+pub mod Trees
+pub mod StatementTrees
+pub mod ClassTrees
+pub mod Whole

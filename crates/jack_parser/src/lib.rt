@@ -1,0 +1,16 @@
+//! The reader of Jack classes (book, chapter 10).
+#![tactic(auto)]
+
+mod classes;
+mod declared;
+mod expressions;
+mod laws;
+mod reading;
+mod statements;
+mod words;
+
+pub use laws::lawful;
+pub use reading::parse_class;
+
+#[cfg(test)]
+mod tests;

@@ -1,0 +1,69 @@
+//! A whole text.
+
+ghost use Rattle.std.specs.Prelude.{◌≡◌, length, map, Ok, Err, IfOk, IfErr, ℕ, Result};
+ghost use Rattle.scan_text.specs.declared.Place.{Place};
+ghost use Rattle.grammar.specs.Rules.{Tree};
+ghost use Rattle.grammar.specs.declared.Fault.{Fault};
+ghost use Rattle.grammar.specs.Reading.{ParsesAllBy, Halt, Gives, end_at, Ends};
+ghost use Rattle.jack_tree.specs.Tokens.{view};
+ghost use Rattle.jack_parser.specs.Jack.{jack, Said, whole};
+ghost use Rattle.jack_parser.specs.Whole.{whole_tree, Spells, Refuses};
+
+use crate::classes::class;
+use crate::words::grammar_fault;
+use grammar::ReadError;
+use jack_lexer::tokens;
+use jack_tree::{Class, Token};
+use outer_world::Name as FileName;
+use scan_text::Place;
+use std::alloc::Global;
+
+fn at_end(tokens: &[Token]) -> Result<(), ReadError>
+    ensures { (end : Place) → Gives (λ _. tt) result (end_at (jack end) (map view tokens.now)) }
+{
+    match tokens.split_first() {
+        None => Ok(()),
+        Some((token, _)) => Err(grammar_fault(token.place)),
+    }
+}
+
+fn finish(tokens: &[Token]) -> Result<(), ReadError>
+    ensures { (end : Place) (depth : ℕ) → Ends (jack end) depth (map view tokens.now) result }
+{
+    at_end(tokens)
+}
+
+fn all(alloc: Global, file: FileName, tokens: &[Token], end: Place) -> Result<Class, ReadError>
+    ensures reads { ParsesAllBy view (jack end) whole whole_tree (λ _. 0) 0 tokens.now result }
+    ensures file { IfOk result (λ c. c.file ≡ file) }
+{
+    let (class, rest) = class(alloc, file, tokens, end, 0)?;
+    finish(rest)?;
+    Ok(class)
+}
+
+fn read(alloc: Global, file: &FileName, text: &[u8]) -> Result<Class, ReadError>
+    ensures found { IfOk result (λ c. Spells text.now (whole_tree c)) }
+    ensures fault { IfErr result (Halt (Refuses text.now)) }
+    ensures file { IfOk result (λ c. c.file ≡ file.now) }
+{
+    let (tokens, end) = tokens(alloc, text)?;
+    let file = file.clone()?;
+    all(alloc, file, &tokens, end)
+}
+
+/// The class that a text spells, with the name of its file.
+///
+/// Grammar where a rule of the grammar stops, Range past a limit: an integer over 32,767, the 257th level of statements, `(`, `[` and
+/// operators before a term, a string of more than 16,384 bytes, a text of more than 1,048,576 (at 0:0).
+pub fn parse_class(alloc: Global, file: &FileName, text: &[u8]) -> Result<Class, ReadError>
+    // What is read is spelled so, and what is spelled is read, unless memory runs out.
+    ensures found { IfOk result (λ c. Spells text.now (whole_tree c)) }
+    ensures only { (t : Tree Said) → Spells text.now t → Gives whole_tree result (Ok t) }
+    // A fault is the text's first one, and each text with a fault gets it.
+    ensures fault { IfErr result (Halt (Refuses text.now)) }
+    ensures exact { (f : Fault) → Refuses text.now f → Gives whole_tree result (Err f) }
+    ensures file { IfOk result (λ c. c.file ≡ file.now) }
+{
+    read(alloc, file, text)
+}

@@ -1,0 +1,436 @@
+//! Readers of one token.
+
+ghost use Rattle.jack_tree.specs.Tokens.{view};
+ghost use Rattle.std.specs.Prelude.{map, ◌≡◌, ◌<◌, ◌≤◌, ◌-◌, ◌+◌, ◌^◌, take, drop, length, Some, None, Result, Ok, List, IfOk, ℕ, IfSome, is_some, [], ◌||◌};
+ghost use Rattle.grammar.specs.Reading.{ParsesBy, PassesBy, Gives, word_at, mark_at};
+ghost use Rattle.grammar.specs.Rules.{Leaf, next, here};
+ghost use Rattle.jack_parser.specs.Jack.{jack, is_symbol, is_keyword, is_identifier, is_constant, free, check_constant, named, placed, fixed, constant_said, identifier, constant, operator, unary, key, operates, negates, term_opens, statement_opens, deeper, Said, symbol_of, keyword_of, is_operator, is_unary, unquoted};
+ghost use Rattle.jack_parser.specs.Starts.{start_of};
+ghost use Rattle.jack_parser.specs.Trees.{name_said, operator_said, operator_byte, sign_said, sign_byte, constant_leaf_said, IsString};
+
+use grammar::{Fault, ReadError};
+use jack_tree::{Constant, Keyword, Kind, Name, Operator, Sign, Token};
+use scan_text::Place;
+use std::alloc::Global;
+
+pub fn grammar_fault(place: Place) -> ReadError
+    ensures { result ≡ ReadError.Fault (Fault.Grammar place) }
+{
+    ReadError::Fault(Fault::Grammar(place))
+}
+
+fn symbol_at<'a>(
+    tokens: &'a [Token<'a>],
+    end: Place,
+    sign: u8,
+) -> Result<&'a [Token<'a>], ReadError>
+    ensures reads { Gives (λ x. map view x.now) result (mark_at (jack end) (is_symbol sign) (map view tokens.now)) }
+    ensures shorter { IfOk result (λ r. length r.now < length tokens.now) }
+{
+    let Some((token, rest)) = tokens.split_first() else {
+        return Err(grammar_fault(end));
+    };
+    let Kind::Symbol(other) = token.kind else {
+        return Err(grammar_fault(token.place));
+    };
+    if other != sign {
+        return Err(grammar_fault(token.place));
+    }
+    Ok(rest)
+}
+
+pub fn symbol<'a>(
+    tokens: &'a [Token<'a>],
+    end: Place,
+    depth: u32,
+    sign: u8,
+) -> Result<&'a [Token<'a>], ReadError>
+    ensures reads { PassesBy view (jack end) (symbol_of sign) depth tokens.now result }
+    ensures shorter { IfOk result (λ r. length r.now < length tokens.now) }
+{
+    symbol_at(tokens, end, sign)
+}
+
+fn keyword_at<'a>(
+    tokens: &'a [Token<'a>],
+    end: Place,
+    keyword: Keyword,
+) -> Result<&'a [Token<'a>], ReadError>
+    ensures reads { Gives (λ x. map view x.now) result (mark_at (jack end) (is_keyword keyword) (map view tokens.now)) }
+    ensures shorter { IfOk result (λ r. length r.now < length tokens.now) }
+{
+    let Some((token, rest)) = tokens.split_first() else {
+        return Err(grammar_fault(end));
+    };
+    let Kind::Keyword(other) = token.kind else {
+        return Err(grammar_fault(token.place));
+    };
+    if other == keyword {
+        Ok(rest)
+    } else {
+        Err(grammar_fault(token.place))
+    }
+}
+
+pub fn keyword<'a>(
+    tokens: &'a [Token<'a>],
+    end: Place,
+    depth: u32,
+    keyword: Keyword,
+) -> Result<&'a [Token<'a>], ReadError>
+    ensures reads { PassesBy view (jack end) (keyword_of keyword) depth tokens.now result }
+    ensures shorter { IfOk result (λ r. length r.now < length tokens.now) }
+{
+    keyword_at(tokens, end, keyword)
+}
+
+fn key_at<'a>(
+    tokens: &'a [Token<'a>],
+    end: Place,
+    keyword: Keyword,
+) -> Result<(Place, &'a [Token<'a>]), ReadError>
+    ensures reads { (depth : ℕ) → Gives (λ x. (Said.Placed (Kind.Keyword keyword) [] x.0, depth, map view x.1.now)) result (word_at (jack end) (is_keyword keyword) free placed depth (map view tokens.now)) }
+    ensures shorter { IfOk result (λ r. length r.1.now < length tokens.now) }
+{
+    let Some((token, rest)) = tokens.split_first() else {
+        return Err(grammar_fault(end));
+    };
+    let Kind::Keyword(other) = token.kind else {
+        return Err(grammar_fault(token.place));
+    };
+    if other == keyword {
+        Ok((token.place, rest))
+    } else {
+        Err(grammar_fault(token.place))
+    }
+}
+
+/// A keyword, whose place is told.
+pub fn key<'a>(
+    tokens: &'a [Token<'a>],
+    end: Place,
+    depth: u32,
+    keyword: Keyword,
+) -> Result<(Place, &'a [Token<'a>]), ReadError>
+    ensures reads { ParsesBy view (jack end) (key keyword) (λ at. Leaf (Said.Placed (Kind.Keyword keyword) [] at)) (λ _. depth) depth tokens.now result }
+    ensures shorter { IfOk result (λ r. length r.1.now < length tokens.now) }
+{
+    key_at(tokens, end, keyword)
+}
+
+fn identifier_at<'a>(
+    alloc: Global,
+    tokens: &'a [Token<'a>],
+    end: Place,
+) -> Result<(Name, &'a [Token<'a>]), ReadError>
+    ensures reads { (depth : ℕ) → Gives (λ x. (name_said x.0, depth, map view x.1.now)) result (word_at (jack end) is_identifier free named depth (map view tokens.now)) }
+    ensures shorter { IfOk result (λ r. length r.1.now < length tokens.now) }
+{
+    let Some((token, rest)) = tokens.split_first() else {
+        return Err(grammar_fault(end));
+    };
+    let Kind::Identifier = token.kind else {
+        return Err(grammar_fault(token.place));
+    };
+    Ok((
+        Name {
+            text: Vec::from_slice(alloc, token.text)?,
+            place: token.place,
+        },
+        rest,
+    ))
+}
+
+pub fn identifier<'a>(
+    alloc: Global,
+    tokens: &'a [Token<'a>],
+    end: Place,
+    depth: u32,
+) -> Result<(Name, &'a [Token<'a>]), ReadError>
+    ensures reads { ParsesBy view (jack end) identifier (λ x. Leaf (name_said x)) (λ _. depth) depth tokens.now result }
+    ensures shorter { IfOk result (λ r. length r.1.now < length tokens.now) }
+{
+    identifier_at(alloc, tokens, end)
+}
+
+fn operator_of(byte: u8) -> Option<Operator>
+    ensures some { IfSome result (λ o. operator_byte o ≡ byte) }
+    ensures is { is_some result ≡ is_operator byte }
+{
+    match byte {
+        b'+' => Some(Operator::Plus),
+        b'-' => Some(Operator::Minus),
+        b'*' => Some(Operator::Times),
+        b'/' => Some(Operator::Divide),
+        b'&' => Some(Operator::And),
+        b'|' => Some(Operator::Or),
+        b'<' => Some(Operator::Less),
+        b'>' => Some(Operator::Greater),
+        b'=' => Some(Operator::Equal),
+        _ => None,
+    }
+}
+
+fn sign_of(byte: u8) -> Option<Sign>
+    ensures some { IfSome result (λ s. sign_byte s ≡ byte) }
+    ensures is { is_some result ≡ is_unary byte }
+{
+    match byte {
+        b'-' => Some(Sign::Minus),
+        b'~' => Some(Sign::Not),
+        _ => None,
+    }
+}
+
+fn operator_at<'a>(
+    tokens: &'a [Token<'a>],
+    end: Place,
+) -> Result<(Operator, &'a [Token<'a>]), ReadError>
+    ensures reads { (depth : ℕ) → Gives (λ x. (operator_said x.0, depth, map view x.1.now)) result (word_at (jack end) operates free fixed depth (map view tokens.now)) }
+    ensures shorter { IfOk result (λ r. length r.1.now < length tokens.now) }
+{
+    let Some((token, rest)) = tokens.split_first() else {
+        return Err(grammar_fault(end));
+    };
+    let Kind::Symbol(byte) = token.kind else {
+        return Err(grammar_fault(token.place));
+    };
+    let Some(operator) = operator_of(byte) else {
+        return Err(grammar_fault(token.place));
+    };
+    Ok((operator, rest))
+}
+
+pub fn operator<'a>(
+    tokens: &'a [Token<'a>],
+    end: Place,
+    depth: u32,
+) -> Result<(Operator, &'a [Token<'a>]), ReadError>
+    ensures reads { ParsesBy view (jack end) operator (λ x. Leaf (operator_said x)) (λ _. depth) depth tokens.now result }
+    ensures shorter { IfOk result (λ r. length r.1.now < length tokens.now) }
+{
+    operator_at(tokens, end)
+}
+
+fn unary_at<'a>(tokens: &'a [Token<'a>], end: Place) -> Result<(Sign, &'a [Token<'a>]), ReadError>
+    ensures reads { (depth : ℕ) → Gives (λ x. (sign_said x.0, depth, map view x.1.now)) result (word_at (jack end) negates free fixed depth (map view tokens.now)) }
+    ensures shorter { IfOk result (λ r. length r.1.now < length tokens.now) }
+{
+    let Some((token, rest)) = tokens.split_first() else {
+        return Err(grammar_fault(end));
+    };
+    let Kind::Symbol(byte) = token.kind else {
+        return Err(grammar_fault(token.place));
+    };
+    let Some(sign) = sign_of(byte) else {
+        return Err(grammar_fault(token.place));
+    };
+    Ok((sign, rest))
+}
+
+pub fn unary<'a>(
+    tokens: &'a [Token<'a>],
+    end: Place,
+    depth: u32,
+) -> Result<(Sign, &'a [Token<'a>]), ReadError>
+    ensures reads { ParsesBy view (jack end) unary (λ x. Leaf (sign_said x)) (λ _. depth) depth tokens.now result }
+    ensures shorter { IfOk result (λ r. length r.1.now < length tokens.now) }
+{
+    unary_at(tokens, end)
+}
+
+fn unquoted(text: &[u8]) -> &[u8]
+    ensures { result.now ≡ unquoted text.now }
+{
+    let inside = text.len().saturating_sub(2);
+    let from = text.len().min(1);
+    &text[from..from + inside]
+}
+
+// A string, at most 16,384 bytes.
+fn string(alloc: Global, text: &[u8], place: Place) -> Result<Constant, ReadError>
+    ensures { IsString text.now place result }
+{
+    let inside = unquoted(text);
+    if inside.len() > 16_384 {
+        return Err(ReadError::Fault(Fault::Range(place, inside.len().min(1_000_000_000) as u32)));
+    }
+    Ok(Constant::Text(Name {
+        text: Vec::from_slice(alloc, inside)?,
+        place,
+    }))
+}
+
+fn constant_at<'a>(
+    alloc: Global,
+    tokens: &'a [Token<'a>],
+    end: Place,
+) -> Result<(Constant, &'a [Token<'a>]), ReadError>
+    ensures reads { (depth : ℕ) → Gives (λ x. (constant_leaf_said x.0, depth, map view x.1.now)) result (word_at (jack end) is_constant check_constant constant_said depth (map view tokens.now)) }
+    ensures shorter { IfOk result (λ r. length r.1.now < length tokens.now) }
+{
+    let Some((token, rest)) = tokens.split_first() else {
+        return Err(grammar_fault(end));
+    };
+    match token.kind {
+        Kind::Integer(n) => Ok((Constant::Integer(n), rest)),
+        Kind::Text => Ok((string(alloc, token.text, token.place)?, rest)),
+        Kind::Keyword(Keyword::True) => Ok((Constant::True, rest)),
+        Kind::Keyword(Keyword::False) => Ok((Constant::False, rest)),
+        Kind::Keyword(Keyword::Null) => Ok((Constant::Null, rest)),
+        Kind::Keyword(Keyword::This) => Ok((Constant::This(token.place), rest)),
+        _ => Err(grammar_fault(token.place)),
+    }
+}
+
+pub fn constant<'a>(
+    alloc: Global,
+    tokens: &'a [Token<'a>],
+    end: Place,
+    depth: u32,
+) -> Result<(Constant, &'a [Token<'a>]), ReadError>
+    ensures reads { ParsesBy view (jack end) constant (λ x. Leaf (constant_leaf_said x)) (λ _. depth) depth tokens.now result }
+    ensures shorter { IfOk result (λ r. length r.1.now < length tokens.now) }
+{
+    constant_at(alloc, tokens, end)
+}
+
+/// An operator comes next.
+pub fn operates(tokens: &[Token]) -> bool
+    ensures { result ≡ next operates (map view tokens.now) }
+{
+    let Some(token) = tokens.first() else {
+        return false;
+    };
+    let Kind::Symbol(byte) = token.kind else {
+        return false;
+    };
+    operator_of(byte).is_some()
+}
+
+/// A certain symbol comes next.
+pub fn stands(tokens: &[Token], sign: u8) -> bool
+    ensures { result ≡ next (is_symbol sign) (map view tokens.now) }
+{
+    let Some(token) = tokens.first() else {
+        return false;
+    };
+    let Kind::Symbol(other) = token.kind else {
+        return false;
+    };
+    other == sign
+}
+
+/// A certain keyword comes next.
+pub fn keyword_stands(tokens: &[Token], keyword: Keyword) -> bool
+    ensures { result ≡ next (is_keyword keyword) (map view tokens.now) }
+{
+    let Some(token) = tokens.first() else {
+        return false;
+    };
+    let Kind::Keyword(other) = token.kind else {
+        return false;
+    };
+    other == keyword
+}
+
+/// What makes a name a call comes next.
+pub fn call_begins(tokens: &[Token]) -> bool
+    ensures { result ≡ next (λ t. is_symbol 40 t || is_symbol 46 t) (map view tokens.now) }
+{
+    let Some(token) = tokens.first() else {
+        return false;
+    };
+    let Kind::Symbol(byte) = token.kind else {
+        return false;
+    };
+    byte == b'(' || byte == b'.'
+}
+
+/// The kinds of terms, by their first token.
+#[derive(Clone, Copy)]
+pub enum Start {
+    Constant,
+    Name,
+    Group,
+    Negation,
+    Other,
+}
+
+pub fn start_at(tokens: &[Token]) -> Start
+    ensures { result ≡ start_of (map view tokens.now) }
+{
+    let Some(token) = tokens.first() else {
+        return Start::Other;
+    };
+    match token.kind {
+        Kind::Keyword(Keyword::True | Keyword::False | Keyword::Null | Keyword::This) =>
+            Start::Constant,
+        Kind::Integer(_) | Kind::Text => Start::Constant,
+        Kind::Identifier => Start::Name,
+        Kind::Symbol(b'(') => Start::Group,
+        Kind::Symbol(b'-' | b'~') => Start::Negation,
+        _ => Start::Other,
+    }
+}
+
+/// A term can begin here.
+pub fn term_begins(tokens: &[Token]) -> bool
+    ensures { result ≡ next term_opens (map view tokens.now) }
+{
+    let Some(token) = tokens.first() else {
+        return false;
+    };
+    match token.kind {
+        Kind::Keyword(Keyword::True | Keyword::False | Keyword::Null | Keyword::This) => true,
+        Kind::Integer(_) | Kind::Text | Kind::Identifier => true,
+        Kind::Symbol(b'(' | b'-' | b'~') => true,
+        _ => false,
+    }
+}
+
+/// A statement can begin here.
+pub fn statement_begins(tokens: &[Token]) -> bool
+    ensures { result ≡ next statement_opens (map view tokens.now) }
+{
+    let Some(token) = tokens.first() else {
+        return false;
+    };
+    let Kind::Keyword(keyword) = token.kind else {
+        return false;
+    };
+    if keyword == Keyword::Let {
+        return true;
+    }
+    if keyword == Keyword::If {
+        return true;
+    }
+    if keyword == Keyword::While {
+        return true;
+    }
+    if keyword == Keyword::Do {
+        return true;
+    }
+    keyword == Keyword::Return
+}
+
+/// The place of the next token.
+pub fn here(tokens: &[Token], end: Place) -> Place
+    ensures { result ≡ here (jack end) (map view tokens.now) }
+{
+    match tokens.first() {
+        None => end,
+        Some(token) => token.place,
+    }
+}
+
+/// One level deeper.
+pub fn deeper(depth: u32, place: Place) -> Result<u32, Fault>
+    ensures value { result ≡ deeper depth place }
+    ensures bounded { IfOk result (λ d. d ≤ 256) }
+{
+    if depth >= 256 {
+        return Err(Fault::Range(place, 257));
+    }
+    Ok(depth + 1)
+}
