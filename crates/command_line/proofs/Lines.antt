@@ -1,8 +1,8 @@
 -- From the matches of `clap` to lines.
-use Rattle.std.proofs.Common.{◌≡◌, ◌≢◌, [], ℕ, List, Option, Some, true, refl, sym, ◌∙◌, ap, subst, codes, inl, inr}
+use Rattle.std.proofs.Common.{◌≡◌, ◌≢◌, [], ℕ, List, Option, Some, true, refl, sym, ◌∙◌, ap, subst, codes, inl, inr, slice_index, arith}
 use Rattle.std.specs.Str.Parse.{digits_value}
 use Rattle.clap.specs.Kinds.{HasKind, Kinds}
-use Rattle.clap.specs.Walk.{Row, Text}
+use Rattle.clap.specs.Walk.{Row, Text, first_of}
 use Rattle.clap.specs.Simple.{App, is_simple, subcommand_of}
 use Rattle.clap.specs.Faults.{fault_of, is_simple_and_free}
 use Rattle.clap.specs.Values.{kind_of}
@@ -10,12 +10,20 @@ use Rattle.clap.specs.declared.error.ErrorKind.TheVariants as kind
 use Rattle.clap.specs.declared.Error.{Error}
 use Rattle.clap.proofs.OnLiterals.{clap_on_literals}
 use Rattle.command_line.specs.Table.{table}
-use Rattle.command_line.specs.Line.{AreOneLine, IsInRange, IsLine, IsReading, Line, NumberIn, PathIn, exec}
+use Rattle.command_line.specs.Line.{AreOneLine, IsInRange, IsLine, IsReading, Line, NumberIn, PathIn, asm, exec}
+
+-- texts that differ at one place are not the same
+differ : (i : ℕ) → (xs ys : List ℕ) → (slice_index xs i ≡ slice_index ys i → ⊥) → xs ≡ ys → ⊥
+differ i xs ys apart same = apart (ap (λ s. slice_index s i) same)
+
+exec_is_not_asm : codes "exec" ≡ codes "asm" → ⊥
+exec_is_not_asm = differ 0 (codes "exec") (codes "asm") (λ e. let h : 101 ≡ 97 = e in omega (arith, h))
 
 -- ---- the matches of a command are those of its own lines only
 
 pub no_exec : (rows : List Row) → ((path : Text) (c f t : ℕ) → ¬ IsReading (codes "exec") rows (exec path c f t)) → (l : Line) → ¬ IsReading (codes "exec") rows l
 no_exec rows none (exec path c f t) h = none path c f t h
+no_exec rows none (asm path) h = exec_is_not_asm h.0
 
 -- ---- the table
 
@@ -56,6 +64,7 @@ fault_line a ws e is fails other l (free, name, rows, found, reading) =
 -- ---- the numbers
 
 pub in_range : (ws : List Text) (l : Line) → IsLine ws l → IsInRange l
+in_range ws (asm path) h = tt
 in_range ws (exec path c f t) (free, name, rows, found, reading) = (reading.2.2.small, reading.3.2.small, reading.4.2.small)
 
 -- ---- words are at most one line
@@ -67,6 +76,10 @@ same_rows : (found : Option (Text × List Row)) (name other : Text) (rows others
 same_rows found name other rows others e f =
     ap (λ (p : Text × List Row). p.1) (same_found {X = Text × List Row} found (name, rows) (other, others) e f)
 
+same_name : (found : Option (Text × List Row)) (name other : Text) (rows others : List Row) → found ≡ Some (name, rows) → found ≡ Some (other, others) → name ≡ other
+same_name found name other rows others e f =
+    ap (λ (p : Text × List Row). p.0) (same_found {X = Text × List Row} found (name, rows) (other, others) e f)
+
 same_path : (rows : List Row) (path other : Text) → PathIn rows path → PathIn rows other → path ≡ other
 same_path rows path other (e, _) (f, _) = cc
 
@@ -75,8 +88,16 @@ same_number rows id most n m (text, e, h) (other, f, k) =
     let same : text ≡ other = cc in
     sym h.value ∙ ap (digits_value 10) same ∙ k.value
 
-same_line : (name other : Text) (rows others : List Row) (l m : Line) → rows ≡ others → IsReading name rows l → IsReading other others m → l ≡ m
-same_line name other rows others (exec p c f t) (exec q d g u) same h k =
+same_word : (rows : List Row) (path other : Text) → first_of (codes "path") rows ≡ Some path → first_of (codes "path") rows ≡ Some other → path ≡ other
+same_word rows path other e f = cc
+
+same_line : (name other : Text) (rows others : List Row) (l m : Line) → rows ≡ others → IsReading name rows l → IsReading other others m → name ≡ other → l ≡ m
+same_line name other rows others (asm p) (asm q) same h k named =
+    let R : List Row → Type 0 = λ r. IsReading other r (asm q) in
+    ap asm (same_word rows p q h.1 (subst R (sym same) k).1)
+same_line name other rows others (asm p) (exec q d g u) same h k named = absurd (exec_is_not_asm (sym k.0 ∙ sym named ∙ h.0))
+same_line name other rows others (exec p c f t) (asm q) same h k named = absurd (exec_is_not_asm (sym h.0 ∙ named ∙ k.0))
+same_line name other rows others (exec p c f t) (exec q d g u) same h k named =
     let R : List Row → Type 0 = λ r. IsReading other r (exec q d g u) in
     let k' = subst R (sym same) k in
     let path : p ≡ q = same_path rows p q h.1 k'.1 in
@@ -88,3 +109,4 @@ same_line name other rows others (exec p c f t) (exec q d g u) same h k =
 pub one_line : AreOneLine
 one_line words l m (_, name, rows, found, h) (_, other, others, found', k) =
     same_line name other rows others l m (same_rows (subcommand_of table words) name other rows others found found') h k
+    (same_name (subcommand_of table words) name other rows others found found')

@@ -1,5 +1,5 @@
 -- The command lines: which words are a line, and what the line asks for.
-use Rattle.std.specs.Prelude.{◌≡◌, ◌≤◌, ℕ, false, List, [], Option, Some, None, codes, nat_eq}
+use Rattle.std.specs.Prelude.{◌≡◌, ◌≤◌, ⊤, ℕ, false, List, [], Option, Some, None, codes, nat_eq}
 use Rattle.std.specs.List.{ends_with}
 use Rattle.std.specs.Str.Parse.{IsNumeral, digits_value}
 use Rattle.clap.specs.Walk.{Row, Text, first_of, rows_of}
@@ -13,6 +13,7 @@ use Rattle.command_line.specs.declared.request.Request.TheVariants as request
 
 -- What a line asks for: a command with its values. A path is the bytes of its word.
 pub data Line : Type 0 where
+  asm : (path : Text) → Line
   exec : (path : Text) (cycles from to : ℕ) → Line
 
 -- One or more decimal digits and nothing else, which write a number of at most `most`.
@@ -25,8 +26,8 @@ pub record IsNumber (text : List ℕ) (most n : ℕ) : Type 0 where
 abbrev pub NumberIn : List Row → Text → ℕ → ℕ → Type 0
 NumberIn rows id most n = (text : Text) × (first_of id rows ≡ Some text) × IsNumber text most n
 
--- The path of an assembly file: it does not end in `.hack`. Files of words, which end so, come with the
--- assembler.
+-- The path of an assembly file: it does not end in `.hack`, as files of words do, which `exec` does not read
+-- yet.
 pub record IsAssembly (path : Text) : Type 0 where
   pub no_image : ends_with nat_eq path (codes ".hack") ≡ false
 
@@ -36,6 +37,7 @@ PathIn rows path = (first_of (codes "path") rows ≡ Some path) × IsAssembly pa
 
 -- The matches of the command `name` are those of the line: a case for each row of the table.
 abbrev pub IsReading : Text → List Row → Line → Type 0
+IsReading name rows (asm path) = (name ≡ codes "asm") × (first_of (codes "path") rows ≡ Some path)
 IsReading name rows (exec path cycles from to) =
     (name ≡ codes "exec") × PathIn rows path
     × NumberIn rows (codes "cycles") 1000000000 cycles
@@ -58,12 +60,14 @@ AreOneLine = (words : List Text) (line other : Line) → IsLine words line → I
 
 -- The numbers of a line are within their ranges.
 abbrev pub IsInRange : Line → Type 0
+IsInRange (asm path) = ⊤
 IsInRange (exec path cycles from to) = (cycles ≤ 1000000000) × (from ≤ 32767) × (to ≤ 32767)
 
 -- ---- the code's side
 
 -- the line that a request of the code is
 abbrev pub line_of : Request → Line
+line_of (request.Asm path) = asm path.now
 line_of (request.Exec e) = exec e.path.now e.cycles e.from e.to
 
 -- the matches of a command, as rows

@@ -17,7 +17,15 @@ option_rule name = record (new_rule name) { long = Some name; required = true }
 abbrev pub command : Text → List Rule → Shape
 command name rules = record (new_shape name) { rules = rules }
 
+-- a row with a path alone
+abbrev pub path_command : Text → Shape
+path_command name = command name (word_rule (codes "path") ∷ [])
+
 -- ---- the rows
+
+-- `asm F`
+abbrev pub asm_command : Shape
+asm_command = path_command (codes "asm")
 
 -- `exec F --cycles N --from A --to B`
 abbrev pub exec_command : Shape
@@ -38,5 +46,5 @@ bare_table = record {
 abbrev pub table : App
 table = record bare_table {
   top = record bare_table.top { is_leaf = false };
-  subs = exec_command ∷ [];
+  subs = asm_command ∷ exec_command ∷ [];
 }

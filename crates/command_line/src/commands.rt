@@ -2,7 +2,7 @@
 ghost use Rattle.std.specs.Prelude.{◌≡◌, IfOk, false};
 ghost use Rattle.clap.specs.Words.{app_of, rule_of, shape_of};
 ghost use Rattle.clap.specs.declared.builder.Command.TheViews.{out-Command as fields_of};
-ghost use Rattle.command_line.specs.Table.{bare_table, exec_command, option_rule, word_rule};
+ghost use Rattle.command_line.specs.Table.{bare_table, exec_command, option_rule, path_command, word_rule};
 ghost use Rattle.command_line.specs.Table as table;
 
 use clap::{Arg, Command};
@@ -22,6 +22,14 @@ fn option(alloc: Global, name: &str) -> Arg<'_>
     ensures local { result.global ≡ false }
 {
     Arg::new(alloc, name).long(name).required(true)
+}
+
+// A command with a path alone.
+fn path_only<'a>(alloc: Global, name: &'a str) -> Result<Command<'a>, AllocError>
+    ensures shape { IfOk result (λ c. shape_of c ≡ path_command name.now) }
+    ensures local { IfOk result (λ c. (fields_of c).has_globals ≡ false) }
+{
+    Command::new(alloc, name).arg(word(alloc, "path"))
 }
 
 fn exec<'a>(alloc: Global) -> Result<Command<'a>, AllocError>
@@ -48,5 +56,7 @@ fn bare<'a>(alloc: Global) -> Command<'a>
 pub fn table<'a>(alloc: Global) -> Result<Command<'a>, AllocError>
     ensures { IfOk result (λ c. app_of c ≡ table.table) }
 {
-    bare(alloc).subcommand(exec(alloc)?)
+    bare(alloc)
+        .subcommand(path_only(alloc, "asm")?)?
+        .subcommand(exec(alloc)?)
 }

@@ -31,7 +31,7 @@ fn text_in<'a>(matches: &ArgMatches<'a>, id: &str) -> Option<&'a str>
     matches.get_str(id)
 }
 
-// Whether a path is that of an assembly file. Files of words come with the assembler.
+// Whether a path is that of an assembly file: files of words are not read yet.
 fn is_assembly(path: &str) -> bool
     ensures { MatchBool result (IsAssembly path.now) (IsAssembly path.now → ⊥) }
 {
@@ -52,6 +52,13 @@ fn number_in(matches: &ArgMatches<'_>, id: &str, most: u32) -> Option<u32>
     ensures { ReadsNumber (rows_in matches.now) id.now most result }
 {
     number(text_in(matches, id)?.as_bytes(), most)
+}
+
+fn asm<'a>(matches: &ArgMatches<'a>) -> Option<Request<'a>>
+    ensures { Reads (codes "asm") (rows_in matches.now) result }
+{
+    let path = text_in(matches, "path")?;
+    Some(Request::Asm { path })
 }
 
 fn exec<'a>(matches: &ArgMatches<'a>) -> Option<Request<'a>>
@@ -80,6 +87,7 @@ fn reading<'a>(name: &str, matches: &ArgMatches<'a>) -> Option<Request<'a>>
     ensures { Reads name.now (rows_in matches.now) result }
 {
     match name {
+        "asm" => asm(matches),
         "exec" => exec(matches),
         _ => None,
     }

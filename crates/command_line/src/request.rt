@@ -16,5 +16,7 @@ pub struct Exec<'a> {
 /// A line: a command with its values.
 #[derive(Clone, Copy, Debug, PartialEq, Eq)]
 pub enum Request<'a> {
+    /// `asm F`: the words of an assembly file, as `.hack` text.
+    Asm { path: &'a str },
     Exec(Exec<'a>),
 }

@@ -226,3 +226,24 @@ fn refuses_no_words(rt: HostRuntime) -> Result<(), Fail> {
     assert!(rt; read(rt.alloc(), &words) == Err(LineError::Usage));
     Ok(())
 }
+
+#[test]
+fn reads_asm(rt: HostRuntime) -> Result<(), Fail> {
+    let lines = [
+        ("asm a.asm", Request::Asm { path: "a.asm" }),
+        ("asm a", Request::Asm { path: "a" }),
+        ("asm -- --a", Request::Asm { path: "--a" }),
+        ("asm help", Request::Asm { path: "help" }),
+    ];
+    assert_eq!(rt; first_misread(rt.alloc(), &lines)?, None);
+    let texts = [
+        "asm",
+        "asm a b",
+        "asm --a",
+        "asm a --cycles 1",
+        "asm --help",
+        "asm a -h",
+    ];
+    assert_eq!(rt; first_accepted(rt.alloc(), &texts)?, None);
+    Ok(())
+}

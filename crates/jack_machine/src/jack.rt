@@ -179,6 +179,10 @@ impl Level for Jack {
 
     ghost sure = { false };
 
+    ghost Program = { Core };
+
+    ghost program = { λ j. j.core };
+
     fn step(&mut self, key: u16) -> Result<Moved, AllocError> {
         self.make_step(key)
     }

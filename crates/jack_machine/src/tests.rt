@@ -113,9 +113,7 @@ fn stores_one(alloc: Global, a: u16) -> Result<Core, AllocError> {
 struct Counting;
 
 impl Keyboard for Counting {
-    ghost code = { λ c. 1 + c % 100 };
-
-    ghost in_words = { Prim.search rules };
+    ghost code = { λ _ c. 1 + c % 100 };
 
     fn at(&self, c: u64) -> u16 {
         1 + (c % 100) as u16

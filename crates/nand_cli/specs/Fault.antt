@@ -10,11 +10,16 @@ use Rattle.nand_cli.specs.declared.refusal.Refusal.{Refusal}
 -- the word of a kind
 abbrev pub kind_text : Kind → List ℕ
 kind_text kind.Grammar = codes "Grammar"
+kind_text kind.Range = codes "Range"
+kind_text kind.LabelTwice = codes "LabelTwice"
+kind_text kind.TooLarge = codes "TooLarge"
+kind_text kind.TooManyVariables = codes "TooManyVariables"
 
 -- what stands after the kind
 abbrev pub detail_text : Detail → List ℕ
 detail_text detail.Nothing = []
 detail_text (detail.Number n) = decimal n
+detail_text (detail.Name name) = name.items
 
 -- the line that tells of a refusal
 abbrev pub refusal_line : Refusal → List ℕ

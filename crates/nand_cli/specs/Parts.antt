@@ -1,16 +1,16 @@
 -- What the parts of a call say; the call's own contract needs none of it.
-use Rattle.std.specs.Prelude.{◌≡◌, ◌++◌, ◌⊎◌, ℕ, List, [], Option, Result, Ok, Err, Vec, codes}
+use Rattle.std.specs.Prelude.{◌≡◌, ◌≤◌, ◌++◌, ◌⊎◌, ℕ, List, Option, Some, None, Result, Ok, Err, Vec, length}
 use Rattle.std.specs.declared.alloc.Global.{Global}
 use Rattle.command_line.specs.Line.{Line}
 use Rattle.outer_world.specs.Faults.{Rose}
-use Rattle.outer_world.specs.Files.{Files, HasFile}
-use Rattle.outer_world.specs.Texts.{fault_line}
+use Rattle.outer_world.specs.Files.{Files}
 use Rattle.outer_world.specs.Written.{Got, GotPart}
 use Rattle.outer_world.specs.declared.sink.Put.{Put}
 use Rattle.outer_world.specs.declared.sink.Put.TheVariants as put
+use Rattle.hack_asm.specs.Faults.{Wrong}
+use Rattle.nand_cli.specs.Assembled.{IsAssembled, IsRefused, wrong_line}
 use Rattle.nand_cli.specs.Answer.{Before, Ends, Prints, Refuses}
 use Rattle.nand_cli.specs.Fault.{refusal_line}
-use Rattle.nand_cli.specs.Plain.{IsPlain}
 use Rattle.nand_cli.specs.declared.command.Status.{Status}
 use Rattle.nand_cli.specs.declared.refusal.Failure.{Failure}
 use Rattle.nand_cli.specs.declared.refusal.Failure.TheVariants as failure
@@ -34,12 +34,10 @@ Counts shelf shelf' out out' err err' (Err failure.Read) = Rose shelf shelf' × 
 Counts shelf shelf' out out' err err' (Err failure.Write) = (shelf' ≡ shelf) × (Rose out out' ⊎ Rose err err')
 Counts shelf shelf' out out' err err' _ = (shelf' ≡ shelf) × (out' ≡ out) × (err' ≡ err)
 
--- What loading the program of a file says.
+-- What loading the words of an assembly file says.
 abbrev pub Loads : Option Files → List ℕ → Result (Vec ℕ Global) Failure → Type 0
-Loads files path (Ok program) = (text : List ℕ) × HasFile files path text × IsPlain text program.items
-Loads files path (Err (failure.Refused refusal)) =
-    (text : List ℕ) × HasFile files path text × ((program : List ℕ) → ¬ IsPlain text program)
-    × (refusal_line refusal ≡ fault_line path 0 0 (codes "Grammar") [])
+Loads files path (Ok words) = IsAssembled files path words.items × (length words.items ≤ 32768)
+Loads files path (Err (failure.Refused refusal)) = IsRefused files path (refusal_line refusal)
 Loads files path (Err failure.Read) = Unit {0}
 Loads files path (Err failure.Write) = ⊥
 Loads files path (Err failure.Memory) = Unit {0}
@@ -48,11 +46,16 @@ abbrev pub CountsLoad : ℕ → ℕ → Result (Vec ℕ Global) Failure → Type
 CountsLoad shelf shelf' (Err failure.Read) = Rose shelf shelf'
 CountsLoad shelf shelf' _ = shelf' ≡ shelf
 
--- A failure is the refusal of a file for its grammar, unless memory is wanting.
-abbrev pub IsGrammar : List ℕ → Failure → Type 0
-IsGrammar path (failure.Refused refusal) = refusal_line refusal ≡ fault_line path 0 0 (codes "Grammar") []
-IsGrammar path failure.Memory = Unit {0}
-IsGrammar path _ = ⊥
+-- A failure is the refusal that this line tells of, unless memory is wanting.
+abbrev pub TellsLine : List ℕ → Failure → Type 0
+TellsLine line (failure.Refused refusal) = refusal_line refusal ≡ line
+TellsLine line failure.Memory = Unit {0}
+TellsLine line _ = ⊥
+
+-- A failure tells of what is wrong with the text of a file; where nothing is, memory is wanting.
+abbrev pub Tells : List ℕ → Option Wrong → Failure → Type 0
+Tells path (Some wrong) f = TellsLine (wrong_line path wrong) f
+Tells path None f = f ≡ failure.Memory
 
 -- What putting a text on err says of its count and its bytes.
 abbrev pub Says : ℕ → ℕ → Option (List ℕ) → Option (List ℕ) → List ℕ → Put → Type 0

@@ -3,37 +3,16 @@ ghost use Rattle.std.specs.Prelude.{◌≡◌, ◌≤◌, List, ℕ, IfOk, Optio
 ghost use Rattle.command_line.specs.Line.{exec};
 ghost use Rattle.hack_isa.specs.Machine.{machine_at};
 ghost use Rattle.hack_machine.specs.Loaded.{machine_of};
-ghost use Rattle.nand_cli.specs.Parts.{Counts, CountsLoad, Does, Loads};
+ghost use Rattle.nand_cli.specs.Parts.{Counts, Does};
 
-use crate::plain::program;
-use crate::refusal::{Failure, grammar};
+use crate::load::load;
+use crate::refusal::Failure;
 use command_line::Exec;
 use hack_machine::{Hack, cycles_law};
 use key_script::Keys;
 use machine_io::{Keyboard, drive, show_words};
-use outer_world::{Put, Reading, Shelf, Sink};
+use outer_world::{Put, Shelf, Sink};
 use std::alloc::{AllocError, Global};
-
-const FILE_LIMIT: u32 = 1_048_576;
-
-// The program of a file.
-fn load<F: Shelf>(alloc: Global, path: &str, shelf: &mut F) -> Result<Vec<u16>, Failure>
-    ensures loads { Loads (F.files shelf.old) path.now result }
-    ensures counts { CountsLoad (F.faults shelf.old) (F.faults shelf.new) result }
-    ensures kept { F.files shelf.new ≡ F.files shelf.old }
-{
-    let text = match shelf.read(alloc, path, FILE_LIMIT) {
-        Reading::Bytes(text) => text,
-        Reading::TooLong(_) => return Err(grammar(alloc, path)),
-        Reading::Failed => return Err(Failure::Read),
-        Reading::Memory => return Err(Failure::Memory),
-    };
-    match program(alloc, &text) {
-        Ok(Some(words)) => Ok(words),
-        Ok(None) => Err(grammar(alloc, path)),
-        Err(_) => Err(Failure::Memory),
-    }
-}
 
 // The instruction machine after so many cycles, each under its key.
 fn machine_after<K: Keyboard>(

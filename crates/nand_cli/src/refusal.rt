@@ -1,20 +1,25 @@
 //! Why a line is not done, and the lines on err that tell of it.
 ghost use Rattle.std.specs.Prelude.{◌≡◌, ◌++◌, ◌∷◌, [], length, take};
 ghost use Rattle.std.specs.List.{flat_map};
-ghost use Rattle.outer_world.specs.Texts.{read_fault_line, usage_line, want_of_memory_line};
+ghost use Rattle.outer_world.specs.Texts.{fault_line, read_fault_line, usage_line, want_of_memory_line};
 ghost use Rattle.outer_world.specs.Written.{CountsPut, Passes};
-ghost use Rattle.nand_cli.specs.Fault.{front_of, kind_text, refusal_line, rest_of};
-ghost use Rattle.nand_cli.specs.Parts.{IsGrammar, Says};
+ghost use Rattle.nand_cli.specs.Fault.{detail_text, front_of, kind_text, refusal_line, rest_of};
+ghost use Rattle.nand_cli.specs.Parts.{Says, TellsLine};
 ghost use Rattle.nand_cli.specs.declared.refusal.Failure.TheVariants.{Memory};
 
 use itoa::Buffer;
 use outer_world::{Name, Pieces, Put, Sink};
+use scan_text::Place;
 use std::alloc::{AllocError, Global};
 
 /// The kinds of refusal, each by its word on err.
 #[derive(Clone, Copy, Debug, PartialEq, Eq)]
 pub enum Kind {
     Grammar,
+    Range,
+    LabelTwice,
+    TooLarge,
+    TooManyVariables,
 }
 
 impl Kind {
@@ -23,6 +28,10 @@ impl Kind {
     {
         match self {
             Kind::Grammar => "Grammar",
+            Kind::Range => "Range",
+            Kind::LabelTwice => "LabelTwice",
+            Kind::TooLarge => "TooLarge",
+            Kind::TooManyVariables => "TooManyVariables",
         }
     }
 }
@@ -32,6 +41,7 @@ impl Kind {
 pub enum Detail {
     Nothing,
     Number(u64),
+    Name(Vec<u8>),
 }
 
 /// Why a text is refused: the path of its file, the line and column of the place, both 0 where there is none,
@@ -62,17 +72,17 @@ impl From<AllocError> for Failure {
     }
 }
 
-/// The refusal of a file that is no text of its grammar, without a place.
-pub fn grammar(alloc: Global, path: &str) -> Failure
-    ensures { IsGrammar path.now result }
+/// The refusal of the text of a file at a place.
+pub fn refusal_at(alloc: Global, path: &str, at: Place, kind: Kind, detail: Detail) -> Failure
+    ensures { TellsLine (fault_line path.now at.line at.column (kind_text kind) (detail_text detail)) result }
 {
     match Name::new(alloc, path) {
         Ok(path) => Failure::Refused(Refusal {
             path,
-            line: 0,
-            column: 0,
-            kind: Kind::Grammar,
-            detail: Detail::Nothing,
+            line: at.line,
+            column: at.column,
+            kind,
+            detail,
         }),
         Err(_) => Failure::Memory,
     }
@@ -129,6 +139,12 @@ fn put_detail<E: Sink>(detail: &Detail, err: &mut Pieces<'_, E>) -> Put
             let mut buffer = Buffer::new();
             let value = buffer.format(*value).as_bytes();
             err.put_all(&[b" ", value, b"\n"])
+        }
+        Detail::Name(name) => {
+            if name.is_empty() {
+                return err.put(b"\n");
+            }
+            err.put_all(&[b" ", name.as_slice(), b"\n"])
         }
     }
 }

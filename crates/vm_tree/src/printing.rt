@@ -45,7 +45,13 @@ fn put_with_number<S: Sink>(first: &[u8], second: &str, number: u16, out: &mut P
     ensures counts { CountsPut (S.faults out.old.sink.now) (S.faults out.new.sink.now) result }
 {
     let mut digits = Buffer::new();
-    out.put_all(&[first, second.as_bytes(), b" ", digits.format(number).as_bytes(), b"\n"])
+    out.put_all(&[
+        first,
+        second.as_bytes(),
+        b" ",
+        digits.format(number).as_bytes(),
+        b"\n",
+    ])
 }
 
 // A word after another, with the end of the line.
@@ -64,8 +70,18 @@ fn put_command<S: Sink>(command: &Command, out: &mut Pieces<'_, S>) -> Put
 {
     match command {
         Command::Operate(operation) => put_word(b"", operation_text(*operation), out),
-        Command::Push(segment, index) => put_with_number(b"push ", segment_text(*segment), *index, out),
-        Command::Pop(segment, index) => put_with_number(b"pop ", segment_text(*segment), *index, out),
+        Command::Push(segment, index) => put_with_number(
+            b"push ",
+            segment_text(*segment),
+            *index,
+            out,
+        ),
+        Command::Pop(segment, index) => put_with_number(
+            b"pop ",
+            segment_text(*segment),
+            *index,
+            out,
+        ),
         Command::Label(label) => put_word(b"label ", label.as_str(), out),
         Command::Goto(label) => put_word(b"goto ", label.as_str(), out),
         Command::IfGoto(label) => put_word(b"if-goto ", label.as_str(), out),

@@ -49,6 +49,9 @@ fn printed(rt: HostRuntime) -> Result<(), Fail> {
         .ok()
         .ok_or("memory")?;
     assert_eq!(rt; print(&program, &mut sink), Put::Done);
-    assert!(rt; sink.bytes() == b"push constant 7\nfunction Sys.init 3\nlabel E\ncall Sys.f 2\npop temp 0\nif-goto E\ngoto E\nneg\nreturn\n".as_slice());
+    assert!(rt;
+        sink.bytes()
+            == b"push constant 7\nfunction Sys.init 3\nlabel E\ncall Sys.f 2\npop temp 0\nif-goto E\ngoto E\nneg\nreturn\n".as_slice()
+    );
     Ok(())
 }

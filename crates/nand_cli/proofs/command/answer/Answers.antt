@@ -1,11 +1,13 @@
-use Rattle.nand_cli.proofs.Requests.{is_exec}
 use Rattle.nand_cli.proofs.command.answer.Goals as goal
 
-pub returns-clause-does : goal.returns-clause-does
-returns-clause-does g c =
-    let p = is_exec c.args.request.now in
-    let h = rw p.1 at (c.answer_exec.ensures.does (g.E.Sink.written c.args._err.now)) in
-    rw p.1 h
+pub returns-in-Asm-clause-does : goal.returns-in-Asm-clause-does
+returns-in-Asm-clause-does g c = rw c.in-Asm.is (c.answer_asm.ensures.does (g.E.Sink.written c.args._err.now))
 
-pub returns-clause-counts : goal.returns-clause-counts
-returns-clause-counts g c = c.answer_exec.ensures.counts (g.E.Sink.faults c.args._err.now)
+pub returns-in-Asm-clause-counts : goal.returns-in-Asm-clause-counts
+returns-in-Asm-clause-counts g c = c.answer_asm.ensures.counts (g.E.Sink.faults c.args._err.now)
+
+pub returns-in-Exec-clause-does : goal.returns-in-Exec-clause-does
+returns-in-Exec-clause-does g c = rw c.in-Exec.is (c.answer_exec.ensures.does (g.E.Sink.written c.args._err.now))
+
+pub returns-in-Exec-clause-counts : goal.returns-in-Exec-clause-counts
+returns-in-Exec-clause-counts g c = c.answer_exec.ensures.counts (g.E.Sink.faults c.args._err.now)

@@ -15,7 +15,7 @@ returns-in-Done-clause-does g c = λ err.
     let ran = without_keys _ _ _ request.cycles (machine_of c.in_ok-hack.hack) c.in_ok-hack.ensures c.deref.ensures.value c.none-keys.ensures in (
       words_text (read (machine_of c.in_ok-hack.hack).memory 0) true request.from request.to,
       [],
-      (loaded.0, c.in_ok-program.program.items, loaded.1, loaded.2, ap (λ (m : Machine). words_text (read m.memory 0) true request.from request.to) ran, refl),
+      (c.in_ok-program.program.items, loaded.0, ap (λ (m : Machine). words_text (read m.memory 0) true request.from request.to) ran, refl),
       c.in-Done.ensures.put (read (machine_of c.in_ok-hack.hack).memory 0) (λ a w from_on up_to p. search rules),
       Got-nothing err,
     )
@@ -28,7 +28,7 @@ returns-clause-does g c = λ err.
       status.Done,
       words_text (read (machine_of c.in_ok-hack.hack).memory 0) true request.from request.to,
       [],
-      (loaded.0, c.in_ok-program.program.items, loaded.1, loaded.2, ap (λ (m : Machine). words_text (read m.memory 0) true request.from request.to) ran, refl),
+      (c.in_ok-program.program.items, loaded.0, ap (λ (m : Machine). words_text (read m.memory 0) true request.from request.to) ran, refl),
       c.in-Failed.ensures.put (read (machine_of c.in_ok-hack.hack).memory 0) (λ a w from_on up_to p. search rules),
       GotPart-none _ _,
     )

@@ -1,0 +1,69 @@
+-- What the meaning of an assembly text says of its length and of its words.
+use Rattle.std.proofs.Common.{◌≡◌, ◌≤◌, ◌<◌, ◌-◌, ℕ, Bool, true, false, List, [], ◌∷◌, Option, Some, None, Result, Ok, Err, length, refl, sym, ◌∙◌, ap, inl, inr, arith, if◌then◌else◌}
+use Rattle.std.specs.Prelude.{nat_lt}
+use Rattle.std.proofs.lemmas.Bool.Decides.{nat_tests}
+use Rattle.scan_text.specs.declared.Place.{Place}
+use Rattle.grammar.specs.declared.Fault.TheVariants as fault
+use Rattle.hack_asm.specs.Faults.{Wrong, Range, TooLarge, TooManyVariables}
+use Rattle.hack_asm.specs.Lines.{Line, number, symbol, label, address, compute}
+use Rattle.hack_asm.specs.Meaning.{Means}
+use Rattle.hack_asm.specs.Program.{Table, first_past, if_near, labelled, labels, size, variables, words}
+use Rattle.outer_world.specs.Files.{Files, HasFile}
+use Rattle.nand_cli.specs.Assembled.{wrong_line}
+use Rattle.nand_cli.specs.Parts.{Loads, TellsLine}
+use Rattle.nand_cli.specs.declared.refusal.Failure.{Failure}
+use Rattle.nand_cli.specs.declared.refusal.Failure.TheVariants as failure
+
+-- ---- a text that is too long
+
+test_true : (a b : ℕ) → a < b → nat_lt a b ≡ true
+test_true a b h = grind (arith, nat_tests, h)
+
+pub too_long : (text : List ℕ) → 1048576 < length text → Means text (Err (Range (record { line = 0; column = 0 }) 1048577))
+too_long text h =
+    let at : Place = record { line = 0; column = 0 } in
+    let test = test_true 1048576 (length text) h in
+    inr (fault.Range at 1048577, inl (rw test refl), refl)
+
+-- the failure that tells of what is wrong with the text of a file
+pub told : (files : Option Files) (path : List ℕ) (f : Failure) (text : List ℕ) (w : Wrong) → HasFile files path text → Means text (Err w) → TellsLine (wrong_line path w) f → Loads files path (Err f)
+told files path (failure.Refused r) text w has m e = (text, w, has, m, e)
+told files path failure.Read text w has m e = absurd e
+told files path failure.Write text w has m e = absurd e
+told files path failure.Memory text w has m e = tt
+
+-- ---- a program has at most 32,768 words
+
+few_words : (table : Table) (ls : List Line) → length (words table ls) ≡ size ls
+few_words table [] = refl
+few_words table (None ∷ ls) = let h = few_words table ls in omega arith
+few_words table (Some (label s) ∷ ls) = let h = few_words table ls in omega arith
+few_words table (Some (address (number n)) ∷ ls) = let h = few_words table ls in omega arith
+few_words table (Some (address (symbol s)) ∷ ls) = let h = few_words table ls in omega arith
+few_words table (Some (compute c) ∷ ls) = let h = few_words table ls in omega arith
+
+with_variables_few : (b : Bool) (w : Wrong) (all : Table) (ls : List Line) (ws : List ℕ) → (if b then Err w else Ok (words all ls)) ≡ Ok ws → length ws ≡ size ls
+with_variables_few true w all ls ws e = absurd (let bad : ⊥ = cc in bad)
+with_variables_few false w all ls ws e = let same : words all ls ≡ ws = cc in ap length (sym same) ∙ few_words all ls
+
+if_near_few : (past : Option Place) (table : Table) (ls : List Line) (ws : List ℕ) → if_near past table ls ≡ Ok ws → length ws ≡ size ls
+if_near_few (Some at) table ls ws e = absurd (let bad : ⊥ = cc in bad)
+if_near_few None table ls ws e =
+    let all = variables 16 table ls in
+    with_variables_few (nat_lt 16368 (length all - length table)) (TooManyVariables (length all - length table)) all ls ws e
+
+sized_few : (n : ℕ) (b : Bool) (r : Result (List ℕ) Wrong) (ws : List ℕ) → nat_lt 32768 n ≡ b → (r ≡ Ok ws → length ws ≡ n) → (if b then Err (TooLarge n) else r) ≡ Ok ws → length ws ≤ 32768
+sized_few n true r ws test few e = absurd (let bad : ⊥ = cc in bad)
+sized_few n false r ws test few e = let same = few e in grind (arith, nat_tests, test, same)
+
+labelled_few : (r : Result Table Wrong) (ls : List Line) (ws : List ℕ) → labelled r ls ≡ Ok ws → length ws ≤ 32768
+labelled_few (Err w) ls ws e = absurd (let bad : ⊥ = cc in bad)
+labelled_few (Ok table) ls ws e =
+    sized_few (size ls) (nat_lt 32768 (size ls)) (if_near (first_past table ls) table ls) ws refl (if_near_few (first_past table ls) table ls ws) e
+
+no_words : (w : Wrong) (ws : List ℕ) → Ok ws ≡ Err w → ⊥
+no_words w ws e = cc
+
+pub few : (text ws : List ℕ) → Means text (Ok ws) → length ws ≤ 32768
+few text ws (inl (ls, spelled, e)) = labelled_few (labels 0 [] ls) ls ws (sym e)
+few text ws (inr (f, refused, e)) = absurd (no_words _ ws e)
