@@ -165,6 +165,8 @@ fn first_number(text: &[Statement]) -> u32
 }
 
 impl Level for Jack {
+    ghost use Rattle.jack_machine.specs.declared.program.Core.{Core};
+
     type Point = Point;
 
     ghost stands = { Stands };

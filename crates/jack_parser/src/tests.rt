@@ -91,8 +91,10 @@ fn nesting(rt: HostRuntime) -> Result<(), Fail> {
     }
     text.extend_from_slice(b"; } }")?;
     assert!(rt; fault(rt.alloc(), &text) == Some(Fault::Range(at(1, 293), 257)));
+    assert!(rt; text.len() > 300);
     text.remove(36);
     assert!(rt; fault(rt.alloc(), &text) == Some(Fault::Grammar(at(1, 548))));
+    assert!(rt; text.len() > 300);
     text.remove(36 + 255 + 1);
     assert!(rt; is_class(rt.alloc(), &text));
     Ok(())

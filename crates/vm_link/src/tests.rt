@@ -115,7 +115,8 @@ fn statics(rt: HostRuntime) -> Result<(), Fail> {
     add(&mut lines, Command::Goto(name(rt.alloc(), "E")?))?;
     let few = program(rt.alloc(), lines, None)?;
     let linked = link(rt.alloc(), few, false).ok().ok_or("a fault")?;
-    assert_eq!(rt; linked.files.as_slice()[0].statics, 240);
+    let file = linked.files.as_slice().first().ok_or("no file")?;
+    assert_eq!(rt; file.statics, 240);
     let mut more = List::new(rt.alloc());
     add(&mut more, Command::Push(Segment::Static, 240))?;
     let many = program(rt.alloc(), more, None)?;
