@@ -4,3 +4,4 @@ pub mod Exits
 pub mod StatementRules
 pub mod Blocks
 pub mod Parameters
+pub mod TokensTold

@@ -4,3 +4,4 @@ pub mod Trees
 pub mod StatementTrees
 pub mod ClassTrees
 pub mod Whole
+pub mod Printed
