@@ -10,3 +10,5 @@ pub mod Entered
 pub mod Steps
 pub mod Meaning
 pub mod Image
+pub mod HackTokens
+pub mod HackText

@@ -3,6 +3,9 @@
 
 mod assembling;
 mod fault;
+mod hack_lines;
+mod hack_reading;
+mod hack_tokens;
 mod image;
 mod lexer;
 mod lines;
@@ -17,4 +20,5 @@ mod words;
 
 pub use assembling::assemble;
 pub use fault::AsmFault;
+pub use hack_reading::read_hack;
 pub use image::{put_hack, write_hack};
