@@ -77,13 +77,26 @@ behind at = on_four (last_four at)
 abbrev word_tokens : ℕ → Place → List Token → List Token
 word_tokens w at ts = part_tokens w 12 at (part_tokens w 8 (second at) (part_tokens w 4 (third at) (part_tokens w 0 (last_four at) (made LineEnd (behind at) ∷ ts))))
 
+-- the bytes of four bits of a word, from bit k on, and those behind the first four, the second four, and the third four
+abbrev part_bytes : ℕ → ℕ → List ℕ → List ℕ
+part_bytes w k bs = byte (has_bit w (k + 3)) ∷ byte (has_bit w (k + 2)) ∷ byte (has_bit w (k + 1)) ∷ byte (has_bit w k) ∷ bs
+
+abbrev last_bytes : ℕ → List ℕ → List ℕ
+last_bytes w bs = part_bytes w 0 (10 ∷ bs)
+
+abbrev third_bytes : ℕ → List ℕ → List ℕ
+third_bytes w bs = part_bytes w 4 (last_bytes w bs)
+
+abbrev second_bytes : ℕ → List ℕ → List ℕ
+second_bytes w bs = part_bytes w 8 (third_bytes w bs)
+
 word_cut : (w : ℕ) (last : Option Token) (at : Place) (bs : List ℕ) (ts : List Token) → the_cut (Some (made LineEnd (behind at))) (below (behind at)) bs ≡ Ok ts → the_cut last at (word_line w ++ bs) ≡ Ok (word_tokens w at ts)
 word_cut w last at bs ts e =
     let ended : the_cut (fourth (has_bit w 0) (last_four at)) (behind at) (10 ∷ bs) ≡ Ok (made LineEnd (behind at) ∷ ts) = ap (followed (made LineEnd (behind at))) e in
-    four_cut (has_bit w 15) (has_bit w 14) (has_bit w 13) (has_bit w 12) last at _ _
-    (four_cut (has_bit w 11) (has_bit w 10) (has_bit w 9) (has_bit w 8) (fourth (has_bit w 12) at) (second at) _ _
-    (four_cut (has_bit w 7) (has_bit w 6) (has_bit w 5) (has_bit w 4) (fourth (has_bit w 8) (second at)) (third at) _ _
-    (four_cut (has_bit w 3) (has_bit w 2) (has_bit w 1) (has_bit w 0) (fourth (has_bit w 4) (third at)) (last_four at) _ _ ended)))
+    four_cut (has_bit w 15) (has_bit w 14) (has_bit w 13) (has_bit w 12) last at (second_bytes w bs) _
+    (four_cut (has_bit w 11) (has_bit w 10) (has_bit w 9) (has_bit w 8) (fourth (has_bit w 12) at) (second at) (third_bytes w bs) _
+    (four_cut (has_bit w 7) (has_bit w 6) (has_bit w 5) (has_bit w 4) (fourth (has_bit w 8) (second at)) (third at) (last_bytes w bs) _
+    (four_cut (has_bit w 3) (has_bit w 2) (has_bit w 1) (has_bit w 0) (fourth (has_bit w 4) (third at)) (last_four at) (10 ∷ bs) _ ended)))
 
 word_read : (end : Place) (w : ℕ) (at : Place) (ts : List Token) → R end sixteen (word_tokens w at ts) (word_tree w) (made LineEnd (behind at) ∷ ts)
 word_read end w at ts =
@@ -119,10 +132,10 @@ are_lines (w ∷ ws) h = (h.0, are_lines ws h.1)
 
 short : (text : List ℕ) (ts : List Token) → length text ≤ 1048576 → the_cut None start text ≡ Ok ts → tokens_of text ≡ Ok ts
 short text ts h e =
-    ap (λ (b : Bool). cond b (Err (Range (record { line = 0; column = 0 }) 1048577)) (the_cut None start text)) (le-ltb (length text) 1048576 h) ∙ e
+    ap (λ (b : Bool). cond b (Err (Range (record { line = 0; column = 0 }) 1048577)) (the_cut None start text)) (le-ltb 1048576 (length text) h) ∙ e
 
 small : (ws : List ℕ) → length ws ≤ 32768 → limited ws ≡ Ok ws
-small ws h = ap (λ (b : Bool). cond b (Err (TooLarge (length ws))) (Ok ws)) (le-ltb (length ws) 32768 h)
+small ws h = ap (λ (b : Bool). cond b (Err (TooLarge (length ws))) (Ok ws)) (le-ltb 32768 (length ws) h)
 
 pub reads_back : (ws : List ℕ) → AreWords ws → length ws ≤ 32768 → Holds (image_text ws) (Ok ws)
 reads_back ws words few =

@@ -155,11 +155,7 @@ fn finish(tokens: &[Token], end: Place) -> Result<(), ReadError>
 }
 
 /// The lines that these tokens spell: a word, or none where a line is empty.
-pub fn all_lines(
-    alloc: Global,
-    tokens: &[Token],
-    end: Place,
-) -> Result<Vec<Option<u16>>, ReadError>
+pub fn all_lines(alloc: Global, tokens: &[Token], end: Place) -> Result<Vec<Option<u16>>, ReadError>
     ensures reads { ParsesAll (hack end) whole (λ v. text_tree v.items) (λ _. tt) tt tokens.now result }
     ensures words { IfOk result (λ v. AreLines v.items) }
 {

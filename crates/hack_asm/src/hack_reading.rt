@@ -3,7 +3,7 @@
 ghost use Rattle.std.specs.Prelude.{◌≡◌, List, ℕ, Result, Ok, Err, IfOk, IfErr};
 ghost use Rattle.grammar.specs.Reading.{Halt};
 ghost use Rattle.hack_asm.specs.Faults.{Wrong, Yields};
-ghost use Rattle.hack_asm.specs.HackText.{Spells, Refuses, Holds, HoldsOf, IsRefusal, limited, words_of};
+ghost use Rattle.hack_asm.specs.HackText.{Spells, Refuses, Holds, HoldsOf, IsRefusal, ImagesReadBack, limited, words_of};
 
 use crate::fault::AsmFault;
 use crate::hack_lines::all_lines;
@@ -64,3 +64,9 @@ pub fn read_hack(alloc: Global, text: &[u8]) -> Result<Vec<u16>, AsmFault>
 {
     read_text(alloc, text)
 }
+
+/// The law of images: what `write_hack` writes is read back. No code, only the statement.
+#[tactic(auto, using(crate::proofs::Images::reads_back))]
+pub fn image_law()
+    ensures { ImagesReadBack }
+{}

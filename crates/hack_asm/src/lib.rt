@@ -20,5 +20,5 @@ mod words;
 
 pub use assembling::assemble;
 pub use fault::AsmFault;
-pub use hack_reading::read_hack;
+pub use hack_reading::{image_law, read_hack};
 pub use image::{put_hack, write_hack};
