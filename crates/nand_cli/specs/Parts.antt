@@ -7,11 +7,13 @@ use Rattle.outer_world.specs.Files.{Files}
 use Rattle.outer_world.specs.Written.{Got, GotPart}
 use Rattle.outer_world.specs.declared.sink.Put.{Put}
 use Rattle.outer_world.specs.declared.sink.Put.TheVariants as put
-use Rattle.hack_asm.specs.Faults.{Wrong}
-use Rattle.nand_cli.specs.Assembled.{IsAssembled, IsRefused, wrong_line}
+use Rattle.hack_asm.specs.Faults.{Wrong, wrong_of}
+use Rattle.hack_asm.specs.declared.fault.AsmFault.{AsmFault}
+use Rattle.nand_cli.specs.Assembled.{IsFileOf, IsNoFile, TextSays, wrong_line}
 use Rattle.nand_cli.specs.Answer.{Before, Ends, Prints, Refuses}
 use Rattle.nand_cli.specs.Fault.{refusal_line}
 use Rattle.nand_cli.specs.declared.command.Status.{Status}
+use Rattle.nand_cli.specs.declared.load.Form.{Form}
 use Rattle.nand_cli.specs.declared.refusal.Failure.{Failure}
 use Rattle.nand_cli.specs.declared.refusal.Failure.TheVariants as failure
 
@@ -34,13 +36,23 @@ Counts shelf shelf' out out' err err' (Err failure.Read) = Rose shelf shelf' × 
 Counts shelf shelf' out out' err err' (Err failure.Write) = (shelf' ≡ shelf) × (Rose out out' ⊎ Rose err err')
 Counts shelf shelf' out out' err err' _ = (shelf' ≡ shelf) × (out' ≡ out) × (err' ≡ err)
 
--- What loading the words of an assembly file says.
-abbrev pub Loads : Option Files → List ℕ → Result (Vec ℕ Global) Failure → Type 0
-Loads files path (Ok words) = IsAssembled files path words.items × (length words.items ≤ 32768)
-Loads files path (Err (failure.Refused refusal)) = IsRefused files path (refusal_line refusal)
-Loads files path (Err failure.Read) = Unit {0}
-Loads files path (Err failure.Write) = ⊥
-Loads files path (Err failure.Memory) = Unit {0}
+-- What reading the words of a text in a form says: the words, at most 32,768, or what is wrong with it, unless
+-- memory is wanting.
+abbrev pub SaysWrong : Form → List ℕ → Option Wrong → Type 0
+SaysWrong form text None = Unit {0}
+SaysWrong form text (Some wrong) = TextSays form text (Err wrong)
+
+abbrev pub ReadsText : Form → List ℕ → Result (Vec ℕ Global) AsmFault → Type 0
+ReadsText form text (Ok words) = TextSays form text (Ok words.items) × (length words.items ≤ 32768)
+ReadsText form text (Err fault) = SaysWrong form text (wrong_of fault)
+
+-- What loading the words of a file in a form says.
+abbrev pub Loads : Form → Option Files → List ℕ → Result (Vec ℕ Global) Failure → Type 0
+Loads form files path (Ok words) = IsFileOf form files path words.items × (length words.items ≤ 32768)
+Loads form files path (Err (failure.Refused refusal)) = IsNoFile form files path (refusal_line refusal)
+Loads form files path (Err failure.Read) = Unit {0}
+Loads form files path (Err failure.Write) = ⊥
+Loads form files path (Err failure.Memory) = Unit {0}
 
 abbrev pub CountsLoad : ℕ → ℕ → Result (Vec ℕ Global) Failure → Type 0
 CountsLoad shelf shelf' (Err failure.Read) = Rose shelf shelf'

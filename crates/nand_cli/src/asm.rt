@@ -3,7 +3,7 @@ ghost use Rattle.std.specs.Prelude.{◌≡◌, List, ℕ, Option};
 ghost use Rattle.command_line.specs.Line.{asm};
 ghost use Rattle.nand_cli.specs.Parts.{Counts, Does};
 
-use crate::load::load;
+use crate::load::{Form, load};
 use crate::refusal::Failure;
 use hack_asm::write_hack;
 use outer_world::{Put, Shelf, Sink};
@@ -20,7 +20,7 @@ pub fn answer_asm<F: Shelf, O: Sink>(
     ensures counts { (err : ℕ) → Counts (F.faults shelf.old) (F.faults shelf.new) (O.faults out.old) (O.faults out.new) err err result }
     ensures kept { F.files shelf.new ≡ F.files shelf.old }
 {
-    let words = load(alloc, path, shelf)?;
+    let words = load(alloc, path, Form::Assembly, shelf)?;
     match write_hack(&words, out) {
         Put::Done => Ok(()),
         Put::Failed => Err(Failure::Write),

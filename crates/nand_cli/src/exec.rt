@@ -5,7 +5,7 @@ ghost use Rattle.hack_isa.specs.Machine.{machine_at};
 ghost use Rattle.hack_machine.specs.Loaded.{machine_of};
 ghost use Rattle.nand_cli.specs.Parts.{Counts, Does};
 
-use crate::load::load;
+use crate::load::{form_of, load};
 use crate::refusal::Failure;
 use command_line::Exec;
 use hack_machine::{Hack, cycles_law};
@@ -42,7 +42,7 @@ pub fn answer_exec<F: Shelf, O: Sink>(
     ensures counts { (err : ℕ) → Counts (F.faults shelf.old) (F.faults shelf.new) (O.faults out.old) (O.faults out.new) err err result }
     ensures kept { F.files shelf.new ≡ F.files shelf.old }
 {
-    let program = load(alloc, request.path, shelf)?;
+    let program = load(alloc, request.path, form_of(request.path), shelf)?;
     let keys = Keys::none(alloc);
     let hack = machine_after(alloc, &program, &keys, request.cycles)?;
     match show_words(

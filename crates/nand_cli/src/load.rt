@@ -1,10 +1,11 @@
 //! Files of programs.
 ghost use Rattle.std.specs.Prelude.{◌≡◌};
 ghost use Rattle.hack_asm.specs.Faults.{wrong_of};
-ghost use Rattle.nand_cli.specs.Parts.{CountsLoad, Loads, Tells};
+ghost use Rattle.nand_cli.specs.Assembled.{form_of};
+ghost use Rattle.nand_cli.specs.Parts.{CountsLoad, Loads, ReadsText, Tells};
 
 use crate::refusal::{Detail, Failure, Kind, refusal_at};
-use hack_asm::{AsmFault, assemble};
+use hack_asm::{AsmFault, assemble, read_hack};
 use outer_world::{Reading, Shelf};
 use scan_text::Place;
 use std::alloc::Global;
@@ -14,7 +15,37 @@ const FILE_LIMIT: u32 = 1_048_576;
 // The place of what is said of a whole file.
 const NOWHERE: Place = Place { line: 0, column: 0 };
 
-// The refusal of an assembly text.
+/// The form of the text of a program.
+#[derive(Clone, Copy, Debug, PartialEq, Eq)]
+pub enum Form {
+    /// Assembly.
+    Assembly,
+    /// The text of an image: `.hack`.
+    Image,
+}
+
+/// The form that the path of a file tells: `.hack` ends the path of an image, and any other is that of assembly.
+pub fn form_of(path: &str) -> Form
+    ensures { result ≡ form_of path.now }
+{
+    if path.as_bytes().ends_with(b".hack") {
+        Form::Image
+    } else {
+        Form::Assembly
+    }
+}
+
+// The words of a text.
+fn words_of(alloc: Global, form: Form, text: &[u8]) -> Result<Vec<u16>, AsmFault>
+    ensures { ReadsText form text.now result }
+{
+    match form {
+        Form::Assembly => assemble(alloc, text),
+        Form::Image => read_hack(alloc, text),
+    }
+}
+
+// The refusal of a text.
 fn refused(alloc: Global, path: &str, fault: AsmFault) -> Failure
     ensures { Tells path.now (wrong_of fault) result }
 {
@@ -38,9 +69,14 @@ fn refused(alloc: Global, path: &str, fault: AsmFault) -> Failure
     }
 }
 
-/// The words of an assembly file.
-pub fn load<F: Shelf>(alloc: Global, path: &str, shelf: &mut F) -> Result<Vec<u16>, Failure>
-    ensures loads { Loads (F.files shelf.old) path.now result }
+/// The words of a file, whose text has this form.
+pub fn load<F: Shelf>(
+    alloc: Global,
+    path: &str,
+    form: Form,
+    shelf: &mut F,
+) -> Result<Vec<u16>, Failure>
+    ensures loads { Loads form (F.files shelf.old) path.now result }
     ensures counts { CountsLoad (F.faults shelf.old) (F.faults shelf.new) result }
     ensures kept { F.files shelf.new ≡ F.files shelf.old }
 {
@@ -53,7 +89,7 @@ pub fn load<F: Shelf>(alloc: Global, path: &str, shelf: &mut F) -> Result<Vec<u1
         Reading::Failed => return Err(Failure::Read),
         Reading::Memory => return Err(Failure::Memory),
     };
-    match assemble(alloc, &text) {
+    match words_of(alloc, form, &text) {
         Ok(words) => Ok(words),
         Err(fault) => Err(refused(alloc, path, fault)),
     }
