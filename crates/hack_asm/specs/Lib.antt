@@ -12,3 +12,4 @@ pub mod Meaning
 pub mod Image
 pub mod HackTokens
 pub mod HackText
+pub mod Written

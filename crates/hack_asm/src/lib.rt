@@ -17,8 +17,10 @@ mod symbols;
 mod tests;
 mod token;
 mod words;
+mod writing;
 
 pub use assembling::assemble;
 pub use fault::AsmFault;
 pub use hack_reading::{image_law, read_hack};
 pub use image::{put_hack, write_hack};
+pub use writing::write_asm;
