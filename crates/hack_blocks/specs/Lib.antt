@@ -1,1 +1,5 @@
 pub mod Templates
+pub mod Computer
+pub mod Going
+pub mod Effects
+pub mod Comparing
