@@ -10,7 +10,7 @@ use Rattle.hack_isa.specs.declared.Instr.TheVariants.{Address, Compute}
 use Rattle.hack_isa.specs.Machine.{Machine, read, write, jumps, perform, fetch, step}
 use Rattle.layers.specs.System.{IsKey}
 use Rattle.hack_blocks.specs.Computer.{Stands}
-use Rattle.hack_blocks.specs.Going.{IsDataWrite, IsKeyRead, Quiet, Hears, Reaches, Does, arrived, onward}
+use Rattle.hack_blocks.specs.Going.{IsDataWrite, IsKeyRead, Quiet, Hears, Reaches, Does, arrived, further}
 use Rattle.hack_blocks.proofs.Alu.{comp_value, comp_is, comp_small, alu_48}
 
 -- what instructions without a jump change
@@ -151,7 +151,7 @@ module _ (image : List ℕ) (inside : ℕ → Type 0) where
       let near : pc + 1 < 32768 = omega arith in
       let rest = block is (do_instr i x) (pc + 1) end n st.1 s.1 (do_words i x s.0 w) e' h (λ k a b. p k (omega arith) b) r in
       subst (λ k. Reaches image (Quiet image inside) goal k (at pc x)) z
-      (onward (quiet_at i pc x st.0 s.0 (p pc (omega arith) (omega arith)))
+      (further (quiet_at i pc x st.0 s.0 (p pc (omega arith) (omega arith)))
       (λ key small. subst (Reaches image (Quiet image inside) goal (length is + n)) (sym (step_near i key pc x st.0 near s.0 w)) rest))
 
   -- A whole command without a jump, up to its last instruction. After it the address may be 0, at the end of the longest image.
@@ -172,7 +172,7 @@ module _ (image : List ℕ) (inside : ℕ → Type 0) where
       let near : pc + 1 < 32768 = omega arith in
       let rest = whole {goal = goal} (j ∷ is) (length is) (do_instr i x) (pc + 1) last m st.1 s.1 (do_words i x s.0 w) e' h (λ k a b. p k (omega arith) b) g in
       subst (λ k. Does image inside last ⊥ goal k (at pc x)) z
-      (onward (quiet_at i pc x st.0 s.0 (p pc (omega arith) (omega arith)))
+      (further (quiet_at i pc x st.0 s.0 (p pc (omega arith) (omega arith)))
       (λ key small. subst (Does image inside last ⊥ goal (length is)) (sym (step_near i key pc x st.0 near s.0 w)) rest))
 
   -- a jump, whether it is taken or not
@@ -197,7 +197,7 @@ module _ (image : List ℕ) (inside : ℕ → Type 0) where
   pub jump : {goal : Machine → Type 0} (i : Instr) (x : Data) (pc to n : ℕ) → instr_of (slice_index image pc) ≡ i → IsJump i x pc to → AreWords x → inside pc → Reaches image (Quiet image inside) goal n (at to x) → Reaches image (Quiet image inside) goal (suc n) (at pc x)
   jump {goal} i x pc to n f j w p r =
       let q = jump_quiet i pc to x j in
-      onward (record { place = p; no_write = λ b. q.0 (subst (λ c. IsDataWrite c (at pc x)) f b); no_key = λ b. q.1 (subst (λ c. IsKeyRead c (at pc x)) f b) })
+      further (record { place = p; no_write = λ b. q.0 (subst (λ c. IsDataWrite c (at pc x)) f b); no_key = λ b. q.1 (subst (λ c. IsKeyRead c (at pc x)) f b) })
       (λ key small. subst (Reaches image (Quiet image inside) goal n) (sym (jump_step i key pc to x f j w)) r)
 
   pub last_jump : {goal : Machine → Type 0} (i : Instr) (x : Data) (pc to n : ℕ) → instr_of (slice_index image pc) ≡ i → IsJump i x pc to → AreWords x → goal (at to x) → Does image inside pc ⊥ goal n (at pc x)
@@ -238,7 +238,7 @@ read_word m key a small words = let w = words (a % 32768) in grind (arith, nat_t
 pub read_any : (image : List ℕ) (inside : ℕ → Type 0) {goal : Machine → Type 0} (x : Data) (pc n : ℕ) → instr_of (slice_index image pc) ≡ Compute true 48 2 0 → x.a ≢ 24576 → AreWords x → pc + 1 < 32768 → inside pc → ((d : ℕ) → d < 65536 → Reaches image (Quiet image inside) goal n (at (pc + 1) (record x { d = d }))) → Reaches image (Quiet image inside) goal (suc n) (at pc x)
 read_any image inside {goal} x pc n f other w near p go =
     let e : (pc + 1) % 32768 ≡ pc + 1 = omega arith in
-    onward
+    further
     (record {
       place = p;
       no_write = λ b. let b' = subst (λ c. IsDataWrite c (at pc x)) f b in let no : false ≡ true = b'.0 in cc;
@@ -295,8 +295,8 @@ block_then image inside is x pc end n Post st s w e h p post go = block image in
 -- fewer steps than allowed
 pub within : {image : List ℕ} {quiet goal : Machine → Type 0} (n k : ℕ) (s : Machine) → n ≤ k → Reaches image quiet goal n s → Reaches image quiet goal k s
 within n k s h (arrived g) = arrived g
-within (suc n) zero s h (onward q r) = absurd (omega arith)
-within (suc n) (suc k) s h (onward {n = m} q r) = onward q (λ key small. within m k _ (omega arith) (r key small))
+within (suc n) zero s h (further q r) = absurd (omega arith)
+within (suc n) (suc k) s h (further {n = m} q r) = further q (λ key small. within m k _ (omega arith) (r key small))
 
 -- the part of a command from place k on
 pub from_place : (image : List ℕ) (pc k : ℕ) (is : List Instr) → Stands image pc is → Stands image (pc + k) (drop k is)

@@ -4,3 +4,7 @@ pub mod Straight
 pub mod Commands
 pub mod Compare
 pub mod Frames
+pub mod Calls
+pub mod Keys
+pub mod Loop
+pub mod Ways

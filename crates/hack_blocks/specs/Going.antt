@@ -25,7 +25,7 @@ pub record Quiet (image : List ℕ) (inside : ℕ → Type 0) (s : Machine) : Ty
 -- Whatever the keys, the machine comes to a goal in at most n steps, which are all quiet.
 pub data Reaches (image : List ℕ) (quiet goal : Machine → Type 0) : ℕ → Machine → Type 0 where
   arrived : {n : ℕ} {s : Machine} → goal s → Reaches image quiet goal n s
-  onward : {n : ℕ} {s : Machine} → quiet s → ((key : ℕ) → IsKey key → Reaches image quiet goal n (step image key s)) → Reaches image quiet goal (suc n) s
+  further : {n : ℕ} {s : Machine} → quiet s → ((key : ℕ) → IsKey key → Reaches image quiet goal n (step image key s)) → Reaches image quiet goal (suc n) s
 
 -- The last instruction of a command: where it stands, and where it leads. It reads no key, and it writes data only if it may.
 pub record Last (image : List ℕ) (last : ℕ) (may_write : Type 0) (goal : Machine → Type 0) (s : Machine) : Type 0 where

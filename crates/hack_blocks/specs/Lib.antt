@@ -3,3 +3,4 @@ pub mod Computer
 pub mod Going
 pub mod Effects
 pub mod Comparing
+pub mod Own
