@@ -42,10 +42,10 @@ module _ (image : List ℕ) (inside : ℕ → Type 0) (here last : ℕ) (fits : 
   pop_word_goes r one small st e low high go = goes (pop_word r) 4 (λ y. Stored x.m y.m r) refl st e (pop_word_does x r low high one small) go
 
   -- the word is one of the stack
-  pub pop_at_goes : (r i : ℕ) → 1 ≤ r → r < 13 → i < 32768 → 256 ≤ x.m r + i → x.m r + i < 2048 → Stands image here (pop_at r i) → here + 11 ≡ last → 257 ≤ x.m 0 → x.m 0 ≤ 2048
-      → {goal : Machine → Type 0} → ((y : Data) → AreWords y → Stored x.m y.m (x.m r + i) → Next goal y) → Does image inside last ⊥ goal 11 (at here x)
+  pub pop_at_goes : (r i : ℕ) → 1 ≤ r → r < 13 → i < 32768 → 256 ≤ (i + x.m r) % 65536 → (i + x.m r) % 65536 < 2048 → Stands image here (pop_at r i) → here + 11 ≡ last → 257 ≤ x.m 0 → x.m 0 ≤ 2048
+      → {goal : Machine → Type 0} → ((y : Data) → AreWords y → Stored x.m y.m ((i + x.m r) % 65536) → Next goal y) → Does image inside last ⊥ goal 11 (at here x)
   pop_at_goes r i one small index base top st e low high go =
-      goes (pop_at r i) 11 (λ y. Stored x.m y.m (x.m r + i)) refl st e (pop_at_does x r i low high one small base top index) go
+      goes (pop_at r i) 11 (λ y. Stored x.m y.m ((i + x.m r) % 65536)) refl st e (pop_at_does x r i low high one small base top index) go
 
   pub join_goes : (comp : ℕ) → Stands image here (join (Compute true comp 1 0)) → here + 4 ≡ last → 258 ≤ x.m 0 → x.m 0 ≤ 2048
       → {goal : Machine → Type 0} → ((y : Data) → AreWords y → Joined x.m y.m (comp_value comp (x.m (x.m 0 - 1)) (x.m (x.m 0 - 2))) → Next goal y) → Does image inside last ⊥ goal 4 (at here x)

@@ -8,3 +8,4 @@ pub mod Calls
 pub mod Keys
 pub mod Loop
 pub mod Ways
+pub mod Shapes

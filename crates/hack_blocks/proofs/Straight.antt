@@ -24,7 +24,7 @@ module _ (x : Data) where
   pub pop_word_does : (r : ℕ) → 257 ≤ x.m 0 → x.m 0 ≤ 2048 → 1 ≤ r → r < 256 → Stored x.m (do_block (pop_word r) x).m r × Safe (pop_word r) x
   pop_word_does r low high one small = (record { sp = grind (arith, nat_tests); there = grind (arith, nat_tests); same = λ k h e. grind (arith, nat_tests) }, search arith)
 
-  pub pop_at_does : (r i : ℕ) → 257 ≤ x.m 0 → x.m 0 ≤ 2048 → 1 ≤ r → r < 13 → 256 ≤ x.m r + i → x.m r + i < 2048 → i < 32768 → Stored x.m (do_block (pop_at r i) x).m (x.m r + i) × Safe (pop_at r i) x
+  pub pop_at_does : (r i : ℕ) → 257 ≤ x.m 0 → x.m 0 ≤ 2048 → 1 ≤ r → r < 13 → 256 ≤ (i + x.m r) % 65536 → (i + x.m r) % 65536 < 2048 → i < 32768 → Stored x.m (do_block (pop_at r i) x).m ((i + x.m r) % 65536) × Safe (pop_at r i) x
   pop_at_does r i low high one small base top index = (record { sp = grind (arith, nat_tests); there = grind (arith, nat_tests); same = λ k h e. grind (arith, nat_tests) }, search arith)
 
   pub join_does : (comp : ℕ) → 258 ≤ x.m 0 → x.m 0 ≤ 2048 → Joined x.m (do_block (join (Compute true comp 1 0)) x).m (comp_value comp (x.m (x.m 0 - 1)) (x.m (x.m 0 - 2))) × Safe (join (Compute true comp 1 0)) x

@@ -4,3 +4,4 @@ pub mod Going
 pub mod Effects
 pub mod Comparing
 pub mod Own
+pub mod Commands
