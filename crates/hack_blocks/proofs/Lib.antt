@@ -9,3 +9,4 @@ pub mod Keys
 pub mod Loop
 pub mod Ways
 pub mod Shapes
+pub mod Placed

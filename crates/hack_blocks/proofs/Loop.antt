@@ -8,6 +8,7 @@ use Rattle.hack_isa.specs.Machine.{Machine, jumps, perform, step}
 use Rattle.layers.specs.System.{System, Idles, IdlesAtEnd}
 use Rattle.hack_blocks.specs.Computer.{Map, reads_key, in_loop, hack_system, HasLoop}
 use Rattle.hack_blocks.specs.Going.{IsKeyRead}
+use Rattle.hack_blocks.specs.Laws.{LoopsIdle}
 use Rattle.hack_blocks.proofs.Keys.{not_heard, false_if}
 
 abbrev At : ℕ → Machine → Type 0
@@ -89,3 +90,6 @@ module _ (image : List ℕ) (map : Map) (loop : ℕ) (h : HasLoop image map loop
     quiet = λ s a. quiet_at s (at_loop loop s a);
     idles = λ s s' key a e. idles_at s s' key (at_loop loop s a) (some_is _ _ e);
   }
+
+pub loops_idle : LoopsIdle
+loops_idle = idles_at_end

@@ -16,7 +16,8 @@ use Rattle.hack_blocks.proofs.Alu.{comp_value}
 use Rattle.hack_blocks.specs.Computer.{Stands}
 use Rattle.hack_blocks.specs.Going.{arrived, further, Does, DoesHearing}
 use Rattle.hack_blocks.specs.Effects.{Pushed, Joined, Stored, HasWords}
-use Rattle.hack_blocks.specs.Commands.{HasValues, HasRoom, address_at, topmost, second, Ready, MayStore, Effect, next, IsAt, After}
+use Rattle.hack_blocks.specs.Commands.{HasValues, HasRoom, address_at, topmost, second, Ready, MayStore, Effect, next, IsAt, After, CommandsGo}
+use Rattle.hack_blocks.proofs.Placed.{size_some}
 use Rattle.hack_blocks.proofs.Block.{Data, AreWords, at, within}
 use Rattle.hack_blocks.proofs.Commands.{push_constant_goes, push_word_goes, push_at_goes, pop_word_goes, pop_at_goes, join_goes, turn_goes, push_key_goes, push_any_goes, store_goes, pop_any_goes}
 use Rattle.hack_blocks.proofs.Compare.{eq_goes, gt_goes, lt_goes}
@@ -188,3 +189,26 @@ module _ (image : List ℕ) (inside : ℕ → Type 0) (s : Machine) (last : ℕ)
       let low = here.low in
       let shape = here.shape in
       pop_any_goes image inside s.pc last (omega arith) places x w r i shape.0 (omega (arith, shape.1)) shape.2 here.stands (omega arith) some.0 some.1
+
+-- the command at its own addresses
+module _ (image : List ℕ) (s : Machine) (c : Shape) (here : IsAt image c s) where
+  own : (k : ℕ) → s.pc ≤ k → k < s.pc + size c - 1 → (s.pc ≤ k) × (k + 1 < s.pc + size c)
+  own k a b = (a, omega arith)
+
+  its_last : s.pc + size c - 1 + 1 ≡ s.pc + size c
+  its_last = let some = size_some c in omega (arith, some)
+
+pub commands_go : CommandsGo
+commands_go = record {
+  goes = λ image c s here ready. command_goes image (λ k. (s.pc ≤ k) × (k + 1 < s.pc + size c)) s (s.pc + size c - 1) (own image s c here) c here (its_last image s c here) ready;
+  hears = λ image base index s here room at_key.
+      let c = PushAt base index in
+      let e : s.pc + 8 + 1 ≡ s.pc + 9 = omega arith in
+      push_hears image (λ k. (s.pc ≤ k) × (k + 1 < s.pc + 9)) s (s.pc + 8) (λ k a b. (a, omega arith)) base index here e room at_key;
+  strays = λ image base index s here room other.
+      let c = PushAt base index in
+      push_strays image (λ k. (s.pc ≤ k) × (k + 1 < s.pc + size c)) s (s.pc + size c - 1) (own image s c here) base index here (its_last image s c here) room other;
+  ends = λ image base index s here some.
+      let c = PopAt base index in
+      pop_ends image (λ k. (s.pc ≤ k) × (k + 1 < s.pc + size c)) s (s.pc + size c - 1) (own image s c here) base index here (its_last image s c here) some;
+}

@@ -7,6 +7,7 @@ use Rattle.layers.specs.Layers.{Shows, Lands, Way, lands, rests, onward, Opens, 
 use Rattle.hack_blocks.specs.Computer.{Map, reads_key, in_loop, hack_system}
 use Rattle.hack_blocks.specs.Going.{IsDataWrite, Quiet, Last, Reaches, arrived, further, Does, DoesHearing}
 use Rattle.hack_blocks.specs.Own.{IsOwn}
+use Rattle.hack_blocks.specs.Ways.{By, StepsAreWays}
 use Rattle.hack_blocks.proofs.Keys.{step_keeps, is_heard, not_heard}
 use Rattle.hack_blocks.proofs.Loop.{moves_apart}
 
@@ -81,3 +82,11 @@ module _ {U : Type 0} (up : System U) (image : List ℕ) (words : (k : ℕ) → 
   opens_of inside (suc n) s points commits same leads (further q r) =
       before (suc n) n s (shows s same (points s.pc q.place)) (commits s.pc q.place) (not_heard (slice_index image s.pc) s q.no_key) (omega arith) (λ key w. step image key s) (λ key w. refl)
       (λ key w. opens_of inside n (step image key s) points commits (kept s key same q.no_write) leads (r key w))
+
+pub steps_are_ways : StepsAreWays
+steps_are_ways = record {
+  deaf = λ up image map loop r u inside last words own going none goal leads n s same d. quiet_way up image words map loop (By r) u (λ k. inside k ≡ true) last own going n s none leads same d;
+  hearing = λ up image map loop r u inside last words own going hears goal leads n m s same d. hearing_way up image words map loop (By r) u (λ k. inside k ≡ true) last own going m n s hears leads same d;
+  resting = λ up image map loop r u words n s e l p same. resting_way up image words map loop (By r) u n s e l p same;
+  opening = λ up image map loop r u inside words points commits n s same d. opens_of up image words map loop (By r) u (λ k. inside k ≡ true) n s points commits same (λ t q g. g) d;
+}

@@ -5,3 +5,5 @@ pub mod Effects
 pub mod Comparing
 pub mod Own
 pub mod Commands
+pub mod Laws
+pub mod Ways

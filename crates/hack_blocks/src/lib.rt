@@ -2,6 +2,8 @@
 #![tactic(auto)]
 
 pub mod instructions;
+mod laws;
 pub mod shape;
 
+pub use laws::{commands_law, start_law, templates_law, ways_law};
 pub use shape::Shape;
