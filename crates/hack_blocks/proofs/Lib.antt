@@ -1,0 +1,12 @@
+pub mod Alu
+pub mod Block
+pub mod Straight
+pub mod Commands
+pub mod Compare
+pub mod Frames
+pub mod Calls
+pub mod Keys
+pub mod Loop
+pub mod Ways
+pub mod Shapes
+pub mod Placed

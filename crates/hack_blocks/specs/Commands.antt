@@ -1,0 +1,124 @@
+-- What the instructions of each command do: from where, to where, and what they change.
+use Rattle.std.specs.Prelude.{◌≡◌, ◌≢◌, ℕ, ◌+◌, ◌-◌, ◌<◌, ◌≤◌, ◌%◌, if◌then◌else◌, nat_eq, bit_and, bit_or, List}
+use Rattle.word16.specs.Words.{word_add, word_sub, word_neg, word_not}
+use Rattle.hack_isa.specs.Machine.{Machine}
+use Rattle.layers.specs.System.{IsData}
+use Rattle.hack_blocks.specs.declared.shape.Shape.{Shape}
+use Rattle.hack_blocks.specs.declared.shape.Shape.TheVariants.{PushConstant, PushAt, PushWord, PopAt, PopWord, Add, Sub, And, Or, Neg, Not, Eq, Gt, Lt, Goto, IfGoto, Call, Function, Return}
+use Rattle.hack_blocks.specs.Templates.{template, size, budget}
+use Rattle.hack_blocks.specs.Computer.{Stands}
+use Rattle.hack_blocks.specs.Going.{Does, DoesHearing}
+use Rattle.hack_blocks.specs.Effects.{Pushed, Joined, Turned, Stored, Dropped, Called, PushedAll, Returned, HasWords}
+use Rattle.hack_blocks.specs.Comparing.{equal, greater, less}
+
+-- The numbers of a command are those of its segment, of a static, a pointer or a temp word, of code, of arguments.
+abbrev pub IsShape : Shape → Type 0
+IsShape (PushConstant n) = n < 32768
+IsShape (PushAt base index) = (1 ≤ base) × (base ≤ 4) × (index < 32768)
+IsShape (PushWord address) = (3 ≤ address) × (address < 256)
+IsShape (PopAt base index) = (1 ≤ base) × (base ≤ 4) × (index < 32768)
+IsShape (PopWord address) = (3 ≤ address) × (address < 256)
+IsShape (Goto target) = target < 32768
+IsShape (IfGoto target) = target < 32768
+IsShape (Call target arguments) = (target < 32768) × (arguments < 32763)
+IsShape c = Unit {0}
+
+-- so many values can be taken from the stack, 256 to 2047
+abbrev pub HasValues : ℕ → (ℕ → ℕ) → Type 0
+HasValues n m = (256 + n ≤ m 0) × (m 0 ≤ 2048)
+
+-- so many words can be put on it
+abbrev pub HasRoom : ℕ → (ℕ → ℕ) → Type 0
+HasRoom n m = (256 ≤ m 0) × (m 0 + n ≤ 2048)
+
+-- the address at an index from where a register points, modulo 65,536
+abbrev pub address_at : (ℕ → ℕ) → ℕ → ℕ → ℕ
+address_at m base index = (m base + index) % 65536
+
+abbrev pub topmost : (ℕ → ℕ) → ℕ
+topmost m = m (m 0 - 1)
+
+abbrev pub second : (ℕ → ℕ) → ℕ
+second m = m (m 0 - 2)
+
+-- What a command asks of the memory: values or room on the stack, an address that is a word of memory, a frame to return from.
+abbrev pub Ready : Shape → (ℕ → ℕ) → Type 0
+Ready (PushConstant n) m = HasRoom 1 m
+Ready (PushAt base index) m = HasRoom 1 m × (address_at m base index < 24576)
+Ready (PushWord address) m = HasRoom 1 m
+Ready (PopAt base index) m = HasValues 1 m × (256 ≤ address_at m base index) × (address_at m base index < 24576)
+Ready (PopWord address) m = HasValues 1 m
+Ready Neg m = HasValues 1 m
+Ready Not m = HasValues 1 m
+Ready (Goto target) m = Unit {0}
+Ready (IfGoto target) m = HasValues 1 m
+Ready (Call target arguments) m = HasRoom 5 m × (arguments ≤ m 0)
+Ready (Function locals) m = HasRoom locals m
+Ready Return m = HasValues 1 m × (256 ≤ m 2) × (m 2 + 5 ≤ m 1) × (m 1 ≤ 2048) × (m (m 1 - 5) < 32768)
+Ready c m = HasValues 2 m
+
+-- Only a pop to a segment may write data, where its address is one of data.
+abbrev pub MayStore : Shape → (ℕ → ℕ) → Type 0
+MayStore (PopAt base index) m = IsData (address_at m base index)
+MayStore c m = ⊥
+
+-- what a command at an address changes in memory
+abbrev pub Effect : Shape → ℕ → (ℕ → ℕ) → (ℕ → ℕ) → Type 0
+Effect (PushConstant n) here m after = Pushed m after n
+Effect (PushAt base index) here m after = Pushed m after (m (address_at m base index))
+Effect (PushWord address) here m after = Pushed m after (m address)
+Effect (PopAt base index) here m after = Stored m after (address_at m base index)
+Effect (PopWord address) here m after = Stored m after address
+Effect Add here m after = Joined m after (word_add (second m) (topmost m))
+Effect Sub here m after = Joined m after (word_sub (second m) (topmost m))
+Effect And here m after = Joined m after (bit_and (second m) (topmost m))
+Effect Or here m after = Joined m after (bit_or (second m) (topmost m))
+Effect Neg here m after = Turned m after (word_neg (topmost m))
+Effect Not here m after = Turned m after (word_not (topmost m))
+Effect Eq here m after = Joined m after (equal (second m) (topmost m))
+Effect Gt here m after = Joined m after (greater (second m) (topmost m))
+Effect Lt here m after = Joined m after (less (second m) (topmost m))
+Effect (Goto target) here m after = (k : ℕ) → after k ≡ m k
+Effect (IfGoto target) here m after = Dropped m after
+Effect (Call target arguments) here m after = Called m after ((here + 42) % 32768) arguments
+Effect (Function locals) here m after = PushedAll m after locals (λ k. 0)
+Effect Return here m after = Returned m after
+
+-- where a command at an address leads: after its instructions, but for jumps, calls and returns
+abbrev pub next : Shape → ℕ → (ℕ → ℕ) → ℕ
+next (Goto target) here m = target
+next (IfGoto target) here m = if nat_eq (topmost m) 0 then (here + 5) % 32768 else target
+next (Call target arguments) here m = target
+next Return here m = m (m 1 - 5)
+next c here m = (here + size c) % 32768
+
+-- the command stands at the machine's program counter
+pub record IsAt (image : List ℕ) (c : Shape) (s : Machine) : Type 0 where
+  pub words : HasWords s
+  pub shape : IsShape c
+  pub low : s.pc + size c ≤ 32768
+  pub stands : Stands image s.pc (template s.pc c)
+
+-- Its instructions are gone through from there, and the last one leads to the goal, in at most as many steps as the command may take.
+abbrev pub Goes : List ℕ → Shape → Type 0 → (Machine → Type 0) → Machine → Type 0
+Goes image c may_write goal s = Does image (λ k. (s.pc ≤ k) × (k + 1 < s.pc + size c)) (s.pc + size c - 1) may_write goal (budget c - 1) s
+
+-- what holds after a command with this effect
+pub record After (c : Shape) (effect : (ℕ → ℕ) → (ℕ → ℕ) → Type 0) (s t : Machine) : Type 0 where
+  pub words : HasWords t
+  pub pc : t.pc ≡ next c s.pc s.memory
+  pub change : effect s.memory t.memory
+
+-- The instructions of each command do what the command does, in any image and at any place.
+pub record CommandsGo : Type 0 where
+  -- from where it is ready, the command has its effect
+  pub goes : (image : List ℕ) (c : Shape) (s : Machine) → IsAt image c s → Ready c s.memory → Goes image c (MayStore c s.memory) (After c (Effect c s.pc) s) s
+  -- A push of the word at 24,576 reads the key once, in its fifth step, and pushes it.
+  pub hears : (image : List ℕ) (base index : ℕ) (s : Machine) → IsAt image (PushAt base index) s → HasRoom 1 s.memory → address_at s.memory base index ≡ 24576
+      → DoesHearing image (λ k. (s.pc ≤ k) × (k + 1 < s.pc + 9)) (s.pc + 8) ⊥ (λ key. After (PushAt base index) (λ m after. Pushed m after key) s) 4 3 s
+  -- A push of any other word has the effect of some word: no key is read.
+  pub strays : (image : List ℕ) (base index : ℕ) (s : Machine) → IsAt image (PushAt base index) s → HasRoom 1 s.memory → address_at s.memory base index ≢ 24576
+      → Goes image (PushAt base index) ⊥ (λ t. (v : ℕ) × After (PushAt base index) (λ m after. Pushed m after v) s t) s
+  -- It comes to its last instruction also where the stack is full, and so does a pop to any address: nothing is said of what that writes.
+  pub push_ends : (image : List ℕ) (base index : ℕ) (s : Machine) → IsAt image (PushAt base index) s → address_at s.memory base index ≢ 24576 → Goes image (PushAt base index) (Unit {0}) (λ t. Unit {0}) s
+  pub pop_ends : (image : List ℕ) (base index : ℕ) (s : Machine) → IsAt image (PopAt base index) s → HasValues 1 s.memory → Goes image (PopAt base index) (Unit {0}) (λ t. Unit {0}) s

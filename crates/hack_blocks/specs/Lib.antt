@@ -1,0 +1,9 @@
+pub mod Templates
+pub mod Computer
+pub mod Going
+pub mod Effects
+pub mod Comparing
+pub mod Own
+pub mod Commands
+pub mod Laws
+pub mod Ways

@@ -1,0 +1,183 @@
+-- The instructions of each command, by its shape. (The book, chapters 7 and 8: the mapping of the stack machine onto Hack.)
+-- The words 0 to 4 are SP, LCL, ARG, THIS and THAT; SP is the address above the topmost value. The words 13 and 14 are free for use within a command.
+use Rattle.std.specs.Prelude.{ℕ, zero, suc, ◌+◌, ◌*◌, ◌%◌, List, [], ◌∷◌, ◌++◌}
+use Rattle.hack_isa.specs.declared.Instr.{Instr}
+use Rattle.hack_isa.specs.declared.Instr.TheVariants.{Address}
+use Rattle.hack_blocks.specs.declared.shape.Shape.{Shape}
+use Rattle.hack_blocks.specs.declared.shape.Shape.TheVariants.{PushConstant, PushAt, PushWord, PopAt, PopWord, Add, Sub, And, Or, Neg, Not, Eq, Gt, Lt, Goto, IfGoto, Call, Function, Return}
+use Rattle.hack_blocks.specs.declared.instructions.TheConstants.{D_IS_A, D_IS_M, A_IS_M, M_IS_D, M_IS_0, D_IS_0, D_IS_1, D_IS_MINUS_1, AM_IS_M_MINUS_1, AM_IS_M_PLUS_1, A_IS_A_MINUS_1, A_IS_M_MINUS_1, D_IS_M_PLUS_1, A_IS_D_PLUS_M, D_IS_D_PLUS_M, D_IS_D_MINUS_M, D_IS_D_MINUS_A, A_IS_D_MINUS_A, M_IS_D_PLUS_M, M_IS_M_MINUS_D, M_IS_D_AND_M, M_IS_D_OR_M, M_IS_MINUS_M, M_IS_NOT_M, JUMP, IF_D_LESS, IF_D_GREATER, IF_D_EQUAL, IF_D_NOT_LESS, IF_D_NOT_EQUAL}
+
+-- D goes on the stack
+abbrev pub push_d : List Instr
+push_d = Address 0 ∷ AM_IS_M_PLUS_1 ∷ A_IS_A_MINUS_1 ∷ M_IS_D ∷ []
+
+-- a number goes on the stack
+abbrev pub push_constant : ℕ → List Instr
+push_constant n = Address n ∷ D_IS_A ∷ push_d
+
+-- the word at an address goes on the stack
+abbrev pub push_word : ℕ → List Instr
+push_word address = Address address ∷ D_IS_M ∷ push_d
+
+-- the word at an index from where the register points goes on the stack
+abbrev pub push_at : ℕ → ℕ → List Instr
+push_at base index = Address index ∷ D_IS_A ∷ Address base ∷ A_IS_D_PLUS_M ∷ D_IS_M ∷ push_d
+
+-- the topmost value goes to D
+abbrev pub pop_d : List Instr
+pop_d = Address 0 ∷ AM_IS_M_MINUS_1 ∷ D_IS_M ∷ []
+
+-- the topmost value goes to an address
+abbrev pub pop_word : ℕ → List Instr
+pop_word address = pop_d ++ Address address ∷ M_IS_D ∷ []
+
+-- the topmost value goes to an index from where the register points; the address waits in the word 13
+abbrev pub pop_at : ℕ → ℕ → List Instr
+pop_at base index =
+    Address index ∷ D_IS_A ∷ Address base ∷ D_IS_D_PLUS_M ∷ Address 13 ∷ M_IS_D ∷ (pop_d ++ Address 13 ∷ A_IS_M ∷ M_IS_D ∷ [])
+
+-- the two topmost values give way to one, which the instruction makes in the place of the lower from D, the upper
+abbrev pub join : Instr → List Instr
+join operation = pop_d ++ A_IS_A_MINUS_1 ∷ operation ∷ []
+
+-- the topmost value gives way to another, which the instruction makes
+abbrev pub turn : Instr → List Instr
+turn operation = Address 0 ∷ A_IS_M_MINUS_1 ∷ operation ∷ []
+
+-- The two topmost values, x and above it y, give way to -1 where x compares to y as the jump compares D to 0, else to 0. Where the signs
+-- differ D is 1 or -1, else x - y: there the difference does not overflow.
+abbrev pub compare : Instr → ℕ → List Instr
+compare jump here =
+    Address 0 ∷ AM_IS_M_MINUS_1 ∷ D_IS_M ∷ Address 13 ∷ M_IS_D ∷
+    Address 0 ∷ A_IS_M_MINUS_1 ∷ D_IS_M ∷ Address (here + 17) ∷ IF_D_LESS ∷
+    Address 13 ∷ D_IS_M ∷ Address (here + 24) ∷ IF_D_NOT_LESS ∷ D_IS_1 ∷ Address (here + 29) ∷ JUMP ∷
+    Address 13 ∷ D_IS_M ∷ Address (here + 24) ∷ IF_D_LESS ∷ D_IS_MINUS_1 ∷ Address (here + 29) ∷ JUMP ∷
+    Address 0 ∷ A_IS_M_MINUS_1 ∷ D_IS_M ∷ Address 13 ∷ D_IS_D_MINUS_M ∷
+    Address (here + 34) ∷ jump ∷ D_IS_0 ∷ Address (here + 35) ∷ JUMP ∷
+    D_IS_MINUS_1 ∷
+    Address 0 ∷ A_IS_M_MINUS_1 ∷ M_IS_D ∷ []
+
+-- on to an address
+abbrev pub go_to : ℕ → List Instr
+go_to target = Address target ∷ JUMP ∷ []
+
+-- on to an address if the topmost value is not 0; it is taken away
+abbrev pub if_go_to : ℕ → List Instr
+if_go_to target = pop_d ++ Address target ∷ IF_D_NOT_EQUAL ∷ []
+
+-- ARG is below the arguments and the five saved words, LCL is SP
+abbrev pub set_pointers : ℕ → List Instr
+set_pointers arguments =
+    Address 0 ∷ D_IS_M ∷ Address (5 + arguments) ∷ D_IS_D_MINUS_A ∷ Address 2 ∷ M_IS_D ∷ Address 0 ∷ D_IS_M ∷ Address 1 ∷ M_IS_D ∷ []
+
+-- the return address and the four registers go on the stack, and then the function is entered
+abbrev pub call_code : ℕ → ℕ → ℕ → List Instr
+call_code back target arguments =
+    push_constant back ++ (push_word 1 ++ (push_word 2 ++ (push_word 3 ++ (push_word 4 ++ (set_pointers arguments ++ go_to target)))))
+
+-- one local of 0
+abbrev pub push_zero : List Instr
+push_zero = Address 0 ∷ AM_IS_M_PLUS_1 ∷ A_IS_A_MINUS_1 ∷ M_IS_0 ∷ []
+
+-- as many locals of 0, and one instruction more, so that each function has one
+abbrev pub function_code : ℕ → List Instr
+function_code zero = Address 0 ∷ []
+function_code (suc n) = push_zero ++ function_code n
+
+-- LCL goes to the word 13 and the return address to the word 14, before the result is put, which may stand where the return address stood
+abbrev pub save_return : List Instr
+save_return =
+    Address 1 ∷ D_IS_M ∷ Address 13 ∷ M_IS_D ∷ Address 5 ∷ A_IS_D_MINUS_A ∷ D_IS_M ∷ Address 14 ∷ M_IS_D ∷ []
+
+-- the topmost value goes to where ARG points, and SP is above it
+abbrev pub put_result : List Instr
+put_result = pop_d ++ Address 2 ∷ A_IS_M ∷ M_IS_D ∷ Address 2 ∷ D_IS_M_PLUS_1 ∷ Address 0 ∷ M_IS_D ∷ []
+
+-- the next word below the one that the word 13 points to goes to a register
+abbrev pub restore : ℕ → List Instr
+restore register = Address 13 ∷ AM_IS_M_MINUS_1 ∷ D_IS_M ∷ Address register ∷ M_IS_D ∷ []
+
+-- back to the return address, which is in the word 14
+abbrev pub go_back : List Instr
+go_back = Address 14 ∷ A_IS_M ∷ JUMP ∷ []
+
+abbrev pub return_code : List Instr
+return_code = save_return ++ (put_result ++ (restore 4 ++ (restore 3 ++ (restore 2 ++ (restore 1 ++ go_back)))))
+
+-- The instructions of a command at an address. The address after the last word of the longest image, 32,768, is 0.
+abbrev pub template : ℕ → Shape → List Instr
+template here (PushConstant n) = push_constant n
+template here (PushAt base index) = push_at base index
+template here (PushWord address) = push_word address
+template here (PopAt base index) = pop_at base index
+template here (PopWord address) = pop_word address
+template here Add = join M_IS_D_PLUS_M
+template here Sub = join M_IS_M_MINUS_D
+template here And = join M_IS_D_AND_M
+template here Or = join M_IS_D_OR_M
+template here Neg = turn M_IS_MINUS_M
+template here Not = turn M_IS_NOT_M
+template here Eq = compare IF_D_EQUAL here
+template here Gt = compare IF_D_GREATER here
+template here Lt = compare IF_D_LESS here
+template here (Goto target) = go_to target
+template here (IfGoto target) = if_go_to target
+template here (Call target arguments) = call_code ((here + 42) % 32768) target arguments
+template here (Function locals) = function_code locals
+template here Return = return_code
+
+-- the number of these instructions
+abbrev pub size : Shape → ℕ
+size (PushConstant n) = 6
+size (PushAt base index) = 9
+size (PushWord address) = 6
+size (PopAt base index) = 12
+size (PopWord address) = 5
+size Add = 5
+size Sub = 5
+size And = 5
+size Or = 5
+size Neg = 3
+size Not = 3
+size Eq = 38
+size Gt = 38
+size Lt = 38
+size (Goto target) = 2
+size (IfGoto target) = 5
+size (Call target arguments) = 42
+size (Function locals) = 4 * locals + 1
+size Return = 42
+
+-- the most that a command may take, in words and in steps
+abbrev pub budget : Shape → ℕ
+budget (PushConstant n) = 9
+budget (PushAt base index) = 9
+budget (PushWord address) = 9
+budget (PopAt base index) = 12
+budget (PopWord address) = 12
+budget Add = 5
+budget Sub = 5
+budget And = 5
+budget Or = 5
+budget Neg = 3
+budget Not = 3
+budget Eq = 48
+budget Gt = 48
+budget Lt = 48
+budget (Goto target) = 2
+budget (IfGoto target) = 5
+budget (Call target arguments) = 60
+budget (Function locals) = 14 + 4 * locals
+budget Return = 66
+
+-- SP is 256
+abbrev pub set_stack : List Instr
+set_stack = Address 256 ∷ D_IS_A ∷ Address 0 ∷ M_IS_D ∷ []
+
+-- The endless loop at an address. (The book, chapter 4.)
+abbrev pub endless : ℕ → List Instr
+endless here = Address here ∷ JUMP ∷ []
+
+-- The start, at address 0: the stack, `call Sys.init 0`, `pop temp 0`, and the endless loop at 51. (The book, chapter 8.)
+abbrev pub start_code : ℕ → List Instr
+start_code sys_init = set_stack ++ (template 4 (Call sys_init 0) ++ (template 46 (PopWord 5) ++ endless 51))

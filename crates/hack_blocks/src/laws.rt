@@ -1,0 +1,30 @@
+//! Laws of the templates: no code, only the statements.
+ghost use Rattle.hack_blocks.specs.Commands.{CommandsGo};
+ghost use Rattle.hack_blocks.specs.Laws.{TemplatesFit, InstructionsStand, Starts, LoopsIdle};
+ghost use Rattle.hack_blocks.specs.Ways.{StepsAreWays};
+
+/// Law: the instructions of each command do what the command does, in any image and at any place.
+#[tactic(auto, using(crate::proofs::Shapes::commands_go))]
+pub fn commands_law()
+    ensures { CommandsGo }
+{}
+
+/// Law: templates have the words that they may have, and stand in an image of their words.
+#[tactic(auto, using(crate::proofs::Placed::templates_fit, crate::proofs::Placed::instructions_stand))]
+pub fn templates_law()
+    ensures fit { TemplatesFit }
+    ensures stand { InstructionsStand }
+{}
+
+/// Law: the start comes to the call of Sys.init, and in its endless loop the computer does nothing that can be seen.
+#[tactic(auto, using(crate::proofs::Placed::starts, crate::proofs::Loop::loops_idle))]
+pub fn start_law()
+    ensures starts { Starts }
+    ensures idle { LoopsIdle }
+{}
+
+/// Law: what goes by steps of the computer is a way of the layers.
+#[tactic(auto, using(crate::proofs::Ways::steps_are_ways))]
+pub fn ways_law()
+    ensures { StepsAreWays }
+{}
