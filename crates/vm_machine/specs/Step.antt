@@ -139,10 +139,11 @@ call g n s f below =
     if nat_lt (length f.values) n then Strays stray.Values
     else goes s (after f (drop n f.values) ∷ below) (called g n f)
 
--- The start of a function makes its locals. A call alone leads there, so that the frame has no locals and no values yet.
+-- The start of a function makes its locals. A call alone leads there, so that the frame has no locals and no values yet. (`start` has
+-- no such command.)
 abbrev pub begin : ℕ → List ℕ → List ℕ → State → Frame → List Frame → Outcome
-begin n [] [] s f below = goes s below (record f { place = f.place + 1; locals = replicate n 0 })
-begin n _ _ s f below = Strays stray.Code
+begin n [] [] s f (g ∷ below) = goes s (g ∷ below) (record f { place = f.place + 1; locals = replicate n 0 })
+begin n _ _ s f _ = Strays stray.Code
 
 -- The frame is taken off, and its value goes to the caller, whose pointers are its own. (`start` has no return.)
 abbrev pub return : List Frame → State → ℕ → List ℕ → Outcome
