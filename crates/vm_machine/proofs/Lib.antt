@@ -1,2 +1,3 @@
 pub mod Deaf
 pub mod Ends
+pub mod Kept
