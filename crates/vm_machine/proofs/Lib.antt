@@ -1,0 +1,3 @@
+pub mod Deaf
+pub mod Ends
+pub mod Kept
