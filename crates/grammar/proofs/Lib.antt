@@ -11,3 +11,4 @@ pub mod Exits
 pub mod LeavesRead
 pub mod Reread
 pub mod Past
+pub mod Alike

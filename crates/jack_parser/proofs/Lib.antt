@@ -5,3 +5,5 @@ pub mod StatementRules
 pub mod Blocks
 pub mod Parameters
 pub mod TokensTold
+pub mod Spaced
+pub mod Blindness

@@ -1,15 +1,16 @@
 -- The printed form of a class: its tokens with one space between them, and a line feed in its place behind `{`, `}` and `;`.
-use Rattle.std.specs.Prelude.{◌≡◌, ℕ, ◌++◌, List, [], ◌∷◌, Ok, map, decimal, if◌then◌else◌, ◌||◌, codes}
+use Rattle.std.specs.Prelude.{◌≡◌, ℕ, ◌++◌, List, [], ◌∷◌, Ok, map, decimal, if◌then◌else◌, ◌||◌, codes, length, ◌≤◌}
 use Rattle.std.specs.List.{flat_map}
 use Rattle.std.specs.Str.{bytes_eq}
 use Rattle.scan_text.specs.Text.{start}
-use Rattle.grammar.specs.Leaves.{leaves}
+use Rattle.grammar.specs.Leaves.{leaves, seen_by}
 use Rattle.jack_tree.specs.declared.token.Kind.{Kind}
 use Rattle.jack_tree.specs.declared.token.Kind.TheVariants as kind
 use Rattle.jack_tree.specs.declared.tree.Class.{Class}
 use Rattle.jack_tree.specs.Tokens.{Word, keyword_text}
 use Rattle.jack_lexer.specs.Cut.{tokens_of}
-use Rattle.jack_parser.specs.Jack.{jack, Said, Fixed, Placed, whole, unquoted}
+use Rattle.grammar.specs.Rules.{Tree}
+use Rattle.jack_parser.specs.Jack.{jack, JackRule, Said, Fixed, Placed, whole, unquoted}
 use Rattle.jack_parser.specs.Whole.{whole_tree, Spells}
 
 -- what a token is written as: a number without leading zeros, a string in its quotes
@@ -40,6 +41,10 @@ class_tokens c = map said_text (leaves (jack start) (whole_tree c) whole)
 abbrev pub set_off : List ℕ → List ℕ
 set_off w = w ++ (if bytes_eq w (codes "{") || (bytes_eq w (codes "}") || bytes_eq w (codes ";")) then 10 else 32) ∷ []
 
+-- the printed form of a tree, by the rule that it is of
+abbrev pub text_of : Tree Said → JackRule → List ℕ
+text_of x rule = flat_map set_off (map said_text (leaves (jack start) x rule))
+
 -- the printed form of a class
 abbrev pub class_text : Class → List ℕ
 class_text c = flat_map set_off (class_tokens c)
@@ -47,3 +52,12 @@ class_text c = flat_map set_off (class_tokens c)
 -- A text that spells a class has the tokens of the class, whatever stands between them.
 abbrev pub TokensLaw : Type 0
 TokensLaw = (text : List ℕ) (c : Class) (ts : List Word) → tokens_of text ≡ Ok ts → Spells text (whole_tree c) → map shown ts ≡ class_tokens c
+
+-- what a token says but for its place
+abbrev pub unplaced : Said → Said
+unplaced (Fixed k) = Fixed k
+unplaced (Placed k text at) = Placed k text start
+
+-- The printed form of a class that some text spells, where it is within the limit of a file, spells the class but for places.
+abbrev pub PrintedLaw : Type 0
+PrintedLaw = (text : List ℕ) (c : Class) → Spells text (whole_tree c) → length (class_text c) ≤ 1048576 → (t : Tree Said) × Spells (class_text c) t × (seen_by unplaced (whole_tree c) ≡ seen_by unplaced t)

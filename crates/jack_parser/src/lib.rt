@@ -9,7 +9,7 @@ mod reading;
 mod statements;
 mod words;
 
-pub use laws::{lawful, tokens_law};
+pub use laws::{lawful, printed_law, tokens_law};
 pub use reading::parse_class;
 
 #[cfg(test)]

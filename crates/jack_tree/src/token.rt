@@ -1,7 +1,7 @@
 //! Tokens.
 
 ghost use Rattle.std.specs.Prelude.{◌≡◌};
-ghost use Rattle.jack_tree.specs.Tokens.{keyword_of, type_keyword_of, constant_keyword_of, statement_keyword_of};
+ghost use Rattle.jack_tree.specs.Tokens.{keyword_of, keyword_text, type_keyword_of, constant_keyword_of, statement_keyword_of};
 
 use scan_text::Place;
 
@@ -50,6 +50,35 @@ pub struct Token<'a> {
 }
 
 impl Keyword {
+    /// What the keyword is written as.
+    pub fn text(self) -> &'static str
+        ensures { result.now ≡ keyword_text self }
+    {
+        match self {
+            Keyword::Class => "class",
+            Keyword::Constructor => "constructor",
+            Keyword::Function => "function",
+            Keyword::Method => "method",
+            Keyword::Field => "field",
+            Keyword::Static => "static",
+            Keyword::Var => "var",
+            Keyword::Int => "int",
+            Keyword::Char => "char",
+            Keyword::Boolean => "boolean",
+            Keyword::Void => "void",
+            Keyword::True => "true",
+            Keyword::False => "false",
+            Keyword::Null => "null",
+            Keyword::This => "this",
+            Keyword::Let => "let",
+            Keyword::Do => "do",
+            Keyword::If => "if",
+            Keyword::Else => "else",
+            Keyword::While => "while",
+            Keyword::Return => "return",
+        }
+    }
+
     /// The keyword that is spelled so.
     pub fn of(text: &[u8]) -> Option<Keyword>
         ensures { result ≡ keyword_of text.now }
