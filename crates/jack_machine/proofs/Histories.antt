@@ -8,14 +8,14 @@ use Rattle.machine_io.specs.declared.machine.Stray.TheVariants as Why
 use Rattle.jack_meaning.specs.Text.{Let, LetField, LetThis, Store, Do, If, While, Return, Text, End, Next, Subroutine}
 use Rattle.jack_meaning.specs.Meaning.{Frame, State, step, start, point_of}
 use Rattle.jack_machine.specs.Rests.{unfolded_text}
-use Rattle.jack_machine.specs.Texts.{the_subroutines, the_program, the_class}
+use Rattle.jack_core.specs.Texts.{the_subroutines, the_program, the_class}
 use Rattle.jack_machine.specs.Whole.{jack_state, jack_point, jack_word, settled, IsAlike, JackStep, IsTurn, Leads, StandsAt, Stands, start_frame}
 use Rattle.jack_machine.specs.Frames.{the_frame, the_state}
 use Rattle.jack_machine.specs.declared.frames.Frame.{Frame as FrameTree}
 use Rattle.jack_machine.specs.declared.looking.Memory.{Memory}
 use Rattle.jack_machine.specs.declared.jack.Jack.{Jack}
-use Rattle.jack_machine.specs.declared.program.Core.{Core}
-use Rattle.jack_machine.specs.declared.program.Class.{Class}
+use Rattle.jack_core.specs.declared.program.Core.{Core}
+use Rattle.jack_core.specs.declared.program.Class.{Class}
 
 -- a state and the same with its loop unfolded make the same steps, and are at the same point
 unfolded_step : (subs : List Subroutine) (key : ℕ) (s : State) (f : Frame) (below : List Frame) (t : Text)

@@ -1,5 +1,4 @@
 pub mod Looks
-pub mod Blocks
 pub mod Rests
 pub mod Tops
 pub mod Stacks

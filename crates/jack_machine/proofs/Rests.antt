@@ -6,14 +6,15 @@ use Rattle.jack_meaning.specs.Text.{Statement as AStatement, Let, LetField, LetT
 use Rattle.jack_meaning.specs.Meaning.{chosen, turn_of}
 use Rattle.jack_machine.specs.Rests.{unfolded, unfolded_text, BeginsWith}
 use Rattle.jack_machine.specs.Effects.{is_no_loop}
-use Rattle.jack_machine.specs.Reading.{the_expression}
-use Rattle.jack_machine.proofs.Blocks.{if_reads}
-use Rattle.jack_machine.specs.declared.tree.Expression.{Expression}
-use Rattle.jack_machine.specs.declared.program.Statement.TheVariants as Statement
+use Rattle.jack_core.specs.Reading.{the_expression}
+use Rattle.jack_core.proofs.Blocks.{if_reads}
+use Rattle.jack_core.specs.declared.tree.Expression.{Expression}
+use Rattle.jack_core.specs.declared.program.Statement.TheVariants as Statement
 use Rattle.std.specs.declared.vec.Vec.{Vec}
 use Rattle.std.specs.declared.alloc.Global.{Global}
-use Rattle.jack_machine.specs.Texts.{the_statement, the_block, the_rest}
-use Rattle.jack_machine.specs.declared.program.Statement.{Statement}
+use Rattle.jack_core.specs.Texts.{the_statement, the_block}
+use Rattle.jack_machine.specs.Texts.{the_rest}
+use Rattle.jack_core.specs.declared.program.Statement.{Statement}
 
 -- a list up to its last element, and that element
 last_split : {A : Type 0} (xs : List A) (n : ℕ) (d : A) → length xs ≡ suc n → xs ≡ take n xs ++ slice_index_or xs n d ∷ []

@@ -9,7 +9,7 @@ use Rattle.jack_machine.specs.Effects.{is_no_loop, begins_no_loop, act_of}
 use Rattle.jack_machine.specs.Rests.{TextAdvances, passed_text, opened_text, text_tail}
 use Rattle.jack_machine.specs.Frames.{the_frame, the_state, IsSameTop, first_outcome, ActsFirst, TopStep, called, StoresAt}
 use Rattle.jack_machine.specs.Texts.{the_rest}
-use Rattle.jack_machine.specs.declared.program.Statement.{Statement as StatementTree}
+use Rattle.jack_core.specs.declared.program.Statement.{Statement as StatementTree}
 use Rattle.jack_machine.specs.declared.looking.Memory.{Memory}
 use Rattle.jack_machine.specs.declared.parts.Advance.{Advance}
 use Rattle.jack_machine.specs.declared.frames.Frame.{Frame as FrameTree}

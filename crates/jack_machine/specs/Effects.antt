@@ -4,7 +4,7 @@ use Rattle.word16.specs.Words.{word_add}
 use Rattle.jack_meaning.specs.Text.{Statement, Let, LetField, LetThis, Store, Do, If, While, Return, Text, End, Next, joined}
 use Rattle.jack_meaning.specs.Expressions.{value_of}
 use Rattle.jack_meaning.specs.Meaning.{Frame, State, Outcome, Done, assigned, stored, passed_over, returned, chosen}
-use Rattle.jack_machine.specs.Reading.{the_variable}
+use Rattle.jack_core.specs.Reading.{the_variable}
 use Rattle.jack_machine.specs.Rests.{chosen_text, text_tail}
 use Rattle.jack_machine.specs.declared.effects.Effect.{Effect}
 

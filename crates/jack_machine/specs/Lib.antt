@@ -1,4 +1,3 @@
-pub mod Reading
 pub mod Looks
 pub mod Texts
 pub mod Advances

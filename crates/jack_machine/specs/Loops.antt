@@ -2,8 +2,8 @@
 use Rattle.std.specs.Prelude.{◌≡◌, ◌<◌, true, Option, Some, None}
 use Rattle.std.specs.Vec.{vec_len, vec_capacity}
 use Rattle.jack_meaning.specs.Text.{Statement, While}
-use Rattle.jack_machine.specs.Reading.{the_expression}
-use Rattle.jack_machine.specs.Texts.{the_block}
+use Rattle.jack_core.specs.Reading.{the_expression}
+use Rattle.jack_core.specs.Texts.{the_block}
 use Rattle.jack_machine.specs.Effects.{is_no_loop}
 use Rattle.jack_machine.specs.declared.texts.Loop.{Loop}
 

@@ -7,12 +7,13 @@ use Rattle.outer_world.specs.declared.point.Point.{Point}
 use Rattle.jack_meaning.specs.Text.{Subroutine}
 use Rattle.jack_meaning.specs.Meaning.{Frame, State, Acts, Stray, Done, step, start, start_text, point_of}
 use Rattle.jack_machine.specs.Rests.{unfolded_text}
-use Rattle.jack_machine.specs.Texts.{the_rest, the_subroutines, the_program}
+use Rattle.jack_core.specs.Texts.{the_subroutines, the_program}
+use Rattle.jack_machine.specs.Texts.{the_rest}
 use Rattle.jack_machine.specs.Frames.{the_frame, the_state, called}
 use Rattle.jack_machine.specs.Machine.{the_stack}
 use Rattle.jack_machine.specs.declared.frames.Frame.{Frame as FrameTree}
 use Rattle.jack_machine.specs.declared.jack.Jack.{Jack}
-use Rattle.jack_machine.specs.declared.program.Core.{Core}
+use Rattle.jack_core.specs.declared.program.Core.{Core}
 
 -- the state that the machine shows
 abbrev pub jack_state : Jack → State

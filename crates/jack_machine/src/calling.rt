@@ -2,14 +2,15 @@
 
 ghost use Rattle.std.specs.Prelude.{◌≡◌, IfOk, OnOk, OnErr, map};
 ghost use Rattle.jack_meaning.specs.Meaning.{new_frame, this_of};
-ghost use Rattle.jack_machine.specs.Texts.{the_block, the_rest, the_kind, the_subroutine};
+ghost use Rattle.jack_core.specs.Texts.{the_block, the_kind, the_subroutine};
+ghost use Rattle.jack_machine.specs.Texts.{the_rest};
 ghost use Rattle.jack_machine.specs.Frames.{the_frame};
 ghost use Rattle.jack_machine.specs.Machine.{entered_frame, IsEntered, IsReturned};
 
 use crate::copying::copy_statements;
 use crate::frames::Frame;
 use crate::looking::{Variables, word_in};
-use crate::program::{Kind, Statement, Subroutine};
+use jack_core::{Kind, Statement, Subroutine};
 use crate::texts::{fill_first, open_first};
 use std::alloc::{AllocError, Global};
 use std::mem;

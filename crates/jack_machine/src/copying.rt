@@ -1,11 +1,10 @@
 //! Copies of expressions and statements.
 
 ghost use Rattle.std.specs.Prelude.{◌≡◌, IfOk, map};
-ghost use Rattle.jack_machine.specs.Reading.{the_expression, the_arguments};
-ghost use Rattle.jack_machine.specs.Texts.{the_statement};
+ghost use Rattle.jack_core.specs.Reading.{the_expression, the_arguments};
+ghost use Rattle.jack_core.specs.Texts.{the_statement};
 
-use crate::program::Statement;
-use crate::tree::{Arguments, Expression};
+use jack_core::{Arguments, Expression, Statement};
 use std::alloc::{AllocError, Global};
 
 #[cycle(copy_expression)]

@@ -1,12 +1,12 @@
 //! What the first statement does once its parts are values.
 
 ghost use Rattle.std.specs.Prelude.{◌≡◌, true};
-ghost use Rattle.jack_machine.specs.Texts.{the_statement, the_rest};
+ghost use Rattle.jack_core.specs.Texts.{the_statement};
+ghost use Rattle.jack_machine.specs.Texts.{the_rest};
 ghost use Rattle.jack_machine.specs.Effects.{HasEffect, FirstHas, is_no_loop, begins_no_loop};
 
 use crate::passing::value_in;
-use crate::program::Statement;
-use crate::tree::Variable;
+use jack_core::{Statement, Variable};
 
 /// What a statement does: a variable, a word at an address, or `this` becomes a value; nothing; a branch is chosen
 /// by a value; a value is returned.

@@ -3,7 +3,7 @@
 ghost use Rattle.std.specs.Prelude.{◌≡◌, ℕ, List, slice_set, true, IfOk, OnErr};
 ghost use Rattle.jack_meaning.specs.Meaning.{Frame as AFrame};
 ghost use Rattle.jack_meaning.specs.Text.{Subroutine as ASubroutine};
-ghost use Rattle.jack_machine.specs.Reading.{the_variable};
+ghost use Rattle.jack_core.specs.Reading.{the_variable};
 ghost use Rattle.jack_machine.specs.Texts.{the_rest};
 ghost use Rattle.jack_machine.specs.Effects.{begins_no_loop};
 ghost use Rattle.jack_machine.specs.Frames.{Assigns, StoresAt, Applies, ActsFirst, TopStep, IsSameTop};
@@ -11,9 +11,8 @@ ghost use Rattle.jack_machine.specs.Frames.{Assigns, StoresAt, Applies, ActsFirs
 use crate::effects::{Effect, first_effect};
 use crate::looking::{Memory, Variables};
 use crate::parts::Advance;
-use crate::program::Statement;
+use jack_core::{Statement, Variable};
 use crate::texts::{choose, drop_first, step_first};
-use crate::tree::Variable;
 use std::alloc::AllocError;
 
 /// A call that was made and has not returned: its variables, and the rest of its text, whose first statement stands

@@ -4,7 +4,8 @@ ghost use Rattle.std.specs.Prelude.{◌≡◌, ◌+◌, ◌-◌, ◌<◌, ◌≤
 ghost use Rattle.machine_io.specs.History.{Turn, moves_in};
 ghost use Rattle.jack_meaning.specs.Text.{number_of};
 ghost use Rattle.jack_meaning.specs.Meaning.{start, text_point};
-ghost use Rattle.jack_machine.specs.Texts.{the_statement, the_rest, the_program};
+ghost use Rattle.jack_core.specs.Texts.{the_statement, the_program};
+ghost use Rattle.jack_machine.specs.Texts.{the_rest};
 ghost use Rattle.jack_machine.specs.Effects.{begins_no_loop};
 ghost use Rattle.jack_machine.specs.Frames.{the_frame};
 ghost use Rattle.jack_machine.specs.Whole.{IsSettled, IsCalled, IsSame, IsAlike, JackStep, Stands, jack_state, jack_point, jack_word, start_frame};
@@ -12,9 +13,8 @@ ghost use Rattle.jack_machine.specs.Whole.{IsSettled, IsCalled, IsSame, IsAlike,
 use crate::calling::{call, enter, leave};
 use crate::frames::{Act, Frame, step_top};
 use crate::looking::{Memory, Variables, word_in};
-use crate::program::{Class, Core, Statement};
+use jack_core::{Arguments, Class, Core, Expression, Statement};
 use crate::texts::{first_arguments, unfold_first};
-use crate::tree::{Arguments, Expression};
 use machine_io::{Level, Moved, Stray};
 use outer_world::Point;
 use std::alloc::{AllocError, Global};
@@ -165,7 +165,7 @@ fn first_number(text: &[Statement]) -> u32
 }
 
 impl Level for Jack {
-    ghost use Rattle.jack_machine.specs.declared.program.Core.{Core};
+    ghost use Rattle.jack_core.specs.declared.program.Core.{Core};
 
     type Point = Point;
 

@@ -2,10 +2,10 @@
 
 ghost use Rattle.std.specs.Prelude.{◌≡◌, ℕ, slice_index};
 ghost use Rattle.jack_meaning.specs.Expressions.{variable_of, View};
-ghost use Rattle.jack_machine.specs.Reading.{the_variable, the_expression, the_arguments};
+ghost use Rattle.jack_core.specs.Reading.{the_variable, the_expression, the_arguments};
 ghost use Rattle.jack_machine.specs.Looks.{the_view, Sees, SeesFirst, Loads};
 
-use crate::tree::{Arguments, Expression, Variable};
+use jack_core::{Arguments, Expression, Variable};
 use crate::words::{operate, sign};
 
 /// A frame's arguments and locals, and its `this`.

@@ -3,15 +3,14 @@
 ghost use Rattle.std.specs.Prelude.{◌≡◌, ℕ};
 ghost use Rattle.jack_meaning.specs.Meaning.{filled_first};
 ghost use Rattle.jack_meaning.specs.Text.{Store};
-ghost use Rattle.jack_machine.specs.Reading.{the_expression};
-ghost use Rattle.jack_machine.specs.Texts.{the_statement};
+ghost use Rattle.jack_core.specs.Reading.{the_expression};
+ghost use Rattle.jack_core.specs.Texts.{the_statement};
 ghost use Rattle.jack_machine.specs.Looks.{the_view};
 ghost use Rattle.jack_machine.specs.Advances.{Advances, StatementAdvances, opened_statement};
 
 use crate::looking::{Memory, Sight, Variables, look_at};
-use crate::program::Statement;
+use jack_core::{Expression, Statement};
 use crate::replacing::{fill, is_value, replace};
-use crate::tree::Expression;
 
 /// What a step did to an expression: it was a value already, a part has become a value, or the key; or what is left
 /// to be done: a call, or nothing because of an address outside the memory.

@@ -2,14 +2,13 @@
 
 ghost use Rattle.std.specs.Prelude.{◌≡◌, ◌++◌, IfOk, OnOk};
 ghost use Rattle.jack_meaning.specs.Expressions.{value_of, values_of};
-ghost use Rattle.jack_machine.specs.Reading.{the_expression, the_arguments};
-ghost use Rattle.jack_machine.specs.Texts.{the_statement};
+ghost use Rattle.jack_core.specs.Reading.{the_expression, the_arguments};
+ghost use Rattle.jack_core.specs.Texts.{the_statement};
 ghost use Rattle.jack_machine.specs.Looks.{passed, passed_first};
 ghost use Rattle.jack_machine.specs.Advances.{passed_statement};
 
-use crate::program::Statement;
+use jack_core::{Arguments, Expression, Statement};
 use crate::replacing::{are_values, is_value};
-use crate::tree::{Arguments, Expression};
 use std::alloc::{AllocError, Global};
 
 /// The value that an expression is.

@@ -2,10 +2,10 @@
 
 ghost use Rattle.std.specs.Prelude.{◌≡◌, false};
 ghost use Rattle.jack_meaning.specs.Expressions.{filled, filled_in};
-ghost use Rattle.jack_machine.specs.Reading.{the_expression, the_arguments};
+ghost use Rattle.jack_core.specs.Reading.{the_expression, the_arguments};
 ghost use Rattle.jack_machine.specs.Looks.{is_value as is_a_value, replaced, replaced_first, are_values as are_all_values};
 
-use crate::tree::{Arguments, Expression};
+use jack_core::{Arguments, Expression};
 
 pub(crate) fn is_value(e: &Expression) -> bool
     ensures { result ≡ is_a_value (the_expression e.now) }

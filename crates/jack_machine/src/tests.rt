@@ -3,8 +3,9 @@
 ghost use Rattle.std.specs.Prelude.{◌+◌, ◌%◌, ℕ};
 ghost use Rattle.std.proofs.Common.{rules};
 
-use crate::{
-    Arguments, Class, Core, Expression, Jack, Kind, Operator, Sign, Statement, Subroutine, Variable,
+use crate::Jack;
+use jack_core::{
+    Arguments, Class, Core, Expression, Kind, Operator, Sign, Statement, Subroutine, Variable,
 };
 use machine_io::{End, Keyboard, Level, Stray, drive};
 use outer_world::Point;
@@ -96,6 +97,7 @@ fn program(alloc: Global, main: Subroutine) -> Result<Core, AllocError> {
         ]?,
         subroutines: vec![in alloc; start, function(0, init), main]?,
         init: 1,
+        names: Vec::new(alloc),
     })
 }
 

@@ -3,10 +3,11 @@
 ghost use Rattle.std.specs.Prelude.{◌≡◌, ◌+◌, ◌<◌, ◌≤◌, ◌++◌, ◌∷◌, [], if◌then◌else◌, nat_eq, IfOk, OnOk, OnErr};
 ghost use Rattle.std.specs.Vec.{vec_len, vec_capacity};
 ghost use Rattle.jack_meaning.specs.Text.{Next, While, joined};
-ghost use Rattle.jack_machine.specs.Reading.{the_expression};
+ghost use Rattle.jack_core.specs.Reading.{the_expression};
 ghost use Rattle.jack_meaning.specs.Meaning.{filled_text};
 ghost use Rattle.jack_machine.specs.Looks.{the_view};
-ghost use Rattle.jack_machine.specs.Texts.{the_statement, the_block, the_rest};
+ghost use Rattle.jack_core.specs.Texts.{the_statement, the_block};
+ghost use Rattle.jack_machine.specs.Texts.{the_rest};
 ghost use Rattle.jack_machine.specs.Rests.{TextAdvances, passed_text, opened_text, unfolded_text, chosen_text, text_tail, BeginsWith};
 ghost use Rattle.jack_machine.specs.Loops.{IsLoopOf};
 
@@ -14,8 +15,7 @@ use crate::copying::{copy_expression, copy_statements};
 use crate::looking::{Memory, Variables};
 use crate::parts::{Advance, fill_statement, open_statement, step_statement};
 use crate::passing::arguments;
-use crate::program::Statement;
-use crate::tree::Expression;
+use jack_core::{Expression, Statement};
 use std::alloc::{AllocError, Global};
 
 /// Makes the next step of the parts of the first statement, where there is one.

@@ -3,9 +3,9 @@
 ghost use Rattle.std.specs.Prelude.{◌≡◌, IsTrue, int_lt, nat_eq};
 ghost use Rattle.word16.specs.Words.{signed};
 ghost use Rattle.jack_meaning.specs.Words.{truth as truth_of, sign_of, operator_of};
-ghost use Rattle.jack_machine.specs.Reading.{the_sign, the_operator};
+ghost use Rattle.jack_core.specs.Reading.{the_sign, the_operator};
 
-use crate::tree::{Operator, Sign};
+use jack_core::{Operator, Sign};
 
 pub(crate) fn sign(sign: Sign, x: u16) -> u16
     ensures { result ≡ sign_of (the_sign sign) x }

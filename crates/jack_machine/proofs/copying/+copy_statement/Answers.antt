@@ -1,9 +1,9 @@
 -- A statement with others in it: the rows of the copy are copies of the rows.
 use Rattle.std.proofs.Common.{sym, ap, ◌∙◌}
 use Rattle.jack_meaning.specs.Text.{If, While, text_of}
-use Rattle.jack_machine.specs.Reading.{the_expression}
-use Rattle.jack_machine.specs.Texts.{the_statement, the_block}
-use Rattle.jack_machine.proofs.Blocks.{if_reads, while_reads}
+use Rattle.jack_core.specs.Reading.{the_expression}
+use Rattle.jack_core.specs.Texts.{the_statement, the_block}
+use Rattle.jack_core.proofs.Blocks.{if_reads, while_reads}
 use Rattle.jack_machine.proofs.copying.+copy_statement.Goals as goal
 
 pub copy_statement-returns-in_ok-fails-in-If : goal.copy_statement-returns-in_ok-fails-in-If

@@ -1,6 +1,6 @@
 -- So many statements are copied.
 use Rattle.std.proofs.Common.{◌≡◌, map, take}
-use Rattle.jack_machine.specs.Texts.{the_statement}
+use Rattle.jack_core.specs.Texts.{the_statement}
 use Rattle.jack_machine.proofs.copying.+copy_statement.Given as goal
 
 abbrev pub invariant-copy_statements-loop-s : goal.invariant-copy_statements-loop-s

@@ -1,9 +1,9 @@
 -- The copy is of the same loop.
 use Rattle.std.proofs.Common.{sym, ap, ◌∙◌}
 use Rattle.jack_meaning.specs.Text.{While}
-use Rattle.jack_machine.specs.Reading.{the_expression}
-use Rattle.jack_machine.specs.Texts.{the_statement, the_block}
-use Rattle.jack_machine.proofs.Blocks.{while_reads}
+use Rattle.jack_core.specs.Reading.{the_expression}
+use Rattle.jack_core.specs.Texts.{the_statement, the_block}
+use Rattle.jack_core.proofs.Blocks.{while_reads}
 use Rattle.jack_machine.proofs.texts.copy_loop.Goals as goal
 
 pub returns-in_ok-body-in-While : goal.returns-in_ok-body-in-While

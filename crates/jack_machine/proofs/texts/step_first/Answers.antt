@@ -1,7 +1,7 @@
 -- The first statement stands last in the vector.
 use Rattle.std.proofs.Common.{◌≡◌, refl, ◌-◌, ◌<◌, length, suc, arith}
 use Rattle.std.specs.Vec.{vec_len}
-use Rattle.jack_machine.specs.Texts.{the_statement}
+use Rattle.jack_core.specs.Texts.{the_statement}
 use Rattle.jack_machine.proofs.Rests.{rest_last, rest_set}
 use Rattle.jack_machine.proofs.texts.step_first.Goals as goal
 

@@ -2,9 +2,10 @@
 use Rattle.std.proofs.Common.{sym, ap, ◌∙◌}
 use Rattle.jack_meaning.specs.Text.{Next, joined}
 use Rattle.jack_meaning.specs.Meaning.{chosen}
-use Rattle.jack_machine.specs.Texts.{the_rest, the_block, the_statement}
+use Rattle.jack_core.specs.Texts.{the_block, the_statement}
+use Rattle.jack_machine.specs.Texts.{the_rest}
 use Rattle.jack_machine.specs.Rests.{chosen_text}
-use Rattle.jack_machine.proofs.Blocks.{if_reads}
+use Rattle.jack_core.proofs.Blocks.{if_reads}
 use Rattle.jack_machine.proofs.Rests.{branch_is}
 use Rattle.jack_machine.proofs.texts.take_choice.Goals as goal
 

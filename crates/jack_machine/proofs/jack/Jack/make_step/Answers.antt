@@ -1,7 +1,7 @@
 -- The step, by what the top frame did.
 use Rattle.std.proofs.Common.{true, false, sym, ap, ◌∙◌}
 use Rattle.jack_meaning.specs.Meaning.{Acts, returned}
-use Rattle.jack_machine.specs.Texts.{the_subroutines}
+use Rattle.jack_core.specs.Texts.{the_subroutines}
 use Rattle.jack_machine.specs.Frames.{the_state}
 use Rattle.jack_machine.specs.Machine.{the_stack}
 use Rattle.jack_machine.specs.Whole.{settled, IsAlike}

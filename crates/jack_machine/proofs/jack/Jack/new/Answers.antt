@@ -1,7 +1,7 @@
 -- The start of a program.
 use Rattle.std.proofs.Common.{refl, ap}
 use Rattle.jack_meaning.specs.Meaning.{start}
-use Rattle.jack_machine.specs.Texts.{the_program}
+use Rattle.jack_core.specs.Texts.{the_program}
 use Rattle.jack_machine.specs.Machine.{the_stack}
 use Rattle.jack_machine.specs.Whole.{settled}
 use Rattle.jack_machine.specs.declared.looking.Memory.{Memory}

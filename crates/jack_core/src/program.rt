@@ -76,9 +76,11 @@ pub struct Class {
 }
 
 /// A program: its classes, its subroutines and the number of `Sys.init`. Number 0 is `start`, which no call names.
+/// The names are those of the subroutines in their order, as `Main.main`.
 #[derive(Drop)]
 pub struct Core {
     pub classes: Vec<Class>,
     pub subroutines: Vec<Subroutine>,
     pub init: u32,
+    pub names: Vec<Vec<u8>>,
 }

@@ -1,11 +1,11 @@
 -- The rows of statements in a statement are what its vectors hold.
 use Rattle.std.proofs.Common.{◌≡◌, ℕ, refl, ap, ◌∙◌}
 use Rattle.jack_meaning.specs.Text.{If, While, Next}
-use Rattle.jack_machine.specs.Reading.{the_expression}
-use Rattle.jack_machine.specs.Texts.{the_statement, the_row, the_block}
-use Rattle.jack_machine.specs.declared.tree.Expression.{Expression}
-use Rattle.jack_machine.specs.declared.program.Statement.{Statement, If', While', Row_of-Statement, end_of-Statement, more_of-Statement, items-the_row-Statement, items_hidden-the_row-Statement-0}
-use Rattle.jack_machine.specs.declared.program.Statement.TheVariants as Statement
+use Rattle.jack_core.specs.Reading.{the_expression}
+use Rattle.jack_core.specs.Texts.{the_statement, the_row, the_block}
+use Rattle.jack_core.specs.declared.tree.Expression.{Expression}
+use Rattle.jack_core.specs.declared.program.Statement.{Statement, If', While', Row_of-Statement, end_of-Statement, more_of-Statement, items-the_row-Statement, items_hidden-the_row-Statement-0}
+use Rattle.jack_core.specs.declared.program.Statement.TheVariants as Statement
 use mathlib.Core.Former.{Count}
 use Rattle.std.specs.declared.vec.Vec.{Vec}
 use Rattle.std.specs.declared.alloc.Global.{Global}

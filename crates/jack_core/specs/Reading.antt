@@ -1,11 +1,11 @@
--- What the machine's trees stand for: the texts of the meaning.
+-- What the trees of the code stand for: the texts of the meaning.
 use Rattle.jack_meaning.specs.Text.{Argument, Local, Static, Minus, Complement, Plus, Subtract, And, Or, Less, Greater, Equal, Literal, Value, Name, This, Field, Unary, Binary, Load, Call, Open, NoMore, More}
 use Rattle.jack_meaning.specs.Text.{Variable as AVariable, Sign as ASign, Operator as AnOperator, Expression as AnExpression, Expressions}
-use Rattle.jack_machine.specs.declared.tree.Variable.{Variable}
-use Rattle.jack_machine.specs.declared.tree.Sign.{Sign}
-use Rattle.jack_machine.specs.declared.tree.Operator.{Operator}
-use Rattle.jack_machine.specs.declared.tree.Expression.{Expression, Unary', Binary', Load', Call'}
-use Rattle.jack_machine.specs.declared.tree.Arguments.{Arguments, More'}
+use Rattle.jack_core.specs.declared.tree.Variable.{Variable}
+use Rattle.jack_core.specs.declared.tree.Sign.{Sign}
+use Rattle.jack_core.specs.declared.tree.Operator.{Operator}
+use Rattle.jack_core.specs.declared.tree.Expression.{Expression, Unary', Binary', Load', Call'}
+use Rattle.jack_core.specs.declared.tree.Arguments.{Arguments, More'}
 
 abbrev pub the_variable : Variable → AVariable
 the_variable (Variable.Argument k) = Argument k

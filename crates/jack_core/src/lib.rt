@@ -1,0 +1,8 @@
+//! Jack programs whose names are resolved: what a compiler translates and a machine steps.
+#![tactic(auto)]
+
+mod program;
+mod tree;
+
+pub use program::{Class, Core, Kind, Statement, Subroutine};
+pub use tree::{Arguments, Expression, Operator, Sign, Variable};
