@@ -297,7 +297,7 @@ digits_cut n h (b ∷ w) d t rest =
       more = w;
       is = refl;
       piece = ap (λ (x : Blank). past_blank x (piece all)) other
-      ∙ (λ i. piece_is b all (facts.0 i) (facts.1 i) (facts.2 i) (b == 34)) ∙ number;
+          ∙ (λ i. piece_is b all (facts.0 i) (facts.1 i) (facts.2 i) (b == 34)) ∙ number;
     }
 
 -- strings
@@ -319,8 +319,8 @@ string_cut u a t rest =
       more = w;
       is = refl;
       piece = (λ i. cond (starts 34 (drop (long i) all)) (token_of kind.Text (long i) all) (Wrong Grammar))
-      ∙ ap (λ (x : Bool). cond x (token_of kind.Text (length w) all) (Wrong Grammar)) closes
-      ∙ token_is kind.Text kind.Text (length w) (length w) all (quoted u) refl refl (front_taken 34 w (gap t ∷ rest));
+          ∙ ap (λ (x : Bool). cond x (token_of kind.Text (length w) all) (Wrong Grammar)) closes
+          ∙ token_is kind.Text kind.Text (length w) (length w) all (quoted u) refl refl (front_taken 34 w (gap t ∷ rest));
     }
 
 unquoted_quoted : (u : List ℕ) → unquoted (quoted u) ≡ u
