@@ -1,6 +1,10 @@
 //! The virtual machine of the book's chapters 7 and 8: its state, and what each command does.
 #![tactic(auto)]
 
+mod commands;
+mod memory;
+mod stack;
+
 ghost use Rattle.vm_machine.specs.Laws.{EndLaw, KeyLaw, SoundLaw};
 
 /// The start is sound, and a step leads from a sound state to a sound one; a step that does not hear the key is the same under every key, whether it hears does not hang on the key, and a
