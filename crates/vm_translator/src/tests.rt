@@ -1,8 +1,12 @@
+ghost use Rattle.std.specs.Prelude.{IfOk};
+ghost use Rattle.vm_link.specs.Sound.{IsSound};
+
 use super::*;
 use hack_isa::{Instr, encode};
 use hack_machine::Hack;
 use outer_world::{Name, Point};
 use std::alloc::Global;
+use std::process::Abort;
 use std::test::*;
 use vm_link::{Linked, link};
 use vm_tree::{Command, File, Function, Line, List, Operation, Program, Segment};
@@ -64,7 +68,9 @@ fn linked(
     locals: u16,
     lines: List<Line>,
     more: Option<Function>,
-) -> Result<Linked, Fail> {
+) -> Result<Linked, Fail>
+    ensures { IfOk result IsSound }
+{
     let mut functions = List::new(alloc);
     functions
         .push(function(alloc, "Sys.init", locals, lines)?)
@@ -75,21 +81,62 @@ fn linked(
     }
     let mut files = List::new(alloc);
     add_file(&mut files, alloc, "Sys", functions)?;
-    Ok(link(alloc, files, false).ok().ok_or("a fault")?)
+    link_all(alloc, files, false)
 }
 
-fn coded(alloc: Global, linked: &Linked) -> Result<Coded, Fail> {
-    Ok(translate(alloc, linked, false).ok().ok_or("a fault")?)
+fn link_all(alloc: Global, files: Program, bare: bool) -> Result<Linked, Fail>
+    ensures { IfOk result IsSound }
+{
+    let Ok(linked) = link(alloc, files, bare) else {
+        return Err(Fail::from("a fault"));
+    };
+    Ok(linked)
+}
+
+fn coded(alloc: Global, linked: &Linked) -> Result<Coded, Fail>
+    requires { IsSound linked.now }
+{
+    let Ok(coded) = translate(alloc, linked, linked.bare) else {
+        return Err(Fail::from("a fault"));
+    };
+    Ok(coded)
+}
+
+fn word_of<R: Abort>(rt: &R, instr: &Instr) -> u16 {
+    match *instr {
+        Instr::Address(n) => {
+            assert!(rt; n < 32768);
+            encode(&Instr::Address(n))
+        }
+        Instr::Compute {
+            memory,
+            comp,
+            dest,
+            jump,
+        } => {
+            assert!(rt; comp < 64);
+            assert!(rt; dest < 8);
+            assert!(rt; jump < 8);
+            encode(&Instr::Compute {
+                memory,
+                comp,
+                dest,
+                jump,
+            })
+        }
+    }
 }
 
 // The machine with this code, after so many steps.
-fn machine(alloc: Global, coded: &Coded, steps: u32) -> Result<Hack, Fail> {
+fn machine<R: Abort>(rt: &R, alloc: Global, coded: &Coded, steps: u32) -> Result<Hack, Fail> {
     let mut words = Vec::new(alloc);
     for instr in coded.instrs.as_slice() {
-        words.push(encode(instr)).ok().ok_or("memory")?;
+        words.push(word_of(rt, instr)).ok().ok_or("memory")?;
     }
+    assert!(rt; words.len() <= 32768);
     let mut machine = Hack::new(alloc, &words).ok().ok_or("memory")?;
     for _ in 0..steps {
+        assert!(rt; machine.moves() < 10000);
         machine.step(0);
     }
     Ok(machine)
@@ -100,7 +147,9 @@ fn end_loop(lines: &mut List<Line>, alloc: Global) -> Result<(), Fail> {
     add(lines, Command::Goto(name(alloc, "END")?))
 }
 
-fn seven(alloc: Global) -> Result<Linked, Fail> {
+fn seven(alloc: Global) -> Result<Linked, Fail>
+    ensures { IfOk result IsSound }
+{
     let mut lines = List::new(alloc);
     add_at(
         &mut lines,
@@ -198,7 +247,7 @@ fn places_and_map(rt: HostRuntime) -> Result<(), Fail> {
 fn call_and_return(rt: HostRuntime) -> Result<(), Fail> {
     let linked = seven(rt.alloc())?;
     let coded = coded(rt.alloc(), &linked)?;
-    let machine = machine(rt.alloc(), &coded, 2000)?;
+    let machine = machine(&rt, rt.alloc(), &coded, 2000)?;
     assert_eq!(rt; machine.ram(0), 261);
     assert_eq!(rt; machine.ram(1), 261);
     assert_eq!(rt; machine.ram(2), 256);
@@ -224,7 +273,7 @@ fn comparison_past_a_word(rt: HostRuntime) -> Result<(), Fail> {
     end_loop(&mut lines, alloc)?;
     let linked = linked(alloc, 0, lines, None)?;
     let coded = coded(alloc, &linked)?;
-    let machine = machine(alloc, &coded, 2000)?;
+    let machine = machine(&rt, alloc, &coded, 2000)?;
     assert_eq!(rt; machine.ram(5), 0);
     assert_eq!(rt; machine.ram(6), 65535);
     Ok(())
@@ -254,9 +303,9 @@ fn statics_of_two_files(rt: HostRuntime) -> Result<(), Fail> {
     let mut files = List::new(alloc);
     add_file(&mut files, alloc, "A", own)?;
     add_file(&mut files, alloc, "Sys", init)?;
-    let linked = link(alloc, files, false).ok().ok_or("a fault")?;
+    let linked = link_all(alloc, files, false)?;
     let coded = coded(alloc, &linked)?;
-    let machine = machine(alloc, &coded, 2000)?;
+    let machine = machine(&rt, alloc, &coded, 2000)?;
     assert_eq!(rt; machine.ram(16), 4);
     assert_eq!(rt; machine.ram(17), 3);
     Ok(())
@@ -283,7 +332,7 @@ fn locals_are_cleared(rt: HostRuntime) -> Result<(), Fail> {
     end_loop(&mut more, alloc)?;
     let linked = linked(alloc, 0, lines, Some(function(alloc, "Sys.f", 3, more)?))?;
     let coded = coded(alloc, &linked)?;
-    let machine = machine(alloc, &coded, 2000)?;
+    let machine = machine(&rt, alloc, &coded, 2000)?;
     assert_eq!(rt; machine.ram(0), 269);
     assert_eq!(rt; machine.ram(6), 0);
     assert_eq!(rt; machine.ram(7), 0);
@@ -291,7 +340,9 @@ fn locals_are_cleared(rt: HostRuntime) -> Result<(), Fail> {
 }
 
 // Sys.init with so many commands `neg` and then so many `add`: 53 + 1 + 3 * negs + 5 * adds words.
-fn long(alloc: Global, negs: u32, adds: u32) -> Result<Linked, Fail> {
+fn long(alloc: Global, negs: u32, adds: u32) -> Result<Linked, Fail>
+    ensures { IfOk result IsSound }
+{
     let mut lines = List::new(alloc);
     for _ in 0..negs {
         add(&mut lines, Command::Operate(Operation::Neg))?;
@@ -310,7 +361,7 @@ fn largest_image(rt: HostRuntime) -> Result<(), Fail> {
     let more = long(rt.alloc(), 10904, 1)?;
     assert!(rt;
         matches!(
-            translate(rt.alloc(), &more, false),
+            translate(rt.alloc(), &more, more.bare),
             Err(CodeFault::TooLarge(32771))
         )
     );
@@ -349,10 +400,8 @@ fn return_to_the_end(rt: HostRuntime) -> Result<(), Fail> {
 
 #[test]
 fn empty_program(rt: HostRuntime) -> Result<(), Fail> {
-    let linked = link(rt.alloc(), List::new(rt.alloc()), true)
-        .ok()
-        .ok_or("a fault")?;
-    let coded = translate(rt.alloc(), &linked, true).ok().ok_or("a fault")?;
+    let linked = link_all(rt.alloc(), List::new(rt.alloc()), true)?;
+    let coded = coded(rt.alloc(), &linked)?;
     assert!(rt; coded.instrs.as_slice().is_empty());
     assert!(rt; coded.points.as_slice().is_empty());
     assert!(rt; coded.commits.as_slice().is_empty());
