@@ -9,8 +9,12 @@ use Rattle.clap.specs.Values.{kind_of}
 use Rattle.clap.specs.declared.error.ErrorKind.TheVariants as kind
 use Rattle.clap.specs.declared.Error.{Error}
 use Rattle.clap.proofs.OnLiterals.{clap_on_literals}
-use Rattle.command_line.specs.Table.{table}
-use Rattle.command_line.specs.Line.{AreOneLine, IsInRange, IsLine, IsReading, Line, NumberIn, PathIn, asm, exec}
+use Rattle.machine_io.specs.declared.report.Show.{Show}
+use Rattle.machine_io.specs.declared.report.Show.TheVariants as shows
+use Rattle.command_line.specs.Table.{run_command, table}
+use Rattle.command_line.specs.declared.request.RunLevel.{RunLevel}
+use Rattle.command_line.specs.declared.request.RunLevel.TheVariants as levels
+use Rattle.command_line.specs.Line.{AreOneLine, IsInRange, IsLine, IsReading, Line, NumberIn, asm, exec, level_word, run, show_word}
 
 -- texts that differ at one place are not the same
 differ : (i : ℕ) → (xs ys : List ℕ) → (slice_index xs i ≡ slice_index ys i → ⊥) → xs ≡ ys → ⊥
@@ -19,20 +23,32 @@ differ i xs ys apart same = apart (ap (λ s. slice_index s i) same)
 exec_is_not_asm : codes "exec" ≡ codes "asm" → ⊥
 exec_is_not_asm = differ 0 (codes "exec") (codes "asm") (λ e. let h : 101 ≡ 97 = e in omega (arith, h))
 
+run_is_not_asm : codes "run" ≡ codes "asm" → ⊥
+run_is_not_asm = differ 0 (codes "run") (codes "asm") (λ e. let h : 114 ≡ 97 = e in omega (arith, h))
+
+run_is_not_exec : codes "run" ≡ codes "exec" → ⊥
+run_is_not_exec = differ 0 (codes "run") (codes "exec") (λ e. let h : 114 ≡ 101 = e in omega (arith, h))
+
 -- ---- the matches of a command are those of its own lines only
 
 pub no_exec : (rows : List Row) → ((path : Text) (c f t : ℕ) → ¬ IsReading (codes "exec") rows (exec path c f t)) → (l : Line) → ¬ IsReading (codes "exec") rows l
 no_exec rows none (exec path c f t) h = none path c f t h
 no_exec rows none (asm path) h = exec_is_not_asm h.0
+no_exec rows none (run folder level n keys show) h = run_is_not_exec (sym h.0)
+
+pub no_run : (rows : List Row) → ((folder : Text) (level : RunLevel) (n : ℕ) (keys : Option Text) (show : Show) → ¬ IsReading (codes "run") rows (run folder level n keys show)) → (l : Line) → ¬ IsReading (codes "run") rows l
+no_run rows none (asm path) h = run_is_not_asm h.0
+no_run rows none (exec path c f t) h = run_is_not_exec h.0
+no_run rows none (run folder level n keys show) h = none folder level n keys show h
 
 -- ---- the table
 
 pub table_is_free : is_simple_and_free table ≡ true
-unfolding clap_on_literals
+unfolding clap_on_literals run_command
 table_is_free = refl
 
 pub table_is_simple : is_simple table ≡ true
-unfolding clap_on_literals
+unfolding clap_on_literals run_command
 table_is_simple = refl
 
 -- the matches are those of a line
@@ -66,6 +82,7 @@ fault_line a ws e is fails other l (free, name, rows, found, reading) =
 pub in_range : (ws : List Text) (l : Line) → IsLine ws l → IsInRange l
 in_range ws (asm path) h = tt
 in_range ws (exec path c f t) (free, name, rows, found, reading) = (reading.2.2.small, reading.3.2.small, reading.4.2.small)
+in_range ws (run folder level n keys show) (free, name, rows, found, reading) = reading.3.2.small
 
 -- ---- words are at most one line
 
@@ -80,30 +97,55 @@ same_name : (found : Option (Text × List Row)) (name other : Text) (rows others
 same_name found name other rows others e f =
     ap (λ (p : Text × List Row). p.0) (same_found {X = Text × List Row} found (name, rows) (other, others) e f)
 
-same_path : (rows : List Row) (path other : Text) → PathIn rows path → PathIn rows other → path ≡ other
-same_path rows path other (e, _) (f, _) = cc
-
 same_number : (rows : List Row) (id : Text) (most n m : ℕ) → NumberIn rows id most n → NumberIn rows id most m → n ≡ m
 same_number rows id most n m (text, e, h) (other, f, k) =
     let same : text ≡ other = cc in
     sym h.value ∙ ap (digits_value 10) same ∙ k.value
 
-same_word : (rows : List Row) (path other : Text) → first_of (codes "path") rows ≡ Some path → first_of (codes "path") rows ≡ Some other → path ≡ other
-same_word rows path other e f = cc
+same_word : (rows : List Row) (id text other : Text) → first_of id rows ≡ Some text → first_of id rows ≡ Some other → text ≡ other
+same_word rows id text other e f = cc
+
+same_level : (l m : RunLevel) → l ≡ m
+same_level levels.Jack levels.Jack = refl
+
+-- the words for what is shown differ in their first letters
+same_show : (s u : Show) → show_word s ≡ show_word u → s ≡ u
+same_show shows.Nothing shows.Nothing e = refl
+same_show shows.Heap shows.Heap e = refl
+same_show shows.Screen shows.Screen e = refl
+same_show shows.Nothing shows.Heap e = absurd (differ 0 (codes "none") (codes "heap") (λ e. let h : 110 ≡ 104 = e in omega (arith, h)) e)
+same_show shows.Nothing shows.Screen e = absurd (differ 0 (codes "none") (codes "screen") (λ e. let h : 110 ≡ 115 = e in omega (arith, h)) e)
+same_show shows.Heap shows.Nothing e = absurd (differ 0 (codes "heap") (codes "none") (λ e. let h : 104 ≡ 110 = e in omega (arith, h)) e)
+same_show shows.Heap shows.Screen e = absurd (differ 0 (codes "heap") (codes "screen") (λ e. let h : 104 ≡ 115 = e in omega (arith, h)) e)
+same_show shows.Screen shows.Nothing e = absurd (differ 0 (codes "screen") (codes "none") (λ e. let h : 115 ≡ 110 = e in omega (arith, h)) e)
+same_show shows.Screen shows.Heap e = absurd (differ 0 (codes "screen") (codes "heap") (λ e. let h : 115 ≡ 104 = e in omega (arith, h)) e)
 
 same_line : (name other : Text) (rows others : List Row) (l m : Line) → rows ≡ others → IsReading name rows l → IsReading other others m → name ≡ other → l ≡ m
 same_line name other rows others (asm p) (asm q) same h k named =
     let R : List Row → Type 0 = λ r. IsReading other r (asm q) in
-    ap asm (same_word rows p q h.1 (subst R (sym same) k).1)
+    ap asm (same_word rows (codes "path") p q h.1 (subst R (sym same) k).1)
 same_line name other rows others (asm p) (exec q d g u) same h k named = absurd (exec_is_not_asm (sym k.0 ∙ sym named ∙ h.0))
 same_line name other rows others (exec p c f t) (asm q) same h k named = absurd (exec_is_not_asm (sym h.0 ∙ named ∙ k.0))
 same_line name other rows others (exec p c f t) (exec q d g u) same h k named =
     let R : List Row → Type 0 = λ r. IsReading other r (exec q d g u) in
     let k' = subst R (sym same) k in
-    let path : p ≡ q = same_path rows p q h.1 k'.1 in
+    let path : p ≡ q = same_word rows (codes "path") p q h.1 k'.1 in
     let cycles : c ≡ d = same_number rows (codes "cycles") 1000000000 c d h.2 k'.2 in
     let from_on : f ≡ g = same_number rows (codes "from") 32767 f g h.3 k'.3 in
     let up_to : t ≡ u = same_number rows (codes "to") 32767 t u h.4 k'.4 in
+    cc
+same_line name other rows others (asm p) (run q m d ks u) same h k named = absurd (run_is_not_asm (sym k.0 ∙ sym named ∙ h.0))
+same_line name other rows others (run p l c js s) (asm q) same h k named = absurd (run_is_not_asm (sym h.0 ∙ named ∙ k.0))
+same_line name other rows others (exec p c f t) (run q m d ks u) same h k named = absurd (run_is_not_exec (sym k.0 ∙ sym named ∙ h.0))
+same_line name other rows others (run p l c js s) (exec q d g u) same h k named = absurd (run_is_not_exec (sym h.0 ∙ named ∙ k.0))
+same_line name other rows others (run p l c js s) (run q m d ks u) same h k named =
+    let R : List Row → Type 0 = λ r. IsReading other r (run q m d ks u) in
+    let k' = subst R (sym same) k in
+    let folder : p ≡ q = same_word rows (codes "path") p q h.1 k'.1 in
+    let level : l ≡ m = same_level l m in
+    let cycles : c ≡ d = same_number rows (codes "cycles") 1000000000 c d h.3 k'.3 in
+    let keys : js ≡ ks = sym h.4 ∙ k'.4 in
+    let show : s ≡ u = same_show s u (same_word rows (codes "show") (show_word s) (show_word u) h.5 k'.5) in
     cc
 
 pub one_line : AreOneLine

@@ -1,6 +1,5 @@
 -- The command lines: which words are a line, and what the line asks for.
-use Rattle.std.specs.Prelude.{◌≡◌, ◌≤◌, ⊤, ℕ, false, List, [], Option, Some, None, codes, nat_eq}
-use Rattle.std.specs.List.{ends_with}
+use Rattle.std.specs.Prelude.{◌≡◌, ◌≤◌, ⊤, ℕ, List, [], Option, Some, None, codes, option_map}
 use Rattle.std.specs.Str.Parse.{IsNumeral, digits_value}
 use Rattle.clap.specs.Walk.{Row, Text, first_of, rows_of}
 use Rattle.clap.specs.Matches.{found_of}
@@ -8,6 +7,10 @@ use Rattle.clap.specs.Simple.{subcommand_of}
 use Rattle.clap.specs.Faults.{fault_of}
 use Rattle.clap.specs.declared.parser.matches.ArgMatches.{ArgMatches}
 use Rattle.command_line.specs.Table.{table}
+use Rattle.machine_io.specs.declared.report.Show.{Show}
+use Rattle.machine_io.specs.declared.report.Show.TheVariants as shows
+use Rattle.command_line.specs.declared.request.RunLevel.{RunLevel}
+use Rattle.command_line.specs.declared.request.RunLevel.TheVariants as levels
 use Rattle.command_line.specs.declared.request.Request.{Request}
 use Rattle.command_line.specs.declared.request.Request.TheVariants as request
 
@@ -15,6 +18,7 @@ use Rattle.command_line.specs.declared.request.Request.TheVariants as request
 pub data Line : Type 0 where
   asm : (path : Text) → Line
   exec : (path : Text) (cycles from to : ℕ) → Line
+  run : (folder : Text) (level : RunLevel) (cycles : ℕ) (keys : Option Text) (show : Show) → Line
 
 -- One or more decimal digits and nothing else, which write a number of at most `most`.
 pub record IsNumber (text : List ℕ) (most n : ℕ) : Type 0 where
@@ -26,22 +30,28 @@ pub record IsNumber (text : List ℕ) (most n : ℕ) : Type 0 where
 abbrev pub NumberIn : List Row → Text → ℕ → ℕ → Type 0
 NumberIn rows id most n = (text : Text) × (first_of id rows ≡ Some text) × IsNumber text most n
 
--- The path of an assembly file: it does not end in `.hack`, as files of words do, which `exec` does not read
--- yet.
-pub record IsAssembly (path : Text) : Type 0 where
-  pub no_image : ends_with nat_eq path (codes ".hack") ≡ false
+-- the words of the levels at which a program can be run
+abbrev pub level_word : RunLevel → Text
+level_word levels.Jack = codes "jack"
 
--- The path that stands in the matches is that of an assembly file.
-abbrev pub PathIn : List Row → Text → Type 0
-PathIn rows path = (first_of (codes "path") rows ≡ Some path) × IsAssembly path
+-- the words for what is shown of the memory after a report
+abbrev pub show_word : Show → Text
+show_word shows.Nothing = codes "none"
+show_word shows.Heap = codes "heap"
+show_word shows.Screen = codes "screen"
 
 -- The matches of the command `name` are those of the line: a case for each row of the table.
 abbrev pub IsReading : Text → List Row → Line → Type 0
 IsReading name rows (asm path) = (name ≡ codes "asm") × (first_of (codes "path") rows ≡ Some path)
 IsReading name rows (exec path cycles from to) =
-    (name ≡ codes "exec") × PathIn rows path
+    (name ≡ codes "exec") × (first_of (codes "path") rows ≡ Some path)
     × NumberIn rows (codes "cycles") 1000000000 cycles
     × NumberIn rows (codes "from") 32767 from × NumberIn rows (codes "to") 32767 to
+IsReading name rows (run folder level cycles keys show) =
+    (name ≡ codes "run") × (first_of (codes "path") rows ≡ Some folder)
+    × (first_of (codes "level") rows ≡ Some (level_word level))
+    × NumberIn rows (codes "cycles") 1000000000 cycles
+    × (first_of (codes "keys") rows ≡ keys) × (first_of (codes "show") rows ≡ Some (show_word show))
 
 -- The words are the line: `clap` reads them by the table without a fault, as a command of the table
 -- with its matches, and these are the line's. So words are no line where `clap` gives no matches, or
@@ -62,6 +72,7 @@ AreOneLine = (words : List Text) (line other : Line) → IsLine words line → I
 abbrev pub IsInRange : Line → Type 0
 IsInRange (asm path) = ⊤
 IsInRange (exec path cycles from to) = (cycles ≤ 1000000000) × (from ≤ 32767) × (to ≤ 32767)
+IsInRange (run folder level cycles keys show) = cycles ≤ 1000000000
 
 -- ---- the code's side
 
@@ -69,6 +80,7 @@ IsInRange (exec path cycles from to) = (cycles ≤ 1000000000) × (from ≤ 3276
 abbrev pub line_of : Request → Line
 line_of (request.Asm path) = asm path.now
 line_of (request.Exec e) = exec e.path.now e.cycles e.from e.to
+line_of (request.Run r) = run r.folder.now r.level r.cycles (option_map (λ keys. keys.now) r.keys) r.show
 
 -- the matches of a command, as rows
 abbrev pub rows_in : ArgMatches → List Row
@@ -79,12 +91,16 @@ abbrev pub Reads : Text → List Row → Option Request → Type 0
 Reads name rows (Some r) = IsReading name rows (line_of r)
 Reads name rows None = (line : Line) → ¬ IsReading name rows line
 
--- the same of a path
-abbrev pub ReadsPath : List Row → Option Text → Type 0
-ReadsPath rows (Some path) = PathIn rows path
-ReadsPath rows None = (path : Text) → ¬ PathIn rows path
-
 -- the same of a number
 abbrev pub ReadsNumber : List Row → Text → ℕ → Option ℕ → Type 0
 ReadsNumber rows id most (Some n) = NumberIn rows id most n
 ReadsNumber rows id most None = (n : ℕ) → ¬ NumberIn rows id most n
+
+-- the same of a level, and of what is shown
+abbrev pub ReadsLevel : List Row → Option RunLevel → Type 0
+ReadsLevel rows (Some level) = first_of (codes "level") rows ≡ Some (level_word level)
+ReadsLevel rows None = (level : RunLevel) → ¬ (first_of (codes "level") rows ≡ Some (level_word level))
+
+abbrev pub ReadsShow : List Row → Option Show → Type 0
+ReadsShow rows (Some show) = first_of (codes "show") rows ≡ Some (show_word show)
+ReadsShow rows None = (show : Show) → ¬ (first_of (codes "show") rows ≡ Some (show_word show))

@@ -13,6 +13,14 @@ word_rule name = record (new_rule name) { required = true }
 abbrev pub option_rule : Text → Rule
 option_rule name = record (new_rule name) { long = Some name; required = true }
 
+-- the same, which may be left out
+abbrev pub extra_rule : Text → Rule
+extra_rule name = record (new_rule name) { long = Some name }
+
+-- the same, with the value that is meant where it is left out
+abbrev pub default_rule : Text → Text → Rule
+default_rule name meant = record (new_rule name) { long = Some name; defaults = meant ∷ [] }
+
 -- a row: the name of a command, and its cells in order
 abbrev pub command : Text → List Rule → Shape
 command name rules = record (new_shape name) { rules = rules }
@@ -33,6 +41,12 @@ exec_command = command (codes "exec")
     (word_rule (codes "path") ∷ option_rule (codes "cycles") ∷ option_rule (codes "from")
     ∷ option_rule (codes "to") ∷ [])
 
+-- `run D --level L --cycles N [--keys F] [--show W]`
+unfoldable pub run_command : Shape
+run_command = command (codes "run")
+    (word_rule (codes "path") ∷ option_rule (codes "level") ∷ option_rule (codes "cycles")
+    ∷ extra_rule (codes "keys") ∷ default_rule (codes "show") (codes "none") ∷ [])
+
 -- ---- the table
 
 -- `nand` without its commands: the words begin with a command's name, and one must stand
@@ -46,5 +60,5 @@ bare_table = record {
 abbrev pub table : App
 table = record bare_table {
   top = record bare_table.top { is_leaf = false };
-  subs = asm_command ∷ exec_command ∷ [];
+  subs = asm_command ∷ exec_command ∷ run_command ∷ [];
 }

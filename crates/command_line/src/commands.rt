@@ -1,8 +1,8 @@
 //! The table of commands, as `clap` is given it.
-ghost use Rattle.std.specs.Prelude.{◌≡◌, IfOk, false};
-ghost use Rattle.clap.specs.Words.{app_of, rule_of, shape_of};
+ghost use Rattle.std.specs.Prelude.{◌≡◌, ◌∷◌, [], IfOk, false, codes};
+ghost use Rattle.clap.specs.Words.{app_of, rule_of, shape_of, with_subcommand};
 ghost use Rattle.clap.specs.declared.builder.Command.TheViews.{out-Command as fields_of};
-ghost use Rattle.command_line.specs.Table.{bare_table, exec_command, option_rule, path_command, word_rule};
+ghost use Rattle.command_line.specs.Table.{asm_command, bare_table, command, default_rule, exec_command, extra_rule, option_rule, path_command, run_command, word_rule};
 ghost use Rattle.command_line.specs.Table as table;
 
 use clap::{Arg, Command};
@@ -24,6 +24,22 @@ fn option(alloc: Global, name: &str) -> Arg<'_>
     Arg::new(alloc, name).long(name).required(true)
 }
 
+// The same, which may be left out.
+fn extra(alloc: Global, name: &str) -> Arg<'_>
+    ensures rule { rule_of result ≡ extra_rule name.now }
+    ensures local { result.global ≡ false }
+{
+    Arg::new(alloc, name).long(name)
+}
+
+// The same, with the value that is meant where it is left out.
+fn default<'a>(alloc: Global, name: &'a str, meant: &'a str) -> Arg<'a>
+    ensures rule { rule_of result ≡ default_rule name.now meant.now }
+    ensures local { result.global ≡ false }
+{
+    extra(alloc, name).default_value(meant)
+}
+
 // A command with a path alone.
 fn path_only<'a>(alloc: Global, name: &'a str) -> Result<Command<'a>, AllocError>
     ensures shape { IfOk result (λ c. shape_of c ≡ path_command name.now) }
@@ -43,6 +59,27 @@ fn exec<'a>(alloc: Global) -> Result<Command<'a>, AllocError>
         .arg(option(alloc, "to"))
 }
 
+// The cells of `run` that must stand.
+fn run_needed<'a>(alloc: Global) -> Result<Command<'a>, AllocError>
+    ensures shape { IfOk result (λ c. shape_of c ≡ command (codes "run") (word_rule (codes "path") ∷ option_rule (codes "level") ∷ option_rule (codes "cycles") ∷ [])) }
+    ensures local { IfOk result (λ c. (fields_of c).has_globals ≡ false) }
+{
+    Command::new(alloc, "run")
+        .arg(word(alloc, "path"))?
+        .arg(option(alloc, "level"))?
+        .arg(option(alloc, "cycles"))
+}
+
+#[tactic(auto, unfolding(crate::specs::Table::run_command))]
+fn run<'a>(alloc: Global) -> Result<Command<'a>, AllocError>
+    ensures shape { IfOk result (λ c. shape_of c ≡ run_command) }
+    ensures local { IfOk result (λ c. (fields_of c).has_globals ≡ false) }
+{
+    run_needed(alloc)?
+        .arg(extra(alloc, "keys"))?
+        .arg(default(alloc, "show", "none"))
+}
+
 // The table without its commands.
 fn bare<'a>(alloc: Global) -> Command<'a>
     ensures { app_of result ≡ bare_table }
@@ -52,11 +89,17 @@ fn bare<'a>(alloc: Global) -> Command<'a>
         .subcommand_required(true)
 }
 
+// Adds `asm` and `exec`.
+fn with_machine<'a>(alloc: Global, top: Command<'a>) -> Result<Command<'a>, AllocError>
+    ensures { IfOk result (λ c. app_of c ≡ with_subcommand (with_subcommand (app_of top.entry) asm_command) exec_command) }
+{
+    top.subcommand(path_only(alloc, "asm")?)?
+        .subcommand(exec(alloc)?)
+}
+
 /// The table of the commands that work.
 pub fn table<'a>(alloc: Global) -> Result<Command<'a>, AllocError>
     ensures { IfOk result (λ c. app_of c ≡ table.table) }
 {
-    bare(alloc)
-        .subcommand(path_only(alloc, "asm")?)?
-        .subcommand(exec(alloc)?)
+    with_machine(alloc, bare(alloc))?.subcommand(run(alloc)?)
 }

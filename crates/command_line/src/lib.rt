@@ -10,7 +10,7 @@ mod reader;
 mod request;
 
 pub use reader::{LineError, one_line_law, read};
-pub use request::{Exec, Request};
+pub use request::{Exec, Request, Run, RunLevel};
 
 #[cfg(test)]
 mod tests;

@@ -1,14 +1,14 @@
 //! The line that words are.
 ghost use Rattle.std.specs.Prelude.{◌≡◌, ◌≤◌, ℕ, List, Some, IfOk, MatchOption, MatchResult, codes, map, option_map, string_bytes};
-ghost use Rattle.std.specs.Bool.{MatchBool};
 ghost use Rattle.clap.specs.Words.{Row, Text, first_of, subcommand_rows_of};
-ghost use Rattle.command_line.specs.Line.{AreOneLine, IsAssembly, IsInRange, IsLine, IsNoLine, IsReading, Line, Reads, ReadsNumber, ReadsPath, line_of, rows_in};
+ghost use Rattle.command_line.specs.Line.{AreOneLine, IsInRange, IsLine, IsNoLine, IsReading, Line, Reads, ReadsLevel, ReadsNumber, ReadsShow, line_of, rows_in};
 
 use crate::commands::table;
 use crate::number::number;
-use crate::request::{Exec, Request};
+use crate::request::{Exec, Request, Run, RunLevel};
 use clap::ArgMatches;
 use clap::error::ErrorKind;
+use machine_io::Show;
 use std::alloc::Global;
 
 const MOST_CYCLES: u32 = 1_000_000_000;
@@ -31,21 +31,6 @@ fn text_in<'a>(matches: &ArgMatches<'a>, id: &str) -> Option<&'a str>
     matches.get_str(id)
 }
 
-// Whether a path is that of an assembly file: files of words are not read yet.
-fn is_assembly(path: &str) -> bool
-    ensures { MatchBool result (IsAssembly path.now) (IsAssembly path.now → ⊥) }
-{
-    !path.as_bytes().ends_with(b".hack")
-}
-
-// The path that stands for a program.
-fn path_in<'a>(matches: &ArgMatches<'a>) -> Option<&'a str>
-    ensures { ReadsPath (rows_in matches.now) (option_map (λ s. s.now) result) }
-{
-    let path = text_in(matches, "path")?;
-    if is_assembly(path) { Some(path) } else { None }
-}
-
 // The first value of an argument, as a number of at most `most`.
 fn number_in(matches: &ArgMatches<'_>, id: &str, most: u32) -> Option<u32>
     requires { most ≤ 1000000000 }
@@ -64,7 +49,7 @@ fn asm<'a>(matches: &ArgMatches<'a>) -> Option<Request<'a>>
 fn exec<'a>(matches: &ArgMatches<'a>) -> Option<Request<'a>>
     ensures { Reads (codes "exec") (rows_in matches.now) result }
 {
-    let path = path_in(matches)?;
+    let path = text_in(matches, "path")?;
     let Some(cycles) = number_in(matches, "cycles", MOST_CYCLES) else {
         return None;
     };
@@ -82,6 +67,57 @@ fn exec<'a>(matches: &ArgMatches<'a>) -> Option<Request<'a>>
     }))
 }
 
+// The value of `--level`.
+fn level_in(matches: &ArgMatches<'_>) -> Option<RunLevel>
+    ensures { ReadsLevel (rows_in matches.now) result }
+{
+    let Some(text) = text_in(matches, "level") else {
+        return None;
+    };
+    match text {
+        "jack" => Some(RunLevel::Jack),
+        _ => None,
+    }
+}
+
+// The value of `--show`.
+fn show_in(matches: &ArgMatches<'_>) -> Option<Show>
+    ensures { ReadsShow (rows_in matches.now) result }
+{
+    let Some(text) = text_in(matches, "show") else {
+        return None;
+    };
+    match text {
+        "none" => Some(Show::Nothing),
+        "heap" => Some(Show::Heap),
+        "screen" => Some(Show::Screen),
+        _ => None,
+    }
+}
+
+fn run<'a>(matches: &ArgMatches<'a>) -> Option<Request<'a>>
+    ensures { Reads (codes "run") (rows_in matches.now) result }
+{
+    let folder = text_in(matches, "path")?;
+    let Some(level) = level_in(matches) else {
+        return None;
+    };
+    let Some(cycles) = number_in(matches, "cycles", MOST_CYCLES) else {
+        return None;
+    };
+    let Some(show) = show_in(matches) else {
+        return None;
+    };
+    let keys = text_in(matches, "keys");
+    Some(Request::Run(Run {
+        folder,
+        level,
+        cycles,
+        keys,
+        show,
+    }))
+}
+
 // The request of a command and its matches.
 fn reading<'a>(name: &str, matches: &ArgMatches<'a>) -> Option<Request<'a>>
     ensures { Reads name.now (rows_in matches.now) result }
@@ -89,6 +125,7 @@ fn reading<'a>(name: &str, matches: &ArgMatches<'a>) -> Option<Request<'a>>
     match name {
         "asm" => asm(matches),
         "exec" => exec(matches),
+        "run" => run(matches),
         _ => None,
     }
 }

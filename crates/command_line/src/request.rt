@@ -1,5 +1,7 @@
 //! What a line asks for.
 
+use machine_io::Show;
+
 /// `exec F --cycles N --from A --to B`: words of the memory after a run of the instruction machine.
 #[derive(Clone, Copy, Debug, PartialEq, Eq)]
 pub struct Exec<'a> {
@@ -13,10 +15,32 @@ pub struct Exec<'a> {
     pub to: u16,
 }
 
+/// The levels at which a program can be run.
+#[derive(Clone, Copy, Debug, PartialEq, Eq)]
+pub enum RunLevel {
+    /// The meaning of the Jack text.
+    Jack,
+}
+
+/// `run D --level L --cycles N [--keys F] [--show W]`: the report of a run of a program.
+#[derive(Clone, Copy, Debug, PartialEq, Eq)]
+pub struct Run<'a> {
+    /// The folder of the program.
+    pub folder: &'a str,
+    pub level: RunLevel,
+    /// How many moves are made, at most 1,000,000,000.
+    pub cycles: u32,
+    /// The file of the key script, if there is one.
+    pub keys: Option<&'a str>,
+    /// What of the memory is shown after the report.
+    pub show: Show,
+}
+
 /// A line: a command with its values.
 #[derive(Clone, Copy, Debug, PartialEq, Eq)]
 pub enum Request<'a> {
     /// `asm F`: the words of an assembly file, as `.hack` text.
     Asm { path: &'a str },
     Exec(Exec<'a>),
+    Run(Run<'a>),
 }

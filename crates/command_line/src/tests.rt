@@ -1,5 +1,6 @@
 //! Words and the lines that they are.
-use crate::{Exec, LineError, Request, read};
+use crate::{Exec, LineError, Request, Run, RunLevel, read};
+use machine_io::Show;
 use std::alloc::{AllocError, Global};
 use std::test::Fail;
 
@@ -22,7 +23,7 @@ fn exec<'a>(path: &'a str, cycles: u32, from: u16, to: u16) -> Request<'a> {
 
 // Lines of `exec`, each as one text: its words stand apart by single spaces, and two spaces have an
 // empty word between them.
-fn exec_lines() -> [(&'static str, Request<'static>); 25] {
+fn exec_lines() -> [(&'static str, Request<'static>); 28] {
     [
         // the options before, after and about the path, in any order, as one word or two
         (
@@ -89,6 +90,19 @@ fn exec_lines() -> [(&'static str, Request<'static>); 25] {
         ("exec é --cycles 1 --from 2 --to 3", exec("é", 1, 2, 3)),
         ("exec - --cycles 1 --from 2 --to 3", exec("-", 1, 2, 3)),
         ("exec  --cycles 1 --from 2 --to 3", exec("", 1, 2, 3)),
+        // also a path of a file of words
+        (
+            "exec prog.hack --cycles 1 --from 2 --to 3",
+            exec("prog.hack", 1, 2, 3),
+        ),
+        (
+            "exec .hack --cycles 1 --from 2 --to 3",
+            exec(".hack", 1, 2, 3),
+        ),
+        (
+            "exec --cycles 1 --from 2 --to 3 -- -.hack",
+            exec("-.hack", 1, 2, 3),
+        ),
         // `--` ends the options
         ("exec --cycles 1 --from 2 --to 3 -- a", exec("a", 1, 2, 3)),
         ("exec --cycles 1 --from 2 --to 3 -- -a", exec("-a", 1, 2, 3)),
@@ -102,7 +116,7 @@ fn exec_lines() -> [(&'static str, Request<'static>); 25] {
 }
 
 // Words that are no line of `exec` or of a command that there is.
-fn exec_faults() -> [&'static str; 43] {
+fn exec_faults() -> [&'static str; 40] {
     [
         // `--` ends the options
         "exec --cycles 1 --from 2 --to 3 -- a b",
@@ -119,10 +133,6 @@ fn exec_faults() -> [&'static str; 43] {
         "build prog",
         "run prog",
         "soak 1 2",
-        // a file of words
-        "exec prog.hack --cycles 1 --from 2 --to 3",
-        "exec .hack --cycles 1 --from 2 --to 3",
-        "exec --cycles 1 --from 2 --to 3 -- -.hack",
         // a path too few, too many
         "exec",
         "exec --cycles 1 --from 2 --to 3",
@@ -243,6 +253,85 @@ fn reads_asm(rt: HostRuntime) -> Result<(), Fail> {
         "asm a --cycles 1",
         "asm --help",
         "asm a -h",
+    ];
+    assert_eq!(rt; first_accepted(rt.alloc(), &texts)?, None);
+    Ok(())
+}
+
+fn run<'a>(cycles: u32, keys: Option<&'a str>, show: Show) -> Request<'a> {
+    Request::Run(Run {
+        folder: "prog",
+        level: RunLevel::Jack,
+        cycles,
+        keys,
+        show,
+    })
+}
+
+#[test]
+fn reads_run(rt: HostRuntime) -> Result<(), Fail> {
+    let lines = [
+        (
+            "run prog --level jack --cycles 100",
+            run(100, None, Show::Nothing),
+        ),
+        (
+            "run --cycles=100 --level=jack prog",
+            run(100, None, Show::Nothing),
+        ),
+        (
+            "run prog --level jack --cycles 0 --show none",
+            run(0, None, Show::Nothing),
+        ),
+        (
+            "run --show screen prog --level jack --cycles 1000000000",
+            run(1_000_000_000, None, Show::Screen),
+        ),
+        (
+            "run --show=heap prog --cycles 07 --level jack",
+            run(7, None, Show::Heap),
+        ),
+        (
+            "run prog --keys k.txt --level jack --cycles 7",
+            run(7, Some("k.txt"), Show::Nothing),
+        ),
+        (
+            "run prog --keys= --level jack --cycles 7",
+            run(7, Some(""), Show::Nothing),
+        ),
+        (
+            "run prog --keys=-k --level jack --cycles 7",
+            run(7, Some("-k"), Show::Nothing),
+        ),
+    ];
+    assert_eq!(rt; first_misread(rt.alloc(), &lines)?, None);
+    Ok(())
+}
+
+#[test]
+fn refuses_other_runs(rt: HostRuntime) -> Result<(), Fail> {
+    let texts = [
+        "run prog",
+        "run prog --level jack",
+        "run prog --cycles 1",
+        "run --level jack --cycles 1",
+        "run prog other --level jack --cycles 1",
+        "run prog --level Jack --cycles 1",
+        "run prog --level vm --cycles 1",
+        "run prog --level hack --cycles 1",
+        "run prog --level gates --cycles 1",
+        "run prog --level  --cycles 1",
+        "run prog --level jack --level jack --cycles 1",
+        "run prog --level jack --cycles +1",
+        "run prog --level jack --cycles 1000000001",
+        "run prog --level jack --cycles 1 --show",
+        "run prog --level jack --cycles 1 --show stack",
+        "run prog --level jack --cycles 1 --show=",
+        "run prog --level jack --cycles 1 --show heap --show heap",
+        "run prog --level jack --cycles 1 --keys -k",
+        "run prog --level jack --cycles 1 --keys",
+        "run prog --level jack --cycles 1 --keys a --keys b",
+        "run prog --level jack --cycles 1 --from 2",
     ];
     assert_eq!(rt; first_accepted(rt.alloc(), &texts)?, None);
     Ok(())

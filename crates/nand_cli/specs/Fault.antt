@@ -14,6 +14,10 @@ kind_text kind.Range = codes "Range"
 kind_text kind.LabelTwice = codes "LabelTwice"
 kind_text kind.TooLarge = codes "TooLarge"
 kind_text kind.TooManyVariables = codes "TooManyVariables"
+kind_text kind.NotRising = codes "NotRising"
+kind_text kind.FileName = codes "FileName"
+kind_text kind.VariableTwice = codes "VariableTwice"
+kind_text kind.UnknownVariable = codes "UnknownVariable"
 
 -- what stands after the kind
 abbrev pub detail_text : Detail → List ℕ

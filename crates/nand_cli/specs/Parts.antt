@@ -1,16 +1,35 @@
 -- What the parts of a call say; the call's own contract needs none of it.
-use Rattle.std.specs.Prelude.{◌≡◌, ◌≤◌, ◌++◌, ◌⊎◌, ℕ, List, Option, Some, None, Result, Ok, Err, Vec, length}
+use Rattle.std.specs.Prelude.{◌≡◌, ◌≤◌, ◌<◌, ◌++◌, ◌⊎◌, ℕ, List, Option, Some, None, Result, Ok, Err, Vec, length}
 use Rattle.std.specs.declared.alloc.Global.{Global}
 use Rattle.command_line.specs.Line.{Line}
 use Rattle.outer_world.specs.Faults.{Rose}
-use Rattle.outer_world.specs.Files.{Files}
+use Rattle.outer_world.specs.Files.{Files, HasFile}
 use Rattle.outer_world.specs.Written.{Got, GotPart}
 use Rattle.outer_world.specs.declared.sink.Put.{Put}
 use Rattle.outer_world.specs.declared.sink.Put.TheVariants as put
+use Rattle.grammar.specs.declared.Fault.{Fault}
+use Rattle.grammar.specs.declared.Fault.TheVariants.{Range}
+use Rattle.grammar.specs.declared.ReadError.{ReadError}
+use Rattle.grammar.specs.declared.ReadError.TheVariants as reads
+use Rattle.key_script.specs.declared.keys.Keys.{Keys}
 use Rattle.hack_asm.specs.Faults.{Wrong, wrong_of}
 use Rattle.hack_asm.specs.declared.fault.AsmFault.{AsmFault}
+use Rattle.jack_meaning.specs.Meaning.{State, start}
+use Rattle.jack_meaning.specs.Level.{meaning_of, point_in}
+use Rattle.jack_core.specs.Texts.{the_program, the_subroutines}
+use Rattle.jack_machine.specs.Whole.{jack_point, jack_word}
+use Rattle.jack_machine.specs.declared.jack.Jack.{Jack}
+use Rattle.machine_io.specs.Report.{report_text}
+use Rattle.machine_io.specs.declared.driving.End.{End}
+use Rattle.machine_io.specs.declared.report.LevelName.TheVariants as names
+use Rattle.machine_io.specs.declared.report.Show.{Show}
+use Rattle.tower.specs.Meant.{name_of}
+use Rattle.tower.specs.Names.{fault_told}
+use Rattle.tower.specs.declared.prepare.PrepareError.{PrepareError}
+use Rattle.tower.specs.declared.prepare.PrepareError.TheVariants as errors
 use Rattle.nand_cli.specs.Assembled.{IsFileOf, IsNoFile, TextSays, wrong_line}
 use Rattle.nand_cli.specs.Answer.{Before, Ends, Prints, Refuses}
+use Rattle.nand_cli.specs.Running.{ClassIsRefused, ClassMeans, EndsAt, HasKeys, ScriptIsRefused, name_fault_line, state_after, text_fault_line}
 use Rattle.nand_cli.specs.Fault.{refusal_line}
 use Rattle.nand_cli.specs.declared.command.Status.{Status}
 use Rattle.nand_cli.specs.declared.load.Form.{Form}
@@ -36,6 +55,10 @@ Counts shelf shelf' out out' err err' (Err failure.Read) = Rose shelf shelf' × 
 Counts shelf shelf' out out' err err' (Err failure.Write) = (shelf' ≡ shelf) × (Rose out out' ⊎ Rose err err')
 Counts shelf shelf' out out' err err' _ = (shelf' ≡ shelf) × (out' ≡ out) × (err' ≡ err)
 
+-- the fault of a text past the limit, which has no place
+abbrev pub too_long : Fault
+too_long = Range (record { line = 0; column = 0 }) 1048577
+
 -- What reading the words of a text in a form says: the words, at most 32,768, or what is wrong with it, unless
 -- memory is wanting.
 abbrev pub SaysWrong : Form → List ℕ → Option Wrong → Type 0
@@ -54,9 +77,51 @@ Loads form files path (Err failure.Read) = Unit {0}
 Loads form files path (Err failure.Write) = ⊥
 Loads form files path (Err failure.Memory) = Unit {0}
 
-abbrev pub CountsLoad : ℕ → ℕ → Result (Vec ℕ Global) Failure → Type 0
+-- What reading a file for something says of the count of faults.
+abbrev pub CountsLoad : {A : Type 0} → ℕ → ℕ → Result A Failure → Type 0
 CountsLoad shelf shelf' (Err failure.Read) = Rose shelf shelf'
 CountsLoad shelf shelf' _ = shelf' ≡ shelf
+
+-- What reading the text of a file says; one past the limit has a fault of its own.
+abbrev pub LoadsText : Option Files → List ℕ → Result (Vec ℕ Global) Failure → Type 0
+LoadsText files path (Ok text) = HasFile files path text.items
+LoadsText files path (Err (failure.Refused refusal)) =
+    (text : List ℕ) × HasFile files path text × (1048576 < length text) × (refusal_line refusal ≡ text_fault_line path too_long)
+LoadsText files path (Err failure.Read) = Unit {0}
+LoadsText files path (Err failure.Write) = ⊥
+LoadsText files path (Err failure.Memory) = Unit {0}
+
+-- What making a machine of the class at a path says.
+abbrev pub LoadsJack : Option Files → List ℕ → Result Jack Failure → Type 0
+LoadsJack files path (Ok jack) = ClassMeans files path (Ok (the_program jack.core))
+LoadsJack files path (Err (failure.Refused refusal)) = ClassIsRefused files path (refusal_line refusal)
+LoadsJack files path (Err failure.Read) = Unit {0}
+LoadsJack files path (Err failure.Write) = ⊥
+LoadsJack files path (Err failure.Memory) = Unit {0}
+
+-- What reading the key script of a run says.
+abbrev pub LoadsKeys : Option Files → Option (List ℕ) → Result Keys Failure → Type 0
+LoadsKeys files path (Ok keys) = HasKeys files path keys.lines.items
+LoadsKeys files path (Err (failure.Refused refusal)) = ScriptIsRefused files path (refusal_line refusal)
+LoadsKeys files path (Err failure.Read) = Unit {0}
+LoadsKeys files path (Err failure.Write) = ⊥
+LoadsKeys files path (Err failure.Memory) = Unit {0}
+
+-- The machine shows a state of the meaning: the words of heap and screen, and the control point.
+pub record Shows (jack : Jack) (s : State) : Type 0 where
+  pub words : jack.memory.words.items ≡ s.words
+  pub point : jack_point jack ≡ point_in s
+
+-- The machine stands where n moves from the start of its program end.
+abbrev pub HasRun : (ℕ → ℕ) → ℕ → Jack → End → Type 0
+HasRun code n jack end =
+    (s : State) × (state_after (meaning_of (the_subroutines jack.core)) code (start (the_program jack.core)) jack.moves ≡ Some s)
+    × EndsAt (the_subroutines jack.core) code n jack.moves s end × Shows jack s
+
+-- the report of what a machine shows
+abbrev pub jack_text : Jack → End → Show → List ℕ
+jack_text jack end show =
+    report_text names.Jack jack.moves jack.moves (name_of (jack_point jack).sub) (jack_point jack).number end show (jack_word jack)
 
 -- A failure is the refusal that this line tells of, unless memory is wanting.
 abbrev pub TellsLine : List ℕ → Failure → Type 0
@@ -68,6 +133,17 @@ TellsLine line _ = ⊥
 abbrev pub Tells : List ℕ → Option Wrong → Failure → Type 0
 Tells path (Some wrong) f = TellsLine (wrong_line path wrong) f
 Tells path None f = f ≡ failure.Memory
+
+-- The same of what is wrong with the class of a folder.
+abbrev pub TellsPrepared : List ℕ → PrepareError → Failure → Type 0
+TellsPrepared path errors.Memory f = f ≡ failure.Memory
+TellsPrepared path (errors.Text fault) f = TellsLine (text_fault_line path fault) f
+TellsPrepared path (errors.Name fault) f = TellsLine (name_fault_line path (fault_told fault)) f
+
+-- The same of what is wrong with a text.
+abbrev pub TellsRead : List ℕ → ReadError → Failure → Type 0
+TellsRead path reads.Memory f = f ≡ failure.Memory
+TellsRead path (reads.Fault fault) f = TellsLine (text_fault_line path fault) f
 
 -- What putting a text on err says of its count and its bytes.
 abbrev pub Says : ℕ → ℕ → Option (List ℕ) → Option (List ℕ) → List ℕ → Put → Type 0

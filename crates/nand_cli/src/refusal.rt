@@ -20,6 +20,10 @@ pub enum Kind {
     LabelTwice,
     TooLarge,
     TooManyVariables,
+    NotRising,
+    FileName,
+    VariableTwice,
+    UnknownVariable,
 }
 
 impl Kind {
@@ -32,6 +36,10 @@ impl Kind {
             Kind::LabelTwice => "LabelTwice",
             Kind::TooLarge => "TooLarge",
             Kind::TooManyVariables => "TooManyVariables",
+            Kind::NotRising => "NotRising",
+            Kind::FileName => "FileName",
+            Kind::VariableTwice => "VariableTwice",
+            Kind::UnknownVariable => "UnknownVariable",
         }
     }
 }

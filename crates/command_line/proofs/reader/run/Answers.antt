@@ -1,0 +1,6 @@
+use Rattle.command_line.specs.Line.{rows_in}
+use Rattle.command_line.proofs.Lines.{no_run}
+use Rattle.command_line.proofs.reader.run.Goals as goal
+
+pub returns-in_default-number_in : goal.returns-in_default-number_in
+returns-in_default-number_in c = no_run (rows_in c.args.matches.now) (λ _ _ n _ _ h. c.in_default-number_in.ensures n h.3)

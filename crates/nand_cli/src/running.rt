@@ -1,0 +1,80 @@
+//! The command `run`: the report of a program's run.
+ghost use Rattle.std.specs.Prelude.{◌≡◌, [], List, ℕ, IfOk, Option, option_map};
+ghost use Rattle.command_line.specs.Line.{run};
+ghost use Rattle.jack_machine.specs.Whole.{Stands};
+ghost use Rattle.key_script.specs.Codes.{code_at};
+ghost use Rattle.outer_world.specs.Written.{CountsPut, Puts};
+ghost use Rattle.nand_cli.specs.Parts.{Counts, Does, HasRun, jack_text};
+
+use crate::refusal::Failure;
+use crate::sources::{load_jack, load_keys};
+use command_line::{Run, RunLevel};
+use jack_machine::Jack;
+use key_script::Keys;
+use machine_io::{End, Head, Level, LevelName, Show, drive, show_report};
+use outer_world::{Put, Shelf, Sink};
+use std::alloc::{AllocError, Global};
+use tower::subroutine_name;
+
+// Moves a machine from its start, each move under its key, and tells how the moves end.
+fn run_jack(jack: &mut Jack, keys: &Keys, moves: u32) -> Result<End, AllocError>
+    requires stands { Stands jack.old [] }
+    requires first { jack.old.moves ≡ 0 }
+    ensures ran { IfOk result (λ end. HasRun (code_at keys.now.lines.items) moves jack.new end) }
+    ensures core { jack.new.core ≡ jack.old.core }
+{
+    drive(jack, keys, u64::from(moves))
+}
+
+// Puts the report of what a machine shows.
+fn put_jack<O: Sink>(jack: &Jack, end: End, show: Show, out: &mut O) -> Put
+    ensures put { Puts (O.written out.old) (O.written out.new) (jack_text jack.now end show) result }
+    ensures counts { CountsPut (O.faults out.old) (O.faults out.new) result }
+{
+    let point = jack.point();
+    let head = Head {
+        level: LevelName::Jack,
+        moves: jack.moves(),
+        steps: jack.steps(),
+        subroutine: subroutine_name(point.sub),
+        statement: point.number,
+        end,
+    };
+    show_report(&head, show, |a| jack.word_at(a), out)
+}
+
+// Does a line of `run` at the level of the meaning.
+fn answer_jack<F: Shelf, O: Sink>(
+    alloc: Global,
+    request: &Run<'_>,
+    shelf: &mut F,
+    out: &mut O,
+) -> Result<(), Failure>
+    ensures does { (err : Option (List ℕ)) → Does (F.files shelf.old) (run request.now.folder.now RunLevel.Jack request.now.cycles (option_map (λ keys. keys.now) request.now.keys) request.now.show) (O.written out.old) (O.written out.new) err err result }
+    ensures counts { (err : ℕ) → Counts (F.faults shelf.old) (F.faults shelf.new) (O.faults out.old) (O.faults out.new) err err result }
+    ensures kept { F.files shelf.new ≡ F.files shelf.old }
+{
+    let mut jack = load_jack(alloc, request.folder, shelf)?;
+    let keys = load_keys(alloc, request.keys, shelf)?;
+    let end = run_jack(&mut jack, &keys, request.cycles)?;
+    match put_jack(&jack, end, request.show, out) {
+        Put::Done => Ok(()),
+        Put::Failed => Err(Failure::Write),
+    }
+}
+
+/// Does a line of `run`; err is left as it is.
+pub fn answer_run<F: Shelf, O: Sink>(
+    alloc: Global,
+    request: &Run<'_>,
+    shelf: &mut F,
+    out: &mut O,
+) -> Result<(), Failure>
+    ensures does { (err : Option (List ℕ)) → Does (F.files shelf.old) (run request.now.folder.now request.now.level request.now.cycles (option_map (λ keys. keys.now) request.now.keys) request.now.show) (O.written out.old) (O.written out.new) err err result }
+    ensures counts { (err : ℕ) → Counts (F.faults shelf.old) (F.faults shelf.new) (O.faults out.old) (O.faults out.new) err err result }
+    ensures kept { F.files shelf.new ≡ F.files shelf.old }
+{
+    match request.level {
+        RunLevel::Jack => answer_jack(alloc, request, shelf, out),
+    }
+}

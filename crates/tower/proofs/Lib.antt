@@ -1,0 +1,9 @@
+pub mod Terms
+pub mod Exits
+pub mod Blocks
+pub mod Begins
+pub mod Paths
+pub mod Tokens
+pub mod Unknowns
+pub mod Meanings
+pub mod Preparing

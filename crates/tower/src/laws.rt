@@ -1,0 +1,12 @@
+//! Laws of the grammar.
+
+ghost use Rattle.std.specs.Prelude.{ℕ};
+ghost use Rattle.scan_text.specs.declared.Place.{Place};
+ghost use Rattle.grammar.specs.Rules.{IsLawful};
+ghost use Rattle.jack_tree.specs.Tokens.{Word};
+ghost use Rattle.tower.specs.Thin.{Part, Said, thin};
+
+/// The table of first tokens is that of the rules, and each named rule takes a token.
+pub fn first_tokens()
+    ensures { (end : Place) → IsLawful Word ℕ Part Said (thin end) }
+{}
