@@ -1,0 +1,10 @@
+pub mod Exits
+pub mod Entered
+pub mod Pieces
+pub mod Commands
+pub mod Lines
+pub mod Exactness
+pub mod Wholes
+pub mod WordsCut
+pub mod LinesCut
+pub mod Printed

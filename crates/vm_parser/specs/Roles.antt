@@ -1,0 +1,42 @@
+-- The words of commands (chapters 7 and 8). They are not reserved: each but `if-goto` may be a name too.
+use Rattle.std.specs.Prelude.{ℕ, List, [], ◌∷◌, if◌then◌else◌, codes}
+use Rattle.std.specs.Str.{bytes_eq}
+use Rattle.vm_tree.specs.declared.command.Operation.TheVariants as operation
+use Rattle.vm_tree.specs.declared.command.Segment.TheVariants as segment
+use Rattle.vm_parser.specs.declared.token.Role.{Role}
+use Rattle.vm_parser.specs.declared.token.Role.TheVariants as role
+
+-- the role of the first entry with this text, or else another one
+abbrev pub spelled : List (List ℕ × Role) → Role → List ℕ → Role
+spelled [] other text = other
+spelled (entry ∷ entries) other text = if bytes_eq text entry.0 then entry.1 else spelled entries other text
+
+abbrev pub segments : List (List ℕ × Role)
+segments =
+    (codes "argument", role.Segment segment.Argument) ∷ (codes "local", role.Segment segment.Local) ∷ (codes "static", role.Segment segment.Static)
+    ∷ (codes "constant", role.Segment segment.Constant) ∷ (codes "this", role.Segment segment.This) ∷ (codes "that", role.Segment segment.That)
+    ∷ (codes "pointer", role.Segment segment.Pointer) ∷ (codes "temp", role.Segment segment.Temp) ∷ []
+
+-- segments
+abbrev pub segment_role_of : List ℕ → Role
+segment_role_of text = spelled segments role.Plain text
+
+abbrev pub operations : List (List ℕ × Role)
+operations =
+    (codes "add", role.Operation operation.Add) ∷ (codes "sub", role.Operation operation.Sub) ∷ (codes "neg", role.Operation operation.Neg)
+    ∷ (codes "eq", role.Operation operation.Eq) ∷ (codes "gt", role.Operation operation.Gt) ∷ (codes "lt", role.Operation operation.Lt)
+    ∷ (codes "and", role.Operation operation.And) ∷ (codes "or", role.Operation operation.Or) ∷ (codes "not", role.Operation operation.Not) ∷ []
+
+-- operations and segments
+abbrev pub operation_role_of : List ℕ → Role
+operation_role_of text = spelled operations (segment_role_of text) text
+
+abbrev pub commands : List (List ℕ × Role)
+commands =
+    (codes "push", role.Push) ∷ (codes "pop", role.Pop) ∷ (codes "label", role.Label)
+    ∷ (codes "goto", role.Goto) ∷ (codes "if-goto", role.IfGoto) ∷ (codes "call", role.Call)
+    ∷ (codes "function", role.Function) ∷ (codes "return", role.Return) ∷ []
+
+-- what a word can be in a command
+abbrev pub role_of : List ℕ → Role
+role_of text = spelled commands (operation_role_of text) text

@@ -1,0 +1,13 @@
+//! Laws of the printed form.
+
+ghost use Rattle.std.specs.Prelude.{◌≡◌, ◌∷◌, [], ◌≤◌, Bool, true, length};
+ghost use Rattle.vm_tree.specs.declared.program.File.{File};
+ghost use Rattle.vm_tree.specs.Printed.{program_text};
+ghost use Rattle.vm_parser.specs.Files.{Spells};
+ghost use Rattle.vm_parser.specs.Printing.{file_can, read_file};
+
+/// Law: the printed text of a program of one file, where it is no longer than a file may be, spells the file again, but for the
+/// statements and commits of its lines.
+pub fn printed_law()
+    ensures { (bare : Bool) (f : File) → file_can bare f ≡ true → length (program_text (f ∷ [])) ≤ 1048576 → Spells bare f.name (program_text (f ∷ [])) (read_file f ∷ []) }
+{}

@@ -1,0 +1,305 @@
+//! The tokens of a VM text.
+
+ghost use Rattle.std.specs.Prelude.{◌≡◌, ◌<◌, ◌-◌, ◌^◌, ◌++◌, true, length, take, map, Some, None, Result, Ok, OnOk, IfOk};
+ghost use Rattle.scan_text.specs.Text.{first, start, is_digit};
+ghost use Rattle.scan_text.specs.View.{left};
+ghost use Rattle.grammar.specs.Cutting.{NextBy, cut, last_of};
+ghost use Rattle.grammar.specs.Reading.{Gives};
+ghost use Rattle.vm_parser.specs.Roles.{segment_role_of, operation_role_of, role_of};
+ghost use Rattle.vm_parser.specs.Tokens.{view, tokens_of, finish, piece, close, is_open, begins_name, is_name_byte, begins_if_goto, number_piece, name_piece, word_piece, if_goto_piece, comment_piece, line_end_piece};
+
+use crate::token::{Kind, Role, Token};
+use grammar::{Fault, ReadError};
+use scan_text::{Place, Scan};
+use std::alloc::{AllocError, Global};
+use std::str::from_utf8;
+use vm_tree::{Operation, Segment};
+
+fn segment_role_of(text: &[u8]) -> Role
+    ensures { result ≡ segment_role_of text.now }
+{
+    if text == b"argument".as_slice() {
+        return Role::Segment(Segment::Argument);
+    }
+    if text == b"local".as_slice() {
+        return Role::Segment(Segment::Local);
+    }
+    if text == b"static".as_slice() {
+        return Role::Segment(Segment::Static);
+    }
+    if text == b"constant".as_slice() {
+        return Role::Segment(Segment::Constant);
+    }
+    if text == b"this".as_slice() {
+        return Role::Segment(Segment::This);
+    }
+    if text == b"that".as_slice() {
+        return Role::Segment(Segment::That);
+    }
+    if text == b"pointer".as_slice() {
+        return Role::Segment(Segment::Pointer);
+    }
+    if text == b"temp".as_slice() {
+        return Role::Segment(Segment::Temp);
+    }
+    Role::Plain
+}
+
+fn operation_role_of(text: &[u8]) -> Role
+    ensures { result ≡ operation_role_of text.now }
+{
+    if text == b"add".as_slice() {
+        return Role::Operation(Operation::Add);
+    }
+    if text == b"sub".as_slice() {
+        return Role::Operation(Operation::Sub);
+    }
+    if text == b"neg".as_slice() {
+        return Role::Operation(Operation::Neg);
+    }
+    if text == b"eq".as_slice() {
+        return Role::Operation(Operation::Eq);
+    }
+    if text == b"gt".as_slice() {
+        return Role::Operation(Operation::Gt);
+    }
+    if text == b"lt".as_slice() {
+        return Role::Operation(Operation::Lt);
+    }
+    if text == b"and".as_slice() {
+        return Role::Operation(Operation::And);
+    }
+    if text == b"or".as_slice() {
+        return Role::Operation(Operation::Or);
+    }
+    if text == b"not".as_slice() {
+        return Role::Operation(Operation::Not);
+    }
+    segment_role_of(text)
+}
+
+fn role_of(text: &[u8]) -> Role
+    ensures { result ≡ role_of text.now }
+{
+    if text == b"push".as_slice() {
+        return Role::Push;
+    }
+    if text == b"pop".as_slice() {
+        return Role::Pop;
+    }
+    if text == b"label".as_slice() {
+        return Role::Label;
+    }
+    if text == b"goto".as_slice() {
+        return Role::Goto;
+    }
+    if text == b"if-goto".as_slice() {
+        return Role::IfGoto;
+    }
+    if text == b"call".as_slice() {
+        return Role::Call;
+    }
+    if text == b"function".as_slice() {
+        return Role::Function;
+    }
+    if text == b"return".as_slice() {
+        return Role::Return;
+    }
+    operation_role_of(text)
+}
+
+fn begins_name(b: u8) -> bool
+    ensures { result ≡ begins_name b }
+{
+    b.is_ascii_alphabetic() || b == b'_' || b == b'.' || b == b'$' || b == b':'
+}
+
+fn is_name_byte(b: u8) -> bool
+    ensures { result ≡ is_name_byte b }
+{
+    begins_name(b) || b.is_ascii_digit()
+}
+
+fn begins_if_goto(bytes: &[u8]) -> bool
+    ensures { result ≡ begins_if_goto bytes.now }
+{
+    bytes.starts_with(b"if-goto")
+}
+
+// A number, which is at most 32,767.
+fn number<'a>(scan: &mut Scan<'a>, byte: u8) -> Result<Option<Token<'a>>, Fault>
+    requires begun { first (left scan.old) ≡ Some byte }
+    requires digit { is_digit byte ≡ true }
+    ensures { NextBy view (number_piece (left scan.old)) scan.old result scan.new }
+{
+    let place = scan.place();
+    match scan.number() {
+        Some(n) => {
+            if n > 32_767 {
+                return Err(Fault::Range(place, n.min(1_000_000_000)));
+            }
+            Ok(Some(Token {
+                kind: Kind::Number(n as u16),
+                role: Role::Plain,
+                text: "",
+                place,
+            }))
+        }
+        None => Ok(None),
+    }
+}
+
+// A run of the bytes of names.
+fn name<'a>(scan: &mut Scan<'a>, byte: u8) -> Result<Option<Token<'a>>, Fault>
+    requires begun { first (left scan.old) ≡ Some byte }
+    requires letter { begins_name byte ≡ true }
+    ensures { NextBy view (name_piece (left scan.old)) scan.old result scan.new }
+{
+    let place = scan.place();
+    let bytes = scan.take_while(|b| is_name_byte(b));
+    let role = role_of(bytes);
+    match from_utf8(bytes) {
+        Ok(text) => Ok(Some(Token {
+            kind: Kind::Name,
+            role,
+            text,
+            place,
+        })),
+        // The bytes of names are ASCII, so this does not come.
+        Err(_) => Err(Fault::Grammar(place)),
+    }
+}
+
+fn if_goto<'a>(scan: &mut Scan<'a>) -> Result<Option<Token<'a>>, Fault>
+    requires { begins_if_goto (left scan.old) ≡ true }
+    ensures { NextBy view if_goto_piece scan.old result scan.new }
+{
+    let place = scan.place();
+    scan.skip(7);
+    Ok(Some(Token {
+        kind: Kind::IfGoto,
+        role: Role::IfGoto,
+        text: "if-goto",
+        place,
+    }))
+}
+
+// A name, or `if-goto`, which is longer than the name `if`.
+fn word<'a>(scan: &mut Scan<'a>, byte: u8) -> Result<Option<Token<'a>>, Fault>
+    requires begun { first (left scan.old) ≡ Some byte }
+    requires letter { begins_name byte ≡ true }
+    ensures { NextBy view (word_piece (left scan.old)) scan.old result scan.new }
+{
+    if begins_if_goto(scan.rest()) {
+        if_goto(scan)
+    } else {
+        name(scan, byte)
+    }
+}
+
+fn comment<'a>(scan: &mut Scan<'a>) -> Result<Option<Token<'a>>, Fault>
+    requires { first (left scan.old) ≡ Some 47 }
+    ensures { NextBy view (comment_piece (left scan.old)) scan.old result scan.new }
+{
+    let mut ahead = *scan;
+    ahead.skip(1);
+    match ahead.peek() {
+        Some(b'/') => {
+            scan.line();
+            Ok(None)
+        }
+        _ => Err(Fault::Grammar(scan.place())),
+    }
+}
+
+fn line_end<'a>(scan: &mut Scan<'a>) -> Result<Option<Token<'a>>, Fault>
+    ensures { NextBy view (line_end_piece (left scan.old)) scan.old result scan.new }
+{
+    let place = scan.place();
+    if scan.line_end() {
+        Ok(Some(Token {
+            kind: Kind::LineEnd,
+            role: Role::Plain,
+            text: "",
+            place,
+        }))
+    } else {
+        Err(Fault::Grammar(place))
+    }
+}
+
+// What begins at the next byte.
+fn next<'a>(scan: &mut Scan<'a>, byte: u8) -> Result<Option<Token<'a>>, Fault>
+    requires { first (left scan.old) ≡ Some byte }
+    ensures { NextBy view (piece (left scan.old)) scan.old result scan.new }
+{
+    if byte == b' ' || byte == b'\t' {
+        scan.skip(1);
+        return Ok(None);
+    }
+    if byte.is_ascii_digit() {
+        return number(scan, byte);
+    }
+    if begins_name(byte) {
+        return word(scan, byte);
+    }
+    if byte == b'/' {
+        return comment(scan);
+    }
+    line_end(scan)
+}
+
+// What stands at the end of the text.
+fn close(tokens: &mut Vec<Token>, place: Place) -> Result<(), AllocError>
+    ensures { OnOk result (map view tokens.new.items ≡ map view tokens.old.items ++ close (last_of (map view tokens.old.items)) place) }
+{
+    if is_open(tokens) {
+        tokens.push(Token {
+            kind: Kind::LineEnd,
+            role: Role::Plain,
+            text: "",
+            place,
+        })?;
+        Ok(())
+    } else {
+        Ok(())
+    }
+}
+
+// The last line has begun and has no line end.
+fn is_open(tokens: &[Token]) -> bool
+    ensures { result ≡ is_open (last_of (map view tokens.now)) }
+{
+    match tokens.last() {
+        Some(token) => !matches!(token.kind, Kind::LineEnd),
+        None => false,
+    }
+}
+
+/// The tokens of a VM text, and the place of its end.
+pub fn tokens<'a>(alloc: Global, text: &'a [u8]) -> Result<(Vec<Token<'a>>, Place), ReadError>
+    ensures tokens { Gives (λ x. map view x.0.items) result (tokens_of text.now) }
+    ensures end { IfOk result (λ x. x.1 ≡ finish text.now) }
+{
+    if text.len() > 1_048_576 {
+        return Err(ReadError::Fault(Fault::Range(Place { line: 0, column: 0 }, 1_048_577)));
+    }
+    cut(alloc, text)
+}
+
+fn cut<'a>(alloc: Global, text: &'a [u8]) -> Result<(Vec<Token<'a>>, Place), ReadError>
+    requires { length text.now < 2 ^ 32 - 1 }
+    ensures tokens { Gives (λ x. map view x.0.items) result (cut piece close None 0 start text.now) }
+    ensures end { IfOk result (λ x. x.1 ≡ finish text.now) }
+{
+    let mut tokens = Vec::new(alloc);
+    let mut scan = Scan::new(text);
+    while let Some(byte) = scan.peek() {
+        if let Some(token) = next(&mut scan, byte)? {
+            tokens.push(token)?;
+        }
+    }
+    let end = scan.place();
+    close(&mut tokens, end)?;
+    Ok((tokens, end))
+}
