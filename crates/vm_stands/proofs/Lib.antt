@@ -1,0 +1,4 @@
+pub mod Stack
+pub mod Frames
+pub mod Sets
+pub mod Calls
