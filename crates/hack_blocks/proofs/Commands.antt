@@ -99,6 +99,23 @@ module _ (image : List ℕ) (inside : ℕ → Type 0) (here last : ℕ) (fits : 
       (whole image inside push_d 3 z (here + 5) last refl (from_place image here 5 (push_at r i) st) q.1 wz (omega arith) fits (λ k a b. places k (omega arith) b)
       (go v is_word (do_block push_d z) (block_words push_d z q.1 wz) q.0))))
 
+  -- The same up to the last instruction, also where the stack is full: nothing is said of what it writes.
+  pub push_ends_goes : (r i : ℕ) → r < 24576 → i < 32768 → (i + x.m r) % 65536 ≢ 24576 → Stands image here (push_at r i) → here + 8 ≡ last → Does image inside last (Unit {0}) (λ s. Unit {0}) 8 (at here x)
+  push_ends_goes r i small index other st e =
+      let front = take 4 (push_at r i) in
+      let y = do_block front x in
+      let p = addressed r i small index in
+      let wy = block_words front x p.1 w in
+      block image inside front x here (here + 4) 4 (up_to image here 4 (push_at r i) st) p.1 w (omega arith) (omega arith) (λ k a b. places k a (omega arith))
+      (read_any image inside y (here + 4) 3 (from_place image here 4 (push_at r i) st).0 other wy (omega arith) (places (here + 4) (omega arith) (omega arith))
+      (λ v is_word.
+      let z : Data = record y { d = v } in
+      let wz : AreWords z = record { a_word = wy.a_word; d_word = is_word; m_words = wy.m_words } in
+      let five : here + 4 + 1 ≡ here + 5 = omega arith in
+      subst (λ k. Does image inside last (Unit {0}) (λ s. Unit {0}) 3 (at k z)) (sym five)
+      (block image inside (take 3 push_d) z (here + 5) last 0 (up_to image (here + 5) 3 push_d (from_place image here 5 (push_at r i) st)) (search arith) wz (omega arith) fits (λ k a b. places k (omega arith) b)
+      (store_anywhere image inside (do_block (take 3 push_d) z) last 0 (subst (λ k. Stands image k (drop 8 (push_at r i))) e (from_place image here 8 (push_at r i) st)).0))))
+
   -- the topmost value is in D, to be stored at A
   record Ready (y : Data) (to : ℕ) : Type 0 where
     sp : y.m 0 ≡ x.m 0 - 1

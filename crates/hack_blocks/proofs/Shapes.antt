@@ -19,7 +19,7 @@ use Rattle.hack_blocks.specs.Effects.{Pushed, Joined, Stored, HasWords}
 use Rattle.hack_blocks.specs.Commands.{HasValues, HasRoom, address_at, topmost, second, Ready, MayStore, Effect, next, IsAt, After, CommandsGo}
 use Rattle.hack_blocks.proofs.Placed.{size_some}
 use Rattle.hack_blocks.proofs.Block.{Data, AreWords, at, within}
-use Rattle.hack_blocks.proofs.Commands.{push_constant_goes, push_word_goes, push_at_goes, pop_word_goes, pop_at_goes, join_goes, turn_goes, push_key_goes, push_any_goes, store_goes, pop_any_goes}
+use Rattle.hack_blocks.proofs.Commands.{push_constant_goes, push_word_goes, push_at_goes, pop_word_goes, pop_at_goes, join_goes, turn_goes, push_key_goes, push_any_goes, push_ends_goes, store_goes, pop_any_goes}
 use Rattle.hack_blocks.proofs.Compare.{eq_goes, gt_goes, lt_goes}
 use Rattle.hack_blocks.proofs.Calls.{go_to_goes, if_go_to_goes, function_goes, call_goes, return_goes}
 
@@ -183,6 +183,13 @@ module _ (image : List ℕ) (inside : ℕ → Type 0) (s : Machine) (last : ℕ)
       push_any_goes image inside s.pc last (omega arith) places x w r i (omega (arith, shape.1)) shape.2 (λ q. other (sym (swapped r i) ∙ q)) here.stands (omega arith) room.0 (omega (arith, room.1))
       (λ v small y wy p. (v, after (PushAt r i) (λ m after. Pushed m after v) ((last + 1) % 32768) y wy (ends_at 9 e) p))
 
+  pub push_ends : (r i : ℕ) → IsAt image (PushAt r i) s → last + 1 ≡ s.pc + 9 → address_at s.memory r i ≢ 24576 → Does image inside last (Unit {0}) (λ t. Unit {0}) 8 s
+  push_ends r i here e other =
+      let w = data_words s here.words in
+      let low = here.low in
+      let shape = here.shape in
+      push_ends_goes image inside s.pc last (omega arith) places x w r i (omega (arith, shape.1)) shape.2 (λ q. other (sym (swapped r i) ∙ q)) here.stands (omega arith)
+
   pub pop_ends : (r i : ℕ) → IsAt image (PopAt r i) s → last + 1 ≡ s.pc + 12 → HasValues 1 s.memory → Does image inside last (Unit {0}) (λ t. Unit {0}) 11 s
   pop_ends r i here e some =
       let w = data_words s here.words in
@@ -208,7 +215,10 @@ commands_go = record {
   strays = λ image base index s here room other.
       let c = PushAt base index in
       push_strays image (λ k. (s.pc ≤ k) × (k + 1 < s.pc + size c)) s (s.pc + size c - 1) (own image s c here) base index here (its_last image s c here) room other;
-  ends = λ image base index s here some.
+  push_ends = λ image base index s here other.
+      let c = PushAt base index in
+      push_ends image (λ k. (s.pc ≤ k) × (k + 1 < s.pc + size c)) s (s.pc + size c - 1) (own image s c here) base index here (its_last image s c here) other;
+  pop_ends = λ image base index s here some.
       let c = PopAt base index in
       pop_ends image (λ k. (s.pc ≤ k) × (k + 1 < s.pc + size c)) s (s.pc + size c - 1) (own image s c here) base index here (its_last image s c here) some;
 }

@@ -119,5 +119,6 @@ pub record CommandsGo : Type 0 where
   -- A push of any other word has the effect of some word: no key is read.
   pub strays : (image : List ℕ) (base index : ℕ) (s : Machine) → IsAt image (PushAt base index) s → HasRoom 1 s.memory → address_at s.memory base index ≢ 24576
       → Goes image (PushAt base index) ⊥ (λ t. (v : ℕ) × After (PushAt base index) (λ m after. Pushed m after v) s t) s
-  -- A pop to any address comes to its last instruction.
-  pub ends : (image : List ℕ) (base index : ℕ) (s : Machine) → IsAt image (PopAt base index) s → HasValues 1 s.memory → Goes image (PopAt base index) (Unit {0}) (λ t. Unit {0}) s
+  -- It comes to its last instruction also where the stack is full, and so does a pop to any address: nothing is said of what that writes.
+  pub push_ends : (image : List ℕ) (base index : ℕ) (s : Machine) → IsAt image (PushAt base index) s → address_at s.memory base index ≢ 24576 → Goes image (PushAt base index) (Unit {0}) (λ t. Unit {0}) s
+  pub pop_ends : (image : List ℕ) (base index : ℕ) (s : Machine) → IsAt image (PopAt base index) s → HasValues 1 s.memory → Goes image (PopAt base index) (Unit {0}) (λ t. Unit {0}) s
