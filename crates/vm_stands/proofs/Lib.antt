@@ -2,3 +2,5 @@ pub mod Stack
 pub mod Frames
 pub mod Sets
 pub mod Calls
+pub mod Cases
+pub mod Carries
