@@ -4,3 +4,4 @@ pub mod Sets
 pub mod Calls
 pub mod Cases
 pub mod Carries
+pub mod Segments
