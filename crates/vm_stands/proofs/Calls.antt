@@ -15,7 +15,7 @@ high k h = (omega arith, omega arith, omega arith, omega arith)
 low : (k : ℕ) → 1 ≤ k → k < 13 → IsKept k
 low k h l = (omega arith, omega arith, omega arith, omega arith)
 
-length-copies : (n : ℕ) → (let zeros : List ℕ = replicate n 0 in length zeros ≡ n)
+pub length-copies : (n : ℕ) → (let zeros : List ℕ = replicate n 0 in length zeros ≡ n)
 length-copies zero = refl
 length-copies (suc n) = ap suc (length-copies n)
 

@@ -5,3 +5,4 @@ pub mod Calls
 pub mod Cases
 pub mod Carries
 pub mod Segments
+pub mod Steps
