@@ -6,3 +6,4 @@ pub mod Cases
 pub mod Carries
 pub mod Segments
 pub mod Steps
+pub mod Keys
