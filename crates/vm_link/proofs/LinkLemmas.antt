@@ -1,17 +1,16 @@
 -- What is kept fits.
-use Rattle.std.proofs.Common.{◌≡◌, ◌+◌, ◌-◌, ◌^◌, ◌<◌, ◌≤◌, ◌++◌, ℕ, zero, suc, Bool, true, false, cond, List, [], ◌∷◌, Option, Some, None, option_map, length, map, min, max, refl, sym, ap, subst, ◌∙◌, arith, nat_lt, slice_index, slice_get, if◌then◌else◌, nat_eq}
-use Rattle.std.specs.Prelude.{◌==◌}
+use Rattle.std.proofs.Common.{◌≡◌, ◌+◌, ◌-◌, ◌^◌, ◌<◌, ◌≤◌, ◌++◌, ℕ, zero, suc, Bool, true, false, cond, List, [], ◌∷◌, Option, Some, None, option_map, length, min, max, refl, sym, subst, ◌∙◌, arith, nat_lt, slice_get, nat_eq}
 use Rattle.std.specs.Option.{option_or}
 use Rattle.std.proofs.lemmas.Bool.{eq-eqb, cases_eq, ltb-false}
 use Rattle.vm_tree.specs.declared.program.File.{File}
 use Rattle.vm_tree.specs.declared.program.Function.{Function}
 use Rattle.vm_link.specs.declared.fault.LinkFault.{LinkFault}
 use Rattle.vm_link.specs.declared.fault.LinkFault.TheVariants.{TooManyStatics, NoFunction}
-use Rattle.vm_link.specs.Sections.{Section, sections_from, file_sections, function_section, opening_section, sections}
+use Rattle.vm_link.specs.Sections.{Section, sections_from, file_sections, functions_from, sections}
 use Rattle.vm_link.specs.Faults.{words_before, file_words, words_of_lines, too_many, kept_fault, text_fault, first_of, no_function}
 use Rattle.vm_link.specs.Reached.{Keeps, kept, dropped, none, AreKept, Reached}
 use Rattle.vm_link.proofs.Marking.{⊎_by}
-use Rattle.vm_link.specs.Words.{AreWords, AreBases, IsFitting, AreFitting}
+use Rattle.vm_link.specs.Words.{AreBases, AreFitting}
 
 -- each file is below n
 AllBelow : ℕ → List Section → Type 0
@@ -23,20 +22,22 @@ unfolding AllBelow
 below_both n [] ts p q = q
 below_both n (s ∷ ss) ts p q = (p.0, below_both n ss ts p.1 q)
 
-below_functions : (n k : ℕ) (fs : List Function) → k < n → AllBelow n (map (function_section k) fs)
+below_functions : (n k m : ℕ) (fs : List Function) → k < n → AllBelow n (functions_from k m fs)
 unfolding AllBelow
-below_functions n k [] h = tt
-below_functions n k (f ∷ fs) h = (h, below_functions n k fs h)
+below_functions n k m [] h = tt
+below_functions n k m (f ∷ fs) h = (h, below_functions n k (m + 1) fs h)
 
-below_file : (n : ℕ) (bare : Bool) (k : ℕ) (f : File) → k < n → AllBelow n (file_sections bare k f)
+below_file : (n : ℕ) (bare : Bool) (k m : ℕ) (f : File) → k < n → AllBelow n (file_sections bare k m f)
 unfolding AllBelow
-below_file n true k f h = (h, below_functions n k f.functions h)
-below_file n false k f h = below_functions n k f.functions h
+below_file n true k m f h = (h, below_functions n k (m + 1) f.functions h)
+below_file n false k m f h = below_functions n k m f.functions h
 
-below_from : (n : ℕ) (bare : Bool) (k : ℕ) (fs : List File) → k + length fs ≤ n → AllBelow n (sections_from bare k fs)
+below_from : (n : ℕ) (bare : Bool) (k m : ℕ) (fs : List File) → k + length fs ≤ n → AllBelow n (sections_from bare k m fs)
 unfolding AllBelow
-below_from n bare k [] h = tt
-below_from n bare k (f ∷ fs) h = below_both n (file_sections bare k f) (sections_from bare (k + 1) fs) (below_file n bare k f (omega arith)) (below_from n bare (k + 1) fs (omega arith))
+below_from n bare k m [] h = tt
+below_from n bare k m (f ∷ fs) h =
+    below_both n (file_sections bare k m f) (sections_from bare (k + 1) (m + length (file_sections bare k m f)) fs) (below_file n bare k m f (omega arith))
+    (below_from n bare (k + 1) (m + length (file_sections bare k m f)) fs (omega arith))
 
 below_keeps : (n : ℕ) (P : ℕ → Type 0) {i : ℕ} {ss ks : List Section} → Keeps P i ss ks → AllBelow n ss → AllBelow n ks
 unfolding AllBelow
@@ -92,7 +93,7 @@ pub room_at : (bare : Bool) (files : List File) (ks : List Section) → AreKept 
     → (i : ℕ) (s : Section) → slice_get ks i ≡ Some s → words_before ks s.file + words_of_lines s.lines ≤ 240
 room_at bare files ks k none_found i s here =
     let n = length files in
-    let file : s.file < length files = below_at n ks i s (below_kept n bare (sections bare files) ks k (below_from n bare 0 files (omega arith))) here in
+    let file : s.file < length files = below_at n ks i s (below_kept n bare (sections bare files) ks k (below_from n bare 0 1 files (omega arith))) here in
     let few : words_before ks (length files) ≤ 240 = words_few (words_before ks n) (last_none (option_map NoFunction (first_of (no_function (sections bare files)) ks)) _ none_found) in
     let rise = words_rise ks s.file n file in
     let own = words_within ks i s here in
@@ -103,7 +104,7 @@ pub fitting : (bare : Bool) (files : List File) (ks : List Section) (bases : Lis
     → kept_fault (length files) (sections bare files) ks ≡ None → AreBases ks (length files) bases → AreFitting ks bases
 fitting bare files ks bases k none_found b = λ i s here.
     let n = length files in
-    let file : s.file < length files = below_at n ks i s (below_kept n bare (sections bare files) ks k (below_from n bare 0 files (omega arith))) here in
+    let file : s.file < length files = below_at n ks i s (below_kept n bare (sections bare files) ks k (below_from n bare 0 1 files (omega arith))) here in
     let few : words_before ks (length files) ≤ 240 = words_few (words_before ks n) (last_none (option_map NoFunction (first_of (no_function (sections bare files)) ks)) _ none_found) in
     let rise = words_rise ks s.file n file in
     let own = words_within ks i s here in

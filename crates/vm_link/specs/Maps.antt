@@ -20,7 +20,7 @@ number m name = get_by (λ k. bytes_eq name k.now) m
 
 -- a part as a section
 abbrev pub seen : Part → Section
-seen p = record { file = p.file; name = option_map (λ n. n.now) p.name; locals = p.locals; lines = p.lines.now }
+seen p = record { file = p.file; number = p.number; name = option_map (λ n. n.now) p.name; locals = p.locals; lines = p.lines.now }
 
 abbrev pub all_seen : List Part → List Section
 all_seen ps = map seen ps

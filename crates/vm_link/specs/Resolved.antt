@@ -1,5 +1,5 @@
 -- What linked code is: calls by number, labels by place, statics by number.
-use Rattle.std.specs.Prelude.{◌≡◌, ℕ, ◌+◌, ◌++◌, Bool, true, false, List, [], ◌∷◌, Option, Some, None, Result, Ok, Err, option_map, map, unwrap_or, is_some, if◌then◌else◌}
+use Rattle.std.specs.Prelude.{ℕ, ◌+◌, ◌++◌, Bool, false, List, [], ◌∷◌, Option, Some, None, option_map, map, unwrap_or, is_some, if◌then◌else◌}
 use Rattle.std.specs.List.{position_from, filter_map}
 use Rattle.vm_tree.specs.declared.command.Line.{Line}
 use Rattle.vm_tree.specs.declared.command.Command.{Command}
@@ -7,17 +7,14 @@ use Rattle.vm_tree.specs.declared.command.Command.TheVariants as command
 use Rattle.vm_tree.specs.declared.command.Segment.{Segment}
 use Rattle.vm_tree.specs.declared.command.Segment.TheVariants as segment
 use Rattle.vm_tree.specs.declared.program.File.{File}
-use Rattle.vm_link.specs.declared.fault.LinkFault.{LinkFault}
-use Rattle.vm_link.specs.declared.fault.LinkFault.TheVariants as fault
 use Rattle.vm_link.specs.declared.linked.Step.{Step}
 use Rattle.vm_link.specs.declared.linked.Step.TheVariants as step
 use Rattle.vm_link.specs.declared.linked.Code.{Code}
 use Rattle.vm_link.specs.declared.linked.LinkedFunction.{LinkedFunction}
 use Rattle.vm_link.specs.declared.linked.LinkedFile.{LinkedFile}
 use Rattle.vm_link.specs.declared.linked.Linked.{Linked}
-use Rattle.vm_link.specs.Sections.{Section, is_named, has_name, label, sections}
-use Rattle.vm_link.specs.Faults.{sys_init, file_words, words_before, text_fault, kept_fault}
-use Rattle.vm_link.specs.Reached.{AreKept}
+use Rattle.vm_link.specs.Sections.{Section, is_named, has_name, label}
+use Rattle.vm_link.specs.Faults.{sys_init, file_words, words_before}
 
 -- a label is no step
 abbrev pub steps : Command → ℕ
@@ -76,6 +73,7 @@ abbrev pub function_of : List Section → Section → LinkedFunction
 function_of kept s = record {
   name = unwrap_or s.name [];
   file = s.file;
+  number = s.number;
   code = entry_of s.name s.locals s.lines ++ filter_map (code_of kept s) s.lines;
 }
 

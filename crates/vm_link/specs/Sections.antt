@@ -1,5 +1,5 @@
 -- The sections of a program: its functions, and with `bare` the opening texts of its files.
-use Rattle.std.specs.Prelude.{ℕ, ◌+◌, ◌++◌, Bool, true, false, List, [], ◌∷◌, Option, Some, None, map, if◌then◌else◌}
+use Rattle.std.specs.Prelude.{ℕ, ◌+◌, ◌++◌, Bool, true, false, List, [], ◌∷◌, Option, Some, None, length}
 use Rattle.std.specs.List.{list_any, filter_map}
 use Rattle.std.specs.Str.{bytes_eq}
 use Rattle.vm_tree.specs.declared.command.Line.{Line}
@@ -8,31 +8,39 @@ use Rattle.vm_tree.specs.declared.command.Command.TheVariants as command
 use Rattle.vm_tree.specs.declared.program.Function.{Function}
 use Rattle.vm_tree.specs.declared.program.File.{File}
 
--- A function of a file, or, without a name, the opening text of a file. Files are counted from 0.
+-- A function of a file, or, without a name, the opening text of a file. Files are counted from 0, and all sections of a program,
+-- in order of file and text, from 1.
 pub record Section : Type 0 where
   pub file : ℕ
+  pub number : ℕ
   pub name : Option (List ℕ)
   pub locals : ℕ
   pub lines : List Line
 
-abbrev pub function_section : ℕ → Function → Section
-function_section k f = record { file = k; name = Some f.name; locals = f.locals; lines = f.lines }
+abbrev pub function_section : ℕ → ℕ → Function → Section
+function_section k n f = record { file = k; number = n; name = Some f.name; locals = f.locals; lines = f.lines }
 
-abbrev pub opening_section : ℕ → File → Section
-opening_section k f = record { file = k; name = None; locals = 0; lines = f.opening }
+abbrev pub opening_section : ℕ → ℕ → File → Section
+opening_section k n f = record { file = k; number = n; name = None; locals = 0; lines = f.opening }
 
--- those of a file, in order of text
-abbrev pub file_sections : Bool → ℕ → File → List Section
-file_sections bare k f = (if bare then opening_section k f ∷ [] else []) ++ map (function_section k) f.functions
+-- functions of a file, numbered from n
+abbrev pub functions_from : ℕ → ℕ → List Function → List Section
+functions_from k n [] = []
+functions_from k n (f ∷ fs) = function_section k n f ∷ functions_from k (n + 1) fs
+
+-- the sections of a file, in order of text, numbered from n
+abbrev pub file_sections : Bool → ℕ → ℕ → File → List Section
+file_sections true k n f = opening_section k n f ∷ functions_from k (n + 1) f.functions
+file_sections false k n f = functions_from k n f.functions
 
 -- those of files that are counted from k
-abbrev pub sections_from : Bool → ℕ → List File → List Section
-sections_from bare k [] = []
-sections_from bare k (f ∷ fs) = file_sections bare k f ++ sections_from bare (k + 1) fs
+abbrev pub sections_from : Bool → ℕ → ℕ → List File → List Section
+sections_from bare k n [] = []
+sections_from bare k n (f ∷ fs) = file_sections bare k n f ++ sections_from bare (k + 1) (n + length (file_sections bare k n f)) fs
 
 -- those of a program, in order of file and text
 abbrev pub sections : Bool → List File → List Section
-sections bare files = sections_from bare 0 files
+sections bare files = sections_from bare 0 1 files
 
 -- the function of this name
 abbrev pub has_name : List ℕ → Option (List ℕ) → Bool

@@ -32,6 +32,9 @@ pub struct LinkedFunction {
     pub name: Name,
     /// The number of its file, from 0.
     pub file: usize,
+    /// Its number among all functions of the program, also those that are not kept, in order of file and text from
+    /// 1. (With `bare` the opening texts are counted too.)
+    pub number: u32,
     pub code: List<Code>,
 }
 

@@ -146,6 +146,7 @@ pub fn function_of(
     Ok(LinkedFunction {
         name,
         file: part.file,
+        number: part.number,
         code: List::of(code),
     })
 }

@@ -1,6 +1,6 @@
 //! The sections of a program, and the names in them.
-ghost use Rattle.std.specs.Prelude.{◌≡◌, ◌++◌, OnOk, IfOk, option_map};
-ghost use Rattle.vm_link.specs.Sections.{file_sections, function_section, opening_section, sections, called, target, label, labels};
+ghost use Rattle.std.specs.Prelude.{◌≡◌, ◌+◌, ◌++◌, OnOk, IfOk, option_map, length};
+ghost use Rattle.vm_link.specs.Sections.{file_sections, functions_from, function_section, opening_section, sections, called, target, label, labels};
 ghost use Rattle.vm_link.specs.Faults.{names};
 ghost use Rattle.vm_link.specs.Maps.{seen, all_seen, texts};
 
@@ -11,31 +11,59 @@ use vm_tree::{Command, File, Function, Line};
 #[derive(Clone, Copy)]
 pub struct Part<'a> {
     pub file: usize,
+    pub number: u32,
     pub name: Option<&'a str>,
     pub locals: u16,
     pub lines: &'a [Line],
 }
 
-fn function_part(file: usize, function: &Function) -> Part<'_>
-    ensures { seen result ≡ function_section file function.now }
+// The number of the next section. More than fit in a number are more than fit in memory.
+fn next_number(parts: &[Part<'_>]) -> Result<u32, AllocError>
+    ensures { IfOk result (λ n. n ≡ length parts.now + 1) }
+{
+    if parts.len() < u32::MAX as usize {
+        Ok(parts.len() as u32 + 1)
+    } else {
+        Err(AllocError)
+    }
+}
+
+fn function_part(file: usize, number: u32, function: &Function) -> Part<'_>
+    ensures { seen result ≡ function_section file number function.now }
 {
     Part {
         file,
+        number,
         name: Some(function.name.as_str()),
         locals: function.locals,
         lines: function.lines.as_slice(),
     }
 }
 
-fn opening_part(file: usize, text: &File) -> Part<'_>
-    ensures { seen result ≡ opening_section file text.now }
+fn opening_part(file: usize, number: u32, text: &File) -> Part<'_>
+    ensures { seen result ≡ opening_section file number text.now }
 {
     Part {
         file,
+        number,
         name: None,
         locals: 0,
         lines: text.opening.as_slice(),
     }
+}
+
+fn add_functions<'a>(
+    parts: &mut Vec<Part<'a>>,
+    file: usize,
+    functions: &'a [Function],
+) -> Result<(), AllocError>
+    ensures { OnOk result (all_seen parts.new.items ≡ all_seen parts.old.items ++ functions_from file (length parts.old.items + 1) functions.now) }
+{
+    for function in functions {
+        let number = next_number(parts)?;
+        parts.push(function_part(file, number, function))?;
+    }
+    Ok(())
 }
 
 fn add_file<'a>(
@@ -44,15 +72,13 @@ fn add_file<'a>(
     text: &'a File,
     bare: bool,
 ) -> Result<(), AllocError>
-    ensures { OnOk result (all_seen parts.new.items ≡ all_seen parts.old.items ++ file_sections bare file text.now) }
+    ensures { OnOk result (all_seen parts.new.items ≡ all_seen parts.old.items ++ file_sections bare file (length parts.old.items + 1) text.now) }
 {
     if bare {
-        parts.push(opening_part(file, text))?;
+        let number = next_number(parts)?;
+        parts.push(opening_part(file, number, text))?;
     }
-    for function in text.functions.as_slice() {
-        parts.push(function_part(file, function))?;
-    }
-    Ok(())
+    add_functions(parts, file, text.functions.as_slice())
 }
 
 /// The sections of a program, in order of file and text.

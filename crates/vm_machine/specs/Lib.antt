@@ -1,0 +1,5 @@
+pub mod State
+pub mod Step
+pub mod Level
+pub mod Sound
+pub mod Laws

@@ -1,0 +1,11 @@
+//! The virtual machine of the book's chapters 7 and 8: its state, and what each command does.
+#![tactic(auto)]
+
+ghost use Rattle.vm_machine.specs.Laws.{KeyLaw, EndLaw};
+
+/// A step that does not hear the key is the same under every key, whether it hears does not hang on the key, and a
+/// machine that has come to its end stays there.
+pub fn vm_law()
+    ensures keys { KeyLaw }
+    ensures ends { EndLaw }
+{}
