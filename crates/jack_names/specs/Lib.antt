@@ -8,3 +8,5 @@ pub mod Scoped
 pub mod Sizes
 pub mod Meant
 pub mod Twice
+pub mod Symbols
+pub mod Whole

@@ -145,7 +145,7 @@ fn else_meant<'a>(
 
 /// Statements from the one whose number is given, and the number after all of them.
 #[cycle(bodies)]
-pub fn statements_meant<'a>(
+pub(crate) fn statements_meant<'a>(
     alloc: Global,
     scope: &Scope<'a, '_>,
     first: u32,

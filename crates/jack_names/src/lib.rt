@@ -7,12 +7,16 @@ mod fault;
 mod kinds;
 mod meant;
 mod scope;
+mod subroutine;
 mod table;
 mod twice;
 
-pub use bodies::statements_meant;
 pub use checks::check_subroutine;
 pub use fault::{File, NameError, NameFault, NameKind};
 pub use scope::{Callee, Declared, Names, Scope, Signature, Slot, Way};
+pub use subroutine::subroutine_meant;
 pub use table::Table;
 pub use twice::check_declarations;
+
+#[cfg(test)]
+mod tests;

@@ -54,6 +54,7 @@ pub struct Names<'a> {
 }
 
 /// What names stand for in a subroutine of a form, in the class of a number.
+#[derive(Clone, Copy)]
 pub struct Scope<'a, 'b> {
     pub names: &'b Names<'a>,
     pub locals: &'b Table<'a, Declared>,
