@@ -1,0 +1,80 @@
+-- The rows of arguments and statements in trees mean what their vectors hold.
+use Rattle.std.proofs.Common.{◌≡◌, ℕ, zero, suc, ◌+◌, ◌<◌, ◌≤◌, List, [], ◌∷◌, ◌++◌, length, take, get_or, Option, Some, None, refl, ap, ◌∙◌, arith, Vec, Global}
+use Rattle.jack_meaning.specs.Text as meaning
+use Rattle.scan_text.specs.declared.Place.{Place}
+use Rattle.jack_tree.specs.declared.tree.Term as terms
+use Rattle.jack_tree.specs.declared.tree.Expression.{Expression}
+use Rattle.jack_tree.specs.declared.tree.Statement as statements
+use Rattle.jack_names.specs.Scopes.{Scope}
+use Rattle.jack_names.specs.Sizes.{size, row_size, sizes, else_size}
+use Rattle.jack_names.specs.Meant.{term_meant, exp_meant, row_meant, arguments_meant, invoked, call_meant, statement_meant, block_meant, statements_meant, else_meant}
+use Rattle.jack_names.proofs.Rows.{row_of, first_row, second_row}
+
+row_means : (s : Scope) (n : _) (row : terms.Row_of-Expression n) → row_meant s row ≡ arguments_meant s (terms.items-the_row-Expression n row)
+row_means s n terms.end_of-Expression = refl
+row_means s n (terms.more_of-Expression e es) = ap (λ (x : meaning.Expressions). meaning.More (exp_meant s e) x) (row_means s _ es)
+
+pub call_means : (s : Scope) (b : _) → term_meant s (terms.Call b) ≡ call_meant s b.value
+call_means s b =
+    let row = row_of (terms.Call b) in
+    ap (λ (x : meaning.Expressions). invoked s b.value.object b.value.name x) (row_means s row.0 row.1 ∙ ap (arguments_meant s) (terms.items_hidden-the_row-Expression-0 b.value.arguments))
+
+block_means : (s : Scope) (k : ℕ) (n : _) (row : statements.Row_of-Statement n) → block_meant s k row ≡ meaning.text_of (statements_meant s k (statements.items-the_row-Statement n row))
+block_means s k n statements.end_of-Statement = refl
+block_means s k n (statements.more_of-Statement t ts) = ap (λ (x : meaning.Text). meaning.Next (statement_meant s k t) x) (block_means s (k + size t) _ ts)
+
+row_counts : (n : _) (row : statements.Row_of-Statement n) → row_size row ≡ sizes (statements.items-the_row-Statement n row)
+row_counts n statements.end_of-Statement = refl
+row_counts n (statements.more_of-Statement t ts) = ap (λ (x : ℕ). size t + x) (row_counts _ ts)
+
+abbrev block : Scope → ℕ → List statements.Statement → meaning.Text
+block s k ss = meaning.text_of (statements_meant s k ss)
+
+pub while_means : (s : Scope) (k : ℕ) (at : Place) (e : Expression) (a : Vec statements.Statement Global) → statement_meant s k (statements.While at e a) ≡ meaning.While k (exp_meant s e) (meaning.text_of (statements_meant s (k + 1) a.items))
+while_means s k at e a =
+    let row = first_row (statements.While at e a) in
+    ap (λ (x : meaning.Text). meaning.While k (exp_meant s e) x) (block_means s (k + 1) row.0 row.1 ∙ ap (block s (k + 1)) (statements.items_hidden-the_row-Statement-0 a))
+
+pub while_counts : (at : Place) (e : Expression) (a : Vec statements.Statement Global) → size (statements.While at e a) ≡ 1 + sizes a.items
+while_counts at e a =
+    let row = first_row (statements.While at e a) in
+    ap (λ (x : ℕ). 1 + x) (row_counts row.0 row.1 ∙ ap sizes (statements.items_hidden-the_row-Statement-0 a))
+
+pub if_counts : (at : Place) (e : Expression) (a : Vec statements.Statement Global) (b : Option (Vec statements.Statement Global)) → size (statements.If at e a b) ≡ 1 + sizes a.items + else_size b
+if_counts at e a None =
+    let row = first_row (statements.If at e a None) in
+    ap (λ (x : ℕ). 1 + x + 0) (row_counts row.0 row.1 ∙ ap sizes (statements.items_hidden-the_row-Statement-0 a))
+if_counts at e a (Some v) =
+    let row = first_row (statements.If at e a (Some v)) in
+    let other = second_row (statements.If at e a (Some v)) in
+    let p = row_counts row.0 row.1 ∙ ap sizes (statements.items_hidden-the_row-Statement-0 a) in
+    let q = row_counts other.0 other.1 ∙ ap sizes (statements.items_hidden-the_row-Statement-0 v) in
+    λ i. 1 + p i + q i
+
+pub if_means : (s : Scope) (k : ℕ) (at : Place) (e : Expression) (a : Vec statements.Statement Global) (b : Option (Vec statements.Statement Global)) → statement_meant s k (statements.If at e a b) ≡ meaning.If k (exp_meant s e) (meaning.text_of (statements_meant s (k + 1) a.items)) (else_meant s (k + 1 + sizes a.items) b)
+if_means s k at e a None =
+    let row = first_row (statements.If at e a None) in
+    ap (λ (x : meaning.Text). meaning.If k (exp_meant s e) x meaning.End) (block_means s (k + 1) row.0 row.1 ∙ ap (block s (k + 1)) (statements.items_hidden-the_row-Statement-0 a))
+if_means s k at e a (Some v) =
+    let row = first_row (statements.If at e a (Some v)) in
+    let other = second_row (statements.If at e a (Some v)) in
+    let p = block_means s (k + 1) row.0 row.1 ∙ ap (block s (k + 1)) (statements.items_hidden-the_row-Statement-0 a) in
+    let n = row_counts row.0 row.1 ∙ ap sizes (statements.items_hidden-the_row-Statement-0 a) in
+    let q = block_means s (k + 1 + row_size row.1) other.0 other.1 ∙ ap (block s (k + 1 + row_size row.1)) (statements.items_hidden-the_row-Statement-0 v) ∙ ap (λ (m : ℕ). block s (k + 1 + m) v.items) n in
+    λ i. meaning.If k (exp_meant s e) (p i) (q i)
+
+-- one statement more
+pub statements_meant-push : (s : Scope) (k : ℕ) (ss : List statements.Statement) (t : statements.Statement) → statements_meant s k (ss ++ t ∷ []) ≡ statements_meant s k ss ++ statement_meant s (k + sizes ss) t ∷ []
+statements_meant-push s k [] t = let e : k ≡ k + 0 = omega arith in ap (λ (n : ℕ). statement_meant s n t ∷ []) e
+statements_meant-push s k (r ∷ ss) t =
+    let e : k + size r + sizes ss ≡ k + (size r + sizes ss) = omega arith in
+    ap (λ (x : List meaning.Statement). statement_meant s k r ∷ x) (statements_meant-push s (k + size r) ss t ∙ ap (λ (n : ℕ). statements_meant s (k + size r) ss ++ statement_meant s n t ∷ []) e)
+
+pub sizes-push : (ss : List statements.Statement) (t : statements.Statement) → sizes (ss ++ t ∷ []) ≡ sizes ss + size t
+sizes-push [] t = omega arith
+sizes-push (r ∷ ss) t = ap (λ (n : ℕ). size r + n) (sizes-push ss t) ∙ omega arith
+
+pub sizes_from : (ss : List statements.Statement) (i : ℕ) (t : statements.Statement) → i < length ss → t ≡ get_or ss i t → sizes (take i ss) + size t ≤ sizes ss
+sizes_from [] i t h e = absurd (omega (arith, h))
+sizes_from (r ∷ ss) zero t h e = let k : size t ≡ size r = ap size e in omega (arith, k)
+sizes_from (r ∷ ss) (suc i) t h e = omega (arith, sizes_from ss i t (omega (arith, h)) e)

@@ -1,0 +1,22 @@
+use Rattle.std.proofs.Common.{◌≡◌, ◌+◌, ◌*◌, map, take}
+use Rattle.jack_core.specs.Texts.{the_statement}
+use Rattle.jack_names.specs.Sizes.{size, sizes, else_size}
+use Rattle.jack_names.specs.Meant.{statements_meant}
+use Rattle.jack_names.specs.Scoped.{the_scope}
+use Rattle.jack_names.proofs.bodies.+bodies.Given as goal
+
+abbrev pub invariant-statements_meant-loop-s : goal.invariant-statements_meant-loop-s
+invariant-statements_meant-loop-s l = record {
+  texts : map the_statement l.texts.items ≡ statements_meant (the_scope l.scope) l.first (take l.s-index l.ss);
+  number : l.number ≡ l.first + sizes (take l.s-index l.ss);
+}
+
+-- an `else`, its statements, and the first of them
+abbrev pub decreases-else_meant : goal.decreases-else_meant
+decreases-else_meant l = 3 * else_size l.fails.now + 2
+
+abbrev pub decreases-statements_meant : goal.decreases-statements_meant
+decreases-statements_meant l = 3 * sizes l.ss.now + 1
+
+abbrev pub decreases-statement_meant : goal.decreases-statement_meant
+decreases-statement_meant l = 3 * size l.s.now

@@ -1,0 +1,44 @@
+-- Faults of names, as they are told.
+use Rattle.std.specs.Prelude.{◌≡◌, ℕ, Bool, Result, Ok, Err, List, [], ◌∷◌, Option, Some, None}
+use Rattle.scan_text.specs.declared.Place.{Place}
+use Rattle.jack_names.specs.Tables.{first_of}
+use Rattle.jack_names.specs.declared.fault.NameKind.{NameKind}
+use Rattle.jack_names.specs.declared.fault.NameFault.{NameFault}
+use Rattle.jack_names.specs.declared.fault.NameError.{NameError}
+use Rattle.jack_names.specs.declared.fault.NameError.TheVariants as errors
+
+-- what is wrong, in which file, with which name, and where that stands
+pub record Told : Type 0 where
+  pub kind : NameKind
+  pub shipped : Bool
+  pub file : List ℕ
+  pub name : List ℕ
+  pub place : Place
+
+-- a file: whether it is one of the operating system, and its name
+pub record Source : Type 0 where
+  pub shipped : Bool
+  pub file : List ℕ
+
+abbrev pub told_in : Source → List ℕ → Place → NameKind → Told
+told_in source name place kind = record { kind = kind; shipped = source.shipped; file = source.file; name = name; place = place }
+
+-- what is told where something is wrong
+abbrev pub told_if : Source → List ℕ → Place → Option NameKind → Option Told
+told_if source name place None = None
+told_if source name place (Some kind) = Some (told_in source name place kind)
+
+-- the first fault of a list of things
+abbrev pub first_in : {A : Type 0} → (A → Option Told) → List A → Option Told
+first_in fault [] = None
+first_in fault (x ∷ xs) = first_of (fault x) (first_in fault xs)
+
+-- the fault of the code
+abbrev pub fault_told : NameFault → Told
+fault_told f = record { kind = f.kind; shipped = f.shipped; file = f.file; name = f.name.items; place = f.place }
+
+-- A check found this fault, or none, unless memory ran out.
+abbrev pub Checks : Option Told → Result (Unit {0}) NameError → Type 0
+Checks wanted (Ok u) = wanted ≡ None
+Checks wanted (Err errors.Memory) = Unit {0}
+Checks wanted (Err (errors.Fault f)) = wanted ≡ Some (fault_told f)

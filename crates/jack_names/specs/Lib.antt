@@ -1,0 +1,12 @@
+pub mod Tables
+pub mod Entered
+pub mod Faults
+pub mod Filed
+pub mod Uses
+pub mod Scopes
+pub mod Scoped
+pub mod Sizes
+pub mod Meant
+pub mod Twice
+pub mod Symbols
+pub mod Whole

@@ -1,0 +1,186 @@
+-- The program that trees mean (book, chapters 9 to 12): names become numbers, true is -1, false and null are 0, the operators * and / are calls
+-- of Math, a string is made by String.new and filled by appendChar, and a method call has its object as first argument. Each statement gets its
+-- number in the order of the text, and a body whose last statement is no `return` gets one. A constructor first takes the memory of its object.
+use Rattle.std.specs.Prelude.{ℕ, ◌+◌, ◌%◌, List, [], ◌∷◌, map, Option, Some, None, length, codes, Vec}
+use Rattle.std.specs.Global.{Global}
+use Rattle.jack_meaning.specs.Text as meaning
+use Rattle.jack_tree.specs.declared.tree.Name.{Name}
+use Rattle.jack_tree.specs.declared.tree.Operator.{Operator}
+use Rattle.jack_tree.specs.declared.tree.Operator.TheVariants as operator
+use Rattle.jack_tree.specs.declared.tree.Sign.{Sign}
+use Rattle.jack_tree.specs.declared.tree.Sign.TheVariants as sign
+use Rattle.jack_tree.specs.declared.tree.Constant.{Constant}
+use Rattle.jack_tree.specs.declared.tree.Constant.TheVariants as constant
+use Rattle.jack_tree.specs.declared.tree.Call.{Call}
+use Rattle.jack_tree.specs.declared.tree.Term as terms
+use Rattle.jack_tree.specs.declared.tree.Expression.{Expression, Single', Binary'}
+use Rattle.jack_tree.specs.declared.tree.Statement as statements
+use Rattle.jack_names.specs.Sizes.{size, row_size}
+use Rattle.jack_names.specs.Scopes.{Scope, callee}
+use Rattle.jack_names.specs.declared.scope.Slot.{Slot}
+use Rattle.jack_names.specs.declared.scope.Slot.TheVariants as slot
+use Rattle.jack_names.specs.declared.scope.Declared.{Declared}
+use Rattle.jack_names.specs.declared.scope.Signature.{Signature}
+use Rattle.jack_names.specs.declared.scope.Callee.{Callee}
+
+-- a variable, by where it is
+abbrev pub slot_meant : Slot → meaning.Expression
+slot_meant (slot.Argument k) = meaning.Name (meaning.Argument k)
+slot_meant (slot.Local k) = meaning.Name (meaning.Local k)
+slot_meant (slot.Field k) = meaning.Field k
+slot_meant (slot.Static k) = meaning.Name (meaning.Static k)
+
+-- Here and below, where nothing is declared, any number will do: there is a fault then.
+abbrev pub declared_meant : Option Declared → meaning.Expression
+declared_meant None = meaning.Literal 0
+declared_meant (Some v) = slot_meant v.slot
+
+abbrev pub variable_meant : Scope → Name → meaning.Expression
+variable_meant s x = declared_meant (s.variable x.text.items)
+
+-- the number of a subroutine
+abbrev pub number_by : Option Signature → ℕ
+number_by None = 0
+number_by (Some g) = g.number
+
+abbrev pub called_number : Scope → List ℕ → Option Callee → ℕ
+called_number s f None = 0
+called_number s f (Some c) = number_by (s.subroutine c.class f)
+
+-- the number of a subroutine that a call made by itself names
+abbrev pub made_by : Scope → List ℕ → Option ℕ → ℕ
+made_by s f None = 0
+made_by s f (Some k) = number_by (s.subroutine k f)
+
+abbrev pub made_number : Scope → List ℕ → List ℕ → ℕ
+made_number s c f = made_by s f (s.class c)
+
+-- A call's object comes first: a variable, or `this` where nothing stands before the name; a class is no object.
+abbrev pub with_variable : Option Declared → meaning.Expressions → meaning.Expressions
+with_variable None es = es
+with_variable (Some v) es = meaning.More (slot_meant v.slot) es
+
+abbrev pub with_object : Scope → Option Name → meaning.Expressions → meaning.Expressions
+with_object s None es = meaning.More meaning.This es
+with_object s (Some x) es = with_variable (s.variable x.text.items) es
+
+abbrev pub invoked : Scope → Option Name → Name → meaning.Expressions → meaning.Expression
+invoked s o f es = meaning.Call (called_number s f.text.items (callee s o)) (with_object s o es)
+
+-- one argument and two
+abbrev pub one : meaning.Expression → meaning.Expressions
+one e = meaning.More e meaning.NoMore
+
+abbrev pub two : meaning.Expression → meaning.Expression → meaning.Expressions
+two a b = meaning.More a (one b)
+
+-- a string is filled byte by byte
+abbrev pub filled : ℕ → meaning.Expression → List ℕ → meaning.Expression
+filled append e [] = e
+filled append e (b ∷ bs) = filled append (meaning.Call append (two e (meaning.Literal b))) bs
+
+-- the length of a string, as a word
+abbrev pub length_word : List ℕ → ℕ
+length_word text = length text % 65536
+
+abbrev pub string_meant : Scope → List ℕ → meaning.Expression
+string_meant s text =
+    filled (made_number s (codes "String") (codes "appendChar")) (meaning.Call (made_number s (codes "String") (codes "new")) (one (meaning.Literal (length_word text)))) text
+
+abbrev pub constant_meant : Scope → Constant → meaning.Expression
+constant_meant s (constant.Integer n) = meaning.Literal n
+constant_meant s (constant.Text t) = string_meant s t.text.items
+constant_meant s constant.True = meaning.Literal 65535
+constant_meant s constant.False = meaning.Literal 0
+constant_meant s constant.Null = meaning.Literal 0
+constant_meant s (constant.This at) = meaning.This
+
+abbrev pub sign_meant : Sign → meaning.Sign
+sign_meant sign.Minus = meaning.Minus
+sign_meant sign.Not = meaning.Complement
+
+abbrev pub binary_meant : Scope → Operator → meaning.Expression → meaning.Expression → meaning.Expression
+binary_meant s operator.Plus a b = meaning.Binary meaning.Plus a b
+binary_meant s operator.Minus a b = meaning.Binary meaning.Subtract a b
+binary_meant s operator.Times a b = meaning.Call (made_number s (codes "Math") (codes "multiply")) (two a b)
+binary_meant s operator.Divide a b = meaning.Call (made_number s (codes "Math") (codes "divide")) (two a b)
+binary_meant s operator.And a b = meaning.Binary meaning.And a b
+binary_meant s operator.Or a b = meaning.Binary meaning.Or a b
+binary_meant s operator.Less a b = meaning.Binary meaning.Less a b
+binary_meant s operator.Greater a b = meaning.Binary meaning.Greater a b
+binary_meant s operator.Equal a b = meaning.Binary meaning.Equal a b
+
+abbrev mutual
+  pub term_meant : Scope → terms.Term → meaning.Expression
+  term_meant s (terms.Constant c) = constant_meant s c
+  term_meant s (terms.Variable x) = variable_meant s x
+  term_meant s (terms.Element' x p e) = meaning.Load (variable_meant s x) (exp_meant s e)
+  term_meant s (terms.Call' p o f n es) = invoked s o f (row_meant s es)
+  term_meant s (terms.Group' p e) = exp_meant s e
+  term_meant s (terms.Unary' o p t) = meaning.Unary (sign_meant o) (term_meant s t)
+
+  pub exp_meant : Scope → Expression → meaning.Expression
+  exp_meant s (Single' p t) = term_meant s t
+  exp_meant s (Binary' p e o q t) = binary_meant s o (exp_meant s e) (term_meant s t)
+
+  -- arguments that stand in a call
+  pub row_meant : Scope → {n : _} → terms.Row_of-Expression n → meaning.Expressions
+  row_meant s terms.end_of-Expression = meaning.NoMore
+  row_meant s (terms.more_of-Expression e es) = meaning.More (exp_meant s e) (row_meant s es)
+
+-- arguments in order, before others
+abbrev pub listed : List meaning.Expression → meaning.Expressions → meaning.Expressions
+listed [] more = more
+listed (e ∷ es) more = meaning.More e (listed es more)
+
+abbrev pub arguments_meant : Scope → List Expression → meaning.Expressions
+arguments_meant s es = listed (map (exp_meant s) es) meaning.NoMore
+
+abbrev pub call_meant : Scope → Call → meaning.Expression
+call_meant s c = invoked s c.object c.name (arguments_meant s c.arguments.items)
+
+abbrev pub assigned : Slot → ℕ → meaning.Expression → meaning.Statement
+assigned (slot.Argument k) n e = meaning.Let n (meaning.Argument k) e
+assigned (slot.Local k) n e = meaning.Let n (meaning.Local k) e
+assigned (slot.Field k) n e = meaning.LetField n k e
+assigned (slot.Static k) n e = meaning.Let n (meaning.Static k) e
+
+abbrev pub let_by : Option Declared → ℕ → meaning.Expression → meaning.Statement
+let_by None n e = meaning.Let n (meaning.Local 0) e
+let_by (Some v) n e = assigned v.slot n e
+
+abbrev pub let_meant : Scope → ℕ → Name → Option Expression → Expression → meaning.Statement
+let_meant s n x None e = let_by (s.variable x.text.items) n (exp_meant s e)
+let_meant s n x (Some i) e = meaning.Store n (variable_meant s x) (exp_meant s i) (exp_meant s e)
+
+-- `return;` is `return 0;`
+abbrev pub value_meant : Scope → Option Expression → meaning.Expression
+value_meant s None = meaning.Literal 0
+value_meant s (Some e) = exp_meant s e
+
+-- a statement whose number is n; those in it follow
+abbrev mutual
+  pub statement_meant : Scope → ℕ → statements.Statement → meaning.Statement
+  statement_meant s n (statements.Let at x i e) = let_meant s n x i e
+  statement_meant s n (statements.If' at e m a b) = meaning.If n (exp_meant s e) (block_meant s (n + 1) a) (other_meant s (n + 1 + row_size a) b)
+  statement_meant s n (statements.While' at e m a) = meaning.While n (exp_meant s e) (block_meant s (n + 1) a)
+  statement_meant s n (statements.Do at c) = meaning.Do n (call_meant s c)
+  statement_meant s n (statements.Return at v) = meaning.Return n (value_meant s v)
+
+  -- statements that stand in a statement, the first of which has this number
+  pub block_meant : Scope → ℕ → {m : _} → statements.Row_of-Statement m → meaning.Text
+  block_meant s n statements.end_of-Statement = meaning.End
+  block_meant s n (statements.more_of-Statement t ts) = meaning.Next (statement_meant s n t) (block_meant s (n + size t) ts)
+
+  pub other_meant : Scope → ℕ → statements.Held-Statement-If-3 → meaning.Text
+  other_meant s n statements.None' = meaning.End
+  other_meant s n (statements.Some' m a) = block_meant s n a
+
+-- statements in order
+abbrev pub statements_meant : Scope → ℕ → List statements.Statement → List meaning.Statement
+statements_meant s n [] = []
+statements_meant s n (t ∷ ts) = statement_meant s n t ∷ statements_meant s (n + size t) ts
+
+abbrev pub else_meant : Scope → ℕ → Option (Vec statements.Statement Global) → meaning.Text
+else_meant s n None = meaning.End
+else_meant s n (Some v) = meaning.text_of (statements_meant s n v.items)

@@ -1,0 +1,94 @@
+//! What names stand for in a subroutine.
+
+ghost use Rattle.std.specs.Prelude.{◌≡◌};
+ghost use Rattle.jack_names.specs.Scoped.{the_scope, found_in};
+
+use crate::fault::File;
+use crate::table::Table;
+use jack_tree::Form;
+
+/// Where a variable is: its number among those of its kind. The statics are numbered through all classes.
+#[derive(Clone, Copy, Debug, PartialEq, Eq)]
+pub enum Slot {
+    Argument(u32),
+    Local(u32),
+    Field(u16),
+    Static(u32),
+}
+
+/// A variable: where it is, and the number of the class that is its type, where that is a class.
+#[derive(Clone, Copy, Debug)]
+pub struct Declared {
+    pub slot: Slot,
+    pub class: Option<u32>,
+}
+
+/// A subroutine: its number among all, its form and how many parameters it has.
+#[derive(Clone, Copy, Debug)]
+pub struct Signature {
+    pub number: u32,
+    pub form: Form,
+    pub parameters: usize,
+}
+
+/// How a call is made: through a class, through a variable, or through neither.
+#[derive(Clone, Copy, Debug, PartialEq, Eq)]
+pub enum Way {
+    ByClass,
+    ByObject,
+    Own,
+}
+
+/// How a call is made, and the number of the class that it goes to.
+#[derive(Clone, Copy, Debug)]
+pub struct Callee {
+    pub way: Way,
+    pub class: u32,
+}
+
+/// The numbers of all classes, and the subroutines of each.
+#[derive(Drop)]
+pub struct Names<'a> {
+    pub classes: Table<'a, u32>,
+    pub subroutines: Vec<Table<'a, Signature>>,
+}
+
+/// What names stand for in a subroutine of a form, in the class of a number.
+#[derive(Clone, Copy)]
+pub struct Scope<'a, 'b> {
+    pub names: &'b Names<'a>,
+    pub locals: &'b Table<'a, Declared>,
+    pub members: &'b Table<'a, Declared>,
+    pub form: Form,
+    pub own: u32,
+    pub file: File<'b>,
+}
+
+impl<'a, 'b> Scope<'a, 'b> {
+    /// A parameter or local, or else a field or static.
+    pub fn variable(&self, name: &'a [u8]) -> Option<Declared>
+        ensures { result ≡ (the_scope self.now).variable name.now }
+    {
+        match self.locals.find(name) {
+            Some(v) => Some(v),
+            None => self.members.find(name),
+        }
+    }
+
+    /// The number of a class.
+    pub fn class(&self, name: &'a [u8]) -> Option<u32>
+        ensures { result ≡ (the_scope self.now).class name.now }
+    {
+        self.names.classes.find(name)
+    }
+
+    /// A subroutine of the class of a number.
+    pub fn subroutine(&self, class: u32, name: &'a [u8]) -> Option<Signature>
+        ensures { result ≡ (the_scope self.now).subroutine class name.now }
+    {
+        match self.names.subroutines.get(class as usize) {
+            None => None,
+            Some(table) => table.find(name),
+        }
+    }
+}
