@@ -10,7 +10,10 @@ ghost use Rattle.tower.specs.Meant.{constant_value, sign_meant, operator_meant, 
 
 use crate::names::position;
 use crate::tree::{Constant, Expression, Name, Operator, Sign, Statement, Term};
-use jack_core::{Arguments, Class as CoreClass, Core, Expression as CoreExpression, Kind, Operator as CoreOperator, Sign as CoreSign, Statement as CoreStatement, Subroutine, Variable};
+use jack_core::{
+    Arguments, Class as CoreClass, Core, Expression as CoreExpression, Kind,
+    Operator as CoreOperator, Sign as CoreSign, Statement as CoreStatement, Subroutine, Variable,
+};
 use std::alloc::{AllocError, Global};
 
 fn constant_value(constant: Constant) -> u16

@@ -12,7 +12,7 @@ use crate::names::{NameError, NameFault, all_locals, check_names};
 use crate::reading::parse;
 use crate::tree::Class;
 use grammar::{Fault, ReadError};
-use jack_core::{Core};
+use jack_core::Core;
 use jack_machine::Jack;
 use std::alloc::{AllocError, Global};
 
