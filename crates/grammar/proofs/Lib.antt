@@ -11,4 +11,3 @@ pub mod Exits
 pub mod LeavesRead
 pub mod Reread
 pub mod Past
-pub mod Alike

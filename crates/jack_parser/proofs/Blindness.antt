@@ -7,7 +7,7 @@ use Rattle.grammar.specs.declared.Fault.{Fault}
 use Rattle.grammar.specs.declared.Fault.TheVariants.{Range}
 use Rattle.grammar.specs.Rules.{Rule, mark, word, seq, choice, option, repeat, name, within, end, Tree, Rules, enters, here, Reads, marked, worded, at_end, both, left, right, passed, taken, ended, again, named, inside}
 use Rattle.grammar.specs.Leaves.{leaves, seen_by}
-use Rattle.grammar.proofs.Alike as alike
+use Rattle.jack_parser.proofs.Alike as alike
 use Rattle.jack_tree.specs.declared.token.Keyword.{Keyword}
 use Rattle.jack_tree.specs.declared.token.Keyword.TheVariants as keyword
 use Rattle.jack_tree.specs.declared.token.Kind.{Kind}

@@ -6,4 +6,5 @@ pub mod Blocks
 pub mod Parameters
 pub mod TokensTold
 pub mod Spaced
+pub mod Alike
 pub mod Blindness
