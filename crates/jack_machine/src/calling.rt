@@ -10,8 +10,8 @@ ghost use Rattle.jack_machine.specs.Machine.{entered_frame, IsEntered, IsReturne
 use crate::copying::copy_statements;
 use crate::frames::Frame;
 use crate::looking::{Variables, word_in};
-use jack_core::{Kind, Statement, Subroutine};
 use crate::texts::{fill_first, open_first};
+use jack_core::{Kind, Statement, Subroutine};
 use std::alloc::{AllocError, Global};
 use std::mem;
 

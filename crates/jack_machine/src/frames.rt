@@ -11,8 +11,8 @@ ghost use Rattle.jack_machine.specs.Frames.{Assigns, StoresAt, Applies, ActsFirs
 use crate::effects::{Effect, first_effect};
 use crate::looking::{Memory, Variables};
 use crate::parts::Advance;
-use jack_core::{Statement, Variable};
 use crate::texts::{choose, drop_first, step_first};
+use jack_core::{Statement, Variable};
 use std::alloc::AllocError;
 
 /// A call that was made and has not returned: its variables, and the rest of its text, whose first statement stands

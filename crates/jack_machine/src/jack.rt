@@ -13,8 +13,8 @@ ghost use Rattle.jack_machine.specs.Whole.{IsSettled, IsCalled, IsSame, IsAlike,
 use crate::calling::{call, enter, leave};
 use crate::frames::{Act, Frame, step_top};
 use crate::looking::{Memory, Variables, word_in};
-use jack_core::{Arguments, Class, Core, Expression, Statement};
 use crate::texts::{first_arguments, unfold_first};
+use jack_core::{Arguments, Class, Core, Expression, Statement};
 use machine_io::{Level, Moved, Stray};
 use outer_world::Point;
 use std::alloc::{AllocError, Global};

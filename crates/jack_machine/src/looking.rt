@@ -5,8 +5,8 @@ ghost use Rattle.jack_meaning.specs.Expressions.{variable_of, View};
 ghost use Rattle.jack_core.specs.Reading.{the_variable, the_expression, the_arguments};
 ghost use Rattle.jack_machine.specs.Looks.{the_view, Sees, SeesFirst, Loads};
 
-use jack_core::{Arguments, Expression, Variable};
 use crate::words::{operate, sign};
+use jack_core::{Arguments, Expression, Variable};
 
 /// A frame's arguments and locals, and its `this`.
 #[derive(Drop)]

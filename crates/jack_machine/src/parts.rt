@@ -9,8 +9,8 @@ ghost use Rattle.jack_machine.specs.Looks.{the_view};
 ghost use Rattle.jack_machine.specs.Advances.{Advances, StatementAdvances, opened_statement};
 
 use crate::looking::{Memory, Sight, Variables, look_at};
-use jack_core::{Expression, Statement};
 use crate::replacing::{fill, is_value, replace};
+use jack_core::{Expression, Statement};
 
 /// What a step did to an expression: it was a value already, a part has become a value, or the key; or what is left
 /// to be done: a call, or nothing because of an address outside the memory.

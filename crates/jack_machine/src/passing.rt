@@ -7,8 +7,8 @@ ghost use Rattle.jack_core.specs.Texts.{the_statement};
 ghost use Rattle.jack_machine.specs.Looks.{passed, passed_first};
 ghost use Rattle.jack_machine.specs.Advances.{passed_statement};
 
-use jack_core::{Arguments, Expression, Statement};
 use crate::replacing::{are_values, is_value};
+use jack_core::{Arguments, Expression, Statement};
 use std::alloc::{AllocError, Global};
 
 /// The value that an expression is.
