@@ -7,3 +7,4 @@ pub mod Carries
 pub mod Segments
 pub mod Steps
 pub mod Keys
+pub mod Ways
