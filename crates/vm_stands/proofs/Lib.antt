@@ -8,3 +8,4 @@ pub mod Segments
 pub mod Steps
 pub mod Keys
 pub mod Ways
+pub mod OtherWays
