@@ -9,3 +9,4 @@ pub mod Steps
 pub mod Keys
 pub mod Ways
 pub mod OtherWays
+pub mod Opening
