@@ -7,3 +7,6 @@ pub mod Carries
 pub mod Segments
 pub mod Steps
 pub mod Keys
+pub mod Ways
+pub mod OtherWays
+pub mod Opening

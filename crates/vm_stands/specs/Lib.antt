@@ -1,3 +1,4 @@
 pub mod Stands
 pub mod Carries
 pub mod Laws
+pub mod Related
