@@ -5,5 +5,7 @@ pub mod StatementRules
 pub mod Blocks
 pub mod Parameters
 pub mod TokensTold
+pub mod Shown
+pub mod Parts
 pub mod Spaced
 pub mod Blindness
