@@ -5,6 +5,8 @@ pub mod StatementRules
 pub mod Blocks
 pub mod Parameters
 pub mod TokensTold
+pub mod Shown
+pub mod Parts
 pub mod Spaced
 pub mod Alike
 pub mod Blindness

@@ -5,3 +5,4 @@ pub mod StatementTrees
 pub mod ClassTrees
 pub mod Whole
 pub mod Printed
+pub mod Written

@@ -1,15 +1,17 @@
-//! The reader of Jack classes (book, chapter 10).
+//! The reader and the printer of Jack classes (book, chapter 10).
 #![tactic(auto)]
 
 mod classes;
 mod declared;
 mod expressions;
 mod laws;
+mod printing;
 mod reading;
 mod statements;
 mod words;
 
 pub use laws::{lawful, printed_law, tokens_law};
+pub use printing::print;
 pub use reading::parse_class;
 
 #[cfg(test)]

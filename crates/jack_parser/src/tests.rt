@@ -1,7 +1,7 @@
 use super::*;
 use grammar::{Fault, ReadError};
 use jack_tree::{Constant, Expression, Form, Operator, Statement, Term};
-use outer_world::Name;
+use outer_world::{MemorySink, Name, Put};
 use scan_text::Place;
 use std::alloc::Global;
 use std::test::*;
@@ -97,5 +97,122 @@ fn nesting(rt: HostRuntime) -> Result<(), Fail> {
     assert!(rt; text.len() > 300);
     text.remove(36 + 255 + 1);
     assert!(rt; is_class(rt.alloc(), &text));
+    Ok(())
+}
+
+// The fourth line has the integer.
+#[test]
+fn integers(rt: HostRuntime) {
+    let alloc = rt.alloc();
+    assert!(rt;
+        fault(
+            alloc,
+            b"class Main {\nfunction void main() {\nvar int x;\n  let x = 32768;\nreturn; } }"
+        ) == Some(Fault::Range(at(4, 11), 32768))
+    );
+    assert!(rt;
+        is_class(
+            alloc,
+            b"class Main {\nfunction void main() {\nvar int x;\n  let x = 32767;\nreturn; } }"
+        )
+    );
+}
+
+// A string of 16,384 bytes is the longest; the place is that of its opening quote.
+#[test]
+fn strings(rt: HostRuntime) -> Result<(), Fail> {
+    let mut text = Vec::from_slice(rt.alloc(), b"class C { function void f() { do g(\"")?;
+    for _ in 0..16384 {
+        text.push(b'a')?;
+    }
+    let mut longer = text.clone()?;
+    longer.push(b'a')?;
+    text.extend_from_slice(b"\"); } }")?;
+    longer.extend_from_slice(b"\"); } }")?;
+    assert!(rt; is_class(rt.alloc(), &text));
+    assert!(rt; fault(rt.alloc(), &longer) == Some(Fault::Range(at(1, 36), 16385)));
+    Ok(())
+}
+
+// A front of a class has its fault at its last token or at its end.
+#[test]
+fn fronts(rt: HostRuntime) -> Result<(), Fail> {
+    let text = b"class C { field int x; method int get() { return x*(x+1); } }";
+    for n in 0..text.len() {
+        let front = &text[..n];
+        let Some(Fault::Grammar(place)) = fault(rt.alloc(), front) else {
+            return Err(Fail::from("a front of a class is no class"));
+        };
+        assert_eq!(rt; place.line, 1);
+        assert!(rt; place.column as usize <= n + 1);
+        for byte in front.iter().skip((place.column as usize).saturating_sub(1)) {
+            assert!(rt; *byte != b' ');
+        }
+    }
+    Ok(())
+}
+
+// The class that the text spells, printed.
+fn shown(alloc: Global, text: &[u8]) -> Result<MemorySink, Fail> {
+    let file = Name::new(alloc, "C")?;
+    let class = parse_class(alloc, &file, text)
+        .ok()
+        .ok_or("the text is a class")?;
+    let mut sink = MemorySink::new(alloc, 10000, Vec::new(alloc))?;
+    match print(&class, &mut sink) {
+        Put::Done => Ok(sink),
+        Put::Failed => Err(Fail::from("the sink has room")),
+    }
+}
+
+#[test]
+fn printed(rt: HostRuntime) -> Result<(), Fail> {
+    let alloc = rt.alloc();
+    let class = shown(
+        alloc,
+        b"class C { field int x; method int get() { return x*(x+1); } }",
+    )?;
+    assert!(rt;
+        class.bytes()
+            == b"class C {\nfield int x ;\nmethod int get ( ) {\nreturn x * ( x + 1 ) ;\n}\n}\n".as_slice()
+    );
+    let class = shown(alloc, b"class Main { function void main() { } }")?;
+    assert!(rt; class.bytes() == b"class Main {\nfunction void main ( ) {\n}\n}\n".as_slice());
+    let class = shown(
+        alloc,
+        b"class A{function void f(){if(~a[1]){do b.g(1,\"s t\");}else{let a[0]=-2;}}}",
+    )?;
+    assert!(rt;
+        class.bytes()
+            == b"class A {\nfunction void f ( ) {\nif ( ~ a [ 1 ] ) {\ndo b . g ( 1 , \"s t\" ) ;\n}\nelse {\nlet a [ 0 ] = - 2 ;\n}\n}\n}\n".as_slice()
+    );
+    Ok(())
+}
+
+// What is printed is read again, and printed as before.
+#[test]
+fn printed_again(rt: HostRuntime) -> Result<(), Fail> {
+    let text =
+        b"class Main { static Array a, b; constructor Main new(int x, char y) { var int i; var boolean p, q; let a[i] = -b[~1] + 007; if (x) { } else { while (true) { do f(); do Main.g(1, \"s\", this); } } return (i); } }";
+    let once = shown(rt.alloc(), text)?;
+    let again = shown(rt.alloc(), once.bytes())?;
+    assert!(rt; once.bytes().len() > text.len());
+    assert!(rt; once.bytes() == again.bytes());
+    Ok(())
+}
+
+// The first call of the sink fails after three bytes.
+#[test]
+fn print_fails(rt: HostRuntime) -> Result<(), Fail> {
+    let alloc = rt.alloc();
+    let file = Name::new(alloc, "C")?;
+    let class = parse_class(alloc, &file, b"class C { }")
+        .ok()
+        .ok_or("the text is a class")?;
+    let mut fails = Vec::new(alloc);
+    fails.push((1, 3))?;
+    let mut sink = MemorySink::new(alloc, 10000, fails)?;
+    assert_eq!(rt; print(&class, &mut sink), Put::Failed);
+    assert!(rt; sink.bytes() == b"cla".as_slice());
     Ok(())
 }

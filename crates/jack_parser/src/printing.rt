@@ -1,0 +1,532 @@
+//! The printed form of classes.
+
+ghost use Rattle.std.specs.Prelude.{◌≡◌, ◌++◌, ◌∷◌, ◌||◌, [], codes, take};
+ghost use Rattle.std.specs.Str.{bytes_eq};
+ghost use Rattle.grammar.specs.Rules.{name, NoMore, option, repeat, listed};
+ghost use Rattle.outer_world.specs.Written.{CountsPut, Puts};
+ghost use Rattle.jack_tree.specs.Tokens.{keyword_text};
+ghost use Rattle.jack_parser.specs.Jack.{arguments, class_rule, class_variables, expression, group, invoked, locals_rule, names_rule, next_name, next_parameter, parameter, parameters, statement, subroutine, subscript, term};
+ghost use Rattle.jack_parser.specs.Trees.{args_tree, constant_leaf_said, exp_tree, front_said, group_tree, invoked_tree, operator_byte, sign_byte, term_tree};
+ghost use Rattle.jack_parser.specs.StatementTrees.{index_tree, statement_tree, statements_tree, value_tree};
+ghost use Rattle.jack_parser.specs.ClassTrees.{class_tree, form_said, locals_tree, names_tree, next_name_tree, next_parameter_tree, parameter_tree, parameters_tree, result_said, scope_said, subroutine_tree, type_leaf_said, variables_tree};
+ghost use Rattle.jack_parser.specs.Printed.{class_text, said_text, set_off};
+ghost use Rattle.jack_parser.specs.Written.{Shows, Writes};
+
+use itoa::Buffer;
+use jack_tree::{
+    Call, Class, ClassVariables, Constant, Expression, Form, Keyword, Locals, Name, Names,
+    Operator, Parameter, Scope, Sign, Statement, Subroutine, Term, Type,
+};
+use outer_world::{Pieces, Put, Sink};
+
+// A line feed stands behind the token.
+fn ends_line(token: &[u8]) -> bool
+    ensures { result ≡ (bytes_eq token.now (codes "{") || (bytes_eq token.now (codes "}") || bytes_eq token.now (codes ";"))) }
+{
+    if token == b"{".as_slice() {
+        return true;
+    }
+    if token == b"}".as_slice() {
+        return true;
+    }
+    token == b";".as_slice()
+}
+
+fn put_token<S: Sink>(token: &[u8], status: Put, out: &mut Pieces<'_, S>) -> Put
+    ensures same_sink { out.new.sink.ghost_name ≡ out.old.sink.ghost_name }
+    ensures writes { Writes (set_off token.now) status (S.written out.old.sink.now) (take out.old.len out.old.buffer) (S.faults out.old.sink.now) result (S.written out.new.sink.now) (take out.new.len out.new.buffer) (S.faults out.new.sink.now) }
+{
+    if status == Put::Failed {
+        return Put::Failed;
+    }
+    if ends_line(token) {
+        return out.put_all(&[token, b"\n"]);
+    }
+    out.put_all(&[token, b" "])
+}
+
+// A string in its quotes.
+fn put_string<S: Sink>(text: &[u8], status: Put, out: &mut Pieces<'_, S>) -> Put
+    ensures same_sink { out.new.sink.ghost_name ≡ out.old.sink.ghost_name }
+    ensures writes { Writes (set_off (34 ∷ (text.now ++ 34 ∷ []))) status (S.written out.old.sink.now) (take out.old.len out.old.buffer) (S.faults out.old.sink.now) result (S.written out.new.sink.now) (take out.new.len out.new.buffer) (S.faults out.new.sink.now) }
+{
+    if status == Put::Failed {
+        return Put::Failed;
+    }
+    out.put_all(&[b"\"", text, b"\" "])
+}
+
+fn put_symbol<S: Sink>(byte: u8, status: Put, out: &mut Pieces<'_, S>) -> Put
+    ensures same_sink { out.new.sink.ghost_name ≡ out.old.sink.ghost_name }
+    ensures writes { Writes (set_off (byte ∷ [])) status (S.written out.old.sink.now) (take out.old.len out.old.buffer) (S.faults out.old.sink.now) result (S.written out.new.sink.now) (take out.new.len out.new.buffer) (S.faults out.new.sink.now) }
+{
+    put_token(&[byte], status, out)
+}
+
+fn put_keyword<S: Sink>(keyword: Keyword, status: Put, out: &mut Pieces<'_, S>) -> Put
+    ensures same_sink { out.new.sink.ghost_name ≡ out.old.sink.ghost_name }
+    ensures writes { Writes (set_off (keyword_text keyword)) status (S.written out.old.sink.now) (take out.old.len out.old.buffer) (S.faults out.old.sink.now) result (S.written out.new.sink.now) (take out.new.len out.new.buffer) (S.faults out.new.sink.now) }
+{
+    put_token(keyword.text().as_bytes(), status, out)
+}
+
+fn put_name<S: Sink>(name: &Name, status: Put, out: &mut Pieces<'_, S>) -> Put
+    ensures same_sink { out.new.sink.ghost_name ≡ out.old.sink.ghost_name }
+    ensures writes { Writes (set_off name.now.text.items) status (S.written out.old.sink.now) (take out.old.len out.old.buffer) (S.faults out.old.sink.now) result (S.written out.new.sink.now) (take out.new.len out.new.buffer) (S.faults out.new.sink.now) }
+{
+    put_token(&name.text, status, out)
+}
+
+fn put_constant<S: Sink>(constant: &Constant, status: Put, out: &mut Pieces<'_, S>) -> Put
+    ensures same_sink { out.new.sink.ghost_name ≡ out.old.sink.ghost_name }
+    ensures writes { Writes (set_off (said_text (constant_leaf_said constant.now))) status (S.written out.old.sink.now) (take out.old.len out.old.buffer) (S.faults out.old.sink.now) result (S.written out.new.sink.now) (take out.new.len out.new.buffer) (S.faults out.new.sink.now) }
+{
+    match constant {
+        Constant::Integer(number) => {
+            let mut digits = Buffer::new();
+            put_token(digits.format(*number).as_bytes(), status, out)
+        }
+        Constant::Text(text) => put_string(&text.text, status, out),
+        Constant::True => put_keyword(Keyword::True, status, out),
+        Constant::False => put_keyword(Keyword::False, status, out),
+        Constant::Null => put_keyword(Keyword::Null, status, out),
+        Constant::This(_) => put_keyword(Keyword::This, status, out),
+    }
+}
+
+fn operator_byte(operator: Operator) -> u8
+    ensures { result ≡ operator_byte operator }
+{
+    match operator {
+        Operator::Plus => b'+',
+        Operator::Minus => b'-',
+        Operator::Times => b'*',
+        Operator::Divide => b'/',
+        Operator::And => b'&',
+        Operator::Or => b'|',
+        Operator::Less => b'<',
+        Operator::Greater => b'>',
+        Operator::Equal => b'=',
+    }
+}
+
+fn sign_byte(sign: Sign) -> u8
+    ensures { result ≡ sign_byte sign }
+{
+    match sign {
+        Sign::Minus => b'-',
+        Sign::Not => b'~',
+    }
+}
+
+#[cycle(printing)]
+fn put_expression<S: Sink>(value: &Expression, status: Put, out: &mut Pieces<'_, S>) -> Put
+    ensures same_sink { out.new.sink.ghost_name ≡ out.old.sink.ghost_name }
+    ensures shows { Shows (exp_tree value.now) (name expression) status (S.written out.old.sink.now) (take out.old.len out.old.buffer) (S.faults out.old.sink.now) result (S.written out.new.sink.now) (take out.new.len out.new.buffer) (S.faults out.new.sink.now) }
+{
+    match value {
+        Expression::Single(only) => put_term(only, status, out),
+        Expression::Binary(left, operator, right) => {
+            let before = put_expression(left, status, out);
+            let between = put_symbol(operator_byte(*operator), before, out);
+            put_term(right, between, out)
+        }
+    }
+}
+
+#[cycle(printing)]
+fn put_term<S: Sink>(one: &Term, status: Put, out: &mut Pieces<'_, S>) -> Put
+    ensures same_sink { out.new.sink.ghost_name ≡ out.old.sink.ghost_name }
+    ensures shows { Shows (term_tree one.now) (name term) status (S.written out.old.sink.now) (take out.old.len out.old.buffer) (S.faults out.old.sink.now) result (S.written out.new.sink.now) (take out.new.len out.new.buffer) (S.faults out.new.sink.now) }
+{
+    match one {
+        Term::Constant(constant) => put_constant(constant, status, out),
+        Term::Variable(name) => put_name(name, status, out),
+        Term::Element(array, index) => {
+            let named = put_name(array, status, out);
+            let opened = put_symbol(b'[', named, out);
+            let indexed = put_expression(index, opened, out);
+            put_symbol(b']', indexed, out)
+        }
+        Term::Call(call) => {
+            let begun = put_front(call, status, out);
+            put_invoked(call, begun, out)
+        }
+        Term::Group(inside) => {
+            let before = put_symbol(b'(', status, out);
+            let grouped = put_expression(inside, before, out);
+            put_symbol(b')', grouped, out)
+        }
+        Term::Unary(sign, signed) => {
+            let marked = put_symbol(sign_byte(*sign), status, out);
+            put_term(signed, marked, out)
+        }
+    }
+}
+
+// The name at the front of a call.
+fn put_front<S: Sink>(call: &Call, status: Put, out: &mut Pieces<'_, S>) -> Put
+    ensures same_sink { out.new.sink.ghost_name ≡ out.old.sink.ghost_name }
+    ensures writes { Writes (set_off (said_text (front_said call.now.object call.now.name))) status (S.written out.old.sink.now) (take out.old.len out.old.buffer) (S.faults out.old.sink.now) result (S.written out.new.sink.now) (take out.new.len out.new.buffer) (S.faults out.new.sink.now) }
+{
+    match &call.object {
+        None => put_name(&call.name, status, out),
+        Some(object) => put_name(object, status, out),
+    }
+}
+
+// What follows that name.
+#[cycle(printing)]
+fn put_invoked<S: Sink>(call: &Call, status: Put, out: &mut Pieces<'_, S>) -> Put
+    ensures same_sink { out.new.sink.ghost_name ≡ out.old.sink.ghost_name }
+    ensures shows { Shows (invoked_tree call.now) invoked status (S.written out.old.sink.now) (take out.old.len out.old.buffer) (S.faults out.old.sink.now) result (S.written out.new.sink.now) (take out.new.len out.new.buffer) (S.faults out.new.sink.now) }
+{
+    match &call.object {
+        None => {
+            let opened = put_symbol(b'(', status, out);
+            let given = put_arguments(&call.arguments, opened, out);
+            put_symbol(b')', given, out)
+        }
+        Some(_) => {
+            let through = put_symbol(b'.', status, out);
+            let named = put_name(&call.name, through, out);
+            let begun = put_symbol(b'(', named, out);
+            let passed = put_arguments(&call.arguments, begun, out);
+            put_symbol(b')', passed, out)
+        }
+    }
+}
+
+#[cycle(printing)]
+fn put_arguments<S: Sink>(values: &[Expression], status: Put, out: &mut Pieces<'_, S>) -> Put
+    ensures same_sink { out.new.sink.ghost_name ≡ out.old.sink.ghost_name }
+    ensures shows { Shows (args_tree values.now) arguments status (S.written out.old.sink.now) (take out.old.len out.old.buffer) (S.faults out.old.sink.now) result (S.written out.new.sink.now) (take out.new.len out.new.buffer) (S.faults out.new.sink.now) }
+{
+    let Some((first, rest)) = values.split_first() else {
+        return status;
+    };
+    let mut status = put_expression(first, status, out);
+    for value in rest {
+        let separated = put_symbol(b',', status, out);
+        status = put_expression(value, separated, out);
+    }
+    status
+}
+
+// '(' expression ')'
+fn put_group<S: Sink>(value: &Expression, status: Put, out: &mut Pieces<'_, S>) -> Put
+    ensures same_sink { out.new.sink.ghost_name ≡ out.old.sink.ghost_name }
+    ensures shows { Shows (group_tree value.now) group status (S.written out.old.sink.now) (take out.old.len out.old.buffer) (S.faults out.old.sink.now) result (S.written out.new.sink.now) (take out.new.len out.new.buffer) (S.faults out.new.sink.now) }
+{
+    let opened = put_symbol(b'(', status, out);
+    let inside = put_expression(value, opened, out);
+    put_symbol(b')', inside, out)
+}
+
+// '[' expression ']'
+fn put_subscript<S: Sink>(value: &Expression, status: Put, out: &mut Pieces<'_, S>) -> Put
+    ensures same_sink { out.new.sink.ghost_name ≡ out.old.sink.ghost_name }
+    ensures shows { Shows (group_tree value.now) subscript status (S.written out.old.sink.now) (take out.old.len out.old.buffer) (S.faults out.old.sink.now) result (S.written out.new.sink.now) (take out.new.len out.new.buffer) (S.faults out.new.sink.now) }
+{
+    let opened = put_symbol(b'[', status, out);
+    let inside = put_expression(value, opened, out);
+    put_symbol(b']', inside, out)
+}
+
+// The index of an element, where one is written.
+fn put_index<S: Sink>(index: &Option<Expression>, status: Put, out: &mut Pieces<'_, S>) -> Put
+    ensures same_sink { out.new.sink.ghost_name ≡ out.old.sink.ghost_name }
+    ensures shows { Shows (index_tree index.now) (option subscript) status (S.written out.old.sink.now) (take out.old.len out.old.buffer) (S.faults out.old.sink.now) result (S.written out.new.sink.now) (take out.new.len out.new.buffer) (S.faults out.new.sink.now) }
+{
+    match index {
+        None => status,
+        Some(value) => put_subscript(value, status, out),
+    }
+}
+
+// The value that is returned, where one is written.
+fn put_value<S: Sink>(value: &Option<Expression>, status: Put, out: &mut Pieces<'_, S>) -> Put
+    ensures same_sink { out.new.sink.ghost_name ≡ out.old.sink.ghost_name }
+    ensures shows { Shows (value_tree value.now) (option (name expression)) status (S.written out.old.sink.now) (take out.old.len out.old.buffer) (S.faults out.old.sink.now) result (S.written out.new.sink.now) (take out.new.len out.new.buffer) (S.faults out.new.sink.now) }
+{
+    match value {
+        None => status,
+        Some(value) => put_expression(value, status, out),
+    }
+}
+
+#[cycle(printing_statements)]
+fn put_statement<S: Sink>(one: &Statement, status: Put, out: &mut Pieces<'_, S>) -> Put
+    ensures same_sink { out.new.sink.ghost_name ≡ out.old.sink.ghost_name }
+    ensures shows { Shows (statement_tree one.now) (name statement) status (S.written out.old.sink.now) (take out.old.len out.old.buffer) (S.faults out.old.sink.now) result (S.written out.new.sink.now) (take out.new.len out.new.buffer) (S.faults out.new.sink.now) }
+{
+    match one {
+        Statement::Let(_, name, index, value) => {
+            let begun = put_keyword(Keyword::Let, status, out);
+            let named = put_name(name, begun, out);
+            let indexed = put_index(index, named, out);
+            let assigned = put_symbol(b'=', indexed, out);
+            let valued = put_expression(value, assigned, out);
+            put_symbol(b';', valued, out)
+        }
+        Statement::If(_, condition, body, other) => {
+            let asked = put_keyword(Keyword::If, status, out);
+            let tested = put_group(condition, asked, out);
+            let opened = put_symbol(b'{', tested, out);
+            let met = put_statements(body, opened, out);
+            let closed = put_symbol(b'}', met, out);
+            match other {
+                None => closed,
+                Some(other) => {
+                    let turned = put_keyword(Keyword::Else, closed, out);
+                    let entered = put_symbol(b'{', turned, out);
+                    let unmet = put_statements(other, entered, out);
+                    put_symbol(b'}', unmet, out)
+                }
+            }
+        }
+        Statement::While(_, condition, body) => {
+            let repeating = put_keyword(Keyword::While, status, out);
+            let guarded = put_group(condition, repeating, out);
+            let entering = put_symbol(b'{', guarded, out);
+            let looped = put_statements(body, entering, out);
+            put_symbol(b'}', looped, out)
+        }
+        Statement::Do(_, call) => {
+            let doing = put_keyword(Keyword::Do, status, out);
+            let fronted = put_front(call, doing, out);
+            let called = put_invoked(call, fronted, out);
+            put_symbol(b';', called, out)
+        }
+        Statement::Return(_, value) => {
+            let returning = put_keyword(Keyword::Return, status, out);
+            let returned = put_value(value, returning, out);
+            put_symbol(b';', returned, out)
+        }
+    }
+}
+
+#[cycle(printing_statements)]
+fn put_statements<S: Sink>(statements: &[Statement], status: Put, out: &mut Pieces<'_, S>) -> Put
+    ensures same_sink { out.new.sink.ghost_name ≡ out.old.sink.ghost_name }
+    ensures shows { Shows (statements_tree statements.now) (repeat (name statement)) status (S.written out.old.sink.now) (take out.old.len out.old.buffer) (S.faults out.old.sink.now) result (S.written out.new.sink.now) (take out.new.len out.new.buffer) (S.faults out.new.sink.now) }
+{
+    let mut status = status;
+    for one in statements {
+        status = put_statement(one, status, out);
+    }
+    status
+}
+
+fn put_type<S: Sink>(kind: &Type, status: Put, out: &mut Pieces<'_, S>) -> Put
+    ensures same_sink { out.new.sink.ghost_name ≡ out.old.sink.ghost_name }
+    ensures writes { Writes (set_off (said_text (type_leaf_said kind.now))) status (S.written out.old.sink.now) (take out.old.len out.old.buffer) (S.faults out.old.sink.now) result (S.written out.new.sink.now) (take out.new.len out.new.buffer) (S.faults out.new.sink.now) }
+{
+    match kind {
+        Type::Int => put_keyword(Keyword::Int, status, out),
+        Type::Char => put_keyword(Keyword::Char, status, out),
+        Type::Boolean => put_keyword(Keyword::Boolean, status, out),
+        Type::Class(name) => put_name(name, status, out),
+    }
+}
+
+fn put_result<S: Sink>(of: &Option<Type>, status: Put, out: &mut Pieces<'_, S>) -> Put
+    ensures same_sink { out.new.sink.ghost_name ≡ out.old.sink.ghost_name }
+    ensures writes { Writes (set_off (said_text (result_said of.now))) status (S.written out.old.sink.now) (take out.old.len out.old.buffer) (S.faults out.old.sink.now) result (S.written out.new.sink.now) (take out.new.len out.new.buffer) (S.faults out.new.sink.now) }
+{
+    match of {
+        None => put_keyword(Keyword::Void, status, out),
+        Some(kind) => put_type(kind, status, out),
+    }
+}
+
+fn put_scope<S: Sink>(scope: Scope, status: Put, out: &mut Pieces<'_, S>) -> Put
+    ensures same_sink { out.new.sink.ghost_name ≡ out.old.sink.ghost_name }
+    ensures writes { Writes (set_off (said_text (scope_said scope))) status (S.written out.old.sink.now) (take out.old.len out.old.buffer) (S.faults out.old.sink.now) result (S.written out.new.sink.now) (take out.new.len out.new.buffer) (S.faults out.new.sink.now) }
+{
+    match scope {
+        Scope::Static => put_keyword(Keyword::Static, status, out),
+        Scope::Field => put_keyword(Keyword::Field, status, out),
+    }
+}
+
+fn put_form<S: Sink>(form: Form, status: Put, out: &mut Pieces<'_, S>) -> Put
+    ensures same_sink { out.new.sink.ghost_name ≡ out.old.sink.ghost_name }
+    ensures writes { Writes (set_off (said_text (form_said form))) status (S.written out.old.sink.now) (take out.old.len out.old.buffer) (S.faults out.old.sink.now) result (S.written out.new.sink.now) (take out.new.len out.new.buffer) (S.faults out.new.sink.now) }
+{
+    match form {
+        Form::Constructor => put_keyword(Keyword::Constructor, status, out),
+        Form::Function => put_keyword(Keyword::Function, status, out),
+        Form::Method => put_keyword(Keyword::Method, status, out),
+    }
+}
+
+// , name
+fn put_next_name<S: Sink>(name: &Name, status: Put, out: &mut Pieces<'_, S>) -> Put
+    ensures same_sink { out.new.sink.ghost_name ≡ out.old.sink.ghost_name }
+    ensures shows { Shows (next_name_tree name.now) next_name status (S.written out.old.sink.now) (take out.old.len out.old.buffer) (S.faults out.old.sink.now) result (S.written out.new.sink.now) (take out.new.len out.new.buffer) (S.faults out.new.sink.now) }
+{
+    let separated = put_symbol(b',', status, out);
+    put_name(name, separated, out)
+}
+
+fn put_more_names<S: Sink>(names: &[Name], status: Put, out: &mut Pieces<'_, S>) -> Put
+    ensures same_sink { out.new.sink.ghost_name ≡ out.old.sink.ghost_name }
+    ensures shows { Shows (listed next_name_tree names.now NoMore) (repeat next_name) status (S.written out.old.sink.now) (take out.old.len out.old.buffer) (S.faults out.old.sink.now) result (S.written out.new.sink.now) (take out.new.len out.new.buffer) (S.faults out.new.sink.now) }
+{
+    let mut status = status;
+    for one in names {
+        status = put_next_name(one, status, out);
+    }
+    status
+}
+
+fn put_names<S: Sink>(names: &Names, status: Put, out: &mut Pieces<'_, S>) -> Put
+    ensures same_sink { out.new.sink.ghost_name ≡ out.old.sink.ghost_name }
+    ensures shows { Shows (names_tree names.now) names_rule status (S.written out.old.sink.now) (take out.old.len out.old.buffer) (S.faults out.old.sink.now) result (S.written out.new.sink.now) (take out.new.len out.new.buffer) (S.faults out.new.sink.now) }
+{
+    let begun = put_name(&names.first, status, out);
+    put_more_names(&names.more, begun, out)
+}
+
+fn put_variables<S: Sink>(variables: &ClassVariables, status: Put, out: &mut Pieces<'_, S>) -> Put
+    ensures same_sink { out.new.sink.ghost_name ≡ out.old.sink.ghost_name }
+    ensures shows { Shows (variables_tree variables.now) class_variables status (S.written out.old.sink.now) (take out.old.len out.old.buffer) (S.faults out.old.sink.now) result (S.written out.new.sink.now) (take out.new.len out.new.buffer) (S.faults out.new.sink.now) }
+{
+    let scoped = put_scope(variables.scope, status, out);
+    let typed = put_type(&variables.kind, scoped, out);
+    let named = put_names(&variables.names, typed, out);
+    put_symbol(b';', named, out)
+}
+
+fn put_all_variables<S: Sink>(all: &[ClassVariables], status: Put, out: &mut Pieces<'_, S>) -> Put
+    ensures same_sink { out.new.sink.ghost_name ≡ out.old.sink.ghost_name }
+    ensures shows { Shows (listed variables_tree all.now NoMore) (repeat class_variables) status (S.written out.old.sink.now) (take out.old.len out.old.buffer) (S.faults out.old.sink.now) result (S.written out.new.sink.now) (take out.new.len out.new.buffer) (S.faults out.new.sink.now) }
+{
+    let mut status = status;
+    for one in all {
+        status = put_variables(one, status, out);
+    }
+    status
+}
+
+fn put_locals<S: Sink>(locals: &Locals, status: Put, out: &mut Pieces<'_, S>) -> Put
+    ensures same_sink { out.new.sink.ghost_name ≡ out.old.sink.ghost_name }
+    ensures shows { Shows (locals_tree locals.now) locals_rule status (S.written out.old.sink.now) (take out.old.len out.old.buffer) (S.faults out.old.sink.now) result (S.written out.new.sink.now) (take out.new.len out.new.buffer) (S.faults out.new.sink.now) }
+{
+    let begun = put_keyword(Keyword::Var, status, out);
+    let typed = put_type(&locals.kind, begun, out);
+    let named = put_names(&locals.names, typed, out);
+    put_symbol(b';', named, out)
+}
+
+fn put_all_locals<S: Sink>(all: &[Locals], status: Put, out: &mut Pieces<'_, S>) -> Put
+    ensures same_sink { out.new.sink.ghost_name ≡ out.old.sink.ghost_name }
+    ensures shows { Shows (listed locals_tree all.now NoMore) (repeat locals_rule) status (S.written out.old.sink.now) (take out.old.len out.old.buffer) (S.faults out.old.sink.now) result (S.written out.new.sink.now) (take out.new.len out.new.buffer) (S.faults out.new.sink.now) }
+{
+    let mut status = status;
+    for one in all {
+        status = put_locals(one, status, out);
+    }
+    status
+}
+
+fn put_parameter<S: Sink>(one: &Parameter, status: Put, out: &mut Pieces<'_, S>) -> Put
+    ensures same_sink { out.new.sink.ghost_name ≡ out.old.sink.ghost_name }
+    ensures shows { Shows (parameter_tree one.now) parameter status (S.written out.old.sink.now) (take out.old.len out.old.buffer) (S.faults out.old.sink.now) result (S.written out.new.sink.now) (take out.new.len out.new.buffer) (S.faults out.new.sink.now) }
+{
+    let typed = put_type(&one.kind, status, out);
+    put_name(&one.name, typed, out)
+}
+
+// , type name
+fn put_next_parameter<S: Sink>(one: &Parameter, status: Put, out: &mut Pieces<'_, S>) -> Put
+    ensures same_sink { out.new.sink.ghost_name ≡ out.old.sink.ghost_name }
+    ensures shows { Shows (next_parameter_tree one.now) next_parameter status (S.written out.old.sink.now) (take out.old.len out.old.buffer) (S.faults out.old.sink.now) result (S.written out.new.sink.now) (take out.new.len out.new.buffer) (S.faults out.new.sink.now) }
+{
+    let separated = put_symbol(b',', status, out);
+    put_parameter(one, separated, out)
+}
+
+fn put_more_parameters<S: Sink>(all: &[Parameter], status: Put, out: &mut Pieces<'_, S>) -> Put
+    ensures same_sink { out.new.sink.ghost_name ≡ out.old.sink.ghost_name }
+    ensures shows { Shows (listed next_parameter_tree all.now NoMore) (repeat next_parameter) status (S.written out.old.sink.now) (take out.old.len out.old.buffer) (S.faults out.old.sink.now) result (S.written out.new.sink.now) (take out.new.len out.new.buffer) (S.faults out.new.sink.now) }
+{
+    let mut status = status;
+    for one in all {
+        status = put_next_parameter(one, status, out);
+    }
+    status
+}
+
+fn put_parameters<S: Sink>(all: &[Parameter], status: Put, out: &mut Pieces<'_, S>) -> Put
+    ensures same_sink { out.new.sink.ghost_name ≡ out.old.sink.ghost_name }
+    ensures shows { Shows (parameters_tree all.now) parameters status (S.written out.old.sink.now) (take out.old.len out.old.buffer) (S.faults out.old.sink.now) result (S.written out.new.sink.now) (take out.new.len out.new.buffer) (S.faults out.new.sink.now) }
+{
+    let Some((first, more)) = all.split_first() else {
+        return status;
+    };
+    let begun = put_parameter(first, status, out);
+    put_more_parameters(more, begun, out)
+}
+
+fn put_subroutine<S: Sink>(one: &Subroutine, status: Put, out: &mut Pieces<'_, S>) -> Put
+    ensures same_sink { out.new.sink.ghost_name ≡ out.old.sink.ghost_name }
+    ensures shows { Shows (subroutine_tree one.now) subroutine status (S.written out.old.sink.now) (take out.old.len out.old.buffer) (S.faults out.old.sink.now) result (S.written out.new.sink.now) (take out.new.len out.new.buffer) (S.faults out.new.sink.now) }
+{
+    let formed = put_form(one.form, status, out);
+    let typed = put_result(&one.result, formed, out);
+    let named = put_name(&one.name, typed, out);
+    let opened = put_symbol(b'(', named, out);
+    let taken = put_parameters(&one.parameters, opened, out);
+    let closed = put_symbol(b')', taken, out);
+    let begun = put_symbol(b'{', closed, out);
+    let declared = put_all_locals(&one.locals, begun, out);
+    let stated = put_statements(&one.statements, declared, out);
+    put_symbol(b'}', stated, out)
+}
+
+fn put_subroutines<S: Sink>(all: &[Subroutine], status: Put, out: &mut Pieces<'_, S>) -> Put
+    ensures same_sink { out.new.sink.ghost_name ≡ out.old.sink.ghost_name }
+    ensures shows { Shows (listed subroutine_tree all.now NoMore) (repeat subroutine) status (S.written out.old.sink.now) (take out.old.len out.old.buffer) (S.faults out.old.sink.now) result (S.written out.new.sink.now) (take out.new.len out.new.buffer) (S.faults out.new.sink.now) }
+{
+    let mut status = status;
+    for one in all {
+        status = put_subroutine(one, status, out);
+    }
+    status
+}
+
+fn put_class<S: Sink>(class: &Class, status: Put, out: &mut Pieces<'_, S>) -> Put
+    ensures same_sink { out.new.sink.ghost_name ≡ out.old.sink.ghost_name }
+    ensures shows { Shows (class_tree class.now) class_rule status (S.written out.old.sink.now) (take out.old.len out.old.buffer) (S.faults out.old.sink.now) result (S.written out.new.sink.now) (take out.new.len out.new.buffer) (S.faults out.new.sink.now) }
+{
+    let begun = put_keyword(Keyword::Class, status, out);
+    let named = put_name(&class.name, begun, out);
+    let opened = put_symbol(b'{', named, out);
+    let declared = put_all_variables(&class.variables, opened, out);
+    let defined = put_subroutines(&class.subroutines, declared, out);
+    put_symbol(b'}', defined, out)
+}
+
+// The same with an empty buffer before, and after.
+fn put_all<S: Sink>(class: &Class, out: &mut Pieces<'_, S>) -> Put
+    requires { take out.old.len out.old.buffer ≡ [] }
+    ensures same_sink { out.new.sink.ghost_name ≡ out.old.sink.ghost_name }
+    ensures put { Puts (S.written out.old.sink.now) (S.written out.new.sink.now) (class_text class.now) result }
+    ensures counts { CountsPut (S.faults out.old.sink.now) (S.faults out.new.sink.now) result }
+{
+    match put_class(class, Put::Done, out) {
+        Put::Done => out.finish(),
+        Put::Failed => Put::Failed,
+    }
+}
+
+/// Prints a class: its tokens with one space between them, and a line feed in its place behind `{`, `}` and `;`. It takes no memory.
+pub fn print<S: Sink>(class: &Class, out: &mut S) -> Put
+    ensures put { Puts (S.written out.old) (S.written out.new) (class_text class.now) result }
+    ensures counts { CountsPut (S.faults out.old) (S.faults out.new) result }
+{
+    let mut pieces = Pieces::new(out);
+    put_all(class, &mut pieces)
+}
