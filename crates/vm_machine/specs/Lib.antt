@@ -5,3 +5,4 @@ pub mod Sound
 pub mod Laws
 pub mod Calls
 pub mod Moves
+pub mod Performs
