@@ -1,5 +1,5 @@
 //! What each command does.
-ghost use Rattle.std.specs.Prelude.{◌≡◌, ◌≤◌, ◌<◌, ◌+◌, ◌^◌, ◌∷◌, [], Bool, false, Option, Some, None, length, drop, slice_get, int_lt, nat_eq};
+ghost use Rattle.std.specs.Prelude.{◌≡◌, ◌≤◌, ◌<◌, ◌+◌, ◌^◌, ◌∷◌, [], Bool, false, Option, Some, None, length, drop, slice_get, int_lt, nat_eq, if◌then◌else◌};
 ghost use Rattle.word16.specs.Words.{signed, word_add};
 ghost use Rattle.vm_machine.specs.State.{State, words_in_use};
 ghost use Rattle.vm_machine.specs.Step.{Acts, after, act, begin, call, goes, load, on_top, on_word, operate, pop, push, pushed, return, store, truth, written};
@@ -288,4 +288,125 @@ fn pop_pointer(machine: &mut Machine, i: u16, w: u16) -> Moved
     machine.stack.point(this, that);
     let place = machine.stack.place() + 1;
     take(machine, place)
+}
+
+// The word `w`, the topmost value, goes to a segment.
+fn pop_to(machine: &mut Machine, segment: Segment, i: u16, w: u16) -> Moved
+    requires values { 1 ≤ length machine.old.stack.top.values }
+    requires place { machine.old.stack.top.place + 1 < 2 ^ 64 }
+    ensures { Performs (λ s f below. pop segment i s f below w (drop 1 f.values)) machine.old result machine.new }
+{
+    match segment {
+        Segment::Constant => Moved::Stray(Stray::Code),
+        Segment::Argument => pop_argument(machine, i, w),
+        Segment::Local => pop_local(machine, i, w),
+        Segment::Static => pop_static(machine, i, w),
+        Segment::Temp => pop_temp(machine, i, w),
+        Segment::Pointer => pop_pointer(machine, i, w),
+        Segment::This => {
+            let base = machine.stack.this();
+            pop_word(machine, base, i, w)
+        }
+        Segment::That => {
+            let base = machine.stack.that();
+            pop_word(machine, base, i, w)
+        }
+    }
+}
+
+fn pop(machine: &mut Machine, segment: Segment, i: u16) -> Moved
+    requires { machine.old.stack.top.place + 1 < 2 ^ 64 }
+    ensures { Performs (λ s f below. on_top f.values (pop segment i s f below)) machine.old result machine.new }
+{
+    match machine.stack.value(0) {
+        Some(w) => pop_to(machine, segment, i, w),
+        None => Moved::Stray(Stray::Values),
+    }
+}
+
+fn call(machine: &mut Machine, function: usize, n: u16) -> Moved
+    requires { machine.old.stack.top.place + 1 < 2 ^ 64 }
+    ensures { Performs (call function n) machine.old result machine.new }
+{
+    if machine.stack.count() < n as usize {
+        return Moved::Stray(Stray::Values);
+    }
+    let used = machine.stack.words_in_use() + 5;
+    if used > ROOM {
+        return Moved::Full(used as u32);
+    }
+    let place = machine.stack.place() + 1;
+    machine.stack.call(function, n as usize, place);
+    prove!(machine.stack.words_in_use() <= ROOM);
+    Moved::Acted
+}
+
+// The start of a function, which makes its locals.
+fn begin(machine: &mut Machine, n: u16) -> Moved
+    requires { machine.old.stack.top.place + 1 < 2 ^ 64 }
+    ensures { Performs (λ s f below. begin n f.locals f.values s f below) machine.old result machine.new }
+{
+    let is_new = machine.stack.local_count() == 0 && machine.stack.count() == 0;
+    if !is_new || machine.stack.depth() == 0 {
+        return Moved::Stray(Stray::Code);
+    }
+    let used = machine.stack.words_in_use() + n as usize;
+    if used > ROOM {
+        return Moved::Full(used as u32);
+    }
+    let place = machine.stack.place() + 1;
+    machine.stack.make_locals(n as usize, place);
+    prove!(machine.stack.words_in_use() <= ROOM);
+    Moved::Acted
+}
+
+fn leave(machine: &mut Machine) -> Moved
+    ensures { Performs (λ s f below. on_top f.values (return below s)) machine.old result machine.new }
+{
+    let Some(w) = machine.stack.value(0) else {
+        return Moved::Stray(Stray::Values);
+    };
+    if machine.stack.depth() == 0 {
+        return Moved::Stray(Stray::Code);
+    }
+    machine.stack.leave(w);
+    prove!(machine.stack.words_in_use() <= ROOM);
+    Moved::Acted
+}
+
+fn goto(machine: &mut Machine, place: usize) -> Moved
+    ensures { Performs (λ s f below. goes s below (record f { place = place })) machine.old result machine.new }
+{
+    machine.stack.go_to(place);
+    prove!(machine.stack.words_in_use() <= ROOM);
+    Moved::Acted
+}
+
+// Any word but 0 jumps.
+fn if_goto(machine: &mut Machine, place: usize) -> Moved
+    requires { machine.old.stack.top.place + 1 < 2 ^ 64 }
+    ensures { Performs (λ s f below. on_top f.values (λ w values. goes s below (record f { place = if nat_eq w 0 then f.place + 1 else place; values = values }))) machine.old result machine.new }
+{
+    let Some(w) = machine.stack.value(0) else {
+        return Moved::Stray(Stray::Values);
+    };
+    let next = machine.stack.place() + 1;
+    take(machine, if w == 0 { next } else { place })
+}
+
+/// Does a command, where this key is held.
+pub fn act(machine: &mut Machine, key: u16, step: Step) -> Moved
+    requires { machine.old.stack.top.place + 1 < 2 ^ 64 }
+    ensures { Performs (act key step) machine.old result machine.new }
+{
+    match step {
+        Step::Operate(o) => operate(machine, o),
+        Step::Push(segment, i) => push(machine, key, segment, i),
+        Step::Pop(segment, i) => pop(machine, segment, i),
+        Step::Goto(place) => goto(machine, place),
+        Step::IfGoto(place) => if_goto(machine, place),
+        Step::Function(n) => begin(machine, n),
+        Step::Call(function, n) => call(machine, function, n),
+        Step::Return => leave(machine),
+    }
 }
