@@ -6,3 +6,4 @@ pub mod Laws
 pub mod Calls
 pub mod Moves
 pub mod Performs
+pub mod Loaded
