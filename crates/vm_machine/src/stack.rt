@@ -158,6 +158,20 @@ impl Stack {
         self.end - self.top.values
     }
 
+    /// The number of locals.
+    pub fn local_count(&self) -> usize
+        ensures { result ≡ length self.now.top.locals }
+    {
+        self.top.values - self.top.locals
+    }
+
+    /// The number of calls below.
+    pub fn depth(&self) -> usize
+        ensures { result ≡ length self.now.below }
+    {
+        self.depth
+    }
+
     /// A value, where the topmost is 0.
     pub fn value(&self, i: usize) -> Option<u16>
         ensures { result ≡ slice_get self.now.top.values i }
