@@ -1,0 +1,131 @@
+-- Sums of words, over code and functions and their parts.
+use Rattle.std.proofs.Common.{◌≡◌, ◌+◌, ◌*◌, ◌<◌, ◌≤◌, ◌++◌, ◌⊎◌, ℕ, zero, suc, List, [], ◌∷◌, length, take, drop, refl, sym, ap, ◌∙◌, arith, add-one}
+use Rattle.vm_tree.specs.declared.command.Operation.{Operation}
+use Rattle.vm_tree.specs.declared.command.Operation.TheVariants as operation
+use Rattle.vm_tree.specs.declared.command.Segment.{Segment}
+use Rattle.vm_tree.specs.declared.command.Segment.TheVariants as segment
+use Rattle.vm_link.specs.declared.linked.Step.{Step}
+use Rattle.vm_link.specs.declared.linked.Step.TheVariants as step
+use Rattle.vm_link.specs.declared.linked.Code.{Code}
+use Rattle.vm_link.specs.declared.linked.LinkedFunction.{LinkedFunction}
+use Rattle.hack_blocks.specs.Templates.{size, budget}
+use Rattle.vm_translator.specs.Shapes.{operated, pushed, popped, shape_of, step_size, step_budget}
+use Rattle.vm_translator.specs.Places.{words_of, words_in, code_at, address}
+use Rattle.vm_translator.specs.Image.{budget_in, budget_from}
+
+-- a size between one and the budget
+record IsBetween (n m : ℕ) : Type 0 where
+  some : 0 < n
+  within : n ≤ m
+
+operation_between : (o : Operation) → IsBetween (size (operated o)) (budget (operated o))
+operation_between operation.Add = record { some = omega arith; within = omega arith }
+operation_between operation.Sub = record { some = omega arith; within = omega arith }
+operation_between operation.Neg = record { some = omega arith; within = omega arith }
+operation_between operation.Eq = record { some = omega arith; within = omega arith }
+operation_between operation.Gt = record { some = omega arith; within = omega arith }
+operation_between operation.Lt = record { some = omega arith; within = omega arith }
+operation_between operation.And = record { some = omega arith; within = omega arith }
+operation_between operation.Or = record { some = omega arith; within = omega arith }
+operation_between operation.Not = record { some = omega arith; within = omega arith }
+
+push_between : (g : Segment) (i : ℕ) → IsBetween (size (pushed g i)) (budget (pushed g i))
+push_between segment.Argument i = record { some = omega arith; within = omega arith }
+push_between segment.Local i = record { some = omega arith; within = omega arith }
+push_between segment.Static i = record { some = omega arith; within = omega arith }
+push_between segment.Constant i = record { some = omega arith; within = omega arith }
+push_between segment.This i = record { some = omega arith; within = omega arith }
+push_between segment.That i = record { some = omega arith; within = omega arith }
+push_between segment.Pointer i = record { some = omega arith; within = omega arith }
+push_between segment.Temp i = record { some = omega arith; within = omega arith }
+
+pop_between : (g : Segment) (i : ℕ) → IsBetween (size (popped g i)) (budget (popped g i))
+pop_between segment.Argument i = record { some = omega arith; within = omega arith }
+pop_between segment.Local i = record { some = omega arith; within = omega arith }
+pop_between segment.Static i = record { some = omega arith; within = omega arith }
+pop_between segment.Constant i = record { some = omega arith; within = omega arith }
+pop_between segment.This i = record { some = omega arith; within = omega arith }
+pop_between segment.That i = record { some = omega arith; within = omega arith }
+pop_between segment.Pointer i = record { some = omega arith; within = omega arith }
+pop_between segment.Temp i = record { some = omega arith; within = omega arith }
+
+step_between : (s : Step) → IsBetween (step_size s) (step_budget s)
+step_between (step.Operate o) = operation_between o
+step_between (step.Push g i) = push_between g i
+step_between (step.Pop g i) = pop_between g i
+step_between (step.Goto p) = record { some = omega arith; within = omega arith }
+step_between (step.IfGoto p) = record { some = omega arith; within = omega arith }
+step_between (step.Function n) = record { some = omega arith; within = omega arith }
+step_between (step.Call f n) = record { some = omega arith; within = omega arith }
+step_between step.Return = record { some = omega arith; within = omega arith }
+
+pub size_some : (s : Step) → 0 < step_size s
+size_some s = let b = step_between s in b.some
+
+-- where a step leads makes no difference to its size
+pub size_to : (to : ℕ) (s : Step) → size (shape_of to s) ≡ step_size s
+size_to to (step.Operate o) = refl
+size_to to (step.Push g i) = refl
+size_to to (step.Pop g i) = refl
+size_to to (step.Goto p) = refl
+size_to to (step.IfGoto p) = refl
+size_to to (step.Function n) = refl
+size_to to (step.Call f n) = refl
+size_to to step.Return = refl
+
+pub words_within : (cs : List Code) → words_of cs ≤ budget_in cs
+words_within [] = omega arith
+words_within (c ∷ cs) = let b = step_between c.step in let h = b.within in let r = words_within cs in omega arith
+
+pub words_in_within : (fs : List LinkedFunction) → words_in fs ≤ budget_from fs
+words_in_within [] = omega arith
+words_in_within (f ∷ fs) = let h = words_within f.code in let r = words_in_within fs in omega arith
+
+pub words_some : (cs : List Code) → 0 < length cs → 0 < words_of cs
+words_some [] h = absurd (omega arith)
+words_some (c ∷ cs) h = let s = size_some c.step in omega arith
+
+-- code is what stands before a place and what stands behind it
+pub words_parts : (cs : List Code) (p : ℕ) → words_of cs ≡ words_of (take p cs) + words_of (drop p cs)
+words_parts [] zero = refl
+words_parts [] (suc p) = refl
+words_parts (c ∷ cs) zero = omega arith
+words_parts (c ∷ cs) (suc p) = let e = words_parts cs p in omega arith
+
+pub words_all : (cs : List Code) (p : ℕ) → length cs ≤ p → words_of (take p cs) ≡ words_of cs
+words_all [] zero h = refl
+words_all [] (suc p) h = refl
+words_all (c ∷ cs) zero h = absurd (omega arith)
+words_all (c ∷ cs) (suc p) h = ap (λ n. step_size c.step + n) (words_all cs p (omega arith))
+
+pub words_less : (cs : List Code) (p : ℕ) → p < length cs → words_of (take p cs) < words_of cs
+words_less [] p h = absurd (omega arith)
+words_less (c ∷ cs) zero h = let s = size_some c.step in omega arith
+words_less (c ∷ cs) (suc p) h = let r = words_less cs p (omega arith) in omega arith
+
+-- functions are those before one, its code, and those behind it
+pub words_in_parts : (fs : List LinkedFunction) (k : ℕ) → words_in fs ≡ words_in (take k fs) + (words_of (code_at fs k) + words_in (drop (suc k) fs))
+words_in_parts [] zero = refl
+words_in_parts [] (suc k) = refl
+words_in_parts (f ∷ fs) zero = omega arith
+words_in_parts (f ∷ fs) (suc k) = let e = words_in_parts fs k in omega arith
+
+pub words_in_take : (fs : List LinkedFunction) (k : ℕ) → words_in (take (k + 1) fs) ≡ words_in (take k fs) + words_of (code_at fs k)
+words_in_take fs k = rw add-one (one_more fs k)
+  where
+    one_more : (fs : List LinkedFunction) (k : ℕ) → words_in (take (suc k) fs) ≡ words_in (take k fs) + words_of (code_at fs k)
+    one_more [] zero = refl
+    one_more [] (suc k) = refl
+    one_more (f ∷ fs) zero = omega arith
+    one_more (f ∷ fs) (suc k) = let e = one_more fs k in omega arith
+
+-- the place after one
+pub address_next : (base : ℕ) (fs : List LinkedFunction) (k p : ℕ) (c : Code) (cs : List Code) → drop p (code_at fs k) ≡ c ∷ cs
+    → address base fs k (p + 1) ≡ address base fs k p + step_size c.step
+address_next base fs k p c cs e = rw add-one (let w = next (code_at fs k) p e in omega arith)
+  where
+    next : (ds : List Code) (p : ℕ) → drop p ds ≡ c ∷ cs → words_of (take (suc p) ds) ≡ words_of (take p ds) + step_size c.step
+    next [] zero e = cc
+    next [] (suc p) e = cc
+    next (d ∷ ds) zero e = let f : d ≡ c = cc in rw f (omega arith)
+    next (d ∷ ds) (suc p) e = let r = next ds p e in omega arith

@@ -1,0 +1,106 @@
+-- The image of a linked program and its map: for each instruction the control point, and the instructions that end a step of the program's
+-- meaning. (The book, chapters 7 and 8.)
+use Rattle.std.specs.Prelude.{◌≡◌, ◌<◌, ◌≤◌, ◌^◌, min, length, ℕ, ◌+◌, ◌-◌, ◌++◌, Bool, List, [], ◌∷◌, Option, Some, None, nat_eq, ◌&&◌, ◌||◌, not, map, unwrap_or, if◌then◌else◌}
+use Rattle.std.specs.List.{flat_map, filter_map, list_any}
+use Rattle.hack_isa.specs.declared.Instr.{Instr}
+use Rattle.hack_isa.specs.declared.Instr.TheVariants.{Address}
+use Rattle.outer_world.specs.declared.point.Point.{Point}
+use Rattle.vm_link.specs.declared.linked.Linked.{Linked}
+use Rattle.vm_link.specs.declared.linked.Code.{Code}
+use Rattle.vm_link.specs.declared.linked.LinkedFunction.{LinkedFunction}
+use Rattle.hack_blocks.specs.Templates.{template, start_code}
+use Rattle.vm_translator.specs.declared.coded.PointRange.{PointRange}
+use Rattle.vm_translator.specs.declared.layout.Placed.{Placed}
+use Rattle.vm_translator.specs.Shapes.{shape_of, step_size, step_budget}
+use Rattle.vm_translator.specs.Places.{address, address_of, base_of, end_of, named, program, target_of}
+
+-- the instructions of a placed step
+abbrev pub piece : ℕ → List LinkedFunction → Placed → List Instr
+piece base fs c = template c.at (shape_of (target_of base fs c.function c.code.step) c.code.step)
+
+-- where the start code calls
+abbrev pub entry_of : Linked → ℕ
+entry_of l = address_of l (unwrap_or l.start 0) 0
+
+-- the start code, which a program that keeps its opening texts has not
+abbrev pub opening : Linked → List Instr
+opening l = if l.bare then [] else start_code (entry_of l)
+
+-- a placed step names this address
+abbrev pub names : ℕ → List LinkedFunction → ℕ → Placed → Bool
+names base fs at c = list_any (nat_eq at) (named base fs c.function (c.at + step_size c.code.step) c.code.step)
+
+-- Some label that is gone to, some return address, or a function that is called stands at the end of the code.
+abbrev pub names_end : Linked → Bool
+names_end l = (not l.bare && nat_eq (end_of l) (entry_of l)) || list_any (names (base_of l) l.functions (end_of l)) (program l)
+
+-- then one word 0 is added, so that each address that is named has a word
+abbrev pub closing : Linked → List Instr
+closing l = if names_end l then Address 0 ∷ [] else []
+
+abbrev pub image_of : Linked → List Instr
+image_of l = opening l ++ (flat_map (piece (base_of l) l.functions) (program l) ++ closing l)
+
+-- the last address of a placed step that is a commit
+abbrev pub commit_of : Placed → Option ℕ
+commit_of c = if c.code.commit then Some (c.at + step_size c.code.step - 1) else None
+
+-- the `pop temp 0` of the start code is a commit
+abbrev pub start_commits : Linked → List ℕ
+start_commits l = if l.bare then [] else 50 ∷ []
+
+abbrev pub commits_of : Linked → List ℕ
+commits_of l = start_commits l ++ filter_map commit_of (program l)
+
+-- the addresses of a placed step, which have its point
+abbrev pub range_of : Placed → PointRange
+range_of c = record { from = c.at; to = c.at + step_size c.code.step; point = c.point }
+
+-- The start code up to its endless loop has the point 1 of the subroutine 0, the loop has the point 2.
+abbrev pub start_ranges : Linked → List PointRange
+start_ranges l =
+    if l.bare then [] else record { from = 0; to = 51; point = record { sub = 0; number = 1 } }
+    ∷ record { from = 51; to = 53; point = record { sub = 0; number = 2 } } ∷ []
+
+abbrev pub same_point : Point → Point → Bool
+same_point p q = nat_eq p.sub q.sub && nat_eq p.number q.number
+
+-- a range before others, which is one with the next where they have one point
+abbrev pub join : PointRange → List PointRange → List PointRange
+join r [] = r ∷ []
+join r (s ∷ ss) = if same_point r.point s.point then record { from = r.from; to = s.to; point = r.point } ∷ ss else r ∷ s ∷ ss
+
+-- ranges one after another, where neighbours that have one point are one
+abbrev pub merged : List PointRange → List PointRange
+merged [] = []
+merged (r ∷ rs) = join r (merged rs)
+
+-- the last range goes to this address
+abbrev pub stretched : ℕ → List PointRange → List PointRange
+stretched to [] = []
+stretched to (r ∷ []) = record { from = r.from; to = to; point = r.point } ∷ []
+stretched to (r ∷ s ∷ rs) = r ∷ stretched to (s ∷ rs)
+
+-- a word that is added has the point of what stands before it
+abbrev pub points_of : Linked → List PointRange
+points_of l =
+    let ranges = merged (start_ranges l ++ map range_of (program l)) in
+    if names_end l then stretched (end_of l + 1) ranges else ranges
+
+-- The budget by commands: 256 for the start and what is shared, and for each step what it may have.
+abbrev pub budget_in : List Code → ℕ
+budget_in [] = 0
+budget_in (c ∷ cs) = step_budget c.step + budget_in cs
+
+abbrev pub budget_from : List LinkedFunction → ℕ
+budget_from [] = 0
+budget_from (f ∷ fs) = budget_in f.code + budget_from fs
+
+abbrev pub budget_of : Linked → ℕ
+budget_of l = 256 + budget_from l.functions
+
+-- The image has so many words, or 2^64 - 1 where it has more, and they are more than there is room for.
+pub record IsTooLarge (l : Linked) (w : ℕ) : Type 0 where
+  pub words : w ≡ min (length (image_of l)) (2 ^ 64 - 1)
+  pub over : 32768 < length (image_of l)
+  pub within : w ≤ budget_of l

@@ -1,0 +1,5 @@
+pub mod Shapes
+pub mod Places
+pub mod Image
+pub mod Plain
+pub mod Tables

@@ -1,0 +1,319 @@
+//! The instructions of a step, by its shape.
+ghost use Rattle.std.specs.Prelude.{◌≡◌, ◌≤◌, ◌<◌, ◌+◌, ◌++◌, OnOk};
+ghost use Rattle.hack_blocks.specs.Templates.{call_code, compare, function_code, go_back, go_to, if_go_to, join, pop_at, pop_d, pop_word, push_at, push_constant, push_d, push_word, put_result, restore, return_code, save_return, set_pointers, size, start_code, template, turn};
+ghost use Rattle.vm_translator.specs.Tables.{IsInLimit};
+
+use hack_blocks::Shape;
+use hack_blocks::instructions::{
+    A_IS_A_MINUS_1, A_IS_D_MINUS_A, A_IS_D_PLUS_M, A_IS_M, A_IS_M_MINUS_1, AM_IS_M_MINUS_1,
+    AM_IS_M_PLUS_1, D_IS_0, D_IS_1, D_IS_A, D_IS_D_MINUS_A, D_IS_D_MINUS_M, D_IS_D_PLUS_M, D_IS_M,
+    D_IS_M_PLUS_1, D_IS_MINUS_1, IF_D_EQUAL, IF_D_GREATER, IF_D_LESS, IF_D_NOT_EQUAL,
+    IF_D_NOT_LESS, JUMP, M_IS_0, M_IS_D, M_IS_D_AND_M, M_IS_D_OR_M, M_IS_D_PLUS_M, M_IS_M_MINUS_D,
+    M_IS_MINUS_M, M_IS_NOT_M,
+};
+use hack_isa::Instr;
+use std::alloc::AllocError;
+
+/// Adds instructions.
+pub fn put(out: &mut Vec<Instr>, block: &[Instr]) -> Result<(), AllocError>
+    ensures { OnOk result (out.new.items ≡ out.old.items ++ block.now) }
+{
+    out.extend_from_slice(block)
+}
+
+fn push_d(out: &mut Vec<Instr>) -> Result<(), AllocError>
+    ensures { OnOk result (out.new.items ≡ out.old.items ++ push_d) }
+{
+    put(
+        out,
+        &[Instr::Address(0), AM_IS_M_PLUS_1, A_IS_A_MINUS_1, M_IS_D],
+    )
+}
+
+fn push_constant(out: &mut Vec<Instr>, number: u16) -> Result<(), AllocError>
+    ensures { OnOk result (out.new.items ≡ out.old.items ++ push_constant number) }
+{
+    put(out, &[Instr::Address(number), D_IS_A])?;
+    push_d(out)
+}
+
+fn push_word(out: &mut Vec<Instr>, address: u16) -> Result<(), AllocError>
+    ensures { OnOk result (out.new.items ≡ out.old.items ++ push_word address) }
+{
+    put(out, &[Instr::Address(address), D_IS_M])?;
+    push_d(out)
+}
+
+fn push_at(out: &mut Vec<Instr>, base: u16, index: u16) -> Result<(), AllocError>
+    ensures { OnOk result (out.new.items ≡ out.old.items ++ push_at base index) }
+{
+    put(
+        out,
+        &[
+            Instr::Address(index),
+            D_IS_A,
+            Instr::Address(base),
+            A_IS_D_PLUS_M,
+            D_IS_M,
+        ],
+    )?;
+    push_d(out)
+}
+
+fn pop_d(out: &mut Vec<Instr>) -> Result<(), AllocError>
+    ensures { OnOk result (out.new.items ≡ out.old.items ++ pop_d) }
+{
+    put(out, &[Instr::Address(0), AM_IS_M_MINUS_1, D_IS_M])
+}
+
+fn pop_word(out: &mut Vec<Instr>, address: u16) -> Result<(), AllocError>
+    ensures { OnOk result (out.new.items ≡ out.old.items ++ pop_word address) }
+{
+    pop_d(out)?;
+    put(out, &[Instr::Address(address), M_IS_D])
+}
+
+fn pop_at(out: &mut Vec<Instr>, base: u16, index: u16) -> Result<(), AllocError>
+    ensures { OnOk result (out.new.items ≡ out.old.items ++ pop_at base index) }
+{
+    put(
+        out,
+        &[
+            Instr::Address(index),
+            D_IS_A,
+            Instr::Address(base),
+            D_IS_D_PLUS_M,
+            Instr::Address(13),
+            M_IS_D,
+        ],
+    )?;
+    pop_d(out)?;
+    put(out, &[Instr::Address(13), A_IS_M, M_IS_D])
+}
+
+fn join(out: &mut Vec<Instr>, operation: Instr) -> Result<(), AllocError>
+    ensures { OnOk result (out.new.items ≡ out.old.items ++ join operation) }
+{
+    pop_d(out)?;
+    put(out, &[A_IS_A_MINUS_1, operation])
+}
+
+fn turn(out: &mut Vec<Instr>, operation: Instr) -> Result<(), AllocError>
+    ensures { OnOk result (out.new.items ≡ out.old.items ++ turn operation) }
+{
+    put(out, &[Instr::Address(0), A_IS_M_MINUS_1, operation])
+}
+
+fn compare(out: &mut Vec<Instr>, jump: Instr, here: u16) -> Result<(), AllocError>
+    requires { here + 38 ≤ 32768 }
+    ensures { OnOk result (out.new.items ≡ out.old.items ++ compare jump here) }
+{
+    put(
+        out,
+        &[
+            Instr::Address(0),
+            AM_IS_M_MINUS_1,
+            D_IS_M,
+            Instr::Address(13),
+            M_IS_D,
+            Instr::Address(0),
+            A_IS_M_MINUS_1,
+            D_IS_M,
+            Instr::Address(here + 17),
+            IF_D_LESS,
+            Instr::Address(13),
+            D_IS_M,
+            Instr::Address(here + 24),
+            IF_D_NOT_LESS,
+            D_IS_1,
+            Instr::Address(here + 29),
+            JUMP,
+            Instr::Address(13),
+            D_IS_M,
+            Instr::Address(here + 24),
+            IF_D_LESS,
+            D_IS_MINUS_1,
+            Instr::Address(here + 29),
+            JUMP,
+            Instr::Address(0),
+            A_IS_M_MINUS_1,
+            D_IS_M,
+            Instr::Address(13),
+            D_IS_D_MINUS_M,
+            Instr::Address(here + 34),
+            jump,
+            D_IS_0,
+            Instr::Address(here + 35),
+            JUMP,
+            D_IS_MINUS_1,
+            Instr::Address(0),
+            A_IS_M_MINUS_1,
+            M_IS_D,
+        ],
+    )
+}
+
+fn go_to(out: &mut Vec<Instr>, target: u16) -> Result<(), AllocError>
+    ensures { OnOk result (out.new.items ≡ out.old.items ++ go_to target) }
+{
+    put(out, &[Instr::Address(target), JUMP])
+}
+
+fn if_go_to(out: &mut Vec<Instr>, target: u16) -> Result<(), AllocError>
+    ensures { OnOk result (out.new.items ≡ out.old.items ++ if_go_to target) }
+{
+    pop_d(out)?;
+    put(out, &[Instr::Address(target), IF_D_NOT_EQUAL])
+}
+
+fn set_pointers(out: &mut Vec<Instr>, arguments: u16) -> Result<(), AllocError>
+    requires { arguments ≤ 32762 }
+    ensures { OnOk result (out.new.items ≡ out.old.items ++ set_pointers arguments) }
+{
+    put(
+        out,
+        &[
+            Instr::Address(0),
+            D_IS_M,
+            Instr::Address(5 + arguments),
+            D_IS_D_MINUS_A,
+            Instr::Address(2),
+            M_IS_D,
+            Instr::Address(0),
+            D_IS_M,
+            Instr::Address(1),
+            M_IS_D,
+        ],
+    )
+}
+
+fn call_code(out: &mut Vec<Instr>, back: u16, target: u16, arguments: u16) -> Result<(), AllocError>
+    requires { arguments ≤ 32762 }
+    ensures { OnOk result (out.new.items ≡ out.old.items ++ call_code back target arguments) }
+{
+    push_constant(out, back)?;
+    push_word(out, 1)?;
+    push_word(out, 2)?;
+    push_word(out, 3)?;
+    push_word(out, 4)?;
+    set_pointers(out, arguments)?;
+    go_to(out, target)
+}
+
+fn function_code(out: &mut Vec<Instr>, locals: u16) -> Result<(), AllocError>
+    ensures { OnOk result (out.new.items ≡ out.old.items ++ function_code locals) }
+{
+    for _local in 0..locals {
+        put(
+            out,
+            &[Instr::Address(0), AM_IS_M_PLUS_1, A_IS_A_MINUS_1, M_IS_0],
+        )?;
+    }
+    put(out, &[Instr::Address(0)])
+}
+
+fn save_return(out: &mut Vec<Instr>) -> Result<(), AllocError>
+    ensures { OnOk result (out.new.items ≡ out.old.items ++ save_return) }
+{
+    put(
+        out,
+        &[
+            Instr::Address(1),
+            D_IS_M,
+            Instr::Address(13),
+            M_IS_D,
+            Instr::Address(5),
+            A_IS_D_MINUS_A,
+            D_IS_M,
+            Instr::Address(14),
+            M_IS_D,
+        ],
+    )
+}
+
+fn put_result(out: &mut Vec<Instr>) -> Result<(), AllocError>
+    ensures { OnOk result (out.new.items ≡ out.old.items ++ put_result) }
+{
+    pop_d(out)?;
+    put(
+        out,
+        &[
+            Instr::Address(2),
+            A_IS_M,
+            M_IS_D,
+            Instr::Address(2),
+            D_IS_M_PLUS_1,
+            Instr::Address(0),
+            M_IS_D,
+        ],
+    )
+}
+
+fn restore(out: &mut Vec<Instr>, register: u16) -> Result<(), AllocError>
+    ensures { OnOk result (out.new.items ≡ out.old.items ++ restore register) }
+{
+    put(
+        out,
+        &[
+            Instr::Address(13),
+            AM_IS_M_MINUS_1,
+            D_IS_M,
+            Instr::Address(register),
+            M_IS_D,
+        ],
+    )
+}
+
+fn return_code(out: &mut Vec<Instr>) -> Result<(), AllocError>
+    ensures { OnOk result (out.new.items ≡ out.old.items ++ return_code) }
+{
+    save_return(out)?;
+    put_result(out)?;
+    restore(out, 4)?;
+    restore(out, 3)?;
+    restore(out, 2)?;
+    restore(out, 1)?;
+    put(out, &[Instr::Address(14), A_IS_M, JUMP])
+}
+
+/// Adds the instructions of a step that stands at this address.
+pub fn template(out: &mut Vec<Instr>, here: u16, shape: Shape) -> Result<(), AllocError>
+    requires room { here + size shape ≤ 32768 }
+    requires limit { IsInLimit shape }
+    ensures { OnOk result (out.new.items ≡ out.old.items ++ template here shape) }
+{
+    match shape {
+        Shape::PushConstant(number) => push_constant(out, number),
+        Shape::PushAt { base, index } => push_at(out, base, index),
+        Shape::PushWord(address) => push_word(out, address),
+        Shape::PopAt { base, index } => pop_at(out, base, index),
+        Shape::PopWord(address) => pop_word(out, address),
+        Shape::Add => join(out, M_IS_D_PLUS_M),
+        Shape::Sub => join(out, M_IS_M_MINUS_D),
+        Shape::And => join(out, M_IS_D_AND_M),
+        Shape::Or => join(out, M_IS_D_OR_M),
+        Shape::Neg => turn(out, M_IS_MINUS_M),
+        Shape::Not => turn(out, M_IS_NOT_M),
+        Shape::Eq => compare(out, IF_D_EQUAL, here),
+        Shape::Gt => compare(out, IF_D_GREATER, here),
+        Shape::Lt => compare(out, IF_D_LESS, here),
+        Shape::Goto(target) => go_to(out, target),
+        Shape::IfGoto(target) => if_go_to(out, target),
+        Shape::Call { target, arguments } => call_code(out, (here + 42) % 32768, target, arguments),
+        Shape::Function { locals } => function_code(out, locals),
+        Shape::Return => return_code(out),
+    }
+}
+
+/// Adds the start code, which calls the function at this address.
+pub fn start_code(out: &mut Vec<Instr>, entry: u16) -> Result<(), AllocError>
+    ensures { OnOk result (out.new.items ≡ out.old.items ++ start_code entry) }
+{
+    put(
+        out,
+        &[Instr::Address(256), D_IS_A, Instr::Address(0), M_IS_D],
+    )?;
+    call_code(out, 46, entry, 0)?;
+    pop_word(out, 5)?;
+    put(out, &[Instr::Address(51), JUMP])
+}

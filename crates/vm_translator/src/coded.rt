@@ -1,0 +1,46 @@
+//! Translated programs.
+ghost use Rattle.std.specs.Prelude.{◌≡◌};
+ghost use Rattle.vm_translator.specs.declared.coded.CodeFault.TheVariants.{Memory};
+
+use hack_isa::Instr;
+use outer_world::Point;
+use std::alloc::{AllocError, AllocFailed};
+use vm_tree::List;
+
+/// Addresses that follow each other and have one control point.
+#[derive(Clone, Copy, Debug, PartialEq, Eq)]
+pub struct PointRange {
+    /// The first address.
+    pub from: u32,
+    /// The address after the last.
+    pub to: u32,
+    pub point: Point,
+}
+
+/// A program's instructions, from address 0 on, with its map.
+#[derive(Drop)]
+pub struct Coded {
+    pub instrs: List<Instr>,
+    /// The addresses of the instructions that end a step of the program's meaning, rising.
+    pub commits: List<u16>,
+    /// The control points of all addresses, rising.
+    pub points: List<PointRange>,
+    /// The addresses of routines that commands share, each from its first up to and without its last. There are none.
+    pub shared: List<(u32, u32)>,
+}
+
+/// Why a program has no code.
+#[derive(Drop)]
+pub enum CodeFault {
+    /// It would have so many words, which are more than 32,768. (2^64 - 1 where they are more than that.)
+    TooLarge(u64),
+    Memory,
+}
+
+impl From<AllocError> for CodeFault {
+    ghost from_gives = { λ _ e. e ≡ Memory };
+
+    fn from(_e: AllocError) -> CodeFault {
+        CodeFault::Memory
+    }
+}

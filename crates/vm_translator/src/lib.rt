@@ -1,0 +1,17 @@
+//! The VM translator: linked VM programs as Hack instructions. (The book, chapters 7 and 8.)
+#![tactic(auto)]
+
+mod blocks;
+mod coded;
+mod emit;
+mod ends;
+mod layout;
+mod map;
+mod shapes;
+mod translating;
+
+pub use coded::{CodeFault, Coded, PointRange};
+pub use translating::{size_law, translate};
+
+#[cfg(test)]
+mod tests;

@@ -1,0 +1,50 @@
+//! Translating.
+ghost use Rattle.std.specs.Prelude.{◌≡◌, ◌≤◌, [], ℕ, All, IfOk, IfErr, length};
+ghost use Rattle.vm_link.specs.declared.linked.Linked.{Linked};
+ghost use Rattle.vm_link.specs.Sound.{IsSound};
+ghost use Rattle.vm_translator.specs.Image.{budget_of, commits_of, image_of, points_of, IsTooLarge};
+ghost use Rattle.vm_translator.specs.Plain.{IsPlain};
+
+use crate::emit::instrs;
+use crate::ends::{base_of, names_end, words};
+use crate::layout::lay_out;
+use crate::map::{commits, points};
+use crate::{CodeFault, Coded};
+use std::alloc::Global;
+use vm_link::Linked;
+use vm_tree::List;
+
+/// The code of a linked program and its map. A program that keeps its opening texts has no start code.
+pub fn translate(alloc: Global, linked: &Linked, bare: bool) -> Result<Coded, CodeFault>
+    requires sound { IsSound linked.now }
+    requires bare { bare ≡ linked.now.bare }
+    ensures image { IfOk result (λ coded. coded.instrs ≡ image_of linked.now) }
+    ensures commits { IfOk result (λ coded. coded.commits ≡ commits_of linked.now) }
+    ensures points { IfOk result (λ coded. coded.points ≡ points_of linked.now) }
+    ensures shared { IfOk result (λ coded. coded.shared ≡ []) }
+    ensures fits { IfOk result (λ coded. length (image_of linked.now) ≤ 32768) }
+    ensures well_formed { IfOk result (λ coded. All IsPlain coded.instrs) }
+    ensures too_large { IfErr result (λ e. (w : ℕ) → e ≡ CodeFault.TooLarge w → IsTooLarge linked.now w) }
+{
+    let ends = names_end(linked);
+    let words = words(linked, ends);
+    if words > 32768 {
+        return Err(CodeFault::TooLarge(words));
+    }
+    let layout = lay_out(alloc, linked.functions.as_slice(), base_of(bare))?;
+    let instrs = instrs(alloc, linked, &layout, ends)?;
+    let commits = commits(alloc, linked, &layout)?;
+    let points = points(alloc, linked, &layout, ends)?;
+    Ok(Coded {
+        instrs: List::of(instrs),
+        commits: List::of(commits),
+        points: List::of(points),
+        shared: List::new(alloc),
+    })
+}
+
+/// Law: no image has more words than its program's budget by commands.
+#[tactic(auto, using(crate::proofs::Answering::image_within))]
+pub fn size_law()
+    ensures { (l : Linked) → length (image_of l) ≤ budget_of l }
+{}
