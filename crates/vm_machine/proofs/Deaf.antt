@@ -1,5 +1,5 @@
 -- A step that hears nothing is the same under every key.
-use Rattle.std.proofs.Common.{◌≡◌, ℕ, ◌-◌, Bool, true, false, nat_lt, nat_eq, List, [], ◌∷◌, refl, ap, ◌∙◌, sym}
+use Rattle.std.proofs.Common.{◌≡◌, ℕ, ◌-◌, Bool, true, false, nat_lt, nat_eq, List, [], ◌∷◌, refl}
 use Rattle.std.specs.Prelude.{Option, Some, None, if◌then◌else◌, slice_index, slice_get}
 use Rattle.word16.specs.Words.{word_add}
 use Rattle.vm_tree.specs.declared.command.Segment.{Segment}
@@ -10,7 +10,7 @@ use Rattle.vm_link.specs.declared.linked.Code.{Code}
 use Rattle.vm_link.specs.declared.linked.Linked.{Linked}
 use Rattle.machine_io.specs.declared.machine.Stray.TheVariants as stray
 use Rattle.vm_machine.specs.State.{Frame, State, words_in_use}
-use Rattle.vm_machine.specs.Step.{Outcome, Acts, Strays, Full, Done, after, pushed, load, written, push, act, fitted, code_in, perform, step_frames, step}
+use Rattle.vm_machine.specs.Step.{Outcome, Acts, Strays, Full, after, pushed, load, push, act, fitted, code_in, perform, step_frames, step}
 use Rattle.vm_machine.specs.Level.{has_heard}
 use Rattle.vm_machine.specs.Laws.{KeyLaw}
 

@@ -1,10 +1,9 @@
 -- A machine that has come to its end stays there.
-use Rattle.std.proofs.Common.{◌≡◌, ℕ, ◌+◌, ◌-◌, Bool, true, false, nat_lt, nat_eq, List, [], ◌∷◌, length, refl, ap, ◌∙◌, sym, subst}
-use Rattle.std.specs.Prelude.{Option, Some, None, if◌then◌else◌, slice_index, slice_get, slice_set}
+use Rattle.std.proofs.Common.{◌≡◌, ℕ, Bool, true, false, nat_lt, nat_eq, List, [], ◌∷◌, length, refl, ap, ◌∙◌, sym}
+use Rattle.std.specs.Prelude.{Option, Some, None, if◌then◌else◌, slice_get}
 use Rattle.word16.specs.Words.{word_add}
 use Rattle.layers.specs.System.{IdlesAtEnd}
 use Rattle.machine_io.specs.declared.machine.Stray.{Stray}
-use Rattle.machine_io.specs.declared.machine.Stray.TheVariants as stray
 use Rattle.vm_tree.specs.declared.command.Operation.{Operation}
 use Rattle.vm_tree.specs.declared.command.Operation.TheVariants.{Add, Sub, Neg, Eq, Gt, Lt, And, Or, Not}
 use Rattle.vm_tree.specs.declared.command.Segment.{Segment}
@@ -14,7 +13,7 @@ use Rattle.vm_link.specs.declared.linked.Step.TheVariants as command
 use Rattle.vm_link.specs.declared.linked.Code.{Code}
 use Rattle.vm_link.specs.declared.linked.Linked.{Linked}
 use Rattle.vm_machine.specs.State.{Frame, State, words_in_use}
-use Rattle.vm_machine.specs.Step.{Outcome, Acts, Strays, Full, Done, on_top, on_two, on_word, turned, joined, operate, load, store, push, pop, call, begin, return, act, fitted, code_in, perform, step_frames, step, start}
+use Rattle.vm_machine.specs.Step.{Outcome, Acts, Strays, Full, Done, on_top, on_two, on_word, turned, joined, operate, load, store, push, pop, begin, return, act, fitted, code_in, perform, step_frames, step}
 use Rattle.vm_machine.specs.Level.{has_heard, is_done, is_commit, next_of, state_after, vm_system}
 use Rattle.vm_machine.specs.Laws.{EndLaw}
 use Rattle.vm_machine.proofs.Deaf.{step_alike}

@@ -1,2 +1,5 @@
 pub mod Deaf
 pub mod Ends
+pub mod Kept
+pub mod Laying
+pub mod Making

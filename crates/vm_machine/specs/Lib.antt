@@ -3,3 +3,5 @@ pub mod Step
 pub mod Level
 pub mod Sound
 pub mod Laws
+pub mod Calls
+pub mod Moves

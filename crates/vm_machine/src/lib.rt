@@ -1,11 +1,16 @@
 //! The virtual machine of the book's chapters 7 and 8: its state, and what each command does.
 #![tactic(auto)]
 
-ghost use Rattle.vm_machine.specs.Laws.{KeyLaw, EndLaw};
+mod commands;
+mod memory;
+mod stack;
 
-/// A step that does not hear the key is the same under every key, whether it hears does not hang on the key, and a
+ghost use Rattle.vm_machine.specs.Laws.{EndLaw, KeyLaw, SoundLaw};
+
+/// The start is sound, and a step leads from a sound state to a sound one; a step that does not hear the key is the same under every key, whether it hears does not hang on the key, and a
 /// machine that has come to its end stays there.
 pub fn vm_law()
+    ensures sound { SoundLaw }
     ensures keys { KeyLaw }
     ensures ends { EndLaw }
 {}
