@@ -6,3 +6,16 @@ pub mod Sizes
 pub mod Joined
 pub mod PlainLemmas
 pub mod Answering
+pub mod Clamped
+pub mod Stack
+pub mod Frames
+pub mod Sets
+pub mod Calls
+pub mod Cases
+pub mod Carries
+pub mod Segments
+pub mod Steps
+pub mod Keys
+pub mod Ways
+pub mod OtherWays
+pub mod Opening

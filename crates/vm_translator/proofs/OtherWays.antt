@@ -19,9 +19,9 @@ use Rattle.vm_machine.specs.State.{State}
 use Rattle.vm_machine.specs.Step.{Outcome, Acts, Strays, Full, Done, step}
 use Rattle.vm_machine.specs.Level.{vm_system, state_after, has_heard, is_done}
 use Rattle.vm_machine.specs.Laws.{KeyLaw, SoundLaw}
-use Rattle.vm_stands.specs.Carries.{place_of}
-use Rattle.vm_stands.specs.Laws.{CarriesKey, MissesPush, MissesPop}
-use Rattle.vm_stands.specs.Related.{StandsFor}
+use Rattle.vm_translator.specs.Carries.{place_of}
+use Rattle.vm_translator.specs.Laws.{CarriesKey, MissesPush, MissesPop}
+use Rattle.vm_translator.specs.Related.{StandsFor}
 
 heard_acts : (o : Outcome) → has_heard o ≡ true → (u : State) → state_after o ≡ Some u → o ≡ Acts true u
 heard_acts (Acts true s) h u e = let z : s ≡ u = cc in ap (Acts true) z

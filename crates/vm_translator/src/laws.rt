@@ -1,7 +1,5 @@
-//! When a state of the computer stands for one of the virtual machine. (The book, chapters 7 and 8.)
-#![tactic(auto)]
-
-ghost use Rattle.vm_stands.specs.Laws.{AllStepsCarry};
+//! Laws of what the image of a linked program does: no code, only the statements.
+ghost use Rattle.vm_translator.specs.Laws.{AllStepsCarry};
 
 /// Law: where the memory holds a state of the virtual machine, the effect of a step's instructions is the next state.
 #[tactic(auto, using(crate::proofs::Keys::all_steps_carry))]

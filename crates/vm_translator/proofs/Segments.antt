@@ -15,13 +15,14 @@ use Rattle.vm_machine.specs.State.{Frame, State, words_in_use}
 use Rattle.vm_machine.specs.Step.{Outcome, Acts, Strays, fitted, goes, after, load, store, push, pop, on_top}
 use Rattle.vm_machine.specs.Step as vm
 use Rattle.vm_machine.specs.Sound.{IsSoundState, AreSoundFrames}
-use Rattle.vm_stands.specs.Stands.{SameMemory, saved}
-use Rattle.vm_stands.specs.Carries.{Carries, pushed, popped, place_of}
-use Rattle.vm_stands.proofs.Stack.{holds_front, holds_back, holds_at}
-use Rattle.vm_stands.proofs.Frames.{Written, taken_first, inner_of, base, at_frames, left_words, dropped_same}
-use Rattle.vm_stands.proofs.Sets.{set_static, set_temp, set_word, set_this, set_that, set_local, set_argument, local_place, argument_place}
-use Rattle.vm_stands.proofs.Cases.{goes_case, word_case, less_case, not_less_case, less_or, same_or, grown, values_in_use}
-use Rattle.vm_stands.proofs.Carries.{push_carries}
+use Rattle.vm_translator.specs.Stands.{SameMemory, saved}
+use Rattle.vm_translator.specs.Carries.{Carries, place_of}
+use Rattle.vm_translator.proofs.Clamped.{pushed, popped}
+use Rattle.vm_translator.proofs.Stack.{holds_front, holds_back, holds_at}
+use Rattle.vm_translator.proofs.Frames.{Written, taken_first, inner_of, base, at_frames, left_words, dropped_same}
+use Rattle.vm_translator.proofs.Sets.{set_static, set_temp, set_word, set_this, set_that, set_local, set_argument, local_place, argument_place}
+use Rattle.vm_translator.proofs.Cases.{goes_case, word_case, less_case, not_less_case, less_or, same_or, grown, values_in_use}
+use Rattle.vm_translator.proofs.Carries.{push_carries}
 
 -- a frame with arguments or locals was called
 caller : (l : Linked) (f : Frame) (fs : List Frame) → AreSoundFrames l (f ∷ fs) → (1 ≤ length f.arguments) ⊎ (1 ≤ length f.locals) → (c : Frame) × (rest : List Frame) × (fs ≡ c ∷ rest)

@@ -17,9 +17,10 @@ use Rattle.vm_machine.specs.State.{Frame, State}
 use Rattle.vm_machine.specs.Step.{Acts, act, fitted, perform, step_frames, step, code_in}
 use Rattle.vm_machine.specs.Level.{vm_system, state_after, has_heard, is_done}
 use Rattle.vm_machine.specs.Laws.{KeyLaw, SoundLaw}
-use Rattle.vm_stands.specs.Carries.{shape_of, IsTarget, IsStep}
-use Rattle.vm_stands.specs.Related.{StandsFor}
-use Rattle.vm_stands.proofs.Steps.{step_carries}
+use Rattle.vm_translator.specs.Shapes.{shape_of}
+use Rattle.vm_translator.specs.Carries.{IsTarget, IsStep}
+use Rattle.vm_translator.specs.Related.{StandsFor}
+use Rattle.vm_translator.proofs.Steps.{step_carries}
 
 -- the step of the innermost frame's command
 pub step_is : (l : Linked) (v : State) (f : Frame) (below : List Frame) (c : Code) (key : ℕ) → v.frames ≡ f ∷ below → slice_get (code_in l f.function) f.place ≡ Some c → step l key v ≡ fitted (act key c.step v f below)
