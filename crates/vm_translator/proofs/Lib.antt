@@ -19,3 +19,9 @@ pub mod Keys
 pub mod Ways
 pub mod OtherWays
 pub mod Opening
+pub mod Chained
+pub mod Covered
+pub mod Placing
+pub mod Outcomes
+pub mod Simulating
+pub mod Instructed

@@ -46,7 +46,7 @@ module _ (address : Option ℕ → ℕ → ℕ) (l : Linked) (v : State) (f : Fr
   that_is = let h' = at_frames address v f below m e h in h'.that
 
   -- where an argument and a local are
-  argument_at : (i : ℕ) → i < length f.arguments → (m (m 2 + i) ≡ slice_index f.arguments i) × (256 ≤ m 2) × (m 2 + i < 2048)
+  pub argument_at : (i : ℕ) → i < length f.arguments → (m (m 2 + i) ≡ slice_index f.arguments i) × (256 ≤ m 2) × (m 2 + i < 2048)
   argument_at i small =
       let k = caller l f below frames (inl (omega arith)) in
       let e' : v.frames ≡ f ∷ k.0 ∷ k.1 = e ∙ ap (λ fs. f ∷ fs) k.2 in
@@ -59,7 +59,7 @@ module _ (address : Option ℕ → ℕ → ℕ) (l : Linked) (v : State) (f : Fr
       let r = room in
       (ap (λ b. m (b + i)) at ∙ holds_at m (base address (k.0 ∷ k.1)) f.arguments i own small, omega arith, omega (arith, n.sp, at, len, inner, sp, r))
 
-  local_at : (i : ℕ) → i < length f.locals → (m (m 1 + i) ≡ slice_index f.locals i) × (256 ≤ m 1) × (m 1 + i < 2048)
+  pub local_at : (i : ℕ) → i < length f.locals → (m (m 1 + i) ≡ slice_index f.locals i) × (256 ≤ m 1) × (m 1 + i < 2048)
   local_at i small =
       let k = caller l f below frames (inr (omega arith)) in
       let e' : v.frames ≡ f ∷ k.0 ∷ k.1 = e ∙ ap (λ fs. f ∷ fs) k.2 in

@@ -7,3 +7,5 @@ pub mod Stands
 pub mod Carries
 pub mod Laws
 pub mod Related
+pub mod Mapping
+pub mod Translated
