@@ -250,7 +250,7 @@ unfolding Each
 every P [] h = tt
 every P (x ∷ xs) h = (h x, every P xs h)
 
-address_within : (base : ℕ) (fs : List LinkedFunction) (k p : ℕ) → address base fs k p ≤ base + words_in fs
+pub address_within : (base : ℕ) (fs : List LinkedFunction) (k p : ℕ) → address base fs k p ≤ base + words_in fs
 address_within base fs k p = let w = words_in_parts fs k in let q = words_parts (code_at fs k) p in omega arith
 
 -- a step leads to the end at most, and below it where it does not name it
@@ -281,11 +281,11 @@ target_below base fs k next (step.Pop g i) n z h e = z
 target_below base fs k next (step.Function m) n z h e = z
 target_below base fs k next step.Return n z h e = z
 
-record Leads (l : Linked) : Type 0 where
-  entry : l.bare ≡ false → entry_of l < 32768
-  targets : Each (λ c. target_of (base_of l) l.functions c.function c.code.step < 32768) (program l)
+pub record Leads (l : Linked) : Type 0 where
+  pub entry : l.bare ≡ false → entry_of l < 32768
+  pub targets : Each (λ c. target_of (base_of l) l.functions c.function c.code.step < 32768) (program l)
 
-leads : (l : Linked) → length (image_of l) ≤ 32768 → Leads l
+pub leads : (l : Linked) → length (image_of l) ≤ 32768 → Leads l
 leads l fits = ⊎_by (cases_Bool (names_end l)) some none
   where
     some : names_end l ≡ true → Leads l

@@ -40,7 +40,7 @@ length_template here (shape.Call t n) = refl
 length_template here (shape.Function n) = length_function n
 length_template here shape.Return = refl
 
-length_piece : (base : ℕ) (fs : List LinkedFunction) (c : Placed) → length (piece base fs c) ≡ step_size c.code.step
+pub length_piece : (base : ℕ) (fs : List LinkedFunction) (c : Placed) → length (piece base fs c) ≡ step_size c.code.step
 length_piece base fs c = length_template c.at (shape_of (target_of base fs c.function c.code.step) c.code.step) ∙ size_to (target_of base fs c.function c.code.step) c.code.step
 
 module _ (base : ℕ) (fs : List LinkedFunction) where
@@ -61,7 +61,7 @@ module _ (base : ℕ) (fs : List LinkedFunction) where
       let r = length_from (k + 1) (at + words_of g.code) gs in
       ap length (flat_map-append (piece base fs) first rest) ∙ length-append (flat_map (piece base fs) first) (flat_map (piece base fs) rest) ∙ omega arith
 
-length_opening : (l : Linked) → length (opening l) ≡ base_of l
+pub length_opening : (l : Linked) → length (opening l) ≡ base_of l
 length_opening l = by_bare l.bare (entry_of l)
   where
     by_bare : (b : Bool) (e : ℕ) → length (if b then [] else start_code e) ≡ (if b then 0 else 53)

@@ -3,3 +3,9 @@ pub mod Places
 pub mod Image
 pub mod Plain
 pub mod Tables
+pub mod Stands
+pub mod Carries
+pub mod Laws
+pub mod Related
+pub mod Mapping
+pub mod Translated

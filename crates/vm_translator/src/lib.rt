@@ -5,12 +5,14 @@ mod blocks;
 mod coded;
 mod emit;
 mod ends;
+mod laws;
 mod layout;
 mod map;
 mod shapes;
 mod translating;
 
 pub use coded::{CodeFault, Coded, PointRange};
+pub use laws::{steps_carry_law, translated_law};
 pub use translating::{size_law, translate};
 
 #[cfg(test)]

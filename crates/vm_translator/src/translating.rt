@@ -1,9 +1,12 @@
 //! Translating.
-ghost use Rattle.std.specs.Prelude.{◌≡◌, ◌≤◌, [], ℕ, All, IfOk, IfErr, length};
+ghost use Rattle.std.specs.Prelude.{◌≡◌, ◌≤◌, [], ℕ, All, IfOk, IfErr, false, length, map};
+ghost use Rattle.hack_isa.specs.Table.{word_of};
 ghost use Rattle.vm_link.specs.declared.linked.Linked.{Linked};
 ghost use Rattle.vm_link.specs.Sound.{IsSound};
 ghost use Rattle.vm_translator.specs.Image.{budget_of, commits_of, image_of, points_of, IsTooLarge};
+ghost use Rattle.vm_translator.specs.Mapping.{map_of, Covers};
 ghost use Rattle.vm_translator.specs.Plain.{IsPlain};
+ghost use Rattle.vm_translator.specs.Translated.{IsTranslated};
 
 use crate::emit::instrs;
 use crate::ends::{base_of, names_end, words};
@@ -24,6 +27,8 @@ pub fn translate(alloc: Global, linked: &Linked, bare: bool) -> Result<Coded, Co
     ensures shared { IfOk result (λ coded. coded.shared ≡ []) }
     ensures fits { IfOk result (λ coded. length (image_of linked.now) ≤ 32768) }
     ensures well_formed { IfOk result (λ coded. All IsPlain coded.instrs) }
+    ensures covers { IfOk result (λ coded. Covers 0 coded.points (length coded.instrs)) }
+    ensures translated { linked.now.bare ≡ false → IfOk result (λ coded. IsTranslated linked.now (map word_of coded.instrs) (map_of coded.commits coded.points) 51) }
     ensures too_large { IfErr result (λ e. (w : ℕ) → e ≡ CodeFault.TooLarge w → IsTooLarge linked.now w) }
 {
     let ends = names_end(linked);

@@ -6,6 +6,7 @@ use Rattle.vm_translator.specs.Plain.{IsPlain}
 use Rattle.vm_translator.specs.Tables.{IsReady}
 use Rattle.vm_translator.proofs.Answering.{all_ready, fits, functions_fit, ready_in, too_large}
 use Rattle.vm_translator.proofs.PlainLemmas.{plain_image}
+use Rattle.vm_translator.proofs.Instructed.{covers_as, translated_as}
 use Rattle.vm_translator.proofs.translating.translate.Goals as goal
 
 pub returns-then-words-gt32768-clause-too_large : goal.returns-then-words-gt32768-clause-too_large
@@ -45,3 +46,12 @@ returns-clause-well_formed c =
     let l = c.args.linked.now in
     let f = fits l c.words-words.result c.words-words.ensures c.if-words-gt32768.false in
     subst (All IsPlain) (sym (c.of.ensures ∙ c.in_ok-instrs.ensures)) (plain_image l f (all_ready l f c.requires.sound))
+
+pub returns-clause-covers : goal.returns-clause-covers
+returns-clause-covers c = covers_as c.args.linked.now c.of.result c.of-3.result (c.of.ensures ∙ c.in_ok-instrs.ensures) (c.of-3.ensures ∙ c.in_ok-points.ensures)
+
+pub returns-clause-translated : goal.returns-clause-translated
+returns-clause-translated c =
+    let l = c.args.linked.now in
+    let f = fits l c.words-words.result c.words-words.ensures c.if-words-gt32768.false in
+    λ whole. translated_as l c.of.result c.of-2.result c.of-3.result c.requires.sound f (c.of.ensures ∙ c.in_ok-instrs.ensures) (c.of-2.ensures ∙ c.in_ok-commits.ensures) (c.of-3.ensures ∙ c.in_ok-points.ensures) whole

@@ -5,9 +5,9 @@ use Rattle.std.proofs.lemmas.List.{length-reverse, length-take-le}
 use Rattle.hack_blocks.specs.Effects.{IsKept, PushedAll, Called, Returned}
 use Rattle.vm_machine.specs.State.{Frame, State, words_in_use}
 use Rattle.vm_machine.specs.Step.{called}
-use Rattle.vm_stands.specs.Stands.{Holds, own_words, saved, SameMemory}
-use Rattle.vm_stands.proofs.Stack.{holds_kept, holds_both, holds_front, holds_back, use_is, laid_kept, own_top, own_cut}
-use Rattle.vm_stands.proofs.Frames.{inner_of, base, with_frame, at_frames, lcl_same, arg_same, frame_changed, left_words}
+use Rattle.vm_translator.specs.Stands.{Holds, own_words, saved, SameMemory}
+use Rattle.vm_translator.proofs.Stack.{holds_kept, holds_both, holds_front, holds_back, use_is, laid_kept, own_top, own_cut}
+use Rattle.vm_translator.proofs.Frames.{inner_of, base, with_frame, at_frames, lcl_same, arg_same, frame_changed, left_words}
 
 high : (k : ℕ) → 16 ≤ k → IsKept k
 high k h = (omega arith, omega arith, omega arith, omega arith)

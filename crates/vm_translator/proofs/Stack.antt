@@ -4,7 +4,7 @@ use Rattle.std.specs.Prelude.{slice_index, slice_set}
 use Rattle.std.proofs.lemmas.Grind.{reverse_onto}
 use Rattle.std.proofs.lemmas.List.{length-reverse, reverse-append, take-append-drop}
 use Rattle.vm_machine.specs.State.{Frame, words_in_use}
-use Rattle.vm_stands.specs.Stands.{Holds, Laid, own_words, saved}
+use Rattle.vm_translator.specs.Stands.{Holds, Laid, own_words, saved}
 
 pub holds_kept : (m after : ℕ → ℕ) (b : ℕ) (ws : List ℕ) → Holds m b ws → ((k : ℕ) → b ≤ k → k < b + length ws → after k ≡ m k) → Holds after b ws
 holds_kept m after b [] h e = tt

@@ -5,8 +5,8 @@ use Rattle.hack_blocks.specs.Effects.{HasWords}
 use Rattle.vm_link.specs.declared.linked.Linked.{Linked}
 use Rattle.vm_machine.specs.State.{State}
 use Rattle.vm_machine.specs.Sound.{IsSoundState}
-use Rattle.vm_stands.specs.Stands.{SameMemory}
-use Rattle.vm_stands.specs.Carries.{place_of}
+use Rattle.vm_translator.specs.Stands.{SameMemory}
+use Rattle.vm_translator.specs.Carries.{place_of}
 
 -- The memory holds a sound state, all words are words, and the computer is where the innermost frame goes on.
 pub record StandsFor (address : Option ℕ → ℕ → ℕ) (l : Linked) (v : State) (s : Machine) : Type 0 where

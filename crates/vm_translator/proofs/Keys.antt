@@ -12,11 +12,11 @@ use Rattle.vm_machine.specs.State.{Frame, State, words_in_use}
 use Rattle.vm_machine.specs.Step.{Outcome, Acts, Strays, Full, fitted, goes, after, load, store, pop, on_top}
 use Rattle.vm_machine.specs.Step as vm
 use Rattle.vm_machine.specs.Sound.{IsSoundState}
-use Rattle.vm_stands.specs.Stands.{SameMemory}
-use Rattle.vm_stands.specs.Laws.{CarriesKey, AllStepsCarry}
-use Rattle.vm_stands.proofs.Frames.{at_frames, pushed_same}
-use Rattle.vm_stands.proofs.Cases.{goes_case, less_case, not_less_case, less_or, same_or, grown, values_in_use}
-use Rattle.vm_stands.proofs.Steps.{step_carries}
+use Rattle.vm_translator.specs.Stands.{SameMemory}
+use Rattle.vm_translator.specs.Laws.{CarriesKey, AllStepsCarry}
+use Rattle.vm_translator.proofs.Frames.{at_frames, pushed_same}
+use Rattle.vm_translator.proofs.Cases.{goes_case, less_case, not_less_case, less_or, same_or, grown, values_in_use}
+use Rattle.vm_translator.proofs.Steps.{step_carries}
 
 -- what acts or is full does not go astray
 not_astray : (b h : Bool) (n : ℕ) (s : State) (why : Stray) → (if b then Full n else Acts h s) ≡ Strays why → ⊥

@@ -4,9 +4,9 @@ use Rattle.std.specs.Prelude.{slice_index, slice_set}
 use Rattle.std.proofs.lemmas.List.{get_or-set_same, get_or-set_other}
 use Rattle.std.proofs.Math.ListN.{length-set}
 use Rattle.vm_machine.specs.State.{Frame, State, words_in_use}
-use Rattle.vm_stands.specs.Stands.{Holds, own_words, saved, SameMemory}
-use Rattle.vm_stands.proofs.Stack.{holds_kept, holds_set, use_is, laid_kept}
-use Rattle.vm_stands.proofs.Frames.{Written, inner_of, base, with_frame, at_frames, lcl_same, arg_same, frame_changed}
+use Rattle.vm_translator.specs.Stands.{Holds, own_words, saved, SameMemory}
+use Rattle.vm_translator.proofs.Stack.{holds_kept, holds_set, use_is, laid_kept}
+use Rattle.vm_translator.proofs.Frames.{Written, inner_of, base, with_frame, at_frames, lcl_same, arg_same, frame_changed}
 
 same_or_not : (k i : ℕ) → (k ≡ i) ⊎ (k ≢ i)
 same_or_not k i = grind arith

@@ -13,7 +13,7 @@ use Rattle.vm_link.specs.declared.linked.Linked.{Linked}
 use Rattle.vm_machine.specs.Step.{start}
 use Rattle.vm_machine.specs.Level.{vm_system}
 use Rattle.vm_machine.specs.Laws.{SoundLaw}
-use Rattle.vm_stands.specs.Related.{StandsFor}
+use Rattle.vm_translator.specs.Related.{StandsFor}
 
 copies : (n k : ℕ) → slice_index (replicate n 0) k ≡ 0
 copies zero k = refl

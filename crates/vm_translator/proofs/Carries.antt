@@ -13,10 +13,11 @@ use Rattle.hack_blocks.specs.Commands.{IsShape, HasRoom, HasValues, topmost, sec
 use Rattle.vm_machine.specs.State.{Frame, State, words_in_use}
 use Rattle.vm_machine.specs.Step.{Acts, fitted, truth, operate, joined, turned, goes, after}
 use Rattle.vm_machine.specs.Sound.{IsSoundState}
-use Rattle.vm_stands.specs.Stands.{SameMemory}
-use Rattle.vm_stands.specs.Carries.{Carries, operated}
-use Rattle.vm_stands.proofs.Frames.{inner_of, left_words, left_two, pushed_same, joined_same, turned_same}
-use Rattle.vm_stands.proofs.Cases.{goes_case, top_case, two_case, grown, values_in_use}
+use Rattle.vm_translator.specs.Stands.{SameMemory}
+use Rattle.vm_translator.specs.Shapes.{operated}
+use Rattle.vm_translator.specs.Carries.{Carries}
+use Rattle.vm_translator.proofs.Frames.{inner_of, left_words, left_two, pushed_same, joined_same, turned_same}
+use Rattle.vm_translator.proofs.Cases.{goes_case, top_case, two_case, grown, values_in_use}
 
 joined_equal : (m after : ℕ → ℕ) (x y : ℕ) → Joined m after (equal x y) → Joined m after (truth (nat_eq x y))
 unfolding equal

@@ -15,13 +15,14 @@ use Rattle.vm_machine.specs.State.{Frame, State, words_in_use}
 use Rattle.vm_machine.specs.Step.{Outcome, Acts, Strays, fitted, goes, after, load, store, push, pop, on_top}
 use Rattle.vm_machine.specs.Step as vm
 use Rattle.vm_machine.specs.Sound.{IsSoundState, AreSoundFrames}
-use Rattle.vm_stands.specs.Stands.{SameMemory, saved}
-use Rattle.vm_stands.specs.Carries.{Carries, pushed, popped, place_of}
-use Rattle.vm_stands.proofs.Stack.{holds_front, holds_back, holds_at}
-use Rattle.vm_stands.proofs.Frames.{Written, taken_first, inner_of, base, at_frames, left_words, dropped_same}
-use Rattle.vm_stands.proofs.Sets.{set_static, set_temp, set_word, set_this, set_that, set_local, set_argument, local_place, argument_place}
-use Rattle.vm_stands.proofs.Cases.{goes_case, word_case, less_case, not_less_case, less_or, same_or, grown, values_in_use}
-use Rattle.vm_stands.proofs.Carries.{push_carries}
+use Rattle.vm_translator.specs.Stands.{SameMemory, saved}
+use Rattle.vm_translator.specs.Carries.{Carries, place_of}
+use Rattle.vm_translator.proofs.Clamped.{pushed, popped}
+use Rattle.vm_translator.proofs.Stack.{holds_front, holds_back, holds_at}
+use Rattle.vm_translator.proofs.Frames.{Written, taken_first, inner_of, base, at_frames, left_words, dropped_same}
+use Rattle.vm_translator.proofs.Sets.{set_static, set_temp, set_word, set_this, set_that, set_local, set_argument, local_place, argument_place}
+use Rattle.vm_translator.proofs.Cases.{goes_case, word_case, less_case, not_less_case, less_or, same_or, grown, values_in_use}
+use Rattle.vm_translator.proofs.Carries.{push_carries}
 
 -- a frame with arguments or locals was called
 caller : (l : Linked) (f : Frame) (fs : List Frame) → AreSoundFrames l (f ∷ fs) → (1 ≤ length f.arguments) ⊎ (1 ≤ length f.locals) → (c : Frame) × (rest : List Frame) × (fs ≡ c ∷ rest)
@@ -45,7 +46,7 @@ module _ (address : Option ℕ → ℕ → ℕ) (l : Linked) (v : State) (f : Fr
   that_is = let h' = at_frames address v f below m e h in h'.that
 
   -- where an argument and a local are
-  argument_at : (i : ℕ) → i < length f.arguments → (m (m 2 + i) ≡ slice_index f.arguments i) × (256 ≤ m 2) × (m 2 + i < 2048)
+  pub argument_at : (i : ℕ) → i < length f.arguments → (m (m 2 + i) ≡ slice_index f.arguments i) × (256 ≤ m 2) × (m 2 + i < 2048)
   argument_at i small =
       let k = caller l f below frames (inl (omega arith)) in
       let e' : v.frames ≡ f ∷ k.0 ∷ k.1 = e ∙ ap (λ fs. f ∷ fs) k.2 in
@@ -58,7 +59,7 @@ module _ (address : Option ℕ → ℕ → ℕ) (l : Linked) (v : State) (f : Fr
       let r = room in
       (ap (λ b. m (b + i)) at ∙ holds_at m (base address (k.0 ∷ k.1)) f.arguments i own small, omega arith, omega (arith, n.sp, at, len, inner, sp, r))
 
-  local_at : (i : ℕ) → i < length f.locals → (m (m 1 + i) ≡ slice_index f.locals i) × (256 ≤ m 1) × (m 1 + i < 2048)
+  pub local_at : (i : ℕ) → i < length f.locals → (m (m 1 + i) ≡ slice_index f.locals i) × (256 ≤ m 1) × (m 1 + i < 2048)
   local_at i small =
       let k = caller l f below frames (inr (omega arith)) in
       let e' : v.frames ≡ f ∷ k.0 ∷ k.1 = e ∙ ap (λ fs. f ∷ fs) k.2 in

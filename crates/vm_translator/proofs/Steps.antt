@@ -1,5 +1,5 @@
 -- Each step of linked code carries the memory to the next state.
-use Rattle.std.proofs.Common.{◌≡◌, ℕ, Option, Some, ◌+◌, ◌≤◌, ◌%◌, Bool, true, false, List, [], ◌∷◌, length, take, drop, refl, ap, ◌∙◌, subst, arith}
+use Rattle.std.proofs.Common.{◌≡◌, ℕ, Option, Some, ◌+◌, ◌≤◌, ◌%◌, Bool, true, false, List, [], ◌∷◌, length, take, drop, refl, ap, ◌∙◌, sym, subst, arith}
 use Rattle.std.specs.Prelude.{nat_eq, if◌then◌else◌, replicate}
 use Rattle.machine_io.specs.declared.machine.Stray.TheVariants as stray
 use Rattle.vm_tree.specs.declared.command.Operation.{Operation}
@@ -12,13 +12,15 @@ use Rattle.hack_blocks.specs.Templates.{size}
 use Rattle.hack_blocks.specs.Commands.{HasValues, next}
 use Rattle.vm_machine.specs.State.{Frame, State, words_in_use}
 use Rattle.vm_machine.specs.Step.{Acts, fitted, goes, after, act, on_top, pop, call, called, begin, return}
-use Rattle.vm_stands.specs.Carries.{shape_of, Carries, IsStep}
+use Rattle.vm_translator.specs.Shapes.{shape_of}
+use Rattle.vm_translator.specs.Carries.{Carries, IsStep}
+use Rattle.vm_translator.proofs.Clamped.{plain_of, plain_same}
 use Rattle.std.proofs.lemmas.List.{length-reverse, length-take-le, length-drop}
-use Rattle.vm_stands.proofs.Frames.{inner_of, left_words, dropped_same, moved_same}
-use Rattle.vm_stands.proofs.Calls.{length-copies, called_same, begun_same, links, return_address, returned_same}
-use Rattle.vm_stands.proofs.Cases.{goes_case, top_case, not_less_case, grown, values_in_use}
-use Rattle.vm_stands.proofs.Carries.{operate_carries}
-use Rattle.vm_stands.proofs.Segments.{segment_push_carries, segment_pop_carries}
+use Rattle.vm_translator.proofs.Frames.{inner_of, left_words, dropped_same, moved_same}
+use Rattle.vm_translator.proofs.Calls.{length-copies, called_same, begun_same, links, return_address, returned_same}
+use Rattle.vm_translator.proofs.Cases.{goes_case, top_case, not_less_case, grown, values_in_use}
+use Rattle.vm_translator.proofs.Carries.{operate_carries}
+use Rattle.vm_translator.proofs.Segments.{segment_push_carries, segment_pop_carries}
 
 zero_or : (b : Bool) (w p q : ℕ) → nat_eq w 0 ≡ b → (if nat_eq w 0 then p else q) ≡ (if b then p else q)
 zero_or b w p q e = ap (λ c. if c then p else q) e
@@ -131,25 +133,31 @@ module _ (address : Option ℕ → ℕ → ℕ) (l : Linked) (v : State) (f : Fr
         to = back;
       })
 
-  pub step_carries : (key : ℕ) (c : Step) (v' : State) → IsStep address l v f below c here to m → fitted (act key c v f below) ≡ Acts false v' → Carries address (shape_of to c) here m v'
-  step_carries key (step.Operate o) v' s acts = operate_carries address l v f below m s.frames s.sound s.memory here o false v' (plain_operate o s.after) acts
+  plainly : (key : ℕ) (c : Step) (v' : State) → IsStep address l v f below c here to m → fitted (act key c v f below) ≡ Acts false v' → Carries address (plain_of to c) here m v'
+  plainly key (step.Operate o) v' s acts = operate_carries address l v f below m s.frames s.sound s.memory here o false v' (plain_operate o s.after) acts
     where
-      plain_operate : (o : Operation) → (here + size (shape_of to (step.Operate o))) % 32768 ≡ address f.function (f.place + 1) → next (shape_of to (step.Operate o)) here m ≡ address f.function (f.place + 1)
+      plain_operate : (o : Operation) → (here + size (shape_of to (step.Operate o))) % 32768 ≡ address f.function (f.place + 1) → next (plain_of to (step.Operate o)) here m ≡ address f.function (f.place + 1)
       plain_operate o e = grind arith
-  step_carries key (step.Push g i) v' s acts = segment_push_carries address l v f below m s.frames s.sound s.memory s.words here key g i v' (plain_push g s.after) acts
+  plainly key (step.Push g i) v' s acts = segment_push_carries address l v f below m s.frames s.sound s.memory s.words here key g i v' (plain_push g s.after) acts
     where
-      plain_push : (g : Segment) → (here + size (shape_of to (step.Push g i))) % 32768 ≡ address f.function (f.place + 1) → next (shape_of to (step.Push g i)) here m ≡ address f.function (f.place + 1)
+      plain_push : (g : Segment) → (here + size (shape_of to (step.Push g i))) % 32768 ≡ address f.function (f.place + 1) → next (plain_of to (step.Push g i)) here m ≡ address f.function (f.place + 1)
       plain_push g e = grind arith
-  step_carries key (step.Pop g i) v' s acts =
+  plainly key (step.Pop g i) v' s acts =
       let one = top_case f.values (λ w values. pop g i v f below w values) false v' acts in
       segment_pop_carries address l v f below m s.frames s.sound s.memory s.words here one.0 one.1 one.2 g i v' (plain_pop g s.after) one.3
     where
-      plain_pop : (g : Segment) → (here + size (shape_of to (step.Pop g i))) % 32768 ≡ address f.function (f.place + 1) → next (shape_of to (step.Pop g i)) here m ≡ address f.function (f.place + 1)
+      plain_pop : (g : Segment) → (here + size (shape_of to (step.Pop g i))) % 32768 ≡ address f.function (f.place + 1) → next (plain_of to (step.Pop g i)) here m ≡ address f.function (f.place + 1)
       plain_pop g e = grind arith
-  step_carries key (step.Goto p) v' s acts = goto_carries p v' s acts
-  step_carries key (step.IfGoto p) v' s acts = if_goto_carries p v' s acts
-  step_carries key (step.Function n) v' s acts = begin_carries n below f.locals f.values v' refl refl refl s acts
-  step_carries key (step.Call g n) v' s acts = call_carries g n v' s acts
-  step_carries key step.Return v' s acts =
+  plainly key (step.Goto p) v' s acts = goto_carries p v' s acts
+  plainly key (step.IfGoto p) v' s acts = if_goto_carries p v' s acts
+  plainly key (step.Function n) v' s acts = begin_carries n below f.locals f.values v' refl refl refl s acts
+  plainly key (step.Call g n) v' s acts = call_carries g n v' s acts
+  plainly key step.Return v' s acts =
       let one = top_case f.values (λ w values. return below v w values) false v' acts in
       return_carries below one.0 one.1 v' one.2 refl s one.3
+
+  -- A step that acts has numbers that an instruction can name.
+  pub step_carries : (key : ℕ) (c : Step) (v' : State) → IsStep address l v f below c here to m → fitted (act key c v f below) ≡ Acts false v' → Carries address (shape_of to c) here m v'
+  step_carries key c v' s acts =
+      let p = plainly key c v' s acts in
+      subst (λ z. Carries address z here m v') (sym (plain_same to c p.shape)) p

@@ -10,8 +10,9 @@ use Rattle.hack_blocks.specs.Effects.{Pushed}
 use Rattle.hack_blocks.specs.Commands.{IsShape, HasRoom, HasValues, address_at, next}
 use Rattle.vm_machine.specs.State.{Frame, State}
 use Rattle.vm_machine.specs.Step.{Acts, Strays, act, fitted}
-use Rattle.vm_stands.specs.Stands.{SameMemory}
-use Rattle.vm_stands.specs.Carries.{shape_of, place_of, Carries, IsStep}
+use Rattle.vm_translator.specs.Stands.{SameMemory}
+use Rattle.vm_translator.specs.Shapes.{shape_of}
+use Rattle.vm_translator.specs.Carries.{place_of, Carries, IsStep}
 
 -- A push of this or that, whose register is `base`, hears the key: its address is 24,576, and after the key is pushed the memory holds the state.
 pub record CarriesKey (address : Option ℕ → ℕ → ℕ) (base index here key : ℕ) (m : ℕ → ℕ) (v : State) : Type 0 where

@@ -4,8 +4,8 @@ use Rattle.std.specs.Prelude.{nat_eq, if◌then◌else◌}
 use Rattle.std.proofs.lemmas.Bool.Decides.{nat_tests}
 use Rattle.hack_blocks.specs.Effects.{IsKept, Pushed, Joined, Turned, Stored, Dropped}
 use Rattle.vm_machine.specs.State.{Frame, State, words_in_use}
-use Rattle.vm_stands.specs.Stands.{Holds, own_words, lcl_of, arg_of, SameMemory}
-use Rattle.vm_stands.proofs.Stack.{holds_kept, holds_both, holds_front, holds_back, use_is, laid_kept, own_top}
+use Rattle.vm_translator.specs.Stands.{Holds, own_words, lcl_of, arg_of, SameMemory}
+use Rattle.vm_translator.proofs.Stack.{holds_kept, holds_both, holds_front, holds_back, use_is, laid_kept, own_top}
 
 pub lcl_same : (f g : Frame) (below : List Frame) → length g.arguments ≡ length f.arguments → lcl_of (g ∷ below) ≡ lcl_of (f ∷ below)
 lcl_same f g [] e = refl

@@ -8,6 +8,7 @@ use Rattle.hack_blocks.specs.declared.shape.Shape.TheVariants as shape
 use Rattle.hack_blocks.specs.Templates.{template}
 use Rattle.hack_blocks.specs.Computer.{Map, Stands, hack_system}
 use Rattle.hack_blocks.specs.Effects.{Pushed}
+use Rattle.hack_blocks.specs.Going.{Does, DoesHearing}
 use Rattle.hack_blocks.specs.Own.{IsOwn}
 use Rattle.hack_blocks.specs.Commands.{IsAt, After}
 use Rattle.hack_blocks.proofs.Ways.{quiet_way, hearing_way, resting_way}
@@ -19,9 +20,10 @@ use Rattle.vm_machine.specs.State.{State}
 use Rattle.vm_machine.specs.Step.{Outcome, Acts, Strays, Full, Done, step}
 use Rattle.vm_machine.specs.Level.{vm_system, state_after, has_heard, is_done}
 use Rattle.vm_machine.specs.Laws.{KeyLaw, SoundLaw}
-use Rattle.vm_stands.specs.Carries.{place_of}
-use Rattle.vm_stands.specs.Laws.{CarriesKey, MissesPush, MissesPop}
-use Rattle.vm_stands.specs.Related.{StandsFor}
+use Rattle.vm_translator.specs.Carries.{place_of}
+use Rattle.vm_translator.specs.Laws.{CarriesKey, MissesPush, MissesPop}
+use Rattle.vm_translator.specs.Related.{StandsFor}
+use Rattle.vm_translator.proofs.Ways.{hearing_map}
 
 heard_acts : (o : Outcome) → has_heard o ≡ true → (u : State) → state_after o ≡ Some u → o ≡ Acts true u
 heard_acts (Acts true s) h u e = let z : s ≡ u = cc in ap (Acts true) z
@@ -51,6 +53,32 @@ module _ (address : Option ℕ → ℕ → ℕ) (l : Linked) (keys : KeyLaw) (la
       let c = carry key u' acts in
       record { memory = c.leads t.memory after.change; words = after.words; sound = law.kept l linked whole v u' key true w h.sound acts; pc = after.pc ∙ c.to })
       (λ a d. h.memory.words a d.0 d.1) (commands_go.hears image base i s at zero.room zero.at_key)
+
+  -- the same, told by instructions
+  pub hears_does : (base i : ℕ) → has_heard (step l 0 v) ≡ true → ((key : ℕ) (u : State) → step l key v ≡ Acts true u → CarriesKey address base i s.pc key s.memory u)
+      → (u : State) → state_after (step l 0 v) ≡ Some u → Stands image s.pc (template s.pc (shape.PushAt base i)) → s.pc + 9 ≤ 32768
+      → DoesHearing image (λ k. (s.pc ≤ k) × (k + 1 < s.pc + 9)) (s.pc + 8) ⊥ (λ key t. (u : State) → step l key v ≡ Acts true u → StandsFor address l u t) 4 3 s
+  hears_does base i heard carry u first stands fits =
+      let zero = carry 0 u (heard_acts (step l 0 v) heard u first) in
+      let at : IsAt image (shape.PushAt base i) s = record { words = h.words; shape = zero.numbers; low = fits; stands = stands } in
+      let inside = λ (k : ℕ). (s.pc ≤ k) × (k + 1 < s.pc + 9) in
+      hearing_map image inside inside (s.pc + 8) ⊥ (λ key. After (shape.PushAt base i) (λ m after. Pushed m after key) s) (λ key t. (u : State) → step l key v ≡ Acts true u → StandsFor address l u t) 3 4 s (λ k i. i)
+      (λ key w t after u' acts.
+      let c = carry key u' acts in
+      record { memory = c.leads t.memory after.change; words = after.words; sound = law.kept l linked whole v u' key true w h.sound acts; pc = after.pc ∙ c.to })
+      (commands_go.hears image base i s at zero.room zero.at_key)
+
+  pub push_stray_does : (base i : ℕ) → MissesPush base i s.memory → Stands image s.pc (template s.pc (shape.PushAt base i)) → s.pc + 9 ≤ 32768
+      → Does image (λ k. (s.pc ≤ k) × (k + 1 < s.pc + 9)) (s.pc + 9 - 1) (Unit {0}) (λ t. Unit {0}) 8 s
+  push_stray_does base i miss stands fits =
+      let at : IsAt image (shape.PushAt base i) s = record { words = h.words; shape = miss.numbers; low = fits; stands = stands } in
+      commands_go.push_ends image base i s at miss.apart
+
+  pub pop_stray_does : (base i : ℕ) → MissesPop base i s.memory → Stands image s.pc (template s.pc (shape.PopAt base i)) → s.pc + 12 ≤ 32768
+      → Does image (λ k. (s.pc ≤ k) × (k + 1 < s.pc + 12)) (s.pc + 12 - 1) (Unit {0}) (λ t. Unit {0}) 11 s
+  pop_stray_does base i miss stands fits =
+      let at : IsAt image (shape.PopAt base i) s = record { words = h.words; shape = miss.numbers; low = fits; stands = stands } in
+      commands_go.pop_ends image base i s at miss.values
 
   no_step : (a key : ℕ) (u : State) → step l 0 v ≡ Strays (stray.Address a) → state_after (step l key v) ≡ Some u → ⊥
   no_step a key u e q =

@@ -1,4 +1,0 @@
-pub mod Stands
-pub mod Carries
-pub mod Laws
-pub mod Related

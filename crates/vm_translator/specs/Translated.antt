@@ -1,0 +1,75 @@
+-- The contract between the virtual machine and the computer: what the image of a linked program does. (The book, chapters 7 and 8.)
+use Rattle.std.specs.Prelude.{◌≡◌, ◌⊎◌, ℕ, suc, ◌+◌, ◌-◌, ◌≤◌, true, false, List, Option, Some, None}
+use Rattle.hack_isa.specs.Machine.{Machine}
+use Rattle.hack_isa.specs.Machine as hack
+use Rattle.layers.specs.Layers.{Simulates, Starts}
+use Rattle.machine_io.specs.declared.machine.Stray.TheVariants as stray
+use Rattle.vm_tree.specs.declared.command.Segment.TheVariants as segment
+use Rattle.vm_link.specs.declared.linked.Code.{Code}
+use Rattle.vm_link.specs.declared.linked.Step.{Step}
+use Rattle.vm_link.specs.declared.linked.Step.TheVariants as step
+use Rattle.vm_link.specs.declared.linked.Linked.{Linked}
+use Rattle.hack_blocks.specs.Computer.{Map, HasLoop, hack_system}
+use Rattle.hack_blocks.specs.Going.{Does, DoesHearing}
+use Rattle.vm_machine.specs.State.{State}
+use Rattle.vm_machine.specs.Step.{Acts, Strays, start}
+use Rattle.vm_machine.specs.Step as vm
+use Rattle.vm_machine.specs.Level.{vm_system, vm_cost, next_of, has_heard}
+use Rattle.vm_translator.specs.Related.{StandsFor}
+use Rattle.vm_translator.specs.Mapping.{location}
+
+-- a pop to this or that, which alone writes heap or screen
+abbrev pub Writes : Step → Type 0
+Writes (step.Pop segment.This i) = Unit {0}
+Writes (step.Pop segment.That i) = Unit {0}
+Writes c = ⊥
+
+abbrev pub IsStore : Option Code → Type 0
+IsStore None = ⊥
+IsStore (Some c) = Writes c.step
+
+module _ (l : Linked) (image : List ℕ) (map : Map) where
+  -- an address at which the computer may be on the way through the next command: it has the command's point, or none, and is no commit
+  abbrev pub IsWithin : State → ℕ → Type 0
+  IsWithin v k = ((map.points k ≡ (vm_system l).point v) ⊎ (map.points k ≡ None)) × (map.commits k ≡ false)
+
+  -- that of the last instruction of the next command: it is a commit where the command is one
+  pub record IsLast (v : State) (k : ℕ) : Type 0 where
+    pub point : (map.points k ≡ (vm_system l).point v) ⊎ (map.points k ≡ None)
+    pub commit : map.commits k ≡ (vm_system l).commits v
+
+  -- In at most as many steps as the next command may have words, the computer comes to the goal: by quiet steps, and a last one that reads
+  -- no key, and writes data only if it may.
+  pub record MakesStep (v : State) (may_write : Type 0) (goal : Machine → Type 0) (s : Machine) : Type 0 where
+    pub last : ℕ
+    pub is_last : IsLast v last
+    pub does : Does image (IsWithin v) last may_write goal (vm_cost l v - 1) s
+
+  -- The same with one step between that reads the key, from which on the goal is that of this key. It writes no data.
+  pub record MakesHearing (v : State) (goal : ℕ → Machine → Type 0) (s : Machine) : Type 0 where
+    pub last : ℕ
+    pub is_last : IsLast v last
+    pub before : ℕ
+    pub after : ℕ
+    pub few : before + suc (suc after) ≤ vm_cost l v
+    pub does : DoesHearing image (IsWithin v) last ⊥ goal before after s
+
+  -- The image and its map, whose endless loop is at this address, do what the linked program does.
+  pub record IsTranslated (loop : ℕ) : Type 0 where
+    -- at its end the virtual machine makes no step
+    pub stops : (v : State) (key : ℕ) → (vm_system l).halted v ≡ true → (vm_system l).step key v ≡ None
+    -- The computer's start comes within 16 steps to where the virtual machine starts.
+    pub starts : Starts (vm_system l) (hack_system image map loop) (λ s. 1) (StandsFor (location l) l) start 16 hack.start
+    -- from where the computer stands for a state, each step of the virtual machine is made, within the words that its command may have
+    pub steps : Simulates (vm_system l) (hack_system image map loop) (λ s. 1) (StandsFor (location l) l) (vm_cost l)
+    -- The endless loop is there.
+    pub ends : HasLoop image map loop
+    -- A step that hears no key is made without a data write, but for a store's last instruction, and without a key read.
+    pub acts : (v v' : State) (s : Machine) → StandsFor (location l) l v s → vm.step l 0 v ≡ Acts false v' → MakesStep v (IsStore (next_of l v.frames)) (StandsFor (location l) l v') s
+    -- A step that hears the key is made with one key read, and leads to where this key leads.
+    pub hears : (v : State) (s : Machine) → StandsFor (location l) l v s → (v' : State) → vm.step l 0 v ≡ Acts true v'
+        → MakesHearing v (λ key t. (u : State) → vm.step l key v ≡ Acts true u → StandsFor (location l) l u t) s
+    -- Where the virtual machine goes astray at an address, the computer comes to the last instruction so.
+    pub strays : (v : State) (s : Machine) (a : ℕ) → StandsFor (location l) l v s → vm.step l 0 v ≡ Strays (stray.Address a) → MakesStep v (Unit {0}) (λ t. Unit {0}) s
+    -- At the end the computer is at the endless loop.
+    pub rests : (v : State) (s : Machine) → StandsFor (location l) l v s → (vm_system l).halted v ≡ true → s.pc ≡ loop

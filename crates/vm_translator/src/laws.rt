@@ -1,0 +1,24 @@
+//! Laws of what the image of a linked program does: no code, only the statements.
+ghost use Rattle.std.specs.Prelude.{◌≡◌, ◌≤◌, false, length, map};
+ghost use Rattle.hack_isa.specs.Table.{word_of};
+ghost use Rattle.vm_link.specs.declared.linked.Linked.{Linked};
+ghost use Rattle.vm_link.specs.Sound.{IsSound};
+ghost use Rattle.vm_translator.specs.Image.{commits_of, image_of, points_of};
+ghost use Rattle.vm_translator.specs.Laws.{AllStepsCarry};
+ghost use Rattle.vm_translator.specs.Mapping.{map_of, Covers};
+ghost use Rattle.vm_translator.specs.Translated.{IsTranslated};
+
+/// Law: where the memory holds a state of the virtual machine, the effect of a step's instructions is the next state.
+#[tactic(auto, using(crate::proofs::Keys::all_steps_carry))]
+pub fn steps_carry_law()
+    ensures { AllStepsCarry }
+{}
+
+/// Law: the image of a sound linked program that has start code and fits does, with its map, what the program does. Its
+/// endless loop is at 51. The points cover each address of an image once.
+#[tactic(auto, using(crate::proofs::Covered::covers))]
+pub fn translated_law()
+    ensures does { (l : Linked) → IsSound l → l.bare ≡ false → length (image_of l) ≤ 32768
+        → IsTranslated l (map word_of (image_of l)) (map_of (commits_of l) (points_of l)) 51 }
+    ensures covers { (l : Linked) → Covers 0 (points_of l) (length (image_of l)) }
+{}
