@@ -1,5 +1,5 @@
 -- Lines of a `.hack` text one after another, and what they say of it.
-use Rattle.std.proofs.Common.{◌≡◌, ℕ, suc, ◌+◌, ◌<◌, Bool, true, false, List, [], ◌∷◌, ◌++◌, Option, Some, None, Result, Ok, Err, map, refl, sym, ap, ◌∙◌, inl, inr, Vec, Global}
+use Rattle.std.proofs.Common.{◌≡◌, ℕ, ◌<◌, Bool, false, List, [], ◌∷◌, ◌++◌, Option, Some, None, Result, Ok, Err, refl, sym, ap, ◌∙◌, inl, inr, Vec, Global}
 use Rattle.grammar.specs.declared.Fault.{Fault}
 use Rattle.grammar.specs.declared.Fault.TheVariants as fault
 use Rattle.grammar.specs.declared.ReadError.{ReadError}
@@ -9,11 +9,10 @@ use Rattle.grammar.specs.Reading.{Halt, memory, fault as told, ParsesAll}
 use Rattle.hack_asm.specs.declared.hack_tokens.Token.{Token}
 use Rattle.grammar.specs.Rules.{Skip, Leaf, Pair, Left, Right, More}
 use Rattle.grammar.proofs.Wholes.{one_tree, not_both, first_fault}
-use Rattle.word16.specs.Words.{has_bit, bit_list, number_of}
+use Rattle.word16.specs.Words.{number_of}
 use Rattle.word16.proofs.Bits.{written}
 use Rattle.hack_asm.specs.declared.fault.AsmFault.{AsmFault}
-use Rattle.hack_asm.specs.declared.hack_tokens.Kind.{Kind}
-use Rattle.hack_asm.specs.declared.hack_tokens.Kind.TheVariants.{Digit, LineEnd}
+use Rattle.hack_asm.specs.declared.hack_tokens.Kind.TheVariants.{Digit}
 use Rattle.hack_asm.specs.Faults.{Wrong, wrong, wrong_of, asm_fault, Told, Yields}
 use Rattle.hack_asm.specs.HackTokens.{tokens_of, finish}
 use Rattle.hack_asm.specs.HackText.{HackTree, hack, whole, word_tree, line_tree, lines_tree, text_tree, IsLine, AreLines, Spells, Refuses, limited, words_of, Holds, HoldsWrong, IsRefusal, HoldsOf}

@@ -1,6 +1,6 @@
 -- The text of an image holds its words.
-use Rattle.std.proofs.Common.{◌≡◌, ℕ, ◌+◌, ◌*◌, ◌<◌, ◌≤◌, Bool, true, false, List, [], ◌∷◌, ◌++◌, Option, Some, None, Result, Ok, Err, cond, map, length, refl, sym, ap, ◌∙◌, inl, arith, length-append}
-use Rattle.std.specs.Prelude.{if◌then◌else◌, nat_lt}
+use Rattle.std.proofs.Common.{◌≡◌, ℕ, ◌+◌, ◌*◌, ◌≤◌, Bool, true, false, List, [], ◌∷◌, ◌++◌, Option, Some, None, Result, Ok, Err, cond, map, length, refl, sym, ap, ◌∙◌, inl, arith, length-append}
+use Rattle.std.specs.Prelude.{if◌then◌else◌}
 use Rattle.std.proofs.lemmas.Bool.{le-ltb}
 use Rattle.scan_text.specs.declared.Place.{Place}
 use Rattle.scan_text.specs.Text.{start}
@@ -12,10 +12,10 @@ use Rattle.word16.specs.Words.{has_bit}
 use Rattle.hack_asm.specs.declared.hack_tokens.Kind.{Kind}
 use Rattle.hack_asm.specs.declared.hack_tokens.Kind.TheVariants.{Digit, LineEnd}
 use Rattle.hack_asm.specs.declared.hack_tokens.Token.{Token}
-use Rattle.hack_asm.specs.Faults.{Wrong, TooLarge}
+use Rattle.hack_asm.specs.Faults.{TooLarge}
 use Rattle.hack_asm.specs.Image.{image_text, word_line}
 use Rattle.hack_asm.specs.HackTokens.{made, piece, is_open, close, tokens_of, finish}
-use Rattle.hack_asm.specs.HackText.{Part, HackTree, hack, four, sixteen, line, lines, four_tree, word_tree, lines_tree, AreLines, AreWords, limited, words_of, Holds}
+use Rattle.hack_asm.specs.HackText.{Part, HackTree, hack, four, sixteen, lines, four_tree, word_tree, lines_tree, AreLines, AreWords, limited, words_of, Holds}
 
 abbrev R : Place → Part → List Token → HackTree → List Token → Type 0
 R end r ts x us = Reads Token (Unit {0}) (Unit {0}) Kind (hack end) tt r ts x tt us

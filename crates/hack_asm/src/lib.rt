@@ -23,4 +23,4 @@ pub use assembling::assemble;
 pub use fault::AsmFault;
 pub use hack_reading::{image_law, read_hack};
 pub use image::{put_hack, write_hack};
-pub use writing::write_asm;
+pub use writing::{write_asm, written_law};

@@ -2,7 +2,7 @@
 
 ghost use Rattle.std.specs.Prelude.{◌≡◌, ◌≤◌, take, [], length};
 ghost use Rattle.outer_world.specs.Written.{CountsPut, Passes, Puts};
-ghost use Rattle.hack_asm.specs.Written.{computations, memory_computations, destinations, jumps, text_in, comp_text, instr_text, asm_text, AreSpelled};
+ghost use Rattle.hack_asm.specs.Written.{computations, memory_computations, destinations, jumps, text_in, comp_text, instr_text, asm_text, AreSpelled, WrittenMeans};
 
 use hack_isa::Instr;
 use itoa::Buffer;
@@ -158,3 +158,9 @@ pub fn write_asm<S: Sink>(instrs: &[Instr], out: &mut S) -> Put
     let mut pieces = Pieces::new(out);
     put_all_asm(instrs, &mut pieces)
 }
+
+/// The law of written assembly: what `write_asm` writes means the words of its instructions. No code, only the statement.
+#[tactic(auto, using(crate::proofs::WrittenLaw::written_means))]
+pub fn written_law()
+    ensures { WrittenMeans }
+{}
