@@ -1,10 +1,9 @@
 -- The steps of a program stand one after another.
-use Rattle.std.proofs.Common.{◌≡◌, ◌+◌, ◌-◌, ◌<◌, ◌≤◌, ◌++◌, ◌||◌, ◌⊎◌, ℕ, zero, suc, Bool, true, false, List, [], ◌∷◌, Option, Some, None, option_map, unwrap_or, slice_get, length, take, drop, nat_eq, refl, sym, ap, subst, ◌∙◌, arith, add-one, length-append, append_assoc, inl, inr, if◌then◌else◌}
+use Rattle.std.proofs.Common.{◌≡◌, ◌+◌, ◌-◌, ◌<◌, ◌≤◌, ◌++◌, ◌⊎◌, ℕ, zero, suc, Bool, true, false, List, [], ◌∷◌, Some, slice_get, length, take, nat_eq, refl, sym, ap, subst, ◌∙◌, arith, length-append, append_assoc, inl, inr}
 use Rattle.std.specs.List.{flat_map, filter_map, list_any}
 use Rattle.std.proofs.lemmas.Bool.{ne_eqb}
 use Rattle.outer_world.specs.declared.point.Point.{Point}
 use Rattle.vm_link.specs.declared.linked.Code.{Code}
-use Rattle.vm_link.specs.declared.linked.Linked.{Linked}
 use Rattle.vm_link.specs.declared.linked.LinkedFunction.{LinkedFunction}
 use Rattle.vm_machine.specs.Step.{code_of}
 use Rattle.vm_machine.specs.Level.{number_of}

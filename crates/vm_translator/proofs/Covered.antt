@@ -1,9 +1,8 @@
 -- The ranges of points cover the image, and each address has the point of its step.
-use Rattle.std.proofs.Common.{◌≡◌, ◌+◌, ◌-◌, ◌<◌, ◌≤◌, ◌++◌, ◌⊎◌, ◌&&◌, ◌||◌, ℕ, zero, suc, Bool, true, false, List, [], ◌∷◌, Some, nat_eq, refl, sym, ap, subst, ◌∙◌, arith, inl, inr, length, if◌then◌else◌}
+use Rattle.std.proofs.Common.{◌≡◌, ◌+◌, ◌<◌, ◌≤◌, ◌++◌, ◌⊎◌, ◌&&◌, ◌||◌, ℕ, Bool, true, false, List, [], ◌∷◌, Some, nat_eq, refl, sym, ap, subst, ◌∙◌, arith, inl, inr, length, if◌then◌else◌}
 use Rattle.std.specs.Prelude.{nat_le, nat_lt, map, not}
 use Rattle.std.specs.List.{list_any}
 use Rattle.std.proofs.lemmas.Bool.{cases_Bool, cases_lt, le-leb, lt-leb, lt-ltb, le-ltb, and_parts, eqb-true}
-use Rattle.std.proofs.lemmas.List.{map-append}
 use Rattle.outer_world.specs.declared.point.Point.{Point}
 use Rattle.vm_link.specs.declared.linked.Linked.{Linked}
 use Rattle.vm_translator.specs.declared.coded.PointRange.{PointRange}

@@ -1,8 +1,8 @@
 -- A place is at the end of the code where nothing stands behind it.
-use Rattle.std.proofs.Common.{◌≡◌, ◌+◌, ◌-◌, ◌<◌, ◌≤◌, ◌++◌, ◌⊎◌, ◌||◌, ◌&&◌, ℕ, zero, suc, Bool, true, false, List, [], ◌∷◌, length, get_or, take, drop, nat_eq, unwrap_or, if◌then◌else◌, refl, sym, ap, subst, ◌∙◌, arith, add-one, inl, inr}
+use Rattle.std.proofs.Common.{◌≡◌, ◌+◌, ◌-◌, ◌<◌, ◌≤◌, ◌⊎◌, ◌||◌, ◌&&◌, ℕ, zero, suc, Bool, true, false, List, [], ◌∷◌, length, get_or, take, drop, nat_eq, unwrap_or, if◌then◌else◌, refl, sym, ap, ◌∙◌, arith, add-one, inl, inr}
 use Rattle.std.specs.Prelude.{not}
 use Rattle.std.specs.List.{list_any}
-use Rattle.std.proofs.lemmas.Bool.{or_left, or_from, cases_lt, cases_order, cases_eq, eq-eqb, ne_eqb, le-leb, lt-leb}
+use Rattle.std.proofs.lemmas.Bool.{or_left, cases_lt, cases_order, cases_eq, eq-eqb, ne_eqb, le-leb, lt-leb}
 use Rattle.std.proofs.lemmas.List.{length-take-le}
 use Rattle.std.proofs.lemmas.List.Folds.{list_any-append}
 use Rattle.vm_link.specs.declared.linked.Step.{Step}
@@ -10,9 +10,9 @@ use Rattle.vm_link.specs.declared.linked.Step.TheVariants as step
 use Rattle.vm_link.specs.declared.linked.Code.{Code}
 use Rattle.vm_link.specs.declared.linked.LinkedFunction.{LinkedFunction}
 use Rattle.vm_translator.specs.Shapes.{step_size}
-use Rattle.vm_translator.specs.Places.{words_of, words_in, code_at, address, named, placed_code, placed_from, base_of, end_of, program}
+use Rattle.vm_translator.specs.Places.{words_of, words_in, code_at, address, named, placed_code, placed_from, base_of}
 use Rattle.vm_link.specs.declared.linked.Linked.{Linked}
-use Rattle.vm_translator.specs.Image.{entry_of, names, names_end}
+use Rattle.vm_translator.specs.Image.{names, names_end}
 use Rattle.vm_translator.specs.Tables.{IsFilled, is_end, step_names_end, code_names_end, functions_name_end}
 use Rattle.vm_translator.proofs.Sums.{words_some, words_all, words_parts, words_less, words_in_parts, words_in_take, address_next}
 

@@ -1,8 +1,7 @@
 -- What the computer does for each step, told by instructions.
-use Rattle.std.proofs.Common.{◌≡◌, ◌⊎◌, inl, inr, ℕ, zero, suc, Option, Some, None, ◌+◌, ◌-◌, ◌<◌, ◌≤◌, ◌%◌, Bool, true, false, List, [], ◌∷◌, length, min, refl, ap, ◌∙◌, sym, subst, arith}
-use Rattle.std.specs.Prelude.{slice_get, slice_index, map}
+use Rattle.std.proofs.Common.{◌≡◌, ℕ, Option, Some, None, ◌+◌, ◌-◌, ◌<◌, ◌≤◌, Bool, true, false, List, [], ◌∷◌, length, refl, ap, ◌∙◌, sym, subst, arith}
+use Rattle.std.specs.Prelude.{slice_get, map}
 use Rattle.hack_isa.specs.Machine.{Machine}
-use Rattle.hack_isa.specs.Machine as hack
 use Rattle.hack_isa.specs.Table.{word_of}
 use Rattle.hack_isa.specs.declared.Instr.{Instr}
 use Rattle.machine_io.specs.declared.machine.Stray.TheVariants as stray
@@ -20,7 +19,7 @@ use Rattle.hack_blocks.specs.Templates.{template, size, budget}
 use Rattle.hack_blocks.specs.Computer.{Stands, Map}
 use Rattle.hack_blocks.specs.Going.{Does, DoesHearing}
 use Rattle.hack_blocks.specs.Own.{IsOwn}
-use Rattle.hack_blocks.specs.Commands.{MayStore, address_at}
+use Rattle.hack_blocks.specs.Commands.{MayStore}
 use Rattle.vm_machine.specs.State.{Frame, State}
 use Rattle.vm_machine.specs.Step.{Outcome, Acts, Strays, Full, Done, act, fitted, ended, code_in, start, on_top, pop, goes, after}
 use Rattle.vm_machine.specs.Step as vm
@@ -31,21 +30,21 @@ use Rattle.vm_machine.proofs.Ends.{end_law}
 use Rattle.vm_machine.proofs.Kept.{sound_law}
 use Rattle.vm_translator.specs.Shapes.{operated, pushed, popped, shape_of}
 use Rattle.vm_translator.specs.Image.{commits_of, image_of, points_of}
-use Rattle.vm_translator.specs.Carries.{place_of, IsStep}
+use Rattle.vm_translator.specs.Carries.{IsStep}
 use Rattle.vm_translator.specs.Related.{StandsFor}
 use Rattle.vm_translator.specs.declared.coded.PointRange.{PointRange}
 use Rattle.vm_translator.specs.Mapping.{map_of, location, Covers}
 use Rattle.vm_translator.proofs.Covered.{covers}
-use Rattle.vm_translator.specs.Translated.{Writes, IsStore, IsWithin, IsLast, MakesStep, MakesHearing, IsTranslated}
+use Rattle.vm_translator.specs.Translated.{Writes, IsStore, IsWithin, MakesStep, MakesHearing, IsTranslated}
 use Rattle.vm_translator.proofs.Clamped.{named_is}
 use Rattle.vm_translator.proofs.Cases.{top_case, less_case}
 use Rattle.vm_translator.proofs.Segments.{argument_at, local_at}
 use Rattle.vm_translator.proofs.Keys.{all_steps_carry}
 use Rattle.vm_translator.proofs.Outcomes.{Allowed, may_hear, may_miss, outcome_allowed, by_kind, never_done}
-use Rattle.vm_translator.proofs.Ways.{step_is, acts_does, does_map, hearing_map}
+use Rattle.vm_translator.proofs.Ways.{acts_does, does_map, hearing_map}
 use Rattle.vm_translator.proofs.OtherWays.{hears_does, push_stray_does, pop_stray_does}
-use Rattle.vm_translator.proofs.Placing.{Placing, image_words, has_loop}
-use Rattle.vm_translator.proofs.Simulating.{step_cost, location_low, ended_is, here, own, at_step, acts_is, own_key, at_loop, Next, simulates, starts_so}
+use Rattle.vm_translator.proofs.Placing.{image_words, has_loop}
+use Rattle.vm_translator.proofs.Simulating.{step_cost, location_low, ended_is, here, own, at_step, acts_is, own_key, at_loop, simulates, starts_so}
 
 -- no instruction of these writes data
 operation_quiet : (o : Operation) (m : ℕ → ℕ) → MayStore (operated o) m → ⊥

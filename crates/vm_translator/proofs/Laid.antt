@@ -1,18 +1,16 @@
 -- The layout leads from places to addresses, and each of its steps can be written.
-use Rattle.std.proofs.Common.{◌≡◌, ◌+◌, ◌<◌, ◌≤◌, ◌++◌, ◌⊎◌, ◌-◌, ◌^◌, min, unwrap_or, ℕ, zero, suc, List, [], ◌∷◌, Option, Some, None, option_map, length, take, drop, slice_get, get_or, refl, sym, ap, subst, ◌∙◌, arith, add-one, length-append, append_assoc}
+use Rattle.std.proofs.Common.{◌≡◌, ◌+◌, ◌<◌, ◌≤◌, ◌++◌, ◌-◌, ◌^◌, min, unwrap_or, ℕ, zero, suc, List, [], ◌∷◌, Some, option_map, length, take, drop, slice_get, refl, ap, ◌∙◌, arith, add-one, length-append}
 use Rattle.std.specs.Prelude.{All}
 use Rattle.vm_link.specs.declared.linked.Step.{Step}
 use Rattle.vm_link.specs.declared.linked.Step.TheVariants as step
 use Rattle.vm_link.specs.declared.linked.Code.{Code}
 use Rattle.vm_link.specs.declared.linked.LinkedFunction.{LinkedFunction}
-use Rattle.vm_link.specs.declared.linked.Linked.{Linked}
-use Rattle.vm_link.specs.Sound.{IsSound, IsSoundStep, IsSoundFunction}
+use Rattle.vm_link.specs.Sound.{IsSoundStep, IsSoundFunction}
 use Rattle.vm_translator.specs.declared.layout.Placed.{Placed}
 use Rattle.vm_translator.specs.declared.layout.Layout.{Layout}
 use Rattle.vm_translator.specs.Shapes.{step_size}
 use Rattle.vm_translator.specs.Places.{words_of, words_in, code_at, address, placed_code, placed_from}
 use Rattle.vm_translator.specs.Tables.{IsLayout, IsReady, LeadsWithin, firsts_from}
-use Rattle.vm_translator.proofs.Sums.{words_parts, words_in_parts, words_in_take, address_next}
 
 -- the address of the step at an index, or that of the end
 unfoldable pub at_index : ℕ → List Placed → ℕ → ℕ

@@ -1,8 +1,8 @@
 -- Where the next command of a frame stands in the image, and what the map says of its addresses.
-use Rattle.std.proofs.Common.{◌≡◌, ◌≢◌, ◌+◌, ◌-◌, ◌<◌, ◌≤◌, ◌%◌, ◌++◌, ◌⊎◌, ◌&&◌, ◌||◌, ℕ, zero, suc, Bool, true, false, List, [], ◌∷◌, Option, Some, None, option_map, unwrap_or, slice_get, nat_eq, length, take, drop, refl, sym, ap, subst, ◌∙◌, arith, inl, inr, if◌then◌else◌, length-append}
-use Rattle.std.specs.Prelude.{map, All, not, slice_index}
+use Rattle.std.proofs.Common.{◌≡◌, ◌+◌, ◌-◌, ◌<◌, ◌≤◌, ◌%◌, ◌++◌, ◌⊎◌, ◌&&◌, ◌||◌, ℕ, zero, suc, Bool, true, false, List, [], ◌∷◌, Option, Some, None, option_map, unwrap_or, slice_get, nat_eq, length, drop, refl, sym, ap, subst, ◌∙◌, arith, inl, inr, if◌then◌else◌}
+use Rattle.std.specs.Prelude.{map, All, slice_index}
 use Rattle.std.specs.List.{flat_map, filter_map, list_any}
-use Rattle.std.proofs.lemmas.Bool.{cases_Bool, ne_eqb, eq-eqb}
+use Rattle.std.proofs.lemmas.Bool.{ne_eqb, eq-eqb}
 use Rattle.std.proofs.lemmas.List.{map-append}
 use Rattle.std.proofs.lemmas.List.Concat.{flat_map-append}
 use Rattle.std.proofs.lemmas.List.Elements.{filter_map-append}
@@ -18,26 +18,24 @@ use Rattle.vm_link.specs.declared.linked.Step.TheVariants as step
 use Rattle.vm_link.specs.declared.linked.Linked.{Linked}
 use Rattle.vm_link.specs.declared.linked.LinkedFunction.{LinkedFunction}
 use Rattle.vm_link.specs.Sound.{IsSound}
-use Rattle.hack_blocks.specs.declared.shape.Shape.TheVariants as shape
-use Rattle.hack_blocks.specs.Templates.{template, size, start_code, endless}
+use Rattle.hack_blocks.specs.Templates.{template, size, start_code}
 use Rattle.hack_blocks.specs.Computer.{Stands, HasLoop}
 use Rattle.hack_blocks.proofs.Placed.{stands_front, stands_back, all_stand, all_words, starts}
 use Rattle.vm_machine.specs.Step.{code_in, code_of}
 use Rattle.vm_machine.specs.Level.{subroutine_of, number_of}
-use Rattle.vm_translator.specs.declared.coded.PointRange.{PointRange}
 use Rattle.vm_translator.specs.declared.layout.Placed.{Placed}
 use Rattle.vm_translator.specs.Shapes.{shape_of, step_size}
-use Rattle.vm_translator.specs.Places.{address, address_of, base_of, end_of, code_at, program, target_of, words_in}
-use Rattle.vm_translator.specs.Image.{opening, closing, entry_of, piece, image_of, names, names_end, commit_of, commits_of, start_commits, start_ranges, points_of, range_of}
+use Rattle.vm_translator.specs.Places.{address_of, base_of, end_of, code_at, program, target_of}
+use Rattle.vm_translator.specs.Image.{opening, closing, entry_of, piece, image_of, commit_of, commits_of, start_commits, start_ranges, points_of, range_of}
 use Rattle.vm_translator.specs.Plain.{IsPlain}
 use Rattle.vm_translator.specs.Carries.{IsTarget}
 use Rattle.vm_translator.specs.Mapping.{point_in, map_of, start_address, location}
 use Rattle.vm_translator.proofs.Sums.{size_some, size_to, address_next}
 use Rattle.vm_translator.proofs.Sizes.{length_image, length_opening}
-use Rattle.vm_translator.proofs.Laid.{Each, each_of}
+use Rattle.vm_translator.proofs.Laid.{Each}
 use Rattle.vm_translator.proofs.Answering.{all_ready}
-use Rattle.vm_translator.proofs.PlainLemmas.{Leads, leads, plain_image}
-use Rattle.vm_translator.proofs.Chained.{Chain, Among, chain_split, chain_from, chain_up, chain_length, no_commit, among_from}
+use Rattle.vm_translator.proofs.PlainLemmas.{leads, plain_image}
+use Rattle.vm_translator.proofs.Chained.{Chain, chain_split, chain_from, chain_up, chain_length, no_commit, among_from}
 use Rattle.vm_translator.proofs.Covered.{in_range, past_ranges, chain_covers, points_are, start_covers}
 
 ⊎_by : {A B C : Type 0} → A ⊎ B → (A → C) → (B → C) → C

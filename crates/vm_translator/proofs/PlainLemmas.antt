@@ -1,5 +1,5 @@
 -- Each instruction of an image that fits is plain.
-use Rattle.std.proofs.Common.{◌≡◌, ◌+◌, ◌%◌, ◌<◌, ◌≤◌, ◌++◌, ◌⊎◌, ◌&&◌, ◌||◌, ℕ, zero, suc, Bool, true, false, List, [], ◌∷◌, length, take, drop, nat_eq, nat_lt, min, unwrap_or, refl, sym, ap, subst, ◌∙◌, arith, inl, inr, if◌then◌else◌}
+use Rattle.std.proofs.Common.{◌≡◌, ◌+◌, ◌%◌, ◌<◌, ◌≤◌, ◌++◌, ◌⊎◌, ◌&&◌, ℕ, zero, suc, Bool, true, false, List, [], ◌∷◌, length, drop, nat_eq, nat_lt, unwrap_or, refl, sym, ap, ◌∙◌, arith, inl, inr, if◌then◌else◌}
 use Rattle.std.specs.Prelude.{All, not}
 use Rattle.std.specs.List.{flat_map, list_any, list_all}
 use Rattle.std.proofs.lemmas.Bool.{and_parts, or_parts, ltb-true, cases_Bool, cases_eq, eqb-false}
@@ -7,8 +7,8 @@ use Rattle.hack_isa.specs.declared.Instr.{Instr}
 use Rattle.hack_isa.specs.declared.Instr.TheVariants.{Address, Compute}
 use Rattle.hack_blocks.specs.declared.shape.Shape.{Shape}
 use Rattle.hack_blocks.specs.declared.shape.Shape.TheVariants as shape
-use Rattle.hack_blocks.specs.declared.instructions.TheConstants.{D_IS_A, D_IS_M, A_IS_M, M_IS_D, M_IS_0, D_IS_0, D_IS_1, D_IS_MINUS_1, AM_IS_M_MINUS_1, AM_IS_M_PLUS_1, A_IS_A_MINUS_1, A_IS_M_MINUS_1, D_IS_M_PLUS_1, A_IS_D_PLUS_M, D_IS_D_PLUS_M, D_IS_D_MINUS_M, D_IS_D_MINUS_A, A_IS_D_MINUS_A, M_IS_D_PLUS_M, M_IS_M_MINUS_D, M_IS_D_AND_M, M_IS_D_OR_M, M_IS_MINUS_M, M_IS_NOT_M, JUMP, IF_D_LESS, IF_D_GREATER, IF_D_EQUAL, IF_D_NOT_LESS, IF_D_NOT_EQUAL}
-use Rattle.hack_blocks.specs.Templates.{call_code, compare, function_code, go_to, if_go_to, join, pop_at, pop_d, pop_word, push_at, push_constant, push_d, push_word, put_result, push_zero, restore, return_code, save_return, set_pointers, go_back, set_stack, endless, size, start_code, template, turn}
+use Rattle.hack_blocks.specs.declared.instructions.TheConstants.{D_IS_A, D_IS_M, A_IS_M, M_IS_D, D_IS_0, D_IS_1, D_IS_MINUS_1, AM_IS_M_MINUS_1, A_IS_M_MINUS_1, A_IS_D_PLUS_M, D_IS_D_PLUS_M, D_IS_D_MINUS_M, D_IS_D_MINUS_A, M_IS_D_PLUS_M, M_IS_M_MINUS_D, M_IS_D_AND_M, M_IS_D_OR_M, M_IS_MINUS_M, M_IS_NOT_M, JUMP, IF_D_LESS, IF_D_GREATER, IF_D_EQUAL, IF_D_NOT_LESS, IF_D_NOT_EQUAL}
+use Rattle.hack_blocks.specs.Templates.{call_code, compare, function_code, go_to, join, pop_d, push_constant, push_d, push_word, push_zero, return_code, set_pointers, set_stack, endless, size, start_code, template, turn}
 use Rattle.vm_tree.specs.declared.command.Operation.{Operation}
 use Rattle.vm_tree.specs.declared.command.Operation.TheVariants as operation
 use Rattle.vm_tree.specs.declared.command.Segment.{Segment}
@@ -19,7 +19,7 @@ use Rattle.vm_link.specs.declared.linked.Linked.{Linked}
 use Rattle.vm_link.specs.declared.linked.LinkedFunction.{LinkedFunction}
 use Rattle.vm_translator.specs.declared.layout.Placed.{Placed}
 use Rattle.vm_translator.specs.Shapes.{operated, pushed, popped, shape_of, step_size}
-use Rattle.vm_translator.specs.Places.{address, base_of, code_at, end_of, named, placed_from, program, target_of, words_of, words_in}
+use Rattle.vm_translator.specs.Places.{address, base_of, code_at, end_of, named, program, target_of, words_in}
 use Rattle.vm_translator.specs.Image.{closing, entry_of, image_of, names, names_end, opening, piece}
 use Rattle.vm_translator.specs.Plain.{IsPlain, is_spelled}
 use Rattle.vm_translator.specs.Tables.{IsReady}

@@ -1,13 +1,11 @@
 -- The computer makes each step of the virtual machine.
-use Rattle.std.proofs.Common.{◌≡◌, ◌≢◌, ◌⊎◌, inl, inr, ℕ, zero, suc, Option, Some, None, ◌+◌, ◌-◌, ◌<◌, ◌≤◌, ◌%◌, Bool, true, false, List, [], ◌∷◌, length, min, refl, ap, ◌∙◌, sym, subst, arith}
-use Rattle.std.specs.Prelude.{slice_get, slice_index, nat_lt, map, if◌then◌else◌}
+use Rattle.std.proofs.Common.{◌≡◌, ◌≢◌, ◌⊎◌, inl, inr, ℕ, zero, suc, Option, Some, None, ◌+◌, ◌-◌, ◌<◌, ◌≤◌, Bool, true, false, List, [], ◌∷◌, length, refl, ap, ◌∙◌, sym, subst, arith}
+use Rattle.std.specs.Prelude.{slice_get, map}
 use Rattle.std.proofs.lemmas.Bool.{ne_eqb}
-use Rattle.outer_world.specs.declared.point.Point.{Point}
 use Rattle.hack_isa.specs.Machine.{Machine}
 use Rattle.hack_isa.specs.Machine as hack
 use Rattle.hack_isa.specs.Table.{word_of}
 use Rattle.layers.specs.Layers.{Way, Simulates, Starts, Opens, ready, before}
-use Rattle.machine_io.specs.declared.machine.Stray.{Stray}
 use Rattle.machine_io.specs.declared.machine.Stray.TheVariants as stray
 use Rattle.vm_tree.specs.declared.command.Operation.{Operation}
 use Rattle.vm_tree.specs.declared.command.Operation.TheVariants as operation
@@ -22,17 +20,14 @@ use Rattle.hack_blocks.specs.declared.shape.Shape.TheVariants as shape
 use Rattle.hack_blocks.specs.Templates.{template, size, budget}
 use Rattle.hack_blocks.specs.Computer.{Stands, hack_system}
 use Rattle.hack_blocks.specs.Own.{IsOwn}
-use Rattle.hack_blocks.specs.Commands.{MayStore}
 use Rattle.vm_machine.specs.State.{Frame, State}
 use Rattle.vm_machine.specs.Step.{Outcome, Acts, Strays, Full, Done, act, fitted, ended, perform, step_frames, code_in, start}
 use Rattle.vm_machine.specs.Step as vm
-use Rattle.vm_machine.specs.Level.{vm_system, vm_cost, cost_of, command_words, operation_words, next_of, point_of, subroutine_of, statement_of, end_statement, is_commit, is_fit, is_done, has_heard, state_after}
+use Rattle.vm_machine.specs.Level.{vm_system, vm_cost, cost_of, command_words, operation_words, next_of, point_of, subroutine_of, statement_of, end_statement, is_commit, is_fit, has_heard, state_after}
 use Rattle.vm_machine.specs.Sound.{AreSoundFrames}
 use Rattle.vm_machine.proofs.Deaf.{key_law}
-use Rattle.vm_machine.proofs.Ends.{end_law}
 use Rattle.vm_machine.proofs.Kept.{sound_law}
 use Rattle.vm_translator.specs.Shapes.{operated, pushed, popped, shape_of, step_size}
-use Rattle.vm_translator.specs.Places.{address_of}
 use Rattle.vm_translator.specs.Image.{commits_of, entry_of, image_of, points_of}
 use Rattle.vm_translator.specs.Carries.{place_of, IsStep}
 use Rattle.vm_translator.specs.Related.{StandsFor}
@@ -44,7 +39,7 @@ use Rattle.vm_translator.proofs.Outcomes.{Allowed, may_hear, may_miss, outcome_a
 use Rattle.vm_translator.proofs.Ways.{step_is, acts_way}
 use Rattle.vm_translator.proofs.OtherWays.{hears_way, push_stray_way, pop_stray_way, done_way}
 use Rattle.vm_translator.proofs.Opening.{start_opens}
-use Rattle.vm_translator.proofs.Placing.{Placing, placing, image_words, start_stands, start_point, loop_point, early_commit, has_loop}
+use Rattle.vm_translator.proofs.Placing.{Placing, placing, image_words, start_stands, start_point, loop_point, early_commit}
 
 -- a step costs as many words as the command's instructions may be
 operation_cost : (o : Operation) → budget (operated o) ≡ operation_words o

@@ -1,5 +1,5 @@
 -- How many instructions an image has.
-use Rattle.std.proofs.Common.{◌≡◌, ◌+◌, ◌*◌, ◌<◌, ◌≤◌, ◌++◌, ℕ, zero, suc, Bool, true, false, List, [], ◌∷◌, length, refl, sym, ap, ◌∙◌, arith, length-append, if◌then◌else◌}
+use Rattle.std.proofs.Common.{◌≡◌, ◌+◌, ◌*◌, ◌++◌, ℕ, zero, suc, Bool, true, false, List, [], ◌∷◌, length, refl, ap, ◌∙◌, arith, length-append, if◌then◌else◌}
 use Rattle.std.specs.List.{flat_map}
 use Rattle.std.proofs.lemmas.List.Concat.{flat_map-append}
 use Rattle.hack_isa.specs.declared.Instr.TheVariants.{Address}
@@ -12,8 +12,8 @@ use Rattle.vm_link.specs.declared.linked.Linked.{Linked}
 use Rattle.vm_translator.specs.declared.layout.Placed.{Placed}
 use Rattle.vm_translator.specs.Shapes.{shape_of, step_size}
 use Rattle.vm_translator.specs.Places.{base_of, placed_code, placed_from, program, target_of, words_of, words_in}
-use Rattle.vm_translator.specs.Image.{budget_of, closing, entry_of, image_of, names_end, opening, piece}
-use Rattle.vm_translator.proofs.Sums.{size_to, words_in_within}
+use Rattle.vm_translator.specs.Image.{closing, entry_of, image_of, names_end, opening, piece}
+use Rattle.vm_translator.proofs.Sums.{size_to}
 
 length_function : (n : ℕ) → length (function_code n) ≡ 4 * n + 1
 length_function zero = refl

@@ -12,7 +12,7 @@ use Rattle.hack_blocks.specs.Templates.{template, start_code}
 use Rattle.vm_translator.specs.declared.coded.PointRange.{PointRange}
 use Rattle.vm_translator.specs.declared.layout.Placed.{Placed}
 use Rattle.vm_translator.specs.Shapes.{shape_of, step_size, step_budget}
-use Rattle.vm_translator.specs.Places.{address, address_of, base_of, end_of, named, program, target_of}
+use Rattle.vm_translator.specs.Places.{address_of, base_of, end_of, named, program, target_of}
 
 -- the instructions of a placed step
 abbrev pub piece : ℕ → List LinkedFunction → Placed → List Instr

@@ -1,6 +1,5 @@
 -- The tables that the translator makes of a program.
 use Rattle.std.specs.Prelude.{◌≡◌, ◌<◌, ◌≤◌, ◌+◌, ◌-◌, ◌&&◌, ℕ, List, [], ◌∷◌, length, nat_eq, nat_le, ◌||◌, Bool, false, if◌then◌else◌}
-use Rattle.outer_world.specs.declared.point.Point.{Point}
 use Rattle.vm_link.specs.declared.linked.LinkedFunction.{LinkedFunction}
 use Rattle.vm_link.specs.declared.linked.Code.{Code}
 use Rattle.vm_link.specs.declared.linked.Step.{Step}

@@ -14,7 +14,7 @@ use Rattle.hack_blocks.specs.Going.{Does, DoesHearing}
 use Rattle.vm_machine.specs.State.{State}
 use Rattle.vm_machine.specs.Step.{Acts, Strays, start}
 use Rattle.vm_machine.specs.Step as vm
-use Rattle.vm_machine.specs.Level.{vm_system, vm_cost, next_of, has_heard}
+use Rattle.vm_machine.specs.Level.{vm_system, vm_cost, next_of}
 use Rattle.vm_translator.specs.Related.{StandsFor}
 use Rattle.vm_translator.specs.Mapping.{location}
 

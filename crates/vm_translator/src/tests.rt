@@ -243,18 +243,6 @@ fn places_and_map(rt: HostRuntime) -> Result<(), Fail> {
     Ok(())
 }
 
-#[test]
-fn call_and_return(rt: HostRuntime) -> Result<(), Fail> {
-    let linked = seven(rt.alloc())?;
-    let coded = coded(rt.alloc(), &linked)?;
-    let machine = machine(&rt, rt.alloc(), &coded, 2000)?;
-    assert_eq!(rt; machine.ram(0), 261);
-    assert_eq!(rt; machine.ram(1), 261);
-    assert_eq!(rt; machine.ram(2), 256);
-    assert_eq!(rt; machine.ram(5), 7);
-    Ok(())
-}
-
 // 20000 and -20000 are compared exactly, though their difference is past a word.
 #[test]
 fn comparison_past_a_word(rt: HostRuntime) -> Result<(), Fail> {
@@ -276,66 +264,6 @@ fn comparison_past_a_word(rt: HostRuntime) -> Result<(), Fail> {
     let machine = machine(&rt, alloc, &coded, 2000)?;
     assert_eq!(rt; machine.ram(5), 0);
     assert_eq!(rt; machine.ram(6), 65535);
-    Ok(())
-}
-
-// Sys.init puts 3 into the static 0 of its file and calls A.f, which puts 4 into the static 0 of its own.
-#[test]
-fn statics_of_two_files(rt: HostRuntime) -> Result<(), Fail> {
-    let alloc = rt.alloc();
-    let mut lines = List::new(alloc);
-    number(&mut lines, 3)?;
-    add(&mut lines, Command::Pop(Segment::Static, 0))?;
-    add(&mut lines, Command::Call(name(alloc, "A.f")?, 0))?;
-    end_loop(&mut lines, alloc)?;
-    let mut more = List::new(alloc);
-    number(&mut more, 4)?;
-    add(&mut more, Command::Pop(Segment::Static, 0))?;
-    end_loop(&mut more, alloc)?;
-    let mut own = List::new(alloc);
-    own.push(function(alloc, "A.f", 0, more)?)
-        .ok()
-        .ok_or("memory")?;
-    let mut init = List::new(alloc);
-    init.push(function(alloc, "Sys.init", 0, lines)?)
-        .ok()
-        .ok_or("memory")?;
-    let mut files = List::new(alloc);
-    add_file(&mut files, alloc, "A", own)?;
-    add_file(&mut files, alloc, "Sys", init)?;
-    let linked = link_all(alloc, files, false)?;
-    let coded = coded(alloc, &linked)?;
-    let machine = machine(&rt, alloc, &coded, 2000)?;
-    assert_eq!(rt; machine.ram(16), 4);
-    assert_eq!(rt; machine.ram(17), 3);
-    Ok(())
-}
-
-// A function's locals are 0 where other values stood before.
-#[test]
-fn locals_are_cleared(rt: HostRuntime) -> Result<(), Fail> {
-    let alloc = rt.alloc();
-    let mut lines = List::new(alloc);
-    for n in 1..10 {
-        number(&mut lines, n)?;
-    }
-    for _ in 1..10 {
-        add(&mut lines, Command::Pop(Segment::Temp, 0))?;
-    }
-    add(&mut lines, Command::Call(name(alloc, "Sys.f")?, 0))?;
-    end_loop(&mut lines, alloc)?;
-    let mut more = List::new(alloc);
-    add(&mut more, Command::Push(Segment::Local, 0))?;
-    add(&mut more, Command::Pop(Segment::Temp, 1))?;
-    add(&mut more, Command::Push(Segment::Local, 2))?;
-    add(&mut more, Command::Pop(Segment::Temp, 2))?;
-    end_loop(&mut more, alloc)?;
-    let linked = linked(alloc, 0, lines, Some(function(alloc, "Sys.f", 3, more)?))?;
-    let coded = coded(alloc, &linked)?;
-    let machine = machine(&rt, alloc, &coded, 2000)?;
-    assert_eq!(rt; machine.ram(0), 269);
-    assert_eq!(rt; machine.ram(6), 0);
-    assert_eq!(rt; machine.ram(7), 0);
     Ok(())
 }
 
@@ -395,15 +323,5 @@ fn return_to_the_end(rt: HostRuntime) -> Result<(), Fail> {
             point: Point { sub: 1, number: 1 }
         }
     );
-    Ok(())
-}
-
-#[test]
-fn empty_program(rt: HostRuntime) -> Result<(), Fail> {
-    let linked = link_all(rt.alloc(), List::new(rt.alloc()), true)?;
-    let coded = coded(rt.alloc(), &linked)?;
-    assert!(rt; coded.instrs.as_slice().is_empty());
-    assert!(rt; coded.points.as_slice().is_empty());
-    assert!(rt; coded.commits.as_slice().is_empty());
     Ok(())
 }

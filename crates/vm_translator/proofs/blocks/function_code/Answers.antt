@@ -1,4 +1,4 @@
-use Rattle.vm_translator.proofs.Emitted.{function_more, function_last}
+use Rattle.vm_translator.proofs.Emitted.{function_more}
 use Rattle.vm_translator.proofs.blocks.function_code.Goals as goal
 
 pub loop-local-preserved : goal.loop-local-preserved

@@ -1,9 +1,6 @@
-use Rattle.std.proofs.Common.{◌≡◌, ◌≤◌, ◌∙◌, length, sym, subst, arith, rules}
+use Rattle.std.proofs.Common.{◌≡◌, ◌∙◌, sym, subst, arith}
 use Rattle.std.specs.Prelude.{All}
-use Rattle.vm_translator.specs.Image.{image_of}
-use Rattle.vm_translator.specs.Places.{base_of}
 use Rattle.vm_translator.specs.Plain.{IsPlain}
-use Rattle.vm_translator.specs.Tables.{IsReady}
 use Rattle.vm_translator.proofs.Answering.{all_ready, fits, functions_fit, ready_in, too_large}
 use Rattle.vm_translator.proofs.PlainLemmas.{plain_image}
 use Rattle.vm_translator.proofs.Instructed.{covers_as, translated_as}
