@@ -1,0 +1,3 @@
+pub mod Redexes
+pub mod Ways
+pub mod Parts

@@ -1,0 +1,4 @@
+pub mod Templates
+pub mod Fits
+pub mod Places
+pub mod Match
