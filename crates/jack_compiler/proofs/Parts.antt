@@ -50,7 +50,7 @@ onto_reverse : (xs us : List ℕ) → onto xs us ≡ reverse xs ++ us
 onto_reverse [] us = refl
 onto_reverse (x ∷ xs) us = onto_reverse xs (x ∷ us) ∙ (sym (append_assoc (onto xs []) (x ∷ []) us) ∙ ap (λ l. l ++ us) (sym (onto_reverse xs (x ∷ []))))
 
-add_zero : (a i : ℕ) → word_add (word_add a i) 0 ≡ word_add a i
+pub add_zero : (a i : ℕ) → word_add (word_add a i) 0 ≡ word_add a i
 add_zero a i = omega arith
 
 onto_length : (xs us : List ℕ) → length (onto xs us) ≡ length us + length xs

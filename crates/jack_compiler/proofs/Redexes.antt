@@ -84,7 +84,7 @@ if_move false m m' h h' = h'
 loaded_moves : (v : View) (a : ℕ) → NoStand (loaded v a)
 loaded_moves v a = if_move (nat_lt a 2048) _ _ tt (if_move (nat_lt a 24576) _ _ tt (if_move (nat_eq a 24576) _ _ tt tt))
 
-redex_moves : (v : View) (r : Redex) → NoStand (redex_move v r)
+pub redex_moves : (v : View) (r : Redex) → NoStand (redex_move v r)
 redex_moves v (Number w) = tt
 redex_moves v (Reads x) = tt
 redex_moves v Self = tt
