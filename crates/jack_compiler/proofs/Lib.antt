@@ -5,3 +5,5 @@ pub mod Statements
 pub mod Acting
 pub mod Begun
 pub mod Begins
+pub mod Entering
+pub mod Whole
