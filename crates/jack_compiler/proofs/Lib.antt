@@ -7,3 +7,4 @@ pub mod Begun
 pub mod Begins
 pub mod Entering
 pub mod Whole
+pub mod Starts

@@ -67,7 +67,7 @@ mutual
   stacks_length (More e es) vs = let h = stacks_length es (stack_of e vs) in let i = stack_length e vs in omega arith
 
 module _ (subs : List Subroutine) (numbers : Numbers) (scope : Scope) (depth : ℕ) (code : List Code) where
-  part_length : (scope' : Scope) (n : ℕ) (e : Expression) (rest : List Code) (below_ : List ℕ) (p : ℕ) (vs : List ℕ) → Part subs numbers scope depth code scope' n e rest below_ p vs → length vs ≡ standing e + length below_
+  pub part_length : (scope' : Scope) (n : ℕ) (e : Expression) (rest : List Code) (below_ : List ℕ) (p : ℕ) (vs : List ℕ) → Part subs numbers scope depth code scope' n e rest below_ p vs → length vs ≡ standing e + length below_
   part_length scope' n e rest below_ p vs part = ap length part.values_are ∙ stack_length e below_
 
   storing_length : (n : ℕ) (rest : Text) (p : ℕ) (vs : List ℕ) (a i e : Expression) → Storing subs numbers scope depth code n rest p vs a i e → length vs ≤ standing a + standing i + standing e
@@ -75,7 +75,7 @@ module _ (subs : List Subroutine) (numbers : Numbers) (scope : Scope) (depth : �
   storing_length n rest p vs a i e (index x _ _ part we r) = omega (arith, part_length scope n i _ (x ∷ []) p vs part)
   storing_length n rest p vs a i e (element x y _ part r) = omega (arith, part_length scope n e _ (word_add x y ∷ []) p vs part)
 
-  begun_length : (t : Text) (p : ℕ) (vs : List ℕ) → BegunText subs numbers scope depth code t p vs → length vs ≤ standing_first t
+  pub begun_length : (t : Text) (p : ℕ) (vs : List ℕ) → BegunText subs numbers scope depth code t p vs → length vs ≤ standing_first t
   begun_length End p vs b = absurd b
   begun_length (Next (Let n x e) rest) p vs b = omega (arith, part_length scope n e _ [] p vs b.1.part)
   begun_length (Next (LetField n k e) rest) p vs b = omega (arith, part_length scope n e _ [] p vs b.1.part)
@@ -91,7 +91,7 @@ fits_are w h = grind (arith, nat_tests)
 
 module _ (program : Program) (numbers : Numbers) (linked : Linked) (depth : ℕ) where
   -- the callers have no more words in use than the meaning's
-  callers_words : (g : Frame) (below : List Frame) (vg : VmFrame) (vbs : List VmFrame) → Callers program numbers linked depth (g ∷ below) (vg ∷ vbs) → words_in_use (vg ∷ vbs) ≤ stack_words (g ∷ below)
+  pub callers_words : (g : Frame) (below : List Frame) (vg : VmFrame) (vbs : List VmFrame) → Callers program numbers linked depth (g ∷ below) (vg ∷ vbs) → words_in_use (vg ∷ vbs) ≤ stack_words (g ∷ below)
   callers_words g [] vg [] c = let h = ap length c.values_are in omega arith
   callers_words g [] vg (vx ∷ vxs) c = absurd c
   callers_words g (x ∷ xs) vg [] c = absurd c

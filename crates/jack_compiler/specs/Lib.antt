@@ -2,3 +2,4 @@ pub mod Templates
 pub mod Fits
 pub mod Places
 pub mod Match
+pub mod Laws
