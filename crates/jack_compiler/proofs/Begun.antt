@@ -108,7 +108,7 @@ module _ (program : Program) (numbers : Numbers) (linked : Linked) (depth : ℕ)
             → ((w : ℕ) → HasAt (code_in linked vf.function) p rest → ((key : ℕ) → step program.subroutines key (u program numbers linked depth ss ws f g below V vf vg vbs) ≡ otherwise key (Value w)) → e ≡ Value w → used program numbers linked depth ss ws f g below V vf vg vbs + length below_ + 9 ≤ 1792 → GoesFrom program numbers linked depth ss ws f g below V vf vg vbs m (state_at program numbers linked depth ss ws f g below V vf vg vbs p (w ∷ below_) that))
             → Sight program.subroutines numbers scope n e → GoesFrom program numbers linked depth ss ws f g below V vf vg vbs m (state_at program numbers linked depth ss ws f g below V vf vg vbs p values that)
         one_way m enough scope same n number e rest below_ part whole_ otherwise steps on fills stands acts (inr fe) =
-            way_more program numbers linked depth (u program numbers linked depth ss ws f g below V vf vg vbs) 66 m [] (state_at program numbers linked depth ss ws f g below V vf vg vbs p values that) enough
+            way_more program numbers linked depth (u program numbers linked depth ss ws f g below V vf vg vbs) 66 m (state_at program numbers linked depth ss ws f g below V vf vg vbs p values that) enough
             (expression_way program numbers linked depth ss ws f g below V vf vg vbs here memory callers scope same n number p values that room e rest below_ part fe whole_ (λ key. otherwise key e) steps on fills stands)
         one_way m enough scope same n number e rest below_ part whole_ otherwise steps on fills stands acts (inl d) =
             let has : HasAt (code_in linked vf.function) p rest = subst (λ x. HasAt (code_in linked vf.function) p (expression_code numbers n x ++ rest)) d.1 part.has in
@@ -121,7 +121,7 @@ module _ (program : Program) (numbers : Numbers) (linked : Linked) (depth : ℕ)
         reads_after n e w rest d r = let z : length (expression_code numbers n e) ≡ 0 = ap (λ x. length (expression_code numbers n x)) d in subst (ReadsOn rest) (omega (arith, z)) r
 
         more : (vs : List ℕ) (m : ℕ) → m ≤ 71 → GoesFrom program numbers linked depth ss ws f g below V vf vg vbs m (state_at program numbers linked depth ss ws f g below V vf vg vbs p vs that) → GoesFrom program numbers linked depth ss ws f g below V vf vg vbs 71 (state_at program numbers linked depth ss ws f g below V vf vg vbs p vs that)
-        more vs m h way = way_more program numbers linked depth (u program numbers linked depth ss ws f g below V vf vg vbs) m 71 [] (state_at program numbers linked depth ss ws f g below V vf vg vbs p vs that) h way
+        more vs m h way = way_more program numbers linked depth (u program numbers linked depth ss ws f g below V vf vg vbs) m 71 (state_at program numbers linked depth ss ws f g below V vf vg vbs p vs that) h way
 
       module _ (p : ℕ) (values : List ℕ) (that : ℕ) (room : used program numbers linked depth ss ws f g below V vf vg vbs + length values + 8 ≤ 1792) where
         -- an array's element is stored, and its address stands below the value
@@ -137,7 +137,7 @@ module _ (program : Program) (numbers : Numbers) (linked : Linked) (depth : ℕ)
             (λ w e'. refl) (λ e'. omega arith)
             (λ w has steps' d r.
                 let z : length (expression_code numbers n e) ≡ 0 = ap (λ i. length (expression_code numbers n i)) d in
-                way_more program numbers linked depth (u program numbers linked depth ss ws f g below V vf vg vbs) 45 66 [] (state_at program numbers linked depth ss ws f g below V vf vg vbs p (w ∷ word_add x y ∷ []) that) (omega arith)
+                way_more program numbers linked depth (u program numbers linked depth ss ws f g below V vf vg vbs) 45 66 (state_at program numbers linked depth ss ws f g below V vf vg vbs p (w ∷ word_add x y ∷ []) that) (omega arith)
                 (element_value same n text.0 p that x y w rest (omega (arith, r)) has steps' (closed_rest (Store n (Value x) (Value y) e) rest (λ h. h) closed) (subst (ReadsOn rest) (omega (arith, z, size)) reads)))
             (sight program.subroutines numbers (scope_at program numbers linked depth f.subroutine) n e part.ordered)
 
@@ -195,7 +195,7 @@ module _ (program : Program) (numbers : Numbers) (linked : Linked) (depth : ℕ)
         storing_way n rest a i e text closed same (base _ _ _ part wi we reads) = base_way n a i e rest text closed same part wi we reads
         storing_way n rest a i e text closed same (index x _ _ part we reads) = index_way p values that room n x i e rest text closed same part we reads
         storing_way n rest a i e text closed same (element x y _ part reads) =
-            way_more program numbers linked depth (u program numbers linked depth ss ws f g below V vf vg vbs) 66 71 [] (state_at program numbers linked depth ss ws f g below V vf vg vbs p values that) (omega arith) (element_way p values that room n x y e rest text closed same part reads)
+            way_more program numbers linked depth (u program numbers linked depth ss ws f g below V vf vg vbs) 66 71 (state_at program numbers linked depth ss ws f g below V vf vg vbs p values that) (omega arith) (element_way p values that room n x y e rest text closed same part reads)
 
       module _ (p : ℕ) (values : List ℕ) (that : ℕ) (room : used program numbers linked depth ss ws f g below V vf vg vbs + length values + 8 ≤ 1792) where
         -- a constructor that takes the memory of its object

@@ -82,9 +82,9 @@ module _ (program : Program) (numbers : Numbers) (linked : Linked) (depth : ℕ)
 
     module _ (there : Here program numbers linked depth (u program numbers linked depth ss ws f g below V vf vg vbs) V vf) (memory : SameWords program numbers linked depth ss ws V) (callers : Callers program numbers linked depth (g ∷ below) (vg ∷ vbs)) (room : used program numbers linked depth ss ws f g below V vf vg vbs + 8 ≤ 1792) where
       jumps_way : (n : ℕ) → n ≡ text_point f.text → (p q k m that : ℕ) → Jumps (code_in linked vf.function) n p q k → GoesFrom program numbers linked depth ss ws f g below V vf vg vbs m (state_at program numbers linked depth ss ws f g below V vf vg vbs q [] that) → GoesFrom program numbers linked depth ss ws f g below V vf vg vbs (k + m) (state_at program numbers linked depth ss ws f g below V vf vg vbs p [] that)
-      jumps_way n number p q k m that (here _) way = way_more program numbers linked depth (u program numbers linked depth ss ws f g below V vf vg vbs) m (0 + m) [] (state_at program numbers linked depth ss ws f g below V vf vg vbs p [] that) (omega arith) way
+      jumps_way n number p q k m that (here _) way = way_more program numbers linked depth (u program numbers linked depth ss ws f g below V vf vg vbs) m (0 + m) (state_at program numbers linked depth ss ws f g below V vf vg vbs p [] that) (omega arith) way
       jumps_way n number p q k m that (jump _ t _ k' h j) way =
-          way_more program numbers linked depth (u program numbers linked depth ss ws f g below V vf vg vbs) (2 + (k' + m)) (2 + k' + m) [] (state_at program numbers linked depth ss ws f g below V vf vg vbs p [] that) (omega arith)
+          way_more program numbers linked depth (u program numbers linked depth ss ws f g below V vf vg vbs) (2 + (k' + m)) (2 + k' + m) (state_at program numbers linked depth ss ws f g below V vf vg vbs p [] that) (omega arith)
           (quiet_way program numbers linked depth (u program numbers linked depth ss ws f g below V vf vg vbs) V (at program numbers linked depth ss ws f g below V vf vg vbs p [] that) (vg ∷ vbs) n (command.Goto t) (k' + m) (state_at program numbers linked depth ss ws f g below V vf vg vbs t [] that)
           (record { words = there.words; sub = there.sub }) number h (λ key. refl) (omega (arith, room))
           (jumps_way n number t q k' m that j way))
@@ -99,7 +99,7 @@ module _ (program : Program) (numbers : Numbers) (linked : Linked) (depth : ℕ)
             λ key. ap (step_first program.subroutines key (u program numbers linked depth ss ws f g below V vf vg vbs) f (g ∷ below)) text ∙ same_first program.subroutines key (u program numbers linked depth ss ws f g below V vf vg vbs) f (g ∷ below) s rest,
           ) in
           let way = begun_way program numbers linked depth agree ss ws f g below V vf vg vbs there memory callers b.place [] that (omega (arith, room)) (unfolded s) rest it (closed_same s (unfolded s) rest (same_return s) closed) same b.begun in
-          way_more program numbers linked depth (u program numbers linked depth ss ws f g below V vf vg vbs) (b.words + 71) (2 * depth + 71) [] (state_at program numbers linked depth ss ws f g below V vf vg vbs p [] that) (omega (arith, b.few))
+          way_more program numbers linked depth (u program numbers linked depth ss ws f g below V vf vg vbs) (b.words + 71) (2 * depth + 71) (state_at program numbers linked depth ss ws f g below V vf vg vbs p [] that) (omega (arith, b.few))
           (jumps_way (number_of s) (sym (ap text_point text)) p b.place b.words 71 that b.jumps way)
 
   module _ (ss ws : List ℕ) (f g : Frame) (below : List Frame) (V : VmState) (vf vg : VmFrame) (vbs : List VmFrame) where
@@ -143,7 +143,7 @@ module _ (program : Program) (numbers : Numbers) (linked : Linked) (depth : ℕ)
           → HasIn 1 (object_code kind (first_number 0 body) ++ text_code numbers 0 (1 + length (object_code kind (first_number 0 body))) body)
           → G1 (21 + (2 * depth + 71)) (record V { frames = vf1 ∷ vg ∷ vbs })
       kind_way Function body text closed deep object fresh takes this has =
-          way_more program numbers linked depth (u program numbers linked depth ss ws f g below V vf vg vbs) (2 * depth + 71) (21 + (2 * depth + 71)) [] (record V { frames = vf1 ∷ vg ∷ vbs }) (omega arith)
+          way_more program numbers linked depth (u program numbers linked depth ss ws f g below V vf vg vbs) (2 * depth + 71) (21 + (2 * depth + 71)) (record V { frames = vf1 ∷ vg ∷ vbs }) (omega arith)
           (between_way ss ws f g below V vf1 vg vbs (record { words = there.words; sub = there.sub }) memory callers (omega (arith, room, many_locals)) body text closed
           (same_with vf.this (scope_at program numbers linked depth f.subroutine) refl refl (λ o. absurd (clash o object))) 1 vf.that (reads_body body 1 deep fresh has))
         where
@@ -155,7 +155,7 @@ module _ (program : Program) (numbers : Numbers) (linked : Linked) (depth : ℕ)
           let w = slice_index f.arguments 0 in
           let vf3 : VmFrame = record vf1 { place = 3; this = w } in
           let got : slice_get vf.arguments 0 ≡ Some w = ap (λ l. slice_get l 0) e.arguments ∙ slice_get-get_or f.arguments 0 0 (omega (arith, takes, e.arguments_length)) in
-          way_more program numbers linked depth (u program numbers linked depth ss ws f g below V vf vg vbs) (9 + (12 + (2 * depth + 71))) (21 + (2 * depth + 71)) [] (record V { frames = vf1 ∷ vg ∷ vbs }) (omega arith)
+          way_more program numbers linked depth (u program numbers linked depth ss ws f g below V vf vg vbs) (9 + (12 + (2 * depth + 71))) (21 + (2 * depth + 71)) (record V { frames = vf1 ∷ vg ∷ vbs }) (omega arith)
           (quiet_way program numbers linked depth (u program numbers linked depth ss ws f g below V vf vg vbs) V vf1 (vg ∷ vbs) n (command.Push segment.Argument 0) (12 + (2 * depth + 71)) (record V { frames = record vf1 { place = 2; values = w ∷ [] } ∷ vg ∷ vbs })
           (record { words = there.words; sub = there.sub }) number has.0 (λ key. rw got refl) (omega (arith, room, many_locals))
           (quiet_way program numbers linked depth (u program numbers linked depth ss ws f g below V vf vg vbs) V (record vf1 { place = 2; values = w ∷ [] }) (vg ∷ vbs) n (command.Pop segment.Pointer 0) (2 * depth + 71) (record V { frames = vf3 ∷ vg ∷ vbs })
@@ -169,7 +169,7 @@ module _ (program : Program) (numbers : Numbers) (linked : Linked) (depth : ℕ)
           let front = has_front code 1 first _ has in
           let back = has_back code 1 first _ has in
           let reads = reads_body rest (1 + length first) (omega (arith, deep)) fresh.1 back in
-          way_more program numbers linked depth (u program numbers linked depth ss ws f g below V vf vg vbs) 71 (21 + (2 * depth + 71)) [] (record V { frames = vf1 ∷ vg ∷ vbs }) (omega arith)
+          way_more program numbers linked depth (u program numbers linked depth ss ws f g below V vf vg vbs) 71 (21 + (2 * depth + 71)) (record V { frames = vf1 ∷ vg ∷ vbs }) (omega arith)
           (making_way program numbers linked depth agree ss ws f g below V vf1 vg vbs (record { words = there.words; sub = there.sub }) memory callers 1 [] vf.that (omega (arith, room, many_locals)) n x rest
           (sym (ap text_point text), λ key. ap (step_first program.subroutines key (u program numbers linked depth ss ws f g below V vf vg vbs) f (g ∷ below)) text) closed
           (same_with vf.this (without_object (scope_at program numbers linked depth f.subroutine)) refl refl (λ o. absurd (clash o)))

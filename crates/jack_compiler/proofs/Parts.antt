@@ -165,7 +165,7 @@ module _ (program : Program) (numbers : Numbers) (linked : Linked) (depth : ℕ)
       variable_words (Static k) = omega arith
 
       more_words : (p : ℕ) (vs : List ℕ) (t m : ℕ) → m ≤ 66 → Goes program numbers linked depth u m (now p vs t) → Goes program numbers linked depth u 66 (now p vs t)
-      more_words p vs t m h way = way_more program numbers linked depth u m 66 [] (now p vs t) h way
+      more_words p vs t m h way = way_more program numbers linked depth u m 66 (now p vs t) h way
 
       literal_way : (w p t : ℕ) (ones : Bool) → nat_eq w 65535 ≡ ones → IsLiteral program.subroutines numbers scope w → HasAt (code_in linked vf.function) p (if ones then quiet n (command.Push segment.Constant 0) ∷ commit n (command.Operate operation.Not) ∷ [] else commit n (command.Push segment.Constant w) ∷ [])
           → others + length us + 1 ≤ 1792 → Steps (λ key. Rewrites false (Value w))

@@ -16,7 +16,7 @@ use Rattle.jack_compiler.specs.Templates.{Numbers, commit}
 use Rattle.jack_compiler.specs.Fits.{IsFit, without_object}
 use Rattle.jack_compiler.specs.Places.{Making}
 use Rattle.jack_compiler.specs.Match.{IsCodeOf, scope_at, Same, TopMatch, entering, between, begun, making, StartMatch, before, answered, after, AtStart, Callers, MatchFrames, SameWords, Match}
-use Rattle.jack_compiler.proofs.Whole.{callers_words, begun_length, part_length, simulates}
+use Rattle.jack_compiler.proofs.Whole.{callers_words, begun_length, part_length, simulates, strays_too}
 use Rattle.jack_compiler.specs.Laws.{SimulationLaw}
 
 zeros : (n k : ℕ) → slice_index (replicate n 0) k ≡ 0
@@ -76,6 +76,7 @@ module _ (program : Program) (numbers : Numbers) (linked : Linked) (depth : ℕ)
 pub simulation : SimulationLaw
 simulation = record {
   steps = λ program numbers linked depth most_locals fit agree. simulates program numbers linked depth agree most_locals fit;
+  strays = λ program numbers linked depth most_locals fit agree s v key a m h e. strays_too program numbers linked depth agree most_locals fit s v key a m h e;
   words = λ program numbers linked depth s v m. frames_words program numbers linked depth s.frames v.frames m.frames;
   starts = λ program numbers linked depth most_locals fit agree counts. starts program numbers linked depth most_locals fit agree counts;
 }

@@ -19,7 +19,7 @@ use Rattle.vm_machine.specs.Step.{Outcome as VmOutcome, Acts as VmActs, Strays a
 use Rattle.vm_machine.specs.Level.{command_words, next_of, is_commit, is_done, cost_of, vm_system, vm_cost, subroutine_of, number_of as function_number}
 use Rattle.jack_meaning.specs.Text.{Kind, Constructor, Function, Method, number_of, Variable, Argument, Local, Static, Expression, Value, Call, Open, NoMore, Statement, Let, LetField, LetThis, Store, Do, If, While, Return, Text, End, Next, joined, Program, Subroutine}
 use Rattle.jack_meaning.specs.Expressions.{Move, Stands, within, value_of, rewrite, filled, standing}
-use Rattle.jack_meaning.specs.Meaning.{this_of, turn_of, subroutine_at, Frame, State, Outcome, Acts, Stray, step, step_part, step_first, view_of, with_top, filled_text, text_point, assigned, stored, passed_over, returned, chosen}
+use Rattle.jack_meaning.specs.Meaning.{this_of, turn_of, subroutine_at, Frame, State, Outcome, Acts, Stray, Done, step, step_part, step_first, view_of, with_top, filled_text, text_point, assigned, stored, passed_over, returned, chosen}
 use Rattle.jack_meaning.specs.StackWords.{standing_first}
 use Rattle.jack_compiler.specs.Templates.{object_code, text_code, statement_code, first_number, subroutine_code, Numbers, quiet, commit, pop_variable, store_code, expression_code}
 use Rattle.jack_compiler.specs.Fits.{scope_of, has_object, IsBody, TakesObject, IsFitSubroutine, IsFreshText, nest_in, Scope, IsThere, IsField, IsWhole, Ordered, whole, IsReturn, IsClosed, without_object}
@@ -45,6 +45,8 @@ use Rattle.jack_meaning.specs.StackWords.{stack_words}
 use Rattle.jack_meaning.specs.Level.{meaning_of, is_done as meaning_done, point_in}
 use Rattle.jack_compiler.specs.Fits.{IsFit, gap}
 use Rattle.jack_compiler.specs.Places.{stacks_of, Making}
+use Rattle.jack_compiler.specs.Astray.{ComesAstray}
+use Rattle.jack_meaning.proofs.Deaf.{law as meaning}
 use Rattle.jack_compiler.proofs.Ways.{up, low}
 use Rattle.jack_compiler.proofs.Entering.{between_way, entering_way}
 
@@ -119,14 +121,14 @@ module _ (program : Program) (numbers : Numbers) (linked : Linked) (depth : ℕ)
         let lower = callers_words g below vg vbs callers in
         let args = ap length e.arguments in
         let locals : length f.locals ≡ count = ap length e.locals ∙ length-replicate {A = ℕ} count 0 in
-        way_more program numbers linked depth _ (14 + 4 * count + (21 + (2 * depth + 71))) most_words [] _ (omega (arith, fits.few))
+        way_more program numbers linked depth _ (14 + 4 * count + (21 + (2 * depth + 71))) most_words _ (omega (arith, fits.few))
         (entering_way program numbers linked depth agree ss ws f g below V vf vg vbs (record { words = memory.words; sub = number_is f.subroutine vf e.kept e.function }) memory callers e count refl (omega (arith, room, lower, args, locals)) most_locals fits)
     top_way ss ws f g below V vf vg vbs memory callers room (between same closed none r) =
         let lower = callers_words g below vg vbs callers in
         let args = ap length same.arguments in
         let locals = ap length same.locals in
         subst (λ vs. Goes program numbers linked depth (record { frames = f ∷ g ∷ below; statics = ss; words = ws }) most_words (record V { frames = record vf { values = vs } ∷ vg ∷ vbs })) (sym none)
-        (way_more program numbers linked depth _ (2 * depth + 71) most_words [] _ (omega arith)
+        (way_more program numbers linked depth _ (2 * depth + 71) most_words _ (omega arith)
         (between_way program numbers linked depth agree ss ws f g below V vf vg vbs (record { words = memory.words; sub = number_is f.subroutine vf same.kept same.function }) memory callers (omega (arith, room, lower, args, locals)) f.text refl closed same vf.place vf.that r))
     top_way ss ws f g below V vf vg vbs memory callers room (begun same closed b) = begun_with f.text refl closed b (begun_length program.subroutines numbers (scope_at program numbers linked depth f.subroutine) depth (code_in linked vf.function) f.text vf.place vf.values b)
       where
@@ -137,7 +139,7 @@ module _ (program : Program) (numbers : Numbers) (linked : Linked) (depth : ℕ)
             let lower = callers_words g below vg vbs callers in
             let args = ap length same.arguments in
             let locals = ap length same.locals in
-            way_more program numbers linked depth _ 71 most_words [] _ (omega arith)
+            way_more program numbers linked depth _ 71 most_words _ (omega arith)
             (begun_way program numbers linked depth agree ss ws f g below V vf vg vbs (record { words = memory.words; sub = number_is f.subroutine vf same.kept same.function }) memory callers vf.place vf.values vf.that (omega (arith, room, lower, args, locals, many)) s rest
             (sym (ap text_point text), λ key. ap (step_first program.subroutines key (record { frames = f ∷ g ∷ below; statics = ss; words = ws }) f (g ∷ below)) text) closed same b)
     top_way ss ws f g below V vf vg vbs memory callers room (making same closed b) = making_with f.text refl closed b
@@ -158,7 +160,7 @@ module _ (program : Program) (numbers : Numbers) (linked : Linked) (depth : ℕ)
             let locals = ap length same.locals in
             let values = part_length program.subroutines numbers (scope_at program numbers linked depth f.subroutine) depth (code_in linked vf.function) (without_object (scope_at program numbers linked depth f.subroutine)) n x _ [] vf.place vf.values b.part in
             let stands : standing_first f.text ≡ standing x = ap standing_first text in
-            way_more program numbers linked depth _ 71 most_words [] _ (omega arith)
+            way_more program numbers linked depth _ 71 most_words _ (omega arith)
             (making_way program numbers linked depth agree ss ws f g below V vf vg vbs (record { words = memory.words; sub = number_is f.subroutine vf same.kept same.function }) memory callers vf.place vf.values vf.that (omega (arith, room, lower, args, locals, values, stands)) n x rest
             (sym (ap text_point text), λ key. ap (step_first program.subroutines key (record { frames = f ∷ g ∷ below; statics = ss; words = ws }) f (g ∷ below)) text) closed same b)
 
@@ -191,7 +193,7 @@ module _ (program : Program) (numbers : Numbers) (linked : Linked) (depth : ℕ)
       before_way a counts =
           let next : is_commit (next_of linked (start_vm vf 0 [] ∷ [])) ≡ true = start_next a counts in
           start_frame_is f vf (Next (Do 1 (Call program.init NoMore)) End) 0 [] GoesStart a
-          (way_more program numbers linked depth _ 60 most_words [] _ (omega arith)
+          (way_more program numbers linked depth _ 60 most_words _ (omega arith)
           (last_way program numbers linked depth _ V (start_vm vf 0 []) [] 1 (command.Call (unwrap_or linked.start 0) 0) false
           (λ key. record { frames = new_frame program.subroutines program.init [] ∷ start_frame f (Next (Do 1 Open) End) ∷ []; statics = ss; words = ws })
           (λ key. record V { frames = record { function = Some (unwrap_or linked.start 0); place = 0; arguments = []; locals = []; values = []; this = vf.this; that = vf.that } ∷ start_vm vf 1 [] ∷ [] })
@@ -211,7 +213,7 @@ module _ (program : Program) (numbers : Numbers) (linked : Linked) (depth : ℕ)
       answered_way w a =
           let longer = length-set V.temps 0 w in
           start_frame_is f vf (Next (Do 1 (Value w)) End) 1 (w ∷ []) GoesStart a
-          (way_more program numbers linked depth _ 12 most_words [] _ (omega arith)
+          (way_more program numbers linked depth _ 12 most_words _ (omega arith)
           (last_way program numbers linked depth _ V (start_vm vf 1 (w ∷ [])) [] 1 (command.Pop segment.Temp 0) false
           (λ key. record { frames = start_frame f End ∷ []; statics = ss; words = ws })
           (λ key. record V { frames = start_vm vf 2 [] ∷ []; temps = slice_set V.temps 0 w })
@@ -228,12 +230,15 @@ module _ (program : Program) (numbers : Numbers) (linked : Linked) (depth : ℕ)
       after_way : AtStart program numbers linked depth f vf End 2 [] → GoesStart f vf
       after_way a =
           start_frame_is f vf End 2 [] GoesStart a
-          (rests most_words _
+          (record { way = rests most_words _
           (record {
             shows = record { words = λ x d. ap (λ l. slice_index l (x - 2048)) memory.words; point = inl refl; fits = ap is_fit ended };
             upper = refl;
             lower = ap is_done ended;
-          }) (omega arith))
+          }) (omega arith); strays = λ x s. absurd (no_stray x (s 0)) })
+        where
+          no_stray : (x : ℕ) → Done ≡ Stray x → ⊥
+          no_stray x h = cc h
 
       start_way : StartMatch program numbers linked depth f vf → GoesStart f vf
       start_way (before a counts) = before_way a counts
@@ -266,6 +271,10 @@ module _ (program : Program) (numbers : Numbers) (linked : Linked) (depth : ℕ)
     -- Each step of the meaning is made by the virtual machine, within the gap less 16.
     pub simulates : Simulates (meaning_of program.subroutines) (vm_system linked) (vm_cost linked) (Match program numbers linked depth) (λ s. gap depth most_locals - 16)
     simulates = record {
-      point = λ s v m h. pointed (vm_point linked v.frames) (point_in s) (way_shows s most_words [] v (frames_way s.frames s.statics s.words v.frames v m.frames m.memory h)).point;
-      goes = λ s v m h. subst (λ n. Goes program numbers linked depth s n v) gap_is (frames_way s.frames s.statics s.words v.frames v m.frames m.memory h);
+      point = λ s v m h. pointed (vm_point linked v.frames) (point_in s) (way_shows s most_words [] v (frames_way s.frames s.statics s.words v.frames v m.frames m.memory h).way).point;
+      goes = λ s v m h. (subst (λ n. Goes program numbers linked depth s n v) gap_is (frames_way s.frames s.statics s.words v.frames v m.frames m.memory h)).way;
     }
+
+    -- where the meaning strays, the virtual machine does in the end
+    pub strays_too : (s : State) (v : VmState) (key a : ℕ) → Match program numbers linked depth s v → nat_le (stack_words s.frames + 8) 1792 ≡ true → step program.subroutines key s ≡ Stray a → ComesAstray linked v a
+    strays_too s v key a m h e = (frames_way s.frames s.statics s.words v.frames v m.frames m.memory h).strays a (λ key'. meaning.strays program s key key' a e)
