@@ -8,3 +8,4 @@ pub mod Begins
 pub mod Entering
 pub mod Whole
 pub mod Starts
+pub mod Examples

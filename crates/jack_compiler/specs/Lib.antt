@@ -4,3 +4,4 @@ pub mod Places
 pub mod Match
 pub mod Astray
 pub mod Laws
+pub mod Rows
