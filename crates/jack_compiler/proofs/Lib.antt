@@ -1,0 +1,11 @@
+pub mod Redexes
+pub mod Ways
+pub mod Parts
+pub mod Statements
+pub mod Acting
+pub mod Begun
+pub mod Begins
+pub mod Entering
+pub mod Whole
+pub mod Starts
+pub mod Examples

@@ -1,0 +1,33 @@
+-- What holds of every program with resolved names and of linked code that is its code.
+use Rattle.std.specs.Prelude.{◌≡◌, ◌≤◌, ℕ, ◌-◌, true}
+use Rattle.vm_link.specs.declared.linked.Linked.{Linked}
+use Rattle.vm_machine.specs.State.{words_in_use}
+use Rattle.vm_machine.specs.State.{State as VmState}
+use Rattle.vm_machine.specs.Step.{start as vm_start}
+use Rattle.vm_machine.specs.Level.{next_of, is_commit, vm_system, vm_cost}
+use Rattle.layers.specs.Layers.{Simulates}
+use Rattle.jack_meaning.specs.Text.{Program}
+use Rattle.jack_meaning.specs.Meaning.{State, Stray, step, start}
+use Rattle.jack_meaning.specs.StackWords.{stack_words}
+use Rattle.jack_meaning.specs.Level.{meaning_of}
+use Rattle.jack_compiler.specs.Templates.{Numbers}
+use Rattle.jack_compiler.specs.Fits.{IsFit, gap}
+use Rattle.jack_compiler.specs.Match.{IsCodeOf, Match}
+use Rattle.jack_compiler.specs.Astray.{ComesAstray}
+
+pub record SimulationLaw : Type 0 where
+  -- Each step of the meaning is made by the virtual machine, in commands of together at most gap - 16 words of machine code, the last of
+  -- which alone is a commit; on the way the point, heap and screen stay those of the meaning, and no command is full or finds its value,
+  -- argument, local or code missing.
+  pub steps : (program : Program) (numbers : Numbers) (linked : Linked) (depth most_locals : ℕ) → IsFit program numbers depth most_locals → IsCodeOf program numbers linked
+      → Simulates (meaning_of program.subroutines) (vm_system linked) (vm_cost linked) (Match program numbers linked depth) (λ s. gap depth most_locals - 16)
+  -- where the meaning strays, the virtual machine comes to the same address without a commit
+  pub strays : (program : Program) (numbers : Numbers) (linked : Linked) (depth most_locals : ℕ) → IsFit program numbers depth most_locals → IsCodeOf program numbers linked
+      → (s : State) (v : VmState) (key a : ℕ) → Match program numbers linked depth s v → (meaning_of program.subroutines).fits s ≡ true → step program.subroutines key s ≡ Stray a
+      → ComesAstray linked v a
+  -- the virtual machine's stack has no more words than the meaning's
+  pub words : (program : Program) (numbers : Numbers) (linked : Linked) (depth : ℕ) (s : State) (v : VmState) → Match program numbers linked depth s v
+      → words_in_use v.frames ≤ stack_words s.frames
+  -- the starts match, where the call that `start` makes is a commit, as it is a step of the meaning
+  pub starts : (program : Program) (numbers : Numbers) (linked : Linked) (depth most_locals : ℕ) → IsFit program numbers depth most_locals → IsCodeOf program numbers linked
+      → is_commit (next_of linked vm_start.frames) ≡ true → Match program numbers linked depth (start program) vm_start
