@@ -30,7 +30,6 @@ use Rattle.jack_compiler.proofs.Ways.{Goes, R, way_more, Here, quiet_way, last_w
 use Rattle.jack_compiler.proofs.Parts.{has_front, has_back, is_below, u, at, now, others, part_way}
 use Rattle.jack_compiler.proofs.Statements.{closed_rest, closed_same, closed_more, closed_joined, upper, frame_at, state_at, the_code, used, GoesFrom, again, kept_words, expression_way, after_last, after_one, stands_between, store_with}
 
-
 -- a static's word, where another one is set
 module _ (numbers : Numbers) (apart : (j k : ℕ) → numbers.holds j ≡ true → numbers.holds k ≡ true → numbers.static j ≡ numbers.static k → j ≡ k) (ss vss : List ℕ)
     (statics : (k : ℕ) → numbers.holds k ≡ true → slice_get vss (numbers.static k) ≡ Some (slice_index ss k)) (known : (k : ℕ) → numbers.holds k ≡ true → k < length ss) (k w : ℕ) (held : numbers.holds k ≡ true) where

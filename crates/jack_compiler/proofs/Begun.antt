@@ -136,9 +136,9 @@ module _ (program : Program) (numbers : Numbers) (linked : Linked) (depth : ℕ)
             (element x y e' part' (subst (ReadsOn rest) (let size' = length-append (expression_code numbers n e') (store_code n) in omega (arith, len, size, size')) reads)))
             (λ w e'. refl) (λ e'. omega arith)
             (λ w has steps' d r.
-                let z : length (expression_code numbers n e) ≡ 0 = ap (λ i. length (expression_code numbers n i)) d in
-                way_more program numbers linked depth (u program numbers linked depth ss ws f g below V vf vg vbs) 45 66 (state_at program numbers linked depth ss ws f g below V vf vg vbs p (w ∷ word_add x y ∷ []) that) (omega arith)
-                (element_value same n text.0 p that x y w rest (omega (arith, r)) has steps' (closed_rest (Store n (Value x) (Value y) e) rest (λ h. h) closed) (subst (ReadsOn rest) (omega (arith, z, size)) reads)))
+            let z : length (expression_code numbers n e) ≡ 0 = ap (λ i. length (expression_code numbers n i)) d in
+            way_more program numbers linked depth (u program numbers linked depth ss ws f g below V vf vg vbs) 45 66 (state_at program numbers linked depth ss ws f g below V vf vg vbs p (w ∷ word_add x y ∷ []) that) (omega arith)
+            (element_value same n text.0 p that x y w rest (omega (arith, r)) has steps' (closed_rest (Store n (Value x) (Value y) e) rest (λ h. h) closed) (subst (ReadsOn rest) (omega (arith, z, size)) reads)))
             (sight program.subroutines numbers (scope_at program numbers linked depth f.subroutine) n e part.ordered)
 
       abbrev after_index : ℕ → Expression → List Code
@@ -158,14 +158,14 @@ module _ (program : Program) (numbers : Numbers) (linked : Linked) (depth : ℕ)
             (index x i' e part' we (subst (ReadsOn rest) (let size' = length-append (expression_code numbers n i') (after_index n e) in omega (arith, len, size, size')) reads)))
             (λ w i'. ap (λ e'. Next (Store n (Value x) (filled w i') e') rest) (whole_filled program.subroutines numbers (scope_at program numbers linked depth f.subroutine) w e we)) (λ i'. omega arith)
             (λ y has steps' d r.
-                let z : length (expression_code numbers n i) ≡ 0 = ap (λ k. length (expression_code numbers n k)) d in
-                let one : suc p ≡ p + 1 = omega arith in
-                quiet_way program numbers linked depth (u program numbers linked depth ss ws f g below V vf vg vbs) V (at program numbers linked depth ss ws f g below V vf vg vbs p (y ∷ x ∷ []) that) (vg ∷ vbs) n (command.Operate operation.Add) 66 (state_at program numbers linked depth ss ws f g below V vf vg vbs (p + 1) (word_add x y ∷ []) that)
-                (record { words = here.words; sub = here.sub }) text.0 has.0 (λ key. refl) (omega (arith, r))
-                (element_way (p + 1) (word_add x y ∷ []) that (omega (arith, r)) n x y e rest (subst (λ k. StepsAs (Next (Store n (Value x) k e) rest)) d text)
-                (closed_same (Store n (Value x) i e) (Store n (Value x) (Value y) e) rest (λ h. h) closed) same
-                (record { has = subst (λ q. HasAt (code_in linked vf.function) q (expression_code numbers n e ++ store_code n)) one has.1; ordered = whole e we; values_are = sym (whole_values program.subroutines numbers (scope_at program numbers linked depth f.subroutine) e (word_add x y ∷ []) we) })
-                (subst (ReadsOn rest) (omega (arith, z, size)) reads)))
+            let z : length (expression_code numbers n i) ≡ 0 = ap (λ k. length (expression_code numbers n k)) d in
+            let one : suc p ≡ p + 1 = omega arith in
+            quiet_way program numbers linked depth (u program numbers linked depth ss ws f g below V vf vg vbs) V (at program numbers linked depth ss ws f g below V vf vg vbs p (y ∷ x ∷ []) that) (vg ∷ vbs) n (command.Operate operation.Add) 66 (state_at program numbers linked depth ss ws f g below V vf vg vbs (p + 1) (word_add x y ∷ []) that)
+            (record { words = here.words; sub = here.sub }) text.0 has.0 (λ key. refl) (omega (arith, r))
+            (element_way (p + 1) (word_add x y ∷ []) that (omega (arith, r)) n x y e rest (subst (λ k. StepsAs (Next (Store n (Value x) k e) rest)) d text)
+            (closed_same (Store n (Value x) i e) (Store n (Value x) (Value y) e) rest (λ h. h) closed) same
+            (record { has = subst (λ q. HasAt (code_in linked vf.function) q (expression_code numbers n e ++ store_code n)) one has.1; ordered = whole e we; values_are = sym (whole_values program.subroutines numbers (scope_at program numbers linked depth f.subroutine) e (word_add x y ∷ []) we) })
+            (subst (ReadsOn rest) (omega (arith, z, size)) reads)))
             (sight program.subroutines numbers (scope_at program numbers linked depth f.subroutine) n i part.ordered)
 
       abbrev after_base : ℕ → Expression → Expression → List Code
@@ -185,9 +185,9 @@ module _ (program : Program) (numbers : Numbers) (linked : Linked) (depth : ℕ)
             (base a' i e part' wi we (subst (ReadsOn rest) (let size' = length-append (expression_code numbers n a') (after_base n i e) in omega (arith, len, size, size')) reads)))
             (λ w a'. ap (λ i'. Next (Store n (filled w a') i' (filled w e)) rest) (whole_filled program.subroutines numbers (scope_at program numbers linked depth f.subroutine) w i wi) ∙ ap (λ e'. Next (Store n (filled w a') i e') rest) (whole_filled program.subroutines numbers (scope_at program numbers linked depth f.subroutine) w e we)) (λ a'. omega arith)
             (λ x has steps' d r.
-                let z : length (expression_code numbers n a) ≡ 0 = ap (λ k. length (expression_code numbers n k)) d in
-                index_way p (x ∷ []) that (omega (arith, r)) n x i e rest (subst (λ k. StepsAs (Next (Store n k i e) rest)) d text) (closed_same (Store n a i e) (Store n (Value x) i e) rest (λ h. h) closed) same
-                (record { has = has; ordered = whole i wi; values_are = sym (whole_values program.subroutines numbers (scope_at program numbers linked depth f.subroutine) i (x ∷ []) wi) }) we (subst (ReadsOn rest) (omega (arith, z, size)) reads))
+            let z : length (expression_code numbers n a) ≡ 0 = ap (λ k. length (expression_code numbers n k)) d in
+            index_way p (x ∷ []) that (omega (arith, r)) n x i e rest (subst (λ k. StepsAs (Next (Store n k i e) rest)) d text) (closed_same (Store n a i e) (Store n (Value x) i e) rest (λ h. h) closed) same
+            (record { has = has; ordered = whole i wi; values_are = sym (whole_values program.subroutines numbers (scope_at program numbers linked depth f.subroutine) i (x ∷ []) wi) }) we (subst (ReadsOn rest) (omega (arith, z, size)) reads))
             (sight program.subroutines numbers (scope_at program numbers linked depth f.subroutine) n a part.ordered)
 
         storing_way : (n : ℕ) (rest : Text) (a i e : Expression) → StepsAs (Next (Store n a i e) rest) → IsClosed (Next (Store n a i e) rest) → Same program numbers linked depth (scope_at program numbers linked depth f.subroutine) f vf

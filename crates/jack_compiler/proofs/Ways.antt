@@ -115,13 +115,14 @@ module _ (program : Program) (numbers : Numbers) (linked : Linked) (depth : ℕ)
             (shows_at u V vf vbelow (commit n c) here number h (ap is_fit (ran 0)))
             (ap is_commit h) (ap is_done (steps 0)) (ap vm_done (ran 0)) (ap vm_heard (ran 0) ∙ sym (ap has_heard (steps 0))) (omega (arith, words))
             (λ key w s e.
-                let same : u' key ≡ s = only (u' key) s (sym (ap state_of (steps key)) ∙ e) in
-                (v' key, ap state_after (ran key), subst (λ x. R x (v' key)) same (matches key)));
+            let same : u' key ≡ s = only (u' key) s (sym (ap state_of (steps key)) ∙ e) in
+            (v' key, ap state_after (ran key), subst (λ x. R x (v' key)) same (matches key)));
         strays = λ a s. absurd (acted heard (u' 0) a (sym (steps 0) ∙ s 0));
       }
     where
       acted : (b : Bool) (x : State) (a : ℕ) → Acts b x ≡ Stray a → ⊥
       acted b x a e = cc e
+
       only : (x y : State) → Some x ≡ Some y → x ≡ y
       only x y e = cc e
 
@@ -141,5 +142,6 @@ module _ (program : Program) (numbers : Numbers) (linked : Linked) (depth : ℕ)
     where
       one : (x y : ℕ) → Stray x ≡ Stray y → x ≡ y
       one x y e = cc e
+
       never : (x : State) → None ≡ Some x → ⊥
       never x e = cc e

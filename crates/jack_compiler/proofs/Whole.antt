@@ -230,12 +230,15 @@ module _ (program : Program) (numbers : Numbers) (linked : Linked) (depth : ℕ)
       after_way : AtStart program numbers linked depth f vf End 2 [] → GoesStart f vf
       after_way a =
           start_frame_is f vf End 2 [] GoesStart a
-          (record { way = rests most_words _
           (record {
-            shows = record { words = λ x d. ap (λ l. slice_index l (x - 2048)) memory.words; point = inl refl; fits = ap is_fit ended };
-            upper = refl;
-            lower = ap is_done ended;
-          }) (omega arith); strays = λ x s. absurd (no_stray x (s 0)) })
+            way = rests most_words _
+                (record {
+                  shows = record { words = λ x d. ap (λ l. slice_index l (x - 2048)) memory.words; point = inl refl; fits = ap is_fit ended };
+                  upper = refl;
+                  lower = ap is_done ended;
+                }) (omega arith);
+            strays = λ x s. absurd (no_stray x (s 0));
+          })
         where
           no_stray : (x : ℕ) → Done ≡ Stray x → ⊥
           no_stray x h = cc h

@@ -24,11 +24,11 @@ a_method = record {
   arguments = 2;
   locals = 1;
   body = text_of (
-  If 1 (Name (Argument 1)) (text_of (Let 2 (Local 0) (Unary Minus (Literal 1)) ∷ [])) (text_of (LetField 3 2 (Literal 65535) ∷ []))
-  ∷ While 4 (Name (Local 0)) (text_of (Store 5 (Name (Static 0)) (Name (Local 0)) This ∷ []))
-  ∷ Return 6 (Name (Local 0))
-  ∷ []
-  );
+      If 1 (Name (Argument 1)) (text_of (Let 2 (Local 0) (Unary Minus (Literal 1)) ∷ [])) (text_of (LetField 3 2 (Literal 65535) ∷ []))
+      ∷ While 4 (Name (Local 0)) (text_of (Store 5 (Name (Static 0)) (Name (Local 0)) This ∷ []))
+      ∷ Return 6 (Name (Local 0))
+      ∷ []
+      );
 }
 
 -- function void f() { var Array a; if (a[1]) { do Main.g(2, ~3); } return; }
@@ -39,10 +39,10 @@ a_function = record {
   arguments = 0;
   locals = 1;
   body = text_of (
-  If 1 (Load (Name (Local 0)) (Literal 1)) (text_of (Do 2 (Call 4 (More (Literal 2) (More (Unary Complement (Literal 3)) NoMore))) ∷ [])) (text_of [])
-  ∷ Return 3 (Literal 0)
-  ∷ []
-  );
+      If 1 (Load (Name (Local 0)) (Literal 1)) (text_of (Do 2 (Call 4 (More (Literal 2) (More (Unary Complement (Literal 3)) NoMore))) ∷ [])) (text_of [])
+      ∷ Return 3 (Literal 0)
+      ∷ []
+      );
 }
 
 -- constructor Main new(int x) { let f = x; return this; }
