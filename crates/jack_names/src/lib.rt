@@ -17,6 +17,3 @@ pub use scope::{Callee, Declared, Names, Scope, Signature, Slot, Way};
 pub use subroutine::subroutine_meant;
 pub use table::Table;
 pub use twice::check_declarations;
-
-#[cfg(test)]
-mod tests;
