@@ -3,6 +3,7 @@
 //! A script has lines of two decimal numbers, a moment (a number of cycles) and a key's code. Its moments rise.
 #![tactic(auto)]
 
+mod keyboard;
 mod keys;
 mod lexer;
 mod lines;

@@ -3,7 +3,6 @@
 #![tactic(auto)]
 
 mod driving;
-mod keys;
 mod machine;
 mod report;
 mod screen;

@@ -1,8 +1,8 @@
 //! The keys of a script as a keyboard.
 ghost use Rattle.key_script.specs.Codes.{code_at};
 
-use crate::driving::Keyboard;
-use key_script::Keys;
+use crate::Keys;
+use machine_io::Keyboard;
 
 impl Keyboard for Keys {
     ghost code = { λ keys. code_at keys.lines.items };
