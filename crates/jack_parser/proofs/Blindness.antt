@@ -1,12 +1,13 @@
 -- The rules of Jack look at no more of a token than what it tells, but for its place.
-use Rattle.std.proofs.Common.{◌≡◌, ℕ, ◌+◌, Bool, true, false, cond, List, [], ◌∷◌, map, length, Result, Ok, Err, refl, sym, ap, subst, ◌∙◌}
+use Rattle.std.proofs.Common.{◌≡◌, ℕ, ◌+◌, Bool, true, false, cond, List, [], ◌∷◌, map, length, Ok, Err, refl, sym, ap, subst, ◌∙◌}
 use Rattle.std.specs.Prelude.{nat_lt, nat_le, min, ◌||◌, ◌≤◌}
 use Rattle.scan_text.specs.declared.Place.{Place}
 use Rattle.scan_text.specs.Text.{start}
 use Rattle.grammar.specs.declared.Fault.{Fault}
 use Rattle.grammar.specs.declared.Fault.TheVariants.{Range}
-use Rattle.grammar.specs.Rules.{Rule, mark, word, seq, choice, option, repeat, name, within, end, Tree, Rules, enters, here, Reads, marked, worded, at_end, both, left, right, passed, taken, ended, again, named, inside}
-use Rattle.grammar.specs.Leaves.{leaves, seen_by}
+use Rattle.grammar.specs.Rules.{name, Tree, enters, here, Reads, marked, worded, at_end, both, left, right, passed, taken, ended, again, named, inside}
+use Rattle.grammar.specs.Leaves.{seen_by}
+use Rattle.jack_parser.specs.declared.counts.Counts.{Counts}
 use Rattle.jack_parser.proofs.Alike as alike
 use Rattle.jack_tree.specs.declared.token.Keyword.{Keyword}
 use Rattle.jack_tree.specs.declared.token.Keyword.TheVariants as keyword
@@ -14,9 +15,11 @@ use Rattle.jack_tree.specs.declared.token.Kind.{Kind}
 use Rattle.jack_tree.specs.declared.token.Kind.TheVariants as kind
 use Rattle.jack_tree.specs.declared.tree.Class.{Class}
 use Rattle.jack_tree.specs.Tokens.{Word}
+use Rattle.jack_parser.specs.declared.counts.Counted.{Counted}
+use Rattle.jack_parser.specs.declared.counts.Counted.TheVariants as counted
 use Rattle.jack_lexer.specs.Cut.{tokens_of, finish}
 use Rattle.jack_parser.specs.Jack as grammar
-use Rattle.jack_parser.specs.Jack.{jack, Part, Said, JackRule, Fixed, Placed, expression, term, statement, rule_of, opens, whole, sign_is, keyword_is, names, stands_for, any_sign, any_keyword, is_value, keyword_said, constant_by, type_by, is_symbol, is_keyword, symbol_of, keyword_of, key, identifier, constant, operator, unary, type_rule, result_rule, scope_rule, form_rule, subscript, group, argument_list, invoked, variable, negation, block, let_rule, else_rule, if_rule, while_rule, do_rule, return_rule, any_statement, names_rule, class_variables, locals_rule, parameter, parameter_list, subroutine, class_rule, is_operator, is_unary, types, returns, scopes, forms, string_size, deeper, check_constant, unquoted}
+use Rattle.jack_parser.specs.Jack.{jack, Part, Said, JackRule, Fixed, Placed, expression, term, statement, rule_of, opens, whole, sign_is, keyword_is, names, stands_for, any_sign, any_keyword, is_value, keyword_said, constant_by, type_by, is_symbol, is_keyword, symbol_of, keyword_of, key, identifier, constant, operator, unary, type_rule, result_rule, form_rule, counted_name, declaration, subscript, group, argument_list, invoked, variable, negation, block, let_rule, else_rule, if_rule, while_rule, do_rule, return_rule, any_statement, names_rule, class_variables, locals_rule, parameter, parameter_list, subroutine, class_rule, is_operator, is_unary, types, returns, forms, string_size, deeper, count, so_many, one_more, fresh, check_constant, unquoted}
 use Rattle.jack_parser.specs.Whole.{whole_tree, Spells}
 use Rattle.jack_parser.specs.Printed.{class_text, unplaced, set_off}
 use Rattle.jack_parser.proofs.Spaced.{told, told_by, printed_tokens}
@@ -27,7 +30,7 @@ abbrev W : Type 0
 W = Kind × List ℕ
 
 abbrev Blind : Place → JackRule → Type 0
-Blind at r = alike.Blind Word ℕ Part Said W Said (jack at) told unplaced r
+Blind at r = alike.Blind Word Counts Part Said W Said (jack at) told unplaced r
 
 by_kind : {X : Type 0} (f : Kind → X) (t u : Word) → told t ≡ told u → f t.kind ≡ f u.kind
 by_kind f t u e = ap (λ (x : W). f x.0) e
@@ -111,14 +114,17 @@ check_by : {S : Type 0} (x : Bool) (f g : Fault) (s s' : S) → cond x (Err f) (
 check_by true f g s s' e = absurd cc
 check_by false f g s s' e = e
 
-check_same : (s s' : ℕ) (t u : Word) → told t ≡ told u → check_constant s t ≡ Ok s' → check_constant s u ≡ Ok s'
+check_same : (s s' : Counts) (t u : Word) → told t ≡ told u → check_constant s t ≡ Ok s' → check_constant s u ≡ Ok s'
 check_same s s' t u o e =
     let n = string_size u.kind u.text in
     ap (λ (x : Bool). cond x (Err (Range u.place (min n 1000000000))) (Ok s)) (ap (nat_lt 16384) (sym (same_size t u o)))
     ∙ check_by (nat_lt 16384 (string_size t.kind t.text)) (Range t.place (min (string_size t.kind t.text) 1000000000)) (Range u.place (min n 1000000000)) s s' e
 
-deeper_same : (s s' : ℕ) (p q : Place) → deeper s p ≡ Ok s' → deeper s q ≡ Ok s'
-deeper_same s s' p q e = check_by (nat_le 256 s) (Range p 257) (Range q 257) (s + 1) s' e
+deeper_same : (s s' : Counts) (p q : Place) → deeper s p ≡ Ok s' → deeper s q ≡ Ok s'
+deeper_same s s' p q e = check_by (nat_le 256 s.nesting) (Range p 257) (Range q 257) (fresh (s.nesting + 1)) s' e
+
+count_same : (x : Counted) (s s' : Counts) (p q : Place) → count x s p ≡ Ok s' → count x s q ≡ Ok s'
+count_same x s s' p q e = check_by (nat_le 16384 (so_many x s)) (Range p 16385) (Range q 16385) (one_more x s) s' e
 
 module _ (at : Place) where
   symbol_blind : (b : ℕ) → Blind at (symbol_of b)
@@ -133,11 +139,14 @@ module _ (at : Place) where
   name_blind : Blind at identifier
   name_blind = (λ t u e. by_kind names t u e, λ s s' t u e i c. c, λ t u e i. ap (λ (x : List ℕ). Placed kind.Identifier x start) (name_text t.kind u.kind t.text u.text (by_kind (λ z. z) t u e) (ap (λ (z : W). z.1) e) i))
 
+  counted_blind : (x : Counted) → Blind at (counted_name x)
+  counted_blind x = (λ t u e. by_kind names t u e, λ s s' t u e i c. count_same x s s' t.place u.place c, λ t u e i. ap (λ (x : List ℕ). Placed kind.Identifier x start) (name_text t.kind u.kind t.text u.text (by_kind (λ z. z) t u e) (ap (λ (z : W). z.1) e) i))
+
   constant_blind : Blind at constant
   constant_blind = (λ t u e. by_kind stands_for t u e, λ s s' t u e i c. check_same s s' t u e c, λ t u e i. constant_unplaced t.kind t.text t.place ∙ ap (λ (z : W). said_of z.0 z.1) e ∙ sym (constant_unplaced u.kind u.text u.place))
 
   operator_blind : Blind at operator
-  operator_blind = (λ t u e. by_kind (any_sign is_operator) t u e, λ s s' t u e i c. c, λ t u e i. by_kind Fixed t u e)
+  operator_blind = (λ t u e. by_kind (any_sign is_operator) t u e, λ s s' t u e i c. c, λ t u e i. by_kind (λ (z : Kind). Placed z [] start) t u e)
 
   unary_blind : Blind at unary
   unary_blind = (λ t u e. by_kind (any_sign is_unary) t u e, λ s s' t u e i c. c, λ t u e i. by_kind Fixed t u e)
@@ -147,9 +156,6 @@ module _ (at : Place) where
 
   result_blind : Blind at result_rule
   result_blind = (λ t u e. by_kind (any_keyword returns true) t u e, λ s s' t u e i c. c, λ t u e i. type_unplaced t.kind t.text t.place ∙ ap (λ (z : W). type_of z.0 z.1) e ∙ sym (type_unplaced u.kind u.text u.place))
-
-  scope_blind : Blind at scope_rule
-  scope_blind = (λ t u e. by_kind (any_keyword scopes false) t u e, λ s s' t u e i c. c, λ t u e i. by_kind Fixed t u e)
 
   form_blind : Blind at form_rule
   form_blind = (λ t u e. by_kind (any_keyword forms false) t u e, λ s s' t u e i c. c, λ t u e i. by_kind Fixed t u e)
@@ -164,7 +170,7 @@ module _ (at : Place) where
   group_blind = (symbol_blind 40, (nested_blind expression, symbol_blind 41))
 
   argument_list_blind : Blind at argument_list
-  argument_list_blind = (tt, (symbol_blind 44, tt))
+  argument_list_blind = ((count_same counted.Argument, tt), (symbol_blind 44, (count_same counted.Argument, tt)))
 
   call_blind : Blind at grammar.call
   call_blind = (symbol_blind 40, ((deeper_same, argument_list_blind), symbol_blind 41))
@@ -202,23 +208,26 @@ module _ (at : Place) where
   any_statement_blind : Blind at any_statement
   any_statement_blind = (let_blind, (if_blind, (while_blind, (do_blind, return_blind))))
 
-  names_rule_blind : Blind at names_rule
-  names_rule_blind = (name_blind, (symbol_blind 44, name_blind))
+  names_rule_blind : (x : Counted) → Blind at (names_rule x)
+  names_rule_blind x = (counted_blind x, (symbol_blind 44, counted_blind x))
+
+  declaration_blind : (k : Keyword) (x : Counted) → Blind at (declaration k x)
+  declaration_blind k x = (keyword_blind k, (type_blind, (names_rule_blind x, symbol_blind 59)))
 
   class_variables_blind : Blind at class_variables
-  class_variables_blind = (scope_blind, (type_blind, (names_rule_blind, symbol_blind 59)))
+  class_variables_blind = (declaration_blind keyword.Static counted.Static, declaration_blind keyword.Field counted.Field)
 
   locals_rule_blind : Blind at locals_rule
-  locals_rule_blind = (keyword_blind keyword.Var, (type_blind, (names_rule_blind, symbol_blind 59)))
+  locals_rule_blind = declaration_blind keyword.Var counted.Local
 
   parameter_blind : Blind at parameter
-  parameter_blind = (type_blind, name_blind)
+  parameter_blind = (type_blind, counted_blind counted.Parameter)
 
   parameter_list_blind : Blind at parameter_list
   parameter_list_blind = (parameter_blind, (symbol_blind 44, parameter_blind))
 
   subroutine_blind : Blind at subroutine
-  subroutine_blind = (form_blind, (result_blind, (name_blind, (symbol_blind 40, (parameter_list_blind, (symbol_blind 41, (symbol_blind 123, (locals_rule_blind, (tt, symbol_blind 125)))))))))
+  subroutine_blind = (λ s s' p q e. e, (form_blind, (result_blind, (name_blind, (symbol_blind 40, (parameter_list_blind, (symbol_blind 41, (symbol_blind 123, (locals_rule_blind, (tt, symbol_blind 125))))))))))
 
   class_rule_blind : Blind at class_rule
   class_rule_blind = (keyword_blind keyword.Class, (name_blind, (symbol_blind 123, (class_variables_blind, (subroutine_blind, symbol_blind 125)))))
@@ -248,7 +257,7 @@ module _ (p q : Place) where
   here_same a [] e = absurd cc
   here_same a (t ∷ ts) e = refl
 
-  ends_anywhere : {s s' : ℕ} {r : JackRule} {ts us : List Word} {x : Tree Said} → Reads Word ℕ Part Said (jack p) s r ts x s' us → Reads Word ℕ Part Said (jack q) s r ts x s' us
+  ends_anywhere : {s s' : Counts} {r : JackRule} {ts us : List Word} {x : Tree Said} → Reads Word Counts Part Said (jack p) s r ts x s' us → Reads Word Counts Part Said (jack q) s r ts x s' us
   ends_anywhere (marked e) = marked e
   ends_anywhere (worded e c) = worded e c
   ends_anywhere at_end = at_end
@@ -269,11 +278,11 @@ none_left (u ∷ us) e = absurd cc
 abbrev SpellsAlike : List ℕ → Tree Said → Type 0
 SpellsAlike text x = (y : Tree Said) × Spells text y × (seen_by unplaced x ≡ seen_by unplaced y)
 
-read_again : (text out : List ℕ) (c : Class) (ts us : List Word) (s' : ℕ) → Reads Word ℕ Part Said (jack (finish text)) 0 whole ts (whole_tree c) s' [] → map told us ≡ map told ts → tokens_of out ≡ Ok us → SpellsAlike out (whole_tree c)
+read_again : (text out : List ℕ) (c : Class) (ts us : List Word) (s' : Counts) → Reads Word Counts Part Said (jack (finish text)) (fresh 0) whole ts (whole_tree c) s' [] → map told us ≡ map told ts → tokens_of out ≡ Ok us → SpellsAlike out (whole_tree c)
 read_again text out c ts us s' h same cut =
     let at = finish text in
-    let m = alike.read_alike Word ℕ Part Said W Said (jack at) told unplaced opens_same (part_blind at) (whole_blind at) h us (sym same) in
-    let all = subst (λ (l : List Word). Reads Word ℕ Part Said (jack at) 0 whole us m.tree s' l) (none_left m.rest m.same_rest) m.reads in
+    let m = alike.read_alike Word Counts Part Said W Said (jack at) told unplaced opens_same (part_blind at) (whole_blind at) h us (sym same) in
+    let all = subst (λ (l : List Word). Reads Word Counts Part Said (jack at) (fresh 0) whole us m.tree s' l) (none_left m.rest m.same_rest) m.reads in
     (m.tree, (us, s', cut, ends_anywhere at (finish out) all), m.same_tree)
 
 pub printed_spells : (text : List ℕ) (c : Class) → Spells text (whole_tree c) → length (class_text c) ≤ 1048576 → SpellsAlike (class_text c) (whole_tree c)

@@ -1,8 +1,8 @@
 -- Statements as a list, and as the rows that a tree holds.
-use Rattle.std.proofs.Common.{◌≡◌, ℕ, List, [], ◌∷◌, Option, Some, None, refl, sym, ap, ◌∙◌, Vec, Global}
+use Rattle.std.proofs.Common.{◌≡◌, Option, Some, None, refl, ap, ◌∙◌, Vec, Global}
 use mathlib.Core.Former.{Count}
 use Rattle.scan_text.specs.declared.Place.{Place}
-use Rattle.grammar.specs.Rules.{Tree, Node, Leaf, Pair, Skip, Left, Right, Absent, Present, NoMore, More}
+use Rattle.grammar.specs.Rules.{Tree, Pair, Skip, Left, Right, Absent, Present, More}
 use Rattle.jack_tree.specs.declared.token.Keyword.TheVariants as keyword
 use Rattle.jack_tree.specs.declared.tree.Expression.{Expression}
 use Rattle.jack_tree.specs.declared.tree.Statement as statements

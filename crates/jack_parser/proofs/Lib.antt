@@ -10,3 +10,4 @@ pub mod Parts
 pub mod Spaced
 pub mod Alike
 pub mod Blindness
+mod WholeTexts

@@ -5,26 +5,22 @@ use Rattle.std.proofs.lemmas.List.{append-nil, map-append, take_more}
 use Rattle.std.proofs.lemmas.Grind.{flat_map-append}
 use Rattle.scan_text.specs.declared.Place.{Place}
 use Rattle.scan_text.specs.Text.{start}
-use Rattle.grammar.specs.declared.Fault.{Fault}
-use Rattle.std.specs.Prelude.{Bool, Result}
-use Rattle.grammar.specs.Rules.{Rule, mark, word, seq, choice, option, repeat, name, within, Tree, Skip, Node, Leaf, Pair, Left, Right, Absent, Present, NoMore, More, listed}
+use Rattle.std.specs.Prelude.{Bool}
+use Rattle.grammar.specs.Rules.{mark, word, seq, choice, option, repeat, name, within, Tree, Skip, Node, Leaf, Pair, Left, Right, Absent, Present, NoMore, More, listed}
 use Rattle.grammar.specs.Leaves.{leaves}
 use Rattle.outer_world.specs.declared.sink.Put.{Put}
 use Rattle.outer_world.specs.declared.sink.Put.TheVariants as put
 use Rattle.outer_world.specs.Written.{Got, Passes, CountsPut}
 use Rattle.outer_world.proofs.Passing.{Passes-then, Passes-cut, Passes-nothing}
 use Rattle.jack_tree.specs.Tokens.{Word}
-use Rattle.jack_tree.specs.declared.tree.Operator.{Operator}
-use Rattle.jack_tree.specs.declared.tree.Term.{Term}
-use Rattle.jack_tree.specs.declared.tree.Expression.{Expression, Single', Binary'}
+use Rattle.jack_tree.specs.declared.tree.Expression.{Expression}
 use Rattle.jack_tree.specs.declared.token.Keyword.TheVariants as keyword
 use Rattle.jack_tree.specs.declared.tree.Class.{Class}
 use Rattle.jack_tree.specs.declared.tree.Statement as statements
-use Rattle.jack_parser.specs.Jack.{jack, JackRule, Said, Part, rule_of, expression, term, statement, operator, operates, free, fixed, if_rule, while_rule, class_rule, whole}
-use Rattle.jack_parser.specs.Trees.{term_tree, exp_with, exp_tree, operator_said, group_tree}
+use Rattle.jack_parser.specs.Jack.{jack, JackRule, Said, Part, rule_of, argument, statement, if_rule, while_rule, class_rule}
+use Rattle.jack_parser.specs.Trees.{argument_tree, group_tree}
 use Rattle.jack_parser.specs.StatementTrees.{key_leaf, any_tree, block_tree, else_tree, statement_tree}
 use Rattle.jack_parser.specs.ClassTrees.{class_tree}
-use Rattle.jack_parser.specs.Whole.{whole_tree}
 use Rattle.jack_parser.proofs.Blocks.{while_is, if_is}
 use Rattle.jack_parser.specs.Printed.{said_text, set_off, text_of, class_text}
 use Rattle.jack_parser.specs.Written.{Wrote, Writes, Shows}
@@ -43,18 +39,6 @@ text_more x y a = text_two (leaves (jack start) x a) (leaves (jack start) y (rep
 pub text_listed : {X : Type 0} (tree : X → Tree Said) (a : JackRule) (xs : List X) → text_of (listed tree xs NoMore) (repeat a) ≡ flat_map (λ x. text_of (tree x) a) xs
 text_listed tree a [] = refl
 text_listed tree a (x ∷ xs) = text_more (tree x) (listed tree xs NoMore) a ∙ ap (λ (t : List ℕ). text_of (tree x) a ++ t) (text_listed tree a xs)
-
--- more operators behind an expression
-pub text_with : (e : Expression) (more : Tree Said) → text_of (exp_with e more) (name expression) ≡ text_of (exp_with e NoMore) (name expression) ++ text_of more (repeat (seq operator (name term)))
-text_with (Single' p t) more =
-    text_pair (term_tree t) more (name term) (repeat (seq operator (name term)))
-    ∙ ap (λ (l : List ℕ). l ++ text_of more (repeat (seq operator (name term)))) (sym (text_pair (term_tree t) NoMore (name term) (repeat (seq operator (name term))) ∙ append-nil (text_of (term_tree t) (name term))))
-text_with (Binary' p e o q t) more =
-    let one = Pair (Leaf (operator_said o)) (term_tree t) in
-    text_with e (More one more)
-    ∙ ap (λ (l : List ℕ). text_of (exp_tree e) (name expression) ++ l) (text_more one more (seq operator (name term)))
-    ∙ sym (append_assoc (text_of (exp_tree e) (name expression)) (text_of one (seq operator (name term))) (text_of more (repeat (seq operator (name term)))))
-    ∙ ap (λ (l : List ℕ). l ++ text_of more (repeat (seq operator (name term)))) (sym (text_with e (More one NoMore) ∙ ap (λ (l : List ℕ). text_of (exp_tree e) (name expression) ++ l) (text_more one NoMore (seq operator (name term)) ∙ append-nil (text_of one (seq operator (name term))))))
 
 -- what is written
 
@@ -122,12 +106,6 @@ module _ {st r r2 : Put} {a b c : Option (List ℕ)} {p q z : List ℕ} {f g h :
   pub shows_more : {x y : Tree Said} {m : JackRule} → Shows x m st a p f r b q g → Shows y (repeat m) r b q g r2 c z h → Shows (More x y) (repeat m) st a p f r2 c z h
   shows_more {x} {y} {m} k l = record { writes = writes_is (sym (text_more x y m)) (writes_then k.writes l.writes) }
 
-pub shows_binary : {st r r2 r3 : Put} {a b c d : Option (List ℕ)} {p q z w : List ℕ} {f g h i : ℕ} (e : Expression) (o : Operator) (t : Term) → Shows (exp_tree e) (name expression) st a p f r b q g → Writes (set_off (said_text (operator_said o))) r b q g r2 c z h → Shows (term_tree t) (name term) r2 c z h r3 d w i → Shows (exp_with e (More (Pair (Leaf (operator_said o)) (term_tree t)) NoMore)) (name expression) st a p f r3 d w i
-shows_binary e o t k l m =
-    let one = shows_both (shows_word {v = operator_said o} {is = operates} {check = free} {value = fixed} l) m in
-    let more = shows_more one shows_no_more in
-    record { writes = writes_is (sym (text_with e (More (Pair (Leaf (operator_said o)) (term_tree t)) NoMore))) (writes_then k.writes more.writes) }
-
 -- what a loop over some trees has shown
 pub record ShowsEach {X : Type 0} (before : List ℕ) (tree : X → Tree Said) (rule : JackRule) (xs : List X) (st : Put) (a : Option (List ℕ)) (p : List ℕ) (f : ℕ) (r : Put) (b : Option (List ℕ)) (q : List ℕ) (g : ℕ) : Type 0 where
   pub writes : Writes (before ++ flat_map (λ x. text_of (tree x) rule) xs) st a p f r b q g
@@ -168,7 +146,7 @@ module _ {X : Type 0} {tree : X → Tree Said} {rule : JackRule} {st : Put} {a :
 -- the first argument of a call
 abbrev pub head_text : List Expression → List ℕ
 head_text [] = []
-head_text (e ∷ es) = text_of (exp_tree e) (name expression)
+head_text (e ∷ es) = text_of (argument_tree e) argument
 
 -- statements that hold statements
 module _ {st r : Put} {a b : Option (List ℕ)} {p q : List ℕ} {f g : ℕ} where

@@ -1,15 +1,16 @@
 -- The kind of a term, by its first token, says which rule is entered.
-use Rattle.std.proofs.Common.{◌≡◌, ℕ, Bool, true, false, cond, List, [], ◌∷◌, refl, sym, ap, subst, ◌∙◌}
+use Rattle.std.proofs.Common.{◌≡◌, ℕ, Bool, true, false, cond, List, [], ◌∷◌, refl, subst}
 use Rattle.std.specs.Prelude.{◌||◌, ◌==◌}
 use Rattle.scan_text.specs.declared.Place.{Place}
 use Rattle.grammar.specs.declared.Fault.{Fault}
 use Rattle.grammar.specs.declared.Fault.TheVariants.{Grammar}
-use Rattle.grammar.specs.Rules.{Rule, name, Tree, Node, Left, Right, enters, next, here, Reads, left, right, named, Stops, in_left, in_right, neither, in_name}
+use Rattle.grammar.specs.Rules.{name, Tree, Node, Left, Right, next, here, Reads, left, right, named, Stops, in_left, in_right, neither, in_name}
 use Rattle.grammar.proofs.Steps.{next_left, next_right}
 use Rattle.jack_tree.specs.declared.token.Keyword as keywords
 use Rattle.jack_tree.specs.declared.token.Kind.{Kind}
 use Rattle.jack_tree.specs.declared.token.Kind.TheVariants.{Keyword, Symbol, Integer, Text, Identifier}
 use Rattle.jack_tree.specs.Tokens.{Word}
+use Rattle.jack_parser.specs.declared.counts.Counts.{Counts}
 use Rattle.jack_parser.specs.declared.words.Start.{Start}
 use Rattle.jack_parser.specs.declared.words.Start.TheVariants as starts
 use Rattle.jack_parser.specs.Jack.{jack, Part, Said, term, constant, variable, group, negation, stands_for, is_value, names, sign_is, any_sign, is_unary, is_constant, is_identifier, is_symbol, negates, term_opens, JackRule}
@@ -60,11 +61,11 @@ told (t ∷ ts) = told_by (start_by t.kind) t ts (kind_says t.kind)
 told_as : (s : Start) (ts : List Word) → start_of ts ≡ s → Told s ts
 told_as s ts e = subst (λ (x : Start). Told x ts) e (told ts)
 
-abbrev R : Place → ℕ → JackRule → List Word → Tree Said → ℕ → List Word → Type 0
-R end s r ts x s' us = Reads Word ℕ Part Said (jack end) s r ts x s' us
+abbrev R : Place → Counts → JackRule → List Word → Tree Said → Counts → List Word → Type 0
+R end s r ts x s' us = Reads Word Counts Part Said (jack end) s r ts x s' us
 
-abbrev F : Place → ℕ → JackRule → List Word → Fault → Type 0
-F end s r ts f = Stops Word ℕ Part Said (jack end) s r ts f
+abbrev F : Place → Counts → JackRule → List Word → Fault → Type 0
+F end s r ts f = Stops Word Counts Part Said (jack end) s r ts f
 
 -- which of the four tests hold, and so which alternative is entered
 abbrev two : Word → Bool
@@ -74,14 +75,14 @@ abbrev three : Word → Bool
 three t = is_identifier t || two t
 
 -- the rules of a term, as the start names them
-module _ {end : Place} {s : ℕ} {ts : List Word} where
-  pub constant_term : {s' : ℕ} {us : List Word} {x : Tree Said} → start_of ts ≡ starts.Constant → R end s constant ts x s' us → R end s (name term) ts (Node (Left x)) s' us
+module _ {end : Place} {s : Counts} {ts : List Word} where
+  pub constant_term : {s' : Counts} {us : List Word} {x : Tree Said} → start_of ts ≡ starts.Constant → R end s constant ts x s' us → R end s (name term) ts (Node (Left x)) s' us
   constant_term e p = named (left (told_as starts.Constant ts e) p)
 
   pub constant_stops : {f : Fault} → start_of ts ≡ starts.Constant → F end s constant ts f → F end s (name term) ts f
   constant_stops e p = in_name (in_left (told_as starts.Constant ts e) p)
 
-  pub variable_term : {s' : ℕ} {us : List Word} {x : Tree Said} → start_of ts ≡ starts.Name → R end s variable ts x s' us → R end s (name term) ts (Node (Right (Left x))) s' us
+  pub variable_term : {s' : Counts} {us : List Word} {x : Tree Said} → start_of ts ≡ starts.Name → R end s variable ts x s' us → R end s (name term) ts (Node (Right (Left x))) s' us
   variable_term e p =
       let h = told_as starts.Name ts e in
       named (right h.0 (next_left is_identifier two ts h.1) (left h.1 p))
@@ -91,7 +92,7 @@ module _ {end : Place} {s : ℕ} {ts : List Word} where
       let h = told_as starts.Name ts e in
       in_name (in_right h.0 (next_left is_identifier two ts h.1) (in_left h.1 p))
 
-  pub group_term : {s' : ℕ} {us : List Word} {x : Tree Said} → start_of ts ≡ starts.Group → R end s group ts x s' us → R end s (name term) ts (Node (Right (Right (Left x)))) s' us
+  pub group_term : {s' : Counts} {us : List Word} {x : Tree Said} → start_of ts ≡ starts.Group → R end s group ts x s' us → R end s (name term) ts (Node (Right (Right (Left x)))) s' us
   group_term e p =
       let h = told_as starts.Group ts e in
       let b = next_left (is_symbol 40) negates ts h.2 in
@@ -103,7 +104,7 @@ module _ {end : Place} {s : ℕ} {ts : List Word} where
       let b = next_left (is_symbol 40) negates ts h.2 in
       in_name (in_right h.0 (next_right is_identifier two ts true h.1 b) (in_right h.1 b (in_left h.2 p)))
 
-  pub negation_term : {s' : ℕ} {us : List Word} {x : Tree Said} → start_of ts ≡ starts.Negation → R end s negation ts x s' us → R end s (name term) ts (Node (Right (Right (Right x)))) s' us
+  pub negation_term : {s' : Counts} {us : List Word} {x : Tree Said} → start_of ts ≡ starts.Negation → R end s negation ts x s' us → R end s (name term) ts (Node (Right (Right (Right x)))) s' us
   negation_term e p =
       let h = told_as starts.Negation ts e in
       let b = next_right (is_symbol 40) negates ts true h.2 h.3 in

@@ -1,10 +1,10 @@
 -- The tokens of a class are those of the text that spells it.
-use Rattle.std.proofs.Common.{◌≡◌, ℕ, Bool, true, false, List, [], ◌∷◌, ◌++◌, map, Ok, refl, sym, ap, ◌∙◌, eqb-true, subst}
+use Rattle.std.proofs.Common.{◌≡◌, ℕ, Bool, true, false, List, [], ◌∷◌, ◌++◌, map, Ok, refl, ap, ◌∙◌, eqb-true}
 use Rattle.std.proofs.lemmas.List.{append-nil}
 use denote.Enum.Bare.{same_true}
 use Rattle.scan_text.specs.declared.Place.{Place}
 use Rattle.scan_text.specs.Text.{start}
-use Rattle.grammar.specs.Rules.{Rule, mark, word, seq, choice, option, repeat, name, within, end, Tree, Skip, Node, Leaf, Pair, Left, Right, Absent, Present, NoMore, More}
+use Rattle.grammar.specs.Rules.{mark, word, seq, choice, option, repeat, name, within, end, Tree, Skip, Node, Leaf, Pair, Left, Right, Absent, Present, NoMore, More}
 use Rattle.grammar.specs.Leaves.{leaves}
 use Rattle.grammar.proofs.LeavesRead as read
 use Rattle.jack_tree.specs.contracts.token.Keyword.{the_type}
@@ -14,8 +14,11 @@ use Rattle.jack_tree.specs.declared.token.Kind.{Kind}
 use Rattle.jack_tree.specs.declared.token.Kind.TheVariants as kind
 use Rattle.jack_tree.specs.declared.tree.Class.{Class}
 use Rattle.jack_tree.specs.Tokens.{Word, keyword_text}
+use Rattle.jack_parser.specs.declared.counts.Counted.{Counted}
+use Rattle.jack_parser.specs.declared.counts.Counted.TheVariants as counted
 use Rattle.jack_lexer.specs.Cut.{tokens_of, finish}
-use Rattle.jack_parser.specs.Jack.{jack, Part, Said, JackRule, Fixed, Placed, expression, term, statement, rule_of, whole, sign_is, keyword_is, names, stands_for, any_sign, any_keyword, is_value, keyword_said, constant_by, type_by, is_symbol, is_keyword, symbol_of, keyword_of, key, identifier, constant, operator, unary, type_rule, result_rule, scope_rule, form_rule, subscript, group, argument_list, invoked, variable, negation, block, let_rule, else_rule, if_rule, while_rule, do_rule, return_rule, any_statement, names_rule, class_variables, locals_rule, parameter, parameter_list, subroutine, class_rule, is_operator, is_unary, types, returns, scopes, forms}
+use Rattle.jack_parser.specs.declared.counts.Counts.{Counts}
+use Rattle.jack_parser.specs.Jack.{jack, Part, Said, JackRule, expression, term, statement, rule_of, whole, sign_is, keyword_is, names, stands_for, any_sign, any_keyword, keyword_said, constant_by, type_by, symbol_of, keyword_of, key, identifier, constant, operator, unary, type_rule, result_rule, form_rule, counted_name, declaration, subscript, group, argument_list, invoked, variable, negation, block, let_rule, else_rule, if_rule, while_rule, do_rule, return_rule, any_statement, names_rule, class_variables, locals_rule, parameter, parameter_list, subroutine, class_rule, is_operator, is_unary, types, returns, forms}
 use Rattle.jack_parser.specs.Whole.{whole_tree, Spells}
 use Rattle.jack_parser.specs.Printed.{kind_text, content, shown, said_text, class_tokens}
 
@@ -168,7 +171,7 @@ constant_told kind.Text x at e = refl
 constant_told kind.Identifier x at e = absurd cc
 
 abbrev Tells : Place → JackRule → Type 0
-Tells at r = read.Tells Word ℕ Part Said (List ℕ) (jack at) shown said_text r
+Tells at r = read.Tells Word Counts Part Said (List ℕ) (jack at) shown said_text r
 
 -- each rule says its tokens
 module _ (at : Place) where
@@ -184,6 +187,9 @@ module _ (at : Place) where
   name_tells : Tells at identifier
   name_tells t e = name_told t.kind t.text e
 
+  counted_tells : (x : Counted) → Tells at (counted_name x)
+  counted_tells x t e = name_told t.kind t.text e
+
   constant_tells : Tells at constant
   constant_tells t e = constant_told t.kind t.text t.place e
 
@@ -198,9 +204,6 @@ module _ (at : Place) where
 
   result_tells : Tells at result_rule
   result_tells t e = type_told returns t.kind t.text t.place e
-
-  scope_tells : Tells at scope_rule
-  scope_tells t e = choice_told scopes t.kind t.text e
 
   form_tells : Tells at form_rule
   form_tells t e = choice_told forms t.kind t.text e
@@ -247,17 +250,20 @@ module _ (at : Place) where
   any_statement_tells : Tells at any_statement
   any_statement_tells = (let_rule_tells, (if_rule_tells, (while_rule_tells, (do_rule_tells, return_rule_tells))))
 
-  names_rule_tells : Tells at names_rule
-  names_rule_tells = (name_tells, (symbol_tells 44, name_tells))
+  names_rule_tells : (x : Counted) → Tells at (names_rule x)
+  names_rule_tells x = (counted_tells x, (symbol_tells 44, counted_tells x))
+
+  declaration_tells : (k : Keyword) (x : Counted) → Tells at (declaration k x)
+  declaration_tells k x = (keyword_tells k, (type_tells, (names_rule_tells x, symbol_tells 59)))
 
   class_variables_tells : Tells at class_variables
-  class_variables_tells = (scope_tells, (type_tells, (names_rule_tells, symbol_tells 59)))
+  class_variables_tells = (declaration_tells keyword.Static counted.Static, declaration_tells keyword.Field counted.Field)
 
   locals_rule_tells : Tells at locals_rule
-  locals_rule_tells = (keyword_tells keyword.Var, (type_tells, (names_rule_tells, symbol_tells 59)))
+  locals_rule_tells = declaration_tells keyword.Var counted.Local
 
   parameter_tells : Tells at parameter
-  parameter_tells = (type_tells, name_tells)
+  parameter_tells = (type_tells, counted_tells counted.Parameter)
 
   parameter_list_tells : Tells at parameter_list
   parameter_list_tells = (parameter_tells, (symbol_tells 44, parameter_tells))
@@ -282,5 +288,5 @@ same_tokens text ts us a b = cc
 pub tokens_told : (text : List ℕ) (c : Class) (ts : List Word) → tokens_of text ≡ Ok ts → Spells text (whole_tree c) → map shown ts ≡ class_tokens c
 tokens_told text c ts cut s =
     let at = finish text in
-    let told = read.tokens_are Word ℕ Part Said (List ℕ) (jack at) shown said_text (part_tells at) (whole_tells at) s.3 in
+    let told = read.tokens_are Word Counts Part Said (List ℕ) (jack at) shown said_text (part_tells at) (whole_tells at) s.3 in
     ap (map shown) (same_tokens text ts s.0 cut s.2) ∙ told ∙ append-nil (map said_text (leaves (jack at) (whole_tree c) whole)) ∙ ap (map said_text) (leaves_same at start (whole_tree c) whole)

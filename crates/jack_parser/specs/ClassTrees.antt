@@ -1,6 +1,6 @@
 -- The trees of classes as trees of the grammar.
 use Rattle.std.specs.Prelude.{List, [], ◌∷◌, Option, Some, None}
-use Rattle.grammar.specs.Rules.{Tree, Leaf, Pair, Skip, Absent, Present, NoMore, listed}
+use Rattle.grammar.specs.Rules.{Tree, Leaf, Node, Pair, Skip, Left, Right, Absent, Present, NoMore, listed}
 use Rattle.jack_tree.specs.declared.token.Keyword.TheVariants as keyword
 use Rattle.jack_tree.specs.declared.token.Kind.TheVariants as kind
 use Rattle.jack_tree.specs.declared.tree.Name.{Name}
@@ -30,10 +30,6 @@ abbrev pub result_said : Option types.Type → Said
 result_said None = Fixed (kind.Keyword keyword.Void)
 result_said (Some t) = type_leaf_said t
 
-abbrev pub scope_said : Scope → Said
-scope_said scope.Static = Fixed (kind.Keyword keyword.Static)
-scope_said scope.Field = Fixed (kind.Keyword keyword.Field)
-
 abbrev pub form_said : Form → Said
 form_said form.Constructor = Fixed (kind.Keyword keyword.Constructor)
 form_said form.Function = Fixed (kind.Keyword keyword.Function)
@@ -45,11 +41,19 @@ next_name_tree n = Pair Skip (name_leaf n)
 abbrev pub names_tree : Names → Tree Said
 names_tree ns = Pair (name_leaf ns.first) (listed next_name_tree ns.more.items NoMore)
 
+-- a type and names behind a keyword
+abbrev pub declared_tree : types.Type → Names → Tree Said
+declared_tree t ns = Pair Skip (Pair (Leaf (type_leaf_said t)) (Pair (names_tree ns) Skip))
+
+abbrev pub scoped : Scope → Tree Said → Tree Said
+scoped scope.Static x = Left x
+scoped scope.Field x = Right x
+
 abbrev pub variables_tree : ClassVariables → Tree Said
-variables_tree v = Pair (Leaf (scope_said v.scope)) (Pair (Leaf (type_leaf_said v.kind)) (Pair (names_tree v.names) Skip))
+variables_tree v = scoped v.scope (declared_tree v.kind v.names)
 
 abbrev pub locals_tree : Locals → Tree Said
-locals_tree v = Pair Skip (Pair (Leaf (type_leaf_said v.kind)) (Pair (names_tree v.names) Skip))
+locals_tree v = declared_tree v.kind v.names
 
 abbrev pub parameter_tree : Parameter → Tree Said
 parameter_tree p = Pair (Leaf (type_leaf_said p.kind)) (name_leaf p.name)
@@ -66,10 +70,13 @@ abbrev pub parameters_tree : List Parameter → Tree Said
 parameters_tree [] = Absent
 parameters_tree (p ∷ ps) = Present (parameters_with (p ∷ ps) NoMore)
 
-abbrev pub subroutine_tree : Subroutine → Tree Said
-subroutine_tree s =
+abbrev pub parts_tree : Subroutine → Tree Said
+parts_tree s =
     Pair (Leaf (form_said s.form)) (Pair (Leaf (result_said s.result)) (Pair (name_leaf s.name) (Pair Skip (Pair (parameters_tree s.parameters.items) (Pair Skip (Pair Skip
     (Pair (listed locals_tree s.locals.items NoMore) (Pair (statements_tree s.statements.items) Skip))))))))
+
+abbrev pub subroutine_tree : Subroutine → Tree Said
+subroutine_tree s = Node (parts_tree s)
 
 abbrev pub class_tree : Class → Tree Said
 class_tree c = Pair Skip (Pair (name_leaf c.name) (Pair Skip (Pair (listed variables_tree c.variables.items NoMore) (Pair (listed subroutine_tree c.subroutines.items NoMore) Skip))))

@@ -1,5 +1,5 @@
 -- The grammar of Jack (book, chapter 10, figure 10.5).
-use Rattle.std.specs.Prelude.{◌≡◌, ℕ, ◌+◌, ◌-◌, Bool, true, false, List, [], ◌∷◌, Result, Ok, Err, if◌then◌else◌, nat_le, nat_lt, min, take, drop, length, ◌==◌, ◌||◌}
+use Rattle.std.specs.Prelude.{ℕ, ◌+◌, ◌-◌, Bool, true, false, List, [], Result, Ok, Err, if◌then◌else◌, nat_le, nat_lt, min, take, drop, length, ◌==◌, ◌||◌}
 use denote.Enum.Bare.{sameb}
 use Rattle.scan_text.specs.declared.Place.{Place}
 use Rattle.grammar.specs.declared.Fault.{Fault}
@@ -11,6 +11,9 @@ use Rattle.jack_tree.specs.declared.token.Keyword.TheVariants as keyword
 use Rattle.jack_tree.specs.declared.token.Kind.{Kind}
 use Rattle.jack_tree.specs.declared.token.Kind.TheVariants as kind
 use Rattle.jack_tree.specs.Tokens.{Word}
+use Rattle.jack_parser.specs.declared.counts.Counted.{Counted}
+use Rattle.jack_parser.specs.declared.counts.Counted.TheVariants as counted
+use Rattle.jack_parser.specs.declared.counts.Counts.{Counts}
 
 -- What a token says: what it is, and where its place matters that place too, with the text of a name or a string.
 pub data Said : Type 0 where
@@ -101,24 +104,54 @@ operates t = any_sign is_operator t.kind
 abbrev pub negates : Word → Bool
 negates t = any_sign is_unary t.kind
 
--- What is counted is the nesting, which no token changes.
-abbrev pub free : ℕ → Word → Result ℕ Fault
-free depth t = Ok depth
+-- What is counted: the nesting, and statics and fields in a class, parameters and locals in a subroutine, arguments in a call.
+-- Here none of them so far, at this nesting.
+abbrev pub fresh : ℕ → Counts
+fresh n = record { nesting = n; statics = 0; fields = 0; parameters = 0; locals = 0; arguments = 0 }
+
+abbrev pub so_many : Counted → Counts → ℕ
+so_many counted.Static s = s.statics
+so_many counted.Field s = s.fields
+so_many counted.Parameter s = s.parameters
+so_many counted.Local s = s.locals
+so_many counted.Argument s = s.arguments
+
+abbrev pub one_more : Counted → Counts → Counts
+one_more counted.Static s = record s { statics = s.statics + 1 }
+one_more counted.Field s = record s { fields = s.fields + 1 }
+one_more counted.Parameter s = record s { parameters = s.parameters + 1 }
+one_more counted.Local s = record s { locals = s.locals + 1 }
+one_more counted.Argument s = record s { arguments = s.arguments + 1 }
+
+-- at most 16,384 of each
+abbrev pub count : Counted → Counts → Place → Result Counts Fault
+count x s at = if nat_le 16384 (so_many x s) then Err (Range at 16385) else Ok (one_more x s)
+
+-- a token that is not counted
+abbrev pub free : Counts → Word → Result Counts Fault
+free s t = Ok s
 
 abbrev pub string_size : Kind → List ℕ → ℕ
 string_size kind.Text text = length (unquoted text)
 string_size k text = 0
 
 -- a string has at most 16,384 bytes
-abbrev pub check_constant : ℕ → Word → Result ℕ Fault
-check_constant depth t = let size = string_size t.kind t.text in if nat_lt 16384 size then Err (Range t.place (min size 1000000000)) else Ok depth
+abbrev pub check_constant : Counts → Word → Result Counts Fault
+check_constant s t = let size = string_size t.kind t.text in if nat_lt 16384 size then Err (Range t.place (min size 1000000000)) else Ok s
 
--- at most 256 levels
-abbrev pub deeper : ℕ → Place → Result ℕ Fault
-deeper depth at = if nat_le 256 depth then Err (Range at 257) else Ok (depth + 1)
+-- at most 256 levels, each with counts of its own
+abbrev pub deeper : Counts → Place → Result Counts Fault
+deeper s at = if nat_le 256 s.nesting then Err (Range at 257) else Ok (fresh (s.nesting + 1))
 
-abbrev pub back : ℕ → ℕ → ℕ
+abbrev pub anew : Counts → Place → Result Counts Fault
+anew s at = Ok (fresh s.nesting)
+
+-- what is counted after a part: what was before it, or what is at its end
+abbrev pub back : Counts → Counts → Counts
 back outer inner = outer
+
+abbrev pub onward : Counts → Counts → Counts
+onward outer inner = inner
 
 abbrev pub types : Keyword → Bool
 types keyword.Int = true
@@ -129,11 +162,6 @@ types k = false
 abbrev pub returns : Keyword → Bool
 returns keyword.Void = true
 returns k = types k
-
-abbrev pub scopes : Keyword → Bool
-scopes keyword.Static = true
-scopes keyword.Field = true
-scopes k = false
 
 abbrev pub forms : Keyword → Bool
 forms keyword.Constructor = true
@@ -155,7 +183,7 @@ abbrev pub is_result : Word → Bool
 is_result t = any_keyword returns true t.kind
 
 abbrev pub is_scope : Word → Bool
-is_scope t = any_keyword scopes false t.kind
+is_scope t = is_keyword keyword.Static t || is_keyword keyword.Field t
 
 abbrev pub is_form : Word → Bool
 is_form t = any_keyword forms false t.kind
@@ -173,7 +201,7 @@ pub data Part : Type 0 where
   statement : Part
 
 abbrev pub JackRule : Type 0
-JackRule = Rule Word ℕ Part Said
+JackRule = Rule Word Counts Part Said
 
 abbrev pub symbol_of : ℕ → JackRule
 symbol_of b = mark (Fixed (kind.Symbol b)) (is_symbol b)
@@ -188,17 +216,25 @@ key k = word (is_keyword k) free placed
 abbrev pub identifier : JackRule
 identifier = word is_identifier free named
 
+-- a name that is counted
+abbrev pub counted_name : Counted → JackRule
+counted_name x = word is_identifier (λ s t. count x s t.place) named
+
 abbrev pub constant : JackRule
 constant = word is_constant check_constant constant_said
 
 abbrev pub operator : JackRule
-operator = word operates free fixed
+operator = word operates free placed
 
 abbrev pub unary : JackRule
 unary = word negates free fixed
 
 abbrev pub nested : JackRule → JackRule
 nested r = within deeper back r
+
+-- a part with counts of its own
+abbrev pub own : JackRule → JackRule
+own r = within anew back r
 
 -- '[' exp ']'
 abbrev pub subscript : JackRule
@@ -208,13 +244,17 @@ subscript = seq (symbol_of 91) (seq (nested (name expression)) (symbol_of 93))
 abbrev pub group : JackRule
 group = seq (symbol_of 40) (seq (nested (name expression)) (symbol_of 41))
 
+-- an argument counts at its first token
+abbrev pub argument : JackRule
+argument = within (count counted.Argument) onward (name expression)
+
 -- , exp
 abbrev pub next_argument : JackRule
-next_argument = seq (symbol_of 44) (name expression)
+next_argument = seq (symbol_of 44) argument
 
 -- exp (, exp)*
 abbrev pub argument_list : JackRule
-argument_list = seq (name expression) (repeat next_argument)
+argument_list = seq argument (repeat next_argument)
 
 -- [exp (, exp)*]
 abbrev pub arguments : JackRule
@@ -235,6 +275,10 @@ invoked = choice call through
 -- name ['[' exp ']' | call]
 abbrev pub variable : JackRule
 variable = seq identifier (option (choice subscript invoked))
+
+-- op term
+abbrev pub operation : JackRule
+operation = seq operator (name term)
 
 -- unary term
 abbrev pub negation : JackRule
@@ -269,11 +313,11 @@ abbrev pub return_rule : JackRule
 return_rule = seq (key keyword.Return) (seq (option (name expression)) (symbol_of 59))
 
 -- name (, name)*
-abbrev pub next_name : JackRule
-next_name = seq (symbol_of 44) identifier
+abbrev pub next_name : Counted → JackRule
+next_name x = seq (symbol_of 44) (counted_name x)
 
-abbrev pub names_rule : JackRule
-names_rule = seq identifier (repeat next_name)
+abbrev pub names_rule : Counted → JackRule
+names_rule x = seq (counted_name x) (repeat (next_name x))
 
 abbrev pub type_rule : JackRule
 type_rule = word is_type free type_said
@@ -281,20 +325,21 @@ type_rule = word is_type free type_said
 abbrev pub result_rule : JackRule
 result_rule = word is_result free type_said
 
--- (static|field) type name (, name)* ;
-abbrev pub scope_rule : JackRule
-scope_rule = word is_scope free fixed
+-- a keyword, type name (, name)* ;
+abbrev pub declaration : Keyword → Counted → JackRule
+declaration k x = seq (keyword_of k) (seq type_rule (seq (names_rule x) (symbol_of 59)))
 
+-- (static|field) type name (, name)* ;
 abbrev pub class_variables : JackRule
-class_variables = seq scope_rule (seq type_rule (seq names_rule (symbol_of 59)))
+class_variables = choice (declaration keyword.Static counted.Static) (declaration keyword.Field counted.Field)
 
 -- var type name (, name)* ;
 abbrev pub locals_rule : JackRule
-locals_rule = seq (keyword_of keyword.Var) (seq type_rule (seq names_rule (symbol_of 59)))
+locals_rule = declaration keyword.Var counted.Local
 
 -- [type name (, type name)*]
 abbrev pub parameter : JackRule
-parameter = seq type_rule identifier
+parameter = seq type_rule (counted_name counted.Parameter)
 
 abbrev pub next_parameter : JackRule
 next_parameter = seq (symbol_of 44) parameter
@@ -309,8 +354,12 @@ parameters = option parameter_list
 abbrev pub form_rule : JackRule
 form_rule = word is_form free fixed
 
+abbrev pub subroutine_parts : JackRule
+subroutine_parts = seq form_rule (seq result_rule (seq identifier (seq (symbol_of 40) (seq parameters (seq (symbol_of 41) (seq (symbol_of 123) (seq (repeat locals_rule) (seq (repeat (name statement)) (symbol_of 125)))))))))
+
+-- a subroutine counts its own parameters and locals
 abbrev pub subroutine : JackRule
-subroutine = seq form_rule (seq result_rule (seq identifier (seq (symbol_of 40) (seq parameters (seq (symbol_of 41) (seq (symbol_of 123) (seq (repeat locals_rule) (seq (repeat (name statement)) (symbol_of 125)))))))))
+subroutine = own subroutine_parts
 
 -- class name { variables* subroutines* }
 abbrev pub class_rule : JackRule
@@ -325,7 +374,7 @@ any_statement = choice let_rule (choice if_rule (choice while_rule (choice do_ru
 
 abbrev pub rule_of : Part → JackRule
 -- exp = term (op term)*
-rule_of expression = seq (name term) (repeat (seq operator (name term)))
+rule_of expression = seq (name term) (repeat operation)
 -- term = constant | name ['[' exp ']' | call] | '(' exp ')' | unary term
 rule_of term = choice constant (choice variable (choice group negation))
 -- a statement is one level round all its tokens
@@ -342,6 +391,6 @@ opens expression t = term_opens t
 opens term t = term_opens t
 opens statement t = statement_opens t
 
--- the grammar, for a text that ends at this place
-abbrev pub jack : Place → Rules Word ℕ Part Said
+-- The grammar, for a text that ends at this place. At one place Grammar comes before Range, and a count before the length of a string.
+abbrev pub jack : Place → Rules Word Counts Part Said
 jack ending = record { body = rule_of; opens = opens; place = λ t. t.place; ending = ending }

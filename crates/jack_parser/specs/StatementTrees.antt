@@ -1,5 +1,5 @@
 -- The trees of statements as trees of the grammar.
-use Rattle.std.specs.Prelude.{ℕ, List, [], ◌∷◌, Option, Some, None, Vec}
+use Rattle.std.specs.Prelude.{List, [], Option, Some, None, Vec}
 use Rattle.std.specs.Global.{Global}
 use Rattle.scan_text.specs.declared.Place.{Place}
 use Rattle.grammar.specs.Rules.{Tree, Leaf, Node, Pair, Skip, Left, Right, Absent, Present, NoMore, More, listed}
@@ -9,7 +9,7 @@ use Rattle.jack_tree.specs.declared.token.Kind.TheVariants as kind
 use Rattle.jack_tree.specs.declared.tree.Expression.{Expression}
 use Rattle.jack_tree.specs.declared.tree.Statement as statements
 use Rattle.jack_parser.specs.Jack.{Said, Placed}
-use Rattle.jack_parser.specs.Trees.{name_leaf, exp_tree, group_tree, front_said, invoked_tree}
+use Rattle.jack_parser.specs.Trees.{name_leaf, exp_tree, group_tree, call_said, invoked_tree}
 
 abbrev pub key_leaf : Keyword → Place → Tree Said
 key_leaf k at = Leaf (Placed (kind.Keyword k) [] at)
@@ -34,7 +34,7 @@ abbrev mutual
   any_tree (statements.Let at n i e) = Left (Pair (key_leaf keyword.Let at) (Pair (name_leaf n) (Pair (index_tree i) (Pair Skip (Pair (exp_tree e) Skip)))))
   any_tree (statements.If' at e n body other) = Right (Left (Pair (key_leaf keyword.If at) (Pair (group_tree e) (Pair (braced (row_tree body)) (other_tree other)))))
   any_tree (statements.While' at e n body) = Right (Right (Left (Pair (key_leaf keyword.While at) (Pair (group_tree e) (braced (row_tree body))))))
-  any_tree (statements.Do at c) = Right (Right (Right (Left (Pair (key_leaf keyword.Do at) (Pair (Leaf (front_said c.object c.name)) (Pair (invoked_tree c) Skip))))))
+  any_tree (statements.Do at c) = Right (Right (Right (Left (Pair (key_leaf keyword.Do at) (Pair (Leaf (call_said c)) (Pair (invoked_tree c) Skip))))))
   any_tree (statements.Return at v) = Right (Right (Right (Right (Pair (key_leaf keyword.Return at) (Pair (value_tree v) Skip)))))
 
   pub row_tree : {n : _} → statements.Row_of-Statement n → Tree Said

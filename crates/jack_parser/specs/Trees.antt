@@ -14,9 +14,10 @@ use Rattle.jack_tree.specs.declared.tree.Sign.{Sign}
 use Rattle.jack_tree.specs.declared.tree.Sign.TheVariants as sign
 use Rattle.jack_tree.specs.declared.tree.Constant.{Constant}
 use Rattle.jack_tree.specs.declared.tree.Constant.TheVariants as constant
-use Rattle.jack_tree.specs.declared.tree.Call.{Call}
+use Rattle.jack_tree.specs.declared.tree.Call.{Call, Call', Row_of-Expression, end_of-Expression, more_of-Expression}
 use Rattle.jack_tree.specs.declared.tree.Term as terms
-use Rattle.jack_tree.specs.declared.tree.Expression.{Expression, Single', Binary'}
+use Rattle.jack_tree.specs.declared.tree.Operation.{Operation}
+use Rattle.jack_tree.specs.declared.tree.Expression.{Expression, Expression', Row_of-Operation, end_of-Operation, more_of-Operation}
 use Rattle.jack_parser.specs.Jack.{Said, Fixed, Placed, unquoted}
 
 abbrev pub name_said : Name → Said
@@ -36,8 +37,8 @@ operator_byte operator.Less = 60
 operator_byte operator.Greater = 62
 operator_byte operator.Equal = 61
 
-abbrev pub operator_said : Operator → Said
-operator_said o = Fixed (kind.Symbol (operator_byte o))
+abbrev pub operator_said : Operator → Place → Said
+operator_said o at = Placed (kind.Symbol (operator_byte o)) [] at
 
 abbrev pub sign_byte : Sign → ℕ
 sign_byte sign.Minus = 45
@@ -62,6 +63,9 @@ abbrev pub front_said : Option Name → Name → Said
 front_said None n = name_said n
 front_said (Some o) n = name_said o
 
+abbrev pub call_said : Call → Said
+call_said (Call' o n p es) = front_said o n
+
 abbrev pub called : Tree Said → Tree Said
 called args = Pair Skip (Pair args Skip)
 
@@ -73,35 +77,48 @@ abbrev mutual
   pub term_tree : terms.Term → Tree Said
   term_tree (terms.Constant c) = Node (Left (constant_leaf c))
   term_tree (terms.Variable x) = Node (Right (Left (Pair (name_leaf x) Absent)))
-  term_tree (terms.Element' x p e) = Node (Right (Left (Pair (name_leaf x) (Present (Left (Pair Skip (Pair (Node (exp_with e NoMore)) Skip)))))))
-  term_tree (terms.Call' p o x n es) = Node (Right (Left (Pair (Leaf (front_said o x)) (Present (Right (invoked_by o x (args_of es)))))))
-  term_tree (terms.Group' p e) = Node (Right (Right (Left (Pair Skip (Pair (Node (exp_with e NoMore)) Skip)))))
+  term_tree (terms.Element' x p e) = Node (Right (Left (Pair (name_leaf x) (Present (Left (Pair Skip (Pair (Node (exp_tree e)) Skip)))))))
+  term_tree (terms.Call' p c) = Node (Right (Left (Pair (Leaf (call_said c)) (Present (Right (invoked_tree c))))))
+  term_tree (terms.Group' p e) = Node (Right (Right (Left (Pair Skip (Pair (Node (exp_tree e)) Skip)))))
   term_tree (terms.Unary' s p t) = Node (Right (Right (Right (Pair (Leaf (sign_said s)) (Node (term_tree t))))))
 
-  -- the tree of an expression, with more operators behind it
-  pub exp_with : Expression → Tree Said → Tree Said
-  exp_with (Single' p t) more = Node (Pair (term_tree t) more)
-  exp_with (Binary' p e o q t) more = exp_with e (More (Pair (Leaf (operator_said o)) (term_tree t)) more)
+  -- what follows the front name of a call
+  pub invoked_tree : Call → Tree Said
+  invoked_tree (Call' o n p es) = invoked_by o n (args_of es)
 
-  pub args_of : {n : _} → terms.Row_of-Expression n → Tree Said
-  args_of terms.end_of-Expression = Absent
-  args_of (terms.more_of-Expression e es) = Present (Node (Pair (exp_with e NoMore) (more_of es)))
+  pub exp_tree : Expression → Tree Said
+  exp_tree (Expression' t p os) = Node (Pair (term_tree t) (rest_of os))
 
-  pub more_of : {n : _} → terms.Row_of-Expression n → Tree Said
-  more_of terms.end_of-Expression = NoMore
-  more_of (terms.more_of-Expression e es) = More (Pair Skip (exp_with e NoMore)) (more_of es)
+  pub rest_of : {n : _} → Row_of-Operation n → Tree Said
+  rest_of end_of-Operation = NoMore
+  rest_of (more_of-Operation o at t os) = More (Pair (Leaf (operator_said o at)) (term_tree t)) (rest_of os)
 
-abbrev pub exp_tree : Expression → Tree Said
-exp_tree e = exp_with e NoMore
+  pub args_of : {n : _} → Row_of-Expression n → Tree Said
+  args_of end_of-Expression = Absent
+  args_of (more_of-Expression e es) = Present (Node (Pair (Node (exp_tree e)) (more_of es)))
+
+  pub more_of : {n : _} → Row_of-Expression n → Tree Said
+  more_of end_of-Expression = NoMore
+  more_of (more_of-Expression e es) = More (Pair Skip (Node (exp_tree e))) (more_of es)
+
+-- operators with the terms that follow them
+abbrev pub operation_tree : Operation → Tree Said
+operation_tree o = Pair (Leaf (operator_said o.operator o.place)) (term_tree o.term)
+
+abbrev pub operations_tree : List Operation → Tree Said
+operations_tree os = listed operation_tree os NoMore
 
 -- the arguments of a call, as a list
+abbrev pub argument_tree : Expression → Tree Said
+argument_tree e = Node (exp_tree e)
+
 abbrev pub next_tree : Expression → Tree Said
-next_tree e = Pair Skip (exp_tree e)
+next_tree e = Pair Skip (argument_tree e)
 
 -- one argument or more, with more behind them
 abbrev pub list_with : List Expression → Tree Said → Tree Said
 list_with [] more = more
-list_with (e ∷ es) more = Pair (exp_tree e) (listed next_tree es more)
+list_with (e ∷ es) more = Pair (argument_tree e) (listed next_tree es more)
 
 abbrev pub args_tree : List Expression → Tree Said
 args_tree [] = Absent
@@ -109,10 +126,6 @@ args_tree (e ∷ es) = Present (Node (list_with (e ∷ es) NoMore))
 
 abbrev pub called_tree : List Expression → Tree Said
 called_tree es = called (args_tree es)
-
--- what follows the front name of a call
-abbrev pub invoked_tree : Call → Tree Said
-invoked_tree c = invoked_by c.object c.name (args_tree c.arguments.items)
 
 -- '(' exp ')'
 abbrev pub group_tree : Expression → Tree Said

@@ -5,7 +5,7 @@ use Rattle.grammar.specs.Rules.{Tree, Pair, Skip}
 use Rattle.grammar.specs.Texts.{Spelled, Refused}
 use Rattle.jack_tree.specs.declared.tree.Class.{Class}
 use Rattle.jack_lexer.specs.Cut.{tokens_of, finish}
-use Rattle.jack_parser.specs.Jack.{jack, Said, whole}
+use Rattle.jack_parser.specs.Jack.{jack, Said, whole, fresh}
 use Rattle.jack_parser.specs.ClassTrees.{class_tree}
 
 abbrev pub whole_tree : Class → Tree Said
@@ -13,8 +13,8 @@ whole_tree c = Pair (class_tree c) Skip
 
 -- the text spells the tree
 abbrev pub Spells : List ℕ → Tree Said → Type 0
-Spells text tree = Spelled (jack (finish text)) whole 0 (tokens_of text) tree
+Spells text tree = Spelled (jack (finish text)) whole (fresh 0) (tokens_of text) tree
 
 -- the text spells none, and this is its first fault
 abbrev pub Refuses : List ℕ → Fault → Type 0
-Refuses text f = Refused (jack (finish text)) whole 0 (tokens_of text) f
+Refuses text f = Refused (jack (finish text)) whole (fresh 0) (tokens_of text) f

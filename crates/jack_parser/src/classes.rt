@@ -4,40 +4,65 @@ ghost use Rattle.std.specs.Prelude.{◌≡◌, ◌<◌, ◌≤◌, ◌-◌, ◌+
 ghost use Rattle.grammar.specs.Reading.{ParsesBy, PassesBy, Halt};
 ghost use Rattle.grammar.specs.Rules.{name, repeat, listed, NoMore};
 ghost use Rattle.jack_tree.specs.Tokens.{view};
-ghost use Rattle.jack_parser.specs.Jack.{jack, names_rule, class_variables, locals_rule, parameter, parameter_list, parameters, subroutine, class_rule};
-ghost use Rattle.jack_parser.specs.ClassTrees.{names_tree, variables_tree, locals_tree, parameter_tree, parameters_with, parameters_tree, subroutine_tree, class_tree};
+ghost use Rattle.jack_parser.specs.Jack.{jack, names_rule, declaration, class_variables, locals_rule, parameter, parameter_list, parameters, subroutine, subroutine_parts, class_rule};
+ghost use Rattle.jack_parser.specs.ClassTrees.{names_tree, declared_tree, variables_tree, locals_tree, parameter_tree, parameters_with, parameters_tree, parts_tree, subroutine_tree, class_tree};
 
-use crate::declared::{
-    form, form_begins, result_type, scope, scope_begins, type_begins, type_name,
-};
+use crate::counts::{Counted, Counts, fresh};
+use crate::declared::{form, form_begins, result_type, scope_begins, type_begins, type_name};
 use crate::statements::statements;
-use crate::words::{identifier, keyword, keyword_stands, stands, symbol};
-use grammar::ReadError;
-use jack_tree::{Class, ClassVariables, Keyword, Locals, Names, Parameter, Subroutine, Token};
+use crate::words::{counted_name, here, identifier, keyword, keyword_stands, stands, symbol};
+use grammar::{Fault, ReadError};
+use jack_tree::{
+    Class, ClassVariables, Keyword, Locals, Names, Parameter, Scope, Subroutine, Token, Type,
+};
 use outer_world::Name as FileName;
 use scan_text::Place;
 use std::alloc::Global;
 
+// Names, and the counts with them.
 #[tactic(auto, using(crate::proofs::Exits::part_exits))]
 fn names<'a>(
     alloc: Global,
     tokens: &'a [Token<'a>],
     end: Place,
-    depth: u32,
-) -> Result<(Names, &'a [Token<'a>]), ReadError>
-    ensures reads { ParsesBy view (jack end) names_rule names_tree (λ _. depth) depth tokens.now result }
+    counts: Counts,
+    counted: Counted,
+) -> Result<((Names, Counts), &'a [Token<'a>]), ReadError>
+    ensures reads { ParsesBy view (jack end) (names_rule counted) (λ x. names_tree x.0) (λ x. x.1) counts tokens.now result }
     ensures shorter { IfOk result (λ r. length r.1.now < length tokens.now) }
 {
-    let (first, after_first) = identifier(alloc, tokens, end, depth)?;
+    let ((first, after_one), after_first) = counted_name(alloc, tokens, end, counts, counted)?;
     let mut more = Vec::new(alloc);
+    let mut so_far = after_one;
     let mut rest = after_first;
     'more: while stands(rest, b',') {
-        let after_comma = symbol(rest, end, depth, b',')?;
-        let (name, after) = identifier(alloc, after_comma, end, depth)?;
+        let after_comma = symbol(rest, end, so_far, b',')?;
+        let ((name, with_it), after) = counted_name(alloc, after_comma, end, so_far, counted)?;
         more.push(name)?;
+        so_far = with_it;
         rest = after;
     }
-    Ok((Names { first, more }, rest))
+    Ok(((Names { first, more }, so_far), rest))
+}
+
+// A type and names behind a keyword, and the counts with them.
+#[tactic(auto, using(crate::proofs::Exits::part_exits))]
+fn declaration<'a>(
+    alloc: Global,
+    tokens: &'a [Token<'a>],
+    end: Place,
+    counts: Counts,
+    word: Keyword,
+    counted: Counted,
+) -> Result<((Type, Names, Counts), &'a [Token<'a>]), ReadError>
+    ensures reads { ParsesBy view (jack end) (declaration word counted) (λ x. declared_tree x.0 x.1) (λ x. x.2) counts tokens.now result }
+    ensures shorter { IfOk result (λ r. length r.1.now < length tokens.now) }
+{
+    let rest = keyword(tokens, end, counts, word)?;
+    let (kind, rest) = type_name(alloc, rest, end, counts)?;
+    let ((names, so_far), rest) = names(alloc, rest, end, counts, counted)?;
+    let rest = symbol(rest, end, so_far, b';')?;
+    Ok(((kind, names, so_far), rest))
 }
 
 #[tactic(auto, using(crate::proofs::Exits::part_exits))]
@@ -45,16 +70,44 @@ fn variables<'a>(
     alloc: Global,
     tokens: &'a [Token<'a>],
     end: Place,
-    depth: u32,
-) -> Result<(ClassVariables, &'a [Token<'a>]), ReadError>
-    ensures reads { ParsesBy view (jack end) class_variables variables_tree (λ _. depth) depth tokens.now result }
+    counts: Counts,
+) -> Result<((ClassVariables, Counts), &'a [Token<'a>]), ReadError>
+    ensures reads { ParsesBy view (jack end) class_variables (λ x. variables_tree x.0) (λ x. x.1) counts tokens.now result }
     ensures shorter { IfOk result (λ r. length r.1.now < length tokens.now) }
 {
-    let (scope, rest) = scope(tokens, end, depth)?;
-    let (kind, rest) = type_name(alloc, rest, end, depth)?;
-    let (names, rest) = names(alloc, rest, end, depth)?;
-    let rest = symbol(rest, end, depth, b';')?;
-    Ok((ClassVariables { scope, kind, names }, rest))
+    if keyword_stands(tokens, Keyword::Static) {
+        let ((kind, names, so_far), rest) = declaration(
+            alloc,
+            tokens,
+            end,
+            counts,
+            Keyword::Static,
+            Counted::Static,
+        )?;
+        let variables = ClassVariables {
+            scope: Scope::Static,
+            kind,
+            names,
+        };
+        return Ok(((variables, so_far), rest));
+    }
+    if !keyword_stands(tokens, Keyword::Field) {
+        return Err(ReadError::Fault(Fault::Grammar(here(tokens, end))));
+    }
+    let ((kind, names, so_far), rest) = declaration(
+        alloc,
+        tokens,
+        end,
+        counts,
+        Keyword::Field,
+        Counted::Field,
+    )?;
+    let variables = ClassVariables {
+        scope: Scope::Field,
+        kind,
+        names,
+    };
+    Ok(((variables, so_far), rest))
 }
 
 #[tactic(auto, using(crate::proofs::Exits::part_exits))]
@@ -62,24 +115,26 @@ fn all_variables<'a>(
     alloc: Global,
     tokens: &'a [Token<'a>],
     end: Place,
-    depth: u32,
-) -> Result<(Vec<ClassVariables>, &'a [Token<'a>]), ReadError>
-    ensures reads { ParsesBy view (jack end) (repeat class_variables) (λ v. listed variables_tree v.items NoMore) (λ _. depth) depth tokens.now result }
+    counts: Counts,
+) -> Result<((Vec<ClassVariables>, Counts), &'a [Token<'a>]), ReadError>
+    ensures reads { ParsesBy view (jack end) (repeat class_variables) (λ x. listed variables_tree x.0.items NoMore) (λ x. x.1) counts tokens.now result }
     ensures no_longer { IfOk result (λ r. length r.1.now ≤ length tokens.now) }
 {
     let mut all = Vec::new(alloc);
     if !scope_begins(tokens) {
-        return Ok((all, tokens));
+        return Ok(((all, counts), tokens));
     }
-    let (first, after_first) = variables(alloc, tokens, end, depth)?;
+    let ((first, after_one), after_first) = variables(alloc, tokens, end, counts)?;
     all.push(first)?;
+    let mut so_far = after_one;
     let mut rest = after_first;
     'all: while scope_begins(rest) {
-        let (one, after) = variables(alloc, rest, end, depth)?;
+        let ((one, with_it), after) = variables(alloc, rest, end, so_far)?;
         all.push(one)?;
+        so_far = with_it;
         rest = after;
     }
-    Ok((all, rest))
+    Ok(((all, so_far), rest))
 }
 
 #[tactic(auto, using(crate::proofs::Exits::part_exits))]
@@ -87,16 +142,20 @@ fn locals<'a>(
     alloc: Global,
     tokens: &'a [Token<'a>],
     end: Place,
-    depth: u32,
-) -> Result<(Locals, &'a [Token<'a>]), ReadError>
-    ensures reads { ParsesBy view (jack end) locals_rule locals_tree (λ _. depth) depth tokens.now result }
+    counts: Counts,
+) -> Result<((Locals, Counts), &'a [Token<'a>]), ReadError>
+    ensures reads { ParsesBy view (jack end) locals_rule (λ x. locals_tree x.0) (λ x. x.1) counts tokens.now result }
     ensures shorter { IfOk result (λ r. length r.1.now < length tokens.now) }
 {
-    let rest = keyword(tokens, end, depth, Keyword::Var)?;
-    let (kind, rest) = type_name(alloc, rest, end, depth)?;
-    let (names, rest) = names(alloc, rest, end, depth)?;
-    let rest = symbol(rest, end, depth, b';')?;
-    Ok((Locals { kind, names }, rest))
+    let ((kind, names, so_far), rest) = declaration(
+        alloc,
+        tokens,
+        end,
+        counts,
+        Keyword::Var,
+        Counted::Local,
+    )?;
+    Ok(((Locals { kind, names }, so_far), rest))
 }
 
 #[tactic(auto, using(crate::proofs::Exits::part_exits))]
@@ -104,24 +163,26 @@ fn all_locals<'a>(
     alloc: Global,
     tokens: &'a [Token<'a>],
     end: Place,
-    depth: u32,
-) -> Result<(Vec<Locals>, &'a [Token<'a>]), ReadError>
-    ensures reads { ParsesBy view (jack end) (repeat locals_rule) (λ v. listed locals_tree v.items NoMore) (λ _. depth) depth tokens.now result }
+    counts: Counts,
+) -> Result<((Vec<Locals>, Counts), &'a [Token<'a>]), ReadError>
+    ensures reads { ParsesBy view (jack end) (repeat locals_rule) (λ x. listed locals_tree x.0.items NoMore) (λ x. x.1) counts tokens.now result }
     ensures no_longer { IfOk result (λ r. length r.1.now ≤ length tokens.now) }
 {
     let mut all = Vec::new(alloc);
     if !keyword_stands(tokens, Keyword::Var) {
-        return Ok((all, tokens));
+        return Ok(((all, counts), tokens));
     }
-    let (first, after_first) = locals(alloc, tokens, end, depth)?;
+    let ((first, after_one), after_first) = locals(alloc, tokens, end, counts)?;
     all.push(first)?;
+    let mut so_far = after_one;
     let mut rest = after_first;
     'all: while keyword_stands(rest, Keyword::Var) {
-        let (one, after) = locals(alloc, rest, end, depth)?;
+        let ((one, with_it), after) = locals(alloc, rest, end, so_far)?;
         all.push(one)?;
+        so_far = with_it;
         rest = after;
     }
-    Ok((all, rest))
+    Ok(((all, so_far), rest))
 }
 
 #[tactic(auto, using(crate::proofs::Exits::part_exits))]
@@ -129,14 +190,14 @@ fn parameter<'a>(
     alloc: Global,
     tokens: &'a [Token<'a>],
     end: Place,
-    depth: u32,
-) -> Result<(Parameter, &'a [Token<'a>]), ReadError>
-    ensures reads { ParsesBy view (jack end) parameter parameter_tree (λ _. depth) depth tokens.now result }
+    counts: Counts,
+) -> Result<((Parameter, Counts), &'a [Token<'a>]), ReadError>
+    ensures reads { ParsesBy view (jack end) parameter (λ x. parameter_tree x.0) (λ x. x.1) counts tokens.now result }
     ensures shorter { IfOk result (λ r. length r.1.now < length tokens.now) }
 {
-    let (kind, rest) = type_name(alloc, tokens, end, depth)?;
-    let (name, rest) = identifier(alloc, rest, end, depth)?;
-    Ok((Parameter { kind, name }, rest))
+    let (kind, rest) = type_name(alloc, tokens, end, counts)?;
+    let ((name, so_far), rest) = counted_name(alloc, rest, end, counts, Counted::Parameter)?;
+    Ok(((Parameter { kind, name }, so_far), rest))
 }
 
 // One parameter or more.
@@ -145,23 +206,25 @@ fn parameter_list<'a>(
     alloc: Global,
     tokens: &'a [Token<'a>],
     end: Place,
-    depth: u32,
-) -> Result<(Vec<Parameter>, &'a [Token<'a>]), ReadError>
-    ensures reads { ParsesBy view (jack end) parameter_list (λ v. parameters_with v.items NoMore) (λ _. depth) depth tokens.now result }
+    counts: Counts,
+) -> Result<((Vec<Parameter>, Counts), &'a [Token<'a>]), ReadError>
+    ensures reads { ParsesBy view (jack end) parameter_list (λ x. parameters_with x.0.items NoMore) (λ x. x.1) counts tokens.now result }
     ensures shorter { IfOk result (λ r. length r.1.now < length tokens.now) }
-    ensures some { IfOk result (λ r. 1 ≤ length r.0.items) }
+    ensures some { IfOk result (λ r. 1 ≤ length r.0.0.items) }
 {
     let mut parameters = Vec::new(alloc);
-    let (first, after_first) = parameter(alloc, tokens, end, depth)?;
+    let ((first, after_one), after_first) = parameter(alloc, tokens, end, counts)?;
     parameters.push(first)?;
+    let mut so_far = after_one;
     let mut rest = after_first;
     'more: while stands(rest, b',') {
-        let after_comma = symbol(rest, end, depth, b',')?;
-        let (one, after) = parameter(alloc, after_comma, end, depth)?;
+        let after_comma = symbol(rest, end, so_far, b',')?;
+        let ((one, with_it), after) = parameter(alloc, after_comma, end, so_far)?;
         parameters.push(one)?;
+        so_far = with_it;
         rest = after;
     }
-    Ok((parameters, rest))
+    Ok(((parameters, so_far), rest))
 }
 
 #[tactic(auto, using(crate::proofs::Exits::part_exits))]
@@ -169,39 +232,39 @@ fn parameters<'a>(
     alloc: Global,
     tokens: &'a [Token<'a>],
     end: Place,
-    depth: u32,
-) -> Result<(Vec<Parameter>, &'a [Token<'a>]), ReadError>
-    ensures reads { ParsesBy view (jack end) parameters (λ v. parameters_tree v.items) (λ _. depth) depth tokens.now result }
+    counts: Counts,
+) -> Result<((Vec<Parameter>, Counts), &'a [Token<'a>]), ReadError>
+    ensures reads { ParsesBy view (jack end) parameters (λ x. parameters_tree x.0.items) (λ x. x.1) counts tokens.now result }
     ensures no_longer { IfOk result (λ r. length r.1.now ≤ length tokens.now) }
 {
     if !type_begins(tokens) {
-        return Ok((Vec::new(alloc), tokens));
+        return Ok(((Vec::new(alloc), counts), tokens));
     }
-    let (parameters, rest) = parameter_list(alloc, tokens, end, depth)?;
-    Ok((parameters, rest))
+    let ((parameters, so_far), rest) = parameter_list(alloc, tokens, end, counts)?;
+    Ok(((parameters, so_far), rest))
 }
 
+// A subroutine, and the counts with its parameters and locals.
 #[tactic(auto, using(crate::proofs::Exits::part_exits))]
-fn subroutine<'a>(
+fn parts<'a>(
     alloc: Global,
     tokens: &'a [Token<'a>],
     end: Place,
-    depth: u32,
-) -> Result<(Subroutine, &'a [Token<'a>]), ReadError>
-    requires { depth ≤ 256 }
-    ensures reads { ParsesBy view (jack end) subroutine subroutine_tree (λ _. depth) depth tokens.now result }
+    counts: Counts,
+) -> Result<((Subroutine, Counts), &'a [Token<'a>]), ReadError>
+    ensures reads { ParsesBy view (jack end) subroutine_parts (λ x. parts_tree x.0) (λ x. x.1) counts tokens.now result }
     ensures shorter { IfOk result (λ r. length r.1.now < length tokens.now) }
 {
-    let (form, rest) = form(tokens, end, depth)?;
-    let (result, rest) = result_type(alloc, rest, end, depth)?;
-    let (name, rest) = identifier(alloc, rest, end, depth)?;
-    let rest = symbol(rest, end, depth, b'(')?;
-    let (parameters, rest) = parameters(alloc, rest, end, depth)?;
-    let rest = symbol(rest, end, depth, b')')?;
-    let rest = symbol(rest, end, depth, b'{')?;
-    let (locals, rest) = all_locals(alloc, rest, end, depth)?;
-    let (statements, rest) = statements(alloc, rest, end, depth)?;
-    let rest = symbol(rest, end, depth, b'}')?;
+    let (form, rest) = form(tokens, end, counts)?;
+    let (result, rest) = result_type(alloc, rest, end, counts)?;
+    let (name, rest) = identifier(alloc, rest, end, counts)?;
+    let rest = symbol(rest, end, counts, b'(')?;
+    let ((parameters, so_far), rest) = parameters(alloc, rest, end, counts)?;
+    let rest = symbol(rest, end, so_far, b')')?;
+    let rest = symbol(rest, end, so_far, b'{')?;
+    let ((locals, in_all), rest) = all_locals(alloc, rest, end, so_far)?;
+    let (statements, rest) = statements(alloc, rest, end, in_all)?;
+    let rest = symbol(rest, end, in_all, b'}')?;
     let subroutine = Subroutine {
         form,
         result,
@@ -210,6 +273,24 @@ fn subroutine<'a>(
         locals,
         statements,
     };
+    Ok(((subroutine, in_all), rest))
+}
+
+// A subroutine counts its own parameters and locals.
+#[tactic(auto, using(crate::proofs::Exits::part_exits))]
+fn subroutine<'a>(
+    alloc: Global,
+    tokens: &'a [Token<'a>],
+    end: Place,
+    counts: Counts,
+) -> Result<(Subroutine, &'a [Token<'a>]), ReadError>
+    ensures reads { ParsesBy view (jack end) subroutine subroutine_tree (λ _. counts) counts tokens.now result }
+    ensures shorter { IfOk result (λ r. length r.1.now < length tokens.now) }
+{
+    if !form_begins(tokens) {
+        return Err(ReadError::Fault(Fault::Grammar(here(tokens, end))));
+    }
+    let ((subroutine, _), rest) = parts(alloc, tokens, end, fresh(counts.nesting))?;
     Ok((subroutine, rest))
 }
 
@@ -218,50 +299,49 @@ fn subroutines<'a>(
     alloc: Global,
     tokens: &'a [Token<'a>],
     end: Place,
-    depth: u32,
+    counts: Counts,
 ) -> Result<(Vec<Subroutine>, &'a [Token<'a>]), ReadError>
-    requires { depth ≤ 256 }
-    ensures reads { ParsesBy view (jack end) (repeat subroutine) (λ v. listed subroutine_tree v.items NoMore) (λ _. depth) depth tokens.now result }
+    ensures reads { ParsesBy view (jack end) (repeat subroutine) (λ v. listed subroutine_tree v.items NoMore) (λ _. counts) counts tokens.now result }
     ensures no_longer { IfOk result (λ r. length r.1.now ≤ length tokens.now) }
 {
     let mut all = Vec::new(alloc);
     if !form_begins(tokens) {
         return Ok((all, tokens));
     }
-    let (first, after_first) = subroutine(alloc, tokens, end, depth)?;
+    let (first, after_first) = subroutine(alloc, tokens, end, counts)?;
     all.push(first)?;
     let mut rest = after_first;
     'all: while form_begins(rest) {
-        let (one, after) = subroutine(alloc, rest, end, depth)?;
+        let (one, after) = subroutine(alloc, rest, end, counts)?;
         all.push(one)?;
         rest = after;
     }
     Ok((all, rest))
 }
 
+// A class, and the counts with its variables.
 #[tactic(auto, using(crate::proofs::Exits::part_exits))]
 pub fn class<'a>(
     alloc: Global,
     file: FileName,
     tokens: &'a [Token<'a>],
     end: Place,
-    depth: u32,
-) -> Result<(Class, &'a [Token<'a>]), ReadError>
-    requires { depth ≤ 256 }
-    ensures reads { ParsesBy view (jack end) class_rule class_tree (λ _. depth) depth tokens.now result }
-    ensures file { IfOk result (λ r. r.0.file ≡ file) }
+    counts: Counts,
+) -> Result<((Class, Counts), &'a [Token<'a>]), ReadError>
+    ensures reads { ParsesBy view (jack end) class_rule (λ x. class_tree x.0) (λ x. x.1) counts tokens.now result }
+    ensures file { IfOk result (λ r. r.0.0.file ≡ file) }
 {
-    let rest = keyword(tokens, end, depth, Keyword::Class)?;
-    let (name, rest) = identifier(alloc, rest, end, depth)?;
-    let rest = symbol(rest, end, depth, b'{')?;
-    let (variables, rest) = all_variables(alloc, rest, end, depth)?;
-    let (subroutines, rest) = subroutines(alloc, rest, end, depth)?;
-    let rest = symbol(rest, end, depth, b'}')?;
+    let rest = keyword(tokens, end, counts, Keyword::Class)?;
+    let (name, rest) = identifier(alloc, rest, end, counts)?;
+    let rest = symbol(rest, end, counts, b'{')?;
+    let ((variables, so_far), rest) = all_variables(alloc, rest, end, counts)?;
+    let (subroutines, rest) = subroutines(alloc, rest, end, so_far)?;
+    let rest = symbol(rest, end, so_far, b'}')?;
     let class = Class {
         file,
         name,
         variables,
         subroutines,
     };
-    Ok((class, rest))
+    Ok(((class, so_far), rest))
 }

@@ -4,12 +4,13 @@ ghost use Rattle.jack_tree.specs.Tokens.{view};
 ghost use Rattle.std.specs.Prelude.{map, ◌≡◌, ◌<◌, ◌≤◌, ◌-◌, ◌+◌, ◌^◌, length, Some, None, Result, Ok, List, IfOk, ℕ};
 ghost use Rattle.grammar.specs.Reading.{ParsesBy, PassesBy, Gives, word_at, mark_at};
 ghost use Rattle.grammar.specs.Rules.{Leaf, next, here};
-ghost use Rattle.jack_parser.specs.Jack.{jack, free, fixed, type_said, is_type, is_result, is_scope, is_form, type_rule, result_rule, scope_rule, form_rule};
-ghost use Rattle.jack_parser.specs.ClassTrees.{type_leaf_said, result_said, scope_said, form_said};
+ghost use Rattle.jack_parser.specs.Jack.{jack, free, fixed, type_said, is_type, is_result, is_scope, is_form, type_rule, result_rule, form_rule};
+ghost use Rattle.jack_parser.specs.ClassTrees.{type_leaf_said, result_said, form_said};
 
+use crate::counts::Counts;
 use crate::words::grammar_fault;
 use grammar::ReadError;
-use jack_tree::{Form, Keyword, Kind, Name, Scope, Token, Type};
+use jack_tree::{Form, Keyword, Kind, Name, Token, Type};
 use scan_text::Place;
 use std::alloc::Global;
 
@@ -18,7 +19,7 @@ fn type_name_at<'a>(
     tokens: &'a [Token<'a>],
     end: Place,
 ) -> Result<(Type, &'a [Token<'a>]), ReadError>
-    ensures reads { (depth : ℕ) → Gives (λ x. (type_leaf_said x.0, depth, map view x.1.now)) result (word_at (jack end) is_type free type_said depth (map view tokens.now)) }
+    ensures reads { (counts : Counts) → Gives (λ x. (type_leaf_said x.0, counts, map view x.1.now)) result (word_at (jack end) is_type free type_said counts (map view tokens.now)) }
     ensures shorter { IfOk result (λ r. length r.1.now < length tokens.now) }
 {
     let Some((token, rest)) = tokens.split_first() else {
@@ -43,9 +44,9 @@ pub fn type_name<'a>(
     alloc: Global,
     tokens: &'a [Token<'a>],
     end: Place,
-    depth: u32,
+    counts: Counts,
 ) -> Result<(Type, &'a [Token<'a>]), ReadError>
-    ensures reads { ParsesBy view (jack end) type_rule (λ x. Leaf (type_leaf_said x)) (λ _. depth) depth tokens.now result }
+    ensures reads { ParsesBy view (jack end) type_rule (λ x. Leaf (type_leaf_said x)) (λ _. counts) counts tokens.now result }
     ensures shorter { IfOk result (λ r. length r.1.now < length tokens.now) }
 {
     type_name_at(alloc, tokens, end)
@@ -56,7 +57,7 @@ fn result_type_at<'a>(
     tokens: &'a [Token<'a>],
     end: Place,
 ) -> Result<(Option<Type>, &'a [Token<'a>]), ReadError>
-    ensures reads { (depth : ℕ) → Gives (λ x. (result_said x.0, depth, map view x.1.now)) result (word_at (jack end) is_result free type_said depth (map view tokens.now)) }
+    ensures reads { (counts : Counts) → Gives (λ x. (result_said x.0, counts, map view x.1.now)) result (word_at (jack end) is_result free type_said counts (map view tokens.now)) }
     ensures shorter { IfOk result (λ r. length r.1.now < length tokens.now) }
 {
     let Some((token, rest)) = tokens.split_first() else {
@@ -82,41 +83,16 @@ pub fn result_type<'a>(
     alloc: Global,
     tokens: &'a [Token<'a>],
     end: Place,
-    depth: u32,
+    counts: Counts,
 ) -> Result<(Option<Type>, &'a [Token<'a>]), ReadError>
-    ensures reads { ParsesBy view (jack end) result_rule (λ x. Leaf (result_said x)) (λ _. depth) depth tokens.now result }
+    ensures reads { ParsesBy view (jack end) result_rule (λ x. Leaf (result_said x)) (λ _. counts) counts tokens.now result }
     ensures shorter { IfOk result (λ r. length r.1.now < length tokens.now) }
 {
     result_type_at(alloc, tokens, end)
 }
 
-fn scope_at<'a>(tokens: &'a [Token<'a>], end: Place) -> Result<(Scope, &'a [Token<'a>]), ReadError>
-    ensures reads { (depth : ℕ) → Gives (λ x. (scope_said x.0, depth, map view x.1.now)) result (word_at (jack end) is_scope free fixed depth (map view tokens.now)) }
-    ensures shorter { IfOk result (λ r. length r.1.now < length tokens.now) }
-{
-    let Some((token, rest)) = tokens.split_first() else {
-        return Err(grammar_fault(end));
-    };
-    match token.kind {
-        Kind::Keyword(Keyword::Static) => Ok((Scope::Static, rest)),
-        Kind::Keyword(Keyword::Field) => Ok((Scope::Field, rest)),
-        _ => Err(grammar_fault(token.place)),
-    }
-}
-
-pub fn scope<'a>(
-    tokens: &'a [Token<'a>],
-    end: Place,
-    depth: u32,
-) -> Result<(Scope, &'a [Token<'a>]), ReadError>
-    ensures reads { ParsesBy view (jack end) scope_rule (λ x. Leaf (scope_said x)) (λ _. depth) depth tokens.now result }
-    ensures shorter { IfOk result (λ r. length r.1.now < length tokens.now) }
-{
-    scope_at(tokens, end)
-}
-
 fn form_at<'a>(tokens: &'a [Token<'a>], end: Place) -> Result<(Form, &'a [Token<'a>]), ReadError>
-    ensures reads { (depth : ℕ) → Gives (λ x. (form_said x.0, depth, map view x.1.now)) result (word_at (jack end) is_form free fixed depth (map view tokens.now)) }
+    ensures reads { (counts : Counts) → Gives (λ x. (form_said x.0, counts, map view x.1.now)) result (word_at (jack end) is_form free fixed counts (map view tokens.now)) }
     ensures shorter { IfOk result (λ r. length r.1.now < length tokens.now) }
 {
     let Some((token, rest)) = tokens.split_first() else {
@@ -133,9 +109,9 @@ fn form_at<'a>(tokens: &'a [Token<'a>], end: Place) -> Result<(Form, &'a [Token<
 pub fn form<'a>(
     tokens: &'a [Token<'a>],
     end: Place,
-    depth: u32,
+    counts: Counts,
 ) -> Result<(Form, &'a [Token<'a>]), ReadError>
-    ensures reads { ParsesBy view (jack end) form_rule (λ x. Leaf (form_said x)) (λ _. depth) depth tokens.now result }
+    ensures reads { ParsesBy view (jack end) form_rule (λ x. Leaf (form_said x)) (λ _. counts) counts tokens.now result }
     ensures shorter { IfOk result (λ r. length r.1.now < length tokens.now) }
 {
     form_at(tokens, end)

@@ -2,18 +2,19 @@
 
 ghost use Rattle.std.specs.Prelude.{◌≡◌, ◌<◌, ◌≤◌, ◌-◌, ◌+◌, ◌^◌, length, Some, None, Result, Ok, List, ℕ, IfOk, map};
 ghost use Rattle.grammar.specs.Reading.{ParsesBy, PassesBy, Halt};
-ghost use Rattle.grammar.specs.Rules.{name, NoMore, Node};
+ghost use Rattle.grammar.specs.Rules.{name, Node};
 ghost use Rattle.jack_tree.specs.Tokens.{view};
-ghost use Rattle.jack_parser.specs.Jack.{jack, expression, term, nested, arguments, argument_list, group, call, invoked};
+ghost use Rattle.jack_parser.specs.Jack.{jack, expression, term, nested, arguments, argument, group, call, invoked};
 ghost use Rattle.jack_parser.specs.Starts.{start_of};
-ghost use Rattle.jack_parser.specs.Trees.{term_tree, exp_tree, args_tree, list_with, called_tree, invoked_tree, group_tree, front_said, name_said};
+ghost use Rattle.jack_parser.specs.Trees.{term_tree, exp_tree, args_tree, argument_tree, called_tree, invoked_tree, group_tree, call_said, name_said};
 
+use crate::counts::{Counted, Counts, count, deeper};
 use crate::words::{
-    Start, call_begins, constant, deeper, here, identifier, operates, operator, stands, start_at,
-    symbol, term_begins, unary,
+    Start, call_begins, constant, here, identifier, operates, operator, stands, start_at, symbol,
+    term_begins, unary,
 };
 use grammar::{Fault, ReadError};
-use jack_tree::{Call, Expression, Name, Term, Token};
+use jack_tree::{Call, Expression, Name, Operation, Term, Token};
 use scan_text::Place;
 use std::alloc::Global;
 
@@ -23,22 +24,29 @@ pub fn expression<'a>(
     alloc: Global,
     tokens: &'a [Token<'a>],
     end: Place,
-    depth: u32,
+    counts: Counts,
 ) -> Result<(Expression, &'a [Token<'a>]), ReadError>
-    requires { depth ≤ 256 }
-    ensures reads { ParsesBy view (jack end) (name expression) exp_tree (λ _. depth) depth tokens.now result }
+    ensures reads { ParsesBy view (jack end) (name expression) exp_tree (λ _. counts) counts tokens.now result }
     ensures shorter { IfOk result (λ r. length r.1.now < length tokens.now) }
 {
-    let (first, after_first) = term(alloc, tokens, end, depth)?;
-    let mut exp = Expression::Single(Box::new(alloc, first)?);
+    let (first, after_first) = term(alloc, tokens, end, counts)?;
+    let mut operations = Vec::new(alloc);
     let mut rest = after_first;
     'operators: while operates(rest) {
-        let (operator, after_operator) = operator(rest, end, depth)?;
-        let (right, after) = term(alloc, after_operator, end, depth)?;
-        exp = Expression::Binary(Box::new(alloc, exp)?, operator, Box::new(alloc, right)?);
+        let ((operator, place), after_operator) = operator(rest, end, counts)?;
+        let (right, after) = term(alloc, after_operator, end, counts)?;
+        operations.push(Operation {
+            operator,
+            place,
+            term: right,
+        })?;
         rest = after;
     }
-    Ok((exp, rest))
+    let expression = Expression {
+        first,
+        rest: operations,
+    };
+    Ok((expression, rest))
 }
 
 #[cycle(reading)]
@@ -47,23 +55,22 @@ fn term<'a>(
     alloc: Global,
     tokens: &'a [Token<'a>],
     end: Place,
-    depth: u32,
+    counts: Counts,
 ) -> Result<(Term, &'a [Token<'a>]), ReadError>
-    requires { depth ≤ 256 }
-    ensures reads { ParsesBy view (jack end) (name term) term_tree (λ _. depth) depth tokens.now result }
+    ensures reads { ParsesBy view (jack end) (name term) term_tree (λ _. counts) counts tokens.now result }
     ensures shorter { IfOk result (λ r. length r.1.now < length tokens.now) }
 {
     match start_at(tokens) {
         Start::Constant => {
-            let (constant, rest) = constant(alloc, tokens, end, depth)?;
+            let (constant, rest) = constant(alloc, tokens, end, counts)?;
             Ok((Term::Constant(constant), rest))
         }
-        Start::Name => variable(alloc, tokens, end, depth),
+        Start::Name => variable(alloc, tokens, end, counts),
         Start::Group => {
-            let (inside, rest) = grouped(alloc, tokens, end, depth)?;
+            let (inside, rest) = grouped(alloc, tokens, end, counts)?;
             Ok((Term::Group(Box::new(alloc, inside)?), rest))
         }
-        Start::Negation => negation(alloc, tokens, end, depth),
+        Start::Negation => negation(alloc, tokens, end, counts),
         Start::Other => Err(ReadError::Fault(Fault::Grammar(here(tokens, end)))),
     }
 }
@@ -74,22 +81,21 @@ fn variable<'a>(
     alloc: Global,
     tokens: &'a [Token<'a>],
     end: Place,
-    depth: u32,
+    counts: Counts,
 ) -> Result<(Term, &'a [Token<'a>]), ReadError>
-    requires bounded { depth ≤ 256 }
     requires begun { start_of (map view tokens.now) ≡ Start.Name }
-    ensures reads { ParsesBy view (jack end) (name term) term_tree (λ _. depth) depth tokens.now result }
+    ensures reads { ParsesBy view (jack end) (name term) term_tree (λ _. counts) counts tokens.now result }
     ensures shorter { IfOk result (λ r. length r.1.now < length tokens.now) }
 {
-    let (name, rest) = identifier(alloc, tokens, end, depth)?;
+    let (name, rest) = identifier(alloc, tokens, end, counts)?;
     if stands(rest, b'[') {
-        let rest = symbol(rest, end, depth, b'[')?;
-        let (index, rest) = nested(alloc, rest, end, depth)?;
-        let rest = symbol(rest, end, depth, b']')?;
+        let rest = symbol(rest, end, counts, b'[')?;
+        let (index, rest) = nested(alloc, rest, end, counts)?;
+        let rest = symbol(rest, end, counts, b']')?;
         return Ok((Term::Element(name, Box::new(alloc, index)?), rest));
     }
     if call_begins(rest) {
-        let (call, after) = call_of(alloc, name, rest, end, depth)?;
+        let (call, after) = call_of(alloc, name, rest, end, counts)?;
         return Ok((Term::Call(Box::new(alloc, call)?), after));
     }
     Ok((Term::Variable(name), rest))
@@ -103,15 +109,14 @@ pub fn call_of<'a>(
     first: Name,
     tokens: &'a [Token<'a>],
     end: Place,
-    depth: u32,
+    counts: Counts,
 ) -> Result<(Call, &'a [Token<'a>]), ReadError>
-    requires { depth ≤ 256 }
-    ensures reads { ParsesBy view (jack end) invoked invoked_tree (λ _. depth) depth tokens.now result }
+    ensures reads { ParsesBy view (jack end) invoked invoked_tree (λ _. counts) counts tokens.now result }
     ensures shorter { IfOk result (λ r. length r.1.now < length tokens.now) }
-    ensures front { IfOk result (λ r. front_said r.0.object r.0.name ≡ name_said first) }
+    ensures front { IfOk result (λ r. call_said r.0 ≡ name_said first) }
 {
     if stands(tokens, b'(') {
-        let (arguments, rest) = called(alloc, tokens, end, depth)?;
+        let (arguments, rest) = called(alloc, tokens, end, counts)?;
         let call = Call {
             object: None,
             name: first,
@@ -122,9 +127,9 @@ pub fn call_of<'a>(
     if !stands(tokens, b'.') {
         return Err(ReadError::Fault(Fault::Grammar(here(tokens, end))));
     }
-    let rest = symbol(tokens, end, depth, b'.')?;
-    let (name, rest) = identifier(alloc, rest, end, depth)?;
-    let (arguments, rest) = called(alloc, rest, end, depth)?;
+    let rest = symbol(tokens, end, counts, b'.')?;
+    let (name, rest) = identifier(alloc, rest, end, counts)?;
+    let (arguments, rest) = called(alloc, rest, end, counts)?;
     let call = Call {
         object: Some(first),
         name,
@@ -140,15 +145,14 @@ fn called<'a>(
     alloc: Global,
     tokens: &'a [Token<'a>],
     end: Place,
-    depth: u32,
+    counts: Counts,
 ) -> Result<(Vec<Expression>, &'a [Token<'a>]), ReadError>
-    requires { depth ≤ 256 }
-    ensures reads { ParsesBy view (jack end) call (λ v. called_tree v.items) (λ _. depth) depth tokens.now result }
+    ensures reads { ParsesBy view (jack end) call (λ v. called_tree v.items) (λ _. counts) counts tokens.now result }
     ensures shorter { IfOk result (λ r. length r.1.now < length tokens.now) }
 {
-    let rest = symbol(tokens, end, depth, b'(')?;
-    let (arguments, rest) = arguments(alloc, rest, end, depth)?;
-    let rest = symbol(rest, end, depth, b')')?;
+    let rest = symbol(tokens, end, counts, b'(')?;
+    let (arguments, rest) = arguments(alloc, rest, end, counts)?;
+    let rest = symbol(rest, end, counts, b')')?;
     Ok((arguments, rest))
 }
 
@@ -159,45 +163,48 @@ fn arguments<'a>(
     alloc: Global,
     tokens: &'a [Token<'a>],
     end: Place,
-    depth: u32,
+    counts: Counts,
 ) -> Result<(Vec<Expression>, &'a [Token<'a>]), ReadError>
-    requires { depth ≤ 256 }
-    ensures reads { ParsesBy view (jack end) arguments (λ v. args_tree v.items) (λ _. depth) depth tokens.now result }
+    ensures reads { ParsesBy view (jack end) arguments (λ v. args_tree v.items) (λ _. counts) counts tokens.now result }
     ensures no_longer { IfOk result (λ r. length r.1.now ≤ length tokens.now) }
 {
-    if !term_begins(tokens) {
-        return Ok((Vec::new(alloc), tokens));
-    }
-    let inner = deeper(depth, here(tokens, end))?;
-    let (arguments, rest) = argument_list(alloc, tokens, end, inner)?;
-    Ok((arguments, rest))
-}
-
-// One argument or more.
-#[cycle(reading)]
-#[tactic(auto, using(crate::proofs::Exits::jack_exits))]
-fn argument_list<'a>(
-    alloc: Global,
-    tokens: &'a [Token<'a>],
-    end: Place,
-    depth: u32,
-) -> Result<(Vec<Expression>, &'a [Token<'a>]), ReadError>
-    requires { depth ≤ 256 }
-    ensures reads { ParsesBy view (jack end) argument_list (λ v. list_with v.items NoMore) (λ _. depth) depth tokens.now result }
-    ensures shorter { IfOk result (λ r. length r.1.now < length tokens.now) }
-    ensures some { IfOk result (λ r. 1 ≤ length r.0.items) }
-{
     let mut arguments = Vec::new(alloc);
-    let (first, after_first) = expression(alloc, tokens, end, depth)?;
+    if !term_begins(tokens) {
+        return Ok((arguments, tokens));
+    }
+    let inner = deeper(counts, here(tokens, end))?;
+    let ((first, after_one), after_first) = argument(alloc, tokens, end, inner)?;
     arguments.push(first)?;
+    let mut so_far = after_one;
     let mut rest = after_first;
     'more: while stands(rest, b',') {
-        let after_comma = symbol(rest, end, depth, b',')?;
-        let (argument, after) = expression(alloc, after_comma, end, depth)?;
-        arguments.push(argument)?;
+        let after_comma = symbol(rest, end, so_far, b',')?;
+        let ((one, with_it), after) = argument(alloc, after_comma, end, so_far)?;
+        arguments.push(one)?;
+        so_far = with_it;
         rest = after;
     }
     Ok((arguments, rest))
+}
+
+// An argument, and the counts with it.
+#[cycle(reading)]
+#[tactic(auto, using(crate::proofs::Exits::jack_exits))]
+fn argument<'a>(
+    alloc: Global,
+    tokens: &'a [Token<'a>],
+    end: Place,
+    counts: Counts,
+) -> Result<((Expression, Counts), &'a [Token<'a>]), ReadError>
+    ensures reads { ParsesBy view (jack end) argument (λ x. argument_tree x.0) (λ x. x.1) counts tokens.now result }
+    ensures shorter { IfOk result (λ r. length r.1.now < length tokens.now) }
+{
+    if !term_begins(tokens) {
+        return Err(ReadError::Fault(Fault::Grammar(here(tokens, end))));
+    }
+    let with_it = count(Counted::Argument, counts, here(tokens, end))?;
+    let (exp, rest) = expression(alloc, tokens, end, with_it)?;
+    Ok(((exp, with_it), rest))
 }
 
 // An expression in parentheses.
@@ -207,15 +214,14 @@ pub fn grouped<'a>(
     alloc: Global,
     tokens: &'a [Token<'a>],
     end: Place,
-    depth: u32,
+    counts: Counts,
 ) -> Result<(Expression, &'a [Token<'a>]), ReadError>
-    requires { depth ≤ 256 }
-    ensures reads { ParsesBy view (jack end) group group_tree (λ _. depth) depth tokens.now result }
+    ensures reads { ParsesBy view (jack end) group group_tree (λ _. counts) counts tokens.now result }
     ensures shorter { IfOk result (λ r. length r.1.now < length tokens.now) }
 {
-    let rest = symbol(tokens, end, depth, b'(')?;
-    let (inside, rest) = nested(alloc, rest, end, depth)?;
-    let rest = symbol(rest, end, depth, b')')?;
+    let rest = symbol(tokens, end, counts, b'(')?;
+    let (inside, rest) = nested(alloc, rest, end, counts)?;
+    let rest = symbol(rest, end, counts, b')')?;
     Ok((inside, rest))
 }
 
@@ -225,18 +231,17 @@ fn negation<'a>(
     alloc: Global,
     tokens: &'a [Token<'a>],
     end: Place,
-    depth: u32,
+    counts: Counts,
 ) -> Result<(Term, &'a [Token<'a>]), ReadError>
-    requires bounded { depth ≤ 256 }
     requires begun { start_of (map view tokens.now) ≡ Start.Negation }
-    ensures reads { ParsesBy view (jack end) (name term) term_tree (λ _. depth) depth tokens.now result }
+    ensures reads { ParsesBy view (jack end) (name term) term_tree (λ _. counts) counts tokens.now result }
     ensures shorter { IfOk result (λ r. length r.1.now < length tokens.now) }
 {
-    let (sign, rest) = unary(tokens, end, depth)?;
+    let (sign, rest) = unary(tokens, end, counts)?;
     if !term_begins(rest) {
         return Err(ReadError::Fault(Fault::Grammar(here(rest, end))));
     }
-    let inner = deeper(depth, here(rest, end))?;
+    let inner = deeper(counts, here(rest, end))?;
     let (term, rest) = term(alloc, rest, end, inner)?;
     Ok((Term::Unary(sign, Box::new(alloc, term)?), rest))
 }
@@ -248,16 +253,15 @@ pub fn nested<'a>(
     alloc: Global,
     tokens: &'a [Token<'a>],
     end: Place,
-    depth: u32,
+    counts: Counts,
 ) -> Result<(Expression, &'a [Token<'a>]), ReadError>
-    requires { depth ≤ 256 }
-    ensures reads { ParsesBy view (jack end) (nested (name expression)) (λ e. Node (exp_tree e)) (λ _. depth) depth tokens.now result }
+    ensures reads { ParsesBy view (jack end) (nested (name expression)) (λ e. Node (exp_tree e)) (λ _. counts) counts tokens.now result }
     ensures shorter { IfOk result (λ r. length r.1.now < length tokens.now) }
 {
     if !term_begins(tokens) {
         return Err(ReadError::Fault(Fault::Grammar(here(tokens, end))));
     }
-    let inner = deeper(depth, here(tokens, end))?;
+    let inner = deeper(counts, here(tokens, end))?;
     let (exp, rest) = expression(alloc, tokens, end, inner)?;
     Ok((exp, rest))
 }

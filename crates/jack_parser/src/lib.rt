@@ -2,6 +2,7 @@
 #![tactic(auto)]
 
 mod classes;
+mod counts;
 mod declared;
 mod expressions;
 mod laws;

@@ -5,17 +5,18 @@ ghost use Rattle.std.specs.Str.{bytes_eq};
 ghost use Rattle.grammar.specs.Rules.{name, NoMore, option, repeat, listed};
 ghost use Rattle.outer_world.specs.Written.{CountsPut, Puts};
 ghost use Rattle.jack_tree.specs.Tokens.{keyword_text};
-ghost use Rattle.jack_parser.specs.Jack.{arguments, class_rule, class_variables, expression, group, invoked, locals_rule, names_rule, next_name, next_parameter, parameter, parameters, statement, subroutine, subscript, term};
-ghost use Rattle.jack_parser.specs.Trees.{args_tree, constant_leaf_said, exp_tree, front_said, group_tree, invoked_tree, operator_byte, sign_byte, term_tree};
+ghost use Rattle.jack_parser.specs.declared.counts.Counted.{Counted};
+ghost use Rattle.jack_parser.specs.Jack.{arguments, class_rule, class_variables, declaration, expression, group, invoked, locals_rule, names_rule, next_name, next_parameter, operation, parameter, parameters, statement, subroutine, subscript, term};
+ghost use Rattle.jack_parser.specs.Trees.{args_tree, call_said, constant_leaf_said, exp_tree, group_tree, invoked_tree, operations_tree, operator_byte, sign_byte, term_tree};
 ghost use Rattle.jack_parser.specs.StatementTrees.{index_tree, statement_tree, statements_tree, value_tree};
-ghost use Rattle.jack_parser.specs.ClassTrees.{class_tree, form_said, locals_tree, names_tree, next_name_tree, next_parameter_tree, parameter_tree, parameters_tree, result_said, scope_said, subroutine_tree, type_leaf_said, variables_tree};
+ghost use Rattle.jack_parser.specs.ClassTrees.{class_tree, declared_tree, form_said, locals_tree, names_tree, next_name_tree, next_parameter_tree, parameter_tree, parameters_tree, result_said, subroutine_tree, type_leaf_said, variables_tree};
 ghost use Rattle.jack_parser.specs.Printed.{class_text, said_text, set_off};
 ghost use Rattle.jack_parser.specs.Written.{Shows, Writes};
 
 use itoa::Buffer;
 use jack_tree::{
     Call, Class, ClassVariables, Constant, Expression, Form, Keyword, Locals, Name, Names,
-    Operator, Parameter, Scope, Sign, Statement, Subroutine, Term, Type,
+    Operation, Operator, Parameter, Scope, Sign, Statement, Subroutine, Term, Type,
 };
 use outer_world::{Pieces, Put, Sink};
 
@@ -124,14 +125,22 @@ fn put_expression<S: Sink>(value: &Expression, status: Put, out: &mut Pieces<'_,
     ensures same_sink { out.new.sink.ghost_name ≡ out.old.sink.ghost_name }
     ensures shows { Shows (exp_tree value.now) (name expression) status (S.written out.old.sink.now) (take out.old.len out.old.buffer) (S.faults out.old.sink.now) result (S.written out.new.sink.now) (take out.new.len out.new.buffer) (S.faults out.new.sink.now) }
 {
-    match value {
-        Expression::Single(only) => put_term(only, status, out),
-        Expression::Binary(left, operator, right) => {
-            let before = put_expression(left, status, out);
-            let between = put_symbol(operator_byte(*operator), before, out);
-            put_term(right, between, out)
-        }
+    let begun = put_term(&value.first, status, out);
+    put_operations(&value.rest, begun, out)
+}
+
+// Operators with the terms that follow them.
+#[cycle(printing)]
+fn put_operations<S: Sink>(operations: &[Operation], status: Put, out: &mut Pieces<'_, S>) -> Put
+    ensures same_sink { out.new.sink.ghost_name ≡ out.old.sink.ghost_name }
+    ensures shows { Shows (operations_tree operations.now) (repeat operation) status (S.written out.old.sink.now) (take out.old.len out.old.buffer) (S.faults out.old.sink.now) result (S.written out.new.sink.now) (take out.new.len out.new.buffer) (S.faults out.new.sink.now) }
+{
+    let mut status = status;
+    for one in operations {
+        let marked = put_symbol(operator_byte(one.operator), status, out);
+        status = put_term(&one.term, marked, out);
     }
+    status
 }
 
 #[cycle(printing)]
@@ -167,7 +176,7 @@ fn put_term<S: Sink>(one: &Term, status: Put, out: &mut Pieces<'_, S>) -> Put
 // The name at the front of a call.
 fn put_front<S: Sink>(call: &Call, status: Put, out: &mut Pieces<'_, S>) -> Put
     ensures same_sink { out.new.sink.ghost_name ≡ out.old.sink.ghost_name }
-    ensures writes { Writes (set_off (said_text (front_said call.now.object call.now.name))) status (S.written out.old.sink.now) (take out.old.len out.old.buffer) (S.faults out.old.sink.now) result (S.written out.new.sink.now) (take out.new.len out.new.buffer) (S.faults out.new.sink.now) }
+    ensures writes { Writes (set_off (said_text (call_said call.now))) status (S.written out.old.sink.now) (take out.old.len out.old.buffer) (S.faults out.old.sink.now) result (S.written out.new.sink.now) (take out.new.len out.new.buffer) (S.faults out.new.sink.now) }
 {
     match &call.object {
         None => put_name(&call.name, status, out),
@@ -340,16 +349,6 @@ fn put_result<S: Sink>(of: &Option<Type>, status: Put, out: &mut Pieces<'_, S>) 
     }
 }
 
-fn put_scope<S: Sink>(scope: Scope, status: Put, out: &mut Pieces<'_, S>) -> Put
-    ensures same_sink { out.new.sink.ghost_name ≡ out.old.sink.ghost_name }
-    ensures writes { Writes (set_off (said_text (scope_said scope))) status (S.written out.old.sink.now) (take out.old.len out.old.buffer) (S.faults out.old.sink.now) result (S.written out.new.sink.now) (take out.new.len out.new.buffer) (S.faults out.new.sink.now) }
-{
-    match scope {
-        Scope::Static => put_keyword(Keyword::Static, status, out),
-        Scope::Field => put_keyword(Keyword::Field, status, out),
-    }
-}
-
 fn put_form<S: Sink>(form: Form, status: Put, out: &mut Pieces<'_, S>) -> Put
     ensures same_sink { out.new.sink.ghost_name ≡ out.old.sink.ghost_name }
     ensures writes { Writes (set_off (said_text (form_said form))) status (S.written out.old.sink.now) (take out.old.len out.old.buffer) (S.faults out.old.sink.now) result (S.written out.new.sink.now) (take out.new.len out.new.buffer) (S.faults out.new.sink.now) }
@@ -364,7 +363,7 @@ fn put_form<S: Sink>(form: Form, status: Put, out: &mut Pieces<'_, S>) -> Put
 // , name
 fn put_next_name<S: Sink>(name: &Name, status: Put, out: &mut Pieces<'_, S>) -> Put
     ensures same_sink { out.new.sink.ghost_name ≡ out.old.sink.ghost_name }
-    ensures shows { Shows (next_name_tree name.now) next_name status (S.written out.old.sink.now) (take out.old.len out.old.buffer) (S.faults out.old.sink.now) result (S.written out.new.sink.now) (take out.new.len out.new.buffer) (S.faults out.new.sink.now) }
+    ensures shows { (x : Counted) → Shows (next_name_tree name.now) (next_name x) status (S.written out.old.sink.now) (take out.old.len out.old.buffer) (S.faults out.old.sink.now) result (S.written out.new.sink.now) (take out.new.len out.new.buffer) (S.faults out.new.sink.now) }
 {
     let separated = put_symbol(b',', status, out);
     put_name(name, separated, out)
@@ -372,7 +371,7 @@ fn put_next_name<S: Sink>(name: &Name, status: Put, out: &mut Pieces<'_, S>) -> 
 
 fn put_more_names<S: Sink>(names: &[Name], status: Put, out: &mut Pieces<'_, S>) -> Put
     ensures same_sink { out.new.sink.ghost_name ≡ out.old.sink.ghost_name }
-    ensures shows { Shows (listed next_name_tree names.now NoMore) (repeat next_name) status (S.written out.old.sink.now) (take out.old.len out.old.buffer) (S.faults out.old.sink.now) result (S.written out.new.sink.now) (take out.new.len out.new.buffer) (S.faults out.new.sink.now) }
+    ensures shows { (x : Counted) → Shows (listed next_name_tree names.now NoMore) (repeat (next_name x)) status (S.written out.old.sink.now) (take out.old.len out.old.buffer) (S.faults out.old.sink.now) result (S.written out.new.sink.now) (take out.new.len out.new.buffer) (S.faults out.new.sink.now) }
 {
     let mut status = status;
     for one in names {
@@ -383,20 +382,38 @@ fn put_more_names<S: Sink>(names: &[Name], status: Put, out: &mut Pieces<'_, S>)
 
 fn put_names<S: Sink>(names: &Names, status: Put, out: &mut Pieces<'_, S>) -> Put
     ensures same_sink { out.new.sink.ghost_name ≡ out.old.sink.ghost_name }
-    ensures shows { Shows (names_tree names.now) names_rule status (S.written out.old.sink.now) (take out.old.len out.old.buffer) (S.faults out.old.sink.now) result (S.written out.new.sink.now) (take out.new.len out.new.buffer) (S.faults out.new.sink.now) }
+    ensures shows { (x : Counted) → Shows (names_tree names.now) (names_rule x) status (S.written out.old.sink.now) (take out.old.len out.old.buffer) (S.faults out.old.sink.now) result (S.written out.new.sink.now) (take out.new.len out.new.buffer) (S.faults out.new.sink.now) }
 {
     let begun = put_name(&names.first, status, out);
     put_more_names(&names.more, begun, out)
+}
+
+// A type and names behind a keyword.
+fn put_declaration<S: Sink>(
+    word: Keyword,
+    kind: &Type,
+    names: &Names,
+    status: Put,
+    out: &mut Pieces<'_, S>,
+) -> Put
+    ensures same_sink { out.new.sink.ghost_name ≡ out.old.sink.ghost_name }
+    ensures shows { (x : Counted) → Shows (declared_tree kind.now names.now) (declaration word x) status (S.written out.old.sink.now) (take out.old.len out.old.buffer) (S.faults out.old.sink.now) result (S.written out.new.sink.now) (take out.new.len out.new.buffer) (S.faults out.new.sink.now) }
+{
+    let begun = put_keyword(word, status, out);
+    let typed = put_type(kind, begun, out);
+    let named = put_names(names, typed, out);
+    put_symbol(b';', named, out)
 }
 
 fn put_variables<S: Sink>(variables: &ClassVariables, status: Put, out: &mut Pieces<'_, S>) -> Put
     ensures same_sink { out.new.sink.ghost_name ≡ out.old.sink.ghost_name }
     ensures shows { Shows (variables_tree variables.now) class_variables status (S.written out.old.sink.now) (take out.old.len out.old.buffer) (S.faults out.old.sink.now) result (S.written out.new.sink.now) (take out.new.len out.new.buffer) (S.faults out.new.sink.now) }
 {
-    let scoped = put_scope(variables.scope, status, out);
-    let typed = put_type(&variables.kind, scoped, out);
-    let named = put_names(&variables.names, typed, out);
-    put_symbol(b';', named, out)
+    let (kind, names) = (&variables.kind, &variables.names);
+    match variables.scope {
+        Scope::Static => put_declaration(Keyword::Static, kind, names, status, out),
+        Scope::Field => put_declaration(Keyword::Field, kind, names, status, out),
+    }
 }
 
 fn put_all_variables<S: Sink>(all: &[ClassVariables], status: Put, out: &mut Pieces<'_, S>) -> Put
@@ -414,10 +431,7 @@ fn put_locals<S: Sink>(locals: &Locals, status: Put, out: &mut Pieces<'_, S>) ->
     ensures same_sink { out.new.sink.ghost_name ≡ out.old.sink.ghost_name }
     ensures shows { Shows (locals_tree locals.now) locals_rule status (S.written out.old.sink.now) (take out.old.len out.old.buffer) (S.faults out.old.sink.now) result (S.written out.new.sink.now) (take out.new.len out.new.buffer) (S.faults out.new.sink.now) }
 {
-    let begun = put_keyword(Keyword::Var, status, out);
-    let typed = put_type(&locals.kind, begun, out);
-    let named = put_names(&locals.names, typed, out);
-    put_symbol(b';', named, out)
+    put_declaration(Keyword::Var, &locals.kind, &locals.names, status, out)
 }
 
 fn put_all_locals<S: Sink>(all: &[Locals], status: Put, out: &mut Pieces<'_, S>) -> Put

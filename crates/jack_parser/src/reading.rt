@@ -6,10 +6,11 @@ ghost use Rattle.grammar.specs.Rules.{Tree};
 ghost use Rattle.grammar.specs.declared.Fault.{Fault};
 ghost use Rattle.grammar.specs.Reading.{ParsesAllBy, Halt, Gives, end_at, Ends};
 ghost use Rattle.jack_tree.specs.Tokens.{view};
-ghost use Rattle.jack_parser.specs.Jack.{jack, Said, whole};
+ghost use Rattle.jack_parser.specs.Jack.{jack, Said, fresh, whole};
 ghost use Rattle.jack_parser.specs.Whole.{whole_tree, Spells, Refuses};
 
 use crate::classes::class;
+use crate::counts::{Counts, fresh};
 use crate::words::grammar_fault;
 use grammar::ReadError;
 use jack_lexer::tokens;
@@ -28,18 +29,23 @@ fn at_end(tokens: &[Token]) -> Result<(), ReadError>
 }
 
 fn finish(tokens: &[Token]) -> Result<(), ReadError>
-    ensures { (end : Place) (depth : ℕ) → Ends (jack end) depth (map view tokens.now) result }
+    ensures { (end : Place) (counts : Counts) → Ends (jack end) counts (map view tokens.now) result }
 {
     at_end(tokens)
 }
 
-fn all(alloc: Global, file: FileName, tokens: &[Token], end: Place) -> Result<Class, ReadError>
-    ensures reads { ParsesAllBy view (jack end) whole whole_tree (λ _. 0) 0 tokens.now result }
-    ensures file { IfOk result (λ c. c.file ≡ file) }
+fn all(
+    alloc: Global,
+    file: FileName,
+    tokens: &[Token],
+    end: Place,
+) -> Result<(Class, Counts), ReadError>
+    ensures reads { ParsesAllBy view (jack end) whole (λ x. whole_tree x.0) (λ x. x.1) (fresh 0) tokens.now result }
+    ensures file { IfOk result (λ x. x.0.file ≡ file) }
 {
-    let (class, rest) = class(alloc, file, tokens, end, 0)?;
+    let ((class, counts), rest) = class(alloc, file, tokens, end, fresh(0))?;
     finish(rest)?;
-    Ok(class)
+    Ok((class, counts))
 }
 
 fn read(alloc: Global, file: &FileName, text: &[u8]) -> Result<Class, ReadError>
@@ -49,13 +55,15 @@ fn read(alloc: Global, file: &FileName, text: &[u8]) -> Result<Class, ReadError>
 {
     let (tokens, end) = tokens(alloc, text)?;
     let file = file.clone()?;
-    all(alloc, file, &tokens, end)
+    let (class, _) = all(alloc, file, &tokens, end)?;
+    Ok(class)
 }
 
 /// The class that a text spells, with the name of its file.
 ///
 /// Grammar where a rule of the grammar stops, Range past a limit: an integer over 32,767, the 257th level of statements, `(`, `[` and
-/// operators before a term, a string of more than 16,384 bytes, a text of more than 1,048,576 (at 0:0).
+/// operators before a term, a string of more than 16,384 bytes, the 16,385th field or static of the class, parameter or local of a
+/// subroutine (at its name) and argument of a call (at its first token), a text of more than 1,048,576 (at 0:0).
 pub fn parse_class(alloc: Global, file: &FileName, text: &[u8]) -> Result<Class, ReadError>
     // What is read is spelled so, and what is spelled is read, unless memory runs out.
     ensures found { IfOk result (λ c. Spells text.now (whole_tree c)) }

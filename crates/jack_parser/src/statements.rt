@@ -8,10 +8,10 @@ ghost use Rattle.jack_parser.specs.Jack.{jack, expression, statement, subscript,
 ghost use Rattle.jack_parser.specs.Starts.{Lets, Ifs, Whiles, Does, Returns};
 ghost use Rattle.jack_parser.specs.StatementTrees.{index_tree, value_tree, any_tree, statement_tree, statements_tree, block_tree, else_tree};
 
+use crate::counts::{Counts, deeper};
 use crate::expressions::{call_of, expression, grouped, nested};
 use crate::words::{
-    deeper, here, identifier, key, keyword, keyword_stands, stands, statement_begins, symbol,
-    term_begins,
+    here, identifier, key, keyword, keyword_stands, stands, statement_begins, symbol, term_begins,
 };
 use grammar::{Fault, ReadError};
 use jack_tree::{Expression, Keyword, Statement, Token};
@@ -25,18 +25,17 @@ fn index<'a>(
     alloc: Global,
     tokens: &'a [Token<'a>],
     end: Place,
-    depth: u32,
+    counts: Counts,
 ) -> Result<(Option<Expression>, &'a [Token<'a>]), ReadError>
-    requires { depth ≤ 256 }
-    ensures reads { ParsesBy view (jack end) (option subscript) index_tree (λ _. depth) depth tokens.now result }
+    ensures reads { ParsesBy view (jack end) (option subscript) index_tree (λ _. counts) counts tokens.now result }
     ensures no_longer { IfOk result (λ r. length r.1.now ≤ length tokens.now) }
 {
     if !stands(tokens, b'[') {
         return Ok((None, tokens));
     }
-    let rest = symbol(tokens, end, depth, b'[')?;
-    let (index, rest) = nested(alloc, rest, end, depth)?;
-    let rest = symbol(rest, end, depth, b']')?;
+    let rest = symbol(tokens, end, counts, b'[')?;
+    let (index, rest) = nested(alloc, rest, end, counts)?;
+    let rest = symbol(rest, end, counts, b']')?;
     Ok((Some(index), rest))
 }
 
@@ -45,19 +44,18 @@ fn let_statement<'a>(
     alloc: Global,
     tokens: &'a [Token<'a>],
     end: Place,
-    depth: u32,
+    counts: Counts,
 ) -> Result<(Statement, &'a [Token<'a>]), ReadError>
-    requires bounded { depth ≤ 256 }
     requires begun { Lets (map view tokens.now) }
-    ensures reads { ParsesBy view (jack end) any_statement any_tree (λ _. depth) depth tokens.now result }
+    ensures reads { ParsesBy view (jack end) any_statement any_tree (λ _. counts) counts tokens.now result }
     ensures shorter { IfOk result (λ r. length r.1.now < length tokens.now) }
 {
-    let (place, rest) = key(tokens, end, depth, Keyword::Let)?;
-    let (name, rest) = identifier(alloc, rest, end, depth)?;
-    let (index, rest) = index(alloc, rest, end, depth)?;
-    let rest = symbol(rest, end, depth, b'=')?;
-    let (value, rest) = expression(alloc, rest, end, depth)?;
-    let rest = symbol(rest, end, depth, b';')?;
+    let (place, rest) = key(tokens, end, counts, Keyword::Let)?;
+    let (name, rest) = identifier(alloc, rest, end, counts)?;
+    let (index, rest) = index(alloc, rest, end, counts)?;
+    let rest = symbol(rest, end, counts, b'=')?;
+    let (value, rest) = expression(alloc, rest, end, counts)?;
+    let rest = symbol(rest, end, counts, b';')?;
     Ok((Statement::Let(place, name, index, value), rest))
 }
 
@@ -66,17 +64,16 @@ fn do_statement<'a>(
     alloc: Global,
     tokens: &'a [Token<'a>],
     end: Place,
-    depth: u32,
+    counts: Counts,
 ) -> Result<(Statement, &'a [Token<'a>]), ReadError>
-    requires bounded { depth ≤ 256 }
     requires begun { Does (map view tokens.now) }
-    ensures reads { ParsesBy view (jack end) any_statement any_tree (λ _. depth) depth tokens.now result }
+    ensures reads { ParsesBy view (jack end) any_statement any_tree (λ _. counts) counts tokens.now result }
     ensures shorter { IfOk result (λ r. length r.1.now < length tokens.now) }
 {
-    let (place, rest) = key(tokens, end, depth, Keyword::Do)?;
-    let (name, rest) = identifier(alloc, rest, end, depth)?;
-    let (call, rest) = call_of(alloc, name, rest, end, depth)?;
-    let rest = symbol(rest, end, depth, b';')?;
+    let (place, rest) = key(tokens, end, counts, Keyword::Do)?;
+    let (name, rest) = identifier(alloc, rest, end, counts)?;
+    let (call, rest) = call_of(alloc, name, rest, end, counts)?;
+    let rest = symbol(rest, end, counts, b';')?;
     Ok((Statement::Do(place, call), rest))
 }
 
@@ -87,16 +84,15 @@ fn value<'a>(
     alloc: Global,
     tokens: &'a [Token<'a>],
     end: Place,
-    depth: u32,
+    counts: Counts,
 ) -> Result<(Option<Expression>, &'a [Token<'a>]), ReadError>
-    requires { depth ≤ 256 }
-    ensures reads { ParsesBy view (jack end) (option (name expression)) value_tree (λ _. depth) depth tokens.now result }
+    ensures reads { ParsesBy view (jack end) (option (name expression)) value_tree (λ _. counts) counts tokens.now result }
     ensures no_longer { IfOk result (λ r. length r.1.now ≤ length tokens.now) }
 {
     if !term_begins(tokens) {
         return Ok((None, tokens));
     }
-    let (value, rest) = expression(alloc, tokens, end, depth)?;
+    let (value, rest) = expression(alloc, tokens, end, counts)?;
     Ok((Some(value), rest))
 }
 
@@ -105,16 +101,15 @@ fn return_statement<'a>(
     alloc: Global,
     tokens: &'a [Token<'a>],
     end: Place,
-    depth: u32,
+    counts: Counts,
 ) -> Result<(Statement, &'a [Token<'a>]), ReadError>
-    requires bounded { depth ≤ 256 }
     requires begun { Returns (map view tokens.now) }
-    ensures reads { ParsesBy view (jack end) any_statement any_tree (λ _. depth) depth tokens.now result }
+    ensures reads { ParsesBy view (jack end) any_statement any_tree (λ _. counts) counts tokens.now result }
     ensures shorter { IfOk result (λ r. length r.1.now < length tokens.now) }
 {
-    let (place, rest) = key(tokens, end, depth, Keyword::Return)?;
-    let (value, rest) = value(alloc, rest, end, depth)?;
-    let rest = symbol(rest, end, depth, b';')?;
+    let (place, rest) = key(tokens, end, counts, Keyword::Return)?;
+    let (value, rest) = value(alloc, rest, end, counts)?;
+    let rest = symbol(rest, end, counts, b';')?;
     Ok((Statement::Return(place, value), rest))
 }
 
@@ -124,16 +119,15 @@ fn while_statement<'a>(
     alloc: Global,
     tokens: &'a [Token<'a>],
     end: Place,
-    depth: u32,
+    counts: Counts,
 ) -> Result<(Statement, &'a [Token<'a>]), ReadError>
-    requires bounded { depth ≤ 256 }
     requires begun { Whiles (map view tokens.now) }
-    ensures reads { ParsesBy view (jack end) any_statement any_tree (λ _. depth) depth tokens.now result }
+    ensures reads { ParsesBy view (jack end) any_statement any_tree (λ _. counts) counts tokens.now result }
     ensures shorter { IfOk result (λ r. length r.1.now < length tokens.now) }
 {
-    let (place, rest) = key(tokens, end, depth, Keyword::While)?;
-    let (condition, rest) = grouped(alloc, rest, end, depth)?;
-    let (body, rest) = block(alloc, rest, end, depth)?;
+    let (place, rest) = key(tokens, end, counts, Keyword::While)?;
+    let (condition, rest) = grouped(alloc, rest, end, counts)?;
+    let (body, rest) = block(alloc, rest, end, counts)?;
     Ok((Statement::While(place, condition, body), rest))
 }
 
@@ -143,17 +137,16 @@ fn if_statement<'a>(
     alloc: Global,
     tokens: &'a [Token<'a>],
     end: Place,
-    depth: u32,
+    counts: Counts,
 ) -> Result<(Statement, &'a [Token<'a>]), ReadError>
-    requires bounded { depth ≤ 256 }
     requires begun { Ifs (map view tokens.now) }
-    ensures reads { ParsesBy view (jack end) any_statement any_tree (λ _. depth) depth tokens.now result }
+    ensures reads { ParsesBy view (jack end) any_statement any_tree (λ _. counts) counts tokens.now result }
     ensures shorter { IfOk result (λ r. length r.1.now < length tokens.now) }
 {
-    let (place, rest) = key(tokens, end, depth, Keyword::If)?;
-    let (condition, rest) = grouped(alloc, rest, end, depth)?;
-    let (body, rest) = block(alloc, rest, end, depth)?;
-    let (other, rest) = else_block(alloc, rest, end, depth)?;
+    let (place, rest) = key(tokens, end, counts, Keyword::If)?;
+    let (condition, rest) = grouped(alloc, rest, end, counts)?;
+    let (body, rest) = block(alloc, rest, end, counts)?;
+    let (other, rest) = else_block(alloc, rest, end, counts)?;
     Ok((Statement::If(place, condition, body, other), rest))
 }
 
@@ -164,17 +157,16 @@ fn else_block<'a>(
     alloc: Global,
     tokens: &'a [Token<'a>],
     end: Place,
-    depth: u32,
+    counts: Counts,
 ) -> Result<(Option<Vec<Statement>>, &'a [Token<'a>]), ReadError>
-    requires { depth ≤ 256 }
-    ensures reads { ParsesBy view (jack end) (option else_rule) else_tree (λ _. depth) depth tokens.now result }
+    ensures reads { ParsesBy view (jack end) (option else_rule) else_tree (λ _. counts) counts tokens.now result }
     ensures no_longer { IfOk result (λ r. length r.1.now ≤ length tokens.now) }
 {
     if !keyword_stands(tokens, Keyword::Else) {
         return Ok((None, tokens));
     }
-    let rest = keyword(tokens, end, depth, Keyword::Else)?;
-    let (body, rest) = block(alloc, rest, end, depth)?;
+    let rest = keyword(tokens, end, counts, Keyword::Else)?;
+    let (body, rest) = block(alloc, rest, end, counts)?;
     Ok((Some(body), rest))
 }
 
@@ -185,15 +177,14 @@ fn block<'a>(
     alloc: Global,
     tokens: &'a [Token<'a>],
     end: Place,
-    depth: u32,
+    counts: Counts,
 ) -> Result<(Vec<Statement>, &'a [Token<'a>]), ReadError>
-    requires { depth ≤ 256 }
-    ensures reads { ParsesBy view (jack end) block (λ v. block_tree v.items) (λ _. depth) depth tokens.now result }
+    ensures reads { ParsesBy view (jack end) block (λ v. block_tree v.items) (λ _. counts) counts tokens.now result }
     ensures shorter { IfOk result (λ r. length r.1.now < length tokens.now) }
 {
-    let rest = symbol(tokens, end, depth, b'{')?;
-    let (statements, rest) = statements(alloc, rest, end, depth)?;
-    let rest = symbol(rest, end, depth, b'}')?;
+    let rest = symbol(tokens, end, counts, b'{')?;
+    let (statements, rest) = statements(alloc, rest, end, counts)?;
+    let rest = symbol(rest, end, counts, b'}')?;
     Ok((statements, rest))
 }
 
@@ -203,21 +194,20 @@ pub fn statements<'a>(
     alloc: Global,
     tokens: &'a [Token<'a>],
     end: Place,
-    depth: u32,
+    counts: Counts,
 ) -> Result<(Vec<Statement>, &'a [Token<'a>]), ReadError>
-    requires { depth ≤ 256 }
-    ensures reads { ParsesBy view (jack end) (repeat (name statement)) (λ v. statements_tree v.items) (λ _. depth) depth tokens.now result }
+    ensures reads { ParsesBy view (jack end) (repeat (name statement)) (λ v. statements_tree v.items) (λ _. counts) counts tokens.now result }
     ensures no_longer { IfOk result (λ r. length r.1.now ≤ length tokens.now) }
 {
     let mut statements = Vec::new(alloc);
     if !statement_begins(tokens) {
         return Ok((statements, tokens));
     }
-    let (first, after_first) = statement(alloc, tokens, end, depth)?;
+    let (first, after_first) = statement(alloc, tokens, end, counts)?;
     statements.push(first)?;
     let mut rest = after_first;
     'statements: while statement_begins(rest) {
-        let (statement, after) = statement(alloc, rest, end, depth)?;
+        let (statement, after) = statement(alloc, rest, end, counts)?;
         statements.push(statement)?;
         rest = after;
     }
@@ -231,16 +221,15 @@ fn statement<'a>(
     alloc: Global,
     tokens: &'a [Token<'a>],
     end: Place,
-    depth: u32,
+    counts: Counts,
 ) -> Result<(Statement, &'a [Token<'a>]), ReadError>
-    requires { depth ≤ 256 }
-    ensures reads { ParsesBy view (jack end) (name statement) statement_tree (λ _. depth) depth tokens.now result }
+    ensures reads { ParsesBy view (jack end) (name statement) statement_tree (λ _. counts) counts tokens.now result }
     ensures shorter { IfOk result (λ r. length r.1.now < length tokens.now) }
 {
     if !statement_begins(tokens) {
         return Err(ReadError::Fault(Fault::Grammar(here(tokens, end))));
     }
-    let inner = deeper(depth, here(tokens, end))?;
+    let inner = deeper(counts, here(tokens, end))?;
     let (statement, rest) = any_statement(alloc, tokens, end, inner)?;
     Ok((statement, rest))
 }
@@ -251,26 +240,25 @@ fn any_statement<'a>(
     alloc: Global,
     tokens: &'a [Token<'a>],
     end: Place,
-    depth: u32,
+    counts: Counts,
 ) -> Result<(Statement, &'a [Token<'a>]), ReadError>
-    requires { depth ≤ 256 }
-    ensures reads { ParsesBy view (jack end) any_statement any_tree (λ _. depth) depth tokens.now result }
+    ensures reads { ParsesBy view (jack end) any_statement any_tree (λ _. counts) counts tokens.now result }
     ensures shorter { IfOk result (λ r. length r.1.now < length tokens.now) }
 {
     if keyword_stands(tokens, Keyword::Let) {
-        return let_statement(alloc, tokens, end, depth);
+        return let_statement(alloc, tokens, end, counts);
     }
     if keyword_stands(tokens, Keyword::If) {
-        return if_statement(alloc, tokens, end, depth);
+        return if_statement(alloc, tokens, end, counts);
     }
     if keyword_stands(tokens, Keyword::While) {
-        return while_statement(alloc, tokens, end, depth);
+        return while_statement(alloc, tokens, end, counts);
     }
     if keyword_stands(tokens, Keyword::Do) {
-        return do_statement(alloc, tokens, end, depth);
+        return do_statement(alloc, tokens, end, counts);
     }
     if keyword_stands(tokens, Keyword::Return) {
-        return return_statement(alloc, tokens, end, depth);
+        return return_statement(alloc, tokens, end, counts);
     }
     Err(ReadError::Fault(Fault::Grammar(here(tokens, end))))
 }

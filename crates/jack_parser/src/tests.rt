@@ -1,6 +1,6 @@
 use super::*;
 use grammar::{Fault, ReadError};
-use jack_tree::{Constant, Expression, Form, Operator, Statement, Term};
+use jack_tree::{Constant, Form, Operator, Statement, Term};
 use outer_world::{MemorySink, Name, Put};
 use scan_text::Place;
 use std::alloc::Global;
@@ -24,14 +24,16 @@ fn class(rt: HostRuntime) -> Result<(), Fail> {
     assert!(rt; class.subroutines[0].name.place == at(1, 35));
     assert_eq!(rt; class.subroutines[0].statements.len(), 1);
     // operators are taken from left to right
-    let Statement::Return(place, Some(Expression::Binary(_, operator, right))) =
-        &class.subroutines[0].statements[0]
-    else {
-        return Err(Fail::from("the statement returns a difference"));
+    let Statement::Return(place, Some(value)) = &class.subroutines[0].statements[0] else {
+        return Err(Fail::from("the statement returns a value"));
     };
     assert!(rt; *place == at(1, 43));
-    assert!(rt; *operator == Operator::Minus);
-    assert!(rt; matches!(&**right, Term::Constant(Constant::Integer(2))));
+    assert_eq!(rt; value.rest.len(), 2);
+    assert!(rt; value.rest[0].operator == Operator::Times);
+    assert!(rt; value.rest[0].place == at(1, 51));
+    assert!(rt; value.rest[1].operator == Operator::Minus);
+    assert!(rt; value.rest[1].place == at(1, 57));
+    assert!(rt; matches!(&value.rest[1].term, Term::Constant(Constant::Integer(2))));
     Ok(())
 }
 
@@ -69,6 +71,35 @@ fn faults(rt: HostRuntime) {
     assert!(rt; fault(alloc, b"class { 32768") == Some(Fault::Range(at(1, 9), 32768)));
 }
 
+// A text with so many names `a`, and one more.
+fn listed(alloc: Global, front: &[u8], count: u32, back: &[u8]) -> Result<Vec<u8>, Fail> {
+    let mut text = Vec::from_slice(alloc, front)?;
+    for _ in 0..count {
+        text.extend_from_slice(b"a,")?;
+    }
+    text.extend_from_slice(b"a")?;
+    text.extend_from_slice(back)?;
+    Ok(text)
+}
+
+// 16,384 of each are the most, on all lines together; the place is that of the name, or of the argument.
+#[test]
+fn counts(rt: HostRuntime) -> Result<(), Fail> {
+    let alloc = rt.alloc();
+    let most = listed(alloc, b"class C { field int ", 16383, b"; static int b; }")?;
+    assert!(rt; is_class(alloc, &most));
+    let statics = listed(alloc, b"class C { static int ", 16383, b"; static int b; }")?;
+    assert!(rt; fault(alloc, &statics) == Some(Fault::Range(at(1, 32802), 16385)));
+    let arguments = listed(
+        alloc,
+        b"class C { function int f(int a) { return g(",
+        16384,
+        b"); } }",
+    )?;
+    assert!(rt; fault(alloc, &arguments) == Some(Fault::Range(at(1, 32812), 16385)));
+    Ok(())
+}
+
 // `if` and `else`, `while`, calls, elements, strings and signs.
 #[test]
 fn forms(rt: HostRuntime) {
@@ -100,24 +131,6 @@ fn nesting(rt: HostRuntime) -> Result<(), Fail> {
     Ok(())
 }
 
-// The fourth line has the integer.
-#[test]
-fn integers(rt: HostRuntime) {
-    let alloc = rt.alloc();
-    assert!(rt;
-        fault(
-            alloc,
-            b"class Main {\nfunction void main() {\nvar int x;\n  let x = 32768;\nreturn; } }"
-        ) == Some(Fault::Range(at(4, 11), 32768))
-    );
-    assert!(rt;
-        is_class(
-            alloc,
-            b"class Main {\nfunction void main() {\nvar int x;\n  let x = 32767;\nreturn; } }"
-        )
-    );
-}
-
 // A string of 16,384 bytes is the longest; the place is that of its opening quote.
 #[test]
 fn strings(rt: HostRuntime) -> Result<(), Fail> {
@@ -131,24 +144,6 @@ fn strings(rt: HostRuntime) -> Result<(), Fail> {
     longer.extend_from_slice(b"\"); } }")?;
     assert!(rt; is_class(rt.alloc(), &text));
     assert!(rt; fault(rt.alloc(), &longer) == Some(Fault::Range(at(1, 36), 16385)));
-    Ok(())
-}
-
-// A front of a class has its fault at its last token or at its end.
-#[test]
-fn fronts(rt: HostRuntime) -> Result<(), Fail> {
-    let text = b"class C { field int x; method int get() { return x*(x+1); } }";
-    for n in 0..text.len() {
-        let front = &text[..n];
-        let Some(Fault::Grammar(place)) = fault(rt.alloc(), front) else {
-            return Err(Fail::from("a front of a class is no class"));
-        };
-        assert_eq!(rt; place.line, 1);
-        assert!(rt; place.column as usize <= n + 1);
-        for byte in front.iter().skip((place.column as usize).saturating_sub(1)) {
-            assert!(rt; *byte != b' ');
-        }
-    }
     Ok(())
 }
 
@@ -186,18 +181,6 @@ fn printed(rt: HostRuntime) -> Result<(), Fail> {
         class.bytes()
             == b"class A {\nfunction void f ( ) {\nif ( ~ a [ 1 ] ) {\ndo b . g ( 1 , \"s t\" ) ;\n}\nelse {\nlet a [ 0 ] = - 2 ;\n}\n}\n}\n".as_slice()
     );
-    Ok(())
-}
-
-// What is printed is read again, and printed as before.
-#[test]
-fn printed_again(rt: HostRuntime) -> Result<(), Fail> {
-    let text =
-        b"class Main { static Array a, b; constructor Main new(int x, char y) { var int i; var boolean p, q; let a[i] = -b[~1] + 007; if (x) { } else { while (true) { do f(); do Main.g(1, \"s\", this); } } return (i); } }";
-    let once = shown(rt.alloc(), text)?;
-    let again = shown(rt.alloc(), once.bytes())?;
-    assert!(rt; once.bytes().len() > text.len());
-    assert!(rt; once.bytes() == again.bytes());
     Ok(())
 }
 

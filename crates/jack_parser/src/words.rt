@@ -4,10 +4,11 @@ ghost use Rattle.jack_tree.specs.Tokens.{view};
 ghost use Rattle.std.specs.Prelude.{map, ◌≡◌, ◌<◌, ◌≤◌, ◌-◌, ◌+◌, ◌^◌, take, drop, length, Some, None, Result, Ok, List, IfOk, ℕ, IfSome, is_some, [], ◌||◌};
 ghost use Rattle.grammar.specs.Reading.{ParsesBy, PassesBy, Gives, word_at, mark_at};
 ghost use Rattle.grammar.specs.Rules.{Leaf, next, here};
-ghost use Rattle.jack_parser.specs.Jack.{jack, is_symbol, is_keyword, is_identifier, is_constant, free, check_constant, named, placed, fixed, constant_said, identifier, constant, operator, unary, key, operates, negates, term_opens, statement_opens, deeper, Said, symbol_of, keyword_of, is_operator, is_unary, unquoted};
+ghost use Rattle.jack_parser.specs.Jack.{jack, is_symbol, is_keyword, is_identifier, is_constant, free, check_constant, named, placed, fixed, constant_said, identifier, constant, operator, unary, key, operates, negates, term_opens, statement_opens, count, counted_name, Said, symbol_of, keyword_of, is_operator, is_unary, unquoted};
 ghost use Rattle.jack_parser.specs.Starts.{start_of};
 ghost use Rattle.jack_parser.specs.Trees.{name_said, operator_said, operator_byte, sign_said, sign_byte, constant_leaf_said, IsString};
 
+use crate::counts::{Counted, Counts, count};
 use grammar::{Fault, ReadError};
 use jack_tree::{Constant, Keyword, Kind, Name, Operator, Sign, Token};
 use scan_text::Place;
@@ -42,10 +43,10 @@ fn symbol_at<'a>(
 pub fn symbol<'a>(
     tokens: &'a [Token<'a>],
     end: Place,
-    depth: u32,
+    counts: Counts,
     sign: u8,
 ) -> Result<&'a [Token<'a>], ReadError>
-    ensures reads { PassesBy view (jack end) (symbol_of sign) depth tokens.now result }
+    ensures reads { PassesBy view (jack end) (symbol_of sign) counts tokens.now result }
     ensures shorter { IfOk result (λ r. length r.now < length tokens.now) }
 {
     symbol_at(tokens, end, sign)
@@ -75,10 +76,10 @@ fn keyword_at<'a>(
 pub fn keyword<'a>(
     tokens: &'a [Token<'a>],
     end: Place,
-    depth: u32,
+    counts: Counts,
     keyword: Keyword,
 ) -> Result<&'a [Token<'a>], ReadError>
-    ensures reads { PassesBy view (jack end) (keyword_of keyword) depth tokens.now result }
+    ensures reads { PassesBy view (jack end) (keyword_of keyword) counts tokens.now result }
     ensures shorter { IfOk result (λ r. length r.now < length tokens.now) }
 {
     keyword_at(tokens, end, keyword)
@@ -89,7 +90,7 @@ fn key_at<'a>(
     end: Place,
     keyword: Keyword,
 ) -> Result<(Place, &'a [Token<'a>]), ReadError>
-    ensures reads { (depth : ℕ) → Gives (λ x. (Said.Placed (Kind.Keyword keyword) [] x.0, depth, map view x.1.now)) result (word_at (jack end) (is_keyword keyword) free placed depth (map view tokens.now)) }
+    ensures reads { (counts : Counts) → Gives (λ x. (Said.Placed (Kind.Keyword keyword) [] x.0, counts, map view x.1.now)) result (word_at (jack end) (is_keyword keyword) free placed counts (map view tokens.now)) }
     ensures shorter { IfOk result (λ r. length r.1.now < length tokens.now) }
 {
     let Some((token, rest)) = tokens.split_first() else {
@@ -109,10 +110,10 @@ fn key_at<'a>(
 pub fn key<'a>(
     tokens: &'a [Token<'a>],
     end: Place,
-    depth: u32,
+    counts: Counts,
     keyword: Keyword,
 ) -> Result<(Place, &'a [Token<'a>]), ReadError>
-    ensures reads { ParsesBy view (jack end) (key keyword) (λ at. Leaf (Said.Placed (Kind.Keyword keyword) [] at)) (λ _. depth) depth tokens.now result }
+    ensures reads { ParsesBy view (jack end) (key keyword) (λ at. Leaf (Said.Placed (Kind.Keyword keyword) [] at)) (λ _. counts) counts tokens.now result }
     ensures shorter { IfOk result (λ r. length r.1.now < length tokens.now) }
 {
     key_at(tokens, end, keyword)
@@ -123,7 +124,7 @@ fn identifier_at<'a>(
     tokens: &'a [Token<'a>],
     end: Place,
 ) -> Result<(Name, &'a [Token<'a>]), ReadError>
-    ensures reads { (depth : ℕ) → Gives (λ x. (name_said x.0, depth, map view x.1.now)) result (word_at (jack end) is_identifier free named depth (map view tokens.now)) }
+    ensures reads { (counts : Counts) → Gives (λ x. (name_said x.0, counts, map view x.1.now)) result (word_at (jack end) is_identifier free named counts (map view tokens.now)) }
     ensures shorter { IfOk result (λ r. length r.1.now < length tokens.now) }
 {
     let Some((token, rest)) = tokens.split_first() else {
@@ -145,12 +146,50 @@ pub fn identifier<'a>(
     alloc: Global,
     tokens: &'a [Token<'a>],
     end: Place,
-    depth: u32,
+    counts: Counts,
 ) -> Result<(Name, &'a [Token<'a>]), ReadError>
-    ensures reads { ParsesBy view (jack end) identifier (λ x. Leaf (name_said x)) (λ _. depth) depth tokens.now result }
+    ensures reads { ParsesBy view (jack end) identifier (λ x. Leaf (name_said x)) (λ _. counts) counts tokens.now result }
     ensures shorter { IfOk result (λ r. length r.1.now < length tokens.now) }
 {
     identifier_at(alloc, tokens, end)
+}
+
+fn counted_name_at<'a>(
+    alloc: Global,
+    tokens: &'a [Token<'a>],
+    end: Place,
+    counts: Counts,
+    counted: Counted,
+) -> Result<((Name, Counts), &'a [Token<'a>]), ReadError>
+    ensures reads { Gives (λ x. (name_said x.0.0, x.0.1, map view x.1.now)) result (word_at (jack end) is_identifier (λ s t. count counted s t.place) named counts (map view tokens.now)) }
+    ensures shorter { IfOk result (λ r. length r.1.now < length tokens.now) }
+{
+    let Some((token, rest)) = tokens.split_first() else {
+        return Err(grammar_fault(end));
+    };
+    let Kind::Identifier = token.kind else {
+        return Err(grammar_fault(token.place));
+    };
+    let counts = count(counted, counts, token.place)?;
+    let name = Name {
+        text: Vec::from_slice(alloc, token.text)?,
+        place: token.place,
+    };
+    Ok(((name, counts), rest))
+}
+
+/// A name that is one more of what is counted.
+pub fn counted_name<'a>(
+    alloc: Global,
+    tokens: &'a [Token<'a>],
+    end: Place,
+    counts: Counts,
+    counted: Counted,
+) -> Result<((Name, Counts), &'a [Token<'a>]), ReadError>
+    ensures reads { ParsesBy view (jack end) (counted_name counted) (λ x. Leaf (name_said x.0)) (λ x. x.1) counts tokens.now result }
+    ensures shorter { IfOk result (λ r. length r.1.now < length tokens.now) }
+{
+    counted_name_at(alloc, tokens, end, counts, counted)
 }
 
 fn operator_of(byte: u8) -> Option<Operator>
@@ -185,8 +224,8 @@ fn sign_of(byte: u8) -> Option<Sign>
 fn operator_at<'a>(
     tokens: &'a [Token<'a>],
     end: Place,
-) -> Result<(Operator, &'a [Token<'a>]), ReadError>
-    ensures reads { (depth : ℕ) → Gives (λ x. (operator_said x.0, depth, map view x.1.now)) result (word_at (jack end) operates free fixed depth (map view tokens.now)) }
+) -> Result<((Operator, Place), &'a [Token<'a>]), ReadError>
+    ensures reads { (counts : Counts) → Gives (λ x. (operator_said x.0.0 x.0.1, counts, map view x.1.now)) result (word_at (jack end) operates free placed counts (map view tokens.now)) }
     ensures shorter { IfOk result (λ r. length r.1.now < length tokens.now) }
 {
     let Some((token, rest)) = tokens.split_first() else {
@@ -198,22 +237,23 @@ fn operator_at<'a>(
     let Some(operator) = operator_of(byte) else {
         return Err(grammar_fault(token.place));
     };
-    Ok((operator, rest))
+    Ok(((operator, token.place), rest))
 }
 
+/// An operator and its place.
 pub fn operator<'a>(
     tokens: &'a [Token<'a>],
     end: Place,
-    depth: u32,
-) -> Result<(Operator, &'a [Token<'a>]), ReadError>
-    ensures reads { ParsesBy view (jack end) operator (λ x. Leaf (operator_said x)) (λ _. depth) depth tokens.now result }
+    counts: Counts,
+) -> Result<((Operator, Place), &'a [Token<'a>]), ReadError>
+    ensures reads { ParsesBy view (jack end) operator (λ x. Leaf (operator_said x.0 x.1)) (λ _. counts) counts tokens.now result }
     ensures shorter { IfOk result (λ r. length r.1.now < length tokens.now) }
 {
     operator_at(tokens, end)
 }
 
 fn unary_at<'a>(tokens: &'a [Token<'a>], end: Place) -> Result<(Sign, &'a [Token<'a>]), ReadError>
-    ensures reads { (depth : ℕ) → Gives (λ x. (sign_said x.0, depth, map view x.1.now)) result (word_at (jack end) negates free fixed depth (map view tokens.now)) }
+    ensures reads { (counts : Counts) → Gives (λ x. (sign_said x.0, counts, map view x.1.now)) result (word_at (jack end) negates free fixed counts (map view tokens.now)) }
     ensures shorter { IfOk result (λ r. length r.1.now < length tokens.now) }
 {
     let Some((token, rest)) = tokens.split_first() else {
@@ -231,9 +271,9 @@ fn unary_at<'a>(tokens: &'a [Token<'a>], end: Place) -> Result<(Sign, &'a [Token
 pub fn unary<'a>(
     tokens: &'a [Token<'a>],
     end: Place,
-    depth: u32,
+    counts: Counts,
 ) -> Result<(Sign, &'a [Token<'a>]), ReadError>
-    ensures reads { ParsesBy view (jack end) unary (λ x. Leaf (sign_said x)) (λ _. depth) depth tokens.now result }
+    ensures reads { ParsesBy view (jack end) unary (λ x. Leaf (sign_said x)) (λ _. counts) counts tokens.now result }
     ensures shorter { IfOk result (λ r. length r.1.now < length tokens.now) }
 {
     unary_at(tokens, end)
@@ -266,7 +306,7 @@ fn constant_at<'a>(
     tokens: &'a [Token<'a>],
     end: Place,
 ) -> Result<(Constant, &'a [Token<'a>]), ReadError>
-    ensures reads { (depth : ℕ) → Gives (λ x. (constant_leaf_said x.0, depth, map view x.1.now)) result (word_at (jack end) is_constant check_constant constant_said depth (map view tokens.now)) }
+    ensures reads { (counts : Counts) → Gives (λ x. (constant_leaf_said x.0, counts, map view x.1.now)) result (word_at (jack end) is_constant check_constant constant_said counts (map view tokens.now)) }
     ensures shorter { IfOk result (λ r. length r.1.now < length tokens.now) }
 {
     let Some((token, rest)) = tokens.split_first() else {
@@ -287,9 +327,9 @@ pub fn constant<'a>(
     alloc: Global,
     tokens: &'a [Token<'a>],
     end: Place,
-    depth: u32,
+    counts: Counts,
 ) -> Result<(Constant, &'a [Token<'a>]), ReadError>
-    ensures reads { ParsesBy view (jack end) constant (λ x. Leaf (constant_leaf_said x)) (λ _. depth) depth tokens.now result }
+    ensures reads { ParsesBy view (jack end) constant (λ x. Leaf (constant_leaf_said x)) (λ _. counts) counts tokens.now result }
     ensures shorter { IfOk result (λ r. length r.1.now < length tokens.now) }
 {
     constant_at(alloc, tokens, end)
@@ -422,15 +462,4 @@ pub fn here(tokens: &[Token], end: Place) -> Place
         None => end,
         Some(token) => token.place,
     }
-}
-
-/// One level deeper.
-pub fn deeper(depth: u32, place: Place) -> Result<u32, Fault>
-    ensures value { result ≡ deeper depth place }
-    ensures bounded { IfOk result (λ d. d ≤ 256) }
-{
-    if depth >= 256 {
-        return Err(Fault::Range(place, 257));
-    }
-    Ok(depth + 1)
 }

@@ -6,6 +6,6 @@ mod tree;
 
 pub use token::{Keyword, Kind, Token};
 pub use tree::{
-    Call, Class, ClassVariables, Constant, Expression, Form, Locals, Name, Names, Operator,
-    Parameter, Scope, Sign, Statement, Subroutine, Term, Type,
+    Call, Class, ClassVariables, Constant, Expression, Form, Locals, Name, Names, Operation,
+    Operator, Parameter, Scope, Sign, Statement, Subroutine, Term, Type,
 };

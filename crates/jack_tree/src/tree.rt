@@ -64,12 +64,21 @@ pub enum Term {
     Unary(Sign, Box<Term>),
 }
 
-/// A term, or an expression, an operator and a term: operators are taken from left to right.
+/// An operator, its place, and the term that follows it.
 #[derive(Drop)]
 #[cycle(expressions)]
-pub enum Expression {
-    Single(Box<Term>),
-    Binary(Box<Expression>, Operator, Box<Term>),
+pub struct Operation {
+    pub operator: Operator,
+    pub place: Place,
+    pub term: Term,
+}
+
+/// A term, and operators with further terms, which are taken from left to right.
+#[derive(Drop)]
+#[cycle(expressions)]
+pub struct Expression {
+    pub first: Term,
+    pub rest: Vec<Operation>,
 }
 
 /// A statement, with the place of its first token.

@@ -1,4 +1,4 @@
-use Rattle.std.proofs.Common.{◌≡◌, ◌∙◌, ◌≤◌, length, sym, arith, [], refl}
+use Rattle.std.proofs.Common.{◌∙◌, sym, arith, [], refl}
 use Rattle.std.proofs.lemmas.Result.{err_from_is_err_and}
 use Rattle.grammar.specs.Rules.{ended}
 use Rattle.grammar.proofs.Repeats.{Along-start, Along-more, Along-ended, Along-halts}

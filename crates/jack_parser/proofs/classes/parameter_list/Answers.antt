@@ -1,4 +1,4 @@
-use Rattle.std.proofs.Common.{◌≡◌, ◌∙◌, ◌<◌, ◌≤◌, length, sym, arith, length-append, [], ◌∷◌}
+use Rattle.std.proofs.Common.{◌∙◌, sym, arith, length-append, [], ◌∷◌}
 use Rattle.std.proofs.lemmas.Result.{err_from_is_err_and}
 use Rattle.grammar.specs.Rules.{both}
 use Rattle.grammar.proofs.Continues.{begun_seq, go_on_as, done, halt_more}

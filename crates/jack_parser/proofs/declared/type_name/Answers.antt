@@ -5,4 +5,4 @@ use Rattle.jack_parser.specs.ClassTrees.{type_leaf_said}
 use Rattle.jack_parser.proofs.declared.type_name.Goals as goal
 
 pub returns-clause-reads : goal.returns-clause-reads
-returns-clause-reads c = ParsesBy-word view (jack c.args.end) is_type free type_said type_leaf_said (λ _. c.args.depth) c.args.depth _ _ (c.type_name_at.ensures.reads c.args.depth)
+returns-clause-reads c = ParsesBy-word view (jack c.args.end) is_type free type_said type_leaf_said (λ _. c.args.counts) c.args.counts _ _ (c.type_name_at.ensures.reads c.args.counts)

@@ -1,4 +1,4 @@
-use Rattle.std.proofs.Common.{◌≡◌, ◌<◌, Some, sym, ap, ◌∙◌, refl, arith, List, Option, Vec, Global}
+use Rattle.std.proofs.Common.{◌≡◌, ◌<◌, Some, ap, ◌∙◌, refl, arith, List, Option, Vec, Global}
 use Rattle.jack_tree.specs.declared.tree.Statement as statements
 use Rattle.jack_parser.specs.StatementTrees.{statement_tree, statements_tree}
 use Rattle.jack_parser.proofs.Parts.{parts, if_body, if_other, while_body, one_of}

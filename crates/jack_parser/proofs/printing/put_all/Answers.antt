@@ -1,6 +1,5 @@
-use Rattle.std.proofs.Common.{List, ℕ, [], take, subst}
+use Rattle.std.proofs.Common.{List, ℕ, take, subst}
 use Rattle.outer_world.specs.Written.{Passes}
-use Rattle.outer_world.specs.declared.sink.Put.{Put}
 use Rattle.outer_world.specs.declared.sink.Put.TheVariants as put
 use Rattle.outer_world.specs.Written.{CountsPut}
 use Rattle.outer_world.proofs.Passing.{Puts-finished, Puts-failed}

@@ -6,12 +6,12 @@ use Rattle.jack_parser.proofs.reading.all.Goals as goal
 pub returns-in_err-class-clause-reads : goal.returns-in_err-class-clause-reads
 returns-in_err-class-clause-reads c =
     let p = err_from_is_err_and c.from_residual.result c.from_residual.ensures.1 in
-    rw (p.1, p.2) (halt_first c.in_err-class.ensures.reads)
+    rw (p.1, p.2) (halt_first (rw c.fresh.ensures at c.in_err-class.ensures.reads))
 
 pub returns-in_err-finish-clause-reads : goal.returns-in_err-finish-clause-reads
 returns-in_err-finish-clause-reads c =
     let p = err_from_is_err_and c.from_residual-in_err-finish.result c.from_residual-in_err-finish.ensures.1 in
-    rw (p.1, p.2) (halt_second c.in_ok-class.ensures.reads (c.in_err-finish.ensures _ _))
+    rw (p.1, p.2) (halt_second (rw c.fresh.ensures at c.in_ok-class.ensures.reads) (c.in_err-finish.ensures _ _))
 
 pub returns-clause-reads : goal.returns-clause-reads
-returns-clause-reads c = both c.in_ok-class.ensures.reads (c.in_ok-finish.ensures _ _)
+returns-clause-reads c = both (rw c.fresh.ensures at c.in_ok-class.ensures.reads) (c.in_ok-finish.ensures _ _)

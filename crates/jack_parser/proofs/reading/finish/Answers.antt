@@ -3,4 +3,4 @@ use Rattle.jack_parser.specs.Jack.{jack}
 use Rattle.jack_parser.proofs.reading.finish.Goals as goal
 
 pub returns : goal.returns
-returns c = λ end depth. Ends-end (jack end) depth _ _ (c.at_end.ensures end)
+returns c = λ end counts. Ends-end (jack end) counts _ _ (c.at_end.ensures end)

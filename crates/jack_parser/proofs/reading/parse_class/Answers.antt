@@ -1,7 +1,7 @@
 use Rattle.grammar.proofs.Exact.{only, exact}
 use Rattle.grammar.proofs.Wholes.{one_tree, not_both, first_fault}
 use Rattle.jack_lexer.specs.Cut.{tokens_of, finish}
-use Rattle.jack_parser.specs.Jack.{jack, whole}
+use Rattle.jack_parser.specs.Jack.{jack, fresh, whole}
 use Rattle.jack_parser.specs.Whole.{whole_tree, Spells, Refuses}
 use Rattle.jack_parser.proofs.reading.parse_class.Goals as goal
 
@@ -10,11 +10,11 @@ returns-clause-only c t =
     let text = c.args.text.now in
     let g = jack (finish text) in
     let cuts = tokens_of text in
-    only whole_tree (Spells text) (Refuses text) (one_tree g whole 0 cuts) (not_both g whole 0 cuts) (first_fault g whole 0 cuts) c.read.result t c.read.ensures.found c.read.ensures.fault
+    only whole_tree (Spells text) (Refuses text) (one_tree g whole (fresh 0) cuts) (not_both g whole (fresh 0) cuts) (first_fault g whole (fresh 0) cuts) c.read.result t c.read.ensures.found c.read.ensures.fault
 
 pub returns-clause-exact : goal.returns-clause-exact
 returns-clause-exact c f =
     let text = c.args.text.now in
     let g = jack (finish text) in
     let cuts = tokens_of text in
-    exact whole_tree (Spells text) (Refuses text) (one_tree g whole 0 cuts) (not_both g whole 0 cuts) (first_fault g whole 0 cuts) c.read.result f c.read.ensures.found c.read.ensures.fault
+    exact whole_tree (Spells text) (Refuses text) (one_tree g whole (fresh 0) cuts) (not_both g whole (fresh 0) cuts) (first_fault g whole (fresh 0) cuts) c.read.result f c.read.ensures.found c.read.ensures.fault

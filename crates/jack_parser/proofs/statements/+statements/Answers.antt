@@ -1,4 +1,4 @@
-use Rattle.std.proofs.Common.{◌≡◌, ◌∙◌, ◌≤◌, length, sym, arith, map, false, [], refl}
+use Rattle.std.proofs.Common.{◌∙◌, sym, arith, map, false, [], refl}
 use Rattle.std.specs.Prelude.{◌||◌}
 use Rattle.std.proofs.lemmas.Result.{err_from_is_err_and}
 use Rattle.grammar.specs.Rules.{name, both, named, in_name, passed, taken, ended, neither, not_inside}
@@ -59,15 +59,15 @@ statement-returns-then-not-statement_begins-clause-reads t c = rw c.here.ensures
 pub statement-returns-in_err-inner-clause-reads : goal.statement-returns-in_err-inner-clause-reads
 statement-returns-in_err-inner-clause-reads t c =
     let p = err_from_is_err_and c.from_residual.result c.from_residual.ensures.1 in
-    rw (p.1, p.2) (halt_name (halt_too_far (sym c.if-not-statement_begins.ensures) c.here-2.ensures (sym c.in_err-inner.ensures.value)))
+    rw (p.1, p.2) (halt_name (halt_too_far (sym c.if-not-statement_begins.ensures) c.here-2.ensures (sym c.in_err-inner.ensures)))
 
 pub statement-returns-in_err-statement-clause-reads : goal.statement-returns-in_err-statement-clause-reads
 statement-returns-in_err-statement-clause-reads t c =
     let p = err_from_is_err_and c.from_residual-in_err-statement.result c.from_residual-in_err-statement.ensures.1 in
-    rw (p.1, p.2) (halt_name (halt_within_at (sym c.if-not-statement_begins.ensures) c.here-2.ensures (sym c.in_ok-inner.ensures.value) c.in_err-statement.ensures.reads))
+    rw (p.1, p.2) (halt_name (halt_within_at (sym c.if-not-statement_begins.ensures) c.here-2.ensures (sym c.in_ok-inner.ensures) c.in_err-statement.ensures.reads))
 
 pub statement-returns-clause-reads : goal.statement-returns-clause-reads
-statement-returns-clause-reads t c = named (inside_at (sym c.if-not-statement_begins.ensures) c.here-2.ensures (sym c.in_ok-inner.ensures.value) c.in_ok-statement.ensures.reads)
+statement-returns-clause-reads t c = named (inside_at (sym c.if-not-statement_begins.ensures) c.here-2.ensures (sym c.in_ok-inner.ensures) c.in_ok-statement.ensures.reads)
 
 pub any_statement-returns-clause-reads : goal.any_statement-returns-clause-reads
 any_statement-returns-clause-reads t c = rw c.here.ensures (fault (neither (sym c.if-keyword_stands.ensures) (next_right (is_keyword keyword.If) (λ t. is_keyword keyword.While t || (is_keyword keyword.Do t || is_keyword keyword.Return t)) (map view c.args.tokens.now) false (sym c.if-keyword_stands-2.ensures) (next_right (is_keyword keyword.While) (λ t. is_keyword keyword.Do t || is_keyword keyword.Return t) (map view c.args.tokens.now) false (sym c.if-keyword_stands-3.ensures) (next_right (is_keyword keyword.Do) (λ t. is_keyword keyword.Return t) (map view c.args.tokens.now) false (sym c.if-keyword_stands-4.ensures) (sym c.if-keyword_stands-5.ensures))))))

@@ -1,8 +1,9 @@
-use Rattle.std.proofs.Common.{◌≡◌, ◌<◌, ◌≤◌, ◌-◌, ◌+◌, ◌*◌, length, ℕ, map}
+use Rattle.std.proofs.Common.{◌≤◌, ◌+◌, ◌*◌, length, map}
 use Rattle.grammar.specs.Rules.{name}
 use Rattle.grammar.proofs.Repeats.{Along}
 use Rattle.jack_tree.specs.declared.tree.Statement.{Statement}
 use Rattle.jack_tree.specs.Tokens.{Word, view}
+use Rattle.jack_parser.specs.declared.counts.Counts.{Counts}
 use Rattle.jack_parser.specs.Jack.{jack, Part, Said, statement}
 use Rattle.jack_parser.specs.StatementTrees.{statement_tree}
 use Rattle.jack_parser.proofs.statements.+statements.Given as goal
@@ -30,7 +31,7 @@ decreases-block l = 4 * length l.tokens.now
 
 abbrev pub invariant-statements-statements : goal.invariant-statements-statements
 invariant-statements-statements l = record {
-  along : Along Word ℕ Part Said Statement (jack l.end) (name statement) statement_tree l.depth (map view l.tokens) l.statements.items l.depth (map view l.rest);
+  along : Along Word Counts Part Said Statement (jack l.end) (name statement) statement_tree l.counts (map view l.tokens) l.statements.items l.counts (map view l.rest);
   no_longer : length l.rest ≤ length l.tokens;
 }
 

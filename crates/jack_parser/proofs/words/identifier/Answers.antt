@@ -5,4 +5,4 @@ use Rattle.jack_parser.specs.Trees.{name_said}
 use Rattle.jack_parser.proofs.words.identifier.Goals as goal
 
 pub returns-clause-reads : goal.returns-clause-reads
-returns-clause-reads c = ParsesBy-word view (jack c.args.end) is_identifier free named name_said (λ _. c.args.depth) c.args.depth _ _ (c.identifier_at.ensures.reads c.args.depth)
+returns-clause-reads c = ParsesBy-word view (jack c.args.end) is_identifier free named name_said (λ _. c.args.counts) c.args.counts _ _ (c.identifier_at.ensures.reads c.args.counts)
