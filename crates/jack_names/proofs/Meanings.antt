@@ -1,23 +1,50 @@
 -- The rows of arguments and statements in trees mean what their vectors hold.
-use Rattle.std.proofs.Common.{◌≡◌, ℕ, zero, suc, ◌+◌, ◌<◌, ◌≤◌, List, [], ◌∷◌, ◌++◌, length, take, get_or, Option, Some, None, refl, ap, ◌∙◌, arith, Vec, Global}
+use Rattle.std.proofs.Common.{◌≡◌, ℕ, zero, suc, ◌+◌, ◌<◌, ◌≤◌, List, [], ◌∷◌, ◌++◌, length, take, get_or, Option, Some, None, refl, sym, ap, ◌∙◌, arith, Vec, Global}
 use Rattle.jack_meaning.specs.Text as meaning
 use Rattle.scan_text.specs.declared.Place.{Place}
-use Rattle.jack_tree.specs.declared.tree.Term as terms
-use Rattle.jack_tree.specs.declared.tree.Expression.{Expression}
+use Rattle.std.proofs.lemmas.List.{take_more}
+use Rattle.jack_tree.specs.declared.tree.Operation.{Operation}
+use Rattle.jack_tree.specs.declared.tree.Call.{Call, Call', out-Call, outs-Call', Row_of-Expression, end_of-Expression, more_of-Expression, items-the_row-Expression, items_shown-the_row-Expression-0}
+use Rattle.jack_tree.specs.declared.tree.Expression.{Expression, Expression', out-Expression, outs-Expression', Row_of-Operation, end_of-Operation, more_of-Operation, items-the_row-Operation, items_shown-the_row-Operation-1}
 use Rattle.jack_tree.specs.declared.tree.Statement as statements
 use Rattle.jack_names.specs.Scopes.{Scope}
 use Rattle.jack_names.specs.Sizes.{size, row_size, sizes, else_size}
-use Rattle.jack_names.specs.Meant.{term_meant, exp_meant, row_meant, arguments_meant, invoked, call_meant, statement_meant, block_meant, statements_meant, else_meant}
-use Rattle.jack_names.proofs.Rows.{row_of, first_row, second_row}
+use Rattle.jack_names.specs.Meant.{binary_meant, term_meant, exp_meant, rest_meant, row_meant, operation_meant, grouped, arguments_meant, invoked, call_meant, statement_meant, block_meant, statements_meant, else_meant}
+use Rattle.jack_names.proofs.Rows.{OneCall, OneExpression, first_row, second_row}
 
-row_means : (s : Scope) (n : _) (row : terms.Row_of-Expression n) → row_meant s row ≡ arguments_meant s (terms.items-the_row-Expression n row)
-row_means s n terms.end_of-Expression = refl
-row_means s n (terms.more_of-Expression e es) = ap (λ (x : meaning.Expressions). meaning.More (exp_meant s e) x) (row_means s _ es)
+row_means : (s : Scope) (n : _) (row : Row_of-Expression n) → row_meant s row ≡ arguments_meant s (items-the_row-Expression n row)
+row_means s n end_of-Expression = refl
+row_means s n (more_of-Expression e es) = ap (λ (x : meaning.Expressions). meaning.More (exp_meant s e) x) (row_means s _ es)
 
-pub call_means : (s : Scope) (b : _) → term_meant s (terms.Call b) ≡ call_meant s b.value
-call_means s b =
-    let row = row_of (terms.Call b) in
-    ap (λ (x : meaning.Expressions). invoked s b.value.object b.value.name x) (row_means s row.0 row.1 ∙ ap (arguments_meant s) (terms.items_hidden-the_row-Expression-0 b.value.arguments))
+abbrev meant_by : Scope → OneCall → meaning.Expression
+meant_by s c = invoked s c.object c.name (arguments_meant s c.arguments.items)
+
+-- a call, by its parts
+pub call_means : (s : Scope) (c : Call) → call_meant s c ≡ invoked s (out-Call c).object (out-Call c).name (arguments_meant s (out-Call c).arguments.items)
+call_means s (Call' o f p es) =
+    ap (λ (x : meaning.Expressions). invoked s o f x) (row_means s _ es ∙ ap (arguments_meant s) (sym (items_shown-the_row-Expression-0 p es)))
+    ∙ ap (meant_by s) (sym (outs-Call' o f p es))
+
+rest_means : (s : Scope) (a : meaning.Expression) (n : _) (row : Row_of-Operation n) → rest_meant s a row ≡ grouped s a (items-the_row-Operation n row)
+rest_means s a n end_of-Operation = refl
+rest_means s a n (more_of-Operation o at t os) = rest_means s (binary_meant s o a (term_meant s t)) _ os
+
+abbrev grouped_by : Scope → OneExpression → meaning.Expression
+grouped_by s e = grouped s (term_meant s e.first) e.rest.items
+
+-- an expression, by its parts
+pub exp_means : (s : Scope) (e : Expression) → exp_meant s e ≡ grouped s (term_meant s (out-Expression e).first) (out-Expression e).rest.items
+exp_means s (Expression' t p os) =
+    rest_means s (term_meant s t) _ os ∙ ap (grouped s (term_meant s t)) (sym (items_shown-the_row-Operation-1 p os))
+    ∙ ap (grouped_by s) (sym (outs-Expression' t p os))
+
+grouped-push : (s : Scope) (a : meaning.Expression) (os : List Operation) (o : Operation) → grouped s a (os ++ o ∷ []) ≡ operation_meant s (grouped s a os) o
+grouped-push s a [] o = refl
+grouped-push s a (p ∷ os) o = grouped-push s (operation_meant s a p) os o
+
+-- one operator and term more
+pub grouped_more : (s : Scope) (a : meaning.Expression) (os : List Operation) (i : ℕ) (o : Operation) → i < length os → o ≡ get_or os i o → grouped s a (take (i + 1) os) ≡ operation_meant s (grouped s a (take i os)) o
+grouped_more s a os i o h w = ap (grouped s a) (take_more os i o h ∙ ap (λ (x : Operation). take i os ++ x ∷ []) (sym w)) ∙ grouped-push s a (take i os) o
 
 block_means : (s : Scope) (k : ℕ) (n : _) (row : statements.Row_of-Statement n) → block_meant s k row ≡ meaning.text_of (statements_meant s k (statements.items-the_row-Statement n row))
 block_means s k n statements.end_of-Statement = refl

@@ -10,3 +10,6 @@ pub mod Meant
 pub mod Twice
 pub mod Symbols
 pub mod Whole
+pub mod Limits
+pub mod Named
+pub mod Resolved

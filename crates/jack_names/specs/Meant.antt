@@ -11,9 +11,10 @@ use Rattle.jack_tree.specs.declared.tree.Sign.{Sign}
 use Rattle.jack_tree.specs.declared.tree.Sign.TheVariants as sign
 use Rattle.jack_tree.specs.declared.tree.Constant.{Constant}
 use Rattle.jack_tree.specs.declared.tree.Constant.TheVariants as constant
-use Rattle.jack_tree.specs.declared.tree.Call.{Call}
+use Rattle.jack_tree.specs.declared.tree.Call.{Call, Call', Row_of-Expression, end_of-Expression, more_of-Expression}
 use Rattle.jack_tree.specs.declared.tree.Term as terms
-use Rattle.jack_tree.specs.declared.tree.Expression.{Expression, Single', Binary'}
+use Rattle.jack_tree.specs.declared.tree.Operation.{Operation}
+use Rattle.jack_tree.specs.declared.tree.Expression.{Expression, Expression', Row_of-Operation, end_of-Operation, more_of-Operation}
 use Rattle.jack_tree.specs.declared.tree.Statement as statements
 use Rattle.jack_names.specs.Sizes.{size, row_size}
 use Rattle.jack_names.specs.Scopes.{Scope, callee}
@@ -115,18 +116,33 @@ abbrev mutual
   term_meant s (terms.Constant c) = constant_meant s c
   term_meant s (terms.Variable x) = variable_meant s x
   term_meant s (terms.Element' x p e) = meaning.Load (variable_meant s x) (exp_meant s e)
-  term_meant s (terms.Call' p o f n es) = invoked s o f (row_meant s es)
+  term_meant s (terms.Call' p c) = call_meant s c
   term_meant s (terms.Group' p e) = exp_meant s e
   term_meant s (terms.Unary' o p t) = meaning.Unary (sign_meant o) (term_meant s t)
 
+  pub call_meant : Scope → Call → meaning.Expression
+  call_meant s (Call' o f n es) = invoked s o f (row_meant s es)
+
   pub exp_meant : Scope → Expression → meaning.Expression
-  exp_meant s (Single' p t) = term_meant s t
-  exp_meant s (Binary' p e o q t) = binary_meant s o (exp_meant s e) (term_meant s t)
+  exp_meant s (Expression' t n os) = rest_meant s (term_meant s t) os
+
+  -- operators bind from left to right
+  pub rest_meant : Scope → meaning.Expression → {n : _} → Row_of-Operation n → meaning.Expression
+  rest_meant s e end_of-Operation = e
+  rest_meant s e (more_of-Operation o at t os) = rest_meant s (binary_meant s o e (term_meant s t)) os
 
   -- arguments that stand in a call
-  pub row_meant : Scope → {n : _} → terms.Row_of-Expression n → meaning.Expressions
-  row_meant s terms.end_of-Expression = meaning.NoMore
-  row_meant s (terms.more_of-Expression e es) = meaning.More (exp_meant s e) (row_meant s es)
+  pub row_meant : Scope → {n : _} → Row_of-Expression n → meaning.Expressions
+  row_meant s end_of-Expression = meaning.NoMore
+  row_meant s (more_of-Expression e es) = meaning.More (exp_meant s e) (row_meant s es)
+
+-- an expression with a further operator and term, and with more of them
+abbrev pub operation_meant : Scope → meaning.Expression → Operation → meaning.Expression
+operation_meant s e o = binary_meant s o.operator e (term_meant s o.term)
+
+abbrev pub grouped : Scope → meaning.Expression → List Operation → meaning.Expression
+grouped s e [] = e
+grouped s e (o ∷ os) = grouped s (operation_meant s e o) os
 
 -- arguments in order, before others
 abbrev pub listed : List meaning.Expression → meaning.Expressions → meaning.Expressions
@@ -135,9 +151,6 @@ listed (e ∷ es) more = meaning.More e (listed es more)
 
 abbrev pub arguments_meant : Scope → List Expression → meaning.Expressions
 arguments_meant s es = listed (map (exp_meant s) es) meaning.NoMore
-
-abbrev pub call_meant : Scope → Call → meaning.Expression
-call_meant s c = invoked s c.object c.name (arguments_meant s c.arguments.items)
 
 abbrev pub assigned : Slot → ℕ → meaning.Expression → meaning.Statement
 assigned (slot.Argument k) n e = meaning.Let n (meaning.Argument k) e

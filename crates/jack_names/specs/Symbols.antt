@@ -13,6 +13,7 @@ use Rattle.jack_tree.specs.declared.tree.Subroutine.{Subroutine}
 use Rattle.jack_tree.specs.declared.tree.Class.{Class}
 use Rattle.jack_names.specs.Tables.{found, first_of}
 use Rattle.jack_names.specs.Twice.{names_of, source_of}
+use Rattle.jack_names.specs.Faults.{Source}
 use Rattle.jack_names.specs.Scopes.{Scope, is_method}
 use Rattle.jack_names.specs.declared.scope.Slot.{Slot}
 use Rattle.jack_names.specs.declared.scope.Slot.TheVariants as slot
@@ -34,10 +35,24 @@ abbrev pub all_signatures : ℕ → List Class → List (List (List ℕ × Signa
 all_signatures n [] = []
 all_signatures n (c ∷ cs) = signatures n c.subroutines.items ∷ all_signatures (n + length c.subroutines.items) cs
 
+-- what is found in the table of a number
+abbrev pub found_at : {V : Type 0} → Option (List (List ℕ × V)) → List ℕ → Option V
+found_at None x = None
+found_at (Some es) x = found x es
+
+-- The names that all of a program can use: the number of each class, and the subroutines of the class of a number.
+pub record Symbols : Type 0 where
+  pub class : List ℕ → Option ℕ
+  pub subroutine : ℕ → List ℕ → Option Signature
+
+-- the names of these classes; subroutine 0 is none of theirs
+abbrev pub symbols_of : List Class → Symbols
+symbols_of all = record { class = λ x. found x (class_numbers 0 all); subroutine = λ k f. found_at (slice_get (all_signatures 1 all) k) f }
+
 -- the number of the class that is a type
-abbrev pub type_class : List (List ℕ × ℕ) → types.Type → Option ℕ
-type_class classes (type.Class n) = found n.text.items classes
-type_class classes _ = None
+abbrev pub type_class : Symbols → types.Type → Option ℕ
+type_class symbols (type.Class n) = symbols.class n.text.items
+type_class symbols _ = None
 
 -- names of one declaration, numbered from this one on
 abbrev pub line_entries : (ℕ → Slot) → Option ℕ → ℕ → List Name → List (List ℕ × Declared)
@@ -45,9 +60,9 @@ line_entries at class k [] = []
 line_entries at class k (x ∷ xs) = (x.text.items, record { slot = at k; class = class }) ∷ line_entries at class (k + 1) xs
 
 -- Fields and statics are numbered apart, in order of declaration; f fields and s statics come before.
-abbrev pub member_line : List (List ℕ × ℕ) → ℕ → ℕ → ClassVariables → scopes.Scope → List (List ℕ × Declared)
-member_line classes f s v scope.Field = line_entries slot.Field (type_class classes v.kind) f (names_of v.names)
-member_line classes f s v scope.Static = line_entries slot.Static (type_class classes v.kind) s (names_of v.names)
+abbrev pub member_line : Symbols → ℕ → ℕ → ClassVariables → scopes.Scope → List (List ℕ × Declared)
+member_line symbols f s v scope.Field = line_entries slot.Field (type_class symbols v.kind) f (names_of v.names)
+member_line symbols f s v scope.Static = line_entries slot.Static (type_class symbols v.kind) s (names_of v.names)
 
 abbrev pub fields_in : scopes.Scope → ClassVariables → ℕ
 fields_in scope.Field v = length (names_of v.names)
@@ -65,17 +80,17 @@ abbrev pub statics_of : List ClassVariables → ℕ
 statics_of [] = 0
 statics_of (v ∷ vs) = statics_in v.scope v + statics_of vs
 
-abbrev pub member_entries : List (List ℕ × ℕ) → ℕ → ℕ → List ClassVariables → List (List ℕ × Declared)
-member_entries classes f s [] = []
-member_entries classes f s (v ∷ vs) = member_line classes f s v v.scope ++ member_entries classes (f + fields_in v.scope v) (s + statics_in v.scope v) vs
+abbrev pub member_entries : Symbols → ℕ → ℕ → List ClassVariables → List (List ℕ × Declared)
+member_entries symbols f s [] = []
+member_entries symbols f s (v ∷ vs) = member_line symbols f s v v.scope ++ member_entries symbols (f + fields_in v.scope v) (s + statics_in v.scope v) vs
 
-abbrev pub parameter_entries : List (List ℕ × ℕ) → ℕ → List Parameter → List (List ℕ × Declared)
-parameter_entries classes k [] = []
-parameter_entries classes k (p ∷ ps) = (p.name.text.items, record { slot = slot.Argument k; class = type_class classes p.kind }) ∷ parameter_entries classes (k + 1) ps
+abbrev pub parameter_entries : Symbols → ℕ → List Parameter → List (List ℕ × Declared)
+parameter_entries symbols k [] = []
+parameter_entries symbols k (p ∷ ps) = (p.name.text.items, record { slot = slot.Argument k; class = type_class symbols p.kind }) ∷ parameter_entries symbols (k + 1) ps
 
-abbrev pub local_entries : List (List ℕ × ℕ) → ℕ → List Locals → List (List ℕ × Declared)
-local_entries classes k [] = []
-local_entries classes k (v ∷ vs) = line_entries slot.Local (type_class classes v.kind) k (names_of v.names) ++ local_entries classes (k + length (names_of v.names)) vs
+abbrev pub local_entries : Symbols → ℕ → List Locals → List (List ℕ × Declared)
+local_entries symbols k [] = []
+local_entries symbols k (v ∷ vs) = line_entries slot.Local (type_class symbols v.kind) k (names_of v.names) ++ local_entries symbols (k + length (names_of v.names)) vs
 
 abbrev pub locals_of : List Locals → ℕ
 locals_of [] = 0
@@ -85,24 +100,35 @@ locals_of (v ∷ vs) = length (names_of v.names) + locals_of vs
 abbrev pub objects : Form → ℕ
 objects f = if is_method f then 1 else 0
 
-abbrev pub variable_entries : List (List ℕ × ℕ) → Subroutine → List (List ℕ × Declared)
-variable_entries classes s = parameter_entries classes (objects s.form) s.parameters.items ++ local_entries classes 0 s.locals.items
+abbrev pub variable_entries : Symbols → Subroutine → List (List ℕ × Declared)
+variable_entries symbols s = parameter_entries symbols (objects s.form) s.parameters.items ++ local_entries symbols 0 s.locals.items
 
--- what is found in the table of a number
-abbrev pub found_at : {V : Type 0} → Option (List (List ℕ × V)) → List ℕ → Option V
-found_at None x = None
-found_at (Some es) x = found x es
+-- What names stand for in a class: the names of the program, its fields and statics, its number and its file.
+pub record ClassScope : Type 0 where
+  pub symbols : Symbols
+  pub member : List ℕ → Option Declared
+  pub own : ℕ
+  pub source : Source
 
--- What names stand for in a subroutine of a class: all classes, whether the class is one of the operating system, its number, and how many
--- statics come before its own.
-abbrev pub scope_in : List Class → Bool → ℕ → ℕ → Class → Subroutine → Scope
-scope_in all shipped own statics c s =
-    let classes = class_numbers 0 all in
-    record {
-      variable = λ x. first_of (found x (variable_entries classes s)) (found x (member_entries classes 0 statics c.variables.items));
-      class = λ x. found x classes;
-      subroutine = λ k f. found_at (slice_get (all_signatures 1 all) k) f;
-      form = s.form;
-      own = own;
-      source = source_of shipped c;
-    }
+-- a class, whether it is one of the operating system, its number, and how many statics come before its own
+abbrev pub class_scope : Symbols → Bool → ℕ → ℕ → Class → ClassScope
+class_scope symbols shipped own statics c = record {
+  symbols = symbols;
+  member = λ x. found x (member_entries symbols 0 statics c.variables.items);
+  own = own;
+  source = source_of shipped c;
+}
+
+-- What names stand for in a subroutine of a class: its parameters and locals come before fields and statics.
+abbrev pub scope_with : ClassScope → (List ℕ → Option Declared) → Form → Scope
+scope_with c local form = record {
+  variable = λ x. first_of (local x) (c.member x);
+  class = c.symbols.class;
+  subroutine = c.symbols.subroutine;
+  form = form;
+  own = c.own;
+  source = c.source;
+}
+
+abbrev pub scope_in : ClassScope → Subroutine → Scope
+scope_in c s = scope_with c (λ x. found x (variable_entries c.symbols s)) s.form

@@ -1,15 +1,16 @@
 -- The names that a text uses, in the order of the text, with the calls that its meaning makes by itself: of Math for the operators * and /,
 -- of String for a string, of Memory for a constructor (book, chapters 9, 11 and 12).
-use Rattle.std.specs.Prelude.{ℕ, ◌+◌, List, [], ◌∷◌, ◌++◌, Option, Some, None, length, codes}
+use Rattle.std.specs.Prelude.{ℕ, ◌+◌, List, [], ◌∷◌, ◌++◌, Option, Some, None, codes}
 use Rattle.scan_text.specs.declared.Place.{Place}
 use Rattle.jack_tree.specs.declared.tree.Name.{Name}
 use Rattle.jack_tree.specs.declared.tree.Operator.{Operator}
 use Rattle.jack_tree.specs.declared.tree.Operator.TheVariants as operator
 use Rattle.jack_tree.specs.declared.tree.Constant.{Constant}
 use Rattle.jack_tree.specs.declared.tree.Constant.TheVariants as constant
-use Rattle.jack_tree.specs.declared.tree.Call.{Call}
+use Rattle.jack_tree.specs.declared.tree.Call.{Call, Call', Row_of-Expression, end_of-Expression, more_of-Expression}
 use Rattle.jack_tree.specs.declared.tree.Term as terms
-use Rattle.jack_tree.specs.declared.tree.Expression.{Expression, Single', Binary'}
+use Rattle.jack_tree.specs.declared.tree.Operation.{Operation}
+use Rattle.jack_tree.specs.declared.tree.Expression.{Expression, Expression', Row_of-Operation, end_of-Operation, more_of-Operation}
 use Rattle.jack_tree.specs.declared.tree.Statement as statements
 use Rattle.jack_tree.specs.declared.tree.Form.{Form}
 use Rattle.jack_tree.specs.declared.tree.Form.TheVariants as form
@@ -27,14 +28,11 @@ pub data Use : Type 0 where
   -- a string
   Text : Name → Use
 
--- The place of an operator, which the trees do not tell.
-abbrev pub no_place : Place
-no_place = record { line = 0; column = 0 }
-
-abbrev pub operator_uses : Operator → List Use
-operator_uses operator.Times = Makes (codes "Math") (codes "multiply") 2 no_place ∷ []
-operator_uses operator.Divide = Makes (codes "Math") (codes "divide") 2 no_place ∷ []
-operator_uses _ = []
+-- an operator, at its place
+abbrev pub operator_uses : Operator → Place → List Use
+operator_uses operator.Times at = Makes (codes "Math") (codes "multiply") 2 at ∷ []
+operator_uses operator.Divide at = Makes (codes "Math") (codes "divide") 2 at ∷ []
+operator_uses _ at = []
 
 abbrev pub constant_uses : Constant → List Use
 constant_uses (constant.Text t) = Text t ∷ []
@@ -42,39 +40,50 @@ constant_uses (constant.This at) = This at ∷ []
 constant_uses _ = []
 
 -- how many arguments a row has
-abbrev pub row_length : {n : _} → terms.Row_of-Expression n → ℕ
-row_length terms.end_of-Expression = 0
-row_length (terms.more_of-Expression e es) = 1 + row_length es
+abbrev pub row_length : {n : _} → Row_of-Expression n → ℕ
+row_length end_of-Expression = 0
+row_length (more_of-Expression e es) = 1 + row_length es
 
 abbrev mutual
   pub term_uses : terms.Term → List Use
   term_uses (terms.Constant c) = constant_uses c
   term_uses (terms.Variable x) = Variable x ∷ []
   term_uses (terms.Element' x p e) = Variable x ∷ exp_uses e
-  term_uses (terms.Call' p o x n es) = Calls o x (row_length es) ∷ row_uses es
+  term_uses (terms.Call' p c) = call_uses c
   term_uses (terms.Group' p e) = exp_uses e
   term_uses (terms.Unary' s p t) = term_uses t
 
+  pub call_uses : Call → List Use
+  call_uses (Call' o x n es) = Calls o x (row_length es) ∷ row_uses es
+
   pub exp_uses : Expression → List Use
-  exp_uses (Single' p t) = term_uses t
-  exp_uses (Binary' p e o q t) = exp_uses e ++ (operator_uses o ++ term_uses t)
+  exp_uses (Expression' t n os) = term_uses t ++ rest_uses os
+
+  -- the operators of an expression and the terms behind them
+  pub rest_uses : {n : _} → Row_of-Operation n → List Use
+  rest_uses end_of-Operation = []
+  rest_uses (more_of-Operation o at t os) = (operator_uses o at ++ term_uses t) ++ rest_uses os
 
   -- arguments that stand in a call
-  pub row_uses : {n : _} → terms.Row_of-Expression n → List Use
-  row_uses terms.end_of-Expression = []
-  row_uses (terms.more_of-Expression e es) = exp_uses e ++ row_uses es
+  pub row_uses : {n : _} → Row_of-Expression n → List Use
+  row_uses end_of-Expression = []
+  row_uses (more_of-Expression e es) = exp_uses e ++ row_uses es
 
 -- the uses of things, one after the other
 abbrev pub all_uses : {A : Type 0} → (A → List Use) → List A → List Use
 all_uses uses [] = []
 all_uses uses (x ∷ xs) = uses x ++ all_uses uses xs
 
+-- an operator and the term behind it
+abbrev pub operation_uses : Operation → List Use
+operation_uses o = operator_uses o.operator o.place ++ term_uses o.term
+
+abbrev pub operations_uses : List Operation → List Use
+operations_uses os = all_uses operation_uses os
+
 -- arguments in order
 abbrev pub arguments_uses : List Expression → List Use
 arguments_uses es = all_uses exp_uses es
-
-abbrev pub call_uses : Call → List Use
-call_uses c = Calls c.object c.name (length c.arguments.items) ∷ arguments_uses c.arguments.items
 
 abbrev pub optional_uses : Option Expression → List Use
 optional_uses None = []

@@ -1,5 +1,5 @@
 -- The first name fault of a whole program, and the program that is meant where there is none. The classes of the folder come first, in order of
--- file name, and those of the operating system after them.
+-- file name, and those of the operating system after them (book, chapters 11 and 12).
 use Rattle.std.specs.Prelude.{◌≡◌, ℕ, ◌+◌, ◌-◌, max, Bool, true, false, List, [], ◌∷◌, ◌++◌, map, Option, Some, None, length, codes, if◌then◌else◌, nat_eq, ◌&&◌, slice_get}
 use Rattle.std.specs.Str.{bytes_eq}
 use Rattle.scan_text.specs.declared.Place.{Place}
@@ -9,30 +9,35 @@ use Rattle.jack_tree.specs.declared.tree.Form.TheVariants as form
 use Rattle.jack_tree.specs.declared.tree.Statement as statements
 use Rattle.jack_tree.specs.declared.tree.Subroutine.{Subroutine}
 use Rattle.jack_tree.specs.declared.tree.Class.{Class}
-use Rattle.jack_names.specs.Tables.{found, first_of}
-use Rattle.jack_names.specs.Faults.{Told, first_in}
+use Rattle.jack_names.specs.Tables.{first_of}
+use Rattle.jack_names.specs.Faults.{Told, Source, first_in}
 use Rattle.jack_names.specs.Uses.{Makes, subroutine_uses}
 use Rattle.jack_names.specs.Sizes.{sizes}
 use Rattle.jack_names.specs.Scopes.{Scope, is_function, use_fault, first_fault}
-use Rattle.jack_names.specs.Symbols.{class_numbers, all_signatures, found_at, scope_in, fields_of, statics_of, locals_of, objects}
+use Rattle.jack_names.specs.Symbols.{Symbols, ClassScope, symbols_of, class_scope, scope_in, fields_of, statics_of, locals_of, objects}
 use Rattle.jack_names.specs.Twice.{declarations_fault}
-use Rattle.jack_names.specs.Meant.{made_number, one, statements_meant}
+use Rattle.jack_names.specs.Meant.{made_number, number_by, one, statements_meant}
 use Rattle.jack_names.specs.declared.fault.NameKind.TheVariants as kinds
 use Rattle.jack_names.specs.declared.scope.Signature.{Signature}
 
+-- the place of what no text names
 abbrev pub no_place : Place
 no_place = record { line = 0; column = 0 }
 
 abbrev pub class_names : List Class → List (List ℕ)
 class_names cs = map (λ c. c.name.text.items) cs
 
--- the subroutine of these names, where it is there
-abbrev pub found_by : List Class → Option ℕ → List ℕ → Option Signature
-found_by all None f = None
-found_by all (Some k) f = found_at (slice_get (all_signatures 1 all) k) f
+-- Declarations: the folder's classes are tried with those of the operating system already there.
+abbrev pub declared_fault : List Class → List Class → Option Told
+declared_fault own os = first_of (declarations_fault false (class_names os) own) (declarations_fault true [] os)
 
-abbrev pub found_subroutine : List Class → List ℕ → List ℕ → Option Signature
-found_subroutine all c f = found_by all (found c (class_numbers 0 all)) f
+-- the subroutine of these names, where it is there
+abbrev pub found_by : Symbols → List ℕ → Option ℕ → Option Signature
+found_by symbols f None = None
+found_by symbols f (Some k) = symbols.subroutine k f
+
+abbrev pub found_subroutine : Symbols → List ℕ → List ℕ → Option Signature
+found_subroutine symbols c f = found_by symbols f (symbols.class c)
 
 -- a function without parameters
 abbrev pub is_plain : Option Signature → Bool
@@ -40,51 +45,61 @@ is_plain None = false
 is_plain (Some g) = is_function g.form && nat_eq g.parameters 0
 
 -- There is a function Main.main without parameters.
-abbrev pub main_fault : List Class → Option Told
-main_fault all =
-    if is_plain (found_subroutine all (codes "Main") (codes "main"))
+abbrev pub main_fault : Symbols → Option Told
+main_fault symbols =
+    if is_plain (found_subroutine symbols (codes "Main") (codes "main"))
     then None
     else Some (record { kind = kinds.NoMain; shipped = false; file = codes "Main.jack"; name = codes "Main.main"; place = no_place })
 
--- The first fault in the uses of a class, whose number and the number of statics before its own are given.
-abbrev pub class_fault : List Class → Bool → ℕ → ℕ → Class → Option Told
-class_fault all shipped own statics c = first_in (λ s. first_fault (scope_in all shipped own statics c s) (subroutine_uses s)) c.subroutines.items
+-- the first fault in the uses of a class
+abbrev pub class_fault : ClassScope → List Subroutine → Option Told
+class_fault scope ss = first_in (λ s. first_fault (scope_in scope s) (subroutine_uses s)) ss
 
-abbrev pub uses_fault : List Class → Bool → ℕ → ℕ → List Class → Option Told
-uses_fault all shipped own statics [] = None
-uses_fault all shipped own statics (c ∷ cs) = first_of (class_fault all shipped own statics c) (uses_fault all shipped (own + 1) (statics + statics_of c.variables.items) cs)
+-- The first fault in the uses of classes; the number of the first class and the number of statics before its own are given.
+abbrev pub uses_fault : Symbols → Bool → ℕ → ℕ → List Class → Option Told
+uses_fault symbols shipped own statics [] = None
+uses_fault symbols shipped own statics (c ∷ cs) =
+    first_of (class_fault (class_scope symbols shipped own statics c) c.subroutines.items) (uses_fault symbols shipped (own + 1) (statics + statics_of c.variables.items) cs)
+
+-- the file of the class Sys of the operating system
+abbrev pub system_file : Source
+system_file = record { shipped = true; file = codes "Sys.jack" }
 
 -- what names stand for before the program begins
-abbrev pub start_scope : List Class → Scope
-start_scope all = record {
+abbrev pub start_scope : Symbols → Scope
+start_scope symbols = record {
   variable = λ x. None;
-  class = λ x. found x (class_numbers 0 all);
-  subroutine = λ k f. found_at (slice_get (all_signatures 1 all) k) f;
+  class = symbols.class;
+  subroutine = symbols.subroutine;
   form = form.Function;
   own = 0;
-  source = record { shipped = true; file = codes "Sys.jack" };
+  source = system_file;
 }
 
--- The program begins by a call of Sys.init, which stands before all else in the file of the class Sys of the operating system.
-abbrev pub start_fault : List Class → Option Told
-start_fault all = use_fault (start_scope all) (Makes (codes "Sys") (codes "init") 0 no_place)
+-- The program begins by a call of Sys.init, whose place is before all else in that file.
+abbrev pub start_fault : Symbols → Option Told
+start_fault symbols = use_fault (start_scope symbols) (Makes (codes "Sys") (codes "init") 0 no_place)
 
-abbrev pub os_fault : List Class → ℕ → ℕ → List Class → Option Told
-os_fault all own statics [] = start_fault all
-os_fault all own statics (c ∷ cs) =
+-- The first fault in the uses of the operating system's classes, with that call: where no file is that of Sys, the call comes last.
+abbrev pub os_fault : Symbols → ℕ → ℕ → List Class → Option Told
+os_fault symbols own statics [] = start_fault symbols
+os_fault symbols own statics (c ∷ cs) =
     if bytes_eq c.file (codes "Sys.jack")
-    then first_of (start_fault all) (uses_fault all true own statics (c ∷ cs))
-    else first_of (class_fault all true own statics c) (os_fault all (own + 1) (statics + statics_of c.variables.items) cs)
+    then first_of (start_fault symbols) (uses_fault symbols true own statics (c ∷ cs))
+    else first_of (class_fault (class_scope symbols true own statics c) c.subroutines.items) (os_fault symbols (own + 1) (statics + statics_of c.variables.items) cs)
 
 abbrev pub all_statics : List Class → ℕ
 all_statics [] = 0
 all_statics (c ∷ cs) = statics_of c.variables.items + all_statics cs
 
+abbrev pub all_uses_fault : Symbols → List Class → List Class → Option Told
+all_uses_fault symbols own os = first_of (uses_fault symbols false 0 0 own) (os_fault symbols (length own) (all_statics own) os)
+
 -- Declarations first, then Main.main, then uses; at one place the least kind.
 abbrev pub first_name_fault : List Class → List Class → Option Told
 first_name_fault own os =
-    first_of (declarations_fault false (class_names os) own) (first_of (declarations_fault true [] os)
-    (first_of (main_fault (own ++ os)) (first_of (uses_fault (own ++ os) false 0 0 own) (os_fault (own ++ os) (length own) (all_statics own) os))))
+    let symbols = symbols_of (own ++ os) in
+    first_of (declared_fault own os) (first_of (main_fault symbols) (all_uses_fault symbols own os))
 
 abbrev pub WellNamed : List Class → List Class → Type 0
 WellNamed own os = first_name_fault own os ≡ None
@@ -128,33 +143,42 @@ subroutine_meant s fields t = record {
   body = meaning.text_of (body_meant s fields t);
 }
 
-abbrev pub class_subroutines : List Class → Bool → ℕ → ℕ → Class → List meaning.Subroutine
-class_subroutines all shipped own statics c = map (λ t. subroutine_meant (scope_in all shipped own statics c t) (fields_of c.variables.items) t) c.subroutines.items
+-- the subroutines of a class with so many fields
+abbrev pub class_subroutines : ClassScope → ℕ → List Subroutine → List meaning.Subroutine
+class_subroutines scope fields ss = map (λ t. subroutine_meant (scope_in scope t) fields t) ss
 
-abbrev pub subroutines_meant : List Class → ℕ → ℕ → List Class → List meaning.Subroutine
-subroutines_meant all own statics [] = []
-subroutines_meant all own statics (c ∷ cs) = class_subroutines all false own statics c ++ subroutines_meant all (own + 1) (statics + statics_of c.variables.items) cs
+abbrev pub subroutines_meant : Symbols → Bool → ℕ → ℕ → List Class → List meaning.Subroutine
+subroutines_meant symbols shipped own statics [] = []
+subroutines_meant symbols shipped own statics (c ∷ cs) =
+    class_subroutines (class_scope symbols shipped own statics c) (fields_of c.variables.items) c.subroutines.items
+    ++ subroutines_meant symbols shipped (own + 1) (statics + statics_of c.variables.items) cs
+
+abbrev pub all_subroutines_meant : Symbols → List Class → List Class → List meaning.Subroutine
+all_subroutines_meant symbols own os = subroutines_meant symbols false 0 0 own ++ subroutines_meant symbols true (length own) (all_statics own) os
 
 -- subroutine 0, which no call names
 abbrev pub start_subroutine : meaning.Subroutine
 start_subroutine = record { kind = meaning.Function; class = 0; arguments = 0; locals = 0; body = meaning.End }
 
+abbrev pub class_meant : Class → meaning.Class
+class_meant c = record { fields = fields_of c.variables.items; statics = statics_of c.variables.items }
+
 abbrev pub program_meant : List Class → List Class → meaning.Program
 program_meant own os =
-    let all = own ++ os in
+    let symbols = symbols_of (own ++ os) in
     record {
-      classes = map (λ c. record { fields = fields_of c.variables.items; statics = statics_of c.variables.items }) all;
-      subroutines = start_subroutine ∷ subroutines_meant all 0 0 all;
-      init = made_number (start_scope all) (codes "Sys") (codes "init");
+      classes = map class_meant own ++ map class_meant os;
+      subroutines = start_subroutine ∷ all_subroutines_meant symbols own os;
+      init = number_by (found_subroutine symbols (codes "Sys") (codes "init"));
     }
 
 -- the names of the subroutines, in order of their numbers
-abbrev pub class_subroutine_names : Class → List (List ℕ)
-class_subroutine_names c = map (λ t. c.name.text.items ++ (codes "." ++ t.name.text.items)) c.subroutines.items
+abbrev pub subroutine_name : List ℕ → Subroutine → List ℕ
+subroutine_name class t = class ++ (codes "." ++ t.name.text.items)
 
 abbrev pub names_meant : List Class → List (List ℕ)
 names_meant [] = []
-names_meant (c ∷ cs) = class_subroutine_names c ++ names_meant cs
+names_meant (c ∷ cs) = map (subroutine_name c.name.text.items) c.subroutines.items ++ names_meant cs
 
 abbrev pub all_names_meant : List Class → List Class → List (List ℕ)
-all_names_meant own os = codes "start" ∷ names_meant (own ++ os)
+all_names_meant own os = codes "start" ∷ (names_meant own ++ names_meant os)

@@ -2,7 +2,7 @@
 
 ghost use Rattle.std.specs.Prelude.{◌≡◌, Some, [], ◌∷◌, length};
 ghost use Rattle.jack_names.specs.Faults.{Checks, told_if};
-ghost use Rattle.jack_names.specs.Uses.{Variable, This, Calls, Makes, Text, Use, constant_uses, operator_uses, term_uses, exp_uses, arguments_uses, call_uses, optional_uses, statement_uses, statements_uses, form_uses, subroutine_uses};
+ghost use Rattle.jack_names.specs.Uses.{Variable, This, Calls, Makes, Text, Use, constant_uses, operator_uses, term_uses, operation_uses, operations_uses, exp_uses, arguments_uses, call_uses, optional_uses, statement_uses, statements_uses, form_uses, subroutine_uses};
 ghost use Rattle.jack_names.specs.Scopes.{made_told, front_fault, call_fault, string_fault, first_fault, use_fault};
 ghost use Rattle.jack_names.specs.Scopes.{callee as callee_of};
 ghost use Rattle.jack_names.specs.Scoped.{the_scope};
@@ -13,12 +13,11 @@ use crate::kinds::{
     variable_kind,
 };
 use crate::scope::{Callee, Scope, Way};
-use jack_tree::{Call, Constant, Expression, Form, Name, Operator, Statement, Subroutine, Term};
+use jack_tree::{
+    Call, Constant, Expression, Form, Name, Operation, Operator, Statement, Subroutine, Term,
+};
 use scan_text::Place;
 use std::alloc::Global;
-
-// The place of an operator, which the trees do not tell.
-const NO_PLACE: Place = Place { line: 0, column: 0 };
 
 fn tell_if(
     alloc: Global,
@@ -78,7 +77,7 @@ fn check_this(alloc: Global, scope: &Scope, place: Place) -> Result<(), NameErro
     )
 }
 
-fn check_made<'a>(
+pub(crate) fn check_made<'a>(
     alloc: Global,
     scope: &Scope<'a, '_>,
     class: &'a [u8],
@@ -157,15 +156,20 @@ fn check_constant(alloc: Global, scope: &Scope, constant: &Constant) -> Result<(
     }
 }
 
-fn check_operator(alloc: Global, scope: &Scope, operator: Operator) -> Result<(), NameError>
-    ensures { Checks (first_fault (the_scope scope.now) (operator_uses operator)) result }
+fn check_operator(
+    alloc: Global,
+    scope: &Scope,
+    operator: Operator,
+    place: Place,
+) -> Result<(), NameError>
+    ensures { Checks (first_fault (the_scope scope.now) (operator_uses operator place)) result }
 {
     let name = match operator {
         Operator::Times => b"multiply".as_slice(),
         Operator::Divide => b"divide".as_slice(),
         _ => return Ok(()),
     };
-    check_made(alloc, scope, b"Math".as_slice(), name, 2, NO_PLACE)
+    check_made(alloc, scope, b"Math".as_slice(), name, 2, place)
 }
 
 #[cycle(expressions)]
@@ -219,14 +223,34 @@ fn check_expression<'a>(
 ) -> Result<(), NameError>
     ensures { Checks (first_fault (the_scope scope.now) (exp_uses e.now)) result }
 {
-    match e {
-        Expression::Single(term) => check_term(alloc, scope, term),
-        Expression::Binary(left, operator, right) => {
-            check_expression(alloc, scope, left)?;
-            check_operator(alloc, scope, *operator)?;
-            check_term(alloc, scope, right)
-        }
+    check_term(alloc, scope, &e.first)?;
+    check_operations(alloc, scope, &e.rest)
+}
+
+#[cycle(expressions)]
+fn check_operations<'a>(
+    alloc: Global,
+    scope: &Scope<'a, '_>,
+    operations: &'a [Operation],
+) -> Result<(), NameError>
+    ensures { Checks (first_fault (the_scope scope.now) (operations_uses operations.now)) result }
+{
+    for operation in operations {
+        check_operation(alloc, scope, operation)?;
     }
+    Ok(())
+}
+
+#[cycle(expressions)]
+fn check_operation<'a>(
+    alloc: Global,
+    scope: &Scope<'a, '_>,
+    operation: &'a Operation,
+) -> Result<(), NameError>
+    ensures { Checks (first_fault (the_scope scope.now) (operation_uses operation.now)) result }
+{
+    check_operator(alloc, scope, operation.operator, operation.place)?;
+    check_term(alloc, scope, &operation.term)
 }
 
 fn check_optional<'a>(

@@ -75,6 +75,9 @@ pub struct File<'a> {
     pub name: &'a FileName,
 }
 
+/// The place of what no text names.
+pub(crate) const NO_PLACE: Place = Place { line: 0, column: 0 };
+
 /// Tells what is wrong with a name at a place of a file.
 pub(crate) fn tell(
     alloc: Global,

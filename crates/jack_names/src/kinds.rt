@@ -9,7 +9,7 @@ use crate::fault::NameKind;
 use crate::scope::{Callee, Declared, Scope, Signature, Slot, Way};
 use jack_tree::{Form, Name};
 
-fn is_function(form: Form) -> bool
+pub(crate) fn is_function(form: Form) -> bool
     ensures { result ≡ is_function form }
 {
     match form {

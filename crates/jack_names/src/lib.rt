@@ -3,17 +3,22 @@
 
 mod bodies;
 mod checks;
+mod classes;
 mod fault;
 mod kinds;
 mod meant;
+mod names;
+mod program;
 mod scope;
 mod subroutine;
 mod table;
 mod twice;
+mod variables;
 
 pub use checks::check_subroutine;
 pub use fault::{File, NameError, NameFault, NameKind};
-pub use scope::{Callee, Declared, Names, Scope, Signature, Slot, Way};
+pub use program::resolve;
+pub use scope::{Callee, ClassScope, Declared, Names, Scope, Signature, Slot, Way};
 pub use subroutine::subroutine_meant;
 pub use table::Table;
 pub use twice::check_declarations;

@@ -4,7 +4,7 @@ ghost use Rattle.std.specs.Prelude.{◌≡◌, ◌++◌, ◌∷◌, [], map, IfO
 ghost use Rattle.jack_meaning.specs.Text.{NoMore, More, Binary, Call as CallOf};
 ghost use Rattle.jack_core.specs.Reading.{the_expression, the_arguments, the_sign, the_operator};
 ghost use Rattle.jack_names.specs.Scopes.{callee as callee_of};
-ghost use Rattle.jack_names.specs.Meant.{slot_meant, declared_meant, variable_meant, number_by, called_number, made_by, made_number, with_variable, with_object, invoked, one, two, filled, length_word, string_meant, constant_meant, sign_meant, binary_meant, term_meant, exp_meant, listed, arguments_meant, call_meant, value_meant};
+ghost use Rattle.jack_names.specs.Meant.{slot_meant, declared_meant, variable_meant, number_by, called_number, made_by, made_number, with_variable, with_object, invoked, one, two, filled, length_word, string_meant, constant_meant, sign_meant, binary_meant, term_meant, exp_meant, operation_meant, grouped, listed, arguments_meant, call_meant, value_meant};
 ghost use Rattle.jack_names.specs.Scoped.{the_scope};
 
 use crate::kinds::callee;
@@ -12,7 +12,7 @@ use crate::scope::{Callee, Declared, Scope, Signature, Slot};
 use jack_core::{
     Arguments, Expression as CoreExpression, Operator as CoreOperator, Sign as CoreSign, Variable,
 };
-use jack_tree::{Call, Constant, Expression, Name, Operator, Sign, Term};
+use jack_tree::{Call, Constant, Expression, Name, Operation, Operator, Sign, Term};
 use std::alloc::{AllocError, Global};
 
 fn slot_meant(slot: Slot) -> CoreExpression
@@ -41,7 +41,7 @@ pub(crate) fn variable_meant<'a>(scope: &Scope<'a, '_>, name: &'a Name) -> CoreE
     declared_meant(scope.variable(name.text.as_slice()))
 }
 
-fn number_by(signature: Option<Signature>) -> u32
+pub(crate) fn number_by(signature: Option<Signature>) -> u32
     ensures { result ≡ number_by signature }
 {
     match signature {
@@ -310,14 +310,38 @@ pub(crate) fn expression_meant<'a>(
 ) -> Result<CoreExpression, AllocError>
     ensures { IfOk result (λ r. the_expression r ≡ exp_meant (the_scope scope.now) e.now) }
 {
-    match e {
-        Expression::Single(term) => term_meant(alloc, scope, term),
-        Expression::Binary(left, operator, right) => {
-            let left = expression_meant(alloc, scope, left)?;
-            let right = term_meant(alloc, scope, right)?;
-            binary_meant(alloc, scope, *operator, left, right)
-        }
+    let first = term_meant(alloc, scope, &e.first)?;
+    grouped(alloc, scope, &e.rest, first)
+}
+
+// Operators bind from left to right.
+#[cycle(meant)]
+fn grouped<'a>(
+    alloc: Global,
+    scope: &Scope<'a, '_>,
+    operations: &'a [Operation],
+    first: CoreExpression,
+) -> Result<CoreExpression, AllocError>
+    ensures { IfOk result (λ r. the_expression r ≡ grouped (the_scope scope.now) (the_expression first) operations.now) }
+{
+    let mut value = first;
+    for operation in operations {
+        value = operation_meant(alloc, scope, operation, value)?;
     }
+    Ok(value)
+}
+
+#[cycle(meant)]
+fn operation_meant<'a>(
+    alloc: Global,
+    scope: &Scope<'a, '_>,
+    operation: &'a Operation,
+    left: CoreExpression,
+) -> Result<CoreExpression, AllocError>
+    ensures { IfOk result (λ r. the_expression r ≡ operation_meant (the_scope scope.now) (the_expression left) operation.now) }
+{
+    let right = term_meant(alloc, scope, &operation.term)?;
+    binary_meant(alloc, scope, operation.operator, left, right)
 }
 
 /// The value of a `return`.

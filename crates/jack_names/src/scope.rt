@@ -53,6 +53,15 @@ pub struct Names<'a> {
     pub subroutines: Vec<Table<'a, Signature>>,
 }
 
+/// What names stand for in the class of a number.
+#[derive(Clone, Copy)]
+pub struct ClassScope<'a, 'b> {
+    pub names: &'b Names<'a>,
+    pub members: &'b Table<'a, Declared>,
+    pub own: u32,
+    pub file: File<'b>,
+}
+
 /// What names stand for in a subroutine of a form, in the class of a number.
 #[derive(Clone, Copy)]
 pub struct Scope<'a, 'b> {
@@ -79,16 +88,13 @@ impl<'a, 'b> Scope<'a, 'b> {
     pub fn class(&self, name: &'a [u8]) -> Option<u32>
         ensures { result ≡ (the_scope self.now).class name.now }
     {
-        self.names.classes.find(name)
+        self.names.class(name)
     }
 
     /// A subroutine of the class of a number.
     pub fn subroutine(&self, class: u32, name: &'a [u8]) -> Option<Signature>
         ensures { result ≡ (the_scope self.now).subroutine class name.now }
     {
-        match self.names.subroutines.get(class as usize) {
-            None => None,
-            Some(table) => table.find(name),
-        }
+        self.names.subroutine(class, name)
     }
 }

@@ -84,7 +84,8 @@ fn kind_meant(form: Form) -> Kind
     }
 }
 
-fn objects(form: Form) -> u32
+/// A method's object is its argument 0.
+pub(crate) fn objects(form: Form) -> u32
     ensures { result ≡ objects form }
 {
     match form {
