@@ -1,5 +1,5 @@
 -- The sections that are marked are those that are reached.
-use Rattle.std.proofs.Common.{◌≡◌, ◌+◌, ◌<◌, ◌≤◌, ℕ, zero, suc, Bool, true, false, List, [], ◌∷◌, length, refl, sym, ap, subst, ◌∙◌, arith, add-zero}
+use Rattle.std.proofs.Common.{◌≡◌, ◌+◌, ℕ, suc, Bool, true, false, List, [], ◌∷◌, length, refl, sym, subst, arith, add-zero}
 use Rattle.vm_link.specs.Sections.{Section}
 use Rattle.vm_link.specs.Reached.{Reached, Keeps, none, kept, dropped, AreKept}
 use Rattle.vm_link.specs.Marks.{marked, selected, AreReached}

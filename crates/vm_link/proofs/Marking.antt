@@ -1,7 +1,6 @@
 -- Marks: one more, and several after one another.
-use Rattle.std.proofs.Common.{rules, ◌≡◌, ◌≤◌, ◌<◌, ◌+◌, ◌*◌, ◌⊎◌, ◌++◌, ◌||◌, ℕ, zero, suc, Bool, true, false, cond, map, not, List, [], ◌∷◌, length, refl, sym, ap, subst, ◌∙◌, inl, inr, arith, add_comm, add-one, slice_set, get_or, drop, length-append, nat_eq, Option, Some, None, slice_get}
-use Rattle.std.specs.List.{list_any, position_from, filter_map, cons_option}
-use Rattle.std.specs.Option.{option_and_then}
+use Rattle.std.proofs.Common.{rules, ◌≡◌, ◌<◌, ◌+◌, ◌⊎◌, ◌++◌, ℕ, zero, suc, Bool, true, false, cond, map, List, [], ◌∷◌, length, refl, sym, ap, subst, ◌∙◌, inl, inr, arith, add_comm, add-one, slice_set, get_or, drop, length-append, nat_eq, Option, Some, None, slice_get}
+use Rattle.std.specs.List.{position_from, cons_option}
 use Rattle.std.proofs.lemmas.List.Folds.{list_any-append}
 use Rattle.std.proofs.lemmas.Bool.{or_cases, or_left, or_right, eqb-true, eq-eqb}
 use Rattle.vm_tree.specs.declared.command.Line.{Line}

@@ -1,9 +1,7 @@
 -- A program has one answer.
-use Rattle.std.proofs.Common.{◌≡◌, ℕ, Bool, true, false, List, [], ◌∷◌, Option, Some, None, Ok, Err, refl, sym, ap, subst, ◌∙◌}
+use Rattle.std.proofs.Common.{◌≡◌, ℕ, Bool, true, false, List, ◌∷◌, Ok, refl, sym, ap, ◌∙◌}
 use Rattle.vm_tree.specs.declared.program.File.{File}
 use Rattle.vm_link.specs.declared.linked.Linked.{Linked}
-use Rattle.vm_link.specs.declared.fault.LinkFault.{LinkFault}
-use Rattle.vm_link.specs.declared.fault.LinkFault.TheVariants.{Memory}
 use Rattle.vm_link.specs.Sections.{Section}
 use Rattle.vm_link.specs.Reached.{Reached, Keeps, none, kept, dropped, AreKept}
 use Rattle.vm_link.specs.Resolved.{linked}

@@ -1,9 +1,9 @@
 -- Linked code is sound.
-use Rattle.std.proofs.Common.{◌≡◌, ◌+◌, ◌<◌, ◌≤◌, ◌⊎◌, ◌++◌, ◌||◌, ℕ, zero, suc, Bool, true, false, not, cond, List, [], ◌∷◌, Option, Some, None, is_some, option_map, unwrap_or, Result, Ok, Err, IfOk, length, map, refl, sym, ap, subst, ◌∙◌, arith, slice_get, slice_index_or, if◌then◌else◌}
+use Rattle.std.proofs.Common.{◌≡◌, ◌+◌, ◌<◌, ◌≤◌, ◌++◌, ℕ, zero, suc, Bool, true, false, cond, List, [], ◌∷◌, Option, Some, None, is_some, option_map, unwrap_or, Result, Ok, Err, IfOk, length, map, refl, sym, ap, subst, ◌∙◌, arith, slice_get, if◌then◌else◌}
 use Rattle.std.specs.Prelude.{All, IsSomeAnd}
 use Rattle.std.specs.List.{list_any, position_from, filter_map, cons_option}
 use Rattle.std.specs.Option.{option_or}
-use Rattle.std.proofs.lemmas.Bool.{or_cases, or_left, or_right, cases_Bool}
+use Rattle.std.proofs.lemmas.Bool.{or_left, or_right}
 use Rattle.vm_tree.specs.declared.command.Line.{Line}
 use Rattle.vm_tree.specs.declared.command.Command.{Command}
 use Rattle.vm_tree.specs.declared.command.Command.TheVariants as command
@@ -11,16 +11,14 @@ use Rattle.vm_tree.specs.declared.command.Segment.{Segment}
 use Rattle.vm_tree.specs.declared.command.Segment.TheVariants as segment
 use Rattle.vm_tree.specs.declared.program.File.{File}
 use Rattle.vm_link.specs.declared.linked.Step.{Step}
-use Rattle.vm_link.specs.declared.linked.Step.TheVariants as step
 use Rattle.vm_link.specs.declared.linked.Code.{Code}
 use Rattle.vm_link.specs.declared.linked.Linked.{Linked}
-use Rattle.vm_link.specs.declared.linked.LinkedFunction.{LinkedFunction}
 use Rattle.vm_link.specs.declared.fault.LinkFault.{LinkFault}
 use Rattle.vm_link.specs.Sections as sections
 use Rattle.vm_link.specs.Sections.{Section, is_named, has_name, target, label, labels, calls, stands_in}
 use Rattle.vm_link.specs.Faults.{first_of, first_repeat, names, label_twice, lacking, no_label, no_function, static_words, words_at, words_of_lines, words_before, sys_init, no_start, text_fault, kept_fault}
 use Rattle.vm_link.specs.Reached.{Reached, Keeps, none, kept, dropped, AreKept, IsFunction, start, called}
-use Rattle.vm_link.specs.Resolved.{steps, label_place, first_place, place_in, number_in, index_in, step_of, code_of, entry_of, first_statement, function_of, linked}
+use Rattle.vm_link.specs.Resolved.{steps, label_place, first_place, number_in, index_in, step_of, code_of, entry_of, function_of, linked}
 use Rattle.vm_link.specs.Sound.{IsIndex, IsSoundStep, IsSoundFunction, IsSound}
 use Rattle.vm_link.specs.declared.fault.LinkFault.TheVariants.{NoSysInit, NoLabel, NoFunction, TwiceDefined, LabelTwice}
 use Rattle.vm_link.specs.Links.{Links, whole}

@@ -1,11 +1,10 @@
 -- Static words, file by file.
-use Rattle.std.proofs.Common.{◌≡◌, ◌+◌, ◌-◌, ◌^◌, ◌<◌, ◌≤◌, ◌++◌, ◌⊎◌, ℕ, zero, suc, Bool, true, false, cond, List, [], ◌∷◌, length, min, max, refl, sym, ap, subst, ◌∙◌, arith, add-one, slice_index, slice_set, nat_eq, if◌then◌else◌, length-append, Some, slice_get}
+use Rattle.std.proofs.Common.{◌≡◌, ◌+◌, ◌-◌, ◌^◌, ◌<◌, ◌≤◌, ◌++◌, ℕ, zero, suc, List, [], ◌∷◌, length, min, max, refl, sym, ap, subst, ◌∙◌, arith, add-one, slice_index, slice_set, if◌then◌else◌, length-append}
 use Rattle.std.specs.Prelude.{◌==◌}
 use Rattle.std.proofs.lemmas.Bool.{cases_eq, eq-eqb, ne_eqb}
-use Rattle.vm_tree.specs.declared.command.Line.{Line}
 use Rattle.vm_link.specs.Sections.{Section}
-use Rattle.vm_link.specs.Faults.{words_before, file_words, words_of_lines, static_words}
-use Rattle.vm_link.specs.Words.{AreWords, AreBases}
+use Rattle.vm_link.specs.Faults.{words_before, file_words}
+use Rattle.vm_link.specs.Words.{AreBases}
 use Rattle.vm_link.proofs.Marking.{⊎_by}
 
 pub index_front : (xs ys : List ℕ) (k : ℕ) → k < length xs → slice_index (xs ++ ys) k ≡ slice_index xs k

@@ -1,8 +1,7 @@
 -- What is wrong with a program, and which fault is told first.
-use Rattle.std.specs.Prelude.{ℕ, ◌+◌, ◌-◌, ◌^◌, ◌++◌, ◌==◌, ◌||◌, Bool, true, false, not, List, [], ◌∷◌, Option, Some, None, option_map, find, max, min, codes, filter, length, nat_lt, zero, suc, if◌then◌else◌}
+use Rattle.std.specs.Prelude.{ℕ, ◌+◌, ◌-◌, ◌^◌, ◌++◌, ◌==◌, ◌||◌, Bool, List, [], ◌∷◌, Option, Some, None, option_map, max, min, codes, nat_lt, zero, suc, if◌then◌else◌}
 use Rattle.std.specs.List.{list_any, filter_map}
 use Rattle.std.specs.Option.{option_or}
-use Rattle.std.specs.Str.{bytes_eq}
 use Rattle.vm_tree.specs.declared.command.Line.{Line}
 use Rattle.vm_tree.specs.declared.command.Command.{Command}
 use Rattle.vm_tree.specs.declared.command.Command.TheVariants as command

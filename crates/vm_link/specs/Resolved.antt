@@ -1,6 +1,6 @@
 -- What linked code is: calls by number, labels by place, statics by number.
 use Rattle.std.specs.Prelude.{ℕ, ◌+◌, ◌++◌, Bool, false, List, [], ◌∷◌, Option, Some, None, option_map, map, unwrap_or, is_some, if◌then◌else◌}
-use Rattle.std.specs.List.{position_from, filter_map}
+use Rattle.std.specs.List.{position_from, filter_map, list_any}
 use Rattle.vm_tree.specs.declared.command.Line.{Line}
 use Rattle.vm_tree.specs.declared.command.Command.{Command}
 use Rattle.vm_tree.specs.declared.command.Command.TheVariants as command
@@ -77,6 +77,10 @@ function_of kept s = record {
   code = entry_of s.name s.locals s.lines ++ filter_map (code_of kept s) s.lines;
 }
 
+-- Some line is a commit, as in a program that a compiler has made. In one that is read from text none is.
+abbrev pub is_marked : List Section → Bool
+is_marked kept = list_any (λ s. list_any (λ x. x.commit) s.lines) kept
+
 -- the files, which are counted from k
 abbrev pub files_from : List Section → ℕ → List File → List LinkedFile
 files_from kept k [] = []
@@ -88,4 +92,5 @@ linked bare files kept = record {
   files = files_from kept 0 files;
   start = position_from (is_named sys_init) 0 kept;
   bare = bare;
+  marked = is_marked kept;
 }

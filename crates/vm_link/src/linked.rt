@@ -55,4 +55,6 @@ pub struct Linked {
     pub start: Option<usize>,
     /// Whether all is kept, the opening texts too.
     pub bare: bool,
+    /// Whether some command is a commit. In a program that is read from text none is.
+    pub marked: bool,
 }

@@ -1,9 +1,9 @@
 //! Linking.
 ghost use Rattle.std.specs.Prelude.{◌≡◌, ◌≤◌, ◌<◌, ℕ, List, Some, None, IfOk, length, map, min, slice_index, ◌-◌, ◌^◌};
-ghost use Rattle.std.specs.List.{position_from};
+ghost use Rattle.std.specs.List.{list_any, position_from};
 ghost use Rattle.vm_link.specs.Sections.{Section, is_named};
 ghost use Rattle.vm_link.specs.Faults.{sys_init, kept_fault, too_many, words_before};
-ghost use Rattle.vm_link.specs.Resolved.{files_from, function_of, linked};
+ghost use Rattle.vm_link.specs.Resolved.{files_from, function_of, is_marked, linked};
 ghost use Rattle.vm_link.specs.Links.{Links};
 ghost use Rattle.vm_link.specs.Sound.{IsSound};
 ghost use Rattle.vm_link.specs.Words.{AreBases, AreFitting, AreWords, IsFitting};
@@ -18,7 +18,7 @@ use crate::text_faults::{SYS_INIT, no_function, text_fault};
 use crate::{LinkFault, Linked, LinkedFile, LinkedFunction};
 use outer_world::Name;
 use std::alloc::{AllocError, Global};
-use vm_tree::{File, List, Program};
+use vm_tree::{File, Line, List, Program};
 
 // More static words than there are.
 fn too_many(words: u64) -> Option<LinkFault>
@@ -97,6 +97,25 @@ fn start_of(numbers: &Numbers<'_>) -> Option<usize>
     numbers.get(SYS_INIT).copied()
 }
 
+// Whether some line is a commit.
+fn has_commit(lines: &[Line]) -> bool
+    ensures { result ≡ list_any (λ x. x.commit) lines.now }
+{
+    lines.iter().any(|line| line.commit)
+}
+
+// Whether some line of what is kept is a commit.
+fn is_marked(kept: &[Part<'_>]) -> bool
+    ensures { result ≡ is_marked (all_seen kept.now) }
+{
+    for part in kept {
+        if has_commit(part.lines) {
+            return true;
+        }
+    }
+    false
+}
+
 /// Links a program: without `bare` the functions that are reached from Sys.init by calls, with `bare` all functions and
 /// opening texts.
 pub fn link(alloc: Global, program: Program, bare: bool) -> Result<Linked, LinkFault>
@@ -143,5 +162,6 @@ fn linked(
         files: List::of(files),
         start: start_of(&numbers),
         bare,
+        marked: is_marked(kept),
     })
 }

@@ -269,8 +269,8 @@ module _ (l : Linked) where
 
     code_sound : (o : Option ℕ) → All (λ c. IsSoundStep (length l.functions) (length (code_in l o)) c.step) (code_in l o)
     code_sound None =
-        let second : Code = record { step = command.Pop segment.Temp 0; statement = 1; commit = true } in
-        more_of IsOfStart (record { step = command.Call (unwrap_or l.start 0) 0; statement = 1; commit = false }) (second ∷ []) (start_there l.start (sound.start whole))
+        let second : Code = record { step = command.Pop segment.Temp 0; statement = 1; commit = l.marked } in
+        more_of IsOfStart (record { step = command.Call (unwrap_or l.start 0) 0; statement = 1; commit = l.marked }) (second ∷ []) (start_there l.start (sound.start whole))
         (more_of IsOfStart second [] (tt {0}) (none IsOfStart))
     code_sound (Some k) = function_sound k (slice_get l.functions k) refl
 

@@ -168,11 +168,12 @@ fitted (Strays why) = Strays why
 fitted (Full w) = Full w
 fitted Done = Done
 
--- The code of `start`: a call of Sys.init, whose value is dropped. With that the statement `do Sys.init();` is done.
-abbrev pub start_code : ℕ → List Code
-start_code init =
-    record { step = command.Call init 0; statement = 1; commit = false }
-    ∷ record { step = command.Pop segment.Temp 0; statement = 1; commit = true } ∷ []
+-- The code of `start`: a call of Sys.init, whose value is dropped. With that the statement `do Sys.init();` is done. Both commands are
+-- commits where the program has some: the call and the end of the statement are steps of its meaning.
+abbrev pub start_code : Bool → ℕ → List Code
+start_code marked init =
+    record { step = command.Call init 0; statement = 1; commit = marked }
+    ∷ record { step = command.Pop segment.Temp 0; statement = 1; commit = marked } ∷ []
 
 abbrev pub code_of : Option LinkedFunction → List Code
 code_of None = []
@@ -180,7 +181,7 @@ code_of (Some f) = f.code
 
 -- the code that a frame runs
 abbrev pub code_in : Linked → Option ℕ → List Code
-code_in l None = start_code (unwrap_or l.start 0)
+code_in l None = start_code l.marked (unwrap_or l.start 0)
 code_in l (Some k) = code_of (slice_get l.functions k)
 
 -- where no command is left

@@ -17,3 +17,6 @@ pub fn vm_law()
     ensures keys { KeyLaw }
     ensures ends { EndLaw }
 {}
+
+#[cfg(test)]
+mod tests;

@@ -34,19 +34,19 @@ impl Model for Vm {
 }
 
 // The code of `start`: a call of Sys.init, whose value is dropped.
-fn start_code(init: usize, place: usize) -> Option<Code>
-    ensures { result ≡ slice_get (start_code init) place }
+fn start_code(marked: bool, init: usize, place: usize) -> Option<Code>
+    ensures { result ≡ slice_get (start_code marked init) place }
 {
     match place {
         0 => Some(Code {
             step: Step::Call(init, 0),
             statement: 1,
-            commit: false,
+            commit: marked,
         }),
         1 => Some(Code {
             step: Step::Pop(Segment::Temp, 0),
             statement: 1,
-            commit: true,
+            commit: marked,
         }),
         _ => None,
     }
@@ -68,7 +68,7 @@ fn command_at(linked: &Linked, function: Option<usize>, place: usize) -> Option<
     ensures place { IfSome result (λ _. place + 1 < 2 ^ 64) }
 {
     match function {
-        None => start_code(linked.start.unwrap_or(0), place),
+        None => start_code(linked.marked, linked.start.unwrap_or(0), place),
         Some(k) => {
             let code = code_of(linked, k);
             if place < code.len() {

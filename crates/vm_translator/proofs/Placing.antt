@@ -1,5 +1,5 @@
 -- Where the next command of a frame stands in the image, and what the map says of its addresses.
-use Rattle.std.proofs.Common.{◌≡◌, ◌+◌, ◌-◌, ◌<◌, ◌≤◌, ◌%◌, ◌++◌, ◌⊎◌, ◌&&◌, ◌||◌, ℕ, zero, suc, Bool, true, false, List, [], ◌∷◌, Option, Some, None, option_map, unwrap_or, slice_get, nat_eq, length, drop, refl, sym, ap, subst, ◌∙◌, arith, inl, inr, if◌then◌else◌}
+use Rattle.std.proofs.Common.{◌≡◌, ◌+◌, ◌-◌, ◌<◌, ◌≤◌, ◌%◌, ◌++◌, ◌⊎◌, ◌&&◌, ◌||◌, not, ℕ, zero, suc, Bool, true, false, List, [], ◌∷◌, Option, Some, None, option_map, unwrap_or, slice_get, nat_eq, length, drop, refl, sym, ap, subst, ◌∙◌, arith, inl, inr, if◌then◌else◌}
 use Rattle.std.specs.Prelude.{map, All, slice_index}
 use Rattle.std.specs.List.{flat_map, filter_map, list_any}
 use Rattle.std.proofs.lemmas.Bool.{ne_eqb, eq-eqb}
@@ -139,23 +139,39 @@ module _ (l : Linked) (sound : IsSound l) (whole : l.bare ≡ false) (few : leng
   program_chain : Chain (base_of l) (program l) (end_of l)
   program_chain = chain_from 0 (base_of l) l.functions
 
-  start_commits_are : start_commits l ≡ 50 ∷ []
-  start_commits_are = ap (λ b. if b then [] else 50 ∷ []) whole
+  start_commits_are : start_commits l ≡ (if l.marked then 45 ∷ 50 ∷ [] else [])
+  start_commits_are = ap (λ b. if not b && l.marked then 45 ∷ 50 ∷ [] else []) whole
+
+  start_commit : (a : ℕ) → list_any (nat_eq a) (commits_of l) ≡ ((l.marked && (nat_eq a 45 || nat_eq a 50)) || list_any (nat_eq a) (filter_map commit_of (program l)))
+  start_commit a = ap (λ cs. list_any (nat_eq a) (cs ++ filter_map commit_of (program l))) start_commits_are ∙ by_marked l.marked
+    where
+      by_marked : (b : Bool) → list_any (nat_eq a) ((if b then 45 ∷ 50 ∷ [] else []) ++ filter_map commit_of (program l)) ≡ ((b && (nat_eq a 45 || nat_eq a 50)) || list_any (nat_eq a) (filter_map commit_of (program l)))
+      by_marked true = either (nat_eq a 45) (nat_eq a 50) (list_any (nat_eq a) (filter_map commit_of (program l)))
+        where
+          either : (x y z : Bool) → (x || (y || z)) ≡ ((x || y) || z)
+          either true y z = refl
+          either false y z = refl
+      by_marked false = refl
 
   -- the commits of addresses in the start code, and past it
-  pub early_commit : (a : ℕ) → a < 53 → list_any (nat_eq a) (commits_of l) ≡ nat_eq a 50
+  early_commit : (a : ℕ) → a < 53 → list_any (nat_eq a) (commits_of l) ≡ (l.marked && (nat_eq a 45 || nat_eq a 50))
   early_commit a h =
       let n = no_commit a (base_of l) (end_of l) (program l) program_chain (inl (omega (arith, base_is))) in
-      ap (λ cs. list_any (nat_eq a) (cs ++ filter_map commit_of (program l))) start_commits_are ∙ either (nat_eq a 50) n
+      start_commit a ∙ either (l.marked && (nat_eq a 45 || nat_eq a 50)) n
     where
       either : (b : Bool) → list_any (nat_eq a) (filter_map commit_of (program l)) ≡ false → (b || list_any (nat_eq a) (filter_map commit_of (program l))) ≡ b
       either true e = refl
       either false e = e
 
+  not_start : (a : ℕ) → (a ≡ 45 → ⊥) → (a ≡ 50 → ⊥) → (l.marked && (nat_eq a 45 || nat_eq a 50)) ≡ false
+  not_start a p q = ap (λ b. l.marked && (b || nat_eq a 50)) (ne_eqb a 45 p) ∙ apart_and l.marked a 50 q
+
+  pub early_quiet : (a : ℕ) → a < 53 → (a ≡ 45 → ⊥) → (a ≡ 50 → ⊥) → list_any (nat_eq a) (commits_of l) ≡ false
+  early_quiet a h p q = early_commit a h ∙ not_start a p q
+
   late_commit : (a : ℕ) → 53 ≤ a → list_any (nat_eq a) (commits_of l) ≡ list_any (nat_eq a) (filter_map commit_of (program l))
   late_commit a h =
-      let n : nat_eq a 50 ≡ false = ne_eqb a 50 (λ e. omega arith) in
-      ap (λ cs. list_any (nat_eq a) (cs ++ filter_map commit_of (program l))) start_commits_are ∙ ap (λ b. b || list_any (nat_eq a) (filter_map commit_of (program l))) n
+      start_commit a ∙ ap (λ b. b || list_any (nat_eq a) (filter_map commit_of (program l))) (not_start a (λ e. omega arith) (λ e. omega arith))
 
   start_ranges_are : start_ranges l ≡ record { from = 0; to = 51; point = record { sub = 0; number = 1 } } ∷ record { from = 51; to = 53; point = record { sub = 0; number = 2 } } ∷ []
   start_ranges_are = ap (λ b. if b then [] else record { from = 0; to = 51; point = record { sub = 0; number = 1 } } ∷ record { from = 51; to = 53; point = record { sub = 0; number = 2 } } ∷ []) whole
@@ -238,7 +254,7 @@ module _ (l : Linked) (sound : IsSound l) (whole : l.bare ≡ false) (few : leng
       let x_is : a.placed ≡ x = λ i. record { at = a.at_is i; function = own i; point = a.point_is i; code = a.code i } in
       placed_by k p c g a.before a.behind (a.whole ∙ ap (λ z. a.before ++ z ∷ a.behind) x_is)
 
-  call_placing : Placing l None 0 (record { step = step.Call (unwrap_or l.start 0) 0; statement = 1; commit = false }) 4
+  call_placing : Placing l None 0 (record { step = step.Call (unwrap_or l.start 0) 0; statement = 1; commit = l.marked }) 4
   call_placing =
       let s = starts.stands (map word_of (image_of l)) (entry_of l) start_stands in
       let t = leads l few in
@@ -250,13 +266,13 @@ module _ (l : Linked) (sound : IsSound l) (whole : l.bare ≡ false) (few : leng
         target = omega arith;
         next = refl;
         points = λ a lo hi. start_point a (omega arith);
-        quiet = λ a lo hi. early_commit a (omega arith) ∙ ne_eqb a 50 (λ e. omega arith);
-        last = early_commit 45 (omega arith);
+        quiet = λ a lo hi. early_quiet a (omega arith) (λ e. omega arith) (λ e. omega arith);
+        last = early_commit 45 (omega arith) ∙ same_and l.marked 45;
         apart = inl (omega arith);
         is = refl;
       }
 
-  pop_placing : Placing l None 1 (record { step = step.Pop segment.Temp 0; statement = 1; commit = true }) 46
+  pop_placing : Placing l None 1 (record { step = step.Pop segment.Temp 0; statement = 1; commit = l.marked }) 46
   pop_placing =
       let s = starts.stands (map word_of (image_of l)) (entry_of l) start_stands in
       record {
@@ -266,15 +282,15 @@ module _ (l : Linked) (sound : IsSound l) (whole : l.bare ≡ false) (few : leng
         target = tt;
         next = refl;
         points = λ a lo hi. start_point a (omega arith);
-        quiet = λ a lo hi. early_commit a (omega arith) ∙ ne_eqb a 50 (λ e. omega arith);
-        last = early_commit 50 (omega arith);
+        quiet = λ a lo hi. early_quiet a (omega arith) (λ e. omega arith) (λ e. omega arith);
+        last = early_commit 50 (omega arith) ∙ same_and l.marked 50;
         apart = inl (omega arith);
         is = refl;
       }
 
   start_placing : (p : ℕ) (c : Code) → slice_get (code_in l None) p ≡ Some c → Placing l None p c (start_address p)
-  start_placing zero c g = let e : record { step = step.Call (unwrap_or l.start 0) 0; statement = 1; commit = false } ≡ c = cc in subst (λ c. Placing l None 0 c 4) e call_placing
-  start_placing (suc zero) c g = let e : record { step = step.Pop segment.Temp 0; statement = 1; commit = true } ≡ c = cc in subst (λ c. Placing l None 1 c 46) e pop_placing
+  start_placing zero c g = let e : record { step = step.Call (unwrap_or l.start 0) 0; statement = 1; commit = l.marked } ≡ c = cc in subst (λ c. Placing l None 0 c 4) e call_placing
+  start_placing (suc zero) c g = let e : record { step = step.Pop segment.Temp 0; statement = 1; commit = l.marked } ≡ c = cc in subst (λ c. Placing l None 1 c 46) e pop_placing
   start_placing (suc (suc p)) c g = absurd (cc g)
 
   -- the next command of a frame, where the computer goes on with it
@@ -288,6 +304,6 @@ module _ (l : Linked) (sound : IsSound l) (whole : l.bare ≡ false) (few : leng
       record {
         low = omega arith;
         stands = s.2;
-        commits = (early_commit 51 (omega arith), early_commit 52 (omega arith));
+        commits = (early_quiet 51 (omega arith) (λ e. omega arith) (λ e. omega arith), early_quiet 52 (omega arith) (λ e. omega arith) (λ e. omega arith));
         points = loop_point 52 (omega arith) (omega arith) ∙ sym (loop_point 51 (omega arith) (omega arith));
       }

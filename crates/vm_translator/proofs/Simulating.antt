@@ -1,7 +1,6 @@
 -- The computer makes each step of the virtual machine.
 use Rattle.std.proofs.Common.{◌≡◌, ◌≢◌, ◌⊎◌, inl, inr, ℕ, zero, suc, Option, Some, None, ◌+◌, ◌-◌, ◌<◌, ◌≤◌, Bool, true, false, List, [], ◌∷◌, length, refl, ap, ◌∙◌, sym, subst, arith}
 use Rattle.std.specs.Prelude.{slice_get, map}
-use Rattle.std.proofs.lemmas.Bool.{ne_eqb}
 use Rattle.hack_isa.specs.Machine.{Machine}
 use Rattle.hack_isa.specs.Machine as hack
 use Rattle.hack_isa.specs.Table.{word_of}
@@ -39,7 +38,7 @@ use Rattle.vm_translator.proofs.Outcomes.{Allowed, may_hear, may_miss, outcome_a
 use Rattle.vm_translator.proofs.Ways.{step_is, acts_way}
 use Rattle.vm_translator.proofs.OtherWays.{hears_way, push_stray_way, pop_stray_way, done_way}
 use Rattle.vm_translator.proofs.Opening.{start_opens}
-use Rattle.vm_translator.proofs.Placing.{Placing, placing, image_words, start_stands, start_point, loop_point, early_commit}
+use Rattle.vm_translator.proofs.Placing.{Placing, placing, image_words, start_stands, start_point, loop_point, early_quiet}
 
 -- a step costs as many words as the command's instructions may be
 operation_cost : (o : Operation) → budget (operated o) ≡ operation_words o
@@ -310,5 +309,5 @@ module _ (l : Linked) (sound : IsSound l) (whole : l.bare ≡ false) (few : leng
   starts_so = record {
     point = start_point l sound whole few 0 (omega arith);
     opens = opens_more 4 16 hack.start (omega arith) (start_opens (location l) l sound_law refl (map word_of (image_of l)) (image_words l sound whole few) (map_of (commits_of l) (points_of l)) 51 (entry_of l) (start_stands l sound whole few)
-        (λ k a. inl (start_point l sound whole few k (omega arith))) (λ k a. early_commit l sound whole few k (omega arith) ∙ ne_eqb k 50 (λ q. omega arith)));
+        (λ k a. inl (start_point l sound whole few k (omega arith))) (λ k a. early_quiet l sound whole few k (omega arith) (λ q. omega arith) (λ q. omega arith)));
   }

@@ -45,9 +45,9 @@ image_of l = opening l ++ (flat_map (piece (base_of l) l.functions) (program l) 
 abbrev pub commit_of : Placed → Option ℕ
 commit_of c = if c.code.commit then Some (c.at + step_size c.code.step - 1) else None
 
--- the `pop temp 0` of the start code is a commit
+-- the last addresses of the start code's call and of its `pop temp 0`, which are commits where the program has some
 abbrev pub start_commits : Linked → List ℕ
-start_commits l = if l.bare then [] else 50 ∷ []
+start_commits l = if not l.bare && l.marked then 45 ∷ 50 ∷ [] else []
 
 abbrev pub commits_of : Linked → List ℕ
 commits_of l = start_commits l ++ filter_map commit_of (program l)

@@ -1,5 +1,6 @@
 //! The instructions of a step, by its shape.
-ghost use Rattle.std.specs.Prelude.{◌≡◌, ◌≤◌, ◌<◌, ◌+◌, ◌++◌, OnOk};
+ghost use Rattle.std.specs.Prelude.{◌≡◌, ◌≤◌, ◌<◌, ◌+◌, ◌++◌, OnOk, take};
+ghost use Rattle.hack_isa.specs.declared.Instr.{Instr};
 ghost use Rattle.hack_blocks.specs.Templates.{call_code, compare, function_code, go_back, go_to, if_go_to, join, pop_at, pop_d, pop_word, push_at, push_constant, push_d, push_word, put_result, restore, return_code, save_return, set_pointers, size, start_code, template, turn};
 ghost use Rattle.vm_translator.specs.Tables.{IsInLimit};
 
@@ -104,9 +105,10 @@ fn turn(out: &mut Vec<Instr>, operation: Instr) -> Result<(), AllocError>
     put(out, &[Instr::Address(0), A_IS_M_MINUS_1, operation])
 }
 
-fn compare(out: &mut Vec<Instr>, jump: Instr, here: u16) -> Result<(), AllocError>
+// The first 24 instructions of a comparison: D is 1 or -1 where the signs differ, else it goes on.
+fn compare_signs(out: &mut Vec<Instr>, here: u16) -> Result<(), AllocError>
     requires { here + 38 ≤ 32768 }
-    ensures { OnOk result (out.new.items ≡ out.old.items ++ compare jump here) }
+    ensures { OnOk result ((jump : Instr) → out.new.items ≡ out.old.items ++ take 24 (compare jump here)) }
 {
     put(
         out,
@@ -135,6 +137,18 @@ fn compare(out: &mut Vec<Instr>, jump: Instr, here: u16) -> Result<(), AllocErro
             D_IS_MINUS_1,
             Instr::Address(here + 29),
             JUMP,
+        ],
+    )
+}
+
+fn compare(out: &mut Vec<Instr>, jump: Instr, here: u16) -> Result<(), AllocError>
+    requires { here + 38 ≤ 32768 }
+    ensures { OnOk result (out.new.items ≡ out.old.items ++ compare jump here) }
+{
+    compare_signs(out, here)?;
+    put(
+        out,
+        &[
             Instr::Address(0),
             A_IS_M_MINUS_1,
             D_IS_M,

@@ -14,3 +14,6 @@ mod translating;
 pub use coded::{CodeFault, Coded, PointRange};
 pub use laws::{steps_carry_law, translated_law};
 pub use translating::{size_law, translate};
+
+#[cfg(test)]
+mod tests;

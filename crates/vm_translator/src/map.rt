@@ -1,7 +1,7 @@
 //! The commits and the control points of a program.
 ghost use Rattle.std.specs.Prelude.{◌≡◌, ◌≤◌, ◌+◌, ◌++◌, [], ◌∷◌, All, IfOk, OnOk, if◌then◌else◌};
 ghost use Rattle.std.specs.List.{filter_map};
-ghost use Rattle.vm_translator.specs.Image.{commit_of, commits_of, names_end, points_of, range_of, same_point, start_ranges, stretched, merged};
+ghost use Rattle.vm_translator.specs.Image.{commit_of, commits_of, names_end, points_of, range_of, same_point, start_commits, start_ranges, stretched, merged};
 ghost use Rattle.vm_translator.specs.Places.{base_of, program};
 ghost use Rattle.vm_translator.specs.Shapes.{step_size};
 ghost use Rattle.vm_translator.specs.Tables.{IsLayout, IsReady, added};
@@ -13,12 +13,13 @@ use outer_world::Point;
 use std::alloc::{AllocError, Global};
 use vm_link::Linked;
 
-// The last address of the start code's `pop temp 0`.
-fn start_commits(alloc: Global, bare: bool) -> Result<Vec<u16>, AllocError>
-    ensures { IfOk result (λ v. v.items ≡ (if bare then [] else 50 ∷ [])) }
+// The last addresses of the start code's call and of its `pop temp 0`, which are commits where the program has some.
+fn start_commits(alloc: Global, linked: &Linked) -> Result<Vec<u16>, AllocError>
+    ensures { IfOk result (λ v. v.items ≡ start_commits linked.now) }
 {
     let mut commits = Vec::new(alloc);
-    if !bare {
+    if !linked.bare && linked.marked {
+        commits.push(45)?;
         commits.push(50)?;
     }
     Ok(commits)
@@ -30,7 +31,7 @@ pub fn commits(alloc: Global, linked: &Linked, layout: &Layout) -> Result<Vec<u1
     requires ready { All (IsReady linked.now.functions) layout.now.placed.items }
     ensures { IfOk result (λ v. v.items ≡ commits_of linked.now) }
 {
-    let mut commits = start_commits(alloc, linked.bare)?;
+    let mut commits = start_commits(alloc, linked)?;
     for placed in &layout.placed {
         if let Some(at) = commit_of(placed) {
             commits.push(at)?;

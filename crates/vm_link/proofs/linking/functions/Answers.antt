@@ -1,10 +1,8 @@
-use Rattle.std.proofs.Common.{rules, ◌≡◌, ◌≤◌, ◌+◌, ◌∙◌, ◌++◌, ◌∷◌, [], ap, sym, arith, drop, map, subst, append_assoc, ◌<◌, ℕ, List, length, get_or}
+use Rattle.std.proofs.Common.{◌≡◌, ◌+◌, ◌∙◌, ◌++◌, ◌∷◌, [], arith, drop, map, append_assoc, ◌<◌, ℕ, List, length, get_or}
 use Rattle.vm_link.specs.Sections.{Section}
 use Rattle.vm_link.specs.declared.section.Part.{Part}
 use Rattle.vm_link.specs.declared.linked.LinkedFunction.{LinkedFunction}
-use Rattle.vm_link.specs.Faults.{words_of_lines}
 use Rattle.vm_link.specs.Resolved.{function_of}
-use Rattle.vm_link.specs.Words.{IsFitting}
 use Rattle.vm_link.specs.Maps.{seen, all_seen}
 use Rattle.vm_link.proofs.Marking.{seen_at, rest_at}
 use Rattle.vm_link.proofs.linking.functions.Goals as goal

@@ -1,4 +1,4 @@
-use Rattle.std.proofs.Common.{rules, length, ◌≡◌, subst, ◌∙◌, sym}
+use Rattle.std.proofs.Common.{subst, sym}
 use Rattle.vm_link.specs.Words.{AreBases, AreWords}
 use Rattle.vm_link.specs.Maps.{all_seen}
 use Rattle.vm_link.proofs.linking.linked.Goals as goal

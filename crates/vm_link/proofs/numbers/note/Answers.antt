@@ -1,6 +1,6 @@
 use Rattle.std.proofs.Common.{◌∙◌, Some, rules}
 use Rattle.std.proofs.lemmas.Map.Text.{hash_map_updates_str}
-use Rattle.vm_link.proofs.Notes.{noted, kept_number}
+use Rattle.vm_link.proofs.Notes.{noted}
 use Rattle.vm_link.proofs.numbers.note.Goals as goal
 
 pub returns-in-Ok-clause-numbers : goal.returns-in-Ok-clause-numbers

@@ -1,5 +1,5 @@
-use Rattle.std.proofs.Common.{◌∙◌, sym}
-use Rattle.vm_link.proofs.Marking.{marks_one, marks_none, marked_now, marked_by}
+use Rattle.std.proofs.Common.{◌∙◌}
+use Rattle.vm_link.proofs.Marking.{marks_one, marked_now, marked_by}
 use Rattle.vm_link.proofs.reach.mark.Goals as goal
 
 pub returns-clause-marks : goal.returns-clause-marks

@@ -1,6 +1,6 @@
-use Rattle.std.proofs.Common.{rules, ◌∙◌, ◌≡◌, ◌<◌, sym, length, arith, ◌++◌, ◌∷◌, [], Some, subst, List, ℕ, slice_get, get_or, refl}
+use Rattle.std.proofs.Common.{rules, ◌∙◌, ◌≡◌, ◌<◌, sym, length, get_or, refl}
 use Rattle.vm_link.specs.Maps.{seen, all_seen}
-use Rattle.vm_link.proofs.Marking.{Looks, below, looks_first, looks_next, looks_last, looks_below, seen_at, none_left, length_mapped}
+use Rattle.vm_link.proofs.Marking.{below, looks_first, looks_next, looks_last, looks_below, seen_at, none_left, length_mapped}
 use Rattle.vm_link.proofs.reach.reached.Goals as goal
 
 pub mark_function-requires : goal.mark_function-requires
