@@ -14,7 +14,7 @@ use Rattle.vm_parser.specs.Grammar.{Operation', Segment', Name', Number, vm, who
 use Rattle.vm_parser.specs.Files.{VmTree, command_tree, lines_tree, read_line, commands, WrittenFunction, functions_tree, function_of, Opening, opening_tree, opening_of, WrittenFile, file_tree, file_of, Spells, Refuses}
 
 -- the command of a tree
-abbrev command_in : VmTree → Command
+abbrev pub command_in : VmTree → Command
 command_in (Left (Leaf (Operation' o))) = command.Operate o
 command_in (Right (Left (Pair Skip (Pair (Leaf (Segment' g)) (Leaf (Number i)))))) = command.Push g i
 command_in (Right (Right (Left (Pair Skip (Pair (Leaf (Segment' g)) (Leaf (Number i))))))) = command.Pop g i
@@ -35,7 +35,7 @@ told (command.Call f n) = refl
 told command.Return = refl
 
 -- the lines of a tree
-abbrev lines_in : VmTree → List Line
+abbrev pub lines_in : VmTree → List Line
 lines_in (More (Left x) y) = lines_in y
 lines_in (More (Right (Pair x z)) y) = read_line (command_in x) ∷ lines_in y
 lines_in _ = []
@@ -46,7 +46,7 @@ lines_told (None ∷ ls) = lines_told ls
 lines_told (Some c ∷ ls) = let h = told c in let rest = lines_told ls in λ i. read_line (h i) ∷ rest i
 
 -- the functions of a tree
-abbrev functions_in : VmTree → List Function
+abbrev pub functions_in : VmTree → List Function
 functions_in (More (Pair k (Pair (Leaf (Name' n)) (Pair (Leaf (Number m)) (Pair e body)))) y) = record { name = n; locals = m; lines = lines_in body } ∷ functions_in y
 functions_in _ = []
 
@@ -54,7 +54,7 @@ functions_told : (fs : List WrittenFunction) → functions_in (functions_tree fs
 functions_told [] = refl
 functions_told (f ∷ fs) = let h = lines_told f.lines in let rest = functions_told fs in λ i. record { name = f.name; locals = f.locals; lines = h i } ∷ rest i
 
-abbrev opening_in : Bool → VmTree → List Line
+abbrev pub opening_in : Bool → VmTree → List Line
 opening_in true t = lines_in t
 opening_in false t = []
 
@@ -62,11 +62,11 @@ opening_told : (bare : Bool) (o : Opening bare) → opening_in bare (opening_tre
 opening_told true o = lines_told o
 opening_told false o = refl
 
-abbrev file_in : Bool → List ℕ → VmTree → File
+abbrev pub file_in : Bool → List ℕ → VmTree → File
 file_in bare name (Pair o (Pair fs e)) = record { name = name; opening = opening_in bare o; functions = functions_in fs }
 file_in bare name _ = record { name = name; opening = []; functions = [] }
 
-file_told : (bare : Bool) (name : List ℕ) (f : WrittenFile bare) → file_in bare name (file_tree bare f) ≡ file_of bare name f
+pub file_told : (bare : Bool) (name : List ℕ) (f : WrittenFile bare) → file_in bare name (file_tree bare f) ≡ file_of bare name f
 file_told bare name f = let o = opening_told bare f.opening in let fs = functions_told f.functions in λ i. record { name = name; opening = o i; functions = fs i }
 
 pub spelled_once : (bare : Bool) (name text : List ℕ) (p q : List File) → Spells bare name text p → Spells bare name text q → p ≡ q

@@ -8,3 +8,5 @@ pub mod Wholes
 pub mod WordsCut
 pub mod LinesCut
 pub mod Printed
+pub mod Readable
+pub mod Reread

@@ -1,5 +1,6 @@
 -- A whole text that is read or stops.
-use Rattle.std.proofs.Common.{◌≡◌, ℕ, Bool, List, [], ◌∷◌, Ok, Err, sym, ap, ◌∙◌, subst}
+use Rattle.std.proofs.Common.{◌≡◌, ℕ, Bool, List, [], ◌∷◌, Result, Ok, Err, sym, ap, ◌∙◌, subst}
+use Rattle.std.specs.Prelude.{IfOk, IfErr}
 use Rattle.scan_text.specs.declared.Place.{Place}
 use Rattle.grammar.specs.declared.ReadError.{ReadError}
 use Rattle.grammar.specs.Reading.{Halt}
@@ -20,3 +21,11 @@ module _ (bare : Bool) (name text : List ℕ) (end : Place) (ts us : List Word) 
   fault_by e h =
       let k = subst (λ (p : Place). ReadsAllAs (file_tree bare) (file_of bare name) p (whole bare) ts (Err e)) at h in
       not_read (vm (finish text)) (whole bare) greatest (tokens_of text) ts e (cut ∙ ap Ok (sym seen)) k
+
+  pub found_in : (r : Result File ReadError) → ReadsAllAs (file_tree bare) (file_of bare name) end (whole bare) ts r → IfOk r (λ f. Spells bare name text (f ∷ []))
+  found_in (Ok f) h = found_by f h
+  found_in (Err e) h = tt
+
+  pub fault_in : (r : Result File ReadError) → ReadsAllAs (file_tree bare) (file_of bare name) end (whole bare) ts r → IfErr r (Halt (Refuses bare text))
+  fault_in (Ok f) h = tt
+  fault_in (Err e) h = fault_by e h

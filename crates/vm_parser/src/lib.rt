@@ -9,4 +9,7 @@ mod token;
 mod words;
 
 pub use laws::printed_law;
-pub use reading::{VmFault, parse};
+pub use reading::{VmFault, parse, parse_file};
+
+#[cfg(test)]
+mod tests;

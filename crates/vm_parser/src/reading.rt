@@ -1,13 +1,15 @@
 //! Whole VM texts.
 
-ghost use Rattle.std.specs.Prelude.{◌≡◌, List, map, Ok, Err, IfOk, IfErr};
+ghost use Rattle.std.specs.Prelude.{◌≡◌, ◌≤◌, ◌∷◌, [], List, length, map, true, Ok, Err, IfOk, IfErr};
 ghost use Rattle.grammar.specs.declared.Fault.{Fault};
 ghost use Rattle.grammar.specs.Reading.{Gives, Halt, end_at, Ends};
 ghost use Rattle.vm_tree.specs.declared.program.File.{File};
+ghost use Rattle.vm_tree.specs.Printed.{program_text};
 ghost use Rattle.vm_parser.specs.Tokens.{view};
 ghost use Rattle.vm_parser.specs.Grammar.{vm, whole, greatest};
 ghost use Rattle.vm_parser.specs.Files.{file_tree, file_of, Spells, Refuses};
 ghost use Rattle.vm_parser.specs.Reading.{ReadsAllAs};
+ghost use Rattle.vm_parser.specs.Printing.{all, file_can};
 
 use crate::lexer::tokens;
 use crate::rules::{functions, opening};
@@ -58,14 +60,23 @@ fn file(
     })
 }
 
+/// The file of this name that a text spells, and otherwise the text's first fault, as `parse` has them.
+#[tactic(auto, using(crate::proofs::Exits::vm_exits))]
+pub fn parse_file(alloc: Global, name: &Name, text: &[u8], bare: bool) -> Result<File, VmFault>
+    ensures found { IfOk result (λ f. Spells bare name.now text.now (f ∷ [])) }
+    ensures fault { IfErr result (Halt (Refuses bare text.now)) }
+{
+    let (tokens, end) = tokens(alloc, text)?;
+    let name = name.clone()?;
+    file(alloc, name, &tokens, end, bare)
+}
+
 #[tactic(auto, using(crate::proofs::Exits::vm_exits))]
 fn read(alloc: Global, name: &Name, text: &[u8], bare: bool) -> Result<Program, ReadError>
     ensures found { IfOk result (Spells bare name.now text.now) }
     ensures fault { IfErr result (Halt (Refuses bare text.now)) }
 {
-    let (tokens, end) = tokens(alloc, text)?;
-    let name = name.clone()?;
-    let file = file(alloc, name, &tokens, end, bare)?;
+    let file = parse_file(alloc, name, text, bare)?;
     let mut program = List::new(alloc);
     program.push(file)?;
     Ok(program)
@@ -82,6 +93,9 @@ pub fn parse(alloc: Global, name: &Name, text: &[u8], bare: bool) -> Result<Prog
     // A fault is the text's first one, and each text with a fault gets it.
     ensures fault { IfErr result (Halt (Refuses bare text.now)) }
     ensures exact { (f : Fault) → Refuses bare text.now f → Gives (λ q. q) result (Err f) }
+    // What is read can be written: the law of the printed form holds of it, and its printed text is read as the same program again.
+    ensures printable { IfOk result (λ p. all (file_can bare) p ≡ true) }
+    ensures again { IfOk result (λ p. length (program_text p) ≤ 1048576 → Spells bare name.now (program_text p) p) }
 {
     read(alloc, name, text, bare)
 }

@@ -4,6 +4,7 @@ use Rattle.vm_parser.specs.Tokens.{tokens_of, finish}
 use Rattle.vm_parser.specs.Grammar.{vm, whole, greatest}
 use Rattle.vm_parser.specs.Files.{Spells, Refuses}
 use Rattle.vm_parser.proofs.Exactness.{spelled_once, not_both}
+use Rattle.vm_parser.proofs.Reread.{read_can, read_again}
 use Rattle.vm_parser.proofs.reading.parse.Goals as goal
 
 pub returns-clause-only : goal.returns-clause-only
@@ -17,3 +18,9 @@ returns-clause-exact c f =
     let text = c.args.text.now in
     let bare = c.args.bare in
     exact (λ q. q) (Spells bare c.args.name.now text) (Refuses bare text) (spelled_once bare c.args.name.now text) (not_both bare c.args.name.now text) (first_fault (vm (finish text)) (whole bare) greatest (tokens_of text)) c.read.result f c.read.ensures.found c.read.ensures.fault
+
+pub returns-clause-printable : goal.returns-clause-printable
+returns-clause-printable c = read_can c.args.bare c.args.name.now c.args.text.now c.read.result c.read.ensures.found
+
+pub returns-clause-again : goal.returns-clause-again
+returns-clause-again c = read_again c.args.bare c.args.name.now c.args.text.now c.read.result c.read.ensures.found
