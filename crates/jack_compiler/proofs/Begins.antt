@@ -1,15 +1,14 @@
 -- Where a text is read from a place, its first statement begins a few jumps from there.
-use Rattle.std.proofs.Common.{◌≡◌, ℕ, zero, suc, ◌+◌, ◌*◌, max, ◌≤◌, ◌<◌, Bool, true, false, List, [], ◌∷◌, ◌++◌, length, refl, sym, ap, ◌∙◌, subst, arith, append_assoc, append-nil, length-append}
-use Rattle.std.specs.Prelude.{Option, Some, None, if◌then◌else◌, slice_get}
-use Rattle.vm_tree.specs.declared.command.Operation.TheVariants as operation
+use Rattle.std.proofs.Common.{◌≡◌, ℕ, suc, ◌+◌, ◌*◌, max, ◌≤◌, List, [], ◌∷◌, ◌++◌, length, refl, sym, ap, subst, arith, length-append}
+use Rattle.std.specs.Prelude.{Some, slice_get}
 use Rattle.vm_tree.specs.declared.command.Segment.TheVariants as segment
 use Rattle.vm_link.specs.declared.linked.Step.TheVariants as command
 use Rattle.vm_link.specs.declared.linked.Code.{Code}
 use Rattle.jack_meaning.specs.Text.{Expression, Statement, Let, LetField, LetThis, Store, Do, If, While, Return, Text, End, Next, joined, number_of, Subroutine}
 use Rattle.jack_meaning.specs.Meaning.{turn_of}
-use Rattle.jack_compiler.specs.Templates.{Numbers, quiet, commit, pop_variable, store_code, expression_code, first_number, is_end, statement_code, text_code}
-use Rattle.jack_compiler.specs.Fits.{Scope, IsWhole, Ordered, whole, IsFresh, IsFreshText, nest, nest_in}
-use Rattle.jack_compiler.specs.Places.{stack_of, HasAt, Jumps, here, jump, Reads, Part, Storing, base, Last, Choosing, Begun}
+use Rattle.jack_compiler.specs.Templates.{Numbers, quiet, commit, pop_variable, expression_code, first_number, statement_code, text_code}
+use Rattle.jack_compiler.specs.Fits.{Scope, IsWhole, whole, IsFresh, IsFreshText, nest, nest_in}
+use Rattle.jack_compiler.specs.Places.{HasAt, Jumps, here, jump, Reads, Part, base, Last, Choosing, Begun}
 use Rattle.jack_compiler.proofs.Parts.{has_front, has_back}
 use Rattle.jack_compiler.proofs.Redexes.{whole_values}
 

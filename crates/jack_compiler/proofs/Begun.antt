@@ -1,34 +1,28 @@
 -- A statement that has begun goes on, or acts.
-use Rattle.std.proofs.Common.{◌≡◌, ◌⊎◌, ◌≢◌, inl, inr, ℕ, zero, suc, ◌+◌, ◌≤◌, ◌<◌, Bool, true, false, nat_eq, nat_lt, List, [], ◌∷◌, ◌++◌, length, refl, sym, ap, ◌∙◌, subst, arith, append_assoc, append-nil, length-append}
-use Rattle.std.specs.Prelude.{Option, Some, None, if◌then◌else◌, ◌-◌, slice_index, slice_get, slice_set}
-use Rattle.std.proofs.lemmas.Bool.Decides.{nat_tests, eqb_tells}
-use Rattle.std.proofs.lemmas.List.{length-set, get_or-set_same, get_or-set_other}
-use Rattle.std.proofs.lemmas.Option.{slice_get-get_or, slice_get_within, get_or_from_slice_get}
+use Rattle.std.proofs.Common.{◌≡◌, inl, inr, ℕ, suc, ◌+◌, ◌≤◌, false, nat_lt, List, [], ◌∷◌, ◌++◌, length, refl, sym, ap, ◌∙◌, subst, arith, length-append}
+use Rattle.std.specs.Prelude.{Some, slice_get, slice_set}
+use Rattle.std.proofs.lemmas.List.{length-set, get_or-set_same}
+use Rattle.std.proofs.lemmas.Option.{slice_get-get_or}
 use Rattle.word16.specs.Words.{word_add}
-use Rattle.machine_io.specs.declared.machine.Stray.TheVariants as stray
 use Rattle.vm_tree.specs.declared.command.Operation.TheVariants as operation
 use Rattle.vm_tree.specs.declared.command.Segment.TheVariants as segment
-use Rattle.vm_link.specs.declared.linked.Step.{Step}
 use Rattle.vm_link.specs.declared.linked.Step.TheVariants as command
 use Rattle.vm_link.specs.declared.linked.Code.{Code}
 use Rattle.vm_link.specs.declared.linked.Linked.{Linked}
-use Rattle.vm_machine.specs.State.{words_in_use}
 use Rattle.vm_machine.specs.State.{Frame as VmFrame, State as VmState}
-use Rattle.vm_machine.specs.Step.{code_in, act, store, goes, return}
-use Rattle.vm_machine.specs.Step.{Outcome as VmOutcome, Acts as VmActs, Strays as VmStrays}
-use Rattle.vm_machine.specs.Level.{command_words}
-use Rattle.jack_meaning.specs.Text.{Variable, Argument, Local, Static, Expression, Value, Call, Open, NoMore, Statement, Let, LetField, LetThis, Store, Do, If, While, Return, Text, End, Next, joined, Program, Subroutine}
-use Rattle.jack_meaning.specs.Expressions.{Move, Stands, within, value_of, rewrite, filled, standing}
-use Rattle.jack_meaning.specs.Meaning.{Frame, State, Outcome, Acts, Stray, step, step_part, step_first, view_of, with_top, filled_text, text_point, assigned, stored, passed_over, returned, chosen}
+use Rattle.vm_machine.specs.Step.{code_in, store}
+use Rattle.jack_meaning.specs.Text.{Expression, Value, Statement, Let, LetField, LetThis, Store, Do, If, While, Return, Text, Next, joined, Program}
+use Rattle.jack_meaning.specs.Expressions.{value_of, rewrite, filled, standing}
+use Rattle.jack_meaning.specs.Meaning.{Frame, Outcome, step, step_part, step_first, view_of, filled_text, text_point, assigned, stored, passed_over, returned, chosen}
 use Rattle.jack_meaning.specs.StackWords.{standing_first}
 use Rattle.jack_compiler.specs.Templates.{Numbers, quiet, commit, pop_variable, store_code, expression_code}
-use Rattle.jack_compiler.specs.Fits.{Scope, IsThere, IsField, IsWhole, Ordered, whole, IsReturn, IsClosed, without_object}
-use Rattle.jack_compiler.specs.Places.{stack_of, HasAt, Reads, Part, Storing, base, index, element, Last, Choosing, Begun, BegunText}
-use Rattle.jack_compiler.specs.Match.{IsCodeOf, scope_at, Match, Same, TopMatch, between, begun, making, AtStart, answered, StartMatch, Callers, MatchFrames, Waits, SameWords}
-use Rattle.jack_compiler.proofs.Redexes.{Redex, operands, redex_code, redex_move, Found, Sight, sight, whole_filled, whole_values}
-use Rattle.jack_compiler.proofs.Ways.{Goes, R, way_more, Here, quiet_way, last_way, stray_way}
-use Rattle.jack_compiler.proofs.Parts.{has_front, has_back, is_below, add_zero, u, at, now, others, part_way}
-use Rattle.jack_compiler.proofs.Statements.{closed_rest, closed_same, closed_more, closed_joined, upper, frame_at, state_at, the_code, used, GoesFrom, again, kept_words, expression_way, after_last, after_one, stands_between, store_with}
+use Rattle.jack_compiler.specs.Fits.{Scope, IsWhole, whole, IsClosed, without_object}
+use Rattle.jack_compiler.specs.Places.{stack_of, HasAt, Reads, Part, Storing, base, index, element, Last, Begun}
+use Rattle.jack_compiler.specs.Match.{IsCodeOf, scope_at, Same, TopMatch, begun, making, answered, Callers, SameWords}
+use Rattle.jack_compiler.proofs.Redexes.{Sight, sight, whole_filled, whole_values}
+use Rattle.jack_compiler.proofs.Ways.{way_more, Here, quiet_way, last_way}
+use Rattle.jack_compiler.proofs.Parts.{is_below, add_zero, u, at}
+use Rattle.jack_compiler.proofs.Statements.{closed_rest, closed_same, state_at, used, GoesFrom, again, expression_way, store_with}
 use Rattle.jack_compiler.proofs.Acting.{let_value, do_value, field_value, this_value, if_value}
 
 module _ (program : Program) (numbers : Numbers) (linked : Linked) (depth : ℕ) (agree : IsCodeOf program numbers linked) where

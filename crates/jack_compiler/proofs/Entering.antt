@@ -1,38 +1,26 @@
 -- A call that has been made, and a frame between two statements.
-use Rattle.std.proofs.Common.{◌≡◌, ◌⊎◌, ◌≢◌, inl, inr, ℕ, zero, suc, ◌+◌, ◌≤◌, ◌<◌, Bool, true, false, nat_eq, nat_lt, max, ◌*◌, List, [], ◌∷◌, ◌++◌, length, replicate, refl, sym, ap, ◌∙◌, subst, arith, append_assoc, append-nil, length-append}
-use Rattle.std.specs.Prelude.{Option, Some, None, if◌then◌else◌, ◌-◌, slice_index, slice_get, slice_set}
-use Rattle.std.proofs.lemmas.Bool.Decides.{nat_tests, eqb_tells}
-use Rattle.std.proofs.lemmas.List.{length-replicate, length-set, get_or-set_same, get_or-set_other}
-use Rattle.std.proofs.lemmas.Option.{slice_get-get_or, slice_get_within, get_or_from_slice_get}
-use Rattle.word16.specs.Words.{word_add}
-use Rattle.machine_io.specs.declared.machine.Stray.TheVariants as stray
-use Rattle.vm_tree.specs.declared.command.Operation.TheVariants as operation
+use Rattle.std.proofs.Common.{◌≡◌, ℕ, suc, ◌+◌, ◌≤◌, Bool, true, false, ◌*◌, List, [], ◌∷◌, ◌++◌, length, replicate, refl, sym, ap, ◌∙◌, subst, arith}
+use Rattle.std.specs.Prelude.{Some, slice_index, slice_get}
+use Rattle.std.proofs.lemmas.List.{length-replicate}
+use Rattle.std.proofs.lemmas.Option.{slice_get-get_or}
 use Rattle.vm_tree.specs.declared.command.Segment.TheVariants as segment
-use Rattle.vm_link.specs.declared.linked.Step.{Step}
 use Rattle.vm_link.specs.declared.linked.Step.TheVariants as command
 use Rattle.vm_link.specs.declared.linked.Code.{Code}
 use Rattle.vm_link.specs.declared.linked.Linked.{Linked}
 use Rattle.vm_machine.specs.State.{words_in_use}
 use Rattle.vm_machine.specs.State.{Frame as VmFrame, State as VmState}
-use Rattle.vm_machine.specs.Step.{code_of, code_in, act, store, goes, return}
-use Rattle.vm_machine.specs.Step.{Outcome as VmOutcome, Acts as VmActs, Strays as VmStrays}
-use Rattle.vm_machine.specs.Level.{command_words}
-use Rattle.jack_meaning.specs.Text.{Kind, Constructor, Function, Method, number_of, Variable, Argument, Local, Static, Expression, Value, Call, Open, NoMore, Statement, Let, LetField, LetThis, Store, Do, If, While, Return, Text, End, Next, joined, Program, Subroutine}
-use Rattle.jack_meaning.specs.Expressions.{Move, Stands, within, value_of, rewrite, filled, standing}
-use Rattle.jack_meaning.specs.Meaning.{this_of, turn_of, subroutine_at, Frame, State, Outcome, Acts, Stray, step, step_part, step_first, view_of, with_top, filled_text, text_point, assigned, stored, passed_over, returned, chosen}
-use Rattle.jack_meaning.specs.StackWords.{standing_first}
-use Rattle.jack_compiler.specs.Templates.{object_code, text_code, statement_code, first_number, subroutine_code, Numbers, quiet, commit, pop_variable, store_code, expression_code}
-use Rattle.jack_compiler.specs.Fits.{scope_of, has_object, IsBody, TakesObject, IsFitSubroutine, IsFreshText, nest_in, Scope, IsThere, IsField, IsWhole, Ordered, whole, IsReturn, IsClosed, without_object}
-use Rattle.jack_compiler.specs.Places.{stack_of, HasAt, Jumps, here, jump, Reads, Part, Storing, base, index, element, Last, Choosing, Begun, BegunText}
-use Rattle.jack_compiler.specs.Match.{Entering, entering, IsCodeOf, scope_at, Match, Same, TopMatch, between, begun, making, AtStart, answered, StartMatch, Callers, MatchFrames, Waits, SameWords}
-use Rattle.jack_compiler.proofs.Redexes.{Redex, operands, redex_code, redex_move, Found, Sight, sight, whole_filled, whole_values}
-use Rattle.jack_compiler.proofs.Ways.{Goes, R, way_more, Here, quiet_way, last_way, stray_way}
-use Rattle.jack_compiler.proofs.Parts.{has_front, has_back, is_below, add_zero, u, at, now, others, part_way}
-use Rattle.jack_compiler.proofs.Statements.{closed_rest, closed_same, closed_more, closed_joined, upper, frame_at, state_at, the_code, used, GoesFrom, again, kept_words, expression_way, after_last, after_one, stands_between, store_with}
-use Rattle.jack_compiler.proofs.Acting.{let_value, do_value, field_value, this_value, if_value}
-use Rattle.vm_link.specs.declared.linked.LinkedFunction.{LinkedFunction}
+use Rattle.vm_machine.specs.Step.{code_of, code_in}
+use Rattle.jack_meaning.specs.Text.{Kind, Constructor, Function, Method, number_of, Statement, Let, LetField, LetThis, Store, Do, If, While, Return, Text, End, Next, joined, Program, Subroutine}
+use Rattle.jack_meaning.specs.Meaning.{this_of, subroutine_at, Frame, State, step_first, text_point}
+use Rattle.jack_compiler.specs.Templates.{object_code, text_code, statement_code, first_number, subroutine_code, Numbers, quiet, commit}
+use Rattle.jack_compiler.specs.Fits.{has_object, IsBody, TakesObject, IsFitSubroutine, IsFreshText, nest_in, Scope, IsReturn, IsClosed, without_object}
+use Rattle.jack_compiler.specs.Places.{HasAt, Jumps, here, jump, Reads}
+use Rattle.jack_compiler.specs.Match.{Entering, IsCodeOf, scope_at, Same, Callers, SameWords}
+use Rattle.jack_compiler.proofs.Ways.{Goes, way_more, Here, quiet_way}
+use Rattle.jack_compiler.proofs.Parts.{has_front, has_back, u, at}
+use Rattle.jack_compiler.proofs.Statements.{closed_same, state_at, used, GoesFrom}
 use Rattle.jack_compiler.proofs.Begun.{StepsAs, begun_way, making_way}
-use Rattle.jack_compiler.proofs.Begins.{unfolded, text_reads, last_whole, Begins, begins}
+use Rattle.jack_compiler.proofs.Begins.{unfolded, text_reads, last_whole, begins}
 
 shifted : (code : List Code) (m : Code) (p : ℕ) (ms : List Code) → HasAt code p ms → HasAt (m ∷ code) (suc p) ms
 shifted code m p [] h = tt

@@ -1,5 +1,5 @@
 -- The rows, by computation.
-use Rattle.std.proofs.Common.{◌≡◌, ℕ, zero, suc, ◌≤◌, Bool, true, false, refl, arith, inl, inr}
+use Rattle.std.proofs.Common.{◌≡◌, ℕ, zero, suc, true, false, refl, arith, inl}
 use Rattle.std.specs.Prelude.{slice_get, Some}
 use Rattle.vm_link.specs.declared.linked.LinkedFunction.{LinkedFunction}
 use Rattle.jack_meaning.specs.Meaning.{subroutine_at}
@@ -28,7 +28,7 @@ fits : IsFit (stores_one 16384) small_numbers 0 2
 fits = record { each = each; init = refl; init_arguments = refl; statics = λ k h. absurd (no h) }
 
 linked : IsCodeOf (stores_one 16384) small_numbers small_code
-linked = record { function = functions; start = refl; room = λ k h. absurd (no h); apart = λ j k h h' e. absurd (no h) }
+linked = record { function = functions; start = refl; marked = refl; room = λ k h. absurd (no h); apart = λ j k h h' e. absurd (no h) }
   where
     functions : (g : ℕ) → first_two g ≡ true → (f : LinkedFunction) × (slice_get small_code.functions (small_numbers.function g) ≡ Some f) × (f.number ≡ g)
         × (f.code ≡ subroutine_code small_numbers (subroutine_at (stores_one 16384).subroutines g))

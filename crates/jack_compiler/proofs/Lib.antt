@@ -9,3 +9,17 @@ pub mod Entering
 pub mod Whole
 pub mod Starts
 pub mod Examples
+pub mod Naming
+pub mod Adding
+pub mod Functions
+pub mod Coded
+pub mod Marked
+pub mod Placed
+pub mod Sectioned
+pub mod Called
+pub mod Calling
+pub mod Keeping
+pub mod Resolving
+pub mod Numbering
+pub mod Seam
+pub mod Small

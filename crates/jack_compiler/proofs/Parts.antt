@@ -1,6 +1,6 @@
 -- The step of a part of a statement.
-use Rattle.std.proofs.Common.{◌≡◌, ◌⊎◌, inl, inr, ℕ, zero, suc, ◌+◌, ◌≤◌, ◌<◌, Bool, true, false, nat_eq, nat_lt, List, [], ◌∷◌, ◌++◌, length, take, drop, reverse, replicate, refl, sym, ap, ◌∙◌, subst, arith, append_assoc, append-nil, length-append}
-use Rattle.std.specs.Prelude.{Option, Some, None, if◌then◌else◌, ◌-◌, slice_index, slice_get, bit_and, bit_or, int_lt}
+use Rattle.std.proofs.Common.{◌≡◌, inl, inr, ℕ, suc, ◌+◌, ◌≤◌, ◌<◌, Bool, true, false, nat_eq, nat_lt, List, [], ◌∷◌, ◌++◌, length, take, drop, reverse, refl, sym, ap, ◌∙◌, subst, arith, append_assoc}
+use Rattle.std.specs.Prelude.{Some, if◌then◌else◌, ◌-◌, slice_index, slice_get}
 use Rattle.std.proofs.lemmas.Bool.Decides.{nat_tests}
 use Rattle.std.proofs.lemmas.Option.{slice_get-get_or}
 use Rattle.std.proofs.lemmas.List.{reverse-reverse, length-reverse}
@@ -15,20 +15,20 @@ use Rattle.vm_link.specs.declared.linked.Code.{Code}
 use Rattle.vm_link.specs.declared.linked.Linked.{Linked}
 use Rattle.vm_machine.specs.State.{words_in_use}
 use Rattle.vm_machine.specs.State.{Frame as VmFrame, State as VmState}
-use Rattle.vm_machine.specs.Step.{code_in, act, pushed, load, called, after}
-use Rattle.vm_machine.specs.Step.{Outcome as VmOutcome, Acts as VmActs, Strays as VmStrays}
+use Rattle.vm_machine.specs.Step.{code_in, act, pushed, load}
+use Rattle.vm_machine.specs.Step.{Acts as VmActs, Strays as VmStrays}
 use Rattle.vm_machine.specs.Level.{command_words}
-use Rattle.jack_meaning.specs.Text.{Variable, Argument, Local, Static, Sign, Minus, Complement, Operator, Plus, Subtract, And, Or, Less, Greater, Equal, Expression, Value, Open, Text, Program, Subroutine}
+use Rattle.jack_meaning.specs.Text.{Variable, Argument, Local, Static, Sign, Minus, Complement, Operator, Plus, Subtract, And, Or, Less, Greater, Equal, Expression, Value, Open, Text, Program}
 use Rattle.jack_meaning.specs.Words.{sign_of, operator_of}
-use Rattle.jack_meaning.specs.Expressions.{Move, Stands, Rewrites, Strays, within, View, variable_of, loaded}
-use Rattle.jack_meaning.specs.Meaning.{Frame, State, Outcome, Acts, Stray, step, step_part, view_of, with_top, new_frame, subroutine_at, filled_text, text_point}
+use Rattle.jack_meaning.specs.Expressions.{Move, Stands, Rewrites, Strays, within, variable_of, loaded}
+use Rattle.jack_meaning.specs.Meaning.{Frame, State, Outcome, step, step_part, view_of, with_top, new_frame, filled_text, text_point}
 use Rattle.jack_meaning.specs.StackWords.{standing_first}
-use Rattle.jack_compiler.specs.Templates.{Numbers, quiet, commit, literal_code, push_variable, sign_step, operator_step, load_code}
+use Rattle.jack_compiler.specs.Templates.{Numbers, quiet, commit, push_variable, sign_step, operator_step}
 use Rattle.jack_compiler.specs.Fits.{Scope, IsThere, IsLiteral}
 use Rattle.jack_compiler.specs.Places.{HasAt}
-use Rattle.jack_compiler.specs.Match.{Match, Same, TopMatch, entering, Callers, Waits, SameWords}
+use Rattle.jack_compiler.specs.Match.{Same, TopMatch, entering, Callers, SameWords}
 use Rattle.jack_compiler.proofs.Redexes.{Redex, Number, Reads, Self, FieldAt, Turns, Joins, Loads, Enters, onto, operands, redex_move, redex_code, IsFitRedex}
-use Rattle.jack_compiler.proofs.Ways.{Goes, R, way_more, Here, quiet_way, last_way, stray_way}
+use Rattle.jack_compiler.proofs.Ways.{Goes, way_more, Here, quiet_way, last_way, stray_way}
 
 pub has_front : (code : List Code) (p : ℕ) (a b : List Code) → HasAt code p (a ++ b) → HasAt code p a
 has_front code p [] b h = tt

@@ -1,6 +1,6 @@
 -- The part of an expression that moves next, whatever the key.
-use Rattle.std.proofs.Common.{◌≡◌, ◌⊎◌, inl, inr, ℕ, zero, suc, ◌+◌, ◌≤◌, ◌<◌, Bool, true, false, nat_eq, nat_lt, List, [], ◌∷◌, ◌++◌, length, refl, sym, ap, ◌∙◌, subst, arith, append_assoc, append-nil}
-use Rattle.std.specs.Prelude.{if◌then◌else◌, ◌-◌, slice_index}
+use Rattle.std.proofs.Common.{◌≡◌, ◌⊎◌, inl, inr, ℕ, ◌+◌, Bool, true, false, nat_eq, nat_lt, List, [], ◌∷◌, ◌++◌, length, refl, sym, ap, ◌∙◌, subst, arith, append_assoc, append-nil}
+use Rattle.std.specs.Prelude.{if◌then◌else◌}
 use Rattle.word16.specs.Words.{word_add}
 use Rattle.vm_link.specs.declared.linked.Step.TheVariants as command
 use Rattle.vm_tree.specs.declared.command.Segment.TheVariants as segment
@@ -9,7 +9,7 @@ use Rattle.jack_meaning.specs.Text.{Variable, Sign, Operator, Expression, Litera
 use Rattle.jack_meaning.specs.Words.{sign_of, operator_of}
 use Rattle.jack_meaning.specs.Expressions.{Move, Stands, Rewrites, Calls, Strays, within, View, variable_of, value_of, values_of, loaded, rewrite, rewrite_first, filled, filled_in, standing, standing_in}
 use Rattle.jack_meaning.specs.Meaning.{subroutine_at}
-use Rattle.jack_compiler.specs.Templates.{Numbers, quiet, commit, literal_code, push_variable, sign_step, operator_step, load_code, count, expression_code, arguments_code}
+use Rattle.jack_compiler.specs.Templates.{Numbers, commit, literal_code, push_variable, sign_step, operator_step, load_code, count, expression_code, arguments_code}
 use Rattle.jack_compiler.specs.Fits.{Scope, IsThere, IsLiteral, IsField, IsCall, IsWhole, AreWhole, Ordered, whole, value, unary, left, right, base, index, call, AreOrdered, none, here, later}
 use Rattle.jack_compiler.specs.Places.{stack_of, stacks_of}
 

@@ -1,21 +1,20 @@
 -- The starts match, and the words in use.
-use Rattle.std.proofs.Common.{◌≡◌, ℕ, zero, suc, ◌+◌, ◌≤◌, ◌<◌, true, List, [], ◌∷◌, length, replicate, refl, sym, ap, ◌∙◌, subst, arith}
+use Rattle.std.proofs.Common.{◌≡◌, ℕ, zero, suc, ◌≤◌, ◌<◌, List, [], ◌∷◌, length, replicate, refl, sym, ap, ◌∙◌, arith}
 use Rattle.std.specs.Prelude.{Some, slice_get, slice_index}
 use Rattle.std.proofs.lemmas.List.{length-replicate}
 use Rattle.std.proofs.lemmas.Option.{slice_get-get_or}
 use Rattle.vm_link.specs.declared.linked.Linked.{Linked}
 use Rattle.vm_machine.specs.State.{words_in_use}
-use Rattle.vm_machine.specs.State.{Frame as VmFrame, State as VmState}
+use Rattle.vm_machine.specs.State.{Frame as VmFrame}
 use Rattle.vm_machine.specs.Step.{code_in}
 use Rattle.vm_machine.specs.Step.{start as vm_start}
-use Rattle.vm_machine.specs.Level.{next_of, is_commit}
 use Rattle.jack_meaning.specs.Text.{Let, LetField, LetThis, Store, Do, If, While, Return, Text, End, Next, Program}
-use Rattle.jack_meaning.specs.Meaning.{Frame, State, start, statics_of}
+use Rattle.jack_meaning.specs.Meaning.{Frame, start, statics_of}
 use Rattle.jack_meaning.specs.StackWords.{stack_words, standing_first}
-use Rattle.jack_compiler.specs.Templates.{Numbers, commit}
+use Rattle.jack_compiler.specs.Templates.{Numbers}
 use Rattle.jack_compiler.specs.Fits.{IsFit, without_object}
 use Rattle.jack_compiler.specs.Places.{Making}
-use Rattle.jack_compiler.specs.Match.{IsCodeOf, scope_at, Same, TopMatch, entering, between, begun, making, StartMatch, before, answered, after, AtStart, Callers, MatchFrames, SameWords, Match}
+use Rattle.jack_compiler.specs.Match.{IsCodeOf, scope_at, TopMatch, entering, between, begun, making, StartMatch, before, answered, after, Callers, MatchFrames, Match}
 use Rattle.jack_compiler.proofs.Whole.{callers_words, begun_length, part_length, simulates, strays_too}
 use Rattle.jack_compiler.specs.Laws.{SimulationLaw}
 
@@ -28,9 +27,9 @@ zero_at : (n k : ℕ) → k < n → slice_get (replicate {A = ℕ} n 0) k ≡ So
 zero_at n k h = slice_get-get_or (replicate {A = ℕ} n 0) k 0 (omega (arith, h, length-replicate {A = ℕ} n 0)) ∙ ap Some (zeros n k)
 
 module _ (program : Program) (numbers : Numbers) (linked : Linked) (depth : ℕ) where
-  starts : (most_locals : ℕ) → IsFit program numbers depth most_locals → IsCodeOf program numbers linked → is_commit (next_of linked vm_start.frames) ≡ true → Match program numbers linked depth (start program) vm_start
-  starts most_locals fit agree counts = record {
-    frames = before (record { subroutine = refl; text_is = refl; function = refl; place_is = refl; values_are = refl }) counts;
+  starts : (most_locals : ℕ) → IsFit program numbers depth most_locals → IsCodeOf program numbers linked → Match program numbers linked depth (start program) vm_start
+  starts most_locals fit agree = record {
+    frames = before (record { subroutine = refl; text_is = refl; function = refl; place_is = refl; values_are = refl });
     memory = record {
       words = refl;
       statics = λ k h. zero_at 240 (numbers.static k) (agree.room k h) ∙ ap Some (sym (zeros (statics_of program) k));
@@ -60,7 +59,7 @@ module _ (program : Program) (numbers : Numbers) (linked : Linked) (depth : ℕ)
       omega (arith, callers_words program numbers linked depth g below vg vbs callers, ap length same.arguments, ap length same.locals, making_length f vf f.text b)
 
   start_words : (f : Frame) (vf : VmFrame) → StartMatch program numbers linked depth f vf → words_in_use (vf ∷ []) ≤ stack_words (f ∷ [])
-  start_words f vf (before a counts) = omega (arith, ap length a.values_are)
+  start_words f vf (before a) = omega (arith, ap length a.values_are)
   start_words f vf (answered w a) = omega (arith, ap length a.values_are, ap standing_first a.text_is)
   start_words f vf (after a) = omega (arith, ap length a.values_are)
 
@@ -78,5 +77,5 @@ simulation = record {
   steps = λ program numbers linked depth most_locals fit agree. simulates program numbers linked depth agree most_locals fit;
   strays = λ program numbers linked depth most_locals fit agree s v key a m h e. strays_too program numbers linked depth agree most_locals fit s v key a m h e;
   words = λ program numbers linked depth s v m. frames_words program numbers linked depth s.frames v.frames m.frames;
-  starts = λ program numbers linked depth most_locals fit agree counts. starts program numbers linked depth most_locals fit agree counts;
+  starts = λ program numbers linked depth most_locals fit agree. starts program numbers linked depth most_locals fit agree;
 }

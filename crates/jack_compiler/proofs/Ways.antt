@@ -1,26 +1,25 @@
 -- Commands of the virtual machine as parts of a way.
-use Rattle.std.proofs.Common.{◌≡◌, ◌⊎◌, inl, inr, ℕ, zero, suc, ◌+◌, ◌≤◌, ◌<◌, Bool, true, false, nat_eq, nat_lt, List, [], ◌∷◌, ◌++◌, length, refl, sym, ap, ◌∙◌, subst, arith}
-use Rattle.std.specs.Prelude.{Option, Some, None, if◌then◌else◌, ◌-◌, slice_index, slice_get}
+use Rattle.std.proofs.Common.{◌≡◌, inl, ℕ, ◌+◌, ◌≤◌, Bool, true, false, nat_lt, List, [], ◌∷◌, refl, sym, ap, ◌∙◌, subst, arith}
+use Rattle.std.specs.Prelude.{Some, None, if◌then◌else◌, ◌-◌, slice_index, slice_get}
 use Rattle.std.proofs.lemmas.Bool.Decides.{nat_tests}
 use Rattle.outer_world.specs.declared.point.Point.{Point}
 use Rattle.machine_io.specs.declared.machine.Stray.TheVariants as stray
 use Rattle.vm_link.specs.declared.linked.Step.{Step}
-use Rattle.vm_link.specs.declared.linked.Step.TheVariants as command
 use Rattle.vm_link.specs.declared.linked.Code.{Code}
 use Rattle.vm_link.specs.declared.linked.Linked.{Linked}
 use Rattle.vm_machine.specs.State.{words_in_use}
 use Rattle.vm_machine.specs.State.{Frame as VmFrame, State as VmState}
-use Rattle.vm_machine.specs.Step.{code_in, act, fitted, perform, step_frames}
-use Rattle.vm_machine.specs.Step.{Outcome as VmOutcome, Acts as VmActs, Strays as VmStrays, Full as VmFull, Done as VmDone, step as vm_step}
-use Rattle.vm_machine.specs.Level.{next_of, state_after, is_fit, is_commit, subroutine_of, statement_of, end_statement, vm_system, command_words, cost_of, vm_cost}
-use Rattle.vm_machine.specs.Level.{has_heard as vm_heard, is_done as vm_done, point_of as vm_point}
-use Rattle.layers.specs.System.{System, IsKey, IsData}
-use Rattle.layers.specs.Layers.{Shows, Lands, Rests, Way, lands, rests}
+use Rattle.vm_machine.specs.Step.{code_in, act, fitted}
+use Rattle.vm_machine.specs.Step.{Acts as VmActs, Strays as VmStrays, Full as VmFull, step as vm_step}
+use Rattle.vm_machine.specs.Level.{state_after, is_fit, is_commit, subroutine_of, statement_of, end_statement, vm_system, command_words, cost_of, vm_cost}
+use Rattle.vm_machine.specs.Level.{has_heard as vm_heard, is_done as vm_done}
+use Rattle.layers.specs.System.{System}
+use Rattle.layers.specs.Layers.{Shows, Way, lands, rests}
 use Rattle.layers.specs.Layers.{onward as way_onward}
 use Rattle.layers.proofs.Ways.{quiet_step, last_step}
-use Rattle.jack_meaning.specs.Text.{Text, Program}
-use Rattle.jack_meaning.specs.Meaning.{Frame, State, Outcome, Acts, Stray, Done, step, point_of}
-use Rattle.jack_meaning.specs.Level.{has_heard, is_done, point_in, meaning_of}
+use Rattle.jack_meaning.specs.Text.{Program}
+use Rattle.jack_meaning.specs.Meaning.{State, Acts, Stray, step, point_of}
+use Rattle.jack_meaning.specs.Level.{has_heard, is_done, meaning_of}
 use Rattle.jack_meaning.specs.Level.{next_of as state_of}
 use Rattle.jack_compiler.specs.Templates.{Numbers, quiet, commit}
 use Rattle.jack_compiler.specs.Match.{Match}

@@ -1,12 +1,9 @@
 -- The whole simulation.
-use Rattle.std.proofs.Common.{◌≡◌, ◌⊎◌, ◌≢◌, inl, inr, ℕ, zero, suc, ◌+◌, ◌≤◌, ◌<◌, Bool, true, false, nat_eq, nat_lt, max, ◌*◌, List, [], ◌∷◌, ◌++◌, length, replicate, refl, sym, ap, ◌∙◌, subst, arith, append_assoc, append-nil, length-append}
-use Rattle.std.specs.Prelude.{nat_le, unwrap_or, Option, Some, None, if◌then◌else◌, ◌-◌, slice_index, slice_get, slice_set}
-use Rattle.std.proofs.lemmas.Bool.Decides.{nat_tests, eqb_tells}
-use Rattle.std.proofs.lemmas.List.{length-replicate, length-set, get_or-set_same, get_or-set_other}
-use Rattle.std.proofs.lemmas.Option.{slice_get-get_or, slice_get_within, get_or_from_slice_get}
+use Rattle.std.proofs.Common.{◌≡◌, ◌⊎◌, inl, inr, ℕ, ◌+◌, ◌≤◌, true, false, ◌*◌, List, [], ◌∷◌, length, refl, sym, ap, ◌∙◌, subst, arith}
+use Rattle.std.specs.Prelude.{nat_le, unwrap_or, Some, None, ◌-◌, slice_index, slice_set}
+use Rattle.std.proofs.lemmas.Bool.Decides.{nat_tests}
+use Rattle.std.proofs.lemmas.List.{length-replicate, length-set}
 use Rattle.word16.specs.Words.{word_add}
-use Rattle.machine_io.specs.declared.machine.Stray.TheVariants as stray
-use Rattle.vm_tree.specs.declared.command.Operation.TheVariants as operation
 use Rattle.vm_tree.specs.declared.command.Segment.TheVariants as segment
 use Rattle.vm_link.specs.declared.linked.Step.{Step}
 use Rattle.vm_link.specs.declared.linked.Step.TheVariants as command
@@ -14,35 +11,28 @@ use Rattle.vm_link.specs.declared.linked.Code.{Code}
 use Rattle.vm_link.specs.declared.linked.Linked.{Linked}
 use Rattle.vm_machine.specs.State.{words_in_use}
 use Rattle.vm_machine.specs.State.{Frame as VmFrame, State as VmState}
-use Rattle.vm_machine.specs.Step.{start_code, start, step_frames, code_of, code_in, act, store, goes, return}
-use Rattle.vm_machine.specs.Step.{Outcome as VmOutcome, Acts as VmActs, Strays as VmStrays, Done as VmDone, step as vm_step}
-use Rattle.vm_machine.specs.Level.{command_words, next_of, is_commit, is_done, cost_of, vm_system, vm_cost, subroutine_of, number_of as function_number}
-use Rattle.jack_meaning.specs.Text.{Kind, Constructor, Function, Method, number_of, Variable, Argument, Local, Static, Expression, Value, Call, Open, NoMore, Statement, Let, LetField, LetThis, Store, Do, If, While, Return, Text, End, Next, joined, Program, Subroutine}
-use Rattle.jack_meaning.specs.Expressions.{Move, Stands, within, value_of, rewrite, filled, standing}
-use Rattle.jack_meaning.specs.Meaning.{this_of, turn_of, subroutine_at, Frame, State, Outcome, Acts, Stray, Done, step, step_part, step_first, view_of, with_top, filled_text, text_point, assigned, stored, passed_over, returned, chosen}
+use Rattle.vm_machine.specs.Step.{code_in}
+use Rattle.vm_machine.specs.Step.{Done as VmDone, step as vm_step}
+use Rattle.vm_machine.specs.Level.{is_done, vm_system, vm_cost, subroutine_of, number_of as function_number}
+use Rattle.jack_meaning.specs.Text.{Expression, Value, Call, Open, NoMore, Let, LetField, LetThis, Store, Do, If, While, Return, Text, End, Next, Program, Subroutine}
+use Rattle.jack_meaning.specs.Expressions.{standing}
+use Rattle.jack_meaning.specs.Meaning.{subroutine_at, Frame, State, Stray, Done, step, step_first, text_point}
 use Rattle.jack_meaning.specs.StackWords.{standing_first}
-use Rattle.jack_compiler.specs.Templates.{object_code, text_code, statement_code, first_number, subroutine_code, Numbers, quiet, commit, pop_variable, store_code, expression_code}
-use Rattle.jack_compiler.specs.Fits.{scope_of, has_object, IsBody, TakesObject, IsFitSubroutine, IsFreshText, nest_in, Scope, IsThere, IsField, IsWhole, Ordered, whole, IsReturn, IsClosed, without_object}
-use Rattle.jack_compiler.specs.Places.{stack_of, HasAt, Jumps, here, jump, Reads, Part, Storing, base, index, element, Last, Choosing, Begun, BegunText}
-use Rattle.jack_compiler.specs.Match.{before, after, Entering, entering, IsCodeOf, scope_at, Match, Same, TopMatch, between, begun, making, AtStart, answered, StartMatch, Callers, MatchFrames, Waits, SameWords}
-use Rattle.jack_compiler.proofs.Redexes.{Redex, operands, redex_code, redex_move, Found, Sight, sight, whole_filled, whole_values}
-use Rattle.jack_compiler.proofs.Ways.{Goes, R, way_more, Here, quiet_way, last_way, stray_way}
-use Rattle.jack_compiler.proofs.Parts.{has_front, has_back, is_below, add_zero, u, at, now, others, part_way}
-use Rattle.jack_compiler.proofs.Statements.{closed_rest, closed_same, closed_more, closed_joined, upper, frame_at, state_at, the_code, used, GoesFrom, again, kept_words, expression_way, after_last, after_one, stands_between, store_with}
-use Rattle.jack_compiler.proofs.Acting.{let_value, do_value, field_value, this_value, if_value}
-use Rattle.vm_link.specs.declared.linked.LinkedFunction.{LinkedFunction}
-use Rattle.jack_compiler.proofs.Begun.{StepsAs, begun_way, making_way}
-use Rattle.jack_compiler.proofs.Begins.{unfolded, text_reads, last_whole, Begins, begins}
+use Rattle.jack_compiler.specs.Templates.{Numbers, commit}
+use Rattle.jack_compiler.specs.Fits.{Scope, IsClosed, without_object}
+use Rattle.jack_compiler.specs.Places.{stack_of, Part, Storing, base, index, element, BegunText}
+use Rattle.jack_compiler.specs.Match.{before, after, entering, IsCodeOf, scope_at, Match, TopMatch, between, begun, making, AtStart, answered, StartMatch, Callers, MatchFrames, SameWords}
+use Rattle.jack_compiler.proofs.Ways.{Goes, R, way_more, last_way}
+use Rattle.jack_compiler.proofs.Parts.{is_below}
+use Rattle.jack_compiler.proofs.Begun.{begun_way, making_way}
 use Rattle.outer_world.specs.declared.point.Point.{Point}
-use Rattle.std.proofs.lemmas.List.Elements.{All-replicate}
 use Rattle.vm_machine.specs.Level.{point_of as vm_point, is_fit}
-use Rattle.layers.specs.System.{System}
-use Rattle.layers.specs.Layers.{Shows, Lands, Way, lands, rests, onward, Simulates}
+use Rattle.layers.specs.Layers.{Shows, Way, lands, rests, onward, Simulates}
 use Rattle.jack_meaning.specs.Expressions.{standing_in}
 use Rattle.jack_meaning.specs.Text.{Literal, Name, This, Field, Unary, Binary, Load, Expressions, More}
-use Rattle.jack_meaning.specs.Meaning.{new_frame, step_frames as meaning_frames, statics_of, start as meaning_start, point_of}
+use Rattle.jack_meaning.specs.Meaning.{new_frame}
 use Rattle.jack_meaning.specs.StackWords.{stack_words}
-use Rattle.jack_meaning.specs.Level.{meaning_of, is_done as meaning_done, point_in}
+use Rattle.jack_meaning.specs.Level.{meaning_of, point_in}
 use Rattle.jack_compiler.specs.Fits.{IsFit, gap}
 use Rattle.jack_compiler.specs.Places.{stacks_of, Making}
 use Rattle.jack_compiler.specs.Astray.{ComesAstray}
@@ -179,8 +169,9 @@ module _ (program : Program) (numbers : Numbers) (linked : Linked) (depth : ℕ)
         (subst (λ x. P (start_frame f t) (record vf { function = None; place = x })) (sym a.place_is)
         (subst (λ x. P (start_frame f t) (record vf { function = None; place = p; values = x })) (sym a.values_are) h))))
 
-    counted : (b : Bool) (c : Step) → b ≡ true → Some (record { step = c; statement = 1; commit = b }) ≡ Some (commit 1 c)
-    counted b c h = ap (λ x. Some (record { step = c; statement = 1; commit = x })) h
+    -- its two commands are commits
+    counted : (c : Step) → Some (record { step = c; statement = 1; commit = linked.marked }) ≡ Some (commit 1 c)
+    counted c = ap (λ x. Some (record { step = c; statement = 1; commit = x })) agree.marked
 
     init_is : unwrap_or linked.start 0 ≡ numbers.function program.init
     init_is = ap (λ o. unwrap_or o 0) agree.start
@@ -189,15 +180,14 @@ module _ (program : Program) (numbers : Numbers) (linked : Linked) (depth : ℕ)
       abbrev GoesStart : Frame → VmFrame → Type 0
       GoesStart f' vf' = Goes program numbers linked depth (record { frames = f' ∷ []; statics = ss; words = ws }) most_words (record V { frames = vf' ∷ [] })
 
-      before_way : AtStart program numbers linked depth f vf (Next (Do 1 (Call program.init NoMore)) End) 0 [] → is_commit (next_of linked (vf ∷ [])) ≡ true → GoesStart f vf
-      before_way a counts =
-          let next : is_commit (next_of linked (start_vm vf 0 [] ∷ [])) ≡ true = start_next a counts in
+      before_way : AtStart program numbers linked depth f vf (Next (Do 1 (Call program.init NoMore)) End) 0 [] → GoesStart f vf
+      before_way a =
           start_frame_is f vf (Next (Do 1 (Call program.init NoMore)) End) 0 [] GoesStart a
           (way_more program numbers linked depth _ 60 most_words _ (omega arith)
           (last_way program numbers linked depth _ V (start_vm vf 0 []) [] 1 (command.Call (unwrap_or linked.start 0) 0) false
           (λ key. record { frames = new_frame program.subroutines program.init [] ∷ start_frame f (Next (Do 1 Open) End) ∷ []; statics = ss; words = ws })
           (λ key. record V { frames = record { function = Some (unwrap_or linked.start 0); place = 0; arguments = []; locals = []; values = []; this = vf.this; that = vf.that } ∷ start_vm vf 1 [] ∷ [] })
-          (record { words = memory.words; sub = refl }) refl (counted _ _ next) (λ key. refl) (λ key. omega arith) (λ key. refl)
+          (record { words = memory.words; sub = refl }) refl (counted _) (λ key. refl) (λ key. omega arith) (λ key. refl)
           (λ key. record {
             frames = (
               entering (record { kept = fit.init; function = ap Some init_is; arguments = refl; arguments_length = sym fit.init_arguments; locals = refl; this = refl; text = refl; place = refl; none = refl; values = refl }),
@@ -205,9 +195,6 @@ module _ (program : Program) (numbers : Numbers) (linked : Linked) (depth : ℕ)
             );
             memory = record { words = memory.words; statics = memory.statics; known = memory.known; temps = memory.temps };
           })))
-        where
-          start_next : AtStart program numbers linked depth f vf (Next (Do 1 (Call program.init NoMore)) End) 0 [] → is_commit (next_of linked (vf ∷ [])) ≡ true → is_commit (next_of linked (start_vm vf 0 [] ∷ [])) ≡ true
-          start_next a h = sym (ap (λ o. is_commit (slice_get (code_in linked o) vf.place)) a.function ∙ ap (λ p. is_commit (slice_get (code_in linked None) p)) a.place_is) ∙ h
 
       answered_way : (w : ℕ) → AtStart program numbers linked depth f vf (Next (Do 1 (Value w)) End) 1 (w ∷ []) → GoesStart f vf
       answered_way w a =
@@ -217,7 +204,7 @@ module _ (program : Program) (numbers : Numbers) (linked : Linked) (depth : ℕ)
           (last_way program numbers linked depth _ V (start_vm vf 1 (w ∷ [])) [] 1 (command.Pop segment.Temp 0) false
           (λ key. record { frames = start_frame f End ∷ []; statics = ss; words = ws })
           (λ key. record V { frames = start_vm vf 2 [] ∷ []; temps = slice_set V.temps 0 w })
-          (record { words = memory.words; sub = refl }) refl refl (λ key. rw (is_below 0 (length V.temps) (omega (arith, memory.temps))) refl) (λ key. omega arith) (λ key. refl)
+          (record { words = memory.words; sub = refl }) refl (counted _) (λ key. rw (is_below 0 (length V.temps) (omega (arith, memory.temps))) refl) (λ key. omega arith) (λ key. refl)
           (λ key. record {
             frames = after (record { subroutine = refl; text_is = refl; function = refl; place_is = refl; values_are = refl });
             memory = record { words = memory.words; statics = memory.statics; known = memory.known; temps = longer ∙ memory.temps };
@@ -244,7 +231,7 @@ module _ (program : Program) (numbers : Numbers) (linked : Linked) (depth : ℕ)
           no_stray x h = cc h
 
       start_way : StartMatch program numbers linked depth f vf → GoesStart f vf
-      start_way (before a counts) = before_way a counts
+      start_way (before a) = before_way a
       start_way (answered w a) = answered_way w a
       start_way (after a) = after_way a
 

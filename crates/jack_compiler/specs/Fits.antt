@@ -1,5 +1,5 @@
 -- What the text of a program with resolved names meets, and what is kept of it while it runs.
-use Rattle.std.specs.Prelude.{◌≡◌, ◌⊎◌, ◌<◌, ◌≤◌, ℕ, ◌+◌, ◌*◌, suc, max, Bool, true, false, List, length}
+use Rattle.std.specs.Prelude.{◌≡◌, ◌⊎◌, ◌<◌, ◌≤◌, ℕ, ◌+◌, ◌*◌, suc, max, Bool, true, false, List}
 use Rattle.jack_meaning.specs.Text.{Variable, Argument, Local, Static, Sign, Operator, Expression, Literal, Value, Name, This, Field, Unary, Binary, Load, Call, Open, Expressions, NoMore, More, Statement, Let, LetField, LetThis, Store, Do, If, While, Return, Text, End, Next, Kind, Constructor, Function, Method, Subroutine, Program}
 use Rattle.jack_meaning.specs.Meaning.{subroutine_at, statics_of}
 use Rattle.jack_compiler.specs.Templates.{Numbers, count}

@@ -4,7 +4,7 @@ use Rattle.vm_link.specs.declared.linked.Linked.{Linked}
 use Rattle.vm_machine.specs.State.{words_in_use}
 use Rattle.vm_machine.specs.State.{State as VmState}
 use Rattle.vm_machine.specs.Step.{start as vm_start}
-use Rattle.vm_machine.specs.Level.{next_of, is_commit, vm_system, vm_cost}
+use Rattle.vm_machine.specs.Level.{vm_system, vm_cost}
 use Rattle.layers.specs.Layers.{Simulates}
 use Rattle.jack_meaning.specs.Text.{Program}
 use Rattle.jack_meaning.specs.Meaning.{State, Stray, step, start}
@@ -28,6 +28,6 @@ pub record SimulationLaw : Type 0 where
   -- the virtual machine's stack has no more words than the meaning's
   pub words : (program : Program) (numbers : Numbers) (linked : Linked) (depth : ℕ) (s : State) (v : VmState) → Match program numbers linked depth s v
       → words_in_use v.frames ≤ stack_words s.frames
-  -- the starts match, where the call that `start` makes is a commit, as it is a step of the meaning
+  -- the starts match
   pub starts : (program : Program) (numbers : Numbers) (linked : Linked) (depth most_locals : ℕ) → IsFit program numbers depth most_locals → IsCodeOf program numbers linked
-      → is_commit (next_of linked vm_start.frames) ≡ true → Match program numbers linked depth (start program) vm_start
+      → Match program numbers linked depth (start program) vm_start

@@ -5,3 +5,10 @@ pub mod Match
 pub mod Astray
 pub mod Laws
 pub mod Rows
+pub mod Lines
+pub mod Files
+pub mod Surroundings
+pub mod Added
+pub mod Resolved
+pub mod Linked
+pub mod Small

@@ -1,24 +1,23 @@
 -- States of the meaning and of the virtual machine that match, and what linked code has to do with a program.
-use Rattle.std.specs.Prelude.{◌≡◌, ◌≤◌, ◌<◌, ℕ, zero, suc, ◌+◌, ◌-◌, Bool, true, false, List, [], ◌∷◌, ◌++◌, length, slice_get, slice_index, replicate, Option, Some, None}
+use Rattle.std.specs.Prelude.{◌≡◌, ◌≤◌, ◌<◌, ℕ, true, List, [], ◌∷◌, length, slice_get, slice_index, replicate, Some, None}
 use Rattle.vm_link.specs.declared.linked.Code.{Code}
 use Rattle.vm_link.specs.declared.linked.LinkedFunction.{LinkedFunction}
 use Rattle.vm_link.specs.declared.linked.Linked.{Linked}
-use Rattle.vm_machine.specs.State.{words_in_use}
 use Rattle.vm_machine.specs.State.{Frame as VmFrame, State as VmState}
 use Rattle.vm_machine.specs.Step.{code_in}
-use Rattle.vm_machine.specs.Level.{next_of, is_commit}
-use Rattle.jack_meaning.specs.Text.{Value, Call, Open, NoMore, Do, Text, End, Next, Subroutine, Program}
+use Rattle.jack_meaning.specs.Text.{Value, Call, Open, NoMore, Do, Text, End, Next, Program}
 use Rattle.jack_meaning.specs.Meaning.{Frame, State, subroutine_at, this_of, filled_text}
 use Rattle.jack_meaning.specs.StackWords.{standing_first}
 use Rattle.jack_compiler.specs.Templates.{Numbers, subroutine_code}
 use Rattle.jack_compiler.specs.Fits.{Scope, scope_of, without_object, IsClosed}
 use Rattle.jack_compiler.specs.Places.{Reads, BegunText, Making}
 
--- Linked code is that of the program: each kept subroutine has its function there, and no two statics have one word.
+-- Linked code is that of the program: each kept subroutine has its function there, no two statics have one word, and it has commits.
 pub record IsCodeOf (program : Program) (numbers : Numbers) (linked : Linked) : Type 0 where
   pub function : (g : ℕ) → numbers.keeps g ≡ true → (f : LinkedFunction) × (slice_get linked.functions (numbers.function g) ≡ Some f)
       × (f.number ≡ g) × (f.code ≡ subroutine_code numbers (subroutine_at program.subroutines g))
   pub start : linked.start ≡ Some (numbers.function program.init)
+  pub marked : linked.marked ≡ true
   pub room : (k : ℕ) → numbers.holds k ≡ true → numbers.static k < 240
   pub apart : (j k : ℕ) → numbers.holds j ≡ true → numbers.holds k ≡ true → numbers.static j ≡ numbers.static k → j ≡ k
 
@@ -77,9 +76,8 @@ module _ (program : Program) (numbers : Numbers) (linked : Linked) (depth : ℕ)
     pub place_is : vf.place ≡ place
     pub values_are : vf.values ≡ values
 
-  -- (The call is a step of the meaning, and so its command has to be a commit.)
   pub data StartMatch (f : Frame) (vf : VmFrame) : Type 0 where
-    before : AtStart f vf (Next (Do 1 (Call program.init NoMore)) End) 0 [] → is_commit (next_of linked (vf ∷ [])) ≡ true → StartMatch f vf
+    before : AtStart f vf (Next (Do 1 (Call program.init NoMore)) End) 0 [] → StartMatch f vf
     answered : (w : ℕ) → AtStart f vf (Next (Do 1 (Value w)) End) 1 (w ∷ []) → StartMatch f vf
     after : AtStart f vf End 2 [] → StartMatch f vf
 

@@ -1,11 +1,11 @@
 -- What text is read from a place of a function's code: what is left to do there is that text.
-use Rattle.std.specs.Prelude.{◌≡◌, ◌≤◌, ℕ, suc, ◌+◌, ◌*◌, max, Bool, true, false, List, [], ◌∷◌, ◌++◌, length, slice_get, Some}
+use Rattle.std.specs.Prelude.{◌≡◌, ◌≤◌, ℕ, suc, ◌+◌, ◌*◌, max, false, List, [], ◌∷◌, ◌++◌, length, slice_get, Some}
 use Rattle.word16.specs.Words.{word_add}
 use Rattle.vm_tree.specs.declared.command.Operation.TheVariants as operation
 use Rattle.vm_tree.specs.declared.command.Segment.TheVariants as segment
 use Rattle.vm_link.specs.declared.linked.Step.TheVariants as command
 use Rattle.vm_link.specs.declared.linked.Code.{Code}
-use Rattle.jack_meaning.specs.Text.{Expression, Literal, Value, Name, This, Field, Unary, Binary, Load, Call, Open, Expressions, NoMore, More, Statement, Let, LetField, LetThis, Store, Do, If, While, Return, Text, End, Next, joined, number_of, Subroutine}
+use Rattle.jack_meaning.specs.Text.{Expression, Value, Unary, Binary, Load, Call, Expressions, NoMore, More, Statement, Let, LetField, LetThis, Store, Do, If, While, Return, Text, End, Next, joined, number_of, Subroutine}
 use Rattle.jack_compiler.specs.Templates.{Numbers, quiet, commit, pop_variable, store_code, expression_code, statement_code, first_number}
 use Rattle.jack_compiler.specs.Fits.{Scope, IsWhole, IsField, IsThere, Ordered, IsFresh, nest}
 

@@ -1,11 +1,11 @@
 -- The code of small subroutines, written out, and a program with code for which the laws' conditions hold.
-use Rattle.std.specs.Prelude.{◌≡◌, ℕ, zero, suc, ◌-◌, Bool, true, false, List, [], ◌∷◌, Some}
+use Rattle.std.specs.Prelude.{◌≡◌, ℕ, zero, suc, ◌-◌, Bool, true, false, [], ◌∷◌, Some}
 use Rattle.vm_tree.specs.declared.command.Operation.TheVariants as operation
 use Rattle.vm_tree.specs.declared.command.Segment.TheVariants as segment
 use Rattle.vm_link.specs.declared.linked.Step.TheVariants as command
 use Rattle.vm_link.specs.declared.linked.LinkedFunction.{LinkedFunction}
 use Rattle.vm_link.specs.declared.linked.Linked.{Linked}
-use Rattle.jack_meaning.specs.Text.{Argument, Local, Static, Minus, Complement, Literal, Name, This, Field, Unary, Load, Call, NoMore, More, Let, LetField, LetThis, Store, Do, If, While, Return, text_of, Constructor, Function, Method, Subroutine, Program}
+use Rattle.jack_meaning.specs.Text.{Argument, Local, Static, Minus, Complement, Literal, Name, This, Unary, Load, Call, NoMore, More, Let, LetField, LetThis, Store, Do, If, While, Return, text_of, Constructor, Function, Method, Subroutine}
 use Rattle.jack_meaning.specs.Meaning.{subroutine_at}
 use Rattle.jack_meaning.specs.Rows.{stores_one}
 use Rattle.jack_compiler.specs.Templates.{Numbers, quiet, commit, subroutine_code}
@@ -70,7 +70,7 @@ small_function g = record { name = []; file = 0; number = g; code = subroutine_c
 
 -- the linked code of a program without statics: Sys.init calls Main.main, which stores a word
 abbrev pub small_code : Linked
-small_code = record { functions = small_function 1 ∷ small_function 2 ∷ []; files = []; start = Some 0; bare = false }
+small_code = record { functions = small_function 1 ∷ small_function 2 ∷ []; files = []; start = Some 0; bare = false; marked = true }
 
 pub record RowsLaw : Type 0 where
   pub method : subroutine_code some_numbers a_method ≡

@@ -1,13 +1,26 @@
-//! The compiler of the book's chapters 10 and 11: what code a program with resolved names has on the virtual machine, and
-//! that this code does what the program means.
+//! The compiler of the book's chapters 10 and 11: the virtual machine's program of a program with resolved names, and that
+//! its linked code does what the program means.
 //!
-//! The definitions are in `specs/`: `Templates` (the code of each subroutine), `Fits` (what a program with resolved names
-//! meets), `Places` and `Match` (which states of the meaning and of the virtual machine match), `Astray`, `Laws` and `Rows`. The
-//! functions here do nothing; their contracts say what holds of the definitions.
+//! `compile` makes the program; what it is stands in `specs/`: `Lines` (the templates, with names) and `Files`. The other
+//! definitions are `Templates` (the code that linking makes of the templates), `Fits` (what a program with resolved names
+//! meets as far as it is linked), `Resolved` (what the checks of names see to), `Places` and `Match` (which states of the meaning
+//! and of the virtual machine match), `Astray`, `Linked`, `Laws`, `Rows` and `Small`. The functions that are laws do nothing; their
+//! contracts say what holds of the definitions.
 #![tactic(auto)]
 
 ghost use Rattle.jack_compiler.specs.Laws.{SimulationLaw};
+ghost use Rattle.jack_compiler.specs.Linked.{CompiledLaw};
 ghost use Rattle.jack_compiler.specs.Rows.{RowsLaw};
+ghost use Rattle.jack_compiler.specs.Small.{SmallLaw};
+
+mod bodies;
+mod expressions;
+mod lines;
+mod linking;
+mod program;
+
+pub use linking::link_core;
+pub use program::compile;
 
 /// Each step of a program's meaning is made by commands of the virtual machine that runs its code, the last of which
 /// alone is a commit, within the gap less 16; matching states have one point, and no more words on the stack.
@@ -15,8 +28,20 @@ pub fn simulation_law()
     ensures { SimulationLaw }
 {}
 
+/// Where a program's names are resolved, what linking answers for its compiled files is the code of the program, and the
+/// program fits. The only fault of linking is that there are too many static words.
+pub fn compiled_law()
+    ensures { CompiledLaw }
+{}
+
 /// Small subroutines have the code that the templates of chapters 7 to 11 say, and there is a program with code of
 /// which `simulation_law` speaks.
 pub fn rows_law()
     ensures { RowsLaw }
+{}
+
+/// Small subroutines have the VM text that the templates say, and there is a program whose names are resolved as
+/// `compiled_law` wants.
+pub fn small_law()
+    ensures { SmallLaw }
 {}

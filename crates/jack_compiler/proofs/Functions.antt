@@ -1,0 +1,168 @@
+-- Functions and statics, class by class.
+use Rattle.std.proofs.Common.{◌≡◌, ◌+◌, ◌++◌, ◌<◌, ℕ, zero, suc, Bool, true, false, List, [], ◌∷◌, length, drop, take, get_or, set, map, slice_index, ◌⊎◌, inl, inr, ◌≤◌, add-one, refl, sym, ap, subst, ◌∙◌, arith, if◌then◌else◌}
+use Rattle.std.specs.Prelude.{◌==◌}
+use Rattle.std.proofs.lemmas.Bool.{cases_eq, eq-eqb, ne_eqb}
+use Rattle.std.proofs.lemmas.List.{append-nil, take_more, map-append, length-map}
+use Rattle.std.proofs.Math.ListN.{length-set}
+use Rattle.vm_tree.specs.declared.program.Function.{Function}
+use Rattle.jack_meaning.specs.Text.{Subroutine, Program}
+use Rattle.jack_meaning.specs.Text.{Class as AClass}
+use Rattle.jack_core.specs.declared.program.Class.{Class}
+use Rattle.jack_core.specs.declared.program.Core.{Core}
+use Rattle.jack_core.specs.declared.program.Subroutine.{Subroutine as TheSubroutine}
+use Rattle.jack_core.specs.Texts.{the_class, the_subroutine, the_program}
+use Rattle.jack_compiler.specs.Lines.{Around}
+use Rattle.jack_compiler.specs.Files.{statics_before, function_of, functions_of, file_of, files_from, files_of, around_class, name_at, names_in}
+use Rattle.jack_compiler.specs.Added.{AddsFunction, AreFunctions}
+
+pub statics_before-none : (cs : List AClass) → statics_before cs 0 ≡ 0
+statics_before-none [] = refl
+statics_before-none (c ∷ cs) = refl
+
+pub statics_before-more : (cs : List Class) (i : ℕ) (c : Class) → i < length cs → c ≡ get_or cs i c → statics_before (map the_class cs) (i + 1) ≡ statics_before (map the_class cs) i + c.statics
+statics_before-more [] i c h e = absurd (omega arith)
+statics_before-more (d ∷ cs) zero c h e = let same = ap (λ z. z.statics) e in let none = statics_before-none (map the_class cs) in omega arith
+statics_before-more (d ∷ cs) (suc i) c h e = rw add-one (let ih = statics_before-more cs i c (omega arith) e in let x = rw add-one at ih in omega arith)
+
+pub statics_step : (cs : List Class) (i : ℕ) (d : Class) (n m : ℕ) → i < length cs → n ≡ m + (get_or cs i d).statics → m ≡ statics_before (map the_class cs) i → n ≡ statics_before (map the_class cs) (i + 1)
+statics_step cs i d n m h e f = let x = statics_before-more cs i (get_or cs i d) h (get_or-default cs i d (get_or cs i d) h) in omega arith
+  where
+    get_or-default : (xs : List Class) (i : ℕ) (d e : Class) → i < length xs → get_or xs i d ≡ get_or xs i e
+    get_or-default [] i d e h = absurd (omega arith)
+    get_or-default (x ∷ xs) zero d e h = refl
+    get_or-default (x ∷ xs) (suc i) d e h = get_or-default xs i d e (omega arith)
+
+-- what the code looks up
+pub before_is : (cs ds : List Class) (bs us : List ℕ) (k r : ℕ) → ds ≡ cs → us ≡ bs
+    → (length bs ≡ length ds) × ((j : ℕ) → j < length ds → slice_index bs j ≡ statics_before (map the_class ds) j) → (k < length us → r ≡ slice_index us k)
+    → k < length cs → r ≡ statics_before (map the_class cs) k
+before_is cs ds bs us k r e f h g b =
+    let l = ap length e in
+    let m = ap length f in
+    let n = h.0 in
+    g (omega arith) ∙ ap (λ z. slice_index z k) f ∙ h.1 k (omega arith) ∙ ap (λ z. statics_before (map the_class z) k) e
+
+-- one more subroutine
+pub functions_of-push : (around : Around) (k g : ℕ) (subs : List Subroutine) (sub : Subroutine)
+    → functions_of around k g (subs ++ sub ∷ []) ≡ functions_of around k g subs ++ (if sub.class == k then function_of around (g + length subs) sub ∷ [] else [])
+functions_of-push around k g [] sub = by_test (sub.class == k)
+  where
+    by_test : (b : Bool) → (if b then function_of around g sub ∷ [] else []) ≡ [] ++ (if b then function_of around (g + 0) sub ∷ [] else [])
+    by_test true = ap (λ (z : ℕ). function_of around z sub ∷ []) (omega arith)
+    by_test false = refl
+functions_of-push around k g (s ∷ subs) sub =
+    by_test (s.class == k)
+    (functions_of-push around k (g + 1) subs sub
+    ∙ ap (λ (z : ℕ). functions_of around k (g + 1) subs ++ (if sub.class == k then function_of around z sub ∷ [] else [])) (omega arith))
+  where
+    by_test : (b : Bool) → functions_of around k (g + 1) (subs ++ sub ∷ []) ≡ functions_of around k (g + 1) subs ++ (if sub.class == k then function_of around (g + length (s ∷ subs)) sub ∷ [] else [])
+        → (if b then function_of around g s ∷ functions_of around k (g + 1) (subs ++ sub ∷ []) else functions_of around k (g + 1) (subs ++ sub ∷ []))
+        ≡ (if b then function_of around g s ∷ functions_of around k (g + 1) subs else functions_of around k (g + 1) subs) ++ (if sub.class == k then function_of around (g + length (s ∷ subs)) sub ∷ [] else [])
+    by_test true e = ap (λ z. function_of around g s ∷ z) e
+    by_test false e = e
+
+-- the files of lists of functions
+files_from_is : (program : Program) (names : List (List ℕ)) (k : ℕ) (cs : List AClass) (fs : List (List Function)) → length fs ≡ length cs
+    → ((j : ℕ) → j < length cs → get_or fs j [] ≡ functions_of (around_class program.classes names (k + j)) (k + j) 1 (drop 1 program.subroutines))
+    → map file_of fs ≡ files_from program names k cs
+files_from_is program names k [] [] n h = refl
+files_from_is program names k [] (f ∷ fs) n h = absurd (omega arith)
+files_from_is program names k (c ∷ cs) [] n h = absurd (omega arith)
+files_from_is program names k (c ∷ cs) (f ∷ fs) n h =
+    let here : f ≡ functions_of (around_class program.classes names k) k 1 (drop 1 program.subroutines) =
+    h 0 (omega arith) ∙ ap (λ (z : ℕ). functions_of (around_class program.classes names z) z 1 (drop 1 program.subroutines)) (omega arith) in
+    let later : map file_of fs ≡ files_from program names (k + 1) cs =
+    files_from_is program names (k + 1) cs fs (omega arith)
+    (λ j b. h (suc j) (omega arith) ∙ ap (λ (z : ℕ). functions_of (around_class program.classes names z) z 1 (drop 1 program.subroutines)) (omega arith)) in
+    ap (λ z. file_of z ∷ map file_of fs) here ∙ ap (λ z. file_of (functions_of (around_class program.classes names k) k 1 (drop 1 program.subroutines)) ∷ z) later
+
+map_rest : (xs : List TheSubroutine) → map the_subroutine (drop 1 xs) ≡ drop 1 (map the_subroutine xs)
+map_rest [] = refl
+map_rest (x ∷ xs) = refl
+
+pub files_made : (core : Core) (others : List TheSubroutine) (fs : List (List Function)) → others ≡ drop 1 core.subroutines.items
+    → AreFunctions (map the_class core.classes.items) (names_in core) (map the_subroutine others) fs → map file_of fs ≡ files_of core
+files_made core others fs e h =
+    files_from_is (the_program core) (names_in core) 0 (map the_class core.classes.items) fs h.count
+    (λ j b. h.each j b ∙ (λ i. functions_of (around_class (map the_class core.classes.items) (names_in core) (zero_plus j i)) (zero_plus j i) 1 ((ap (map the_subroutine) e ∙ map_rest core.subroutines.items) i)))
+  where
+    zero_plus : (j : ℕ) → j ≡ 0 + j
+    zero_plus j = omega arith
+
+length_taken : {A : Type 0} (xs : List A) (i : ℕ) → i < length xs → length (take i xs) ≡ i
+length_taken [] i h = absurd (omega arith)
+length_taken (x ∷ xs) zero h = refl
+length_taken (x ∷ xs) (suc i) h = let ih = length_taken xs i (omega arith) in omega arith
+
+-- one more function, of its class
+get_set : {A : Type 0} (d : A) (xs : List A) (i : ℕ) (y : A) → i < length xs → get_or (set xs i y) i d ≡ y
+get_set d [] i y h = absurd (omega arith)
+get_set d (x ∷ xs) zero y h = refl
+get_set d (x ∷ xs) (suc i) y h = get_set d xs i y (omega arith)
+
+get_other : {A : Type 0} (d : A) (xs : List A) (i k : ℕ) (y : A) → (i ≡ k → ⊥) → get_or (set xs i y) k d ≡ get_or xs k d
+get_other d [] i k y h = refl
+get_other d (x ∷ xs) zero zero y h = absurd (h refl)
+get_other d (x ∷ xs) zero (suc k) y h = refl
+get_other d (x ∷ xs) (suc i) zero y h = refl
+get_other d (x ∷ xs) (suc i) (suc k) y h = get_other d xs i k y (λ e. h (ap suc e))
+
+pub adds_here : (around : Around) (number : ℕ) (sub : Subroutine) (old : List (List Function)) → sub.class < length old
+    → AddsFunction around number sub old (set old sub.class (get_or old sub.class [] ++ function_of around number sub ∷ []))
+adds_here around number sub old h = record {
+  count = length-set old sub.class (get_or old sub.class [] ++ function_of around number sub ∷ []);
+  each = λ k b. by_cases k (cases_eq sub.class k);
+}
+  where
+    new : List (List Function)
+    new = set old sub.class (get_or old sub.class [] ++ function_of around number sub ∷ [])
+
+    by_cases : (k : ℕ) → (sub.class ≡ k) ⊎ (sub.class ≡ k → ⊥)
+        → get_or (set old sub.class (get_or old sub.class [] ++ function_of around number sub ∷ [])) k [] ≡ get_or old k [] ++ (if sub.class == k then function_of around number sub ∷ [] else [])
+    by_cases k (inl e) =
+        subst (λ z. get_or (set old sub.class (get_or old sub.class [] ++ function_of around number sub ∷ [])) z [] ≡ get_or old z [] ++ (if sub.class == z then function_of around number sub ∷ [] else [])) e
+        (rw (eq-eqb sub.class sub.class refl) (get_set [] old sub.class (get_or old sub.class [] ++ function_of around number sub ∷ []) h))
+    by_cases k (inr f) = rw (ne_eqb sub.class k f) (get_other [] old sub.class k _ f ∙ sym (append-nil (get_or old k [])))
+
+pub adds_nowhere : (around : Around) (number : ℕ) (sub : Subroutine) (old : List (List Function)) → length old ≤ sub.class → AddsFunction around number sub old old
+adds_nowhere around number sub old h = record {
+  count = refl;
+  each = λ k b. let other : sub.class ≡ k → ⊥ = λ e. omega arith in rw (ne_eqb sub.class k other) (sym (append-nil (get_or old k [])));
+}
+
+length_classes : (cs : List Class) → length (map the_class cs) ≡ length cs
+length_classes [] = refl
+length_classes (c ∷ cs) = let ih = length_classes cs in omega arith
+
+pub functions_none : (cs : List Class) (names : List (List ℕ)) (fs : List (List Function)) → length fs ≡ length cs → ((k : ℕ) → k < length cs → get_or fs k [] ≡ [])
+    → AreFunctions (map the_class cs) names [] fs
+functions_none cs names fs n h = record { count = n ∙ sym (length_classes cs); each = λ k b. h k (let l = length_classes cs in omega arith) }
+
+functions_more : (classes : List AClass) (names : List (List ℕ)) (subs : List Subroutine) (sub : Subroutine) (around : Around) (number : ℕ) (old new : List (List Function))
+    → AreFunctions classes names subs old → AddsFunction around number sub old new → number ≡ 1 + length subs → around.name ≡ name_at names
+    → (sub.class < length classes → around.before ≡ statics_before classes sub.class) → AreFunctions classes names (subs ++ sub ∷ []) new
+functions_more classes names subs sub around number old new h a e same before = record {
+  count = a.count ∙ h.count;
+  each = λ k b.
+      a.each k (let n = h.count in omega arith) ∙ ap (λ z. z ++ (if sub.class == k then function_of around number sub ∷ [] else [])) (h.each k b)
+      ∙ ap (λ z. functions_of (around_class classes names k) k 1 subs ++ z) (by_cases k b (cases_eq sub.class k))
+      ∙ sym (functions_of-push (around_class classes names k) k 1 subs sub);
+}
+  where
+    by_cases : (k : ℕ) → k < length classes → (sub.class ≡ k) ⊎ (sub.class ≡ k → ⊥)
+        → (if sub.class == k then function_of around number sub ∷ [] else []) ≡ (if sub.class == k then function_of (around_class classes names k) (1 + length subs) sub ∷ [] else [])
+    by_cases k b (inl f) =
+        let here : around.before ≡ statics_before classes k = before (omega arith) ∙ ap (statics_before classes) f in
+        λ i. if sub.class == k then function_of (record { name = same i; before = here i }) (e i) sub ∷ [] else []
+    by_cases k b (inr f) = rw (ne_eqb sub.class k f) refl
+
+pub functions_next : (cs : List Class) (names : List (List ℕ)) (others : List TheSubroutine) (i : ℕ) (s : TheSubroutine) (around : Around) (old new : List (List Function))
+    → i < length others → s ≡ get_or others i s → AreFunctions (map the_class cs) names (map the_subroutine (take i others)) old → AddsFunction around (i + 1) (the_subroutine s) old new
+    → around.name ≡ name_at names → (s.class < length cs → around.before ≡ statics_before (map the_class cs) s.class)
+    → AreFunctions (map the_class cs) names (map the_subroutine (take (i + 1) others)) new
+functions_next cs names others i s around old new h e a adds same before =
+    let more : take (i + 1) others ≡ take i others ++ s ∷ [] = take_more others i s h ∙ ap (λ x. take i others ++ x ∷ []) (sym e) in
+    let l : length (map the_subroutine (take i others)) ≡ i = length-map (take i others) the_subroutine ∙ length_taken others i h in
+    subst (λ z. AreFunctions (map the_class cs) names z new) (sym (ap (map the_subroutine) more ∙ map-append the_subroutine (take i others) (s ∷ [])))
+    (functions_more (map the_class cs) names (map the_subroutine (take i others)) (the_subroutine s) around (i + 1) old new a adds (omega arith) same
+    (λ b. before (let n = length_classes cs in omega arith)))

@@ -1,0 +1,286 @@
+//! The commands of statements.
+ghost use Rattle.std.specs.Prelude.{◌≡◌, ◌+◌, ◌++◌, ◌∷◌, [], OnOk, IfOk, ℕ, decimal, suc};
+ghost use Rattle.jack_core.specs.Reading.{the_expression};
+ghost use Rattle.jack_core.specs.Texts.{the_statement, the_block};
+ghost use Rattle.jack_meaning.specs.Text.{Store, If, While, number_of};
+ghost use Rattle.vm_tree.specs.declared.command.Command.TheVariants as command;
+ghost use Rattle.jack_compiler.specs.Templates.{first_number, is_end};
+ghost use Rattle.jack_compiler.specs.Lines.{into_if, into_else, into_while, out_of_while, store_lines, expression_lines, statement_lines, text_lines, ifs_of, ifs_in, whiles_of, whiles_in, short};
+ghost use Rattle.jack_compiler.specs.Lines.{quiet as quiet_line, commit as commit_line};
+ghost use Rattle.jack_compiler.specs.Surroundings.{the_around};
+ghost use Rattle.jack_compiler.specs.Added.{Adds, AddsText};
+
+use crate::expressions::{Around, add_expression, pop_variable};
+use crate::lines::{add_goto, add_if_goto, add_label, commit, quiet};
+use jack_core::{Expression, Statement};
+use std::alloc::{AllocError, Global};
+use vm_tree::{Command, Line, List, Operation, Segment};
+
+/// The commands of a subroutine so far, and how many choices and loops stand there.
+#[derive(Drop)]
+pub struct Body {
+    pub lines: List<Line>,
+    pub ifs: u32,
+    pub whiles: u32,
+}
+
+// So many choices or loops, and one more, where 32 bits count them.
+fn one_more(count: u32) -> Result<u32, AllocError>
+    ensures { IfOk result (λ n. n ≡ suc count) }
+{
+    count.checked_add(1).ok_or(AllocError)
+}
+
+fn number_of(s: &Statement) -> u32
+    ensures { result ≡ number_of (the_statement s.now) }
+{
+    match s {
+        Statement::Let { number, .. }
+        | Statement::LetField { number, .. }
+        | Statement::LetThis { number, .. }
+        | Statement::Store { number, .. }
+        | Statement::Do { number, .. }
+        | Statement::If { number, .. }
+        | Statement::While { number, .. }
+        | Statement::Return { number, .. } => *number,
+    }
+}
+
+/// The number of the first statement, or of what follows where there is none.
+pub(crate) fn first_number(next: u32, ss: &[Statement]) -> u32
+    ensures { result ≡ first_number next (the_block ss.now) }
+{
+    match ss.first() {
+        Some(s) => number_of(s),
+        None => next,
+    }
+}
+
+fn is_end(ss: &[Statement]) -> bool
+    ensures { result ≡ is_end (the_block ss.now) }
+{
+    match ss.first() {
+        Some(_) => false,
+        None => true,
+    }
+}
+
+// The value on top goes to the address below it.
+fn add_store(lines: &mut List<Line>, n: u32) -> Result<(), AllocError>
+    ensures { OnOk result (lines.new ≡ lines.old ++ store_lines n) }
+{
+    quiet(lines, n, Command::Pop(Segment::Temp, 0))?;
+    quiet(lines, n, Command::Pop(Segment::Pointer, 1))?;
+    quiet(lines, n, Command::Push(Segment::Temp, 0))?;
+    commit(lines, n, Command::Pop(Segment::That, 0))
+}
+
+// An expression's value goes somewhere.
+fn add_value(
+    lines: &mut List<Line>,
+    around: &Around<'_>,
+    n: u32,
+    value: &Expression,
+    last: Command,
+) -> Result<(), AllocError>
+    ensures { OnOk result (lines.new ≡ lines.old ++ (expression_lines (the_around around.now) n (the_expression value.now) ++ commit_line n last ∷ [])) }
+{
+    add_expression(lines, around, n, value)?;
+    commit(lines, n, last)
+}
+
+// `let` of an array's element.
+fn add_element(
+    lines: &mut List<Line>,
+    around: &Around<'_>,
+    n: u32,
+    base: &Expression,
+    index: &Expression,
+    value: &Expression,
+) -> Result<(), AllocError>
+    ensures { OnOk result ((next i w : ℕ) → lines.new ≡ lines.old ++ statement_lines (the_around around.now) next i w (Store n (the_expression base.now) (the_expression index.now) (the_expression value.now))) }
+{
+    add_expression(lines, around, n, base)?;
+    add_expression(lines, around, n, index)?;
+    quiet(lines, n, Command::Operate(Operation::Add))?;
+    add_expression(lines, around, n, value)?;
+    add_store(lines, n)
+}
+
+// Where the condition of an `if` is left.
+fn enter_if(
+    alloc: Global,
+    lines: &mut List<Line>,
+    n: u32,
+    other: u32,
+    k: u32,
+) -> Result<(), AllocError>
+    ensures { OnOk result (lines.new ≡ lines.old ++ into_if n other k) }
+{
+    add_if_goto(alloc, lines, n, "IF_TRUE", k)?;
+    add_goto(alloc, lines, other, "IF_FALSE", k)?;
+    add_label(alloc, lines, n, "IF_TRUE", k)
+}
+
+// Between the branches of an `if`.
+fn enter_else(
+    alloc: Global,
+    lines: &mut List<Line>,
+    n: u32,
+    next: u32,
+    k: u32,
+) -> Result<(), AllocError>
+    ensures { OnOk result (lines.new ≡ lines.old ++ into_else n next k) }
+{
+    add_goto(alloc, lines, next, "IF_END", k)?;
+    add_label(alloc, lines, n, "IF_FALSE", k)
+}
+
+// Where the condition of a `while` is left.
+fn enter_while(
+    alloc: Global,
+    lines: &mut List<Line>,
+    n: u32,
+    next: u32,
+    k: u32,
+) -> Result<(), AllocError>
+    ensures { OnOk result (lines.new ≡ lines.old ++ into_while n next k) }
+{
+    add_if_goto(alloc, lines, n, "WHILE_DO", k)?;
+    add_goto(alloc, lines, next, "WHILE_END", k)?;
+    add_label(alloc, lines, n, "WHILE_DO", k)
+}
+
+// Where a `while` begins again.
+fn leave_while(alloc: Global, lines: &mut List<Line>, n: u32, k: u32) -> Result<(), AllocError>
+    ensures { OnOk result (lines.new ≡ lines.old ++ out_of_while n k) }
+{
+    add_goto(alloc, lines, n, "WHILE_EXP", k)?;
+    add_label(alloc, lines, n, "WHILE_END", k)
+}
+
+#[cycle(statement)]
+fn add_if(
+    body: &mut Body,
+    around: &Around<'_>,
+    next: u32,
+    n: u32,
+    condition: &Expression,
+    holds: &[Statement],
+    fails: &[Statement],
+) -> Result<(), AllocError>
+    ensures { OnOk result (Adds (the_around around.now) next (If n (the_expression condition.now) (the_block holds.now) (the_block fails.now)) body.old body.new) }
+{
+    let k = body.ifs;
+    body.ifs = one_more(k)?;
+    add_expression(&mut body.lines, around, n, condition)?;
+    enter_if(
+        around.alloc,
+        &mut body.lines,
+        n,
+        first_number(next, fails),
+        k,
+    )?;
+    add_statements(body, around, next, holds)?;
+    if is_end(fails) {
+        return add_label(around.alloc, &mut body.lines, n, "IF_FALSE", k);
+    }
+    enter_else(around.alloc, &mut body.lines, n, next, k)?;
+    add_statements(body, around, next, fails)?;
+    add_label(around.alloc, &mut body.lines, n, "IF_END", k)
+}
+
+#[cycle(statement)]
+fn add_while(
+    body: &mut Body,
+    around: &Around<'_>,
+    next: u32,
+    n: u32,
+    condition: &Expression,
+    turn: &[Statement],
+) -> Result<(), AllocError>
+    ensures { OnOk result (Adds (the_around around.now) next (While n (the_expression condition.now) (the_block turn.now)) body.old body.new) }
+{
+    let k = body.whiles;
+    body.whiles = one_more(k)?;
+    add_label(around.alloc, &mut body.lines, n, "WHILE_EXP", k)?;
+    add_expression(&mut body.lines, around, n, condition)?;
+    enter_while(around.alloc, &mut body.lines, n, next, k)?;
+    add_statements(body, around, n, turn)?;
+    leave_while(around.alloc, &mut body.lines, n, k)
+}
+
+// The commands of a statement, where the number of what follows is given.
+#[cycle(statement)]
+fn add_statement(
+    body: &mut Body,
+    around: &Around<'_>,
+    next: u32,
+    s: &Statement,
+) -> Result<(), AllocError>
+    ensures { OnOk result (Adds (the_around around.now) next (the_statement s.now) body.old body.new) }
+{
+    match s {
+        Statement::Let {
+            number,
+            variable,
+            value,
+        } => {
+            let last = pop_variable(around, *variable);
+            add_value(&mut body.lines, around, *number, value, last)
+        }
+        Statement::LetField {
+            number,
+            field,
+            value,
+        } => {
+            let last = Command::Pop(Segment::This, *field);
+            add_value(&mut body.lines, around, *number, value, last)
+        }
+        Statement::LetThis { number, value } => {
+            let last = Command::Pop(Segment::Pointer, 0);
+            add_value(&mut body.lines, around, *number, value, last)
+        }
+        Statement::Store {
+            number,
+            base,
+            index,
+            value,
+        } => add_element(&mut body.lines, around, *number, base, index, value),
+        Statement::Do { number, call } => {
+            let last = Command::Pop(Segment::Temp, 0);
+            add_value(&mut body.lines, around, *number, call, last)
+        }
+        Statement::If {
+            number,
+            condition,
+            holds,
+            fails,
+        } => add_if(body, around, next, *number, condition, holds, fails),
+        Statement::While {
+            number,
+            condition,
+            body: turn,
+        } => add_while(body, around, next, *number, condition, turn),
+        Statement::Return { number, value } => {
+            add_value(&mut body.lines, around, *number, value, Command::Return)
+        }
+    }
+}
+
+/// The commands of statements, where the number of what follows them is given.
+#[cycle(statement)]
+pub(crate) fn add_statements(
+    body: &mut Body,
+    around: &Around<'_>,
+    next: u32,
+    ss: &[Statement],
+) -> Result<(), AllocError>
+    ensures { OnOk result (AddsText (the_around around.now) next (the_block ss.now) body.old body.new) }
+{
+    for (index, s) in ss.iter().enumerate() {
+        let following = first_number(next, &ss[index + 1..]);
+        add_statement(body, around, following, s)?;
+    }
+    Ok(())
+}

@@ -1,0 +1,186 @@
+//! The VM program of a program with resolved names.
+ghost use Rattle.std.specs.Prelude.{◌≡◌, ◌+◌, ◌++◌, ◌∷◌, ◌<◌, ℕ, [], OnOk, IfOk, map, length, slice_index, slice_get, drop, get_or};
+ghost use Rattle.jack_core.specs.Texts.{the_class, the_kind, the_subroutine, the_subroutines, the_program};
+ghost use Rattle.jack_compiler.specs.Lines.{object_lines};
+ghost use Rattle.jack_compiler.specs.Files.{class_part, file_name, files_of, names_in, statics_before};
+ghost use Rattle.jack_compiler.specs.Added.{AddsFunction, AreFunctions};
+ghost use Rattle.jack_compiler.specs.Files.{file_of as file_made, function_of as function_made};
+ghost use Rattle.jack_compiler.specs.Surroundings.{the_around};
+
+use crate::bodies::{Body, add_statements, first_number};
+use crate::expressions::{Around, name_at};
+use crate::lines::{name_of, quiet, short};
+use jack_core::{Class, Core, Kind, Subroutine};
+use outer_world::Name;
+use std::alloc::{AllocError, Global};
+use vm_tree::{Command, File, Function, Line, List, Program, Segment};
+
+// A method's object is its first argument.
+fn add_object(lines: &mut List<Line>, kind: Kind, n: u32) -> Result<(), AllocError>
+    ensures { OnOk result (lines.new ≡ lines.old ++ object_lines (the_kind kind) n) }
+{
+    if kind == Kind::Method {
+        quiet(lines, n, Command::Push(Segment::Argument, 0))?;
+        quiet(lines, n, Command::Pop(Segment::Pointer, 0))?;
+    }
+    Ok(())
+}
+
+// The function of a subroutine.
+fn function_of(around: &Around<'_>, number: usize, sub: &Subroutine) -> Result<Function, AllocError>
+    ensures { IfOk result (λ f. f ≡ function_made (the_around around.now) number (the_subroutine sub.now)) }
+{
+    let mut body = Body {
+        lines: List::new(around.alloc),
+        ifs: 0,
+        whiles: 0,
+    };
+    add_object(&mut body.lines, sub.kind, first_number(0, &sub.body))?;
+    add_statements(&mut body, around, 0, &sub.body)?;
+    let name = name_at(around, number)?;
+    Ok(Function {
+        name,
+        locals: short(sub.locals),
+        lines: body.lines,
+    })
+}
+
+// A sum, where 32 bits have it.
+fn sum(a: u32, b: u32) -> Result<u32, AllocError>
+    ensures { IfOk result (λ n. n ≡ a + b) }
+{
+    a.checked_add(b).ok_or(AllocError)
+}
+
+// How many statics the classes before each class have.
+fn statics_before(alloc: Global, classes: &[Class]) -> Result<Vec<u32>, AllocError>
+    ensures { IfOk result (λ v. (length v.items ≡ length classes.now) × ((k : ℕ) → k < length classes.now → slice_index v.items k ≡ statics_before (map the_class classes.now) k)) }
+{
+    let mut before = Vec::new(alloc);
+    let mut statics: u32 = 0;
+    for class in classes {
+        before.push(statics)?;
+        statics = sum(statics, class.statics)?;
+    }
+    Ok(before)
+}
+
+// As many lists without functions.
+fn no_functions(alloc: Global, classes: usize) -> Result<Vec<List<Function>>, AllocError>
+    ensures { IfOk result (λ v. (length v.items ≡ classes) × ((k : ℕ) → k < classes → get_or v.items k [] ≡ [])) }
+{
+    let mut functions = Vec::new(alloc);
+    for _ in 0..classes {
+        functions.push(List::new(alloc))?;
+    }
+    Ok(functions)
+}
+
+// The function of a subroutine comes to those of its class, where that is there.
+fn add_function(
+    functions: &mut Vec<List<Function>>,
+    around: &Around<'_>,
+    number: usize,
+    sub: &Subroutine,
+) -> Result<(), AllocError>
+    ensures { OnOk result (AddsFunction (the_around around.now) number (the_subroutine sub.now) functions.old.items functions.new.items) }
+{
+    let class = sub.class as usize;
+    if class < functions.len() {
+        let function = function_of(around, number, sub)?;
+        functions[class].push(function)?;
+    }
+    Ok(())
+}
+
+// The statics of the classes before that of a subroutine.
+fn before_of(sub: &Subroutine, before: &[u32]) -> u32
+    ensures { sub.now.class < length before.now → result ≡ slice_index before.now sub.now.class }
+{
+    match before.get(sub.class as usize) {
+        Some(statics) => *statics,
+        None => 0,
+    }
+}
+
+// The functions of each class, in order of their numbers. (Subroutine 0 has none.)
+fn functions(
+    alloc: Global,
+    core: &Core,
+    others: &[Subroutine],
+) -> Result<Vec<List<Function>>, AllocError>
+    ensures { IfOk result (λ v. AreFunctions (map the_class core.now.classes.items) (names_in core.now) (map the_subroutine others.now) v.items) }
+{
+    let before = statics_before(alloc, &core.classes)?;
+    let mut functions = no_functions(alloc, core.classes.len())?;
+    for (index, sub) in others.iter().enumerate() {
+        let around = Around {
+            alloc,
+            names: &core.names,
+            before: before_of(sub, &before),
+        };
+        add_function(&mut functions, &around, index + 1, sub)?;
+    }
+    Ok(functions)
+}
+
+// What stands before the dot of a name.
+fn class_part(name: &[u8]) -> &[u8]
+    ensures { result.now ≡ class_part name.now }
+{
+    for (end, b) in name.iter().enumerate() {
+        if *b == b'.' {
+            return &name[..end];
+        }
+    }
+    name
+}
+
+// What stands before the dot of the first function's name.
+fn file_name(alloc: Global, functions: &[Function]) -> Result<Name, AllocError>
+    ensures { IfOk result (λ name. name ≡ file_name functions.now) }
+{
+    match functions.first() {
+        Some(function) => name_of(alloc, class_part(function.name.as_bytes())),
+        None => Name::new(alloc, ""),
+    }
+}
+
+fn file_of(alloc: Global, functions: List<Function>) -> Result<File, AllocError>
+    ensures { IfOk result (λ file. file ≡ file_made functions) }
+{
+    Ok(File {
+        name: file_name(alloc, functions.as_slice())?,
+        opening: List::new(alloc),
+        functions,
+    })
+}
+
+fn files_of(alloc: Global, functions: Vec<List<Function>>) -> Result<Vec<File>, AllocError>
+    ensures { IfOk result (λ files. files.items ≡ map file_made functions.items) }
+{
+    let mut files = Vec::new(alloc);
+    for functions in functions {
+        files.push(file_of(alloc, functions)?)?;
+    }
+    Ok(files)
+}
+
+// All subroutines but the first one.
+fn others(core: &Core) -> &[Subroutine]
+    ensures { result.now ≡ drop 1 core.now.subroutines.items }
+{
+    match core.subroutines.split_first() {
+        Some((_, others)) => others,
+        None => &[],
+    }
+}
+
+/// The VM program of a program with resolved names: a file for each class, with the commands of the book's chapters 7 to
+/// 11 for its subroutines. Each command has the number of its statement, and whether it ends a step of the meaning.
+pub fn compile(alloc: Global, core: &Core) -> Result<Program, AllocError>
+    ensures { IfOk result (λ program. program ≡ files_of core.now) }
+{
+    let functions = functions(alloc, core, others(core))?;
+    Ok(List::of(files_of(alloc, functions)?))
+}
