@@ -7,3 +7,9 @@ pub mod Tokens
 pub mod Unknowns
 pub mod Meanings
 pub mod Preparing
+pub mod Headline
+pub mod Mapped
+pub mod Literals
+pub mod Fitting
+pub mod Resolved
+pub mod Computers

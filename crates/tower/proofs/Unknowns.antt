@@ -67,10 +67,10 @@ none_by : (locals xs ys : List Name) (o : Option Name) → first_unknown locals 
 none_by locals xs ys None e h = e
 none_by locals xs ys (Some y) e h = let f : first_unknown locals (xs ++ ys) ≡ Some y = found_first locals xs ys y e in absurd (cc (f, h))
 
-none_left : (locals xs ys : List Name) → first_unknown locals (xs ++ ys) ≡ None → first_unknown locals xs ≡ None
+pub none_left : (locals xs ys : List Name) → first_unknown locals (xs ++ ys) ≡ None → first_unknown locals xs ≡ None
 none_left locals xs ys h = none_by locals xs ys (first_unknown locals xs) refl h
 
-none_right : (locals xs ys : List Name) → first_unknown locals (xs ++ ys) ≡ None → first_unknown locals ys ≡ None
+pub none_right : (locals xs ys : List Name) → first_unknown locals (xs ++ ys) ≡ None → first_unknown locals ys ≡ None
 none_right locals xs ys h = sym (known_first locals xs ys (none_left locals xs ys h)) ∙ h
 
 next_known : (locals : List Name) (ss : List Statement) (i : ℕ) (s : Statement) → i < length ss → s ≡ get_or ss i s → first_unknown locals (names_in (take i ss)) ≡ None → first_unknown locals (statement_names s) ≡ None → first_unknown locals (names_in (take (suc i) ss)) ≡ None

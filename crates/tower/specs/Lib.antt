@@ -6,3 +6,6 @@ pub mod Whole
 pub mod Names
 pub mod Meant
 pub mod Prepared
+pub mod Headline
+pub mod Mapped
+pub mod Built

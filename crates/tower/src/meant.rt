@@ -6,7 +6,8 @@ ghost use Rattle.jack_meaning.specs.Text.{text_of};
 ghost use Rattle.jack_core.specs.Reading.{the_variable, the_expression, the_sign, the_operator};
 ghost use Rattle.jack_core.specs.Texts.{the_statement, the_block, the_subroutine, the_program};
 ghost use Rattle.tower.specs.Sizes.{size, sizes};
-ghost use Rattle.tower.specs.Meant.{constant_value, sign_meant, operator_meant, local_of, term_meant, exp_meant, value_meant, let_meant, statement_meant, statements_meant, body_meant, init_text, plain, returns, small_program, name_of};
+ghost use Rattle.tower.specs.Meant.{constant_value, sign_meant, operator_meant, local_of, term_meant, exp_meant, value_meant, let_meant, statement_meant, statements_meant, body_meant, init_text, plain, returns, small_program, small_names, name_of};
+ghost use Rattle.jack_compiler.specs.Files.{names_in};
 
 use crate::names::position;
 use crate::tree::{Constant, Expression, Name, Operator, Sign, Statement, Term};
@@ -276,6 +277,17 @@ pub fn subroutine_name(sub: u32) -> &'static str
     }
 }
 
+// The names of the subroutines, in the order of their numbers.
+fn small_names(alloc: Global) -> Result<Vec<Vec<u8>>, AllocError>
+    ensures { IfOk result (λ v. map (λ name. name.items) v.items ≡ small_names) }
+{
+    let mut names = Vec::new(alloc);
+    names.push(Vec::from_slice(alloc, b"start")?)?;
+    names.push(Vec::from_slice(alloc, b"Sys.init")?)?;
+    names.push(Vec::from_slice(alloc, b"Main.main")?)?;
+    Ok(names)
+}
+
 /// The program of a class of these locals and statements, with the small system.
 pub(crate) fn small_program(
     alloc: Global,
@@ -284,7 +296,8 @@ pub(crate) fn small_program(
 ) -> Result<Core, AllocError>
     requires known { length locals.now ≤ 16384 }
     requires few { sizes body.now ≤ 2 ^ 30 }
-    ensures { IfOk result (λ r. the_program r ≡ small_program locals.now body.now) }
+    ensures program { IfOk result (λ r. the_program r ≡ small_program locals.now body.now) }
+    ensures names { IfOk result (λ r. names_in r ≡ small_names) }
 {
     let start = function(0, 0, Vec::new(alloc));
     let init = function(0, 0, init_text(alloc)?);
@@ -297,6 +310,6 @@ pub(crate) fn small_program(
         classes: vec![in alloc; no_words, no_words]?,
         subroutines: vec![in alloc; start, init, main]?,
         init: 1,
-        names: Vec::new(alloc),
+        names: small_names(alloc)?,
     })
 }

@@ -3,6 +3,9 @@
 ghost use Rattle.std.specs.Prelude.{◌≡◌, ◌≤◌, [], IfOk};
 ghost use Rattle.tower.specs.declared.prepare.PrepareError.TheVariants.{Memory};
 ghost use Rattle.tower.specs.Trees.{after_declarations};
+ghost use Rattle.tower.specs.Meant.{small_names};
+ghost use Rattle.jack_compiler.specs.Files.{names_in};
+ghost use Rattle.jack_compiler.specs.Resolved.{IsResolvedCore};
 ghost use Rattle.jack_machine.specs.Whole.{Stands};
 ghost use Rattle.tower.specs.Sizes.{sizes};
 ghost use Rattle.tower.specs.Prepared.{Programs, Prepares, PreparesJack, IsReadFault, IsNameFault};
@@ -54,7 +57,8 @@ fn name_fault(e: NameError) -> PrepareError
 fn program(alloc: Global, class: Class) -> Result<Core, PrepareError>
     requires bounded { after_declarations 0 class.locals.items ≤ 16384 }
     requires sized { sizes class.body.items ≤ 1048576 }
-    ensures { Programs class result }
+    ensures program { Programs class result }
+    ensures names { IfOk result (λ core. names_in core ≡ small_names) }
 {
     let Class { name, locals, body } = class;
     let locals = all_locals(alloc, locals)?;
@@ -69,7 +73,9 @@ fn program(alloc: Global, class: Class) -> Result<Core, PrepareError>
 ///
 /// Grammar and Range as the text's first fault, else the first name fault.
 pub fn program_of_text(alloc: Global, text: &[u8]) -> Result<Core, PrepareError>
-    ensures { Prepares text.now result }
+    ensures prepared { Prepares text.now result }
+    ensures resolved { IfOk result IsResolvedCore }
+    ensures names { IfOk result (λ core. names_in core ≡ small_names) }
 {
     match parse(alloc, text) {
         Ok(class) => program(alloc, class),
