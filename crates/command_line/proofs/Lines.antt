@@ -1,5 +1,5 @@
 -- From the matches of `clap` to lines.
-use Rattle.std.proofs.Common.{◌≡◌, ◌≢◌, [], ℕ, List, Option, Some, true, refl, sym, ◌∙◌, ap, subst, codes, inl, inr, slice_index, arith}
+use Rattle.std.proofs.Common.{◌≡◌, ◌≢◌, [], ℕ, Bool, List, Option, Some, true, false, refl, sym, ◌∙◌, ap, subst, codes, inl, inr, slice_index, arith}
 use Rattle.std.specs.Str.Parse.{digits_value}
 use Rattle.clap.specs.Kinds.{HasKind, Kinds}
 use Rattle.clap.specs.Walk.{Row, Text, first_of}
@@ -11,10 +11,11 @@ use Rattle.clap.specs.declared.Error.{Error}
 use Rattle.clap.proofs.OnLiterals.{clap_on_literals}
 use Rattle.machine_io.specs.declared.report.Show.{Show}
 use Rattle.machine_io.specs.declared.report.Show.TheVariants as shows
-use Rattle.command_line.specs.Table.{run_command, table}
+use Rattle.command_line.specs.Table.{run_command, table, vm_command}
 use Rattle.command_line.specs.declared.request.RunLevel.{RunLevel}
 use Rattle.command_line.specs.declared.request.RunLevel.TheVariants as levels
-use Rattle.command_line.specs.Line.{AreOneLine, IsInRange, IsLine, IsReading, Line, NumberIn, asm, exec, level_word, run, show_word}
+use Rattle.command_line.specs.declared.request.SourceKind.{SourceKind}
+use Rattle.command_line.specs.Line.{AreOneLine, IsInRange, IsLine, IsReading, Line, NumberIn, asm, exec, flag_word, kind_of as source_kind, level_word, run, show, show_word, vm}
 
 -- texts that differ at one place are not the same
 differ : (i : ℕ) → (xs ys : List ℕ) → (slice_index xs i ≡ slice_index ys i → ⊥) → xs ≡ ys → ⊥
@@ -29,26 +30,65 @@ run_is_not_asm = differ 0 (codes "run") (codes "asm") (λ e. let h : 114 ≡ 97 
 run_is_not_exec : codes "run" ≡ codes "exec" → ⊥
 run_is_not_exec = differ 0 (codes "run") (codes "exec") (λ e. let h : 114 ≡ 101 = e in omega (arith, h))
 
+show_is_not_asm : codes "show" ≡ codes "asm" → ⊥
+show_is_not_asm = differ 0 (codes "show") (codes "asm") (λ e. let h : 115 ≡ 97 = e in omega (arith, h))
+
+show_is_not_exec : codes "show" ≡ codes "exec" → ⊥
+show_is_not_exec = differ 0 (codes "show") (codes "exec") (λ e. let h : 115 ≡ 101 = e in omega (arith, h))
+
+show_is_not_run : codes "show" ≡ codes "run" → ⊥
+show_is_not_run = differ 0 (codes "show") (codes "run") (λ e. let h : 115 ≡ 114 = e in omega (arith, h))
+
+vm_is_not_asm : codes "vm" ≡ codes "asm" → ⊥
+vm_is_not_asm = differ 0 (codes "vm") (codes "asm") (λ e. let h : 118 ≡ 97 = e in omega (arith, h))
+
+vm_is_not_exec : codes "vm" ≡ codes "exec" → ⊥
+vm_is_not_exec = differ 0 (codes "vm") (codes "exec") (λ e. let h : 118 ≡ 101 = e in omega (arith, h))
+
+vm_is_not_show : codes "vm" ≡ codes "show" → ⊥
+vm_is_not_show = differ 0 (codes "vm") (codes "show") (λ e. let h : 118 ≡ 115 = e in omega (arith, h))
+
+vm_is_not_run : codes "vm" ≡ codes "run" → ⊥
+vm_is_not_run = differ 0 (codes "vm") (codes "run") (λ e. let h : 118 ≡ 114 = e in omega (arith, h))
+
 -- ---- the matches of a command are those of its own lines only
 
 pub no_exec : (rows : List Row) → ((path : Text) (c f t : ℕ) → ¬ IsReading (codes "exec") rows (exec path c f t)) → (l : Line) → ¬ IsReading (codes "exec") rows l
 no_exec rows none (exec path c f t) h = none path c f t h
 no_exec rows none (asm path) h = exec_is_not_asm h.0
-no_exec rows none (run folder level n keys show) h = run_is_not_exec (sym h.0)
+no_exec rows none (show path kind) h = show_is_not_exec (sym h.0)
+no_exec rows none (vm folder bare) h = vm_is_not_exec (sym h.0)
+no_exec rows none (run folder level n keys shown) h = run_is_not_exec (sym h.0)
 
-pub no_run : (rows : List Row) → ((folder : Text) (level : RunLevel) (n : ℕ) (keys : Option Text) (show : Show) → ¬ IsReading (codes "run") rows (run folder level n keys show)) → (l : Line) → ¬ IsReading (codes "run") rows l
+pub no_show : (rows : List Row) → ((path : Text) (kind : SourceKind) → ¬ IsReading (codes "show") rows (show path kind)) → (l : Line) → ¬ IsReading (codes "show") rows l
+no_show rows none (asm path) h = show_is_not_asm h.0
+no_show rows none (exec path c f t) h = show_is_not_exec h.0
+no_show rows none (vm folder bare) h = vm_is_not_show (sym h.0)
+no_show rows none (show path kind) h = none path kind h
+no_show rows none (run folder level n keys shown) h = show_is_not_run h.0
+
+pub no_vm : (rows : List Row) → ((folder : Text) (bare : Bool) → ¬ IsReading (codes "vm") rows (vm folder bare)) → (l : Line) → ¬ IsReading (codes "vm") rows l
+no_vm rows none (asm path) h = vm_is_not_asm h.0
+no_vm rows none (exec path c f t) h = vm_is_not_exec h.0
+no_vm rows none (vm folder bare) h = none folder bare h
+no_vm rows none (show path kind) h = vm_is_not_show h.0
+no_vm rows none (run folder level n keys shown) h = vm_is_not_run h.0
+
+pub no_run : (rows : List Row) → ((folder : Text) (level : RunLevel) (n : ℕ) (keys : Option Text) (shown : Show) → ¬ IsReading (codes "run") rows (run folder level n keys shown)) → (l : Line) → ¬ IsReading (codes "run") rows l
 no_run rows none (asm path) h = run_is_not_asm h.0
 no_run rows none (exec path c f t) h = run_is_not_exec h.0
-no_run rows none (run folder level n keys show) h = none folder level n keys show h
+no_run rows none (show path kind) h = show_is_not_run (sym h.0)
+no_run rows none (vm folder bare) h = vm_is_not_run (sym h.0)
+no_run rows none (run folder level n keys shown) h = none folder level n keys shown h
 
 -- ---- the table
 
 pub table_is_free : is_simple_and_free table ≡ true
-unfolding clap_on_literals run_command
+unfolding clap_on_literals run_command vm_command
 table_is_free = refl
 
 pub table_is_simple : is_simple table ≡ true
-unfolding clap_on_literals run_command
+unfolding clap_on_literals run_command vm_command
 table_is_simple = refl
 
 -- the matches are those of a line
@@ -82,7 +122,9 @@ fault_line a ws e is fails other l (free, name, rows, found, reading) =
 pub in_range : (ws : List Text) (l : Line) → IsLine ws l → IsInRange l
 in_range ws (asm path) h = tt
 in_range ws (exec path c f t) (free, name, rows, found, reading) = (reading.2.2.small, reading.3.2.small, reading.4.2.small)
-in_range ws (run folder level n keys show) (free, name, rows, found, reading) = reading.3.2.small
+in_range ws (vm folder bare) h = tt
+in_range ws (show path kind) h = tt
+in_range ws (run folder level n keys shown) (free, name, rows, found, reading) = reading.3.2.small
 
 -- ---- words are at most one line
 
@@ -105,8 +147,12 @@ same_number rows id most n m (text, e, h) (other, f, k) =
 same_word : (rows : List Row) (id text other : Text) → first_of id rows ≡ Some text → first_of id rows ≡ Some other → text ≡ other
 same_word rows id text other e f = cc
 
-same_level : (l m : RunLevel) → l ≡ m
-same_level levels.Jack levels.Jack = refl
+-- the words for the levels differ in their first letters
+same_level : (l m : RunLevel) → level_word l ≡ level_word m → l ≡ m
+same_level levels.Jack levels.Jack e = refl
+same_level levels.Hack levels.Hack e = refl
+same_level levels.Jack levels.Hack e = absurd (differ 0 (codes "jack") (codes "hack") (λ e. let h : 106 ≡ 104 = e in omega (arith, h)) e)
+same_level levels.Hack levels.Jack e = absurd (differ 0 (codes "hack") (codes "jack") (λ e. let h : 104 ≡ 106 = e in omega (arith, h)) e)
 
 -- the words for what is shown differ in their first letters
 same_show : (s u : Show) → show_word s ≡ show_word u → s ≡ u
@@ -119,6 +165,18 @@ same_show shows.Heap shows.Nothing e = absurd (differ 0 (codes "heap") (codes "n
 same_show shows.Heap shows.Screen e = absurd (differ 0 (codes "heap") (codes "screen") (λ e. let h : 104 ≡ 115 = e in omega (arith, h)) e)
 same_show shows.Screen shows.Nothing e = absurd (differ 0 (codes "screen") (codes "none") (λ e. let h : 115 ≡ 110 = e in omega (arith, h)) e)
 same_show shows.Screen shows.Heap e = absurd (differ 0 (codes "screen") (codes "heap") (λ e. let h : 115 ≡ 104 = e in omega (arith, h)) e)
+
+same_flag : (b c : Bool) → flag_word b ≡ flag_word c → b ≡ c
+same_flag true true e = refl
+same_flag false false e = refl
+same_flag true false e = absurd (differ 0 (codes "true") (codes "false") (λ e. let h : 116 ≡ 102 = e in omega (arith, h)) e)
+same_flag false true e = absurd (differ 0 (codes "false") (codes "true") (λ e. let h : 102 ≡ 116 = e in omega (arith, h)) e)
+
+same_source : (p q : Text) (i j : SourceKind) → p ≡ q → source_kind p ≡ Some i → source_kind q ≡ Some j → show p i ≡ show q j
+same_source p q i j path e f =
+    let both : Some i ≡ Some j = sym e ∙ ap source_kind path ∙ f in
+    let kind : i ≡ j = cc in
+    cc
 
 same_line : (name other : Text) (rows others : List Row) (l m : Line) → rows ≡ others → IsReading name rows l → IsReading other others m → name ≡ other → l ≡ m
 same_line name other rows others (asm p) (asm q) same h k named =
@@ -138,14 +196,39 @@ same_line name other rows others (asm p) (run q m d ks u) same h k named = absur
 same_line name other rows others (run p l c js s) (asm q) same h k named = absurd (run_is_not_asm (sym h.0 ∙ named ∙ k.0))
 same_line name other rows others (exec p c f t) (run q m d ks u) same h k named = absurd (run_is_not_exec (sym k.0 ∙ sym named ∙ h.0))
 same_line name other rows others (run p l c js s) (exec q d g u) same h k named = absurd (run_is_not_exec (sym h.0 ∙ named ∙ k.0))
+same_line name other rows others (asm p) (show q j) same h k named = absurd (show_is_not_asm (sym k.0 ∙ sym named ∙ h.0))
+same_line name other rows others (show p i) (asm q) same h k named = absurd (show_is_not_asm (sym h.0 ∙ named ∙ k.0))
+same_line name other rows others (exec p c f t) (show q j) same h k named = absurd (show_is_not_exec (sym k.0 ∙ sym named ∙ h.0))
+same_line name other rows others (show p i) (exec q d g u) same h k named = absurd (show_is_not_exec (sym h.0 ∙ named ∙ k.0))
+same_line name other rows others (show p i) (run q m d ks u) same h k named = absurd (show_is_not_run (sym h.0 ∙ named ∙ k.0))
+same_line name other rows others (run p l c js s) (show q j) same h k named = absurd (show_is_not_run (sym k.0 ∙ sym named ∙ h.0))
+same_line name other rows others (show p i) (show q j) same h k named =
+    let R : List Row → Type 0 = λ r. IsReading other r (show q j) in
+    let k' = subst R (sym same) k in
+    let path : p ≡ q = same_word rows (codes "path") p q h.1 k'.1 in
+    same_source p q i j path h.2 k'.2
+same_line name other rows others (asm p) (vm q b) same h k named = absurd (vm_is_not_asm (sym k.0 ∙ sym named ∙ h.0))
+same_line name other rows others (vm p b) (asm q) same h k named = absurd (vm_is_not_asm (sym h.0 ∙ named ∙ k.0))
+same_line name other rows others (exec p c f t) (vm q b) same h k named = absurd (vm_is_not_exec (sym k.0 ∙ sym named ∙ h.0))
+same_line name other rows others (vm p b) (exec q d g u) same h k named = absurd (vm_is_not_exec (sym h.0 ∙ named ∙ k.0))
+same_line name other rows others (show p i) (vm q b) same h k named = absurd (vm_is_not_show (sym k.0 ∙ sym named ∙ h.0))
+same_line name other rows others (vm p b) (show q j) same h k named = absurd (vm_is_not_show (sym h.0 ∙ named ∙ k.0))
+same_line name other rows others (run p l c js s) (vm q b) same h k named = absurd (vm_is_not_run (sym k.0 ∙ sym named ∙ h.0))
+same_line name other rows others (vm p b) (run q m d ks u) same h k named = absurd (vm_is_not_run (sym h.0 ∙ named ∙ k.0))
+same_line name other rows others (vm p b) (vm q c) same h k named =
+    let R : List Row → Type 0 = λ r. IsReading other r (vm q c) in
+    let k' = subst R (sym same) k in
+    let folder : p ≡ q = same_word rows (codes "path") p q h.1 k'.1 in
+    let bare : b ≡ c = same_flag b c (same_word rows (codes "bare") (flag_word b) (flag_word c) h.2 k'.2) in
+    cc
 same_line name other rows others (run p l c js s) (run q m d ks u) same h k named =
     let R : List Row → Type 0 = λ r. IsReading other r (run q m d ks u) in
     let k' = subst R (sym same) k in
     let folder : p ≡ q = same_word rows (codes "path") p q h.1 k'.1 in
-    let level : l ≡ m = same_level l m in
+    let level : l ≡ m = same_level l m (same_word rows (codes "level") (level_word l) (level_word m) h.2 k'.2) in
     let cycles : c ≡ d = same_number rows (codes "cycles") 1000000000 c d h.3 k'.3 in
     let keys : js ≡ ks = sym h.4 ∙ k'.4 in
-    let show : s ≡ u = same_show s u (same_word rows (codes "show") (show_word s) (show_word u) h.5 k'.5) in
+    let shown : s ≡ u = same_show s u (same_word rows (codes "show") (show_word s) (show_word u) h.5 k'.5) in
     cc
 
 pub one_line : AreOneLine

@@ -1,5 +1,6 @@
 -- The command lines: which words are a line, and what the line asks for.
-use Rattle.std.specs.Prelude.{◌≡◌, ◌≤◌, ⊤, ℕ, List, [], Option, Some, None, codes, option_map}
+use Rattle.std.specs.Prelude.{◌≡◌, ◌≤◌, ⊤, ℕ, Bool, true, false, List, [], Option, Some, None, codes, nat_eq, option_map, if◌then◌else◌}
+use Rattle.std.specs.List.{ends_with}
 use Rattle.std.specs.Str.Parse.{IsNumeral, digits_value}
 use Rattle.clap.specs.Walk.{Row, Text, first_of, rows_of}
 use Rattle.clap.specs.Matches.{found_of}
@@ -11,6 +12,8 @@ use Rattle.machine_io.specs.declared.report.Show.{Show}
 use Rattle.machine_io.specs.declared.report.Show.TheVariants as shows
 use Rattle.command_line.specs.declared.request.RunLevel.{RunLevel}
 use Rattle.command_line.specs.declared.request.RunLevel.TheVariants as levels
+use Rattle.command_line.specs.declared.request.SourceKind.{SourceKind}
+use Rattle.command_line.specs.declared.request.SourceKind.TheVariants as kinds
 use Rattle.command_line.specs.declared.request.Request.{Request}
 use Rattle.command_line.specs.declared.request.Request.TheVariants as request
 
@@ -18,7 +21,9 @@ use Rattle.command_line.specs.declared.request.Request.TheVariants as request
 pub data Line : Type 0 where
   asm : (path : Text) → Line
   exec : (path : Text) (cycles from to : ℕ) → Line
-  run : (folder : Text) (level : RunLevel) (cycles : ℕ) (keys : Option Text) (show : Show) → Line
+  vm : (folder : Text) (bare : Bool) → Line
+  show : (path : Text) (kind : SourceKind) → Line
+  run : (folder : Text) (level : RunLevel) (cycles : ℕ) (keys : Option Text) (shown : Show) → Line
 
 -- One or more decimal digits and nothing else, which write a number of at most `most`.
 pub record IsNumber (text : List ℕ) (most n : ℕ) : Type 0 where
@@ -33,12 +38,26 @@ NumberIn rows id most n = (text : Text) × (first_of id rows ≡ Some text) × I
 -- the words of the levels at which a program can be run
 abbrev pub level_word : RunLevel → Text
 level_word levels.Jack = codes "jack"
+level_word levels.Hack = codes "hack"
 
 -- the words for what is shown of the memory after a report
 abbrev pub show_word : Show → Text
 show_word shows.Nothing = codes "none"
 show_word shows.Heap = codes "heap"
 show_word shows.Screen = codes "screen"
+
+-- the value that stands for an option that has no word of its own: whether it stands in the line
+abbrev pub flag_word : Bool → Text
+flag_word true = codes "true"
+flag_word false = codes "false"
+
+-- The kind of source that a path tells: `.vm` ends the path of a VM text, `.jack` that of a Jack class, and no
+-- other path is that of a source.
+abbrev pub kind_of : Text → Option SourceKind
+kind_of path =
+    if ends_with nat_eq path (codes ".vm") then Some kinds.Vm
+    else if ends_with nat_eq path (codes ".jack") then Some kinds.Jack
+    else None
 
 -- The matches of the command `name` are those of the line: a case for each row of the table.
 abbrev pub IsReading : Text → List Row → Line → Type 0
@@ -47,11 +66,15 @@ IsReading name rows (exec path cycles from to) =
     (name ≡ codes "exec") × (first_of (codes "path") rows ≡ Some path)
     × NumberIn rows (codes "cycles") 1000000000 cycles
     × NumberIn rows (codes "from") 32767 from × NumberIn rows (codes "to") 32767 to
-IsReading name rows (run folder level cycles keys show) =
+IsReading name rows (vm folder bare) =
+    (name ≡ codes "vm") × (first_of (codes "path") rows ≡ Some folder) × (first_of (codes "bare") rows ≡ Some (flag_word bare))
+IsReading name rows (show path kind) =
+    (name ≡ codes "show") × (first_of (codes "path") rows ≡ Some path) × (kind_of path ≡ Some kind)
+IsReading name rows (run folder level cycles keys shown) =
     (name ≡ codes "run") × (first_of (codes "path") rows ≡ Some folder)
     × (first_of (codes "level") rows ≡ Some (level_word level))
     × NumberIn rows (codes "cycles") 1000000000 cycles
-    × (first_of (codes "keys") rows ≡ keys) × (first_of (codes "show") rows ≡ Some (show_word show))
+    × (first_of (codes "keys") rows ≡ keys) × (first_of (codes "show") rows ≡ Some (show_word shown))
 
 -- The words are the line: `clap` reads them by the table without a fault, as a command of the table
 -- with its matches, and these are the line's. So words are no line where `clap` gives no matches, or
@@ -72,7 +95,9 @@ AreOneLine = (words : List Text) (line other : Line) → IsLine words line → I
 abbrev pub IsInRange : Line → Type 0
 IsInRange (asm path) = ⊤
 IsInRange (exec path cycles from to) = (cycles ≤ 1000000000) × (from ≤ 32767) × (to ≤ 32767)
-IsInRange (run folder level cycles keys show) = cycles ≤ 1000000000
+IsInRange (vm folder bare) = ⊤
+IsInRange (show path kind) = ⊤
+IsInRange (run folder level cycles keys shown) = cycles ≤ 1000000000
 
 -- ---- the code's side
 
@@ -80,6 +105,8 @@ IsInRange (run folder level cycles keys show) = cycles ≤ 1000000000
 abbrev pub line_of : Request → Line
 line_of (request.Asm path) = asm path.now
 line_of (request.Exec e) = exec e.path.now e.cycles e.from e.to
+line_of (request.Vm folder bare) = vm folder.now bare
+line_of (request.Show path kind) = show path.now kind
 line_of (request.Run r) = run r.folder.now r.level r.cycles (option_map (λ keys. keys.now) r.keys) r.show
 
 -- the matches of a command, as rows
@@ -102,5 +129,9 @@ ReadsLevel rows (Some level) = first_of (codes "level") rows ≡ Some (level_wor
 ReadsLevel rows None = (level : RunLevel) → ¬ (first_of (codes "level") rows ≡ Some (level_word level))
 
 abbrev pub ReadsShow : List Row → Option Show → Type 0
-ReadsShow rows (Some show) = first_of (codes "show") rows ≡ Some (show_word show)
-ReadsShow rows None = (show : Show) → ¬ (first_of (codes "show") rows ≡ Some (show_word show))
+ReadsShow rows (Some shown) = first_of (codes "show") rows ≡ Some (show_word shown)
+ReadsShow rows None = (shown : Show) → ¬ (first_of (codes "show") rows ≡ Some (show_word shown))
+
+abbrev pub ReadsFlag : List Row → Text → Option Bool → Type 0
+ReadsFlag rows id (Some stands) = first_of id rows ≡ Some (flag_word stands)
+ReadsFlag rows id None = (stands : Bool) → ¬ (first_of id rows ≡ Some (flag_word stands))

@@ -1,5 +1,6 @@
 -- The table of commands, as data: what `clap` is given, and what says which words are a line.
 use Rattle.std.specs.Prelude.{[], ◌∷◌, List, true, false, Some, codes}
+use Rattle.clap.specs.declared.builder.action.ArgAction.TheVariants.{SetTrue}
 use Rattle.clap.specs.Walk.{Rule, Text}
 use Rattle.clap.specs.Simple.{App, Shape, new_rule, new_shape}
 
@@ -21,6 +22,10 @@ extra_rule name = record (new_rule name) { long = Some name }
 abbrev pub default_rule : Text → Text → Rule
 default_rule name meant = record (new_rule name) { long = Some name; defaults = meant ∷ [] }
 
+-- `--name`, at most once, which may be left out: the value is `true` where it stands, and else `false`
+abbrev pub flag_rule : Text → Rule
+flag_rule name = record (new_rule name) { long = Some name; action = Some SetTrue }
+
 -- a row: the name of a command, and its cells in order
 abbrev pub command : Text → List Rule → Shape
 command name rules = record (new_shape name) { rules = rules }
@@ -41,6 +46,14 @@ exec_command = command (codes "exec")
     (word_rule (codes "path") ∷ option_rule (codes "cycles") ∷ option_rule (codes "from")
     ∷ option_rule (codes "to") ∷ [])
 
+-- `vm D [--bare]`
+unfoldable pub vm_command : Shape
+vm_command = command (codes "vm") (word_rule (codes "path") ∷ flag_rule (codes "bare") ∷ [])
+
+-- `show F`
+abbrev pub show_command : Shape
+show_command = path_command (codes "show")
+
 -- `run D --level L --cycles N [--keys F] [--show W]`
 unfoldable pub run_command : Shape
 run_command = command (codes "run")
@@ -60,5 +73,5 @@ bare_table = record {
 abbrev pub table : App
 table = record bare_table {
   top = record bare_table.top { is_leaf = false };
-  subs = asm_command ∷ exec_command ∷ run_command ∷ [];
+  subs = asm_command ∷ exec_command ∷ vm_command ∷ show_command ∷ run_command ∷ [];
 }

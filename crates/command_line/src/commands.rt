@@ -2,10 +2,10 @@
 ghost use Rattle.std.specs.Prelude.{◌≡◌, ◌∷◌, [], IfOk, false, codes};
 ghost use Rattle.clap.specs.Words.{app_of, rule_of, shape_of, with_subcommand};
 ghost use Rattle.clap.specs.declared.builder.Command.TheViews.{out-Command as fields_of};
-ghost use Rattle.command_line.specs.Table.{asm_command, bare_table, command, default_rule, exec_command, extra_rule, option_rule, path_command, run_command, word_rule};
+ghost use Rattle.command_line.specs.Table.{asm_command, bare_table, command, default_rule, exec_command, extra_rule, flag_rule, option_rule, path_command, run_command, show_command, vm_command, word_rule};
 ghost use Rattle.command_line.specs.Table as table;
 
-use clap::{Arg, Command};
+use clap::{Arg, ArgAction, Command};
 use std::alloc::{AllocError, Global};
 
 // A word that stands by itself.
@@ -40,6 +40,14 @@ fn default<'a>(alloc: Global, name: &'a str, meant: &'a str) -> Arg<'a>
     extra(alloc, name).default_value(meant)
 }
 
+// `--name`, which may be left out.
+fn flag(alloc: Global, name: &str) -> Arg<'_>
+    ensures rule { rule_of result ≡ flag_rule name.now }
+    ensures local { result.global ≡ false }
+{
+    extra(alloc, name).action(ArgAction::SetTrue)
+}
+
 // A command with a path alone.
 fn path_only<'a>(alloc: Global, name: &'a str) -> Result<Command<'a>, AllocError>
     ensures shape { IfOk result (λ c. shape_of c ≡ path_command name.now) }
@@ -57,6 +65,16 @@ fn exec<'a>(alloc: Global) -> Result<Command<'a>, AllocError>
         .arg(option(alloc, "cycles"))?
         .arg(option(alloc, "from"))?
         .arg(option(alloc, "to"))
+}
+
+#[tactic(auto, unfolding(crate::specs::Table::vm_command))]
+fn vm<'a>(alloc: Global) -> Result<Command<'a>, AllocError>
+    ensures shape { IfOk result (λ c. shape_of c ≡ vm_command) }
+    ensures local { IfOk result (λ c. (fields_of c).has_globals ≡ false) }
+{
+    Command::new(alloc, "vm")
+        .arg(word(alloc, "path"))?
+        .arg(flag(alloc, "bare"))
 }
 
 // The cells of `run` that must stand.
@@ -97,9 +115,17 @@ fn with_machine<'a>(alloc: Global, top: Command<'a>) -> Result<Command<'a>, Allo
         .subcommand(exec(alloc)?)
 }
 
+// Adds `vm` and `show`.
+fn with_sources<'a>(alloc: Global, top: Command<'a>) -> Result<Command<'a>, AllocError>
+    ensures { IfOk result (λ c. app_of c ≡ with_subcommand (with_subcommand (app_of top.entry) vm_command) show_command) }
+{
+    top.subcommand(vm(alloc)?)?
+        .subcommand(path_only(alloc, "show")?)
+}
+
 /// The table of the commands that work.
 pub fn table<'a>(alloc: Global) -> Result<Command<'a>, AllocError>
     ensures { IfOk result (λ c. app_of c ≡ table.table) }
 {
-    with_machine(alloc, bare(alloc))?.subcommand(run(alloc)?)
+    with_sources(alloc, with_machine(alloc, bare(alloc))?)?.subcommand(run(alloc)?)
 }

@@ -10,7 +10,7 @@ mod reader;
 mod request;
 
 pub use reader::{LineError, one_line_law, read};
-pub use request::{Exec, Request, Run, RunLevel};
+pub use request::{Exec, Request, Run, RunLevel, SourceKind};
 
 #[cfg(test)]
 mod tests;

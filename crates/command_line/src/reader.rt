@@ -1,11 +1,11 @@
 //! The line that words are.
 ghost use Rattle.std.specs.Prelude.{◌≡◌, ◌≤◌, ℕ, List, Some, IfOk, MatchOption, MatchResult, codes, map, option_map, string_bytes};
 ghost use Rattle.clap.specs.Words.{Row, Text, first_of, subcommand_rows_of};
-ghost use Rattle.command_line.specs.Line.{AreOneLine, IsInRange, IsLine, IsNoLine, IsReading, Line, Reads, ReadsLevel, ReadsNumber, ReadsShow, line_of, rows_in};
+ghost use Rattle.command_line.specs.Line.{AreOneLine, IsInRange, IsLine, IsNoLine, IsReading, Line, Reads, ReadsFlag, ReadsLevel, ReadsNumber, ReadsShow, kind_of, line_of, rows_in};
 
 use crate::commands::table;
 use crate::number::number;
-use crate::request::{Exec, Request, Run, RunLevel};
+use crate::request::{Exec, Request, Run, RunLevel, SourceKind};
 use clap::ArgMatches;
 use clap::error::ErrorKind;
 use machine_io::Show;
@@ -67,6 +67,53 @@ fn exec<'a>(matches: &ArgMatches<'a>) -> Option<Request<'a>>
     }))
 }
 
+// Whether an option without a value of its own stands.
+fn flag_in(matches: &ArgMatches<'_>, id: &str) -> Option<bool>
+    ensures { ReadsFlag (rows_in matches.now) id.now result }
+{
+    let Some(text) = text_in(matches, id) else {
+        return None;
+    };
+    match text {
+        "true" => Some(true),
+        "false" => Some(false),
+        _ => None,
+    }
+}
+
+fn vm<'a>(matches: &ArgMatches<'a>) -> Option<Request<'a>>
+    ensures { Reads (codes "vm") (rows_in matches.now) result }
+{
+    let folder = text_in(matches, "path")?;
+    let Some(bare) = flag_in(matches, "bare") else {
+        return None;
+    };
+    Some(Request::Vm { folder, bare })
+}
+
+// The kind of source that a path tells.
+fn kind_of(path: &str) -> Option<SourceKind>
+    ensures { result ≡ kind_of path.now }
+{
+    if path.as_bytes().ends_with(b".vm") {
+        Some(SourceKind::Vm)
+    } else if path.as_bytes().ends_with(b".jack") {
+        Some(SourceKind::Jack)
+    } else {
+        None
+    }
+}
+
+fn show<'a>(matches: &ArgMatches<'a>) -> Option<Request<'a>>
+    ensures { Reads (codes "show") (rows_in matches.now) result }
+{
+    let path = text_in(matches, "path")?;
+    let Some(kind) = kind_of(path) else {
+        return None;
+    };
+    Some(Request::Show { path, kind })
+}
+
 // The value of `--level`.
 fn level_in(matches: &ArgMatches<'_>) -> Option<RunLevel>
     ensures { ReadsLevel (rows_in matches.now) result }
@@ -76,6 +123,7 @@ fn level_in(matches: &ArgMatches<'_>) -> Option<RunLevel>
     };
     match text {
         "jack" => Some(RunLevel::Jack),
+        "hack" => Some(RunLevel::Hack),
         _ => None,
     }
 }
@@ -125,6 +173,8 @@ fn reading<'a>(name: &str, matches: &ArgMatches<'a>) -> Option<Request<'a>>
     match name {
         "asm" => asm(matches),
         "exec" => exec(matches),
+        "vm" => vm(matches),
+        "show" => show(matches),
         "run" => run(matches),
         _ => None,
     }

@@ -15,11 +15,22 @@ pub struct Exec<'a> {
     pub to: u16,
 }
 
+/// The kinds of source texts.
+#[derive(Clone, Copy, Debug, PartialEq, Eq)]
+pub enum SourceKind {
+    /// A VM text: `.vm`.
+    Vm,
+    /// A Jack class: `.jack`.
+    Jack,
+}
+
 /// The levels at which a program can be run.
 #[derive(Clone, Copy, Debug, PartialEq, Eq)]
 pub enum RunLevel {
     /// The meaning of the Jack text.
     Jack,
+    /// The computer, instruction by instruction.
+    Hack,
 }
 
 /// `run D --level L --cycles N [--keys F] [--show W]`: the report of a run of a program.
@@ -42,5 +53,9 @@ pub enum Request<'a> {
     /// `asm F`: the words of an assembly file, as `.hack` text.
     Asm { path: &'a str },
     Exec(Exec<'a>),
+    /// `vm D [--bare]`: the assembly of the VM files of a folder, with `bare` without start code.
+    Vm { folder: &'a str, bare: bool },
+    /// `show F`: the printed form of a source; its path tells the kind.
+    Show { path: &'a str, kind: SourceKind },
     Run(Run<'a>),
 }

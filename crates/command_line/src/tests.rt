@@ -1,5 +1,5 @@
 //! Words and the lines that they are.
-use crate::{Exec, LineError, Request, Run, RunLevel, read};
+use crate::{Exec, LineError, Request, Run, RunLevel, SourceKind, read};
 use machine_io::Show;
 use std::alloc::{AllocError, Global};
 use std::test::Fail;
@@ -258,10 +258,83 @@ fn reads_asm(rt: HostRuntime) -> Result<(), Fail> {
     Ok(())
 }
 
+fn vm<'a>(folder: &'a str, bare: bool) -> Request<'a> {
+    Request::Vm { folder, bare }
+}
+
+#[test]
+fn reads_vm(rt: HostRuntime) -> Result<(), Fail> {
+    let lines = [
+        ("vm v", vm("v", false)),
+        ("vm v --bare", vm("v", true)),
+        ("vm --bare v", vm("v", true)),
+        ("vm -- --bare", vm("--bare", false)),
+    ];
+    assert_eq!(rt; first_misread(rt.alloc(), &lines)?, None);
+    let texts = [
+        "vm",
+        "vm --bare",
+        "vm v w",
+        "vm v --bare --bare",
+        "vm v --bare=true",
+        "vm v --bare true",
+        "vm v --bar",
+        "vm v --cycles 1",
+    ];
+    assert_eq!(rt; first_accepted(rt.alloc(), &texts)?, None);
+    Ok(())
+}
+
+fn show<'a>(path: &'a str, kind: SourceKind) -> Request<'a> {
+    Request::Show { path, kind }
+}
+
+#[test]
+fn reads_show(rt: HostRuntime) -> Result<(), Fail> {
+    let lines = [
+        ("show a.vm", show("a.vm", SourceKind::Vm)),
+        ("show prog/A.jack", show("prog/A.jack", SourceKind::Jack)),
+        ("show .vm", show(".vm", SourceKind::Vm)),
+        ("show .jack", show(".jack", SourceKind::Jack)),
+        ("show a.jack.vm", show("a.jack.vm", SourceKind::Vm)),
+        ("show a.vm.jack", show("a.vm.jack", SourceKind::Jack)),
+        ("show -- -a.vm", show("-a.vm", SourceKind::Vm)),
+    ];
+    assert_eq!(rt; first_misread(rt.alloc(), &lines)?, None);
+    // another ending, a path too few, too many, an option
+    let texts = [
+        "show a",
+        "show ",
+        "show a.asm",
+        "show a.hdl",
+        "show a.Vm",
+        "show a.JACK",
+        "show avm",
+        "show ajack",
+        "show vm",
+        "show jack",
+        "show a.vmx",
+        "show a.vm/",
+        "show a.jack.",
+        "show",
+        "show a.vm b.vm",
+        "show --a.vm",
+        "show a.vm --cycles 1",
+        "show a.jack --show none",
+        "Show a.vm",
+    ];
+    assert_eq!(rt; first_accepted(rt.alloc(), &texts)?, None);
+    Ok(())
+}
+
 fn run<'a>(cycles: u32, keys: Option<&'a str>, show: Show) -> Request<'a> {
+    run_at(RunLevel::Jack, cycles, keys, show)
+}
+
+fn run_at<'a>(level: RunLevel, cycles: u32, keys: Option<&'a str>, show: Show) -> Request<'a> {
     Request::Run(Run {
         folder: "prog",
-        level: RunLevel::Jack,
+        level,
         cycles,
         keys,
         show,
@@ -303,6 +376,10 @@ fn reads_run(rt: HostRuntime) -> Result<(), Fail> {
             "run prog --keys=-k --level jack --cycles 7",
             run(7, Some("-k"), Show::Nothing),
         ),
+        (
+            "run prog --level hack --cycles 2000 --show screen",
+            run_at(RunLevel::Hack, 2000, None, Show::Screen),
+        ),
     ];
     assert_eq!(rt; first_misread(rt.alloc(), &lines)?, None);
     Ok(())
@@ -318,7 +395,6 @@ fn refuses_other_runs(rt: HostRuntime) -> Result<(), Fail> {
         "run prog other --level jack --cycles 1",
         "run prog --level Jack --cycles 1",
         "run prog --level vm --cycles 1",
-        "run prog --level hack --cycles 1",
         "run prog --level gates --cycles 1",
         "run prog --level  --cycles 1",
         "run prog --level jack --level jack --cycles 1",

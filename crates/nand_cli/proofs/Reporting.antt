@@ -17,7 +17,6 @@ use Rattle.machine_io.specs.declared.report.LevelName.TheVariants as names
 use Rattle.machine_io.specs.declared.report.Show.{Show}
 use Rattle.tower.specs.Meant.{name_of}
 use Rattle.command_line.specs.Line.{run}
-use Rattle.command_line.specs.declared.request.RunLevel.{RunLevel}
 use Rattle.command_line.specs.declared.request.RunLevel.TheVariants as levels
 use Rattle.nand_cli.specs.Answer.{Prints}
 use Rattle.nand_cli.specs.Parts.{Does, HasRun, LoadsJack, LoadsKeys, jack_text}
@@ -39,10 +38,6 @@ reported files folder n keys show old new lines end means has same (s, at, ends_
       refl,
     )
 
--- there is one level so far
-pub only_level : (level : RunLevel) → levels.Jack ≡ level
-only_level levels.Jack = refl
-
 -- what is put is told by what was read of the machine
 pub read_of : (jack : Jack) (end : End) (show : Show) (moves steps : ℕ) (name : List ℕ) (p : Point) → moves ≡ jack.moves → steps ≡ jack.moves → name ≡ name_of p.sub → p ≡ jack_point jack
     → report_text names.Jack moves steps name p.number end show (jack_word jack) ≡ jack_text jack end show
@@ -63,7 +58,7 @@ without_class files folder n keys show out err failure.Memory h = ([], [], (refl
 
 pub without_script : (files : Option Files) (folder : List ℕ) (n : ℕ) (keys : Option (List ℕ)) (show : Show) (out err : Option (List ℕ)) (program : Program) (f : Failure)
     → ClassMeans files (class_path folder) (Ok program) → LoadsKeys files keys (Err f) → Does files (run folder levels.Jack n keys show) out out err err (Err f)
-without_script files folder n keys show out err program (failure.Refused r) means h = ([], [], (refl, inr (program, means, h)), Got-nothing out, Got-nothing err)
+without_script files folder n keys show out err program (failure.Refused r) means h = ([], [], (refl, inr (inr (program, means, tt, h))), Got-nothing out, Got-nothing err)
 without_script files folder n keys show out err program failure.Read means h = ([], [], (refl, refl), Got-nothing out, Got-nothing err)
 without_script files folder n keys show out err program failure.Write means h = absurd h
 without_script files folder n keys show out err program failure.Memory means h = ([], [], (refl, refl), Got-nothing out, Got-nothing err)

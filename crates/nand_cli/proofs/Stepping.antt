@@ -1,14 +1,14 @@
 -- The machine after a drive, by the meaning of its program.
-use Rattle.std.proofs.Common.{◌≡◌, ◌+◌, ◌-◌, ℕ, zero, suc, List, [], ◌∷◌, ◌++◌, Option, Some, Result, Ok, Err, refl, sym, ◌∙◌, ap, subst, append-nil, arith, slice_index}
+use Rattle.std.proofs.Common.{◌≡◌, ◌+◌, ℕ, zero, suc, List, [], ◌∷◌, ◌++◌, Some, Result, Ok, Err, refl, sym, ◌∙◌, ap, subst, append-nil, arith}
 use Rattle.std.specs.Prelude.{IfOk}
 use Rattle.jack_meaning.specs.Text.{Let, LetField, LetThis, Store, Do, If, While, Return, Text, End, Next, Subroutine}
-use Rattle.jack_meaning.specs.Meaning.{Frame, State, point_of, start, step, text_point}
-use Rattle.jack_meaning.specs.Level.{meaning_of, point_in}
+use Rattle.jack_meaning.specs.Meaning.{Frame, State, point_of, start, text_point}
+use Rattle.jack_meaning.specs.Level.{meaning_of}
 use Rattle.jack_machine.specs.Rests.{unfolded_text}
 use Rattle.jack_core.specs.Texts.{the_program, the_subroutines}
-use Rattle.jack_machine.specs.Whole.{IsTurn, Leads, Stands, jack_point, jack_state, jack_word, settled, settled_frames}
+use Rattle.jack_machine.specs.Whole.{IsTurn, Leads, Stands, jack_state, settled, settled_frames}
 use Rattle.jack_machine.specs.declared.jack.Jack.{Jack}
-use Rattle.machine_io.specs.Driven.{Goes, IsDriven}
+use Rattle.machine_io.specs.Driven.{IsDriven}
 use Rattle.machine_io.specs.History.{Turn, moves_from, turn}
 use Rattle.machine_io.specs.declared.driving.End.{End as Ending}
 use Rattle.machine_io.specs.declared.driving.End.TheVariants as ends
@@ -16,7 +16,7 @@ use Rattle.machine_io.specs.declared.machine.Moved.{Moved}
 use Rattle.machine_io.specs.declared.machine.Moved.TheVariants as moved
 use Rattle.machine_io.specs.declared.machine.Stray.TheVariants as strays
 use Rattle.nand_cli.specs.Parts.{HasRun, Shows}
-use Rattle.nand_cli.specs.Running.{EndsAt, state_after}
+use Rattle.nand_cli.specs.Running.{state_after}
 
 -- ---- what the machine shows of a state in which a loop may be read as a choice
 

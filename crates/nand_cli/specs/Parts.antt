@@ -1,5 +1,5 @@
 -- What the parts of a call say; the call's own contract needs none of it.
-use Rattle.std.specs.Prelude.{◌≡◌, ◌≤◌, ◌<◌, ◌++◌, ◌⊎◌, ℕ, List, Option, Some, None, Result, Ok, Err, Vec, length}
+use Rattle.std.specs.Prelude.{◌≡◌, ◌≤◌, ◌<◌, ◌++◌, ◌⊎◌, ℕ, Bool, List, Option, Some, None, Result, Ok, Err, Vec, length, min}
 use Rattle.std.specs.declared.alloc.Global.{Global}
 use Rattle.command_line.specs.Line.{Line}
 use Rattle.outer_world.specs.Faults.{Rose}
@@ -23,14 +23,31 @@ use Rattle.machine_io.specs.Report.{report_text}
 use Rattle.machine_io.specs.declared.driving.End.{End}
 use Rattle.machine_io.specs.declared.report.LevelName.TheVariants as names
 use Rattle.machine_io.specs.declared.report.Show.{Show}
+use Rattle.machine_io.specs.declared.driving.End.TheVariants as ends
+use Rattle.hack_machine.specs.Loaded.{machine_of}
+use Rattle.jack_meaning.specs.Text.{Program}
+use Rattle.command_line.specs.declared.request.RunLevel.TheVariants as levels
+use Rattle.tower.specs.Built.{IsComputerOf}
+use Rattle.tower.specs.Mapped.{MappedMachine, StandsAt, program_in}
+use Rattle.tower.specs.declared.building.BuildError.{BuildError}
+use Rattle.tower.specs.declared.building.BuildError.TheVariants as builds
 use Rattle.tower.specs.Meant.{name_of}
 use Rattle.tower.specs.Names.{fault_told}
 use Rattle.tower.specs.declared.prepare.PrepareError.{PrepareError}
 use Rattle.tower.specs.declared.prepare.PrepareError.TheVariants as errors
 use Rattle.nand_cli.specs.Assembled.{IsFileOf, IsNoFile, TextSays, wrong_line}
 use Rattle.nand_cli.specs.Answer.{Before, Ends, Prints, Refuses}
-use Rattle.nand_cli.specs.Running.{ClassIsRefused, ClassMeans, EndsAt, HasKeys, ScriptIsRefused, name_fault_line, state_after, text_fault_line}
+use Rattle.nand_cli.specs.Running.{ClassIsRefused, ClassMeans, EndsAt, HasKeys, ImageIsRefused, ScriptIsRefused, image_line, name_fault_line, state_after, text_fault_line}
+use Rattle.nand_cli.specs.Shown.{IsFaulty}
 use Rattle.nand_cli.specs.Fault.{refusal_line}
+use Rattle.nand_cli.specs.Folder.{AreNames, AreSources, IsOverfull}
+use Rattle.nand_cli.specs.Translated.{FileIsRefused, FolderSpells, IsLinkLine, IsNoCode, SpellFiles, VmIsRefused}
+use Rattle.vm_tree.specs.declared.program.File.{File}
+use Rattle.vm_link.specs.Links.{Links}
+use Rattle.vm_link.specs.declared.fault.LinkFault.{LinkFault}
+use Rattle.vm_link.specs.declared.linked.Linked.{Linked}
+use Rattle.vm_translator.specs.Image.{image_of}
+use Rattle.vm_translator.specs.declared.coded.Coded.{Coded}
 use Rattle.nand_cli.specs.declared.command.Status.{Status}
 use Rattle.nand_cli.specs.declared.load.Form.{Form}
 use Rattle.nand_cli.specs.declared.refusal.Failure.{Failure}
@@ -91,6 +108,61 @@ LoadsText files path (Err failure.Read) = Unit {0}
 LoadsText files path (Err failure.Write) = ⊥
 LoadsText files path (Err failure.Memory) = Unit {0}
 
+-- What reading the source at a path says, with what its text spells and with which faults.
+abbrev pub LoadsSource : {A : Type 0} → (List ℕ → A → Type 0) → (List ℕ → Fault → Type 0) → Option Files → List ℕ → Result A Failure → Type 0
+LoadsSource spells refuses files path (Ok source) = (text : List ℕ) × HasFile files path text × spells text source
+LoadsSource spells refuses files path (Err (failure.Refused refusal)) = IsFaulty refuses files path (refusal_line refusal)
+LoadsSource spells refuses files path (Err failure.Read) = Unit {0}
+LoadsSource spells refuses files path (Err failure.Write) = ⊥
+LoadsSource spells refuses files path (Err failure.Memory) = Unit {0}
+
+-- What listing the source files of a folder says: their names, and with the limit on them.
+abbrev pub LoadsNames : Option Files → List ℕ → List ℕ → Result (Vec (List ℕ) Global) Failure → Type 0
+LoadsNames files folder ending (Ok names) = AreNames files folder ending names.items
+LoadsNames files folder ending (Err (failure.Refused refusal)) = ⊥
+LoadsNames files folder ending (Err failure.Read) = Unit {0}
+LoadsNames files folder ending (Err failure.Write) = ⊥
+LoadsNames files folder ending (Err failure.Memory) = Unit {0}
+
+abbrev pub LoadsSources : Option Files → List ℕ → List ℕ → Result (Vec (List ℕ) Global) Failure → Type 0
+LoadsSources files folder ending (Ok names) = AreSources files folder ending names.items
+LoadsSources files folder ending (Err (failure.Refused refusal)) = IsOverfull files folder ending (refusal_line refusal)
+LoadsSources files folder ending (Err failure.Read) = Unit {0}
+LoadsSources files folder ending (Err failure.Write) = ⊥
+LoadsSources files folder ending (Err failure.Memory) = Unit {0}
+
+-- What reading the VM texts of these names in a folder says.
+abbrev pub LoadsTexts : Bool → Option Files → List ℕ → List (List ℕ) → Result (List File) Failure → Type 0
+LoadsTexts bare files folder names (Ok program) = SpellFiles bare files folder names program
+LoadsTexts bare files folder names (Err (failure.Refused refusal)) = FileIsRefused bare files folder names (refusal_line refusal)
+LoadsTexts bare files folder names (Err failure.Read) = Unit {0}
+LoadsTexts bare files folder names (Err failure.Write) = ⊥
+LoadsTexts bare files folder names (Err failure.Memory) = Unit {0}
+
+-- What reading the program of a folder's VM files says.
+abbrev pub LoadsProgram : Bool → Option Files → List ℕ → Result (List File) Failure → Type 0
+LoadsProgram bare files folder (Ok program) = FolderSpells bare files folder program
+LoadsProgram bare files folder (Err (failure.Refused refusal)) = VmIsRefused bare files folder (refusal_line refusal)
+LoadsProgram bare files folder (Err failure.Read) = Unit {0}
+LoadsProgram bare files folder (Err failure.Write) = ⊥
+LoadsProgram bare files folder (Err failure.Memory) = Unit {0}
+
+-- What linking a program says, and what making its code.
+abbrev pub LinksProgram : Bool → List ℕ → List File → Result Linked Failure → Type 0
+LinksProgram bare folder program (Ok linked) = Links bare program (Ok linked)
+LinksProgram bare folder program (Err (failure.Refused refusal)) = IsNoCode bare folder program (refusal_line refusal)
+LinksProgram bare folder program (Err failure.Read) = ⊥
+LinksProgram bare folder program (Err failure.Write) = ⊥
+LinksProgram bare folder program (Err failure.Memory) = Unit {0}
+
+abbrev pub Codes : Bool → List ℕ → List File → Result Coded Failure → Type 0
+Codes bare folder program (Ok coded) =
+    (linked : Linked) × Links bare program (Ok linked) × (coded.instrs ≡ image_of linked) × (length (image_of linked) ≤ 32768)
+Codes bare folder program (Err (failure.Refused refusal)) = IsNoCode bare folder program (refusal_line refusal)
+Codes bare folder program (Err failure.Read) = ⊥
+Codes bare folder program (Err failure.Write) = ⊥
+Codes bare folder program (Err failure.Memory) = Unit {0}
+
 -- What making a machine of the class at a path says.
 abbrev pub LoadsJack : Option Files → List ℕ → Result Jack Failure → Type 0
 LoadsJack files path (Ok jack) = ClassMeans files path (Ok (the_program jack.core))
@@ -98,6 +170,15 @@ LoadsJack files path (Err (failure.Refused refusal)) = ClassIsRefused files path
 LoadsJack files path (Err failure.Read) = Unit {0}
 LoadsJack files path (Err failure.Write) = ⊥
 LoadsJack files path (Err failure.Memory) = Unit {0}
+
+-- What making a computer of the class at a path in a folder says.
+abbrev pub LoadsHack : Option Files → List ℕ → List ℕ → Result MappedMachine Failure → Type 0
+LoadsHack files folder path (Ok h) = (program : Program) × ClassMeans files path (Ok program) × IsComputerOf program (program_in h)
+LoadsHack files folder path (Err (failure.Refused refusal)) =
+    ClassIsRefused files path (refusal_line refusal) ⊎ ImageIsRefused levels.Hack files path folder (refusal_line refusal)
+LoadsHack files folder path (Err failure.Read) = Unit {0}
+LoadsHack files folder path (Err failure.Write) = ⊥
+LoadsHack files folder path (Err failure.Memory) = Unit {0}
 
 -- What reading the key script of a run says.
 abbrev pub LoadsKeys : Option Files → Option (List ℕ) → Result Keys Failure → Type 0
@@ -123,6 +204,15 @@ abbrev pub jack_text : Jack → End → Show → List ℕ
 jack_text jack end show =
     report_text names.Jack jack.moves jack.moves (name_of (jack_point jack).sub) (jack_point jack).number end show (jack_word jack)
 
+-- The computer has made n cycles under these keys, and ends at the bound.
+abbrev pub HasCycled : (ℕ → ℕ) → ℕ → MappedMachine → End → Type 0
+HasCycled code n h end = (end ≡ ends.Bound) × StandsAt h code n
+
+-- the report of what a computer shows
+abbrev pub hack_text : MappedMachine → End → Show → List ℕ
+hack_text h end show =
+    report_text names.Hack h.hack.moves h.count (name_of h.place.sub) h.place.number end show (machine_of h.hack).memory
+
 -- A failure is the refusal that this line tells of, unless memory is wanting.
 abbrev pub TellsLine : List ℕ → Failure → Type 0
 TellsLine line (failure.Refused refusal) = refusal_line refusal ≡ line
@@ -140,10 +230,26 @@ TellsPrepared path errors.Memory f = f ≡ failure.Memory
 TellsPrepared path (errors.Text fault) f = TellsLine (text_fault_line path fault) f
 TellsPrepared path (errors.Name fault) f = TellsLine (name_fault_line path (fault_told fault)) f
 
+-- The same of what is wrong with the class of a folder or with its image.
+abbrev pub TellsBuilt : List ℕ → List ℕ → BuildError → Failure → Type 0
+TellsBuilt folder path (builds.Prepare error) f = TellsPrepared path error f
+TellsBuilt folder path (builds.TooLarge w) f = TellsLine (image_line folder w) f
+
 -- The same of what is wrong with a text.
 abbrev pub TellsRead : List ℕ → ReadError → Failure → Type 0
 TellsRead path reads.Memory f = f ≡ failure.Memory
 TellsRead path (reads.Fault fault) f = TellsLine (text_fault_line path fault) f
+
+-- The same of a folder with so many files.
+abbrev pub TellsOverfull : List ℕ → ℕ → Failure → Type 0
+TellsOverfull folder n f = TellsLine (text_fault_line folder (Range (record { line = 0; column = 0 }) (min n 1000000000))) f
+
+-- The same of a program that is not linked.
+abbrev pub TellsLink : List ℕ → LinkFault → Failure → Type 0
+TellsLink folder fault (failure.Refused refusal) = IsLinkLine folder fault (refusal_line refusal)
+TellsLink folder fault failure.Read = ⊥
+TellsLink folder fault failure.Write = ⊥
+TellsLink folder fault failure.Memory = Unit {0}
 
 -- What putting a text on err says of its count and its bytes.
 abbrev pub Says : ℕ → ℕ → Option (List ℕ) → Option (List ℕ) → List ℕ → Put → Type 0

@@ -10,7 +10,7 @@ ghost use Rattle.nand_cli.specs.declared.refusal.Failure.TheVariants.{Memory};
 use itoa::Buffer;
 use outer_world::{Name, Pieces, Put, Sink};
 use scan_text::Place;
-use std::alloc::{AllocError, Global};
+use std::alloc::{AllocError, AllocFailed, Global};
 
 /// The kinds of refusal, each by its word on err.
 #[derive(Clone, Copy, Debug, PartialEq, Eq)]
@@ -20,6 +20,11 @@ pub enum Kind {
     LabelTwice,
     TooLarge,
     TooManyVariables,
+    NoFunction,
+    TwiceDefined,
+    NoLabel,
+    NoSysInit,
+    TooManyStatics,
     NotRising,
     FileName,
     VariableTwice,
@@ -36,6 +41,11 @@ impl Kind {
             Kind::LabelTwice => "LabelTwice",
             Kind::TooLarge => "TooLarge",
             Kind::TooManyVariables => "TooManyVariables",
+            Kind::NoFunction => "NoFunction",
+            Kind::TwiceDefined => "TwiceDefined",
+            Kind::NoLabel => "NoLabel",
+            Kind::NoSysInit => "NoSysInit",
+            Kind::TooManyStatics => "TooManyStatics",
             Kind::NotRising => "NotRising",
             Kind::FileName => "FileName",
             Kind::VariableTwice => "VariableTwice",
@@ -76,6 +86,14 @@ impl From<AllocError> for Failure {
     ghost from_gives = { λ _ e. e ≡ Memory };
 
     fn from(_: AllocError) -> Self {
+        Failure::Memory
+    }
+}
+
+impl<T: Drop> From<AllocFailed<T>> for Failure {
+    ghost from_gives = { λ _ e. e ≡ Memory };
+
+    fn from(_: AllocFailed<T>) -> Self {
         Failure::Memory
     }
 }

@@ -6,6 +6,7 @@ ghost use Rattle.key_script.specs.Codes.{code_at};
 ghost use Rattle.outer_world.specs.Written.{CountsPut, Puts};
 ghost use Rattle.nand_cli.specs.Parts.{Counts, Does, HasRun, jack_text};
 
+use crate::computing::answer_hack;
 use crate::refusal::Failure;
 use crate::sources::{load_jack, load_keys};
 use command_line::{Run, RunLevel};
@@ -76,5 +77,6 @@ pub fn answer_run<F: Shelf, O: Sink>(
 {
     match request.level {
         RunLevel::Jack => answer_jack(alloc, request, shelf, out),
+        RunLevel::Hack => answer_hack(alloc, request, shelf, out),
     }
 }

@@ -1,27 +1,33 @@
-//! The files of a run: the class of a folder, and the key script.
+//! The files of a run, the class of a folder and the key script, and sources: VM texts and Jack classes.
 ghost use Rattle.std.specs.Prelude.{◌≡◌, ◌++◌, [], IfOk, Some, option_map, string_bytes};
 ghost use Rattle.jack_machine.specs.Whole.{Stands};
 ghost use Rattle.tower.specs.Names.{fault_told};
 ghost use Rattle.nand_cli.specs.Fault.{kind_text};
-ghost use Rattle.nand_cli.specs.Parts.{CountsLoad, LoadsJack, LoadsKeys, LoadsText, TellsLine, TellsPrepared, TellsRead};
+ghost use Rattle.jack_parser.specs.Whole.{Refuses as RefusesClass};
+ghost use Rattle.nand_cli.specs.Parts.{CountsLoad, LoadsJack, LoadsKeys, LoadsSource, LoadsText, TellsLine, TellsPrepared, TellsRead};
 ghost use Rattle.nand_cli.specs.Running.{class_path, name_fault_line, name_kind_text, text_fault_line};
+ghost use Rattle.nand_cli.specs.Shown.{RefusesVm, SpellsClass, SpellsVm};
 
 use crate::refusal::{Detail, Failure, Kind, refusal_at};
 use grammar::{Fault, ReadError};
 use jack_machine::Jack;
+use jack_parser::parse_class;
+use jack_tree::Class;
 use key_script::{Keys, read_keys};
-use outer_world::{Reading, Shelf};
+use outer_world::{Name as FileName, Reading, Shelf};
 use scan_text::Place;
 use std::alloc::{AllocError, Global};
 use tower::{Name, NameFault, NameKind, PrepareError, prepare_jack};
+use vm_parser::parse;
+use vm_tree::Program;
 
 const FILE_LIMIT: u32 = 1_048_576;
 
-// The place of what is said of a whole file.
-const NOWHERE: Place = Place { line: 0, column: 0 };
+/// The place of what is said of a whole file or folder.
+pub const NOWHERE: Place = Place { line: 0, column: 0 };
 
-// The refusal of a text.
-fn text_refused(alloc: Global, path: &str, fault: Fault) -> Failure
+/// The refusal of a text.
+pub fn text_refused(alloc: Global, path: &str, fault: Fault) -> Failure
     ensures { TellsLine (text_fault_line path.now fault) result }
 {
     match fault {
@@ -53,8 +59,8 @@ fn name_refused(alloc: Global, path: &str, fault: NameFault) -> Failure
     refusal_at(alloc, path, place, kind_of(kind), Detail::Name(text))
 }
 
-// Why a text is no class.
-fn not_prepared(alloc: Global, path: &str, error: PrepareError) -> Failure
+/// Why a text is no class.
+pub fn not_prepared(alloc: Global, path: &str, error: PrepareError) -> Failure
     ensures { TellsPrepared path.now error result }
 {
     match error {
@@ -64,8 +70,8 @@ fn not_prepared(alloc: Global, path: &str, error: PrepareError) -> Failure
     }
 }
 
-// Why a text is no key script.
-fn not_read(alloc: Global, path: &str, error: ReadError) -> Failure
+/// Why a text is not read.
+pub fn not_read(alloc: Global, path: &str, error: ReadError) -> Failure
     ensures { TellsRead path.now error result }
 {
     match error {
@@ -74,8 +80,8 @@ fn not_read(alloc: Global, path: &str, error: ReadError) -> Failure
     }
 }
 
-// The text of a file.
-fn text_of<F: Shelf>(alloc: Global, path: &str, shelf: &mut F) -> Result<Vec<u8>, Failure>
+/// The text of a file.
+pub fn text_of<F: Shelf>(alloc: Global, path: &str, shelf: &mut F) -> Result<Vec<u8>, Failure>
     ensures loads { LoadsText (F.files shelf.old) path.now result }
     ensures counts { CountsLoad (F.faults shelf.old) (F.faults shelf.new) result }
     ensures kept { F.files shelf.new ≡ F.files shelf.old }
@@ -103,8 +109,8 @@ fn behind(folder: &str) -> &'static str
     }
 }
 
-// The file of the class in a folder.
-fn path_of_class(alloc: Global, folder: &str) -> Result<String, AllocError>
+/// The file of the class in a folder.
+pub fn path_of_class(alloc: Global, folder: &str) -> Result<String, AllocError>
     ensures { IfOk result (λ path. string_bytes path ≡ class_path folder.now) }
 {
     let mut path = String::from_str(alloc, folder)?;
@@ -165,5 +171,33 @@ pub fn load_keys<F: Shelf>(
     match path {
         None => Ok(Keys::none(alloc)),
         Some(path) => keys_at(alloc, path, shelf),
+    }
+}
+
+/// The program that the VM text at a path spells, its file without a name.
+pub fn load_vm<F: Shelf>(alloc: Global, path: &str, shelf: &mut F) -> Result<Program, Failure>
+    ensures loads { LoadsSource SpellsVm RefusesVm (F.files shelf.old) path.now result }
+    ensures counts { CountsLoad (F.faults shelf.old) (F.faults shelf.new) result }
+    ensures kept { F.files shelf.new ≡ F.files shelf.old }
+{
+    let text = text_of(alloc, path, shelf)?;
+    let name = FileName::new(alloc, "")?;
+    match parse(alloc, &name, &text, true) {
+        Ok(program) => Ok(program),
+        Err(error) => Err(not_read(alloc, path, error)),
+    }
+}
+
+/// The class that the Jack text at a path spells, its file without a name.
+pub fn load_class<F: Shelf>(alloc: Global, path: &str, shelf: &mut F) -> Result<Class, Failure>
+    ensures loads { LoadsSource SpellsClass RefusesClass (F.files shelf.old) path.now result }
+    ensures counts { CountsLoad (F.faults shelf.old) (F.faults shelf.new) result }
+    ensures kept { F.files shelf.new ≡ F.files shelf.old }
+{
+    let text = text_of(alloc, path, shelf)?;
+    let name = FileName::new(alloc, "")?;
+    match parse_class(alloc, &name, &text) {
+        Ok(class) => Ok(class),
+        Err(error) => Err(not_read(alloc, path, error)),
     }
 }

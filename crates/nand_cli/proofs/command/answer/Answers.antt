@@ -17,3 +17,15 @@ returns-in-Run-clause-counts g c = c.answer_run.ensures.counts (g.E.Sink.faults 
 
 pub returns-in-Exec-clause-counts : goal.returns-in-Exec-clause-counts
 returns-in-Exec-clause-counts g c = c.answer_exec.ensures.counts (g.E.Sink.faults c.args._err.now)
+
+pub returns-in-Show-clause-does : goal.returns-in-Show-clause-does
+returns-in-Show-clause-does g c = rw c.in-Show.is (c.answer_show.ensures.does (g.E.Sink.written c.args._err.now))
+
+pub returns-in-Show-clause-counts : goal.returns-in-Show-clause-counts
+returns-in-Show-clause-counts g c = c.answer_show.ensures.counts (g.E.Sink.faults c.args._err.now)
+
+pub returns-in-Vm-clause-does : goal.returns-in-Vm-clause-does
+returns-in-Vm-clause-does g c = rw c.in-Vm.is (c.answer_vm.ensures.does (g.E.Sink.written c.args._err.now))
+
+pub returns-in-Vm-clause-counts : goal.returns-in-Vm-clause-counts
+returns-in-Vm-clause-counts g c = c.answer_vm.ensures.counts (g.E.Sink.faults c.args._err.now)

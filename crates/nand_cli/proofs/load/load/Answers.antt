@@ -1,4 +1,4 @@
-use Rattle.std.proofs.Common.{List, ℕ, Vec, Global, Result, Ok, Err, subst}
+use Rattle.std.proofs.Common.{List, ℕ, Ok, Err, subst}
 use Rattle.hack_asm.specs.Faults.{Range, wrong_of}
 use Rattle.nand_cli.specs.Parts.{ReadsText}
 use Rattle.nand_cli.proofs.Assembling.{told, told_by, too_long}

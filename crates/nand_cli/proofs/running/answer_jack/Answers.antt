@@ -1,4 +1,4 @@
-use Rattle.std.proofs.Common.{[], List, ℕ, Option, Ok, Err, subst, option_map}
+use Rattle.std.proofs.Common.{[], Option, Ok, Err, subst, option_map}
 use Rattle.std.proofs.lemmas.Result.{err_from_is_err_and}
 use Rattle.jack_core.specs.Texts.{the_program}
 use Rattle.outer_world.specs.Files.{Files}

@@ -1,0 +1,55 @@
+use Rattle.std.proofs.Common.{[], Option, Ok, Err, refl, subst, option_map}
+use Rattle.std.proofs.lemmas.Result.{err_from_is_err_and}
+use Rattle.outer_world.specs.Files.{Files}
+use Rattle.outer_world.proofs.Passing.{Got-nothing}
+use Rattle.nand_cli.specs.Parts.{LoadsKeys, hack_text}
+use Rattle.nand_cli.specs.declared.command.Status.TheVariants as status
+use Rattle.nand_cli.proofs.Computers.{hack_reported, without_computer, without_keys}
+use Rattle.nand_cli.proofs.Saying.{GotPart-none}
+use Rattle.nand_cli.proofs.computing.answer_hack.Goals as goal
+
+pub returns-in_err-level-clause-does : goal.returns-in_err-level-clause-does
+returns-in_err-level-clause-does g c = λ err.
+    let request = c.args.request.now in
+    let p = err_from_is_err_and c.from_residual.result c.from_residual.ensures.1 in
+    rw (p.1, p.2) (without_computer _ request.folder.now request.cycles (option_map (λ keys. keys.now) request.keys) request.show _ err _ c.in_err-level.ensures.loads)
+
+pub returns-in_err-keys-clause-does : goal.returns-in_err-keys-clause-does
+returns-in_err-keys-clause-does g c = λ err.
+    let request = c.args.request.now in
+    let path = option_map (λ keys. keys.now) request.keys in
+    let p = err_from_is_err_and c.from_residual-in_err-keys.result c.from_residual-in_err-keys.ensures.1 in
+    let P : Option Files → Type 0 = λ files. LoadsKeys files path (Err c.in_err-keys.field-0.0) in
+    rw (p.1, p.2) (without_keys _ request.folder.now request.cycles path request.show _ err c.in_ok-level.level _ c.in_ok-level.ensures.loads (subst P c.in_ok-level.ensures.kept c.in_err-keys.ensures.loads))
+
+pub returns-in-Done-clause-does : goal.returns-in-Done-clause-does
+returns-in-Done-clause-does g c = λ err.
+    let request = c.args.request.now in
+    let path = option_map (λ keys. keys.now) request.keys in
+    let P : Option Files → Type 0 = λ files. LoadsKeys files path (Ok c.in_ok-keys.keys) in
+    let keys = subst P c.in_ok-level.ensures.kept c.in_ok-keys.ensures.loads in (
+      hack_text c.run_hack.new.level c.in_ok-end.end request.show,
+      [],
+      hack_reported _ request.folder.now request.cycles path request.show c.in_ok-level.level c.run_hack.new.level c.in_ok-keys.keys.lines.items c.in_ok-end.end c.in_ok-level.ensures.loads keys c.in_ok-end.ensures.program c.in_ok-end.ensures.ran,
+      c.in-Done.ensures.put,
+      Got-nothing err,
+    )
+
+pub returns-clause-does : goal.returns-clause-does
+returns-clause-does g c = λ err.
+    let request = c.args.request.now in
+    let path = option_map (λ keys. keys.now) request.keys in
+    let P : Option Files → Type 0 = λ files. LoadsKeys files path (Ok c.in_ok-keys.keys) in
+    let keys = subst P c.in_ok-level.ensures.kept c.in_ok-keys.ensures.loads in (
+      status.Done,
+      hack_text c.run_hack.new.level c.in_ok-end.end request.show,
+      [],
+      hack_reported _ request.folder.now request.cycles path request.show c.in_ok-level.level c.run_hack.new.level c.in_ok-keys.keys.lines.items c.in_ok-end.end c.in_ok-level.ensures.loads keys c.in_ok-end.ensures.program c.in_ok-end.ensures.ran,
+      c.in-Failed.ensures.put,
+      GotPart-none _ _,
+    )
+
+pub returns-in_err-end-clause-does : goal.returns-in_err-end-clause-does
+returns-in_err-end-clause-does g c = λ err.
+    let p = err_from_is_err_and c.from_residual-in_err-end.result c.from_residual-in_err-end.ensures.1 in
+    rw (p.1, p.2) ([], [], (refl, refl), Got-nothing _, Got-nothing err)
