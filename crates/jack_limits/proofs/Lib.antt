@@ -1,0 +1,7 @@
+mod Words
+mod Trees
+mod Literals
+mod Reaching
+mod Weights
+mod Gains
+mod Limits
