@@ -1,11 +1,5 @@
-pub mod Thin
-pub mod Starts
-pub mod Trees
-pub mod Sizes
-pub mod Whole
-pub mod Names
-pub mod Meant
-pub mod Prepared
+pub mod Program
+pub mod Resolved
 pub mod Headline
 pub mod Mapped
 pub mod Built

@@ -5,38 +5,30 @@ ghost use Rattle.vm_link.specs.Sound.{IsSound};
 ghost use Rattle.vm_translator.specs.Mapping.{Covers};
 ghost use Rattle.vm_translator.specs.Plain.{IsPlain};
 ghost use Rattle.vm_translator.specs.Translated.{IsTranslated};
-ghost use Rattle.tower.specs.declared.building.BuildError.TheVariants.{Prepare};
-ghost use Rattle.tower.specs.declared.prepare.PrepareError.TheVariants.{Memory};
+ghost use Rattle.tower.specs.declared.building.BuildError.TheVariants.{Memory};
 ghost use Rattle.tower.specs.Mapped.{HasFollowed, program_in};
 ghost use Rattle.tower.specs.Built.{IsUnbuilt, map_for, run_program};
 
 use crate::hack_level::HackLevel;
-use crate::prepare::PrepareError;
 use hack_isa::{Instr, encode};
 use std::alloc::{AllocError, Global};
 use vm_link::Linked;
 use vm_translator::{CodeFault, Coded, translate};
 
-/// Why a text has no computer: it is no program, or its code has so many words, which are more than 32,768.
+/// Why a program has no computer: memory ran out, its files have so many static words, which are more than 240, or its image
+/// would have so many words, which are more than 32,768.
 #[derive(Debug, Drop)]
 pub enum BuildError {
-    Prepare(PrepareError),
+    Memory,
+    TooManyStatics(u64),
     TooLarge(u64),
 }
 
 impl From<AllocError> for BuildError {
-    ghost from_gives = { λ _ e. e ≡ Prepare Memory };
+    ghost from_gives = { λ _ e. e ≡ Memory };
 
     fn from(_e: AllocError) -> BuildError {
-        BuildError::Prepare(PrepareError::Memory)
-    }
-}
-
-impl From<PrepareError> for BuildError {
-    ghost from_gives = { λ p e. e ≡ Prepare p };
-
-    fn from(e: PrepareError) -> BuildError {
-        BuildError::Prepare(e)
+        BuildError::Memory
     }
 }
 
@@ -81,6 +73,6 @@ pub(crate) fn build(alloc: Global, linked: &Linked) -> Result<HackLevel, BuildEr
     match translate(alloc, linked, false) {
         Ok(coded) => Ok(start(alloc, coded)?),
         Err(CodeFault::TooLarge(words)) => Err(BuildError::TooLarge(words)),
-        Err(CodeFault::Memory) => Err(BuildError::Prepare(PrepareError::Memory)),
+        Err(CodeFault::Memory) => Err(BuildError::Memory),
     }
 }

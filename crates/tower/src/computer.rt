@@ -1,40 +1,31 @@
-//! From the text of a class to the computer at its start.
-ghost use Rattle.std.specs.Prelude.{◌≡◌, [], IfOk, false, Ok, Err};
-ghost use Rattle.vm_link.specs.Links.{Links};
-ghost use Rattle.vm_link.specs.Sound.{IsSound};
+//! From a program to the computer at its start.
+ghost use Rattle.std.specs.Prelude.{◌≡◌, [], IfOk};
+ghost use Rattle.jack_compiler.specs.Resolved.{IsResolvedCore};
 ghost use Rattle.tower.specs.Built.{PreparesHack};
 ghost use Rattle.tower.specs.Mapped.{HasFollowed};
 
 use crate::building::{BuildError, build};
 use crate::hack_level::HackLevel;
-use crate::prepare::{PrepareError, program_of_text};
-use jack_compiler::compile;
-use std::alloc::{AllocError, Global};
-use vm_link::{Linked, link};
-use vm_tree::Program;
+use jack_compiler::link_core;
+use jack_core::Core;
+use std::alloc::Global;
+use vm_link::LinkFault;
 
-// The linked code of a program that a compiler has made: linking finds no fault in it, but may want memory.
-fn linked_code(alloc: Global, program: Program) -> Result<Linked, AllocError>
-    ensures links { IfOk result (λ l. Links false program (Ok l)) }
-    ensures sound { IfOk result IsSound }
-{
-    match link(alloc, program, false) {
-        Ok(linked) => Ok(linked),
-        Err(_) => Err(AllocError),
-    }
-}
-
-/// The computer at its start with the image of the program of a text (`program_of_text`), by the compiler, the linker
-/// and the translator.
+/// The computer at its start with the image of a program, by the compiler, the linker and the translator.
 ///
-/// Grammar and Range as the text's first fault, else the first name fault, else TooLarge.
-pub fn prepare_hack(alloc: Global, text: &[u8]) -> Result<HackLevel, BuildError>
-    ensures prepared { PreparesHack text.now result }
+/// TooManyStatics where the linked files have more than 240 static words, else TooLarge where the image would have more than
+/// 32,768 words.
+pub fn prepare_hack(alloc: Global, core: &Core) -> Result<HackLevel, BuildError>
+    requires resolved { IsResolvedCore core.now }
+    ensures prepared { PreparesHack core.now result }
     ensures moves { IfOk result (λ h. h.hack.moves ≡ 0) }
     ensures stands { IfOk result (λ h. HasFollowed h []) }
 {
-    let core = program_of_text(alloc, text)?;
-    let program = compile(alloc, &core)?;
-    let linked = linked_code(alloc, program)?;
-    build(alloc, &linked)
+    match link_core(alloc, core) {
+        Ok(linked) => build(alloc, &linked),
+        Err(LinkFault::TooManyStatics(words)) => Err(BuildError::TooManyStatics(words)),
+        Err(LinkFault::Memory) => Err(BuildError::Memory),
+        // Where names are resolved there is no other fault.
+        Err(_) => unreachable!(),
+    }
 }

@@ -1,18 +1,19 @@
-//! Laws: no code, only the statements.
+//! Laws: no work, only the statements.
 
-ghost use Rattle.std.specs.Prelude.{ℕ};
-ghost use Rattle.scan_text.specs.declared.Place.{Place};
-ghost use Rattle.grammar.specs.Rules.{IsLawful};
-ghost use Rattle.jack_tree.specs.Tokens.{Word};
-ghost use Rattle.tower.specs.Thin.{Part, Said, thin};
 ghost use Rattle.tower.specs.Headline.{HeadlineLaw};
+ghost use Rattle.tower.specs.Resolved.{ResolvedLaw};
 
-/// The table of first tokens is that of the rules, and each named rule takes a token.
-pub fn first_tokens()
-    ensures { (end : Place) → IsLawful Word ℕ Part Said (thin end) }
-{}
+use jack_limits::read_law;
 
 /// The computer with the image of a program follows the program's meaning, cycle by cycle, under all keys.
 pub fn headline_law()
     ensures { HeadlineLaw }
 {}
+
+/// A program of spelled classes that has no name fault is one whose names are resolved: each name in it is there, and the
+/// names of its subroutines are apart.
+pub fn resolved_law()
+    ensures { ResolvedLaw }
+{
+    read_law();
+}

@@ -1,0 +1,5 @@
+use Rattle.tower.proofs.Programs.{resolved_by}
+use Rattle.tower.proofs.laws.resolved_law.Goals as goal
+
+pub returns : goal.returns
+returns c = resolved_by c.read_law.ensures

@@ -1,0 +1,9 @@
+-- A program without a name fault, whose classes were read, is one whose names are resolved.
+use Rattle.std.specs.Prelude.{List}
+use Rattle.jack_tree.specs.declared.tree.Class.{Class}
+use Rattle.jack_names.specs.Whole.{WellNamed, program_meant, all_names_meant}
+use Rattle.jack_limits.specs.Law.{AreSpelled}
+use Rattle.jack_compiler.specs.Resolved.{IsResolved}
+
+abbrev pub ResolvedLaw : Type 0
+ResolvedLaw = (own os : List Class) → WellNamed own os → AreSpelled own → AreSpelled os → IsResolved (program_meant own os) (all_names_meant own os)
