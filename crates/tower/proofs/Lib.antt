@@ -1,3 +1,10 @@
+mod Words
+mod Trees
+mod Literals
+mod Reaching
+mod Weights
+mod Gains
+mod Limits
 pub mod Headline
 pub mod Mapped
 pub mod Computers

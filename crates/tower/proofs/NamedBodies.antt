@@ -18,7 +18,7 @@ use Rattle.jack_names.specs.Symbols.{objects}
 use Rattle.jack_names.specs.Limits.{HasFew}
 use Rattle.jack_names.specs.Meant.{made_number, one, statement_meant, statements_meant}
 use Rattle.jack_names.specs.Whole.{begun, is_return, last_returns, returns, added_return, body_meant, kind_meant, subroutine_meant}
-use Rattle.jack_limits.specs.Read.{AreReadStatements}
+use Rattle.tower.specs.Read.{AreReadStatements}
 use Rattle.tower.proofs.NamedFaults.{none_both, uses_both}
 use Rattle.tower.proofs.NamedSound.{IsSound}
 use Rattle.tower.proofs.NamedExpressions.{made_whole}

@@ -19,7 +19,7 @@ use Rattle.jack_names.specs.Symbols.{Symbols, ClassScope, class_scope, scope_in,
 use Rattle.jack_names.specs.Limits.{AllHaveFew, AreWithin}
 use Rattle.jack_names.specs.Whole.{class_fault, uses_fault, start_fault, os_fault, class_subroutines, subroutine_meant, subroutines_meant, class_meant}
 use Rattle.jack_names.specs.declared.scope.Signature.{Signature}
-use Rattle.jack_limits.specs.Read.{AreReadSubroutines, AreReadClasses}
+use Rattle.tower.specs.Read.{AreReadSubroutines, AreReadClasses}
 use Rattle.tower.proofs.NamedFaults.{none_both}
 use Rattle.tower.proofs.NamedSound.{Takes, IsSound}
 use Rattle.tower.proofs.NamedEntries.{variables_each, members_each, first_found}

@@ -15,7 +15,7 @@ use Rattle.jack_tree.specs.declared.tree.Class.{Class}
 use Rattle.jack_names.specs.Tables.{is_among}
 use Rattle.jack_names.specs.Twice.{declarations_fault}
 use Rattle.jack_names.specs.Whole.{class_names, subroutine_name, names_meant, declared_fault}
-use Rattle.jack_limits.specs.Read.{IsName, AreReadSubroutines, AreReadClasses}
+use Rattle.tower.specs.Read.{IsName, AreReadSubroutines, AreReadClasses}
 use Rattle.tower.proofs.NamedFaults.{none_both}
 use Rattle.tower.proofs.NamedApart.{IsNew, AreApart, AreNew, new_both, apart_both, texts, Declared, later_classes, all_declared}
 

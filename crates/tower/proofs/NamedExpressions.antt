@@ -28,7 +28,7 @@ use Rattle.jack_names.specs.declared.scope.Way.{Way}
 use Rattle.jack_names.specs.declared.scope.Way.TheVariants as way
 use Rattle.jack_names.specs.declared.scope.Declared.{Declared}
 use Rattle.jack_names.specs.declared.scope.Signature.{Signature}
-use Rattle.jack_limits.specs.Read.{IsString, IsReadConstant, IsReadTerm, IsReadCall, IsRead, AreReadOperations, AreRead}
+use Rattle.tower.specs.Read.{IsString, IsReadConstant, IsReadTerm, IsReadCall, IsRead, AreReadOperations, AreRead}
 use Rattle.tower.proofs.NamedFaults.{none_both, uses_both, first_use, told_none, kind_none}
 use Rattle.tower.proofs.NamedSound.{IsSlot, Takes, IsSound, field_free, before, signature_sound}
 

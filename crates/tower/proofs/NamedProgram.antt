@@ -23,7 +23,7 @@ use Rattle.jack_names.specs.Meant.{number_by}
 use Rattle.jack_names.specs.Whole.{declared_fault, main_fault, uses_fault, os_fault, start_scope, start_fault, system_file, no_place, all_statics, all_uses_fault, WellNamed, start_subroutine, subroutines_meant, all_subroutines_meant, class_meant, found_by, program_meant, names_meant, all_names_meant}
 use Rattle.jack_names.specs.declared.scope.Way.TheVariants as way
 use Rattle.jack_names.specs.declared.scope.Signature.{Signature}
-use Rattle.jack_limits.specs.Read.{AreReadClasses}
+use Rattle.tower.specs.Read.{AreReadClasses}
 use Rattle.tower.proofs.NamedFaults.{none_both}
 use Rattle.tower.proofs.NamedSound.{Takes, IsSound, signature_sound}
 use Rattle.tower.proofs.NamedExpressions.{made_none}

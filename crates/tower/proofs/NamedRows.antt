@@ -9,7 +9,7 @@ use Rattle.jack_tree.specs.declared.tree.Subroutine.{Subroutine}
 use Rattle.jack_tree.specs.declared.tree.Class.{Class}
 use Rattle.jack_names.specs.Symbols.{Symbols, ClassScope, class_scope, fields_of, statics_of, objects}
 use Rattle.jack_names.specs.Whole.{all_statics, class_subroutines, subroutines_meant, class_meant, subroutine_name, names_meant}
-use Rattle.jack_limits.specs.Read.{AreReadClasses}
+use Rattle.tower.specs.Read.{AreReadClasses}
 use Rattle.tower.proofs.NamedFlat.{Owned, owned, flat}
 
 abbrev pub arity : Owned → ℕ

@@ -14,7 +14,7 @@ use Rattle.jack_names.specs.declared.fault.NameKind.TheVariants as kinds
 use Rattle.jack_names.specs.declared.scope.Slot.{Slot}
 use Rattle.jack_names.specs.declared.scope.Slot.TheVariants as slot
 use Rattle.jack_names.specs.declared.scope.Declared.{Declared}
-use Rattle.jack_limits.specs.Read.{IsReadIfThere, IsReadStatement, IsReadBlock, IsReadElse, AreReadStatements}
+use Rattle.tower.specs.Read.{IsReadIfThere, IsReadStatement, IsReadBlock, IsReadElse, AreReadStatements}
 use Rattle.tower.proofs.NamedFaults.{uses_both, first_use, told_none}
 use Rattle.tower.proofs.NamedSound.{IsSlot, IsSound, field_free}
 use Rattle.tower.proofs.NamedExpressions.{W, variable_whole, call_whole, exp_whole}

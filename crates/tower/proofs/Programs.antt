@@ -11,8 +11,8 @@ use Rattle.jack_core.specs.declared.program.Core.{Core}
 use Rattle.jack_names.specs.Limits.{AreWithin, subroutine_count}
 use Rattle.jack_names.specs.Resolved.{seen_bytes}
 use Rattle.jack_names.specs.Whole.{WellNamed, program_meant, all_names_meant, all_statics}
-use Rattle.jack_limits.specs.Read.{AreReadClasses}
-use Rattle.jack_limits.specs.Law.{AreSpelled, ReadLaw}
+use Rattle.tower.specs.Read.{AreReadClasses}
+use Rattle.tower.specs.Spelled.{AreSpelled, ReadLaw}
 use Rattle.jack_os.specs.System.{SpellClasses, system}
 use Rattle.jack_compiler.specs.Files.{names_in}
 use Rattle.jack_compiler.specs.Resolved.{IsResolved, IsResolvedCore}

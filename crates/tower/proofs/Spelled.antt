@@ -3,8 +3,8 @@ use Rattle.std.proofs.Common.{◌≡◌, ◌≤◌, ◌*◌, suc, List, [], ◌�
 use Rattle.jack_tree.specs.declared.tree.Class.{Class}
 use Rattle.jack_names.specs.Limits.{AreWithin, subroutine_count}
 use Rattle.jack_names.specs.Whole.{all_statics}
-use Rattle.jack_limits.specs.Read.{AreReadClasses}
-use Rattle.jack_limits.specs.Law.{AreSpelled, ReadLaw}
+use Rattle.tower.specs.Read.{AreReadClasses}
+use Rattle.tower.specs.Spelled.{AreSpelled, ReadLaw}
 use Rattle.jack_os.specs.System.{Texts, SpellClasses}
 
 pub spelled_are_read : ReadLaw → (cs : List Class) → AreSpelled cs → AreReadClasses cs

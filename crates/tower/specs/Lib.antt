@@ -1,3 +1,5 @@
+pub mod Read
+pub mod Spelled
 pub mod Program
 pub mod Resolved
 pub mod Headline

@@ -2,7 +2,7 @@
 use Rattle.std.specs.Prelude.{List}
 use Rattle.jack_tree.specs.declared.tree.Class.{Class}
 use Rattle.jack_names.specs.Whole.{WellNamed, program_meant, all_names_meant}
-use Rattle.jack_limits.specs.Law.{AreSpelled}
+use Rattle.tower.specs.Spelled.{AreSpelled}
 use Rattle.jack_compiler.specs.Resolved.{IsResolved}
 
 abbrev pub ResolvedLaw : Type 0

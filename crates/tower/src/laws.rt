@@ -1,19 +1,22 @@
-//! Laws: no work, only the statements.
+//! Laws: no code, only the statements.
 
 ghost use Rattle.tower.specs.Headline.{HeadlineLaw};
 ghost use Rattle.tower.specs.Resolved.{ResolvedLaw};
+ghost use Rattle.tower.specs.Spelled.{ReadLaw};
 
-use jack_limits::read_law;
-
-/// The computer with the image of a program follows the program's meaning, cycle by cycle, under all keys.
-pub fn headline_law()
-    ensures { HeadlineLaw }
+/// Each class that some text spells keeps to the limits of the language: its names, its integers and its strings, and how
+/// many things it declares.
+pub fn read_law()
+    ensures { ReadLaw }
 {}
 
 /// A program of spelled classes that has no name fault is one whose names are resolved: each name in it is there, and the
 /// names of its subroutines are apart.
 pub fn resolved_law()
     ensures { ResolvedLaw }
-{
-    read_law();
-}
+{}
+
+/// The computer with the image of a program follows the program's meaning, cycle by cycle, under all keys.
+pub fn headline_law()
+    ensures { HeadlineLaw }
+{}

@@ -10,5 +10,8 @@ mod program;
 pub use building::BuildError;
 pub use computer::prepare_hack;
 pub use hack_level::HackLevel;
-pub use laws::{headline_law, resolved_law};
+pub use laws::{headline_law, read_law, resolved_law};
 pub use program::{Program, ProgramError, program_of_classes};
+
+#[cfg(test)]
+mod tests;

@@ -3,13 +3,12 @@
 ghost use Rattle.std.specs.Prelude.{◌≡◌, ◌≤◌, List, All, IfOk, IfErr, Ok, Err, IsUtf8, length, map};
 ghost use Rattle.jack_names.specs.Resolved.{seen_bytes};
 ghost use Rattle.jack_compiler.specs.Resolved.{IsResolvedCore};
-ghost use Rattle.jack_limits.specs.Law.{AreSpelled};
+ghost use Rattle.tower.specs.Spelled.{AreSpelled};
 ghost use Rattle.jack_os.specs.System.{SpellClasses, system};
 ghost use Rattle.tower.specs.Program.{IsProgram, Means, named_core};
 ghost use Rattle.tower.specs.declared.program.ProgramError.TheVariants.{Memory};
 
 use jack_core::Core;
-use jack_limits::read_law;
 use jack_names::{NameError, NameFault, resolve};
 use jack_os::{SystemError, SystemFault, classes};
 use jack_tree::Class;
@@ -61,8 +60,6 @@ fn core_of(alloc: Global, own: &[Class], os: &[Class]) -> Result<Core, ProgramEr
     ensures resolved { IfOk result IsResolvedCore }
     ensures fault { IfErr result (λ e. IsProgram own.now (Err e)) }
 {
-    // A law, and no work: it bounds what the classes declare.
-    read_law();
     match resolve(alloc, own, os) {
         Ok(core) => Ok(core),
         Err(NameError::Memory) => Err(ProgramError::Memory),

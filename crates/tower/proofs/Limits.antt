@@ -10,13 +10,13 @@ use Rattle.jack_parser.specs.declared.counts.Counts.{Counts}
 use Rattle.jack_parser.specs.Jack.{jack, Part, Said, fresh, subroutine, class_rule}
 use Rattle.jack_parser.specs.ClassTrees.{subroutine_tree, class_tree}
 use Rattle.jack_names.specs.Limits.{HasFew, AllHaveFew}
-use Rattle.jack_limits.specs.Read.{IsReadClass}
-use Rattle.jack_limits.specs.Law.{IsSpelled}
-use Rattle.jack_limits.proofs.Words.{words_read}
-use Rattle.jack_limits.proofs.Trees.{IsReadTree, whole_read}
-use Rattle.jack_limits.proofs.Literals.{subroutines_read}
-use Rattle.jack_limits.proofs.Weights.{weight, weighs, sizes_within, subroutines_within}
-use Rattle.jack_limits.proofs.Gains.{Reach, two_parts, after_mark, after_free, one_more_of, in_own, fields_gain, statics_gain, locals_gain, parameters_counted, parameters_free}
+use Rattle.tower.specs.Read.{IsReadClass}
+use Rattle.tower.specs.Spelled.{IsSpelled}
+use Rattle.tower.proofs.Words.{words_read}
+use Rattle.tower.proofs.Trees.{IsReadTree, whole_read}
+use Rattle.tower.proofs.Literals.{subroutines_read}
+use Rattle.tower.proofs.Weights.{weight, weighs, sizes_within, subroutines_within}
+use Rattle.tower.proofs.Gains.{Reach, two_parts, after_mark, after_free, one_more_of, in_own, fields_gain, statics_gain, locals_gain, parameters_counted, parameters_free}
 
 module _ (at : Place) where
   subroutine_few : (t : Subroutine) (s s' : Counts) → weight (subroutine_tree t) ≤ 1048576 → Reach at s subroutine (subroutine_tree t) s' → HasFew t

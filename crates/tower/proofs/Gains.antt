@@ -23,7 +23,7 @@ use Rattle.jack_parser.specs.Jack.{jack, Part, Said, JackRule, so_many, one_more
 use Rattle.jack_parser.specs.ClassTrees.{next_name_tree, names_tree, declared_tree, scoped, variables_tree, locals_tree, parameter_tree, next_parameter_tree, parameters_tree}
 use Rattle.jack_names.specs.Twice.{names_of}
 use Rattle.jack_names.specs.Symbols.{fields_in, fields_of, statics_in, statics_of, locals_of}
-use Rattle.jack_limits.proofs.Reaching.{Reaches, Parts, IsCounted, parts}
+use Rattle.tower.proofs.Reaching.{Reaches, Parts, IsCounted, parts}
 
 -- So many more are counted, and at most 16,384 where no more were before.
 pub record Gains (x : Counted) (s s' : Counts) (n : ℕ) : Type 0 where

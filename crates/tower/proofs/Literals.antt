@@ -11,8 +11,8 @@ use Rattle.jack_tree.specs.declared.tree.Subroutine.{Subroutine}
 use Rattle.jack_parser.specs.Trees.{constant_leaf, term_tree, invoked_tree, exp_tree, rest_of, args_of, more_of}
 use Rattle.jack_parser.specs.StatementTrees.{index_tree, value_tree, any_tree, row_tree, other_tree, statements_tree}
 use Rattle.jack_parser.specs.ClassTrees.{subroutine_tree}
-use Rattle.jack_limits.specs.Read.{IsReadConstant, IsReadTerm, IsReadCall, IsRead, AreReadOperations, AreRead, IsReadIfThere, IsReadStatement, IsReadBlock, IsReadElse, AreReadStatements, AreReadSubroutines}
-use Rattle.jack_limits.proofs.Trees.{IsReadTree}
+use Rattle.tower.specs.Read.{IsReadConstant, IsReadTerm, IsReadCall, IsRead, AreReadOperations, AreRead, IsReadIfThere, IsReadStatement, IsReadBlock, IsReadElse, AreReadStatements, AreReadSubroutines}
+use Rattle.tower.proofs.Trees.{IsReadTree}
 
 constant_read : (c : Constant) → IsReadTree (constant_leaf c) → IsReadConstant c
 constant_read (constant.Integer n) h = h

@@ -2,7 +2,7 @@
 use Rattle.std.specs.Prelude.{ℕ, List, [], ◌∷◌}
 use Rattle.jack_tree.specs.declared.tree.Class.{Class}
 use Rattle.jack_parser.specs.Whole.{Spells, whole_tree}
-use Rattle.jack_limits.specs.Read.{IsReadClass}
+use Rattle.tower.specs.Read.{IsReadClass}
 
 -- some text spells the class
 abbrev pub IsSpelled : Class → Type 0

@@ -1,7 +1,0 @@
-mod Words
-mod Trees
-mod Literals
-mod Reaching
-mod Weights
-mod Gains
-mod Limits

@@ -1,0 +1,81 @@
+ghost use Rattle.std.specs.Prelude.{◌≡◌, IfOk, length};
+ghost use Rattle.tower.specs.Spelled.{AreSpelled};
+
+use crate::{ProgramError, prepare_hack, program_of_classes};
+use jack_names::NameKind;
+use jack_parser::parse_class;
+use jack_tree::Class;
+use machine_io::{End, Keyboard, Level, drive};
+use outer_world::{Name, Point};
+use scan_text::Place;
+use std::alloc::Global;
+use std::test::*;
+
+// The class Main that a text spells, as the only class of a folder.
+fn only(alloc: Global, text: &[u8]) -> Result<Vec<Class>, Fail>
+    ensures one { IfOk result (λ v. length v.items ≡ 1) }
+    ensures spelled { IfOk result (λ v. AreSpelled v.items) }
+{
+    let file = Name::new(alloc, "Main.jack")?;
+    match parse_class(alloc, &file, text) {
+        Ok(class) => Ok(vec![in alloc; class]?),
+        Err(_) => Err(Fail::from("the text is a class")),
+    }
+}
+
+struct NoKeys;
+
+impl Keyboard for NoKeys {
+    ghost code = { λ _ c. 0 };
+
+    fn at(&self, _c: u64) -> u16 {
+        0
+    }
+}
+
+#[test]
+fn unknown_variable(rt: HostRuntime) -> Result<(), Fail> {
+    let own = only(
+        rt.alloc(),
+        b"class Main { function void main() { let x = 1; return; } }",
+    )?;
+    match program_of_classes(rt.alloc(), &own) {
+        Err(ProgramError::Name(fault)) => {
+            assert!(rt; fault.kind == NameKind::UnknownVariable);
+            assert!(rt;
+                fault.place
+                    == Place {
+                        line: 1,
+                        column: 41
+                    }
+            );
+            Ok(())
+        }
+        _ => Err(Fail::from("a name has a fault")),
+    }
+}
+
+// The object is the first two words of the screen. At the end `Sys.init` has returned.
+#[test]
+fn method_and_static(rt: HostRuntime) -> Result<(), Fail> {
+    let own = only(
+        rt.alloc(),
+        b"class Main { static int n; field int sum, last;
+        method void add(int k) { let sum = sum + k; let last = n; return; }
+        function void main() { var Main m; let m = 16384;
+            while (n < 3) { let n = n + 1; do m.add(n); } return; } }",
+    )?;
+    let program = program_of_classes(rt.alloc(), &own)
+        .ok()
+        .ok_or("the class is a program")?;
+    assert!(rt; program.names.len() == 4);
+    assert!(rt; program.names[1].as_str() == "Main.add");
+    let mut hack = prepare_hack(rt.alloc(), &program.core)
+        .ok()
+        .ok_or("the program has an image")?;
+    assert!(rt; drive(&mut hack, &NoKeys, 3000)? == End::Bound);
+    assert!(rt; hack.word_at(16384) == 6);
+    assert!(rt; hack.word_at(16385) == 3);
+    assert!(rt; hack.point() == Point { sub: 0, number: 2 });
+    Ok(())
+}
