@@ -12,29 +12,34 @@ use Rattle.hack_asm.specs.Program.{Table, first_past, if_near, labelled, labels,
 use Rattle.outer_world.specs.Files.{Files, HasFile}
 use Rattle.hack_asm.specs.HackText.{Holds, HoldsWrong, IsRefusal as IsNoImage, words_of}
 use Rattle.nand_cli.specs.Assembled.{TextSays, wrong_line}
-use Rattle.nand_cli.specs.Parts.{Loads, ReadsText, SaysWrong, Tells, TellsLine}
+use Rattle.nand_cli.specs.Parts.{Loads, LoadsText, ReadsText, SaysWrong, Tells, TellsLine}
 use Rattle.nand_cli.specs.declared.load.Form.{Form}
 use Rattle.nand_cli.specs.declared.load.Form.TheVariants.{Assembly, Image}
 use Rattle.nand_cli.specs.declared.refusal.Failure.{Failure}
 use Rattle.nand_cli.specs.declared.refusal.Failure.TheVariants as failure
+use Rattle.nand_cli.proofs.Loading.{past}
 
 -- ---- a text that is too long
 
-test_true : (a b : ℕ) → a < b → nat_lt a b ≡ true
-test_true a b h = grind (arith, nat_tests, h)
-
-pub too_long : (form : Form) (text : List ℕ) → 1048576 < length text → TextSays form text (Err (Range (record { line = 0; column = 0 }) 1048577))
+too_long : (form : Form) (text : List ℕ) → 1048576 < length text → TextSays form text (Err (Range (record { line = 0; column = 0 }) 1048577))
 too_long Assembly text h =
     let at : Place = record { line = 0; column = 0 } in
-    let test = test_true 1048576 (length text) h in
+    let test = past 1048576 (length text) h in
     inr (fault.Range at 1048577, inl (rw test refl), refl)
 too_long Image text h =
     let at : Place = record { line = 0; column = 0 } in
-    let test = test_true 1048576 (length text) h in
+    let test = past 1048576 (length text) h in
     inr (fault.Range at 1048577, inl (rw test refl), refl)
 
+-- the words of a file whose text is not read
+pub words_unread : (form : Form) (files : Option Files) (path : List ℕ) (f : Failure) → LoadsText files path (Err f) → Loads form files path (Err f)
+words_unread form files path (failure.Refused r) (text, has, h, e) = (text, Range (record { line = 0; column = 0 }) 1048577, has, too_long form text h, e)
+words_unread form files path failure.Read h = tt
+words_unread form files path failure.Write h = h
+words_unread form files path failure.Memory h = tt
+
 -- the failure that tells of what is wrong with the text of a file
-pub told : (form : Form) (files : Option Files) (path : List ℕ) (f : Failure) (text : List ℕ) (w : Wrong) → HasFile files path text → TextSays form text (Err w) → TellsLine (wrong_line path w) f → Loads form files path (Err f)
+told : (form : Form) (files : Option Files) (path : List ℕ) (f : Failure) (text : List ℕ) (w : Wrong) → HasFile files path text → TextSays form text (Err w) → TellsLine (wrong_line path w) f → Loads form files path (Err f)
 told form files path (failure.Refused r) text w has m e = (text, w, has, m, e)
 told form files path failure.Read text w has m e = absurd e
 told form files path failure.Write text w has m e = absurd e

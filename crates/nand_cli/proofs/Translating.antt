@@ -1,10 +1,10 @@
 -- The assembly of a folder's program, or why there is none.
-use Rattle.std.proofs.Common.{◌≡◌, ◌<◌, ◌+◌, ◌++◌, ◌||◌, ◌⊎◌, ℕ, zero, suc, Bool, true, false, List, [], ◌∷◌, Option, Result, Ok, Err, All, length, take, drop, get_or, codes, decimal, refl, sym, ap, subst, inl, inr, arith, add-one}
-use Rattle.std.specs.Prelude.{is_some, nat_eq, nat_lt}
+use Rattle.std.proofs.Common.{◌≡◌, ◌<◌, ◌||◌, ◌⊎◌, ℕ, Bool, true, false, List, [], ◌∷◌, Option, Ok, Err, All, length, codes, decimal, refl, sym, ap, subst, inl, inr, arith}
+use Rattle.std.specs.Prelude.{is_some, nat_eq}
 use Rattle.std.specs.List.{AllByRecursion}
 use Rattle.std.proofs.lemmas.List.Elements.{recursion_from_All}
 use Rattle.std.proofs.lemmas.Bool.Decides.{nat_tests}
-use Rattle.outer_world.specs.Files.{Files, path_in}
+use Rattle.outer_world.specs.Files.{Files}
 use Rattle.outer_world.specs.Texts.{fault_line}
 use Rattle.outer_world.proofs.Passing.{Got-nothing}
 use Rattle.hack_isa.specs.declared.Instr.{Instr}
@@ -18,54 +18,14 @@ use Rattle.vm_link.specs.declared.linked.Linked.{Linked}
 use Rattle.vm_translator.specs.Image.{IsTooLarge}
 use Rattle.vm_translator.specs.Plain.{IsPlain, comps_of_a, comps_of_d, is_spelled, stands_among}
 use Rattle.command_line.specs.Line.{vm}
-use Rattle.nand_cli.specs.Folder.{AreSources, stem_of}
-use Rattle.nand_cli.specs.Parts.{Codes, Does, LinksProgram, LoadsProgram, LoadsSource, LoadsSources, LoadsTexts, TellsLine, TellsLink, too_long}
-use Rattle.nand_cli.specs.Translated.{FolderSpells, SpellFiles, SpellsFile, SpellsVmFile, overfull, unread, without_code}
+use Rattle.nand_cli.specs.Parts.{Codes, Does, LinksProgram, TellsLine, TellsLink, too_long}
+use Rattle.nand_cli.specs.Translated.{HasProgram, without_code}
 use Rattle.nand_cli.specs.declared.refusal.Failure.{Failure}
 use Rattle.nand_cli.specs.declared.refusal.Failure.TheVariants as failure
-
-past : (a b : ℕ) → a < b → nat_lt a b ≡ true
-past a b h = grind (arith, nat_tests, h)
+use Rattle.nand_cli.proofs.Loading.{past}
 
 pub file_too_long : (bare : Bool) (text : List ℕ) → 1048576 < length text → Refuses bare text too_long
 file_too_long bare text h = let test = past 1048576 (length text) h in inl (rw test refl)
-
--- ---- the files of a program
-
-pub spell_more : (bare : Bool) (files : Option Files) (folder : List ℕ) (names : List (List ℕ)) (program : List File) (name : List ℕ) (file : File)
-    → SpellFiles bare files folder names program → SpellsFile bare files folder name file → SpellFiles bare files folder (names ++ name ∷ []) (program ++ file ∷ [])
-spell_more bare files folder [] [] name file h k = (k, tt)
-spell_more bare files folder (n ∷ names) (f ∷ program) name file h k = (h.0, spell_more bare files folder names program name file h.1 k)
-spell_more bare files folder [] (f ∷ program) name file h k = absurd h
-spell_more bare files folder (n ∷ names) [] name file h k = absurd h
-
--- a list around one of its elements
-pub around : {A : Type 0} (xs : List A) (i : ℕ) (x : A) → i < length xs → x ≡ get_or xs i x → xs ≡ take i xs ++ x ∷ drop (i + 1) xs
-around [] i x h e = absurd (omega arith)
-around (y ∷ ys) zero x h e = ap (λ z. z ∷ ys) (sym e)
-around (y ∷ ys) (suc i) x h e = rw (add-one) (let ih : ys ≡ take i ys ++ x ∷ drop (i + 1) ys = around ys i x (omega arith) e in rw (add-one) at (ap (λ zs. y ∷ zs) ih))
-
-pub text_unread : (bare : Bool) (files : Option Files) (folder : List ℕ) (names before after : List (List ℕ)) (name : List ℕ) (program : List File) (f : Failure)
-    → names ≡ before ++ name ∷ after → SpellFiles bare files folder before program
-    → LoadsSource (SpellsVmFile bare (stem_of (codes ".vm") name)) (Refuses bare) files (path_in folder name) (Err f) → LoadsTexts bare files folder names (Err f)
-text_unread bare files folder names before after name program (failure.Refused r) e spelled h = (before, name, after, program, e, spelled, h)
-text_unread bare files folder names before after name program failure.Read e spelled h = tt
-text_unread bare files folder names before after name program failure.Write e spelled h = h
-text_unread bare files folder names before after name program failure.Memory e spelled h = tt
-
-pub unsourced : (bare : Bool) (files : Option Files) (folder : List ℕ) (f : Failure) → LoadsSources files folder (codes ".vm") (Err f) → LoadsProgram bare files folder (Err f)
-unsourced bare files folder (failure.Refused r) h = overfull h
-unsourced bare files folder failure.Read h = tt
-unsourced bare files folder failure.Write h = h
-unsourced bare files folder failure.Memory h = tt
-
-pub sourced : (bare : Bool) (files : Option Files) (folder : List ℕ) (names : List (List ℕ)) (r : Result (List File) Failure) → AreSources files folder (codes ".vm") names
-    → LoadsTexts bare files folder names r → LoadsProgram bare files folder r
-sourced bare files folder names (Ok program) are h = (names, are, h)
-sourced bare files folder names (Err (failure.Refused r)) are h = unread names are h
-sourced bare files folder names (Err failure.Read) are h = tt
-sourced bare files folder names (Err failure.Write) are h = h
-sourced bare files folder names (Err failure.Memory) are h = tt
 
 -- ---- its code
 
@@ -93,7 +53,7 @@ too_large bare folder program l words failure.Memory links large e = tt
 
 -- ---- nothing is put
 
-pub no_code : (bare : Bool) (files : Option Files) (folder : List ℕ) (program : List File) (out err : Option (List ℕ)) (f : Failure) → FolderSpells bare files folder program
+pub no_code : (bare : Bool) (files : Option Files) (folder : List ℕ) (program : List File) (out err : Option (List ℕ)) (f : Failure) → HasProgram bare files folder program
     → Codes bare folder program (Err f) → Does files (vm folder bare) out out err err (Err f)
 no_code bare files folder program out err (failure.Refused r) spells h = ([], [], (refl, without_code program spells h), Got-nothing out, Got-nothing err)
 no_code bare files folder program out err failure.Read spells h = absurd h

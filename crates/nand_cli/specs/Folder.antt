@@ -6,7 +6,7 @@ use Rattle.std.specs.Ordering.{nat_cmp}
 use Rattle.std.specs.Cmp.Lexicographic.{slice_cmp}
 use Rattle.grammar.specs.declared.Fault.TheVariants.{Range}
 use Rattle.outer_world.specs.Files.{Files, IsListing}
-use Rattle.nand_cli.specs.Running.{text_fault_line}
+use Rattle.nand_cli.specs.Fault.{text_fault_line}
 
 -- the names that end so, of some names
 abbrev pub ending_in : List ℕ → List (List ℕ) → List (List ℕ)

@@ -1,9 +1,13 @@
 -- What the parts of a call say; the call's own contract needs none of it.
-use Rattle.std.specs.Prelude.{◌≡◌, ◌≤◌, ◌<◌, ◌++◌, ◌⊎◌, ℕ, Bool, List, Option, Some, None, Result, Ok, Err, Vec, length, min}
+use Rattle.std.specs.Prelude.{◌≡◌, ◌≤◌, ◌<◌, ◌⊎◌, ◌++◌, ℕ, Bool, List, Option, Some, None, Result, Ok, Err, Vec, codes, length, min}
 use Rattle.std.specs.declared.alloc.Global.{Global}
 use Rattle.command_line.specs.Line.{Line}
+use Rattle.command_line.specs.declared.reader.LineError.{LineError}
+use Rattle.command_line.specs.declared.reader.LineError.TheVariants as no_line
+use Rattle.command_line.specs.declared.request.RunLevel.TheVariants as levels
 use Rattle.outer_world.specs.Faults.{Rose}
 use Rattle.outer_world.specs.Files.{Files, HasFile}
+use Rattle.outer_world.specs.Texts.{read_fault_line, usage_line, want_of_memory_line}
 use Rattle.outer_world.specs.Written.{Got, GotPart}
 use Rattle.outer_world.specs.declared.sink.Put.{Put}
 use Rattle.outer_world.specs.declared.sink.Put.TheVariants as put
@@ -14,41 +18,48 @@ use Rattle.grammar.specs.declared.ReadError.TheVariants as reads
 use Rattle.key_script.specs.declared.keys.Keys.{Keys}
 use Rattle.hack_asm.specs.Faults.{Wrong, wrong_of}
 use Rattle.hack_asm.specs.declared.fault.AsmFault.{AsmFault}
+use Rattle.hack_machine.specs.Loaded.{machine_of}
+use Rattle.jack_tree.specs.declared.tree.Class.{Class}
+use Rattle.jack_parser.specs.Whole.{Refuses as RefusesClass}
 use Rattle.jack_meaning.specs.Meaning.{State, start}
 use Rattle.jack_meaning.specs.Level.{meaning_of, point_in}
 use Rattle.jack_core.specs.Texts.{the_program, the_subroutines}
+use Rattle.jack_core.specs.declared.program.Core.{Core}
+use Rattle.jack_compiler.specs.Files.{names_in}
 use Rattle.jack_machine.specs.Whole.{jack_point, jack_word}
 use Rattle.jack_machine.specs.declared.jack.Jack.{Jack}
+use Rattle.jack_names.specs.Faults.{fault_told}
+use Rattle.jack_os.specs.System.{SpellsClass}
 use Rattle.machine_io.specs.Report.{report_text}
 use Rattle.machine_io.specs.declared.driving.End.{End}
+use Rattle.machine_io.specs.declared.driving.End.TheVariants as ends
 use Rattle.machine_io.specs.declared.report.LevelName.TheVariants as names
 use Rattle.machine_io.specs.declared.report.Show.{Show}
-use Rattle.machine_io.specs.declared.driving.End.TheVariants as ends
-use Rattle.hack_machine.specs.Loaded.{machine_of}
-use Rattle.jack_meaning.specs.Text.{Program}
-use Rattle.command_line.specs.declared.request.RunLevel.TheVariants as levels
-use Rattle.tower.specs.Built.{IsComputerOf}
+use Rattle.tower.specs.Built.{IsComputerOf, LargeImage, ManyStatics}
 use Rattle.tower.specs.Mapped.{MappedMachine, StandsAt, program_in}
+use Rattle.tower.specs.Program.{InName, InSystem, Means, named_core}
 use Rattle.tower.specs.declared.building.BuildError.{BuildError}
 use Rattle.tower.specs.declared.building.BuildError.TheVariants as builds
-use Rattle.tower.specs.Meant.{name_of}
-use Rattle.tower.specs.Names.{fault_told}
-use Rattle.tower.specs.declared.prepare.PrepareError.{PrepareError}
-use Rattle.tower.specs.declared.prepare.PrepareError.TheVariants as errors
-use Rattle.nand_cli.specs.Assembled.{IsFileOf, IsNoFile, TextSays, wrong_line}
-use Rattle.nand_cli.specs.Answer.{Before, Ends, Prints, Refuses}
-use Rattle.nand_cli.specs.Running.{ClassIsRefused, ClassMeans, EndsAt, HasKeys, ImageIsRefused, ScriptIsRefused, image_line, name_fault_line, state_after, text_fault_line}
-use Rattle.nand_cli.specs.Shown.{IsFaulty}
-use Rattle.nand_cli.specs.Fault.{refusal_line}
-use Rattle.nand_cli.specs.Folder.{AreNames, AreSources, IsOverfull}
-use Rattle.nand_cli.specs.Translated.{FileIsRefused, FolderSpells, IsLinkLine, IsNoCode, SpellFiles, VmIsRefused}
+use Rattle.tower.specs.declared.program.Program.{Program}
+use Rattle.tower.specs.declared.program.ProgramError.{ProgramError}
+use Rattle.tower.specs.declared.program.ProgramError.TheVariants as errors
 use Rattle.vm_tree.specs.declared.program.File.{File}
+use Rattle.vm_parser.specs.Files.{Refuses as RefusesVm}
 use Rattle.vm_link.specs.Links.{Links}
 use Rattle.vm_link.specs.declared.fault.LinkFault.{LinkFault}
 use Rattle.vm_link.specs.declared.linked.Linked.{Linked}
 use Rattle.vm_translator.specs.Image.{image_of}
 use Rattle.vm_translator.specs.declared.coded.Coded.{Coded}
+use Rattle.nand_cli.specs.Answer.{Before, Ends, Prints, Refuses}
+use Rattle.nand_cli.specs.Assembled.{IsFileOf, IsNoFile, TextSays, wrong_line as asm_line}
+use Rattle.nand_cli.specs.Fault.{refusal_line, text_fault_line}
+use Rattle.nand_cli.specs.Folder.{AreNames, AreSources, IsOverfull}
+use Rattle.nand_cli.specs.JackFolder.{FolderIsRefused, FolderMeans, HasClasses, IsMeaningless, wrong_line}
+use Rattle.nand_cli.specs.Running.{BuildIsRefused, EndsAt, HasKeys, ScriptIsRefused, name_of, state_after, unbuilt_line}
+use Rattle.nand_cli.specs.Spelled.{IsFaulty, IsFirstFaulty, IsUnread, SpellEach}
+use Rattle.nand_cli.specs.Translated.{HasProgram, IsLinkLine, IsNoCode, SpellsVmFile, VmIsRefused}
 use Rattle.nand_cli.specs.declared.command.Status.{Status}
+use Rattle.nand_cli.specs.declared.command.Status.TheVariants as status
 use Rattle.nand_cli.specs.declared.load.Form.{Form}
 use Rattle.nand_cli.specs.declared.refusal.Failure.{Failure}
 use Rattle.nand_cli.specs.declared.refusal.Failure.TheVariants as failure
@@ -86,13 +97,21 @@ abbrev pub ReadsText : Form → List ℕ → Result (Vec ℕ Global) AsmFault �
 ReadsText form text (Ok words) = TextSays form text (Ok words.items) × (length words.items ≤ 32768)
 ReadsText form text (Err fault) = SaysWrong form text (wrong_of fault)
 
--- What loading the words of a file in a form says.
-abbrev pub Loads : Form → Option Files → List ℕ → Result (Vec ℕ Global) Failure → Type 0
-Loads form files path (Ok words) = IsFileOf form files path words.items × (length words.items ≤ 32768)
-Loads form files path (Err (failure.Refused refusal)) = IsNoFile form files path (refusal_line refusal)
-Loads form files path (Err failure.Read) = Unit {0}
-Loads form files path (Err failure.Write) = ⊥
-Loads form files path (Err failure.Memory) = Unit {0}
+-- What loading says: this of what is loaded, and this of the line of a refusal.
+abbrev pub Loaded : {A : Type 0} → (A → Type 0) → (List ℕ → Type 0) → Result A Failure → Type 0
+Loaded good refused (Ok loaded) = good loaded
+Loaded good refused (Err (failure.Refused refusal)) = refused (refusal_line refusal)
+Loaded good refused (Err failure.Read) = Unit {0}
+Loaded good refused (Err failure.Write) = ⊥
+Loaded good refused (Err failure.Memory) = Unit {0}
+
+-- What making something of what was read says: the same, and no file is read.
+abbrev pub Made : {A : Type 0} → (A → Type 0) → (List ℕ → Type 0) → Result A Failure → Type 0
+Made good refused (Ok made) = good made
+Made good refused (Err (failure.Refused refusal)) = refused (refusal_line refusal)
+Made good refused (Err failure.Read) = ⊥
+Made good refused (Err failure.Write) = ⊥
+Made good refused (Err failure.Memory) = Unit {0}
 
 -- What reading a file for something says of the count of faults.
 abbrev pub CountsLoad : {A : Type 0} → ℕ → ℕ → Result A Failure → Type 0
@@ -100,93 +119,73 @@ CountsLoad shelf shelf' (Err failure.Read) = Rose shelf shelf'
 CountsLoad shelf shelf' _ = shelf' ≡ shelf
 
 -- What reading the text of a file says; one past the limit has a fault of its own.
+abbrev pub IsPastLimit : Option Files → List ℕ → List ℕ → Type 0
+IsPastLimit files path line = (text : List ℕ) × HasFile files path text × (1048576 < length text) × (line ≡ text_fault_line path too_long)
+
 abbrev pub LoadsText : Option Files → List ℕ → Result (Vec ℕ Global) Failure → Type 0
-LoadsText files path (Ok text) = HasFile files path text.items
-LoadsText files path (Err (failure.Refused refusal)) =
-    (text : List ℕ) × HasFile files path text × (1048576 < length text) × (refusal_line refusal ≡ text_fault_line path too_long)
-LoadsText files path (Err failure.Read) = Unit {0}
-LoadsText files path (Err failure.Write) = ⊥
-LoadsText files path (Err failure.Memory) = Unit {0}
+LoadsText files path r = Loaded (λ (text : Vec ℕ Global). HasFile files path text.items) (IsPastLimit files path) r
+
+-- What loading the words of a file in a form says.
+abbrev pub Loads : Form → Option Files → List ℕ → Result (Vec ℕ Global) Failure → Type 0
+Loads form files path r =
+    Loaded (λ (words : Vec ℕ Global). IsFileOf form files path words.items × (length words.items ≤ 32768)) (IsNoFile form files path) r
 
 -- What reading the source at a path says, with what its text spells and with which faults.
 abbrev pub LoadsSource : {A : Type 0} → (List ℕ → A → Type 0) → (List ℕ → Fault → Type 0) → Option Files → List ℕ → Result A Failure → Type 0
-LoadsSource spells refuses files path (Ok source) = (text : List ℕ) × HasFile files path text × spells text source
-LoadsSource spells refuses files path (Err (failure.Refused refusal)) = IsFaulty refuses files path (refusal_line refusal)
-LoadsSource spells refuses files path (Err failure.Read) = Unit {0}
-LoadsSource spells refuses files path (Err failure.Write) = ⊥
-LoadsSource spells refuses files path (Err failure.Memory) = Unit {0}
+LoadsSource {A} spells refuses files path r =
+    Loaded (λ (source : A). (text : List ℕ) × HasFile files path text × spells text source) (IsFaulty refuses files path) r
 
 -- What listing the source files of a folder says: their names, and with the limit on them.
 abbrev pub LoadsNames : Option Files → List ℕ → List ℕ → Result (Vec (List ℕ) Global) Failure → Type 0
-LoadsNames files folder ending (Ok names) = AreNames files folder ending names.items
-LoadsNames files folder ending (Err (failure.Refused refusal)) = ⊥
-LoadsNames files folder ending (Err failure.Read) = Unit {0}
-LoadsNames files folder ending (Err failure.Write) = ⊥
-LoadsNames files folder ending (Err failure.Memory) = Unit {0}
+LoadsNames files folder ending r = Loaded (λ (names : Vec (List ℕ) Global). AreNames files folder ending names.items) (λ line. ⊥) r
 
 abbrev pub LoadsSources : Option Files → List ℕ → List ℕ → Result (Vec (List ℕ) Global) Failure → Type 0
-LoadsSources files folder ending (Ok names) = AreSources files folder ending names.items
-LoadsSources files folder ending (Err (failure.Refused refusal)) = IsOverfull files folder ending (refusal_line refusal)
-LoadsSources files folder ending (Err failure.Read) = Unit {0}
-LoadsSources files folder ending (Err failure.Write) = ⊥
-LoadsSources files folder ending (Err failure.Memory) = Unit {0}
+LoadsSources files folder ending r =
+    Loaded (λ (names : Vec (List ℕ) Global). AreSources files folder ending names.items) (IsOverfull files folder ending) r
 
--- What reading the VM texts of these names in a folder says.
-abbrev pub LoadsTexts : Bool → Option Files → List ℕ → List (List ℕ) → Result (List File) Failure → Type 0
-LoadsTexts bare files folder names (Ok program) = SpellFiles bare files folder names program
-LoadsTexts bare files folder names (Err (failure.Refused refusal)) = FileIsRefused bare files folder names (refusal_line refusal)
-LoadsTexts bare files folder names (Err failure.Read) = Unit {0}
-LoadsTexts bare files folder names (Err failure.Write) = ⊥
-LoadsTexts bare files folder names (Err failure.Memory) = Unit {0}
+-- What reading the VM texts of these names in a folder says, and what reading the program of a folder's VM files.
+abbrev pub LoadsFiles : Bool → Option Files → List ℕ → List (List ℕ) → Result (List File) Failure → Type 0
+LoadsFiles bare files folder names r =
+    Loaded (SpellEach (SpellsVmFile bare) files folder names) (IsFirstFaulty (SpellsVmFile bare) (RefusesVm bare) files folder names) r
 
--- What reading the program of a folder's VM files says.
 abbrev pub LoadsProgram : Bool → Option Files → List ℕ → Result (List File) Failure → Type 0
-LoadsProgram bare files folder (Ok program) = FolderSpells bare files folder program
-LoadsProgram bare files folder (Err (failure.Refused refusal)) = VmIsRefused bare files folder (refusal_line refusal)
-LoadsProgram bare files folder (Err failure.Read) = Unit {0}
-LoadsProgram bare files folder (Err failure.Write) = ⊥
-LoadsProgram bare files folder (Err failure.Memory) = Unit {0}
+LoadsProgram bare files folder r = Loaded (HasProgram bare files folder) (VmIsRefused bare files folder) r
 
--- What linking a program says, and what making its code.
-abbrev pub LinksProgram : Bool → List ℕ → List File → Result Linked Failure → Type 0
-LinksProgram bare folder program (Ok linked) = Links bare program (Ok linked)
-LinksProgram bare folder program (Err (failure.Refused refusal)) = IsNoCode bare folder program (refusal_line refusal)
-LinksProgram bare folder program (Err failure.Read) = ⊥
-LinksProgram bare folder program (Err failure.Write) = ⊥
-LinksProgram bare folder program (Err failure.Memory) = Unit {0}
+-- What reading the Jack texts of these names in a folder says, and what reading all of a folder.
+abbrev pub LoadsEach : Option Files → List ℕ → List (List ℕ) → Result (Vec Class Global) Failure → Type 0
+LoadsEach files folder names r =
+    Loaded (λ (classes : Vec Class Global). SpellEach SpellsClass files folder names classes.items) (IsFirstFaulty SpellsClass RefusesClass files folder names) r
 
-abbrev pub Codes : Bool → List ℕ → List File → Result Coded Failure → Type 0
-Codes bare folder program (Ok coded) =
-    (linked : Linked) × Links bare program (Ok linked) × (coded.instrs ≡ image_of linked) × (length (image_of linked) ≤ 32768)
-Codes bare folder program (Err (failure.Refused refusal)) = IsNoCode bare folder program (refusal_line refusal)
-Codes bare folder program (Err failure.Read) = ⊥
-Codes bare folder program (Err failure.Write) = ⊥
-Codes bare folder program (Err failure.Memory) = Unit {0}
+abbrev pub LoadsClasses : Option Files → List ℕ → Result (Vec Class Global) Failure → Type 0
+LoadsClasses files folder r =
+    Loaded (λ (classes : Vec Class Global). HasClasses files folder classes.items) (IsUnread SpellsClass RefusesClass (codes ".jack") files folder) r
 
--- What making a machine of the class at a path says.
-abbrev pub LoadsJack : Option Files → List ℕ → Result Jack Failure → Type 0
-LoadsJack files path (Ok jack) = ClassMeans files path (Ok (the_program jack.core))
-LoadsJack files path (Err (failure.Refused refusal)) = ClassIsRefused files path (refusal_line refusal)
-LoadsJack files path (Err failure.Read) = Unit {0}
-LoadsJack files path (Err failure.Write) = ⊥
-LoadsJack files path (Err failure.Memory) = Unit {0}
+-- What making the program of a folder's classes says, and what making that of the folder.
+abbrev pub MakesProgram : List ℕ → List Class → Result Program Failure → Type 0
+MakesProgram folder classes r =
+    Made (λ (p : Program). Means classes (Ok (named_core p.core)) × (p.names.items ≡ names_in p.core)) (IsMeaningless folder classes) r
 
--- What making a computer of the class at a path in a folder says.
-abbrev pub LoadsHack : Option Files → List ℕ → List ℕ → Result MappedMachine Failure → Type 0
-LoadsHack files folder path (Ok h) = (program : Program) × ClassMeans files path (Ok program) × IsComputerOf program (program_in h)
-LoadsHack files folder path (Err (failure.Refused refusal)) =
-    ClassIsRefused files path (refusal_line refusal) ⊎ ImageIsRefused levels.Hack files path folder (refusal_line refusal)
-LoadsHack files folder path (Err failure.Read) = Unit {0}
-LoadsHack files folder path (Err failure.Write) = ⊥
-LoadsHack files folder path (Err failure.Memory) = Unit {0}
+abbrev pub LoadsJack : Option Files → List ℕ → Result Program Failure → Type 0
+LoadsJack files folder r =
+    Loaded (λ (p : Program). FolderMeans files folder (named_core p.core) × (p.names.items ≡ names_in p.core)) (FolderIsRefused files folder) r
+
+-- What making the computer of a program says.
+abbrev pub MakesHack : List ℕ → Core → Result MappedMachine Failure → Type 0
+MakesHack folder core r =
+    Made (λ (h : MappedMachine). IsComputerOf (named_core core) (program_in h)) (BuildIsRefused levels.Hack (named_core core) folder) r
 
 -- What reading the key script of a run says.
 abbrev pub LoadsKeys : Option Files → Option (List ℕ) → Result Keys Failure → Type 0
-LoadsKeys files path (Ok keys) = HasKeys files path keys.lines.items
-LoadsKeys files path (Err (failure.Refused refusal)) = ScriptIsRefused files path (refusal_line refusal)
-LoadsKeys files path (Err failure.Read) = Unit {0}
-LoadsKeys files path (Err failure.Write) = ⊥
-LoadsKeys files path (Err failure.Memory) = Unit {0}
+LoadsKeys files path r = Loaded (λ (keys : Keys). HasKeys files path keys.lines.items) (ScriptIsRefused files path) r
+
+-- What linking a program says, and what making its code.
+abbrev pub LinksProgram : Bool → List ℕ → List File → Result Linked Failure → Type 0
+LinksProgram bare folder program r = Made (λ (linked : Linked). Links bare program (Ok linked)) (IsNoCode bare folder program) r
+
+abbrev pub Codes : Bool → List ℕ → List File → Result Coded Failure → Type 0
+Codes bare folder program r =
+    Made (λ (coded : Coded). (linked : Linked) × Links bare program (Ok linked) × (coded.instrs ≡ image_of linked) × (length (image_of linked) ≤ 32768))
+    (IsNoCode bare folder program) r
 
 -- The machine shows a state of the meaning: the words of heap and screen, and the control point.
 pub record Shows (jack : Jack) (s : State) : Type 0 where
@@ -200,18 +199,18 @@ HasRun code n jack end =
     × EndsAt (the_subroutines jack.core) code n jack.moves s end × Shows jack s
 
 -- the report of what a machine shows
-abbrev pub jack_text : Jack → End → Show → List ℕ
-jack_text jack end show =
-    report_text names.Jack jack.moves jack.moves (name_of (jack_point jack).sub) (jack_point jack).number end show (jack_word jack)
+abbrev pub jack_text : Jack → List (List ℕ) → End → Show → List ℕ
+jack_text jack subs end show =
+    report_text names.Jack jack.moves jack.moves (name_of subs (jack_point jack).sub) (jack_point jack).number end show (jack_word jack)
 
 -- The computer has made n cycles under these keys, and ends at the bound.
 abbrev pub HasCycled : (ℕ → ℕ) → ℕ → MappedMachine → End → Type 0
 HasCycled code n h end = (end ≡ ends.Bound) × StandsAt h code n
 
 -- the report of what a computer shows
-abbrev pub hack_text : MappedMachine → End → Show → List ℕ
-hack_text h end show =
-    report_text names.Hack h.hack.moves h.count (name_of h.place.sub) h.place.number end show (machine_of h.hack).memory
+abbrev pub hack_text : MappedMachine → List (List ℕ) → End → Show → List ℕ
+hack_text h subs end show =
+    report_text names.Hack h.hack.moves h.count (name_of subs h.place.sub) h.place.number end show (machine_of h.hack).memory
 
 -- A failure is the refusal that this line tells of, unless memory is wanting.
 abbrev pub TellsLine : List ℕ → Failure → Type 0
@@ -221,19 +220,20 @@ TellsLine line _ = ⊥
 
 -- A failure tells of what is wrong with the text of a file; where nothing is, memory is wanting.
 abbrev pub Tells : List ℕ → Option Wrong → Failure → Type 0
-Tells path (Some wrong) f = TellsLine (wrong_line path wrong) f
+Tells path (Some wrong) f = TellsLine (asm_line path wrong) f
 Tells path None f = f ≡ failure.Memory
 
--- The same of what is wrong with the class of a folder.
-abbrev pub TellsPrepared : List ℕ → PrepareError → Failure → Type 0
-TellsPrepared path errors.Memory f = f ≡ failure.Memory
-TellsPrepared path (errors.Text fault) f = TellsLine (text_fault_line path fault) f
-TellsPrepared path (errors.Name fault) f = TellsLine (name_fault_line path (fault_told fault)) f
+-- The same of what is wrong with the classes of a folder.
+abbrev pub TellsWrong : List ℕ → ProgramError → Failure → Type 0
+TellsWrong folder errors.Memory f = f ≡ failure.Memory
+TellsWrong folder (errors.System fault) f = TellsLine (wrong_line folder (InSystem fault.file fault.fault)) f
+TellsWrong folder (errors.Name fault) f = TellsLine (wrong_line folder (InName (fault_told fault))) f
 
--- The same of what is wrong with the class of a folder or with its image.
-abbrev pub TellsBuilt : List ℕ → List ℕ → BuildError → Failure → Type 0
-TellsBuilt folder path (builds.Prepare error) f = TellsPrepared path error f
-TellsBuilt folder path (builds.TooLarge w) f = TellsLine (image_line folder w) f
+-- The same of why a program has no computer.
+abbrev pub TellsBuilt : List ℕ → BuildError → Failure → Type 0
+TellsBuilt folder builds.Memory f = f ≡ failure.Memory
+TellsBuilt folder (builds.TooManyStatics w) f = TellsLine (unbuilt_line folder (ManyStatics w)) f
+TellsBuilt folder (builds.TooLarge w) f = TellsLine (unbuilt_line folder (LargeImage w)) f
 
 -- The same of what is wrong with a text.
 abbrev pub TellsRead : List ℕ → ReadError → Failure → Type 0
@@ -255,3 +255,24 @@ TellsLink folder fault failure.Memory = Unit {0}
 abbrev pub Says : ℕ → ℕ → Option (List ℕ) → Option (List ℕ) → List ℕ → Put → Type 0
 Says faults faults' written written' text put.Done = (faults' ≡ faults) × Got written written' text
 Says faults faults' written written' text put.Failed = Rose faults faults' × GotPart written written' text
+
+-- the status after a line was put on err, where this one is wanted
+abbrev pub told_status : Put → Status → Status
+told_status put.Done wanted = wanted
+told_status put.Failed wanted = status.WriteFault
+
+-- What telling by a line says: the line was put and this is the status, or its putting failed.
+abbrev pub TellsBy : List ℕ → Status → ℕ → ℕ → Option (List ℕ) → Option (List ℕ) → Status → Type 0
+TellsBy line wanted faults faults' written written' s =
+    (p : Put) × Says faults faults' written written' line p × (s ≡ told_status p wanted)
+
+-- The same of words that are no line, and of a failure. After a write fault nothing more is put.
+abbrev pub TellsNoLine : LineError → ℕ → ℕ → Option (List ℕ) → Option (List ℕ) → Status → Type 0
+TellsNoLine no_line.Usage faults faults' written written' s = TellsBy usage_line status.Usage faults faults' written written' s
+TellsNoLine no_line.Memory faults faults' written written' s = TellsBy want_of_memory_line status.NoMemory faults faults' written written' s
+
+abbrev pub TellsFailure : Failure → ℕ → ℕ → Option (List ℕ) → Option (List ℕ) → Status → Type 0
+TellsFailure (failure.Refused r) faults faults' written written' s = TellsBy (refusal_line r) status.Refused faults faults' written written' s
+TellsFailure failure.Read faults faults' written written' s = TellsBy read_fault_line status.ReadFault faults faults' written written' s
+TellsFailure failure.Write faults faults' written written' s = (s ≡ status.WriteFault) × (faults' ≡ faults) × (written' ≡ written)
+TellsFailure failure.Memory faults faults' written written' s = TellsBy want_of_memory_line status.NoMemory faults faults' written written' s

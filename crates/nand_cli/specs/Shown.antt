@@ -11,7 +11,7 @@ use Rattle.jack_parser.specs.Whole.{Spells as SpellsTree, Refuses as RefusesClas
 use Rattle.jack_parser.specs.Printed.{class_text}
 use Rattle.command_line.specs.declared.request.SourceKind.{SourceKind}
 use Rattle.command_line.specs.declared.request.SourceKind.TheVariants as kinds
-use Rattle.nand_cli.specs.Running.{text_fault_line}
+use Rattle.nand_cli.specs.Spelled.{IsFaulty}
 
 -- A VM text spells the program of one file, in which commands may stand before the first function. The file has no
 -- name here, since the printed form has none in it.
@@ -38,11 +38,6 @@ HasFault kinds.Jack text fault = RefusesClass text fault
 -- The printed form of the source at a path.
 abbrev pub IsShown : SourceKind → Option Files → List ℕ → List ℕ → Type 0
 IsShown kind files path printed = (text : List ℕ) × HasFile files path text × HasPrinted kind text printed
-
--- The text at a path has a first fault, and this line tells of it.
-abbrev pub IsFaulty : (List ℕ → Fault → Type 0) → Option Files → List ℕ → List ℕ → Type 0
-IsFaulty refuses files path line =
-    (text : List ℕ) × (fault : Fault) × HasFile files path text × refuses text fault × (line ≡ text_fault_line path fault)
 
 -- The source at a path is refused, and this line tells why.
 abbrev pub IsNotShown : SourceKind → Option Files → List ℕ → List ℕ → Type 0

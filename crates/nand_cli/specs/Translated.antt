@@ -1,7 +1,7 @@
 -- The command `vm`: the assembly of the program that the VM files of a folder spell, or why the folder is refused. (The
 -- book, chapters 7 and 8.)
-use Rattle.std.specs.Prelude.{◌≡◌, ◌≤◌, ◌++◌, ◌⊎◌, ℕ, Bool, List, [], ◌∷◌, Option, Ok, Err, length, codes, decimal}
-use Rattle.outer_world.specs.Files.{Files, HasFile, path_in}
+use Rattle.std.specs.Prelude.{◌≡◌, ◌≤◌, ◌⊎◌, ℕ, Bool, List, [], ◌∷◌, Option, Ok, Err, length, codes, decimal}
+use Rattle.outer_world.specs.Files.{Files}
 use Rattle.outer_world.specs.Texts.{fault_line}
 use Rattle.hack_asm.specs.Written.{asm_text}
 use Rattle.vm_tree.specs.declared.program.File.{File}
@@ -11,41 +11,25 @@ use Rattle.vm_link.specs.declared.linked.Linked.{Linked}
 use Rattle.vm_link.specs.declared.fault.LinkFault.{LinkFault}
 use Rattle.vm_link.specs.declared.fault.LinkFault.TheVariants as faults
 use Rattle.vm_translator.specs.Image.{IsTooLarge, image_of}
-use Rattle.nand_cli.specs.Folder.{AreSources, IsOverfull, stem_of}
-use Rattle.nand_cli.specs.Shown.{IsFaulty}
+use Rattle.nand_cli.specs.Folder.{stem_of}
+use Rattle.nand_cli.specs.Spelled.{FolderSpells, IsUnread}
 
 -- A VM text spells the file of this name.
+abbrev pub SpellsFile : Bool → List ℕ → List ℕ → File → Type 0
+SpellsFile bare name text file = Spells bare name text (file ∷ [])
+
+-- The text of this name in a folder spells the file that has the name without `.vm`.
 abbrev pub SpellsVmFile : Bool → List ℕ → List ℕ → File → Type 0
-SpellsVmFile bare name text file = Spells bare name text (file ∷ [])
-
--- The text of this name in the folder spells this file, which has the name without `.vm`.
-abbrev pub SpellsFile : Bool → Option Files → List ℕ → List ℕ → File → Type 0
-SpellsFile bare files folder name file =
-    (text : List ℕ) × HasFile files (path_in folder name) text × SpellsVmFile bare (stem_of (codes ".vm") name) text file
-
--- The texts of these names spell these files, in order.
-abbrev pub SpellFiles : Bool → Option Files → List ℕ → List (List ℕ) → List File → Type 0
-SpellFiles bare files folder [] [] = Unit {0}
-SpellFiles bare files folder (name ∷ names) (file ∷ program) = SpellsFile bare files folder name file × SpellFiles bare files folder names program
-SpellFiles bare files folder [] (file ∷ program) = ⊥
-SpellFiles bare files folder (name ∷ names) [] = ⊥
+SpellsVmFile bare name text file = SpellsFile bare (stem_of (codes ".vm") name) text file
 
 -- The VM files of the folder spell this program.
-abbrev pub FolderSpells : Bool → Option Files → List ℕ → List File → Type 0
-FolderSpells bare files folder program =
-    (names : List (List ℕ)) × AreSources files folder (codes ".vm") names × SpellFiles bare files folder names program
-
--- Of the texts of these names the first with a fault is refused with this line: those before it spell files.
-abbrev pub FileIsRefused : Bool → Option Files → List ℕ → List (List ℕ) → List ℕ → Type 0
-FileIsRefused bare files folder names line =
-    (before : List (List ℕ)) × (name : List ℕ) × (after : List (List ℕ)) × (program : List File)
-    × (names ≡ before ++ name ∷ after) × SpellFiles bare files folder before program
-    × IsFaulty (Refuses bare) files (path_in folder name) line
+abbrev pub HasProgram : Bool → Option Files → List ℕ → List File → Type 0
+HasProgram bare files folder program = FolderSpells (SpellsVmFile bare) (codes ".vm") files folder program
 
 -- The program of the folder is linked, and this is the assembly of its image, which is within the limit.
 abbrev pub IsTranslation : Bool → Option Files → List ℕ → List ℕ → Type 0
 IsTranslation bare files folder text =
-    (program : List File) × (linked : Linked) × FolderSpells bare files folder program × Links bare program (Ok linked)
+    (program : List File) × (linked : Linked) × HasProgram bare files folder program × Links bare program (Ok linked)
     × (length (image_of linked) ≤ 32768) × (text ≡ asm_text (image_of linked))
 
 -- The line that tells why a program is not linked. Want of memory has none.
@@ -65,9 +49,7 @@ IsNoCode bare folder program line =
     ⊎ ((linked : Linked) × (words : ℕ) × Links bare program (Ok linked) × IsTooLarge linked words
     × (line ≡ fault_line folder 0 0 (codes "TooLarge") (decimal words)))
 
--- The folder is refused, and this line tells why: it has too many files, the first with a fault is refused, or
--- its program has no code.
+-- The folder is refused, and this line tells why: its files are not read, or their program has no code.
 pub data VmIsRefused (bare : Bool) (files : Option Files) (folder line : List ℕ) : Type 0 where
-  overfull : IsOverfull files folder (codes ".vm") line → VmIsRefused bare files folder line
-  unread : (names : List (List ℕ)) → AreSources files folder (codes ".vm") names → FileIsRefused bare files folder names line → VmIsRefused bare files folder line
-  without_code : (program : List File) → FolderSpells bare files folder program → IsNoCode bare folder program line → VmIsRefused bare files folder line
+  unread : IsUnread (SpellsVmFile bare) (Refuses bare) (codes ".vm") files folder line → VmIsRefused bare files folder line
+  without_code : (program : List File) → HasProgram bare files folder program → IsNoCode bare folder program line → VmIsRefused bare files folder line

@@ -1,69 +1,53 @@
 //! The command `run` at the level of the computer.
 ghost use Rattle.std.specs.Prelude.{◌≡◌, [], List, ℕ, IfOk, Option, option_map};
 ghost use Rattle.command_line.specs.Line.{run};
+ghost use Rattle.jack_compiler.specs.Resolved.{IsResolvedCore};
 ghost use Rattle.key_script.specs.Codes.{code_at};
 ghost use Rattle.outer_world.specs.Written.{CountsPut, Puts};
 ghost use Rattle.tower.specs.Mapped.{HasFollowed, program_in};
-ghost use Rattle.nand_cli.specs.Parts.{Counts, CountsLoad, Does, HasCycled, LoadsHack, TellsBuilt, hack_text};
-ghost use Rattle.nand_cli.specs.Running.{class_path};
+ghost use Rattle.nand_cli.specs.Parts.{Counts, Does, HasCycled, MakesHack, TellsBuilt, hack_text};
 
+use crate::meaning::load_jack;
+use crate::reading::NOWHERE;
 use crate::refusal::{Detail, Failure, Kind, refusal_at};
-use crate::sources::{NOWHERE, load_keys, not_prepared, path_of_class, text_of};
+use crate::running::name_at;
+use crate::sources::load_keys;
 use command_line::{Run, RunLevel};
+use jack_core::Core;
 use key_script::Keys;
 use machine_io::{End, Head, Level, LevelName, Show, drive, show_report};
-use outer_world::{Put, Shelf, Sink};
+use outer_world::{Name, Put, Shelf, Sink};
 use std::alloc::{AllocError, Global};
-use tower::{BuildError, HackLevel, prepare_hack, subroutine_name};
+use tower::{BuildError, HackLevel, prepare_hack};
 
-// Why a class has no computer.
-fn not_built(alloc: Global, folder: &str, path: &str, error: BuildError) -> Failure
-    ensures { TellsBuilt folder.now path.now error result }
+// Why a program has no computer.
+fn not_built(alloc: Global, folder: &str, error: BuildError) -> Failure
+    ensures { TellsBuilt folder.now error result }
 {
     match error {
-        BuildError::Prepare(error) => not_prepared(alloc, path, error),
+        BuildError::Memory => Failure::Memory,
+        BuildError::TooManyStatics(words) => {
+            let detail = Detail::Number(words);
+            refusal_at(alloc, folder, NOWHERE, Kind::TooManyStatics, detail)
+        }
         BuildError::TooLarge(words) => {
-            refusal_at(
-                alloc,
-                folder,
-                NOWHERE,
-                Kind::TooLarge,
-                Detail::Number(words),
-            )
+            let detail = Detail::Number(words);
+            refusal_at(alloc, folder, NOWHERE, Kind::TooLarge, detail)
         }
     }
 }
 
-// The computer of the class at a path in a folder.
-fn hack_at<F: Shelf>(
-    alloc: Global,
-    folder: &str,
-    path: &str,
-    shelf: &mut F,
-) -> Result<HackLevel, Failure>
-    ensures loads { LoadsHack (F.files shelf.old) folder.now path.now result }
+// The computer at its start with the image of a program.
+fn hack_of(alloc: Global, folder: &str, core: &Core) -> Result<HackLevel, Failure>
+    requires resolved { IsResolvedCore core.now }
+    ensures makes { MakesHack folder.now core.now result }
     ensures stands { IfOk result (λ h. HasFollowed h []) }
     ensures moves { IfOk result (λ h. h.hack.moves ≡ 0) }
-    ensures counts { CountsLoad (F.faults shelf.old) (F.faults shelf.new) result }
-    ensures kept { F.files shelf.new ≡ F.files shelf.old }
 {
-    let text = text_of(alloc, path, shelf)?;
-    match prepare_hack(alloc, &text) {
+    match prepare_hack(alloc, core) {
         Ok(level) => Ok(level),
-        Err(error) => Err(not_built(alloc, folder, path, error)),
+        Err(error) => Err(not_built(alloc, folder, error)),
     }
-}
-
-// The computer at its start with the image of what the class of a folder means.
-fn load_hack<F: Shelf>(alloc: Global, folder: &str, shelf: &mut F) -> Result<HackLevel, Failure>
-    ensures loads { LoadsHack (F.files shelf.old) folder.now (class_path folder.now) result }
-    ensures stands { IfOk result (λ h. HasFollowed h []) }
-    ensures moves { IfOk result (λ h. h.hack.moves ≡ 0) }
-    ensures counts { CountsLoad (F.faults shelf.old) (F.faults shelf.new) result }
-    ensures kept { F.files shelf.new ≡ F.files shelf.old }
-{
-    let path = path_of_class(alloc, folder)?;
-    hack_at(alloc, folder, path.as_str(), shelf)
 }
 
 // Moves a computer from its start, each cycle under its key, and tells how the moves end.
@@ -77,8 +61,8 @@ fn run_hack(level: &mut HackLevel, keys: &Keys, cycles: u32) -> Result<End, Allo
 }
 
 // Puts the report of what a computer shows.
-fn put_hack<O: Sink>(level: &HackLevel, end: End, show: Show, out: &mut O) -> Put
-    ensures put { Puts (O.written out.old) (O.written out.new) (hack_text level.now end show) result }
+fn put_hack<O: Sink>(level: &HackLevel, names: &[Name], end: End, show: Show, out: &mut O) -> Put
+    ensures put { Puts (O.written out.old) (O.written out.new) (hack_text level.now names.now end show) result }
     ensures counts { CountsPut (O.faults out.old) (O.faults out.new) result }
 {
     let point = level.point();
@@ -86,7 +70,7 @@ fn put_hack<O: Sink>(level: &HackLevel, end: End, show: Show, out: &mut O) -> Pu
         level: LevelName::Hack,
         moves: level.moves(),
         steps: level.steps(),
-        subroutine: subroutine_name(point.sub),
+        subroutine: name_at(names, point.sub),
         statement: point.number,
         end,
     };
@@ -104,10 +88,11 @@ pub fn answer_hack<F: Shelf, O: Sink>(
     ensures counts { (err : ℕ) → Counts (F.faults shelf.old) (F.faults shelf.new) (O.faults out.old) (O.faults out.new) err err result }
     ensures kept { F.files shelf.new ≡ F.files shelf.old }
 {
-    let mut level = load_hack(alloc, request.folder, shelf)?;
+    let program = load_jack(alloc, request.folder, shelf)?;
+    let mut level = hack_of(alloc, request.folder, &program.core)?;
     let keys = load_keys(alloc, request.keys, shelf)?;
     let end = run_hack(&mut level, &keys, request.cycles)?;
-    match put_hack(&level, end, request.show, out) {
+    match put_hack(&level, &program.names, end, request.show, out) {
         Put::Done => Ok(()),
         Put::Failed => Err(Failure::Write),
     }

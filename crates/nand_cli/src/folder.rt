@@ -7,8 +7,8 @@ ghost use Rattle.outer_world.specs.Files.{path_in};
 ghost use Rattle.nand_cli.specs.Folder.{ending_in, stem_of};
 ghost use Rattle.nand_cli.specs.Parts.{CountsLoad, LoadsNames, LoadsSources, TellsOverfull};
 
+use crate::reading::{NOWHERE, text_refused};
 use crate::refusal::Failure;
-use crate::sources::{NOWHERE, text_refused};
 use grammar::Fault;
 use outer_world::{Listing, Name, Shelf};
 use std::alloc::{AllocError, Global};

@@ -4,16 +4,11 @@ ghost use Rattle.hack_asm.specs.Faults.{wrong_of};
 ghost use Rattle.nand_cli.specs.Assembled.{form_of};
 ghost use Rattle.nand_cli.specs.Parts.{CountsLoad, Loads, ReadsText, Tells};
 
+use crate::reading::{NOWHERE, text_of};
 use crate::refusal::{Detail, Failure, Kind, refusal_at};
 use hack_asm::{AsmFault, assemble, read_hack};
-use outer_world::{Reading, Shelf};
-use scan_text::Place;
+use outer_world::Shelf;
 use std::alloc::Global;
-
-const FILE_LIMIT: u32 = 1_048_576;
-
-// The place of what is said of a whole file.
-const NOWHERE: Place = Place { line: 0, column: 0 };
 
 /// The form of the text of a program.
 #[derive(Clone, Copy, Debug, PartialEq, Eq)]
@@ -80,15 +75,7 @@ pub fn load<F: Shelf>(
     ensures counts { CountsLoad (F.faults shelf.old) (F.faults shelf.new) result }
     ensures kept { F.files shelf.new ≡ F.files shelf.old }
 {
-    let text = match shelf.read(alloc, path, FILE_LIMIT) {
-        Reading::Bytes(text) => text,
-        Reading::TooLong(_) => {
-            let fault = AsmFault::Range(NOWHERE, FILE_LIMIT + 1);
-            return Err(refused(alloc, path, fault));
-        }
-        Reading::Failed => return Err(Failure::Read),
-        Reading::Memory => return Err(Failure::Memory),
-    };
+    let text = text_of(alloc, path, shelf)?;
     match words_of(alloc, form, &text) {
         Ok(words) => Ok(words),
         Err(fault) => Err(refused(alloc, path, fault)),

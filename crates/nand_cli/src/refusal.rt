@@ -27,8 +27,19 @@ pub enum Kind {
     TooManyStatics,
     NotRising,
     FileName,
+    ClassTwice,
+    MemberTwice,
     VariableTwice,
     UnknownVariable,
+    UnknownClass,
+    UnknownSubroutine,
+    ArgumentCount,
+    MethodByClass,
+    FunctionByObject,
+    ThisInFunction,
+    FieldInFunction,
+    OwnInFunction,
+    NoMain,
 }
 
 impl Kind {
@@ -48,8 +59,19 @@ impl Kind {
             Kind::TooManyStatics => "TooManyStatics",
             Kind::NotRising => "NotRising",
             Kind::FileName => "FileName",
+            Kind::ClassTwice => "ClassTwice",
+            Kind::MemberTwice => "MemberTwice",
             Kind::VariableTwice => "VariableTwice",
             Kind::UnknownVariable => "UnknownVariable",
+            Kind::UnknownClass => "UnknownClass",
+            Kind::UnknownSubroutine => "UnknownSubroutine",
+            Kind::ArgumentCount => "ArgumentCount",
+            Kind::MethodByClass => "MethodByClass",
+            Kind::FunctionByObject => "FunctionByObject",
+            Kind::ThisInFunction => "ThisInFunction",
+            Kind::FieldInFunction => "FieldInFunction",
+            Kind::OwnInFunction => "OwnInFunction",
+            Kind::NoMain => "NoMain",
         }
     }
 }

@@ -5,17 +5,29 @@ ghost use Rattle.jack_machine.specs.Whole.{Stands};
 ghost use Rattle.key_script.specs.Codes.{code_at};
 ghost use Rattle.outer_world.specs.Written.{CountsPut, Puts};
 ghost use Rattle.nand_cli.specs.Parts.{Counts, Does, HasRun, jack_text};
+ghost use Rattle.nand_cli.specs.Running.{name_of};
 
 use crate::computing::answer_hack;
+use crate::meaning::load_jack;
 use crate::refusal::Failure;
-use crate::sources::{load_jack, load_keys};
+use crate::sources::load_keys;
 use command_line::{Run, RunLevel};
 use jack_machine::Jack;
 use key_script::Keys;
 use machine_io::{End, Head, Level, LevelName, Show, drive, show_report};
-use outer_world::{Put, Shelf, Sink};
+use outer_world::{Name, Put, Shelf, Sink};
 use std::alloc::{AllocError, Global};
-use tower::subroutine_name;
+use tower::Program;
+
+/// The name of a subroutine by its number.
+pub fn name_at(names: &[Name], sub: u32) -> &str
+    ensures { result.now ≡ name_of names.now sub }
+{
+    match names.get(sub as usize) {
+        Some(name) => name.as_str(),
+        None => "",
+    }
+}
 
 // Moves a machine from its start, each move under its key, and tells how the moves end.
 fn run_jack(jack: &mut Jack, keys: &Keys, moves: u32) -> Result<End, AllocError>
@@ -28,8 +40,8 @@ fn run_jack(jack: &mut Jack, keys: &Keys, moves: u32) -> Result<End, AllocError>
 }
 
 // Puts the report of what a machine shows.
-fn put_jack<O: Sink>(jack: &Jack, end: End, show: Show, out: &mut O) -> Put
-    ensures put { Puts (O.written out.old) (O.written out.new) (jack_text jack.now end show) result }
+fn put_jack<O: Sink>(jack: &Jack, names: &[Name], end: End, show: Show, out: &mut O) -> Put
+    ensures put { Puts (O.written out.old) (O.written out.new) (jack_text jack.now names.now end show) result }
     ensures counts { CountsPut (O.faults out.old) (O.faults out.new) result }
 {
     let point = jack.point();
@@ -37,7 +49,7 @@ fn put_jack<O: Sink>(jack: &Jack, end: End, show: Show, out: &mut O) -> Put
         level: LevelName::Jack,
         moves: jack.moves(),
         steps: jack.steps(),
-        subroutine: subroutine_name(point.sub),
+        subroutine: name_at(names, point.sub),
         statement: point.number,
         end,
     };
@@ -55,10 +67,11 @@ fn answer_jack<F: Shelf, O: Sink>(
     ensures counts { (err : ℕ) → Counts (F.faults shelf.old) (F.faults shelf.new) (O.faults out.old) (O.faults out.new) err err result }
     ensures kept { F.files shelf.new ≡ F.files shelf.old }
 {
-    let mut jack = load_jack(alloc, request.folder, shelf)?;
+    let Program { core, names } = load_jack(alloc, request.folder, shelf)?;
+    let mut jack = Jack::new(alloc, core)?;
     let keys = load_keys(alloc, request.keys, shelf)?;
     let end = run_jack(&mut jack, &keys, request.cycles)?;
-    match put_jack(&jack, end, request.show, out) {
+    match put_jack(&jack, &names, end, request.show, out) {
         Put::Done => Ok(()),
         Put::Failed => Err(Failure::Write),
     }

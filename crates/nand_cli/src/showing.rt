@@ -38,7 +38,7 @@ fn show_class<F: Shelf, O: Sink>(
     ensures counts { (err : ℕ) → Counts (F.faults shelf.old) (F.faults shelf.new) (O.faults out.old) (O.faults out.new) err err result }
     ensures kept { F.files shelf.new ≡ F.files shelf.old }
 {
-    let class = load_class(alloc, path, shelf)?;
+    let class = load_class(alloc, path, "", shelf)?;
     match jack_parser::print(&class, out) {
         Put::Done => Ok(()),
         Put::Failed => Err(Failure::Write),

@@ -1,5 +1,5 @@
 //! The command `vm`: the assembly of a folder's VM files.
-ghost use Rattle.std.specs.Prelude.{◌≡◌, All, List, ℕ, IfOk, Option, codes};
+ghost use Rattle.std.specs.Prelude.{◌≡◌, All, List, ℕ, IfOk, Option};
 ghost use Rattle.outer_world.specs.Files.{path_in};
 ghost use Rattle.outer_world.specs.Texts.{fault_line};
 ghost use Rattle.command_line.specs.Line.{vm};
@@ -7,13 +7,12 @@ ghost use Rattle.vm_link.specs.Sound.{IsSound};
 ghost use Rattle.vm_parser.specs.Files.{Refuses};
 ghost use Rattle.vm_translator.specs.Plain.{IsPlain};
 ghost use Rattle.nand_cli.specs.Fault.{kind_text};
-ghost use Rattle.nand_cli.specs.Folder.{stem_of};
-ghost use Rattle.nand_cli.specs.Parts.{Codes, Counts, CountsLoad, Does, LinksProgram, LoadsProgram, LoadsSource, LoadsTexts, TellsLine, TellsLink};
-ghost use Rattle.nand_cli.specs.Translated.{SpellsVmFile};
+ghost use Rattle.nand_cli.specs.Parts.{Codes, Counts, CountsLoad, Does, LinksProgram, LoadsFiles, LoadsProgram, LoadsSource, TellsLine, TellsLink};
+ghost use Rattle.nand_cli.specs.Translated.{SpellsFile, SpellsVmFile};
 
 use crate::folder::{path_in, sources_in, stem};
+use crate::reading::{NOWHERE, not_read, text_of};
 use crate::refusal::{Detail, Failure, Kind, refusal_at};
-use crate::sources::{NOWHERE, not_read, text_of};
 use hack_asm::write_asm;
 use outer_world::{Name, Put, Shelf, Sink};
 use std::alloc::Global;
@@ -32,7 +31,7 @@ fn file_at<F: Shelf>(
     bare: bool,
     shelf: &mut F,
 ) -> Result<File, Failure>
-    ensures loads { LoadsSource (SpellsVmFile bare name.now) (Refuses bare) (F.files shelf.old) path.now result }
+    ensures loads { LoadsSource (SpellsFile bare name.now) (Refuses bare) (F.files shelf.old) path.now result }
     ensures counts { CountsLoad (F.faults shelf.old) (F.faults shelf.new) result }
     ensures kept { F.files shelf.new ≡ F.files shelf.old }
 {
@@ -52,7 +51,7 @@ fn file_in<F: Shelf>(
     bare: bool,
     shelf: &mut F,
 ) -> Result<File, Failure>
-    ensures loads { LoadsSource (SpellsVmFile bare (stem_of (codes ".vm") name.now)) (Refuses bare) (F.files shelf.old) (path_in folder.now name.now) result }
+    ensures loads { LoadsSource (SpellsVmFile bare name.now) (Refuses bare) (F.files shelf.old) (path_in folder.now name.now) result }
     ensures counts { CountsLoad (F.faults shelf.old) (F.faults shelf.new) result }
     ensures kept { F.files shelf.new ≡ F.files shelf.old }
 {
@@ -68,7 +67,7 @@ fn program_of<F: Shelf>(
     bare: bool,
     shelf: &mut F,
 ) -> Result<Program, Failure>
-    ensures loads { LoadsTexts bare (F.files shelf.old) folder.now names.now result }
+    ensures loads { LoadsFiles bare (F.files shelf.old) folder.now names.now result }
     ensures counts { CountsLoad (F.faults shelf.old) (F.faults shelf.new) result }
     ensures kept { F.files shelf.new ≡ F.files shelf.old }
 {

@@ -163,15 +163,21 @@ fn with_stores(alloc: Global, stores: u32) -> Result<String, Fail> {
 fn the_computer_has_limits(rt: HostRuntime) -> Result<(), Fail> {
     let alloc = rt.alloc();
     let words = words_in(alloc, "run prog --level hack --cycles 0")?;
-    let begun = b"level hack\nmoves 0\nsteps 0\npoint start 1\nend bound\n";
+    let begun = "level hack\nmoves 0\nsteps 0\npoint start 1\nend bound\n";
     let text = with_statics(alloc, 240)?;
     let files = files_of(alloc, &[("Main.jack", text.as_str())])?;
-    assert_eq!(rt; outcome_over(alloc, files, &words)?.out.bytes(), begun);
+    assert_eq!(rt;
+        outcome_over(alloc, files, &words)?.out.bytes(),
+        begun.as_bytes()
+    );
     let text = with_statics(alloc, 241)?;
     let files = files_of(alloc, &[("Main.jack", text.as_str())])?;
     let outcome = outcome_over(alloc, files, &words)?;
     assert_eq!(rt; outcome.status, Status::Refused);
-    assert_eq!(rt; outcome.err.bytes(), b"prog:0:0: TooManyStatics 241\n");
+    assert_eq!(rt;
+        outcome.err.bytes(),
+        "prog:0:0: TooManyStatics 241\n".as_bytes()
+    );
     let text = with_stores(alloc, 3000)?;
     let files = [("Main.jack", text.as_str())];
     let outcome = outcome_over(alloc, files_of(alloc, &files)?, &words)?;

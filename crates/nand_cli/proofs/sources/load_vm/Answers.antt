@@ -3,7 +3,8 @@ use Rattle.std.proofs.lemmas.Result.{err_from_is_err_and}
 use Rattle.grammar.specs.Reading.{Halt}
 use Rattle.vm_parser.specs.Files.{Refuses, Spells}
 use Rattle.nand_cli.specs.Shown.{RefusesVm, SpellsVm}
-use Rattle.nand_cli.proofs.Printing.{source_told, source_unread, vm_too_long}
+use Rattle.nand_cli.proofs.Loading.{source_told, source_unread}
+use Rattle.nand_cli.proofs.Printing.{vm_too_long}
 use Rattle.nand_cli.proofs.sources.load_vm.Goals as goal
 
 pub returns-in_err-text-clause-loads : goal.returns-in_err-text-clause-loads

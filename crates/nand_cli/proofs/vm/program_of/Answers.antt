@@ -1,14 +1,14 @@
-use Rattle.std.proofs.Common.{◌+◌, ◌++◌, ◌∷◌, [], ℕ, List, Option, Result, Ok, Err, codes, drop, take, ap, subst, sym, ◌∙◌}
+use Rattle.std.proofs.Common.{◌+◌, ◌++◌, ◌∷◌, [], ℕ, List, Option, Result, Ok, Err, drop, take, ap, subst, sym, ◌∙◌}
 use Rattle.std.proofs.lemmas.List.{take_more}
 use Rattle.std.proofs.lemmas.Result.{err_from_is_err_and}
 use Rattle.outer_world.specs.Files.{Files, path_in}
 use Rattle.vm_tree.specs.declared.program.File.{File}
 use Rattle.vm_parser.specs.Files.{Refuses}
-use Rattle.nand_cli.specs.Folder.{stem_of}
 use Rattle.nand_cli.specs.Parts.{LoadsSource}
-use Rattle.nand_cli.specs.Translated.{SpellFiles, SpellsVmFile}
+use Rattle.nand_cli.specs.Spelled.{SpellEach}
+use Rattle.nand_cli.specs.Translated.{SpellsVmFile}
 use Rattle.nand_cli.specs.declared.refusal.Failure.{Failure}
-use Rattle.nand_cli.proofs.Translating.{around, spell_more, text_unread}
+use Rattle.nand_cli.proofs.Spelling.{around, spell_more, text_unread}
 use Rattle.nand_cli.proofs.vm.program_of.Goals as goal
 
 pub returns-in_err-file-clause-loads : goal.returns-in_err-file-clause-loads
@@ -16,10 +16,12 @@ returns-in_err-file-clause-loads g c =
     let p = err_from_is_err_and c.from_residual.result c.from_residual.ensures.1 in
     let at = c.loop-name.name-index in
     let names = c.args.names.now in
+    let told = g.F.Shelf.files c.args.shelf.now in
+    let spells = SpellsVmFile c.args.bare in
     let r : Result File Failure = Err c.in_err-file.field-0.0 in
-    let N : List ℕ → Type 0 = λ name. LoadsSource (SpellsVmFile c.args.bare (stem_of (codes ".vm") name)) (Refuses c.args.bare) (g.F.Shelf.files c.loop-name.shelf) (path_in c.args.folder.now name) r in
-    let T : Option Files → Type 0 = λ told. LoadsSource (SpellsVmFile c.args.bare (stem_of (codes ".vm") c.name-item.result)) (Refuses c.args.bare) told (path_in c.args.folder.now c.name-item.result) r in
-    rw (p.1, p.2) (text_unread c.args.bare _ c.args.folder.now names (take at names) (drop (at + 1) names) c.name-item.result c.loop-name.program _
+    let N : List ℕ → Type 0 = λ name. LoadsSource (spells name) (Refuses c.args.bare) (g.F.Shelf.files c.loop-name.shelf) (path_in c.args.folder.now name) r in
+    let T : Option Files → Type 0 = λ files. LoadsSource (spells c.name-item.result) (Refuses c.args.bare) files (path_in c.args.folder.now c.name-item.result) r in
+    rw (p.1, p.2) (text_unread spells (Refuses c.args.bare) (SpellEach spells told c.args.folder.now names) told c.args.folder.now names (take at names) (drop (at + 1) names) c.name-item.result c.loop-name.program _
     (around names at c.name-item.result c.loop-name-test.true c.name-item.is) c.loop-name.invariant.spelled (subst T c.loop-name.invariant.kept (subst N c.as_str.ensures c.in_err-file.ensures.loads)))
 
 pub loop-name-preserved : goal.loop-name-preserved
@@ -27,14 +29,15 @@ loop-name-preserved g c =
     let at = c.loop-name.name-index in
     let names = c.args.names.now in
     let told = g.F.Shelf.files c.args.shelf.now in
+    let spells = SpellsVmFile c.args.bare in
     let r : Result File Failure = Ok c.in_ok-file.file in
-    let N : List ℕ → Type 0 = λ name. LoadsSource (SpellsVmFile c.args.bare (stem_of (codes ".vm") name)) (Refuses c.args.bare) (g.F.Shelf.files c.loop-name.shelf) (path_in c.args.folder.now name) r in
-    let T : Option Files → Type 0 = λ told. LoadsSource (SpellsVmFile c.args.bare (stem_of (codes ".vm") c.name-item.result)) (Refuses c.args.bare) told (path_in c.args.folder.now c.name-item.result) r in
+    let N : List ℕ → Type 0 = λ name. LoadsSource (spells name) (Refuses c.args.bare) (g.F.Shelf.files c.loop-name.shelf) (path_in c.args.folder.now name) r in
+    let T : Option Files → Type 0 = λ files. LoadsSource (spells c.name-item.result) (Refuses c.args.bare) files (path_in c.args.folder.now c.name-item.result) r in
     let read = subst T c.loop-name.invariant.kept (subst N c.as_str.ensures c.in_ok-file.ensures.loads) in
-    let more = spell_more c.args.bare told c.args.folder.now (take at names) c.loop-name.program c.name-item.result c.in_ok-file.file c.loop-name.invariant.spelled read in
+    let more = spell_more spells told c.args.folder.now (take at names) c.loop-name.program c.name-item.result c.in_ok-file.file c.loop-name.invariant.spelled read in
     let longer = take_more names at c.name-item.result c.loop-name-test.true ∙ ap (λ name. take at names ++ name ∷ []) (sym c.name-item.is) in
-    let P : List (List ℕ) → Type 0 = λ ns. SpellFiles c.args.bare told c.args.folder.now ns (c.loop-name.program ++ c.in_ok-file.file ∷ []) in
-    let Q : List File → Type 0 = λ fs. SpellFiles c.args.bare told c.args.folder.now (take (at + 1) names) fs in
+    let P : List (List ℕ) → Type 0 = λ ns. SpellEach spells told c.args.folder.now ns (c.loop-name.program ++ c.in_ok-file.file ∷ []) in
+    let Q : List File → Type 0 = λ fs. SpellEach spells told c.args.folder.now (take (at + 1) names) fs in
     record {
       spelled = subst Q (sym c.in_ok-push.ensures.ok) (subst P (sym longer) more);
       counts = c.in_ok-file.ensures.counts ∙ c.loop-name.invariant.counts;

@@ -1,5 +1,5 @@
-use Rattle.nand_cli.proofs.Sourcing.{told_long}
-use Rattle.nand_cli.proofs.sources.text_of.Goals as goal
+use Rattle.nand_cli.proofs.Loading.{told_long}
+use Rattle.nand_cli.proofs.reading.text_of.Goals as goal
 
 pub returns-in-TooLong-clause-loads : goal.returns-in-TooLong-clause-loads
 returns-in-TooLong-clause-loads g c =
