@@ -10,6 +10,7 @@ use outer_world::Name;
 use std::alloc::Global;
 use std::test::*;
 use vm_link::{Linked, Step, link};
+use vm_machine::Vm;
 use vm_tree::{Command, File, Function, Line, List, Operation, Segment};
 
 fn name(alloc: Global, text: &str) -> Result<Name, Fail> {
@@ -245,5 +246,126 @@ fn too_large_an_image(rt: HostRuntime) -> Result<(), Fail> {
             Err(CodeFault::TooLarge(32769))
         )
     );
+    Ok(())
+}
+
+// These constants, an operation on them, and what it makes goes to that word of `that`.
+fn makes(
+    lines: &mut List<Line>,
+    values: &[u16],
+    operation: Operation,
+    to: u16,
+) -> Result<(), Fail> {
+    for value in values {
+        add(lines, Command::Push(Segment::Constant, *value))?;
+    }
+    add(lines, Command::Operate(operation))?;
+    add(lines, Command::Pop(Segment::That, to))
+}
+
+// A value goes into a segment, and from there to that word of `that`.
+fn keeps(
+    lines: &mut List<Line>,
+    value: u16,
+    segment: Segment,
+    index: u16,
+    to: u16,
+) -> Result<(), Fail> {
+    add(lines, Command::Push(Segment::Constant, value))?;
+    add(lines, Command::Pop(segment, index))?;
+    add(lines, Command::Push(segment, index))?;
+    add(lines, Command::Pop(Segment::That, to))
+}
+
+// A value decides whether 1 goes to that word of `that`: it does so where the value is 0.
+fn skips(
+    lines: &mut List<Line>,
+    alloc: Global,
+    value: u16,
+    label: &str,
+    to: u16,
+) -> Result<(), Fail> {
+    add(lines, Command::Push(Segment::Constant, value))?;
+    add(lines, Command::IfGoto(name(alloc, label)?))?;
+    add(lines, Command::Push(Segment::Constant, 1))?;
+    add(lines, Command::Pop(Segment::That, to))?;
+    add(lines, Command::Label(name(alloc, label)?))
+}
+
+// Every operation, and every segment but those of a call.
+fn operations(lines: &mut List<Line>) -> Result<(), Fail> {
+    add(lines, Command::Push(Segment::Constant, 2048))?;
+    add(lines, Command::Pop(Segment::Pointer, 1))?;
+    makes(lines, &[7, 5], Operation::Add, 0)?;
+    makes(lines, &[7, 5], Operation::Sub, 1)?;
+    makes(lines, &[7], Operation::Neg, 2)?;
+    makes(lines, &[5, 5], Operation::Eq, 3)?;
+    makes(lines, &[7, 5], Operation::Gt, 4)?;
+    makes(lines, &[7, 5], Operation::Lt, 5)?;
+    makes(lines, &[12, 10], Operation::And, 6)?;
+    makes(lines, &[12, 10], Operation::Or, 7)?;
+    makes(lines, &[12], Operation::Not, 8)?;
+    keeps(lines, 3, Segment::Temp, 6, 9)?;
+    keeps(lines, 4, Segment::Static, 2, 10)?;
+    keeps(lines, 2060, Segment::Pointer, 0, 11)?;
+    // the word 2061
+    keeps(lines, 9, Segment::This, 1, 12)
+}
+
+// Sys.sum adds its two arguments over a local, and puts the sum over an argument.
+fn sum(alloc: Global) -> Result<Function, Fail> {
+    let steps = [
+        Step::Push(Segment::Argument, 0),
+        Step::Push(Segment::Argument, 1),
+        Step::Operate(Operation::Add),
+        Step::Pop(Segment::Local, 0),
+        Step::Push(Segment::Local, 0),
+        Step::Pop(Segment::Argument, 1),
+        Step::Push(Segment::Argument, 1),
+        Step::Return,
+    ];
+    Ok(Function {
+        name: name(alloc, "Sys.sum")?,
+        locals: 1,
+        lines: lines(alloc, &steps)?,
+    })
+}
+
+fn every_command(alloc: Global) -> Result<Linked, Fail>
+    ensures { IfOk result IsSound }
+{
+    let mut init = List::new(alloc);
+    operations(&mut init)?;
+    add(&mut init, Command::Push(Segment::Constant, 20))?;
+    add(&mut init, Command::Push(Segment::Constant, 22))?;
+    add(&mut init, Command::Call(name(alloc, "Sys.sum")?, 2))?;
+    add(&mut init, Command::Pop(Segment::That, 14))?;
+    skips(&mut init, alloc, 0, "PASSED", 15)?;
+    skips(&mut init, alloc, 2, "TAKEN", 16)?;
+    end_loop(&mut init, alloc)?;
+    linked(alloc, init, Some(sum(alloc)?))
+}
+
+// From 2048 on.
+const WORDS: [u16; 17] = [
+    12, 2, 65529, 65535, 65535, 0, 8, 14, 65523, 3, 4, 2060, 9, 9, 42, 1, 0,
+];
+
+// The computer and the virtual machine come to the same words.
+#[test]
+fn each_command(rt: HostRuntime) -> Result<(), Fail> {
+    let computer = machine(rt.alloc(), &every_command(rt.alloc())?, 3000)?;
+    let mut vm = Vm::new(rt.alloc(), every_command(rt.alloc())?)?;
+    for _ in 0..300u16 {
+        if vm.moves() > 1000 {
+            return Err(Fail::from("too many moves"));
+        }
+        vm.step(0);
+    }
+    for k in 0..17u16 {
+        let word = WORDS.get(usize::from(k)).copied();
+        assert_eq!(rt; Some(computer.ram(2048 + k)), word);
+        assert_eq!(rt; Some(vm.word_at(2048 + k)), word);
+    }
     Ok(())
 }
