@@ -1,5 +1,5 @@
 //! Lines of `show`.
-use super::{Case, READ_FAULT, USAGE, expect, one_file, refused};
+use super::{Case, READ_FAULT, USAGE, expect, one_file, outcome_of, refused};
 use crate::Status;
 use std::alloc::Global;
 use std::process::Abort;
@@ -92,6 +92,27 @@ fn show_refuses_a_text(rt: HostRuntime) -> Result<(), Fail> {
         let path = line.strip_prefix("show ").ok_or("a path")?;
         refused(&rt, rt.alloc(), &one_file(path, text.as_bytes()), line, err)?;
     }
+    Ok(())
+}
+
+const CLASS: &str =
+    "/** c */class B{static Array x,y;constructor B new(int a,B b){var char c;if(~(a=1)){let x[0]=-a/007;}else{do b.f(\"a b\",c);}while(true){}return this;}}";
+
+// Each front of a class but the whole is refused: there the grammar stops, in it or at its end.
+#[test]
+fn show_refuses_each_front_of_a_class(rt: HostRuntime) -> Result<(), Fail> {
+    let text = CLASS.as_bytes();
+    for n in 0..text.len() {
+        let case = one_file("B.jack", &text[..n]);
+        let outcome = outcome_of(rt.alloc(), &case, &["show", "B.jack"])?;
+        assert_eq!(rt; outcome.status, Status::Refused);
+        assert_eq!(rt; outcome.out.bytes().len(), 0);
+        assert!(rt; outcome.err.bytes().starts_with(b"B.jack:1:"));
+        assert!(rt; outcome.err.bytes().ends_with(b": Grammar\n"));
+    }
+    let whole = one_file("B.jack", text);
+    let outcome = outcome_of(rt.alloc(), &whole, &["show", "B.jack"])?;
+    assert_eq!(rt; outcome.status, Status::Done);
     Ok(())
 }
 
