@@ -2,4 +2,9 @@
 #![tactic(auto)]
 
 mod lexer;
+mod reading;
+mod rules;
 mod token;
+mod words;
+
+pub use reading::{HdlFault, parse};

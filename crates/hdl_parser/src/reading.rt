@@ -37,7 +37,7 @@ fn finish(tokens: &[Token], end: Place) -> Result<(), ReadError>
 
 #[tactic(auto, using(crate::proofs::Exits::hdl_exits))]
 fn all(alloc: Global, tokens: &[Token], end: Place) -> Result<Chip, ReadError>
-    ensures reads { ParsesAllBy view (hdl end) whole whole_tree (λ _. 0) 0 tokens.now result }
+    ensures { ParsesAllBy view (hdl end) whole whole_tree (λ _. 0) 0 tokens.now result }
 {
     let (chip, rest) = chip(alloc, tokens, end)?;
     finish(rest, end)?;

@@ -82,6 +82,7 @@ fn pins<'a>(
     word: Keyword,
 ) -> Result<(Vec<Pin>, &'a [Token<'a>]), ReadError>
     ensures reads { ParsesBy view (hdl end) (pins word) (λ x. pins_tree x.items) (λ _. 0) 0 tokens.now result }
+    ensures no_longer { IfOk result (λ r. length r.1.now ≤ length tokens.now) }
 {
     if !keyword_stands(tokens, word) {
         return Ok((Vec::new(alloc), tokens));
@@ -124,6 +125,7 @@ fn clocked<'a>(
     end: Place,
 ) -> Result<(Vec<Name>, &'a [Token<'a>]), ReadError>
     ensures reads { ParsesBy view (hdl end) (option (listing Keyword.Clocked name)) (λ x. names_tree x.items) (λ _. 0) 0 tokens.now result }
+    ensures no_longer { IfOk result (λ r. length r.1.now ≤ length tokens.now) }
 {
     if !keyword_stands(tokens, Keyword::Clocked) {
         return Ok((Vec::new(alloc), tokens));
@@ -298,6 +300,7 @@ fn part_list<'a>(
     end: Place,
 ) -> Result<(Vec<Part>, &'a [Token<'a>]), ReadError>
     ensures reads { ParsesBy view (hdl end) (repeat part) (λ v. listed part_tree v.items NoMore) (λ _. 0) 0 tokens.now result }
+    ensures no_longer { IfOk result (λ r. length r.1.now ≤ length tokens.now) }
 {
     let mut parts = Vec::new(alloc);
     if !name_stands(tokens) {
@@ -322,6 +325,7 @@ fn parts<'a>(
     end: Place,
 ) -> Result<(Vec<Part>, &'a [Token<'a>]), ReadError>
     ensures reads { ParsesBy view (hdl end) parts (λ v. parts_tree v.items) (λ _. 0) 0 tokens.now result }
+    ensures shorter { IfOk result (λ r. length r.1.now < length tokens.now) }
 {
     let rest = keyword(tokens, end, Keyword::Parts)?;
     let rest = symbol(rest, end, b':')?;
@@ -337,6 +341,7 @@ fn builtin<'a>(
     end: Place,
 ) -> Result<((Name, Vec<Name>), &'a [Token<'a>]), ReadError>
     ensures reads { ParsesBy view (hdl end) builtin (λ x. builtin_tree x.0 x.1.items) (λ _. 0) 0 tokens.now result }
+    ensures shorter { IfOk result (λ r. length r.1.now < length tokens.now) }
 {
     let rest = keyword(tokens, end, Keyword::Builtin)?;
     let (name, rest) = name(alloc, rest, end)?;
@@ -352,6 +357,7 @@ fn body<'a>(
     end: Place,
 ) -> Result<(Body, &'a [Token<'a>]), ReadError>
     ensures reads { ParsesBy view (hdl end) body body_tree (λ _. 0) 0 tokens.now result }
+    ensures shorter { IfOk result (λ r. length r.1.now < length tokens.now) }
 {
     if keyword_stands(tokens, Keyword::Parts) {
         let (parts, rest) = parts(alloc, tokens, end)?;
@@ -371,7 +377,7 @@ pub fn chip<'a>(
     tokens: &'a [Token<'a>],
     end: Place,
 ) -> Result<(Chip, &'a [Token<'a>]), ReadError>
-    ensures reads { ParsesBy view (hdl end) chip chip_tree (λ _. 0) 0 tokens.now result }
+    ensures { ParsesBy view (hdl end) chip chip_tree (λ _. 0) 0 tokens.now result }
 {
     let rest = keyword(tokens, end, Keyword::Chip)?;
     let (name, rest) = name(alloc, rest, end)?;

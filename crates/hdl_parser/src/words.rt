@@ -13,6 +13,9 @@ use hdl_tree::Name;
 use scan_text::Place;
 use std::alloc::Global;
 
+const WIDEST: u32 = 16;
+const LAST_BIT: u32 = 15;
+
 pub fn grammar_fault(place: Place) -> ReadError
     ensures { result ≡ ReadError.Fault (Fault.Grammar place) }
 {
@@ -156,7 +159,7 @@ fn width_at<'a>(tokens: &'a [Token<'a>], end: Place) -> Result<(u8, &'a [Token<'
     let Kind::Number(n) = token.kind else {
         return Err(grammar_fault(token.place));
     };
-    if n > 16 {
+    if n > WIDEST {
         return Err(too_large(token.place, n));
     }
     Ok((n as u8, rest))
@@ -180,7 +183,7 @@ fn index_at<'a>(tokens: &'a [Token<'a>], end: Place) -> Result<(u8, &'a [Token<'
     let Kind::Number(n) = token.kind else {
         return Err(grammar_fault(token.place));
     };
-    if n > 15 {
+    if n > LAST_BIT {
         return Err(too_large(token.place, n));
     }
     Ok((n as u8, rest))
@@ -208,7 +211,7 @@ fn last_index_at<'a>(
     let Kind::Number(n) = token.kind else {
         return Err(grammar_fault(token.place));
     };
-    if n > 15 {
+    if n > LAST_BIT {
         return Err(too_large(token.place, n));
     }
     if n < first as u32 {
