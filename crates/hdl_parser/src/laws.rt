@@ -1,0 +1,13 @@
+//! Laws of the printed form.
+
+ghost use Rattle.hdl_parser.specs.Printed.{PrintedLaw, TokensLaw};
+
+/// A text that spells a chip has the tokens of the chip, whatever stands between them.
+pub fn tokens_law()
+    ensures { TokensLaw }
+{}
+
+/// The printed form of a chip that some text spells, where it is within the limit of a file, spells the chip but for places.
+pub fn printed_law()
+    ensures { PrintedLaw }
+{}
