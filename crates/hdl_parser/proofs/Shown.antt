@@ -14,7 +14,7 @@ use Rattle.outer_world.proofs.Passing.{Passes-then, Passes-cut, Passes-nothing}
 use Rattle.hdl_tree.specs.declared.tree.Chip.{Chip}
 use Rattle.hdl_parser.specs.Tokens.{Word}
 use Rattle.hdl_parser.specs.Hdl.{hdl, HdlRule, Said, chip, row}
-use Rattle.hdl_parser.specs.Trees.{row_with, chip_tree}
+use Rattle.hdl_parser.specs.Trees.{chip_tree}
 use Rattle.hdl_parser.specs.Printed.{said_text, set_off, text_of, chip_text}
 use Rattle.hdl_parser.specs.Written.{Wrote, Writes, Shows}
 

@@ -4,7 +4,7 @@ use Rattle.std.specs.Prelude as prelude
 use Rattle.std.specs.Prelude.{min, nat_lt, ◌==◌, ◌||◌, codes, if◌then◌else◌}
 use Rattle.std.specs.List.{flat_map}
 use Rattle.std.specs.Str.{bytes_eq}
-use Rattle.std.proofs.lemmas.Bool.{le-ltb, ltb-false}
+use Rattle.std.proofs.lemmas.Bool.{le-ltb}
 use Rattle.std.proofs.lemmas.Fmt.{decimal_by_steps}
 use Rattle.std.proofs.Math.Nat.{min-eq_left}
 use Rattle.scan_text.specs.declared.Place.{Place}

@@ -1,5 +1,5 @@
 -- The tokens of a chip are those of the text that spells it.
-use Rattle.std.proofs.Common.{◌≡◌, ℕ, Bool, true, false, List, [], ◌∷◌, ◌++◌, map, Ok, refl, ap, ◌∙◌, eqb-true}
+use Rattle.std.proofs.Common.{◌≡◌, ℕ, true, List, [], ◌∷◌, ◌++◌, map, Ok, refl, ap, ◌∙◌, eqb-true}
 use Rattle.std.proofs.lemmas.List.{append-nil}
 use denote.Enum.Bare.{same_true}
 use Rattle.scan_text.specs.declared.Place.{Place}
@@ -14,7 +14,7 @@ use Rattle.hdl_parser.specs.declared.token.Keyword.TheVariants as keyword
 use Rattle.hdl_parser.specs.declared.token.Kind.{Kind}
 use Rattle.hdl_parser.specs.declared.token.Kind.TheVariants as kind
 use Rattle.hdl_parser.specs.Tokens.{Word, keyword_text, tokens_of, finish}
-use Rattle.hdl_parser.specs.Hdl.{hdl, Said, HdlRule, sign_is, keyword_is, dotted, names, counts, truths, stands_for, symbol_of, keyword_of, dots, name, width, index, last_index, constant, row, width_rule, pin, last, range, subscript, wire, source, connection, part, parts, listing, builtin, body, pins, chip, whole}
+use Rattle.hdl_parser.specs.Hdl.{hdl, Said, HdlRule, sign_is, keyword_is, dotted, names, counts, stands_for, symbol_of, keyword_of, dots, name, width, index, last_index, constant, row, width_rule, pin, last, range, subscript, wire, source, connection, part, parts, listing, builtin, body, pins, chip, whole}
 use Rattle.hdl_parser.specs.Whole.{whole_tree, Spells}
 use Rattle.hdl_parser.specs.Printed.{kind_text, shown, said_text, chip_tokens}
 

@@ -1,5 +1,5 @@
 -- From the tokens of a text to the text.
-use Rattle.std.proofs.Common.{◌≡◌, ℕ, List, [], Ok, Result, Err, sym, ap, subst, ◌∙◌}
+use Rattle.std.proofs.Common.{◌≡◌, ℕ, List, Ok, Result, subst}
 use Rattle.std.specs.Prelude.{IfOk, IfErr}
 use Rattle.scan_text.specs.declared.Place.{Place}
 use Rattle.grammar.specs.declared.ReadError.{ReadError}

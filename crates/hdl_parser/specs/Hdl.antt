@@ -1,5 +1,5 @@
 -- The grammar of HDL (book, appendix 2).
-use Rattle.std.specs.Prelude.{ℕ, Bool, true, false, List, [], Result, Ok, Err, if◌then◌else◌, nat_lt, min, ◌==◌, ◌||◌}
+use Rattle.std.specs.Prelude.{ℕ, Bool, true, false, List, [], Result, Ok, Err, if◌then◌else◌, nat_lt, min, ◌==◌}
 use denote.Enum.Bare.{sameb}
 use Rattle.scan_text.specs.declared.Place.{Place}
 use Rattle.grammar.specs.declared.Fault.{Fault}

@@ -1,6 +1,6 @@
 -- The tokens of an HDL text (book, appendix 2): words, numbers and symbols. Blanks (space, tab, line feed, return) and comments are
 -- passed over.
-use Rattle.std.specs.Prelude.{ℕ, suc, ◌-◌, Bool, true, false, List, [], ◌∷◌, Option, Some, None, Result, Err, ◌==◌, ◌||◌, if◌then◌else◌, length, take, nat_lt, codes}
+use Rattle.std.specs.Prelude.{ℕ, suc, ◌-◌, Bool, List, [], ◌∷◌, Option, Some, None, Result, Err, ◌==◌, ◌||◌, if◌then◌else◌, length, take, nat_lt, codes}
 use Rattle.std.specs.Char.{is_ascii_alphabetic}
 use Rattle.std.specs.Str.{bytes_eq}
 use Rattle.scan_text.specs.declared.Place.{Place}

@@ -156,10 +156,7 @@ fn last<'a>(
 
 // One index, or two with `..` between them.
 #[tactic(auto, using(crate::proofs::Exits::hdl_exits))]
-fn range<'a>(
-    tokens: &'a [Token<'a>],
-    end: Place,
-) -> Result<(Subscript, &'a [Token<'a>]), ReadError>
+fn range<'a>(tokens: &'a [Token<'a>], end: Place) -> Result<(Subscript, &'a [Token<'a>]), ReadError>
     ensures reads { ParsesBy view (hdl end) range range_tree first_bit 0 tokens.now result }
     ensures shorter { IfOk result (λ r. length r.1.now < length tokens.now) }
 {

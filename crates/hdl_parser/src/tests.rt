@@ -77,8 +77,24 @@ fn tree(rt: HostRuntime) -> Result<(), Fail> {
     assert!(rt; wire.subscript == Some(Subscript::Bits(1, 3)));
     assert!(rt; wire.name.place == at(3, 25));
     assert!(rt; parts[0].connections[2].pin.subscript == Some(Subscript::Bit(2)));
-    assert!(rt; matches!(parts[0].connections[2].source, Source::Constant(true, Place { line: 3, column: 41 })));
-    assert!(rt; matches!(parts[1].connections[0].source, Source::Constant(false, Place { line: 4, column: 7 })));
+    assert!(rt;
+        matches!(
+            parts[0].connections[2].source,
+            Source::Constant(
+                true,
+                Place {
+                    line: 3,
+                    column: 41
+                }
+            )
+        )
+    );
+    assert!(rt;
+        matches!(
+            parts[1].connections[0].source,
+            Source::Constant(false, Place { line: 4, column: 7 })
+        )
+    );
     Ok(())
 }
 
@@ -102,14 +118,25 @@ fn builtin(rt: HostRuntime) -> Result<(), Fail> {
 fn print_form(rt: HostRuntime) -> Result<(), Fail> {
     let alloc = rt.alloc();
     assert_eq!(rt;
-        printed(alloc, b"CHIP Not{IN in;OUT out;PARTS:Nand(a=in,b=in,out=out);}")?.as_str(),
+        printed(
+            alloc,
+            b"CHIP Not{IN in;OUT out;PARTS:Nand(a=in,b=in,out=out);}"
+        )?
+        .as_str(),
         "CHIP Not {\nIN in ;\nOUT out ;\nPARTS : Nand ( a = in , b = in , out = out ) ;\n}\n"
     );
     assert_eq!(rt;
-        printed(alloc, b"CHIP X // x\n { /* y */ IN a[016], b[1]; PARTS:\r\n\tY(a[0..015]=b[3..3], c[7]=true, d=false); Z(a=b); }")?.as_str(),
+        printed(
+            alloc,
+            b"CHIP X // x\n { /* y */ IN a[016], b[1]; PARTS:\r\n\tY(a[0..015]=b[3..3], c[7]=true, d=false); Z(a=b); }"
+        )?
+        .as_str(),
         "CHIP X {\nIN a [ 16 ] , b [ 1 ] ;\nPARTS : Y ( a [ 0 .. 15 ] = b [ 3 .. 3 ] , c [ 7 ] = true , d = false ) ;\nZ ( a = b ) ;\n}\n"
     );
-    assert_eq!(rt; printed(alloc, b"CHIP X { PARTS: }")?.as_str(), "CHIP X {\nPARTS : }\n");
+    assert_eq!(rt;
+        printed(alloc, b"CHIP X { PARTS: }")?.as_str(),
+        "CHIP X {\nPARTS : }\n"
+    );
     assert_eq!(rt;
         printed(alloc, b"CHIP X { BUILTIN DFF; CLOCKED in,b; }")?.as_str(),
         "CHIP X {\nBUILTIN DFF ;\nCLOCKED in , b ;\n}\n"
@@ -156,7 +183,12 @@ fn faults(rt: HostRuntime) {
 #[test]
 fn limits(rt: HostRuntime) -> Result<(), Fail> {
     let alloc = rt.alloc();
-    assert!(rt; is_chip(alloc, b"CHIP X { IN a[16], b[0]; OUT c[1]; PARTS: A(a[15]=b[0..15], c[15..15]=d[0]); }"));
+    assert!(rt;
+        is_chip(
+            alloc,
+            b"CHIP X { IN a[16], b[0]; OUT c[1]; PARTS: A(a[15]=b[0..15], c[15..15]=d[0]); }"
+        )
+    );
     let text = b"CHIP X { PARTS: }";
     let mut long = Vec::from_slice(alloc, text.as_slice())?;
     while long.len() < 1048576 {

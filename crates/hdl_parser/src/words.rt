@@ -14,6 +14,7 @@ use scan_text::Place;
 use std::alloc::Global;
 
 const WIDEST: u32 = 16;
+
 const LAST_BIT: u32 = 15;
 
 pub fn grammar_fault(place: Place) -> ReadError
