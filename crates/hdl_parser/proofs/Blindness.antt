@@ -16,10 +16,12 @@ use Rattle.hdl_parser.specs.declared.token.Kind.TheVariants as kind
 use Rattle.hdl_parser.specs.Tokens.{Word, tokens_of, finish}
 use Rattle.hdl_parser.specs.Hdl.{hdl, Said, HdlRule, Fixed, Placed, sign_is, keyword_is, dotted, names, counts, stands_for, value_of, too_large, symbol_of, keyword_of, dots, name, width, index, last_index, constant, row, width_rule, pin, last, range, indices, subscript, wire, source, connection, part, parts, listing, builtin, body, pins, chip, whole, check_width, check_index, check_last}
 use Rattle.hdl_parser.specs.Whole.{whole_tree, Spells}
-use Rattle.hdl_parser.specs.Printed.{chip_text, unplaced, set_off}
+use Rattle.hdl_parser.specs.Printed.{chip_text, shown, unplaced, set_off}
+use Rattle.hdl_parser.specs.Writable.{chip_can}
 use Rattle.hdl_parser.proofs.Alike as alike
-use Rattle.hdl_parser.proofs.Spaced.{told, told_by, printed_tokens}
-use Rattle.hdl_parser.proofs.TokensTold.{tokens_told}
+use Rattle.hdl_parser.proofs.Spaced.{told, told_by, AllGood, good_tokens, printed_good}
+use Rattle.hdl_parser.proofs.Derived.{chip_words, chip_read, chip_fine}
+use Rattle.hdl_parser.proofs.TokensTold.{tokens_read}
 
 abbrev W : Type 0
 W = Kind × List ℕ
@@ -173,17 +175,18 @@ none_left (u ∷ us) e = absurd cc
 abbrev SpellsAlike : List ℕ → Tree Said → Type 0
 SpellsAlike text x = (y : Tree Said) × Spells text y × (seen_by unplaced x ≡ seen_by unplaced y)
 
-read_again : (text out : List ℕ) (c : Chip) (ts us : List Word) (s' : ℕ) → Reads Word ℕ (Unit {0}) Said (hdl (finish text)) 0 whole ts (whole_tree c) s' [] → map told us ≡ map told ts → tokens_of out ≡ Ok us → SpellsAlike out (whole_tree c)
-read_again text out c ts us s' h same cut =
-    let at = finish text in
-    let m = alike.read_alike Word ℕ (Unit {0}) Said W Said (hdl at) told unplaced (λ n t u e. by_kind (sign_is 59) t u e) (λ n. symbol_blind at 59) (whole_blind at) h us (sym same) in
+-- tokens that are read as a chip, and the tokens of its printed form
+read_again : (at : Place) (c : Chip) (ts : List Word) (s' : ℕ) → Reads Word ℕ (Unit {0}) Said (hdl at) 0 whole ts (whole_tree c) s' [] → AllGood ts → length (chip_text c) ≤ 1048576 → SpellsAlike (chip_text c) (whole_tree c)
+read_again at c ts s' h good small =
+    let same : flat_map set_off (map shown ts) ≡ chip_text c = ap (flat_map set_off) (tokens_read at c ts s' h) in
+    let printed = printed_good ts good (subst (λ (l : List ℕ). length l ≤ 1048576) (sym same) small) in
+    let us = printed.0 in
+    let m = alike.read_alike Word ℕ (Unit {0}) Said W Said (hdl at) told unplaced (λ n t u e. by_kind (sign_is 59) t u e) (λ n. symbol_blind at 59) (whole_blind at) h us (sym printed.2) in
     let all = subst (λ (l : List Word). Reads Word ℕ (Unit {0}) Said (hdl at) 0 whole us m.tree s' l) (none_left m.rest m.same_rest) m.reads in
-    (m.tree, (us, s', cut, ends_anywhere at (finish out) all), m.same_tree)
+    (m.tree, (us, s', ap tokens_of (sym same) ∙ printed.1, ends_anywhere at (finish (chip_text c)) all), m.same_tree)
 
 pub printed_spells : (text : List ℕ) (c : Chip) → Spells text (whole_tree c) → length (chip_text c) ≤ 1048576 → SpellsAlike (chip_text c) (whole_tree c)
-printed_spells text c s small =
-    let ts = s.0 in
-    let told_tokens = tokens_told text c ts s.2 s in
-    let same = ap (flat_map set_off) told_tokens in
-    let printed = printed_tokens text ts s.2 (subst (λ (l : List ℕ). length l ≤ 1048576) (sym same) small) in
-    read_again text (chip_text c) c ts printed.0 s.1 s.3 printed.2 (ap tokens_of (sym same) ∙ printed.1)
+printed_spells text c s small = read_again (finish text) c s.0 s.1 s.3 (good_tokens text s.0 s.2) small
+
+pub written_spells : (c : Chip) → chip_can c ≡ true → length (chip_text c) ≤ 1048576 → SpellsAlike (chip_text c) (whole_tree c)
+written_spells c h small = read_again start c (chip_words c) 0 (chip_read c h) (chip_fine c h) small

@@ -1,7 +1,7 @@
 -- The text of a token with a blank behind it is cut as that token again.
 use Rattle.std.proofs.Common.{◌≡◌, ℕ, zero, suc, ◌+◌, ◌-◌, ◌*◌, ◌/◌, ◌%◌, ◌<◌, ◌≤◌, Bool, true, false, cond, List, [], ◌∷◌, ◌++◌, map, length, take, drop, append_assoc, length-append, Result, Ok, Err, Option, Some, None, refl, sym, ap, subst, ◌∙◌, arith, eqb-true}
 use Rattle.std.specs.Prelude as prelude
-use Rattle.std.specs.Prelude.{min, nat_lt, ◌==◌, ◌||◌, codes, if◌then◌else◌}
+use Rattle.std.specs.Prelude.{min, nat_lt, ◌==◌, ◌||◌, ◌&&◌, codes, if◌then◌else◌}
 use Rattle.std.specs.List.{flat_map}
 use Rattle.std.specs.Str.{bytes_eq}
 use Rattle.std.proofs.lemmas.Bool.{le-ltb}
@@ -23,6 +23,7 @@ use Rattle.hdl_parser.specs.declared.token.Kind.{Kind}
 use Rattle.hdl_parser.specs.declared.token.Kind.TheVariants as kind
 use Rattle.hdl_parser.specs.Tokens.{Word, keyword_text, keyword_of, piece, close, tokens_of, token_of, number_piece, word_piece, symbol_piece, dots_piece, begins_dots, is_letter, is_name_byte, is_sign, kind_of, word_kind}
 use Rattle.hdl_parser.specs.Printed.{shown, set_off}
+use Rattle.hdl_parser.specs.Writable.{all, is_free, is_text_of_name}
 
 -- lists
 
@@ -404,10 +405,40 @@ within_limit false f r ts e = e
 pub good_tokens : (text : List ℕ) (ts : List Word) → tokens_of text ≡ Ok ts → AllGood ts
 good_tokens text ts e = good_cut None 0 start text ts (within_limit (nat_lt 1048576 (length text)) _ _ ts e)
 
--- the printed form of the tokens of a text
-pub printed_tokens : (text : List ℕ) (ts : List Word) → tokens_of text ≡ Ok ts → length (flat_map set_off (map shown ts)) ≤ 1048576 → (us : List Word) × (tokens_of (flat_map set_off (map shown ts)) ≡ Ok us) × (map told us ≡ map told ts)
-printed_tokens text ts e small =
-    let again = recut ts (good_tokens text ts e) None start in
+-- a name that a text can have
+pub first_of : (a b : Bool) → (a && b) ≡ true → a ≡ true
+first_of true b e = refl
+first_of false b e = absurd cc
+
+pub second_of : (a b : Bool) → (a && b) ≡ true → b ≡ true
+second_of true b e = e
+second_of false b e = absurd cc
+
+all_are : (is : ℕ → Bool) (bs : List ℕ) → all is bs ≡ true → All is bs
+all_are is [] h = tt
+all_are is (b ∷ bs) h = (first_of (is b) (all is bs) h, all_are is bs (second_of (is b) (all is bs) h))
+
+free_kind : (o : Option Keyword) → is_free o ≡ true → kind_of o ≡ kind.Name
+free_kind None h = refl
+free_kind (Some k) h = absurd cc
+
+pub name_good : (text : List ℕ) → is_text_of_name text ≡ true → Good kind.Name text
+name_good [] h = absurd cc
+name_good (b ∷ bs) h =
+    let r = second_of (is_letter b) (all is_name_byte bs && is_free (keyword_of (b ∷ bs))) h in
+    record {
+      first = b;
+      more = bs;
+      is = refl;
+      letter = first_of (is_letter b) (all is_name_byte bs && is_free (keyword_of (b ∷ bs))) h;
+      names = all_are is_name_byte bs (first_of (all is_name_byte bs) (is_free (keyword_of (b ∷ bs))) r);
+      kind = free_kind (keyword_of (b ∷ bs)) (second_of (all is_name_byte bs) (is_free (keyword_of (b ∷ bs))) r);
+    }
+
+-- the printed form of such tokens
+pub printed_good : (ts : List Word) → AllGood ts → length (flat_map set_off (map shown ts)) ≤ 1048576 → (us : List Word) × (tokens_of (flat_map set_off (map shown ts)) ≡ Ok us) × (map told us ≡ map told ts)
+printed_good ts good small =
+    let again = recut ts good None start in
     let out = flat_map set_off (map shown ts) in
     let fits : nat_lt 1048576 (length out) ≡ false = le-ltb _ _ small in
     (again.tokens, ap (λ (t : Bool). cond t (Err (Range (record { line = 0; column = 0 }) 1048577)) (C None start out)) fits ∙ again.cut, again.same)

@@ -4,7 +4,7 @@ use Rattle.std.proofs.lemmas.List.{append-nil}
 use denote.Enum.Bare.{same_true}
 use Rattle.scan_text.specs.declared.Place.{Place}
 use Rattle.scan_text.specs.Text.{start}
-use Rattle.grammar.specs.Rules.{mark, word, seq, choice, option, repeat, name as named_rule, within, end, Tree, Skip, Node, Leaf, Pair, Left, Right, Absent, Present, NoMore, More}
+use Rattle.grammar.specs.Rules.{mark, word, seq, choice, option, repeat, name as named_rule, within, end, Tree, Skip, Node, Leaf, Pair, Left, Right, Absent, Present, NoMore, More, Reads}
 use Rattle.grammar.specs.Leaves.{leaves}
 use Rattle.grammar.proofs.LeavesRead as read
 use Rattle.hdl_tree.specs.declared.tree.Chip.{Chip}
@@ -213,8 +213,11 @@ module _ (at : Place) where
 same_tokens : (text : List ℕ) (ts us : List Word) → tokens_of text ≡ Ok ts → tokens_of text ≡ Ok us → ts ≡ us
 same_tokens text ts us a b = cc
 
+-- tokens that are read as a chip
+pub tokens_read : (at : Place) (c : Chip) (ts : List Word) (s' : ℕ) → Reads Word ℕ (Unit {0}) Said (hdl at) 0 whole ts (whole_tree c) s' [] → map shown ts ≡ chip_tokens c
+tokens_read at c ts s' h =
+    read.tokens_are Word ℕ (Unit {0}) Said (List ℕ) (hdl at) shown said_text (λ n. symbol_tells at 59) (whole_tells at) h
+    ∙ append-nil (map said_text (leaves (hdl at) (whole_tree c) whole)) ∙ ap (map said_text) (leaves_same at start (whole_tree c) whole)
+
 pub tokens_told : (text : List ℕ) (c : Chip) (ts : List Word) → tokens_of text ≡ Ok ts → Spells text (whole_tree c) → map shown ts ≡ chip_tokens c
-tokens_told text c ts cut s =
-    let at = finish text in
-    let told = read.tokens_are Word ℕ (Unit {0}) Said (List ℕ) (hdl at) shown said_text (λ n. symbol_tells at 59) (whole_tells at) s.3 in
-    ap (map shown) (same_tokens text ts s.0 cut s.2) ∙ told ∙ append-nil (map said_text (leaves (hdl at) (whole_tree c) whole)) ∙ ap (map said_text) (leaves_same at start (whole_tree c) whole)
+tokens_told text c ts cut s = ap (map shown) (same_tokens text ts s.0 cut s.2) ∙ tokens_read (finish text) c s.0 s.1 s.3

@@ -4,3 +4,4 @@ pub mod Trees
 pub mod Whole
 pub mod Printed
 pub mod Written
+pub mod Writable

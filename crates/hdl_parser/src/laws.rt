@@ -1,6 +1,7 @@
 //! Laws of the printed form.
 
 ghost use Rattle.hdl_parser.specs.Printed.{PrintedLaw, TokensLaw};
+ghost use Rattle.hdl_parser.specs.Writable.{WrittenLaw};
 
 /// A text that spells a chip has the tokens of the chip, whatever stands between them.
 pub fn tokens_law()
@@ -10,4 +11,9 @@ pub fn tokens_law()
 /// The printed form of a chip that some text spells, where it is within the limit of a file, spells the chip but for places.
 pub fn printed_law()
     ensures { PrintedLaw }
+{}
+
+/// The printed form of each chip that texts can have, where it is within the limit of a file, spells the chip but for places.
+pub fn written_law()
+    ensures { WrittenLaw }
 {}

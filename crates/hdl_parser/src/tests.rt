@@ -89,6 +89,7 @@ fn tree(rt: HostRuntime) -> Result<(), Fail> {
             )
         )
     );
+    assert_eq!(rt; parts[1].connections.len(), 1);
     assert!(rt;
         matches!(
             parts[1].connections[0].source,
