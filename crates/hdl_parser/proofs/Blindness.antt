@@ -7,7 +7,6 @@ use Rattle.scan_text.specs.Text.{start}
 use Rattle.grammar.specs.declared.Fault.{Fault}
 use Rattle.grammar.specs.declared.Fault.TheVariants.{Grammar}
 use Rattle.grammar.specs.Rules.{Tree, enters, here, Reads, marked, worded, at_end, both, left, right, passed, taken, ended, again, named, inside}
-use Rattle.grammar.specs.Leaves.{seen_by}
 use Rattle.hdl_tree.specs.declared.tree.Chip.{Chip}
 use Rattle.hdl_parser.specs.declared.token.Keyword.{Keyword}
 use Rattle.hdl_parser.specs.declared.token.Keyword.TheVariants as keyword
@@ -15,11 +14,11 @@ use Rattle.hdl_parser.specs.declared.token.Kind.{Kind}
 use Rattle.hdl_parser.specs.declared.token.Kind.TheVariants as kind
 use Rattle.hdl_parser.specs.Tokens.{Word, tokens_of, finish}
 use Rattle.hdl_parser.specs.Hdl.{hdl, Said, HdlRule, Fixed, Placed, sign_is, keyword_is, dotted, names, counts, stands_for, value_of, too_large, symbol_of, keyword_of, dots, name, width, index, last_index, constant, row, width_rule, pin, last, range, indices, subscript, wire, source, connection, part, parts, listing, builtin, body, pins, chip, whole, check_width, check_index, check_last}
-use Rattle.hdl_parser.specs.Whole.{whole_tree, Spells}
-use Rattle.hdl_parser.specs.Printed.{chip_text, shown, unplaced, set_off}
+use Rattle.hdl_parser.specs.Whole.{whole_tree}
+use Rattle.hdl_parser.specs.Printed.{chip_text, shown, unplaced, set_off, SpellsAlike}
 use Rattle.hdl_parser.specs.Writable.{chip_can}
 use Rattle.hdl_parser.proofs.Alike as alike
-use Rattle.hdl_parser.proofs.Spaced.{told, told_by, AllGood, good_tokens, printed_good}
+use Rattle.hdl_parser.proofs.Spaced.{told, told_by, AllGood, printed_good}
 use Rattle.hdl_parser.proofs.Derived.{chip_words, chip_read, chip_fine}
 use Rattle.hdl_parser.proofs.TokensTold.{tokens_read}
 
@@ -172,9 +171,6 @@ none_left : (us : List Word) → map told [] ≡ map told us → us ≡ []
 none_left [] e = refl
 none_left (u ∷ us) e = absurd cc
 
-abbrev SpellsAlike : List ℕ → Tree Said → Type 0
-SpellsAlike text x = (y : Tree Said) × Spells text y × (seen_by unplaced x ≡ seen_by unplaced y)
-
 -- tokens that are read as a chip, and the tokens of its printed form
 read_again : (at : Place) (c : Chip) (ts : List Word) (s' : ℕ) → Reads Word ℕ (Unit {0}) Said (hdl at) 0 whole ts (whole_tree c) s' [] → AllGood ts → length (chip_text c) ≤ 1048576 → SpellsAlike (chip_text c) (whole_tree c)
 read_again at c ts s' h good small =
@@ -185,8 +181,5 @@ read_again at c ts s' h good small =
     let all = subst (λ (l : List Word). Reads Word ℕ (Unit {0}) Said (hdl at) 0 whole us m.tree s' l) (none_left m.rest m.same_rest) m.reads in
     (m.tree, (us, s', ap tokens_of (sym same) ∙ printed.1, ends_anywhere at (finish (chip_text c)) all), m.same_tree)
 
-pub printed_spells : (text : List ℕ) (c : Chip) → Spells text (whole_tree c) → length (chip_text c) ≤ 1048576 → SpellsAlike (chip_text c) (whole_tree c)
-printed_spells text c s small = read_again (finish text) c s.0 s.1 s.3 (good_tokens text s.0 s.2) small
-
-pub written_spells : (c : Chip) → chip_can c ≡ true → length (chip_text c) ≤ 1048576 → SpellsAlike (chip_text c) (whole_tree c)
-written_spells c h small = read_again start c (chip_words c) 0 (chip_read c h) (chip_fine c h) small
+pub printed_spells : (c : Chip) → chip_can c ≡ true → length (chip_text c) ≤ 1048576 → SpellsAlike (chip_text c) (whole_tree c)
+printed_spells c h small = read_again start c (chip_words c) 0 (chip_read c h) (chip_fine c h) small

@@ -44,7 +44,7 @@ drop_length : (w r : List ℕ) → drop (length w) (w ++ r) ≡ r
 drop_length [] r = drop_none r
 drop_length (b ∷ w) r = drop_length w r
 
-abbrev All : (ℕ → Bool) → List ℕ → Type 0
+abbrev pub All : (ℕ → Bool) → List ℕ → Type 0
 All is [] = Unit {0}
 All is (b ∷ bs) = (is b ≡ true) × All is bs
 

@@ -1,5 +1,5 @@
 -- The printed form of a chip: its tokens with one space between them, and a line feed in its place behind `{`, `}` and `;`.
-use Rattle.std.specs.Prelude.{◌≡◌, ℕ, ◌++◌, List, [], ◌∷◌, Ok, map, decimal, if◌then◌else◌, ◌||◌, codes, length, ◌≤◌}
+use Rattle.std.specs.Prelude.{◌≡◌, ℕ, ◌++◌, List, [], ◌∷◌, Ok, map, decimal, if◌then◌else◌, ◌||◌, codes}
 use Rattle.std.specs.List.{flat_map}
 use Rattle.std.specs.Str.{bytes_eq}
 use Rattle.scan_text.specs.Text.{start}
@@ -52,6 +52,6 @@ abbrev pub unplaced : Said → Said
 unplaced (Fixed k) = Fixed k
 unplaced (Placed k text at) = Placed k text start
 
--- The printed form of a chip that some text spells, where it is within the limit of a file, spells the chip but for places.
-abbrev pub PrintedLaw : Type 0
-PrintedLaw = (text : List ℕ) (c : Chip) → Spells text (whole_tree c) → length (chip_text c) ≤ 1048576 → (t : Tree Said) × Spells (chip_text c) t × (seen_by unplaced (whole_tree c) ≡ seen_by unplaced t)
+-- the text spells the tree but for places
+abbrev pub SpellsAlike : List ℕ → Tree Said → Type 0
+SpellsAlike text x = (t : Tree Said) × Spells text t × (seen_by unplaced x ≡ seen_by unplaced t)

@@ -1,7 +1,5 @@
 -- The chips that texts can have.
 use Rattle.std.specs.Prelude.{◌≡◌, ℕ, Bool, true, false, List, [], ◌∷◌, Option, Some, None, ◌&&◌, nat_le, length, ◌≤◌}
-use Rattle.grammar.specs.Rules.{Tree}
-use Rattle.grammar.specs.Leaves.{seen_by}
 use Rattle.hdl_tree.specs.declared.tree.Name.{Name}
 use Rattle.hdl_tree.specs.declared.tree.Pin.{Pin}
 use Rattle.hdl_tree.specs.declared.tree.Subscript.{Subscript}
@@ -16,9 +14,8 @@ use Rattle.hdl_tree.specs.declared.tree.Body.TheVariants as body
 use Rattle.hdl_tree.specs.declared.tree.Chip.{Chip}
 use Rattle.hdl_parser.specs.declared.token.Keyword.{Keyword}
 use Rattle.hdl_parser.specs.Tokens.{is_letter, is_name_byte, keyword_of}
-use Rattle.hdl_parser.specs.Hdl.{Said}
-use Rattle.hdl_parser.specs.Whole.{whole_tree, Spells}
-use Rattle.hdl_parser.specs.Printed.{chip_text, unplaced}
+use Rattle.hdl_parser.specs.Whole.{whole_tree}
+use Rattle.hdl_parser.specs.Printed.{chip_text, SpellsAlike}
 
 abbrev pub all : {A : Type 0} → (A → Bool) → List A → Bool
 all test [] = true
@@ -77,5 +74,5 @@ abbrev pub chip_can : Chip → Bool
 chip_can c = name_can c.name && (all pin_can c.inputs.items && (all pin_can c.outputs.items && body_can c.body))
 
 -- The printed form of each chip that texts can have, where it is within the limit of a file, spells the chip but for places.
-abbrev pub WrittenLaw : Type 0
-WrittenLaw = (c : Chip) → chip_can c ≡ true → length (chip_text c) ≤ 1048576 → (t : Tree Said) × Spells (chip_text c) t × (seen_by unplaced (whole_tree c) ≡ seen_by unplaced t)
+abbrev pub PrintedLaw : Type 0
+PrintedLaw = (c : Chip) → chip_can c ≡ true → length (chip_text c) ≤ 1048576 → SpellsAlike (chip_text c) (whole_tree c)

@@ -1,12 +1,14 @@
 //! A whole text.
 
-ghost use Rattle.std.specs.Prelude.{◌≡◌, length, map, Ok, Err, IfOk, IfErr, ℕ, Result};
+ghost use Rattle.std.specs.Prelude.{◌≡◌, ◌≤◌, length, map, true, Ok, Err, IfOk, IfErr, ℕ, Result};
 ghost use Rattle.grammar.specs.Rules.{Tree};
 ghost use Rattle.grammar.specs.declared.Fault.{Fault};
 ghost use Rattle.grammar.specs.Reading.{ParsesAllBy, Halt, Gives, end_at, Ends};
 ghost use Rattle.hdl_parser.specs.Tokens.{view};
 ghost use Rattle.hdl_parser.specs.Hdl.{hdl, Said, whole};
 ghost use Rattle.hdl_parser.specs.Whole.{whole_tree, Spells, Refuses};
+ghost use Rattle.hdl_parser.specs.Printed.{chip_text, SpellsAlike};
+ghost use Rattle.hdl_parser.specs.Writable.{chip_can};
 
 use crate::lexer::tokens;
 use crate::rules::chip;
@@ -65,6 +67,10 @@ pub fn parse(alloc: Global, text: &[u8]) -> Result<Chip, HdlFault>
     // A fault is the text's first one, and each text with a fault gets it.
     ensures fault { IfErr result (Halt (Refuses text.now)) }
     ensures exact { (f : Fault) → Refuses text.now f → Gives whole_tree result (Err f) }
+    // What is read is a chip that texts can have: the law of the printed form holds of it, and its printed text is read as the same
+    // chip again, but for places.
+    ensures printable { IfOk result (λ c. chip_can c ≡ true) }
+    ensures again { IfOk result (λ c. length (chip_text c) ≤ 1048576 → SpellsAlike (chip_text c) (whole_tree c)) }
 {
     read(alloc, text)
 }
