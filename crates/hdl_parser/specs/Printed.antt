@@ -1,4 +1,5 @@
--- The printed form of a chip: its tokens with one space between them, and a line feed in its place behind `{`, `}` and `;`.
+-- The printed form of a chip (book, appendix 2): its tokens with one space between them, and a line feed in its place behind `{`, `}`
+-- and `;`. The book lays down no layout; this one is the project's own.
 use Rattle.std.specs.Prelude.{◌≡◌, ℕ, ◌++◌, List, [], ◌∷◌, Ok, map, decimal, if◌then◌else◌, ◌||◌, codes}
 use Rattle.std.specs.List.{flat_map}
 use Rattle.std.specs.Str.{bytes_eq}

@@ -1,4 +1,4 @@
--- The trees of chips as trees of the grammar.
+-- The trees of chips as trees of the grammar. (The book, chapter 1 and appendix 2.)
 use Rattle.std.specs.Prelude.{ℕ, Bool, true, false, List, [], ◌∷◌, Option, Some, None}
 use Rattle.scan_text.specs.declared.Place.{Place}
 use Rattle.grammar.specs.Rules.{Tree, Skip, Node, Leaf, Pair, Left, Right, Absent, Present, NoMore, listed}

@@ -1,4 +1,4 @@
--- What a whole text spells, and its first fault.
+-- What a whole HDL text spells, and its first fault. (The book, appendix 2.)
 use Rattle.std.specs.Prelude.{ℕ, List}
 use Rattle.grammar.specs.declared.Fault.{Fault}
 use Rattle.grammar.specs.Rules.{Tree, Pair, Skip}

@@ -1,4 +1,4 @@
--- The chips that texts can have.
+-- The chips that texts can have. (The book, appendix 2.)
 use Rattle.std.specs.Prelude.{◌≡◌, ℕ, Bool, true, false, List, [], ◌∷◌, Option, Some, None, ◌&&◌, nat_le, length, ◌≤◌}
 use Rattle.hdl_tree.specs.declared.tree.Name.{Name}
 use Rattle.hdl_tree.specs.declared.tree.Pin.{Pin}
