@@ -1,0 +1,3 @@
+use Rattle.grammar.proofs.Exits.{exits}
+
+pub ruleset hdl_exits = (exits)

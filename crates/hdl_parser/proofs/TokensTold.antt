@@ -1,0 +1,223 @@
+-- The tokens of a chip are those of the text that spells it.
+use Rattle.std.proofs.Common.{◌≡◌, ℕ, true, List, [], ◌∷◌, ◌++◌, map, Ok, refl, ap, ◌∙◌, eqb-true}
+use Rattle.std.proofs.lemmas.List.{append-nil}
+use denote.Enum.Bare.{same_true}
+use Rattle.scan_text.specs.declared.Place.{Place}
+use Rattle.scan_text.specs.Text.{start}
+use Rattle.grammar.specs.Rules.{mark, word, seq, choice, option, repeat, name as named_rule, within, end, Tree, Skip, Node, Leaf, Pair, Left, Right, Absent, Present, NoMore, More, Reads}
+use Rattle.grammar.specs.Leaves.{leaves}
+use Rattle.grammar.proofs.LeavesRead as read
+use Rattle.hdl_tree.specs.declared.tree.Chip.{Chip}
+use Rattle.hdl_parser.specs.contracts.token.Keyword.{the_type}
+use Rattle.hdl_parser.specs.declared.token.Keyword.{Keyword}
+use Rattle.hdl_parser.specs.declared.token.Keyword.TheVariants as keyword
+use Rattle.hdl_parser.specs.declared.token.Kind.{Kind}
+use Rattle.hdl_parser.specs.declared.token.Kind.TheVariants as kind
+use Rattle.hdl_parser.specs.Tokens.{Word, keyword_text, tokens_of, finish}
+use Rattle.hdl_parser.specs.Hdl.{hdl, Said, HdlRule, sign_is, keyword_is, dotted, names, counts, stands_for, symbol_of, keyword_of, dots, name, width, index, last_index, constant, row, width_rule, pin, last, range, subscript, wire, source, connection, part, parts, listing, builtin, body, pins, chip, whole}
+use Rattle.hdl_parser.specs.Whole.{whole_tree, Spells}
+use Rattle.hdl_parser.specs.Printed.{kind_text, shown, said_text, chip_tokens}
+
+-- the tokens of a tree have nothing to do with the place where the text ends
+leaves_same : (p q : Place) (x : Tree Said) (r : HdlRule) → leaves (hdl p) x r ≡ leaves (hdl q) x r
+leaves_same p q Skip (mark v is) = refl
+leaves_same p q Skip (word is check value) = refl
+leaves_same p q Skip end = refl
+leaves_same p q Skip (seq a b) = refl
+leaves_same p q Skip (choice a b) = refl
+leaves_same p q Skip (option a) = refl
+leaves_same p q Skip (repeat a) = refl
+leaves_same p q Skip (named_rule n) = refl
+leaves_same p q Skip (within enter leave a) = refl
+leaves_same p q (Leaf v) r = refl
+leaves_same p q (Pair x y) (mark v is) = refl
+leaves_same p q (Pair x y) (word is check value) = refl
+leaves_same p q (Pair x y) end = refl
+leaves_same p q (Pair x y) (seq a b) = λ i. leaves_same p q x a i ++ leaves_same p q y b i
+leaves_same p q (Pair x y) (choice a b) = refl
+leaves_same p q (Pair x y) (option a) = refl
+leaves_same p q (Pair x y) (repeat a) = refl
+leaves_same p q (Pair x y) (named_rule n) = refl
+leaves_same p q (Pair x y) (within enter leave a) = refl
+leaves_same p q (Left x) (mark v is) = refl
+leaves_same p q (Left x) (word is check value) = refl
+leaves_same p q (Left x) end = refl
+leaves_same p q (Left x) (seq a b) = refl
+leaves_same p q (Left x) (choice a b) = leaves_same p q x a
+leaves_same p q (Left x) (option a) = refl
+leaves_same p q (Left x) (repeat a) = refl
+leaves_same p q (Left x) (named_rule n) = refl
+leaves_same p q (Left x) (within enter leave a) = refl
+leaves_same p q (Right x) (mark v is) = refl
+leaves_same p q (Right x) (word is check value) = refl
+leaves_same p q (Right x) end = refl
+leaves_same p q (Right x) (seq a b) = refl
+leaves_same p q (Right x) (choice a b) = leaves_same p q x b
+leaves_same p q (Right x) (option a) = refl
+leaves_same p q (Right x) (repeat a) = refl
+leaves_same p q (Right x) (named_rule n) = refl
+leaves_same p q (Right x) (within enter leave a) = refl
+leaves_same p q Absent r = refl
+leaves_same p q (Present x) (mark v is) = refl
+leaves_same p q (Present x) (word is check value) = refl
+leaves_same p q (Present x) end = refl
+leaves_same p q (Present x) (seq a b) = refl
+leaves_same p q (Present x) (choice a b) = refl
+leaves_same p q (Present x) (option a) = leaves_same p q x a
+leaves_same p q (Present x) (repeat a) = refl
+leaves_same p q (Present x) (named_rule n) = refl
+leaves_same p q (Present x) (within enter leave a) = refl
+leaves_same p q NoMore r = refl
+leaves_same p q (More x y) (mark v is) = refl
+leaves_same p q (More x y) (word is check value) = refl
+leaves_same p q (More x y) end = refl
+leaves_same p q (More x y) (seq a b) = refl
+leaves_same p q (More x y) (choice a b) = refl
+leaves_same p q (More x y) (option a) = refl
+leaves_same p q (More x y) (repeat a) = λ i. leaves_same p q x a i ++ leaves_same p q y (repeat a) i
+leaves_same p q (More x y) (named_rule n) = refl
+leaves_same p q (More x y) (within enter leave a) = refl
+leaves_same p q (Node x) (mark v is) = refl
+leaves_same p q (Node x) (word is check value) = refl
+leaves_same p q (Node x) end = refl
+leaves_same p q (Node x) (seq a b) = refl
+leaves_same p q (Node x) (choice a b) = refl
+leaves_same p q (Node x) (option a) = refl
+leaves_same p q (Node x) (repeat a) = refl
+leaves_same p q (Node x) (named_rule n) = leaves_same p q x (symbol_of 59)
+leaves_same p q (Node x) (within enter leave a) = leaves_same p q x a
+
+-- what a token says is what it is written as
+symbol_told : (b : ℕ) (k : Kind) (x : List ℕ) → sign_is b k ≡ true → kind_text k x ≡ kind_text (kind.Symbol b) []
+symbol_told b (kind.Keyword j) x e = absurd cc
+symbol_told b (kind.Symbol c) x e = ap (λ (n : ℕ). n ∷ []) (eqb-true c b e)
+symbol_told b kind.Dots x e = absurd cc
+symbol_told b (kind.Number n) x e = absurd cc
+symbol_told b kind.Name x e = absurd cc
+
+keyword_told : (k : Keyword) (j : Kind) (x : List ℕ) → keyword_is k j ≡ true → kind_text j x ≡ kind_text (kind.Keyword k) []
+keyword_told k (kind.Keyword j) x e = ap keyword_text (same_true the_type tt j k e)
+keyword_told k (kind.Symbol c) x e = absurd cc
+keyword_told k kind.Dots x e = absurd cc
+keyword_told k (kind.Number n) x e = absurd cc
+keyword_told k kind.Name x e = absurd cc
+
+dots_told : (k : Kind) (x : List ℕ) → dotted k ≡ true → kind_text k x ≡ kind_text kind.Dots []
+dots_told (kind.Keyword j) x e = absurd cc
+dots_told (kind.Symbol c) x e = absurd cc
+dots_told kind.Dots x e = refl
+dots_told (kind.Number n) x e = absurd cc
+dots_told kind.Name x e = absurd cc
+
+name_told : (k : Kind) (x : List ℕ) → names k ≡ true → kind_text k x ≡ x
+name_told (kind.Keyword j) x e = absurd cc
+name_told (kind.Symbol c) x e = absurd cc
+name_told kind.Dots x e = absurd cc
+name_told (kind.Number n) x e = absurd cc
+name_told kind.Name x e = refl
+
+number_told : (k : Kind) (x : List ℕ) → counts k ≡ true → kind_text k x ≡ kind_text k []
+number_told (kind.Keyword j) x e = absurd cc
+number_told (kind.Symbol c) x e = absurd cc
+number_told kind.Dots x e = absurd cc
+number_told (kind.Number n) x e = refl
+number_told kind.Name x e = absurd cc
+
+constant_told : (k : Kind) (x : List ℕ) → stands_for k ≡ true → kind_text k x ≡ kind_text k []
+constant_told (kind.Keyword j) x e = refl
+constant_told (kind.Symbol c) x e = absurd cc
+constant_told kind.Dots x e = absurd cc
+constant_told (kind.Number n) x e = absurd cc
+constant_told kind.Name x e = absurd cc
+
+abbrev Tells : Place → HdlRule → Type 0
+Tells at r = read.Tells Word ℕ (Unit {0}) Said (List ℕ) (hdl at) shown said_text r
+
+-- each rule says its tokens
+module _ (at : Place) where
+  symbol_tells : (b : ℕ) → Tells at (symbol_of b)
+  symbol_tells b t e = symbol_told b t.kind t.text e
+
+  keyword_tells : (k : Keyword) → Tells at (keyword_of k)
+  keyword_tells k t e = keyword_told k t.kind t.text e
+
+  dots_tells : Tells at dots
+  dots_tells t e = dots_told t.kind t.text e
+
+  name_tells : Tells at name
+  name_tells t e = name_told t.kind t.text e
+
+  width_tells : Tells at width
+  width_tells t e = number_told t.kind t.text e
+
+  index_tells : Tells at index
+  index_tells t e = number_told t.kind t.text e
+
+  last_index_tells : Tells at last_index
+  last_index_tells t e = number_told t.kind t.text e
+
+  constant_tells : Tells at constant
+  constant_tells t e = constant_told t.kind t.text e
+
+  row_tells : (a : HdlRule) → Tells at a → Tells at (row a)
+  row_tells a h = (h, (symbol_tells 44, h))
+
+  width_rule_tells : Tells at width_rule
+  width_rule_tells = (symbol_tells 91, (width_tells, symbol_tells 93))
+
+  pin_tells : Tells at pin
+  pin_tells = (name_tells, width_rule_tells)
+
+  last_tells : Tells at last
+  last_tells = (dots_tells, last_index_tells)
+
+  range_tells : Tells at range
+  range_tells = (index_tells, last_tells)
+
+  subscript_tells : Tells at subscript
+  subscript_tells = (symbol_tells 91, (range_tells, symbol_tells 93))
+
+  wire_tells : Tells at wire
+  wire_tells = (name_tells, subscript_tells)
+
+  source_tells : Tells at source
+  source_tells = (wire_tells, constant_tells)
+
+  connection_tells : Tells at connection
+  connection_tells = (wire_tells, (symbol_tells 61, source_tells))
+
+  part_tells : Tells at part
+  part_tells = (name_tells, (symbol_tells 40, (row_tells connection connection_tells, (symbol_tells 41, symbol_tells 59))))
+
+  parts_tells : Tells at parts
+  parts_tells = (keyword_tells keyword.Parts, (symbol_tells 58, part_tells))
+
+  listing_tells : (k : Keyword) (a : HdlRule) → Tells at a → Tells at (listing k a)
+  listing_tells k a h = (keyword_tells k, (row_tells a h, symbol_tells 59))
+
+  builtin_tells : Tells at builtin
+  builtin_tells = (keyword_tells keyword.Builtin, (name_tells, (symbol_tells 59, listing_tells keyword.Clocked name name_tells)))
+
+  body_tells : Tells at body
+  body_tells = (parts_tells, builtin_tells)
+
+  pins_tells : (k : Keyword) → Tells at (pins k)
+  pins_tells k = listing_tells k pin pin_tells
+
+  chip_tells : Tells at chip
+  chip_tells = (keyword_tells keyword.Chip, (name_tells, (symbol_tells 123, (pins_tells keyword.In, (pins_tells keyword.Out, (body_tells, symbol_tells 125))))))
+
+  whole_tells : Tells at whole
+  whole_tells = (chip_tells, tt)
+
+same_tokens : (text : List ℕ) (ts us : List Word) → tokens_of text ≡ Ok ts → tokens_of text ≡ Ok us → ts ≡ us
+same_tokens text ts us a b = cc
+
+-- tokens that are read as a chip
+pub tokens_read : (at : Place) (c : Chip) (ts : List Word) (s' : ℕ) → Reads Word ℕ (Unit {0}) Said (hdl at) 0 whole ts (whole_tree c) s' [] → map shown ts ≡ chip_tokens c
+tokens_read at c ts s' h =
+    read.tokens_are Word ℕ (Unit {0}) Said (List ℕ) (hdl at) shown said_text (λ n. symbol_tells at 59) (whole_tells at) h
+    ∙ append-nil (map said_text (leaves (hdl at) (whole_tree c) whole)) ∙ ap (map said_text) (leaves_same at start (whole_tree c) whole)
+
+pub tokens_told : (text : List ℕ) (c : Chip) (ts : List Word) → tokens_of text ≡ Ok ts → Spells text (whole_tree c) → map shown ts ≡ chip_tokens c
+tokens_told text c ts cut s = ap (map shown) (same_tokens text ts s.0 cut s.2) ∙ tokens_read (finish text) c s.0 s.1 s.3

@@ -1,0 +1,11 @@
+use Rattle.std.proofs.Common.{rules, ap, ◌∙◌}
+use Rattle.hdl_parser.specs.Tokens.{is_name_byte, word_kind}
+use Rattle.hdl_parser.proofs.Pieces.{word_taken}
+use Rattle.hdl_parser.proofs.lexer.word.Goals as goal
+
+pub returns : goal.returns
+returns c =
+    let text = c.take_while-text.ensures.text is_name_byte (λ b r lt h. search (rules, h)) in
+    let left = c.take_while-text.ensures.left is_name_byte (λ b r lt h. search (rules, h)) in
+    let place = c.take_while-text.ensures.place is_name_byte (λ b r lt h. search (rules, h)) in
+    word_taken _ _ _ _ c.requires.begun c.requires.letter left place (c.word_kind-kind.ensures ∙ ap word_kind text) text c.place-place.ensures

@@ -1,0 +1,5 @@
+use Rattle.hdl_parser.proofs.Shown.{shows_both, shows_mark, shows_word}
+use Rattle.hdl_parser.proofs.printing.put_builtin.Goals as goal
+
+pub returns-clause-shows : goal.returns-clause-shows
+returns-clause-shows g c = shows_both (shows_mark c.put_keyword-begun.ensures.writes) (shows_both (shows_word c.put_name-named.ensures.writes) (shows_both (shows_mark c.put_symbol-closed.ensures.writes) c.put_clocked.ensures.shows))

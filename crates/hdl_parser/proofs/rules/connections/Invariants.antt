@@ -1,0 +1,17 @@
+use Rattle.std.proofs.Common.{◌<◌, ◌≤◌, ℕ, length, map}
+use Rattle.grammar.specs.Rules.{repeat}
+use Rattle.grammar.proofs.Continues.{Continues}
+use Rattle.hdl_parser.specs.Tokens.{Word, view}
+use Rattle.hdl_parser.specs.Hdl.{hdl, Said, row, next_of, connection}
+use Rattle.hdl_parser.specs.Trees.{row_with, connection_tree}
+use Rattle.hdl_parser.proofs.rules.connections.Given as goal
+
+abbrev pub invariant-more : goal.invariant-more
+invariant-more l = record {
+  so_far : Continues Word ℕ (Unit {0}) Said (hdl l.end) (row connection) 0 (map view l.tokens) (row_with connection_tree l.connections.items) (repeat (next_of connection)) 0 (map view l.rest);
+  shorter : length l.rest < length l.tokens;
+  some : 1 ≤ length l.connections.items;
+}
+
+abbrev pub decreases-more : goal.decreases-more
+decreases-more l = length l.rest

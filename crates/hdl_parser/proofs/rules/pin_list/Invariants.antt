@@ -1,0 +1,17 @@
+use Rattle.std.proofs.Common.{◌<◌, ◌≤◌, ℕ, length, map}
+use Rattle.grammar.specs.Rules.{repeat}
+use Rattle.grammar.proofs.Continues.{Continues}
+use Rattle.hdl_parser.specs.Tokens.{Word, view}
+use Rattle.hdl_parser.specs.Hdl.{hdl, Said, row, next_of, pin}
+use Rattle.hdl_parser.specs.Trees.{row_with, pin_tree}
+use Rattle.hdl_parser.proofs.rules.pin_list.Given as goal
+
+abbrev pub invariant-more : goal.invariant-more
+invariant-more l = record {
+  so_far : Continues Word ℕ (Unit {0}) Said (hdl l.end) (row pin) 0 (map view l.tokens) (row_with pin_tree l.pins.items) (repeat (next_of pin)) 0 (map view l.rest);
+  shorter : length l.rest < length l.tokens;
+  some : 1 ≤ length l.pins.items;
+}
+
+abbrev pub decreases-more : goal.decreases-more
+decreases-more l = length l.rest

@@ -1,0 +1,111 @@
+-- The tokens of an HDL text (book, appendix 2): words, numbers and symbols. Blanks (space, tab, line feed, return) and comments are
+-- passed over.
+use Rattle.std.specs.Prelude.{ℕ, suc, ◌-◌, Bool, List, [], ◌∷◌, Option, Some, None, Result, Err, ◌==◌, ◌||◌, if◌then◌else◌, length, take, nat_lt, codes}
+use Rattle.std.specs.Char.{is_ascii_alphabetic}
+use Rattle.std.specs.Str.{bytes_eq}
+use Rattle.scan_text.specs.declared.Place.{Place}
+use Rattle.scan_text.specs.Text.{start, walk, first, front, is_digit, digits, decimal, capped}
+use Rattle.grammar.specs.declared.Fault.{Fault}
+use Rattle.grammar.specs.declared.Fault.TheVariants.{Grammar, Range}
+use Rattle.grammar.specs.Cutting.{Piece, Passed, Token, Wrong, cut, past_blanks}
+use Rattle.hdl_parser.specs.declared.token.Keyword.{Keyword}
+use Rattle.hdl_parser.specs.declared.token.Keyword.TheVariants as keyword
+use Rattle.hdl_parser.specs.declared.token.Kind.{Kind}
+use Rattle.hdl_parser.specs.declared.token.Kind.TheVariants as kind
+use Rattle.hdl_parser.specs.declared.token.Token as declared
+
+-- a token without where its text lies in memory
+pub record Word : Type 0 where
+  pub kind : Kind
+  pub text : List ℕ
+  pub place : Place
+
+abbrev pub view : declared.Token → Word
+view t = record { kind = t.kind; text = t.text.now; place = t.place }
+
+abbrev pub keyword_text : Keyword → List ℕ
+keyword_text keyword.Chip = codes "CHIP"
+keyword_text keyword.In = codes "IN"
+keyword_text keyword.Out = codes "OUT"
+keyword_text keyword.Parts = codes "PARTS"
+keyword_text keyword.Builtin = codes "BUILTIN"
+keyword_text keyword.Clocked = codes "CLOCKED"
+keyword_text keyword.True = codes "true"
+keyword_text keyword.False = codes "false"
+
+-- the first of some keywords that has this text
+abbrev pub spelled : List Keyword → List ℕ → Option Keyword
+spelled [] text = None
+spelled (k ∷ ks) text = if bytes_eq text (keyword_text k) then Some k else spelled ks text
+
+abbrev pub keywords : List Keyword
+keywords = keyword.Chip ∷ keyword.In ∷ keyword.Out ∷ keyword.Parts ∷ keyword.Builtin ∷ keyword.Clocked ∷ keyword.True ∷ keyword.False ∷ []
+
+-- the keyword that is spelled so
+abbrev pub keyword_of : List ℕ → Option Keyword
+keyword_of text = spelled keywords text
+
+abbrev pub is_letter : ℕ → Bool
+is_letter b = is_ascii_alphabetic b || b == 95
+
+abbrev pub is_name_byte : ℕ → Bool
+is_name_byte b = is_letter b || is_digit b
+
+-- { } ( ) [ ] , ; : =
+abbrev pub is_sign : ℕ → Bool
+is_sign b = b == 123 || b == 125 || b == 40 || b == 41 || b == 91 || b == 93 || b == 44 || b == 59 || b == 58 || b == 61
+
+-- a token of the n + 1 bytes at the front
+abbrev pub token_of : Kind → ℕ → List ℕ → Piece Word
+token_of kind n bs = Token (λ at. record { kind = kind; text = take (suc n) bs; place = at }) n
+
+-- decimal digits
+abbrev pub number_piece : List ℕ → Piece Word
+number_piece bs = token_of (kind.Number (capped (decimal 0 (digits bs)))) (length (digits bs) - 1) bs
+
+abbrev pub kind_of : Option Keyword → Kind
+kind_of None = kind.Name
+kind_of (Some k) = kind.Keyword k
+
+abbrev pub word_kind : List ℕ → Kind
+word_kind text = kind_of (keyword_of text)
+
+-- letters, digits and underscores, of which the first is no digit
+abbrev pub word_piece : List ℕ → Piece Word
+word_piece bs =
+    let text = front is_name_byte bs in
+    token_of (word_kind text) (length text - 1) bs
+
+abbrev pub symbol_piece : ℕ → List ℕ → Piece Word
+symbol_piece b bs = token_of (kind.Symbol b) 0 bs
+
+abbrev pub begins_dots : List ℕ → Bool
+begins_dots bs = bytes_eq (take 2 bs) (codes "..")
+
+-- two dots; one alone is no token
+abbrev pub dots_piece : List ℕ → Piece Word
+dots_piece bs = if begins_dots bs then token_of kind.Dots 1 bs else Wrong Grammar
+
+-- what begins at a byte that is no blank and begins no comment
+abbrev pub piece_at : Option ℕ → List ℕ → Piece Word
+piece_at None bs = Passed 0
+piece_at (Some b) bs =
+    if is_letter b then word_piece bs
+    else (if is_sign b then symbol_piece b bs
+    else (if is_digit b then number_piece bs
+    else dots_piece bs))
+
+abbrev pub piece : List ℕ → Piece Word
+piece bs = piece_at (first bs) bs
+
+-- the end of the text adds no token
+abbrev pub close : Option Word → Place → List Word
+close last at = []
+
+-- the tokens of a text of at most 1,048,576 bytes
+abbrev pub tokens_of : List ℕ → Result (List Word) Fault
+tokens_of text = if nat_lt 1048576 (length text) then Err (Range (record { line = 0; column = 0 }) 1048577) else cut (past_blanks piece) close None 0 start text
+
+-- the place where a text ends
+abbrev pub finish : List ℕ → Place
+finish text = walk start text

@@ -1,0 +1,153 @@
+//! The tokens of an HDL text.
+
+ghost use Rattle.std.specs.Prelude.{◌≡◌, ◌<◌, ◌≤◌, ◌-◌, ◌^◌, true, length, map, Some, None, Result, Ok, IfOk};
+ghost use Rattle.scan_text.specs.Text.{first, front, start, is_digit};
+ghost use Rattle.scan_text.specs.View.{left, place};
+ghost use Rattle.grammar.specs.Cutting.{TokenBy, cut, past_blanks};
+ghost use Rattle.grammar.specs.Reading.{Gives};
+ghost use Rattle.hdl_parser.specs.Tokens.{view, tokens_of, finish, piece, close, number_piece, word_piece, dots_piece, symbol_piece, begins_dots, is_letter, is_name_byte, is_sign, word_kind};
+
+use crate::token::{Keyword, Kind, Token};
+use grammar::{Fault, ReadError};
+use scan_text::{Place, Scan};
+use std::alloc::Global;
+
+fn is_letter(byte: u8) -> bool
+    ensures { result ≡ is_letter byte }
+{
+    byte.is_ascii_alphabetic() || byte == b'_'
+}
+
+fn is_name_byte(byte: u8) -> bool
+    ensures { result ≡ is_name_byte byte }
+{
+    is_letter(byte) || byte.is_ascii_digit()
+}
+
+fn is_sign(byte: u8) -> bool
+    ensures { result ≡ is_sign byte }
+{
+    matches!(
+        byte,
+        b'{' | b'}' | b'(' | b')' | b'[' | b']' | b',' | b';' | b':' | b'='
+    )
+}
+
+fn number<'a>(scan: &mut Scan<'a>, byte: u8) -> Result<Token<'a>, Fault>
+    requires begun { first (left scan.old) ≡ Some byte }
+    requires digit { is_digit byte ≡ true }
+    ensures { TokenBy view (number_piece (left scan.old)) scan.old result scan.new }
+{
+    let place = scan.place();
+    let mut ahead = *scan;
+    let n = ahead.number().unwrap_or(0);
+    let text = scan.take_while(|b| b.is_ascii_digit());
+    Ok(Token {
+        kind: Kind::Number(n),
+        text,
+        place,
+    })
+}
+
+// A keyword or a name.
+fn word<'a>(scan: &mut Scan<'a>, byte: u8) -> Result<Token<'a>, Fault>
+    requires begun { first (left scan.old) ≡ Some byte }
+    requires letter { is_letter byte ≡ true }
+    ensures { TokenBy view (word_piece (left scan.old)) scan.old result scan.new }
+{
+    let place = scan.place();
+    let text = scan.take_while(|b| is_name_byte(b));
+    let kind = word_kind(text);
+    Ok(Token { kind, text, place })
+}
+
+fn word_kind(text: &[u8]) -> Kind
+    ensures { result ≡ word_kind text.now }
+{
+    match Keyword::of(text) {
+        Some(keyword) => Kind::Keyword(keyword),
+        None => Kind::Name,
+    }
+}
+
+fn symbol<'a>(scan: &mut Scan<'a>, byte: u8) -> Result<Token<'a>, Fault>
+    requires { first (left scan.old) ≡ Some byte }
+    ensures { TokenBy view (symbol_piece byte (left scan.old)) scan.old result scan.new }
+{
+    let place = scan.place();
+    let text = scan.skip(1);
+    Ok(Token {
+        kind: Kind::Symbol(byte),
+        text,
+        place,
+    })
+}
+
+fn begins_dots(bytes: &[u8]) -> bool
+    ensures { result ≡ begins_dots bytes.now }
+{
+    bytes.starts_with(b"..")
+}
+
+// Two dots, the only token that begins with a dot.
+fn dots<'a>(scan: &mut Scan<'a>) -> Result<Token<'a>, Fault>
+    ensures { TokenBy view (dots_piece (left scan.old)) scan.old result scan.new }
+{
+    let place = scan.place();
+    if begins_dots(scan.rest()) {
+        let text = scan.skip(2);
+        Ok(Token {
+            kind: Kind::Dots,
+            text,
+            place,
+        })
+    } else {
+        Err(Fault::Grammar(place))
+    }
+}
+
+// The token that begins at the next byte.
+fn token<'a>(scan: &mut Scan<'a>, byte: u8) -> Result<Token<'a>, Fault>
+    requires { first (left scan.old) ≡ Some byte }
+    ensures { TokenBy view (piece (left scan.old)) scan.old result scan.new }
+{
+    if is_letter(byte) {
+        return word(scan, byte);
+    }
+    if is_sign(byte) {
+        return symbol(scan, byte);
+    }
+    if byte.is_ascii_digit() {
+        return number(scan, byte);
+    }
+    dots(scan)
+}
+
+/// The tokens of an HDL text, and the place of its end.
+///
+/// Grammar where a byte begins no token and where a comment is not closed, Range at 0:0 where the text has more than 1,048,576 bytes.
+pub fn tokens<'a>(alloc: Global, text: &'a [u8]) -> Result<(Vec<Token<'a>>, Place), ReadError>
+    ensures tokens { Gives (λ x. map view x.0.items) result (tokens_of text.now) }
+    ensures end { IfOk result (λ x. x.1 ≡ finish text.now) }
+{
+    if text.len() > 1_048_576 {
+        return Err(ReadError::Fault(Fault::Range(Place { line: 0, column: 0 }, 1_048_577)));
+    }
+    cut(alloc, text)
+}
+
+fn cut<'a>(alloc: Global, text: &'a [u8]) -> Result<(Vec<Token<'a>>, Place), ReadError>
+    requires { length text.now < 2 ^ 32 - 1 }
+    ensures tokens { Gives (λ x. map view x.0.items) result (cut (past_blanks piece) close None 0 start text.now) }
+    ensures end { IfOk result (λ x. x.1 ≡ finish text.now) }
+{
+    let mut tokens = Vec::new(alloc);
+    let mut scan = Scan::new(text);
+    grammar::skip_blank(&mut scan)?;
+    while let Some(byte) = scan.peek() {
+        let token = token(&mut scan, byte)?;
+        tokens.push(token)?;
+        grammar::skip_blank(&mut scan)?;
+    }
+    Ok((tokens, scan.place()))
+}

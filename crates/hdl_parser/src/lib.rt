@@ -1,0 +1,17 @@
+//! The reader and the printer of HDL texts (book, chapter 1 and appendix 2).
+#![tactic(auto)]
+
+mod laws;
+mod lexer;
+mod printing;
+mod reading;
+mod rules;
+mod token;
+mod words;
+
+pub use laws::{printed_law, tokens_law};
+pub use printing::print;
+pub use reading::{HdlFault, parse};
+
+#[cfg(test)]
+mod tests;

@@ -1,0 +1,340 @@
+//! The printed form of chips.
+
+ghost use Rattle.std.specs.Prelude.{◌≡◌, ◌∷◌, ◌||◌, [], codes, take};
+ghost use Rattle.std.specs.Str.{bytes_eq};
+ghost use Rattle.grammar.specs.Rules.{NoMore, option, repeat, listed};
+ghost use Rattle.outer_world.specs.Written.{CountsPut, Puts};
+ghost use Rattle.hdl_parser.specs.Tokens.{keyword_text};
+ghost use Rattle.hdl_parser.specs.Hdl.{body, builtin, chip, connection, indices, last, listing, name, next_of, part, parts, pin, pins, row, source, subscript, width_rule, wire};
+ghost use Rattle.hdl_parser.specs.Trees.{body_tree, builtin_tree, chip_tree, connection_tree, connections_tree, constant_said, indices_tree, last_tree, name_leaf, names_tree, next_tree, number_said, part_tree, parts_tree, pin_tree, pins_tree, row_with, source_tree, subscript_tree, truth, width_tree, wire_tree};
+ghost use Rattle.hdl_parser.specs.Printed.{chip_text, said_text, set_off};
+ghost use Rattle.hdl_parser.specs.Written.{Shows, Writes};
+
+use crate::token::Keyword;
+use hdl_tree::{Body, Chip, Connection, Name, Part, Pin, Source, Subscript, Wire};
+use itoa::Buffer;
+use outer_world::{Pieces, Put, Sink};
+
+// A line feed stands behind the token.
+fn ends_line(token: &[u8]) -> bool
+    ensures { result ≡ (bytes_eq token.now (codes "{") || (bytes_eq token.now (codes "}") || bytes_eq token.now (codes ";"))) }
+{
+    if token == b"{".as_slice() {
+        return true;
+    }
+    if token == b"}".as_slice() {
+        return true;
+    }
+    token == b";".as_slice()
+}
+
+fn put_token<S: Sink>(token: &[u8], status: Put, out: &mut Pieces<'_, S>) -> Put
+    ensures same_sink { out.new.sink.ghost_name ≡ out.old.sink.ghost_name }
+    ensures writes { Writes (set_off token.now) status (S.written out.old.sink.now) (take out.old.len out.old.buffer) (S.faults out.old.sink.now) result (S.written out.new.sink.now) (take out.new.len out.new.buffer) (S.faults out.new.sink.now) }
+{
+    if status == Put::Failed {
+        return Put::Failed;
+    }
+    if ends_line(token) {
+        return out.put_all(&[token, b"\n"]);
+    }
+    out.put_all(&[token, b" "])
+}
+
+fn put_symbol<S: Sink>(byte: u8, status: Put, out: &mut Pieces<'_, S>) -> Put
+    ensures same_sink { out.new.sink.ghost_name ≡ out.old.sink.ghost_name }
+    ensures writes { Writes (set_off (byte ∷ [])) status (S.written out.old.sink.now) (take out.old.len out.old.buffer) (S.faults out.old.sink.now) result (S.written out.new.sink.now) (take out.new.len out.new.buffer) (S.faults out.new.sink.now) }
+{
+    put_token(&[byte], status, out)
+}
+
+fn put_keyword<S: Sink>(keyword: Keyword, status: Put, out: &mut Pieces<'_, S>) -> Put
+    ensures same_sink { out.new.sink.ghost_name ≡ out.old.sink.ghost_name }
+    ensures writes { Writes (set_off (keyword_text keyword)) status (S.written out.old.sink.now) (take out.old.len out.old.buffer) (S.faults out.old.sink.now) result (S.written out.new.sink.now) (take out.new.len out.new.buffer) (S.faults out.new.sink.now) }
+{
+    put_token(keyword.text().as_bytes(), status, out)
+}
+
+fn put_name<S: Sink>(name: &Name, status: Put, out: &mut Pieces<'_, S>) -> Put
+    ensures same_sink { out.new.sink.ghost_name ≡ out.old.sink.ghost_name }
+    ensures writes { Writes (set_off name.now.text.items) status (S.written out.old.sink.now) (take out.old.len out.old.buffer) (S.faults out.old.sink.now) result (S.written out.new.sink.now) (take out.new.len out.new.buffer) (S.faults out.new.sink.now) }
+{
+    put_token(&name.text, status, out)
+}
+
+fn put_number<S: Sink>(number: u8, status: Put, out: &mut Pieces<'_, S>) -> Put
+    ensures same_sink { out.new.sink.ghost_name ≡ out.old.sink.ghost_name }
+    ensures writes { Writes (set_off (said_text (number_said number))) status (S.written out.old.sink.now) (take out.old.len out.old.buffer) (S.faults out.old.sink.now) result (S.written out.new.sink.now) (take out.new.len out.new.buffer) (S.faults out.new.sink.now) }
+{
+    let mut digits = Buffer::new();
+    put_token(digits.format(number).as_bytes(), status, out)
+}
+
+// The width of a pin, where one is written.
+fn put_width<S: Sink>(width: &Option<u8>, status: Put, out: &mut Pieces<'_, S>) -> Put
+    ensures same_sink { out.new.sink.ghost_name ≡ out.old.sink.ghost_name }
+    ensures shows { Shows (width_tree width.now) (option width_rule) status (S.written out.old.sink.now) (take out.old.len out.old.buffer) (S.faults out.old.sink.now) result (S.written out.new.sink.now) (take out.new.len out.new.buffer) (S.faults out.new.sink.now) }
+{
+    match width {
+        None => status,
+        Some(number) => {
+            let opened = put_symbol(b'[', status, out);
+            let counted = put_number(*number, opened, out);
+            put_symbol(b']', counted, out)
+        }
+    }
+}
+
+fn put_pin<S: Sink>(one: &Pin, status: Put, out: &mut Pieces<'_, S>) -> Put
+    ensures same_sink { out.new.sink.ghost_name ≡ out.old.sink.ghost_name }
+    ensures shows { Shows (pin_tree one.now) pin status (S.written out.old.sink.now) (take out.old.len out.old.buffer) (S.faults out.old.sink.now) result (S.written out.new.sink.now) (take out.new.len out.new.buffer) (S.faults out.new.sink.now) }
+{
+    let named = put_name(&one.name, status, out);
+    put_width(&one.width, named, out)
+}
+
+fn put_next_pin<S: Sink>(one: &Pin, status: Put, out: &mut Pieces<'_, S>) -> Put
+    ensures same_sink { out.new.sink.ghost_name ≡ out.old.sink.ghost_name }
+    ensures shows { Shows (next_tree pin_tree one.now) (next_of pin) status (S.written out.old.sink.now) (take out.old.len out.old.buffer) (S.faults out.old.sink.now) result (S.written out.new.sink.now) (take out.new.len out.new.buffer) (S.faults out.new.sink.now) }
+{
+    let separated = put_symbol(b',', status, out);
+    put_pin(one, separated, out)
+}
+
+fn put_more_pins<S: Sink>(all: &[Pin], status: Put, out: &mut Pieces<'_, S>) -> Put
+    ensures same_sink { out.new.sink.ghost_name ≡ out.old.sink.ghost_name }
+    ensures shows { Shows (listed (next_tree pin_tree) all.now NoMore) (repeat (next_of pin)) status (S.written out.old.sink.now) (take out.old.len out.old.buffer) (S.faults out.old.sink.now) result (S.written out.new.sink.now) (take out.new.len out.new.buffer) (S.faults out.new.sink.now) }
+{
+    let mut status = status;
+    for one in all {
+        status = put_next_pin(one, status, out);
+    }
+    status
+}
+
+// The pins behind a keyword, where there are some.
+fn put_pins<S: Sink>(word: Keyword, all: &[Pin], status: Put, out: &mut Pieces<'_, S>) -> Put
+    ensures same_sink { out.new.sink.ghost_name ≡ out.old.sink.ghost_name }
+    ensures shows { Shows (pins_tree all.now) (pins word) status (S.written out.old.sink.now) (take out.old.len out.old.buffer) (S.faults out.old.sink.now) result (S.written out.new.sink.now) (take out.new.len out.new.buffer) (S.faults out.new.sink.now) }
+{
+    let Some((first, more)) = all.split_first() else {
+        return status;
+    };
+    let begun = put_keyword(word, status, out);
+    let led = put_pin(first, begun, out);
+    let followed = put_more_pins(more, led, out);
+    put_symbol(b';', followed, out)
+}
+
+fn put_next_name<S: Sink>(one: &Name, status: Put, out: &mut Pieces<'_, S>) -> Put
+    ensures same_sink { out.new.sink.ghost_name ≡ out.old.sink.ghost_name }
+    ensures shows { Shows (next_tree name_leaf one.now) (next_of name) status (S.written out.old.sink.now) (take out.old.len out.old.buffer) (S.faults out.old.sink.now) result (S.written out.new.sink.now) (take out.new.len out.new.buffer) (S.faults out.new.sink.now) }
+{
+    let separated = put_symbol(b',', status, out);
+    put_name(one, separated, out)
+}
+
+fn put_more_names<S: Sink>(all: &[Name], status: Put, out: &mut Pieces<'_, S>) -> Put
+    ensures same_sink { out.new.sink.ghost_name ≡ out.old.sink.ghost_name }
+    ensures shows { Shows (listed (next_tree name_leaf) all.now NoMore) (repeat (next_of name)) status (S.written out.old.sink.now) (take out.old.len out.old.buffer) (S.faults out.old.sink.now) result (S.written out.new.sink.now) (take out.new.len out.new.buffer) (S.faults out.new.sink.now) }
+{
+    let mut status = status;
+    for one in all {
+        status = put_next_name(one, status, out);
+    }
+    status
+}
+
+// The names behind `CLOCKED`, where there are some.
+fn put_clocked<S: Sink>(all: &[Name], status: Put, out: &mut Pieces<'_, S>) -> Put
+    ensures same_sink { out.new.sink.ghost_name ≡ out.old.sink.ghost_name }
+    ensures shows { Shows (names_tree all.now) (option (listing Keyword.Clocked name)) status (S.written out.old.sink.now) (take out.old.len out.old.buffer) (S.faults out.old.sink.now) result (S.written out.new.sink.now) (take out.new.len out.new.buffer) (S.faults out.new.sink.now) }
+{
+    let Some((first, more)) = all.split_first() else {
+        return status;
+    };
+    let begun = put_keyword(Keyword::Clocked, status, out);
+    let led = put_name(first, begun, out);
+    let followed = put_more_names(more, led, out);
+    put_symbol(b';', followed, out)
+}
+
+fn put_indices<S: Sink>(bits: Subscript, status: Put, out: &mut Pieces<'_, S>) -> Put
+    ensures same_sink { out.new.sink.ghost_name ≡ out.old.sink.ghost_name }
+    ensures shows { Shows (indices_tree bits) indices status (S.written out.old.sink.now) (take out.old.len out.old.buffer) (S.faults out.old.sink.now) result (S.written out.new.sink.now) (take out.new.len out.new.buffer) (S.faults out.new.sink.now) }
+{
+    match bits {
+        Subscript::Bit(index) => put_number(index, status, out),
+        Subscript::Bits(first, last) => {
+            let begun = put_number(first, status, out);
+            let dotted = put_token(b"..", begun, out);
+            put_number(last, dotted, out)
+        }
+    }
+}
+
+// The bits in brackets, where some are written.
+fn put_subscript<S: Sink>(bits: &Option<Subscript>, status: Put, out: &mut Pieces<'_, S>) -> Put
+    ensures same_sink { out.new.sink.ghost_name ≡ out.old.sink.ghost_name }
+    ensures shows { Shows (subscript_tree bits.now) (option subscript) status (S.written out.old.sink.now) (take out.old.len out.old.buffer) (S.faults out.old.sink.now) result (S.written out.new.sink.now) (take out.new.len out.new.buffer) (S.faults out.new.sink.now) }
+{
+    match bits {
+        None => status,
+        Some(bits) => {
+            let opened = put_symbol(b'[', status, out);
+            let counted = put_indices(*bits, opened, out);
+            put_symbol(b']', counted, out)
+        }
+    }
+}
+
+fn put_wire<S: Sink>(one: &Wire, status: Put, out: &mut Pieces<'_, S>) -> Put
+    ensures same_sink { out.new.sink.ghost_name ≡ out.old.sink.ghost_name }
+    ensures shows { Shows (wire_tree one.now) wire status (S.written out.old.sink.now) (take out.old.len out.old.buffer) (S.faults out.old.sink.now) result (S.written out.new.sink.now) (take out.new.len out.new.buffer) (S.faults out.new.sink.now) }
+{
+    let named = put_name(&one.name, status, out);
+    put_subscript(&one.subscript, named, out)
+}
+
+fn truth(value: bool) -> Keyword
+    ensures { result ≡ truth value }
+{
+    if value { Keyword::True } else { Keyword::False }
+}
+
+fn put_source<S: Sink>(one: &Source, status: Put, out: &mut Pieces<'_, S>) -> Put
+    ensures same_sink { out.new.sink.ghost_name ≡ out.old.sink.ghost_name }
+    ensures shows { Shows (source_tree one.now) source status (S.written out.old.sink.now) (take out.old.len out.old.buffer) (S.faults out.old.sink.now) result (S.written out.new.sink.now) (take out.new.len out.new.buffer) (S.faults out.new.sink.now) }
+{
+    match one {
+        Source::Wire(wire) => put_wire(wire, status, out),
+        Source::Constant(value, _) => put_keyword(truth(*value), status, out),
+    }
+}
+
+fn put_connection<S: Sink>(one: &Connection, status: Put, out: &mut Pieces<'_, S>) -> Put
+    ensures same_sink { out.new.sink.ghost_name ≡ out.old.sink.ghost_name }
+    ensures shows { Shows (connection_tree one.now) connection status (S.written out.old.sink.now) (take out.old.len out.old.buffer) (S.faults out.old.sink.now) result (S.written out.new.sink.now) (take out.new.len out.new.buffer) (S.faults out.new.sink.now) }
+{
+    let named = put_wire(&one.pin, status, out);
+    let joined = put_symbol(b'=', named, out);
+    put_source(&one.source, joined, out)
+}
+
+fn put_next_connection<S: Sink>(one: &Connection, status: Put, out: &mut Pieces<'_, S>) -> Put
+    ensures same_sink { out.new.sink.ghost_name ≡ out.old.sink.ghost_name }
+    ensures shows { Shows (next_tree connection_tree one.now) (next_of connection) status (S.written out.old.sink.now) (take out.old.len out.old.buffer) (S.faults out.old.sink.now) result (S.written out.new.sink.now) (take out.new.len out.new.buffer) (S.faults out.new.sink.now) }
+{
+    let separated = put_symbol(b',', status, out);
+    put_connection(one, separated, out)
+}
+
+fn put_more_connections<S: Sink>(all: &[Connection], status: Put, out: &mut Pieces<'_, S>) -> Put
+    ensures same_sink { out.new.sink.ghost_name ≡ out.old.sink.ghost_name }
+    ensures shows { Shows (listed (next_tree connection_tree) all.now NoMore) (repeat (next_of connection)) status (S.written out.old.sink.now) (take out.old.len out.old.buffer) (S.faults out.old.sink.now) result (S.written out.new.sink.now) (take out.new.len out.new.buffer) (S.faults out.new.sink.now) }
+{
+    let mut status = status;
+    for one in all {
+        status = put_next_connection(one, status, out);
+    }
+    status
+}
+
+fn put_connections<S: Sink>(all: &[Connection], status: Put, out: &mut Pieces<'_, S>) -> Put
+    ensures same_sink { out.new.sink.ghost_name ≡ out.old.sink.ghost_name }
+    ensures shows { Shows (connections_tree all.now) (row connection) status (S.written out.old.sink.now) (take out.old.len out.old.buffer) (S.faults out.old.sink.now) result (S.written out.new.sink.now) (take out.new.len out.new.buffer) (S.faults out.new.sink.now) }
+{
+    let Some((first, more)) = all.split_first() else {
+        return status;
+    };
+    let begun = put_connection(first, status, out);
+    put_more_connections(more, begun, out)
+}
+
+fn put_part<S: Sink>(one: &Part, status: Put, out: &mut Pieces<'_, S>) -> Put
+    ensures same_sink { out.new.sink.ghost_name ≡ out.old.sink.ghost_name }
+    ensures shows { Shows (part_tree one.now) part status (S.written out.old.sink.now) (take out.old.len out.old.buffer) (S.faults out.old.sink.now) result (S.written out.new.sink.now) (take out.new.len out.new.buffer) (S.faults out.new.sink.now) }
+{
+    let named = put_name(&one.chip, status, out);
+    let opened = put_symbol(b'(', named, out);
+    let connected = put_connections(&one.connections, opened, out);
+    let closed = put_symbol(b')', connected, out);
+    put_symbol(b';', closed, out)
+}
+
+fn put_all_parts<S: Sink>(all: &[Part], status: Put, out: &mut Pieces<'_, S>) -> Put
+    ensures same_sink { out.new.sink.ghost_name ≡ out.old.sink.ghost_name }
+    ensures shows { Shows (listed part_tree all.now NoMore) (repeat part) status (S.written out.old.sink.now) (take out.old.len out.old.buffer) (S.faults out.old.sink.now) result (S.written out.new.sink.now) (take out.new.len out.new.buffer) (S.faults out.new.sink.now) }
+{
+    let mut status = status;
+    for one in all {
+        status = put_part(one, status, out);
+    }
+    status
+}
+
+// `PARTS`, a colon and the parts.
+fn put_parts<S: Sink>(all: &[Part], status: Put, out: &mut Pieces<'_, S>) -> Put
+    ensures same_sink { out.new.sink.ghost_name ≡ out.old.sink.ghost_name }
+    ensures shows { Shows (parts_tree all.now) parts status (S.written out.old.sink.now) (take out.old.len out.old.buffer) (S.faults out.old.sink.now) result (S.written out.new.sink.now) (take out.new.len out.new.buffer) (S.faults out.new.sink.now) }
+{
+    let begun = put_keyword(Keyword::Parts, status, out);
+    let opened = put_symbol(b':', begun, out);
+    put_all_parts(all, opened, out)
+}
+
+// `BUILTIN`, a name and the names that are clocked.
+fn put_builtin<S: Sink>(chip: &Name, clocked: &[Name], status: Put, out: &mut Pieces<'_, S>) -> Put
+    ensures same_sink { out.new.sink.ghost_name ≡ out.old.sink.ghost_name }
+    ensures shows { Shows (builtin_tree chip.now clocked.now) builtin status (S.written out.old.sink.now) (take out.old.len out.old.buffer) (S.faults out.old.sink.now) result (S.written out.new.sink.now) (take out.new.len out.new.buffer) (S.faults out.new.sink.now) }
+{
+    let begun = put_keyword(Keyword::Builtin, status, out);
+    let named = put_name(chip, begun, out);
+    let closed = put_symbol(b';', named, out);
+    put_clocked(clocked, closed, out)
+}
+
+fn put_body<S: Sink>(one: &Body, status: Put, out: &mut Pieces<'_, S>) -> Put
+    ensures same_sink { out.new.sink.ghost_name ≡ out.old.sink.ghost_name }
+    ensures shows { Shows (body_tree one.now) body status (S.written out.old.sink.now) (take out.old.len out.old.buffer) (S.faults out.old.sink.now) result (S.written out.new.sink.now) (take out.new.len out.new.buffer) (S.faults out.new.sink.now) }
+{
+    match one {
+        Body::Parts(all) => put_parts(all, status, out),
+        Body::Builtin(chip, clocked) => put_builtin(chip, clocked, status, out),
+    }
+}
+
+fn put_chip<S: Sink>(one: &Chip, status: Put, out: &mut Pieces<'_, S>) -> Put
+    ensures same_sink { out.new.sink.ghost_name ≡ out.old.sink.ghost_name }
+    ensures shows { Shows (chip_tree one.now) chip status (S.written out.old.sink.now) (take out.old.len out.old.buffer) (S.faults out.old.sink.now) result (S.written out.new.sink.now) (take out.new.len out.new.buffer) (S.faults out.new.sink.now) }
+{
+    let begun = put_keyword(Keyword::Chip, status, out);
+    let named = put_name(&one.name, begun, out);
+    let opened = put_symbol(b'{', named, out);
+    let entered = put_pins(Keyword::In, &one.inputs, opened, out);
+    let left = put_pins(Keyword::Out, &one.outputs, entered, out);
+    let made = put_body(&one.body, left, out);
+    put_symbol(b'}', made, out)
+}
+
+// The same with an empty buffer before, and after.
+fn put_all<S: Sink>(chip: &Chip, out: &mut Pieces<'_, S>) -> Put
+    requires { take out.old.len out.old.buffer ≡ [] }
+    ensures same_sink { out.new.sink.ghost_name ≡ out.old.sink.ghost_name }
+    ensures put { Puts (S.written out.old.sink.now) (S.written out.new.sink.now) (chip_text chip.now) result }
+    ensures counts { CountsPut (S.faults out.old.sink.now) (S.faults out.new.sink.now) result }
+{
+    match put_chip(chip, Put::Done, out) {
+        Put::Done => out.finish(),
+        Put::Failed => Put::Failed,
+    }
+}
+
+/// Prints a chip: its tokens with one space between them, and a line feed in its place behind `{`, `}` and `;`. It takes no memory.
+pub fn print<S: Sink>(chip: &Chip, out: &mut S) -> Put
+    ensures put { Puts (S.written out.old) (S.written out.new) (chip_text chip.now) result }
+    ensures counts { CountsPut (S.faults out.old) (S.faults out.new) result }
+{
+    let mut pieces = Pieces::new(out);
+    put_all(chip, &mut pieces)
+}

@@ -1,0 +1,341 @@
+//! Readers of one token.
+
+ghost use Rattle.std.specs.Prelude.{map, ◌≡◌, ◌<◌, ◌≤◌, ◌-◌, ◌+◌, ◌^◌, length, Some, None, Result, Ok, IfOk, [], ℕ, nat_lt};
+ghost use Rattle.grammar.specs.Reading.{ParsesBy, PassesBy, Gives, word_at, mark_at};
+ghost use Rattle.grammar.specs.Rules.{Leaf, next, here};
+ghost use Rattle.hdl_parser.specs.Tokens.{view};
+ghost use Rattle.hdl_parser.specs.Hdl.{hdl, Said, is_symbol, symbol_of, is_keyword, keyword_of, is_dots, dots, is_name, free, named, name, is_number, fixed, check_width, width, check_index, index, check_last, last_index, is_constant, placed, constant, too_large};
+ghost use Rattle.hdl_parser.specs.Trees.{name_said, number_said, constant_said};
+
+use crate::token::{Keyword, Kind, Token};
+use grammar::{Fault, ReadError};
+use hdl_tree::Name;
+use scan_text::Place;
+use std::alloc::Global;
+
+const WIDEST: u32 = 16;
+
+const LAST_BIT: u32 = 15;
+
+pub fn grammar_fault(place: Place) -> ReadError
+    ensures { result ≡ ReadError.Fault (Fault.Grammar place) }
+{
+    ReadError::Fault(Fault::Grammar(place))
+}
+
+// The number at this place is past its limit.
+fn too_large(place: Place, number: u32) -> ReadError
+    ensures { result ≡ ReadError.Fault (too_large place number) }
+{
+    ReadError::Fault(Fault::Range(place, number.min(1_000_000_000)))
+}
+
+fn symbol_at<'a>(
+    tokens: &'a [Token<'a>],
+    end: Place,
+    sign: u8,
+) -> Result<&'a [Token<'a>], ReadError>
+    ensures reads { Gives (λ x. map view x.now) result (mark_at (hdl end) (is_symbol sign) (map view tokens.now)) }
+    ensures shorter { IfOk result (λ r. length r.now < length tokens.now) }
+{
+    let Some((token, rest)) = tokens.split_first() else {
+        return Err(grammar_fault(end));
+    };
+    let Kind::Symbol(other) = token.kind else {
+        return Err(grammar_fault(token.place));
+    };
+    if other != sign {
+        return Err(grammar_fault(token.place));
+    }
+    Ok(rest)
+}
+
+pub fn symbol<'a>(
+    tokens: &'a [Token<'a>],
+    end: Place,
+    sign: u8,
+) -> Result<&'a [Token<'a>], ReadError>
+    ensures reads { PassesBy view (hdl end) (symbol_of sign) 0 tokens.now result }
+    ensures shorter { IfOk result (λ r. length r.now < length tokens.now) }
+{
+    symbol_at(tokens, end, sign)
+}
+
+fn keyword_at<'a>(
+    tokens: &'a [Token<'a>],
+    end: Place,
+    keyword: Keyword,
+) -> Result<&'a [Token<'a>], ReadError>
+    ensures reads { Gives (λ x. map view x.now) result (mark_at (hdl end) (is_keyword keyword) (map view tokens.now)) }
+    ensures shorter { IfOk result (λ r. length r.now < length tokens.now) }
+{
+    let Some((token, rest)) = tokens.split_first() else {
+        return Err(grammar_fault(end));
+    };
+    let Kind::Keyword(other) = token.kind else {
+        return Err(grammar_fault(token.place));
+    };
+    if other == keyword {
+        Ok(rest)
+    } else {
+        Err(grammar_fault(token.place))
+    }
+}
+
+pub fn keyword<'a>(
+    tokens: &'a [Token<'a>],
+    end: Place,
+    keyword: Keyword,
+) -> Result<&'a [Token<'a>], ReadError>
+    ensures reads { PassesBy view (hdl end) (keyword_of keyword) 0 tokens.now result }
+    ensures shorter { IfOk result (λ r. length r.now < length tokens.now) }
+{
+    keyword_at(tokens, end, keyword)
+}
+
+fn dots_at<'a>(tokens: &'a [Token<'a>], end: Place) -> Result<&'a [Token<'a>], ReadError>
+    ensures reads { Gives (λ x. map view x.now) result (mark_at (hdl end) is_dots (map view tokens.now)) }
+    ensures shorter { IfOk result (λ r. length r.now < length tokens.now) }
+{
+    let Some((token, rest)) = tokens.split_first() else {
+        return Err(grammar_fault(end));
+    };
+    let Kind::Dots = token.kind else {
+        return Err(grammar_fault(token.place));
+    };
+    Ok(rest)
+}
+
+/// `..` behind the index `first`.
+pub fn dots<'a>(
+    tokens: &'a [Token<'a>],
+    end: Place,
+    first: u8,
+) -> Result<&'a [Token<'a>], ReadError>
+    ensures reads { PassesBy view (hdl end) dots first tokens.now result }
+    ensures shorter { IfOk result (λ r. length r.now < length tokens.now) }
+{
+    dots_at(tokens, end)
+}
+
+fn name_at<'a>(
+    alloc: Global,
+    tokens: &'a [Token<'a>],
+    end: Place,
+) -> Result<(Name, &'a [Token<'a>]), ReadError>
+    ensures reads { Gives (λ x. (name_said x.0, 0, map view x.1.now)) result (word_at (hdl end) is_name free named 0 (map view tokens.now)) }
+    ensures shorter { IfOk result (λ r. length r.1.now < length tokens.now) }
+{
+    let Some((token, rest)) = tokens.split_first() else {
+        return Err(grammar_fault(end));
+    };
+    let Kind::Name = token.kind else {
+        return Err(grammar_fault(token.place));
+    };
+    let name = Name {
+        text: Vec::from_slice(alloc, token.text)?,
+        place: token.place,
+    };
+    Ok((name, rest))
+}
+
+pub fn name<'a>(
+    alloc: Global,
+    tokens: &'a [Token<'a>],
+    end: Place,
+) -> Result<(Name, &'a [Token<'a>]), ReadError>
+    ensures reads { ParsesBy view (hdl end) name (λ x. Leaf (name_said x)) (λ _. 0) 0 tokens.now result }
+    ensures shorter { IfOk result (λ r. length r.1.now < length tokens.now) }
+{
+    name_at(alloc, tokens, end)
+}
+
+fn width_at<'a>(tokens: &'a [Token<'a>], end: Place) -> Result<(u8, &'a [Token<'a>]), ReadError>
+    ensures reads { Gives (λ x. (number_said x.0, 0, map view x.1.now)) result (word_at (hdl end) is_number check_width fixed 0 (map view tokens.now)) }
+    ensures shorter { IfOk result (λ r. length r.1.now < length tokens.now) }
+{
+    let Some((token, rest)) = tokens.split_first() else {
+        return Err(grammar_fault(end));
+    };
+    let Kind::Number(n) = token.kind else {
+        return Err(grammar_fault(token.place));
+    };
+    if n > WIDEST {
+        return Err(too_large(token.place, n));
+    }
+    Ok((n as u8, rest))
+}
+
+/// A width, at most 16.
+pub fn width<'a>(tokens: &'a [Token<'a>], end: Place) -> Result<(u8, &'a [Token<'a>]), ReadError>
+    ensures reads { ParsesBy view (hdl end) width (λ n. Leaf (number_said n)) (λ _. 0) 0 tokens.now result }
+    ensures shorter { IfOk result (λ r. length r.1.now < length tokens.now) }
+{
+    width_at(tokens, end)
+}
+
+fn index_at<'a>(tokens: &'a [Token<'a>], end: Place) -> Result<(u8, &'a [Token<'a>]), ReadError>
+    ensures reads { Gives (λ x. (number_said x.0, x.0, map view x.1.now)) result (word_at (hdl end) is_number check_index fixed 0 (map view tokens.now)) }
+    ensures shorter { IfOk result (λ r. length r.1.now < length tokens.now) }
+{
+    let Some((token, rest)) = tokens.split_first() else {
+        return Err(grammar_fault(end));
+    };
+    let Kind::Number(n) = token.kind else {
+        return Err(grammar_fault(token.place));
+    };
+    if n > LAST_BIT {
+        return Err(too_large(token.place, n));
+    }
+    Ok((n as u8, rest))
+}
+
+/// An index, at most 15.
+pub fn index<'a>(tokens: &'a [Token<'a>], end: Place) -> Result<(u8, &'a [Token<'a>]), ReadError>
+    ensures reads { ParsesBy view (hdl end) index (λ n. Leaf (number_said n)) (λ n. n) 0 tokens.now result }
+    ensures shorter { IfOk result (λ r. length r.1.now < length tokens.now) }
+{
+    index_at(tokens, end)
+}
+
+fn last_index_at<'a>(
+    tokens: &'a [Token<'a>],
+    end: Place,
+    first: u8,
+) -> Result<(u8, &'a [Token<'a>]), ReadError>
+    ensures reads { Gives (λ x. (number_said x.0, first, map view x.1.now)) result (word_at (hdl end) is_number check_last fixed first (map view tokens.now)) }
+    ensures shorter { IfOk result (λ r. length r.1.now < length tokens.now) }
+{
+    let Some((token, rest)) = tokens.split_first() else {
+        return Err(grammar_fault(end));
+    };
+    let Kind::Number(n) = token.kind else {
+        return Err(grammar_fault(token.place));
+    };
+    if n > LAST_BIT {
+        return Err(too_large(token.place, n));
+    }
+    if n < first as u32 {
+        return Err(grammar_fault(token.place));
+    }
+    Ok((n as u8, rest))
+}
+
+/// An index behind `..`, at most 15 and at least `first`.
+pub fn last_index<'a>(
+    tokens: &'a [Token<'a>],
+    end: Place,
+    first: u8,
+) -> Result<(u8, &'a [Token<'a>]), ReadError>
+    ensures reads { ParsesBy view (hdl end) last_index (λ n. Leaf (number_said n)) (λ _. first) first tokens.now result }
+    ensures shorter { IfOk result (λ r. length r.1.now < length tokens.now) }
+{
+    last_index_at(tokens, end, first)
+}
+
+fn constant_at<'a>(
+    tokens: &'a [Token<'a>],
+    end: Place,
+) -> Result<((bool, Place), &'a [Token<'a>]), ReadError>
+    ensures reads { Gives (λ x. (constant_said x.0.0 x.0.1, 0, map view x.1.now)) result (word_at (hdl end) is_constant free placed 0 (map view tokens.now)) }
+    ensures shorter { IfOk result (λ r. length r.1.now < length tokens.now) }
+{
+    let Some((token, rest)) = tokens.split_first() else {
+        return Err(grammar_fault(end));
+    };
+    match token.kind {
+        Kind::Keyword(Keyword::True) => Ok(((true, token.place), rest)),
+        Kind::Keyword(Keyword::False) => Ok(((false, token.place), rest)),
+        _ => Err(grammar_fault(token.place)),
+    }
+}
+
+/// `true` or `false`, and its place.
+pub fn constant<'a>(
+    tokens: &'a [Token<'a>],
+    end: Place,
+) -> Result<((bool, Place), &'a [Token<'a>]), ReadError>
+    ensures reads { ParsesBy view (hdl end) constant (λ x. Leaf (constant_said x.0 x.1)) (λ _. 0) 0 tokens.now result }
+    ensures shorter { IfOk result (λ r. length r.1.now < length tokens.now) }
+{
+    constant_at(tokens, end)
+}
+
+/// A certain symbol comes next.
+pub fn stands(tokens: &[Token], sign: u8) -> bool
+    ensures { result ≡ next (is_symbol sign) (map view tokens.now) }
+{
+    let Some(token) = tokens.first() else {
+        return false;
+    };
+    let Kind::Symbol(other) = token.kind else {
+        return false;
+    };
+    other == sign
+}
+
+/// A certain keyword comes next.
+pub fn keyword_stands(tokens: &[Token], keyword: Keyword) -> bool
+    ensures { result ≡ next (is_keyword keyword) (map view tokens.now) }
+{
+    let Some(token) = tokens.first() else {
+        return false;
+    };
+    let Kind::Keyword(other) = token.kind else {
+        return false;
+    };
+    other == keyword
+}
+
+/// `..` comes next.
+pub fn dots_stand(tokens: &[Token]) -> bool
+    ensures { result ≡ next is_dots (map view tokens.now) }
+{
+    match tokens.first() {
+        None => false,
+        Some(token) => matches!(token.kind, Kind::Dots),
+    }
+}
+
+/// A name comes next.
+pub fn name_stands(tokens: &[Token]) -> bool
+    ensures { result ≡ next is_name (map view tokens.now) }
+{
+    match tokens.first() {
+        None => false,
+        Some(token) => matches!(token.kind, Kind::Name),
+    }
+}
+
+/// A number comes next.
+pub fn number_stands(tokens: &[Token]) -> bool
+    ensures { result ≡ next is_number (map view tokens.now) }
+{
+    match tokens.first() {
+        None => false,
+        Some(token) => matches!(token.kind, Kind::Number(_)),
+    }
+}
+
+/// `true` or `false` comes next.
+pub fn constant_stands(tokens: &[Token]) -> bool
+    ensures { result ≡ next is_constant (map view tokens.now) }
+{
+    let Some(token) = tokens.first() else {
+        return false;
+    };
+    match token.kind {
+        Kind::Keyword(Keyword::True | Keyword::False) => true,
+        _ => false,
+    }
+}
+
+/// The place of the next token, or of the end of the text.
+pub fn here(tokens: &[Token], end: Place) -> Place
+    ensures { result ≡ here (hdl end) (map view tokens.now) }
+{
+    match tokens.first() {
+        None => end,
+        Some(token) => token.place,
+    }
+}
