@@ -1,11 +1,14 @@
--- What the trees of the code stand for: the texts of the meaning.
-use Rattle.jack_meaning.specs.Text.{Argument, Local, Static, Minus, Complement, Plus, Subtract, And, Or, Less, Greater, Equal, Literal, Value, Name, This, Field, Unary, Binary, Load, Call, Open, NoMore, More}
+-- What the expressions of the code stand for: those of the meaning.
+use Rattle.std.specs.Prelude.{ℕ, List, [], ◌∷◌, get_or, take, drop, reverse}
+use Rattle.jack_meaning.specs.Text.{Argument, Local, Static, Minus, Complement, Plus, Subtract, And, Or, Less, Greater, Equal, Literal, Value, Name, This, Field, Unary, Binary, Load, Call, NoMore, More}
 use Rattle.jack_meaning.specs.Text.{Variable as AVariable, Sign as ASign, Operator as AnOperator, Expression as AnExpression, Expressions}
 use Rattle.jack_core.specs.declared.tree.Variable.{Variable}
 use Rattle.jack_core.specs.declared.tree.Sign.{Sign}
 use Rattle.jack_core.specs.declared.tree.Operator.{Operator}
-use Rattle.jack_core.specs.declared.tree.Expression.{Expression, Unary', Binary', Load', Call'}
-use Rattle.jack_core.specs.declared.tree.Arguments.{Arguments, More'}
+use Rattle.jack_core.specs.declared.tree.Part.{Part}
+use Rattle.jack_core.specs.declared.tree.Part.TheVariants as part
+use Rattle.jack_core.specs.declared.tree.Expression.{Expression}
+use Rattle.jack_core.specs.Heights.{takes}
 
 abbrev pub the_variable : Variable → AVariable
 the_variable (Variable.Argument k) = Argument k
@@ -25,19 +28,35 @@ the_operator Operator.Less = Less
 the_operator Operator.Greater = Greater
 the_operator Operator.Equal = Equal
 
-abbrev mutual
-  pub the_expression : Expression → AnExpression
-  the_expression (Expression.Literal n) = Literal n
-  the_expression (Expression.Value n) = Value n
-  the_expression (Expression.Name x) = Name (the_variable x)
-  the_expression Expression.This = This
-  the_expression (Expression.Field k) = Field k
-  the_expression (Unary' o p a) = Unary (the_sign o) (the_expression a)
-  the_expression (Binary' o p a q b) = Binary (the_operator o) (the_expression a) (the_expression b)
-  the_expression (Load' p a q i) = Load (the_expression a) (the_expression i)
-  the_expression (Call' g p es) = Call g (the_arguments es)
-  the_expression Expression.Open = Open
+-- expressions as the arguments of a call
+abbrev pub arguments_of : List AnExpression → Expressions
+arguments_of [] = NoMore
+arguments_of (e ∷ es) = More e (arguments_of es)
 
-  pub the_arguments : Arguments → Expressions
-  the_arguments Arguments.NoMore = NoMore
-  the_arguments (More' p e q es) = More (the_expression e) (the_arguments es)
+-- the first, the second and further ones; where there are too few, any will do
+abbrev pub operand : ℕ → List AnExpression → AnExpression
+operand k es = get_or es k (Value 0)
+
+-- the expression that a part makes of its operands, the first one first
+abbrev pub made : Part → List AnExpression → AnExpression
+made (part.Literal n) es = Literal n
+made (part.Name x) es = Name (the_variable x)
+made part.This es = This
+made (part.Field k) es = Field k
+made (part.Unary o) es = Unary (the_sign o) (operand 0 es)
+made (part.Binary o) es = Binary (the_operator o) (operand 0 es) (operand 1 es)
+made part.Load es = Load (operand 0 es) (operand 1 es)
+made (part.Call g n) es = Call g (arguments_of es)
+
+-- a part on expressions, the last of which comes first: that of its operands is in their place
+abbrev pub put : Part → List AnExpression → List AnExpression
+put p es = made p (reverse (take (takes p) es)) ∷ drop (takes p) es
+
+-- the same for parts in order
+abbrev pub built : List AnExpression → List Part → List AnExpression
+built es [] = es
+built es (p ∷ ps) = built (put p es) ps
+
+-- the expression that parts in postfix order spell
+abbrev pub the_expression : Expression → AnExpression
+the_expression e = operand 0 (built [] e.parts.items)

@@ -5,4 +5,4 @@ mod program;
 mod tree;
 
 pub use program::{Class, Core, Kind, Statement, Subroutine};
-pub use tree::{Arguments, Expression, Operator, Sign, Variable};
+pub use tree::{Expression, Operator, Part, Sign, Variable};

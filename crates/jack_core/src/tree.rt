@@ -1,4 +1,7 @@
-//! Programs as trees: every name is resolved to a number, and operators are grouped.
+//! Expressions whose names are resolved to numbers.
+
+ghost use Rattle.std.specs.Prelude.{◌≡◌, Some};
+ghost use Rattle.jack_core.specs.Heights.{height};
 
 /// A variable, by its number among those of its kind. A method's object is argument 0; the statics are numbered
 /// through all classes.
@@ -28,30 +31,29 @@ pub enum Operator {
     Equal,
 }
 
-/// An expression. A `Literal` of the text is not yet a `Value`; values and the open call come with its evaluation.
-#[cycle(tree)]
-#[derive(Drop)]
-pub enum Expression {
+/// A part of an expression, which becomes a value in its turn.
+#[derive(Clone, Copy, PartialEq, Eq, Debug)]
+pub enum Part {
     Literal(u16),
-    Value(u16),
     Name(Variable),
     This,
     /// A field of `this`, by its number.
     Field(u16),
-    Unary(Sign, Box<Expression>),
-    Binary(Operator, Box<Expression>, Box<Expression>),
-    /// The word at base plus index.
-    Load(Box<Expression>, Box<Expression>),
-    /// A call of the subroutine of this number.
-    Call(u32, Box<Arguments>),
-    /// A call that was made and has not returned.
-    Open,
+    /// An operator before the value of the part that precedes it.
+    Unary(Sign),
+    /// An operator between the two values that precede it.
+    Binary(Operator),
+    /// The word at base plus index, the two values that precede it.
+    Load,
+    /// A call of the subroutine of this number with so many arguments, which precede it.
+    Call(u32, usize),
 }
 
-/// The arguments of a call, the first one first.
-#[cycle(tree)]
+/// An expression in postfix order, as `x 1 +` for `x + 1`: its parts in the order in which they become values. So it is as
+/// flat as it is long, however it is nested in the text.
 #[derive(Drop)]
-pub enum Arguments {
-    NoMore,
-    More(Box<Expression>, Box<Arguments>),
+pub struct Expression {
+    pub parts: Vec<Part>,
+    // Each part finds its operands, and one value is left.
+    pub ghost one: { height 0 parts.items ≡ Some 1 },
 }
