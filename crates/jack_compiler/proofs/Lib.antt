@@ -10,6 +10,7 @@ pub mod Whole
 pub mod Starts
 pub mod Examples
 pub mod Naming
+pub mod Postfix
 pub mod Adding
 pub mod Functions
 pub mod Coded

@@ -1,10 +1,22 @@
 -- What is added to a body.
 use Rattle.std.specs.Prelude.{◌≡◌, ◌+◌, ◌<◌, ◌++◌, ◌==◌, ℕ, List, [], ◌∷◌, length, get_or, if◌then◌else◌}
 use Rattle.vm_tree.specs.declared.program.Function.{Function}
-use Rattle.jack_meaning.specs.Text.{Statement, Text, Class, Subroutine}
-use Rattle.jack_compiler.specs.Lines.{Around, statement_lines, text_lines, ifs_of, ifs_in, whiles_of, whiles_in}
+use Rattle.vm_tree.specs.declared.command.Segment.TheVariants as segment
+use Rattle.vm_tree.specs.declared.command.Command.{Command}
+use Rattle.vm_tree.specs.declared.command.Command.TheVariants as command
+use Rattle.jack_meaning.specs.Text.{Statement, Let, LetField, LetThis, Store, Do, Text, Class, Subroutine}
+use Rattle.jack_compiler.specs.Lines.{Around, pop_variable, statement_lines, text_lines, ifs_of, ifs_in, whiles_of, whiles_in}
 use Rattle.jack_compiler.specs.Files.{function_of, functions_of, around_class}
 use Rattle.jack_compiler.specs.declared.bodies.Body.{Body}
+
+-- the command that takes a statement's value; a choice and a loop end in a label, and any will do
+abbrev pub last_command : Around → Statement → Command
+last_command around (Let n x e) = pop_variable around x
+last_command around (LetField n k e) = command.Pop segment.This k
+last_command around (LetThis n e) = command.Pop segment.Pointer 0
+last_command around (Store n a i e) = command.Pop segment.That 0
+last_command around (Do n e) = command.Pop segment.Temp 0
+last_command around _ = command.Return
 
 -- the lines of a statement and of a text, with their labels counted
 pub record Adds (around : Around) (next : ℕ) (s : Statement) (old new : Body) : Type 0 where

@@ -12,3 +12,4 @@ pub mod Added
 pub mod Resolved
 pub mod Linked
 pub mod Small
+pub mod Postfix

@@ -8,7 +8,7 @@ ghost use Rattle.jack_compiler.specs.Templates.{first_number, is_end};
 ghost use Rattle.jack_compiler.specs.Lines.{into_if, into_else, into_while, out_of_while, store_lines, expression_lines, statement_lines, text_lines, ifs_of, ifs_in, whiles_of, whiles_in, short};
 ghost use Rattle.jack_compiler.specs.Lines.{quiet as quiet_line, commit as commit_line};
 ghost use Rattle.jack_compiler.specs.Surroundings.{the_around};
-ghost use Rattle.jack_compiler.specs.Added.{Adds, AddsText};
+ghost use Rattle.jack_compiler.specs.Added.{last_command, Adds, AddsText};
 
 use crate::expressions::{Around, add_expression, pop_variable};
 use crate::lines::{add_goto, add_if_goto, add_label, commit, quiet};
@@ -87,6 +87,22 @@ fn add_value(
 {
     add_expression(lines, around, n, value)?;
     commit(lines, n, last)
+}
+
+// The command that takes a statement's value. (A choice and a loop end in a label: any will do.)
+fn last_command(around: &Around<'_>, s: &Statement) -> Command
+    ensures { result ≡ last_command (the_around around.now) (the_statement s.now) }
+{
+    match s {
+        Statement::Let { variable, .. } => pop_variable(around, *variable),
+        Statement::LetField { field, .. } => Command::Pop(Segment::This, *field),
+        Statement::LetThis { .. } => Command::Pop(Segment::Pointer, 0),
+        Statement::Store { .. } => Command::Pop(Segment::That, 0),
+        Statement::Do { .. } => Command::Pop(Segment::Temp, 0),
+        Statement::If { .. } | Statement::While { .. } | Statement::Return { .. } => {
+            Command::Return
+        }
+    }
 }
 
 // `let` of an array's element.
@@ -221,24 +237,15 @@ fn add_statement(
     ensures { OnOk result (Adds (the_around around.now) next (the_statement s.now) body.old body.new) }
 {
     match s {
-        Statement::Let {
+        Statement::Let { number, value, .. }
+        | Statement::LetField { number, value, .. }
+        | Statement::LetThis { number, value }
+        | Statement::Do {
             number,
-            variable,
-            value,
-        } => {
-            let last = pop_variable(around, *variable);
-            add_value(&mut body.lines, around, *number, value, last)
+            call: value,
         }
-        Statement::LetField {
-            number,
-            field,
-            value,
-        } => {
-            let last = Command::Pop(Segment::This, *field);
-            add_value(&mut body.lines, around, *number, value, last)
-        }
-        Statement::LetThis { number, value } => {
-            let last = Command::Pop(Segment::Pointer, 0);
+        | Statement::Return { number, value } => {
+            let last = last_command(around, s);
             add_value(&mut body.lines, around, *number, value, last)
         }
         Statement::Store {
@@ -247,10 +254,6 @@ fn add_statement(
             index,
             value,
         } => add_element(&mut body.lines, around, *number, base, index, value),
-        Statement::Do { number, call } => {
-            let last = Command::Pop(Segment::Temp, 0);
-            add_value(&mut body.lines, around, *number, call, last)
-        }
         Statement::If {
             number,
             condition,
@@ -262,9 +265,6 @@ fn add_statement(
             condition,
             body: turn,
         } => add_while(body, around, next, *number, condition, turn),
-        Statement::Return { number, value } => {
-            add_value(&mut body.lines, around, *number, value, Command::Return)
-        }
     }
 }
 

@@ -1,14 +1,14 @@
 //! The commands of expressions.
 ghost use Rattle.std.specs.Prelude.{◌≡◌, ◌+◌, ◌++◌, ◌∷◌, [], OnOk, IfOk, min, map};
-ghost use Rattle.jack_core.specs.Reading.{the_variable, the_sign, the_operator, the_expression, the_arguments};
-ghost use Rattle.jack_compiler.specs.Templates.{count};
-ghost use Rattle.jack_compiler.specs.Lines.{sign_command, operator_command, push_variable, pop_variable, literal_lines, load_lines, expression_lines, arguments_lines};
+ghost use Rattle.jack_core.specs.Reading.{the_variable, the_sign, the_operator, the_expression};
+ghost use Rattle.jack_compiler.specs.Lines.{sign_command, operator_command, push_variable, pop_variable, literal_lines, load_lines, expression_lines};
 ghost use Rattle.jack_compiler.specs.Lines.{short as short_number};
+ghost use Rattle.jack_compiler.specs.Postfix.{part_lines};
 ghost use Rattle.jack_compiler.specs.Files.{name_at};
 ghost use Rattle.jack_compiler.specs.Surroundings.{the_around};
 
 use crate::lines::{commit, name_of, quiet, short};
-use jack_core::{Arguments, Expression, Operator, Sign, Variable};
+use jack_core::{Expression, Operator, Part, Sign, Variable};
 use outer_world::Name;
 use std::alloc::{AllocError, Global};
 use vm_tree::{Command, Line, List, Operation, Segment};
@@ -103,18 +103,38 @@ fn add_load(lines: &mut List<Line>, statement: u32) -> Result<(), AllocError>
     commit(lines, statement, Command::Push(Segment::That, 0))
 }
 
-// The number of arguments, as far as 16 bits go.
-fn count(arguments: &Arguments) -> u16
-    ensures { result ≡ short_number (count (the_arguments arguments.now)) }
+// A number of arguments, as far as 16 bits go.
+fn count(arguments: usize) -> u16
+    ensures { result ≡ short_number arguments }
 {
-    match arguments {
-        Arguments::NoMore => 0,
-        Arguments::More(_, rest) => count(rest).saturating_add(1),
+    arguments.min(65_535) as u16
+}
+
+// What a part adds behind the commands of its operands.
+fn add_part(
+    lines: &mut List<Line>,
+    around: &Around<'_>,
+    statement: u32,
+    part: Part,
+) -> Result<(), AllocError>
+    ensures { OnOk result (lines.new ≡ lines.old ++ part_lines (the_around around.now) statement part) }
+{
+    match part {
+        Part::Literal(word) => add_literal(lines, statement, word),
+        Part::Name(variable) => commit(lines, statement, push_variable(around, variable)),
+        Part::This => commit(lines, statement, Command::Push(Segment::Pointer, 0)),
+        Part::Field(k) => commit(lines, statement, Command::Push(Segment::This, k)),
+        Part::Unary(sign) => commit(lines, statement, sign_command(sign)),
+        Part::Binary(operator) => commit(lines, statement, operator_command(operator)),
+        Part::Load => add_load(lines, statement),
+        Part::Call(g, arguments) => {
+            let name = name_at(around, g as usize)?;
+            commit(lines, statement, Command::Call(name, count(arguments)))
+        }
     }
 }
 
-/// The commands of an expression of a statement, at the end of these lines.
-#[cycle(expression)]
+/// The commands of an expression of a statement, at the end of these lines. Its parts stand in the order of their commands.
 pub(crate) fn add_expression(
     lines: &mut List<Line>,
     around: &Around<'_>,
@@ -123,49 +143,8 @@ pub(crate) fn add_expression(
 ) -> Result<(), AllocError>
     ensures { OnOk result (lines.new ≡ lines.old ++ expression_lines (the_around around.now) statement (the_expression e.now)) }
 {
-    match e {
-        Expression::Literal(word) => add_literal(lines, statement, *word),
-        Expression::Value(_) => Ok(()),
-        Expression::Name(variable) => commit(lines, statement, push_variable(around, *variable)),
-        Expression::This => commit(lines, statement, Command::Push(Segment::Pointer, 0)),
-        Expression::Field(k) => commit(lines, statement, Command::Push(Segment::This, *k)),
-        Expression::Unary(sign, a) => {
-            add_expression(lines, around, statement, a)?;
-            commit(lines, statement, sign_command(*sign))
-        }
-        Expression::Binary(operator, a, b) => {
-            add_expression(lines, around, statement, a)?;
-            add_expression(lines, around, statement, b)?;
-            commit(lines, statement, operator_command(*operator))
-        }
-        Expression::Load(a, i) => {
-            add_expression(lines, around, statement, a)?;
-            add_expression(lines, around, statement, i)?;
-            add_load(lines, statement)
-        }
-        Expression::Call(g, es) => {
-            add_arguments(lines, around, statement, es)?;
-            let name = name_at(around, *g as usize)?;
-            commit(lines, statement, Command::Call(name, count(es)))
-        }
-        Expression::Open => Ok(()),
+    for part in &e.parts {
+        add_part(lines, around, statement, *part)?;
     }
-}
-
-#[cycle(expression)]
-fn add_arguments(
-    lines: &mut List<Line>,
-    around: &Around<'_>,
-    statement: u32,
-    es: &Arguments,
-) -> Result<(), AllocError>
-    ensures { OnOk result (lines.new ≡ lines.old ++ arguments_lines (the_around around.now) statement (the_arguments es.now)) }
-{
-    match es {
-        Arguments::NoMore => Ok(()),
-        Arguments::More(e, rest) => {
-            add_expression(lines, around, statement, e)?;
-            add_arguments(lines, around, statement, rest)
-        }
-    }
+    Ok(())
 }

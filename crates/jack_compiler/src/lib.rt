@@ -2,10 +2,10 @@
 //! its linked code does what the program means.
 //!
 //! `compile` makes the program; what it is stands in `specs/`: `Lines` (the templates, with names) and `Files`. The other
-//! definitions are `Templates` (the code that linking makes of the templates), `Fits` (what a program with resolved names
-//! meets as far as it is linked), `Resolved` (what the checks of names see to), `Places` and `Match` (which states of the meaning
-//! and of the virtual machine match), `Astray`, `Linked`, `Laws`, `Rows` and `Small`. The functions that are laws do nothing; their
-//! contracts say what holds of the definitions.
+//! definitions are `Postfix` (the lines of each part of an expression), `Templates` (the code that linking makes of the templates),
+//! `Fits` (what a program with resolved names meets as far as it is linked), `Resolved` (what the checks of names see to), `Places` and
+//! `Match` (which states of the meaning and of the virtual machine match), `Astray`, `Linked`, `Laws`, `Rows` and `Small`. The
+//! functions that are laws do nothing; their contracts say what holds of the definitions.
 #![tactic(auto)]
 
 ghost use Rattle.jack_compiler.specs.Laws.{SimulationLaw};

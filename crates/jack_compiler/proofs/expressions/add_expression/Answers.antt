@@ -1,0 +1,14 @@
+use Rattle.std.proofs.Common.{◌≤◌, ◌++◌, length, sym, ap, ◌∙◌, arith}
+use Rattle.std.proofs.lemmas.List.{append-nil, drop_all}
+use Rattle.jack_compiler.specs.Surroundings.{the_around}
+use Rattle.jack_compiler.specs.Postfix.{parts_lines}
+use Rattle.jack_compiler.proofs.Postfix.{spelled_lines}
+use Rattle.jack_compiler.proofs.expressions.add_expression.Goals as goal
+
+pub returns : goal.returns
+returns c =
+    let over : length c.args.e.now.parts.items ≤ c.loop-part.part-index = omega (arith, ap length c.deref-part-items.ensures.value) in
+    sym (append-nil c.loop-part.lines)
+    ∙ ap (λ z. c.loop-part.lines ++ parts_lines (the_around c.args.around.now) c.args.statement z) (sym (drop_all c.loop-part.part-index c.args.e.now.parts.items over))
+    ∙ c.loop-part.invariant
+    ∙ ap (λ z. c.args.lines.now ++ z) (spelled_lines (the_around c.args.around.now) c.args.statement c.args.e.now)
