@@ -1,6 +1,6 @@
+pub mod Pushing
 pub mod Entries
 pub mod Checking
-pub mod Lists
 pub mod Rows
 pub mod Meanings
 pub mod Naming

@@ -9,7 +9,7 @@ use Rattle.jack_tree.specs.declared.tree.Expression.{Expression, Expression', ou
 use Rattle.jack_tree.specs.declared.tree.Statement as statements
 use Rattle.jack_names.specs.Scopes.{Scope}
 use Rattle.jack_names.specs.Sizes.{size, row_size, sizes, else_size}
-use Rattle.jack_names.specs.Meant.{binary_meant, term_meant, exp_meant, rest_meant, row_meant, operation_meant, grouped, arguments_meant, invoked, call_meant, statement_meant, block_meant, statements_meant, else_meant}
+use Rattle.jack_names.specs.Meant.{binary_meant, term_meant, exp_meant, rest_meant, row_meant, operation_meant, grouped, arguments_meant, filled, two, invoked, call_meant, statement_meant, block_meant, statements_meant, else_meant}
 use Rattle.jack_names.proofs.Rows.{OneCall, OneExpression, first_row, second_row}
 
 row_means : (s : Scope) (n : _) (row : Row_of-Expression n) → row_meant s row ≡ arguments_meant s (items-the_row-Expression n row)
@@ -45,6 +45,14 @@ grouped-push s a (p ∷ os) o = grouped-push s (operation_meant s a p) os o
 -- one operator and term more
 pub grouped_more : (s : Scope) (a : meaning.Expression) (os : List Operation) (i : ℕ) (o : Operation) → i < length os → o ≡ get_or os i o → grouped s a (take (i + 1) os) ≡ operation_meant s (grouped s a (take i os)) o
 grouped_more s a os i o h w = ap (grouped s a) (take_more os i o h ∙ ap (λ (x : Operation). take i os ++ x ∷ []) (sym w)) ∙ grouped-push s a (take i os) o
+
+-- one byte more
+filled-push : (append : ℕ) (e : meaning.Expression) (bs : List ℕ) (b : ℕ) → filled append e (bs ++ b ∷ []) ≡ meaning.Call append (two (filled append e bs) (meaning.Literal b))
+filled-push append e [] b = refl
+filled-push append e (x ∷ bs) b = filled-push append (meaning.Call append (two e (meaning.Literal x))) bs b
+
+pub filled_more : (append : ℕ) (e : meaning.Expression) (bs : List ℕ) (i : ℕ) → i < length bs → filled append e (take (i + 1) bs) ≡ meaning.Call append (two (filled append e (take i bs)) (meaning.Literal (get_or bs i 0)))
+filled_more append e bs i h = ap (filled append e) (take_more bs i 0 h) ∙ filled-push append e (take i bs) (get_or bs i 0)
 
 block_means : (s : Scope) (k : ℕ) (n : _) (row : statements.Row_of-Statement n) → block_meant s k row ≡ meaning.text_of (statements_meant s k (statements.items-the_row-Statement n row))
 block_means s k n statements.end_of-Statement = refl

@@ -7,6 +7,7 @@ pub mod Scopes
 pub mod Scoped
 pub mod Sizes
 pub mod Meant
+pub mod Pushed
 pub mod Twice
 pub mod Symbols
 pub mod Whole

@@ -22,3 +22,6 @@ pub use scope::{Callee, ClassScope, Declared, Names, Scope, Signature, Slot, Way
 pub use subroutine::subroutine_meant;
 pub use table::Table;
 pub use twice::check_declarations;
+
+#[cfg(test)]
+mod tests;

@@ -1,44 +1,48 @@
-//! The expressions that trees mean.
+//! The expressions that trees mean. Their parts are pushed onto one vector, in postfix order.
 
-ghost use Rattle.std.specs.Prelude.{◌≡◌, ◌++◌, ◌∷◌, [], map, IfOk};
-ghost use Rattle.jack_meaning.specs.Text.{NoMore, More, Binary, Call as CallOf};
-ghost use Rattle.jack_core.specs.Reading.{the_expression, the_arguments, the_sign, the_operator};
-ghost use Rattle.jack_names.specs.Scopes.{callee as callee_of};
-ghost use Rattle.jack_names.specs.Meant.{slot_meant, declared_meant, variable_meant, number_by, called_number, made_by, made_number, with_variable, with_object, invoked, one, two, filled, length_word, string_meant, constant_meant, sign_meant, binary_meant, term_meant, exp_meant, operation_meant, grouped, listed, arguments_meant, call_meant, value_meant};
+ghost use Rattle.std.specs.Prelude.{◌≡◌, ◌≤◌, ◌∷◌, [], length, map, IfOk, OnOk};
+ghost use Rattle.jack_meaning.specs.Text.{Expression as AnExpression, Call as CallOf, Literal as LiteralOf};
+ghost use Rattle.jack_core.specs.Heights.{takes};
+ghost use Rattle.jack_core.specs.Reading.{made, the_expression, the_sign};
+ghost use Rattle.jack_names.specs.Meant.{slot_meant, declared_meant, variable_meant, number_by, called_number, made_number, one, filled, length_word, string_meant, constant_meant, sign_meant, binary_meant, term_meant, exp_meant, operation_meant, grouped, call_meant, value_meant};
+ghost use Rattle.jack_names.specs.Pushed.{Adds, AddsAll, Turns, Joins, Puts, object_meant};
 ghost use Rattle.jack_names.specs.Scoped.{the_scope};
 
 use crate::kinds::callee;
 use crate::scope::{Callee, Declared, Scope, Signature, Slot};
 use jack_core::{
-    Arguments, Expression as CoreExpression, Operator as CoreOperator, Sign as CoreSign, Variable,
+    Expression as CoreExpression, Operator as CoreOperator, Part, Sign as CoreSign, Variable,
 };
 use jack_tree::{Call, Constant, Expression, Name, Operation, Operator, Sign, Term};
 use std::alloc::{AllocError, Global};
 
-fn slot_meant(slot: Slot) -> CoreExpression
-    ensures { the_expression result ≡ slot_meant slot }
+fn slot_part(slot: Slot) -> Part
+    ensures takes { takes result ≡ 0 }
+    ensures made { made result [] ≡ slot_meant slot }
 {
     match slot {
-        Slot::Argument(k) => CoreExpression::Name(Variable::Argument(k)),
-        Slot::Local(k) => CoreExpression::Name(Variable::Local(k)),
-        Slot::Field(k) => CoreExpression::Field(k),
-        Slot::Static(k) => CoreExpression::Name(Variable::Static(k)),
+        Slot::Argument(k) => Part::Name(Variable::Argument(k)),
+        Slot::Local(k) => Part::Name(Variable::Local(k)),
+        Slot::Field(k) => Part::Field(k),
+        Slot::Static(k) => Part::Name(Variable::Static(k)),
     }
 }
 
-fn declared_meant(variable: Option<Declared>) -> CoreExpression
-    ensures { the_expression result ≡ declared_meant variable }
+fn declared_part(variable: Option<Declared>) -> Part
+    ensures takes { takes result ≡ 0 }
+    ensures made { made result [] ≡ declared_meant variable }
 {
     match variable {
-        None => CoreExpression::Literal(0),
-        Some(variable) => slot_meant(variable.slot),
+        None => Part::Literal(0),
+        Some(variable) => slot_part(variable.slot),
     }
 }
 
-pub(crate) fn variable_meant<'a>(scope: &Scope<'a, '_>, name: &'a Name) -> CoreExpression
-    ensures { the_expression result ≡ variable_meant (the_scope scope.now) name.now }
+fn variable_part<'a>(scope: &Scope<'a, '_>, name: &'a Name) -> Part
+    ensures takes { takes result ≡ 0 }
+    ensures made { made result [] ≡ variable_meant (the_scope scope.now) name.now }
 {
-    declared_meant(scope.variable(name.text.as_slice()))
+    declared_part(scope.variable(name.text.as_slice()))
 }
 
 pub(crate) fn number_by(signature: Option<Signature>) -> u32
@@ -69,90 +73,52 @@ pub(crate) fn made_number<'a>(scope: &Scope<'a, '_>, class: &'a [u8], name: &'a 
     }
 }
 
-fn more(alloc: Global, first: CoreExpression, rest: Arguments) -> Result<Arguments, AllocError>
-    ensures { IfOk result (λ r. the_arguments r ≡ More (the_expression first) (the_arguments rest)) }
+// A part behind those of its operands.
+fn push_part(parts: &mut Vec<Part>, part: Part) -> Result<(), AllocError>
+    ensures { OnOk result (Puts part parts.old.items parts.new.items) }
 {
-    Ok(Arguments::More(Box::new(alloc, first)?, Box::new(alloc, rest)?))
+    parts.push(part)?;
+    Ok(())
 }
 
-fn with_object<'a>(
-    alloc: Global,
+// A part that has no operands.
+fn push_value(parts: &mut Vec<Part>, part: Part) -> Result<(), AllocError>
+    requires { takes part ≡ 0 }
+    ensures { OnOk result (Adds (made part []) parts.old.items parts.new.items) }
+{
+    push_part(parts, part)
+}
+
+// The object of a call, where there is one, and how many that makes.
+fn push_object<'a>(
+    parts: &mut Vec<Part>,
     scope: &Scope<'a, '_>,
     object: &'a Option<Name>,
-    arguments: Arguments,
-) -> Result<Arguments, AllocError>
-    ensures { IfOk result (λ r. the_arguments r ≡ with_object (the_scope scope.now) object.now (the_arguments arguments)) }
+) -> Result<usize, AllocError>
+    ensures few { IfOk result (λ n. n ≤ 1) }
+    ensures count { IfOk result (λ n. n ≡ length (object_meant (the_scope scope.now) object.now)) }
+    ensures parts { OnOk result (AddsAll (object_meant (the_scope scope.now) object.now) parts.old.items parts.new.items) }
 {
-    match object {
-        None => more(alloc, CoreExpression::This, arguments),
+    let part = match object {
+        None => Part::This,
         Some(name) => match scope.variable(name.text.as_slice()) {
-            None => Ok(arguments),
-            Some(variable) => more(alloc, slot_meant(variable.slot), arguments),
+            None => return Ok(0),
+            Some(variable) => slot_part(variable.slot),
         },
-    }
-}
-
-fn call(alloc: Global, number: u32, arguments: Arguments) -> Result<CoreExpression, AllocError>
-    ensures { IfOk result (λ r. the_expression r ≡ CallOf number (the_arguments arguments)) }
-{
-    Ok(CoreExpression::Call(number, Box::new(alloc, arguments)?))
-}
-
-/// A call with one argument.
-pub(crate) fn call_one(
-    alloc: Global,
-    number: u32,
-    e: CoreExpression,
-) -> Result<CoreExpression, AllocError>
-    ensures { IfOk result (λ r. the_expression r ≡ CallOf number (one (the_expression e))) }
-{
-    let arguments = more(alloc, e, Arguments::NoMore)?;
-    call(alloc, number, arguments)
-}
-
-fn call_two(
-    alloc: Global,
-    number: u32,
-    a: CoreExpression,
-    b: CoreExpression,
-) -> Result<CoreExpression, AllocError>
-    ensures { IfOk result (λ r. the_expression r ≡ CallOf number (two (the_expression a) (the_expression b))) }
-{
-    let last = more(alloc, b, Arguments::NoMore)?;
-    let arguments = more(alloc, a, last)?;
-    call(alloc, number, arguments)
-}
-
-fn invoked<'a>(
-    alloc: Global,
-    scope: &Scope<'a, '_>,
-    object: &'a Option<Name>,
-    name: &'a Name,
-    arguments: Arguments,
-) -> Result<CoreExpression, AllocError>
-    ensures { IfOk result (λ r. the_expression r ≡ invoked (the_scope scope.now) object.now name.now (the_arguments arguments)) }
-{
-    let number = called_number(scope, name.text.as_slice(), callee(scope, object));
-    let arguments = with_object(alloc, scope, object, arguments)?;
-    call(alloc, number, arguments)
+    };
+    push_value(parts, part)?;
+    Ok(1)
 }
 
 // A string is filled byte by byte.
-fn filled(
-    alloc: Global,
-    append: u32,
-    made: CoreExpression,
-    text: &[u8],
-) -> Result<CoreExpression, AllocError>
-    ensures { IfOk result (λ r. the_expression r ≡ filled append (the_expression made) text.now) }
+fn push_bytes(parts: &mut Vec<Part>, append: u32, text: &[u8]) -> Result<(), AllocError>
+    ensures { OnOk result (Turns (λ e. filled append e text.now) parts.old.items parts.new.items) }
 {
-    let mut e = made;
-    let mut rest = text;
-    while let Some((byte, others)) = rest.split_first() {
-        e = call_two(alloc, append, e, CoreExpression::Literal(*byte as u16))?;
-        rest = others;
+    for byte in text {
+        push_value(parts, Part::Literal(*byte as u16))?;
+        push_part(parts, Part::Call(append, 2))?;
     }
-    Ok(e)
+    Ok(())
 }
 
 fn length_word(text: &[u8]) -> u16
@@ -161,30 +127,30 @@ fn length_word(text: &[u8]) -> u16
     (text.len() % 65536) as u16
 }
 
-fn string_meant(alloc: Global, scope: &Scope, text: &[u8]) -> Result<CoreExpression, AllocError>
-    ensures { IfOk result (λ r. the_expression r ≡ string_meant (the_scope scope.now) text.now) }
+fn push_string(parts: &mut Vec<Part>, scope: &Scope, text: &[u8]) -> Result<(), AllocError>
+    ensures { OnOk result (Adds (string_meant (the_scope scope.now) text.now) parts.old.items parts.new.items) }
 {
     let class = b"String".as_slice();
-    let length = CoreExpression::Literal(length_word(text));
     let new = made_number(scope, class, b"new".as_slice());
-    let made = call_one(alloc, new, length)?;
     let append = made_number(scope, class, b"appendChar".as_slice());
-    filled(alloc, append, made, text)
+    push_value(parts, Part::Literal(length_word(text)))?;
+    push_part(parts, Part::Call(new, 1))?;
+    push_bytes(parts, append, text)
 }
 
-fn constant_meant(
-    alloc: Global,
+fn push_constant(
+    parts: &mut Vec<Part>,
     scope: &Scope,
     constant: &Constant,
-) -> Result<CoreExpression, AllocError>
-    ensures { IfOk result (λ r. the_expression r ≡ constant_meant (the_scope scope.now) constant.now) }
+) -> Result<(), AllocError>
+    ensures { OnOk result (Adds (constant_meant (the_scope scope.now) constant.now) parts.old.items parts.new.items) }
 {
     match constant {
-        Constant::Integer(n) => Ok(CoreExpression::Literal(*n)),
-        Constant::Text(text) => string_meant(alloc, scope, text.text.as_slice()),
-        Constant::True => Ok(CoreExpression::Literal(65535)),
-        Constant::False | Constant::Null => Ok(CoreExpression::Literal(0)),
-        Constant::This(_) => Ok(CoreExpression::This),
+        Constant::Integer(n) => push_value(parts, Part::Literal(*n)),
+        Constant::Text(text) => push_string(parts, scope, text.text.as_slice()),
+        Constant::True => push_value(parts, Part::Literal(65535)),
+        Constant::False | Constant::Null => push_value(parts, Part::Literal(0)),
+        Constant::This(_) => push_value(parts, Part::This),
     }
 }
 
@@ -197,112 +163,136 @@ fn sign_meant(sign: Sign) -> CoreSign
     }
 }
 
-fn operated(
-    alloc: Global,
-    operator: CoreOperator,
-    a: CoreExpression,
-    b: CoreExpression,
-) -> Result<CoreExpression, AllocError>
-    ensures { IfOk result (λ r. the_expression r ≡ Binary (the_operator operator) (the_expression a) (the_expression b)) }
-{
-    Ok(CoreExpression::Binary(operator, Box::new(alloc, a)?, Box::new(alloc, b)?))
-}
-
-fn binary_meant(
-    alloc: Global,
-    scope: &Scope,
-    operator: Operator,
-    a: CoreExpression,
-    b: CoreExpression,
-) -> Result<CoreExpression, AllocError>
-    ensures { IfOk result (λ r. the_expression r ≡ binary_meant (the_scope scope.now) operator (the_expression a) (the_expression b)) }
+fn operator_part(scope: &Scope, operator: Operator) -> Part
+    ensures takes { takes result ≡ 2 }
+    ensures made { (a b : AnExpression) → made result (a ∷ b ∷ []) ≡ binary_meant (the_scope scope.now) operator a b }
 {
     match operator {
-        Operator::Plus => operated(alloc, CoreOperator::Plus, a, b),
-        Operator::Minus => operated(alloc, CoreOperator::Subtract, a, b),
+        Operator::Plus => Part::Binary(CoreOperator::Plus),
+        Operator::Minus => Part::Binary(CoreOperator::Subtract),
         Operator::Times => {
-            let number = made_number(scope, b"Math".as_slice(), b"multiply".as_slice());
-            call_two(alloc, number, a, b)
+            Part::Call(
+                made_number(scope, b"Math".as_slice(), b"multiply".as_slice()),
+                2,
+            )
         }
         Operator::Divide => {
-            let number = made_number(scope, b"Math".as_slice(), b"divide".as_slice());
-            call_two(alloc, number, a, b)
+            Part::Call(
+                made_number(scope, b"Math".as_slice(), b"divide".as_slice()),
+                2,
+            )
         }
-        Operator::And => operated(alloc, CoreOperator::And, a, b),
-        Operator::Or => operated(alloc, CoreOperator::Or, a, b),
-        Operator::Less => operated(alloc, CoreOperator::Less, a, b),
-        Operator::Greater => operated(alloc, CoreOperator::Greater, a, b),
-        Operator::Equal => operated(alloc, CoreOperator::Equal, a, b),
+        Operator::And => Part::Binary(CoreOperator::And),
+        Operator::Or => Part::Binary(CoreOperator::Or),
+        Operator::Less => Part::Binary(CoreOperator::Less),
+        Operator::Greater => Part::Binary(CoreOperator::Greater),
+        Operator::Equal => Part::Binary(CoreOperator::Equal),
     }
 }
 
-// Arguments in order.
-fn listed(alloc: Global, es: Vec<CoreExpression>) -> Result<Arguments, AllocError>
-    ensures { IfOk result (λ r. the_arguments r ≡ listed (map the_expression es.items) NoMore) }
+// An operator behind the two values that it stands between.
+fn push_operator(parts: &mut Vec<Part>, scope: &Scope, operator: Operator) -> Result<(), AllocError>
+    ensures { OnOk result (Joins (binary_meant (the_scope scope.now) operator) parts.old.items parts.new.items) }
 {
-    let mut rest = es;
-    let mut arguments = Arguments::NoMore;
-    while let Some(e) = rest.pop() {
-        arguments = more(alloc, e, arguments)?;
-    }
-    Ok(arguments)
+    push_part(parts, operator_part(scope, operator))
 }
 
 #[cycle(meant)]
-fn term_meant<'a>(
-    alloc: Global,
+fn push_term<'a>(
+    parts: &mut Vec<Part>,
     scope: &Scope<'a, '_>,
     term: &'a Term,
-) -> Result<CoreExpression, AllocError>
-    ensures { IfOk result (λ r. the_expression r ≡ term_meant (the_scope scope.now) term.now) }
+) -> Result<(), AllocError>
+    ensures { OnOk result (Adds (term_meant (the_scope scope.now) term.now) parts.old.items parts.new.items) }
 {
     match term {
-        Term::Constant(constant) => constant_meant(alloc, scope, constant),
-        Term::Variable(name) => Ok(variable_meant(scope, name)),
+        Term::Constant(constant) => push_constant(parts, scope, constant),
+        Term::Variable(name) => push_value(parts, variable_part(scope, name)),
         Term::Element(name, index) => {
-            let index = expression_meant(alloc, scope, index)?;
-            let base = variable_meant(scope, name);
-            Ok(CoreExpression::Load(Box::new(alloc, base)?, Box::new(alloc, index)?))
+            push_value(parts, variable_part(scope, name))?;
+            push_expression(parts, scope, index)?;
+            push_part(parts, Part::Load)
         }
-        Term::Call(call) => call_meant(alloc, scope, call),
-        Term::Group(inside) => expression_meant(alloc, scope, inside),
+        Term::Call(call) => push_call(parts, scope, call),
+        Term::Group(inside) => push_expression(parts, scope, inside),
         Term::Unary(sign, term) => {
-            let value = term_meant(alloc, scope, term)?;
-            Ok(CoreExpression::Unary(sign_meant(*sign), Box::new(alloc, value)?))
+            push_term(parts, scope, term)?;
+            push_part(parts, Part::Unary(sign_meant(*sign)))
         }
     }
 }
 
 #[cycle(meant)]
-pub(crate) fn call_meant<'a>(
-    alloc: Global,
+fn push_call<'a>(
+    parts: &mut Vec<Part>,
     scope: &Scope<'a, '_>,
     call: &'a Call,
-) -> Result<CoreExpression, AllocError>
-    ensures { IfOk result (λ r. the_expression r ≡ call_meant (the_scope scope.now) call.now) }
+) -> Result<(), AllocError>
+    ensures { OnOk result (Adds (call_meant (the_scope scope.now) call.now) parts.old.items parts.new.items) }
 {
-    let arguments = arguments_meant(alloc, scope, &call.arguments)?;
-    let arguments = listed(alloc, arguments)?;
-    invoked(alloc, scope, &call.object, &call.name, arguments)
+    let objects = push_object(parts, scope, &call.object)?;
+    push_arguments(parts, scope, &call.arguments)?;
+    let number = called_number(
+        scope,
+        call.name.text.as_slice(),
+        callee(scope, &call.object),
+    );
+    push_part(parts, Part::Call(number, objects + call.arguments.len()))
 }
 
 #[cycle(meant)]
-fn arguments_meant<'a>(
-    alloc: Global,
+fn push_arguments<'a>(
+    parts: &mut Vec<Part>,
     scope: &Scope<'a, '_>,
     arguments: &'a [Expression],
-) -> Result<Vec<CoreExpression>, AllocError>
-    ensures { IfOk result (λ r. map the_expression r.items ≡ map (exp_meant (the_scope scope.now)) arguments.now) }
+) -> Result<(), AllocError>
+    ensures { OnOk result (AddsAll (map (exp_meant (the_scope scope.now)) arguments.now) parts.old.items parts.new.items) }
 {
-    let mut values = Vec::new(alloc);
     for e in arguments {
-        let value = expression_meant(alloc, scope, e)?;
-        values.push(value)?;
+        push_expression(parts, scope, e)?;
     }
-    Ok(values)
+    Ok(())
 }
 
 #[cycle(meant)]
+fn push_expression<'a>(
+    parts: &mut Vec<Part>,
+    scope: &Scope<'a, '_>,
+    e: &'a Expression,
+) -> Result<(), AllocError>
+    ensures { OnOk result (Adds (exp_meant (the_scope scope.now) e.now) parts.old.items parts.new.items) }
+{
+    push_term(parts, scope, &e.first)?;
+    push_operations(parts, scope, &e.rest)
+}
+
+// Operators bind from left to right.
+#[cycle(meant)]
+fn push_operations<'a>(
+    parts: &mut Vec<Part>,
+    scope: &Scope<'a, '_>,
+    operations: &'a [Operation],
+) -> Result<(), AllocError>
+    ensures { OnOk result (Turns (λ e. grouped (the_scope scope.now) e operations.now) parts.old.items parts.new.items) }
+{
+    for operation in operations {
+        push_operation(parts, scope, operation)?;
+    }
+    Ok(())
+}
+
+#[cycle(meant)]
+fn push_operation<'a>(
+    parts: &mut Vec<Part>,
+    scope: &Scope<'a, '_>,
+    operation: &'a Operation,
+) -> Result<(), AllocError>
+    ensures { OnOk result (Turns (λ e. operation_meant (the_scope scope.now) e operation.now) parts.old.items parts.new.items) }
+{
+    push_term(parts, scope, &operation.term)?;
+    push_operator(parts, scope, operation.operator)
+}
+
 pub(crate) fn expression_meant<'a>(
     alloc: Global,
     scope: &Scope<'a, '_>,
@@ -310,38 +300,56 @@ pub(crate) fn expression_meant<'a>(
 ) -> Result<CoreExpression, AllocError>
     ensures { IfOk result (λ r. the_expression r ≡ exp_meant (the_scope scope.now) e.now) }
 {
-    let first = term_meant(alloc, scope, &e.first)?;
-    grouped(alloc, scope, &e.rest, first)
+    let mut parts = Vec::new(alloc);
+    push_expression(&mut parts, scope, e)?;
+    Ok(CoreExpression { parts })
 }
 
-// Operators bind from left to right.
-#[cycle(meant)]
-fn grouped<'a>(
+pub(crate) fn call_meant<'a>(
     alloc: Global,
     scope: &Scope<'a, '_>,
-    operations: &'a [Operation],
-    first: CoreExpression,
+    call: &'a Call,
 ) -> Result<CoreExpression, AllocError>
-    ensures { IfOk result (λ r. the_expression r ≡ grouped (the_scope scope.now) (the_expression first) operations.now) }
+    ensures { IfOk result (λ r. the_expression r ≡ call_meant (the_scope scope.now) call.now) }
 {
-    let mut value = first;
-    for operation in operations {
-        value = operation_meant(alloc, scope, operation, value)?;
-    }
-    Ok(value)
+    let mut parts = Vec::new(alloc);
+    push_call(&mut parts, scope, call)?;
+    Ok(CoreExpression { parts })
 }
 
-#[cycle(meant)]
-fn operation_meant<'a>(
+// An expression of one part.
+fn single(alloc: Global, part: Part) -> Result<CoreExpression, AllocError>
+    requires { takes part ≡ 0 }
+    ensures { IfOk result (λ r. the_expression r ≡ made part []) }
+{
+    let mut parts = Vec::new(alloc);
+    push_value(&mut parts, part)?;
+    Ok(CoreExpression { parts })
+}
+
+pub(crate) fn literal(alloc: Global, n: u16) -> Result<CoreExpression, AllocError>
+    ensures { IfOk result (λ r. the_expression r ≡ LiteralOf n) }
+{
+    single(alloc, Part::Literal(n))
+}
+
+pub(crate) fn variable_meant<'a>(
     alloc: Global,
     scope: &Scope<'a, '_>,
-    operation: &'a Operation,
-    left: CoreExpression,
+    name: &'a Name,
 ) -> Result<CoreExpression, AllocError>
-    ensures { IfOk result (λ r. the_expression r ≡ operation_meant (the_scope scope.now) (the_expression left) operation.now) }
+    ensures { IfOk result (λ r. the_expression r ≡ variable_meant (the_scope scope.now) name.now) }
 {
-    let right = term_meant(alloc, scope, &operation.term)?;
-    binary_meant(alloc, scope, operation.operator, left, right)
+    single(alloc, variable_part(scope, name))
+}
+
+/// A call with one argument.
+pub(crate) fn call_one(number: u32, argument: CoreExpression) -> Result<CoreExpression, AllocError>
+    ensures { IfOk result (λ r. the_expression r ≡ CallOf number (one (the_expression argument))) }
+{
+    let mut parts = argument.parts;
+    push_part(&mut parts, Part::Call(number, 1))?;
+    Ok(CoreExpression { parts })
 }
 
 /// The value of a `return`.
@@ -353,7 +361,7 @@ pub(crate) fn value_meant<'a>(
     ensures { IfOk result (λ r. the_expression r ≡ value_meant (the_scope scope.now) value.now) }
 {
     match value {
-        None => Ok(CoreExpression::Literal(0)),
+        None => literal(alloc, 0),
         Some(e) => expression_meant(alloc, scope, e),
     }
 }

@@ -8,11 +8,9 @@ ghost use Rattle.jack_names.specs.Whole.{begun, is_return, returns, body_meant, 
 ghost use Rattle.jack_names.specs.Scoped.{the_scope};
 
 use crate::bodies::statements_meant;
-use crate::meant::{call_one, made_number};
+use crate::meant::{call_one, literal, made_number};
 use crate::scope::Scope;
-use jack_core::{
-    Expression as CoreExpression, Kind, Statement as CoreStatement, Subroutine as CoreSubroutine,
-};
+use jack_core::{Kind, Statement as CoreStatement, Subroutine as CoreSubroutine};
 use jack_tree::{Form, Locals, Statement, Subroutine};
 use std::alloc::{AllocError, Global};
 
@@ -28,8 +26,8 @@ fn begun(
     match form {
         Form::Constructor => {
             let number = made_number(scope, b"Memory".as_slice(), b"alloc".as_slice());
-            let words = CoreExpression::Literal(fields.max(1));
-            let value = call_one(alloc, number, words)?;
+            let words = literal(alloc, fields.max(1))?;
+            let value = call_one(number, words)?;
             let taken = CoreStatement::LetThis { number: 0, value };
             Ok(vec![in alloc; taken]?)
         }
@@ -68,7 +66,7 @@ fn body_meant<'a>(
     let (mut texts, number) = statements_meant(alloc, scope, 1, &s.statements)?;
     body.append(&mut texts)?;
     if !returns(&s.statements) {
-        let value = CoreExpression::Literal(0);
+        let value = literal(alloc, 0)?;
         body.push(CoreStatement::Return { number, value })?;
     }
     Ok(body)

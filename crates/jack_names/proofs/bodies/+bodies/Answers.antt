@@ -34,7 +34,7 @@ statement_meant-returns-in_ok-fails-in-If-clause-text t c =
     let e = c.in-If.condition in
     let a = c.in-If.holds in
     let middle : c.in_ok-holds-in-If.middle ≡ n + 1 + sizes a.items = c.in_ok-holds-in-If.ensures.next ∙ ap (λ ss. n + 1 + sizes ss) c.deref.ensures.value in
-    if_reads _ _ _ _
+    if_reads n c.in_ok-condition-in-If.condition c.in_ok-holds-in-If.holds c.in_ok-fails-in-If.fails
     ∙ ap (λ x. If n x (the_block c.in_ok-holds-in-If.holds.items) (the_block c.in_ok-fails-in-If.fails.items)) c.in_ok-condition-in-If.ensures
     ∙ ap (λ x. If n (exp_meant s e) (text_of x) (the_block c.in_ok-fails-in-If.fails.items)) (c.in_ok-holds-in-If.ensures.text ∙ ap (statements_meant s (n + 1)) c.deref.ensures.value)
     ∙ ap (λ x. If n (exp_meant s e) (text_of (statements_meant s (n + 1) a.items)) x) (c.in_ok-fails-in-If.ensures.text ∙ ap (λ (k : ℕ). else_meant s k c.in-If.fails) middle)
@@ -51,7 +51,7 @@ statement_meant-returns-in_ok-body-in-While-clause-text t c =
     let n = c.args.number in
     let s = the_scope c.args.scope.now in
     let e = c.in-While.condition in
-    while_reads _ _ _
+    while_reads n c.in_ok-condition-in-While.condition c.in_ok-body-in-While.body
     ∙ ap (λ x. While n x (the_block c.in_ok-body-in-While.body.items)) c.in_ok-condition-in-While.ensures
     ∙ ap (λ x. While n (exp_meant s e) (text_of x)) (c.in_ok-body-in-While.ensures.text ∙ ap (statements_meant s (n + 1)) c.deref-in-While.ensures.value)
     ∙ sym (while_means s n c.in-While.field-0 e c.in-While.body) ∙ ap (statement_meant s n) (sym c.in-While.is)

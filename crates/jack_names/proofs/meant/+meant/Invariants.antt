@@ -1,11 +1,12 @@
-use Rattle.std.proofs.Common.{◌≡◌, map, take}
-use Rattle.jack_core.specs.Reading.{the_expression}
+-- The arguments so far are added, and the last expression is continued by the operations so far.
+use Rattle.std.proofs.Common.{map, take}
 use Rattle.jack_names.specs.Meant.{exp_meant, grouped}
 use Rattle.jack_names.specs.Scoped.{the_scope}
+use Rattle.jack_names.specs.Pushed.{AddsAll, Turns}
 use Rattle.jack_names.proofs.meant.+meant.Given as goal
 
-abbrev pub invariant-arguments_meant-loop-e : goal.invariant-arguments_meant-loop-e
-invariant-arguments_meant-loop-e l = map the_expression l.values.items ≡ map (exp_meant (the_scope l.scope)) (take l.e-index l.arguments)
+abbrev pub invariant-push_arguments-loop-e : goal.invariant-push_arguments-loop-e
+invariant-push_arguments-loop-e l = AddsAll (map (exp_meant (the_scope l.scope)) (take l.e-index l.arguments)) l.fn.parts.items l.parts.items
 
-abbrev pub invariant-grouped-loop-operation : goal.invariant-grouped-loop-operation
-invariant-grouped-loop-operation l = the_expression l.value ≡ grouped (the_scope l.scope) (the_expression l.fn.first) (take l.operation-index l.operations)
+abbrev pub invariant-push_operations-loop-operation : goal.invariant-push_operations-loop-operation
+invariant-push_operations-loop-operation l = Turns (λ e. grouped (the_scope l.scope) e (take l.operation-index l.operations)) l.fn.parts.items l.parts.items

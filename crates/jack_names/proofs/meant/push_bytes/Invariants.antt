@@ -1,0 +1,8 @@
+-- The last expression is filled with the bytes so far.
+use Rattle.std.proofs.Common.{take}
+use Rattle.jack_names.specs.Meant.{filled}
+use Rattle.jack_names.specs.Pushed.{Turns}
+use Rattle.jack_names.proofs.meant.push_bytes.Given as goal
+
+abbrev pub invariant-loop-byte : goal.invariant-loop-byte
+invariant-loop-byte l = Turns (λ e. filled l.append e (take l.byte-index l.text)) l.fn.parts.items l.parts.items
