@@ -10,17 +10,20 @@ use clap::ArgMatches;
 use clap::error::ErrorKind;
 use machine_io::Show;
 use std::alloc::Global;
+use thiserror::Error;
 
 const MOST_CYCLES: u32 = 1_000_000_000;
 
 const MOST_ADDRESS: u32 = 32_767;
 
 /// Why words give no request.
-#[derive(Clone, Copy, Debug, PartialEq, Eq)]
+#[derive(Clone, Copy, Debug, PartialEq, Eq, Error)]
 pub enum LineError {
     /// The words are no line.
+    #[error("usage: nand COMMAND ARGUMENTS")]
     Usage,
     /// There was no memory to read them.
+    #[error("want of memory")]
     Memory,
 }
 

@@ -412,3 +412,10 @@ fn refuses_other_runs(rt: HostRuntime) -> Result<(), Fail> {
     assert_eq!(rt; first_accepted(rt.alloc(), &texts)?, None);
     Ok(())
 }
+
+#[test]
+fn error_text(rt: HostRuntime) -> Result<(), Fail> {
+    let text = format!(in rt.alloc(); "{}", LineError::Usage)?;
+    assert_eq!(rt; text.as_str(), "usage: nand COMMAND ARGUMENTS");
+    Ok(())
+}

@@ -5,20 +5,27 @@ ghost use Rattle.hack_asm.specs.declared.fault.AsmFault.TheVariants.{Memory};
 use grammar::{Fault, ReadError};
 use scan_text::Place;
 use std::alloc::{AllocError, AllocFailed};
+use thiserror::Error;
 
 /// Why a text is not assembled.
-#[derive(Debug, Drop)]
+#[derive(Debug, Drop, Error)]
 pub enum AsmFault {
     /// The grammar's first rule stops here, or no token begins here.
+    #[error("{line}:{column}: Grammar", line = .0.line, column = .0.column)]
     Grammar(Place),
     /// A number past its limit: one over 32,767, a use of a label that stands at 32,768, a file over 1,048,576 bytes.
+    #[error("{line}:{column}: Range {1}", line = .0.line, column = .0.column)]
     Range(Place, u32),
     /// A label that is predefined or stands twice, with its name.
+    #[error("{line}:{column}: LabelTwice {name}", line = .1.line, column = .1.column, name = .0.escape_ascii())]
     LabelTwice(Vec<u8>, Place),
     /// The number of words, where that is over 32,768.
+    #[error("TooLarge {0}")]
     TooLarge(usize),
     /// The number of variables, where that is over 16,368.
+    #[error("TooManyVariables {0}")]
     TooManyVariables(usize),
+    #[error("want of memory")]
     Memory,
 }
 

@@ -1,6 +1,7 @@
 ghost use Rattle.std.specs.Prelude.{◌≡◌};
 
 use super::*;
+use grammar::{Fault, ReadError};
 use hack_isa::{Instr, encode};
 use itoa::Buffer;
 use outer_world::{MemorySink, Put};
@@ -261,5 +262,22 @@ fn written_assembly(rt: HostRuntime) -> Result<(), Fail> {
         encoded.push(encode(instr))?;
     }
     assert_eq!(rt; words.as_slice(), encoded.as_slice());
+    Ok(())
+}
+
+// `(X)` stands twice, and so the fault is at the second.
+#[test]
+fn fault_texts(rt: HostRuntime) -> Result<(), Fail> {
+    let alloc = rt.alloc();
+    let Err(twice) = assemble(alloc, b"(X)\n(X)\n") else {
+        return Err(Fail::from("a program"));
+    };
+    let text = format!(in alloc; "{twice}")?;
+    assert_eq!(rt; text.as_str(), "2:2: LabelTwice X");
+    let text = format!(in alloc; "{}", AsmFault::TooLarge(32_769))?;
+    assert_eq!(rt; text.as_str(), "TooLarge 32769");
+    let fault = Fault::Range(Place { line: 1, column: 2 }, 32_768);
+    let text = format!(in alloc; "{}", ReadError::Fault(fault))?;
+    assert_eq!(rt; text.as_str(), "1:2: Range 32768");
     Ok(())
 }

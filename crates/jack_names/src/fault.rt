@@ -8,6 +8,7 @@ ghost use Rattle.jack_names.specs.declared.fault.NameError.TheVariants.{Memory};
 use outer_world::Name as FileName;
 use scan_text::Place;
 use std::alloc::{AllocError, Global};
+use thiserror::Error;
 
 /// What is wrong with a name.
 #[derive(Clone, Copy, Debug, PartialEq, Eq)]
@@ -44,7 +45,8 @@ pub enum NameKind {
 
 /// A name with which something is wrong, with the file in which it stands and its place there. A shipped file is one
 /// of the operating system.
-#[derive(Debug, Drop)]
+#[derive(Debug, Drop, Error)]
+#[error("{folder}{file}:{line}:{column}: {kind:?} {name}", folder = if *.shipped {"os/"} else {""}, file = .file.as_str(), line = .place.line, column = .place.column, name = .name.escape_ascii())]
 pub struct NameFault {
     pub kind: NameKind,
     pub shipped: bool,
@@ -54,9 +56,11 @@ pub struct NameFault {
 }
 
 /// Why names were not resolved: memory ran out, or a name has a fault.
-#[derive(Debug, Drop)]
+#[derive(Debug, Drop, Error)]
 pub enum NameError {
+    #[error("want of memory")]
     Memory,
+    #[error(transparent)]
     Fault(NameFault),
 }
 

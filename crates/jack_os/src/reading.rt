@@ -9,6 +9,7 @@ use jack_parser::parse_class;
 use jack_tree::Class;
 use outer_world::Name;
 use std::alloc::{AllocError, AllocFailed, Global};
+use thiserror::Error;
 
 // A text of the operating system, with the name of its file.
 struct Source {
@@ -29,16 +30,19 @@ fn sources() -> &'static [Source]
 }
 
 /// A text of the operating system with a fault: the name of its file, and the fault.
-#[derive(Debug, Drop)]
+#[derive(Debug, Drop, Error)]
+#[error("os/{file}:{fault}", file = .file.as_str())]
 pub struct SystemFault {
     pub file: Name,
     pub fault: Fault,
 }
 
 /// Why the operating system has no classes: memory ran out, or a text has a fault.
-#[derive(Debug, Drop)]
+#[derive(Debug, Drop, Error)]
 pub enum SystemError {
+    #[error("want of memory")]
     Memory,
+    #[error(transparent)]
     Fault(SystemFault),
 }
 

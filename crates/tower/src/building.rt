@@ -12,15 +12,19 @@ ghost use Rattle.tower.specs.Built.{IsUnbuilt, map_for, run_program};
 use crate::hack_level::HackLevel;
 use hack_isa::{Instr, encode};
 use std::alloc::{AllocError, Global};
+use thiserror::Error;
 use vm_link::Linked;
 use vm_translator::{CodeFault, Coded, translate};
 
 /// Why a program has no computer: memory ran out, its files have so many static words, which are more than 240, or its image
 /// would have so many words, which are more than 32,768.
-#[derive(Debug, Drop)]
+#[derive(Debug, Drop, Error)]
 pub enum BuildError {
+    #[error("want of memory")]
     Memory,
+    #[error("TooManyStatics {0}")]
     TooManyStatics(u64),
+    #[error("TooLarge {0}")]
     TooLarge(u64),
 }
 

@@ -14,6 +14,7 @@ use jack_os::{SystemError, SystemFault, classes};
 use jack_tree::Class;
 use outer_world::Name;
 use std::alloc::{AllocError, Global};
+use thiserror::Error;
 
 /// A program, and the names of its subroutines in order of their numbers.
 #[derive(Drop)]
@@ -24,10 +25,13 @@ pub struct Program {
 
 /// Why the classes of a folder give no program: memory ran out, a text of the operating system has a fault, or a name
 /// has one.
-#[derive(Debug, Drop)]
+#[derive(Debug, Drop, Error)]
 pub enum ProgramError {
+    #[error("want of memory")]
     Memory,
+    #[error(transparent)]
     System(SystemFault),
+    #[error(transparent)]
     Name(NameFault),
 }
 

@@ -49,6 +49,8 @@ fn unknown_variable(rt: HostRuntime) -> Result<(), Fail> {
                         column: 41
                     }
             );
+            let text = format!(in rt.alloc(); "{}", ProgramError::Name(fault))?;
+            assert_eq!(rt; text.as_str(), "Main.jack:1:41: UnknownVariable x");
             Ok(())
         }
         _ => Err(Fail::from("a name has a fault")),

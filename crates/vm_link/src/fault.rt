@@ -4,22 +4,30 @@ ghost use Rattle.vm_link.specs.declared.fault.LinkFault.TheVariants.{Memory};
 
 use outer_world::Name;
 use std::alloc::{AllocError, AllocFailed};
+use thiserror::Error;
 
 /// Why a program is not linked.
-#[derive(Drop)]
+#[derive(Debug, Drop, Error)]
 pub enum LinkFault {
     /// A function that is kept calls this name, and no function has it.
+    #[error("NoFunction {name}", name = .0.as_str())]
     NoFunction(Name),
     /// Two functions have this name.
+    #[error("TwiceDefined {name}", name = .0.as_str())]
     TwiceDefined(Name),
     /// A function goes to this label, and does not have it.
+    #[error("NoLabel {name}", name = .0.as_str())]
     NoLabel(Name),
     /// A function has this label twice.
+    #[error("LabelTwice {name}", name = .0.as_str())]
     LabelTwice(Name),
     /// There is no function Sys.init.
+    #[error("NoSysInit")]
     NoSysInit,
     /// The files have so many static words, which are more than 240.
+    #[error("TooManyStatics {0}")]
     TooManyStatics(u64),
+    #[error("want of memory")]
     Memory,
 }
 

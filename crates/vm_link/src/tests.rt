@@ -149,3 +149,13 @@ fn dropped_function(rt: HostRuntime) -> Result<(), Fail> {
     assert_eq!(rt; linked.start, Some(0));
     Ok(())
 }
+
+#[test]
+fn fault_texts(rt: HostRuntime) -> Result<(), Fail> {
+    let twice = LinkFault::TwiceDefined(name(rt.alloc(), "A.f")?);
+    let text = format!(in rt.alloc(); "{twice}")?;
+    assert_eq!(rt; text.as_str(), "TwiceDefined A.f");
+    let text = format!(in rt.alloc(); "{}", LinkFault::TooManyStatics(241))?;
+    assert_eq!(rt; text.as_str(), "TooManyStatics 241");
+    Ok(())
+}

@@ -4,7 +4,8 @@ ghost use Rattle.vm_translator.specs.declared.coded.CodeFault.TheVariants.{Memor
 
 use hack_isa::Instr;
 use outer_world::Point;
-use std::alloc::{AllocError, AllocFailed};
+use std::alloc::AllocError;
+use thiserror::Error;
 use vm_tree::List;
 
 /// Addresses that follow each other and have one control point.
@@ -30,10 +31,12 @@ pub struct Coded {
 }
 
 /// Why a program has no code.
-#[derive(Drop)]
+#[derive(Debug, Drop, Error)]
 pub enum CodeFault {
     /// It would have so many words, which are more than 32,768. (2^64 - 1 where they are more than that.)
+    #[error("TooLarge {0}")]
     TooLarge(u64),
+    #[error("want of memory")]
     Memory,
 }
 

@@ -369,3 +369,10 @@ fn each_command(rt: HostRuntime) -> Result<(), Fail> {
     }
     Ok(())
 }
+
+#[test]
+fn fault_text(rt: HostRuntime) -> Result<(), Fail> {
+    let text = format!(in rt.alloc(); "{}", CodeFault::TooLarge(32_769))?;
+    assert_eq!(rt; text.as_str(), "TooLarge 32769");
+    Ok(())
+}
