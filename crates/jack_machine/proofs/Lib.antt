@@ -1,6 +1,10 @@
-pub mod Looks
-pub mod Rests
+pub mod Lists
+pub mod Places
+pub mod Fills
+pub mod Fitting
+pub mod Following
+pub mod Firsts
+pub mod Sights
 pub mod Tops
 pub mod Stacks
-pub mod Steps
 pub mod Histories

@@ -1,106 +1,169 @@
--- The step of the first statement, by its parts and by its act.
-use Rattle.std.specs.Prelude.{IfOk}
-use Rattle.std.proofs.Common.{Result, Ok, Err, ◌≡◌, ℕ, List, ◌∷◌, true, false, Some, refl, sym, ap, ◌∙◌}
-use Rattle.jack_meaning.specs.Text.{Expression, Statement, Let, LetField, LetThis, Store, Do, If, While, Return, Text, End, Next, Subroutine}
-use Rattle.jack_meaning.specs.Expressions.{View, Move, Stands, Rewrites, Calls, Strays, within, rewrite}
-use Rattle.jack_meaning.specs.Meaning.{Frame, State, Outcome, Acts, view_of, step, step_first, step_part, stored, new_frame, returned}
-use Rattle.jack_machine.specs.Advances.{rewrite_statement, passed_statement, opened_statement}
-use Rattle.jack_machine.specs.Effects.{is_no_loop, begins_no_loop, act_of}
-use Rattle.jack_machine.specs.Rests.{TextAdvances, passed_text, opened_text, text_tail}
-use Rattle.jack_machine.specs.Frames.{the_frame, the_state, IsSameTop, first_outcome, ActsFirst, TopStep, called, StoresAt}
-use Rattle.jack_machine.specs.Texts.{the_rest}
-use Rattle.jack_core.specs.declared.program.Statement.{Statement as StatementTree}
+-- The step of the top frame, by its next part or by its act.
+use Rattle.std.specs.Prelude.{IfOk, OnErr, slice_get}
+use Rattle.std.proofs.Common.{Result, Ok, Err, ◌≡◌, ℕ, ◌+◌, ◌-◌, ◌≤◌, List, ◌∷◌, true, false, Some, None, length, drop, map, reverse, refl, sym, ap, ◌∙◌, arith}
+use Rattle.std.proofs.lemmas.List.{length-reverse}
+use Rattle.jack_meaning.specs.Text.{Expression, Value, Open, Text, Next, Subroutine}
+use Rattle.jack_meaning.specs.Expressions.{rewrite}
+use Rattle.jack_meaning.specs.Meaning.{Frame, Outcome, Acts, Done, step, step_first, step_part, passed_over, filled_text, returned, stored}
+use Rattle.jack_core.specs.declared.tree.Part.{Part}
+use Rattle.jack_core.specs.declared.program.Statement.{Statement}
+use Rattle.jack_core.specs.Heights.{takes, height}
+use Rattle.jack_core.specs.Reading.{made, built}
+use Rattle.jack_machine.specs.Parts.{parts_of, wanted_in, wanted}
+use Rattle.jack_machine.specs.Looks.{the_view, passed, spared, move_of, Sees}
+use Rattle.jack_machine.specs.Fronts.{IsPut, IsFilled}
+use Rattle.jack_machine.specs.Texts.{written, written_first, begun, waiting, the_expressions, the_after}
+use Rattle.jack_machine.specs.Effects.{act_of, outcome_on, HasEffect}
+use Rattle.jack_machine.specs.Frames.{with_text, the_frame, state_over, the_state, IsLeft, IsNext, Applies, TopStep, StoresAt, called}
+use Rattle.jack_machine.specs.declared.effects.Effect.{Effect}
 use Rattle.jack_machine.specs.declared.looking.Memory.{Memory}
-use Rattle.jack_machine.specs.declared.parts.Advance.{Advance}
+use Rattle.jack_machine.specs.declared.looking.Sight.{Sight}
+use Rattle.jack_machine.specs.declared.fronts.First.{First}
+use Rattle.jack_machine.specs.declared.fronts.Front.{Front}
 use Rattle.jack_machine.specs.declared.frames.Frame.{Frame as FrameTree}
 use Rattle.jack_machine.specs.declared.frames.Act.{Act}
-use Rattle.std.specs.declared.vec.Vec.{Vec}
-use Rattle.std.specs.declared.alloc.Global.{Global}
+use Rattle.jack_machine.proofs.Lists.{reverse_more, reverse_last, with_first}
+use Rattle.jack_machine.proofs.Places.{is_move}
+use Rattle.jack_machine.proofs.Fills.{begun_filled}
+use Rattle.jack_machine.proofs.Fitting.{next_is, has_operands, fits_behind, all_done, all_wanted, spared_length, put_values}
+use Rattle.jack_machine.proofs.Following.{begun_more}
+use Rattle.jack_machine.proofs.Firsts.{first_begins, part_moves, statement_acts, start_acts}
 
--- a step of a part within a whole is a step of the whole
-part_within : {A B : Type 0} (subs : List Subroutine) (s : State) (f : Frame) (below : List Frame) (m : Move A) (whole : A → B) (after : Move B) (text : B → Text) (o : Outcome)
-    → step_part subs s f below (within m whole after) text o ≡ step_part subs s f below m (λ a. text (whole a)) (step_part subs s f below after text o)
-part_within subs s f below Stands whole after text o = refl
-part_within subs s f below (Rewrites b a) whole after text o = refl
-part_within subs s f below (Calls g xs a) whole after text o = refl
-part_within subs s f below (Strays a) whole after text o = refl
+sight_moves : (key : ℕ) (ws : List ℕ) (sight : Sight) → is_move (move_of key ws sight) ≡ true
+sight_moves key ws (Sight.Puts w) = refl
+sight_moves key ws Sight.Hears = refl
+sight_moves key ws (Sight.Calls g) = refl
+sight_moves key ws (Sight.Strays a) = refl
 
-module _ (subs : List Subroutine) (key : ℕ) (s : State) (f : Frame) (below : List Frame) where
-  abbrev v : View
-  v = view_of key s f
+module _ (subs : List Subroutine) (below : List Frame) (key : ℕ) (f : FrameTree) (m : Memory) where
+  abbrev front : Front
+  front = f.text.front
 
-  one_part : (e : Expression) (whole : Expression → Statement) (rest : Text) (o : Outcome)
-      → step_part subs s f below (rewrite v e) (λ e'. Next (whole e') rest) o ≡ step_part subs s f below (within (rewrite v e) whole Stands) (λ t. Next t rest) o
-  one_part e whole rest o = sym (part_within subs s f below (rewrite v e) whole Stands (λ t. Next t rest) o)
+  abbrev first : First
+  first = f.text.front.first
 
-  pub first_by_parts : (t : Statement) (rest : Text) → is_no_loop t ≡ true
-      → step_first subs key s f below (Next t rest) ≡ step_part subs s f below (rewrite_statement v t) (λ t'. Next t' rest) (act_of s f below t rest)
-  first_by_parts (Let n x e) rest h = one_part e (Let n x) rest _
-  first_by_parts (LetField n k e) rest h = one_part e (LetField n k) rest _
-  first_by_parts (LetThis n e) rest h = one_part e (LetThis n) rest _
-  first_by_parts (Store n a i e) rest h =
-      ap (step_part subs s f below (rewrite v a) (λ a'. Next (Store n a' i e) rest))
-      (ap (step_part subs s f below (rewrite v i) (λ i'. Next (Store n a i' e) rest)) (one_part e (Store n a i) rest (act_of s f below (Store n a i e) rest))
-      ∙ sym (part_within subs s f below (rewrite v i) (λ i'. Store n a i' e) (within (rewrite v e) (Store n a i) Stands) (λ t. Next t rest) (act_of s f below (Store n a i e) rest)))
-      ∙ sym (part_within subs s f below (rewrite v a) (λ a'. Store n a' i e) (within (rewrite v i) (λ i'. Store n a i' e) (within (rewrite v e) (Store n a i) Stands)) (λ t. Next t rest) (act_of s f below (Store n a i e) rest))
-  first_by_parts (Do n e) rest h = one_part e (Do n) rest _
-  first_by_parts (If n c a b) rest h = one_part c (λ c'. If n c' a b) rest _
-  first_by_parts (While n c a) rest h = cc
-  first_by_parts (Return n e) rest h = one_part e (Return n) rest _
+  abbrev ws : List ℕ
+  ws = f.text.front.values.items
 
-  -- the first statement's parts are values: it acts
-  pub first_acts : (text text' : Text) → begins_no_loop text ≡ true → TextAdvances v text (Some Advance.Stands) text'
-      → (step_first subs key s f below text ≡ first_outcome s f below text) × (text' ≡ text)
-  first_acts End text' h a = absurd a
-  first_acts (Next t rest) text' h a =
-      (first_by_parts t rest h ∙ ap (λ m. step_part subs s f below m (λ t'. Next t' rest) (act_of s f below t rest)) a.1.0, a.2 ∙ ap (λ x. Next x rest) a.1.1)
+  abbrev rest : Text
+  rest = the_after f.text.after.items
 
-  -- the first statement comes to a call
-  pub first_calls : (g : ℕ) (text text' : Text) → begins_no_loop text ≡ true → f.text ≡ text → TextAdvances v text (Some (Advance.Calls g)) text'
-      → (step_first subs key s f below text ≡ Acts false (called subs s f below g)) × (text' ≡ text)
-  first_calls g End text' h e a = absurd a
-  first_calls g (Next t rest) text' h e a =
-      let made : step_first subs key s f below (Next t rest) ≡ Acts false (record s { frames = new_frame subs g (passed_statement t) ∷ record f { text = Next (opened_statement t) rest } ∷ below }) =
-      first_by_parts t rest h ∙ ap (λ m. step_part subs s f below m (λ t'. Next t' rest) (act_of s f below t rest)) a.1.0 in
-      (made ∙ ap (λ x. Acts false (record s { frames = new_frame subs g (passed_text x) ∷ record f { text = opened_text x } ∷ below })) (sym e), a.2 ∙ ap (λ x. Next x rest) a.1.1)
+  abbrev behind_it : List Part
+  behind_it = drop (f.text.front.done + 1) (parts_of f.text.front.first)
 
--- a frame whose text was written again as it was
-abbrev pub made_frame : FrameTree → Text → Frame
-made_frame f x = record { subroutine = f.subroutine; arguments = f.variables.arguments.items; locals = f.variables.locals.items; this = f.variables.this; text = x }
+  abbrev step_of : Text → Outcome
+  step_of t = step_first subs key (the_state f m below) (the_frame f) below t
 
-abbrev pub made : FrameTree → Memory → List Frame → Text → State
-made f m below x = record { frames = made_frame f x ∷ below; statics = m.statics.items; words = m.words.items }
+  -- the text with the part that is next in another form
+  abbrev with_part : Part → Expression → Text
+  with_part p x = written_first first (built (x ∷ map Value (reverse (spared p ws))) behind_it) rest
 
--- what an act does from the same text is the step from the text before
-pub acted : (subs : List Subroutine) (below : List Frame) (key : ℕ) (f : FrameTree) (text : Vec StatementTree Global) (m : Memory) (a : Act) (f' : FrameTree) (m' : Memory)
-    → step subs key (the_state f m below) ≡ first_outcome (the_state f m below) (the_frame f) below (the_rest f.text.items) → the_rest text.items ≡ the_rest f.text.items
-    → ActsFirst (record { subroutine = f.subroutine; variables = f.variables; text = text }) m a f' m' → TopStep subs below key f m a f' m'
-acted subs below key f text m a f' m' e same acts =
-    let again : first_outcome (the_state f m below) (the_frame f) below (the_rest f.text.items) ≡ first_outcome (made f m below (the_rest text.items)) (made_frame f (the_rest text.items)) below (the_rest text.items) =
-    ap (λ x. first_outcome (made f m below x) (made_frame f x) below x) (sym same) in
-    by_act a (e ∙ again) acts
-  where
-    f0 : FrameTree
-    f0 = record { subroutine = f.subroutine; variables = f.variables; text = text }
+  pub top_moves : (p : Part) (sight : Sight) → IsNext p f → Sees (the_view f.variables m key) p ws sight
+      → step subs key (the_state f m below) ≡ step_part subs (the_state f m below) (the_frame f) below (move_of key (passed p ws) sight) (with_part p) Done
+  top_moves p sight next sees =
+      let r : Expression = made p (map Value (passed p ws)) in
+      let moves : is_move (rewrite (the_view f.variables m key) r) ≡ true = ap is_move sees ∙ sight_moves key (passed p ws) sight in
+      let enough : takes p ≤ length ws = has_operands front p next in
+      let count : length (reverse (spared p ws)) + 1 ≡ length ws - takes p + 1 = omega (arith, length-reverse (spared p ws), spared_length p ws enough) in
+      let fits : height (length (reverse (spared p ws)) + 1) behind_it ≡ Some (wanted first) = ap (λ n. height n behind_it) count ∙ fits_behind front p next in
+      first_begins subs key (the_state f m below) (the_frame f) below rest first front.done ws front.fits
+      ∙ ap (λ ps. step_of (written_first first (built (map Value (reverse ws)) ps) rest)) (next_is front p next)
+      ∙ ap (λ l. step_of (written_first first (built l behind_it) rest)) (put_values p ws enough)
+      ∙ part_moves subs key (the_state f m below) (the_frame f) below rest r moves first (reverse (spared p ws)) behind_it fits
+      ∙ ap (λ x. step_part subs (the_state f m below) (the_frame f) below x (with_part p) Done) sees
 
-    same_top : IsSameTop f0 m f' m' → IsSameTop f m f' m'
-    same_top s = record { frame = s.frame ∙ ap (made_frame f) same; statics = s.statics; words = s.words }
+  -- all parts are done
+  all_begun : slice_get (parts_of first) front.done ≡ None → step subs key (the_state f m below) ≡ step_of (written_first first (map Value (reverse ws)) rest)
+  all_begun none =
+      first_begins subs key (the_state f m below) (the_frame f) below rest first front.done ws front.fits
+      ∙ ap (λ ps. step_of (written_first first (built (map Value (reverse ws)) ps) rest)) (all_done front none)
 
-    by_act : (b : Act) → step subs key (the_state f m below) ≡ first_outcome (the_state f0 m below) (the_frame f0) below (the_rest text.items) → ActsFirst f0 m b f' m' → TopStep subs below key f m b f' m'
-    by_act Act.Acted d t = d ∙ t below
-    by_act (Act.Returns w) d t = (d ∙ t.0 below ∙ ap (λ x. returned (made f m below x) below w) same, same_top t.1)
-    by_act (Act.Strays w) d t = (d ∙ t.0 below, same_top t.1)
-    by_act Act.Done d t = (d ∙ t.0 below, same_top t.1)
-    by_act Act.Heard d t = absurd t
-    by_act (Act.Calls g) d t = absurd t
+  pub start_steps : (init : ℕ) → slice_get (parts_of first) front.done ≡ None → first ≡ First.Start init → step subs key (the_state f m below) ≡ passed_over (the_state f m below) (the_frame f) below rest
+  start_steps init none is =
+      all_begun none ∙ ap (λ x. step_of (written_first x (map Value (reverse ws)) rest)) is
+      ∙ start_acts subs key (the_state f m below) (the_frame f) below rest init ws (all_wanted front none ∙ ap wanted is)
+
+  module _ (t : Statement) (effect : Effect) (none : slice_get (parts_of first) front.done ≡ None)
+      (acts : step subs key (the_state f m below) ≡ act_of (the_state f m below) (the_frame f) below (written t (map Value (reverse ws))) rest)
+      (has : HasEffect f.variables.this (written t (map Value (reverse ws))) effect) where
+    abbrev its : List Frame → Outcome
+    its b = outcome_on (the_state f m b) (the_frame f) b (Next (written t (the_expressions front)) rest) effect
+
+    effect_is : step subs key (the_state f m below) ≡ its below
+    effect_is =
+        acts ∙ has (the_state f m below) (the_frame f) below rest refl
+        ∙ ap (λ ps. outcome_on (the_state f m below) (the_frame f) below (Next (written t (built (map Value (reverse ws)) ps)) rest) effect) (sym (all_done front none))
+
+    pub acted : (act : Act) (f' : FrameTree) (m' : Memory) → Applies t effect f m act f' m' → TopStep subs below key f m act f' m'
+    acted Act.Acted f' m' a = effect_is ∙ a below
+    acted (Act.Returns w) f' m' a = (effect_is ∙ a.0 below, a.1)
+    acted (Act.Strays w) f' m' a = (effect_is ∙ a.0 below, a.1)
+    acted Act.Done f' m' a = (effect_is ∙ a.0 below, a.1)
+    acted Act.Heard f' m' a = absurd a
+    acted (Act.Calls g n) f' m' a = absurd a
+
+  pub statement_steps : (t : Statement) (u : First) → slice_get (parts_of first) front.done ≡ None → first ≡ u → wanted u ≡ wanted_in t
+      → ((es : List Expression) → written_first u es rest ≡ Next (written t es) rest) → step subs key (the_state f m below) ≡ act_of (the_state f m below) (the_frame f) below (written t (map Value (reverse ws))) rest
+  statement_steps t u none is want same =
+      all_begun none ∙ ap (λ x. step_of (written_first x (map Value (reverse ws)) rest)) is ∙ ap step_of (same (map Value (reverse ws)))
+      ∙ statement_acts subs key (the_state f m below) (the_frame f) below rest t ws (all_wanted front none ∙ ap wanted is ∙ want)
+
+-- the text after a part is done
+module _ (p : Part) (w : ℕ) (old new : Front) (is : IsPut p w old new) (rest : Text) where
+  abbrev low : List ℕ
+  low = reverse (spared p old.values.items)
+
+  after_put : (standing : List ℕ → List Expression) → begun new.first new.done (built (standing (reverse new.values.items)) (drop new.done (parts_of new.first))) rest
+      ≡ written_first old.first (built (standing (w ∷ low)) (drop (old.done + 1) (parts_of old.first))) rest
+  after_put standing =
+      ap (λ l. begun new.first new.done (built (standing (reverse l)) (drop new.done (parts_of new.first))) rest) is.values
+      ∙ ap (λ l. begun new.first new.done (built (standing l) (drop new.done (parts_of new.first))) rest) (reverse_more (spared p old.values.items) w)
+      ∙ ap (λ n. begun new.first n (built (standing (w ∷ low)) (drop n (parts_of new.first))) rest) is.done
+      ∙ ap (λ x. begun x (old.done + 1) (built (standing (w ∷ low)) (drop (old.done + 1) (parts_of x))) rest) is.first
+      ∙ begun_more old.first old.done (built (standing (w ∷ low)) (drop (old.done + 1) (parts_of old.first))) rest
+
+  pub put_text : begun new.first new.done (the_expressions new) rest ≡ written_first old.first (built (Value w ∷ map Value low) (drop (old.done + 1) (parts_of old.first))) rest
+  put_text = after_put (map Value)
+
+  pub put_waiting : begun new.first new.done (built (waiting (reverse new.values.items)) (drop new.done (parts_of new.first))) rest
+      ≡ written_first old.first (built (Open ∷ map Value low) (drop (old.done + 1) (parts_of old.first))) rest
+  put_waiting = after_put waiting
+
+-- the text after a return
+pub fill_text : (w : ℕ) (old new : Front) (rest : Text) → IsFilled w old new
+    → begun new.first new.done (the_expressions new) rest ≡ filled_text w (begun old.first old.done (built (waiting (reverse old.values.items)) (drop old.done (parts_of old.first))) rest)
+fill_text w old new rest is =
+    ap (λ l. begun new.first new.done (built (map Value (reverse l)) (drop new.done (parts_of new.first))) rest) is.values
+    ∙ ap (λ l. begun new.first new.done (built (map Value l) (drop new.done (parts_of new.first))) rest) (reverse_last old.values.items w)
+    ∙ ap (λ n. begun new.first n (built (map Value (with_first w (reverse old.values.items))) (drop n (parts_of new.first))) rest) is.done
+    ∙ ap (λ x. begun x old.done (built (map Value (with_first w (reverse old.values.items))) (drop old.done (parts_of x))) rest) is.first
+    ∙ sym (begun_filled w old.first old.done (reverse old.values.items) (drop old.done (parts_of old.first)) rest)
+
+pub left_state : (f f' : FrameTree) (m m' : Memory) (below : List Frame) → IsLeft f m f' m' → the_state f' m' below ≡ the_state f m below
+left_state f f' m m' below s = ap (λ x. the_state x m' below) s.0 ∙ ap (λ x. the_state f x below) s.1
+
+pub left_called : (subs : List Subroutine) (f f' : FrameTree) (m m' : Memory) (below : List Frame) (g n : ℕ) → IsLeft f m f' m' → called subs f m below g n ≡ called subs f' m' below g n
+left_called subs f f' m m' below g n s = ap (λ x. called subs x m below g n) (sym s.0) ∙ ap (λ x. called subs f' x below g n) (sym s.1)
+
+-- the caller goes on
+pub returned_to : (f top : FrameTree) (m m' : Memory) (below below' : List Frame) (caller : Frame) (w : ℕ) → m' ≡ m → below ≡ caller ∷ below' → the_frame top ≡ record caller { text = filled_text w caller.text }
+    → returned (the_state f m below) below w ≡ Acts false (the_state top m' below')
+returned_to f top m m' below below' caller w same e h =
+    ap (λ (l : List Frame). returned (the_state f m below) l w) e
+    ∙ ap (λ (x : Frame). Acts false (state_over x m below')) (sym h)
+    ∙ ap (λ x. Acts false (the_state top x below')) (sym same)
+
+pub on_err : {T E : Type 0} (r : Result T E) (P : Type 0) → P → OnErr r P
+on_err (Ok x) P p = tt
+on_err (Err e) P p = p
 
 -- a store inside the memory
-pub stored_over : (f : FrameTree) (m m' : Memory) (below : List Frame) (a w : ℕ) (text : Vec StatementTree Global) → StoresAt a w m true m' → the_rest text.items ≡ text_tail (the_rest f.text.items)
-    → stored (the_state f m below) (the_frame f) below (text_tail (the_rest f.text.items)) a w ≡ Acts false (the_state (record { subroutine = f.subroutine; variables = f.variables; text = text }) m' below)
-stored_over f m m' below a w text s e =
-    s.0 (the_state f m below) (the_frame f) below (text_tail (the_rest f.text.items)) refl
-    ∙ ap (λ x. Acts false (record { frames = made_frame f x ∷ below; statics = m.statics.items; words = m'.words.items })) (sym e)
-    ∙ ap (λ x. Acts false (record { frames = made_frame f (the_rest text.items) ∷ below; statics = x; words = m'.words.items })) (sym s.1)
+pub stored_over : (f : FrameTree) (m m' : Memory) (below : List Frame) (a w : ℕ) (text : Text) (text' : Text) → StoresAt a w m true m' → text' ≡ text
+    → stored (the_state f m below) (the_frame f) below text a w ≡ Acts false (state_over (with_text f text') m' below)
+stored_over f m m' below a w text text' s e =
+    s.0 (the_state f m below) (the_frame f) below text refl
+    ∙ ap (λ x. Acts false (record { frames = with_text f x ∷ below; statics = m.statics.items; words = m'.words.items })) (sym e)
+    ∙ ap (λ x. Acts false (record { frames = with_text f text' ∷ below; statics = x; words = m'.words.items })) (sym s.1)
 
 pub if_ok : {T E : Type 0} {P Q : T → Type 0} (r : Result T E) → ((x : T) → P x → Q x) → IfOk r P → IfOk r Q
 if_ok (Ok x) h p = h x p

@@ -1,23 +1,14 @@
 -- What the first statement of a text does once its parts are values, by the meaning.
-use Rattle.std.specs.Prelude.{◌≡◌, ℕ, List, Bool, true, false, Option, Some, None}
+use Rattle.std.specs.Prelude.{◌≡◌, ℕ, List}
 use Rattle.word16.specs.Words.{word_add}
-use Rattle.jack_meaning.specs.Text.{Statement, Let, LetField, LetThis, Store, Do, If, While, Return, Text, End, Next, joined}
+use Rattle.jack_meaning.specs.Text.{Statement, Let, LetField, LetThis, Store, Do, If, While, Return, Text, Next, joined}
 use Rattle.jack_meaning.specs.Expressions.{value_of}
 use Rattle.jack_meaning.specs.Meaning.{Frame, State, Outcome, Done, assigned, stored, passed_over, returned, chosen}
 use Rattle.jack_core.specs.Reading.{the_variable}
-use Rattle.jack_machine.specs.Rests.{chosen_text, text_tail}
+use Rattle.jack_machine.specs.Texts.{chosen_text, text_tail}
 use Rattle.jack_machine.specs.declared.effects.Effect.{Effect}
 
--- loops are read as choices before they are looked at
-abbrev pub is_no_loop : Statement → Bool
-is_no_loop (While n c s) = false
-is_no_loop _ = true
-
-abbrev pub begins_no_loop : Text → Bool
-begins_no_loop (Next s rest) = is_no_loop s
-begins_no_loop End = true
-
--- what the meaning makes of a statement whose parts are values
+-- what the meaning makes of a statement whose parts are values; a loop is a choice by then
 abbrev pub act_of : State → Frame → List Frame → Statement → Text → Outcome
 act_of s f below (Let n x e) rest = assigned s f below rest x (value_of e)
 act_of s f below (LetField n k e) rest = stored s f below rest (word_add f.this k) (value_of e)
@@ -40,9 +31,3 @@ outcome_on s f below text (Effect.Returns w) = returned s below w
 abbrev pub HasEffect : ℕ → Statement → Effect → Type 0
 HasEffect this t effect =
     (s : State) (f : Frame) (below : List Frame) (rest : Text) → f.this ≡ this → act_of s f below t rest ≡ outcome_on s f below (Next t rest) effect
-
-abbrev pub FirstHas : ℕ → Text → Option Effect → Type 0
-FirstHas this End None = Unit {0}
-FirstHas this (Next t rest) (Some effect) = HasEffect this t effect
-FirstHas this End (Some effect) = ⊥
-FirstHas this (Next t rest) None = ⊥

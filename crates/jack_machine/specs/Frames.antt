@@ -1,28 +1,48 @@
 -- What a step of the top frame does, by the meaning.
-use Rattle.std.specs.Prelude.{◌≡◌, ℕ, List, ◌∷◌, Bool, true, false, slice_set}
-use Rattle.jack_meaning.specs.Text.{Variable, Argument, Local, Static, Text, End, Next, Subroutine}
+use Rattle.std.specs.Prelude.{◌≡◌, ℕ, ◌+◌, List, ◌∷◌, Bool, true, false, Some, drop, map, reverse, slice_get, slice_set}
+use Rattle.jack_meaning.specs.Text.{Variable, Argument, Local, Static, Text, Next, Subroutine, Value, Open}
 use Rattle.jack_meaning.specs.Meaning.{Frame, State, Outcome, Acts, Stray, Done, step, new_frame, returned, stored, passed_over, with_top}
-use Rattle.jack_machine.specs.Texts.{the_rest}
-use Rattle.jack_machine.specs.Rests.{passed_text, opened_text}
-use Rattle.jack_machine.specs.Effects.{act_of, outcome_on}
+use Rattle.jack_core.specs.declared.tree.Part.{Part}
+use Rattle.jack_core.specs.declared.tree.Part.TheVariants as part
+use Rattle.jack_core.specs.Reading.{built}
+use Rattle.jack_core.specs.declared.program.Statement.{Statement}
+use Rattle.jack_machine.specs.Parts.{parts_of}
+use Rattle.jack_machine.specs.Looks.{passed, spared}
+use Rattle.jack_machine.specs.Texts.{the_text, the_waiting_text, the_after, the_expressions, written, written_first}
+use Rattle.jack_machine.specs.Effects.{outcome_on}
 use Rattle.jack_machine.specs.declared.effects.Effect.{Effect}
 use Rattle.jack_machine.specs.declared.looking.Variables.{Variables}
 use Rattle.jack_machine.specs.declared.looking.Memory.{Memory}
 use Rattle.jack_machine.specs.declared.frames.Frame.{Frame as FrameTree}
 use Rattle.jack_machine.specs.declared.frames.Act.{Act}
 
+-- a frame with this text
+abbrev pub with_text : FrameTree → Text → Frame
+with_text f t = record { subroutine = f.subroutine; arguments = f.variables.arguments.items; locals = f.variables.locals.items; this = f.variables.this; text = t }
+
 abbrev pub the_frame : FrameTree → Frame
-the_frame f = record { subroutine = f.subroutine; arguments = f.variables.arguments.items; locals = f.variables.locals.items; this = f.variables.this; text = the_rest f.text.items }
+the_frame f = with_text f (the_text f.text)
+
+-- a frame that waits for a call
+abbrev pub the_waiting_frame : FrameTree → Frame
+the_waiting_frame f = with_text f (the_waiting_text f.text)
 
 -- the state of a top frame over these others
+abbrev pub state_over : Frame → Memory → List Frame → State
+state_over f m below = record { frames = f ∷ below; statics = m.statics.items; words = m.words.items }
+
 abbrev pub the_state : FrameTree → Memory → List Frame → State
-the_state f m below = record { frames = the_frame f ∷ below; statics = m.statics.items; words = m.words.items }
+the_state f m below = state_over (the_frame f) m below
 
 -- the meaning sees no difference
 pub record IsSameTop (f : FrameTree) (m : Memory) (f' : FrameTree) (m' : Memory) : Type 0 where
   pub frame : the_frame f' ≡ the_frame f
   pub statics : m'.statics.items ≡ m.statics.items
   pub words : m'.words.items ≡ m.words.items
+
+-- nothing has changed
+abbrev pub IsLeft : FrameTree → Memory → FrameTree → Memory → Type 0
+IsLeft f m f' m' = (f' ≡ f) × (m' ≡ m)
 
 -- a variable gets a value, and nothing else changes
 abbrev pub Assigns : Variable → ℕ → Variables → Memory → Variables → Memory → Type 0
@@ -40,32 +60,35 @@ StoresAt a w m false m' = ((s : State) (f : Frame) (below : List Frame) (rest : 
 -- an outcome of the top frame, by what the machine answers
 abbrev pub IsOutcome : (List Frame → Outcome) → FrameTree → Memory → Act → FrameTree → Memory → Type 0
 IsOutcome outcome f m Act.Acted f' m' = (below : List Frame) → outcome below ≡ Acts false (the_state f' m' below)
-IsOutcome outcome f m (Act.Returns w) f' m' = ((below : List Frame) → outcome below ≡ returned (the_state f m below) below w) × IsSameTop f m f' m'
-IsOutcome outcome f m (Act.Strays a) f' m' = ((below : List Frame) → outcome below ≡ Stray a) × IsSameTop f m f' m'
-IsOutcome outcome f m Act.Done f' m' = ((below : List Frame) → outcome below ≡ Done) × IsSameTop f m f' m'
+IsOutcome outcome f m (Act.Returns w) f' m' = ((below : List Frame) → outcome below ≡ returned (the_state f m below) below w) × IsLeft f m f' m'
+IsOutcome outcome f m (Act.Strays a) f' m' = ((below : List Frame) → outcome below ≡ Stray a) × IsLeft f m f' m'
+IsOutcome outcome f m Act.Done f' m' = ((below : List Frame) → outcome below ≡ Done) × IsLeft f m f' m'
 IsOutcome outcome f m Act.Heard f' m' = ⊥
-IsOutcome outcome f m (Act.Calls g) f' m' = ⊥
+IsOutcome outcome f m (Act.Calls g n) f' m' = ⊥
 
-abbrev pub Applies : Effect → FrameTree → Memory → Act → FrameTree → Memory → Type 0
-Applies effect f m act f' m' = IsOutcome (λ below. outcome_on (the_state f m below) (the_frame f) below (the_rest f.text.items) effect) f m act f' m'
+-- an effect of a statement that comes first, all parts of which are values
+abbrev pub Applies : Statement → Effect → FrameTree → Memory → Act → FrameTree → Memory → Type 0
+Applies s effect f m act f' m' =
+    IsOutcome (λ below. outcome_on (the_state f m below) (the_frame f) below (Next (written s (the_expressions f.text.front)) (the_after f.text.after.items)) effect) f m act f' m'
 
--- what the meaning makes of a text the parts of whose first statement are values
-abbrev pub first_outcome : State → Frame → List Frame → Text → Outcome
-first_outcome s f below End = Done
-first_outcome s f below (Next t rest) = act_of s f below t rest
-
-abbrev pub ActsFirst : FrameTree → Memory → Act → FrameTree → Memory → Type 0
-ActsFirst f m act f' m' = IsOutcome (λ below. first_outcome (the_state f m below) (the_frame f) below (the_rest f.text.items)) f m act f' m'
+-- a frame in which the part that is next, a call, is open
+abbrev pub opened : Part → FrameTree → Frame
+opened p f =
+    with_text f (written_first f.text.front.first (built (Open ∷ map Value (reverse (spared p f.text.front.values.items))) (drop (f.text.front.done + 1) (parts_of f.text.front.first))) (the_after f.text.after.items))
 
 -- the state after a call: its arguments are in a new frame
-abbrev pub called : List Subroutine → State → Frame → List Frame → ℕ → State
-called subs s f below g = with_top s (record f { text = opened_text f.text } ∷ below) (new_frame subs g (passed_text f.text))
+abbrev pub called : List Subroutine → FrameTree → Memory → List Frame → ℕ → ℕ → State
+called subs f m below g n = with_top (the_state f m below) (opened (part.Call g n) f ∷ below) (new_frame subs g (passed (part.Call g n) f.text.front.values.items))
+
+-- the part that is next is this one
+abbrev pub IsNext : Part → FrameTree → Type 0
+IsNext p f = slice_get (parts_of f.text.front.first) f.text.front.done ≡ Some p
 
 -- the step of the meaning that the top frame makes, by what the machine answers
 abbrev pub TopStep : List Subroutine → List Frame → ℕ → FrameTree → Memory → Act → FrameTree → Memory → Type 0
 TopStep subs below key f m Act.Acted f' m' = step subs key (the_state f m below) ≡ Acts false (the_state f' m' below)
 TopStep subs below key f m Act.Heard f' m' = step subs key (the_state f m below) ≡ Acts true (the_state f' m' below)
-TopStep subs below key f m (Act.Calls g) f' m' = (step subs key (the_state f m below) ≡ Acts false (called subs (the_state f m below) (the_frame f) below g)) × IsSameTop f m f' m'
-TopStep subs below key f m (Act.Returns w) f' m' = (step subs key (the_state f m below) ≡ returned (the_state f m below) below w) × IsSameTop f m f' m'
-TopStep subs below key f m (Act.Strays a) f' m' = (step subs key (the_state f m below) ≡ Stray a) × IsSameTop f m f' m'
-TopStep subs below key f m Act.Done f' m' = (step subs key (the_state f m below) ≡ Done) × IsSameTop f m f' m'
+TopStep subs below key f m (Act.Calls g n) f' m' = (step subs key (the_state f m below) ≡ Acts false (called subs f m below g n)) × IsNext (part.Call g n) f × IsLeft f m f' m'
+TopStep subs below key f m (Act.Returns w) f' m' = (step subs key (the_state f m below) ≡ returned (the_state f m below) below w) × IsLeft f m f' m'
+TopStep subs below key f m (Act.Strays a) f' m' = (step subs key (the_state f m below) ≡ Stray a) × IsLeft f m f' m'
+TopStep subs below key f m Act.Done f' m' = (step subs key (the_state f m below) ≡ Done) × IsLeft f m f' m'

@@ -1,9 +1,8 @@
+pub mod Parts
 pub mod Looks
+pub mod Fronts
 pub mod Texts
-pub mod Advances
-pub mod Rests
 pub mod Effects
 pub mod Frames
-pub mod Loops
 pub mod Machine
 pub mod Whole

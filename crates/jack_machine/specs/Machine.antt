@@ -2,13 +2,13 @@
 use Rattle.std.specs.Prelude.{◌≡◌, ℕ, Bool, true, false, List, [], ◌∷◌, map, reverse, replicate}
 use Rattle.jack_meaning.specs.Text.{Subroutine}
 use Rattle.jack_meaning.specs.Meaning.{Frame, this_of, filled_text}
-use Rattle.jack_machine.specs.Rests.{opened_text}
-use Rattle.jack_machine.specs.Frames.{the_frame}
+use Rattle.jack_core.specs.declared.tree.Part.{Part}
+use Rattle.jack_machine.specs.Frames.{the_frame, the_waiting_frame, opened}
 use Rattle.jack_machine.specs.declared.frames.Frame.{Frame as FrameTree}
 
--- the frames of a vector, the last one first
+-- the frames of a vector, all of which wait for a call, the last one first
 abbrev pub the_stack : List FrameTree → List Frame
-the_stack fs = reverse (map the_frame fs)
+the_stack fs = reverse (map the_waiting_frame fs)
 
 -- the frame of a call
 abbrev pub entered_frame : ℕ → Subroutine → List ℕ → Frame
@@ -21,9 +21,9 @@ entered_frame g sub xs = record {
 }
 
 -- the old top frame waits below the new one, with its call open
-pub record IsEntered (top : FrameTree) (below : List FrameTree) (entered top' : FrameTree) (below' : List FrameTree) : Type 0 where
+pub record IsEntered (p : Part) (top : FrameTree) (below : List FrameTree) (entered top' : FrameTree) (below' : List FrameTree) : Type 0 where
   pub on_top : top' ≡ entered
-  pub waiting : the_stack below' ≡ record (the_frame top) { text = opened_text (the_frame top).text } ∷ the_stack below
+  pub waiting : the_stack below' ≡ opened p top ∷ the_stack below
 
 -- the caller goes on with the value, or there is none
 abbrev pub IsReturned : ℕ → FrameTree → List FrameTree → Bool → FrameTree → List FrameTree → Type 0

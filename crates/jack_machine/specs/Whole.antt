@@ -6,53 +6,31 @@ use Rattle.machine_io.specs.declared.machine.Stray.TheVariants as Why
 use Rattle.outer_world.specs.declared.point.Point.{Point}
 use Rattle.jack_meaning.specs.Text.{Subroutine}
 use Rattle.jack_meaning.specs.Meaning.{Frame, State, Acts, Stray, Done, step, start, start_text, point_of}
-use Rattle.jack_machine.specs.Rests.{unfolded_text}
 use Rattle.jack_core.specs.Texts.{the_subroutines, the_program}
-use Rattle.jack_machine.specs.Texts.{the_rest}
-use Rattle.jack_machine.specs.Frames.{the_frame, the_state, called}
+use Rattle.jack_machine.specs.Frames.{the_state, called}
 use Rattle.jack_machine.specs.Machine.{the_stack}
-use Rattle.jack_machine.specs.declared.frames.Frame.{Frame as FrameTree}
 use Rattle.jack_machine.specs.declared.jack.Jack.{Jack}
-use Rattle.jack_core.specs.declared.program.Core.{Core}
 
--- the state that the machine shows
+-- the state that the machine stands for
 abbrev pub jack_state : Jack → State
 jack_state j = the_state j.top j.memory (the_stack j.below.items)
 
 abbrev pub jack_point : Jack → Point
 jack_point j = record { sub = (point_of (jack_state j).frames).0; number = (point_of (jack_state j).frames).1 }
 
--- A state in which a loop that comes first is read as a choice. It makes the same steps.
-abbrev pub settled_frames : List Frame → List Frame
-settled_frames [] = []
-settled_frames (f ∷ below) = record f { text = unfolded_text f.text } ∷ below
-
-abbrev pub settled : State → State
-settled s = record s { frames = settled_frames s.frames }
-
--- the same top frame, but for a loop that comes first
-pub record IsSettled (f f' : FrameTree) : Type 0 where
-  pub same : f'.subroutine ≡ f.subroutine
-  pub variables : f'.variables ≡ f.variables
-  pub text : unfolded_text (the_rest f'.text.items) ≡ unfolded_text (the_rest f.text.items)
-
 -- nothing has changed that the meaning sees
 abbrev pub IsSame : Jack → Jack → Type 0
 IsSame old new = jack_state new ≡ jack_state old
 
--- the same state, but for a loop that comes first
-abbrev pub IsAlike : Jack → Jack → Type 0
-IsAlike old new = settled (jack_state new) ≡ settled (jack_state old)
-
 -- the state after a call
-abbrev pub IsCalled : ℕ → Jack → Jack → Type 0
-IsCalled g old new = jack_state new ≡ called (the_subroutines old.core) (jack_state old) (the_frame old.top) (the_stack old.below.items) g
+abbrev pub IsCalled : ℕ → ℕ → Jack → Jack → Type 0
+IsCalled g n old new = jack_state new ≡ called (the_subroutines old.core.now) old.top old.memory (the_stack old.below.items) g n
 
 -- the step of the meaning, by what the machine answers
 abbrev pub JackStep : ℕ → Jack → Moved → Jack → Type 0
-JackStep key old Moved.Acted new = (heard : Bool) × (step (the_subroutines old.core) key (jack_state old) ≡ Acts heard (jack_state new))
-JackStep key old (Moved.Stray (Why.Address a)) new = (step (the_subroutines old.core) key (jack_state old) ≡ Stray a) × IsAlike old new
-JackStep key old Moved.Done new = (step (the_subroutines old.core) key (jack_state old) ≡ Done) × IsAlike old new
+JackStep key old Moved.Acted new = (heard : Bool) × (step (the_subroutines old.core.now) key (jack_state old) ≡ Acts heard (jack_state new))
+JackStep key old (Moved.Stray (Why.Address a)) new = (step (the_subroutines old.core.now) key (jack_state old) ≡ Stray a) × IsSame old new
+JackStep key old Moved.Done new = (step (the_subroutines old.core.now) key (jack_state old) ≡ Done) × IsSame old new
 JackStep key old _ new = ⊥
 
 -- A turn of the meaning: its answer to a key, and the state after it.
@@ -70,12 +48,9 @@ abbrev pub Leads : List Subroutine → State → List Turn → State → Type 0
 Leads subs s [] s' = s' ≡ s
 Leads subs s (t ∷ ts) s' = (between : State) × IsTurn subs s t between × Leads subs between ts s'
 
--- The machine stands where this history leads from the program's start, but that a loop which comes first may be read as a choice.
-abbrev pub StandsAt : Core → State → List Turn → Type 0
-StandsAt core shown turns = (s : State) × Leads (the_subroutines core) (start (the_program core)) turns s × (settled shown ≡ settled s)
-
+-- The machine stands where this history leads from the program's start.
 abbrev pub Stands : Jack → List Turn → Type 0
-Stands j turns = StandsAt j.core (jack_state j) turns
+Stands j turns = Leads (the_subroutines j.core.now) (start (the_program j.core.now)) turns (jack_state j)
 
 -- the word at an address of heap or screen
 abbrev pub jack_word : Jack → ℕ → ℕ

@@ -1,17 +1,16 @@
 //! Calls and returns. All memory is taken before a frame changes.
 
-ghost use Rattle.std.specs.Prelude.{◌≡◌, IfOk, OnOk, OnErr, map};
+ghost use Rattle.std.specs.Prelude.{◌≡◌, ◌-◌, ◌≤◌, IfOk, OnOk, OnErr, drop, length, map};
 ghost use Rattle.jack_meaning.specs.Meaning.{new_frame, this_of};
-ghost use Rattle.jack_core.specs.Texts.{the_block, the_kind, the_subroutine};
-ghost use Rattle.jack_machine.specs.Texts.{the_rest};
-ghost use Rattle.jack_machine.specs.Frames.{the_frame};
+ghost use Rattle.jack_core.specs.Texts.{the_kind, the_subroutine};
+ghost use Rattle.jack_machine.specs.Frames.{the_frame, IsNext};
 ghost use Rattle.jack_machine.specs.Machine.{entered_frame, IsEntered, IsReturned};
 
-use crate::copying::copy_statements;
 use crate::frames::Frame;
 use crate::looking::{Variables, word_in};
-use crate::texts::{fill_first, open_first};
-use jack_core::{Kind, Statement, Subroutine};
+use crate::parts::{fill, put};
+use crate::texts::text_of_block;
+use jack_core::{Kind, Part, Subroutine};
 use std::alloc::{AllocError, Global};
 use std::mem;
 
@@ -25,13 +24,12 @@ fn this_in(kind: Kind, arguments: &[u16]) -> u16
     }
 }
 
-// A copy of a subroutine's statements, the first one last.
-fn copy_body(alloc: Global, body: &[Statement]) -> Result<Vec<Statement>, AllocError>
-    ensures { IfOk result (λ text. the_rest text.items ≡ the_block body.now) }
+/// The last n of these values, in order.
+pub(crate) fn last_values(alloc: Global, values: &[u16], n: usize) -> Result<Vec<u16>, AllocError>
+    requires { n ≤ length values.now }
+    ensures { IfOk result (λ xs. xs.items ≡ drop (length values.now - n) values.now) }
 {
-    let mut text = copy_statements(alloc, body)?;
-    text.reverse();
-    Ok(text)
+    values[values.len() - n..].to_vec(alloc)
 }
 
 // The frame of a call.
@@ -45,7 +43,7 @@ fn enter_subroutine(
 {
     let this = this_in(subroutine.kind, &arguments);
     let locals = vec![in alloc; 0u16; subroutine.locals as usize]?;
-    let text = copy_body(alloc, &subroutine.body)?;
+    let text = text_of_block(alloc, &subroutine.body)?;
     Ok(Frame {
         subroutine: g,
         variables: Variables {
@@ -68,44 +66,50 @@ pub(crate) fn enter(
 {
     match subroutines.get(g as usize) {
         Some(subroutine) => enter_subroutine(alloc, g, subroutine, arguments),
-        None => Ok(Frame {
-            subroutine: g,
-            variables: Variables {
-                arguments,
-                locals: Vec::new(alloc),
-                this: 0,
-            },
-            text: Vec::new(alloc),
-        }),
+        None => {
+            let text = text_of_block(alloc, &[])?;
+            Ok(Frame {
+                subroutine: g,
+                variables: Variables {
+                    arguments,
+                    locals: Vec::new(alloc),
+                    this: 0,
+                },
+                text,
+            })
+        }
     }
 }
 
-/// A new frame goes on top. Where memory is wanted nothing has changed.
-pub(crate) fn call(
-    top: &mut Frame,
-    below: &mut Vec<Frame>,
-    entered: Frame,
+/// A new frame goes on top, for the call that is next in the old one, which keeps a place for its value. Where memory is
+/// wanted nothing has changed.
+pub(crate) fn call<'a>(
+    top: &mut Frame<'a>,
+    below: &mut Vec<Frame<'a>>,
+    part: Part,
+    entered: Frame<'a>,
 ) -> Result<(), AllocError>
-    ensures done { OnOk result (IsEntered top.old below.old.items entered top.new below.new.items) }
-    ensures refused { OnErr result (top.new ≡ top.old) }
+    requires { IsNext part top.old }
+    ensures done { OnOk result (IsEntered part top.old below.old.items entered.entry top.new below.new.items) }
+    ensures refused { OnErr result (the_frame top.new ≡ the_frame top.old) }
     ensures refused_below { OnErr result (below.new.items ≡ below.old.items) }
 {
     below.reserve(1)?;
-    open_first(&mut top.text);
+    put(&mut top.text.front, part, 0)?;
     let caller = mem::replace(top, entered);
-    let _room = below.push(caller);
+    below.push_reserved(caller);
     Ok(())
 }
 
 /// The caller is on top again, with the value in place of its open call. Without a caller nothing is done.
-pub(crate) fn leave(top: &mut Frame, below: &mut Vec<Frame>, w: u16) -> bool
+pub(crate) fn leave<'a>(top: &mut Frame<'a>, below: &mut Vec<Frame<'a>>, w: u16) -> bool
     ensures { IsReturned w top.old below.old.items result top.new below.new.items }
 {
     match below.pop() {
         None => false,
         Some(caller) => {
             *top = caller;
-            fill_first(&mut top.text, w);
+            fill(&mut top.text.front, w);
             true
         }
     }

@@ -1,36 +1,36 @@
 //! The top frame and its step.
 
-ghost use Rattle.std.specs.Prelude.{◌≡◌, ℕ, List, slice_set, true, IfOk, OnErr};
+ghost use Rattle.std.specs.Prelude.{◌≡◌, ℕ, List, slice_get, slice_set, IfOk, OnErr, Some, None};
 ghost use Rattle.jack_meaning.specs.Meaning.{Frame as AFrame};
 ghost use Rattle.jack_meaning.specs.Text.{Subroutine as ASubroutine};
 ghost use Rattle.jack_core.specs.Reading.{the_variable};
-ghost use Rattle.jack_machine.specs.Texts.{the_rest};
-ghost use Rattle.jack_machine.specs.Effects.{begins_no_loop};
-ghost use Rattle.jack_machine.specs.Frames.{Assigns, StoresAt, Applies, ActsFirst, TopStep, IsSameTop};
+ghost use Rattle.jack_machine.specs.Looks.{the_view, Sees, IsOfCall};
+ghost use Rattle.jack_machine.specs.Parts.{parts_of};
+ghost use Rattle.jack_machine.specs.Frames.{Assigns, StoresAt, Applies, IsNext, TopStep, IsSameTop};
 
-use crate::effects::{Effect, first_effect};
-use crate::looking::{Memory, Variables};
-use crate::parts::Advance;
-use crate::texts::{choose, drop_first, step_first};
-use jack_core::{Statement, Variable};
+use crate::effects::{Effect, effect_of};
+use crate::fronts::First;
+use crate::looking::{Memory, Sight, Variables, look_at};
+use crate::parts::{next_part, operands, put};
+use crate::texts::{Text, advance, choose};
+use jack_core::{Part, Statement, Variable};
 use std::alloc::AllocError;
 
-/// A call that was made and has not returned: its variables, and the rest of its text, whose first statement stands
-/// last.
+/// A call that was made and has not returned: its variables, and the rest of its text.
 #[derive(Drop)]
-pub(crate) struct Frame {
+pub(crate) struct Frame<'a> {
     pub subroutine: u32,
     pub variables: Variables,
-    pub text: Vec<Statement>,
+    pub text: Text<'a>,
 }
 
-/// What a step of the top frame did, or what is left to be done: a call, a return, or nothing because of an address
-/// outside the memory or because no statement is left.
+/// What a step of the top frame did, or what is left to be done: a call of a subroutine with so many arguments, a
+/// return, or nothing because of an address outside the memory or because no statement is left.
 #[derive(Clone, Copy, PartialEq, Eq, Debug)]
 pub(crate) enum Act {
     Acted,
     Heard,
-    Calls(u32),
+    Calls(u32, usize),
     Returns(u16),
     Strays(u16),
     Done,
@@ -66,35 +66,41 @@ fn store(memory: &mut Memory, address: u16, w: u16) -> bool
     true
 }
 
-// The first statement has this effect, and is taken off.
-fn apply(top: &mut Frame, memory: &mut Memory, effect: Effect) -> Result<Act, AllocError>
-    ensures done { IfOk result (λ act. Applies effect top.old memory.old act top.new memory.new) }
+// The first statement, all parts of which are values, has this effect, and is taken off.
+fn apply<'a>(
+    top: &mut Frame<'a>,
+    memory: &mut Memory,
+    first: &'a Statement,
+    effect: Effect,
+) -> Result<Act, AllocError>
+    ensures done { IfOk result (λ act. Applies first.now effect top.old memory.old act top.new memory.new) }
     ensures refused { OnErr result (IsSameTop top.old memory.old top.new memory.new) }
 {
     match effect {
         Effect::Assigns(x, w) => {
             assign(&mut top.variables, memory, x, w);
-            drop_first(&mut top.text);
+            advance(&mut top.text);
             Ok(Act::Acted)
         }
         Effect::Stores(address, w) => {
             if !store(memory, address, w) {
                 return Ok(Act::Strays(address));
             }
-            drop_first(&mut top.text);
+            advance(&mut top.text);
             Ok(Act::Acted)
         }
         Effect::SetsThis(w) => {
             top.variables.this = w;
-            drop_first(&mut top.text);
+            advance(&mut top.text);
             Ok(Act::Acted)
         }
         Effect::Drops => {
-            drop_first(&mut top.text);
+            advance(&mut top.text);
             Ok(Act::Acted)
         }
         Effect::Chooses(w) => {
-            choose(&mut top.text, w)?;
+            choose(&mut top.text.after, first, w)?;
+            advance(&mut top.text);
             Ok(Act::Acted)
         }
         Effect::Returns(w) => Ok(Act::Returns(w)),
@@ -103,28 +109,59 @@ fn apply(top: &mut Frame, memory: &mut Memory, effect: Effect) -> Result<Act, Al
 
 // The first statement acts; all its parts are values.
 fn act_first(top: &mut Frame, memory: &mut Memory) -> Result<Act, AllocError>
-    requires { begins_no_loop (the_rest top.old.text.items) ≡ true }
-    ensures done { IfOk result (λ act. ActsFirst top.old memory.old act top.new memory.new) }
+    requires { slice_get (parts_of top.old.text.front.first) top.old.text.front.done ≡ None }
+    ensures done { IfOk result (λ act. (subs : List ASubroutine) (below : List AFrame) (key : ℕ) → TopStep subs below key top.old memory.old act top.new memory.new) }
     ensures refused { OnErr result (IsSameTop top.old memory.old top.new memory.new) }
 {
-    match first_effect(top.variables.this, &top.text) {
-        None => Ok(Act::Done),
-        Some(effect) => apply(top, memory, effect),
+    match top.text.front.first {
+        First::Nothing => Ok(Act::Done),
+        First::Start(_) => {
+            advance(&mut top.text);
+            Ok(Act::Acted)
+        }
+        First::Statement(first) => {
+            let effect = effect_of(top.variables.this, first, &top.text.front.values);
+            apply(top, memory, first, effect)
+        }
     }
 }
 
-/// The next step of the top frame, which does not begin with a loop. A call or a return is left to the caller.
+// What the part that is next makes of the values before it.
+fn look(top: &Frame, memory: &Memory, part: Part) -> Sight
+    requires { IsNext part top.now }
+    ensures sees { (key : ℕ) → Sees (the_view top.now.variables memory.now key) part top.now.text.front.values.items result }
+    ensures call { IsOfCall part result }
+{
+    look_at(&top.variables, memory, &top.text.front.values, part)
+}
+
+// The part that is next becomes a value, or it comes to a call.
+fn step_part(top: &mut Frame, memory: &Memory, part: Part, key: u16) -> Result<Act, AllocError>
+    requires { IsNext part top.old }
+    ensures done { IfOk result (λ act. (subs : List ASubroutine) (below : List AFrame) → TopStep subs below key top.old memory.now act top.new memory.now) }
+    ensures refused { OnErr result (IsSameTop top.old memory.now top.new memory.now) }
+{
+    match look(top, memory, part) {
+        Sight::Puts(w) => {
+            put(&mut top.text.front, part, w)?;
+            Ok(Act::Acted)
+        }
+        Sight::Hears => {
+            put(&mut top.text.front, part, key)?;
+            Ok(Act::Heard)
+        }
+        Sight::Calls(g) => Ok(Act::Calls(g, operands(part))),
+        Sight::Strays(a) => Ok(Act::Strays(a)),
+    }
+}
+
+/// The next step of the top frame. A call or a return is left to the caller.
 pub(crate) fn step_top(top: &mut Frame, memory: &mut Memory, key: u16) -> Result<Act, AllocError>
-    requires { begins_no_loop (the_rest top.old.text.items) ≡ true }
     ensures done { IfOk result (λ act. (subs : List ASubroutine) (below : List AFrame) → TopStep subs below key top.old memory.old act top.new memory.new) }
     ensures refused { OnErr result (IsSameTop top.old memory.old top.new memory.new) }
 {
-    match step_first(&top.variables, memory, &mut top.text, key) {
-        None => Ok(Act::Done),
-        Some(Advance::Stands) => act_first(top, memory),
-        Some(Advance::Acted) => Ok(Act::Acted),
-        Some(Advance::Heard) => Ok(Act::Heard),
-        Some(Advance::Calls(g)) => Ok(Act::Calls(g)),
-        Some(Advance::Strays(a)) => Ok(Act::Strays(a)),
+    match next_part(&top.text.front) {
+        Some(part) => step_part(top, memory, part, key),
+        None => act_first(top, memory),
     }
 }

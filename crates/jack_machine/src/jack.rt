@@ -1,53 +1,45 @@
 //! The machine.
 
-ghost use Rattle.std.specs.Prelude.{◌≡◌, ◌+◌, ◌-◌, ◌<◌, ◌≤◌, ◌^◌, ◌++◌, [], ◌∷◌, List, ℕ, IfOk, OnOk, OnErr, true, false, slice_index, replicate, sum_by};
-ghost use Rattle.machine_io.specs.History.{Turn, moves_in};
-ghost use Rattle.jack_meaning.specs.Text.{number_of};
-ghost use Rattle.jack_meaning.specs.Meaning.{start, text_point};
-ghost use Rattle.jack_core.specs.Texts.{the_statement, the_program};
-ghost use Rattle.jack_machine.specs.Texts.{the_rest};
-ghost use Rattle.jack_machine.specs.Effects.{begins_no_loop};
-ghost use Rattle.jack_machine.specs.Frames.{the_frame};
-ghost use Rattle.jack_machine.specs.Whole.{IsSettled, IsCalled, IsSame, IsAlike, JackStep, Stands, jack_state, jack_point, jack_word, start_frame};
+ghost use Rattle.std.specs.Prelude.{◌≡◌, ◌+◌, ◌-◌, ◌<◌, ◌^◌, [], IfOk, OnOk, OnErr, false, replicate, sum_by};
+ghost use Rattle.machine_io.specs.History.{moves_in};
+ghost use Rattle.jack_meaning.specs.Meaning.{start};
+ghost use Rattle.jack_core.specs.declared.tree.Part.TheVariants as part;
+ghost use Rattle.jack_core.specs.Texts.{the_program};
+ghost use Rattle.jack_machine.specs.Frames.{the_frame, IsNext};
+ghost use Rattle.jack_machine.specs.Whole.{IsCalled, IsSame, JackStep, Stands, jack_state, jack_point, jack_word, start_frame};
 
-use crate::calling::{call, enter, leave};
+use crate::calling::{call, enter, last_values, leave};
 use crate::frames::{Act, Frame, step_top};
+use crate::fronts::First;
 use crate::looking::{Memory, Variables, word_in};
-use crate::texts::{first_arguments, unfold_first};
-use jack_core::{Arguments, Class, Core, Expression, Statement};
+use crate::texts::{first_number, text_with};
+use jack_core::{Class, Core, Part};
 use machine_io::{Level, Moved, Stray};
 use outer_world::Point;
 use std::alloc::{AllocError, Global};
 
-/// A machine that steps a program by its meaning.
+/// A machine that steps a program by its meaning. Its frames point into the program.
 #[derive(Drop)]
-pub struct Jack {
-    core: Core,
-    top: Frame,
-    below: Vec<Frame>,
+pub struct Jack<'a> {
+    core: &'a Core,
+    top: Frame<'a>,
+    below: Vec<Frame<'a>>,
     memory: Memory,
     moves: u64,
     alloc: Global,
 }
 
-// Reads a loop that comes first as a choice; the meaning sees no difference.
-fn settle(alloc: Global, top: &mut Frame) -> Result<(), AllocError>
-    ensures settled { OnOk result (begins_no_loop (the_rest top.new.text.items) ≡ true) }
-    ensures same { IsSettled top.old top.new }
-{
-    unfold_first(alloc, &mut top.text)
-}
-
-// A new frame for the call that the top frame comes to.
-fn make_call(jack: &mut Jack, g: u32) -> Result<(), AllocError>
-    ensures done { OnOk result (IsCalled g jack.old jack.new) }
+// A new frame for the call that is next in the top frame, with so many arguments.
+fn make_call(jack: &mut Jack, g: u32, n: usize) -> Result<(), AllocError>
+    requires { IsNext (part.Call g n) jack.old.top }
+    ensures done { OnOk result (IsCalled g n jack.old jack.new) }
     ensures refused { OnErr result (IsSame jack.old jack.new) }
     ensures core { jack.new.core ≡ jack.old.core }
     ensures moves { jack.new.moves ≡ jack.old.moves }
 {
-    let arguments = first_arguments(jack.alloc, &jack.top.text)?;
+    let arguments = last_values(jack.alloc, &jack.top.text.front.values, n)?;
     let entered = enter(jack.alloc, &jack.core.subroutines, g, arguments)?;
-    call(&mut jack.top, &mut jack.below, entered)
+    call(&mut jack.top, &mut jack.below, Part::Call(g, n), entered)
 }
 
 // The words of all statics, 0.
@@ -63,12 +55,11 @@ fn new_statics(alloc: Global, classes: &[Class]) -> Result<Vec<u16>, AllocError>
 }
 
 // The frame `start`, whose text is `do Sys.init();`.
-fn first_frame(alloc: Global, init: u32) -> Result<Frame, AllocError>
-    ensures { IfOk result (λ f. the_frame f ≡ start_frame init) }
+fn first_frame<'a>(alloc: Global, init: u32) -> Frame<'a>
+    ensures { the_frame result ≡ start_frame init }
 {
-    let call = Expression::Call(init, Box::new(alloc, Arguments::NoMore)?);
-    let text = vec![in alloc; Statement::Do { number: 1, call }]?;
-    Ok(Frame {
+    let text = text_with(alloc, First::Start(init), Vec::new(alloc));
+    Frame {
         subroutine: 0,
         variables: Variables {
             arguments: Vec::new(alloc),
@@ -76,23 +67,22 @@ fn first_frame(alloc: Global, init: u32) -> Result<Frame, AllocError>
             this: 0,
         },
         text,
-    })
+    }
 }
 
-impl Jack {
+impl<'a> Jack<'a> {
     /// The machine at the start of a program: `do Sys.init();`, and all words 0.
-    pub fn new(alloc: Global, core: Core) -> Result<Self, AllocError>
-        ensures start { IfOk result (λ j. jack_state j ≡ start (the_program core)) }
-        ensures core { IfOk result (λ j. j.core ≡ core) }
+    pub fn new(alloc: Global, core: &'a Core) -> Result<Self, AllocError>
+        ensures start { IfOk result (λ j. jack_state j ≡ start (the_program core.now)) }
+        ensures core { IfOk result (λ j. j.core.now ≡ core.now) }
         ensures moves { IfOk result (λ j. j.moves ≡ 0) }
         ensures stands { IfOk result (λ j. Stands j []) }
     {
         let statics = new_statics(alloc, &core.classes)?;
         let words = vec![in alloc; 0u16; 22528]?;
-        let top = first_frame(alloc, core.init)?;
         Ok(Self {
             core,
-            top,
+            top: first_frame(alloc, core.init),
             below: Vec::new(alloc),
             memory: Memory { statics, words },
             moves: 0,
@@ -105,12 +95,11 @@ impl Jack {
     fn make_step(&mut self, key: u16) -> Result<Moved, AllocError>
         requires { self.old.moves < 2 ^ 63 }
         ensures step { IfOk result (λ answer. JackStep key self.old answer self.new) }
-        ensures refused { OnErr result (IsAlike self.old self.new) }
+        ensures refused { OnErr result (IsSame self.old self.new) }
         ensures core { self.new.core ≡ self.old.core }
         ensures counts { IfOk result (λ answer. self.new.moves ≡ moves_in answer + self.old.moves) }
         ensures refused_count { OnErr result (self.new.moves ≡ self.old.moves) }
     {
-        settle(self.alloc, &mut self.top)?;
         match step_top(&mut self.top, &mut self.memory, key)? {
             Act::Acted => {
                 self.moves += 1;
@@ -120,8 +109,8 @@ impl Jack {
                 self.moves += 1;
                 Ok(Moved::Acted)
             }
-            Act::Calls(g) => {
-                make_call(self, g)?;
+            Act::Calls(g, n) => {
+                make_call(self, g, n)?;
                 self.moves += 1;
                 Ok(Moved::Acted)
             }
@@ -138,33 +127,7 @@ impl Jack {
     }
 }
 
-// The number of a statement.
-fn number_in(s: &Statement) -> u32
-    ensures { result ≡ number_of (the_statement s.now) }
-{
-    match s {
-        Statement::Let { number, .. } => *number,
-        Statement::LetField { number, .. } => *number,
-        Statement::LetThis { number, .. } => *number,
-        Statement::Store { number, .. } => *number,
-        Statement::Do { number, .. } => *number,
-        Statement::If { number, .. } => *number,
-        Statement::While { number, .. } => *number,
-        Statement::Return { number, .. } => *number,
-    }
-}
-
-// The number of the first statement; 2 where none is left.
-fn first_number(text: &[Statement]) -> u32
-    ensures { result ≡ text_point (the_rest text.now) }
-{
-    match text.last() {
-        None => 2,
-        Some(first) => number_in(first),
-    }
-}
-
-impl Level for Jack {
+impl<'a> Level for Jack<'a> {
     ghost use Rattle.jack_core.specs.declared.program.Core.{Core};
 
     type Point = Point;
@@ -183,7 +146,7 @@ impl Level for Jack {
 
     ghost Program = { Core };
 
-    ghost program = { λ j. j.core };
+    ghost program = { λ j. j.core.now };
 
     fn step(&mut self, key: u16) -> Result<Moved, AllocError> {
         self.make_step(key)

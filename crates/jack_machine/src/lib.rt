@@ -1,15 +1,13 @@
-//! The machine that steps Jack programs by their meaning: expressions are rewritten in place.
+//! The machine that steps Jack programs by their meaning: its frames point into the program.
 #![tactic(auto)]
 
 mod calling;
-mod copying;
 mod effects;
 mod frames;
+mod fronts;
 mod jack;
 mod looking;
 mod parts;
-mod passing;
-mod replacing;
 mod texts;
 mod words;
 

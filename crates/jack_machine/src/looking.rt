@@ -1,12 +1,13 @@
-//! What comes next in an expression. Nothing is changed here.
+//! What a part makes of its operands. Nothing is changed here.
 
-ghost use Rattle.std.specs.Prelude.{◌≡◌, ℕ, slice_index};
+ghost use Rattle.std.specs.Prelude.{◌≡◌, ◌-◌, ◌≤◌, ◌<◌, ℕ, length, slice_index};
 ghost use Rattle.jack_meaning.specs.Expressions.{variable_of, View};
-ghost use Rattle.jack_core.specs.Reading.{the_variable, the_expression, the_arguments};
-ghost use Rattle.jack_machine.specs.Looks.{the_view, Sees, SeesFirst, Loads};
+ghost use Rattle.jack_core.specs.Heights.{takes};
+ghost use Rattle.jack_core.specs.Reading.{the_variable};
+ghost use Rattle.jack_machine.specs.Looks.{the_view, Sees, IsOfCall, Loads};
 
 use crate::words::{operate, sign};
-use jack_core::{Arguments, Expression, Variable};
+use jack_core::{Part, Variable};
 
 /// A frame's arguments and locals, and its `this`.
 #[derive(Drop)]
@@ -23,11 +24,10 @@ pub(crate) struct Memory {
     pub words: Vec<u16>,
 }
 
-/// What comes next in an expression: it is a value already, a part becomes a value, a part becomes the key, a call
-/// is made, or there is no step because of an address outside the memory.
+/// What a part comes to: it becomes a value, it becomes the key, a call is made, or there is no step because of an
+/// address outside the memory.
 #[derive(Clone, Copy, PartialEq, Eq, Debug)]
 pub(crate) enum Sight {
-    Stands(u16),
     Puts(u16),
     Hears,
     Calls(u32),
@@ -39,6 +39,15 @@ pub(crate) fn word_in(words: &[u16], k: usize) -> u16
     ensures { result ≡ slice_index words.now k }
 {
     words.get(k).copied().unwrap_or(0)
+}
+
+/// The last value (1), the one before it (2) and so on.
+pub(crate) fn from_end(values: &[u16], k: usize) -> u16
+    requires some { 0 < k }
+    requires within { k ≤ length values.now }
+    ensures { result ≡ slice_index values.now (length values.now - k) }
+{
+    values[values.len() - k]
 }
 
 fn variable(variables: &Variables, memory: &Memory, x: Variable) -> u16
@@ -64,53 +73,24 @@ fn load(memory: &Memory, address: u16) -> Sight
     }
 }
 
-/// What comes next in an expression.
-#[cycle(look)]
-pub(crate) fn look_at(variables: &Variables, memory: &Memory, e: &Expression) -> Sight
-    ensures { (key : ℕ) → Sees (the_view variables.now memory.now key) (the_expression e.now) result }
+/// What a part makes of the last of these values.
+pub(crate) fn look_at(variables: &Variables, memory: &Memory, values: &[u16], part: Part) -> Sight
+    requires { takes part ≤ length values.now }
+    ensures sees { (key : ℕ) → Sees (the_view variables.now memory.now key) part values.now result }
+    ensures call { IsOfCall part result }
 {
-    match e {
-        Expression::Literal(n) => Sight::Puts(*n),
-        Expression::Value(w) => Sight::Stands(*w),
-        Expression::Name(x) => Sight::Puts(variable(variables, memory, *x)),
-        Expression::This => Sight::Puts(variables.this),
-        Expression::Field(k) => load(memory, word16::add(variables.this, *k)),
-        Expression::Unary(o, a) => match look_at(variables, memory, a) {
-            Sight::Stands(x) => Sight::Puts(sign(*o, x)),
-            other => other,
-        },
-        Expression::Binary(o, a, b) => match look_at(variables, memory, a) {
-            Sight::Stands(x) => match look_at(variables, memory, b) {
-                Sight::Stands(y) => Sight::Puts(operate(*o, x, y)),
-                other => other,
-            },
-            other => other,
-        },
-        Expression::Load(a, i) => match look_at(variables, memory, a) {
-            Sight::Stands(x) => match look_at(variables, memory, i) {
-                Sight::Stands(y) => load(memory, word16::add(x, y)),
-                other => other,
-            },
-            other => other,
-        },
-        Expression::Call(g, es) => match look_at_first(variables, memory, es) {
-            Sight::Stands(_) => Sight::Calls(*g),
-            other => other,
-        },
-        Expression::Open => Sight::Stands(0),
-    }
-}
-
-// The same of the first argument that is no value.
-#[cycle(look)]
-fn look_at_first(variables: &Variables, memory: &Memory, es: &Arguments) -> Sight
-    ensures { (key : ℕ) → SeesFirst (the_view variables.now memory.now key) (the_arguments es.now) result }
-{
-    match es {
-        Arguments::NoMore => Sight::Stands(0),
-        Arguments::More(e, rest) => match look_at(variables, memory, e) {
-            Sight::Stands(_) => look_at_first(variables, memory, rest),
-            other => other,
-        },
+    match part {
+        Part::Literal(n) => Sight::Puts(n),
+        Part::Name(x) => Sight::Puts(variable(variables, memory, x)),
+        Part::This => Sight::Puts(variables.this),
+        Part::Field(k) => load(memory, word16::add(variables.this, k)),
+        Part::Unary(o) => Sight::Puts(sign(o, from_end(values, 1))),
+        Part::Binary(o) => Sight::Puts(operate(o, from_end(values, 2), from_end(values, 1))),
+        Part::Load => {
+            let base = from_end(values, 2);
+            let index = from_end(values, 1);
+            load(memory, word16::add(base, index))
+        }
+        Part::Call(g, _) => Sight::Calls(g),
     }
 }

@@ -1,143 +1,123 @@
-//! One step of an expression, and of the parts of a statement.
+//! The parts of what comes first of a text, in the order in which they become values.
 
-ghost use Rattle.std.specs.Prelude.{◌≡◌, ℕ};
-ghost use Rattle.jack_meaning.specs.Meaning.{filled_first};
-ghost use Rattle.jack_meaning.specs.Text.{Store};
-ghost use Rattle.jack_core.specs.Reading.{the_expression};
-ghost use Rattle.jack_core.specs.Texts.{the_statement};
-ghost use Rattle.jack_machine.specs.Looks.{the_view};
-ghost use Rattle.jack_machine.specs.Advances.{Advances, StatementAdvances, opened_statement};
+ghost use Rattle.std.specs.Prelude.{◌≡◌, ◌++◌, Some, OnOk, OnErr, slice_get};
+ghost use Rattle.jack_core.specs.Heights.{takes};
+ghost use Rattle.jack_machine.specs.Parts.{parts_in, parts_of};
+ghost use Rattle.jack_machine.specs.Fronts.{IsPut, IsSameFront, IsFilled, IsBegun};
 
-use crate::looking::{Memory, Sight, Variables, look_at};
-use crate::replacing::{fill, is_value, replace};
-use jack_core::{Expression, Statement};
+use crate::fronts::{First, Front};
+use jack_core::{Expression, Part, Statement};
+use std::alloc::AllocError;
 
-/// What a step did to an expression: it was a value already, a part has become a value, or the key; or what is left
-/// to be done: a call, or nothing because of an address outside the memory.
-#[derive(Clone, Copy, PartialEq, Eq, Debug)]
-pub(crate) enum Advance {
-    Stands,
-    Acted,
-    Heard,
-    Calls(u32),
-    Strays(u16),
-}
-
-/// Makes the next step of an expression, unless it is a value or comes to a call.
-fn step_expression(variables: &Variables, memory: &Memory, e: &mut Expression, key: u16) -> Advance
-    ensures { Advances (the_view variables.now memory.now key) (the_expression e.old) result (the_expression e.new) }
+/// How many operands a part has.
+pub(crate) fn operands(part: Part) -> usize
+    ensures { result ≡ takes part }
 {
-    match look_at(variables, memory, e) {
-        Sight::Stands(_) => Advance::Stands,
-        Sight::Puts(w) => {
-            replace(e, Expression::Value(w));
-            Advance::Acted
-        }
-        Sight::Hears => {
-            replace(e, Expression::Value(key));
-            Advance::Heard
-        }
-        Sight::Calls(g) => Advance::Calls(g),
-        Sight::Strays(a) => Advance::Strays(a),
+    match part {
+        Part::Literal(_) => 0,
+        Part::Name(_) => 0,
+        Part::This => 0,
+        Part::Field(_) => 0,
+        Part::Unary(_) => 1,
+        Part::Binary(_) => 2,
+        Part::Load => 2,
+        Part::Call(_, n) => n,
     }
 }
 
-// The same for the three parts of a store: base, index, value.
-fn step_store(
-    variables: &Variables,
-    memory: &Memory,
-    base: &mut Expression,
-    index: &mut Expression,
-    value: &mut Expression,
-    key: u16,
-) -> Advance
-    ensures { (n : ℕ) → StatementAdvances (the_view variables.now memory.now key) (Store n (the_expression base.old) (the_expression index.old) (the_expression value.old)) result (Store n (the_expression base.new) (the_expression index.new) (the_expression value.new)) }
+fn part_in(e: &Expression, k: usize) -> Option<Part>
+    ensures { result ≡ slice_get e.now.parts.items k }
 {
-    match step_expression(variables, memory, base, key) {
-        Advance::Stands => match step_expression(variables, memory, index, key) {
-            Advance::Stands => step_expression(variables, memory, value, key),
-            other => other,
-        },
-        other => other,
-    }
+    e.parts.get(k).copied()
 }
 
-/// Makes the next step of the parts of a statement that is no loop.
-pub(crate) fn step_statement(
-    variables: &Variables,
-    memory: &Memory,
-    s: &mut Statement,
-    key: u16,
-) -> Advance
-    ensures { StatementAdvances (the_view variables.now memory.now key) (the_statement s.old) result (the_statement s.new) }
+// The same of three expressions, one after the other.
+fn part_in_store(
+    base: &Expression,
+    index: &Expression,
+    value: &Expression,
+    k: usize,
+) -> Option<Part>
+    ensures { result ≡ slice_get (base.now.parts.items ++ index.now.parts.items ++ value.now.parts.items) k }
+{
+    if k < base.parts.len() {
+        return part_in(base, k);
+    }
+    let k = k - base.parts.len();
+    if k < index.parts.len() {
+        return part_in(index, k);
+    }
+    part_in(value, k - index.parts.len())
+}
+
+fn part_in_statement(s: &Statement, k: usize) -> Option<Part>
+    ensures { result ≡ slice_get (parts_in s.now) k }
 {
     match s {
-        Statement::Let { value, .. } => step_expression(variables, memory, value, key),
-        Statement::LetField { value, .. } => step_expression(variables, memory, value, key),
-        Statement::LetThis { value, .. } => step_expression(variables, memory, value, key),
+        Statement::Let { value, .. } => part_in(value, k),
+        Statement::LetField { value, .. } => part_in(value, k),
+        Statement::LetThis { value, .. } => part_in(value, k),
         Statement::Store {
             base,
             index,
             value,
             ..
-        } => step_store(variables, memory, base, index, value, key),
-        Statement::Do { call, .. } => step_expression(variables, memory, call, key),
-        Statement::If { condition, .. } => step_expression(variables, memory, condition, key),
-        Statement::While { condition, .. } => step_expression(variables, memory, condition, key),
-        Statement::Return { value, .. } => step_expression(variables, memory, value, key),
+        } => part_in_store(base, index, value, k),
+        Statement::Do { call, .. } => part_in(call, k),
+        Statement::If { condition, .. } => part_in(condition, k),
+        Statement::While { condition, .. } => part_in(condition, k),
+        Statement::Return { value, .. } => part_in(value, k),
     }
 }
 
-/// Puts the open call in place of the part that comes next.
-pub(crate) fn open_statement(s: &mut Statement)
-    ensures { the_statement s.new ≡ opened_statement (the_statement s.old) }
+/// The part that is next, if one is left.
+pub(crate) fn next_part(front: &Front) -> Option<Part>
+    ensures { result ≡ slice_get (parts_of front.now.first) front.now.done }
 {
-    match s {
-        Statement::Let { value, .. } => replace(value, Expression::Open),
-        Statement::LetField { value, .. } => replace(value, Expression::Open),
-        Statement::LetThis { value, .. } => replace(value, Expression::Open),
-        Statement::Store {
-            base,
-            index,
-            value,
-            ..
-        } => {
-            if !is_value(base) {
-                replace(base, Expression::Open);
-            } else if !is_value(index) {
-                replace(index, Expression::Open);
+    match front.first {
+        First::Start(init) => {
+            if front.done == 0 {
+                Some(Part::Call(init, 0))
             } else {
-                replace(value, Expression::Open);
+                None
             }
         }
-        Statement::Do { call, .. } => replace(call, Expression::Open),
-        Statement::If { condition, .. } => replace(condition, Expression::Open),
-        Statement::While { condition, .. } => replace(condition, Expression::Open),
-        Statement::Return { value, .. } => replace(value, Expression::Open),
+        First::Statement(s) => part_in_statement(s, front.done),
+        First::Nothing => None,
     }
 }
 
-/// Puts a value in place of the open call.
-pub(crate) fn fill_statement(s: &mut Statement, w: u16)
-    ensures { the_statement s.new ≡ filled_first w (the_statement s.old) }
+/// The part that is next is done: its value stands in place of its operands. Where memory is wanted nothing has
+/// changed.
+pub(crate) fn put(front: &mut Front, part: Part, w: u16) -> Result<(), AllocError>
+    requires { slice_get (parts_of front.old.first) front.old.done ≡ Some part }
+    ensures done { OnOk result (IsPut part w front.old front.new) }
+    ensures refused { OnErr result (IsSameFront front.old front.new) }
 {
-    match s {
-        Statement::Let { value, .. } => fill(value, w),
-        Statement::LetField { value, .. } => fill(value, w),
-        Statement::LetThis { value, .. } => fill(value, w),
-        Statement::Store {
-            base,
-            index,
-            value,
-            ..
-        } => {
-            fill(base, w);
-            fill(index, w);
-            fill(value, w);
-        }
-        Statement::Do { call, .. } => fill(call, w),
-        Statement::If { condition, .. } => fill(condition, w),
-        Statement::While { .. } => {}
-        Statement::Return { value, .. } => fill(value, w),
+    // No memory holds more parts than can be counted.
+    let done = front.done.checked_add(1).ok_or(AllocError)?;
+    front.values.reserve(1)?;
+    let kept = front.values.len() - operands(part);
+    front.values.truncate(kept);
+    front.values.push_reserved(w);
+    front.done = done;
+    Ok(())
+}
+
+/// The value of a call stands where its place was kept.
+pub(crate) fn fill(front: &mut Front, w: u16)
+    ensures { IsFilled w front.old front.new }
+{
+    if let Some(last) = front.values.last_mut() {
+        *last = w;
     }
+}
+
+/// Something else comes first, of which nothing is done.
+pub(crate) fn begin<'a>(front: &mut Front<'a>, first: First<'a>)
+    ensures { IsBegun first.entry front.new }
+{
+    front.values.clear();
+    front.done = 0;
+    front.first = first;
 }

@@ -1,42 +1,30 @@
 //! Small programs, stepped. Their points and words are those of the book's chapters 9 and 12.
 
-ghost use Rattle.std.specs.Prelude.{◌+◌, ◌%◌, ℕ};
-ghost use Rattle.std.proofs.Common.{rules};
+ghost use Rattle.std.specs.Prelude.{◌≡◌, ◌+◌, ◌%◌, ◌^◌, ◌<◌, ℕ, IfOk, Some};
+ghost use Rattle.jack_core.specs.Heights.{height};
 
 use crate::Jack;
 use jack_core::{
-    Arguments, Class, Core, Expression, Kind, Operator, Sign, Statement, Subroutine, Variable,
+    Class, Core, Expression, Kind, Operator, Part, Sign, Statement, Subroutine, Variable,
 };
 use machine_io::{End, Keyboard, Level, Stray, drive};
 use outer_world::Point;
 use std::alloc::{AllocError, Global};
 use std::test::Fail;
 
-fn local(k: u32) -> Expression {
-    Expression::Name(Variable::Local(k))
+// The expression of these parts, in the order in which they become values.
+fn expression(parts: Vec<Part>) -> Expression
+    requires { height 0 parts.items ≡ Some 1 }
+{
+    Expression { parts }
 }
 
-fn unary(alloc: Global, sign: Sign, a: Expression) -> Result<Expression, AllocError> {
-    Ok(Expression::Unary(sign, Box::new(alloc, a)?))
+fn literal(alloc: Global, n: u16) -> Result<Expression, AllocError> {
+    Ok(expression(vec![in alloc; Part::Literal(n)]?))
 }
 
-fn binary(
-    alloc: Global,
-    operator: Operator,
-    a: Expression,
-    b: Expression,
-) -> Result<Expression, AllocError> {
-    Ok(Expression::Binary(operator, Box::new(alloc, a)?, Box::new(alloc, b)?))
-}
-
-fn call(alloc: Global, g: u32) -> Result<Expression, AllocError> {
-    Ok(Expression::Call(g, Box::new(alloc, Arguments::NoMore)?))
-}
-
-fn call_two(alloc: Global, g: u32, a: Expression, b: Expression) -> Result<Expression, AllocError> {
-    let last = Arguments::More(Box::new(alloc, b)?, Box::new(alloc, Arguments::NoMore)?);
-    let both = Arguments::More(Box::new(alloc, a)?, Box::new(alloc, last)?);
-    Ok(Expression::Call(g, Box::new(alloc, both)?))
+fn local(alloc: Global, k: u32) -> Result<Expression, AllocError> {
+    Ok(expression(vec![in alloc; Part::Name(Variable::Local(k))]?))
 }
 
 fn assign(number: u32, k: u32, value: Expression) -> Statement {
@@ -48,20 +36,20 @@ fn assign(number: u32, k: u32, value: Expression) -> Statement {
 }
 
 // let s[k] = value, where s is local 0
-fn store(number: u32, k: u16, value: Expression) -> Statement {
-    Statement::Store {
+fn store(alloc: Global, number: u32, k: u16, value: Expression) -> Result<Statement, AllocError> {
+    Ok(Statement::Store {
         number,
-        base: local(0),
-        index: Expression::Literal(k),
+        base: local(alloc, 0)?,
+        index: literal(alloc, k)?,
         value,
-    }
+    })
 }
 
-fn leave(number: u32) -> Statement {
-    Statement::Return {
+fn leave(alloc: Global, number: u32) -> Result<Statement, AllocError> {
+    Ok(Statement::Return {
         number,
-        value: Expression::Literal(0),
-    }
+        value: literal(alloc, 0)?,
+    })
 }
 
 fn function(locals: u32, body: Vec<Statement>) -> Subroutine {
@@ -79,9 +67,9 @@ fn program(alloc: Global, main: Subroutine) -> Result<Core, AllocError> {
     let init = vec![in alloc;
         Statement::Do {
             number: 1,
-            call: call(alloc, 2)?
+            call: expression(vec![in alloc; Part::Call(2, 0)]?)
         },
-        leave(2),
+        leave(alloc, 2)?,
     ]?;
     let start = function(0, Vec::new(alloc));
     Ok(Core {
@@ -101,12 +89,22 @@ fn program(alloc: Global, main: Subroutine) -> Result<Core, AllocError> {
     })
 }
 
-// let s = a; let s[0] = 1; return;
-fn stores_one(alloc: Global, a: u16) -> Result<Core, AllocError> {
+// let s = 16384; let s[0] = value; return;
+fn puts(alloc: Global, value: Expression) -> Result<Core, AllocError> {
     let body = vec![in alloc;
-        assign(1, 0, Expression::Literal(a)),
-        store(2, 0, Expression::Literal(1)),
-        leave(3),
+        assign(1, 0, literal(alloc, 16384)?),
+        store(alloc, 2, 0, value)?,
+        leave(alloc, 3)?,
+    ]?;
+    program(alloc, function(1, body))
+}
+
+// let s = 100; let s[0] = 1; return;
+fn strays(alloc: Global) -> Result<Core, AllocError> {
+    let body = vec![in alloc;
+        assign(1, 0, literal(alloc, 100)?),
+        store(alloc, 2, 0, literal(alloc, 1)?)?,
+        leave(alloc, 3)?,
     ]?;
     program(alloc, function(1, body))
 }
@@ -125,7 +123,8 @@ impl Keyboard for Counting {
 #[test]
 fn a_store_to_the_screen(rt: HostRuntime) -> Result<(), Fail> {
     let alloc = rt.alloc();
-    let mut jack = Jack::new(alloc, stores_one(alloc, 16384)?)?;
+    let core = puts(alloc, literal(alloc, 1)?)?;
+    let mut jack = Jack::new(alloc, &core)?;
     assert_eq!(rt; jack.point(), Point { sub: 0, number: 1 });
     assert_eq!(rt; drive(&mut jack, &Counting, 100)?, End::Done);
     assert_eq!(rt;
@@ -141,7 +140,8 @@ fn a_store_to_the_screen(rt: HostRuntime) -> Result<(), Fail> {
 #[test]
 fn a_store_outside_the_memory(rt: HostRuntime) -> Result<(), Fail> {
     let alloc = rt.alloc();
-    let mut jack = Jack::new(alloc, stores_one(alloc, 100)?)?;
+    let core = strays(alloc)?;
+    let mut jack = Jack::new(alloc, &core)?;
     assert_eq!(rt;
         drive(&mut jack, &Counting, 100)?,
         End::Stray(Stray::Address(100))
@@ -157,29 +157,35 @@ fn a_store_outside_the_memory(rt: HostRuntime) -> Result<(), Fail> {
     Ok(())
 }
 
-// let i = 3; while (i) { let s[i] = ~i; let i = i - 1; }
+// while (i) { let s[i] = ~i; let i = i - 1; }
+fn turns(alloc: Global) -> Result<Statement, AllocError> {
+    let i = Part::Name(Variable::Local(1));
+    let inverse = expression(vec![in alloc; i, Part::Unary(Sign::Complement)]?);
+    let next = expression(vec![in alloc; i, Part::Literal(1), Part::Binary(Operator::Subtract)]?);
+    let put = Statement::Store {
+        number: 4,
+        base: local(alloc, 0)?,
+        index: local(alloc, 1)?,
+        value: inverse,
+    };
+    Ok(Statement::While {
+        number: 3,
+        condition: local(alloc, 1)?,
+        body: vec![in alloc; put, assign(5, 1, next)]?,
+    })
+}
+
 #[test]
 fn a_loop(rt: HostRuntime) -> Result<(), Fail> {
     let alloc = rt.alloc();
-    let next = binary(alloc, Operator::Subtract, local(1), Expression::Literal(1))?;
-    let put = Statement::Store {
-        number: 4,
-        base: local(0),
-        index: local(1),
-        value: unary(alloc, Sign::Complement, local(1))?,
-    };
-    let turn = Statement::While {
-        number: 3,
-        condition: local(1),
-        body: vec![in alloc; put, assign(5, 1, next)]?,
-    };
     let body = vec![in alloc;
-        assign(1, 0, Expression::Literal(2048)),
-        assign(2, 1, Expression::Literal(3)),
-        turn,
-        leave(6),
+        assign(1, 0, literal(alloc, 2048)?),
+        assign(2, 1, literal(alloc, 3)?),
+        turns(alloc)?,
+        leave(alloc, 6)?,
     ]?;
-    let mut jack = Jack::new(alloc, program(alloc, function(2, body))?)?;
+    let core = program(alloc, function(2, body))?;
+    let mut jack = Jack::new(alloc, &core)?;
     assert_eq!(rt; drive(&mut jack, &Counting, 100)?, End::Done);
     assert_eq!(rt; jack.moves(), 47);
     assert_eq!(rt;
@@ -189,60 +195,111 @@ fn a_loop(rt: HostRuntime) -> Result<(), Fail> {
     Ok(())
 }
 
+// i[0], where i is local 1
+fn first_of(alloc: Global) -> Result<Expression, AllocError> {
+    let i = Part::Name(Variable::Local(1));
+    Ok(expression(vec![in alloc; i, Part::Literal(0), Part::Load]?))
+}
+
 // let i = 24576; let s[0] = i[0]; let s[1] = i[0];
 #[test]
 fn two_keys(rt: HostRuntime) -> Result<(), Fail> {
     let alloc = rt.alloc();
-    let first = Expression::Load(
-        Box::new(alloc, local(1))?,
-        Box::new(alloc, Expression::Literal(0))?,
-    );
-    let second = Expression::Load(
-        Box::new(alloc, local(1))?,
-        Box::new(alloc, Expression::Literal(0))?,
-    );
     let body = vec![in alloc;
-        assign(1, 0, Expression::Literal(16384)),
-        assign(2, 1, Expression::Literal(24576)),
-        store(3, 0, first),
-        store(4, 1, second),
-        leave(5),
+        assign(1, 0, literal(alloc, 16384)?),
+        assign(2, 1, literal(alloc, 24576)?),
+        store(alloc, 3, 0, first_of(alloc)?)?,
+        store(alloc, 4, 1, first_of(alloc)?)?,
+        leave(alloc, 5)?,
     ]?;
-    let mut jack = Jack::new(alloc, program(alloc, function(2, body))?)?;
+    let core = program(alloc, function(2, body))?;
+    let mut jack = Jack::new(alloc, &core)?;
     assert_eq!(rt; drive(&mut jack, &Counting, 100)?, End::Done);
     assert_eq!(rt; jack.moves(), 24);
     assert_eq!(rt; (jack.word_at(16384), jack.word_at(16385)), (11, 17));
     Ok(())
 }
 
-// Number 3 is a method of two arguments: return this - x; and Main.main does let s[0] = 100.get(58).
-#[test]
-fn a_method(rt: HostRuntime) -> Result<(), Fail> {
-    let alloc = rt.alloc();
-    let value = binary(
-        alloc,
-        Operator::Subtract,
-        Expression::This,
-        Expression::Name(Variable::Argument(1)),
-    )?;
-    let get = Subroutine {
+// A method of two arguments: return this - x;
+fn difference(alloc: Global) -> Result<Subroutine, AllocError> {
+    let x = Part::Name(Variable::Argument(1));
+    let value = expression(vec![in alloc; Part::This, x, Part::Binary(Operator::Subtract)]?);
+    Ok(Subroutine {
         kind: Kind::Method,
         class: 0,
         arguments: 2,
         locals: 0,
         body: vec![in alloc; Statement::Return { number: 1, value }]?,
-    };
-    let asked = call_two(alloc, 3, Expression::Literal(100), Expression::Literal(58))?;
-    let body = vec![in alloc;
-        assign(1, 0, Expression::Literal(16384)),
-        store(2, 0, asked),
-        leave(3),
-    ]?;
-    let mut core = program(alloc, function(1, body))?;
-    core.subroutines.push(get)?;
-    let mut jack = Jack::new(alloc, core)?;
+    })
+}
+
+// Number 3 is the method `get`, and Main.main does let s[0] = 1 - 100.get(58); so the value 1 waits for the call.
+#[test]
+fn a_method(rt: HostRuntime) -> Result<(), Fail> {
+    let alloc = rt.alloc();
+    let asked = expression(vec![in alloc;
+        Part::Literal(1),
+        Part::Literal(100),
+        Part::Literal(58),
+        Part::Call(3, 2),
+        Part::Binary(Operator::Subtract),
+    ]?);
+    let mut core = puts(alloc, asked)?;
+    core.subroutines.push(difference(alloc)?)?;
+    let mut jack = Jack::new(alloc, &core)?;
     assert_eq!(rt; drive(&mut jack, &Counting, 100)?, End::Done);
-    assert_eq!(rt; jack.moves(), 20);
-    assert_eq!(rt; jack.word_at(16384), 42);
+    assert_eq!(rt; jack.moves(), 22);
+    assert_eq!(rt; jack.word_at(16384), 65495);
+    Ok(())
+}
+
+// 1 - 1 - 1 .., with so many operators
+fn left_nested(alloc: Global, n: usize) -> Result<Expression, AllocError> {
+    let mut parts = vec![in alloc; Part::Literal(1)]?;
+    for _ in 0..n {
+        parts.push(Part::Literal(1))?;
+        parts.push(Part::Binary(Operator::Subtract))?;
+    }
+    Ok(expression(parts))
+}
+
+fn ones(alloc: Global, n: usize) -> Result<Vec<Part>, AllocError>
+    ensures { IfOk result (λ parts. height 0 parts.items ≡ Some n) }
+{
+    let mut parts = Vec::new(alloc);
+    for _ in 0..n {
+        parts.push(Part::Literal(1))?;
+    }
+    Ok(parts)
+}
+
+// 1 - (1 - (1 - ..)), with so many operators
+fn right_nested(alloc: Global, n: usize) -> Result<Expression, AllocError>
+    requires { n < 2 ^ 32 }
+{
+    let mut parts = ones(alloc, n + 1)?;
+    for _ in 0..n {
+        parts.push(Part::Binary(Operator::Subtract))?;
+    }
+    Ok(expression(parts))
+}
+
+#[test]
+fn an_expression_as_deep_as_long(rt: HostRuntime) -> Result<(), Fail> {
+    let alloc = rt.alloc();
+    let core = puts(alloc, left_nested(alloc, 50_000)?)?;
+    let mut jack = Jack::new(alloc, &core)?;
+    assert_eq!(rt; drive(&mut jack, &Counting, 200_000)?, End::Done);
+    assert_eq!(rt; (jack.moves(), jack.word_at(16384)), (100_014, 15_537));
+    Ok(())
+}
+
+#[test]
+fn an_expression_nested_to_the_right(rt: HostRuntime) -> Result<(), Fail> {
+    let alloc = rt.alloc();
+    let core = puts(alloc, right_nested(alloc, 50_000)?)?;
+    let mut jack = Jack::new(alloc, &core)?;
+    assert_eq!(rt; drive(&mut jack, &Counting, 200_000)?, End::Done);
+    assert_eq!(rt; (jack.moves(), jack.word_at(16384)), (100_014, 1));
     Ok(())
 }

@@ -1,215 +1,155 @@
-//! The rest of a frame's text: a vector of statements whose last one comes first.
+//! The rest of a frame's text.
 
-ghost use Rattle.std.specs.Prelude.{◌≡◌, ◌+◌, ◌<◌, ◌≤◌, ◌++◌, ◌∷◌, [], if◌then◌else◌, nat_eq, IfOk, OnOk, OnErr};
+ghost use Rattle.std.specs.Prelude.{◌≡◌, ◌+◌, ◌<◌, IfOk, OnOk, OnErr, List, [], nat_eq, if◌then◌else◌};
 ghost use Rattle.std.specs.Vec.{vec_len, vec_capacity};
-ghost use Rattle.jack_meaning.specs.Text.{Next, While, joined};
-ghost use Rattle.jack_core.specs.Reading.{the_expression};
-ghost use Rattle.jack_meaning.specs.Meaning.{filled_text};
-ghost use Rattle.jack_machine.specs.Looks.{the_view};
+ghost use Rattle.jack_meaning.specs.Text.{Expression as AnExpression, Next, joined, number_of};
+ghost use Rattle.jack_meaning.specs.Meaning.{text_point};
+ghost use Rattle.jack_core.specs.Reading.{built};
 ghost use Rattle.jack_core.specs.Texts.{the_statement, the_block};
-ghost use Rattle.jack_machine.specs.Texts.{the_rest};
-ghost use Rattle.jack_machine.specs.Rests.{TextAdvances, passed_text, opened_text, unfolded_text, chosen_text, text_tail, BeginsWith};
-ghost use Rattle.jack_machine.specs.Loops.{IsLoopOf};
+ghost use Rattle.jack_machine.specs.Parts.{parts_of};
+ghost use Rattle.jack_machine.specs.Texts.{the_after, the_text, begun, written, chosen_text};
 
-use crate::copying::{copy_expression, copy_statements};
-use crate::looking::{Memory, Variables};
-use crate::parts::{Advance, fill_statement, open_statement, step_statement};
-use crate::passing::arguments;
-use jack_core::{Expression, Statement};
+use crate::fronts::{First, Front};
+use crate::parts::begin;
+use jack_core::Statement;
 use std::alloc::{AllocError, Global};
 
-/// Makes the next step of the parts of the first statement, where there is one.
-pub(crate) fn step_first(
-    variables: &Variables,
-    memory: &Memory,
-    text: &mut Vec<Statement>,
-    key: u16,
-) -> Option<Advance>
-    ensures { TextAdvances (the_view variables.now memory.now key) (the_rest text.old.items) result (the_rest text.new.items) }
-{
-    match text.last_mut() {
-        None => None,
-        Some(first) => Some(step_statement(variables, memory, first, key)),
-    }
+/// Statements of one block that follow: the first of them, and those behind it.
+#[derive(Clone, Copy)]
+pub(crate) struct Row<'a> {
+    pub first: &'a Statement,
+    pub others: &'a [Statement],
 }
 
-/// The arguments of the call that the first statement comes to.
-pub(crate) fn first_arguments(alloc: Global, text: &[Statement]) -> Result<Vec<u16>, AllocError>
-    ensures { IfOk result (λ xs. xs.items ≡ passed_text (the_rest text.now)) }
-{
-    match text.last() {
-        None => Ok(Vec::new(alloc)),
-        Some(first) => arguments(alloc, first),
-    }
-}
-
-/// Puts the open call in place of the part that comes next.
-pub(crate) fn open_first(text: &mut Vec<Statement>)
-    ensures { the_rest text.new.items ≡ opened_text (the_rest text.old.items) }
-{
-    if let Some(first) = text.last_mut() {
-        open_statement(first);
-    }
-}
-
-/// Puts a value in place of the open call.
-pub(crate) fn fill_first(text: &mut Vec<Statement>, w: u16)
-    ensures { the_rest text.new.items ≡ filled_text w (the_rest text.old.items) }
-{
-    if let Some(first) = text.last_mut() {
-        fill_statement(first, w);
-    }
-}
-
-// A copy of a loop, with room for one statement more.
+/// The rest of a text: what comes first, and the rows that follow, the innermost last.
 #[derive(Drop)]
-struct Loop {
-    number: u32,
-    condition: Expression,
-    body: Vec<Statement>,
+pub(crate) struct Text<'a> {
+    pub front: Front<'a>,
+    pub after: Vec<Row<'a>>,
 }
 
-fn copy_with_room(alloc: Global, body: &[Statement]) -> Result<Vec<Statement>, AllocError>
-    ensures same { IfOk result (λ r. the_block r.items ≡ the_block body.now) }
-    ensures room { IfOk result (λ r. vec_len r < vec_capacity r) }
+// The next statement of the innermost row; nothing, where no row is left.
+fn take_next<'a>(after: &mut Vec<Row<'a>>) -> First<'a>
+    ensures { (es : List AnExpression) → begun result 0 es (the_after after.new.items) ≡ the_after after.old.items }
 {
-    let mut copy = copy_statements(alloc, body)?;
-    copy.reserve(1)?;
-    Ok(copy)
-}
-
-// A copy of a statement that is a loop.
-fn copy_loop(alloc: Global, s: &Statement) -> Result<Option<Loop>, AllocError>
-    ensures { IfOk result (IsLoopOf (the_statement s.now)) }
-{
-    match s {
-        Statement::While {
-            number,
-            condition,
-            body,
-        } => {
-            let condition = copy_expression(alloc, condition)?;
-            let body = copy_with_room(alloc, body)?;
-            Ok(Some(Loop {
-                number: *number,
-                condition,
-                body,
-            }))
-        }
-        _ => Ok(None),
-    }
-}
-
-// One more statement, where there is room for it.
-fn put_last(text: &mut Vec<Statement>, s: Statement)
-    requires { vec_len text.old < vec_capacity text.old }
-    ensures { text.new.items ≡ text.old.items ++ s ∷ [] }
-{
-    let _room = text.push(s);
-}
-
-// The loop goes to the end of its turn, which takes its place.
-fn unfold(alloc: Global, text: &mut Vec<Statement>, copy: Loop)
-    requires same { BeginsWith (While copy.number (the_expression copy.condition) (the_block copy.body.items)) (the_rest text.old.items) }
-    requires room { vec_len copy.body < vec_capacity copy.body }
-    ensures { the_rest text.new.items ≡ unfolded_text (the_rest text.old.items) }
-{
-    let Loop {
-        number,
-        condition,
-        body: mut holds,
-    } = copy;
-    if let Some(again) = text.pop() {
-        put_last(&mut holds, again);
-        let fails = Vec::new(alloc);
-        let choice = Statement::If {
-            number,
-            condition,
-            holds,
-            fails,
-        };
-        put_last(text, choice);
-    }
-}
-
-/// Reads a loop that comes first as a choice: its turn ends with the loop itself. All memory is taken before the
-/// change.
-pub(crate) fn unfold_first(alloc: Global, text: &mut Vec<Statement>) -> Result<(), AllocError>
-    ensures done { OnOk result (the_rest text.new.items ≡ unfolded_text (the_rest text.old.items)) }
-    ensures refused { OnErr result (text.new.items ≡ text.old.items) }
-{
-    let copied = match text.last() {
-        None => return Ok(()),
-        Some(first) => copy_loop(alloc, first)?,
-    };
-    match copied {
-        None => Ok(()),
-        Some(copy) => {
-            unfold(alloc, text, copy);
-            Ok(())
+    match after.pop() {
+        None => First::Nothing,
+        Some(row) => {
+            if let Some((first, others)) = row.others.split_first() {
+                after.push_reserved(Row { first, others });
+            }
+            First::Statement(row.first)
         }
     }
 }
 
-// Statements come before the rest of a text.
-fn put_before(text: &mut Vec<Statement>, mut branch: Vec<Statement>)
-    requires { vec_len text.old + vec_len branch ≤ vec_capacity text.old }
-    ensures { the_rest text.new.items ≡ joined (the_block branch.items) (the_rest text.old.items) }
+/// The first statement is taken off, and the next one comes first.
+pub(crate) fn advance(text: &mut Text)
+    ensures { the_text text.new ≡ the_after text.old.after.items }
 {
-    branch.reverse();
-    let _room = text.append(&mut branch);
+    let first = take_next(&mut text.after);
+    begin(&mut text.front, first);
 }
 
-fn branch_of(w: u16, holds: Vec<Statement>, fails: Vec<Statement>) -> Vec<Statement>
-    ensures { result ≡ (if nat_eq w 0 then fails else holds) }
+// A block goes before what follows.
+fn push_block<'a>(after: &mut Vec<Row<'a>>, block: &'a [Statement])
+    requires { vec_len after.old < vec_capacity after.old }
+    ensures { the_after after.new.items ≡ joined (the_block block.now) (the_after after.old.items) }
+{
+    if let Some((first, others)) = block.split_first() {
+        after.push_reserved(Row { first, others });
+    }
+}
+
+// A loop goes before what follows, to come again.
+fn push_loop<'a>(after: &mut Vec<Row<'a>>, first: &'a Statement)
+    requires { vec_len after.old < vec_capacity after.old }
+    ensures text { the_after after.new.items ≡ Next (the_statement first.now) (the_after after.old.items) }
+    ensures len { vec_len after.new ≡ vec_len after.old + 1 }
+    ensures capacity { vec_capacity after.new ≡ vec_capacity after.old }
+{
+    let others: &[Statement] = &[];
+    let row = Row { first, others };
+    after.push_reserved(row);
+}
+
+fn branch_of<'a>(w: u16, holds: &'a [Statement], fails: &'a [Statement]) -> &'a [Statement]
+    ensures { result.now ≡ (if nat_eq w 0 then fails.now else holds.now) }
 {
     if w == 0 { fails } else { holds }
 }
 
-// The choice that was taken off: its branch comes next.
-fn take_choice(text: &mut Vec<Statement>, choice: Statement, w: u16) -> Result<(), AllocError>
-    requires { vec_len text.old < vec_capacity text.old }
-    ensures done { OnOk result (the_rest text.new.items ≡ chosen_text w (Next (the_statement choice) (the_rest text.old.items))) }
-    ensures refused { OnErr result (text.new.items ≡ text.old.items ++ choice ∷ []) }
+/// A choice is taken: any value but 0 takes its first branch. That of a loop is a turn, and the loop again. Where memory is
+/// wanted nothing has changed.
+pub(crate) fn choose<'a>(
+    after: &mut Vec<Row<'a>>,
+    choice: &'a Statement,
+    w: u16,
+) -> Result<(), AllocError>
+    ensures done { OnOk result ((es : List AnExpression) → the_after after.new.items ≡ chosen_text w (Next (written choice.now es) (the_after after.old.items))) }
+    ensures refused { OnErr result (after.new.items ≡ after.old.items) }
 {
+    after.reserve(2)?;
     match choice {
-        Statement::If {
-            number,
-            condition,
-            holds,
-            fails,
-        } => {
-            if text.reserve(holds.len().max(fails.len())).is_err() {
-                let choice = Statement::If {
-                    number,
-                    condition,
-                    holds,
-                    fails,
-                };
-                put_last(text, choice);
-                return Err(AllocError);
+        Statement::If { holds, fails, .. } => push_block(after, branch_of(w, holds, fails)),
+        Statement::While { body, .. } => {
+            if w != 0 {
+                push_loop(after, choice);
+                push_block(after, body);
             }
-            put_before(text, branch_of(w, holds, fails));
-            Ok(())
         }
-        _ => Ok(()),
+        _ => {}
+    }
+    Ok(())
+}
+
+// The number of a statement.
+fn number_in(s: &Statement) -> u32
+    ensures { result ≡ number_of (the_statement s.now) }
+{
+    match s {
+        Statement::Let { number, .. } => *number,
+        Statement::LetField { number, .. } => *number,
+        Statement::LetThis { number, .. } => *number,
+        Statement::Store { number, .. } => *number,
+        Statement::Do { number, .. } => *number,
+        Statement::If { number, .. } => *number,
+        Statement::While { number, .. } => *number,
+        Statement::Return { number, .. } => *number,
     }
 }
 
-/// Takes the choice that comes first: any value but 0 takes its first branch. Where memory is wanted the text stays.
-pub(crate) fn choose(text: &mut Vec<Statement>, w: u16) -> Result<(), AllocError>
-    ensures done { OnOk result (the_rest text.new.items ≡ chosen_text w (the_rest text.old.items)) }
-    ensures refused { OnErr result (text.new.items ≡ text.old.items) }
+/// The number of the first statement; 2 where none is left.
+pub(crate) fn first_number(text: &Text) -> u32
+    ensures { result ≡ text_point (the_text text.now) }
 {
-    match text.pop() {
-        None => Ok(()),
-        Some(choice) => take_choice(text, choice, w),
+    match text.front.first {
+        First::Start(_) => 1,
+        First::Statement(s) => number_in(s),
+        First::Nothing => 2,
     }
 }
 
-/// Takes the first statement off.
-pub(crate) fn drop_first(text: &mut Vec<Statement>)
-    ensures { the_rest text.new.items ≡ text_tail (the_rest text.old.items) }
+/// A text that begins with a block, and nothing behind it.
+pub(crate) fn text_of_block(alloc: Global, block: &[Statement]) -> Result<Text, AllocError>
+    ensures { IfOk result (λ t. the_text t ≡ the_block block.now) }
 {
-    text.pop();
+    let mut after = Vec::new(alloc);
+    after.reserve(1)?;
+    push_block(&mut after, block);
+    let first = take_next(&mut after);
+    Ok(text_with(alloc, first, after))
+}
+
+/// A text of which nothing is done.
+pub(crate) fn text_with<'a>(alloc: Global, first: First<'a>, after: Vec<Row<'a>>) -> Text<'a>
+    ensures { the_text result ≡ begun first.entry 0 (built [] (parts_of first.entry)) (the_after after.entry.items) }
+{
+    let values = Vec::new(alloc);
+    let front = Front {
+        first,
+        done: 0,
+        values,
+    };
+    Text { front, after }
 }

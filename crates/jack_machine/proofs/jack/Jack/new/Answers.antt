@@ -1,9 +1,6 @@
 -- The start of a program.
-use Rattle.std.proofs.Common.{refl, ap}
-use Rattle.jack_meaning.specs.Meaning.{start}
-use Rattle.jack_core.specs.Texts.{the_program}
+use Rattle.std.proofs.Common.{ap}
 use Rattle.jack_machine.specs.Machine.{the_stack}
-use Rattle.jack_machine.specs.Whole.{settled}
 use Rattle.jack_machine.specs.declared.looking.Memory.{Memory}
 use Rattle.jack_machine.proofs.Histories.{start_state}
 use Rattle.jack_machine.proofs.jack.Jack.new.Goals as goal
@@ -12,11 +9,10 @@ pub returns-clause-start : goal.returns-clause-start
 returns-clause-start c =
     let memory : Memory = record { statics = c.in_ok-statics.statics; words = c.in_ok-words.words } in
     let statics = rw c.deref.ensures.value at c.in_ok-statics.ensures in
-    start_state c.args.core c.in_ok-top.top memory (the_stack c.new.result.items) c.in_ok-top.ensures statics (c.in_ok-words.ensures.items_if_clones_equal (λ y h. h)) (ap the_stack c.new.ensures.items)
+    start_state c.args.core.now c.first_frame.result memory (the_stack c.new.result.items) c.first_frame.ensures statics (c.in_ok-words.ensures.items_if_clones_equal (λ y h. h)) (ap the_stack c.new.ensures.items)
 
 pub returns-clause-stands : goal.returns-clause-stands
 returns-clause-stands c =
     let memory : Memory = record { statics = c.in_ok-statics.statics; words = c.in_ok-words.words } in
     let statics = rw c.deref.ensures.value at c.in_ok-statics.ensures in
-    let begun = start_state c.args.core c.in_ok-top.top memory (the_stack c.new.result.items) c.in_ok-top.ensures statics (c.in_ok-words.ensures.items_if_clones_equal (λ y h. h)) (ap the_stack c.new.ensures.items) in
-    (start (the_program c.args.core), refl, ap settled begun)
+    start_state c.args.core.now c.first_frame.result memory (the_stack c.new.result.items) c.first_frame.ensures statics (c.in_ok-words.ensures.items_if_clones_equal (λ y h. h)) (ap the_stack c.new.ensures.items)
