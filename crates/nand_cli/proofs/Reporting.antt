@@ -27,14 +27,14 @@ use Rattle.nand_cli.specs.declared.refusal.Failure.{Failure}
 use Rattle.nand_cli.proofs.Loading.{nothing_put}
 
 pub reported : (files : Option Files) (folder : List ℕ) (n : ℕ) (keys : Option (List ℕ)) (show : Show) (core : Core) (subs : List (List ℕ)) (new : Jack) (lines : List Line) (end : End)
-    → FolderMeans files folder (named_core core) → subs ≡ names_in core → HasKeys files keys lines → new.core ≡ core → HasRun (code_at lines) n new end
+    → FolderMeans files folder (named_core core) → subs ≡ names_in core → HasKeys files keys lines → new.core.now ≡ core → HasRun (code_at lines) n new end
     → Prints files (run folder levels.Jack n keys show) (jack_text new subs end show) []
 reported files folder n keys show core subs new lines end means named has same (s, at, ends_so, shows) =
     let own = named ∙ sym (ap names_in same) in
     let text = ap (λ (ss : List (List ℕ)). jack_text new ss end show) own
-    ∙ ap (λ (p : Point). report_text names.Jack new.moves new.moves (name_of (names_in new.core) p.sub) p.number end show (jack_word new)) shows.point
-    ∙ ap (λ (ws : List ℕ). report_text names.Jack new.moves new.moves (name_of (names_in new.core) (point_in s).sub) (point_in s).number end show (λ a. slice_index ws (a - 2048))) shows.words in (
-      named_core new.core,
+    ∙ ap (λ (p : Point). report_text names.Jack new.moves new.moves (name_of (names_in new.core.now) p.sub) p.number end show (jack_word new)) shows.point
+    ∙ ap (λ (ws : List ℕ). report_text names.Jack new.moves new.moves (name_of (names_in new.core.now) (point_in s).sub) (point_in s).number end show (λ a. slice_index ws (a - 2048))) shows.words in (
+      named_core new.core.now,
       lines,
       subst (λ (c : Core). FolderMeans files folder (named_core c)) (sym same) means,
       has,

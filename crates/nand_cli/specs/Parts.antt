@@ -195,8 +195,8 @@ pub record Shows (jack : Jack) (s : State) : Type 0 where
 -- The machine stands where n moves from the start of its program end.
 abbrev pub HasRun : (ℕ → ℕ) → ℕ → Jack → End → Type 0
 HasRun code n jack end =
-    (s : State) × (state_after (meaning_of (the_subroutines jack.core)) code (start (the_program jack.core)) jack.moves ≡ Some s)
-    × EndsAt (the_subroutines jack.core) code n jack.moves s end × Shows jack s
+    (s : State) × (state_after (meaning_of (the_subroutines jack.core.now)) code (start (the_program jack.core.now)) jack.moves ≡ Some s)
+    × EndsAt (the_subroutines jack.core.now) code n jack.moves s end × Shows jack s
 
 -- the report of what a machine shows
 abbrev pub jack_text : Jack → List (List ℕ) → End → Show → List ℕ

@@ -34,7 +34,7 @@ fn run_jack(jack: &mut Jack, keys: &Keys, moves: u32) -> Result<End, AllocError>
     requires stands { Stands jack.old [] }
     requires first { jack.old.moves ≡ 0 }
     ensures ran { IfOk result (λ end. HasRun (code_at keys.now.lines.items) moves jack.new end) }
-    ensures core { jack.new.core ≡ jack.old.core }
+    ensures core { jack.new.core.now ≡ jack.old.core.now }
 {
     drive(jack, keys, u64::from(moves))
 }
@@ -68,7 +68,7 @@ fn answer_jack<F: Shelf, O: Sink>(
     ensures kept { F.files shelf.new ≡ F.files shelf.old }
 {
     let Program { core, names } = load_jack(alloc, request.folder, shelf)?;
-    let mut jack = Jack::new(alloc, core)?;
+    let mut jack = Jack::new(alloc, &core)?;
     let keys = load_keys(alloc, request.keys, shelf)?;
     let end = run_jack(&mut jack, &keys, request.cycles)?;
     match put_jack(&jack, &names, end, request.show, out) {

@@ -158,6 +158,37 @@ fn with_stores(alloc: Global, stores: u32) -> Result<String, Fail> {
     Ok(text)
 }
 
+// A class Main whose `main` stores this value, to which the same is done so many times.
+fn with_chain(alloc: Global, first: &str, operation: &str, times: u32) -> Result<String, Fail> {
+    let mut text = String::from_str(
+        alloc,
+        "class Main { function void main() { var Array a; let a = 2048; let a[0] = ",
+    )?;
+    text.push_str(first)?;
+    for _ in 0..times {
+        text.push_str(operation)?;
+    }
+    text.push_str("; } }")?;
+    Ok(text)
+}
+
+// However many operators stand in a row, they are read, resolved and stepped: nothing is as deep as an expression is long.
+#[test]
+fn a_long_expression_runs(rt: HostRuntime) -> Result<(), Fail> {
+    let alloc = rt.alloc();
+    let text = with_chain(alloc, "0", " + 1", 100_000)?;
+    let files = [("Main.jack", text.as_str())];
+    // 100,000 is 65,536 and 34,464
+    let report = "level jack\nmoves 200014\nsteps 200014\npoint start 2\nend done\n2048 -31072\n";
+    let bound = "--cycles 1000000 --show heap";
+    reports(&rt, alloc, &files, bound, report)?;
+    // each product is a call in the first argument of the next
+    let text = with_chain(alloc, "3", " * 1", 20_000)?;
+    let files = [("Main.jack", text.as_str()), ("Math.jack", MATH)];
+    let report = "level jack\nmoves 400014\nsteps 400014\npoint start 2\nend done\n2048 3\n";
+    reports(&rt, alloc, &files, bound, report)
+}
+
 // The computer has 240 static words and 32,768 words of code; the meaning has no such limits.
 #[test]
 fn the_computer_has_limits(rt: HostRuntime) -> Result<(), Fail> {

@@ -16,6 +16,11 @@ returns-in_err-core-clause-does g c = λ err.
     let p = err_from_is_err_and c.from_residual.result c.from_residual.ensures.1 in
     rw (p.1, p.2) (without_jack levels.Jack _ request.folder.now request.cycles (option_map (λ keys. keys.now) request.keys) request.show _ err _ c.in_err-core.ensures.loads)
 
+pub returns-in_err-jack-clause-does : goal.returns-in_err-jack-clause-does
+returns-in_err-jack-clause-does g c = λ err.
+    let p = err_from_is_err_and c.from_residual-in_err-jack.result c.from_residual-in_err-jack.ensures.1 in
+    rw (p.1, p.2) ([], [], (refl, refl), Got-nothing _, Got-nothing err)
+
 pub returns-in_err-keys-clause-does : goal.returns-in_err-keys-clause-does
 returns-in_err-keys-clause-does g c = λ err.
     let request = c.args.request.now in
@@ -38,7 +43,7 @@ returns-in-Done-clause-does g c = λ err.
     let keys = subst P c.in_ok-core.ensures.kept c.in_ok-keys.ensures.loads in
     let made = c.in_ok-core.ensures.loads in
     let named = c.deref.ensures.value ∙ made.1 in
-    let same : c.run_jack.new.jack.core ≡ program.core = (let a = c.in_ok-end.ensures.core in let b = c.in_ok-jack.ensures.core in let d = c.in_ok-core.core-is in cc) in (
+    let same : c.run_jack.new.jack.core.now ≡ program.core = (let a = c.in_ok-end.ensures.core in let b = c.in_ok-jack.ensures.core in let d = c.in_ok-core.core-is in cc) in (
       jack_text c.run_jack.new.jack c.deref.result.now c.in_ok-end.end request.show,
       [],
       reported _ request.folder.now request.cycles path request.show program.core c.deref.result.now c.run_jack.new.jack c.in_ok-keys.keys.lines.items c.in_ok-end.end made.0 named keys
@@ -56,7 +61,7 @@ returns-clause-does g c = λ err.
     let keys = subst P c.in_ok-core.ensures.kept c.in_ok-keys.ensures.loads in
     let made = c.in_ok-core.ensures.loads in
     let named = c.deref.ensures.value ∙ made.1 in
-    let same : c.run_jack.new.jack.core ≡ program.core = (let a = c.in_ok-end.ensures.core in let b = c.in_ok-jack.ensures.core in let d = c.in_ok-core.core-is in cc) in (
+    let same : c.run_jack.new.jack.core.now ≡ program.core = (let a = c.in_ok-end.ensures.core in let b = c.in_ok-jack.ensures.core in let d = c.in_ok-core.core-is in cc) in (
       status.Done,
       jack_text c.run_jack.new.jack c.deref.result.now c.in_ok-end.end request.show,
       [],
