@@ -18,7 +18,7 @@ pub record Leaves (at : Place) (bs : List ℕ) (p : Place) (rest : List ℕ) : T
   pub no_longer : length rest ≤ length bs
   pub no_blank : blank rest ≡ Other
 
-abbrev found : Place × List ℕ → Result (Place × List ℕ) Place
+abbrev found : Place × List ℕ → Result (Place × List ℕ) (Place × List ℕ)
 found x = Ok x
 
 found_is : (x y : Place × List ℕ) → found x ≡ found y → x ≡ y
@@ -41,12 +41,12 @@ leaves_blanks (suc n) at p (b ∷ bs) rest e = leaves_one at p b bs rest (leaves
 leaves_blanks zero at p (b ∷ bs) rest e = leaves_by (blank (b ∷ bs)) at p b bs rest (λ n q. leaves_blanks n (step at b) p bs rest q) refl e
 
 -- the cutting of what was found behind the blanks
-abbrev cut_found : {T : Type 0} → (Place → List ℕ → Result (List T) Fault) → Result (Place × List ℕ) Place → Result (List T) Fault
+abbrev cut_found : {T : Type 0} → (Place → List ℕ → Result (List T) Fault) → Result (Place × List ℕ) (Place × List ℕ) → Result (List T) Fault
 cut_found go (Ok x) = go x.0 x.1
-cut_found go (Err p) = Err (Grammar p)
+cut_found go (Err x) = Err (Grammar x.0)
 
 module _ {T : Type 0} (piece : List ℕ → Piece T) (close : Option T → Place → List T) (last : Option T) where
-  abbrev here : Result (Place × List ℕ) Place → Result (List T) Fault
+  abbrev here : Result (Place × List ℕ) (Place × List ℕ) → Result (List T) Fault
   here r = cut_found (λ p rest. cut (past_blanks piece) close last 0 p rest) r
 
   cut-by : (k : Blank) (at : Place) (b : ℕ) (bs : List ℕ) → ((n : ℕ) → cut (past_blanks piece) close last n (step at b) bs ≡ here (blanks n (step at b) bs)) → blank (b ∷ bs) ≡ k → cut (past_blanks piece) close last 0 at (b ∷ bs) ≡ here (blanks 0 at (b ∷ bs))
@@ -70,7 +70,7 @@ module _ {T : Type 0} (piece : List ℕ → Piece T) (close : Option T → Place
   -- a comment that is not closed
   pub Cuts-unclosed : (front : List T) (old new : Scan) (all : Result (List T) Fault) (finish : Place) (f : Fault) → PastBlanks old (Err f) new → Cuts (past_blanks piece) close front old all finish → all ≡ Err f
   Cuts-unclosed front old new all finish f h so_far =
-      sym so_far.tokens ∙ ap (with_front front) (cut-blanks piece close (last_of front) 0 (place old) (left old) ∙ ap (cut_found (λ p rest. cut (past_blanks piece) close (last_of front) 0 p rest)) h.1 ∙ ap Err (sym h.2))
+      sym so_far.tokens ∙ ap (with_front front) (cut-blanks piece close (last_of front) 0 (place old) (left old) ∙ ap (cut_found (λ p rest. cut (past_blanks piece) close (last_of front) 0 p rest)) h.0 ∙ ap Err (sym h.1))
 
   -- a piece that begins where no blank stands
   pub no_blank : (old new : Scan) (r : Result (Option T) Fault) → blank (left old) ≡ Other → Next (piece (left old)) old r new → Next (past_blanks piece (left old)) old r new

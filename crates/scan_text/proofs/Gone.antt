@@ -54,7 +54,7 @@ pub none_over : (at : Place) (bs : List ℕ) → blank bs ≡ Other → blanks 0
 none_over at [] e = refl
 none_over at (b ∷ bs) e = ap (λ (k : Blank). blanks_by k at (b ∷ bs) (λ m. blanks m (step at b) bs)) e
 
-pub open_stops : (at : Place) (bs : List ℕ) → blank bs ≡ Unclosed → blanks 0 at bs ≡ Err at
+pub open_stops : (at : Place) (bs : List ℕ) → blank bs ≡ Unclosed → blanks 0 at bs ≡ Err (at, bs)
 open_stops at [] e = absurd cc
 open_stops at (b ∷ bs) e = ap (λ (k : Blank). blanks_by k at (b ∷ bs) (λ m. blanks m (step at b) bs)) e
 

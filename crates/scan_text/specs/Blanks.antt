@@ -57,14 +57,14 @@ abbrev pub blank : List ℕ → Blank
 blank [] = Other
 blank (b ∷ bs) = if is_blank b then Over 0 else (if b == 47 then comment bs else Other)
 
-abbrev pub blanks_by : Blank → Place → List ℕ → (ℕ → Result (Place × List ℕ) Place) → Result (Place × List ℕ) Place
+abbrev pub blanks_by : Blank → Place → List ℕ → (ℕ → Result (Place × List ℕ) (Place × List ℕ)) → Result (Place × List ℕ) (Place × List ℕ)
 blanks_by (Over n) at bs go = go n
-blanks_by Unclosed at bs go = Err at
+blanks_by Unclosed at bs go = Err (at, bs)
 blanks_by Other at bs go = Ok (at, bs)
 
--- What is left behind all blanks and comments at the front, and its place, or the place of a comment that is not closed. n bytes of what
--- began before are still to come.
-abbrev pub blanks : ℕ → Place → List ℕ → Result (Place × List ℕ) Place
+-- What is left behind all blanks and comments at the front, and its place. Err, where a comment is not closed: then what is left begins
+-- with that comment. n bytes of what began before are still to come.
+abbrev pub blanks : ℕ → Place → List ℕ → Result (Place × List ℕ) (Place × List ℕ)
 blanks n at [] = Ok (at, [])
 blanks (suc n) at (b ∷ bs) = blanks n (step at b) bs
 blanks zero at (b ∷ bs) = blanks_by (blank (b ∷ bs)) at (b ∷ bs) (λ n. blanks n (step at b) bs)
@@ -75,7 +75,7 @@ IsWithin (Over n) len = n < len
 IsWithin Unclosed len = Unit {0}
 IsWithin Other len = Unit {0}
 
--- What is left after some bytes and its place are behind the blanks, or at the comment that is not closed.
-abbrev pub StandsBehind : Result (Place × List ℕ) Place → Result (Unit {0}) Place → Place → List ℕ → Type 0
+-- What is left after some bytes and its place are behind the blanks, or at the comment that is not closed, and that place is told.
+abbrev pub StandsBehind : Result (Place × List ℕ) (Place × List ℕ) → Result (Unit {0}) Place → Place → List ℕ → Type 0
 StandsBehind found (Ok u) at left = found ≡ Ok (at, left)
-StandsBehind found (Err p) at left = (found ≡ Err p) × (at ≡ p)
+StandsBehind found (Err p) at left = (found ≡ Err (at, left)) × (at ≡ p)
