@@ -6,7 +6,7 @@ use Rattle.grammar.specs.declared.ReadError.{ReadError}
 use Rattle.grammar.specs.declared.ReadError.TheVariants as errors
 use Rattle.grammar.specs.Rules.{Rule, Tree, Rules, Stops}
 use Rattle.grammar.specs.Reading.{Because, Halt, memory, fault, ParsesAll}
-use Rattle.grammar.specs.Texts.{Spelled, Refused}
+use Rattle.grammar.specs.Texts.{Spelled, Refused, OneReading}
 use Rattle.grammar.proofs.Laws.{moved, moved_stop, unique, excludes, one_fault}
 
 module _ {T S N V : Type 0} (g : Rules T S N V) (rule : Rule T S N V) (s : S) (cut : Result (List T) Fault) where
@@ -25,6 +25,9 @@ module _ {T S N V : Type 0} (g : Rules T S N V) (rule : Rule T S N V) (s : S) (c
   first_fault f h (inl a) (inr r) = absurd (cc (a, r.1))
   first_fault f h (inr r) (inl b) = absurd (cc (b, r.1))
   first_fault f h (inr r) (inr q) = one_fault T S N V g r.2 (moved_stop T S N V g refl (same_tokens r.0 q.0 r.1 q.1) q.2)
+
+  pub one_reading : OneReading (Tree V) (Spelled g rule s cut) (Refused g rule s cut)
+  one_reading = record { one = one_tree; one_fault = first_fault; not_both = not_both }
 
   -- a fault of the tokens
   pub not_cut : (e : ReadError) → Because (λ f. cut ≡ Err f) e → Halt (Refused g rule s cut) e

@@ -145,15 +145,3 @@ listed tree (x ∷ xs) last = More (tree x) (listed tree xs last)
 pub record IsLawful (T S N V : Type 0) (g : Rules T S N V) : Type 0 where
   pub opens : (n : N) (t : T) → g.opens n t ≡ begins g.opens (g.body n) t
   pub takes_one : (n : N) → is_empty (g.body n) ≡ false
-
--- No token can begin both parts of a choice, so their order does not matter.
-abbrev pub IsApart : {T S N V : Type 0} → Rules T S N V → Rule T S N V → Type 0
-IsApart g (mark v is) = Unit {0}
-IsApart g (word is check value) = Unit {0}
-IsApart g end = Unit {0}
-IsApart g (seq a b) = IsApart g a × IsApart g b
-IsApart {T} {S} {N} {V} g (choice a b) = ((t : T) → begins g.opens a t ≡ true → begins g.opens b t ≡ false) × IsApart g a × IsApart g b
-IsApart g (option a) = IsApart g a
-IsApart g (repeat a) = IsApart g a
-IsApart g (name n) = Unit {0}
-IsApart g (within enter leave a) = IsApart g a
