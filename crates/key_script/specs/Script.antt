@@ -5,7 +5,7 @@ use Rattle.scan_text.specs.declared.Place.{Place}
 use Rattle.grammar.specs.declared.Fault.{Fault}
 use Rattle.grammar.specs.declared.Fault.TheVariants.{Range, NotRising}
 use Rattle.grammar.specs.Rules.{Rule, mark, word, seq, repeat, end, Tree, Leaf, Pair, Skip, NoMore, Rules, listed}
-use Rattle.grammar.specs.Texts.{Spelled, Refused}
+use Rattle.grammar.specs.Texts.{Spelled, Refused, OneReading}
 use Rattle.key_script.specs.Tokens.{is_number, tokens_of, finish}
 use Rattle.key_script.specs.declared.token.Kind.{Kind}
 use Rattle.key_script.specs.declared.token.Kind.TheVariants.{Number, LineEnd}
@@ -95,3 +95,7 @@ Spells text ls = Spelled (script (finish text)) whole 0 (tokens_of text) (script
 -- the text spells none, and this is its first fault
 abbrev pub Refuses : List ℕ → Fault → Type 0
 Refuses text f = Refused (script (finish text)) whole 0 (tokens_of text) f
+
+-- The law of reading: a text spells at most one list of lines, has at most one first fault, and not both.
+abbrev pub ReadingLaw : Type 0
+ReadingLaw = (text : List ℕ) → OneReading (List Line) (Spells text) (Refuses text)

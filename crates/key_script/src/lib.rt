@@ -5,11 +5,13 @@
 
 mod keyboard;
 mod keys;
+mod laws;
 mod lexer;
 mod lines;
 mod token;
 
 pub use keys::{Keys, read_keys};
+pub use laws::reading_law;
 pub use lines::Line;
 
 #[cfg(test)]

@@ -2,7 +2,7 @@
 use Rattle.std.specs.Prelude.{◌≡◌, ℕ, zero, suc, Bool, true, false, List, [], ◌∷◌, Option, Some, None, map}
 use Rattle.grammar.specs.declared.Fault.{Fault}
 use Rattle.grammar.specs.Rules.{Tree, Skip, Leaf, Pair, Left, Right, NoMore, More, listed}
-use Rattle.grammar.specs.Texts.{Spelled, Refused}
+use Rattle.grammar.specs.Texts.{Spelled, Refused, OneReading}
 use Rattle.vm_tree.specs.declared.command.Segment.{Segment}
 use Rattle.vm_tree.specs.declared.command.Command.{Command}
 use Rattle.vm_tree.specs.declared.command.Command.TheVariants as command
@@ -100,3 +100,7 @@ Spells bare name text program =
 -- The text spells none, and this is its first fault.
 abbrev pub Refuses : Bool → List ℕ → Fault → Type 0
 Refuses bare text f = Refused (vm (finish text)) (whole bare) greatest (tokens_of text) f
+
+-- The law of reading: a text spells at most one program, has at most one first fault, and not both.
+abbrev pub ReadingLaw : Type 0
+ReadingLaw = (bare : Bool) (name text : List ℕ) → OneReading (List File) (Spells bare name text) (Refuses bare text)

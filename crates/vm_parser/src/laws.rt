@@ -1,10 +1,15 @@
-//! Laws of the printed form.
+//! Laws of the grammar and of the printed form.
 
 ghost use Rattle.std.specs.Prelude.{◌≡◌, ◌∷◌, [], ◌≤◌, Bool, true, length};
 ghost use Rattle.vm_tree.specs.declared.program.File.{File};
 ghost use Rattle.vm_tree.specs.Printed.{program_text};
-ghost use Rattle.vm_parser.specs.Files.{Spells};
+ghost use Rattle.vm_parser.specs.Files.{Spells, ReadingLaw};
 ghost use Rattle.vm_parser.specs.Printing.{file_can, read_file};
+
+/// Law: a text spells at most one program, has at most one first fault, and not both.
+pub fn reading_law()
+    ensures { ReadingLaw }
+{}
 
 /// Law: the printed text of a program of one file, where it is no longer than a file may be, spells the file again, but for the
 /// statements and commits of its lines.

@@ -8,7 +8,7 @@ mod rules;
 mod token;
 mod words;
 
-pub use laws::printed_law;
+pub use laws::{printed_law, reading_law};
 pub use reading::{VmFault, parse, parse_file};
 
 #[cfg(test)]
