@@ -217,8 +217,16 @@ fn show_level<L: Level, S: Sink>(level: &L, out: &mut S) -> Put
 
 #[test]
 fn a_level_shows_its_words(rt: HostRuntime) -> Result<(), Fail> {
+    let mut level = new_counter(100);
     let mut sink = MemorySink::new(rt.alloc(), 1000, Vec::new(rt.alloc()))?;
-    assert_eq!(rt; show_level(&new_counter(1), &mut sink), Put::Done);
+    assert_eq!(rt; show_level(&level, &mut sink), Put::Done);
     assert_eq!(rt; sink.bytes().len(), 0);
+    // behind the third move each word is 6
+    assert_eq!(rt; drive(&mut level, &Turning, 3)?, End::Bound);
+    let mut sink = MemorySink::new(rt.alloc(), 200_000, Vec::new(rt.alloc()))?;
+    assert_eq!(rt; show_level(&level, &mut sink), Put::Done);
+    assert!(rt; sink.bytes().starts_with(b"2048 6\n2049 6\n"));
+    assert!(rt; sink.bytes().ends_with(b"\n16382 6\n16383 6\n"));
+    assert_eq!(rt; sink.bytes().len(), 7952 * 7 + 6384 * 8);
     Ok(())
 }
