@@ -11,7 +11,7 @@ mod reading;
 mod statements;
 mod words;
 
-pub use laws::{lawful, printed_law, tokens_law};
+pub use laws::{lawful, printed_law, reading_law, tokens_law};
 pub use printing::print;
 pub use reading::parse_class;
 
