@@ -1,12 +1,13 @@
 -- A command is told by its first word.
-use Rattle.std.proofs.Common.{◌≡◌, ℕ, Bool, true, false, List, [], ◌∷◌, refl, sym, ap, ◌∙◌}
-use Rattle.std.specs.Prelude.{◌||◌}
+use Rattle.std.proofs.Common.{◌≡◌, ℕ, Bool, true, false, List, [], ◌∷◌, refl, sym, ap, ◌∙◌, inl, inr}
+use Rattle.std.specs.Prelude.{◌||◌, ◌⊎◌}
 use Rattle.scan_text.specs.declared.Place.{Place}
 use Rattle.grammar.specs.declared.Fault.TheVariants.{Grammar}
 use Rattle.grammar.specs.declared.ReadError.{ReadError}
 use Rattle.grammar.specs.Reading.{Halt}
 use Rattle.grammar.specs.Rules.{enters, here, next, Left, Right, Reads, left, Stops, neither}
 use Rattle.grammar.proofs.Exits.{halt_left}
+use Rattle.vm_tree.specs.declared.command.Segment.{Segment}
 use Rattle.vm_parser.specs.declared.token.Role.{Role}
 use Rattle.vm_parser.specs.declared.token.Role.TheVariants as role
 use Rattle.vm_parser.specs.Tokens.{Word, ends_line}
@@ -106,6 +107,12 @@ no_other role.Return e = absurd cc
 no_other (role.Operation o) e = absurd cc
 no_other (role.Segment g) e = refl
 no_other role.Plain e = refl
+
+-- the words that begin no command
+pub no_role : (r : Role) → (r ≡ role.Function) ⊎ (((g : Segment) × (r ≡ role.Segment g)) ⊎ (r ≡ role.Plain)) → begins_command r ≡ false
+no_role r (inl e) = ap begins_command e
+no_role r (inr (inl (g, e))) = ap begins_command e
+no_role r (inr (inr e)) = ap begins_command e
 
 -- no command begins
 pub no_command : (end : Place) (ts : List Word) → begins_command (role_next ts) ≡ false → Stops Word ℕ (Unit {0}) Said (vm end) greatest command ts (Grammar (here (vm end) ts))

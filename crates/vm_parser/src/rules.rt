@@ -19,13 +19,12 @@ use scan_text::Place;
 use std::alloc::Global;
 use vm_tree::{Command, Function, Line, List, Segment};
 
+// What a rule reads: what the tokens say, and those that are left.
+type Read<'a, X> = Result<(X, &'a [Token<'a>]), ReadError>;
+
 // A segment and an index.
 #[tactic(auto, using(crate::proofs::Exits::vm_exits))]
-fn location<'a>(
-    tokens: &'a [Token<'a>],
-    end: Place,
-    constant: bool,
-) -> Result<((Segment, u16), &'a [Token<'a>]), ReadError>
+fn location<'a>(tokens: &'a [Token<'a>], end: Place, constant: bool) -> Read<'a, (Segment, u16)>
     ensures { ParsesBy view (vm end) (location constant) (λ x. location_tree x.0 x.1) (λ _. greatest) greatest tokens.now result }
 {
     let (segment, rest) = segment(tokens, end, constant)?;
@@ -34,10 +33,7 @@ fn location<'a>(
 }
 
 #[tactic(auto, using(crate::proofs::Exits::vm_exits))]
-fn push<'a>(
-    tokens: &'a [Token<'a>],
-    end: Place,
-) -> Result<((Segment, u16), &'a [Token<'a>]), ReadError>
+fn push<'a>(tokens: &'a [Token<'a>], end: Place) -> Read<'a, (Segment, u16)>
     ensures { ParsesBy view (vm end) push (λ x. Pair Skip (location_tree x.0 x.1)) (λ _. greatest) greatest tokens.now result }
 {
     let rest = keyword(tokens, end, Role::Push)?;
@@ -46,10 +42,7 @@ fn push<'a>(
 }
 
 #[tactic(auto, using(crate::proofs::Exits::vm_exits))]
-fn pop<'a>(
-    tokens: &'a [Token<'a>],
-    end: Place,
-) -> Result<((Segment, u16), &'a [Token<'a>]), ReadError>
+fn pop<'a>(tokens: &'a [Token<'a>], end: Place) -> Read<'a, (Segment, u16)>
     ensures { ParsesBy view (vm end) pop (λ x. Pair Skip (location_tree x.0 x.1)) (λ _. greatest) greatest tokens.now result }
 {
     let rest = keyword(tokens, end, Role::Pop)?;
@@ -58,11 +51,7 @@ fn pop<'a>(
 }
 
 #[tactic(auto, using(crate::proofs::Exits::vm_exits))]
-fn label<'a>(
-    alloc: Global,
-    tokens: &'a [Token<'a>],
-    end: Place,
-) -> Result<(Name, &'a [Token<'a>]), ReadError>
+fn label<'a>(alloc: Global, tokens: &'a [Token<'a>], end: Place) -> Read<'a, Name>
     ensures { ParsesBy view (vm end) label (λ l. Pair Skip (name_tree l)) (λ _. greatest) greatest tokens.now result }
 {
     let rest = keyword(tokens, end, Role::Label)?;
@@ -71,11 +60,7 @@ fn label<'a>(
 }
 
 #[tactic(auto, using(crate::proofs::Exits::vm_exits))]
-fn goto<'a>(
-    alloc: Global,
-    tokens: &'a [Token<'a>],
-    end: Place,
-) -> Result<(Name, &'a [Token<'a>]), ReadError>
+fn goto<'a>(alloc: Global, tokens: &'a [Token<'a>], end: Place) -> Read<'a, Name>
     ensures { ParsesBy view (vm end) goto (λ l. Pair Skip (name_tree l)) (λ _. greatest) greatest tokens.now result }
 {
     let rest = keyword(tokens, end, Role::Goto)?;
@@ -84,11 +69,7 @@ fn goto<'a>(
 }
 
 #[tactic(auto, using(crate::proofs::Exits::vm_exits))]
-fn if_goto<'a>(
-    alloc: Global,
-    tokens: &'a [Token<'a>],
-    end: Place,
-) -> Result<(Name, &'a [Token<'a>]), ReadError>
+fn if_goto<'a>(alloc: Global, tokens: &'a [Token<'a>], end: Place) -> Read<'a, Name>
     ensures { ParsesBy view (vm end) if_goto (λ l. Pair Skip (name_tree l)) (λ _. greatest) greatest tokens.now result }
 {
     let rest = keyword(tokens, end, Role::IfGoto)?;
@@ -97,11 +78,7 @@ fn if_goto<'a>(
 }
 
 #[tactic(auto, using(crate::proofs::Exits::vm_exits))]
-fn call<'a>(
-    alloc: Global,
-    tokens: &'a [Token<'a>],
-    end: Place,
-) -> Result<((Name, u16), &'a [Token<'a>]), ReadError>
+fn call<'a>(alloc: Global, tokens: &'a [Token<'a>], end: Place) -> Read<'a, (Name, u16)>
     ensures { ParsesBy view (vm end) call (λ x. Pair Skip (Pair (name_tree x.0) (Leaf (Number x.1)))) (λ _. greatest) greatest tokens.now result }
 {
     let rest = keyword(tokens, end, Role::Call)?;
@@ -111,11 +88,7 @@ fn call<'a>(
 }
 
 // A command.
-fn command<'a>(
-    alloc: Global,
-    tokens: &'a [Token<'a>],
-    end: Place,
-) -> Result<(Command, &'a [Token<'a>]), ReadError>
+fn command<'a>(alloc: Global, tokens: &'a [Token<'a>], end: Place) -> Read<'a, Command>
     ensures { ParsesBy view (vm end) command command_tree (λ _. greatest) greatest tokens.now result }
 {
     match role_next(tokens) {
@@ -147,22 +120,15 @@ fn command<'a>(
             let ((function, arguments), rest) = call(alloc, tokens, end)?;
             Ok((Command::Call(function, arguments), rest))
         }
-        Role::Return => {
-            let rest = keyword(tokens, end, Role::Return)?;
-            Ok((Command::Return, rest))
+        Role::Return => Ok((Command::Return, keyword(tokens, end, Role::Return)?)),
+        Role::Function | Role::Segment(_) | Role::Plain => {
+            Err(grammar_fault(place_next(tokens, end)))
         }
-        Role::Function => Err(grammar_fault(place_next(tokens, end))),
-        Role::Segment(_) => Err(grammar_fault(place_next(tokens, end))),
-        Role::Plain => Err(grammar_fault(place_next(tokens, end))),
     }
 }
 
 // A line: a command or nothing.
-fn line<'a>(
-    alloc: Global,
-    tokens: &'a [Token<'a>],
-    end: Place,
-) -> Result<(Option<Command>, &'a [Token<'a>]), ReadError>
+fn line<'a>(alloc: Global, tokens: &'a [Token<'a>], end: Place) -> Read<'a, Option<Command>>
     ensures { ParsesBy view (vm end) line line_tree (λ _. greatest) greatest tokens.now result }
 {
     if ends(tokens) {
@@ -211,11 +177,7 @@ fn add_line(lines: &mut List<Line>, line: Option<Command>) -> Result<(), ReadErr
 }
 
 // The lines that come, without the empty ones.
-fn lines<'a>(
-    alloc: Global,
-    tokens: &'a [Token<'a>],
-    end: Place,
-) -> Result<(List<Line>, &'a [Token<'a>]), ReadError>
+fn lines<'a>(alloc: Global, tokens: &'a [Token<'a>], end: Place) -> Read<'a, List<Line>>
     ensures { ReadsAs lines_tree commands end lines tokens.now result }
 {
     let mut lines = List::new(alloc);
@@ -234,7 +196,7 @@ fn lines<'a>(
 }
 
 // The empty lines that come.
-fn empty_lines<'a>(tokens: &'a [Token<'a>], end: Place) -> Result<((), &'a [Token<'a>]), ReadError>
+fn empty_lines<'a>(tokens: &'a [Token<'a>], end: Place) -> Read<'a, ()>
     ensures { ReadsAs (opening_tree false) (λ _. tt) end (opening false) tokens.now result }
 {
     if !ends(tokens) {
@@ -255,7 +217,7 @@ pub fn opening<'a>(
     tokens: &'a [Token<'a>],
     end: Place,
     bare: bool,
-) -> Result<(List<Line>, &'a [Token<'a>]), ReadError>
+) -> Read<'a, List<Line>>
     ensures { ReadsAs (opening_tree bare) (opening_of bare) end (opening bare) tokens.now result }
 {
     if bare {
@@ -267,11 +229,7 @@ pub fn opening<'a>(
 
 // A function.
 #[tactic(auto, using(crate::proofs::Exits::vm_exits))]
-fn function<'a>(
-    alloc: Global,
-    tokens: &'a [Token<'a>],
-    end: Place,
-) -> Result<(Function, &'a [Token<'a>]), ReadError>
+fn function<'a>(alloc: Global, tokens: &'a [Token<'a>], end: Place) -> Read<'a, Function>
     ensures { ReadsAs function_tree function_of end function tokens.now result }
 {
     let rest = keyword(tokens, end, Role::Function)?;
@@ -299,11 +257,7 @@ fn begins_function(tokens: &[Token]) -> bool
 
 /// The functions that come.
 #[tactic(auto, using(crate::proofs::Exits::vm_exits))]
-pub fn functions<'a>(
-    alloc: Global,
-    tokens: &'a [Token<'a>],
-    end: Place,
-) -> Result<(List<Function>, &'a [Token<'a>]), ReadError>
+pub fn functions<'a>(alloc: Global, tokens: &'a [Token<'a>], end: Place) -> Read<'a, List<Function>>
     ensures { ReadsAs functions_tree (map function_of) end functions tokens.now result }
 {
     let mut functions = List::new(alloc);

@@ -5,7 +5,7 @@ use Rattle.grammar.specs.Reading.{fault}
 use Rattle.grammar.proofs.Exits.{halt_left}
 use Rattle.vm_parser.specs.Grammar.{operation_role}
 use Rattle.vm_parser.specs.Reading.{begins_command}
-use Rattle.vm_parser.proofs.Commands.{operation_entered, push_read, push_halt, pop_read, pop_halt, label_read, label_halt, goto_read, goto_halt, if_goto_read, if_goto_halt, call_read, call_halt, return_read, return_halt, no_command}
+use Rattle.vm_parser.proofs.Commands.{operation_entered, push_read, push_halt, pop_read, pop_halt, label_read, label_halt, goto_read, goto_halt, if_goto_read, if_goto_halt, call_read, call_halt, return_read, return_halt, no_role, no_command}
 use Rattle.vm_parser.proofs.rules.command.Goals as goal
 
 pub returns-in_err-operation-in-Operation : goal.returns-in_err-operation-in-Operation
@@ -43,10 +43,10 @@ returns-in_err-function-in-Call c =
     let p = err_from_is_err_and c.from_residual-in_err-function-in-Call.result c.from_residual-in_err-function-in-Call.ensures.1 in
     rw (p.1, p.2) (call_halt _ _ (sym c.role_next.ensures ∙ c.in-Call.is) c.in_err-function-in-Call.ensures)
 
-pub returns-in_err-rest-in-Return : goal.returns-in_err-rest-in-Return
-returns-in_err-rest-in-Return c =
-    let p = err_from_is_err_and c.from_residual-in_err-rest-in-Return.result c.from_residual-in_err-rest-in-Return.ensures.1 in
-    rw (p.1, p.2) (return_halt _ _ (sym c.role_next.ensures ∙ c.in-Return.is) c.in_err-rest-in-Return.ensures)
+pub returns-in_err-keyword-in-Return : goal.returns-in_err-keyword-in-Return
+returns-in_err-keyword-in-Return c =
+    let p = err_from_is_err_and c.from_residual-in_err-keyword-in-Return.result c.from_residual-in_err-keyword-in-Return.ensures.1 in
+    rw (p.1, p.2) (return_halt _ _ (sym c.role_next.ensures ∙ c.in-Return.is) c.in_err-keyword-in-Return.ensures)
 
 pub returns-in_ok-operation-in-Operation : goal.returns-in_ok-operation-in-Operation
 returns-in_ok-operation-in-Operation c = left (operation_entered c.args.end _ (ap operation_role (sym c.role_next.ensures ∙ c.in-Operation.is))) c.in_ok-operation-in-Operation.ensures
@@ -69,14 +69,8 @@ returns-in_ok-label-in-IfGoto c = if_goto_read _ _ (sym c.role_next.ensures ∙ 
 pub returns-in_ok-function-in-Call : goal.returns-in_ok-function-in-Call
 returns-in_ok-function-in-Call c = call_read _ _ (sym c.role_next.ensures ∙ c.in-Call.is) c.in_ok-function-in-Call.ensures
 
-pub returns-in_ok-rest-in-Return : goal.returns-in_ok-rest-in-Return
-returns-in_ok-rest-in-Return c = return_read _ _ (sym c.role_next.ensures ∙ c.in-Return.is) c.in_ok-rest-in-Return.ensures
+pub returns-in_ok-keyword-in-Return : goal.returns-in_ok-keyword-in-Return
+returns-in_ok-keyword-in-Return c = return_read _ _ (sym c.role_next.ensures ∙ c.in-Return.is) c.in_ok-keyword-in-Return.ensures
 
 pub returns-in-Function : goal.returns-in-Function
-returns-in-Function c = rw (c.grammar_fault.ensures, c.place_next.ensures) (fault (no_command c.args.end _ (ap begins_command (sym c.role_next.ensures ∙ c.in-Function.is))))
-
-pub returns-in-Segment : goal.returns-in-Segment
-returns-in-Segment c = rw (c.grammar_fault-in-Segment.ensures, c.place_next-in-Segment.ensures) (fault (no_command c.args.end _ (ap begins_command (sym c.role_next.ensures ∙ c.in-Segment.is))))
-
-pub returns-in-Plain : goal.returns-in-Plain
-returns-in-Plain c = rw (c.grammar_fault-in-Plain.ensures, c.place_next-in-Plain.ensures) (fault (no_command c.args.end _ (ap begins_command (sym c.role_next.ensures ∙ c.in-Plain.is))))
+returns-in-Function c = rw (c.grammar_fault.ensures, c.place_next.ensures) (fault (no_command c.args.end _ (ap begins_command (sym c.role_next.ensures) ∙ no_role c.role_next.result c.in-Function.is)))
