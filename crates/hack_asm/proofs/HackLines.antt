@@ -76,7 +76,7 @@ lines_are (l ∷ ls) (m ∷ ms) h k e =
 spelled_once : (text : List ℕ) (ls ms : List (Option ℕ)) → Spells text ls → Spells text ms → ls ≡ ms
 spelled_once text ls ms a b = lines_are ls ms a.0 b.0 (ap one (one_tree (hack (finish text)) whole tt (tokens_of text) (text_tree ls) (text_tree ms) a.1 b.1))
 
-one_meaning : (text : List ℕ) (r q : Result (List ℕ) Wrong) → Holds text r → Holds text q → r ≡ q
+pub one_meaning : (text : List ℕ) (r q : Result (List ℕ) Wrong) → Holds text r → Holds text q → r ≡ q
 one_meaning text r q (inl a) (inl b) = a.2 ∙ ap (λ (ls : List (Option ℕ)). limited (words_of ls)) (spelled_once text a.0 b.0 a.1 b.1) ∙ sym b.2
 one_meaning text r q (inl a) (inr b) = absurd (not_both (hack (finish text)) whole tt (tokens_of text) (text_tree a.0) b.0 a.1.1 b.1)
 one_meaning text r q (inr a) (inl b) = absurd (not_both (hack (finish text)) whole tt (tokens_of text) (text_tree b.0) a.0 b.1.1 a.1)

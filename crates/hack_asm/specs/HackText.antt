@@ -154,3 +154,7 @@ AreWords (w ∷ ws) = (w < 65536) × AreWords ws
 
 abbrev pub ImagesReadBack : Type 0
 ImagesReadBack = (ws : List ℕ) → AreWords ws → length ws ≤ 32768 → Holds (image_text ws) (Ok ws)
+
+-- The law of reading: a text holds at most one list of words, or is refused for at most one thing, and not both.
+abbrev pub ReadingLaw : Type 0
+ReadingLaw = (text : List ℕ) (r q : Result (List ℕ) Wrong) → Holds text r → Holds text q → r ≡ q

@@ -25,3 +25,7 @@ IsRefusal text e = MeansWrong text (wrong_of e)
 abbrev pub MeansOf : {X : Type 0} → (X → List ℕ) → List ℕ → Result X AsmFault → Type 0
 MeansOf view text (Ok x) = Means text (Ok (view x))
 MeansOf view text (Err e) = IsRefusal text e
+
+-- The law of reading: a text means at most one list of words, or is refused for at most one thing, and not both.
+abbrev pub ReadingLaw : Type 0
+ReadingLaw = (text : List ℕ) (r q : Result (List ℕ) Wrong) → Means text r → Means text q → r ≡ q

@@ -2,7 +2,7 @@
 
 ghost use Rattle.std.specs.Prelude.{◌≡◌, List, ℕ, Result, Ok, IfOk, IfErr};
 ghost use Rattle.hack_asm.specs.Faults.{Wrong, Yields};
-ghost use Rattle.hack_asm.specs.Meaning.{Means, MeansOf, IsRefusal};
+ghost use Rattle.hack_asm.specs.Meaning.{Means, MeansOf, IsRefusal, ReadingLaw};
 
 use crate::fault::AsmFault;
 use crate::lexer::tokens;
@@ -28,3 +28,9 @@ pub fn assemble(alloc: Global, text: &[u8]) -> Result<Vec<u16>, AsmFault>
 {
     assemble_text(alloc, text)
 }
+
+/// The law of reading: an assembly text means at most one list of words, or is refused for at most one thing, and not both. No code,
+/// only the statement.
+pub fn assembly_law()
+    ensures { ReadingLaw }
+{}

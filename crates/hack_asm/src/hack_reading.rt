@@ -3,7 +3,7 @@
 ghost use Rattle.std.specs.Prelude.{◌≡◌, List, ℕ, Result, Ok, Err, IfOk, IfErr};
 ghost use Rattle.grammar.specs.Reading.{Halt};
 ghost use Rattle.hack_asm.specs.Faults.{Wrong, Yields};
-ghost use Rattle.hack_asm.specs.HackText.{Spells, Refuses, Holds, HoldsOf, IsRefusal, ImagesReadBack, limited, words_of};
+ghost use Rattle.hack_asm.specs.HackText.{Spells, Refuses, Holds, HoldsOf, IsRefusal, ImagesReadBack, ReadingLaw, limited, words_of};
 
 use crate::fault::AsmFault;
 use crate::hack_lines::all_lines;
@@ -69,4 +69,10 @@ pub fn read_hack(alloc: Global, text: &[u8]) -> Result<Vec<u16>, AsmFault>
 #[tactic(auto, using(crate::proofs::Images::reads_back))]
 pub fn image_law()
     ensures { ImagesReadBack }
+{}
+
+/// The law of reading: a `.hack` text holds at most one list of words, or is refused for at most one thing, and not both. No code, only
+/// the statement.
+pub fn hack_law()
+    ensures { ReadingLaw }
 {}

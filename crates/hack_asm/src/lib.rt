@@ -19,8 +19,8 @@ mod token;
 mod words;
 mod writing;
 
-pub use assembling::assemble;
+pub use assembling::{assemble, assembly_law};
 pub use fault::AsmFault;
-pub use hack_reading::{image_law, read_hack};
+pub use hack_reading::{hack_law, image_law, read_hack};
 pub use image::{put_hack, write_hack};
 pub use writing::{write_asm, written_law};

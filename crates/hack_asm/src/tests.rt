@@ -110,20 +110,29 @@ fn last_places(text: &[u8]) -> (Place, Place) {
     (last, end)
 }
 
-// A text that breaks off is a program, or is refused where it breaks off.
+// Which fronts of a text are programs, from the empty one on: `+`, or `-` for one that is refused where it breaks off.
 #[test]
 fn prefixes(rt: HostRuntime) {
     let texts = [
-        b"@i\nM=1\n(LOOP)\n@LOOP\n0;JMP\n".as_slice(),
-        b"(END)\r\n@7\r\nAMD=D-1;JLE\r\n!M\r\n".as_slice(),
+        (
+            b"@i\nM=1\n(LOOP)\n@LOOP\n0;JMP\n".as_slice(),
+            b"+-+++-++-----++-++++++---+".as_slice(),
+        ),
+        (
+            b"(END)\r\n@7\r\nAMD=D-1;JLE\r\n!M\r\n".as_slice(),
+            b"+----+-+-+-++---+-+---+-+-+-".as_slice(),
+        ),
     ];
-    for text in texts {
+    for (text, signs) in texts {
         for n in 0..text.len() {
             let front = &text[..n];
             let (last, end) = last_places(front);
             match assemble(rt.alloc(), front) {
-                Ok(_) => {}
+                Ok(_) => {
+                    assert!(rt; signs.get(n).copied() == Some(b'+'));
+                }
                 Err(AsmFault::Grammar(at)) => {
+                    assert!(rt; signs.get(n).copied() == Some(b'-'));
                     assert!(rt; at == last || at == end);
                 }
                 Err(_) => {
