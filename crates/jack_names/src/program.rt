@@ -1,6 +1,6 @@
 //! The names of a whole program.
 
-ghost use Rattle.std.specs.Prelude.{◌≡◌, ◌+◌, ◌≤◌, ◌<◌, ◌^◌, ◌++◌, ◌∷◌, [], length, map, IfOk, OnOk};
+ghost use Rattle.std.specs.Prelude.{◌≡◌, ◌+◌, ◌≤◌, ◌<◌, ◌^◌, ◌++◌, ◌∷◌, [], length, map, IfOk, OnOk, IsOk, SomeIff, ◌↔◌, ◌-◌};
 ghost use Rattle.jack_core.specs.Texts.{the_subroutine, the_class, the_program};
 ghost use Rattle.jack_names.specs.Faults.{Checks};
 ghost use Rattle.jack_names.specs.Entered.{table_of};
@@ -18,11 +18,14 @@ use crate::names::names_of;
 use crate::scope::{Names, Signature};
 use crate::table::Table;
 use crate::twice::check_declarations;
-use crate::variables::{fields_of, statics_of};
+use crate::variables::{fields_of, left_by, statics_of};
 use jack_core::{Class as CoreClass, Core, Kind, Subroutine as CoreSubroutine};
 use jack_tree::{Class, Subroutine};
 use outer_world::Name as FileName;
 use std::alloc::{AllocError, Global};
+
+// How many statics a program has at most.
+const MOST_STATICS: usize = 2_147_483_647;
 
 fn mark_classes<'a>(seen: &mut Table<'a, ()>, classes: &'a [Class]) -> Result<(), AllocError>
     ensures { OnOk result (table_of seen.new ≡ with_all (table_of seen.old) (marks classes.now)) }
@@ -86,6 +89,28 @@ fn all_statics(classes: &[Class]) -> u32
         rest = others;
     }
     n
+}
+
+// How many of these numbers are left behind the statics of classes, where they are enough.
+fn left_behind(numbers: usize, classes: &[Class]) -> Option<usize>
+    ensures { SomeIff result (all_statics classes.now ≤ numbers) (numbers - all_statics classes.now) }
+{
+    let mut left = numbers;
+    let mut rest = classes;
+    while let Some((class, others)) = rest.split_first() {
+        left = left_by(left, &class.variables)?;
+        rest = others;
+    }
+    Some(left)
+}
+
+// The statics of all classes have numbers of 32 bits. Where these do not suffice, that is a want of memory.
+fn check_statics(own: &[Class], os: &[Class]) -> Result<(), AllocError>
+    ensures { IsOk result ↔ (all_statics own.now + all_statics os.now < 2 ^ 31) }
+{
+    let left = left_behind(MOST_STATICS, own).ok_or(AllocError)?;
+    left_behind(left, os).ok_or(AllocError)?;
+    Ok(())
 }
 
 // The subroutines of all classes, behind these.
@@ -213,9 +238,8 @@ fn all_classes(alloc: Global, own: &[Class], os: &[Class]) -> Result<Vec<CoreCla
     Ok(classes)
 }
 
-/// The program that the classes of a folder and those of the operating system mean, or the first fault in their names:
-/// in what they declare, at `Main.main`, or in what they use.
-pub fn resolve<'a>(alloc: Global, own: &'a [Class], os: &'a [Class]) -> Result<Core, NameError>
+// The program or the first fault, where the statics have numbers.
+fn resolve_numbered<'a>(alloc: Global, own: &'a [Class], os: &'a [Class]) -> Result<Core, NameError>
     requires classes { length own.now + length os.now < 2 ^ 31 }
     requires subroutines { subroutine_count own.now + subroutine_count os.now < 2 ^ 31 }
     requires statics { all_statics own.now + all_statics os.now < 2 ^ 31 }
@@ -236,4 +260,19 @@ pub fn resolve<'a>(alloc: Global, own: &'a [Class], os: &'a [Class]) -> Result<C
         init: number_by(names.find(b"Sys".as_slice(), b"init".as_slice())),
         names: all_names(alloc, own, os)?,
     })
+}
+
+/// The program that the classes of a folder and those of the operating system mean, or the first fault in their names:
+/// in what they declare, at `Main.main`, or in what they use. Statics without a number are a want of memory.
+pub fn resolve<'a>(alloc: Global, own: &'a [Class], os: &'a [Class]) -> Result<Core, NameError>
+    requires classes { length own.now + length os.now < 2 ^ 31 }
+    requires subroutines { subroutine_count own.now + subroutine_count os.now < 2 ^ 31 }
+    requires own { AreWithin own.now }
+    requires os { AreWithin os.now }
+    ensures checks { Resolves (first_name_fault own.now os.now) result }
+    ensures program { IfOk result (λ core. the_program core ≡ program_meant own.now os.now) }
+    ensures names { IfOk result (λ core. map seen_bytes core.names.items ≡ all_names_meant own.now os.now) }
+{
+    check_statics(own, os)?;
+    resolve_numbered(alloc, own, os)
 }

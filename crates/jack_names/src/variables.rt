@@ -1,6 +1,6 @@
 //! The variables that classes and subroutines declare.
 
-ghost use Rattle.std.specs.Prelude.{◌≡◌, ◌+◌, ◌≤◌, ◌<◌, ◌^◌, length, IfOk, OnOk};
+ghost use Rattle.std.specs.Prelude.{◌≡◌, ◌+◌, ◌≤◌, ◌<◌, ◌^◌, length, IfOk, OnOk, SomeIff, ◌-◌};
 ghost use Rattle.jack_names.specs.Entered.{table_of, Finds};
 ghost use Rattle.jack_names.specs.Twice.{names_of};
 ghost use Rattle.jack_names.specs.Symbols.{type_class, line_entries, member_line, member_entries, parameter_entries, local_entries, variable_entries, fields_in, statics_in, fields_of, statics_of, locals_of};
@@ -151,6 +151,29 @@ pub(crate) fn statics_of(variables: &[ClassVariables]) -> u32
         rest = others;
     }
     n
+}
+
+// How many of these numbers are left behind the statics of a line, where they are enough.
+fn left_by_line(numbers: usize, line: &ClassVariables) -> Option<usize>
+    ensures { SomeIff result (statics_in line.now.scope line.now ≤ numbers) (numbers - statics_in line.now.scope line.now) }
+{
+    match line.scope {
+        Scope::Field => Some(numbers),
+        Scope::Static => numbers.checked_sub(line.names.more.len())?.checked_sub(1),
+    }
+}
+
+/// How many of these numbers are left behind the statics of a class, where they are enough.
+pub(crate) fn left_by(numbers: usize, variables: &[ClassVariables]) -> Option<usize>
+    ensures { SomeIff result (statics_of variables.now ≤ numbers) (numbers - statics_of variables.now) }
+{
+    let mut left = numbers;
+    let mut rest = variables;
+    while let Some((line, others)) = rest.split_first() {
+        left = left_by_line(left, line)?;
+        rest = others;
+    }
+    Some(left)
 }
 
 // Enters fields and statics, which are numbered apart.

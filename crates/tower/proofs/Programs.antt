@@ -10,7 +10,7 @@ use Rattle.jack_core.specs.Texts.{the_program}
 use Rattle.jack_core.specs.declared.program.Core.{Core}
 use Rattle.jack_names.specs.Limits.{AreWithin, subroutine_count}
 use Rattle.jack_names.specs.Resolved.{seen_bytes}
-use Rattle.jack_names.specs.Whole.{WellNamed, program_meant, all_names_meant, all_statics}
+use Rattle.jack_names.specs.Whole.{WellNamed, program_meant, all_names_meant}
 use Rattle.tower.specs.Read.{AreReadClasses}
 use Rattle.tower.specs.Spelled.{AreSpelled, ReadLaw}
 use Rattle.jack_os.specs.System.{SpellClasses, system}
@@ -19,7 +19,7 @@ use Rattle.jack_compiler.specs.Resolved.{IsResolved, IsResolvedCore}
 use Rattle.tower.specs.Program.{Means, named_core}
 use Rattle.tower.specs.Resolved.{ResolvedLaw}
 use Rattle.tower.proofs.NamedProgram.{well_named_resolved}
-use Rattle.tower.proofs.Spelled.{spelled_are_read, read_within, few_subroutines, few_statics, files_spell, as_many}
+use Rattle.tower.proofs.Spelled.{spelled_are_read, read_within, few_subroutines, files_spell, as_many}
 
 pub resolved_by : ReadLaw → ResolvedLaw
 resolved_by law own os well spelled os_spelled =
@@ -52,9 +52,6 @@ module _ (law : ReadLaw) (own os : List Class) (few : length own ≤ 256) (spell
 
   pub subroutines_counted : subroutine_count own + subroutine_count os < 2 ^ 31
   subroutines_counted = omega (arith, few, os_few, few_subroutines own own_read, few_subroutines os os_read)
-
-  pub statics_counted : all_statics own + all_statics os < 2 ^ 31
-  statics_counted = omega (arith, few, os_few, few_statics own own_read, few_statics os os_read)
 
   pub own_within : AreWithin own
   own_within = read_within own own_read

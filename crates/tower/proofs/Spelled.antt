@@ -2,7 +2,6 @@
 use Rattle.std.proofs.Common.{◌≡◌, ◌≤◌, ◌*◌, suc, List, [], ◌∷◌, length, refl, ap, arith}
 use Rattle.jack_tree.specs.declared.tree.Class.{Class}
 use Rattle.jack_names.specs.Limits.{AreWithin, subroutine_count}
-use Rattle.jack_names.specs.Whole.{all_statics}
 use Rattle.tower.specs.Read.{AreReadClasses}
 use Rattle.tower.specs.Spelled.{AreSpelled, ReadLaw}
 use Rattle.jack_os.specs.System.{Texts, SpellClasses}
@@ -18,10 +17,6 @@ read_within (c ∷ cs) h = (h.0.within, read_within cs h.1)
 pub few_subroutines : (cs : List Class) → AreReadClasses cs → subroutine_count cs ≤ 1048576 * length cs
 few_subroutines [] h = omega arith
 few_subroutines (c ∷ cs) h = omega (arith, h.0.few, few_subroutines cs h.1)
-
-pub few_statics : (cs : List Class) → AreReadClasses cs → all_statics cs ≤ 16384 * length cs
-few_statics [] h = omega arith
-few_statics (c ∷ cs) h = omega (arith, h.0.statics, few_statics cs h.1)
 
 -- the classes of files
 pub files_spell : (files : Texts) (cs : List Class) → SpellClasses files cs → AreSpelled cs

@@ -1,5 +1,5 @@
 use Rattle.tower.proofs.Limits.{spelled_read}
-use Rattle.tower.proofs.Programs.{few_classes, subroutines_counted, statics_counted, own_within, os_within, core_means, core_resolved}
+use Rattle.tower.proofs.Programs.{few_classes, subroutines_counted, own_within, os_within, core_means, core_resolved}
 use Rattle.tower.proofs.program.core_of.Goals as goal
 
 pub resolve-requires-clause-classes : goal.resolve-requires-clause-classes
@@ -7,9 +7,6 @@ resolve-requires-clause-classes c = few_classes spelled_read c.args.own.now c.ar
 
 pub resolve-requires-clause-subroutines : goal.resolve-requires-clause-subroutines
 resolve-requires-clause-subroutines c = subroutines_counted spelled_read c.args.own.now c.args.os.now c.requires.few c.requires.spelled c.requires.os
-
-pub resolve-requires-clause-statics : goal.resolve-requires-clause-statics
-resolve-requires-clause-statics c = statics_counted spelled_read c.args.own.now c.args.os.now c.requires.few c.requires.spelled c.requires.os
 
 pub resolve-requires-clause-own : goal.resolve-requires-clause-own
 resolve-requires-clause-own c = own_within spelled_read c.args.own.now c.args.os.now c.requires.few c.requires.spelled c.requires.os

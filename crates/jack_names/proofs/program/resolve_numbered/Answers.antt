@@ -7,7 +7,7 @@ use Rattle.jack_names.specs.Meant.{number_by}
 use Rattle.jack_names.specs.Whole.{declared_fault, found_subroutine, main_fault, all_uses_fault, all_subroutines_meant, start_subroutine}
 use Rattle.jack_names.specs.Named.{the_symbols}
 use Rattle.jack_names.proofs.Checking.{as_fault, in_first, in_second}
-use Rattle.jack_names.proofs.program.resolve.Goals as goal
+use Rattle.jack_names.proofs.program.resolve_numbered.Goals as goal
 
 pub returns-in_err-check_main-clause-checks : goal.returns-in_err-check_main-clause-checks
 returns-in_err-check_main-clause-checks c =
