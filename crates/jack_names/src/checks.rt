@@ -324,7 +324,7 @@ fn check_form(alloc: Global, scope: &Scope, form: Form, place: Place) -> Result<
 }
 
 /// The first fault in the uses of a subroutine.
-pub fn check_subroutine<'a>(
+pub(crate) fn check_subroutine<'a>(
     alloc: Global,
     scope: &Scope<'a, '_>,
     s: &'a Subroutine,

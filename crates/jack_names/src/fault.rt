@@ -74,7 +74,7 @@ impl From<AllocError> for NameError {
 
 /// A file: whether it is one of the operating system, and its name.
 #[derive(Clone, Copy)]
-pub struct File<'a> {
+pub(crate) struct File<'a> {
     pub shipped: bool,
     pub name: &'a FileName,
 }

@@ -15,13 +15,10 @@ mod table;
 mod twice;
 mod variables;
 
-pub use checks::check_subroutine;
-pub use fault::{File, NameError, NameFault, NameKind};
+pub use fault::{NameError, NameFault, NameKind};
 pub use program::resolve;
-pub use scope::{Callee, ClassScope, Declared, Names, Scope, Signature, Slot, Way};
-pub use subroutine::subroutine_meant;
-pub use table::Table;
-pub use twice::check_declarations;
+// What the definitions of resolved names speak of.
+pub use scope::{Declared, Signature, Slot, Way};
 
 #[cfg(test)]
 mod tests;

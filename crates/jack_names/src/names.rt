@@ -102,14 +102,14 @@ pub(crate) fn names_of<'a>(
 
 impl<'a> Names<'a> {
     /// The number of a class.
-    pub fn class(&self, name: &'a [u8]) -> Option<u32>
+    pub(crate) fn class(&self, name: &'a [u8]) -> Option<u32>
         ensures { result ≡ (the_symbols self.now).class name.now }
     {
         self.classes.find(name)
     }
 
     /// A subroutine of the class of a number.
-    pub fn subroutine(&self, class: u32, name: &'a [u8]) -> Option<Signature>
+    pub(crate) fn subroutine(&self, class: u32, name: &'a [u8]) -> Option<Signature>
         ensures { result ≡ (the_symbols self.now).subroutine class name.now }
     {
         match self.subroutines.get(class as usize) {
@@ -119,7 +119,7 @@ impl<'a> Names<'a> {
     }
 
     /// The subroutine of these names.
-    pub fn find(&self, class: &'a [u8], name: &'a [u8]) -> Option<Signature>
+    pub(crate) fn find(&self, class: &'a [u8], name: &'a [u8]) -> Option<Signature>
         ensures { result ≡ found_subroutine (the_symbols self.now) class.now name.now }
     {
         match self.class(class) {

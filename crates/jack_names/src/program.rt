@@ -24,7 +24,7 @@ use jack_tree::{Class, Subroutine};
 use outer_world::Name as FileName;
 use std::alloc::{AllocError, Global};
 
-// How many statics a program has at most.
+// The statics of all classes have numbers below this one.
 const MOST_STATICS: usize = 2_147_483_647;
 
 fn mark_classes<'a>(seen: &mut Table<'a, ()>, classes: &'a [Class]) -> Result<(), AllocError>

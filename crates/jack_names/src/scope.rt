@@ -41,21 +41,21 @@ pub enum Way {
 
 /// How a call is made, and the number of the class that it goes to.
 #[derive(Clone, Copy, Debug)]
-pub struct Callee {
+pub(crate) struct Callee {
     pub way: Way,
     pub class: u32,
 }
 
 /// The numbers of all classes, and the subroutines of each.
 #[derive(Drop)]
-pub struct Names<'a> {
+pub(crate) struct Names<'a> {
     pub classes: Table<'a, u32>,
     pub subroutines: Vec<Table<'a, Signature>>,
 }
 
 /// What names stand for in the class of a number.
 #[derive(Clone, Copy)]
-pub struct ClassScope<'a, 'b> {
+pub(crate) struct ClassScope<'a, 'b> {
     pub names: &'b Names<'a>,
     pub members: &'b Table<'a, Declared>,
     pub own: u32,
@@ -64,7 +64,7 @@ pub struct ClassScope<'a, 'b> {
 
 /// What names stand for in a subroutine of a form, in the class of a number.
 #[derive(Clone, Copy)]
-pub struct Scope<'a, 'b> {
+pub(crate) struct Scope<'a, 'b> {
     pub names: &'b Names<'a>,
     pub locals: &'b Table<'a, Declared>,
     pub members: &'b Table<'a, Declared>,
@@ -75,7 +75,7 @@ pub struct Scope<'a, 'b> {
 
 impl<'a, 'b> Scope<'a, 'b> {
     /// A parameter or local, or else a field or static.
-    pub fn variable(&self, name: &'a [u8]) -> Option<Declared>
+    pub(crate) fn variable(&self, name: &'a [u8]) -> Option<Declared>
         ensures { result ≡ (the_scope self.now).variable name.now }
     {
         match self.locals.find(name) {
@@ -85,14 +85,14 @@ impl<'a, 'b> Scope<'a, 'b> {
     }
 
     /// The number of a class.
-    pub fn class(&self, name: &'a [u8]) -> Option<u32>
+    pub(crate) fn class(&self, name: &'a [u8]) -> Option<u32>
         ensures { result ≡ (the_scope self.now).class name.now }
     {
         self.names.class(name)
     }
 
     /// A subroutine of the class of a number.
-    pub fn subroutine(&self, class: u32, name: &'a [u8]) -> Option<Signature>
+    pub(crate) fn subroutine(&self, class: u32, name: &'a [u8]) -> Option<Signature>
         ensures { result ≡ (the_scope self.now).subroutine class name.now }
     {
         self.names.subroutine(class, name)

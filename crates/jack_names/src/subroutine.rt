@@ -106,7 +106,7 @@ fn locals_of(locals: &[Locals]) -> usize
 }
 
 /// The subroutine that a tree means in a scope, in a class of so many fields.
-pub fn subroutine_meant<'a>(
+pub(crate) fn subroutine_meant<'a>(
     alloc: Global,
     scope: &Scope<'a, '_>,
     fields: u16,

@@ -1,6 +1,7 @@
+use crate::fault::File;
 use crate::meant::expression_meant;
 use crate::scope::{Declared, Names, Scope, Signature, Slot};
-use crate::{File, Table};
+use crate::table::Table;
 use jack_core::{
     Expression as CoreExpression, Operator as CoreOperator, Part, Sign as CoreSign, Variable,
 };

@@ -6,6 +6,7 @@ ghost use Rattle.jack_names.specs.Tables.{names_in};
 ghost use Rattle.jack_names.specs.Faults.{Checks};
 ghost use Rattle.jack_names.specs.Filed.{the_file};
 ghost use Rattle.jack_names.specs.Entered.{table_of};
+ghost use Rattle.jack_names.specs.Whole.{class_names};
 ghost use Rattle.jack_names.specs.Twice.{twice_fault, first_twice, texts_of, names_of, members_twice, parameter_names, locals_twice, variables_fault, subroutines_fault, members_fault, file_fault, declaration_fault, declarations_fault};
 
 use crate::fault::{File, NameError, NameKind, tell};
@@ -180,14 +181,15 @@ fn check_declaration<'a>(
 
 /// The first fault in what classes declare, one after the other, where classes of the names in the table are already
 /// there: a class that is not named as its file or is there already, and a member, parameter or local that is there
-/// twice.
-pub fn check_declarations<'a>(
+/// twice. Where there is none, the names of these classes are entered behind the others.
+pub(crate) fn check_declarations<'a>(
     alloc: Global,
     shipped: bool,
     seen: &mut Table<'a, ()>,
     classes: &'a [Class],
 ) -> Result<(), NameError>
-    ensures { Checks (declarations_fault shipped (names_in (table_of seen.old)) classes.now) result }
+    ensures checks { Checks (declarations_fault shipped (names_in (table_of seen.old)) classes.now) result }
+    ensures seen { OnOk result (names_in (table_of seen.new) ≡ names_in (table_of seen.old) ++ class_names classes.now) }
 {
     let mut rest = classes;
     while let Some((class, others)) = rest.split_first() {
