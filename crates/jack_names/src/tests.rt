@@ -146,6 +146,28 @@ fn call_with_arguments(rt: HostRuntime) -> Result<(), Fail> {
     Ok(())
 }
 
+// `2 + 3 * 4` is 20: operators have no precedence.
+#[test]
+fn no_precedence(rt: HostRuntime) -> Result<(), Fail> {
+    let alloc = rt.alloc();
+    let e = Expression {
+        first: integer(2),
+        rest: vec![in alloc;
+            operation(Operator::Plus, integer(3)),
+            operation(Operator::Times, integer(4)),
+        ]?,
+    };
+    let want = [
+        Part::Literal(2),
+        Part::Literal(3),
+        Part::Binary(CoreOperator::Plus),
+        Part::Literal(4),
+        Part::Call(5, 2),
+    ];
+    assert_eq!(rt; meant(alloc, &e)?.parts.as_slice(), want.as_slice());
+    Ok(())
+}
+
 #[test]
 fn strings(rt: HostRuntime) -> Result<(), Fail> {
     let alloc = rt.alloc();
