@@ -43,9 +43,8 @@ fn check_declared<'a>(alloc: Global, own: &'a [Class], os: &'a [Class]) -> Resul
 {
     let mut seen = Table::new(alloc);
     mark_classes(&mut seen, os)?;
-    check_declarations(alloc, false, &mut seen, own)?;
-    let mut none = Table::new(alloc);
-    check_declarations(alloc, true, &mut none, os)
+    check_declarations(alloc, false, seen, own)?;
+    check_declarations(alloc, true, Table::new(alloc), os)
 }
 
 fn is_plain(signature: Option<Signature>) -> bool

@@ -6,7 +6,6 @@ ghost use Rattle.jack_names.specs.Tables.{names_in};
 ghost use Rattle.jack_names.specs.Faults.{Checks};
 ghost use Rattle.jack_names.specs.Filed.{the_file};
 ghost use Rattle.jack_names.specs.Entered.{table_of};
-ghost use Rattle.jack_names.specs.Whole.{class_names};
 ghost use Rattle.jack_names.specs.Twice.{twice_fault, first_twice, texts_of, names_of, members_twice, parameter_names, locals_twice, variables_fault, subroutines_fault, members_fault, file_fault, declaration_fault, declarations_fault};
 
 use crate::fault::{File, NameError, NameKind, tell};
@@ -68,14 +67,14 @@ fn check_names<'a>(
 fn check_lines<'a>(
     alloc: Global,
     file: File,
-    seen: &mut Table<'a, ()>,
+    mut seen: Table<'a, ()>,
     variables: &'a [ClassVariables],
 ) -> Result<(), NameError>
-    ensures { Checks (members_twice (the_file file.entry) (names_in (table_of seen.old)) variables.now) result }
+    ensures { Checks (members_twice (the_file file.entry) (names_in (table_of seen.entry)) variables.now) result }
 {
     let mut rest = variables;
     while let Some((line, others)) = rest.split_first() {
-        check_names(alloc, file, NameKind::MemberTwice, seen, &line.names)?;
+        check_names(alloc, file, NameKind::MemberTwice, &mut seen, &line.names)?;
         rest = others;
     }
     Ok(())
@@ -101,14 +100,14 @@ fn check_parameters<'a>(
 fn check_locals<'a>(
     alloc: Global,
     file: File,
-    seen: &mut Table<'a, ()>,
+    mut seen: Table<'a, ()>,
     locals: &'a [Locals],
 ) -> Result<(), NameError>
-    ensures { Checks (locals_twice (the_file file.entry) (names_in (table_of seen.old)) locals.now) result }
+    ensures { Checks (locals_twice (the_file file.entry) (names_in (table_of seen.entry)) locals.now) result }
 {
     let mut rest = locals;
     while let Some((line, others)) = rest.split_first() {
-        check_names(alloc, file, NameKind::VariableTwice, seen, &line.names)?;
+        check_names(alloc, file, NameKind::VariableTwice, &mut seen, &line.names)?;
         rest = others;
     }
     Ok(())
@@ -119,20 +118,20 @@ fn check_variables(alloc: Global, file: File, s: &Subroutine) -> Result<(), Name
 {
     let mut seen = Table::new(alloc);
     check_parameters(alloc, file, &mut seen, &s.parameters)?;
-    check_locals(alloc, file, &mut seen, &s.locals)
+    check_locals(alloc, file, seen, &s.locals)
 }
 
 fn check_subroutines<'a>(
     alloc: Global,
     file: File,
-    seen: &mut Table<'a, ()>,
+    mut seen: Table<'a, ()>,
     subroutines: &'a [Subroutine],
 ) -> Result<(), NameError>
-    ensures { Checks (subroutines_fault (the_file file.entry) (names_in (table_of seen.old)) subroutines.now) result }
+    ensures { Checks (subroutines_fault (the_file file.entry) (names_in (table_of seen.entry)) subroutines.now) result }
 {
     let mut rest = subroutines;
     while let Some((s, others)) = rest.split_first() {
-        check_new(alloc, file, NameKind::MemberTwice, seen, &s.name)?;
+        check_new(alloc, file, NameKind::MemberTwice, &mut seen, &s.name)?;
         check_variables(alloc, file, s)?;
         rest = others;
     }
@@ -142,10 +141,10 @@ fn check_subroutines<'a>(
 fn check_members(alloc: Global, file: File, class: &Class) -> Result<(), NameError>
     ensures { Checks (members_fault (the_file file.entry) class.now) result }
 {
-    let mut variables = Table::new(alloc);
-    check_lines(alloc, file, &mut variables, &class.variables)?;
-    let mut subroutines = Table::new(alloc);
-    check_subroutines(alloc, file, &mut subroutines, &class.subroutines)
+    let variables = Table::new(alloc);
+    check_lines(alloc, file, variables, &class.variables)?;
+    let subroutines = Table::new(alloc);
+    check_subroutines(alloc, file, subroutines, &class.subroutines)
 }
 
 // A class is named as its file, without the ending.
@@ -181,19 +180,18 @@ fn check_declaration<'a>(
 
 /// The first fault in what classes declare, one after the other, where classes of the names in the table are already
 /// there: a class that is not named as its file or is there already, and a member, parameter or local that is there
-/// twice. Where there is none, the names of these classes are entered behind the others.
+/// twice.
 pub(crate) fn check_declarations<'a>(
     alloc: Global,
     shipped: bool,
-    seen: &mut Table<'a, ()>,
+    mut seen: Table<'a, ()>,
     classes: &'a [Class],
 ) -> Result<(), NameError>
-    ensures checks { Checks (declarations_fault shipped (names_in (table_of seen.old)) classes.now) result }
-    ensures seen { OnOk result (names_in (table_of seen.new) ≡ names_in (table_of seen.old) ++ class_names classes.now) }
+    ensures { Checks (declarations_fault shipped (names_in (table_of seen.entry)) classes.now) result }
 {
     let mut rest = classes;
     while let Some((class, others)) = rest.split_first() {
-        check_declaration(alloc, shipped, seen, class)?;
+        check_declaration(alloc, shipped, &mut seen, class)?;
         rest = others;
     }
     Ok(())

@@ -18,7 +18,7 @@ returns-in_err-check_declarations c =
     let there : (x : List ℕ) → is_among x seen ≡ is_among x (class_names os) = λ x.
     ap (λ es. is_among x (names_in es)) (c.in_ok-mark_classes.ensures ∙ ap (λ es. with_all es (marks os)) c.new-seen.ensures) ∙ marks_are os x in
     rw (p.1, p.2) (in_first (declarations_fault false (class_names os) own) (declarations_fault true [] os) c.in_err-check_declarations.field-0.0
-    (as_fault (declarations_fault false seen own) (declarations_fault false (class_names os) own) (Err c.in_err-check_declarations.field-0.0) (declared_same false seen (class_names os) own there) c.in_err-check_declarations.ensures.checks))
+    (as_fault (declarations_fault false seen own) (declarations_fault false (class_names os) own) (Err c.in_err-check_declarations.field-0.0) (declared_same false seen (class_names os) own there) c.in_err-check_declarations.ensures))
 
 pub returns : goal.returns
 returns c =
@@ -28,5 +28,5 @@ returns c =
     let there : (x : List ℕ) → is_among x seen ≡ is_among x (class_names os) = λ x.
     ap (λ es. is_among x (names_in es)) (c.in_ok-mark_classes.ensures ∙ ap (λ es. with_all es (marks os)) c.new-seen.ensures) ∙ marks_are os x in
     in_second (declarations_fault false (class_names os) own) (declarations_fault true [] os) c.check_declarations-2.result
-    (sym (declared_same false seen (class_names os) own there) ∙ c.in_ok-check_declarations.ensures.checks)
-    (as_fault (declarations_fault true (names_in (table_of c.new-none.result)) os) (declarations_fault true [] os) c.check_declarations-2.result (ap (λ es. declarations_fault true (names_in es) os) c.new-none.ensures) c.check_declarations-2.ensures.checks)
+    (sym (declared_same false seen (class_names os) own there) ∙ c.in_ok-check_declarations.ensures)
+    (as_fault (declarations_fault true (names_in (table_of c.new.result)) os) (declarations_fault true [] os) c.check_declarations-2.result (ap (λ es. declarations_fault true (names_in es) os) c.new.ensures) c.check_declarations-2.ensures)

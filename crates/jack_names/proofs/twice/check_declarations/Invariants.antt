@@ -1,15 +1,11 @@
-use Rattle.std.proofs.Common.{◌≡◌, ◌++◌, length}
+use Rattle.std.proofs.Common.{◌≡◌, length}
 use Rattle.jack_names.specs.Tables.{names_in}
 use Rattle.jack_names.specs.Entered.{table_of}
 use Rattle.jack_names.specs.Twice.{declarations_fault}
-use Rattle.jack_names.specs.Whole.{class_names}
 use Rattle.jack_names.proofs.twice.check_declarations.Given as goal
 
 abbrev pub invariant-loop-class : goal.invariant-loop-class
-invariant-loop-class l = record {
-  left : declarations_fault l.shipped (names_in (table_of l.seen)) l.rest ≡ declarations_fault l.shipped (names_in (table_of l.fn.seen)) l.classes;
-  seen : names_in (table_of l.seen) ++ class_names l.rest ≡ names_in (table_of l.fn.seen) ++ class_names l.classes;
-}
+invariant-loop-class l = declarations_fault l.shipped (names_in (table_of l.seen)) l.rest ≡ declarations_fault l.shipped (names_in (table_of l.fn.seen)) l.classes
 
 abbrev pub decreases-loop-class : goal.decreases-loop-class
 decreases-loop-class l = length l.rest
