@@ -5,9 +5,7 @@ use Rattle.jack_tree.specs.declared.tree.Class.{Class}
 use Rattle.jack_core.specs.declared.program.Core.{Core}
 use Rattle.jack_compiler.specs.Files.{names_in}
 use Rattle.jack_names.specs.Faults.{fault_told}
-use Rattle.command_line.specs.declared.request.RunLevel.TheVariants as levels
-use Rattle.tower.specs.Built.{IsComputerOf, LargeImage, ManyStatics, PreparesHack, Unbuilt}
-use Rattle.tower.specs.Mapped.{MappedMachine, program_in}
+use Rattle.tower.specs.Built.{Builds, IsComputerOf, LargeImage, ManyStatics, Unbuilt}
 use Rattle.tower.specs.Program.{InName, InSystem, IsProgram, Means, Wrong, named_core}
 use Rattle.tower.specs.declared.building.BuildError.{BuildError}
 use Rattle.tower.specs.declared.building.BuildError.TheVariants as builds
@@ -16,7 +14,7 @@ use Rattle.tower.specs.declared.program.ProgramError.{ProgramError}
 use Rattle.tower.specs.declared.program.ProgramError.TheVariants as errors
 use Rattle.nand_cli.specs.JackFolder.{HasClasses, IsMeaningless, meaningless, unread, wrong_line}
 use Rattle.nand_cli.specs.Running.{BuildIsRefused, unbuilt_line}
-use Rattle.nand_cli.specs.Parts.{CountsLoad, LoadsClasses, LoadsJack, MakesHack, MakesProgram, TellsBuilt, TellsLine, TellsWrong}
+use Rattle.nand_cli.specs.Parts.{CountsLoad, LoadsClasses, LoadsJack, MakesImage, MakesProgram, TellsBuilt, TellsLine, TellsWrong}
 use Rattle.nand_cli.specs.declared.refusal.Failure.{Failure}
 use Rattle.nand_cli.specs.declared.refusal.Failure.TheVariants as failure
 use Rattle.nand_cli.proofs.Loading.{made_counts, told}
@@ -47,10 +45,10 @@ meant files folder classes (Err failure.Memory) has h = tt
 
 -- ---- the computer
 
-build_told : (folder : List ℕ) (core : Core) (why : Unbuilt) (f : Failure) → BuildIsRefused levels.Hack (named_core core) folder (unbuilt_line folder why) → TellsLine (unbuilt_line folder why) f → MakesHack folder core (Err f)
-build_told folder core why f h e = told (λ (m : MappedMachine). IsComputerOf (named_core core) (program_in m)) (BuildIsRefused levels.Hack (named_core core) folder) (unbuilt_line folder why) f h e
+build_told : (folder : List ℕ) (core : Core) (why : Unbuilt) (f : Failure) → BuildIsRefused (named_core core) folder (unbuilt_line folder why) → TellsLine (unbuilt_line folder why) f → MakesImage folder core (Err f)
+build_told folder core why f h e = told (IsComputerOf (named_core core)) (BuildIsRefused (named_core core) folder) (unbuilt_line folder why) f h e
 
-pub unbuilt_told : (folder : List ℕ) (core : Core) (error : BuildError) (f : Failure) → PreparesHack core (Err error) → TellsBuilt folder error f → MakesHack folder core (Err f)
+pub unbuilt_told : (folder : List ℕ) (core : Core) (error : BuildError) (f : Failure) → Builds core (Err error) → TellsBuilt folder error f → MakesImage folder core (Err f)
 unbuilt_told folder core builds.Memory f h e = rw e tt
 unbuilt_told folder core (builds.TooManyStatics w) f h e = build_told folder core (ManyStatics w) f (ManyStatics w, h, refl) e
 unbuilt_told folder core (builds.TooLarge w) f h e = build_told folder core (LargeImage w) f (LargeImage w, h, refl) e

@@ -1,5 +1,5 @@
--- The report of what the machine shows is that of the meaning.
-use Rattle.std.proofs.Common.{◌≡◌, ◌-◌, ℕ, List, [], Option, Err, refl, sym, ◌∙◌, ap, subst, slice_index}
+-- The report of what the machine shows is that of the meaning; and what a line of `run` does, with a report and without.
+use Rattle.std.proofs.Common.{◌≡◌, ◌-◌, ℕ, List, [], Option, Result, Ok, Err, refl, sym, ◌∙◌, ap, subst, slice_index}
 use Rattle.jack_meaning.specs.Level.{point_in}
 use Rattle.jack_core.specs.declared.program.Core.{Core}
 use Rattle.jack_compiler.specs.Files.{names_in}
@@ -9,6 +9,8 @@ use Rattle.key_script.specs.Codes.{code_at}
 use Rattle.key_script.specs.declared.keys.Keys.{Keys}
 use Rattle.key_script.specs.declared.lines.Line.{Line}
 use Rattle.outer_world.specs.Files.{Files}
+use Rattle.outer_world.specs.Written.{Got}
+use Rattle.outer_world.proofs.Passing.{Got-nothing}
 use Rattle.outer_world.specs.declared.point.Point.{Point}
 use Rattle.machine_io.specs.Report.{report_text}
 use Rattle.machine_io.specs.declared.driving.End.{End}
@@ -19,28 +21,22 @@ use Rattle.command_line.specs.declared.request.RunLevel.{RunLevel}
 use Rattle.command_line.specs.declared.request.RunLevel.TheVariants as levels
 use Rattle.tower.specs.Program.{Named, named_core}
 use Rattle.tower.specs.declared.program.Program.{Program}
-use Rattle.nand_cli.specs.Answer.{Prints}
+use Rattle.tower.specs.Built.{IsComputerOf}
 use Rattle.nand_cli.specs.JackFolder.{FolderIsRefused, FolderMeans}
-use Rattle.nand_cli.specs.Parts.{Does, HasRun, LoadsJack, LoadsKeys, jack_text}
-use Rattle.nand_cli.specs.Running.{HasKeys, IsBuilt, ScriptIsRefused, name_of, without_program, without_script}
+use Rattle.nand_cli.specs.Parts.{Counts, CountsReport, Does, HasRun, LoadsJack, LoadsKeys, MakesImage, Reports, jack_text}
+use Rattle.nand_cli.specs.Running.{BuildIsRefused, HasKeys, IsBuilt, IsReport, ScriptIsRefused, name_of, unbuilt, without_program, without_script}
 use Rattle.nand_cli.specs.declared.refusal.Failure.{Failure}
-use Rattle.nand_cli.proofs.Loading.{nothing_put}
+use Rattle.nand_cli.specs.declared.refusal.Failure.TheVariants as failure
+use Rattle.nand_cli.proofs.Loading.{nothing_put, unmade, unmade_counts}
 
-pub reported : (files : Option Files) (folder : List ℕ) (n : ℕ) (keys : Option (List ℕ)) (show : Show) (core : Core) (subs : List (List ℕ)) (new : Jack) (lines : List Line) (end : End)
-    → FolderMeans files folder (named_core core) → subs ≡ names_in core → HasKeys files keys lines → new.core.now ≡ core → HasRun (code_at lines) n new end
-    → Prints files (run folder levels.Jack n keys show) (jack_text new subs end show) []
-reported files folder n keys show core subs new lines end means named has same (s, at, ends_so, shows) =
+pub reported : (n : ℕ) (show : Show) (core : Core) (subs : List (List ℕ)) (new : Jack) (code : ℕ → ℕ) (end : End)
+    → subs ≡ names_in core → new.core.now ≡ core → HasRun code n new end → IsReport levels.Jack (named_core core) code n show (jack_text new subs end show)
+reported n show core subs new code end named same (s, at, ends_so, shows) =
     let own = named ∙ sym (ap names_in same) in
     let text = ap (λ (ss : List (List ℕ)). jack_text new ss end show) own
     ∙ ap (λ (p : Point). report_text names.Jack new.moves new.moves (name_of (names_in new.core.now) p.sub) p.number end show (jack_word new)) shows.point
-    ∙ ap (λ (ws : List ℕ). report_text names.Jack new.moves new.moves (name_of (names_in new.core.now) (point_in s).sub) (point_in s).number end show (λ a. slice_index ws (a - 2048))) shows.words in (
-      named_core new.core.now,
-      lines,
-      subst (λ (c : Core). FolderMeans files folder (named_core c)) (sym same) means,
-      has,
-      (new.moves, s, end, at, ends_so, text),
-      refl,
-    )
+    ∙ ap (λ (ws : List ℕ). report_text names.Jack new.moves new.moves (name_of (names_in new.core.now) (point_in s).sub) (point_in s).number end show (λ a. slice_index ws (a - 2048))) shows.words in
+    subst (λ (c : Core). IsReport levels.Jack (named_core c) code n show (jack_text new subs end show)) same (new.moves, s, end, at, ends_so, text)
 
 -- what is put is told by what was read of the machine
 pub read_of : (jack : Jack) (subs : List (List ℕ)) (end : End) (show : Show) (moves steps : ℕ) (name : List ℕ) (p : Point) → moves ≡ jack.moves → steps ≡ jack.moves → name ≡ name_of subs p.sub → p ≡ jack_point jack
@@ -51,16 +47,44 @@ read_of jack subs end show moves steps name p e f g h =
     ∙ ap (λ n. report_text names.Jack jack.moves jack.moves n p.number end show (jack_word jack)) g
     ∙ ap (λ (q : Point). report_text names.Jack jack.moves jack.moves (name_of subs q.sub) q.number end show (jack_word jack)) h
 
--- ---- what was not loaded
+-- ---- the line
 
-pub without_jack : (level : RunLevel) (files : Option Files) (folder : List ℕ) (n : ℕ) (keys : Option (List ℕ)) (show : Show) (out err : Option (List ℕ)) (f : Failure)
-    → LoadsJack files folder (Err f) → Does files (run folder level n keys show) out out err err (Err f)
-without_jack level files folder n keys show out err f h =
-    nothing_put (λ (p : Program). FolderMeans files folder (named_core p.core) × (p.names.items ≡ names_in p.core)) (FolderIsRefused files folder) files (run folder level n keys show) out err f
-    (λ line k. (refl, without_program k)) (refl, refl) h
+module _ (level : RunLevel) (files : Option Files) (folder : List ℕ) (n : ℕ) (keys : Option (List ℕ)) (show : Show) where
+  -- with a report
+  pub answered : (named : Named) (lines : List Line) (out out' err : Option (List ℕ)) (r : Result (Unit {0}) Failure) → FolderMeans files folder named → IsBuilt named → HasKeys files keys lines
+      → Reports (IsReport level named (code_at lines) n show) out out' r → Does files (run folder level n keys show) out out' err err r
+  answered named lines out out' err (Ok u) means built has (text, is, got) = (text, [], (named, lines, means, built, has, is, refl), got, Got-nothing err)
+  answered named lines out out' err (Err (failure.Refused why)) means built has h = absurd h
+  answered named lines out out' err (Err failure.Read) means built has h = absurd h
+  answered named lines out out' err (Err failure.Write) means built has (text, is, part) = (text, [], (named, lines, means, built, has, is, refl), part, refl)
+  answered named lines out out' err (Err failure.Memory) means built has same = ([], [], (refl, refl), subst (λ now. Got out now []) (sym same) (Got-nothing out), Got-nothing err)
 
-pub without_keys : (level : RunLevel) (files : Option Files) (folder : List ℕ) (n : ℕ) (keys : Option (List ℕ)) (show : Show) (out err : Option (List ℕ)) (named : Named) (f : Failure)
-    → FolderMeans files folder named → IsBuilt level named → LoadsKeys files keys (Err f) → Does files (run folder level n keys show) out out err err (Err f)
-without_keys level files folder n keys show out err named f means built h =
-    nothing_put (λ (k : Keys). HasKeys files keys k.lines.items) (ScriptIsRefused files keys) files (run folder level n keys show) out err f
-    (λ line k. (refl, without_script named means built k)) (refl, refl) h
+  -- without a program, without its image, and without keys
+  pub without_jack : (out err : Option (List ℕ)) (f : Failure) → LoadsJack files folder (Err f) → Does files (run folder level n keys show) out out err err (Err f)
+  without_jack out err f h =
+      nothing_put (λ (p : Program). FolderMeans files folder (named_core p.core) × (p.names.items ≡ names_in p.core)) (FolderIsRefused files folder) files (run folder level n keys show) out err f
+      (λ told k. (refl, without_program k)) (refl, refl) h
+
+  pub without_image : (out err : Option (List ℕ)) (core : Core) (f : Failure) → FolderMeans files folder (named_core core) → MakesImage folder core (Err f) → Does files (run folder level n keys show) out out err err (Err f)
+  without_image out err core f means h =
+      nothing_put (IsComputerOf (named_core core)) (BuildIsRefused (named_core core) folder) files (run folder level n keys show) out err f
+      (λ told k. (refl, unbuilt (named_core core) means k)) (refl, refl)
+      (unmade (IsComputerOf (named_core core)) (BuildIsRefused (named_core core) folder) f h)
+
+  pub without_keys : (out err : Option (List ℕ)) (named : Named) (f : Failure) → FolderMeans files folder named → IsBuilt named → LoadsKeys files keys (Err f) → Does files (run folder level n keys show) out out err err (Err f)
+  without_keys out err named f means built h =
+      nothing_put (λ (k : Keys). HasKeys files keys k.lines.items) (ScriptIsRefused files keys) files (run folder level n keys show) out err f
+      (λ told k. (refl, without_script named means built k)) (refl, refl) h
+
+-- ---- the counts
+
+pub image_counts : (folder : List ℕ) (core : Core) (f : Failure) (shelf shelf' out err : ℕ) → MakesImage folder core (Err f) → shelf' ≡ shelf → Counts shelf shelf' out out err err (Err f)
+image_counts folder core f shelf shelf' out err h e = unmade_counts (IsComputerOf (named_core core)) (BuildIsRefused (named_core core) folder) f shelf shelf' out err h e
+
+pub report_counts : (is_report : List ℕ → Type 0) (before now : Option (List ℕ)) (shelf shelf' out out' err : ℕ) (r : Result (Unit {0}) Failure) → shelf' ≡ shelf
+    → Reports is_report before now r → CountsReport out out' r → Counts shelf shelf' out out' err err r
+report_counts is_report before now shelf shelf' out out' err (Ok u) e h count = (e, count, refl)
+report_counts is_report before now shelf shelf' out out' err (Err (failure.Refused why)) e h count = absurd h
+report_counts is_report before now shelf shelf' out out' err (Err failure.Read) e h count = absurd h
+report_counts is_report before now shelf shelf' out out' err (Err failure.Write) e h count = (e, count, refl)
+report_counts is_report before now shelf shelf' out out' err (Err failure.Memory) e h count = (e, count, refl)

@@ -1,10 +1,9 @@
 -- What the parts of a call say; the call's own contract needs none of it.
-use Rattle.std.specs.Prelude.{◌≡◌, ◌≤◌, ◌<◌, ◌⊎◌, ◌++◌, ℕ, Bool, List, Option, Some, None, Result, Ok, Err, Vec, codes, length, min}
+use Rattle.std.specs.Prelude.{◌≡◌, ◌≤◌, ◌<◌, ◌++◌, ℕ, Bool, List, Option, Some, None, Result, Ok, Err, Vec, codes, length, min}
 use Rattle.std.specs.declared.alloc.Global.{Global}
 use Rattle.command_line.specs.Line.{Line}
 use Rattle.command_line.specs.declared.reader.LineError.{LineError}
 use Rattle.command_line.specs.declared.reader.LineError.TheVariants as no_line
-use Rattle.command_line.specs.declared.request.RunLevel.TheVariants as levels
 use Rattle.outer_world.specs.Faults.{Rose}
 use Rattle.outer_world.specs.Files.{Files, HasFile}
 use Rattle.outer_world.specs.Texts.{read_fault_line, usage_line, want_of_memory_line}
@@ -36,7 +35,7 @@ use Rattle.machine_io.specs.declared.driving.End.TheVariants as ends
 use Rattle.machine_io.specs.declared.report.LevelName.TheVariants as names
 use Rattle.machine_io.specs.declared.report.Show.{Show}
 use Rattle.tower.specs.Built.{IsComputerOf, LargeImage, ManyStatics}
-use Rattle.tower.specs.Mapped.{MappedMachine, StandsAt, program_in}
+use Rattle.tower.specs.Mapped.{MappedMachine, RunProgram, StandsAt}
 use Rattle.tower.specs.Program.{InName, InSystem, Means, named_core}
 use Rattle.tower.specs.declared.building.BuildError.{BuildError}
 use Rattle.tower.specs.declared.building.BuildError.TheVariants as builds
@@ -50,7 +49,7 @@ use Rattle.vm_link.specs.declared.fault.LinkFault.{LinkFault}
 use Rattle.vm_link.specs.declared.linked.Linked.{Linked}
 use Rattle.vm_translator.specs.Image.{image_of}
 use Rattle.vm_translator.specs.declared.coded.Coded.{Coded}
-use Rattle.nand_cli.specs.Answer.{Before, Ends, Prints, Refuses}
+use Rattle.nand_cli.specs.Answer.{Before, Prints, Refuses}
 use Rattle.nand_cli.specs.Assembled.{IsFileOf, IsNoFile, TextSays, wrong_line as asm_line}
 use Rattle.nand_cli.specs.Fault.{refusal_line, text_fault_line}
 use Rattle.nand_cli.specs.Folder.{AreNames, AreSources, IsOverfull}
@@ -64,7 +63,7 @@ use Rattle.nand_cli.specs.declared.load.Form.{Form}
 use Rattle.nand_cli.specs.declared.refusal.Failure.{Failure}
 use Rattle.nand_cli.specs.declared.refusal.Failure.TheVariants as failure
 
--- What doing a line put on out and on err; the line of a failure is still to be put.
+-- What doing a line put on out and on err; the line of a failure is still to be put, but none after a write fault, which is one of out.
 abbrev pub Does : Option Files → Line → Option (List ℕ) → Option (List ℕ) → Option (List ℕ) → Option (List ℕ) → Result (Unit {0}) Failure → Type 0
 Does files line out out' err err' (Ok _) =
     (o : List ℕ) × (e : List ℕ) × Prints files line o e × Got out out' o × Got err err' e
@@ -73,14 +72,14 @@ Does files line out out' err err' (Err (failure.Refused refusal)) =
 Does files line out out' err err' (Err failure.Read) =
     (o : List ℕ) × (e : List ℕ) × Before files line o e × Got out out' o × Got err err' e
 Does files line out out' err err' (Err failure.Write) =
-    (s : Status) × (o : List ℕ) × (e : List ℕ) × Ends files line s o e × GotPart out out' o × GotPart err err' e
+    (o : List ℕ) × (e : List ℕ) × Prints files line o e × GotPart out out' o × (err' ≡ err)
 Does files line out out' err err' (Err failure.Memory) =
     (o : List ℕ) × (e : List ℕ) × Before files line o e × Got out out' o × Got err err' e
 
 -- What doing a line says of the counts of faults of shelf, out and err.
 abbrev pub Counts : ℕ → ℕ → ℕ → ℕ → ℕ → ℕ → Result (Unit {0}) Failure → Type 0
 Counts shelf shelf' out out' err err' (Err failure.Read) = Rose shelf shelf' × (out' ≡ out) × (err' ≡ err)
-Counts shelf shelf' out out' err err' (Err failure.Write) = (shelf' ≡ shelf) × (Rose out out' ⊎ Rose err err')
+Counts shelf shelf' out out' err err' (Err failure.Write) = (shelf' ≡ shelf) × Rose out out' × (err' ≡ err)
 Counts shelf shelf' out out' err err' _ = (shelf' ≡ shelf) × (out' ≡ out) × (err' ≡ err)
 
 -- the fault of a text past the limit, which has no place
@@ -169,10 +168,9 @@ abbrev pub LoadsJack : Option Files → List ℕ → Result Program Failure → 
 LoadsJack files folder r =
     Loaded (λ (p : Program). FolderMeans files folder (named_core p.core) × (p.names.items ≡ names_in p.core)) (FolderIsRefused files folder) r
 
--- What making the computer of a program says.
-abbrev pub MakesHack : List ℕ → Core → Result MappedMachine Failure → Type 0
-MakesHack folder core r =
-    Made (λ (h : MappedMachine). IsComputerOf (named_core core) (program_in h)) (BuildIsRefused levels.Hack (named_core core) folder) r
+-- What making the image of a program says.
+abbrev pub MakesImage : List ℕ → Core → Result RunProgram Failure → Type 0
+MakesImage folder core r = Made (IsComputerOf (named_core core)) (BuildIsRefused (named_core core) folder) r
 
 -- What reading the key script of a run says.
 abbrev pub LoadsKeys : Option Files → Option (List ℕ) → Result Keys Failure → Type 0
@@ -186,6 +184,19 @@ abbrev pub Codes : Bool → List ℕ → List File → Result Coded Failure → 
 Codes bare folder program r =
     Made (λ (coded : Coded). (linked : Linked) × Links bare program (Ok linked) × (coded.instrs ≡ image_of linked) × (length (image_of linked) ≤ 32768))
     (IsNoCode bare folder program) r
+
+-- What running a program and putting its report says of out: the report, or a front part of it, or nothing where memory is wanting.
+abbrev pub Reports : (List ℕ → Type 0) → Option (List ℕ) → Option (List ℕ) → Result (Unit {0}) Failure → Type 0
+Reports is_report out out' (Ok _) = (text : List ℕ) × is_report text × Got out out' text
+Reports is_report out out' (Err (failure.Refused refusal)) = ⊥
+Reports is_report out out' (Err failure.Read) = ⊥
+Reports is_report out out' (Err failure.Write) = (text : List ℕ) × is_report text × GotPart out out' text
+Reports is_report out out' (Err failure.Memory) = out' ≡ out
+
+-- The same of its count.
+abbrev pub CountsReport : ℕ → ℕ → Result (Unit {0}) Failure → Type 0
+CountsReport out out' (Err failure.Write) = Rose out out'
+CountsReport out out' _ = out' ≡ out
 
 -- The machine shows a state of the meaning: the words of heap and screen, and the control point.
 pub record Shows (jack : Jack) (s : State) : Type 0 where

@@ -85,20 +85,17 @@ abbrev pub unbuilt_line : List ℕ → Unbuilt → List ℕ
 unbuilt_line folder (ManyStatics w) = fault_line folder 0 0 (codes "TooManyStatics") (decimal w)
 unbuilt_line folder (LargeImage w) = fault_line folder 0 0 (codes "TooLarge") (decimal w)
 
--- What the level runs of the program cannot be built, and this line tells why.
-abbrev pub BuildIsRefused : RunLevel → Named → List ℕ → List ℕ → Type 0
-BuildIsRefused levels.Jack named folder line = ⊥
-BuildIsRefused levels.Hack named folder line = (why : Unbuilt) × IsNotBuilt named why × (line ≡ unbuilt_line folder why)
+-- The program has no computer, and this line tells why.
+abbrev pub BuildIsRefused : Named → List ℕ → List ℕ → Type 0
+BuildIsRefused named folder line = (why : Unbuilt) × IsNotBuilt named why × (line ≡ unbuilt_line folder why)
 
--- what the level runs of the program is there
-abbrev pub IsBuilt : RunLevel → Named → Type 0
-IsBuilt levels.Jack named = Unit {0}
-IsBuilt levels.Hack named = (p : RunProgram) × IsComputerOf named p
+-- the program has a computer
+abbrev pub IsBuilt : Named → Type 0
+IsBuilt named = (p : RunProgram) × IsComputerOf named p
 
--- The run is refused, and this line tells why: the folder means no program, or what the level runs of it cannot be built, or, where it is
--- built, the key script is refused.
-pub data RunIsRefused (level : RunLevel) (files : Option Files) (folder : List ℕ) (keys : Option (List ℕ)) (line : List ℕ) : Type 0 where
-  without_program : FolderIsRefused files folder line → RunIsRefused level files folder keys line
-  unbuilt : (named : Named) → FolderMeans files folder named → BuildIsRefused level named folder line → RunIsRefused level files folder keys line
-  without_script : (named : Named) → FolderMeans files folder named → IsBuilt level named → ScriptIsRefused files keys line
-      → RunIsRefused level files folder keys line
+-- The run is refused, at whatever level, and this line tells why: the folder means no program, or its program has no computer, or, where it has
+-- one, the key script is refused.
+pub data RunIsRefused (files : Option Files) (folder : List ℕ) (keys : Option (List ℕ)) (line : List ℕ) : Type 0 where
+  without_program : FolderIsRefused files folder line → RunIsRefused files folder keys line
+  unbuilt : (named : Named) → FolderMeans files folder named → BuildIsRefused named folder line → RunIsRefused files folder keys line
+  without_script : (named : Named) → FolderMeans files folder named → IsBuilt named → ScriptIsRefused files keys line → RunIsRefused files folder keys line

@@ -1,24 +1,26 @@
-//! The command `run` at the level of the computer.
-ghost use Rattle.std.specs.Prelude.{◌≡◌, [], List, ℕ, IfOk, Option, option_map};
-ghost use Rattle.command_line.specs.Line.{run};
+//! The image of a program, and its run on the computer.
+ghost use Rattle.std.specs.Prelude.{◌≡◌, [], ℕ};
+ghost use Rattle.jack_compiler.specs.Files.{names_in};
 ghost use Rattle.jack_compiler.specs.Resolved.{IsResolvedCore};
 ghost use Rattle.key_script.specs.Codes.{code_at};
+ghost use Rattle.layers.specs.System.{IsKey};
 ghost use Rattle.outer_world.specs.Written.{CountsPut, Puts};
+ghost use Rattle.tower.specs.Built.{IsComputerOf};
 ghost use Rattle.tower.specs.Mapped.{HasFollowed, program_in};
-ghost use Rattle.nand_cli.specs.Parts.{Counts, Does, HasCycled, MakesHack, TellsBuilt, hack_text};
+ghost use Rattle.tower.specs.Program.{named_core};
+ghost use Rattle.nand_cli.specs.Parts.{CountsReport, HasCycled, MakesImage, Reports, TellsBuilt, hack_text};
+ghost use Rattle.nand_cli.specs.Running.{IsReport};
 
-use crate::meaning::load_jack;
 use crate::reading::NOWHERE;
 use crate::refusal::{Detail, Failure, Kind, refusal_at};
 use crate::running::name_at;
-use crate::sources::load_keys;
 use command_line::{Run, RunLevel};
 use jack_core::Core;
 use key_script::Keys;
 use machine_io::{End, Head, Level, LevelName, Show, drive, show_report};
-use outer_world::{Name, Put, Shelf, Sink};
-use std::alloc::{AllocError, Global};
-use tower::{BuildError, HackLevel, prepare_hack};
+use outer_world::{Name, Put, Sink};
+use std::alloc::Global;
+use tower::{BuildError, Built, HackLevel, Program, build, prepare_hack};
 
 // Why a program has no computer.
 fn not_built(alloc: Global, folder: &str, error: BuildError) -> Failure
@@ -37,27 +39,29 @@ fn not_built(alloc: Global, folder: &str, error: BuildError) -> Failure
     }
 }
 
-// The computer at its start with the image of a program.
-fn hack_of(alloc: Global, folder: &str, core: &Core) -> Result<HackLevel, Failure>
-    requires resolved { IsResolvedCore core.now }
-    ensures makes { MakesHack folder.now core.now result }
-    ensures stands { IfOk result (λ h. HasFollowed h []) }
-    ensures moves { IfOk result (λ h. h.hack.moves ≡ 0) }
+/// The image of a folder's program, or why there is none.
+pub fn image_of(alloc: Global, folder: &str, core: &Core) -> Result<Built, Failure>
+    requires { IsResolvedCore core.now }
+    ensures { MakesImage folder.now core.now result }
 {
-    match prepare_hack(alloc, core) {
-        Ok(level) => Ok(level),
+    match build(alloc, core) {
+        Ok(built) => Ok(built),
         Err(error) => Err(not_built(alloc, folder, error)),
     }
 }
 
 // Moves a computer from its start, each cycle under its key, and tells how the moves end.
-fn run_hack(level: &mut HackLevel, keys: &Keys, cycles: u32) -> Result<End, AllocError>
+fn run_hack(level: &mut HackLevel, keys: &Keys, cycles: u32) -> End
     requires stands { HasFollowed level.old [] }
     requires first { level.old.hack.moves ≡ 0 }
-    ensures ran { IfOk result (λ end. HasCycled (code_at keys.now.lines.items) cycles level.new end) }
+    ensures ran { HasCycled (code_at keys.now.lines.items) cycles level.new result }
     ensures program { program_in level.new ≡ program_in level.old }
 {
-    drive(level, keys, u64::from(cycles))
+    match drive(level, keys, u64::from(cycles)) {
+        Ok(end) => end,
+        // A computer never wants memory.
+        Err(_) => unreachable!(),
+    }
 }
 
 // Puts the report of what a computer shows.
@@ -77,21 +81,23 @@ fn put_hack<O: Sink>(level: &HackLevel, names: &[Name], end: End, show: Show, ou
     show_report(&head, show, |a| level.word_at(a), out)
 }
 
-/// Does a line of `run` at the level of the computer.
-pub fn answer_hack<F: Shelf, O: Sink>(
+/// Runs a program on the computer with its image, and puts the report. Once the computer is there no memory is wanted.
+pub fn report_hack<O: Sink>(
     alloc: Global,
+    program: &Program,
+    built: Built,
+    keys: &Keys,
     request: &Run<'_>,
-    shelf: &mut F,
     out: &mut O,
 ) -> Result<(), Failure>
-    ensures does { (err : Option (List ℕ)) → Does (F.files shelf.old) (run request.now.folder.now RunLevel.Hack request.now.cycles (option_map (λ keys. keys.now) request.now.keys) request.now.show) (O.written out.old) (O.written out.new) err err result }
-    ensures counts { (err : ℕ) → Counts (F.faults shelf.old) (F.faults shelf.new) (O.faults out.old) (O.faults out.new) err err result }
-    ensures kept { F.files shelf.new ≡ F.files shelf.old }
+    requires computer { IsComputerOf (named_core program.now.core) built }
+    requires names { program.now.names.items ≡ names_in program.now.core }
+    requires words { (c : ℕ) → IsKey (code_at keys.now.lines.items c) }
+    ensures reports { Reports (IsReport RunLevel.Hack (named_core program.now.core) (code_at keys.now.lines.items) request.now.cycles request.now.show) (O.written out.old) (O.written out.new) result }
+    ensures counts { CountsReport (O.faults out.old) (O.faults out.new) result }
 {
-    let program = load_jack(alloc, request.folder, shelf)?;
-    let mut level = hack_of(alloc, request.folder, &program.core)?;
-    let keys = load_keys(alloc, request.keys, shelf)?;
-    let end = run_hack(&mut level, &keys, request.cycles)?;
+    let mut level = prepare_hack(alloc, built)?;
+    let end = run_hack(&mut level, keys, request.cycles);
     match put_hack(&level, &program.names, end, request.show, out) {
         Put::Done => Ok(()),
         Put::Failed => Err(Failure::Write),

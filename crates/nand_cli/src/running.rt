@@ -1,13 +1,15 @@
 //! The command `run`: the report of a program's run.
 ghost use Rattle.std.specs.Prelude.{◌≡◌, [], List, ℕ, IfOk, Option, option_map};
 ghost use Rattle.command_line.specs.Line.{run};
+ghost use Rattle.jack_compiler.specs.Files.{names_in};
 ghost use Rattle.jack_machine.specs.Whole.{Stands};
 ghost use Rattle.key_script.specs.Codes.{code_at};
 ghost use Rattle.outer_world.specs.Written.{CountsPut, Puts};
-ghost use Rattle.nand_cli.specs.Parts.{Counts, Does, HasRun, jack_text};
-ghost use Rattle.nand_cli.specs.Running.{name_of};
+ghost use Rattle.tower.specs.Program.{named_core};
+ghost use Rattle.nand_cli.specs.Parts.{Counts, CountsReport, Does, HasRun, Reports, jack_text};
+ghost use Rattle.nand_cli.specs.Running.{IsReport, name_of};
 
-use crate::computing::answer_hack;
+use crate::computing::{image_of, report_hack};
 use crate::meaning::load_jack;
 use crate::refusal::Failure;
 use crate::sources::load_keys;
@@ -56,28 +58,27 @@ fn put_jack<O: Sink>(jack: &Jack, names: &[Name], end: End, show: Show, out: &mu
     show_report(&head, show, |a| jack.word_at(a), out)
 }
 
-// Does a line of `run` at the level of the meaning.
-fn answer_jack<F: Shelf, O: Sink>(
+// Runs a program by its meaning, and puts the report.
+fn report_jack<O: Sink>(
     alloc: Global,
+    program: &Program,
+    keys: &Keys,
     request: &Run<'_>,
-    shelf: &mut F,
     out: &mut O,
 ) -> Result<(), Failure>
-    ensures does { (err : Option (List ℕ)) → Does (F.files shelf.old) (run request.now.folder.now RunLevel.Jack request.now.cycles (option_map (λ keys. keys.now) request.now.keys) request.now.show) (O.written out.old) (O.written out.new) err err result }
-    ensures counts { (err : ℕ) → Counts (F.faults shelf.old) (F.faults shelf.new) (O.faults out.old) (O.faults out.new) err err result }
-    ensures kept { F.files shelf.new ≡ F.files shelf.old }
+    requires { program.now.names.items ≡ names_in program.now.core }
+    ensures reports { Reports (IsReport RunLevel.Jack (named_core program.now.core) (code_at keys.now.lines.items) request.now.cycles request.now.show) (O.written out.old) (O.written out.new) result }
+    ensures counts { CountsReport (O.faults out.old) (O.faults out.new) result }
 {
-    let Program { core, names } = load_jack(alloc, request.folder, shelf)?;
-    let mut jack = Jack::new(alloc, &core)?;
-    let keys = load_keys(alloc, request.keys, shelf)?;
-    let end = run_jack(&mut jack, &keys, request.cycles)?;
-    match put_jack(&jack, &names, end, request.show, out) {
+    let mut jack = Jack::new(alloc, &program.core)?;
+    let end = run_jack(&mut jack, keys, request.cycles)?;
+    match put_jack(&jack, &program.names, end, request.show, out) {
         Put::Done => Ok(()),
         Put::Failed => Err(Failure::Write),
     }
 }
 
-/// Does a line of `run`; err is left as it is.
+/// Does a line of `run`; err is left as it is. At each level the program is built first, and then the keys are read.
 pub fn answer_run<F: Shelf, O: Sink>(
     alloc: Global,
     request: &Run<'_>,
@@ -88,8 +89,15 @@ pub fn answer_run<F: Shelf, O: Sink>(
     ensures counts { (err : ℕ) → Counts (F.faults shelf.old) (F.faults shelf.new) (O.faults out.old) (O.faults out.new) err err result }
     ensures kept { F.files shelf.new ≡ F.files shelf.old }
 {
+    let program = load_jack(alloc, request.folder, shelf)?;
+    let built = image_of(alloc, request.folder, &program.core)?;
+    let keys = load_keys(alloc, request.keys, shelf)?;
     match request.level {
-        RunLevel::Jack => answer_jack(alloc, request, shelf, out),
-        RunLevel::Hack => answer_hack(alloc, request, shelf, out),
+        RunLevel::Jack => {
+            // The meaning needs no image.
+            drop(built);
+            report_jack(alloc, &program, &keys, request, out)
+        }
+        RunLevel::Hack => report_hack(alloc, &program, built, &keys, request, out),
     }
 }

@@ -14,7 +14,7 @@ use Rattle.jack_compiler.specs.Files.{program_files}
 use Rattle.jack_compiler.specs.Fits.{gap}
 use Rattle.jack_compiler.specs.Resolved.{depth_in, most_locals_in}
 use Rattle.tower.specs.Headline.{RunFollows}
-use Rattle.tower.specs.Mapped.{MappedMachine, RunProgram, program_in}
+use Rattle.tower.specs.Mapped.{RunProgram}
 use Rattle.tower.specs.Program.{Named, named_core}
 use Rattle.tower.specs.declared.building.BuildError.{BuildError}
 use Rattle.tower.specs.declared.building.BuildError.TheVariants as errors
@@ -56,11 +56,11 @@ IsNotBuilt named (ManyStatics w) = Links false (files_for named) (Err (TooManySt
 IsNotBuilt named (LargeImage w) = (linked : Linked) × Links false (files_for named) (Ok linked) × IsTooLarge linked w
 
 -- This is the image of the program with its map, or this is why there is none, unless memory ran out.
-abbrev pub PreparesHack : Core → Result MappedMachine BuildError → Type 0
-PreparesHack core (Ok h) = IsComputerOf (named_core core) (program_in h)
-PreparesHack core (Err errors.Memory) = Unit {0}
-PreparesHack core (Err (errors.TooManyStatics w)) = IsNotBuilt (named_core core) (ManyStatics w)
-PreparesHack core (Err (errors.TooLarge w)) = IsNotBuilt (named_core core) (LargeImage w)
+abbrev pub Builds : Core → Result RunProgram BuildError → Type 0
+Builds core (Ok p) = IsComputerOf (named_core core) p
+Builds core (Err errors.Memory) = Unit {0}
+Builds core (Err (errors.TooManyStatics w)) = IsNotBuilt (named_core core) (ManyStatics w)
+Builds core (Err (errors.TooLarge w)) = IsNotBuilt (named_core core) (LargeImage w)
 
 -- Linked code has no computer since its image would be too large, or memory ran out.
 abbrev pub IsUnbuilt : Linked → BuildError → Type 0

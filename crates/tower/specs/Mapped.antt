@@ -1,5 +1,5 @@
 -- The computer with the map of its image, as its callers see it, and its history.
-use Rattle.std.specs.Prelude.{◌≡◌, ◌≤◌, ℕ, suc, Bool, false, List, [], ◌∷◌, Some, length, slice_index_or, unwrap_or, nat_eq}
+use Rattle.std.specs.Prelude.{◌≡◌, ◌≤◌, ◌<◌, ℕ, suc, Bool, false, List, [], ◌∷◌, Some, length, slice_index_or, unwrap_or, nat_eq}
 use Rattle.std.specs.List.{All, list_any}
 use Rattle.outer_world.specs.declared.point.Point.{Point}
 use Rattle.machine_io.specs.History.{Turn}
@@ -35,6 +35,12 @@ pub record RunProgram : Type 0 where
 
 abbrev pub program_in : MappedMachine → RunProgram
 program_in h = record { image = h.hack.image; commits = h.commits; ranges = h.ranges }
+
+-- The image is one that the computer has room for, and each address of it has a point.
+pub record IsMapped (image : List ℕ) (ranges : List PointRange) : Type 0 where
+  pub some : 0 < length image
+  pub room : length image ≤ 32768
+  pub covers : Covers 0 ranges (length image)
 
 -- the point of an address that has one
 abbrev pub point_seen : List PointRange → ℕ → Point

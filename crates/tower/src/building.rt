@@ -1,20 +1,20 @@
-//! From linked code to the computer that runs it.
-ghost use Rattle.std.specs.Prelude.{◌≡◌, ◌<◌, ◌≤◌, All, IfOk, IfErr, [], false, length, map};
+//! From linked code to the image that the computer runs.
+ghost use Rattle.std.specs.Prelude.{◌≡◌, ◌<◌, ◌≤◌, All, IfOk, IfErr, false, length, map};
 ghost use Rattle.hack_isa.specs.Table.{word_of};
 ghost use Rattle.vm_link.specs.Sound.{IsSound};
 ghost use Rattle.vm_translator.specs.Mapping.{Covers};
 ghost use Rattle.vm_translator.specs.Plain.{IsPlain};
 ghost use Rattle.vm_translator.specs.Translated.{IsTranslated};
 ghost use Rattle.tower.specs.declared.building.BuildError.TheVariants.{Memory};
-ghost use Rattle.tower.specs.Mapped.{HasFollowed, program_in};
 ghost use Rattle.tower.specs.Built.{IsUnbuilt, map_for, run_program};
 
-use crate::hack_level::HackLevel;
 use hack_isa::{Instr, encode};
 use std::alloc::{AllocError, Global};
+use std::marker::Model;
 use thiserror::Error;
 use vm_link::Linked;
-use vm_translator::{CodeFault, Coded, translate};
+use vm_translator::{CodeFault, Coded, PointRange, translate};
+use vm_tree::List;
 
 /// Why a program has no computer: memory ran out, its files have so many static words, which are more than 240, or its image
 /// would have so many words, which are more than 32,768.
@@ -36,6 +36,24 @@ impl From<AllocError> for BuildError {
     }
 }
 
+/// The image of a program and its map.
+#[derive(Drop)]
+pub struct Built {
+    pub(crate) image: Vec<u16>,
+    pub(crate) commits: List<u16>,
+    pub(crate) points: List<PointRange>,
+}
+
+impl Model for Built {
+    ghost use Rattle.tower.specs.Mapped.{IsMapped, RunProgram};
+
+    ghost Value = { RunProgram };
+
+    ghost view = { λ b. record { image = b.image.items; commits = b.commits; ranges = b.points } };
+
+    ghost invariant = { λ b. IsMapped b.image.items b.points };
+}
+
 // The words of instructions.
 fn words(alloc: Global, instrs: &[Instr]) -> Result<Vec<u16>, AllocError>
     requires { All IsPlain instrs.now }
@@ -48,34 +66,33 @@ fn words(alloc: Global, instrs: &[Instr]) -> Result<Vec<u16>, AllocError>
     Ok(words)
 }
 
-// The computer at its start, with an image and its map.
-fn start(alloc: Global, coded: Coded) -> Result<HackLevel, AllocError>
+// The image of translated code with its map.
+fn built_of(alloc: Global, coded: Coded) -> Result<Built, AllocError>
     requires some { 0 < length coded.instrs }
     requires room { length coded.instrs ≤ 32768 }
     requires plain { All IsPlain coded.instrs }
     requires covers { Covers 0 coded.points (length coded.instrs) }
-    ensures program { IfOk result (λ h. program_in h ≡ record { image = map word_of coded.instrs; commits = coded.commits; ranges = coded.points }) }
-    ensures fits { IfOk result (λ h. length h.hack.image ≤ 32768) }
-    ensures moves { IfOk result (λ h. h.hack.moves ≡ 0) }
-    ensures stands { IfOk result (λ h. HasFollowed h []) }
+    ensures { IfOk result (λ b. b ≡ record { image = map word_of coded.instrs; commits = coded.commits; ranges = coded.points }) }
 {
     let image = words(alloc, coded.instrs.as_slice())?;
-    HackLevel::new(alloc, &image, coded.commits, coded.points)
+    Ok(Built {
+        image,
+        commits: coded.commits,
+        points: coded.points,
+    })
 }
 
-/// The computer at its start, with the image of linked code and its map.
-pub(crate) fn build(alloc: Global, linked: &Linked) -> Result<HackLevel, BuildError>
+/// The image of linked code and its map.
+pub(crate) fn build_linked(alloc: Global, linked: &Linked) -> Result<Built, BuildError>
     requires sound { IsSound linked.now }
     requires starts { linked.now.bare ≡ false }
-    ensures program { IfOk result (λ h. program_in h ≡ run_program linked.now) }
-    ensures translated { IfOk result (λ h. IsTranslated linked.now h.hack.image (map_for (program_in h)) 51) }
-    ensures fits { IfOk result (λ h. length h.hack.image ≤ 32768) }
-    ensures moves { IfOk result (λ h. h.hack.moves ≡ 0) }
-    ensures stands { IfOk result (λ h. HasFollowed h []) }
+    ensures program { IfOk result (λ b. b ≡ run_program linked.now) }
+    ensures translated { IfOk result (λ b. IsTranslated linked.now b.image (map_for b) 51) }
+    ensures fits { IfOk result (λ b. length b.image ≤ 32768) }
     ensures unbuilt { IfErr result (IsUnbuilt linked.now) }
 {
     match translate(alloc, linked, false) {
-        Ok(coded) => Ok(start(alloc, coded)?),
+        Ok(coded) => Ok(built_of(alloc, coded)?),
         Err(CodeFault::TooLarge(words)) => Err(BuildError::TooLarge(words)),
         Err(CodeFault::Memory) => Err(BuildError::Memory),
     }

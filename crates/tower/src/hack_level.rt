@@ -101,7 +101,6 @@ impl HackLevel {
         requires room { length image.now ≤ 32768 }
         requires covers { Covers 0 points (length image.now) }
         ensures program { IfOk result (λ h. program_in h ≡ record { image = image.now; commits = commits; ranges = points }) }
-        ensures fits { IfOk result (λ h. length h.hack.image ≤ 32768) }
         ensures moves { IfOk result (λ h. h.hack.moves ≡ 0) }
         ensures stands { IfOk result (λ h. HasFollowed h []) }
     {

@@ -7,8 +7,8 @@ mod hack_level;
 mod laws;
 mod program;
 
-pub use building::BuildError;
-pub use computer::prepare_hack;
+pub use building::{BuildError, Built};
+pub use computer::{build, prepare_hack};
 pub use hack_level::HackLevel;
 pub use laws::{headline_law, read_law, resolved_law};
 pub use program::{Program, ProgramError, program_of_classes};

@@ -1,7 +1,7 @@
 ghost use Rattle.std.specs.Prelude.{◌≡◌, IfOk, length};
 ghost use Rattle.tower.specs.Spelled.{AreSpelled};
 
-use crate::{ProgramError, prepare_hack, program_of_classes};
+use crate::{ProgramError, build, prepare_hack, program_of_classes};
 use jack_names::NameKind;
 use jack_parser::parse_class;
 use jack_tree::Class;
@@ -72,9 +72,10 @@ fn method_and_static(rt: HostRuntime) -> Result<(), Fail> {
         .ok_or("the class is a program")?;
     assert!(rt; program.names.len() == 4);
     assert!(rt; program.names[1].as_str() == "Main.add");
-    let mut hack = prepare_hack(rt.alloc(), &program.core)
+    let built = build(rt.alloc(), &program.core)
         .ok()
         .ok_or("the program has an image")?;
+    let mut hack = prepare_hack(rt.alloc(), built)?;
     assert!(rt; drive(&mut hack, &NoKeys, 3000)? == End::Bound);
     assert!(rt; hack.word_at(16384) == 6);
     assert!(rt; hack.word_at(16385) == 3);

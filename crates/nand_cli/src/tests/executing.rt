@@ -255,6 +255,19 @@ fn words_past_the_last_are_refused(rt: HostRuntime) -> Result<(), Fail> {
     both_refuse(&rt, rt.alloc(), &past, "Long.asm:0:0: TooLarge 32769\n")
 }
 
+// The variables have the words from 16 up to the screen, at 16384.
+#[test]
+fn variables_past_the_last_are_refused(rt: HostRuntime) -> Result<(), Fail> {
+    let alloc = rt.alloc();
+    let mut text = Vec::new(alloc);
+    for k in 0..16_369 {
+        let line = format!(in alloc; "@a{k}\n")?;
+        text.extend_from_slice(line.as_bytes())?;
+    }
+    let past = one_file("a.asm", &text);
+    both_refuse(&rt, alloc, &past, "a.asm:0:0: TooManyVariables 16369\n")
+}
+
 #[test]
 fn bytes_past_the_last_are_refused(rt: HostRuntime) -> Result<(), Fail> {
     let mut text = Vec::new(rt.alloc());

@@ -139,6 +139,18 @@ fn vm_takes_files_in_order_of_name(rt: HostRuntime) -> Result<(), Fail> {
     refused(&rt, rt.alloc(), &case, "vm v --bare", line)
 }
 
+#[test]
+fn vm_refuses_code_past_its_limit(rt: HostRuntime) -> Result<(), Fail> {
+    let mut text = String::from_str(rt.alloc(), "function Sys.init 0\n")?;
+    for _ in 0..6000 {
+        text.push_str("push constant 7\n")?;
+    }
+    text.push_str("label END\ngoto END\n")?;
+    // 6 words for each push, and 56 more
+    let case = one_file("v/Sys.vm", text.as_bytes());
+    refused(&rt, rt.alloc(), &case, "vm v", "v:0:0: TooLarge 36056\n")
+}
+
 // So many empty files in the folder v.
 fn empty_files(alloc: Global, count: u32) -> Result<Vec<(Name, Vec<u8>)>, Fail> {
     let mut files = Vec::new(alloc);

@@ -4,8 +4,6 @@ use Rattle.outer_world.proofs.Passing.{Got-nothing}
 use Rattle.jack_parser.specs.Printed.{class_text}
 use Rattle.command_line.specs.declared.request.SourceKind.TheVariants as kinds
 use Rattle.jack_os.specs.System.{SpellsClass}
-use Rattle.nand_cli.specs.declared.command.Status.TheVariants as status
-use Rattle.nand_cli.proofs.Saying.{GotPart-none}
 use Rattle.nand_cli.proofs.Printing.{not_shown}
 use Rattle.nand_cli.proofs.showing.show_class.Goals as goal
 
@@ -24,4 +22,4 @@ pub returns-clause-does : goal.returns-clause-does
 returns-clause-does g c = λ err.
     let source = c.in_ok-class.class in
     let loaded = c.in_ok-class.ensures.loads in
-    (status.Done, class_text source, [], ((loaded.0, loaded.1, (source, loaded.2.0, refl)), refl), c.in-Failed.ensures.put, GotPart-none _ _)
+    (class_text source, [], ((loaded.0, loaded.1, (source, loaded.2.0, refl)), refl), c.in-Failed.ensures.put, refl)

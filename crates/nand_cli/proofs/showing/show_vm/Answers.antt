@@ -4,8 +4,6 @@ use Rattle.outer_world.proofs.Passing.{Got-nothing}
 use Rattle.vm_tree.specs.Printed.{program_text}
 use Rattle.command_line.specs.declared.request.SourceKind.TheVariants as kinds
 use Rattle.nand_cli.specs.Shown.{SpellsVm}
-use Rattle.nand_cli.specs.declared.command.Status.TheVariants as status
-use Rattle.nand_cli.proofs.Saying.{GotPart-none}
 use Rattle.nand_cli.proofs.Printing.{not_shown}
 use Rattle.nand_cli.proofs.showing.show_vm.Goals as goal
 
@@ -24,4 +22,4 @@ pub returns-clause-does : goal.returns-clause-does
 returns-clause-does g c = λ err.
     let source = c.in_ok-program.program in
     let loaded = c.in_ok-program.ensures.loads in
-    (status.Done, program_text source, [], ((loaded.0, loaded.1, (source, loaded.2, refl)), refl), c.in-Failed.ensures.put, GotPart-none _ _)
+    (program_text source, [], ((loaded.0, loaded.1, (source, loaded.2, refl)), refl), c.in-Failed.ensures.put, refl)

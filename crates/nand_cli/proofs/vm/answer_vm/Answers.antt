@@ -1,8 +1,6 @@
 use Rattle.std.proofs.Common.{[], refl, ap, ◌∙◌}
 use Rattle.std.proofs.lemmas.Result.{err_from_is_err_and}
 use Rattle.hack_asm.specs.Written.{asm_text}
-use Rattle.nand_cli.specs.declared.command.Status.TheVariants as status
-use Rattle.nand_cli.proofs.Saying.{GotPart-none}
 use Rattle.nand_cli.proofs.Translating.{no_code, plain_spelled}
 use Rattle.nand_cli.proofs.vm.answer_vm.Goals as goal
 
@@ -17,10 +15,9 @@ write_asm-requires-clause-spelled g c = rw c.as_slice.ensures (plain_spelled c.i
 pub returns-clause-does : goal.returns-clause-does
 returns-clause-does g c = λ err.
     let codes = c.in_ok-coded.ensures.codes in (
-      status.Done,
       asm_text c.as_slice.result.now,
       [],
       ((c.in_ok-program.program, codes.0, c.in_ok-program.ensures.loads, codes.1, codes.3, ap asm_text (c.as_slice.ensures ∙ codes.2)), refl),
       c.in-Failed.ensures.put,
-      GotPart-none _ _,
+      refl,
     )
