@@ -1,13 +1,12 @@
 -- The computer of a program after its cycles, and its report.
-use Rattle.std.proofs.Common.{◌≡◌, ℕ, zero, suc, List, [], ◌∷◌, ◌++◌, length, refl, ap, ◌∙◌, sym, subst, append-nil}
-use Rattle.std.specs.List.{AllByRecursion}
+use Rattle.std.proofs.Common.{◌≡◌, ℕ, zero, suc, List, [], length, refl, ap, ◌∙◌, sym, subst, append-nil}
 use Rattle.std.proofs.lemmas.List.Elements.{recursion_from_All}
 use Rattle.outer_world.specs.declared.point.Point.{Point}
 use Rattle.hack_machine.specs.Loaded.{machine_of}
 use Rattle.jack_core.specs.declared.program.Core.{Core}
 use Rattle.jack_compiler.specs.Files.{names_in}
 use Rattle.machine_io.specs.Driven.{EndsBy, IsDriven}
-use Rattle.machine_io.specs.History.{Turn, moves_from}
+use Rattle.machine_io.specs.History.{moves_from}
 use Rattle.machine_io.specs.Report.{report_text}
 use Rattle.machine_io.specs.declared.driving.End.{End}
 use Rattle.machine_io.specs.declared.driving.End.TheVariants as ends
@@ -24,6 +23,7 @@ use Rattle.layers.specs.Trace.{steps}
 use Rattle.command_line.specs.declared.request.RunLevel.TheVariants as levels
 use Rattle.nand_cli.specs.Parts.{HasCycled, hack_text}
 use Rattle.nand_cli.specs.Running.{IsReport, name_of}
+use Rattle.nand_cli.proofs.Driving.{last_acted}
 
 -- ---- after the cycles
 
@@ -34,10 +34,6 @@ keys_held code c (suc n) = (refl, keys_held code (suc c) n)
 moves_length : (code : ℕ → ℕ) (c n : ℕ) → length (moves_from code c n) ≡ n
 moves_length code c zero = refl
 moves_length code c (suc n) = ap suc (moves_length code (suc c) n)
-
-last_acted : (turns : List Turn) (t : Turn) → AllByRecursion (λ u. u.answer ≡ moved.Acted) (turns ++ t ∷ []) → t.answer ≡ moved.Acted
-last_acted [] t h = h.0
-last_acted (u ∷ turns) t h = last_acted turns t h.1
 
 never_ends : (code : ℕ → ℕ) (old new : MappedMachine) (c n c' : ℕ) (answer : Moved) → EndsBy code (HasFollowed old) c n answer (HasFollowed new) c' → HasFollowed old [] → answer ≡ moved.Acted
 never_ends code old new c n c' answer (m, below, goes) h =

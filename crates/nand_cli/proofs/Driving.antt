@@ -22,7 +22,7 @@ keys_from code c zero = refl
 keys_from code c (suc n) = ap (λ ks. code c ∷ ks) (keys_from code (suc c) n ∙ ap (λ k. map code (range_with_len k n)) (sym (add-one c)))
 
 -- a turn in which the machine acted
-last_acted : (turns : List Turn) (t : Turn) → AllByRecursion (λ u. u.answer ≡ moved.Acted) (turns ++ t ∷ []) → t.answer ≡ moved.Acted
+pub last_acted : (turns : List Turn) (t : Turn) → AllByRecursion (λ u. u.answer ≡ moved.Acted) (turns ++ t ∷ []) → t.answer ≡ moved.Acted
 last_acted [] t h = h.0
 last_acted (u ∷ turns) t h = last_acted turns t h.1
 
