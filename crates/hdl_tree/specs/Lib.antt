@@ -1,0 +1,4 @@
+pub mod Writable
+pub mod Chips
+pub mod Memory
+pub mod Behaviour

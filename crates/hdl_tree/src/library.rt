@@ -1,0 +1,17 @@
+//! Chips by name.
+
+use crate::{Chip, List, Name};
+
+/// A chip of a library: the name by which parts call it, and the name of the shipped chip that it is, where it is one.
+#[derive(Drop)]
+pub struct Entry {
+    pub name: Name,
+    pub chip: Chip,
+    pub shipped: Option<Name>,
+}
+
+/// Chips by name.
+#[derive(Drop)]
+pub struct Library {
+    pub entries: List<Entry>,
+}
