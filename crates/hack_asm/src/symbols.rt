@@ -33,8 +33,8 @@ fn predefined(name: &[u8]) -> Option<usize>
         b"ARG" => Some(2),
         b"THIS" => Some(3),
         b"THAT" => Some(4),
-        b"SCREEN" => Some(SCREEN),
-        b"KBD" => Some(KEYBOARD),
+        b"SCREEN" => Some(SCREEN as usize),
+        b"KBD" => Some(KEYBOARD as usize),
         _ => None,
     }
 }

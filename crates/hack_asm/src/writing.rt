@@ -3,7 +3,8 @@
 ghost use Rattle.std.specs.Prelude.{◌≡◌, ◌≤◌, take, [], length};
 ghost use Rattle.hack_isa.specs.Machine.{image_words};
 ghost use Rattle.outer_world.specs.Written.{CountsPut, Passes, Puts};
-ghost use Rattle.hack_asm.specs.Written.{computations, memory_computations, destinations, jumps, text_in, comp_text, instr_text, asm_text, AreSpelled, WrittenMeans};
+ghost use Rattle.hack_asm.specs.Comps.{computations, memory_computations, text_in, comp_text};
+ghost use Rattle.hack_asm.specs.Written.{destinations, jumps, instr_text, asm_text, AreSpelled, WrittenMeans};
 
 use hack_isa::Instr;
 use itoa::Buffer;
