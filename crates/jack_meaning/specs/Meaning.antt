@@ -62,7 +62,7 @@ filled_first w (LetField n k e) = LetField n k (filled w e)
 filled_first w (LetThis n e) = LetThis n (filled w e)
 filled_first w (Store n a i e) = Store n (filled w a) (filled w i) (filled w e)
 filled_first w (Do n e) = Do n (filled w e)
-filled_first w (If n c a b) = If n (filled w c) a b
+filled_first w (If n o c a b) = If n o (filled w c) a b
 filled_first w (While n c s) = While n c s
 filled_first w (Return n e) = Return n (filled w e)
 
@@ -130,11 +130,11 @@ step_first subs key s f below (Next (Store n a i e) rest) =
 step_first subs key s f below (Next (Do n e) rest) =
     step_part subs s f below (rewrite (view_of key s f) e) (λ e'. Next (Do n e') rest)
     (passed_over s f below rest)
-step_first subs key s f below (Next (If n c a b) rest) =
-    step_part subs s f below (rewrite (view_of key s f) c) (λ c'. Next (If n c' a b) rest)
+step_first subs key s f below (Next (If n o c a b) rest) =
+    step_part subs s f below (rewrite (view_of key s f) c) (λ c'. Next (If n o c' a b) rest)
     (passed_over s f below (joined (chosen (value_of c) a b) rest))
 step_first subs key s f below (Next (While n c a) rest) =
-    step_part subs s f below (rewrite (view_of key s f) c) (λ c'. Next (If n c' (turn_of n c a) End) rest)
+    step_part subs s f below (rewrite (view_of key s f) c) (λ c'. Next (If n false c' (turn_of n c a) End) rest)
     (passed_over s f below (joined (chosen (value_of c) (turn_of n c a) End) rest))
 step_first subs key s f below (Next (Return n e) rest) =
     step_part subs s f below (rewrite (view_of key s f) e) (λ e'. Next (Return n e') rest)

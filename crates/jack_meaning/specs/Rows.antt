@@ -1,5 +1,5 @@
 -- Small programs and where their steps lead, by computation.
-use Rattle.std.specs.Prelude.{◌≡◌, ℕ, ◌-◌, List, [], ◌∷◌, slice_index, Some, option_map}
+use Rattle.std.specs.Prelude.{◌≡◌, ℕ, ◌-◌, true, List, [], ◌∷◌, slice_index, Some, option_map}
 use Rattle.jack_meaning.specs.Text.{Argument, Local, Static, Minus, Complement, Subtract, Less, Expression, Literal, Name, This, Unary, Binary, Load, Call, NoMore, More, Statement, Let, LetField, LetThis, Store, Do, If, While, Return, text_of, Constructor, Function, Method, Subroutine, Class, Program}
 use Rattle.jack_meaning.specs.Meaning.{State, Outcome, Stray, Done, step, point_of}
 use Rattle.layers.specs.System.{Listening, first_key}
@@ -70,8 +70,8 @@ lays_heap = record {
 abbrev pub chooses : Program
 chooses =
     main 16384 (
-    If 2 (Literal 2) (text_of (s_at 3 0 (Literal 1) ∷ [])) (text_of (s_at 4 0 (Literal 2) ∷ []))
-    ∷ If 5 (Unary Complement (Literal 2)) (text_of (s_at 6 1 (Literal 1) ∷ [])) (text_of (s_at 7 1 (Literal 2) ∷ []))
+    If 2 true (Literal 2) (text_of (s_at 3 0 (Literal 1) ∷ [])) (text_of (s_at 4 0 (Literal 2) ∷ []))
+    ∷ If 5 true (Unary Complement (Literal 2)) (text_of (s_at 6 1 (Literal 1) ∷ [])) (text_of (s_at 7 1 (Literal 2) ∷ []))
     ∷ Return 8 (Literal 0)
     ∷ []
     )
