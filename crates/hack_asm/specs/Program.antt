@@ -2,6 +2,8 @@
 -- first pass enters the labels into a table of symbols, the second one the variables.)
 use Rattle.std.specs.Prelude.{ℕ, ◌+◌, ◌-◌, ◌%◌, Bool, true, false, List, [], ◌∷◌, ◌++◌, Option, Some, None, Result, Ok, Err, if◌then◌else◌, codes, length, nat_lt, nat_eq, ◌||◌, is_some}
 use Rattle.std.specs.Str.{bytes_eq}
+use Rattle.hack_isa.specs.Machine.{image_words}
+use Rattle.word16.specs.Memory.{screen, keyboard}
 use Rattle.scan_text.specs.declared.Place.{Place}
 use Rattle.hack_isa.specs.Table.{word_of}
 use Rattle.hack_isa.specs.declared.Instr.TheVariants as instr
@@ -112,7 +114,7 @@ predefined_symbols =
     ∷ (codes "R6", 6) ∷ (codes "R7", 7) ∷ (codes "R8", 8) ∷ (codes "R9", 9) ∷ (codes "R10", 10) ∷ (codes "R11", 11)
     ∷ (codes "R12", 12) ∷ (codes "R13", 13) ∷ (codes "R14", 14) ∷ (codes "R15", 15)
     ∷ (codes "SP", 0) ∷ (codes "LCL", 1) ∷ (codes "ARG", 2) ∷ (codes "THIS", 3) ∷ (codes "THAT", 4)
-    ∷ (codes "SCREEN", 16384) ∷ (codes "KBD", 24576) ∷ []
+    ∷ (codes "SCREEN", screen) ∷ (codes "KBD", keyboard) ∷ []
 
 abbrev pub address_among : Table → List ℕ → Option ℕ
 address_among [] name = None
@@ -166,7 +168,7 @@ used (Some (compute c)) = None
 -- the first use of a label that stands behind all 32,768 words
 abbrev pub is_past : Option ℕ → Bool
 is_past None = false
-is_past (Some n) = nat_eq n 32768
+is_past (Some n) = nat_eq n image_words
 
 abbrev pub past_use : Table → Option Symbol → Option Place → Option Place
 past_use table None later = later
@@ -218,7 +220,7 @@ if_near None table ls = with_variables table (variables 16 table ls) ls
 
 abbrev pub labelled : Result Table Wrong → List Line → Result (List ℕ) Wrong
 labelled (Err w) ls = Err w
-labelled (Ok table) ls = if nat_lt 32768 (size ls) then Err (TooLarge (size ls)) else if_near (first_past table ls) table ls
+labelled (Ok table) ls = if nat_lt image_words (size ls) then Err (TooLarge (size ls)) else if_near (first_past table ls) table ls
 
 abbrev pub program : List Line → Result (List ℕ) Wrong
 program ls = labelled (labels 0 [] ls) ls

@@ -1,6 +1,7 @@
 -- How instructions are written in assembly. (The book, chapter 4: the table of comp, dest and jump.)
 use Rattle.std.specs.Prelude.{◌≡◌, ◌<◌, ◌≤◌, ℕ, Bool, true, false, List, [], ◌∷◌, ◌++◌, Option, Some, None, Ok, if◌then◌else◌, codes, decimal, nat_eq, is_some, length, map}
 use Rattle.std.specs.List.{flat_map}
+use Rattle.hack_isa.specs.Machine.{image_words}
 use Rattle.hack_isa.specs.Table.{word_of}
 use Rattle.hack_isa.specs.declared.Instr.{Instr}
 use Rattle.hack_isa.specs.declared.Instr.TheVariants as instr
@@ -77,4 +78,4 @@ AreSpelled (i ∷ is) = IsSpelled i × AreSpelled is
 
 -- The law of written assembly: it means the words of its instructions.
 abbrev pub WrittenMeans : Type 0
-WrittenMeans = (is : List Instr) → AreSpelled is → length is ≤ 32768 → Means (asm_text is) (Ok (map word_of is))
+WrittenMeans = (is : List Instr) → AreSpelled is → length is ≤ image_words → Means (asm_text is) (Ok (map word_of is))

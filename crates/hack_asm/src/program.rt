@@ -13,7 +13,7 @@ use crate::fault::AsmFault;
 use crate::lines::{Address, Comp, Compute, Dest, Item, Prefix, Symbol};
 use crate::symbols::Symbols;
 use crate::token::{Letter, Operator};
-use hack_isa::{Instr, encode};
+use hack_isa::{IMAGE_WORDS, Instr, encode};
 use scan_text::Place;
 use std::alloc::{AllocError, Global};
 
@@ -221,7 +221,7 @@ fn is_past(address: Option<usize>) -> bool
     ensures { result ≡ is_past address }
 {
     match address {
-        Some(n) => n == 32_768,
+        Some(n) => n == IMAGE_WORDS,
         None => false,
     }
 }
@@ -317,7 +317,7 @@ pub fn assemble_lines<'a>(alloc: Global, lines: &[Option<Item<'a>>]) -> Result<V
 {
     let mut symbols = labels(alloc, lines)?;
     let size = size(lines);
-    if size > 32_768 {
+    if size > IMAGE_WORDS {
         return Err(AsmFault::TooLarge(size));
     }
     if let Some(at) = first_past(&symbols, lines) {

@@ -1,7 +1,8 @@
 -- What the instructions of each command do: from where, to where, and what they change.
 use Rattle.std.specs.Prelude.{◌≡◌, ◌≢◌, ℕ, ◌+◌, ◌-◌, ◌<◌, ◌≤◌, ◌%◌, if◌then◌else◌, nat_eq, bit_and, bit_or, List}
+use Rattle.word16.specs.Memory.{heap, keyboard}
 use Rattle.word16.specs.Words.{word_add, word_sub, word_neg, word_not}
-use Rattle.hack_isa.specs.Machine.{Machine}
+use Rattle.hack_isa.specs.Machine.{Machine, image_words}
 use Rattle.layers.specs.System.{IsData}
 use Rattle.hack_blocks.specs.declared.shape.Shape.{Shape}
 use Rattle.hack_blocks.specs.declared.shape.Shape.TheVariants.{PushConstant, PushAt, PushWord, PopAt, PopWord, Add, Sub, And, Or, Neg, Not, Eq, Gt, Lt, Goto, IfGoto, Call, Function, Return}
@@ -25,11 +26,11 @@ IsShape c = Unit {0}
 
 -- so many values can be taken from the stack, 256 to 2047
 abbrev pub HasValues : ℕ → (ℕ → ℕ) → Type 0
-HasValues n m = (256 + n ≤ m 0) × (m 0 ≤ 2048)
+HasValues n m = (256 + n ≤ m 0) × (m 0 ≤ heap)
 
 -- so many words can be put on it
 abbrev pub HasRoom : ℕ → (ℕ → ℕ) → Type 0
-HasRoom n m = (256 ≤ m 0) × (m 0 + n ≤ 2048)
+HasRoom n m = (256 ≤ m 0) × (m 0 + n ≤ heap)
 
 -- the address at an index from where a register points, modulo 65,536
 abbrev pub address_at : (ℕ → ℕ) → ℕ → ℕ → ℕ
@@ -44,9 +45,9 @@ second m = m (m 0 - 2)
 -- What a command asks of the memory: values or room on the stack, an address that is a word of memory, a frame to return from.
 abbrev pub Ready : Shape → (ℕ → ℕ) → Type 0
 Ready (PushConstant n) m = HasRoom 1 m
-Ready (PushAt base index) m = HasRoom 1 m × (address_at m base index < 24576)
+Ready (PushAt base index) m = HasRoom 1 m × (address_at m base index < keyboard)
 Ready (PushWord address) m = HasRoom 1 m
-Ready (PopAt base index) m = HasValues 1 m × (256 ≤ address_at m base index) × (address_at m base index < 24576)
+Ready (PopAt base index) m = HasValues 1 m × (256 ≤ address_at m base index) × (address_at m base index < keyboard)
 Ready (PopWord address) m = HasValues 1 m
 Ready Neg m = HasValues 1 m
 Ready Not m = HasValues 1 m
@@ -54,7 +55,7 @@ Ready (Goto target) m = Unit {0}
 Ready (IfGoto target) m = HasValues 1 m
 Ready (Call target arguments) m = HasRoom 5 m × (arguments ≤ m 0)
 Ready (Function locals) m = HasRoom locals m
-Ready Return m = HasValues 1 m × (256 ≤ m 2) × (m 2 + 5 ≤ m 1) × (m 1 ≤ 2048) × (m (m 1 - 5) < 32768)
+Ready Return m = HasValues 1 m × (256 ≤ m 2) × (m 2 + 5 ≤ m 1) × (m 1 ≤ heap) × (m (m 1 - 5) < 32768)
 Ready c m = HasValues 2 m
 
 -- Only a pop to a segment may write data, where its address is one of data.
@@ -96,7 +97,7 @@ next c here m = (here + size c) % 32768
 pub record IsAt (image : List ℕ) (c : Shape) (s : Machine) : Type 0 where
   pub words : HasWords s
   pub shape : IsShape c
-  pub low : s.pc + size c ≤ 32768
+  pub low : s.pc + size c ≤ image_words
   pub stands : Stands image s.pc (template s.pc c)
 
 -- Its instructions are gone through from there, and the last one leads to the goal, in at most as many steps as the command may take.
@@ -114,11 +115,11 @@ pub record CommandsGo : Type 0 where
   -- from where it is ready, the command has its effect
   pub goes : (image : List ℕ) (c : Shape) (s : Machine) → IsAt image c s → Ready c s.memory → Goes image c (MayStore c s.memory) (After c (Effect c s.pc) s) s
   -- A push of the word at 24,576 reads the key once, in its fifth step, and pushes it.
-  pub hears : (image : List ℕ) (base index : ℕ) (s : Machine) → IsAt image (PushAt base index) s → HasRoom 1 s.memory → address_at s.memory base index ≡ 24576
+  pub hears : (image : List ℕ) (base index : ℕ) (s : Machine) → IsAt image (PushAt base index) s → HasRoom 1 s.memory → address_at s.memory base index ≡ keyboard
       → DoesHearing image (λ k. (s.pc ≤ k) × (k + 1 < s.pc + 9)) (s.pc + 8) ⊥ (λ key. After (PushAt base index) (λ m after. Pushed m after key) s) 4 3 s
   -- A push of any other word has the effect of some word: no key is read.
-  pub strays : (image : List ℕ) (base index : ℕ) (s : Machine) → IsAt image (PushAt base index) s → HasRoom 1 s.memory → address_at s.memory base index ≢ 24576
+  pub strays : (image : List ℕ) (base index : ℕ) (s : Machine) → IsAt image (PushAt base index) s → HasRoom 1 s.memory → address_at s.memory base index ≢ keyboard
       → Goes image (PushAt base index) ⊥ (λ t. (v : ℕ) × After (PushAt base index) (λ m after. Pushed m after v) s t) s
   -- It comes to its last instruction also where the stack is full, and so does a pop to any address: nothing is said of what that writes.
-  pub push_ends : (image : List ℕ) (base index : ℕ) (s : Machine) → IsAt image (PushAt base index) s → address_at s.memory base index ≢ 24576 → Goes image (PushAt base index) (Unit {0}) (λ t. Unit {0}) s
+  pub push_ends : (image : List ℕ) (base index : ℕ) (s : Machine) → IsAt image (PushAt base index) s → address_at s.memory base index ≢ keyboard → Goes image (PushAt base index) (Unit {0}) (λ t. Unit {0}) s
   pub pop_ends : (image : List ℕ) (base index : ℕ) (s : Machine) → IsAt image (PopAt base index) s → HasValues 1 s.memory → Goes image (PopAt base index) (Unit {0}) (λ t. Unit {0}) s

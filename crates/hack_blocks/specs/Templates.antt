@@ -178,6 +178,13 @@ set_stack = Address 256 ∷ D_IS_A ∷ Address 0 ∷ M_IS_D ∷ []
 abbrev pub endless : ℕ → List Instr
 endless here = Address here ∷ JUMP ∷ []
 
--- The start, at address 0: the stack, `call Sys.init 0`, `pop temp 0`, and the endless loop at 51. (The book, chapter 8.)
+-- where the start's endless loop stands, and how many instructions the start has
+abbrev pub endless_loop : ℕ
+endless_loop = 51
+
+abbrev pub start_size : ℕ
+start_size = 53
+
+-- The start, at address 0: the stack, `call Sys.init 0`, `pop temp 0`, and the endless loop. (The book, chapter 8.)
 abbrev pub start_code : ℕ → List Instr
-start_code sys_init = set_stack ++ (template 4 (Call sys_init 0) ++ (template 46 (PopWord 5) ++ endless 51))
+start_code sys_init = set_stack ++ (template 4 (Call sys_init 0) ++ (template 46 (PopWord 5) ++ endless endless_loop))

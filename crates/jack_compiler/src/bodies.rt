@@ -14,7 +14,8 @@ use crate::expressions::{Around, add_expression, pop_variable};
 use crate::lines::{add_goto, add_if_goto, add_label, commit, quiet};
 use jack_core::{Expression, Statement};
 use std::alloc::{AllocError, Global};
-use vm_tree::{Command, Line, List, Operation, Segment};
+use outer_world::List;
+use vm_tree::{Command, Line, Operation, Segment};
 
 /// The commands of a subroutine so far, and how many choices and loops stand there.
 #[derive(Drop)]

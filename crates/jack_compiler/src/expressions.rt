@@ -9,9 +9,9 @@ ghost use Rattle.jack_compiler.specs.Surroundings.{the_around};
 
 use crate::lines::{commit, name_of, quiet, short};
 use jack_core::{Expression, Operator, Part, Sign, Variable};
-use outer_world::Name;
+use outer_world::{List, Name};
 use std::alloc::{AllocError, Global};
-use vm_tree::{Command, Line, List, Operation, Segment};
+use vm_tree::{Command, Line, Operation, Segment};
 
 /// What commands need of the program round their subroutine: the names of all subroutines, and how many statics the
 /// classes before its own have.

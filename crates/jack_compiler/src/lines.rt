@@ -5,10 +5,10 @@ ghost use Rattle.jack_compiler.specs.Lines.{short};
 ghost use Rattle.jack_compiler.specs.Lines.{quiet as quiet_line, commit as commit_line};
 ghost use Rattle.jack_compiler.specs.Files.{name_of, name_at};
 
-use outer_world::Name;
+use outer_world::{List, Name};
 use std::alloc::{AllocError, Global};
 use std::str::from_utf8;
-use vm_tree::{Command, Line, List};
+use vm_tree::{Command, Line};
 
 // A line at the end.
 fn add(

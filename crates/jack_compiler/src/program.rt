@@ -11,9 +11,9 @@ use crate::bodies::{Body, add_statements, first_number};
 use crate::expressions::{Around, name_at};
 use crate::lines::{name_of, quiet, short};
 use jack_core::{Class, Core, Kind, Subroutine};
-use outer_world::Name;
+use outer_world::{List, Name};
 use std::alloc::{AllocError, Global};
-use vm_tree::{Command, File, Function, Line, List, Program, Segment};
+use vm_tree::{Command, File, Function, Line, Program, Segment};
 
 // A method's object is its first argument.
 fn add_object(lines: &mut List<Line>, kind: Kind, n: u32) -> Result<(), AllocError>

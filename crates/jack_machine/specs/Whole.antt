@@ -1,5 +1,6 @@
 -- A step of the whole machine, and its history, by the meaning.
 use Rattle.std.specs.Prelude.{◌≡◌, ℕ, Bool, List, [], ◌∷◌, ◌-◌, slice_index}
+use Rattle.word16.specs.Memory.{heap}
 use Rattle.machine_io.specs.History.{Turn}
 use Rattle.machine_io.specs.declared.machine.Moved.{Moved}
 use Rattle.machine_io.specs.declared.machine.Stray.TheVariants as Why
@@ -54,7 +55,7 @@ Stands j turns = Leads (the_subroutines j.core.now) (start (the_program j.core.n
 
 -- the word at an address of heap or screen
 abbrev pub jack_word : Jack → ℕ → ℕ
-jack_word j a = slice_index j.memory.words.items (a - 2048)
+jack_word j a = slice_index j.memory.words.items (a - heap)
 
 -- the first frame, `start`
 abbrev pub start_frame : ℕ → Frame

@@ -1,5 +1,6 @@
 -- The computer of a program: the program's image, and what the computer with this image does.
 use Rattle.std.specs.Prelude.{◌≡◌, ◌≤◌, length, ℕ, List, map, false, Result, Ok, Err}
+use Rattle.hack_isa.specs.Machine.{image_words}
 use Rattle.hack_isa.specs.Table.{word_of}
 use Rattle.layers.specs.System.{IsKey}
 use Rattle.vm_tree.specs.declared.program.File.{File}
@@ -42,7 +43,7 @@ pub record IsComputerOf (named : Named) (p : RunProgram) : Type 0 where
   pub linked : Linked
   pub links : Links false (files_for named) (Ok linked)
   pub is_image : p ≡ run_program linked
-  pub fits : length p.image ≤ 32768
+  pub fits : length p.image ≤ image_words
   pub follows : FollowsProgram named linked p
 
 -- Why a program has no computer.

@@ -1,5 +1,6 @@
 -- What the computer with the image of a program does: it follows the program's meaning, cycle by cycle.
 use Rattle.std.specs.Prelude.{ℕ, List}
+use Rattle.hack_blocks.specs.Templates.{endless_loop}
 use Rattle.hack_isa.specs.Machine.{machine_at}
 use Rattle.layers.specs.System.{IsKey}
 use Rattle.layers.specs.Trace.{Trace, trace_of}
@@ -16,7 +17,7 @@ use Rattle.jack_compiler.specs.Match.{IsCodeOf}
 
 -- What is counted of the computer's run with this image and map, from its start, under these keys.
 abbrev pub run_trace : List ℕ → Map → (ℕ → ℕ) → Trace
-run_trace image map keys = trace_of (hack_system image map 51) keys (machine_at image keys)
+run_trace image map keys = trace_of (hack_system image map endless_loop) keys (machine_at image keys)
 
 -- the word of the computer at a cycle and an address
 abbrev pub run_word : List ℕ → (ℕ → ℕ) → ℕ → ℕ → ℕ
@@ -32,5 +33,5 @@ RunFollows program most image map keys n =
 -- image follows the program's meaning, at each cycle and under all keys.
 abbrev pub HeadlineLaw : Type 0
 HeadlineLaw = (program : Program) (numbers : Numbers) (linked : Linked) (depth most_locals : ℕ) (image : List ℕ) (map : Map)
-    → IsFit program numbers depth most_locals → IsCodeOf program numbers linked → IsTranslated linked image map 51
+    → IsFit program numbers depth most_locals → IsCodeOf program numbers linked → IsTranslated linked image map endless_loop
     → (keys : ℕ → ℕ) → ((c : ℕ) → IsKey (keys c)) → (n : ℕ) → RunFollows program (gap depth most_locals) image map keys n

@@ -2,7 +2,7 @@
 //! program's meaning and knows its control point.
 ghost use Rattle.std.specs.Prelude.{◌≡◌, ◌+◌, ◌<◌, ◌≤◌, ◌^◌, ◌++◌, [], ◌∷◌, ℕ, List, suc, true, false, nat_eq, nat_lt, if◌then◌else◌, length, slice_index_or, IfOk};
 ghost use Rattle.std.specs.List.{list_any};
-ghost use Rattle.hack_isa.specs.Machine.{step};
+ghost use Rattle.hack_isa.specs.Machine.{step, image_words};
 ghost use Rattle.hack_machine.specs.Loaded.{machine_of};
 ghost use Rattle.machine_io.specs.History.{Turn, turn};
 ghost use Rattle.machine_io.specs.declared.machine.Moved.TheVariants.{Acted};
@@ -11,11 +11,10 @@ ghost use Rattle.tower.specs.Mapped.{MappedMachine, StandsAt, HasFollowed, IsKep
 
 use hack_machine::Hack;
 use machine_io::{Level, Moved};
-use outer_world::Point;
+use outer_world::{List, Point};
 use std::alloc::{AllocError, Global};
 use std::marker::Model;
 use vm_translator::PointRange;
-use vm_tree::List;
 
 // Told where there is no control point; each machine that `new` makes has one.
 const NOWHERE: Point = Point { sub: 0, number: 0 };
@@ -98,7 +97,7 @@ impl HackLevel {
         points: List<PointRange>,
     ) -> Result<HackLevel, AllocError>
         requires some { 0 < length image.now }
-        requires room { length image.now ≤ 32768 }
+        requires room { length image.now ≤ image_words }
         requires covers { Covers 0 points (length image.now) }
         ensures program { IfOk result (λ h. program_in h ≡ record { image = image.now; commits = commits; ranges = points }) }
         ensures moves { IfOk result (λ h. h.hack.moves ≡ 0) }

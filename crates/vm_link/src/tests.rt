@@ -1,8 +1,8 @@
 use super::*;
-use outer_world::Name;
+use outer_world::{List, Name};
 use std::alloc::Global;
 use std::test::*;
-use vm_tree::{Command, File, Function, Line, List, Program, Segment};
+use vm_tree::{Command, File, Function, Line, Program, Segment};
 
 fn name(alloc: Global, text: &str) -> Result<Name, Fail> {
     Ok(Name::new(alloc, text).ok().ok_or("memory")?)

@@ -7,7 +7,7 @@ use Rattle.std.proofs.lemmas.Grind.{reverse_onto}
 use Rattle.std.proofs.lemmas.Option.{slice_get_within}
 use Rattle.std.proofs.lemmas.Nat.{or_lt, and_le_l}
 use Rattle.std.proofs.lemmas.Bool.{ltb-false, ltb-true}
-use Rattle.word16.specs.Words.{word_add, word_sub, word_neg, word_not, signed}
+use Rattle.word16.specs.Words.{word_add, word_sub, word_neg, word_not, signed, truth}
 use Rattle.machine_io.specs.declared.machine.Stray.{Stray}
 use Rattle.machine_io.specs.declared.machine.Stray.TheVariants as stray
 use Rattle.vm_tree.specs.declared.command.Operation.{Operation}
@@ -21,7 +21,7 @@ use Rattle.vm_link.specs.declared.linked.LinkedFunction.{LinkedFunction}
 use Rattle.vm_link.specs.declared.linked.Linked.{Linked}
 use Rattle.vm_link.specs.Sound.{IsSound, IsSoundStep, IsSoundFunction}
 use Rattle.vm_machine.specs.State.{Frame, State, words_in_use}
-use Rattle.vm_machine.specs.Step.{Outcome, Acts, Strays, Full, Done, after, pushed, truth, on_top, on_two, on_word, turned, joined, operate, load, store, push, pop, call, begin, return, act, fitted, code_of, code_in, ended, perform, step_frames, step, start}
+use Rattle.vm_machine.specs.Step.{Outcome, Acts, Strays, Full, Done, after, pushed, on_top, on_two, on_word, turned, joined, operate, load, store, push, pop, call, begin, return, act, fitted, code_of, code_in, ended, perform, step_frames, step, start}
 use Rattle.vm_machine.specs.Sound.{AreWords, IsSoundFrame, AreSoundFrames, IsSoundState}
 use Rattle.vm_machine.specs.Laws.{SoundLaw}
 

@@ -1,5 +1,6 @@
 -- The virtual machine as a machine that moves in steps.
 use Rattle.std.specs.Prelude.{ℕ, ◌+◌, ◌*◌, ◌-◌, Bool, true, false, List, [], ◌∷◌, Option, Some, None, slice_get, slice_index}
+use Rattle.word16.specs.Memory.{heap}
 use Rattle.outer_world.specs.declared.point.Point.{Point}
 use Rattle.layers.specs.System.{System}
 use Rattle.machine_io.specs.declared.machine.Stray.TheVariants as stray
@@ -93,7 +94,7 @@ vm_system l = record {
   halted = λ s. is_done (step l 0 s);
   fits = λ s. is_fit (step l 0 s);
   point = λ s. Some (point_of l s.frames);
-  word = λ s a. slice_index s.words (a - 2048);
+  word = λ s a. slice_index s.words (a - heap);
 }
 
 -- the words of machine code that an operation may have

@@ -1,5 +1,6 @@
 -- The laws of states that the memory holds.
 use Rattle.std.specs.Prelude.{◌≡◌, ◌≢◌, ℕ, false, true, List, Option}
+use Rattle.word16.specs.Memory.{keyboard}
 use Rattle.machine_io.specs.declared.machine.Stray.TheVariants as stray
 use Rattle.vm_tree.specs.declared.command.Segment.TheVariants as segment
 use Rattle.vm_link.specs.declared.linked.Step.{Step}
@@ -18,14 +19,14 @@ use Rattle.vm_translator.specs.Carries.{place_of, Carries, IsStep}
 pub record CarriesKey (address : Option ℕ → ℕ → ℕ) (base index here key : ℕ) (m : ℕ → ℕ) (v : State) : Type 0 where
   pub numbers : IsShape (shape.PushAt base index)
   pub room : HasRoom 1 m
-  pub at_key : address_at m base index ≡ 24576
+  pub at_key : address_at m base index ≡ keyboard
   pub leads : (after : ℕ → ℕ) → Pushed m after key → SameMemory address v after
   pub to : next (shape.PushAt base index) here m ≡ place_of address v.frames
 
 -- a push of this or that whose address is neither that of a word of heap or screen nor the keyboard's
 pub record MissesPush (base index : ℕ) (m : ℕ → ℕ) : Type 0 where
   pub numbers : IsShape (shape.PushAt base index)
-  pub apart : address_at m base index ≢ 24576
+  pub apart : address_at m base index ≢ keyboard
 
 -- a pop to this or that, whatever its address is
 pub record MissesPop (base index : ℕ) (m : ℕ → ℕ) : Type 0 where

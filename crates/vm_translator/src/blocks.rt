@@ -4,7 +4,7 @@ ghost use Rattle.hack_isa.specs.declared.Instr.{Instr};
 ghost use Rattle.hack_blocks.specs.Templates.{call_code, compare, function_code, go_back, go_to, if_go_to, join, pop_at, pop_d, pop_word, push_at, push_constant, push_d, push_word, put_result, restore, return_code, save_return, set_pointers, size, start_code, template, turn};
 ghost use Rattle.vm_translator.specs.Tables.{IsInLimit};
 
-use hack_blocks::Shape;
+use hack_blocks::{ENDLESS_LOOP, Shape};
 use hack_blocks::instructions::{
     A_IS_A_MINUS_1, A_IS_D_MINUS_A, A_IS_D_PLUS_M, A_IS_M, A_IS_M_MINUS_1, AM_IS_M_MINUS_1,
     AM_IS_M_PLUS_1, D_IS_0, D_IS_1, D_IS_A, D_IS_D_MINUS_A, D_IS_D_MINUS_M, D_IS_D_PLUS_M, D_IS_M,
@@ -329,5 +329,5 @@ pub fn start_code(out: &mut Vec<Instr>, entry: u16) -> Result<(), AllocError>
     )?;
     call_code(out, 46, entry, 0)?;
     pop_word(out, 5)?;
-    put(out, &[Instr::Address(51), JUMP])
+    put(out, &[Instr::Address(ENDLESS_LOOP), JUMP])
 }
