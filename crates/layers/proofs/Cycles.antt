@@ -222,5 +222,36 @@ module _ {U L : Type 0} (up : System U) (start : U) (low : System L) (cost : L �
         let after = steps_grow t (n + c.left) (n + gap) (omega (arith, within)) in
         omega (arith, rest, after)
 
+    -- a machine on the way of a step that is made goes on
+    moves : (u : U) (used pend : List ℕ) (m n : ℕ) (made : Listening U) (l : L) → Trail up start laws used (steps t n) u → run_of up start (used ++ pend) (suc (steps t n)) ≡ Some made → Way up low cost R u m pend l → (l' : L) × (low.step (keys n) l ≡ Some l')
+    moves u used pend m n made l trail run (last _ _ _ (lands _ _ h) c) = let x = h.leads (keys n) (key_words n) in (x.5, x.6)
+    moves u used pend m n made l trail run (last _ _ _ (rests _ h) c) = absurd (trail-end up start laws used (steps t n) u [] made trail run h.upper)
+    moves u used pend m n made l trail run (last _ _ _ (strays _ h) c) =
+        let run' = subst (λ z. run_of up start (used ++ z) (suc (steps t n)) ≡ Some made) (sym (ap (λ b. keys_heard b 0 ++ []) h.deaf.0)) run in
+        absurd (none-some made.state (sym (h.none 0 (omega arith)) ∙ trail-step up start laws used (steps t n) u 0 [] made trail run'))
+    moves u used pend m n made l trail run (onward _ k _ _ s q c to e w) = (to (keys n) (key_words n), e (keys n) (key_words n))
+
+    pub moves_on : (n : ℕ) → n ≤ until → Tame up start (heard t n) (suc (steps t n)) → (l : L) × (low.step (keys n) (state n) ≡ Some l)
+    moves_on n near tame =
+        let c = claim n [] near (subst (λ z. Tame up start z (steps t n)) (sym (append-nil (heard t n))) (λ j h. tame j (omega arith))) in
+        let made = tame (suc (steps t n)) (omega arith) in
+        moves c.u c.used c.pend c.left n made.0 (state n) c.trail (subst (λ z. run_of up start z (suc (steps t n)) ≡ Some made.0) c.keys_are made.1) c.way
+
+    -- a machine that has come to its end has done so with the upper one
+    rested : (u : U) (m : ℕ) (pend : List ℕ) (l : L) → ((key : ℕ) → low.step key l ≡ None) → low.halted l ≡ true → Way up low cost R u m pend l → up.halted u ≡ true
+    rested u m pend l none h (last _ _ _ (lands _ _ x) c) = absurd (let y = x.moving in cc (h, y))
+    rested u m pend l none h (last _ _ _ (rests _ x) c) = x.upper
+    rested u m pend l none h (last _ _ _ (strays _ x) c) = absurd (let y = x.moving in cc (h, y))
+    rested u m pend l none h (onward _ k _ _ s q c to e w) = absurd (none-some (to 0 (omega arith)) (sym (none 0) ∙ e 0 (omega arith)))
+
+    pub rests_too : (n : ℕ) → n ≤ until → Tame up start (heard t n) (steps t n) → ((key : ℕ) → low.step key (state n) ≡ None) → low.halted (state n) ≡ true
+        → (after : Listening U) × (run_of up start (heard t n) (steps t n) ≡ Some after) × (up.halted after.state ≡ true)
+    rests_too n near tame none h =
+        let c = claim n [] near (subst (λ z. Tame up start z (steps t n)) (sym (append-nil (heard t n))) tame) in (
+          with_keys up start laws c.u c.pend,
+          subst (λ z. run_of up start z (steps t n) ≡ Some (with_keys up start laws c.u c.pend)) (sym c.keys_are) (c.trail c.pend),
+          rested c.u c.left c.pend (state n) none h c.way,
+        )
+
     pub follows : (n : ℕ) → n + gap ≤ until → Follows up start t (λ c. low.word (state c)) gap n
     follows n near = record { agrees = agrees n (omega arith); goes_on = goes_on n near }
