@@ -24,10 +24,9 @@ pub fn start_law()
     ensures idle { LoopsIdle }
 {}
 
-/// Law: what goes by steps of the computer is a way of the layers.
-#[tactic(auto, using(crate::proofs::Ways::steps_are_ways))]
-pub fn ways_law()
-    ensures { StepsAreWays }
+/// Law: what goes by steps of the computer is a way of the layers, whatever the upper machine's states are.
+pub fn ways_law<U>()
+    ensures { StepsAreWays U }
 {}
 
 /// Law: a command may take as many steps as its instructions may have words.
