@@ -12,6 +12,7 @@ ghost use Rattle.hack_machine.specs.Turns.{HasTaken};
 mod level;
 
 use hack_isa::{Instr, alu, decode};
+use machine_io::Moved;
 use std::alloc::{AllocError, Global};
 use std::marker::Model;
 use word16::{KEYBOARD, bit};
@@ -172,17 +173,19 @@ impl Hack {
         }
     }
 
-    /// One move: the instruction at the program counter, while `key` is held.
+    /// One move: the instruction at the program counter, while `key` is held. There is always one.
     #[inline(always)]
-    pub fn step(&mut self, key: u16)
+    pub fn step(&mut self, key: u16) -> Moved
         requires { self.old.moves < 2 ^ 63 }
         ensures image { self.new.image ≡ self.old.image }
         ensures moves { self.new.moves ≡ self.old.moves + 1 }
         ensures step { machine_of self.new ≡ step self.old.image key (machine_of self.old) }
+        ensures acts { result ≡ Moved.Acted }
         ensures run { (keys : List ℕ) → HasRun self.old keys → HasRun self.new (keys ++ key ∷ []) }
     {
         self.perform(key);
         self.moves += 1;
+        Moved::Acted
     }
 
     /// The register A.
