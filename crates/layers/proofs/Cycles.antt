@@ -45,6 +45,10 @@ module _ {U L : Type 0} (up : System U) (start : U) (low : System L) (cost : L �
   abbrev pub t : Trace
   t = trace_of low keys state
 
+  -- no step has been made, or u was first met at a cycle
+  abbrev pub Since : U → ℕ → Type 0
+  Since u n = (steps t n ≡ 0) ⊎ ((o : ℕ) × (o ≤ n) × R u (state o) × (up.fits u ≡ true))
+
   pub record Coupled (laws : IsMeaning up) (n : ℕ) : Type 0 where
     pub u : U
     pub used : List ℕ
@@ -55,6 +59,7 @@ module _ {U L : Type 0} (up : System U) (start : U) (low : System L) (cost : L �
     pub way : Way up low cost R u left pend (state n)
     pub point : point_at t n ≡ up.point u
     pub within : left ≤ gap
+    pub since : Since u n
 
   module _ (laws : IsMeaning up) (low_laws : IdlesAtEnd low) (layer : Simulates up low cost R bound) (key_words : (c : ℕ) → IsKey (keys c)) (until : ℕ) (runs : (c : ℕ) → c < until → low.step (keys c) (state c) ≡ Some (state (suc c))) (paid : (l : L) → 1 ≤ cost l) (still : (l l' : L) (key : ℕ) → low.halted l ≡ true → low.step key l ≡ Some l' → cost l' ≤ cost l) (small : (u : U) → bound u + 16 ≤ gap) (begins : up.fits start ≡ true → Starts up low cost R start 16 (state 0)) where
     widen : (u : U) (m n : ℕ) (pend : List ℕ) (l : L) → m ≤ n → Way up low cost R u m pend l → Way up low cost R u n pend l
@@ -83,12 +88,16 @@ module _ {U L : Type 0} (up : System U) (start : U) (low : System L) (cost : L �
     quiet_adds : (n : ℕ) → low.commits (state n) ≡ false → steps t (suc n) ≡ steps t n
     quiet_adds n c = ap (λ b. if b then suc (steps t n) else steps t n) c
 
+    still_since : (u : U) (n : ℕ) → steps t (suc n) ≡ steps t n → Since u n → Since u (suc n)
+    still_since u n e (inl z) = inl (e ∙ z)
+    still_since u n e (inr o) = inr (o.0, (let b = o.1 in omega arith), o.2, o.3)
+
     -- the next cycle
     advance : (n : ℕ) (rest : List ℕ) (u : U) (used pend : List ℕ) (left : ℕ) (l : L) → n < until → state n ≡ l
         → Tame up start (heard t (suc n) ++ rest) (steps t (suc n))
-        → Trail up start laws used (steps t n) u → heard t n ≡ used ++ pend → point_at t n ≡ up.point u → left ≤ gap
+        → Trail up start laws used (steps t n) u → heard t n ≡ used ++ pend → point_at t n ≡ up.point u → left ≤ gap → Since u n
         → Way up low cost R u left pend l → Coupled laws (suc n)
-    advance n rest u used pend left l near e tame trail k p b (last _ _ _ (lands _ _ h) c) =
+    advance n rest u used pend left l near e tame trail k p b o (last _ _ _ (lands _ _ h) c) =
         let h' = subst (Lands up low R u pend) (sym e) h in
         let counted = commit_adds n (h'.commit ∙ laws.commits u) in
         let x = h'.leads (keys n) (key_words n) in
@@ -111,8 +120,9 @@ module _ {U L : Type 0} (up : System U) (start : U) (low : System L) (cost : L �
           way = layer.goes u' (state (suc n)) r made.2;
           point = point_new (up.point u') (low.point (state (suc n))) (point_at t n) (laws.pointed u') (layer.point u' (state (suc n)) r made.2);
           within = omega (arith, small u');
+          since = inr (suc n, omega arith, r, made.2);
         }
-    advance n rest u used pend left l near e tame trail k p b (last _ _ _ (rests _ h) c) =
+    advance n rest u used pend left l near e tame trail k p b o (last _ _ _ (rests _ h) c) =
         let h' = subst (Rests up low u) (sym e) h in
         let q = low_laws.quiet (state n) h'.lower in
         let i = low_laws.idles (state n) (state (suc n)) (keys n) h'.lower (runs n near) in
@@ -133,8 +143,9 @@ module _ {U L : Type 0} (up : System U) (start : U) (low : System L) (cost : L �
           way = last left [] (state (suc n)) (rests (state (suc n)) (record { shows = shows'; upper = h'.upper; lower = i.halted })) (omega (arith, less, c'));
           point = point_stays (up.point u) (low.point (state (suc n))) (point_at t n) shows'.point p;
           within = b;
+          since = still_since u n (quiet_adds n q.0) o;
         }
-    advance n rest u used pend left l near e tame trail k p b (last _ _ _ (strays _ h) c) =
+    advance n rest u used pend left l near e tame trail k p b o (last _ _ _ (strays _ h) c) =
         let h' = subst (GoesAstray up low u) (sym e) h in
         let counted = commit_adds n (h'.commit ∙ laws.commits u) in
         let made = tame (suc (steps t n)) (omega (arith, counted)) in
@@ -142,7 +153,7 @@ module _ {U L : Type 0} (up : System U) (start : U) (low : System L) (cost : L �
         ap (λ z. z ++ keys_heard (low.hears (state n)) (keys n)) k ∙ append_assoc used [] (keys_heard (low.hears (state n)) (keys n)) ∙ ap (λ z. used ++ z) (ap (λ b. keys_heard b (keys n)) h'.deaf.1 ∙ sym (ap (λ b. keys_heard b 0) h'.deaf.0)) in
         let made' = subst (λ z. run_of up start z (suc (steps t n)) ≡ Some made.0) (ap (λ z. z ++ rest) listened ∙ append_assoc used (keys_heard (up.hears u) 0) rest) made.1 in
         absurd (none-some made.0.state (sym (h'.none 0 (omega arith)) ∙ trail-step up start laws used (steps t n) u 0 rest made.0 trail made'))
-    advance n rest u used pend left l near e tame trail k p b (onward _ m _ _ s q c to moves ways) =
+    advance n rest u used pend left l near e tame trail k p b o (onward _ m _ _ s q c to moves ways) =
         let q' = subst (λ z. low.commits z ≡ false) (sym e) q in
         let next = some_is (to (keys n) (key_words n)) (state (suc n)) (sym (moves (keys n) (key_words n)) ∙ ap (low.step (keys n)) (sym e) ∙ runs n near) in
         let way = subst (λ z. Way up low cost R u m (pend ++ keys_heard (low.hears z) (keys n)) (state (suc n))) (sym e)
@@ -157,6 +168,7 @@ module _ {U L : Type 0} (up : System U) (start : U) (low : System L) (cost : L �
           way = way;
           point = point_stays (up.point u) (low.point (state (suc n))) (point_at t n) (shows u m _ (state (suc n)) way).point p;
           within = omega arith;
+          since = still_since u n (quiet_adds n q') o;
         }
 
     -- at each cycle of a tame run the states are coupled
@@ -175,12 +187,13 @@ module _ {U L : Type 0} (up : System U) (start : U) (low : System L) (cost : L �
           way = opening 16 (state 0) f b.opens;
           point = b.point;
           within = omega (arith, small start);
+          since = inl refl;
         }
     claim (suc n) rest near tame =
         let now = keys_heard (low.hears (state n)) (keys n) in
         let more = one_more (low.commits (state n)) (steps t n) in
         let c = claim n (now ++ rest) (omega arith) (λ j h. subst (λ z. (l : Listening U) × (run_of up start z j ≡ Some l) × (up.fits l.state ≡ true)) (append_assoc (heard t n) now rest) (tame j (omega (arith, h, more)))) in
-        advance n rest c.u c.used c.pend c.left (state n) (omega arith) refl tame c.trail c.keys_are c.point c.within c.way
+        advance n rest c.u c.used c.pend c.left (state n) (omega arith) refl tame c.trail c.keys_are c.point c.within c.since c.way
 
     later : (u : U) (m n : ℕ) (pend : List ℕ) (l : L) → n + m ≤ until → up.halted u ≡ false → state n ≡ l → Way up low cost R u m pend l → steps t n < steps t (n + m)
     later u m n pend l near g e (last _ _ _ (lands _ _ h) c) =
@@ -237,21 +250,26 @@ module _ {U L : Type 0} (up : System U) (start : U) (low : System L) (cost : L �
         let made = tame (suc (steps t n)) (omega arith) in
         moves c.u c.used c.pend c.left n made.0 (state n) c.trail (subst (λ z. run_of up start z (suc (steps t n)) ≡ Some made.0) c.keys_are made.1) c.way
 
-    -- a machine that has come to its end has done so with the upper one
-    rested : (u : U) (m : ℕ) (pend : List ℕ) (l : L) → ((key : ℕ) → low.step key l ≡ None) → low.halted l ≡ true → Way up low cost R u m pend l → up.halted u ≡ true
-    rested u m pend l none h (last _ _ _ (lands _ _ x) c) = absurd (let y = x.moving in cc (h, y))
-    rested u m pend l none h (last _ _ _ (rests _ x) c) = x.upper
-    rested u m pend l none h (last _ _ _ (strays _ x) c) = absurd (let y = x.moving in cc (h, y))
-    rested u m pend l none h (onward _ k _ _ s q c to e w) = absurd (none-some (to 0 (omega arith)) (sym (none 0) ∙ e 0 (omega arith)))
+    -- where the machine stands after n steps: on a way of the state that the meaning has come to
+    pub record Standing (n : ℕ) : Type 0 where
+      pub after : Listening U
+      pub run : run_of up start (heard t n) (steps t n) ≡ Some after
+      pub left : ℕ
+      pub pend : List ℕ
+      pub way : Way up low cost R after.state left pend (state n)
+      pub since : Since after.state n
 
-    pub rests_too : (n : ℕ) → n ≤ until → Tame up start (heard t n) (steps t n) → ((key : ℕ) → low.step key (state n) ≡ None) → low.halted (state n) ≡ true
-        → (after : Listening U) × (run_of up start (heard t n) (steps t n) ≡ Some after) × (up.halted after.state ≡ true)
-    rests_too n near tame none h =
-        let c = claim n [] near (subst (λ z. Tame up start z (steps t n)) (sym (append-nil (heard t n))) tame) in (
-          with_keys up start laws c.u c.pend,
-          subst (λ z. run_of up start z (steps t n) ≡ Some (with_keys up start laws c.u c.pend)) (sym c.keys_are) (c.trail c.pend),
-          rested c.u c.left c.pend (state n) none h c.way,
-        )
+    pub standing : (n : ℕ) → n ≤ until → Tame up start (heard t n) (steps t n) → Standing n
+    standing n near tame =
+        let c = claim n [] near (subst (λ z. Tame up start z (steps t n)) (sym (append-nil (heard t n))) tame) in
+        record {
+          after = with_keys up start laws c.u c.pend;
+          run = subst (λ z. run_of up start z (steps t n) ≡ Some (with_keys up start laws c.u c.pend)) (sym c.keys_are) (c.trail c.pend);
+          left = c.left;
+          pend = c.pend;
+          way = c.way;
+          since = c.since;
+        }
 
     pub follows : (n : ℕ) → n + gap ≤ until → Follows up start t (λ c. low.word (state c)) gap n
     follows n near = record { agrees = agrees n (omega arith); goes_on = goes_on n near }
