@@ -186,7 +186,7 @@ module _ (program : Program) (numbers : Numbers) (linked : Linked) (depth : ℕ)
       pub part_way : (r : Redex) (p t : ℕ) → IsFitRedex program.subroutines numbers scope r → HasAt (code_in linked vf.function) p (redex_code numbers n r)
           → others + length (operands r us) + 8 ≤ 1792
           → Steps (λ key. redex_move (view_of key u f) r) → Goes_on (p + length (redex_code numbers n r))
-          → ((w : ℕ) → filled_text w (whole (plug Open)) ≡ whole (plug (Value w))) → length us ≤ standing_first (whole (plug Open))
+          → ((w : ℕ) → filled_text w (whole (plug Open)) ≡ whole (plug (Value w))) → (length us ≤ standing_first (whole (plug Open))) × (standing_first (whole (plug Open)) ≤ suc (length us))
           → Goes program numbers linked depth u 66 (now p (operands r us) t)
       part_way (Number w) p t fit has room steps on filled_is many = literal_way w p t (nat_eq w 65535) refl fit has (omega (arith, room)) steps on
       part_way (Reads x) p t fit has room steps on filled_is many =
@@ -228,7 +228,7 @@ module _ (program : Program) (numbers : Numbers) (linked : Linked) (depth : ℕ)
               entering (record { kept = fit.0; function = refl; arguments = refl; arguments_length = fit.1; locals = refl; this = refl; text = refl; place = refl; none = refl; values = refl }),
               (
                 (λ w. subst (λ t'. TopMatch program numbers linked depth (record f { text = t' }) (at (p + 1) (w ∷ us) t)) (sym (filled_is w)) (on w t)),
-                record { kept = same.kept; arguments = ap length same.arguments; locals = ap length same.locals; values = many },
+                record { kept = same.kept; arguments = ap length same.arguments; locals = ap length same.locals; values = many.0; stands = many.1 },
                 callers,
               ),
             );

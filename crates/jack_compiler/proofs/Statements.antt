@@ -46,6 +46,10 @@ any_otherwise subs s f below (Rewrites b e) plug whole_ o o' h = refl
 any_otherwise subs s f below (Calls g xs e) plug whole_ o o' h = refl
 any_otherwise subs s f below (Strays a) plug whole_ o o' h = refl
 
+-- The values that stand in an expression and below it are those of its text, or one less.
+abbrev pub AreStanding : List ℕ → Expression → Text → Type 0
+AreStanding below_ e t = (standing e + length below_ ≤ standing_first t) × (standing_first t ≤ suc (standing e + length below_))
+
 module _ (program : Program) (numbers : Numbers) (linked : Linked) (depth : ℕ) where
   module _ (ss ws : List ℕ) (f g : Frame) (below : List Frame) (V : VmState) (vf vg : VmFrame) (vbs : List VmFrame) where
     abbrev pub upper : State
@@ -89,7 +93,7 @@ module _ (program : Program) (numbers : Numbers) (linked : Linked) (depth : ℕ)
           → ((key : ℕ) → step program.subroutines key upper ≡ step_part program.subroutines upper f (g ∷ below) (rewrite (view_of key upper f) e) whole_ (otherwise key))
           → ((e' : Expression) (q : ℕ) (vs : List ℕ) (t : ℕ) → Part program.subroutines numbers scope depth the_code scope n e' rest below_ q vs → q + length (expression_code numbers n e') ≡ p + length (expression_code numbers n e) → TopMatch program numbers linked depth (record f { text = whole_ e' }) (frame_at q vs t))
           → ((w : ℕ) (e' : Expression) → filled_text w (whole_ e') ≡ whole_ (filled w e'))
-          → ((e' : Expression) → standing e' + length below_ ≤ standing_first (whole_ e'))
+          → ((e' : Expression) → AreStanding below_ e' (whole_ e'))
           → GoesFrom 66 (state_at p values that)
       expression_way scope same n number p values that room e rest below_ part fe whole_ otherwise steps on fills stands =
           let us = fe.under below_ in
@@ -97,7 +101,8 @@ module _ (program : Program) (numbers : Numbers) (linked : Linked) (depth : ℕ)
           let values_are : values ≡ operands r us = part.values_are ∙ fe.stack below_ in
           let has_at : (w : ℕ) → HasAt the_code p (redex_code numbers n r ++ (expression_code numbers n (fe.plug (Value w)) ++ rest)) =
           λ w. subst (HasAt the_code p) (ap (λ c. c ++ rest) (fe.rest w) ∙ append_assoc (redex_code numbers n r) _ _) part.has in
-          let many : length us ≤ standing_first (whole_ (fe.plug Open)) = omega (arith, fe.many below_, stands (fe.plug Open)) in
+          let few = stands (fe.plug Open) in
+          let many : (length us ≤ standing_first (whole_ (fe.plug Open))) × (standing_first (whole_ (fe.plug Open)) ≤ suc (length us)) = (omega (arith, fe.many below_, few.0), omega (arith, fe.many below_, few.1)) in
           let way = part_way program numbers linked depth ss ws f g below V vf vg vbs here memory callers scope same n number us fe.plug whole_ (otherwise 0) r p that fe.fit
           (has_front the_code p (redex_code numbers n r) _ (has_at 0)) (omega (arith, room, ap length values_are))
           (λ key. steps key ∙ (ap (λ m. step_part program.subroutines upper f (g ∷ below) m whole_ (otherwise key)) (fe.moves (view_of key upper f))
