@@ -6,17 +6,16 @@ use Rattle.hack_isa.specs.declared.Instr.{Instr}
 use Rattle.layers.specs.System.{IdlesAtEnd}
 use Rattle.hack_blocks.specs.declared.shape.Shape.{Shape}
 use Rattle.hack_blocks.specs.declared.shape.Shape.TheVariants.{PopWord, Call}
-use Rattle.hack_blocks.specs.Templates.{template, size, budget, start_code, endless, endless_loop, start_size}
+use Rattle.hack_blocks.specs.Templates.{template, size, start_code, endless, endless_loop, start_size}
 use Rattle.hack_blocks.specs.Computer.{Map, Stands, HasLoop, hack_system}
 use Rattle.hack_blocks.specs.Going.{Quiet, Reaches}
 use Rattle.hack_blocks.specs.Effects.{HasWords}
 use Rattle.hack_blocks.specs.Commands.{IsShape}
 
--- The instructions of a command are as many as is said, at least one and at most what the command may take, and each has a word.
+-- The instructions of a command are as many as is said, at least one, and each has a word.
 pub record TemplatesFit : Type 0 where
   pub number : (here : ℕ) (c : Shape) → length (template here c) ≡ size c
   pub some : (c : Shape) → 1 ≤ size c
-  pub few : (c : Shape) → size c ≤ budget c
   pub well_formed : (here : ℕ) (c : Shape) → IsShape c → here + size c ≤ image_words → All WellFormed (template here c)
   pub start_number : (entry : ℕ) → length (start_code entry) ≡ start_size
   pub start_well_formed : (entry : ℕ) → entry < 32768 → All WellFormed (start_code entry)

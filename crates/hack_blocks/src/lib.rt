@@ -5,7 +5,7 @@ pub mod instructions;
 mod laws;
 pub mod shape;
 
-pub use laws::{commands_law, start_law, templates_law, ways_law};
+pub use laws::{budgets_law, commands_law, start_law, templates_law, ways_law};
 pub use shape::Shape;
 
 /// The address of the start code's endless loop.
