@@ -40,7 +40,7 @@ use Rattle.jack_compiler.proofs.Sectioned.{section_of, sections_are}
 use Rattle.jack_compiler.proofs.Called as called_by
 use Rattle.jack_compiler.proofs.Called.{all_named, names_static, body_kept}
 use Rattle.jack_compiler.proofs.Calling.{calls_at, subroutine_calls, subroutine_commits}
-use Rattle.jack_compiler.proofs.Keeping.{found, any_at, keeps_from, closed, start_kept, first_none, only_statics}
+use Rattle.jack_compiler.proofs.Keeping.{found, any_at, keeps_from, keeps_once, closed, start_kept, first_none, only_statics}
 use Rattle.jack_compiler.proofs.Resolving.{and_first, and_second, IsOf, all, names_apart, known, known_at, under, named_there, start_there, text_none, keeps_there, calls_there}
 use Rattle.jack_compiler.proofs.Members.{linked_kept}
 use Rattle.jack_compiler.proofs.Reaching.{reached_linked}
@@ -155,6 +155,14 @@ module _ (program : Program) (names class_names : List (List ℕ)) (resolved : I
         let at = known_at program names resolved from.0 m.0 from.1 in
         let number : 1 + from.0 ≡ f.number = sym (ap (λ (z : Section). z.number) at.1) ∙ sym (ap (λ (z : LinkedFunction). z.number) m.2) in
         subst (IsLinked program) number (reached_linked program names resolved from.0 (subst (Reached ss) z from.2))
+
+    -- each is there once
+    linked_once : (j k : ℕ) (f g : LinkedFunction) → slice_get (map (function_of ks) ks) j ≡ Some f → slice_get (map (function_of ks) ks) k ≡ Some g → f.number ≡ g.number → j ≡ k
+    linked_once j k f g a b e =
+        let m = mapped_from (function_of ks) ks j f a in
+        let n = mapped_from (function_of ks) ks k g b in
+        keeps_once (Reached ss) (keeps) (λ i s h. ap (λ (z : Section). z.number) (known_at program names resolved i s h).1 ∙ (let z : 1 + i ≡ 1 + 0 + i = omega arith in z)) j k m.0 n.0 m.1 n.1
+        (sym (ap (λ (z : LinkedFunction). z.number) m.2) ∙ e ∙ ap (λ (z : LinkedFunction). z.number) n.2)
 
     -- the section of a kept subroutine
     record Kept (g : ℕ) : Type 0 where
@@ -317,6 +325,7 @@ module _ (program : Program) (names class_names : List (List ℕ)) (resolved : I
         code = code_of_program;
         all = linked_kept program (numbers) (depth_in) (most_locals_in) (fit);
         only = only_linked;
+        once = linked_once;
         deepest = most_of (depth_of program) (λ g h. (fit_subroutine g h).nested);
         most = most_of (locals_of program) (λ g h. (fit_subroutine g h).few);
         fits = fit;

@@ -8,7 +8,7 @@ use Rattle.vm_link.specs.declared.linked.Linked.{Linked}
 use Rattle.vm_machine.specs.State.{Frame as VmFrame, State as VmState}
 use Rattle.vm_machine.specs.Step.{code_in, act, goes, after}
 use Rattle.vm_machine.specs.Step.{Strays as VmStrays}
-use Rattle.vm_machine.specs.Level.{command_words}
+use Rattle.hack_blocks.specs.Budgets.{most_steps}
 use Rattle.jack_meaning.specs.Text.{Expression, Value, Open, Statement, Text, End, Next, joined, Program, Subroutine}
 use Rattle.jack_meaning.specs.Expressions.{Move, Stands, Rewrites, Calls, Strays, within, rewrite, filled, standing}
 use Rattle.jack_meaning.specs.Meaning.{Frame, State, Outcome, Stray, step, step_part, view_of, with_top, filled_text, text_point, passed_over}
@@ -130,7 +130,7 @@ module _ (program : Program) (numbers : Numbers) (linked : Linked) (depth : ℕ)
           → ((key : ℕ) → act key c (record V' { frames = frame_at p values that ∷ vg ∷ vbs }) (frame_at p values that) (vg ∷ vbs) ≡ (if lower then VmStrays (stray.Address a) else (if data_ then goes (record V' { frames = frame_at p values that ∷ vg ∷ vbs; words = slice_set V'.words (a - 2048) w }) (vg ∷ vbs) (after (frame_at p values that) []) else VmStrays (stray.Address a))))
           → ((key : ℕ) → step program.subroutines key upper ≡ (if lower then Stray a else (if data_ then passed_over (record upper { words = slice_set ws (a - 2048) w }) f (g ∷ below) rest else Stray a)))
           → IsClosed rest → Reads program.subroutines numbers (scope_at program numbers linked depth f.subroutine) depth the_code 0 rest (p + 1)
-          → GoesFrom (command_words c) (record V' { frames = frame_at p values that ∷ vg ∷ vbs })
+          → GoesFrom (most_steps c) (record V' { frames = frame_at p values that ∷ vg ∷ vbs })
       store_with same n number p values that V' m c a w rest true d h room acts steps closed reads =
           stray_way program numbers linked depth upper V' (frame_at p values that) (vg ∷ vbs) n c a (record { words = m.words; sub = here.sub }) number h acts steps
       store_with same n number p values that V' m c a w rest false false h room acts steps closed reads =

@@ -11,7 +11,8 @@ use Rattle.vm_machine.specs.State.{words_in_use}
 use Rattle.vm_machine.specs.State.{Frame as VmFrame, State as VmState}
 use Rattle.vm_machine.specs.Step.{code_in, act, fitted}
 use Rattle.vm_machine.specs.Step.{Acts as VmActs, Strays as VmStrays, Full as VmFull, step as vm_step}
-use Rattle.vm_machine.specs.Level.{state_after, is_fit, is_commit, subroutine_of, statement_of, end_statement, vm_system, command_words, cost_of, vm_cost}
+use Rattle.hack_blocks.specs.Budgets.{most_steps}
+use Rattle.vm_machine.specs.Level.{state_after, is_fit, is_commit, subroutine_of, statement_of, end_statement, vm_system, cost_of, vm_cost}
 use Rattle.vm_machine.specs.Level.{has_heard as vm_heard, is_done as vm_done}
 use Rattle.layers.specs.System.{System}
 use Rattle.layers.specs.Layers.{Shows, GoesAstray, Ends, strays, Along, last, onward, Way}
@@ -37,12 +38,12 @@ module _ (program : Program) (numbers : Numbers) (linked : Linked) (depth : ℕ)
   abbrev pub R : State → VmState → Type 0
   R = Match program numbers linked depth
 
-  -- within so many words of machine code the step of u is made, or its end comes; and where u strays, v does in the end
+  -- within so many steps of the computer the step of u is made, or its end comes; and where u strays, v does in the end
   pub record Goes (u : State) (m : ℕ) (v : VmState) : Type 0 where
-    pub way : Way up low (vm_cost linked) R u m [] v
+    pub way : Way up low (vm_cost most_steps linked) R u m [] v
     pub strays : (a : ℕ) → ((key : ℕ) → step program.subroutines key u ≡ Stray a) → ComesAstray program.subroutines linked u a m v
 
-  longer : (u : State) (End : List ℕ → VmState → Type 0) (m m' : ℕ) (pend : List ℕ) (v : VmState) → m ≤ m' → Along up low (vm_cost linked) u End m pend v → Along up low (vm_cost linked) u End m' pend v
+  longer : (u : State) (End : List ℕ → VmState → Type 0) (m m' : ℕ) (pend : List ℕ) (v : VmState) → m ≤ m' → Along up low (vm_cost most_steps linked) u End m pend v → Along up low (vm_cost most_steps linked) u End m' pend v
   longer u End m m' pend v h (last _ _ _ l c) = last m' pend v l (omega (arith, h, c))
   longer u End m m' pend v h (onward _ k _ _ s q c to e w) = onward m' k pend v s q (omega (arith, h, c)) to e w
 
@@ -92,12 +93,12 @@ module _ (program : Program) (numbers : Numbers) (linked : Linked) (depth : ℕ)
 
   -- a command on the way
   pub quiet_way : (u : State) (V : VmState) (vf : VmFrame) (vbelow : List VmFrame) (n : ℕ) (c : Step) (m : ℕ) (v' : VmState) → Here u V vf → n ≡ (point_of u.frames).1 → slice_get (code_in linked vf.function) vf.place ≡ Some (quiet n c)
-      → ((key : ℕ) → act key c (record V { frames = vf ∷ vbelow }) vf vbelow ≡ VmActs false v') → words_in_use v'.frames ≤ 1792 → Goes u m v' → Goes u (command_words c + m) (record V { frames = vf ∷ vbelow })
+      → ((key : ℕ) → act key c (record V { frames = vf ∷ vbelow }) vf vbelow ≡ VmActs false v') → words_in_use v'.frames ≤ 1792 → Goes u m v' → Goes u (most_steps c + m) (record V { frames = vf ∷ vbelow })
   quiet_way u V vf vbelow n c m v' here number h acts room rest =
       let ran : (key : ℕ) → vm_step linked key (record V { frames = vf ∷ vbelow }) ≡ VmActs false v' = λ key. runs key false V vf vbelow (quiet n c) v' h (acts key) room in
-      let words : vm_cost linked (record V { frames = vf ∷ vbelow }) ≡ command_words c = ap cost_of h in
-      let passes = λ (End : List ℕ → VmState → Type 0) (after : Along up low (vm_cost linked) u End m [] v').
-      quiet_step up low (vm_cost linked) u End (command_words c + m) m [] (record V { frames = vf ∷ vbelow }) v'
+      let words : vm_cost most_steps linked (record V { frames = vf ∷ vbelow }) ≡ most_steps c = ap (cost_of most_steps) h in
+      let passes = λ (End : List ℕ → VmState → Type 0) (after : Along up low (vm_cost most_steps linked) u End m [] v').
+      quiet_step up low (vm_cost most_steps linked) u End (most_steps c + m) m [] (record V { frames = vf ∷ vbelow }) v'
       (shows_at u V vf vbelow (quiet n c) here number h (ap is_fit (ran 0)))
       (ap is_commit h) (ap vm_heard (ran 0)) (omega (arith, words)) (λ key w. ap state_after (ran key)) after in
       record { way = passes (Ends up low R u) rest.way; strays = λ a s. passes (StraysAt program.subroutines linked u a) (rest.strays a s) }
@@ -105,12 +106,12 @@ module _ (program : Program) (numbers : Numbers) (linked : Linked) (depth : ℕ)
   -- the commit
   pub last_way : (u : State) (V : VmState) (vf : VmFrame) (vbelow : List VmFrame) (n : ℕ) (c : Step) (heard : Bool) (u' : ℕ → State) (v' : ℕ → VmState) → Here u V vf → n ≡ (point_of u.frames).1 → slice_get (code_in linked vf.function) vf.place ≡ Some (commit n c)
       → ((key : ℕ) → act key c (record V { frames = vf ∷ vbelow }) vf vbelow ≡ VmActs heard (v' key)) → ((key : ℕ) → words_in_use (v' key).frames ≤ 1792)
-      → ((key : ℕ) → step program.subroutines key u ≡ Acts heard (u' key)) → ((key : ℕ) → R (u' key) (v' key)) → Goes u (command_words c) (record V { frames = vf ∷ vbelow })
+      → ((key : ℕ) → step program.subroutines key u ≡ Acts heard (u' key)) → ((key : ℕ) → R (u' key) (v' key)) → Goes u (most_steps c) (record V { frames = vf ∷ vbelow })
   last_way u V vf vbelow n c heard u' v' here number h acts room steps matches =
       let ran : (key : ℕ) → vm_step linked key (record V { frames = vf ∷ vbelow }) ≡ VmActs heard (v' key) = λ key. runs key heard V vf vbelow (commit n c) (v' key) h (acts key) (room key) in
-      let words : vm_cost linked (record V { frames = vf ∷ vbelow }) ≡ command_words c = ap cost_of h in
+      let words : vm_cost most_steps linked (record V { frames = vf ∷ vbelow }) ≡ most_steps c = ap (cost_of most_steps) h in
       record {
-        way = last_step up low (vm_cost linked) u R (command_words c) (record V { frames = vf ∷ vbelow })
+        way = last_step up low (vm_cost most_steps linked) u R (most_steps c) (record V { frames = vf ∷ vbelow })
             (shows_at u V vf vbelow (commit n c) here number h (ap is_fit (ran 0)))
             (ap is_commit h) (ap is_done (steps 0)) (ap vm_done (ran 0)) (ap vm_heard (ran 0) ∙ sym (ap has_heard (steps 0))) (omega (arith, words))
             (λ key w. (u' key, ap state_of (steps key), v' key, ap state_after (ran key), matches key));
@@ -122,10 +123,10 @@ module _ (program : Program) (numbers : Numbers) (linked : Linked) (depth : ℕ)
 
   -- the last command, where there is no step: an address outside the memory
   pub stray_way : (u : State) (V : VmState) (vf : VmFrame) (vbelow : List VmFrame) (n : ℕ) (c : Step) (a : ℕ) → Here u V vf → n ≡ (point_of u.frames).1 → slice_get (code_in linked vf.function) vf.place ≡ Some (commit n c)
-      → ((key : ℕ) → act key c (record V { frames = vf ∷ vbelow }) vf vbelow ≡ VmStrays (stray.Address a)) → ((key : ℕ) → step program.subroutines key u ≡ Stray a) → Goes u (command_words c) (record V { frames = vf ∷ vbelow })
+      → ((key : ℕ) → act key c (record V { frames = vf ∷ vbelow }) vf vbelow ≡ VmStrays (stray.Address a)) → ((key : ℕ) → step program.subroutines key u ≡ Stray a) → Goes u (most_steps c) (record V { frames = vf ∷ vbelow })
   stray_way u V vf vbelow n c a here number h acts steps =
       let ran : (key : ℕ) → vm_step linked key (record V { frames = vf ∷ vbelow }) ≡ VmStrays (stray.Address a) = λ key. strays_at key a V vf vbelow (commit n c) h (acts key) in
-      let words : vm_cost linked (record V { frames = vf ∷ vbelow }) ≡ command_words c = ap cost_of h in
+      let words : vm_cost most_steps linked (record V { frames = vf ∷ vbelow }) ≡ most_steps c = ap (cost_of most_steps) h in
       let astray : GoesAstray up low u (record V { frames = vf ∷ vbelow }) = record {
         shows = shows_at u V vf vbelow (commit n c) here number h (ap is_fit (ran 0));
         commit = ap is_commit h;
@@ -135,8 +136,8 @@ module _ (program : Program) (numbers : Numbers) (linked : Linked) (depth : ℕ)
         none = λ key w. ap state_of (steps key);
       } in
       record {
-        way = last (command_words c) [] (record V { frames = vf ∷ vbelow }) (strays (record V { frames = vf ∷ vbelow }) astray) (omega (arith, words));
-        strays = λ a' s. last (command_words c) [] (record V { frames = vf ∷ vbelow })
+        way = last (most_steps c) [] (record V { frames = vf ∷ vbelow }) (strays (record V { frames = vf ∷ vbelow }) astray) (omega (arith, words));
+        strays = λ a' s. last (most_steps c) [] (record V { frames = vf ∷ vbelow })
             (record {
               astray = astray;
               unheard = refl;

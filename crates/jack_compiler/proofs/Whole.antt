@@ -13,6 +13,7 @@ use Rattle.vm_machine.specs.State.{words_in_use}
 use Rattle.vm_machine.specs.State.{Frame as VmFrame, State as VmState}
 use Rattle.vm_machine.specs.Step.{code_in}
 use Rattle.vm_machine.specs.Step.{Done as VmDone, step as vm_step}
+use Rattle.hack_blocks.specs.Budgets.{most_steps}
 use Rattle.vm_machine.specs.Level.{is_done, vm_system, vm_cost, subroutine_of, number_of as function_number}
 use Rattle.jack_meaning.specs.Text.{Expression, Value, Call, Open, NoMore, Let, LetField, LetThis, Store, Do, If, While, Return, Text, End, Next, Program, Subroutine}
 use Rattle.jack_meaning.specs.Expressions.{standing}
@@ -253,7 +254,7 @@ module _ (program : Program) (numbers : Numbers) (linked : Linked) (depth : ℕ)
     end_shows s pend v (strays _ l) = l.shows
 
     -- every state on a way shows the upper one
-    way_shows : (s : State) (m : ℕ) (pend : List ℕ) (v : VmState) → Way (up program numbers linked depth) (low program numbers linked depth) (vm_cost linked) (R program numbers linked depth) s m pend v → Shows (up program numbers linked depth) (low program numbers linked depth) s v
+    way_shows : (s : State) (m : ℕ) (pend : List ℕ) (v : VmState) → Way (up program numbers linked depth) (low program numbers linked depth) (vm_cost most_steps linked) (R program numbers linked depth) s m pend v → Shows (up program numbers linked depth) (low program numbers linked depth) s v
     way_shows s m pend v (last _ _ _ l c) = end_shows s pend v l
     way_shows s m pend v (onward _ _ _ _ sh q c to e w) = sh
 
@@ -265,7 +266,7 @@ module _ (program : Program) (numbers : Numbers) (linked : Linked) (depth : ℕ)
     gap_is = omega arith
 
     -- Each step of the meaning is made by the virtual machine, within the gap less 16.
-    pub simulates : Simulates (meaning_of program.subroutines) (vm_system linked) (vm_cost linked) (Match program numbers linked depth) (λ s. gap depth most_locals - 16)
+    pub simulates : Simulates (meaning_of program.subroutines) (vm_system linked) (vm_cost most_steps linked) (Match program numbers linked depth) (λ s. gap depth most_locals - 16)
     simulates = record {
       point = λ s v m h. pointed (vm_point linked v.frames) (point_in s) (way_shows s most_words [] v (frames_way s.frames s.statics s.words v.frames v m.frames m.memory h).way).point;
       goes = λ s v m h. (subst (λ n. Goes program numbers linked depth s n v) gap_is (frames_way s.frames s.statics s.words v.frames v m.frames m.memory h)).way;

@@ -6,6 +6,7 @@ use Rattle.vm_link.specs.declared.linked.Linked.{Linked}
 use Rattle.vm_machine.specs.State.{State as VmState}
 use Rattle.vm_machine.specs.Step.{Strays}
 use Rattle.vm_machine.specs.Step.{step as vm_step}
+use Rattle.hack_blocks.specs.Budgets.{most_steps}
 use Rattle.vm_machine.specs.Level.{vm_system, vm_cost}
 use Rattle.jack_meaning.specs.Text.{Subroutine}
 use Rattle.jack_meaning.specs.Meaning.{State}
@@ -18,6 +19,6 @@ module _ (subs : List Subroutine) (linked : Linked) (s : State) (a : ℕ) where
     pub unheard : pend ≡ []
     pub address : (key : ℕ) → vm_step linked key v ≡ Strays (stray.Address a)
 
-  -- Within so many words of machine code the virtual machine comes by quiet commands to one that goes astray at this address.
+  -- Within so many steps of the computer the virtual machine comes by quiet commands to one that goes astray at this address.
   abbrev pub ComesAstray : ℕ → VmState → Type 0
-  ComesAstray n v = Along (meaning_of subs) (vm_system linked) (vm_cost linked) s StraysAt n [] v
+  ComesAstray n v = Along (meaning_of subs) (vm_system linked) (vm_cost most_steps linked) s StraysAt n [] v

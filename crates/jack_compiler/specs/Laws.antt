@@ -4,6 +4,7 @@ use Rattle.vm_link.specs.declared.linked.Linked.{Linked}
 use Rattle.vm_machine.specs.State.{words_in_use}
 use Rattle.vm_machine.specs.State.{Frame as VmFrame, State as VmState}
 use Rattle.vm_machine.specs.Step.{start as vm_start}
+use Rattle.hack_blocks.specs.Budgets.{most_steps}
 use Rattle.vm_machine.specs.Level.{vm_system, vm_cost}
 use Rattle.layers.specs.Layers.{Simulates}
 use Rattle.jack_meaning.specs.Text.{Program}
@@ -22,11 +23,11 @@ locals_to_make (f ∷ below) (vf ∷ vbelow) = length f.locals - length vf.local
 locals_to_make _ _ = 0
 
 pub record SimulationLaw : Type 0 where
-  -- Each step of the meaning is made by the virtual machine, in commands of together at most gap - 16 words of machine code, the last of
+  -- Each step of the meaning is made by the virtual machine, in commands of together at most gap - 16 steps of the computer, the last of
   -- which alone is a commit; on the way the point, heap and screen stay those of the meaning, and no command is full or finds its value,
   -- argument, local or code missing.
   pub steps : (program : Program) (numbers : Numbers) (linked : Linked) (depth most_locals : ℕ) → IsFit program numbers depth most_locals → IsCodeOf program numbers linked
-      → Simulates (meaning_of program.subroutines) (vm_system linked) (vm_cost linked) (Match program numbers linked depth) (λ s. gap depth most_locals - 16)
+      → Simulates (meaning_of program.subroutines) (vm_system linked) (vm_cost most_steps linked) (Match program numbers linked depth) (λ s. gap depth most_locals - 16)
   -- where the meaning strays, the virtual machine goes on such a way to a commit that strays at the same address
   pub strays : (program : Program) (numbers : Numbers) (linked : Linked) (depth most_locals : ℕ) → IsFit program numbers depth most_locals → IsCodeOf program numbers linked
       → (s : State) (v : VmState) (key a : ℕ) → Match program numbers linked depth s v → (meaning_of program.subroutines).fits s ≡ true → step program.subroutines key s ≡ Stray a

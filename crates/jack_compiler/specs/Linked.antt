@@ -16,7 +16,7 @@ use Rattle.jack_compiler.specs.Match.{IsCodeOf}
 use Rattle.jack_compiler.specs.Files.{files_of}
 use Rattle.jack_compiler.specs.Resolved.{IsResolvedCore}
 
--- This is the code of the program: it has just the subroutines that the program can come to. The program fits, as deep as the deepest of these
+-- This is the code of the program: it has just the subroutines that the program can come to, each once. The program fits, as deep as the deepest of these
 -- is nested and with as many locals as one of them has at most.
 pub record IsLinkedProgram (program : Program) (linked : Linked) : Type 0 where
   pub numbers : Numbers
@@ -25,6 +25,7 @@ pub record IsLinkedProgram (program : Program) (linked : Linked) : Type 0 where
   pub code : IsCodeOf program numbers linked
   pub all : (g : ℕ) → IsLinked program g → numbers.keeps g ≡ true
   pub only : (k : ℕ) (f : LinkedFunction) → slice_get linked.functions k ≡ Some f → IsLinked program f.number
+  pub once : (j k : ℕ) (f g : LinkedFunction) → slice_get linked.functions j ≡ Some f → slice_get linked.functions k ≡ Some g → f.number ≡ g.number → j ≡ k
   pub deepest : IsMost program (depth_of program) depth
   pub most : IsMost program (locals_of program) most_locals
   pub fits : IsFit program numbers depth most_locals

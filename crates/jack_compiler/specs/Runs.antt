@@ -3,12 +3,13 @@ use Rattle.std.specs.Prelude.{◌≡◌, ◌<◌, ℕ, suc, ◌+◌, Some}
 use Rattle.layers.specs.System.{IsKey, Listening, run_of, Tame}
 use Rattle.layers.specs.Trace.{Trace, steps, heard, trace_of}
 use Rattle.layers.specs.Headline.{Agrees}
+use Rattle.machine_io.specs.declared.machine.Stray.TheVariants as stray
 use Rattle.vm_link.specs.declared.linked.Linked.{Linked}
 use Rattle.vm_machine.specs.State.{State as VmState}
-use Rattle.vm_machine.specs.Step.{Done as VmDone, start as vm_start, step as vm_step}
+use Rattle.vm_machine.specs.Step.{Outcome as VmOutcome, Acts as VmActs, Strays as VmStrays, Full as VmFull, Done as VmDone, start as vm_start, step as vm_step}
 use Rattle.vm_machine.specs.Level.{vm_system}
 use Rattle.jack_meaning.specs.Text.{Program}
-use Rattle.jack_meaning.specs.Meaning.{State, Done, start, step}
+use Rattle.jack_meaning.specs.Meaning.{State, Stray, Done, start, step}
 use Rattle.jack_meaning.specs.Level.{meaning_of}
 use Rattle.jack_meaning.specs.Gap.{gap}
 use Rattle.jack_compiler.specs.Templates.{Numbers}
@@ -34,6 +35,13 @@ module _ (linked : Linked) (keys : ℕ → ℕ) (state : ℕ → VmState) where
 abbrev pub TameFor : Program → Linked → (ℕ → ℕ) → (ℕ → VmState) → ℕ → ℕ → Type 0
 TameFor program linked keys state n m = Tame (meaning_of program.subroutines) (start program) (heard (moves_trace linked keys state) n) m
 
+-- what the machine's next outcome says of a state of the meaning
+abbrev pub Answers : Program → State → VmOutcome → Type 0
+Answers program s (VmActs heard v) = Unit {0}
+Answers program s (VmStrays why) = (a : ℕ) × (why ≡ stray.Address a) × ((key : ℕ) → step program.subroutines key s ≡ Stray a)
+Answers program s (VmFull words) = ⊥
+Answers program s VmDone = (key : ℕ) → step program.subroutines key s ≡ Done
+
 -- Of a machine that runs the code of a program, after n moves.
 pub record VmRunLaw : Type 0 where
   -- Heap and screen and the point are those of the meaning after as many steps as there were commits, over the keys heard, as far as that is tame.
@@ -48,9 +56,8 @@ pub record VmRunLaw : Type 0 where
   pub goes_on : (program : Program) (numbers : Numbers) (linked : Linked) (depth most_locals : ℕ) → IsFit program numbers depth most_locals → IsCodeOf program numbers linked
       → (keys : ℕ → ℕ) (state : ℕ → VmState) (n : ℕ) → Moves linked keys state (n + gap depth most_locals) → TameFor program linked keys state n (suc (steps (moves_trace linked keys state) n))
       → steps (moves_trace linked keys state) n < steps (moves_trace linked keys state) (n + gap depth most_locals)
-  -- where it has come to its end, so has the meaning
-  pub done : (program : Program) (numbers : Numbers) (linked : Linked) (depth most_locals : ℕ) → IsFit program numbers depth most_locals → IsCodeOf program numbers linked
+  -- It is never full. Where it has come to its end, so has the meaning; and where it strays, the meaning strays, at the same address.
+  pub answers : (program : Program) (numbers : Numbers) (linked : Linked) (depth most_locals : ℕ) → IsFit program numbers depth most_locals → IsCodeOf program numbers linked
       → (keys : ℕ → ℕ) (state : ℕ → VmState) (n : ℕ) → Moves linked keys state n → TameFor program linked keys state n (steps (moves_trace linked keys state) n)
-      → vm_step linked (keys n) (state n) ≡ VmDone
       → (after : Listening State) × (run_of (meaning_of program.subroutines) (start program) (heard (moves_trace linked keys state) n) (steps (moves_trace linked keys state) n) ≡ Some after)
-      × ((key : ℕ) → step program.subroutines key after.state ≡ Done)
+      × Answers program after.state (vm_step linked (keys n) (state n))

@@ -6,7 +6,7 @@ ghost use Rattle.jack_meaning.specs.Meaning.{start};
 ghost use Rattle.jack_core.specs.declared.tree.Part.TheVariants as part;
 ghost use Rattle.jack_core.specs.Texts.{the_program};
 ghost use Rattle.jack_machine.specs.Frames.{the_frame, IsNext};
-ghost use Rattle.jack_machine.specs.Whole.{IsCalled, IsSame, JackStep, Stands, jack_state, jack_point, jack_word, start_frame};
+ghost use Rattle.jack_machine.specs.Whole.{IsCalled, IsSame, JackStep, Stands, jack_state, jack_point, jack_word, jack_reply, start_frame};
 
 use crate::calling::{call, enter, last_values, leave};
 use crate::frames::{Act, Frame, step_top};
@@ -142,6 +142,8 @@ impl<'a> Level for Jack<'a> {
     ghost committed = { λ j. j.moves };
 
     ghost at_point = { jack_point };
+
+    ghost reply = { jack_reply };
 
     ghost sure = { false };
 

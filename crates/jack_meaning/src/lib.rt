@@ -15,7 +15,9 @@ pub fn meaning_law()
     ensures { MeaningLaw }
 {}
 
-/// Small programs make the steps that the book's chapters 9 and 12 say.
+/// Small programs make the steps that the book's chapters 9 and 12 say. And what no code computes is so for small
+/// cases: which keys are heard, the words of the stack, how long a run is tame, how deep statements are nested, which
+/// subroutines are linked, and the gap.
 pub fn rows_law()
     ensures { RowsLaw }
 {}

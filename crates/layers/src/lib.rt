@@ -4,6 +4,7 @@
 #![tactic(auto)]
 
 ghost use Rattle.layers.specs.Laws.{LayersCompose, RunsFollow, CountsAreTold};
+ghost use Rattle.layers.specs.Rows.{RowsLaw};
 
 /// Two layers, one on the other, are one layer; a machine that carries the run of a program's meaning agrees
 /// with it at each cycle, and makes each of its steps within the gap; and what is counted of a run up to a cycle
@@ -12,4 +13,9 @@ pub fn layers_law<U, V, L>()
     ensures compose { LayersCompose U V L }
     ensures follow { RunsFollow U L }
     ensures counts { CountsAreTold }
+{}
+
+/// What is counted of a short run: its steps, the keys heard and the points, cycle by cycle.
+pub fn rows_law()
+    ensures { RowsLaw }
 {}

@@ -18,11 +18,13 @@ pub record IsSoundFrame (l : Linked) (f : Frame) : Type 0 where
   pub this : f.this < 65536
   pub that : f.that < 65536
 
--- the frame `start`
+-- The frame `start`. Its two commands never set its pointers.
 pub record IsStart (f : Frame) : Type 0 where
   pub function : f.function ≡ None
   pub arguments : f.arguments ≡ []
   pub locals : f.locals ≡ []
+  pub this : f.this ≡ 0
+  pub that : f.that ≡ 0
 
 -- the frame of a call of a function that is there
 abbrev pub IsCall : Linked → Frame → Type 0

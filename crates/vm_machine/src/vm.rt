@@ -230,6 +230,8 @@ impl Level for Vm {
 
     ghost at_point = { λ vm. point_of vm.linked vm.state.frames };
 
+    ghost reply = { λ vm key. answer_of (step vm.linked key vm.state) };
+
     ghost sure = { true };
 
     ghost Program = { Linked };
