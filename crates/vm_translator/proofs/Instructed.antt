@@ -1,5 +1,5 @@
 -- What the computer does for each step, told by instructions.
-use Rattle.std.proofs.Common.{◌≡◌, inl, inr, ℕ, zero, suc, Option, Some, None, ◌+◌, ◌-◌, ◌<◌, ◌≤◌, Bool, true, false, List, [], ◌∷◌, length, refl, ap, ◌∙◌, sym, subst, arith}
+use Rattle.std.proofs.Common.{◌≡◌, inl, ℕ, zero, suc, Option, Some, None, ◌+◌, ◌-◌, ◌<◌, ◌≤◌, Bool, true, false, List, [], ◌∷◌, length, refl, ap, ◌∙◌, sym, subst, arith}
 use Rattle.std.specs.Prelude.{slice_get, map}
 use Rattle.hack_isa.specs.Machine.{Machine}
 use Rattle.hack_isa.specs.Table.{word_of}
@@ -17,13 +17,13 @@ use Rattle.vm_link.specs.Sound.{IsSound}
 use Rattle.hack_blocks.specs.Templates.{size}
 use Rattle.hack_blocks.specs.Budgets.{most_steps}
 use Rattle.hack_blocks.specs.Computer.{Map}
-use Rattle.hack_blocks.specs.Going.{Does, DoesHearing}
+use Rattle.hack_blocks.specs.Going.{Does}
 use Rattle.hack_blocks.specs.Commands.{MayStore}
 use Rattle.hack_blocks.proofs.Block.{within as fewer}
 use Rattle.vm_machine.specs.State.{Frame, State}
 use Rattle.vm_machine.specs.Step.{Outcome, Acts, Strays, Full, Done, act, fitted, ended, code_in, start, on_top, pop, goes, after}
 use Rattle.vm_machine.specs.Step as vm
-use Rattle.vm_machine.specs.Level.{vm_system, vm_cost, cost_of, next_of, is_done, has_heard, state_after}
+use Rattle.vm_machine.specs.Level.{vm_cost, cost_of, next_of, is_done, has_heard, state_after}
 use Rattle.vm_machine.specs.Sound.{AreSoundFrames}
 use Rattle.vm_machine.proofs.Deaf.{key_law}
 use Rattle.vm_machine.proofs.Ends.{end_law}

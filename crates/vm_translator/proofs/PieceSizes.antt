@@ -1,7 +1,5 @@
 -- The sizes of a program's pieces.
-use Rattle.std.proofs.Common.{◌≤◌, ◌+◌, ◌*◌, ℕ, [], ◌∷◌, arith}
-use Rattle.vm_tree.specs.declared.command.Operation.{Operation}
-use Rattle.vm_tree.specs.declared.command.Segment.{Segment}
+use Rattle.std.proofs.Common.{◌≤◌, [], ◌∷◌, arith}
 use Rattle.vm_link.specs.declared.linked.Step.{Step}
 use Rattle.vm_link.specs.declared.linked.Step.TheVariants as step
 use Rattle.hack_blocks.specs.Budgets.{most_words}

@@ -10,9 +10,9 @@ use Rattle.vm_link.specs.declared.linked.Code.{Code}
 use Rattle.vm_link.specs.declared.linked.Step.{Step}
 use Rattle.vm_link.specs.declared.linked.Linked.{Linked}
 use Rattle.vm_link.specs.Sound.{IsSound}
-use Rattle.hack_blocks.specs.Templates.{template, size}
+use Rattle.hack_blocks.specs.Templates.{size}
 use Rattle.hack_blocks.specs.Budgets.{most_steps}
-use Rattle.hack_blocks.specs.Computer.{Stands, hack_system}
+use Rattle.hack_blocks.specs.Computer.{hack_system}
 use Rattle.hack_blocks.specs.Going.{Quiet, Reaches}
 use Rattle.hack_blocks.specs.Own.{IsOwn}
 use Rattle.vm_machine.specs.State.{Frame, State}

@@ -3,7 +3,6 @@ use Rattle.std.proofs.Common.{◌≡◌, ℕ, Option, Some, ◌+◌, ◌≤◌, 
 use Rattle.std.specs.Prelude.{nat_eq, if◌then◌else◌, replicate}
 use Rattle.machine_io.specs.declared.machine.Stray.TheVariants as stray
 use Rattle.vm_tree.specs.declared.command.Operation.{Operation}
-use Rattle.vm_tree.specs.declared.command.Segment.{Segment}
 use Rattle.vm_link.specs.declared.linked.Step.{Step}
 use Rattle.vm_link.specs.declared.linked.Step.TheVariants as step
 use Rattle.vm_link.specs.declared.linked.Linked.{Linked}
