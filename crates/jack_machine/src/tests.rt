@@ -230,6 +230,7 @@ fn difference(alloc: Global) -> Result<Subroutine, AllocError> {
     let x = Part::Name(Variable::Argument(1));
     let value = expression(vec![in alloc; Part::This, x, Part::Binary(Operator::Subtract)]?);
     Ok(Subroutine {
+        name: Name::new(alloc, "Main.get")?,
         kind: Kind::Method,
         class: 0,
         arguments: 2,
