@@ -9,10 +9,11 @@ use Rattle.outer_world.specs.declared.point.Point.{Point}
 use Rattle.vm_link.specs.declared.linked.Linked.{Linked}
 use Rattle.vm_link.specs.declared.linked.Code.{Code}
 use Rattle.vm_link.specs.declared.linked.LinkedFunction.{LinkedFunction}
+use Rattle.hack_blocks.specs.Budgets.{most_words}
 use Rattle.hack_blocks.specs.Templates.{template, start_code, endless_loop, start_size}
 use Rattle.vm_translator.specs.declared.coded.PointRange.{PointRange}
 use Rattle.vm_translator.specs.declared.layout.Placed.{Placed}
-use Rattle.vm_translator.specs.Shapes.{shape_of, step_size, step_budget}
+use Rattle.vm_translator.specs.Shapes.{shape_of, step_size}
 use Rattle.vm_translator.specs.Places.{address_of, base_of, end_of, named, program, target_of}
 
 -- the instructions of a placed step
@@ -88,10 +89,10 @@ points_of l =
     let ranges = merged (start_ranges l ++ map range_of (program l)) in
     if names_end l then stretched (end_of l + 1) ranges else ranges
 
--- The budget by commands: 256 for the start and what is shared, and for each step what it may have.
+-- The budget by commands: 256 for the start and what is shared, and for each step the most words that it may have.
 abbrev pub budget_in : List Code → ℕ
 budget_in [] = 0
-budget_in (c ∷ cs) = step_budget c.step + budget_in cs
+budget_in (c ∷ cs) = most_words c.step + budget_in cs
 
 abbrev pub budget_from : List LinkedFunction → ℕ
 budget_from [] = 0

@@ -5,6 +5,7 @@ ghost use Rattle.hack_blocks.specs.Templates.{endless_loop};
 ghost use Rattle.hack_isa.specs.Table.{word_of};
 ghost use Rattle.vm_link.specs.declared.linked.Linked.{Linked};
 ghost use Rattle.vm_link.specs.Sound.{IsSound};
+ghost use Rattle.vm_translator.specs.Pieces.{PiecesFit};
 ghost use Rattle.vm_translator.specs.Image.{commits_of, image_of, points_of};
 ghost use Rattle.vm_translator.specs.Laws.{AllStepsCarry};
 ghost use Rattle.vm_translator.specs.Mapping.{map_of, Covers};
@@ -23,4 +24,10 @@ pub fn translated_law()
     ensures does { (l : Linked) → IsSound l → l.bare ≡ false → length (image_of l) ≤ image_words
         → IsTranslated l (map word_of (image_of l)) (map_of (commits_of l) (points_of l)) endless_loop }
     ensures covers { (l : Linked) → Covers 0 (points_of l) (length (image_of l)) }
+{}
+
+/// Law: the commands of a compiled program's pieces have at most so many words together.
+#[tactic(auto, using(crate::proofs::PieceSizes::pieces_fit))]
+pub fn pieces_law()
+    ensures { PiecesFit }
 {}

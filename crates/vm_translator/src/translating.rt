@@ -15,8 +15,8 @@ use crate::ends::{base_of, names_end, words};
 use crate::layout::lay_out;
 use crate::map::{commits, points};
 use crate::{CodeFault, Coded};
-use std::alloc::Global;
 use outer_world::List;
+use std::alloc::Global;
 use vm_link::Linked;
 
 /// The code of a linked program and its map. A program that keeps its opening texts has no start code.
