@@ -1,6 +1,7 @@
 -- The table of comp: the text of each computation, with the bit a and the six bits that it has in an instruction. It is read both
 -- ways: an assembler looks for the text, and what writes assembly for the bits. (The book, chapter 4.)
-use Rattle.std.specs.Prelude.{ℕ, Bool, true, false, List, [], ◌∷◌, ◌++◌, Option, Some, None, if◌then◌else◌, codes, nat_eq}
+use Rattle.std.specs.Prelude.{ℕ, Bool, true, false, List, [], ◌∷◌, ◌++◌, Option, Some, None, if◌then◌else◌, codes, nat_eq, unwrap_or}
+use Rattle.std.specs.Option.{option_or}
 use Rattle.std.specs.Str.{bytes_eq}
 use Rattle.hack_asm.specs.declared.token.Letter.{Letter}
 use Rattle.hack_asm.specs.declared.token.Letter.TheVariants.{Zero, One, A, D, M}
@@ -102,12 +103,10 @@ exchanged (comp.Pair x And y) = comp.Pair y And x
 exchanged (comp.Pair x Or y) = comp.Pair y Or x
 exchanged c = c
 
-abbrev pub or_else : Option Row → Option Row → Row
-or_else (Some row) other = row
-or_else None (Some row) = row
-or_else None None = (false, 0)
+-- the row whose text it is, as it is written or with its sides exchanged
+abbrev pub found : Comp → Option Row
+found c = option_or (row_of (spelling c)) (row_of (spelling (exchanged c)))
 
--- What a computation means: the row whose text it is, as it is written or with its sides exchanged. The grammar spells none that has
--- no row.
+-- What a computation means: its row. (Each that a text spells has one, by a law.)
 abbrev pub meaning : Comp → Row
-meaning c = or_else (row_of (spelling c)) (row_of (spelling (exchanged c)))
+meaning c = unwrap_or (found c) (false, 0)

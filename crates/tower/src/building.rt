@@ -11,9 +11,9 @@ ghost use Rattle.tower.specs.declared.building.BuildError.TheVariants.{Memory};
 ghost use Rattle.tower.specs.Built.{IsUnbuilt, map_for, run_program};
 
 use hack_isa::{Instr, encode};
+use outer_world::List;
 use std::alloc::{AllocError, Global};
 use std::marker::Model;
-use outer_world::List;
 use thiserror::Error;
 use vm_link::Linked;
 use vm_translator::{CodeFault, Coded, PointRange, translate};

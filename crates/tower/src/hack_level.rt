@@ -114,23 +114,26 @@ impl HackLevel {
         })
     }
 
-    /// One move: the instruction at the program counter, while `key` is held.
+    /// One move: the instruction at the program counter, while `key` is held. There is always one.
     #[inline(always)]
-    pub fn step(&mut self, key: u16)
+    pub fn step(&mut self, key: u16) -> Moved
         requires { self.old.hack.moves < 2 ^ 63 }
         ensures program { program_in self.new ≡ program_in self.old }
         ensures moves { self.new.hack.moves ≡ self.old.hack.moves + 1 }
         ensures machine { machine_of self.new.hack ≡ step self.old.hack.image key (machine_of self.old.hack) }
+        ensures acts { result ≡ Acted }
         ensures stands { (turns : List Turn) → HasFollowed self.old turns → HasFollowed self.new (turns ++ turn key Acted ∷ []) }
     {
         let commit = self.marks[self.hack.pc() as usize];
-        self.hack.step(key);
+        let answer = self.hack.step(key);
         self.steps = counted(commit, self.steps);
         self.seen = last_seen(self.mapped, self.hack.pc(), self.seen);
+        answer
     }
 }
 
 impl Level for HackLevel {
+    ghost use Rattle.machine_io.specs.declared.machine.Moved.TheVariants.{Acted};
     ghost use Rattle.tower.specs.Mapped.{RunProgram};
 
     type Point = Point;
@@ -145,6 +148,8 @@ impl Level for HackLevel {
 
     ghost at_point = { λ h. h.place };
 
+    ghost reply = { λ _ _. Acted };
+
     ghost sure = { true };
 
     ghost Program = { RunProgram };
@@ -153,8 +158,7 @@ impl Level for HackLevel {
 
     #[inline(always)]
     fn step(&mut self, key: u16) -> Result<Moved, AllocError> {
-        HackLevel::step(self, key);
-        Ok(Moved::Acted)
+        Ok(HackLevel::step(self, key))
     }
 
     fn moves(&self) -> u64 {
