@@ -15,6 +15,7 @@ use crate::ends::{base_of, names_end, words};
 use crate::layout::lay_out;
 use crate::map::{commits, points};
 use crate::{CodeFault, Coded};
+use hack_isa::IMAGE_WORDS;
 use outer_world::List;
 use std::alloc::Global;
 use vm_link::Linked;
@@ -35,7 +36,7 @@ pub fn translate(alloc: Global, linked: &Linked, bare: bool) -> Result<Coded, Co
 {
     let ends = names_end(linked);
     let words = words(linked, ends);
-    if words > 32768 {
+    if words > IMAGE_WORDS as u64 {
         return Err(CodeFault::TooLarge(words));
     }
     let layout = lay_out(alloc, linked.functions.as_slice(), base_of(bare))?;
