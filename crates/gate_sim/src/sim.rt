@@ -12,8 +12,8 @@ ghost use Rattle.gate_sim.specs.Cycles.{CyclesLaw, StartLaw};
 ghost use Rattle.gate_sim.specs.Stands.{Keeps, IsFresh, StandsFor};
 
 use netlist::{
-    BlockWrite, FlipFlop, Netlist, fix_states, fix_writes, flip_flops, put_all, store, sweep,
-    take_states, zeros,
+    BlockWrite, FlipFlop, Netlist, Run, fix_states, fix_writes, flip_flops, put_all, runs_of,
+    store, sweep_runs, take_states, zeros,
 };
 use std::alloc::{AllocError, Global};
 use std::marker::Model;
@@ -23,6 +23,7 @@ use std::marker::Model;
 #[derive(Drop)]
 pub struct Sim {
     net: Netlist,
+    runs: Vec<Run>,
     flip_flops: Vec<FlipFlop>,
     start: Vec<bool>,
     values: Vec<bool>,
@@ -40,7 +41,7 @@ impl Model for Sim {
 
     ghost view = { λ sim. record { net = sim.net; start = sim.start.items; values = sim.values.items; fixed = sim.fixed.items; writes = sim.writes.items; memory = sim.memory.items; fresh = sim.fresh } };
 
-    ghost invariant = { λ sim. SimFits sim.net sim.flip_flops.items sim.start.items sim.values.items sim.fixed.items sim.writes.items sim.memory.items };
+    ghost invariant = { λ sim. SimFits sim.net sim.runs.items sim.flip_flops.items sim.start.items sim.values.items sim.fixed.items sim.writes.items sim.memory.items };
 }
 
 fn all_false(alloc: Global, n: usize) -> Result<Vec<bool>, AllocError>
@@ -64,6 +65,7 @@ impl Sim {
         ensures stands { IfOk result (λ sim. StandsFor sim []) }
     {
         let n = net.nodes().len();
+        let runs = runs_of(alloc, net.nodes())?;
         let flip_flops = flip_flops(alloc, net.nodes())?;
         let start = all_false(alloc, n)?;
         let values = all_false(alloc, n)?;
@@ -72,6 +74,7 @@ impl Sim {
         let memory = zeros(alloc, net.blocks())?;
         Ok(Sim {
             net,
+            runs,
             flip_flops,
             start,
             values,
@@ -110,9 +113,10 @@ impl Sim {
         ensures values { (calls : List Call) → Keeps self.old calls → (self.old.fresh ≡ true → IsFresh self.old calls) → IsFresh self.new calls }
     {
         if !self.fresh {
-            sweep(
+            sweep_runs(
                 self.net.nodes(),
                 self.net.blocks(),
+                &self.runs,
                 &self.start,
                 &self.memory,
                 &mut self.values,

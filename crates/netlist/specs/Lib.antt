@@ -3,6 +3,7 @@ pub mod Fault
 pub mod Net
 pub mod Value
 pub mod Present
+pub mod Runs
 pub mod Words
 pub mod Steps
 pub mod Histories

@@ -11,6 +11,8 @@ mod memory;
 mod net;
 mod node;
 mod order;
+mod run_sweep;
+mod runs;
 mod step;
 mod value;
 
@@ -19,5 +21,7 @@ pub use fault::NetFault;
 pub use memory::{put, put_all, zeros};
 pub use net::Netlist;
 pub use node::{Block, Node};
+pub use run_sweep::sweep_runs;
+pub use runs::{Kind, Run, runs_of};
 pub use step::{BlockWrite, FlipFlop, fix_states, fix_writes, flip_flops, store, take_states};
 pub use value::History;

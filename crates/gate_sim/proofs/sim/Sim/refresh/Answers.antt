@@ -14,8 +14,8 @@ pub returns-then-not-self-clause-values : goal.returns-then-not-self-clause-valu
 returns-then-not-self-clause-values c calls keeps fresh v are k less =
     let kept = subst (λ s. Keeps s calls) (sym c.self.view_is) keeps in
     let row = present_row _ calls v kept are in
-    let cut = take_at c.sweep.new.values _ _ (omega arith) in
-    ap (λ l. value_in l k) cut ∙ c.sweep.ensures (λ i. v i (cycle_of calls)) (rw (c.nodes.ensures.value, c.blocks-then-not-self.ensures.value, c.deref.ensures.value, c.deref-then-not-self.ensures.value) row) k (rw c.nodes.ensures.value less)
+    let cut = take_at c.sweep_runs.new.values _ _ (omega arith) in
+    ap (λ l. value_in l k) cut ∙ c.sweep_runs.ensures (λ i. v i (cycle_of calls)) (rw (c.nodes.ensures.value, c.blocks-then-not-self.ensures.value, c.deref-then-not-self.ensures.value, c.deref-then-not-self-2.ensures.value) row) k (rw c.nodes.ensures.value less)
 
 pub returns-else-not-self-clause-values : goal.returns-else-not-self-clause-values
 returns-else-not-self-clause-values c calls keeps fresh = fresh (subst (λ s. s.fresh ≡ true) c.self.view_is c.if-not-self.false)
