@@ -53,5 +53,5 @@ quoted_ascii bs text n begun run lt close e =
     let fits : 1 + n < length bs = omega (arith, lt) in
     let last : slice_index bs (1 + n) ≡ 34 = ap (slice_index bs) (let q : 1 + n ≡ n + 1 = omega arith in q) ∙ close in
     let whole : text ≡ (take 1 bs ++ front is_text_byte (drop 1 bs)) ++ slice_index bs (1 + n) ∷ [] =
-        e ∙ ap (λ (k : ℕ). take k bs) same ∙ take_more bs (1 + n) 0 fits ∙ ap (λ (xs : List ℕ). xs ++ slice_index bs (1 + n) ∷ []) (take-add 1 n bs ∙ ap (λ (xs : List ℕ). take 1 bs ++ xs) inside) in
+    e ∙ ap (λ (k : ℕ). take k bs) same ∙ take_more bs (1 + n) 0 fits ∙ ap (λ (xs : List ℕ). xs ++ slice_index bs (1 + n) ∷ []) (take-add 1 n bs ∙ ap (λ (xs : List ℕ). take 1 bs ++ xs) inside) in
     subst IsAscii (sym whole) (IsAscii-append _ _ (IsAscii-append _ _ (first_ascii bs begun) (front_ascii is_text_byte text_byte_small (drop 1 bs))) (one_ascii _ last))
