@@ -1,0 +1,10 @@
+pub mod Order
+pub mod Fault
+pub mod Net
+pub mod Value
+pub mod Present
+pub mod Runs
+pub mod Words
+pub mod Steps
+pub mod Histories
+pub mod Inner
