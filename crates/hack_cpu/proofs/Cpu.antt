@@ -15,7 +15,6 @@ use Rattle.chip_basic.proofs.Gates.{not_works, and_works, or_works}
 use Rattle.chip_basic.proofs.Numbers.{number_same, number_below}
 use Rattle.chip_basic.proofs.Words.{mux16_works}
 use Rattle.chip_alu.specs.Trees.{alu_tree}
-use Rattle.chip_alu.specs.Laws.{AluWorks}
 use Rattle.chip_alu.proofs.Alu.{alu_works}
 use Rattle.chip_memory.specs.Trees.{a_register_tree, d_register_tree, pc_tree}
 use Rattle.chip_memory.proofs.Registers.{a_register_works, d_register_works}

@@ -1,5 +1,5 @@
 -- One cycle is one step.
-use Rattle.std.proofs.Common.{◌≡◌, ℕ, zero, suc, ◌+◌, ◌<◌, ◌%◌, Bool, true, false, cond, eqb, ltb, List, [], ◌∷◌, refl, sym, ap, ap₂, ◌∙◌, arith, lit<}
+use Rattle.std.proofs.Common.{◌≡◌, ℕ, zero, suc, ◌+◌, ◌<◌, ◌%◌, Bool, true, false, cond, eqb, ltb, List, [], ◌∷◌, refl, sym, ap, ◌∙◌, arith, lit<}
 use Rattle.std.specs.Prelude.{not, ◌&&◌, ◌||◌, codes, slice_index}
 use Rattle.std.proofs.lemmas.Bool.{ltb-true}
 use Rattle.hack_isa.specs.Table.{instr_of}
@@ -11,9 +11,9 @@ use Rattle.hdl_tree.specs.Behaviour.{Histories, World, IsBehaviour}
 use Rattle.chip_basic.specs.Hdl.{shipped}
 use Rattle.chip_basic.specs.Laws.{word}
 use Rattle.chip_basic.proofs.Inside.{part_of, whole_joined}
-use Rattle.chip_basic.proofs.Numbers.{number_same, number_below}
+use Rattle.chip_basic.proofs.Numbers.{number_same}
 use Rattle.hack_cpu.specs.Trees.{HasComputerChips, cpu_tree, memory_tree, rom_tree, computer_tree}
-use Rattle.hack_cpu.specs.Cpu.{CpuWorks, a_held, d_held, pc_held, op, result, jumps_on}
+use Rattle.hack_cpu.specs.Cpu.{CpuWorks, a_held, d_held, pc_held, op, result}
 use Rattle.hack_cpu.specs.Computer.{of_blocks, outside, Shows, word_at}
 use Rattle.hack_cpu.proofs.Cpu.{cpu_works, same_alu}
 use Rattle.hack_cpu.proofs.Memory.{memory_word, memory_next, memory_reads}

@@ -1,12 +1,11 @@
 -- A step of the instruction machine, by the bits of the instruction's word.
-use Rattle.std.proofs.Common.{◌≡◌, ◌≢◌, ℕ, ◌+◌, ◌<◌, ◌≤◌, ◌/◌, ◌%◌, Bool, true, false, cond, eqb, ltb, List, refl, sym, ap, ap₂, ◌∙◌, arith, lit<, eqb-true}
-use Rattle.std.proofs.lemmas.Bool.{lt-ltb, ltb-true, ltb-false}
+use Rattle.std.proofs.Common.{◌≡◌, ℕ, ◌+◌, ◌<◌, ◌/◌, ◌%◌, Bool, true, false, cond, eqb, ltb, refl, ap, ap₂, ◌∙◌, arith, lit<, eqb-true}
+use Rattle.std.proofs.lemmas.Bool.{lt-ltb, ltb-true}
 use Rattle.std.proofs.lemmas.Bool.Decides.{nat_tests}
-use Rattle.std.specs.Prelude.{not, ◌&&◌, ◌||◌, slice_index}
+use Rattle.std.specs.Prelude.{not, ◌&&◌, ◌||◌}
 use Rattle.word16.specs.Words.{has_bit}
 use Rattle.hack_isa.specs.Table.{preset, combine, alu_out, instr_of}
-use Rattle.hack_isa.specs.Machine.{Machine, read, write, jumps, perform, fetch, step}
-use Rattle.hack_isa.specs.declared.Instr.{Instr}
+use Rattle.hack_isa.specs.Machine.{Machine, read, write, jumps, perform}
 use Rattle.hack_isa.specs.declared.Instr.TheVariants.{Address, Compute}
 use Rattle.hdl_tree.specs.Memory.{number}
 use Rattle.chip_basic.proofs.Numbers.{digit, bit_of_number, number_below}

@@ -1,8 +1,8 @@
 -- One cycle of the Computer is one step of the instruction machine. (The book, chapters 4 and 5.)
-use Rattle.std.specs.Prelude.{◌≡◌, ℕ, ◌-◌, ◌<◌, nat_lt, true, false, if◌then◌else◌, List, [], ◌∷◌, codes, slice_index}
+use Rattle.std.specs.Prelude.{◌≡◌, ℕ, ◌-◌, ◌<◌, nat_lt, true, false, if◌then◌else◌, List, [], ◌∷◌, slice_index}
 use Rattle.hack_isa.specs.Machine.{Machine, machine_at}
 use Rattle.hdl_tree.specs.declared.library.Entry.{Entry}
-use Rattle.hdl_tree.specs.Memory.{number, held}
+use Rattle.hdl_tree.specs.Memory.{held}
 use Rattle.hdl_tree.specs.Chips.{Chips}
 use Rattle.hdl_tree.specs.Behaviour.{Histories, World, IsBehaviour}
 use Rattle.chip_basic.specs.Hdl.{shipped}
