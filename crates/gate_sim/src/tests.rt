@@ -1,8 +1,14 @@
 //! Small netlists.
 
+ghost use Rattle.std.specs.Prelude.{◌≡◌, ◌<◌, ℕ, [], ◌∷◌, length, IfOk, Some, slice_get, MatchOption};
+ghost use Rattle.std.specs.List.{All};
+ghost use Rattle.netlist.specs.declared.node.Node.TheVariants.{Pin, Nand, Flip, Word};
+ghost use Rattle.netlist.specs.Histories.{HasBits};
+
 use crate::Sim;
 use hdl_tree::List;
-use netlist::{Block, NetFault, Netlist, Node};
+use netlist::{Block, History, NetFault, Netlist, Node};
+use std::alloc::{AllocError, Global};
 use std::test::Fail;
 
 #[test]
@@ -36,20 +42,25 @@ fn two_nands(rt: HostRuntime) -> Result<(), Fail> {
     Ok(())
 }
 
-// A word of two bits at an address of one bit: pins 0 and 1 are its word in, 2 its load, 3 its address.
-#[test]
-fn words(rt: HostRuntime) -> Result<(), Fail> {
-    let nodes = vec![in rt.alloc();
+// Pins 0 and 1 are the word that comes into a block of two words, pin 2 is its load and pin 3 its address. Nodes 4 and 5 are the bits of
+// its word, 6 is a flip-flop, and 7, its input, is a Nand.
+fn mixed(alloc: Global) -> Result<Result<Netlist, NetFault>, AllocError>
+    ensures nodes { IfOk result (λ made. IfOk made (λ net. net.nodes ≡ Pin ∷ Pin ∷ Pin ∷ Pin ∷ Word 0 0 ∷ Word 0 1 ∷ Flip 7 ∷ Nand 4 6 ∷ [])) }
+    ensures blocks { IfOk result (λ made. IfOk made (λ net. MatchOption (slice_get net.blocks 0) ⊥ (λ b. b.words ≡ 2))) }
+{
+    let nodes = vec![in alloc;
         Node::Pin,
         Node::Pin,
         Node::Pin,
         Node::Pin,
         Node::Word { block: 0, bit: 0 },
         Node::Word { block: 0, bit: 1 },
+        Node::Flip(7),
+        Node::Nand(4, 6),
     ]?;
-    let data = vec![in rt.alloc(); 0, 1]?;
-    let address = vec![in rt.alloc(); 3]?;
-    let blocks = vec![in rt.alloc();
+    let data = vec![in alloc; 0, 1]?;
+    let address = vec![in alloc; 3]?;
+    let blocks = vec![in alloc;
         Block {
             words: 2,
             data: List::of(data),
@@ -57,7 +68,123 @@ fn words(rt: HostRuntime) -> Result<(), Fail> {
             address: List::of(address),
         },
     ]?;
-    match Netlist::new(List::of(nodes), blocks) {
+    Ok(Netlist::new(List::of(nodes), List::of(blocks)))
+}
+
+// The pins of cycle `c`.
+fn pins_in(c: u64) -> (bool, bool, bool, bool) {
+    (c % 5 < 2, c / 2 % 2 == 1, c % 3 != 0, c % 4 < 2)
+}
+
+fn bits_in(alloc: Global, c: u64) -> Result<List<bool>, AllocError>
+    ensures { IfOk result (λ bits. length bits ≡ 4) }
+{
+    let (first, second, load, address) = pins_in(c);
+    let bits = vec![in alloc; first, second, load, address]?;
+    Ok(List::of(bits))
+}
+
+fn bits_in_each(alloc: Global) -> Result<List<List<bool>>, AllocError>
+    ensures cycles { IfOk result (λ pins. length pins ≡ 20) }
+    ensures bits { IfOk result (λ pins. All (λ bits. length bits ≡ 4) pins) }
+{
+    let mut pins = List::new(alloc);
+    for c in 0..20 {
+        pins.push(bits_in(alloc, c)?)?;
+    }
+    Ok(pins)
+}
+
+// Of the words that are loaded at an address the last counts, and one past the words of the block is none.
+fn history(alloc: Global) -> Result<History, AllocError>
+    ensures cycles { IfOk result (λ history. length history.pins ≡ 20) }
+    ensures bits { IfOk result (λ history. All (λ bits. length bits ≡ 4) history.pins) }
+{
+    let pins = bits_in_each(alloc)?;
+    let loads = vec![in alloc; (0, 1, 1), (0, 1, 2), (0, 2, 3)]?;
+    Ok(History {
+        pins,
+        loads: List::of(loads),
+    })
+}
+
+fn set_pins(sim: &mut Sim, c: u64)
+    requires first { slice_get sim.old.net.nodes 0 ≡ Some Pin }
+    requires second { slice_get sim.old.net.nodes 1 ≡ Some Pin }
+    requires load { slice_get sim.old.net.nodes 2 ≡ Some Pin }
+    requires address { slice_get sim.old.net.nodes 3 ≡ Some Pin }
+    ensures { sim.new.net ≡ sim.old.net }
+{
+    let (first, second, load, address) = pins_in(c);
+    sim.set(0, first);
+    sim.set(1, second);
+    sim.set(2, load);
+    sim.set(3, address);
+}
+
+// Whether each node has its value of cycle `c`.
+fn agrees(
+    alloc: Global,
+    sim: &Sim,
+    net: &Netlist,
+    history: &History,
+    c: u64,
+) -> Result<bool, AllocError>
+    requires sim { length sim.now.net.nodes ≡ 8 }
+    requires net { length net.now.nodes ≡ 8 }
+    requires cycle { c < length history.now.pins }
+    requires bits { HasBits net.now.nodes history.now.pins }
+{
+    for node in 0..8 {
+        if sim.get(node) != net.value(alloc, history, node, c)? {
+            return Ok(false);
+        }
+    }
+    Ok(true)
+}
+
+// Whether each node has its values of all cycles.
+fn agrees_always(
+    alloc: Global,
+    sim: &mut Sim,
+    net: &Netlist,
+    history: &History,
+) -> Result<bool, AllocError>
+    requires sim { sim.old.net.nodes ≡ Pin ∷ Pin ∷ Pin ∷ Pin ∷ Word 0 0 ∷ Word 0 1 ∷ Flip 7 ∷ Nand 4 6 ∷ [] }
+    requires net { length net.now.nodes ≡ 8 }
+    requires cycles { length history.now.pins ≡ 20 }
+    requires bits { HasBits net.now.nodes history.now.pins }
+{
+    for c in 0..20 {
+        set_pins(sim, c);
+        sim.eval();
+        if !agrees(alloc, sim, net, history, c)? {
+            return Ok(false);
+        }
+        sim.cycle();
+    }
+    Ok(true)
+}
+
+#[test]
+fn twenty_cycles(rt: HostRuntime) -> Result<(), Fail> {
+    let alloc = rt.alloc();
+    let history = history(alloc)?;
+    match (mixed(alloc)?, mixed(alloc)?) {
+        (Ok(net), Ok(other)) => {
+            let mut sim = Sim::new(alloc, other)?;
+            sim.load_block(0, 1, &[2]);
+            assert!(rt; agrees_always(alloc, &mut sim, &net, &history)?);
+        }
+        _ => assert!(rt; false),
+    }
+    Ok(())
+}
+
+// A word of two bits at an address of one bit.
+#[test]
+fn words(rt: HostRuntime) -> Result<(), Fail> {
+    match mixed(rt.alloc())? {
         Err(_) => assert!(rt; false),
         Ok(net) => {
             let mut sim = Sim::new(rt.alloc(), net)?;
