@@ -14,7 +14,8 @@ use Rattle.hack_asm.specs.declared.lines.Compute.{Compute}
 use Rattle.hack_asm.specs.Tokens.{Word, made, is_open, tokens_of, finish}
 use Rattle.hack_asm.specs.Assembly as assembly
 use Rattle.hack_asm.specs.Lines.{line_tree, lines_tree}
-use Rattle.hack_asm.specs.Written.{IsSpelled, AreSpelled, WrittenMeans, destinations, jumps, comp_text, text_in, instr_text, asm_text}
+use Rattle.hack_asm.specs.Comps.{comp_text, text_in}
+use Rattle.hack_asm.specs.Written.{IsSpelled, AreSpelled, WrittenMeans, destinations, jumps, instr_text, asm_text}
 use Rattle.hack_asm.proofs.Entered.{skip, entered}
 use Rattle.hack_asm.proofs.Letters.{R}
 use Rattle.hack_asm.proofs.WrittenText.{the_cut, token_cut, line_end_token, line_end_cut, sign_token, number_cut}
@@ -106,7 +107,7 @@ module _ (m : Bool) (comp dest jump : ℕ) (c : Computes m comp (comp_text m com
         let b = c.short in
         let e = j.short in
         omega (arith, a, b, e, length-append (text_in destinations dest) (comp_text m comp ++ (text_in jumps jump ++ 10 ∷ [])), length-append (comp_text m comp) (text_in jumps jump ++ 10 ∷ []), length-append (text_in jumps jump) (10 ∷ []));
-    word = λ i. word_of (instr.Compute (c.memory_is i) (c.bits_are i) (d.bits_are i) (j.bits_are i));
+    word = λ i. word_of (instr.Compute (c.row_is i).0 (c.row_is i).1 (d.bits_are i) (j.bits_are i));
   }
 
 lined : (i : Instr) → IsSpelled i → Lined i

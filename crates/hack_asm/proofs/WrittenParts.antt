@@ -21,11 +21,12 @@ use Rattle.hack_asm.specs.declared.words.Before.{Before}
 use Rattle.hack_asm.specs.declared.words.Before.TheVariants.{Sum, Join}
 use Rattle.hack_asm.specs.Roles.{role_of}
 use Rattle.hack_asm.specs.Tokens.{Word, made, word_of, piece}
-use Rattle.hack_asm.specs.Assembly.{Said, Letter', is_m, is_sign, is_line_end, jump_role, role_said, is_register, is_not_zero, some_letter, maybe_operation, after_letter, unary, comp, operation, assigned, jump}
+use Rattle.hack_asm.specs.Assembly.{Said, Letter', is_sign, is_line_end, jump_role, role_said, is_register, is_not_zero, some_letter, maybe_operation, after_letter, unary, comp, operation, assigned, jump}
 use Rattle.hack_asm.specs.Lines.{comp_tree, unary_tree, assigned_tree, operation_tree, jump_tree}
 use Rattle.hack_asm.specs.Before.{letter_next, operator_next, operator_by, assigns_next, several_next, several_by, suits}
-use Rattle.hack_asm.specs.Program.{plain, alone_bits, under_bits, pair_bits, comp_bits, has_memory, register_bit, dest_bits, jump_bits}
-use Rattle.hack_asm.specs.Written.{Texts, computations, memory_computations, destinations, jumps, entry, or_nothing, text_in, comp_table, comp_text}
+use Rattle.hack_asm.specs.Comps.{Texts, computations, memory_computations, entry, or_nothing, text_in, comp_table, comp_text, meaning}
+use Rattle.hack_asm.specs.Program.{register_bit, dest_bits, jump_bits}
+use Rattle.hack_asm.specs.Written.{destinations, jumps}
 use Rattle.hack_asm.proofs.Entered.{skip}
 use Rattle.hack_asm.proofs.Letters.{R, with_letter, without_letter, operates, operator_enters, no_operator, to_register, operated_after, none_after, several_assigned, bare_assigned}
 use Rattle.hack_asm.proofs.WrittenText.{the_cut, token_cut, line_end_token, Apart, letter_byte, letter_token, letter_cut, sign_token, operator_byte, operator_cut, operator_apart}
@@ -51,8 +52,7 @@ pub record Computes (m : Bool) (bits : ℕ) (text : List ℕ) : Type 0 where
   pub after : (end at : Place) (us : List Word) → Shut us → R end comp (tokens at us) (comp_tree spelled) us
   pub begins : (at : Place) (us : List Word) → Begins (tokens at us)
   pub short : length text ≤ 3
-  pub bits_are : comp_bits spelled ≡ bits
-  pub memory_is : has_memory spelled ≡ m
+  pub row_is : meaning spelled ≡ (m, bits)
 
 letter_comes : (x : Letter) (at : Place) (us : List Word) → letter_next (letter_token x at ∷ us) ≡ Some (x, us)
 letter_comes Zero at us = refl
@@ -91,7 +91,7 @@ no_equals D t ts h = ap (λ (b : Bool). cond b (Some ts) None) h
 no_equals M t ts h = ap (λ (b : Bool). cond b (Some ts) None) h
 
 -- a letter alone
-alone : (x : Letter) → Computes (is_m x) (alone_bits (plain x)) (letter_byte x ∷ [])
+alone : (x : Letter) → Computes (meaning (comps.Alone x)).0 (meaning (comps.Alone x)).1 (letter_byte x ∷ [])
 alone x = record {
   spelled = comps.Alone x;
   tokens = λ at ts. letter_token x at ∷ ts;
@@ -100,8 +100,7 @@ alone x = record {
   after = λ end at us s. with_letter end maybe_operation unary (letter_comes x at us) (passed (no_operator end x us (s.operators x)));
   begins = λ at us. letter_begins x at us;
   short = omega arith;
-  bits_are = refl;
-  memory_is = refl;
+  row_is = refl;
 }
 
 operator_comes : (x : Letter) (op : Operator) (b : Before) (at : Place) (us : List Word) → operator_by x (role.Operator op) us ≡ Some (op, b, us) → operator_next x (sign_token (operator_byte op) at ∷ us) ≡ Some (op, b, us)
@@ -130,7 +129,7 @@ operation_reads : (x : Letter) (op : Operator) (y : Letter) (b : Before) → ((u
 operation_reads x op y b h s end at us =
     operates end x op b _ (letter_token y (third_at x op at) ∷ us) us y (operator_comes x op b (second_at x at) (letter_token y (third_at x op at) ∷ us) (h _)) (letter_reads (suits b) y end (third_at x op at) us s)
 
-pair : (x : Letter) (op : Operator) (y : Letter) (b : Before) → ((us : List Word) → operator_by x (role.Operator op) us ≡ Some (op, b, us)) → suits b y ≡ true → Computes (has_memory (comps.Pair x op y)) (pair_bits (plain x) op (plain y)) (letter_byte x ∷ operator_byte op ∷ letter_byte y ∷ [])
+pair : (x : Letter) (op : Operator) (y : Letter) (b : Before) → ((us : List Word) → operator_by x (role.Operator op) us ≡ Some (op, b, us)) → suits b y ≡ true → Computes (meaning (comps.Pair x op y)).0 (meaning (comps.Pair x op y)).1 (letter_byte x ∷ operator_byte op ∷ letter_byte y ∷ [])
 pair x op y b h s = record {
   spelled = comps.Pair x op y;
   tokens = λ at ts. letter_token x at ∷ behind_first x op y at ts;
@@ -142,8 +141,7 @@ pair x op y b h s = record {
   after = λ end at us t. with_letter end maybe_operation unary (letter_comes x at _) (taken (operator_enters end x op b (behind_first x op y at us) _ (operator_comes x op b (second_at x at) (letter_token y (third_at x op at) ∷ us) (h _))) (operation_reads x op y b h s end at us));
   begins = λ at us. letter_begins x at _;
   short = omega arith;
-  bits_are = refl;
-  memory_is = refl;
+  row_is = refl;
 }
 
 -- a letter behind `-` or `!`
@@ -175,7 +173,7 @@ unary_reads : (p : Prefix) (y : Letter) (end at next_at : Place) (us : List Word
 unary_reads prefix.Minus y end at next_at us h = left refl (both (marked refl) (letter_reads is_not_zero y end next_at us h))
 unary_reads prefix.Not y end at next_at us h = skip refl refl (both (marked refl) (letter_reads is_register y end next_at us h))
 
-under : (p : Prefix) (y : Letter) → may_follow p y ≡ true → Computes (is_m y) (under_bits p (plain y)) (prefix_byte p ∷ letter_byte y ∷ [])
+under : (p : Prefix) (y : Letter) → may_follow p y ≡ true → Computes (meaning (comps.Under p y)).0 (meaning (comps.Under p y)).1 (prefix_byte p ∷ letter_byte y ∷ [])
 under p y h = record {
   spelled = comps.Under p y;
   tokens = λ at ts. sign_token (prefix_byte p) at ∷ letter_token y (walk at (prefix_byte p ∷ [])) ∷ ts;
@@ -186,8 +184,7 @@ under p y h = record {
   after = λ end at us s. without_letter end maybe_operation unary (prefix_no_letter p at _) refl (unary_reads p y end at _ us h);
   begins = λ at us. prefix_begins p at _;
   short = omega arith;
-  bits_are = refl;
-  memory_is = refl;
+  row_is = refl;
 }
 
 -- this holds of each row of a table

@@ -1,6 +1,7 @@
 -- The grammar of `.hack` texts: a word or nothing on a line, a word as its sixteen binary digits, the highest first. (The book,
 -- chapter 6: the file that an assembler writes.)
 use Rattle.std.specs.Prelude.{◌≡◌, ℕ, ◌+◌, ◌<◌, ◌≤◌, Bool, true, false, List, [], ◌∷◌, Option, Some, None, Result, Ok, Err, ◌||◌, if◌then◌else◌, length, nat_lt, ◌⊎◌}
+use Rattle.hack_isa.specs.Machine.{image_words}
 use Rattle.scan_text.specs.declared.Place.{Place}
 use Rattle.grammar.specs.declared.Fault.{Fault}
 use Rattle.grammar.specs.Rules.{Rule, mark, word, seq, choice, repeat, end, Tree, Skip, Leaf, Pair, Left, Right, NoMore, Rules, listed}
@@ -125,7 +126,7 @@ words_of (l ∷ ls) = with_line l (words_of ls)
 
 -- an image has at most 32,768 words
 abbrev pub limited : List ℕ → Result (List ℕ) Wrong
-limited ws = if nat_lt 32768 (length ws) then Err (TooLarge (length ws)) else Ok ws
+limited ws = if nat_lt image_words (length ws) then Err (TooLarge (length ws)) else Ok ws
 
 -- The text holds these words, `Ok ws`, or is refused for this, `Err w`: it spells lines, whose words are an image or too many, or it
 -- spells none, and has a first fault of its own.
@@ -153,7 +154,7 @@ AreWords [] = Unit {0}
 AreWords (w ∷ ws) = (w < 65536) × AreWords ws
 
 abbrev pub ImagesReadBack : Type 0
-ImagesReadBack = (ws : List ℕ) → AreWords ws → length ws ≤ 32768 → Holds (image_text ws) (Ok ws)
+ImagesReadBack = (ws : List ℕ) → AreWords ws → length ws ≤ image_words → Holds (image_text ws) (Ok ws)
 
 -- The law of reading: a text holds at most one list of words, or is refused for at most one thing, and not both.
 abbrev pub ReadingLaw : Type 0

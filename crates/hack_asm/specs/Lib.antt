@@ -5,6 +5,7 @@ pub mod Lines
 pub mod Before
 pub mod Rest
 pub mod Faults
+pub mod Comps
 pub mod Program
 pub mod Entered
 pub mod Steps
@@ -13,3 +14,4 @@ pub mod Image
 pub mod HackTokens
 pub mod HackText
 pub mod Written
+pub mod Inner

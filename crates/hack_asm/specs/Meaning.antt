@@ -1,8 +1,10 @@
 -- What an assembly text means.
-use Rattle.std.specs.Prelude.{◌≡◌, ℕ, List, Option, Some, None, Result, Ok, Err, ◌⊎◌}
+use Rattle.std.specs.Prelude.{◌≡◌, ℕ, true, List, Option, Some, None, Result, Ok, Err, ◌⊎◌, is_some}
+use Rattle.std.specs.List.{AllByRecursion}
 use Rattle.grammar.specs.declared.Fault.{Fault}
 use Rattle.hack_asm.specs.declared.fault.AsmFault.{AsmFault}
-use Rattle.hack_asm.specs.Lines.{Line, Spells, Refuses}
+use Rattle.hack_asm.specs.Comps.{found}
+use Rattle.hack_asm.specs.Lines.{Line, compute, Spells, Refuses}
 use Rattle.hack_asm.specs.Faults.{Wrong, wrong, wrong_of}
 use Rattle.hack_asm.specs.Program.{program}
 
@@ -29,3 +31,11 @@ MeansOf view text (Err e) = IsRefusal text e
 -- The law of reading: a text means at most one list of words, or is refused for at most one thing, and not both.
 abbrev pub ReadingLaw : Type 0
 ReadingLaw = (text : List ℕ) (r q : Result (List ℕ) Wrong) → Means text r → Means text q → r ≡ q
+
+-- The law of computations: each that a text spells has a row of the table of comp.
+abbrev pub HasRow : Line → Type 0
+HasRow (Some (compute c)) = is_some (found c.comp) ≡ true
+HasRow _ = Unit {0}
+
+abbrev pub CompsHaveRows : Type 0
+CompsHaveRows = (text : List ℕ) (ls : List Line) → Spells text ls → AllByRecursion HasRow ls

@@ -1,82 +1,22 @@
 -- What the lines of an assembly text mean: symbols have their addresses, and each instruction is a word. (The book, chapter 6: the
 -- first pass enters the labels into a table of symbols, the second one the variables.)
-use Rattle.std.specs.Prelude.{ℕ, ◌+◌, ◌-◌, ◌%◌, Bool, true, false, List, [], ◌∷◌, ◌++◌, Option, Some, None, Result, Ok, Err, if◌then◌else◌, codes, length, nat_lt, nat_eq, ◌||◌, is_some}
+use Rattle.std.specs.Prelude.{ℕ, ◌+◌, ◌-◌, ◌%◌, Bool, true, false, List, [], ◌∷◌, ◌++◌, Option, Some, None, Result, Ok, Err, if◌then◌else◌, codes, length, nat_lt, nat_eq, is_some}
 use Rattle.std.specs.Str.{bytes_eq}
+use Rattle.hack_isa.specs.Machine.{image_words}
+use Rattle.word16.specs.Memory.{screen, keyboard}
 use Rattle.scan_text.specs.declared.Place.{Place}
 use Rattle.hack_isa.specs.Table.{word_of}
 use Rattle.hack_isa.specs.declared.Instr.TheVariants as instr
 use Rattle.hack_asm.specs.declared.token.Letter.{Letter}
-use Rattle.hack_asm.specs.declared.token.Letter.TheVariants.{Zero, One, A, D, M}
-use Rattle.hack_asm.specs.declared.token.Operator.{Operator}
-use Rattle.hack_asm.specs.declared.token.Operator.TheVariants.{Plus, Minus, And, Or}
-use Rattle.hack_asm.specs.declared.lines.Prefix.{Prefix}
-use Rattle.hack_asm.specs.declared.lines.Prefix.TheVariants as prefix
-use Rattle.hack_asm.specs.declared.lines.Comp.{Comp}
-use Rattle.hack_asm.specs.declared.lines.Comp.TheVariants as comp
+use Rattle.hack_asm.specs.declared.token.Letter.TheVariants.{A, D, M}
 use Rattle.hack_asm.specs.declared.lines.Dest.{Dest}
 use Rattle.hack_asm.specs.declared.lines.Dest.TheVariants as dest
 use Rattle.hack_asm.specs.declared.lines.Compute.{Compute}
-use Rattle.hack_asm.specs.Assembly.{is_m}
+use Rattle.hack_asm.specs.Comps.{meaning}
 use Rattle.hack_asm.specs.Faults.{Wrong, Range, LabelTwice, TooLarge, TooManyVariables}
 use Rattle.hack_asm.specs.Lines.{Line, Symbol, number, symbol, label, address, compute}
 
--- The word of a computation (the book's table of comp, chapter 4)
-
--- M stands for A, with the bit a
-abbrev pub plain : Letter → Letter
-plain Zero = Zero
-plain One = One
-plain A = A
-plain D = D
-plain M = A
-
-abbrev pub alone_bits : Letter → ℕ
-alone_bits Zero = 0b101010
-alone_bits One = 0b111111
-alone_bits D = 0b001100
-alone_bits A = 0b110000
-alone_bits M = 0
-
-abbrev pub under_bits : Prefix → Letter → ℕ
-under_bits prefix.Minus One = 0b111010
-under_bits prefix.Minus D = 0b001111
-under_bits prefix.Minus A = 0b110011
-under_bits prefix.Not D = 0b001101
-under_bits prefix.Not A = 0b110001
-under_bits _ _ = 0
-
-abbrev pub sum_bits : Letter → Letter → ℕ
-sum_bits D One = 0b011111
-sum_bits One D = 0b011111
-sum_bits A One = 0b110111
-sum_bits One A = 0b110111
-sum_bits D A = 0b000010
-sum_bits A D = 0b000010
-sum_bits _ _ = 0
-
-abbrev pub difference_bits : Letter → Letter → ℕ
-difference_bits D One = 0b001110
-difference_bits A One = 0b110010
-difference_bits D A = 0b010011
-difference_bits A D = 0b000111
-difference_bits _ _ = 0
-
--- `&` and `|` stand between D and A in either order
-abbrev pub pair_bits : Letter → Operator → Letter → ℕ
-pair_bits x Plus y = sum_bits x y
-pair_bits x Minus y = difference_bits x y
-pair_bits x And y = 0b000000
-pair_bits x Or y = 0b010101
-
-abbrev pub comp_bits : Comp → ℕ
-comp_bits (comp.Alone x) = alone_bits (plain x)
-comp_bits (comp.Pair x op y) = pair_bits (plain x) op (plain y)
-comp_bits (comp.Under p y) = under_bits p (plain y)
-
-abbrev pub has_memory : Comp → Bool
-has_memory (comp.Alone x) = is_m x
-has_memory (comp.Pair x op y) = is_m x || is_m y
-has_memory (comp.Under p y) = is_m y
+-- The word of a computation: its row of the table of comp, where it goes, and its jump (chapter 4)
 
 abbrev pub register_bit : Letter → ℕ
 register_bit A = 4
@@ -95,7 +35,7 @@ jump_bits None = 0
 jump_bits (Some bits) = bits % 8
 
 abbrev pub compute_word : Compute → ℕ
-compute_word c = word_of (instr.Compute (has_memory c.comp) (comp_bits c.comp) (dest_bits c.dest) (jump_bits c.jump))
+compute_word c = word_of (instr.Compute (meaning c.comp).0 (meaning c.comp).1 (dest_bits c.dest) (jump_bits c.jump))
 
 -- Symbols
 
@@ -112,7 +52,7 @@ predefined_symbols =
     ∷ (codes "R6", 6) ∷ (codes "R7", 7) ∷ (codes "R8", 8) ∷ (codes "R9", 9) ∷ (codes "R10", 10) ∷ (codes "R11", 11)
     ∷ (codes "R12", 12) ∷ (codes "R13", 13) ∷ (codes "R14", 14) ∷ (codes "R15", 15)
     ∷ (codes "SP", 0) ∷ (codes "LCL", 1) ∷ (codes "ARG", 2) ∷ (codes "THIS", 3) ∷ (codes "THAT", 4)
-    ∷ (codes "SCREEN", 16384) ∷ (codes "KBD", 24576) ∷ []
+    ∷ (codes "SCREEN", screen) ∷ (codes "KBD", keyboard) ∷ []
 
 abbrev pub address_among : Table → List ℕ → Option ℕ
 address_among [] name = None
@@ -166,7 +106,7 @@ used (Some (compute c)) = None
 -- the first use of a label that stands behind all 32,768 words
 abbrev pub is_past : Option ℕ → Bool
 is_past None = false
-is_past (Some n) = nat_eq n 32768
+is_past (Some n) = nat_eq n image_words
 
 abbrev pub past_use : Table → Option Symbol → Option Place → Option Place
 past_use table None later = later
@@ -218,7 +158,7 @@ if_near None table ls = with_variables table (variables 16 table ls) ls
 
 abbrev pub labelled : Result Table Wrong → List Line → Result (List ℕ) Wrong
 labelled (Err w) ls = Err w
-labelled (Ok table) ls = if nat_lt 32768 (size ls) then Err (TooLarge (size ls)) else if_near (first_past table ls) table ls
+labelled (Ok table) ls = if nat_lt image_words (size ls) then Err (TooLarge (size ls)) else if_near (first_past table ls) table ls
 
 abbrev pub program : List Line → Result (List ℕ) Wrong
 program ls = labelled (labels 0 [] ls) ls

@@ -2,7 +2,7 @@
 
 ghost use Rattle.std.specs.Prelude.{◌≡◌, List, ℕ, Result, Ok, IfOk, IfErr};
 ghost use Rattle.hack_asm.specs.Faults.{Wrong, Yields};
-ghost use Rattle.hack_asm.specs.Meaning.{Means, MeansOf, IsRefusal, ReadingLaw};
+ghost use Rattle.hack_asm.specs.Meaning.{Means, MeansOf, IsRefusal, ReadingLaw, CompsHaveRows};
 
 use crate::fault::AsmFault;
 use crate::lexer::tokens;
@@ -33,4 +33,9 @@ pub fn assemble(alloc: Global, text: &[u8]) -> Result<Vec<u16>, AsmFault>
 /// only the statement.
 pub fn assembly_law()
     ensures { ReadingLaw }
+{}
+
+/// The law of computations: each that a text spells has a row of the table of comp. No code, only the statement.
+pub fn comp_law()
+    ensures { CompsHaveRows }
 {}

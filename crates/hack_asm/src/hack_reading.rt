@@ -9,6 +9,7 @@ use crate::fault::AsmFault;
 use crate::hack_lines::all_lines;
 use crate::hack_tokens::tokens;
 use grammar::ReadError;
+use hack_isa::IMAGE_WORDS;
 use std::alloc::{AllocError, Global};
 
 // The lines of a text, or its first fault.
@@ -38,7 +39,7 @@ fn image(alloc: Global, lines: &[Option<u16>]) -> Result<Vec<u16>, AsmFault>
     ensures { Yields (λ v. v.items) result (limited (words_of lines.now)) }
 {
     let words = words(alloc, lines)?;
-    if words.len() > 32_768 {
+    if words.len() > IMAGE_WORDS {
         return Err(AsmFault::TooLarge(words.len()));
     }
     Ok(words)

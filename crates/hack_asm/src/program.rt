@@ -4,115 +4,115 @@ ghost use Rattle.std.specs.Prelude.{◌≡◌, ◌≤◌, ◌<◌, ◌+◌, ◌-
 ghost use Rattle.hack_isa.specs.Table.{word_of};
 ghost use Rattle.hack_asm.specs.Faults.{Yields};
 ghost use Rattle.hack_asm.specs.Entered.{table_of};
-ghost use Rattle.hack_asm.specs.Assembly.{is_m};
+ghost use Rattle.hack_asm.specs.Comps.{meaning};
+ghost use Rattle.hack_asm.specs.Inner.Rows.{alone_row, under_row, both_row, sum_row, difference_row, pair_row};
 ghost use Rattle.hack_asm.specs.Lines.{line_of, symbol_of};
 ghost use Rattle.hack_asm.specs.Steps.{enter_line, variable_line};
-ghost use Rattle.hack_asm.specs.Program.{plain, alone_bits, under_bits, sum_bits, difference_bits, pair_bits, comp_bits, has_memory, register_bit, dest_bits, jump_bits, compute_word, size, first_past, is_past, address_word, labels, is_instruction, used, variables, word_in, words, program};
+ghost use Rattle.hack_asm.specs.Program.{register_bit, dest_bits, jump_bits, compute_word, size, first_past, is_past, address_word, labels, is_instruction, used, variables, word_in, words, program};
 
 use crate::fault::AsmFault;
 use crate::lines::{Address, Comp, Compute, Dest, Item, Prefix, Symbol};
 use crate::symbols::Symbols;
 use crate::token::{Letter, Operator};
-use hack_isa::{Instr, encode};
+use hack_isa::{IMAGE_WORDS, Instr, encode};
 use scan_text::Place;
 use std::alloc::{AllocError, Global};
 
-fn plain(x: Letter) -> Letter
-    ensures { result ≡ plain x }
+// What a computation would have that the table of comp has not: the grammar spells none.
+const NO_ROW: (bool, u8) = (false, 0);
+
+fn alone_row(x: Letter) -> (bool, u8)
+    ensures row { result ≡ alone_row x }
+    ensures six { result.1 < 64 }
 {
     match x {
-        Letter::M => Letter::A,
-        _ => x,
+        Letter::Zero => (false, 0b101010),
+        Letter::One => (false, 0b111111),
+        Letter::D => (false, 0b001100),
+        Letter::A => (false, 0b110000),
+        Letter::M => (true, 0b110000),
     }
 }
 
-fn alone_bits(x: Letter) -> u8
-    ensures bits { result ≡ alone_bits x }
-    ensures six { result < 64 }
-{
-    match x {
-        Letter::Zero => 0b101010,
-        Letter::One => 0b111111,
-        Letter::D => 0b001100,
-        Letter::A => 0b110000,
-        Letter::M => 0,
-    }
-}
-
-fn under_bits(prefix: Prefix, x: Letter) -> u8
-    ensures bits { result ≡ under_bits prefix x }
-    ensures six { result < 64 }
+fn under_row(prefix: Prefix, x: Letter) -> (bool, u8)
+    ensures row { result ≡ under_row prefix x }
+    ensures six { result.1 < 64 }
 {
     match (prefix, x) {
-        (Prefix::Minus, Letter::One) => 0b111010,
-        (Prefix::Minus, Letter::D) => 0b001111,
-        (Prefix::Minus, Letter::A) => 0b110011,
-        (Prefix::Not, Letter::D) => 0b001101,
-        (Prefix::Not, Letter::A) => 0b110001,
-        _ => 0,
+        (Prefix::Minus, Letter::One) => (false, 0b111010),
+        (Prefix::Minus, Letter::D) => (false, 0b001111),
+        (Prefix::Minus, Letter::A) => (false, 0b110011),
+        (Prefix::Minus, Letter::M) => (true, 0b110011),
+        (Prefix::Not, Letter::D) => (false, 0b001101),
+        (Prefix::Not, Letter::A) => (false, 0b110001),
+        (Prefix::Not, Letter::M) => (true, 0b110001),
+        _ => NO_ROW,
     }
 }
 
-fn sum_bits(x: Letter, y: Letter) -> u8
-    ensures bits { result ≡ sum_bits x y }
-    ensures six { result < 64 }
+// D with A or with M, in either order.
+fn both_row(x: Letter, y: Letter, bits: u8) -> (bool, u8)
+    requires { bits < 64 }
+    ensures row { result ≡ both_row x y bits }
+    ensures six { result.1 < 64 }
 {
     match (x, y) {
-        (Letter::D, Letter::One) | (Letter::One, Letter::D) => 0b011111,
-        (Letter::A, Letter::One) | (Letter::One, Letter::A) => 0b110111,
-        (Letter::D, Letter::A) | (Letter::A, Letter::D) => 0b000010,
-        _ => 0,
+        (Letter::D, Letter::A) | (Letter::A, Letter::D) => (false, bits),
+        (Letter::D, Letter::M) | (Letter::M, Letter::D) => (true, bits),
+        _ => NO_ROW,
     }
 }
 
-fn difference_bits(x: Letter, y: Letter) -> u8
-    ensures bits { result ≡ difference_bits x y }
-    ensures six { result < 64 }
+fn sum_row(x: Letter, y: Letter) -> (bool, u8)
+    ensures row { result ≡ sum_row x y }
+    ensures six { result.1 < 64 }
 {
     match (x, y) {
-        (Letter::D, Letter::One) => 0b001110,
-        (Letter::A, Letter::One) => 0b110010,
-        (Letter::D, Letter::A) => 0b010011,
-        (Letter::A, Letter::D) => 0b000111,
-        _ => 0,
+        (Letter::D, Letter::One) | (Letter::One, Letter::D) => (false, 0b011111),
+        (Letter::A, Letter::One) | (Letter::One, Letter::A) => (false, 0b110111),
+        (Letter::M, Letter::One) | (Letter::One, Letter::M) => (true, 0b110111),
+        _ => both_row(x, y, 0b000010),
     }
 }
 
-fn pair_bits(x: Letter, op: Operator, y: Letter) -> u8
-    ensures bits { result ≡ pair_bits x op y }
-    ensures six { result < 64 }
+fn difference_row(x: Letter, y: Letter) -> (bool, u8)
+    ensures row { result ≡ difference_row x y }
+    ensures six { result.1 < 64 }
+{
+    match (x, y) {
+        (Letter::D, Letter::One) => (false, 0b001110),
+        (Letter::A, Letter::One) => (false, 0b110010),
+        (Letter::M, Letter::One) => (true, 0b110010),
+        (Letter::D, Letter::A) => (false, 0b010011),
+        (Letter::D, Letter::M) => (true, 0b010011),
+        (Letter::A, Letter::D) => (false, 0b000111),
+        (Letter::M, Letter::D) => (true, 0b000111),
+        _ => NO_ROW,
+    }
+}
+
+fn pair_row(x: Letter, op: Operator, y: Letter) -> (bool, u8)
+    ensures row { result ≡ pair_row x op y }
+    ensures six { result.1 < 64 }
 {
     match op {
-        Operator::Plus => sum_bits(x, y),
-        Operator::Minus => difference_bits(x, y),
-        Operator::And => 0b000000,
-        Operator::Or => 0b010101,
+        Operator::Plus => sum_row(x, y),
+        Operator::Minus => difference_row(x, y),
+        Operator::And => both_row(x, y, 0b000000),
+        Operator::Or => both_row(x, y, 0b010101),
     }
 }
 
-fn comp_bits(comp: Comp) -> u8
-    ensures bits { result ≡ comp_bits comp }
-    ensures six { result < 64 }
+// The bit a and the six bits of a computation.
+#[tactic(auto, using(crate::proofs::Rows::found))]
+fn comp_row(comp: Comp) -> (bool, u8)
+    ensures row { result ≡ meaning comp }
+    ensures six { result.1 < 64 }
 {
     match comp {
-        Comp::Alone(x) => alone_bits(plain(x)),
-        Comp::Pair(x, op, y) => pair_bits(plain(x), op, plain(y)),
-        Comp::Under(prefix, x) => under_bits(prefix, plain(x)),
-    }
-}
-
-fn is_memory(x: Letter) -> bool
-    ensures { result ≡ is_m x }
-{
-    matches!(x, Letter::M)
-}
-
-fn has_memory(comp: Comp) -> bool
-    ensures { result ≡ has_memory comp }
-{
-    match comp {
-        Comp::Alone(x) | Comp::Under(_, x) => is_memory(x),
-        Comp::Pair(x, _, y) => is_memory(x) || is_memory(y),
+        Comp::Alone(x) => alone_row(x),
+        Comp::Pair(x, op, y) => pair_row(x, op, y),
+        Comp::Under(prefix, x) => under_row(prefix, x),
     }
 }
 
@@ -142,9 +142,10 @@ fn jump_bits(jump: Option<u8>) -> u8
 fn compute_word(compute: &Compute) -> u16
     ensures { result ≡ compute_word compute.now }
 {
+    let (memory, comp) = comp_row(compute.comp);
     encode(&Instr::Compute {
-        memory: has_memory(compute.comp),
-        comp: comp_bits(compute.comp),
+        memory,
+        comp,
         dest: dest_bits(compute.dest),
         jump: jump_bits(compute.jump),
     })
@@ -221,7 +222,7 @@ fn is_past(address: Option<usize>) -> bool
     ensures { result ≡ is_past address }
 {
     match address {
-        Some(n) => n == 32_768,
+        Some(n) => n == IMAGE_WORDS,
         None => false,
     }
 }
@@ -317,7 +318,7 @@ pub fn assemble_lines<'a>(alloc: Global, lines: &[Option<Item<'a>>]) -> Result<V
 {
     let mut symbols = labels(alloc, lines)?;
     let size = size(lines);
-    if size > 32_768 {
+    if size > IMAGE_WORDS {
         return Err(AsmFault::TooLarge(size));
     }
     if let Some(at) = first_past(&symbols, lines) {

@@ -6,6 +6,7 @@ ghost use Rattle.hack_asm.specs.Entered.{table_of};
 
 use indexmap::IndexMap;
 use std::alloc::{AllocError, Global};
+use word16::{KEYBOARD, SCREEN};
 
 fn predefined(name: &[u8]) -> Option<usize>
     ensures { result ≡ predefined name.now }
@@ -32,8 +33,8 @@ fn predefined(name: &[u8]) -> Option<usize>
         b"ARG" => Some(2),
         b"THIS" => Some(3),
         b"THAT" => Some(4),
-        b"SCREEN" => Some(16384),
-        b"KBD" => Some(24576),
+        b"SCREEN" => Some(SCREEN as usize),
+        b"KBD" => Some(KEYBOARD as usize),
         _ => None,
     }
 }

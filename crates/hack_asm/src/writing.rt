@@ -1,8 +1,10 @@
 //! Instructions written in assembly.
 
 ghost use Rattle.std.specs.Prelude.{◌≡◌, ◌≤◌, take, [], length};
+ghost use Rattle.hack_isa.specs.Machine.{image_words};
 ghost use Rattle.outer_world.specs.Written.{CountsPut, Passes, Puts};
-ghost use Rattle.hack_asm.specs.Written.{computations, memory_computations, destinations, jumps, text_in, comp_text, instr_text, asm_text, AreSpelled, WrittenMeans};
+ghost use Rattle.hack_asm.specs.Comps.{computations, memory_computations, text_in, comp_text};
+ghost use Rattle.hack_asm.specs.Written.{destinations, jumps, instr_text, asm_text, AreSpelled, WrittenMeans};
 
 use hack_isa::Instr;
 use itoa::Buffer;
@@ -151,7 +153,7 @@ fn put_all_asm<S: Sink>(instrs: &[Instr], out: &mut Pieces<'_, S>) -> Put
 /// destination in the order A, D, M. Each computation is to be one of the book's table.
 pub fn write_asm<S: Sink>(instrs: &[Instr], out: &mut S) -> Put
     requires spelled { AreSpelled instrs.now }
-    requires few { length instrs.now ≤ 32768 }
+    requires few { length instrs.now ≤ image_words }
     ensures put { Puts (S.written out.old) (S.written out.new) (asm_text instrs.now) result }
     ensures counts { CountsPut (S.faults out.old) (S.faults out.new) result }
 {

@@ -8,7 +8,7 @@ use Rattle.hack_isa.specs.Table.{alu_out, instr_of}
 use Rattle.hack_isa.specs.declared.Instr.{Instr}
 use Rattle.hack_isa.specs.declared.Instr.TheVariants.{Address, Compute}
 use Rattle.hack_isa.specs.Machine.{Machine, read, write, jumps, perform, fetch, step}
-use Rattle.layers.specs.System.{IsKey}
+use Rattle.layers.specs.System.{IsData, IsKey}
 use Rattle.hack_blocks.specs.Computer.{Stands}
 use Rattle.hack_blocks.specs.Going.{IsDataWrite, IsKeyRead, Quiet, Hears, Reaches, Does, arrived, further}
 use Rattle.hack_blocks.proofs.Alu.{comp_value, comp_is, comp_small, alu_48}
@@ -256,13 +256,14 @@ stores image x pc key f w =
     let v : alu_out 12 x.d x.a ≡ x.d = sym (comp_is 12 x.d x.a w.d_word w.a_word) in
     step_is image key (at pc x) ∙ ap (λ c. perform c key (at pc x)) f ∙ after_out false 12 1 0 key pc x x.d ((pc + 1) % 32768) (write x.m x.a x.d) v (no_jump x.d) refl refl
 
--- M=D in memory, as a command's last instruction
-pub store_last : (image : List ℕ) (inside : ℕ → Type 0) {goal : Machine → Type 0} (x : Data) (pc n : ℕ) → instr_of (slice_index image pc) ≡ Compute false 12 1 0 → x.a < 24576 → AreWords x → goal (at ((pc + 1) % 32768) (record x { m = put x.m x.a x.d })) → Does image inside pc (Unit {0}) goal n (at pc x)
+-- M=D in memory, as a command's last instruction; it writes data where its address is one of data
+pub store_last : (image : List ℕ) (inside : ℕ → Type 0) {goal : Machine → Type 0} (x : Data) (pc n : ℕ) → instr_of (slice_index image pc) ≡ Compute false 12 1 0 → x.a < 24576 → AreWords x → goal (at ((pc + 1) % 32768) (record x { m = put x.m x.a x.d })) → Does image inside pc (IsData x.a) goal n (at pc x)
 store_last image inside {goal} x pc n f a w g =
     let same : write x.m x.a x.d ≡ put x.m x.a x.d = write_is x.m x.a x.d a in
+    let low : x.a % 32768 ≡ x.a = omega arith in
     arrived (record {
       place = refl;
-      write = λ b. tt;
+      write = λ b. let b' = subst (λ c. IsDataWrite c (at pc x)) f b in subst IsData low b'.1;
       no_key = λ b. let b' = subst (λ c. IsKeyRead c (at pc x)) f b in let no : false ≡ true = b'.0 in cc;
       leads = λ key small. subst goal (sym (stores image x pc key f w ∙ ap (λ m. let after : Machine = record { a = x.a; d = x.d; pc = (pc + 1) % 32768; memory = m } in after) same)) g;
     })

@@ -10,3 +10,4 @@ pub mod Loop
 pub mod Ways
 pub mod Shapes
 pub mod Placed
+pub mod Budgets

@@ -7,8 +7,8 @@ use Rattle.hack_isa.specs.declared.Instr.{Instr}
 use Rattle.hack_isa.specs.declared.Instr.TheVariants.{Address, Compute}
 use Rattle.hack_isa.proofs.RoundTrip.{encoded}
 use Rattle.hack_blocks.specs.declared.shape.Shape.{Shape}
-use Rattle.hack_blocks.specs.declared.shape.Shape.TheVariants.{PushConstant, PushAt, PushWord, PopAt, PopWord, Add, Sub, And, Or, Neg, Not, Eq, Gt, Lt, Goto, IfGoto, Call, Function, Return}
-use Rattle.hack_blocks.specs.Templates.{compare, template, size, budget, function_code, set_stack, endless, start_code}
+use Rattle.hack_blocks.specs.declared.shape.Shape.TheVariants.{PushConstant, PushAt, PushFirst, PushWord, PopAt, PopFirst, PopWord, Add, Sub, And, Or, Neg, Not, Eq, Gt, Lt, Goto, IfGoto, Call, Function, Return}
+use Rattle.hack_blocks.specs.Templates.{compare, template, size, function_code, set_stack, endless, start_code}
 use Rattle.hack_blocks.specs.Computer.{Stands}
 use Rattle.hack_blocks.specs.Commands.{IsShape}
 use Rattle.hack_blocks.specs.Laws.{TemplatesFit, InstructionsStand, Starts}
@@ -69,8 +69,10 @@ all_words (i ∷ is) fit (suc k) = all_words is (λ j d l. fit (suc j) d (omega 
 pub size_is : (here : ℕ) (c : Shape) → length (template here c) ≡ size c
 size_is here (PushConstant n) = refl
 size_is here (PushAt base index) = refl
+size_is here (PushFirst base) = refl
 size_is here (PushWord address) = refl
 size_is here (PopAt base index) = refl
+size_is here (PopFirst base) = refl
 size_is here (PopWord address) = refl
 size_is here Add = refl
 size_is here Sub = refl
@@ -90,9 +92,6 @@ size_is here Return = refl
 pub size_some : (c : Shape) → 1 ≤ size c
 size_some c = grind arith
 
-size_few : (c : Shape) → size c ≤ budget c
-size_few c = grind arith
-
 function_fits : (n : ℕ) → Fit (function_code n)
 function_fits zero = search arith
 function_fits (suc n) = let r = function_fits n in search (arith, r)
@@ -109,8 +108,10 @@ compare_fits j here h small =
 fits : (here : ℕ) (c : Shape) → IsShape c → here + size c ≤ 32768 → Fit (template here c)
 fits here (PushConstant n) l h = search arith
 fits here (PushAt base index) l h = search arith
+fits here (PushFirst base) l h = search arith
 fits here (PushWord address) l h = search arith
 fits here (PopAt base index) l h = search arith
+fits here (PopFirst base) l h = search arith
 fits here (PopWord address) l h = search arith
 fits here Add l h = search arith
 fits here Sub l h = search arith
@@ -138,7 +139,7 @@ start_fits : (entry : ℕ) → entry < 32768 → All WellFormed (start_code entr
 start_fits entry h = all_of (start_code entry) (start_fit entry h)
 
 pub templates_fit : TemplatesFit
-templates_fit = record { number = size_is; some = size_some; few = size_few; well_formed = template_fits; start_number = λ entry. refl; start_well_formed = start_fits }
+templates_fit = record { number = size_is; some = size_some; well_formed = template_fits; start_number = λ entry. refl; start_well_formed = start_fits }
 
 pub instructions_stand : InstructionsStand
 instructions_stand = record { all = all_stand; words = all_words; parts = λ image here a b h. (stands_front image here a b h, stands_back image here a b h) }

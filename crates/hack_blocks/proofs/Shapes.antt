@@ -1,7 +1,6 @@
 -- The effect of each command, from where it stands.
-use Rattle.std.proofs.Common.{true, ◌≡◌, ◌≢◌, ⊎_elim, ℕ, suc, ◌+◌, ◌-◌, ◌*◌, ◌<◌, ◌≤◌, ◌%◌, List, refl, sym, subst, ap, ◌∙◌, arith}
+use Rattle.std.proofs.Common.{true, ◌≡◌, ◌≢◌, ℕ, suc, ◌+◌, ◌-◌, ◌*◌, ◌<◌, ◌≤◌, ◌%◌, List, [], ◌∷◌, take, refl, sym, subst, ap, ◌∙◌, arith}
 use Rattle.std.specs.Prelude.{if◌then◌else◌, nat_eq, bit_and, bit_or}
-use Rattle.std.proofs.lemmas.Bool.{cases_lt}
 use Rattle.std.proofs.lemmas.Bool.Decides.{nat_tests}
 use Rattle.std.proofs.lemmas.Nat.{and_comm}
 use Rattle.std.specs.Int.Bits.{or_add_and}
@@ -9,17 +8,18 @@ use Rattle.word16.specs.Words.{word_add, word_sub}
 use Rattle.hack_isa.specs.Machine.{Machine}
 use Rattle.layers.specs.System.{IsData}
 use Rattle.hack_blocks.specs.declared.shape.Shape.{Shape}
-use Rattle.hack_blocks.specs.declared.shape.Shape.TheVariants.{PushConstant, PushAt, PushWord, PopAt, PopWord, Add, Sub, And, Or, Neg, Not, Eq, Gt, Lt, Goto, IfGoto, Call, Function, Return}
+use Rattle.hack_blocks.specs.declared.shape.Shape.TheVariants.{PushConstant, PushAt, PushFirst, PushWord, PopAt, PopFirst, PopWord, Add, Sub, And, Or, Neg, Not, Eq, Gt, Lt, Goto, IfGoto, Call, Function, Return}
 use Rattle.hack_isa.specs.declared.Instr.TheVariants.{Compute}
-use Rattle.hack_blocks.specs.Templates.{join, size, budget}
+use Rattle.hack_blocks.specs.Templates.{join, push_at, push_first, pop_at, pop_first, size}
 use Rattle.hack_blocks.proofs.Alu.{comp_value}
+use Rattle.hack_blocks.specs.declared.instructions.TheConstants.{M_IS_D}
 use Rattle.hack_blocks.specs.Computer.{Stands}
 use Rattle.hack_blocks.specs.Going.{arrived, further, Does, DoesHearing}
 use Rattle.hack_blocks.specs.Effects.{Pushed, Joined, Stored, HasWords}
-use Rattle.hack_blocks.specs.Commands.{HasValues, HasRoom, address_at, topmost, second, Ready, MayStore, Effect, next, IsAt, After, CommandsGo}
+use Rattle.hack_blocks.specs.Commands.{HasValues, HasRoom, address_at, topmost, second, Ready, PushesFrom, PopsTo, MayStore, Effect, next, IsAt, After, CommandsGo}
 use Rattle.hack_blocks.proofs.Placed.{size_some}
-use Rattle.hack_blocks.proofs.Block.{Data, AreWords, at, within}
-use Rattle.hack_blocks.proofs.Commands.{push_constant_goes, push_word_goes, push_at_goes, pop_word_goes, pop_at_goes, join_goes, turn_goes, push_key_goes, push_any_goes, push_ends_goes, store_goes, pop_any_goes}
+use Rattle.hack_blocks.proofs.Block.{Data, AreWords, at, within, from_place, up_to}
+use Rattle.hack_blocks.proofs.Commands.{push_constant_goes, push_word_goes, push_at_goes, push_first_goes, pop_word_goes, join_goes, turn_goes, push_key_goes, push_any_goes, push_ends_goes, ready_at, ready_first, pop_to_goes, pop_any_goes}
 use Rattle.hack_blocks.proofs.Compare.{eq_goes, gt_goes, lt_goes}
 use Rattle.hack_blocks.proofs.Calls.{go_to_goes, if_go_to_goes, function_goes, call_goes, return_goes}
 
@@ -58,23 +58,12 @@ module _ (image : List ℕ) (inside : ℕ → Type 0) (s : Machine) (last : ℕ)
   swapped : (r i : ℕ) → (i + s.memory r) % 65536 ≡ address_at s.memory r i
   swapped r i = let z : i + s.memory r ≡ s.memory r + i = omega arith in ap (λ k. k % 65536) z
 
-  pop_to : (r i : ℕ) → IsAt image (PopAt r i) s → last + 1 ≡ s.pc + 12 → Ready (PopAt r i) s.memory → Does image inside last (IsData (address_at s.memory r i)) (After (PopAt r i) (Effect (PopAt r i) s.pc) s) 11 s
-  pop_to r i here e ready =
-      let w = data_words s here.words in
-      let shape = here.shape in
-      let low = here.low in
-      let a_is = swapped r i in
-      let c = PopAt r i in
-      let ends : (y : Data) → AreWords y → Stored s.memory y.m ((i + s.memory r) % 65536) → After c (Effect c s.pc) s (at ((last + 1) % 32768) y) = λ y wy p. after c (Effect c s.pc) ((last + 1) % 32768) y wy (ends_at 12 e) (subst (Stored s.memory y.m) a_is p) in
-      ⊎_elim
-      (λ stack.
-      may 11 s (λ b. absurd b)
-      (pop_at_goes image inside s.pc last (omega arith) places x w r i shape.0 (omega (arith, shape.1)) shape.2 (omega (arith, ready.1, a_is)) (omega (arith, stack, a_is)) here.stands (omega arith) (ready.0).0 (ready.0).1 ends))
-      (λ above.
-      let is_data : IsData ((i + s.memory r) % 65536) = (omega (arith, above, a_is), omega (arith, ready.2, a_is)) in
-      may 11 s (λ b. (above, ready.2))
-      (store_goes image inside s.pc last (omega arith) places x w r i shape.0 (omega (arith, shape.1)) shape.2 is_data here.stands (omega arith) (ready.0).0 (ready.0).1 ends))
-      (cases_lt (address_at s.memory r i) 2048)
+  -- where M=D stands, the last instruction of a pop
+  stores : (r i : ℕ) → IsAt image (PopAt r i) s → last + 1 ≡ s.pc + 12 → Stands image last (M_IS_D ∷ [])
+  stores r i here e = let z : s.pc + 11 ≡ last = omega arith in subst (λ k. Stands image k (M_IS_D ∷ [])) z (from_place image s.pc 11 (pop_at r i) here.stands)
+
+  stores_first : (r : ℕ) → IsAt image (PopFirst r) s → last + 1 ≡ s.pc + 6 → Stands image last (M_IS_D ∷ [])
+  stores_first r here e = let z : s.pc + 5 ≡ last = omega arith in subst (λ k. Stands image k (M_IS_D ∷ [])) z (from_place image s.pc 5 (pop_first r) here.stands)
 
   joined : (c : Shape) (comp v : ℕ) → size c ≡ 5 → IsAt image c s → Stands image s.pc (join (Compute true comp 1 0)) → last + 1 ≡ s.pc + size c → HasValues 2 s.memory → comp_value comp (topmost s.memory) (second s.memory) ≡ v
       → ((y : Data) → AreWords y → Joined s.memory y.m v → After c (Effect c s.pc) s (at ((last + 1) % 32768) y)) → Does image inside last ⊥ (After c (Effect c s.pc) s) 4 s
@@ -82,12 +71,12 @@ module _ (image : List ℕ) (inside : ℕ → Type 0) (s : Machine) (last : ℕ)
       let low = here.low in
       join_goes image inside s.pc last (omega arith) places x (data_words s here.words) comp st (omega arith) ready.0 ready.1 (λ y wy p. go y wy (subst (Joined s.memory y.m) v_is p))
 
-  pub command_goes : (c : Shape) → IsAt image c s → last + 1 ≡ s.pc + size c → Ready c s.memory → Does image inside last (MayStore c s.memory) (After c (Effect c s.pc) s) (budget c - 1) s
+  pub command_goes : (c : Shape) → IsAt image c s → last + 1 ≡ s.pc + size c → Ready c s.memory → Does image inside last (MayStore c s.memory) (After c (Effect c s.pc) s) (size c - 1) s
   command_goes (PushConstant n) here e ready =
       let w = data_words s here.words in
       let low = here.low in
       let c = PushConstant n in
-      within 5 8 s (omega arith) (push_constant_goes image inside s.pc last (omega arith) places x w n here.shape here.stands (omega arith) ready.0 (omega (arith, ready.1)) (λ y wy p. after c (Effect c s.pc) ((last + 1) % 32768) y wy (ends_at 6 e) p))
+      push_constant_goes image inside s.pc last (omega arith) places x w n here.shape here.stands (omega arith) ready.0 (omega (arith, ready.1)) (λ y wy p. after c (Effect c s.pc) ((last + 1) % 32768) y wy (ends_at 6 e) p)
   command_goes (PushAt r i) here e ready =
       let w = data_words s here.words in
       let low = here.low in
@@ -96,19 +85,43 @@ module _ (image : List ℕ) (inside : ℕ → Type 0) (s : Machine) (last : ℕ)
       let c = PushAt r i in
       push_at_goes image inside s.pc last (omega arith) places x w r i (omega (arith, shape.1)) shape.2 (omega (arith, ready.1, a_is)) here.stands (omega arith) (ready.0).0 (omega (arith, (ready.0).1))
       (λ y wy p. after c (Effect c s.pc) ((last + 1) % 32768) y wy (ends_at 9 e) (subst (λ k. Pushed s.memory y.m (s.memory k)) a_is p))
+  command_goes (PushFirst r) here e ready =
+      let w = data_words s here.words in
+      let low = here.low in
+      let shape = here.shape in
+      let c = PushFirst r in
+      push_first_goes image inside s.pc last (omega arith) places x w r (omega (arith, shape.1)) ready.1 here.stands (omega arith) (ready.0).0 (omega (arith, (ready.0).1)) (λ y wy p. after c (Effect c s.pc) ((last + 1) % 32768) y wy (ends_at 7 e) p)
   command_goes (PushWord r) here e ready =
       let w = data_words s here.words in
       let low = here.low in
       let shape = here.shape in
       let c = PushWord r in
-      within 5 8 s (omega arith) (push_word_goes image inside s.pc last (omega arith) places x w r (omega (arith, shape.1)) here.stands (omega arith) ready.0 (omega (arith, ready.1)) (λ y wy p. after c (Effect c s.pc) ((last + 1) % 32768) y wy (ends_at 6 e) p))
-  command_goes (PopAt r i) here e ready = pop_to r i here e ready
+      push_word_goes image inside s.pc last (omega arith) places x w r (omega (arith, shape.1)) here.stands (omega arith) ready.0 (omega (arith, ready.1)) (λ y wy p. after c (Effect c s.pc) ((last + 1) % 32768) y wy (ends_at 6 e) p)
+  command_goes (PopAt r i) here e ready =
+      let w = data_words s here.words in
+      let low = here.low in
+      let shape = here.shape in
+      let a_is = swapped r i in
+      let c = PopAt r i in
+      let z : IsData ((i + s.memory r) % 65536) → IsData (address_at s.memory r i) = subst IsData a_is in
+      may 11 s z
+      (pop_to_goes image inside s.pc last (omega arith) places x w (take 11 (pop_at r i)) 11 ((i + s.memory r) % 65536) refl (up_to image s.pc 11 (pop_at r i) here.stands) (stores r i here e) (omega arith)
+      (ready_at image inside s.pc last (omega arith) places x w r i (ready.0).0 (ready.0).1 shape.0 (omega (arith, shape.1)) shape.2) (omega (arith, ready.1, a_is)) (omega (arith, ready.2, a_is))
+      (λ y wy p. after c (Effect c s.pc) ((last + 1) % 32768) y wy (ends_at 12 e) (subst (Stored s.memory y.m) a_is p)))
+  command_goes (PopFirst r) here e ready =
+      let w = data_words s here.words in
+      let low = here.low in
+      let shape = here.shape in
+      let c = PopFirst r in
+      pop_to_goes image inside s.pc last (omega arith) places x w (take 5 (pop_first r)) 5 (s.memory r) refl (up_to image s.pc 5 (pop_first r) here.stands) (stores_first r here e) (omega arith)
+      (ready_first image inside s.pc last (omega arith) places x w r (ready.0).0 (ready.0).1 shape.0 (omega (arith, shape.1))) ready.1 ready.2
+      (λ y wy p. after c (Effect c s.pc) ((last + 1) % 32768) y wy (ends_at 6 e) p)
   command_goes (PopWord r) here e ready =
       let w = data_words s here.words in
       let low = here.low in
       let shape = here.shape in
       let c = PopWord r in
-      within 4 11 s (omega arith) (pop_word_goes image inside s.pc last (omega arith) places x w r (omega (arith, shape.0)) shape.1 here.stands (omega arith) ready.0 ready.1 (λ y wy p. after c (Effect c s.pc) ((last + 1) % 32768) y wy (ends_at 5 e) p))
+      pop_word_goes image inside s.pc last (omega arith) places x w r (omega (arith, shape.0)) shape.1 here.stands (omega arith) ready.0 ready.1 (λ y wy p. after c (Effect c s.pc) ((last + 1) % 32768) y wy (ends_at 5 e) p)
   command_goes Add here e ready =
       let z : topmost s.memory + second s.memory ≡ second s.memory + topmost s.memory = omega arith in
       joined Add 2 (word_add (second s.memory) (topmost s.memory)) refl here here.stands e ready (ap (λ k. k % 65536) z) (λ y wy p. after Add (Effect Add s.pc) ((last + 1) % 32768) y wy (ends_at 5 e) p)
@@ -129,15 +142,15 @@ module _ (image : List ℕ) (inside : ℕ → Type 0) (s : Machine) (last : ℕ)
   command_goes Eq here e ready =
       let w = data_words s here.words in
       let low = here.low in
-      within 26 47 s (omega arith) (eq_goes image inside s.pc last (omega arith) places x w here.stands (omega arith) ready.0 ready.1 (λ y wy p. after Eq (Effect Eq s.pc) ((last + 1) % 32768) y wy (ends_at 38 e) p))
+      within 26 37 s (omega arith) (eq_goes image inside s.pc last (omega arith) places x w here.stands (omega arith) ready.0 ready.1 (λ y wy p. after Eq (Effect Eq s.pc) ((last + 1) % 32768) y wy (ends_at 38 e) p))
   command_goes Gt here e ready =
       let w = data_words s here.words in
       let low = here.low in
-      within 26 47 s (omega arith) (gt_goes image inside s.pc last (omega arith) places x w here.stands (omega arith) ready.0 ready.1 (λ y wy p. after Gt (Effect Gt s.pc) ((last + 1) % 32768) y wy (ends_at 38 e) p))
+      within 26 37 s (omega arith) (gt_goes image inside s.pc last (omega arith) places x w here.stands (omega arith) ready.0 ready.1 (λ y wy p. after Gt (Effect Gt s.pc) ((last + 1) % 32768) y wy (ends_at 38 e) p))
   command_goes Lt here e ready =
       let w = data_words s here.words in
       let low = here.low in
-      within 26 47 s (omega arith) (lt_goes image inside s.pc last (omega arith) places x w here.stands (omega arith) ready.0 ready.1 (λ y wy p. after Lt (Effect Lt s.pc) ((last + 1) % 32768) y wy (ends_at 38 e) p))
+      within 26 37 s (omega arith) (lt_goes image inside s.pc last (omega arith) places x w here.stands (omega arith) ready.0 ready.1 (λ y wy p. after Lt (Effect Lt s.pc) ((last + 1) % 32768) y wy (ends_at 38 e) p))
   command_goes (Goto target) here e ready =
       let w = data_words s here.words in
       let low = here.low in
@@ -154,48 +167,76 @@ module _ (image : List ℕ) (inside : ℕ → Type 0) (s : Machine) (last : ℕ)
       let low = here.low in
       let shape = here.shape in
       let c = Call target n in
-      within 41 59 s (omega arith) (call_goes image inside s.pc last (omega arith) places x w ((s.pc + 42) % 32768) target n (omega arith) shape.0 here.stands (omega arith) (ready.0).0 (ready.0).1 ready.1 (λ y wy p. after c (Effect c s.pc) target y wy refl p))
+      (call_goes image inside s.pc last (omega arith) places x w ((s.pc + 42) % 32768) target n (omega arith) shape.0 here.stands (omega arith) (ready.0).0 (ready.0).1 ready.1 (λ y wy p. after c (Effect c s.pc) target y wy refl p))
   command_goes (Function n) here e ready =
       let w = data_words s here.words in
       let low = here.low in
       let c = Function n in
-      within (4 * n) (14 + 4 * n - 1) s (omega arith) (function_goes image inside s.pc last (omega arith) places x w n here.stands (omega arith) ready.0 ready.1 (λ y wy p. after c (Effect c s.pc) ((last + 1) % 32768) y wy (ends_at (4 * n + 1) e) p))
+      within (4 * n) (4 * n + 1 - 1) s (omega arith) (function_goes image inside s.pc last (omega arith) places x w n here.stands (omega arith) ready.0 ready.1 (λ y wy p. after c (Effect c s.pc) ((last + 1) % 32768) y wy (ends_at (4 * n + 1) e) p))
   command_goes Return here e ready =
       let w = data_words s here.words in
       let low = here.low in
-      within 41 65 s (omega arith) (return_goes image inside s.pc last (omega arith) places x w here.stands (omega arith) (ready.0).0 (ready.0).1 ready.1 ready.2 ready.3 ready.4 (λ y wy p. after Return (Effect Return s.pc) (s.memory (s.memory 1 - 5)) y wy refl p))
+      (return_goes image inside s.pc last (omega arith) places x w here.stands (omega arith) (ready.0).0 (ready.0).1 ready.1 ready.2 ready.3 ready.4 (λ y wy p. after Return (Effect Return s.pc) (s.memory (s.memory 1 - 5)) y wy refl p))
 
-  pub push_hears : (r i : ℕ) → IsAt image (PushAt r i) s → last + 1 ≡ s.pc + 9 → HasRoom 1 s.memory → address_at s.memory r i ≡ 24576
-      → DoesHearing image inside last ⊥ (λ key. After (PushAt r i) (λ m after. Pushed m after key) s) 4 3 s
-  push_hears r i here e room at_key =
+  pub push_hears : (c : Shape) → IsAt image c s → last + 1 ≡ s.pc + size c → HasRoom 1 s.memory → PushesFrom c s.memory 24576
+      → DoesHearing image inside last ⊥ (λ key. After c (λ m after. Pushed m after key) s) (size c - 5) 3 s
+  push_hears (PushAt r i) here e room from =
+      let low = here.low in
+      let shape = here.shape in
+      let c = PushAt r i in
+      push_key_goes image inside s.pc last (omega arith) places x (data_words s here.words) (take 4 (push_at r i)) 4 ((i + s.memory r) % 65536) refl (up_to image s.pc 4 (push_at r i) here.stands) (from_place image s.pc 4 (push_at r i) here.stands) (omega arith)
+      refl refl (search arith) (swapped r i ∙ from) room.0 (omega (arith, room.1)) (λ key is_key y wy p. after c (λ m after. Pushed m after key) ((last + 1) % 32768) y wy (ends_at 9 e) p)
+  push_hears (PushFirst r) here e room from =
+      let low = here.low in
+      let shape = here.shape in
+      let c = PushFirst r in
+      push_key_goes image inside s.pc last (omega arith) places x (data_words s here.words) (take 2 (push_first r)) 2 (s.memory r) refl (up_to image s.pc 2 (push_first r) here.stands) (from_place image s.pc 2 (push_first r) here.stands) (omega arith)
+      refl refl (search arith) from room.0 (omega (arith, room.1)) (λ key is_key y wy p. after c (λ m after. Pushed m after key) ((last + 1) % 32768) y wy (ends_at 7 e) p)
+  push_hears _ here e room from = absurd from
+
+  pub push_strays : (c : Shape) (a : ℕ) → IsAt image c s → last + 1 ≡ s.pc + size c → HasRoom 1 s.memory → PushesFrom c s.memory a → a ≢ 24576
+      → Does image inside last ⊥ (λ t. (v : ℕ) × After c (λ m after. Pushed m after v) s t) (size c - 1) s
+  push_strays (PushAt r i) a here e room from other =
+      let low = here.low in
+      let shape = here.shape in
+      let c = PushAt r i in
+      push_any_goes image inside s.pc last (omega arith) places x (data_words s here.words) (take 4 (push_at r i)) 4 ((i + s.memory r) % 65536) refl (up_to image s.pc 4 (push_at r i) here.stands) (from_place image s.pc 4 (push_at r i) here.stands) (omega arith)
+      refl refl (search arith) (λ q. other (sym (swapped r i ∙ from) ∙ q)) room.0 (omega (arith, room.1)) (λ v small y wy p. (v, after c (λ m after. Pushed m after v) ((last + 1) % 32768) y wy (ends_at 9 e) p))
+  push_strays (PushFirst r) a here e room from other =
+      let low = here.low in
+      let shape = here.shape in
+      let c = PushFirst r in
+      push_any_goes image inside s.pc last (omega arith) places x (data_words s here.words) (take 2 (push_first r)) 2 (s.memory r) refl (up_to image s.pc 2 (push_first r) here.stands) (from_place image s.pc 2 (push_first r) here.stands) (omega arith)
+      refl refl (search arith) (λ q. other (sym from ∙ q)) room.0 (omega (arith, room.1)) (λ v small y wy p. (v, after c (λ m after. Pushed m after v) ((last + 1) % 32768) y wy (ends_at 7 e) p))
+  push_strays _ a here e room from other = absurd from
+
+  pub push_ends : (c : Shape) (a : ℕ) → IsAt image c s → last + 1 ≡ s.pc + size c → PushesFrom c s.memory a → a ≢ 24576 → Does image inside last (Unit {0}) (λ t. Unit {0}) (size c - 1) s
+  push_ends (PushAt r i) a here e from other =
+      let low = here.low in
+      let shape = here.shape in
+      push_ends_goes image inside s.pc last (omega arith) places x (data_words s here.words) (take 4 (push_at r i)) 4 ((i + s.memory r) % 65536) refl (up_to image s.pc 4 (push_at r i) here.stands) (from_place image s.pc 4 (push_at r i) here.stands) (omega arith)
+      refl refl (search arith) (λ q. other (sym (swapped r i ∙ from) ∙ q))
+  push_ends (PushFirst r) a here e from other =
+      let low = here.low in
+      let shape = here.shape in
+      push_ends_goes image inside s.pc last (omega arith) places x (data_words s here.words) (take 2 (push_first r)) 2 (s.memory r) refl (up_to image s.pc 2 (push_first r) here.stands) (from_place image s.pc 2 (push_first r) here.stands) (omega arith)
+      refl refl (search arith) (λ q. other (sym from ∙ q))
+  push_ends _ a here e from other = absurd from
+
+  pub pop_ends : (c : Shape) (a : ℕ) → IsAt image c s → last + 1 ≡ s.pc + size c → HasValues 1 s.memory → PopsTo c s.memory a → Does image inside last (Unit {0}) (λ t. Unit {0}) (size c - 1) s
+  pop_ends (PopAt r i) a here e some to =
       let w = data_words s here.words in
       let low = here.low in
       let shape = here.shape in
-      push_key_goes image inside s.pc last (omega arith) places x w r i (omega (arith, shape.1)) shape.2 (swapped r i ∙ at_key) here.stands (omega arith) room.0 (omega (arith, room.1))
-      (λ key is_key y wy p. after (PushAt r i) (λ m after. Pushed m after key) ((last + 1) % 32768) y wy (ends_at 9 e) p)
-
-  pub push_strays : (r i : ℕ) → IsAt image (PushAt r i) s → last + 1 ≡ s.pc + 9 → HasRoom 1 s.memory → address_at s.memory r i ≢ 24576
-      → Does image inside last ⊥ (λ t. (v : ℕ) × After (PushAt r i) (λ m after. Pushed m after v) s t) 8 s
-  push_strays r i here e room other =
+      pop_any_goes image inside s.pc last (omega arith) places x w (take 11 (pop_at r i)) 11 ((i + s.memory r) % 65536) refl (up_to image s.pc 11 (pop_at r i) here.stands) (stores r i here e) (omega arith)
+      (ready_at image inside s.pc last (omega arith) places x w r i some.0 some.1 shape.0 (omega (arith, shape.1)) shape.2)
+  pop_ends (PopFirst r) a here e some to =
       let w = data_words s here.words in
       let low = here.low in
       let shape = here.shape in
-      push_any_goes image inside s.pc last (omega arith) places x w r i (omega (arith, shape.1)) shape.2 (λ q. other (sym (swapped r i) ∙ q)) here.stands (omega arith) room.0 (omega (arith, room.1))
-      (λ v small y wy p. (v, after (PushAt r i) (λ m after. Pushed m after v) ((last + 1) % 32768) y wy (ends_at 9 e) p))
-
-  pub push_ends : (r i : ℕ) → IsAt image (PushAt r i) s → last + 1 ≡ s.pc + 9 → address_at s.memory r i ≢ 24576 → Does image inside last (Unit {0}) (λ t. Unit {0}) 8 s
-  push_ends r i here e other =
-      let w = data_words s here.words in
-      let low = here.low in
-      let shape = here.shape in
-      push_ends_goes image inside s.pc last (omega arith) places x w r i (omega (arith, shape.1)) shape.2 (λ q. other (sym (swapped r i) ∙ q)) here.stands (omega arith)
-
-  pub pop_ends : (r i : ℕ) → IsAt image (PopAt r i) s → last + 1 ≡ s.pc + 12 → HasValues 1 s.memory → Does image inside last (Unit {0}) (λ t. Unit {0}) 11 s
-  pop_ends r i here e some =
-      let w = data_words s here.words in
-      let low = here.low in
-      let shape = here.shape in
-      pop_any_goes image inside s.pc last (omega arith) places x w r i shape.0 (omega (arith, shape.1)) shape.2 here.stands (omega arith) some.0 some.1
+      pop_any_goes image inside s.pc last (omega arith) places x w (take 5 (pop_first r)) 5 (s.memory r) refl (up_to image s.pc 5 (pop_first r) here.stands) (stores_first r here e) (omega arith)
+      (ready_first image inside s.pc last (omega arith) places x w r some.0 some.1 shape.0 (omega (arith, shape.1)))
+  pop_ends _ a here e some to = absurd to
 
 -- the command at its own addresses
 module _ (image : List ℕ) (s : Machine) (c : Shape) (here : IsAt image c s) where
@@ -208,17 +249,8 @@ module _ (image : List ℕ) (s : Machine) (c : Shape) (here : IsAt image c s) wh
 pub commands_go : CommandsGo
 commands_go = record {
   goes = λ image c s here ready. command_goes image (λ k. (s.pc ≤ k) × (k + 1 < s.pc + size c)) s (s.pc + size c - 1) (own image s c here) c here (its_last image s c here) ready;
-  hears = λ image base index s here room at_key.
-      let c = PushAt base index in
-      let e : s.pc + 8 + 1 ≡ s.pc + 9 = omega arith in
-      push_hears image (λ k. (s.pc ≤ k) × (k + 1 < s.pc + 9)) s (s.pc + 8) (λ k a b. (a, omega arith)) base index here e room at_key;
-  strays = λ image base index s here room other.
-      let c = PushAt base index in
-      push_strays image (λ k. (s.pc ≤ k) × (k + 1 < s.pc + size c)) s (s.pc + size c - 1) (own image s c here) base index here (its_last image s c here) room other;
-  push_ends = λ image base index s here other.
-      let c = PushAt base index in
-      push_ends image (λ k. (s.pc ≤ k) × (k + 1 < s.pc + size c)) s (s.pc + size c - 1) (own image s c here) base index here (its_last image s c here) other;
-  pop_ends = λ image base index s here some.
-      let c = PopAt base index in
-      pop_ends image (λ k. (s.pc ≤ k) × (k + 1 < s.pc + size c)) s (s.pc + size c - 1) (own image s c here) base index here (its_last image s c here) some;
+  hears = λ image c s here room from. push_hears image (λ k. (s.pc ≤ k) × (k + 1 < s.pc + size c)) s (s.pc + size c - 1) (own image s c here) c here (its_last image s c here) room from;
+  strays = λ image c s a here room from other. push_strays image (λ k. (s.pc ≤ k) × (k + 1 < s.pc + size c)) s (s.pc + size c - 1) (own image s c here) c a here (its_last image s c here) room from other;
+  push_ends = λ image c s a here from other. push_ends image (λ k. (s.pc ≤ k) × (k + 1 < s.pc + size c)) s (s.pc + size c - 1) (own image s c here) c a here (its_last image s c here) from other;
+  pop_ends = λ image c s a here some to. pop_ends image (λ k. (s.pc ≤ k) × (k + 1 < s.pc + size c)) s (s.pc + size c - 1) (own image s c here) c a here (its_last image s c here) some to;
 }

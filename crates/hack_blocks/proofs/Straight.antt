@@ -2,7 +2,7 @@
 use Rattle.std.proofs.Common.{ℕ, true, ◌+◌, ◌-◌, ◌<◌, ◌≤◌, ◌%◌, arith}
 use Rattle.std.proofs.lemmas.Bool.Decides.{nat_tests}
 use Rattle.hack_isa.specs.declared.Instr.TheVariants.{Compute}
-use Rattle.hack_blocks.specs.Templates.{push_d, push_constant, push_word, push_at, pop_word, pop_at, join, turn}
+use Rattle.hack_blocks.specs.Templates.{push_d, push_constant, push_word, push_at, push_first, pop_word, join, turn}
 use Rattle.hack_blocks.specs.Effects.{Pushed, Joined, Turned, Stored}
 use Rattle.hack_blocks.proofs.Alu.{comp_value}
 use Rattle.hack_blocks.proofs.Block.{Data, do_block, Safe}
@@ -21,11 +21,11 @@ module _ (x : Data) where
   pub push_at_does : (r i : ℕ) → 256 ≤ x.m 0 → x.m 0 < 2048 → r < 24576 → i < 32768 → (i + x.m r) % 65536 < 24576 → Pushed x.m (do_block (push_at r i) x).m (x.m ((i + x.m r) % 65536)) × Safe (push_at r i) x
   push_at_does r i low high small index inside = (record { sp = grind (arith, nat_tests); top = grind (arith, nat_tests); same = λ k h e. grind (arith, nat_tests) }, search arith)
 
+  pub push_first_does : (r : ℕ) → 256 ≤ x.m 0 → x.m 0 < 2048 → r < 24576 → x.m r < 24576 → Pushed x.m (do_block (push_first r) x).m (x.m (x.m r)) × Safe (push_first r) x
+  push_first_does r low high small inside = (record { sp = grind (arith, nat_tests); top = grind (arith, nat_tests); same = λ k h e. grind (arith, nat_tests) }, search arith)
+
   pub pop_word_does : (r : ℕ) → 257 ≤ x.m 0 → x.m 0 ≤ 2048 → 1 ≤ r → r < 256 → Stored x.m (do_block (pop_word r) x).m r × Safe (pop_word r) x
   pop_word_does r low high one small = (record { sp = grind (arith, nat_tests); there = grind (arith, nat_tests); same = λ k h e. grind (arith, nat_tests) }, search arith)
-
-  pub pop_at_does : (r i : ℕ) → 257 ≤ x.m 0 → x.m 0 ≤ 2048 → 1 ≤ r → r < 13 → 256 ≤ (i + x.m r) % 65536 → (i + x.m r) % 65536 < 2048 → i < 32768 → Stored x.m (do_block (pop_at r i) x).m ((i + x.m r) % 65536) × Safe (pop_at r i) x
-  pop_at_does r i low high one small base top index = (record { sp = grind (arith, nat_tests); there = grind (arith, nat_tests); same = λ k h e. grind (arith, nat_tests) }, search arith)
 
   pub join_does : (comp : ℕ) → 258 ≤ x.m 0 → x.m 0 ≤ 2048 → Joined x.m (do_block (join (Compute true comp 1 0)) x).m (comp_value comp (x.m (x.m 0 - 1)) (x.m (x.m 0 - 2))) × Safe (join (Compute true comp 1 0)) x
   join_does comp low high = (record { sp = grind (arith, nat_tests); top = grind (arith, nat_tests); same = λ k h e. grind (arith, nat_tests) }, search arith)

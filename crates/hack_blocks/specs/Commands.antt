@@ -1,11 +1,12 @@
 -- What the instructions of each command do: from where, to where, and what they change.
 use Rattle.std.specs.Prelude.{◌≡◌, ◌≢◌, ℕ, ◌+◌, ◌-◌, ◌<◌, ◌≤◌, ◌%◌, if◌then◌else◌, nat_eq, bit_and, bit_or, List}
+use Rattle.word16.specs.Memory.{heap, keyboard}
 use Rattle.word16.specs.Words.{word_add, word_sub, word_neg, word_not}
-use Rattle.hack_isa.specs.Machine.{Machine}
+use Rattle.hack_isa.specs.Machine.{Machine, image_words}
 use Rattle.layers.specs.System.{IsData}
 use Rattle.hack_blocks.specs.declared.shape.Shape.{Shape}
-use Rattle.hack_blocks.specs.declared.shape.Shape.TheVariants.{PushConstant, PushAt, PushWord, PopAt, PopWord, Add, Sub, And, Or, Neg, Not, Eq, Gt, Lt, Goto, IfGoto, Call, Function, Return}
-use Rattle.hack_blocks.specs.Templates.{template, size, budget}
+use Rattle.hack_blocks.specs.declared.shape.Shape.TheVariants.{PushConstant, PushAt, PushFirst, PushWord, PopAt, PopFirst, PopWord, Add, Sub, And, Or, Neg, Not, Eq, Gt, Lt, Goto, IfGoto, Call, Function, Return}
+use Rattle.hack_blocks.specs.Templates.{template, size}
 use Rattle.hack_blocks.specs.Computer.{Stands}
 use Rattle.hack_blocks.specs.Going.{Does, DoesHearing}
 use Rattle.hack_blocks.specs.Effects.{Pushed, Joined, Turned, Stored, Dropped, Called, PushedAll, Returned, HasWords}
@@ -15,8 +16,10 @@ use Rattle.hack_blocks.specs.Comparing.{equal, greater, less}
 abbrev pub IsShape : Shape → Type 0
 IsShape (PushConstant n) = n < 32768
 IsShape (PushAt base index) = (1 ≤ base) × (base ≤ 4) × (index < 32768)
+IsShape (PushFirst base) = (1 ≤ base) × (base ≤ 4)
 IsShape (PushWord address) = (3 ≤ address) × (address < 256)
 IsShape (PopAt base index) = (1 ≤ base) × (base ≤ 4) × (index < 32768)
+IsShape (PopFirst base) = (1 ≤ base) × (base ≤ 4)
 IsShape (PopWord address) = (3 ≤ address) × (address < 256)
 IsShape (Goto target) = target < 32768
 IsShape (IfGoto target) = target < 32768
@@ -25,11 +28,11 @@ IsShape c = Unit {0}
 
 -- so many values can be taken from the stack, 256 to 2047
 abbrev pub HasValues : ℕ → (ℕ → ℕ) → Type 0
-HasValues n m = (256 + n ≤ m 0) × (m 0 ≤ 2048)
+HasValues n m = (256 + n ≤ m 0) × (m 0 ≤ heap)
 
 -- so many words can be put on it
 abbrev pub HasRoom : ℕ → (ℕ → ℕ) → Type 0
-HasRoom n m = (256 ≤ m 0) × (m 0 + n ≤ 2048)
+HasRoom n m = (256 ≤ m 0) × (m 0 + n ≤ heap)
 
 -- the address at an index from where a register points, modulo 65,536
 abbrev pub address_at : (ℕ → ℕ) → ℕ → ℕ → ℕ
@@ -44,9 +47,11 @@ second m = m (m 0 - 2)
 -- What a command asks of the memory: values or room on the stack, an address that is a word of memory, a frame to return from.
 abbrev pub Ready : Shape → (ℕ → ℕ) → Type 0
 Ready (PushConstant n) m = HasRoom 1 m
-Ready (PushAt base index) m = HasRoom 1 m × (address_at m base index < 24576)
+Ready (PushAt base index) m = HasRoom 1 m × (address_at m base index < keyboard)
+Ready (PushFirst base) m = HasRoom 1 m × (m base < keyboard)
 Ready (PushWord address) m = HasRoom 1 m
-Ready (PopAt base index) m = HasValues 1 m × (256 ≤ address_at m base index) × (address_at m base index < 24576)
+Ready (PopAt base index) m = HasValues 1 m × (256 ≤ address_at m base index) × (address_at m base index < keyboard)
+Ready (PopFirst base) m = HasValues 1 m × (256 ≤ m base) × (m base < keyboard)
 Ready (PopWord address) m = HasValues 1 m
 Ready Neg m = HasValues 1 m
 Ready Not m = HasValues 1 m
@@ -54,20 +59,35 @@ Ready (Goto target) m = Unit {0}
 Ready (IfGoto target) m = HasValues 1 m
 Ready (Call target arguments) m = HasRoom 5 m × (arguments ≤ m 0)
 Ready (Function locals) m = HasRoom locals m
-Ready Return m = HasValues 1 m × (256 ≤ m 2) × (m 2 + 5 ≤ m 1) × (m 1 ≤ 2048) × (m (m 1 - 5) < 32768)
+Ready Return m = HasValues 1 m × (256 ≤ m 2) × (m 2 + 5 ≤ m 1) × (m 1 ≤ heap) × (m (m 1 - 5) < 32768)
 Ready c m = HasValues 2 m
+
+-- a push of the word at an address that a register tells
+abbrev pub PushesFrom : Shape → (ℕ → ℕ) → ℕ → Type 0
+PushesFrom (PushAt base index) m address = address_at m base index ≡ address
+PushesFrom (PushFirst base) m address = m base ≡ address
+PushesFrom c m address = ⊥
+
+-- a pop to the word at such an address
+abbrev pub PopsTo : Shape → (ℕ → ℕ) → ℕ → Type 0
+PopsTo (PopAt base index) m address = address_at m base index ≡ address
+PopsTo (PopFirst base) m address = m base ≡ address
+PopsTo c m address = ⊥
 
 -- Only a pop to a segment may write data, where its address is one of data.
 abbrev pub MayStore : Shape → (ℕ → ℕ) → Type 0
 MayStore (PopAt base index) m = IsData (address_at m base index)
+MayStore (PopFirst base) m = IsData (m base)
 MayStore c m = ⊥
 
 -- what a command at an address changes in memory
 abbrev pub Effect : Shape → ℕ → (ℕ → ℕ) → (ℕ → ℕ) → Type 0
 Effect (PushConstant n) here m after = Pushed m after n
 Effect (PushAt base index) here m after = Pushed m after (m (address_at m base index))
+Effect (PushFirst base) here m after = Pushed m after (m (m base))
 Effect (PushWord address) here m after = Pushed m after (m address)
 Effect (PopAt base index) here m after = Stored m after (address_at m base index)
+Effect (PopFirst base) here m after = Stored m after (m base)
 Effect (PopWord address) here m after = Stored m after address
 Effect Add here m after = Joined m after (word_add (second m) (topmost m))
 Effect Sub here m after = Joined m after (word_sub (second m) (topmost m))
@@ -96,12 +116,12 @@ next c here m = (here + size c) % 32768
 pub record IsAt (image : List ℕ) (c : Shape) (s : Machine) : Type 0 where
   pub words : HasWords s
   pub shape : IsShape c
-  pub low : s.pc + size c ≤ 32768
+  pub low : s.pc + size c ≤ image_words
   pub stands : Stands image s.pc (template s.pc c)
 
--- Its instructions are gone through from there, and the last one leads to the goal, in at most as many steps as the command may take.
+-- Its instructions are gone through from there, each at most once, and the last one leads to the goal.
 abbrev pub Goes : List ℕ → Shape → Type 0 → (Machine → Type 0) → Machine → Type 0
-Goes image c may_write goal s = Does image (λ k. (s.pc ≤ k) × (k + 1 < s.pc + size c)) (s.pc + size c - 1) may_write goal (budget c - 1) s
+Goes image c may_write goal s = Does image (λ k. (s.pc ≤ k) × (k + 1 < s.pc + size c)) (s.pc + size c - 1) may_write goal (size c - 1) s
 
 -- what holds after a command with this effect
 pub record After (c : Shape) (effect : (ℕ → ℕ) → (ℕ → ℕ) → Type 0) (s t : Machine) : Type 0 where
@@ -113,12 +133,12 @@ pub record After (c : Shape) (effect : (ℕ → ℕ) → (ℕ → ℕ) → Type 
 pub record CommandsGo : Type 0 where
   -- from where it is ready, the command has its effect
   pub goes : (image : List ℕ) (c : Shape) (s : Machine) → IsAt image c s → Ready c s.memory → Goes image c (MayStore c s.memory) (After c (Effect c s.pc) s) s
-  -- A push of the word at 24,576 reads the key once, in its fifth step, and pushes it.
-  pub hears : (image : List ℕ) (base index : ℕ) (s : Machine) → IsAt image (PushAt base index) s → HasRoom 1 s.memory → address_at s.memory base index ≡ 24576
-      → DoesHearing image (λ k. (s.pc ≤ k) × (k + 1 < s.pc + 9)) (s.pc + 8) ⊥ (λ key. After (PushAt base index) (λ m after. Pushed m after key) s) 4 3 s
+  -- A push of the word at 24,576 reads the key once, in the fifth step before its end, and pushes it.
+  pub hears : (image : List ℕ) (c : Shape) (s : Machine) → IsAt image c s → HasRoom 1 s.memory → PushesFrom c s.memory keyboard
+      → DoesHearing image (λ k. (s.pc ≤ k) × (k + 1 < s.pc + size c)) (s.pc + size c - 1) ⊥ (λ key. After c (λ m after. Pushed m after key) s) (size c - 5) 3 s
   -- A push of any other word has the effect of some word: no key is read.
-  pub strays : (image : List ℕ) (base index : ℕ) (s : Machine) → IsAt image (PushAt base index) s → HasRoom 1 s.memory → address_at s.memory base index ≢ 24576
-      → Goes image (PushAt base index) ⊥ (λ t. (v : ℕ) × After (PushAt base index) (λ m after. Pushed m after v) s t) s
+  pub strays : (image : List ℕ) (c : Shape) (s : Machine) (address : ℕ) → IsAt image c s → HasRoom 1 s.memory → PushesFrom c s.memory address → address ≢ keyboard
+      → Goes image c ⊥ (λ t. (v : ℕ) × After c (λ m after. Pushed m after v) s t) s
   -- It comes to its last instruction also where the stack is full, and so does a pop to any address: nothing is said of what that writes.
-  pub push_ends : (image : List ℕ) (base index : ℕ) (s : Machine) → IsAt image (PushAt base index) s → address_at s.memory base index ≢ 24576 → Goes image (PushAt base index) (Unit {0}) (λ t. Unit {0}) s
-  pub pop_ends : (image : List ℕ) (base index : ℕ) (s : Machine) → IsAt image (PopAt base index) s → HasValues 1 s.memory → Goes image (PopAt base index) (Unit {0}) (λ t. Unit {0}) s
+  pub push_ends : (image : List ℕ) (c : Shape) (s : Machine) (address : ℕ) → IsAt image c s → PushesFrom c s.memory address → address ≢ keyboard → Goes image c (Unit {0}) (λ t. Unit {0}) s
+  pub pop_ends : (image : List ℕ) (c : Shape) (s : Machine) (address : ℕ) → IsAt image c s → HasValues 1 s.memory → PopsTo c s.memory address → Goes image c (Unit {0}) (λ t. Unit {0}) s

@@ -1,9 +1,10 @@
 -- The computer as a machine of the layers: an image, the points and commits of its addresses, and the endless loop at its end.
 use Rattle.std.specs.Prelude.{◌≡◌, ℕ, ◌+◌, ◌<◌, Bool, true, false, nat_eq, ◌&&◌, ◌||◌, List, [], ◌∷◌, Option, Some, slice_index}
+use Rattle.word16.specs.Memory.{keyboard}
 use Rattle.outer_world.specs.declared.point.Point.{Point}
 use Rattle.word16.specs.Words.{has_bit}
 use Rattle.hack_isa.specs.Table.{instr_of}
-use Rattle.hack_isa.specs.Machine.{Machine, step}
+use Rattle.hack_isa.specs.Machine.{Machine, step, image_words}
 use Rattle.hack_isa.specs.declared.Instr.{Instr}
 use Rattle.layers.specs.System.{System}
 use Rattle.hack_blocks.specs.Templates.{endless}
@@ -13,9 +14,9 @@ pub record Map : Type 0 where
   pub points : ℕ → Option Point
   pub commits : ℕ → Bool
 
--- The instruction reads M while A is 24,576: bit 15 tells that it computes, bit 12 that it reads M.
+-- The instruction reads M while A is the keyboard's address: bit 15 tells that it computes, bit 12 that it reads M.
 abbrev pub reads_key : ℕ → ℕ → Bool
-reads_key instruction a = has_bit instruction 15 && (has_bit instruction 12 && nat_eq a 24576)
+reads_key instruction a = has_bit instruction 15 && (has_bit instruction 12 && nat_eq a keyboard)
 
 -- The machine stands in the endless loop at an address: before its first instruction, or before its jump with A at the loop.
 abbrev pub in_loop : ℕ → Machine → Bool
@@ -40,7 +41,7 @@ Stands image here (i ∷ is) = (instr_of (slice_index image here) ≡ i) × Stan
 
 -- The endless loop stands at an address. Its instructions are no commits and have one point.
 pub record HasLoop (image : List ℕ) (map : Map) (loop : ℕ) : Type 0 where
-  pub low : loop + 1 < 32768
+  pub low : loop + 1 < image_words
   pub stands : Stands image loop (endless loop)
   pub commits : (map.commits loop ≡ false) × (map.commits (loop + 1) ≡ false)
   pub points : map.points (loop + 1) ≡ map.points loop

@@ -1,5 +1,6 @@
 -- How the computer goes through the instructions of a command, whatever the keys.
 use Rattle.std.specs.Prelude.{◌≡◌, ℕ, suc, ◌%◌, true, List}
+use Rattle.word16.specs.Memory.{keyboard}
 use Rattle.word16.specs.Words.{has_bit}
 use Rattle.hack_isa.specs.Machine.{Machine, fetch, step}
 use Rattle.hack_isa.specs.declared.Instr.{Instr}
@@ -14,7 +15,7 @@ IsDataWrite (Compute m comp dest jump) s = (has_bit dest 0 ≡ true) × IsData (
 -- the instruction reads M while A is 24,576: it reads the key
 abbrev pub IsKeyRead : Instr → Machine → Type 0
 IsKeyRead (Address n) s = ⊥
-IsKeyRead (Compute m comp dest jump) s = (m ≡ true) × (s.a ≡ 24576)
+IsKeyRead (Compute m comp dest jump) s = (m ≡ true) × (s.a ≡ keyboard)
 
 -- a step at one of these addresses, with no data write and no key read
 pub record Quiet (image : List ℕ) (inside : ℕ → Type 0) (s : Machine) : Type 0 where

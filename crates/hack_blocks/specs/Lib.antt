@@ -1,4 +1,5 @@
 pub mod Templates
+pub mod Budgets
 pub mod Computer
 pub mod Going
 pub mod Effects

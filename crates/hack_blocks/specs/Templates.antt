@@ -4,7 +4,7 @@ use Rattle.std.specs.Prelude.{ℕ, zero, suc, ◌+◌, ◌*◌, ◌%◌, List, [
 use Rattle.hack_isa.specs.declared.Instr.{Instr}
 use Rattle.hack_isa.specs.declared.Instr.TheVariants.{Address}
 use Rattle.hack_blocks.specs.declared.shape.Shape.{Shape}
-use Rattle.hack_blocks.specs.declared.shape.Shape.TheVariants.{PushConstant, PushAt, PushWord, PopAt, PopWord, Add, Sub, And, Or, Neg, Not, Eq, Gt, Lt, Goto, IfGoto, Call, Function, Return}
+use Rattle.hack_blocks.specs.declared.shape.Shape.TheVariants.{PushConstant, PushAt, PushFirst, PushWord, PopAt, PopFirst, PopWord, Add, Sub, And, Or, Neg, Not, Eq, Gt, Lt, Goto, IfGoto, Call, Function, Return}
 use Rattle.hack_blocks.specs.declared.instructions.TheConstants.{D_IS_A, D_IS_M, A_IS_M, M_IS_D, M_IS_0, D_IS_0, D_IS_1, D_IS_MINUS_1, AM_IS_M_MINUS_1, AM_IS_M_PLUS_1, A_IS_A_MINUS_1, A_IS_M_MINUS_1, D_IS_M_PLUS_1, A_IS_D_PLUS_M, D_IS_D_PLUS_M, D_IS_D_MINUS_M, D_IS_D_MINUS_A, A_IS_D_MINUS_A, M_IS_D_PLUS_M, M_IS_M_MINUS_D, M_IS_D_AND_M, M_IS_D_OR_M, M_IS_MINUS_M, M_IS_NOT_M, JUMP, IF_D_LESS, IF_D_GREATER, IF_D_EQUAL, IF_D_NOT_LESS, IF_D_NOT_EQUAL}
 
 -- D goes on the stack
@@ -23,6 +23,10 @@ push_word address = Address address ∷ D_IS_M ∷ push_d
 abbrev pub push_at : ℕ → ℕ → List Instr
 push_at base index = Address index ∷ D_IS_A ∷ Address base ∷ A_IS_D_PLUS_M ∷ D_IS_M ∷ push_d
 
+-- the word that the register points to goes on the stack
+abbrev pub push_first : ℕ → List Instr
+push_first base = Address base ∷ A_IS_M ∷ D_IS_M ∷ push_d
+
 -- the topmost value goes to D
 abbrev pub pop_d : List Instr
 pop_d = Address 0 ∷ AM_IS_M_MINUS_1 ∷ D_IS_M ∷ []
@@ -35,6 +39,10 @@ pop_word address = pop_d ++ Address address ∷ M_IS_D ∷ []
 abbrev pub pop_at : ℕ → ℕ → List Instr
 pop_at base index =
     Address index ∷ D_IS_A ∷ Address base ∷ D_IS_D_PLUS_M ∷ Address 13 ∷ M_IS_D ∷ (pop_d ++ Address 13 ∷ A_IS_M ∷ M_IS_D ∷ [])
+
+-- the topmost value goes to the word that the register points to
+abbrev pub pop_first : ℕ → List Instr
+pop_first base = pop_d ++ Address base ∷ A_IS_M ∷ M_IS_D ∷ []
 
 -- the two topmost values give way to one, which the instruction makes in the place of the lower from D, the upper
 abbrev pub join : Instr → List Instr
@@ -108,8 +116,10 @@ return_code = save_return ++ (put_result ++ (restore 4 ++ (restore 3 ++ (restore
 abbrev pub template : ℕ → Shape → List Instr
 template here (PushConstant n) = push_constant n
 template here (PushAt base index) = push_at base index
+template here (PushFirst base) = push_first base
 template here (PushWord address) = push_word address
 template here (PopAt base index) = pop_at base index
+template here (PopFirst base) = pop_first base
 template here (PopWord address) = pop_word address
 template here Add = join M_IS_D_PLUS_M
 template here Sub = join M_IS_M_MINUS_D
@@ -130,8 +140,10 @@ template here Return = return_code
 abbrev pub size : Shape → ℕ
 size (PushConstant n) = 6
 size (PushAt base index) = 9
+size (PushFirst base) = 7
 size (PushWord address) = 6
 size (PopAt base index) = 12
+size (PopFirst base) = 6
 size (PopWord address) = 5
 size Add = 5
 size Sub = 5
@@ -148,28 +160,6 @@ size (Call target arguments) = 42
 size (Function locals) = 4 * locals + 1
 size Return = 42
 
--- the most that a command may take, in words and in steps
-abbrev pub budget : Shape → ℕ
-budget (PushConstant n) = 9
-budget (PushAt base index) = 9
-budget (PushWord address) = 9
-budget (PopAt base index) = 12
-budget (PopWord address) = 12
-budget Add = 5
-budget Sub = 5
-budget And = 5
-budget Or = 5
-budget Neg = 3
-budget Not = 3
-budget Eq = 48
-budget Gt = 48
-budget Lt = 48
-budget (Goto target) = 2
-budget (IfGoto target) = 5
-budget (Call target arguments) = 60
-budget (Function locals) = 14 + 4 * locals
-budget Return = 66
-
 -- SP is 256
 abbrev pub set_stack : List Instr
 set_stack = Address 256 ∷ D_IS_A ∷ Address 0 ∷ M_IS_D ∷ []
@@ -178,6 +168,13 @@ set_stack = Address 256 ∷ D_IS_A ∷ Address 0 ∷ M_IS_D ∷ []
 abbrev pub endless : ℕ → List Instr
 endless here = Address here ∷ JUMP ∷ []
 
--- The start, at address 0: the stack, `call Sys.init 0`, `pop temp 0`, and the endless loop at 51. (The book, chapter 8.)
+-- where the start's endless loop stands, and how many instructions the start has
+abbrev pub endless_loop : ℕ
+endless_loop = 51
+
+abbrev pub start_size : ℕ
+start_size = 53
+
+-- The start, at address 0: the stack, `call Sys.init 0`, `pop temp 0`, and the endless loop. (The book, chapter 8.)
 abbrev pub start_code : ℕ → List Instr
-start_code sys_init = set_stack ++ (template 4 (Call sys_init 0) ++ (template 46 (PopWord 5) ++ endless 51))
+start_code sys_init = set_stack ++ (template 4 (Call sys_init 0) ++ (template 46 (PopWord 5) ++ endless endless_loop))

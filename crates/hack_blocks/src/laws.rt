@@ -1,4 +1,5 @@
 //! Laws of the templates: no code, only the statements.
+ghost use Rattle.hack_blocks.specs.Budgets.{TakesStepsAsWords};
 ghost use Rattle.hack_blocks.specs.Commands.{CommandsGo};
 ghost use Rattle.hack_blocks.specs.Laws.{TemplatesFit, InstructionsStand, Starts, LoopsIdle};
 ghost use Rattle.hack_blocks.specs.Ways.{StepsAreWays};
@@ -9,7 +10,7 @@ pub fn commands_law()
     ensures { CommandsGo }
 {}
 
-/// Law: templates have the words that they may have, and stand in an image of their words.
+/// Law: templates have as many words as is said, and stand in an image of their words.
 #[tactic(auto, using(crate::proofs::Placed::templates_fit, crate::proofs::Placed::instructions_stand))]
 pub fn templates_law()
     ensures fit { TemplatesFit }
@@ -23,8 +24,13 @@ pub fn start_law()
     ensures idle { LoopsIdle }
 {}
 
-/// Law: what goes by steps of the computer is a way of the layers.
-#[tactic(auto, using(crate::proofs::Ways::steps_are_ways))]
-pub fn ways_law()
-    ensures { StepsAreWays }
+/// Law: what goes by steps of the computer is a way of the layers, whatever the upper machine's states are.
+pub fn ways_law<U>()
+    ensures { StepsAreWays U }
+{}
+
+/// Law: a command may take as many steps as its instructions may have words.
+#[tactic(auto, using(crate::proofs::Budgets::takes_steps_as_words))]
+pub fn budgets_law()
+    ensures { TakesStepsAsWords }
 {}

@@ -5,8 +5,14 @@ pub mod instructions;
 mod laws;
 pub mod shape;
 
-pub use laws::{commands_law, start_law, templates_law, ways_law};
+pub use laws::{budgets_law, commands_law, start_law, templates_law, ways_law};
 pub use shape::Shape;
+
+/// The address of the start code's endless loop.
+pub const ENDLESS_LOOP: u16 = 51;
+
+/// How many instructions the start code has.
+pub const START_SIZE: u16 = 53;
 
 #[cfg(test)]
 mod tests {

@@ -7,10 +7,14 @@ pub enum Shape {
     PushConstant(u16),
     /// A push from argument, local, this or that: the register `base` holds where the segment begins.
     PushAt { base: u16, index: u16 },
+    /// A push of such a segment's first word, to which the register points.
+    PushFirst { base: u16 },
     /// A push from static, pointer or temp: of the word at this address.
     PushWord(u16),
     /// A pop to argument, local, this or that.
     PopAt { base: u16, index: u16 },
+    /// A pop to such a segment's first word.
+    PopFirst { base: u16 },
     /// A pop to static, pointer or temp.
     PopWord(u16),
     Add,

@@ -1,11 +1,16 @@
 -- The Hack machine: its state, one step, and a run. (The book, chapters 4 and 5.)
 use Rattle.std.specs.Prelude.{ℕ, zero, suc, ◌+◌, ◌%◌, Bool, nat_lt, nat_eq, if◌then◌else◌, ◌&&◌, List, [], ◌∷◌, slice_index}
+use Rattle.word16.specs.Memory.{keyboard}
 use Rattle.word16.specs.Words.{has_bit}
 use Rattle.hack_isa.specs.Table.{alu_out, instr_of}
 use Rattle.hack_isa.specs.declared.Instr.{Instr}
 use Rattle.hack_isa.specs.declared.Instr.TheVariants.{Address, Compute}
 
--- A, D, the program counter, and the word at each data address below 24,576
+-- how many words instruction memory has: no image is longer
+abbrev pub image_words : ℕ
+image_words = 32768
+
+-- A, D, the program counter, and the word at each data address below the keyboard's
 pub record Machine : Type 0 where
   pub a : ℕ
   pub d : ℕ
@@ -15,13 +20,13 @@ pub record Machine : Type 0 where
 abbrev pub start : Machine
 start = record { a = 0; d = 0; pc = 0; memory = λ k. 0 }
 
--- What M is: a word of memory, or, from 24,576 on, the key. Of A the lowest 15 bits address memory.
+-- What M is: a word of memory, or, from the keyboard's address on, the key. Of A the lowest 15 bits address memory.
 unfoldable pub read : (ℕ → ℕ) → ℕ → ℕ → ℕ
-read memory key a = if nat_lt (a % 32768) 24576 then memory (a % 32768) else key
+read memory key a = if nat_lt (a % 32768) keyboard then memory (a % 32768) else key
 
--- memory after a write, which changes nothing from 24,576 up
+-- memory after a write, which changes nothing from the keyboard's address up
 unfoldable pub write : (ℕ → ℕ) → ℕ → ℕ → ℕ → ℕ
-write memory a v k = if nat_eq k (a % 32768) && nat_lt k 24576 then v else memory k
+write memory a v k = if nat_eq k (a % 32768) && nat_lt k keyboard then v else memory k
 
 -- whether a jump's condition holds: less, equal, greater than 0
 unfoldable pub jumps : ℕ → ℕ → Bool

@@ -6,6 +6,9 @@ ghost use Rattle.hack_isa.specs.Table.{preset, combine, alu_out, DecodesBack, We
 
 use word16::bit;
 
+/// How many words instruction memory has: no image is longer.
+pub const IMAGE_WORDS: usize = 32768;
+
 /// One instruction of the machine.
 #[derive(Clone, Copy, PartialEq, Eq, Debug)]
 pub enum Instr {

@@ -9,6 +9,8 @@ use machine_io::{Level, Moved};
 use std::alloc::AllocError;
 
 impl Level for Hack {
+    ghost use Rattle.machine_io.specs.declared.machine.Moved.TheVariants.{Acted};
+
     type Point = u16;
 
     ghost stands = { λ h turns. HasTaken h turns };
@@ -21,6 +23,8 @@ impl Level for Hack {
 
     ghost at_point = { λ h. h.pc };
 
+    ghost reply = { λ _ _. Acted };
+
     ghost sure = { true };
 
     ghost Program = { List ℕ };
@@ -29,8 +33,7 @@ impl Level for Hack {
 
     #[inline(always)]
     fn step(&mut self, key: u16) -> Result<Moved, AllocError> {
-        Hack::step(self, key);
-        Ok(Moved::Acted)
+        Ok(Hack::step(self, key))
     }
 
     fn moves(&self) -> u64 {

@@ -2,18 +2,20 @@
 #![tactic(auto)]
 
 ghost use Rattle.std.specs.Prelude.{if◌then◌else◌, ◌≡◌, ◌+◌, ◌<◌, ◌≤◌, ◌%◌, ◌^◌, ◌++◌, [], ◌∷◌, ℕ, List, length, IfOk, slice_index};
+ghost use Rattle.word16.specs.Memory.{keyboard};
 ghost use Rattle.word16.specs.Words.{has_bit};
 ghost use Rattle.hack_isa.specs.Table.{instr_of};
-ghost use Rattle.hack_isa.specs.Machine.{read, write, jumps, step, start};
+ghost use Rattle.hack_isa.specs.Machine.{read, write, jumps, step, start, image_words};
 ghost use Rattle.hack_machine.specs.Loaded.{LoadedMachine, HasRun, RunsThroughCycles, machine_of, words_of};
 ghost use Rattle.hack_machine.specs.Turns.{HasTaken};
 
 mod level;
 
 use hack_isa::{Instr, alu, decode};
+use machine_io::Moved;
 use std::alloc::{AllocError, Global};
 use std::marker::Model;
-use word16::bit;
+use word16::{KEYBOARD, bit};
 
 /// The machine with its image: the words of the instruction memory, which are 0 past the image.
 #[derive(Drop)]
@@ -31,19 +33,19 @@ impl Model for Hack {
 
     ghost view = { λ h. record { image = h.image.items; a = h.a; d = h.d; pc = h.pc; ram = h.ram.items; moves = h.moves } };
 
-    ghost invariant = { λ h. (length h.ram.items ≡ 24576) × (h.pc < 32768) };
+    ghost invariant = { λ h. (length h.ram.items ≡ keyboard) × (h.pc < 32768) };
 }
 
-// What the ALU takes beside D: A, or the word that A addresses, which from 24576 on is the key.
+// What the ALU takes beside D: A, or the word that A addresses, which from the keyboard's address on is the key.
 #[tactic(auto, unfolding(hack_isa::specs::Machine::read))]
 fn operand(ram: &[u16], key: u16, memory: bool, a: u16) -> u16
-    requires { length ram.now ≡ 24576 }
+    requires { length ram.now ≡ keyboard }
     ensures { result ≡ (if memory then read (words_of ram.now) key a else a) }
 {
     let at = a % 32768;
     if !memory {
         a
-    } else if at < 24576 {
+    } else if at < KEYBOARD {
         ram[at as usize]
     } else {
         key
@@ -52,18 +54,18 @@ fn operand(ram: &[u16], key: u16, memory: bool, a: u16) -> u16
 
 #[tactic(auto, using(crate::proofs::Memory::stored))]
 fn write_at(ram: &mut Vec<u16>, a: u16, v: u16)
-    requires { length ram.old.items ≡ 24576 }
+    requires { length ram.old.items ≡ keyboard }
     ensures kept { length ram.new.items ≡ length ram.old.items }
     ensures words { words_of ram.new.items ≡ write (words_of ram.old.items) a v }
 {
     let at = a % 32768;
-    if at < 24576 {
+    if at < KEYBOARD {
         ram[at as usize] = v;
     }
 }
 
 fn store(ram: &mut Vec<u16>, dest: u8, a: u16, v: u16)
-    requires { length ram.old.items ≡ 24576 }
+    requires { length ram.old.items ≡ keyboard }
     ensures kept { length ram.new.items ≡ length ram.old.items }
     ensures words { words_of ram.new.items ≡ (if has_bit dest 0 then write (words_of ram.old.items) a v else words_of ram.old.items) }
 {
@@ -114,7 +116,7 @@ impl Hack {
     /// The machine at its start: all registers and words are 0. Fails only where memory is wanted.
     #[tactic(auto, using(crate::proofs::Memory::all_zero))]
     pub fn new(alloc: Global, image: &[u16]) -> Result<Hack, AllocError>
-        requires { length image.now ≤ 32768 }
+        requires { length image.now ≤ image_words }
         ensures image { IfOk result (λ h. h.image ≡ image.now) }
         ensures start { IfOk result (λ h. machine_of h ≡ start) }
         ensures run { IfOk result (λ h. HasRun h []) }
@@ -124,7 +126,7 @@ impl Hack {
             a: 0,
             d: 0,
             pc: 0,
-            ram: zeros(alloc, 24576)?,
+            ram: zeros(alloc, KEYBOARD as usize)?,
             image: Vec::from_slice(alloc, image)?,
             moves: 0,
         })
@@ -171,17 +173,19 @@ impl Hack {
         }
     }
 
-    /// One move: the instruction at the program counter, while `key` is held.
+    /// One move: the instruction at the program counter, while `key` is held. There is always one.
     #[inline(always)]
-    pub fn step(&mut self, key: u16)
+    pub fn step(&mut self, key: u16) -> Moved
         requires { self.old.moves < 2 ^ 63 }
         ensures image { self.new.image ≡ self.old.image }
         ensures moves { self.new.moves ≡ self.old.moves + 1 }
         ensures step { machine_of self.new ≡ step self.old.image key (machine_of self.old) }
+        ensures acts { result ≡ Moved.Acted }
         ensures run { (keys : List ℕ) → HasRun self.old keys → HasRun self.new (keys ++ key ∷ []) }
     {
         self.perform(key);
         self.moves += 1;
+        Moved::Acted
     }
 
     /// The register A.
@@ -208,13 +212,13 @@ impl Hack {
 
     /// The word at an address below that of the keyboard.
     pub fn ram(&self, k: u16) -> u16
-        requires { k < 24576 }
+        requires { k < keyboard }
         ensures { result ≡ (machine_of self.now).memory k }
     {
         self.ram[k as usize]
     }
 
-    /// What the machine reads at an address while `key` is held: a word of memory, or from 24,576 on the key.
+    /// What the machine reads at an address while `key` is held: a word of memory, or from the keyboard's address on the key.
     pub fn word_seen(&self, key: u16, address: u16) -> u16
         ensures { result ≡ read (machine_of self.now).memory key address }
     {

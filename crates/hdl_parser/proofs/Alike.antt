@@ -1,16 +1,15 @@
--- Tokens with the same texts, at whatever places, are read alike. Of a word's token the check and the value are asked only where it passes the test.
+-- Tokens that tell the same, at whatever places, are read alike. Of a word's token the check and the value are asked only where it passes the test.
 use Rattle.std.proofs.Common.{◌≡◌, Bool, true, false, List, [], ◌∷◌, map, Ok, cond, refl, sym, ap, ◌∙◌}
 use Rattle.std.specs.Prelude.{◌||◌}
 use Rattle.scan_text.specs.declared.Place.{Place}
 use Rattle.grammar.specs.Rules.{Rule, mark, word, end, seq, choice, option, repeat, name, within, Tree, Skip, Leaf, Pair, Left, Right, Absent, Present, NoMore, More, Node, Rules, is_empty, begins, enters, here, Reads, marked, worded, at_end, both, left, right, passed, taken, ended, again, named, inside}
-use Rattle.grammar.specs.Leaves.{seen_by}
 
--- W texts of tokens, Y what is said but for places
-module _ (T S N V W Y : Type 0) (g : Rules T S N V) (text : T → W) (unplaced : V → Y) where
-  -- no test, check or value looks at more than a token's text, but for places
+-- W what tokens tell
+module _ (T S N V W : Type 0) (g : Rules T S N V) (text : T → W) where
+  -- no test, check or value looks at more than what a token tells
   abbrev pub Blind : Rule T S N V → Type 0
   Blind (mark v is) = (t u : T) → text t ≡ text u → is t ≡ is u
-  Blind (word is check value) = ((t u : T) → text t ≡ text u → is t ≡ is u) × ((s s' : S) (t u : T) → text t ≡ text u → is t ≡ true → check s t ≡ Ok s' → check s u ≡ Ok s') × ((t u : T) → text t ≡ text u → is t ≡ true → unplaced (value t) ≡ unplaced (value u))
+  Blind (word is check value) = ((t u : T) → text t ≡ text u → is t ≡ is u) × ((s s' : S) (t u : T) → text t ≡ text u → is t ≡ true → check s t ≡ Ok s' → check s u ≡ Ok s') × ((t u : T) → text t ≡ text u → is t ≡ true → value t ≡ value u)
   Blind end = Unit {0}
   Blind (seq a b) = Blind a × Blind b
   Blind (choice a b) = Blind a × Blind b
@@ -24,7 +23,7 @@ module _ (T S N V W Y : Type 0) (g : Rules T S N V) (text : T → W) (unplaced :
     pub rest : List T
     pub reads : Reads T S N V g s r ts tree s' rest
     pub same_rest : map text us ≡ map text rest
-    pub same_tree : seen_by unplaced x ≡ seen_by unplaced tree
+    pub same_tree : x ≡ tree
 
   module _ (opens : (n : N) (t u : T) → text t ≡ text u → g.opens n t ≡ g.opens n u) (all : (n : N) → Blind (g.body n)) where
     begins_same : (r : Rule T S N V) → Blind r → (t u : T) → text t ≡ text u → begins g.opens r t ≡ begins g.opens r u

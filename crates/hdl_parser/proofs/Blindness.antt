@@ -8,15 +8,15 @@ use Rattle.grammar.specs.declared.Fault.{Fault}
 use Rattle.grammar.specs.declared.Fault.TheVariants.{Grammar}
 use Rattle.grammar.specs.Rules.{Tree, enters, here, Reads, marked, worded, at_end, both, left, right, passed, taken, ended, again, named, inside}
 use Rattle.hdl_tree.specs.declared.tree.Chip.{Chip}
+use Rattle.hdl_tree.specs.Writable.{chip_can}
 use Rattle.hdl_parser.specs.declared.token.Keyword.{Keyword}
 use Rattle.hdl_parser.specs.declared.token.Keyword.TheVariants as keyword
 use Rattle.hdl_parser.specs.declared.token.Kind.{Kind}
 use Rattle.hdl_parser.specs.declared.token.Kind.TheVariants as kind
 use Rattle.hdl_parser.specs.Tokens.{Word, tokens_of, finish}
-use Rattle.hdl_parser.specs.Hdl.{hdl, Said, HdlRule, Fixed, Placed, sign_is, keyword_is, dotted, names, counts, stands_for, value_of, too_large, symbol_of, keyword_of, dots, name, width, index, last_index, constant, row, width_rule, pin, last, range, indices, subscript, wire, source, connection, part, parts, listing, builtin, body, pins, chip, whole, check_width, check_index, check_last}
-use Rattle.hdl_parser.specs.Whole.{whole_tree}
-use Rattle.hdl_parser.specs.Printed.{chip_text, shown, unplaced, set_off, SpellsAlike}
-use Rattle.hdl_parser.specs.Writable.{chip_can}
+use Rattle.hdl_parser.specs.Hdl.{hdl, Said, HdlRule, Fixed, Text, sign_is, keyword_is, dotted, names, counts, stands_for, value_of, too_large, symbol_of, keyword_of, dots, name, width, index, last_index, constant, row, width_rule, pin, last, range, indices, subscript, selection, source, connection, part, parts, listing, builtin, body, pins, chip, whole, check_width, check_index, check_last}
+use Rattle.hdl_parser.specs.Whole.{whole_tree, Spells}
+use Rattle.hdl_parser.specs.Printed.{chip_text, shown, set_off}
 use Rattle.hdl_parser.proofs.Alike as alike
 use Rattle.hdl_parser.proofs.Spaced.{told, told_by, AllGood, printed_good}
 use Rattle.hdl_parser.proofs.Derived.{chip_words, chip_read, chip_fine}
@@ -26,7 +26,7 @@ abbrev W : Type 0
 W = Kind × List ℕ
 
 abbrev Blind : Place → HdlRule → Type 0
-Blind at r = alike.Blind Word ℕ (Unit {0}) Said W Said (hdl at) told unplaced r
+Blind at r = alike.Blind Word ℕ (Unit {0}) Said W (hdl at) told r
 
 by_kind : {X : Type 0} (f : Kind → X) (t u : Word) → told t ≡ told u → f t.kind ≡ f u.kind
 by_kind f t u e = ap (λ (x : W). f x.0) e
@@ -79,7 +79,7 @@ module _ (at : Place) where
   dots_blind t u e = by_kind dotted t u e
 
   name_blind : Blind at name
-  name_blind = (λ t u e. by_kind names t u e, λ s s' t u e i c. c, λ t u e i. ap (λ (x : List ℕ). Placed kind.Name x start) (name_text t.kind u.kind t.text u.text (by_kind (λ z. z) t u e) (ap (λ (z : W). z.1) e) i))
+  name_blind = (λ t u e. by_kind names t u e, λ s s' t u e i c. c, λ t u e i. ap Text (name_text t.kind u.kind t.text u.text (by_kind (λ z. z) t u e) (ap (λ (z : W). z.1) e) i))
 
   width_blind : Blind at width
   width_blind = (λ t u e. by_kind counts t u e, λ s s' t u e i c. width_same s s' t u e c, λ t u e i. by_kind Fixed t u e)
@@ -91,7 +91,7 @@ module _ (at : Place) where
   last_index_blind = (λ t u e. by_kind counts t u e, λ s s' t u e i c. last_same s s' t u e c, λ t u e i. by_kind Fixed t u e)
 
   constant_blind : Blind at constant
-  constant_blind = (λ t u e. by_kind stands_for t u e, λ s s' t u e i c. c, λ t u e i. by_kind (λ (z : Kind). Placed z [] start) t u e)
+  constant_blind = (λ t u e. by_kind stands_for t u e, λ s s' t u e i c. c, λ t u e i. by_kind Fixed t u e)
 
   row_blind : (a : HdlRule) → Blind at a → Blind at (row a)
   row_blind a h = (h, (symbol_blind 44, h))
@@ -114,14 +114,14 @@ module _ (at : Place) where
   subscript_blind : Blind at subscript
   subscript_blind = (symbol_blind 91, (indices_blind, symbol_blind 93))
 
-  wire_blind : Blind at wire
-  wire_blind = (name_blind, subscript_blind)
+  selection_blind : Blind at selection
+  selection_blind = (name_blind, subscript_blind)
 
   source_blind : Blind at source
-  source_blind = (wire_blind, constant_blind)
+  source_blind = (selection_blind, constant_blind)
 
   connection_blind : Blind at connection
-  connection_blind = (wire_blind, (symbol_blind 61, source_blind))
+  connection_blind = (selection_blind, (symbol_blind 61, source_blind))
 
   part_blind : Blind at part
   part_blind = (name_blind, (symbol_blind 40, (row_blind connection connection_blind, (symbol_blind 41, symbol_blind 59))))
@@ -172,14 +172,15 @@ none_left [] e = refl
 none_left (u ∷ us) e = absurd cc
 
 -- tokens that are read as a chip, and the tokens of its printed form
-read_again : (at : Place) (c : Chip) (ts : List Word) (s' : ℕ) → Reads Word ℕ (Unit {0}) Said (hdl at) 0 whole ts (whole_tree c) s' [] → AllGood ts → length (chip_text c) ≤ 1048576 → SpellsAlike (chip_text c) (whole_tree c)
+read_again : (at : Place) (c : Chip) (ts : List Word) (s' : ℕ) → Reads Word ℕ (Unit {0}) Said (hdl at) 0 whole ts (whole_tree c) s' [] → AllGood ts → length (chip_text c) ≤ 1048576 → Spells (chip_text c) c
 read_again at c ts s' h good small =
     let same : flat_map set_off (map shown ts) ≡ chip_text c = ap (flat_map set_off) (tokens_read at c ts s' h) in
     let printed = printed_good ts good (subst (λ (l : List ℕ). length l ≤ 1048576) (sym same) small) in
     let us = printed.0 in
-    let m = alike.read_alike Word ℕ (Unit {0}) Said W Said (hdl at) told unplaced (λ n t u e. by_kind (sign_is 59) t u e) (λ n. symbol_blind at 59) (whole_blind at) h us (sym printed.2) in
+    let m = alike.read_alike Word ℕ (Unit {0}) Said W (hdl at) told (λ n t u e. by_kind (sign_is 59) t u e) (λ n. symbol_blind at 59) (whole_blind at) h us (sym printed.2) in
     let all = subst (λ (l : List Word). Reads Word ℕ (Unit {0}) Said (hdl at) 0 whole us m.tree s' l) (none_left m.rest m.same_rest) m.reads in
-    (m.tree, (us, s', ap tokens_of (sym same) ∙ printed.1, ends_anywhere at (finish (chip_text c)) all), m.same_tree)
+    let chip = subst (λ (x : Tree Said). Reads Word ℕ (Unit {0}) Said (hdl at) 0 whole us x s' []) (sym m.same_tree) all in
+    (us, s', ap tokens_of (sym same) ∙ printed.1, ends_anywhere at (finish (chip_text c)) chip)
 
-pub printed_spells : (c : Chip) → chip_can c ≡ true → length (chip_text c) ≤ 1048576 → SpellsAlike (chip_text c) (whole_tree c)
+pub printed_spells : (c : Chip) → chip_can c ≡ true → length (chip_text c) ≤ 1048576 → Spells (chip_text c) c
 printed_spells c h small = read_again start c (chip_words c) 0 (chip_read c h) (chip_fine c h) small

@@ -5,9 +5,10 @@ use Rattle.scan_text.specs.Text.{first, front, behind, walk, is_digit, digits, d
 use Rattle.scan_text.specs.View.{left, place}
 use Rattle.grammar.specs.Cutting.{Next}
 use Rattle.grammar.proofs.Runs.{run_text, run_moved}
+use Rattle.hdl_tree.specs.Writable.{is_letter, is_name_byte}
 use Rattle.hdl_parser.specs.declared.token.Kind.{Kind}
 use Rattle.hdl_parser.specs.declared.token.Kind.TheVariants.{Number}
-use Rattle.hdl_parser.specs.Tokens.{Word, token_of, number_piece, word_piece, word_kind, is_letter, is_name_byte}
+use Rattle.hdl_parser.specs.Tokens.{Word, token_of, number_piece, word_piece, word_kind}
 
 -- a token of a whole run
 run_taken : (test : ℕ → Bool) (kind : Kind) (old new : Scan) (b : ℕ) (w : Word) → first (left old) ≡ Some b → test b ≡ true → left new ≡ behind test (left old) → place new ≡ walk (place old) (front test (left old)) → w.kind ≡ kind → w.text ≡ front test (left old) → w.place ≡ place old → Next (token_of kind (length (front test (left old)) - 1) (left old)) old (Ok (Some w)) new

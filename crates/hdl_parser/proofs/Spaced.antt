@@ -1,7 +1,7 @@
 -- The text of a token with a blank behind it is cut as that token again.
 use Rattle.std.proofs.Common.{◌≡◌, ℕ, zero, suc, ◌+◌, ◌-◌, ◌*◌, ◌/◌, ◌%◌, ◌<◌, ◌≤◌, Bool, true, false, cond, List, [], ◌∷◌, ◌++◌, map, length, take, drop, append_assoc, length-append, Result, Ok, Err, Option, Some, None, refl, sym, ap, subst, ◌∙◌, arith, eqb-true}
 use Rattle.std.specs.Prelude as prelude
-use Rattle.std.specs.Prelude.{min, nat_lt, ◌==◌, ◌||◌, ◌&&◌, codes, if◌then◌else◌}
+use Rattle.std.specs.Prelude.{min, not, nat_lt, ◌==◌, ◌||◌, ◌&&◌, codes, if◌then◌else◌}
 use Rattle.std.specs.List.{flat_map}
 use Rattle.std.specs.Str.{bytes_eq}
 use Rattle.std.proofs.lemmas.Bool.{le-ltb}
@@ -17,13 +17,13 @@ use Rattle.grammar.specs.declared.Fault.TheVariants.{Grammar, Range}
 use Rattle.grammar.specs.Cutting.{Piece, Passed, Token, Wrong, cut, cut_by, followed, past_blank, past_blanks}
 use Rattle.grammar.proofs.Cuts.{pending}
 use Rattle.grammar.proofs.Runs.{run_text}
+use Rattle.hdl_tree.specs.Writable.{all, is_letter, is_name_byte, reserved, is_among, name_can}
 use Rattle.hdl_parser.specs.declared.token.Keyword.{Keyword}
 use Rattle.hdl_parser.specs.declared.token.Keyword.TheVariants as keyword
 use Rattle.hdl_parser.specs.declared.token.Kind.{Kind}
 use Rattle.hdl_parser.specs.declared.token.Kind.TheVariants as kind
-use Rattle.hdl_parser.specs.Tokens.{Word, keyword_text, keyword_of, piece, close, tokens_of, token_of, number_piece, word_piece, symbol_piece, dots_piece, begins_dots, is_letter, is_name_byte, is_sign, kind_of, word_kind}
+use Rattle.hdl_parser.specs.Tokens.{Word, keyword_text, keyword_of, keywords, spelled, piece, close, tokens_of, token_of, number_piece, word_piece, symbol_piece, dots_piece, begins_dots, is_sign, kind_of, word_kind}
 use Rattle.hdl_parser.specs.Printed.{shown, set_off}
-use Rattle.hdl_parser.specs.Writable.{all, is_free, is_text_of_name}
 
 -- lists
 
@@ -418,21 +418,41 @@ all_are : (is : ℕ → Bool) (bs : List ℕ) → all is bs ≡ true → All is 
 all_are is [] h = tt
 all_are is (b ∷ bs) h = (first_of (is b) (all is bs) h, all_are is bs (second_of (is b) (all is bs) h))
 
-free_kind : (o : Option Keyword) → is_free o ≡ true → kind_of o ≡ kind.Name
-free_kind None h = refl
-free_kind (Some k) h = absurd cc
+-- a word is reserved if it is a keyword
+abbrev pub is_one : Option Keyword → Bool
+is_one None = false
+is_one (Some k) = true
 
-pub name_good : (text : List ℕ) → is_text_of_name text ≡ true → Good kind.Name text
+among_by : (k : Keyword) (o : Option Keyword) (b t : Bool) → b ≡ is_one o → (t || b) ≡ is_one (cond t (Some k) o)
+among_by k o b true e = refl
+among_by k o b false e = e
+
+among : (ks : List Keyword) (text : List ℕ) → is_among text (map keyword_text ks) ≡ is_one (spelled ks text)
+among [] text = refl
+among (k ∷ ks) text = among_by k (spelled ks text) (is_among text (map keyword_text ks)) (bytes_eq text (keyword_text k)) (among ks text)
+
+pub reserved_is : (text : List ℕ) → is_among text reserved ≡ is_one (keyword_of text)
+reserved_is text = among keywords text
+
+free_by : (o : Option Keyword) → not (is_one o) ≡ true → kind_of o ≡ kind.Name
+free_by None h = refl
+free_by (Some k) h = absurd cc
+
+free_kind : (text : List ℕ) → not (is_among text reserved) ≡ true → word_kind text ≡ kind.Name
+free_kind text h = free_by (keyword_of text) (ap not (sym (reserved_is text)) ∙ h)
+
+pub name_good : (text : List ℕ) → name_can text ≡ true → Good kind.Name text
 name_good [] h = absurd cc
 name_good (b ∷ bs) h =
-    let r = second_of (is_letter b) (all is_name_byte bs && is_free (keyword_of (b ∷ bs))) h in
+    let free = not (is_among (b ∷ bs) reserved) in
+    let r = second_of (is_letter b) (all is_name_byte bs && free) h in
     record {
       first = b;
       more = bs;
       is = refl;
-      letter = first_of (is_letter b) (all is_name_byte bs && is_free (keyword_of (b ∷ bs))) h;
-      names = all_are is_name_byte bs (first_of (all is_name_byte bs) (is_free (keyword_of (b ∷ bs))) r);
-      kind = free_kind (keyword_of (b ∷ bs)) (second_of (all is_name_byte bs) (is_free (keyword_of (b ∷ bs))) r);
+      letter = first_of (is_letter b) (all is_name_byte bs && free) h;
+      names = all_are is_name_byte bs (first_of (all is_name_byte bs) free r);
+      kind = free_kind (b ∷ bs) (second_of (all is_name_byte bs) free r);
     }
 
 -- the printed form of such tokens

@@ -14,7 +14,7 @@ use Rattle.hdl_parser.specs.declared.token.Keyword.TheVariants as keyword
 use Rattle.hdl_parser.specs.declared.token.Kind.{Kind}
 use Rattle.hdl_parser.specs.declared.token.Kind.TheVariants as kind
 use Rattle.hdl_parser.specs.Tokens.{Word, keyword_text, tokens_of, finish}
-use Rattle.hdl_parser.specs.Hdl.{hdl, Said, HdlRule, sign_is, keyword_is, dotted, names, counts, stands_for, symbol_of, keyword_of, dots, name, width, index, last_index, constant, row, width_rule, pin, last, range, subscript, wire, source, connection, part, parts, listing, builtin, body, pins, chip, whole}
+use Rattle.hdl_parser.specs.Hdl.{hdl, Said, HdlRule, sign_is, keyword_is, dotted, names, counts, stands_for, symbol_of, keyword_of, dots, name, width, index, last_index, constant, row, width_rule, pin, last, range, subscript, selection, source, connection, part, parts, listing, builtin, body, pins, chip, whole}
 use Rattle.hdl_parser.specs.Whole.{whole_tree, Spells}
 use Rattle.hdl_parser.specs.Printed.{kind_text, shown, said_text, chip_tokens}
 
@@ -177,14 +177,14 @@ module _ (at : Place) where
   subscript_tells : Tells at subscript
   subscript_tells = (symbol_tells 91, (range_tells, symbol_tells 93))
 
-  wire_tells : Tells at wire
-  wire_tells = (name_tells, subscript_tells)
+  selection_tells : Tells at selection
+  selection_tells = (name_tells, subscript_tells)
 
   source_tells : Tells at source
-  source_tells = (wire_tells, constant_tells)
+  source_tells = (selection_tells, constant_tells)
 
   connection_tells : Tells at connection
-  connection_tells = (wire_tells, (symbol_tells 61, source_tells))
+  connection_tells = (selection_tells, (symbol_tells 61, source_tells))
 
   part_tells : Tells at part
   part_tells = (name_tells, (symbol_tells 40, (row_tells connection connection_tells, (symbol_tells 41, symbol_tells 59))))
@@ -219,5 +219,5 @@ tokens_read at c ts s' h =
     read.tokens_are Word ℕ (Unit {0}) Said (List ℕ) (hdl at) shown said_text (λ n. symbol_tells at 59) (whole_tells at) h
     ∙ append-nil (map said_text (leaves (hdl at) (whole_tree c) whole)) ∙ ap (map said_text) (leaves_same at start (whole_tree c) whole)
 
-pub tokens_told : (text : List ℕ) (c : Chip) (ts : List Word) → tokens_of text ≡ Ok ts → Spells text (whole_tree c) → map shown ts ≡ chip_tokens c
+pub tokens_told : (text : List ℕ) (c : Chip) (ts : List Word) → tokens_of text ≡ Ok ts → Spells text c → map shown ts ≡ chip_tokens c
 tokens_told text c ts cut s = ap (map shown) (same_tokens text ts s.0 cut s.2) ∙ tokens_read (finish text) c s.0 s.1 s.3

@@ -15,7 +15,7 @@ module _ (text : List ℕ) (ts us : List Word) (at : Place) (cut : tokens_of tex
   here : ParsesAll (hdl (finish text)) whole whole_tree (λ _. 0) 0 ts r
   here = subst (λ (p : Place). ParsesAll (hdl p) whole whole_tree (λ _. 0) 0 ts r) ends h
 
-  pub found_in : IfOk r (λ c. Spells text (whole_tree c))
+  pub found_in : IfOk r (Spells text)
   found_in = all_spelled (hdl (finish text)) whole 0 (tokens_of text) whole_tree (λ _. 0) ts us r cut same here
 
   pub fault_in : IfErr r (Halt (Refuses text))

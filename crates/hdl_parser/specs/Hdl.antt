@@ -1,5 +1,5 @@
 -- The grammar of HDL (book, appendix 2).
-use Rattle.std.specs.Prelude.{ℕ, Bool, true, false, List, [], Result, Ok, Err, if◌then◌else◌, nat_lt, min, ◌==◌}
+use Rattle.std.specs.Prelude.{ℕ, Bool, true, false, List, Result, Ok, Err, if◌then◌else◌, nat_lt, min, ◌==◌}
 use denote.Enum.Bare.{sameb}
 use Rattle.scan_text.specs.declared.Place.{Place}
 use Rattle.grammar.specs.declared.Fault.{Fault}
@@ -12,19 +12,16 @@ use Rattle.hdl_parser.specs.declared.token.Kind.{Kind}
 use Rattle.hdl_parser.specs.declared.token.Kind.TheVariants as kind
 use Rattle.hdl_parser.specs.Tokens.{Word}
 
--- What a token says: what it is, and of a name, `true` and `false` its place too, with the text of a name.
+-- What a token says: of a name its text, and else what it is.
 pub data Said : Type 0 where
   Fixed : Kind → Said
-  Placed : Kind → List ℕ → Place → Said
+  Text : List ℕ → Said
 
 abbrev pub fixed : Word → Said
 fixed t = Fixed t.kind
 
-abbrev pub placed : Word → Said
-placed t = Placed t.kind [] t.place
-
 abbrev pub named : Word → Said
-named t = Placed kind.Name t.text t.place
+named t = Text t.text
 
 abbrev pub sign_is : ℕ → Kind → Bool
 sign_is b (kind.Symbol c) = c == b
@@ -128,7 +125,7 @@ abbrev pub last_index : HdlRule
 last_index = word is_number check_last fixed
 
 abbrev pub constant : HdlRule
-constant = word is_constant free placed
+constant = word is_constant free fixed
 
 -- one or more, with commas between them
 abbrev pub next_of : HdlRule → HdlRule
@@ -168,16 +165,16 @@ abbrev pub subscript : HdlRule
 subscript = seq (symbol_of 91) (seq indices (symbol_of 93))
 
 -- name [subscript]
-abbrev pub wire : HdlRule
-wire = seq name (option subscript)
+abbrev pub selection : HdlRule
+selection = seq name (option subscript)
 
 -- name [subscript], true, false
 abbrev pub source : HdlRule
-source = choice wire constant
+source = choice selection constant
 
 -- name [subscript] = source
 abbrev pub connection : HdlRule
-connection = seq wire (seq (symbol_of 61) source)
+connection = seq selection (seq (symbol_of 61) source)
 
 -- name ( connection (, connection)* ) ;
 abbrev pub part : HdlRule

@@ -4,4 +4,3 @@ pub mod Trees
 pub mod Whole
 pub mod Printed
 pub mod Written
-pub mod Writable

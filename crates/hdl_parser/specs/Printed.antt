@@ -1,16 +1,17 @@
 -- The printed form of a chip (book, appendix 2): its tokens with one space between them, and a line feed in its place behind `{`, `}`
 -- and `;`. The book lays down no layout; this one is the project's own.
-use Rattle.std.specs.Prelude.{◌≡◌, ℕ, ◌++◌, List, [], ◌∷◌, Ok, map, decimal, if◌then◌else◌, ◌||◌, codes}
+use Rattle.std.specs.Prelude.{◌≡◌, ℕ, ◌≤◌, ◌++◌, true, List, [], ◌∷◌, Ok, map, length, decimal, if◌then◌else◌, ◌||◌, codes}
 use Rattle.std.specs.List.{flat_map}
 use Rattle.std.specs.Str.{bytes_eq}
 use Rattle.scan_text.specs.Text.{start}
 use Rattle.grammar.specs.Rules.{Tree}
-use Rattle.grammar.specs.Leaves.{leaves, seen_by}
+use Rattle.grammar.specs.Leaves.{leaves}
 use Rattle.hdl_tree.specs.declared.tree.Chip.{Chip}
+use Rattle.hdl_tree.specs.Writable.{chip_can}
 use Rattle.hdl_parser.specs.declared.token.Kind.{Kind}
 use Rattle.hdl_parser.specs.declared.token.Kind.TheVariants as kind
 use Rattle.hdl_parser.specs.Tokens.{Word, keyword_text, tokens_of}
-use Rattle.hdl_parser.specs.Hdl.{hdl, HdlRule, Said, Fixed, Placed, whole}
+use Rattle.hdl_parser.specs.Hdl.{hdl, HdlRule, Said, Fixed, Text, whole}
 use Rattle.hdl_parser.specs.Whole.{whole_tree, Spells}
 
 -- what a token is written as: a number without leading zeros
@@ -26,7 +27,7 @@ shown t = kind_text t.kind t.text
 
 abbrev pub said_text : Said → List ℕ
 said_text (Fixed k) = kind_text k []
-said_text (Placed k text at) = kind_text k text
+said_text (Text text) = text
 
 -- the tokens of a chip
 abbrev pub chip_tokens : Chip → List (List ℕ)
@@ -46,13 +47,8 @@ chip_text c = flat_map set_off (chip_tokens c)
 
 -- A text that spells a chip has the tokens of the chip, whatever stands between them.
 abbrev pub TokensLaw : Type 0
-TokensLaw = (text : List ℕ) (c : Chip) (ts : List Word) → tokens_of text ≡ Ok ts → Spells text (whole_tree c) → map shown ts ≡ chip_tokens c
+TokensLaw = (text : List ℕ) (c : Chip) (ts : List Word) → tokens_of text ≡ Ok ts → Spells text c → map shown ts ≡ chip_tokens c
 
--- what a token says but for its place
-abbrev pub unplaced : Said → Said
-unplaced (Fixed k) = Fixed k
-unplaced (Placed k text at) = Placed k text start
-
--- the text spells the tree but for places
-abbrev pub SpellsAlike : List ℕ → Tree Said → Type 0
-SpellsAlike text x = (t : Tree Said) × Spells text t × (seen_by unplaced x ≡ seen_by unplaced t)
+-- The printed form of each chip that texts can have, where it is within the limit of a file, spells that very chip.
+abbrev pub PrintedLaw : Type 0
+PrintedLaw = (c : Chip) → chip_can c ≡ true → length (chip_text c) ≤ 1048576 → Spells (chip_text c) c

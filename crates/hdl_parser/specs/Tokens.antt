@@ -1,13 +1,13 @@
 -- The tokens of an HDL text (book, appendix 2): words, numbers and symbols. Blanks (space, tab, line feed, return) and comments are
 -- passed over.
 use Rattle.std.specs.Prelude.{ℕ, suc, ◌-◌, Bool, List, [], ◌∷◌, Option, Some, None, Result, Err, ◌==◌, ◌||◌, if◌then◌else◌, length, take, nat_lt, codes}
-use Rattle.std.specs.Char.{is_ascii_alphabetic}
 use Rattle.std.specs.Str.{bytes_eq}
 use Rattle.scan_text.specs.declared.Place.{Place}
 use Rattle.scan_text.specs.Text.{start, walk, first, front, is_digit, digits, decimal, capped}
 use Rattle.grammar.specs.declared.Fault.{Fault}
 use Rattle.grammar.specs.declared.Fault.TheVariants.{Grammar, Range}
 use Rattle.grammar.specs.Cutting.{Piece, Passed, Token, Wrong, cut, past_blanks}
+use Rattle.hdl_tree.specs.Writable.{is_letter, is_name_byte}
 use Rattle.hdl_parser.specs.declared.token.Keyword.{Keyword}
 use Rattle.hdl_parser.specs.declared.token.Keyword.TheVariants as keyword
 use Rattle.hdl_parser.specs.declared.token.Kind.{Kind}
@@ -44,12 +44,6 @@ keywords = keyword.Chip ∷ keyword.In ∷ keyword.Out ∷ keyword.Parts ∷ key
 -- the keyword that is spelled so
 abbrev pub keyword_of : List ℕ → Option Keyword
 keyword_of text = spelled keywords text
-
-abbrev pub is_letter : ℕ → Bool
-is_letter b = is_ascii_alphabetic b || b == 95
-
-abbrev pub is_name_byte : ℕ → Bool
-is_name_byte b = is_letter b || is_digit b
 
 -- { } ( ) [ ] , ; : =
 abbrev pub is_sign : ℕ → Bool

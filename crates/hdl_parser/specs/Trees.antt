@@ -1,12 +1,10 @@
 -- The trees of chips as trees of the grammar. (The book, chapter 1 and appendix 2.)
 use Rattle.std.specs.Prelude.{ℕ, Bool, true, false, List, [], ◌∷◌, Option, Some, None}
-use Rattle.scan_text.specs.declared.Place.{Place}
 use Rattle.grammar.specs.Rules.{Tree, Skip, Node, Leaf, Pair, Left, Right, Absent, Present, NoMore, listed}
-use Rattle.hdl_tree.specs.declared.tree.Name.{Name}
 use Rattle.hdl_tree.specs.declared.tree.Pin.{Pin}
 use Rattle.hdl_tree.specs.declared.tree.Subscript.{Subscript}
 use Rattle.hdl_tree.specs.declared.tree.Subscript.TheVariants as subscript
-use Rattle.hdl_tree.specs.declared.tree.Wire.{Wire}
+use Rattle.hdl_tree.specs.declared.tree.Selection.{Selection}
 use Rattle.hdl_tree.specs.declared.tree.Source.{Source}
 use Rattle.hdl_tree.specs.declared.tree.Source.TheVariants as source
 use Rattle.hdl_tree.specs.declared.tree.Connection.{Connection}
@@ -17,12 +15,12 @@ use Rattle.hdl_tree.specs.declared.tree.Chip.{Chip}
 use Rattle.hdl_parser.specs.declared.token.Keyword.{Keyword}
 use Rattle.hdl_parser.specs.declared.token.Keyword.TheVariants as keyword
 use Rattle.hdl_parser.specs.declared.token.Kind.TheVariants as kind
-use Rattle.hdl_parser.specs.Hdl.{Said, Fixed, Placed}
+use Rattle.hdl_parser.specs.Hdl.{Said, Fixed, Text}
 
-abbrev pub name_said : Name → Said
-name_said n = Placed kind.Name n.text.items n.place
+abbrev pub name_said : List ℕ → Said
+name_said n = Text n
 
-abbrev pub name_leaf : Name → Tree Said
+abbrev pub name_leaf : List ℕ → Tree Said
 name_leaf n = Leaf (name_said n)
 
 abbrev pub number_said : ℕ → Said
@@ -32,8 +30,8 @@ abbrev pub truth : Bool → Keyword
 truth true = keyword.True
 truth false = keyword.False
 
-abbrev pub constant_said : Bool → Place → Said
-constant_said b at = Placed (kind.Keyword (truth b)) [] at
+abbrev pub constant_said : Bool → Said
+constant_said b = Fixed (kind.Keyword (truth b))
 
 -- one or more, with commas between them, and others behind them
 abbrev pub next_tree : {X : Type 0} → (X → Tree Said) → X → Tree Said
@@ -75,37 +73,37 @@ abbrev pub subscript_tree : Option Subscript → Tree Said
 subscript_tree None = Absent
 subscript_tree (Some s) = Present (Pair Skip (Pair (indices_tree s) Skip))
 
-abbrev pub wire_tree : Wire → Tree Said
-wire_tree w = Pair (name_leaf w.name) (subscript_tree w.subscript)
+abbrev pub selection_tree : Selection → Tree Said
+selection_tree w = Pair (name_leaf w.name) (subscript_tree w.subscript)
 
 abbrev pub source_tree : Source → Tree Said
-source_tree (source.Wire w) = Left (wire_tree w)
-source_tree (source.Constant b at) = Right (Leaf (constant_said b at))
+source_tree (source.Net w) = Left (selection_tree w)
+source_tree (source.Constant b) = Right (Leaf (constant_said b))
 
 abbrev pub connection_tree : Connection → Tree Said
-connection_tree c = Pair (wire_tree c.pin) (Pair Skip (source_tree c.source))
+connection_tree c = Pair (selection_tree c.pin) (Pair Skip (source_tree c.source))
 
 abbrev pub connections_tree : List Connection → Tree Said
 connections_tree cs = row_with connection_tree cs NoMore
 
 abbrev pub part_tree : Part → Tree Said
-part_tree p = Pair (name_leaf p.chip) (Pair Skip (Pair (connections_tree p.connections.items) (Pair Skip Skip)))
+part_tree p = Pair (name_leaf p.chip) (Pair Skip (Pair (connections_tree p.connections) (Pair Skip Skip)))
 
 abbrev pub parts_tree : List Part → Tree Said
 parts_tree ps = Pair Skip (Pair Skip (listed part_tree ps NoMore))
 
-abbrev pub names_tree : List Name → Tree Said
+abbrev pub names_tree : List (List ℕ) → Tree Said
 names_tree ns = listing_tree name_leaf ns
 
-abbrev pub builtin_tree : Name → List Name → Tree Said
+abbrev pub builtin_tree : List ℕ → List (List ℕ) → Tree Said
 builtin_tree n clocked = Pair Skip (Pair (name_leaf n) (Pair Skip (names_tree clocked)))
 
 abbrev pub body_tree : Body → Tree Said
-body_tree (body.Parts ps) = Left (parts_tree ps.items)
-body_tree (body.Builtin n clocked) = Right (builtin_tree n clocked.items)
+body_tree (body.Parts ps) = Left (parts_tree ps)
+body_tree (body.Builtin n clocked) = Right (builtin_tree n clocked)
 
 abbrev pub pins_tree : List Pin → Tree Said
 pins_tree ps = listing_tree pin_tree ps
 
 abbrev pub chip_tree : Chip → Tree Said
-chip_tree c = Pair Skip (Pair (name_leaf c.name) (Pair Skip (Pair (pins_tree c.inputs.items) (Pair (pins_tree c.outputs.items) (Pair (body_tree c.body) Skip)))))
+chip_tree c = Pair Skip (Pair (name_leaf c.name) (Pair Skip (Pair (pins_tree c.inputs) (Pair (pins_tree c.outputs) (Pair (body_tree c.body) Skip)))))

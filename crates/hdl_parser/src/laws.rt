@@ -1,10 +1,14 @@
 //! Laws of the grammar and of the printed form.
 
-ghost use Rattle.hdl_parser.specs.Whole.{ReadingLaw};
-ghost use Rattle.hdl_parser.specs.Printed.{TokensLaw};
-ghost use Rattle.hdl_parser.specs.Writable.{PrintedLaw};
+ghost use Rattle.hdl_parser.specs.Whole.{ReadingLaw, TreesLaw};
+ghost use Rattle.hdl_parser.specs.Printed.{PrintedLaw, TokensLaw};
 
-/// A text spells at most one tree, has at most one first fault, and not both.
+/// Two chips with the same tree are the same chip, and each tree that a text spells is that of a chip.
+pub fn trees_law()
+    ensures { TreesLaw }
+{}
+
+/// A text spells at most one chip, has at most one first fault, and not both.
 pub fn reading_law()
     ensures { ReadingLaw }
 {}
@@ -14,7 +18,7 @@ pub fn tokens_law()
     ensures { TokensLaw }
 {}
 
-/// The printed form of each chip that texts can have, where it is within the limit of a file, spells the chip but for places.
+/// The printed form of each chip that texts can have, where it is within the limit of a file, spells that very chip.
 pub fn printed_law()
     ensures { PrintedLaw }
 {}

@@ -5,7 +5,8 @@ ghost use Rattle.scan_text.specs.Text.{first, front, start, is_digit};
 ghost use Rattle.scan_text.specs.View.{left, place};
 ghost use Rattle.grammar.specs.Cutting.{TokenBy, cut, past_blanks};
 ghost use Rattle.grammar.specs.Reading.{Gives};
-ghost use Rattle.hdl_parser.specs.Tokens.{view, tokens_of, finish, piece, close, number_piece, word_piece, dots_piece, symbol_piece, begins_dots, is_letter, is_name_byte, is_sign, word_kind};
+ghost use Rattle.hdl_parser.specs.Tokens.{view, tokens_of, finish, piece, close, number_piece, word_piece, dots_piece, symbol_piece, begins_dots, is_sign, word_kind};
+ghost use Rattle.hdl_tree.specs.Writable.{is_letter, is_name_byte};
 
 use crate::token::{Keyword, Kind, Token};
 use grammar::{Fault, ReadError};

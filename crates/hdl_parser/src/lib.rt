@@ -9,7 +9,7 @@ mod rules;
 mod token;
 mod words;
 
-pub use laws::{printed_law, reading_law, tokens_law};
+pub use laws::{printed_law, reading_law, tokens_law, trees_law};
 pub use printing::print;
 pub use reading::{HdlFault, parse};
 

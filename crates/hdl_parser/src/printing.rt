@@ -5,13 +5,13 @@ ghost use Rattle.std.specs.Str.{bytes_eq};
 ghost use Rattle.grammar.specs.Rules.{NoMore, option, repeat, listed};
 ghost use Rattle.outer_world.specs.Written.{CountsPut, Puts};
 ghost use Rattle.hdl_parser.specs.Tokens.{keyword_text};
-ghost use Rattle.hdl_parser.specs.Hdl.{body, builtin, chip, connection, indices, last, listing, name, next_of, part, parts, pin, pins, row, source, subscript, width_rule, wire};
-ghost use Rattle.hdl_parser.specs.Trees.{body_tree, builtin_tree, chip_tree, connection_tree, connections_tree, constant_said, indices_tree, last_tree, name_leaf, names_tree, next_tree, number_said, part_tree, parts_tree, pin_tree, pins_tree, row_with, source_tree, subscript_tree, truth, width_tree, wire_tree};
+ghost use Rattle.hdl_parser.specs.Hdl.{body, builtin, chip, connection, indices, last, listing, name, next_of, part, parts, pin, pins, row, source, subscript, width_rule, selection};
+ghost use Rattle.hdl_parser.specs.Trees.{body_tree, builtin_tree, chip_tree, connection_tree, connections_tree, constant_said, indices_tree, last_tree, name_leaf, names_tree, next_tree, number_said, part_tree, parts_tree, pin_tree, pins_tree, row_with, source_tree, subscript_tree, truth, width_tree, selection_tree};
 ghost use Rattle.hdl_parser.specs.Printed.{chip_text, said_text, set_off};
 ghost use Rattle.hdl_parser.specs.Written.{Shows, Writes};
 
 use crate::token::Keyword;
-use hdl_tree::{Body, Chip, Connection, Name, Part, Pin, Source, Subscript, Wire};
+use hdl_tree::{Body, Chip, Connection, Name, Part, Pin, Selection, Source, Subscript};
 use itoa::Buffer;
 use outer_world::{Pieces, Put, Sink};
 
@@ -57,9 +57,9 @@ fn put_keyword<S: Sink>(keyword: Keyword, status: Put, out: &mut Pieces<'_, S>) 
 
 fn put_name<S: Sink>(name: &Name, status: Put, out: &mut Pieces<'_, S>) -> Put
     ensures same_sink { out.new.sink.ghost_name ≡ out.old.sink.ghost_name }
-    ensures writes { Writes (set_off name.now.text.items) status (S.written out.old.sink.now) (take out.old.len out.old.buffer) (S.faults out.old.sink.now) result (S.written out.new.sink.now) (take out.new.len out.new.buffer) (S.faults out.new.sink.now) }
+    ensures writes { Writes (set_off name.now) status (S.written out.old.sink.now) (take out.old.len out.old.buffer) (S.faults out.old.sink.now) result (S.written out.new.sink.now) (take out.new.len out.new.buffer) (S.faults out.new.sink.now) }
 {
-    put_token(&name.text, status, out)
+    put_token(name.as_bytes(), status, out)
 }
 
 fn put_number<S: Sink>(number: u8, status: Put, out: &mut Pieces<'_, S>) -> Put
@@ -188,9 +188,9 @@ fn put_subscript<S: Sink>(bits: &Option<Subscript>, status: Put, out: &mut Piece
     }
 }
 
-fn put_wire<S: Sink>(one: &Wire, status: Put, out: &mut Pieces<'_, S>) -> Put
+fn put_selection<S: Sink>(one: &Selection, status: Put, out: &mut Pieces<'_, S>) -> Put
     ensures same_sink { out.new.sink.ghost_name ≡ out.old.sink.ghost_name }
-    ensures shows { Shows (wire_tree one.now) wire status (S.written out.old.sink.now) (take out.old.len out.old.buffer) (S.faults out.old.sink.now) result (S.written out.new.sink.now) (take out.new.len out.new.buffer) (S.faults out.new.sink.now) }
+    ensures shows { Shows (selection_tree one.now) selection status (S.written out.old.sink.now) (take out.old.len out.old.buffer) (S.faults out.old.sink.now) result (S.written out.new.sink.now) (take out.new.len out.new.buffer) (S.faults out.new.sink.now) }
 {
     let named = put_name(&one.name, status, out);
     put_subscript(&one.subscript, named, out)
@@ -207,8 +207,8 @@ fn put_source<S: Sink>(one: &Source, status: Put, out: &mut Pieces<'_, S>) -> Pu
     ensures shows { Shows (source_tree one.now) source status (S.written out.old.sink.now) (take out.old.len out.old.buffer) (S.faults out.old.sink.now) result (S.written out.new.sink.now) (take out.new.len out.new.buffer) (S.faults out.new.sink.now) }
 {
     match one {
-        Source::Wire(wire) => put_wire(wire, status, out),
-        Source::Constant(value, _) => put_keyword(truth(*value), status, out),
+        Source::Net(selection) => put_selection(selection, status, out),
+        Source::Constant(value) => put_keyword(truth(*value), status, out),
     }
 }
 
@@ -216,7 +216,7 @@ fn put_connection<S: Sink>(one: &Connection, status: Put, out: &mut Pieces<'_, S
     ensures same_sink { out.new.sink.ghost_name ≡ out.old.sink.ghost_name }
     ensures shows { Shows (connection_tree one.now) connection status (S.written out.old.sink.now) (take out.old.len out.old.buffer) (S.faults out.old.sink.now) result (S.written out.new.sink.now) (take out.new.len out.new.buffer) (S.faults out.new.sink.now) }
 {
-    let named = put_wire(&one.pin, status, out);
+    let named = put_selection(&one.pin, status, out);
     let joined = put_symbol(b'=', named, out);
     put_source(&one.source, joined, out)
 }
@@ -257,7 +257,7 @@ fn put_part<S: Sink>(one: &Part, status: Put, out: &mut Pieces<'_, S>) -> Put
 {
     let named = put_name(&one.chip, status, out);
     let opened = put_symbol(b'(', named, out);
-    let connected = put_connections(&one.connections, opened, out);
+    let connected = put_connections(one.connections.as_slice(), opened, out);
     let closed = put_symbol(b')', connected, out);
     put_symbol(b';', closed, out)
 }
@@ -299,8 +299,8 @@ fn put_body<S: Sink>(one: &Body, status: Put, out: &mut Pieces<'_, S>) -> Put
     ensures shows { Shows (body_tree one.now) body status (S.written out.old.sink.now) (take out.old.len out.old.buffer) (S.faults out.old.sink.now) result (S.written out.new.sink.now) (take out.new.len out.new.buffer) (S.faults out.new.sink.now) }
 {
     match one {
-        Body::Parts(all) => put_parts(all, status, out),
-        Body::Builtin(chip, clocked) => put_builtin(chip, clocked, status, out),
+        Body::Parts(all) => put_parts(all.as_slice(), status, out),
+        Body::Builtin(chip, clocked) => put_builtin(chip, clocked.as_slice(), status, out),
     }
 }
 
@@ -311,8 +311,8 @@ fn put_chip<S: Sink>(one: &Chip, status: Put, out: &mut Pieces<'_, S>) -> Put
     let begun = put_keyword(Keyword::Chip, status, out);
     let named = put_name(&one.name, begun, out);
     let opened = put_symbol(b'{', named, out);
-    let entered = put_pins(Keyword::In, &one.inputs, opened, out);
-    let left = put_pins(Keyword::Out, &one.outputs, entered, out);
+    let entered = put_pins(Keyword::In, one.inputs.as_slice(), opened, out);
+    let left = put_pins(Keyword::Out, one.outputs.as_slice(), entered, out);
     let made = put_body(&one.body, left, out);
     put_symbol(b'}', made, out)
 }

@@ -1,14 +1,14 @@
 //! A whole text.
 
 ghost use Rattle.std.specs.Prelude.{◌≡◌, ◌≤◌, length, map, true, Ok, Err, IfOk, IfErr, ℕ, Result};
-ghost use Rattle.grammar.specs.Rules.{Tree};
 ghost use Rattle.grammar.specs.declared.Fault.{Fault};
 ghost use Rattle.grammar.specs.Reading.{ParsesAllBy, Halt, Gives, end_at, Ends};
 ghost use Rattle.hdl_parser.specs.Tokens.{view};
-ghost use Rattle.hdl_parser.specs.Hdl.{hdl, Said, whole};
+ghost use Rattle.hdl_tree.specs.declared.tree.Chip.{Chip};
+ghost use Rattle.hdl_tree.specs.Writable.{chip_can};
+ghost use Rattle.hdl_parser.specs.Hdl.{hdl, whole};
 ghost use Rattle.hdl_parser.specs.Whole.{whole_tree, Spells, Refuses};
-ghost use Rattle.hdl_parser.specs.Printed.{chip_text, SpellsAlike};
-ghost use Rattle.hdl_parser.specs.Writable.{chip_can};
+ghost use Rattle.hdl_parser.specs.Printed.{chip_text};
 
 use crate::lexer::tokens;
 use crate::rules::chip;
@@ -48,7 +48,7 @@ fn all(alloc: Global, tokens: &[Token], end: Place) -> Result<Chip, ReadError>
 
 #[tactic(auto, using(crate::proofs::Exits::hdl_exits))]
 fn read(alloc: Global, text: &[u8]) -> Result<Chip, ReadError>
-    ensures found { IfOk result (λ c. Spells text.now (whole_tree c)) }
+    ensures found { IfOk result (Spells text.now) }
     ensures fault { IfErr result (Halt (Refuses text.now)) }
 {
     let (tokens, end) = tokens(alloc, text)?;
@@ -62,15 +62,14 @@ fn read(alloc: Global, text: &[u8]) -> Result<Chip, ReadError>
 /// (at 0:0).
 pub fn parse(alloc: Global, text: &[u8]) -> Result<Chip, HdlFault>
     // What is read is spelled so, and what is spelled is read, unless memory runs out.
-    ensures found { IfOk result (λ c. Spells text.now (whole_tree c)) }
-    ensures only { (t : Tree Said) → Spells text.now t → Gives whole_tree result (Ok t) }
+    ensures found { IfOk result (Spells text.now) }
+    ensures only { (c : Chip) → Spells text.now c → Gives (λ d. d) result (Ok c) }
     // A fault is the text's first one, and each text with a fault gets it.
     ensures fault { IfErr result (Halt (Refuses text.now)) }
-    ensures exact { (f : Fault) → Refuses text.now f → Gives whole_tree result (Err f) }
-    // What is read is a chip that texts can have: the law of the printed form holds of it, and its printed text is read as the same
-    // chip again, but for places.
+    ensures exact { (f : Fault) → Refuses text.now f → Gives (λ d. d) result (Err f) }
+    // What is read is a chip that texts can have: the law of the printed form holds of it, and its printed text spells it again.
     ensures printable { IfOk result (λ c. chip_can c ≡ true) }
-    ensures again { IfOk result (λ c. length (chip_text c) ≤ 1048576 → SpellsAlike (chip_text c) (whole_tree c)) }
+    ensures again { IfOk result (λ c. length (chip_text c) ≤ 1048576 → Spells (chip_text c) c) }
 {
     read(alloc, text)
 }

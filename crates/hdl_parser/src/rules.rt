@@ -4,8 +4,8 @@ ghost use Rattle.std.specs.Prelude.{◌≡◌, ◌<◌, ◌≤◌, ◌-◌, ◌+
 ghost use Rattle.grammar.specs.Reading.{ParsesBy, PassesBy, Halt};
 ghost use Rattle.grammar.specs.Rules.{option, repeat, listed, NoMore, Leaf};
 ghost use Rattle.hdl_parser.specs.Tokens.{view};
-ghost use Rattle.hdl_parser.specs.Hdl.{hdl, row, width_rule, pin, pins, name, listing, last, range, indices, subscript, wire, source, connection, part, parts, builtin, body, chip};
-ghost use Rattle.hdl_parser.specs.Trees.{width_tree, pin_tree, pins_tree, row_with, name_leaf, names_tree, last_tree, range_tree, first_bit, indices_tree, subscript_tree, wire_tree, source_tree, connection_tree, connections_tree, part_tree, parts_tree, builtin_tree, body_tree, chip_tree};
+ghost use Rattle.hdl_parser.specs.Hdl.{hdl, row, width_rule, pin, pins, name, listing, last, range, indices, subscript, selection, source, connection, part, parts, builtin, body, chip};
+ghost use Rattle.hdl_parser.specs.Trees.{width_tree, pin_tree, pins_tree, row_with, name_leaf, names_tree, last_tree, range_tree, first_bit, indices_tree, subscript_tree, selection_tree, source_tree, connection_tree, connections_tree, part_tree, parts_tree, builtin_tree, body_tree, chip_tree};
 
 use crate::token::{Keyword, Token};
 use crate::words::{
@@ -13,7 +13,7 @@ use crate::words::{
     keyword_stands, last_index, name, name_stands, number_stands, stands, symbol, width,
 };
 use grammar::ReadError;
-use hdl_tree::{Body, Chip, Connection, Name, Part, Pin, Source, Subscript, Wire};
+use hdl_tree::{Body, Chip, Connection, List, Name, Part, Pin, Selection, Source, Subscript};
 use scan_text::Place;
 use std::alloc::Global;
 
@@ -55,12 +55,12 @@ fn pin_list<'a>(
     alloc: Global,
     tokens: &'a [Token<'a>],
     end: Place,
-) -> Result<(Vec<Pin>, &'a [Token<'a>]), ReadError>
-    ensures reads { ParsesBy view (hdl end) (row pin) (λ x. row_with pin_tree x.items NoMore) (λ _. 0) 0 tokens.now result }
+) -> Result<(List<Pin>, &'a [Token<'a>]), ReadError>
+    ensures reads { ParsesBy view (hdl end) (row pin) (λ x. row_with pin_tree x NoMore) (λ _. 0) 0 tokens.now result }
     ensures shorter { IfOk result (λ r. length r.1.now < length tokens.now) }
-    ensures some { IfOk result (λ r. 1 ≤ length r.0.items) }
+    ensures some { IfOk result (λ r. 1 ≤ length r.0) }
 {
-    let mut pins = Vec::new(alloc);
+    let mut pins = List::new(alloc);
     let (first, after_first) = pin(alloc, tokens, end)?;
     pins.push(first)?;
     let mut rest = after_first;
@@ -80,12 +80,12 @@ fn pins<'a>(
     tokens: &'a [Token<'a>],
     end: Place,
     word: Keyword,
-) -> Result<(Vec<Pin>, &'a [Token<'a>]), ReadError>
-    ensures reads { ParsesBy view (hdl end) (pins word) (λ x. pins_tree x.items) (λ _. 0) 0 tokens.now result }
+) -> Result<(List<Pin>, &'a [Token<'a>]), ReadError>
+    ensures reads { ParsesBy view (hdl end) (pins word) pins_tree (λ _. 0) 0 tokens.now result }
     ensures no_longer { IfOk result (λ r. length r.1.now ≤ length tokens.now) }
 {
     if !keyword_stands(tokens, word) {
-        return Ok((Vec::new(alloc), tokens));
+        return Ok((List::new(alloc), tokens));
     }
     let rest = keyword(tokens, end, word)?;
     let (pins, rest) = pin_list(alloc, rest, end)?;
@@ -99,12 +99,12 @@ fn name_list<'a>(
     alloc: Global,
     tokens: &'a [Token<'a>],
     end: Place,
-) -> Result<(Vec<Name>, &'a [Token<'a>]), ReadError>
-    ensures reads { ParsesBy view (hdl end) (row name) (λ x. row_with name_leaf x.items NoMore) (λ _. 0) 0 tokens.now result }
+) -> Result<(List<Name>, &'a [Token<'a>]), ReadError>
+    ensures reads { ParsesBy view (hdl end) (row name) (λ x. row_with name_leaf x NoMore) (λ _. 0) 0 tokens.now result }
     ensures shorter { IfOk result (λ r. length r.1.now < length tokens.now) }
-    ensures some { IfOk result (λ r. 1 ≤ length r.0.items) }
+    ensures some { IfOk result (λ r. 1 ≤ length r.0) }
 {
-    let mut names = Vec::new(alloc);
+    let mut names = List::new(alloc);
     let (first, after_first) = name(alloc, tokens, end)?;
     names.push(first)?;
     let mut rest = after_first;
@@ -123,12 +123,12 @@ fn clocked<'a>(
     alloc: Global,
     tokens: &'a [Token<'a>],
     end: Place,
-) -> Result<(Vec<Name>, &'a [Token<'a>]), ReadError>
-    ensures reads { ParsesBy view (hdl end) (option (listing Keyword.Clocked name)) (λ x. names_tree x.items) (λ _. 0) 0 tokens.now result }
+) -> Result<(List<Name>, &'a [Token<'a>]), ReadError>
+    ensures reads { ParsesBy view (hdl end) (option (listing Keyword.Clocked name)) names_tree (λ _. 0) 0 tokens.now result }
     ensures no_longer { IfOk result (λ r. length r.1.now ≤ length tokens.now) }
 {
     if !keyword_stands(tokens, Keyword::Clocked) {
-        return Ok((Vec::new(alloc), tokens));
+        return Ok((List::new(alloc), tokens));
     }
     let rest = keyword(tokens, end, Keyword::Clocked)?;
     let (names, rest) = name_list(alloc, rest, end)?;
@@ -202,17 +202,17 @@ fn subscript<'a>(
 }
 
 #[tactic(auto, using(crate::proofs::Exits::hdl_exits))]
-fn wire<'a>(
+fn selection<'a>(
     alloc: Global,
     tokens: &'a [Token<'a>],
     end: Place,
-) -> Result<(Wire, &'a [Token<'a>]), ReadError>
-    ensures reads { ParsesBy view (hdl end) wire wire_tree (λ _. 0) 0 tokens.now result }
+) -> Result<(Selection, &'a [Token<'a>]), ReadError>
+    ensures reads { ParsesBy view (hdl end) selection selection_tree (λ _. 0) 0 tokens.now result }
     ensures shorter { IfOk result (λ r. length r.1.now < length tokens.now) }
 {
     let (name, rest) = name(alloc, tokens, end)?;
     let (subscript, rest) = subscript(rest, end)?;
-    Ok((Wire { name, subscript }, rest))
+    Ok((Selection { name, subscript }, rest))
 }
 
 #[tactic(auto, using(crate::proofs::Exits::hdl_exits))]
@@ -225,14 +225,14 @@ fn source<'a>(
     ensures shorter { IfOk result (λ r. length r.1.now < length tokens.now) }
 {
     if name_stands(tokens) {
-        let (wire, rest) = wire(alloc, tokens, end)?;
-        return Ok((Source::Wire(wire), rest));
+        let (selection, rest) = selection(alloc, tokens, end)?;
+        return Ok((Source::Net(selection), rest));
     }
     if !constant_stands(tokens) {
         return Err(grammar_fault(here(tokens, end)));
     }
-    let ((value, place), rest) = constant(tokens, end)?;
-    Ok((Source::Constant(value, place), rest))
+    let (value, rest) = constant(tokens, end)?;
+    Ok((Source::Constant(value), rest))
 }
 
 #[tactic(auto, using(crate::proofs::Exits::hdl_exits))]
@@ -244,7 +244,7 @@ fn connection<'a>(
     ensures reads { ParsesBy view (hdl end) connection connection_tree (λ _. 0) 0 tokens.now result }
     ensures shorter { IfOk result (λ r. length r.1.now < length tokens.now) }
 {
-    let (pin, rest) = wire(alloc, tokens, end)?;
+    let (pin, rest) = selection(alloc, tokens, end)?;
     let rest = symbol(rest, end, b'=')?;
     let (source, rest) = source(alloc, rest, end)?;
     Ok((Connection { pin, source }, rest))
@@ -256,11 +256,11 @@ fn connections<'a>(
     alloc: Global,
     tokens: &'a [Token<'a>],
     end: Place,
-) -> Result<(Vec<Connection>, &'a [Token<'a>]), ReadError>
-    ensures reads { ParsesBy view (hdl end) (row connection) (λ x. connections_tree x.items) (λ _. 0) 0 tokens.now result }
+) -> Result<(List<Connection>, &'a [Token<'a>]), ReadError>
+    ensures reads { ParsesBy view (hdl end) (row connection) connections_tree (λ _. 0) 0 tokens.now result }
     ensures shorter { IfOk result (λ r. length r.1.now < length tokens.now) }
 {
-    let mut connections = Vec::new(alloc);
+    let mut connections = List::new(alloc);
     let (first, after_first) = connection(alloc, tokens, end)?;
     connections.push(first)?;
     let mut rest = after_first;
@@ -295,11 +295,11 @@ fn part_list<'a>(
     alloc: Global,
     tokens: &'a [Token<'a>],
     end: Place,
-) -> Result<(Vec<Part>, &'a [Token<'a>]), ReadError>
-    ensures reads { ParsesBy view (hdl end) (repeat part) (λ v. listed part_tree v.items NoMore) (λ _. 0) 0 tokens.now result }
+) -> Result<(List<Part>, &'a [Token<'a>]), ReadError>
+    ensures reads { ParsesBy view (hdl end) (repeat part) (λ v. listed part_tree v NoMore) (λ _. 0) 0 tokens.now result }
     ensures no_longer { IfOk result (λ r. length r.1.now ≤ length tokens.now) }
 {
-    let mut parts = Vec::new(alloc);
+    let mut parts = List::new(alloc);
     if !name_stands(tokens) {
         return Ok((parts, tokens));
     }
@@ -320,8 +320,8 @@ fn parts<'a>(
     alloc: Global,
     tokens: &'a [Token<'a>],
     end: Place,
-) -> Result<(Vec<Part>, &'a [Token<'a>]), ReadError>
-    ensures reads { ParsesBy view (hdl end) parts (λ v. parts_tree v.items) (λ _. 0) 0 tokens.now result }
+) -> Result<(List<Part>, &'a [Token<'a>]), ReadError>
+    ensures reads { ParsesBy view (hdl end) parts parts_tree (λ _. 0) 0 tokens.now result }
     ensures shorter { IfOk result (λ r. length r.1.now < length tokens.now) }
 {
     let rest = keyword(tokens, end, Keyword::Parts)?;
@@ -336,8 +336,8 @@ fn builtin<'a>(
     alloc: Global,
     tokens: &'a [Token<'a>],
     end: Place,
-) -> Result<((Name, Vec<Name>), &'a [Token<'a>]), ReadError>
-    ensures reads { ParsesBy view (hdl end) builtin (λ x. builtin_tree x.0 x.1.items) (λ _. 0) 0 tokens.now result }
+) -> Result<((Name, List<Name>), &'a [Token<'a>]), ReadError>
+    ensures reads { ParsesBy view (hdl end) builtin (λ x. builtin_tree x.0 x.1) (λ _. 0) 0 tokens.now result }
     ensures shorter { IfOk result (λ r. length r.1.now < length tokens.now) }
 {
     let rest = keyword(tokens, end, Keyword::Builtin)?;

@@ -4,7 +4,7 @@ ghost use Rattle.std.specs.Prelude.{map, ◌≡◌, ◌<◌, ◌≤◌, ◌-◌,
 ghost use Rattle.grammar.specs.Reading.{ParsesBy, PassesBy, Gives, word_at, mark_at};
 ghost use Rattle.grammar.specs.Rules.{Leaf, next, here};
 ghost use Rattle.hdl_parser.specs.Tokens.{view};
-ghost use Rattle.hdl_parser.specs.Hdl.{hdl, Said, is_symbol, symbol_of, is_keyword, keyword_of, is_dots, dots, is_name, free, named, name, is_number, fixed, check_width, width, check_index, index, check_last, last_index, is_constant, placed, constant, too_large};
+ghost use Rattle.hdl_parser.specs.Hdl.{hdl, Said, is_symbol, symbol_of, is_keyword, keyword_of, is_dots, dots, is_name, free, named, name, is_number, fixed, check_width, width, check_index, index, check_last, last_index, is_constant, constant, too_large};
 ghost use Rattle.hdl_parser.specs.Trees.{name_said, number_said, constant_said};
 
 use crate::token::{Keyword, Kind, Token};
@@ -132,11 +132,7 @@ fn name_at<'a>(
     let Kind::Name = token.kind else {
         return Err(grammar_fault(token.place));
     };
-    let name = Name {
-        text: Vec::from_slice(alloc, token.text)?,
-        place: token.place,
-    };
-    Ok((name, rest))
+    Ok((Name::from_bytes(alloc, token.text)?, rest))
 }
 
 pub fn name<'a>(
@@ -236,26 +232,26 @@ pub fn last_index<'a>(
 fn constant_at<'a>(
     tokens: &'a [Token<'a>],
     end: Place,
-) -> Result<((bool, Place), &'a [Token<'a>]), ReadError>
-    ensures reads { Gives (λ x. (constant_said x.0.0 x.0.1, 0, map view x.1.now)) result (word_at (hdl end) is_constant free placed 0 (map view tokens.now)) }
+) -> Result<(bool, &'a [Token<'a>]), ReadError>
+    ensures reads { Gives (λ x. (constant_said x.0, 0, map view x.1.now)) result (word_at (hdl end) is_constant free fixed 0 (map view tokens.now)) }
     ensures shorter { IfOk result (λ r. length r.1.now < length tokens.now) }
 {
     let Some((token, rest)) = tokens.split_first() else {
         return Err(grammar_fault(end));
     };
     match token.kind {
-        Kind::Keyword(Keyword::True) => Ok(((true, token.place), rest)),
-        Kind::Keyword(Keyword::False) => Ok(((false, token.place), rest)),
+        Kind::Keyword(Keyword::True) => Ok((true, rest)),
+        Kind::Keyword(Keyword::False) => Ok((false, rest)),
         _ => Err(grammar_fault(token.place)),
     }
 }
 
-/// `true` or `false`, and its place.
+/// `true` or `false`.
 pub fn constant<'a>(
     tokens: &'a [Token<'a>],
     end: Place,
-) -> Result<((bool, Place), &'a [Token<'a>]), ReadError>
-    ensures reads { ParsesBy view (hdl end) constant (λ x. Leaf (constant_said x.0 x.1)) (λ _. 0) 0 tokens.now result }
+) -> Result<(bool, &'a [Token<'a>]), ReadError>
+    ensures reads { ParsesBy view (hdl end) constant (λ b. Leaf (constant_said b)) (λ _. 0) 0 tokens.now result }
     ensures shorter { IfOk result (λ r. length r.1.now < length tokens.now) }
 {
     constant_at(tokens, end)

@@ -14,4 +14,3 @@ inner_is library chip i part inner e f = ap (chip_of library) e ∙ f
 pub chip_at_part : (library : Chips) (chip : Entry) (i : ℕ) (inner : Entry) (path : List ℕ) → inner_chip library chip i ≡ Some inner → chip_at library chip (i ∷ path) ≡ chip_at library inner path
 chip_at_part library chip i inner path e =
     ap (λ (x : Option Entry). elim x as (λ _. Option Entry) [ None ↦ None | Some y ↦ chip_at library y path ]) e
-

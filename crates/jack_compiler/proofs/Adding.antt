@@ -6,7 +6,7 @@ use Rattle.vm_tree.specs.declared.command.Command.TheVariants as command
 use Rattle.jack_meaning.specs.Text.{Expression, Statement, Text, End, Next, If, While}
 use Rattle.jack_core.specs.declared.program.Statement.{Statement as TheStatement}
 use Rattle.jack_core.specs.Texts.{the_statement, the_block}
-use Rattle.jack_compiler.specs.Templates.{first_number, is_end}
+use Rattle.jack_compiler.specs.Templates.{first_number, no_else}
 use Rattle.jack_compiler.specs.Lines.{Around, quiet, if_false, if_end, while_exp, into_if, into_else, into_while, out_of_while, expression_lines, statement_lines, text_lines, ifs_of, ifs_in, whiles_of, whiles_in}
 use Rattle.jack_compiler.specs.declared.bodies.Body.{Body}
 use Rattle.jack_compiler.specs.Added.{Adds, AddsText}
@@ -22,39 +22,39 @@ text_at : (around : Around) (next i w : ℕ) (t : Text) (m m' : Body) (l : List 
 text_at around next i w t m m' l h a b c =
     h.lines ∙ ap (λ z. z ++ text_lines around next m.ifs m.whiles t) a ∙ ap (λ (z : ℕ). l ++ text_lines around next z m.whiles t) b ∙ ap (λ (z : ℕ). l ++ text_lines around next i z t) c
 
-no_ifs : (b : Text) → is_end b ≡ true → ifs_in b ≡ 0
-no_ifs End e = refl
-no_ifs (Next s rest) e = absurd cc
+no_ifs : (has : Bool) (b : Text) → no_else has b ≡ true → ifs_in b ≡ 0
+no_ifs has End e = refl
+no_ifs has (Next s rest) e = absurd cc
 
-no_whiles : (b : Text) → is_end b ≡ true → whiles_in b ≡ 0
-no_whiles End e = refl
-no_whiles (Next s rest) e = absurd cc
+no_whiles : (has : Bool) (b : Text) → no_else has b ≡ true → whiles_in b ≡ 0
+no_whiles has End e = refl
+no_whiles has (Next s rest) e = absurd cc
 
--- an `if` without statements in its second branch
-pub adds_short : (around : Around) (next n : ℕ) (c : Expression) (a b : Text) (old new m m' : Body) (l1 l2 : List Line)
-    → is_end b ≡ true → l1 ≡ old.lines ++ expression_lines around n c → l2 ≡ l1 ++ into_if n (first_number next b) old.ifs
+-- an `if` without an `else`
+pub adds_short : (around : Around) (next n : ℕ) (has : Bool) (c : Expression) (a b : Text) (old new m m' : Body) (l1 l2 : List Line)
+    → no_else has b ≡ true → l1 ≡ old.lines ++ expression_lines around n c → l2 ≡ l1 ++ into_if n (first_number next b) old.ifs
     → m.lines ≡ l2 → m.ifs ≡ suc old.ifs → m.whiles ≡ old.whiles → AddsText around next a m m'
     → new.lines ≡ m'.lines ++ quiet n (command.Label (if_false old.ifs)) ∷ [] → new.ifs ≡ m'.ifs → new.whiles ≡ m'.whiles
-    → Adds around next (If n c a b) old new
-adds_short around next n c a b old new m m' l1 l2 e h1 h2 ml mi mw t nl ni nw = record {
+    → Adds around next (If n has c a b) old new
+adds_short around next n has c a b old new m m' l1 l2 e h1 h2 ml mi mw t nl ni nw = record {
   lines =
       four old.lines l1 l2 m'.lines new.lines (expression_lines around n c) (into_if n (first_number next b) old.ifs)
       (text_lines around next (suc old.ifs) old.whiles a) (quiet n (command.Label (if_false old.ifs)) ∷ [])
       h1 h2 (text_at around next (suc old.ifs) old.whiles a m m' l2 t ml mi mw) nl
       ∙ ap (λ (z : Bool). old.lines ++ (expression_lines around n c ++ (into_if n (first_number next b) old.ifs ++ (text_lines around next (suc old.ifs) old.whiles a
       ++ (if z then quiet n (command.Label (if_false old.ifs)) ∷ [] else into_else n next old.ifs ++ (text_lines around next (suc old.ifs + ifs_in a) (old.whiles + whiles_in a) b ++ quiet n (command.Label (if_end old.ifs)) ∷ [])))))) (sym e);
-  ifs = let x = t.ifs in let y = no_ifs b e in omega arith;
-  whiles = let x = t.whiles in let y = no_whiles b e in omega arith;
+  ifs = let x = t.ifs in let y = no_ifs has b e in omega arith;
+  whiles = let x = t.whiles in let y = no_whiles has b e in omega arith;
 }
 
--- an `if` with statements in both
-pub adds_long : (around : Around) (next n : ℕ) (c : Expression) (a b : Text) (old new m m' o o' : Body) (l1 l2 : List Line)
-    → is_end b ≡ false → l1 ≡ old.lines ++ expression_lines around n c → l2 ≡ l1 ++ into_if n (first_number next b) old.ifs
+-- an `if` with one
+pub adds_long : (around : Around) (next n : ℕ) (has : Bool) (c : Expression) (a b : Text) (old new m m' o o' : Body) (l1 l2 : List Line)
+    → no_else has b ≡ false → l1 ≡ old.lines ++ expression_lines around n c → l2 ≡ l1 ++ into_if n (first_number next b) old.ifs
     → m.lines ≡ l2 → m.ifs ≡ suc old.ifs → m.whiles ≡ old.whiles → AddsText around next a m m'
     → o.lines ≡ m'.lines ++ into_else n next old.ifs → o.ifs ≡ m'.ifs → o.whiles ≡ m'.whiles → AddsText around next b o o'
     → new.lines ≡ o'.lines ++ quiet n (command.Label (if_end old.ifs)) ∷ [] → new.ifs ≡ o'.ifs → new.whiles ≡ o'.whiles
-    → Adds around next (If n c a b) old new
-adds_long around next n c a b old new m m' o o' l1 l2 e h1 h2 ml mi mw t ol oi ow u nl ni nw =
+    → Adds around next (If n has c a b) old new
+adds_long around next n has c a b old new m m' o o' l1 l2 e h1 h2 ml mi mw t ol oi ow u nl ni nw =
     let second = text_lines around next (suc old.ifs + ifs_in a) (old.whiles + whiles_in a) b in
     let last = quiet n (command.Label (if_end old.ifs)) ∷ [] in
     let second_is : o'.lines ≡ o.lines ++ text_lines around next (suc old.ifs + ifs_in a) (old.whiles + whiles_in a) b =
@@ -133,7 +133,7 @@ three l0 l1 l2 l3 x y z a b c = c ∙ ap (λ w. w ++ z ∷ []) (two l0 l1 l2 x y
 -- how much a text has in it
 abbrev mutual
   pub weight_of : Statement → ℕ
-  weight_of (If n c a b) = suc (suc (weight_in a + weight_in b))
+  weight_of (If n o c a b) = suc (suc (weight_in a + weight_in b))
   weight_of (While n c s) = suc (suc (weight_in s))
   weight_of _ = 1
 

@@ -1,5 +1,5 @@
 -- Where a text is read from a place, its first statement begins a few jumps from there.
-use Rattle.std.proofs.Common.{◌≡◌, ℕ, suc, ◌+◌, ◌*◌, max, ◌≤◌, List, [], ◌∷◌, ◌++◌, length, refl, sym, ap, subst, arith, length-append}
+use Rattle.std.proofs.Common.{◌≡◌, ℕ, suc, ◌+◌, ◌*◌, max, ◌≤◌, Bool, true, false, Some, List, [], ◌∷◌, ◌++◌, length, refl, sym, ap, subst, ◌∙◌, arith, length-append}
 use Rattle.std.specs.Prelude.{Some, slice_get}
 use Rattle.vm_tree.specs.declared.command.Segment.TheVariants as segment
 use Rattle.vm_link.specs.declared.linked.Step.TheVariants as command
@@ -7,14 +7,15 @@ use Rattle.vm_link.specs.declared.linked.Code.{Code}
 use Rattle.jack_meaning.specs.Text.{Expression, Statement, Let, LetField, LetThis, Store, Do, If, While, Return, Text, End, Next, joined, number_of, Subroutine}
 use Rattle.jack_meaning.specs.Meaning.{turn_of}
 use Rattle.jack_compiler.specs.Templates.{Numbers, quiet, commit, pop_variable, expression_code, first_number, statement_code, text_code}
-use Rattle.jack_compiler.specs.Fits.{Scope, IsWhole, whole, IsFresh, IsFreshText, nest, nest_in}
+use Rattle.jack_compiler.specs.Fits.{Scope, IsWhole, whole, IsFresh, IsFreshText}
+use Rattle.jack_meaning.specs.Gap.{nest, nest_in}
 use Rattle.jack_compiler.specs.Places.{HasAt, Jumps, here, jump, Reads, Part, base, Last, Choosing, Begun}
 use Rattle.jack_compiler.proofs.Parts.{has_front, has_back}
 use Rattle.jack_compiler.proofs.Redexes.{whole_values}
 
 -- a loop is read as a choice
 abbrev pub unfolded : Statement → Statement
-unfolded (While n c s) = If n c (turn_of n c s) End
+unfolded (While n c s) = If n false c (turn_of n c s) End
 unfolded s = s
 
 joined_joined : (a b c : Text) → joined (joined a b) c ≡ joined a (joined b c)
@@ -76,10 +77,45 @@ module _ (subs : List Subroutine) (numbers : Numbers) (scope : Scope) (depth : �
   pub last_whole : (scope' : Scope) (n p : ℕ) (e : Expression) (c : Code) (rest : Text) → IsWhole subs numbers scope' e → HasAt code p (expression_code numbers n e ++ c ∷ []) → ReadsFrom 0 rest (p + length (expression_code numbers n e ++ c ∷ [])) → Last subs numbers scope depth code scope' n e c rest p []
   last_whole scope' n p e c rest d h r = record { part = part_whole scope' n p e (c ∷ []) d h; reads = reads_at 0 rest _ _ (omega (arith, length-append (expression_code numbers n e) (c ∷ []))) r }
 
+  -- the commands of a choice with an `else`
+  abbrev else_code : ℕ → ℕ → ℕ → Expression → Text → Text → List Code
+  else_code nt n q c a b =
+      let p0 = q + length (expression_code numbers n c) in
+      let ta = text_code numbers nt (p0 + 2) a in
+      let other = p0 + 2 + length ta in
+      let tb = text_code numbers nt (other + 1) b in
+      expression_code numbers n c
+      ++ (commit n (command.IfGoto (p0 + 2)) ∷ quiet (first_number nt b) (command.Goto (other + 1)) ∷ (ta ++ quiet nt (command.Goto (other + 1 + length tb)) ∷ tb))
+
+  begin_else : (n q : ℕ) (c : Expression) (a b rest : Text) → suc (max (nest_in a) (nest_in b)) ≤ depth → IsWhole subs numbers scope c → IsFreshText subs numbers scope a → IsFreshText subs numbers scope b
+      → HasAt code q (else_code (first_number 0 rest) n q c a b) → ReadsFrom (suc (max (nest_in a) (nest_in b))) rest (q + length (else_code (first_number 0 rest) n q c a b)) → Choosing subs numbers scope depth code n c a b rest q []
+  begin_else n q c a b rest deep fc fa fb h r =
+      let nt = first_number 0 rest in
+      let rc = expression_code numbers n c in
+      let p0 = q + length rc in
+      let ta = text_code numbers nt (p0 + 2) a in
+      let other = p0 + 2 + length ta in
+      let tb = text_code numbers nt (other + 1) b in
+      let end_ = other + 1 + length tb in
+      let at_if = has_back code q rc _ h in
+      let two : suc (suc p0) ≡ p0 + 2 = omega arith in
+      let at_a = subst (λ x. HasAt code x (ta ++ quiet nt (command.Goto end_) ∷ tb)) two at_if.1.1 in
+      let at_goto = has_back code (p0 + 2) ta (quiet nt (command.Goto end_) ∷ tb) at_a in
+      let one : suc other ≡ other + 1 = omega arith in
+      let at_b = subst (λ x. HasAt code x tb) one at_goto.1 in
+      let len : q + length (else_code nt n q c a b) ≡ end_ =
+      omega (arith, length-append rc (commit n (command.IfGoto (p0 + 2)) ∷ quiet (first_number nt b) (command.Goto (other + 1)) ∷ (ta ++ quiet nt (command.Goto end_) ∷ tb)), length-append ta (quiet nt (command.Goto end_) ∷ tb)) in
+      let r_end = reads_at _ rest _ _ len r in
+      let r_b = text_reads 1 b (other + 1) rest (omega (arith, deep)) (omega (arith, deep)) fb at_b (reads_fewer _ (max 1 (nest_in b)) rest end_ (omega arith) r_end) in
+      let to_b = reads_goto 0 (joined b rest) (suc p0) (other + 1) (at_if.1.0 ∙ ap (λ (z : ℕ). Some (quiet z (command.Goto (other + 1)))) (first_joined 0 b rest)) r_b in
+      let r_a = reads_goto (max 0 (nest_in a)) rest other end_ at_goto.0 (reads_fewer _ (suc (max 0 (nest_in a))) rest end_ (omega arith) r_end) in
+      let to_a = text_reads 0 a (p0 + 2) rest (omega arith) (omega (arith, deep)) fa (has_front code _ ta _ at_a) r_a in
+      record { target = p0 + 2; part = part_whole scope n q c _ fc (has_one code q rc (commit n (command.IfGoto (p0 + 2))) _ h); holds = to_a; fails = to_b }
+
   -- the commands of a choice
-  begin_if : (n q : ℕ) (c : Expression) (a b rest : Text) → suc (max (nest_in a) (nest_in b)) ≤ depth → IsWhole subs numbers scope c → IsFreshText subs numbers scope a → IsFreshText subs numbers scope b
-      → HasAt code q (statement_code numbers (first_number 0 rest) q (If n c a b)) → ReadsFrom (suc (max (nest_in a) (nest_in b))) rest (q + length (statement_code numbers (first_number 0 rest) q (If n c a b))) → Choosing subs numbers scope depth code n c a b rest q []
-  begin_if n q c a End rest deep fc fa fb h r =
+  begin_if : (n q : ℕ) (o : Bool) (c : Expression) (a b rest : Text) → suc (max (nest_in a) (nest_in b)) ≤ depth → IsWhole subs numbers scope c → IsFreshText subs numbers scope a → IsFreshText subs numbers scope b
+      → HasAt code q (statement_code numbers (first_number 0 rest) q (If n o c a b)) → ReadsFrom (suc (max (nest_in a) (nest_in b))) rest (q + length (statement_code numbers (first_number 0 rest) q (If n o c a b))) → Choosing subs numbers scope depth code n c a b rest q []
+  begin_if n q false c a End rest deep fc fa fb h r =
       let nt = first_number 0 rest in
       let rc = expression_code numbers n c in
       let p0 = q + length rc in
@@ -88,33 +124,13 @@ module _ (subs : List Subroutine) (numbers : Numbers) (scope : Scope) (depth : �
       let at_if = has_back code q rc _ h in
       let two : suc (suc p0) ≡ p0 + 2 = omega arith in
       let at_a = subst (λ x. HasAt code x (ta ++ [])) two at_if.1.1 in
-      let len : q + length (statement_code numbers nt q (If n c a End)) ≡ other = omega (arith, length-append rc (commit n (command.IfGoto (p0 + 2)) ∷ quiet nt (command.Goto other) ∷ (ta ++ [])), length-append ta []) in
+      let len : q + length (statement_code numbers nt q (If n false c a End)) ≡ other = omega (arith, length-append rc (commit n (command.IfGoto (p0 + 2)) ∷ quiet nt (command.Goto other) ∷ (ta ++ [])), length-append ta []) in
       let r_end = reads_at _ rest _ _ len r in
       let to_b = reads_goto 0 rest (suc p0) other at_if.1.0 (reads_fewer _ 1 rest other (omega arith) r_end) in
       let to_a = text_reads 0 a (p0 + 2) rest (omega arith) (omega (arith, deep)) fa (has_front code _ ta [] at_a) (reads_fewer _ (max 0 (nest_in a)) rest other (omega arith) r_end) in
       record { target = p0 + 2; part = part_whole scope n q c _ fc (has_one code q rc (commit n (command.IfGoto (p0 + 2))) _ h); holds = to_a; fails = to_b }
-  begin_if n q c a (Next s b) rest deep fc fa fb h r =
-      let nt = first_number 0 rest in
-      let rc = expression_code numbers n c in
-      let p0 = q + length rc in
-      let ta = text_code numbers nt (p0 + 2) a in
-      let other = p0 + 2 + length ta in
-      let tb = text_code numbers nt (other + 1) (Next s b) in
-      let end_ = other + 1 + length tb in
-      let at_if = has_back code q rc _ h in
-      let two : suc (suc p0) ≡ p0 + 2 = omega arith in
-      let at_a = subst (λ x. HasAt code x (ta ++ quiet nt (command.Goto end_) ∷ tb)) two at_if.1.1 in
-      let at_goto = has_back code (p0 + 2) ta (quiet nt (command.Goto end_) ∷ tb) at_a in
-      let one : suc other ≡ other + 1 = omega arith in
-      let at_b = subst (λ x. HasAt code x tb) one at_goto.1 in
-      let len : q + length (statement_code numbers nt q (If n c a (Next s b))) ≡ end_ =
-      omega (arith, length-append rc (commit n (command.IfGoto (p0 + 2)) ∷ quiet (number_of s) (command.Goto (other + 1)) ∷ (ta ++ quiet nt (command.Goto end_) ∷ tb)), length-append ta (quiet nt (command.Goto end_) ∷ tb)) in
-      let r_end = reads_at _ rest _ _ len r in
-      let r_b = text_reads 1 (Next s b) (other + 1) rest (omega (arith, deep)) (omega (arith, deep)) fb at_b (reads_fewer _ (max 1 (nest_in (Next s b))) rest end_ (omega arith) r_end) in
-      let to_b = reads_goto 0 (joined (Next s b) rest) (suc p0) (other + 1) at_if.1.0 r_b in
-      let r_a = reads_goto (max 0 (nest_in a)) rest other end_ at_goto.0 (reads_fewer _ (suc (max 0 (nest_in a))) rest end_ (omega arith) r_end) in
-      let to_a = text_reads 0 a (p0 + 2) rest (omega arith) (omega (arith, deep)) fa (has_front code _ ta _ at_a) r_a in
-      record { target = p0 + 2; part = part_whole scope n q c _ fc (has_one code q rc (commit n (command.IfGoto (p0 + 2))) _ h); holds = to_a; fails = to_b }
+  begin_if n q true c a End rest deep fc fa fb h r = begin_else n q c a End rest deep fc fa fb h r
+  begin_if n q o c a (Next s b) rest deep fc fa fb h r = begin_else n q c a (Next s b) rest deep fc fa fb h r
 
   -- the commands of a loop
   begin_while : (n q : ℕ) (c : Expression) (s rest : Text) → suc (nest_in s) ≤ depth → IsWhole subs numbers scope c → IsFreshText subs numbers scope s
@@ -158,7 +174,7 @@ module _ (subs : List Subroutine) (numbers : Numbers) (scope : Scope) (depth : �
   begun_at (LetThis n e) rest q h d deep r = absurd d
   begun_at (Store n a i e) rest q h d deep r = base a i e (part_whole scope n q a _ d.0 h) d.1 d.2 r
   begun_at (Do n e) rest q h d deep r = last_whole scope n q e (commit n (command.Pop segment.Temp 0)) rest d h r
-  begun_at (If n c a b) rest q h d deep r = begin_if n q c a b rest deep d.0 d.1 d.2 h r
+  begun_at (If n o c a b) rest q h d deep r = begin_if n q o c a b rest deep d.0 d.1 d.2 h r
   begun_at (While n c s) rest q h d deep r = begin_while n q c s rest deep d.0 d.1 h r
   begun_at (Return n e) rest q h d deep r = part_whole scope n q e _ d h
 

@@ -12,17 +12,16 @@ use Rattle.vm_link.specs.declared.linked.Linked.{Linked}
 use Rattle.vm_machine.specs.State.{Frame as VmFrame, State as VmState}
 use Rattle.vm_machine.specs.Step.{code_in, store}
 use Rattle.jack_meaning.specs.Text.{Expression, Value, Statement, Let, LetField, LetThis, Store, Do, If, While, Return, Text, Next, joined, Program}
-use Rattle.jack_meaning.specs.Expressions.{value_of, rewrite, filled, standing}
+use Rattle.jack_meaning.specs.Expressions.{value_of, rewrite, filled}
 use Rattle.jack_meaning.specs.Meaning.{Frame, Outcome, step, step_part, step_first, view_of, filled_text, text_point, assigned, stored, passed_over, returned, chosen}
-use Rattle.jack_meaning.specs.StackWords.{standing_first}
 use Rattle.jack_compiler.specs.Templates.{Numbers, quiet, commit, pop_variable, store_code, expression_code}
 use Rattle.jack_compiler.specs.Fits.{Scope, IsWhole, whole, IsClosed, without_object}
 use Rattle.jack_compiler.specs.Places.{stack_of, HasAt, Reads, Part, Storing, base, index, element, Last, Begun}
 use Rattle.jack_compiler.specs.Match.{IsCodeOf, scope_at, Same, TopMatch, begun, making, answered, Callers, SameWords}
-use Rattle.jack_compiler.proofs.Redexes.{Sight, sight, whole_filled, whole_values}
+use Rattle.jack_compiler.proofs.Redexes.{Sight, sight, whole_filled, whole_standing, whole_values}
 use Rattle.jack_compiler.proofs.Ways.{way_more, Here, quiet_way, last_way}
 use Rattle.jack_compiler.proofs.Parts.{is_below, add_zero, u, at}
-use Rattle.jack_compiler.proofs.Statements.{closed_rest, closed_same, state_at, used, GoesFrom, again, expression_way, store_with}
+use Rattle.jack_compiler.proofs.Statements.{AreStanding, closed_rest, closed_same, state_at, used, GoesFrom, again, expression_way, store_with}
 use Rattle.jack_compiler.proofs.Acting.{let_value, do_value, field_value, this_value, if_value}
 
 module _ (program : Program) (numbers : Numbers) (linked : Linked) (depth : ℕ) (agree : IsCodeOf program numbers linked) where
@@ -98,7 +97,7 @@ module _ (program : Program) (numbers : Numbers) (linked : Linked) (depth : ℕ)
             → ((key : ℕ) → step program.subroutines key (u program numbers linked depth ss ws f g below V vf vg vbs) ≡ step_part program.subroutines (u program numbers linked depth ss ws f g below V vf vg vbs) f (g ∷ below) (rewrite (view_of key (u program numbers linked depth ss ws f g below V vf vg vbs) f) e) whole_ (otherwise key e))
             → ((e' : Expression) (q : ℕ) (vs : List ℕ) (t : ℕ) → Part program.subroutines numbers scope depth (code_in linked vf.function) scope n e' rest below_ q vs → q + length (expression_code numbers n e') ≡ p + length (expression_code numbers n e) → TopMatch program numbers linked depth (record f { text = whole_ e' }) (at program numbers linked depth ss ws f g below V vf vg vbs q vs t))
             → ((w : ℕ) (e' : Expression) → filled_text w (whole_ e') ≡ whole_ (filled w e'))
-            → ((e' : Expression) → standing e' + length below_ ≤ standing_first (whole_ e'))
+            → ((e' : Expression) → AreStanding below_ e' (whole_ e'))
             → ((w : ℕ) → HasAt (code_in linked vf.function) p rest → ((key : ℕ) → step program.subroutines key (u program numbers linked depth ss ws f g below V vf vg vbs) ≡ otherwise key (Value w)) → e ≡ Value w → used program numbers linked depth ss ws f g below V vf vg vbs + length below_ + 9 ≤ 1792 → GoesFrom program numbers linked depth ss ws f g below V vf vg vbs m (state_at program numbers linked depth ss ws f g below V vf vg vbs p (w ∷ below_) that))
             → Sight program.subroutines numbers scope n e → GoesFrom program numbers linked depth ss ws f g below V vf vg vbs m (state_at program numbers linked depth ss ws f g below V vf vg vbs p values that)
         one_way m enough scope same n number e rest below_ part whole_ otherwise steps on fills stands acts (inr fe) =
@@ -128,7 +127,7 @@ module _ (program : Program) (numbers : Numbers) (linked : Linked) (depth : ℕ)
             text.1
             (λ e' q vs t part' len. begun (again program numbers linked depth ss ws f g below V vf vg vbs here memory callers (scope_at program numbers linked depth f.subroutine) same (Next (Store n (Value x) (Value y) e') rest) q vs t) (closed_same (Store n (Value x) (Value y) e) (Store n (Value x) (Value y) e') rest (λ h. h) closed)
             (element x y e' part' (subst (ReadsOn rest) (let size' = length-append (expression_code numbers n e') (store_code n) in omega (arith, len, size, size')) reads)))
-            (λ w e'. refl) (λ e'. omega arith)
+            (λ w e'. refl) (λ e'. (omega arith, omega arith))
             (λ w has steps' d r.
             let z : length (expression_code numbers n e) ≡ 0 = ap (λ i. length (expression_code numbers n i)) d in
             way_more program numbers linked depth (u program numbers linked depth ss ws f g below V vf vg vbs) 45 66 (state_at program numbers linked depth ss ws f g below V vf vg vbs p (w ∷ word_add x y ∷ []) that) (omega arith)
@@ -150,7 +149,7 @@ module _ (program : Program) (numbers : Numbers) (linked : Linked) (depth : ℕ)
             text.1
             (λ i' q vs t part' len. begun (again program numbers linked depth ss ws f g below V vf vg vbs here memory callers (scope_at program numbers linked depth f.subroutine) same (Next (Store n (Value x) i' e) rest) q vs t) (closed_same (Store n (Value x) i e) (Store n (Value x) i' e) rest (λ h. h) closed)
             (index x i' e part' we (subst (ReadsOn rest) (let size' = length-append (expression_code numbers n i') (after_index n e) in omega (arith, len, size, size')) reads)))
-            (λ w i'. ap (λ e'. Next (Store n (Value x) (filled w i') e') rest) (whole_filled program.subroutines numbers (scope_at program numbers linked depth f.subroutine) w e we)) (λ i'. omega arith)
+            (λ w i'. ap (λ e'. Next (Store n (Value x) (filled w i') e') rest) (whole_filled program.subroutines numbers (scope_at program numbers linked depth f.subroutine) w e we)) (λ i'. (omega arith, omega (arith, whole_standing program.subroutines numbers (scope_at program numbers linked depth f.subroutine) e we)))
             (λ y has steps' d r.
             let z : length (expression_code numbers n i) ≡ 0 = ap (λ k. length (expression_code numbers n k)) d in
             let one : suc p ≡ p + 1 = omega arith in
@@ -177,7 +176,7 @@ module _ (program : Program) (numbers : Numbers) (linked : Linked) (depth : ℕ)
             text.1
             (λ a' q vs t part' len. begun (again program numbers linked depth ss ws f g below V vf vg vbs here memory callers (scope_at program numbers linked depth f.subroutine) same (Next (Store n a' i e) rest) q vs t) (closed_same (Store n a i e) (Store n a' i e) rest (λ h. h) closed)
             (base a' i e part' wi we (subst (ReadsOn rest) (let size' = length-append (expression_code numbers n a') (after_base n i e) in omega (arith, len, size, size')) reads)))
-            (λ w a'. ap (λ i'. Next (Store n (filled w a') i' (filled w e)) rest) (whole_filled program.subroutines numbers (scope_at program numbers linked depth f.subroutine) w i wi) ∙ ap (λ e'. Next (Store n (filled w a') i e') rest) (whole_filled program.subroutines numbers (scope_at program numbers linked depth f.subroutine) w e we)) (λ a'. omega arith)
+            (λ w a'. ap (λ i'. Next (Store n (filled w a') i' (filled w e)) rest) (whole_filled program.subroutines numbers (scope_at program numbers linked depth f.subroutine) w i wi) ∙ ap (λ e'. Next (Store n (filled w a') i e') rest) (whole_filled program.subroutines numbers (scope_at program numbers linked depth f.subroutine) w e we)) (λ a'. (omega arith, omega (arith, whole_standing program.subroutines numbers (scope_at program numbers linked depth f.subroutine) i wi, whole_standing program.subroutines numbers (scope_at program numbers linked depth f.subroutine) e we)))
             (λ x has steps' d r.
             let z : length (expression_code numbers n a) ≡ 0 = ap (λ k. length (expression_code numbers n k)) d in
             index_way p (x ∷ []) that (omega (arith, r)) n x i e rest (subst (λ k. StepsAs (Next (Store n k i e) rest)) d text) (closed_same (Store n a i e) (Store n (Value x) i e) rest (λ h. h) closed) same
@@ -201,7 +200,7 @@ module _ (program : Program) (numbers : Numbers) (linked : Linked) (depth : ℕ)
             text.1
             (λ e' q vs t part' len. making (again program numbers linked depth ss ws f g below V vf vg vbs here memory callers (without_object (scope_at program numbers linked depth f.subroutine)) same (Next (LetThis n e') rest) q vs t) (closed_same (LetThis n e) (LetThis n e') rest (λ h. h) closed)
             (record { part = record { has = part'.has; ordered = part'.ordered; values_are = part'.values_are }; reads = subst (ReadsOn rest) (ap suc (sym len)) b.reads }))
-            (λ w e'. refl) (λ e'. omega arith)
+            (λ w e'. refl) (λ e'. (omega arith, omega arith))
             (λ w has steps' d r. more p values that room (w ∷ []) 12 (omega arith) (this_value program numbers linked depth agree ss ws f g below V vf vg vbs here memory callers n text.0 p that (omega (arith, r)) same w rest has.0 steps' (closed_rest (LetThis n e) rest (λ h. h) closed) (reads_after p values that room n e w rest d b.reads)))
             (sight program.subroutines numbers (without_object (scope_at program numbers linked depth f.subroutine)) n e b.part.ordered)
 
@@ -212,14 +211,14 @@ module _ (program : Program) (numbers : Numbers) (linked : Linked) (depth : ℕ)
             one_way p values that room 71 (omega arith) (scope_at program numbers linked depth f.subroutine) same n text.0 e (commit n (pop_variable numbers x) ∷ []) [] b.1.part (λ e'. Next (Let n x e') rest) (λ key e'. assigned (u program numbers linked depth ss ws f g below V vf vg vbs) f (g ∷ below) rest x (value_of e'))
             text.1
             (λ e' q vs t part' len. begun (again program numbers linked depth ss ws f g below V vf vg vbs here memory callers (scope_at program numbers linked depth f.subroutine) same (Next (Let n x e') rest) q vs t) (closed_same (Let n x e) (Let n x e') rest (λ h. h) closed) (b.0, record { part = part'; reads = subst (ReadsOn rest) (ap suc (sym len)) b.1.reads }))
-            (λ w e'. refl) (λ e'. omega arith)
+            (λ w e'. refl) (λ e'. (omega arith, omega arith))
             (λ w has steps' d r. more p values that room (w ∷ []) 12 (omega arith) (let_value program numbers linked depth agree ss ws f g below V vf vg vbs here memory callers n text.0 p that (omega (arith, r)) same x w rest b.0 has.0 steps' (closed_rest (Let n x e) rest (λ h. h) closed) (reads_after p values that room n e w rest d b.1.reads)))
             (sight program.subroutines numbers (scope_at program numbers linked depth f.subroutine) n e b.1.part.ordered)
         begun_way (LetField n k e) rest text closed same b =
             one_way p values that room 71 (omega arith) (scope_at program numbers linked depth f.subroutine) same n text.0 e (commit n (command.Pop segment.This k) ∷ []) [] b.1.part (λ e'. Next (LetField n k e') rest) (λ key e'. stored (u program numbers linked depth ss ws f g below V vf vg vbs) f (g ∷ below) rest (word_add f.this k) (value_of e'))
             text.1
             (λ e' q vs t part' len. begun (again program numbers linked depth ss ws f g below V vf vg vbs here memory callers (scope_at program numbers linked depth f.subroutine) same (Next (LetField n k e') rest) q vs t) (closed_same (LetField n k e) (LetField n k e') rest (λ h. h) closed) (b.0, record { part = part'; reads = subst (ReadsOn rest) (ap suc (sym len)) b.1.reads }))
-            (λ w e'. refl) (λ e'. omega arith)
+            (λ w e'. refl) (λ e'. (omega arith, omega arith))
             (λ w has steps' d r. more p values that room (w ∷ []) 12 (omega arith) (field_value program numbers linked depth agree ss ws f g below V vf vg vbs here memory callers n text.0 p that (omega (arith, r)) same k w rest b.0 has.0 steps' (closed_rest (LetField n k e) rest (λ h. h) closed) (reads_after p values that room n e w rest d b.1.reads)))
             (sight program.subroutines numbers (scope_at program numbers linked depth f.subroutine) n e b.1.part.ordered)
         begun_way (LetThis n e) rest text closed same b = absurd b
@@ -228,21 +227,21 @@ module _ (program : Program) (numbers : Numbers) (linked : Linked) (depth : ℕ)
             one_way p values that room 71 (omega arith) (scope_at program numbers linked depth f.subroutine) same n text.0 e (commit n (command.Pop segment.Temp 0) ∷ []) [] b.part (λ e'. Next (Do n e') rest) (λ key e'. passed_over (u program numbers linked depth ss ws f g below V vf vg vbs) f (g ∷ below) rest)
             text.1
             (λ e' q vs t part' len. begun (again program numbers linked depth ss ws f g below V vf vg vbs here memory callers (scope_at program numbers linked depth f.subroutine) same (Next (Do n e') rest) q vs t) (closed_same (Do n e) (Do n e') rest (λ h. h) closed) (record { part = part'; reads = subst (ReadsOn rest) (ap suc (sym len)) b.reads }))
-            (λ w e'. refl) (λ e'. omega arith)
+            (λ w e'. refl) (λ e'. (omega arith, omega arith))
             (λ w has steps' d r. more p values that room (w ∷ []) 12 (omega arith) (do_value program numbers linked depth agree ss ws f g below V vf vg vbs here memory callers n text.0 p that (omega (arith, r)) same w rest has.0 steps' (closed_rest (Do n e) rest (λ h. h) closed) (reads_after p values that room n e w rest d b.reads)))
             (sight program.subroutines numbers (scope_at program numbers linked depth f.subroutine) n e b.part.ordered)
-        begun_way (If n c a1 a2) rest text closed same b =
-            one_way p values that room 71 (omega arith) (scope_at program numbers linked depth f.subroutine) same n text.0 c (commit n (command.IfGoto b.target) ∷ []) [] b.part (λ e'. Next (If n e' a1 a2) rest) (λ key e'. passed_over (u program numbers linked depth ss ws f g below V vf vg vbs) f (g ∷ below) (joined (chosen (value_of e') a1 a2) rest))
+        begun_way (If n o c a1 a2) rest text closed same b =
+            one_way p values that room 71 (omega arith) (scope_at program numbers linked depth f.subroutine) same n text.0 c (commit n (command.IfGoto b.target) ∷ []) [] b.part (λ e'. Next (If n o e' a1 a2) rest) (λ key e'. passed_over (u program numbers linked depth ss ws f g below V vf vg vbs) f (g ∷ below) (joined (chosen (value_of e') a1 a2) rest))
             text.1
-            (λ e' q vs t part' len. begun (again program numbers linked depth ss ws f g below V vf vg vbs here memory callers (scope_at program numbers linked depth f.subroutine) same (Next (If n e' a1 a2) rest) q vs t) (closed_same (If n c a1 a2) (If n e' a1 a2) rest (λ h. h) closed) (record { target = b.target; part = part'; holds = b.holds; fails = subst (ReadsOn (joined a2 rest)) (ap suc (sym len)) b.fails }))
-            (λ w e'. refl) (λ e'. omega arith)
-            (λ w has steps' d r. more p values that room (w ∷ []) 5 (omega arith) (if_value program numbers linked depth agree ss ws f g below V vf vg vbs here memory callers n text.0 p that (omega (arith, r)) same w b.target a1 a2 rest has.0 steps' (closed_rest (If n c a1 a2) rest (λ h. h) closed) b.holds (reads_after p values that room n c w (joined a2 rest) d b.fails)))
+            (λ e' q vs t part' len. begun (again program numbers linked depth ss ws f g below V vf vg vbs here memory callers (scope_at program numbers linked depth f.subroutine) same (Next (If n o e' a1 a2) rest) q vs t) (closed_same (If n o c a1 a2) (If n o e' a1 a2) rest (λ h. h) closed) (record { target = b.target; part = part'; holds = b.holds; fails = subst (ReadsOn (joined a2 rest)) (ap suc (sym len)) b.fails }))
+            (λ w e'. refl) (λ e'. (omega arith, omega arith))
+            (λ w has steps' d r. more p values that room (w ∷ []) 5 (omega arith) (if_value program numbers linked depth agree ss ws f g below V vf vg vbs here memory callers n text.0 p that (omega (arith, r)) same w b.target a1 a2 rest has.0 steps' (closed_rest (If n o c a1 a2) rest (λ h. h) closed) b.holds (reads_after p values that room n c w (joined a2 rest) d b.fails)))
             (sight program.subroutines numbers (scope_at program numbers linked depth f.subroutine) n c b.part.ordered)
         begun_way (While n c s) rest text closed same b = absurd b
         begun_way (Return n e) rest text closed same b =
             one_way p values that room 71 (omega arith) (scope_at program numbers linked depth f.subroutine) same n text.0 e (commit n command.Return ∷ []) [] b (λ e'. Next (Return n e') rest) (λ key e'. returned (u program numbers linked depth ss ws f g below V vf vg vbs) (g ∷ below) (value_of e'))
             text.1
             (λ e' q vs t part' len. begun (again program numbers linked depth ss ws f g below V vf vg vbs here memory callers (scope_at program numbers linked depth f.subroutine) same (Next (Return n e') rest) q vs t) (closed_same (Return n e) (Return n e') rest (λ h. h) closed) part')
-            (λ w e'. refl) (λ e'. omega arith)
+            (λ w e'. refl) (λ e'. (omega arith, omega arith))
             (λ w has steps' d r. more p values that room (w ∷ []) 66 (omega arith) (return_value ss ws f g below V vf vg vbs here memory callers n text.0 p that w (omega (arith, r)) has.0 steps'))
             (sight program.subroutines numbers (scope_at program numbers linked depth f.subroutine) n e b.ordered)

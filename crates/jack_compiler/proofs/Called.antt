@@ -13,7 +13,7 @@ use Rattle.vm_tree.specs.declared.command.Operation.TheVariants as operation
 use Rattle.vm_link.specs.Sections.{called, calls, stands_in}
 use Rattle.vm_link.specs.Faults.{words_of_lines, static_words, words_at}
 use Rattle.jack_meaning.specs.Text.{Variable, Argument, Local, Static, Expression, Literal, Value, Name, This, Field, Unary, Binary, Load, Call, Open, Expressions, NoMore, More, Statement, Let, LetField, LetThis, Store, Do, If, While, Return, Text, End, Next, Kind, Constructor, Function, Method, Subroutine}
-use Rattle.jack_compiler.specs.Templates.{Numbers, count, first_number, is_end}
+use Rattle.jack_compiler.specs.Templates.{Numbers, count, first_number, no_else}
 use Rattle.jack_compiler.specs.Fits.{Scope, without_object, IsThere, IsWhole, AreWhole, IsFresh, IsFreshText, IsBody}
 use Rattle.jack_compiler.specs.Lines.{Around, short, quiet, commit, if_true, if_false, if_end, into_if, into_else, into_while, out_of_while, push_variable, pop_variable, sign_command, operator_command, literal_lines, load_lines, store_lines, expression_lines, arguments_lines, statement_lines, text_lines, object_lines, subroutine_lines, ifs_of, ifs_in, whiles_of, whiles_in}
 
@@ -171,10 +171,10 @@ module _ (subs : List Subroutine) (first numbers : Numbers) (around : Around) (K
       are_kept n (More e es) h p =
           (whole_kept n e h.0 (front K H (expression_lines around n e) (arguments_lines around n es) p), are_kept n es h.1 (back K H (expression_lines around n e) (arguments_lines around n es) p))
 
-    second_kept : (b : Text) (n next i : ℕ) (B : List Line) → (Each B → IsFreshText subs numbers scope b)
-        → Each (if is_end b then quiet n (command.Label (if_false i)) ∷ [] else into_else n next i ++ (B ++ quiet n (command.Label (if_end i)) ∷ [])) → IsFreshText subs numbers scope b
-    second_kept End n next i B ih p = tt
-    second_kept (Next t rest) n next i B ih p = ih (front K H B (quiet n (command.Label (if_end i)) ∷ []) (back K H (into_else n next i) (B ++ quiet n (command.Label (if_end i)) ∷ []) p))
+    second_kept : (o : Bool) (b : Text) (n next i : ℕ) (B : List Line) → (Each B → IsFreshText subs numbers scope b)
+        → Each (if no_else o b then quiet n (command.Label (if_false i)) ∷ [] else into_else n next i ++ (B ++ quiet n (command.Label (if_end i)) ∷ [])) → IsFreshText subs numbers scope b
+    second_kept o End n next i B ih p = tt
+    second_kept o (Next t rest) n next i B ih p = ih (front K H B (quiet n (command.Label (if_end i)) ∷ []) (back K H (into_else n next i) (B ++ quiet n (command.Label (if_end i)) ∷ []) p))
 
     mutual
       pub statement_kept : (next i w : ℕ) (t : Statement) → IsFresh subs first scope t → Each (statement_lines around next i w t) → IsFresh subs numbers scope t
@@ -192,14 +192,14 @@ module _ (subs : List Subroutine) (first numbers : Numbers) (around : Around) (K
           )
       statement_kept next i w (Do n e) h p = whole_kept n e h (front K H (expression_lines around n e) (commit n (command.Pop segment.Temp 0) ∷ []) p)
       statement_kept next i w (Return n e) h p = whole_kept n e h (front K H (expression_lines around n e) (commit n command.Return ∷ []) p)
-      statement_kept next i w (If n c a b) h p =
+      statement_kept next i w (If n o c a b) h p =
           let A = text_lines around next (suc i) w a in
           let B = text_lines around next (suc i + ifs_in a) (w + whiles_in a) b in
-          let R = if is_end b then quiet n (command.Label (if_false i)) ∷ [] else into_else n next i ++ (text_lines around next (suc i + ifs_in a) (w + whiles_in a) b ++ quiet n (command.Label (if_end i)) ∷ []) in
+          let R = if no_else o b then quiet n (command.Label (if_false i)) ∷ [] else into_else n next i ++ (text_lines around next (suc i + ifs_in a) (w + whiles_in a) b ++ quiet n (command.Label (if_end i)) ∷ []) in
           let q = back K H (into_if n (first_number next b) i) (A ++ R) (back K H (expression_lines around n c) (into_if n (first_number next b) i ++ (A ++ R)) p) in (
             whole_kept n c h.0 (front K H (expression_lines around n c) (into_if n (first_number next b) i ++ (A ++ R)) p),
             text_kept next (suc i) w a h.1 (front K H A R q),
-            second_kept b n next i B (λ k. text_kept next (suc i + ifs_in a) (w + whiles_in a) b h.2 k) (back K H A R q),
+            second_kept o b n next i B (λ k. text_kept next (suc i + ifs_in a) (w + whiles_in a) b h.2 k) (back K H A R q),
           )
       statement_kept next i w (While n c t) h p =
           let S = text_lines around n i (suc w) t in
@@ -227,6 +227,6 @@ module _ (subs : List Subroutine) (first numbers : Numbers) (around : Around) (K
   body_kept scope Constructor (Next (LetField n k e) rest) h p = absurd h
   body_kept scope Constructor (Next (Store n a j e) rest) h p = absurd h
   body_kept scope Constructor (Next (Do n e) rest) h p = absurd h
-  body_kept scope Constructor (Next (If n c a b) rest) h p = absurd h
+  body_kept scope Constructor (Next (If n o c a b) rest) h p = absurd h
   body_kept scope Constructor (Next (While n c s) rest) h p = absurd h
   body_kept scope Constructor (Next (Return n e) rest) h p = absurd h

@@ -1,6 +1,7 @@
 -- Each name that a subroutine's lines call is that of a subroutine, and some of its lines is a commit.
 use Rattle.std.proofs.Common.{◌≡◌, ◌+◌, ◌++◌, ◌||◌, ℕ, suc, Bool, true, false, nat_eq, List, [], ◌∷◌, Option, Some, None, refl, sym, ap, subst, ◌∙◌, if◌then◌else◌}
-use Rattle.std.specs.List.{list_any, cons_option}
+use Rattle.std.specs.List.{list_any, cons_option, Contains}
+use Rattle.std.proofs.lemmas.List.Elements.{Contains-append_left, Contains-append_right, Contains-push}
 use Rattle.std.specs.Str.{bytes_eq}
 use Rattle.std.proofs.lemmas.Slice.Eq.{bytes_eq-Decides}
 use Rattle.std.specs.Option.{option_or}
@@ -13,8 +14,10 @@ use Rattle.vm_tree.specs.declared.command.Operation.TheVariants as operation
 use Rattle.vm_link.specs.Sections.{Section, called, calls, stands_in, is_named}
 use Rattle.vm_link.specs.Faults.{first_of, lacking}
 use Rattle.jack_meaning.specs.Text.{Variable, Argument, Local, Static, Sign, Minus, Complement, Operator, Plus, Subtract, And, Or, Less, Greater, Equal, Expression, Literal, Value, Name, This, Field, Unary, Binary, Load, Call, Open, Expressions, NoMore, More, Statement, Let, LetField, LetThis, Store, Do, If, While, Return, Text, End, Next, Kind, Constructor, Function, Method, Subroutine}
-use Rattle.jack_compiler.specs.Templates.{Numbers, first_number, is_end}
-use Rattle.jack_compiler.specs.Fits.{Scope, without_object, IsWhole, AreWhole, IsFresh, IsFreshText, IsBody, IsClosed}
+use Rattle.jack_compiler.specs.Templates.{Numbers, first_number, no_else}
+use Rattle.jack_meaning.specs.Linked as called_in
+use Rattle.jack_compiler.specs.Fits.{Scope, IsBody, IsClosed}
+use Rattle.jack_compiler.proofs.Members.{body_keeps}
 use Rattle.jack_compiler.specs.Lines.{Around, quiet, commit, if_false, if_end, into_if, into_else, push_variable, pop_variable, sign_command, operator_command, literal_lines, load_lines, store_lines, expression_lines, arguments_lines, statement_lines, text_lines, object_lines, subroutine_lines, ifs_of, ifs_in, whiles_of, whiles_in}
 
 module _ (K : List ℕ → Type 0) where
@@ -30,7 +33,17 @@ calls_both : {K : List ℕ → Type 0} {xs ys : List Line} → Calls K xs → Ca
 calls_both no_calls b = b
 calls_both (more_calls h a) b = more_calls h (calls_both a b)
 
-module _ (subs : List Subroutine) (first : Numbers) (around : Around) (K : List ℕ → Type 0) (there : (g : ℕ) → first.keeps g ≡ true → K (around.name g)) where
+-- the names of called subroutines
+abbrev pub Named : Around → (List ℕ → Type 0) → List ℕ → Type 0
+Named around K gs = (g : ℕ) → Contains gs g → K (around.name g)
+
+module _ (around : Around) (K : List ℕ → Type 0) where
+  first_named : (xs ys : List ℕ) → Named around K (xs ++ ys) → Named around K xs
+  first_named xs ys h g c = h g (Contains-append_left xs ys g c)
+
+  second_named : (xs ys : List ℕ) → Named around K (xs ++ ys) → Named around K ys
+  second_named xs ys h g c = h g (Contains-append_right xs ys g c)
+
   literal_calls : (n w : ℕ) → Calls K (literal_lines n w)
   literal_calls n w = by_test (nat_eq w 65535)
     where
@@ -67,71 +80,79 @@ module _ (subs : List Subroutine) (first : Numbers) (around : Around) (K : List 
   store_calls : (n : ℕ) → Calls K (store_lines n)
   store_calls n = more_calls tt (more_calls tt (more_calls tt (more_calls tt no_calls)))
 
-  module _ (scope : Scope) where
-    mutual
-      pub expression_calls : (n : ℕ) (e : Expression) → IsWhole subs first scope e → Calls K (expression_lines around n e)
-      expression_calls n (Value w) h = no_calls
-      expression_calls n Open h = no_calls
-      expression_calls n (Literal w) h = literal_calls n w
-      expression_calls n (Name x) h = more_calls (push_calls x) no_calls
-      expression_calls n This h = more_calls tt no_calls
-      expression_calls n (Field k) h = more_calls tt no_calls
-      expression_calls n (Unary o a) h = calls_both (expression_calls n a h) (more_calls (sign_calls o) no_calls)
-      expression_calls n (Binary o a b) h = calls_both (expression_calls n a h.0) (calls_both (expression_calls n b h.1) (more_calls (operator_calls o) no_calls))
-      expression_calls n (Load a j) h = calls_both (expression_calls n a h.0) (calls_both (expression_calls n j h.1) (load_calls n))
-      expression_calls n (Call g es) h = calls_both (arguments_calls n es h.1) (more_calls (there g h.0.0) no_calls)
+  mutual
+    expression_calls : (n : ℕ) (e : Expression) → Named around K (called_in.calls e) → Calls K (expression_lines around n e)
+    expression_calls n (Value w) h = no_calls
+    expression_calls n Open h = no_calls
+    expression_calls n (Literal w) h = literal_calls n w
+    expression_calls n (Name x) h = more_calls (push_calls x) no_calls
+    expression_calls n This h = more_calls tt no_calls
+    expression_calls n (Field k) h = more_calls tt no_calls
+    expression_calls n (Unary o a) h = calls_both (expression_calls n a h) (more_calls (sign_calls o) no_calls)
+    expression_calls n (Binary o a b) h =
+        calls_both (expression_calls n a (first_named (called_in.calls a) (called_in.calls b) h))
+        (calls_both (expression_calls n b (second_named (called_in.calls a) (called_in.calls b) h)) (more_calls (operator_calls o) no_calls))
+    expression_calls n (Load a j) h =
+        calls_both (expression_calls n a (first_named (called_in.calls a) (called_in.calls j) h))
+        (calls_both (expression_calls n j (second_named (called_in.calls a) (called_in.calls j) h)) (load_calls n))
+    expression_calls n (Call g es) h =
+        calls_both (arguments_calls n es (first_named (called_in.calls_in es) (g ∷ []) h)) (more_calls (h g (Contains-push (called_in.calls_in es) g)) no_calls)
 
-      pub arguments_calls : (n : ℕ) (es : Expressions) → AreWhole subs first scope es → Calls K (arguments_lines around n es)
-      arguments_calls n NoMore h = no_calls
-      arguments_calls n (More e es) h = calls_both (expression_calls n e h.0) (arguments_calls n es h.1)
+    arguments_calls : (n : ℕ) (es : Expressions) → Named around K (called_in.calls_in es) → Calls K (arguments_lines around n es)
+    arguments_calls n NoMore h = no_calls
+    arguments_calls n (More e es) h =
+        calls_both (expression_calls n e (first_named (called_in.calls e) (called_in.calls_in es) h)) (arguments_calls n es (second_named (called_in.calls e) (called_in.calls_in es) h))
 
-    if_calls : (n m next i : ℕ) (C A B : List Line) (z : Bool) → Calls K C → Calls K A → Calls K B
-        → Calls K (C ++ (into_if n m i ++ (A ++ (if z then quiet n (command.Label (if_false i)) ∷ [] else into_else n next i ++ (B ++ quiet n (command.Label (if_end i)) ∷ [])))))
-    if_calls n m next i C A B true c a b = calls_both c (more_calls tt (more_calls tt (more_calls tt (calls_both a (more_calls tt no_calls)))))
-    if_calls n m next i C A B false c a b =
-        calls_both c (more_calls tt (more_calls tt (more_calls tt (calls_both a (more_calls tt (more_calls tt (calls_both b (more_calls tt no_calls))))))))
+  if_calls : (n m next i : ℕ) (C A B : List Line) (z : Bool) → Calls K C → Calls K A → Calls K B
+      → Calls K (C ++ (into_if n m i ++ (A ++ (if z then quiet n (command.Label (if_false i)) ∷ [] else into_else n next i ++ (B ++ quiet n (command.Label (if_end i)) ∷ [])))))
+  if_calls n m next i C A B true c a b = calls_both c (more_calls tt (more_calls tt (more_calls tt (calls_both a (more_calls tt no_calls)))))
+  if_calls n m next i C A B false c a b =
+      calls_both c (more_calls tt (more_calls tt (more_calls tt (calls_both a (more_calls tt (more_calls tt (calls_both b (more_calls tt no_calls))))))))
 
-    mutual
-      pub statement_calls : (next i w : ℕ) (t : Statement) → IsFresh subs first scope t → Calls K (statement_lines around next i w t)
-      statement_calls next i w (Let n x e) h = calls_both (expression_calls n e h.1) (more_calls (pop_calls x) no_calls)
-      statement_calls next i w (LetField n k e) h = calls_both (expression_calls n e h.1) (more_calls tt no_calls)
-      statement_calls next i w (LetThis n e) h = absurd h
-      statement_calls next i w (Store n a j e) h =
-          calls_both (expression_calls n a h.0) (calls_both (expression_calls n j h.1) (more_calls tt (calls_both (expression_calls n e h.2) (store_calls n))))
-      statement_calls next i w (Do n e) h = calls_both (expression_calls n e h) (more_calls tt no_calls)
-      statement_calls next i w (Return n e) h = calls_both (expression_calls n e h) (more_calls tt no_calls)
-      statement_calls next i w (If n c a b) h =
-          if_calls n (first_number next b) next i (expression_lines around n c) (text_lines around next (suc i) w a) (text_lines around next (suc i + ifs_in a) (w + whiles_in a) b) (is_end b)
-          (expression_calls n c h.0) (text_calls next (suc i) w a h.1) (text_calls next (suc i + ifs_in a) (w + whiles_in a) b h.2)
-      statement_calls next i w (While n c t) h =
-          more_calls tt (calls_both (expression_calls n c h.0)
-          (more_calls tt (more_calls tt (more_calls tt (calls_both (text_calls n i (suc w) t h.1) (more_calls tt (more_calls tt no_calls)))))))
+  mutual
+    statement_calls : (next i w : ℕ) (t : Statement) → Named around K (called_in.statement_calls t) → Calls K (statement_lines around next i w t)
+    statement_calls next i w (Let n x e) h = calls_both (expression_calls n e h) (more_calls (pop_calls x) no_calls)
+    statement_calls next i w (LetField n k e) h = calls_both (expression_calls n e h) (more_calls tt no_calls)
+    statement_calls next i w (LetThis n e) h = calls_both (expression_calls n e h) (more_calls tt no_calls)
+    statement_calls next i w (Store n a j e) h =
+        let ca = called_in.calls a in
+        let cj = called_in.calls j in
+        let ce = called_in.calls e in
+        let h' = second_named ca (cj ++ ce) h in
+        calls_both (expression_calls n a (first_named ca (cj ++ ce) h))
+        (calls_both (expression_calls n j (first_named cj ce h')) (more_calls tt (calls_both (expression_calls n e (second_named cj ce h')) (store_calls n))))
+    statement_calls next i w (Do n e) h = calls_both (expression_calls n e h) (more_calls tt no_calls)
+    statement_calls next i w (Return n e) h = calls_both (expression_calls n e h) (more_calls tt no_calls)
+    statement_calls next i w (If n o c a b) h =
+        let cn = called_in.calls c in
+        let ca = called_in.text_calls a in
+        let cb = called_in.text_calls b in
+        let h' = second_named cn (ca ++ cb) h in
+        if_calls n (first_number next b) next i (expression_lines around n c) (text_lines around next (suc i) w a) (text_lines around next (suc i + ifs_in a) (w + whiles_in a) b) (no_else o b)
+        (expression_calls n c (first_named cn (ca ++ cb) h)) (text_calls next (suc i) w a (first_named ca cb h')) (text_calls next (suc i + ifs_in a) (w + whiles_in a) b (second_named ca cb h'))
+    statement_calls next i w (While n c t) h =
+        more_calls tt (calls_both (expression_calls n c (first_named (called_in.calls c) (called_in.text_calls t) h))
+        (more_calls tt (more_calls tt (more_calls tt (calls_both (text_calls n i (suc w) t (second_named (called_in.calls c) (called_in.text_calls t) h)) (more_calls tt (more_calls tt no_calls)))))))
 
-      pub text_calls : (next i w : ℕ) (t : Text) → IsFreshText subs first scope t → Calls K (text_lines around next i w t)
-      text_calls next i w End h = no_calls
-      text_calls next i w (Next t rest) h = calls_both (statement_calls (first_number next rest) i w t h.0) (text_calls next (i + ifs_of t) (w + whiles_of t) rest h.1)
+    text_calls : (next i w : ℕ) (t : Text) → Named around K (called_in.text_calls t) → Calls K (text_lines around next i w t)
+    text_calls next i w End h = no_calls
+    text_calls next i w (Next t rest) h =
+        calls_both (statement_calls (first_number next rest) i w t (first_named (called_in.statement_calls t) (called_in.text_calls rest) h))
+        (text_calls next (i + ifs_of t) (w + whiles_of t) rest (second_named (called_in.statement_calls t) (called_in.text_calls rest) h))
 
-  body_calls : (scope : Scope) (k : Kind) (t : Text) → IsBody subs first scope k t → Calls K (text_lines around 0 0 0 t)
-  body_calls scope Function t h = text_calls scope 0 0 0 t h
-  body_calls scope Method t h = text_calls scope 0 0 0 t h
-  body_calls scope Constructor End h = absurd h
-  body_calls scope Constructor (Next (LetThis n e) rest) h =
-      calls_both (calls_both (expression_calls (without_object scope) n e h.0) (more_calls tt no_calls)) (text_calls scope 0 (0 + 0) (0 + 0) rest h.1)
-  body_calls scope Constructor (Next (Let n x e) rest) h = absurd h
-  body_calls scope Constructor (Next (LetField n k e) rest) h = absurd h
-  body_calls scope Constructor (Next (Store n a j e) rest) h = absurd h
-  body_calls scope Constructor (Next (Do n e) rest) h = absurd h
-  body_calls scope Constructor (Next (If n c a b) rest) h = absurd h
-  body_calls scope Constructor (Next (While n c s) rest) h = absurd h
-  body_calls scope Constructor (Next (Return n e) rest) h = absurd h
-
-  pub subroutine_calls : (scope : Scope) (sub : Subroutine) → IsBody subs first scope sub.kind sub.body → Calls K (subroutine_lines around sub)
-  subroutine_calls scope sub h = calls_both (object_calls sub.kind (first_number 0 sub.body)) (body_calls scope sub.kind sub.body h)
+  -- The lines of a subroutine call what its text calls.
+  pub lines_call : (sub : Subroutine) → Named around K (called_in.text_calls sub.body) → Calls K (subroutine_lines around sub)
+  lines_call sub h = calls_both (object_calls sub.kind (first_number 0 sub.body)) (text_calls 0 0 0 sub.body h)
     where
       object_calls : (k : Kind) (n : ℕ) → Calls K (object_lines k n)
       object_calls Method n = more_calls tt (more_calls tt no_calls)
       object_calls Function n = no_calls
       object_calls Constructor n = no_calls
+
+-- the same, where the text is whole and what it can call is there
+pub subroutine_calls : (subs : List Subroutine) (first : Numbers) (around : Around) (K : List ℕ → Type 0) → ((g : ℕ) → first.keeps g ≡ true → K (around.name g))
+    → (scope : Scope) (sub : Subroutine) → IsBody subs first scope sub.kind sub.body → Calls K (subroutine_lines around sub)
+subroutine_calls subs first around K there scope sub h = lines_call around K sub (λ g c. there g (body_keeps subs first scope sub.kind sub.body h g c))
 
 -- what lines call
 pub calls_at : (K : List ℕ → Type 0) (f : List ℕ) (xs : List Line) → Calls K xs → stands_in (calls xs) f ≡ true → K f
@@ -187,7 +208,7 @@ text_commits around next i w (Next (LetField n k e) End) h = absurd h
 text_commits around next i w (Next (LetThis n e) End) h = absurd h
 text_commits around next i w (Next (Store n a j e) End) h = absurd h
 text_commits around next i w (Next (Do n e) End) h = absurd h
-text_commits around next i w (Next (If n c a b) End) h = absurd h
+text_commits around next i w (Next (If n o c a b) End) h = absurd h
 text_commits around next i w (Next (While n c s) End) h = absurd h
 text_commits around next i w (Next t (Next t' rest)) h =
     commit_back (statement_lines around (first_number next (Next t' rest)) i w t) _ (text_commits around next (i + ifs_of t) (w + whiles_of t) (Next t' rest) h)

@@ -14,7 +14,7 @@ use Rattle.vm_link.specs.Faults.{words_before}
 use Rattle.vm_link.specs.Resolved.{code_of, number_in, place_in}
 use Rattle.jack_meaning.specs.Text.{Variable, Argument, Local, Static, Sign, Minus, Complement, Operator, Plus, Subtract, And, Or, Less, Greater, Equal, Expression, Literal, Value, Name, This, Field, Unary, Binary, Load, Call, Open, Expressions, NoMore, More, Statement, Let, LetField, LetThis, Store, Do, If, While, Return, Text, End, Next, Subroutine}
 use Rattle.jack_meaning.specs.Meaning.{subroutine_at}
-use Rattle.jack_compiler.specs.Templates.{Numbers, quiet, commit, count, literal_code, push_variable, pop_variable, sign_step, operator_step, load_code, store_code, expression_code, arguments_code, statement_code, text_code, first_number, is_end}
+use Rattle.jack_compiler.specs.Templates.{Numbers, quiet, commit, count, literal_code, push_variable, pop_variable, sign_step, operator_step, load_code, store_code, expression_code, arguments_code, statement_code, text_code, first_number, no_else}
 use Rattle.jack_compiler.specs.Fits.{Scope, IsThere, IsWhole, AreWhole, IsFresh, IsFreshText}
 use Rattle.jack_compiler.specs.Lines as lines
 use Rattle.jack_compiler.specs.Lines.{Around, short, if_true, if_false, if_end, while_exp, while_do, while_end, into_if, into_else, into_while, out_of_while, literal_lines, sign_command, operator_command, expression_lines, arguments_lines, statement_lines, text_lines, object_lines, ifs_of, ifs_in, whiles_of, whiles_in}
@@ -264,9 +264,9 @@ module _ (subs : List Subroutine) (first numbers : Numbers) (around : Around) (k
           join (expression_codes n a h.0) (join (expression_codes n j h.1) more)
       statement_codes next p i w (Do n e) h st = join (expression_codes n e h) (last_codes n (line_command.Pop segment.Temp 0) (command.Pop segment.Temp 0) refl)
       statement_codes next p i w (Return n e) h st = join (expression_codes n e h) (last_codes n line_command.Return command.Return refl)
-      statement_codes next p i w (If n c a b) h st =
+      statement_codes next p i w (If n o c a b) h st =
           record {
-            is = choice next p i w n c a b (is_end b) (expression_codes n c h.0) (λ q k. text_codes next q (suc i) w a h.1 k)
+            is = choice next p i w n c a b (no_else o b) (expression_codes n c h.0) (λ q k. text_codes next q (suc i) w a h.1 k)
                 (λ q k. text_codes next q (suc i + ifs_in a) (w + whiles_in a) b h.2 k) st;
           }
       statement_codes next p i w (While n c t) h st =

@@ -13,7 +13,8 @@ use Rattle.vm_machine.specs.Step.{code_of, code_in}
 use Rattle.jack_meaning.specs.Text.{Kind, Constructor, Function, Method, number_of, Statement, Let, LetField, LetThis, Store, Do, If, While, Return, Text, End, Next, joined, Program, Subroutine}
 use Rattle.jack_meaning.specs.Meaning.{this_of, subroutine_at, Frame, State, step_first, text_point}
 use Rattle.jack_compiler.specs.Templates.{object_code, text_code, statement_code, first_number, subroutine_code, Numbers, quiet, commit}
-use Rattle.jack_compiler.specs.Fits.{has_object, IsBody, TakesObject, IsFitSubroutine, IsFreshText, nest_in, Scope, IsReturn, IsClosed, without_object}
+use Rattle.jack_meaning.specs.Gap.{nest_in}
+use Rattle.jack_compiler.specs.Fits.{has_object, IsBody, TakesObject, IsFitSubroutine, IsFreshText, Scope, IsReturn, IsClosed, without_object}
 use Rattle.jack_compiler.specs.Places.{HasAt, Jumps, here, jump, Reads}
 use Rattle.jack_compiler.specs.Match.{Entering, IsCodeOf, scope_at, Same, Callers, SameWords}
 use Rattle.jack_compiler.proofs.Ways.{Goes, way_more, Here, quiet_way}
@@ -41,7 +42,7 @@ same_first subs key S f below (LetField n k e) rest = refl
 same_first subs key S f below (LetThis n e) rest = refl
 same_first subs key S f below (Store n a i e) rest = refl
 same_first subs key S f below (Do n e) rest = refl
-same_first subs key S f below (If n c a b) rest = refl
+same_first subs key S f below (If n o c a b) rest = refl
 same_first subs key S f below (While n c a) rest = refl
 same_first subs key S f below (Return n e) rest = refl
 
@@ -56,7 +57,7 @@ same_return (LetField n k e) h = absurd h
 same_return (LetThis n e) h = absurd h
 same_return (Store n a i e) h = absurd h
 same_return (Do n e) h = absurd h
-same_return (If n c a b) h = absurd h
+same_return (If n o c a b) h = absurd h
 same_return (While n c a) h = absurd h
 
 first_point : (t : Text) → IsClosed t → first_number 0 t ≡ text_point t
@@ -169,7 +170,7 @@ module _ (program : Program) (numbers : Numbers) (linked : Linked) (depth : ℕ)
       kind_way Constructor (Next (LetField n x y) rest) text closed deep object fresh takes this has = absurd fresh
       kind_way Constructor (Next (Store n x y z) rest) text closed deep object fresh takes this has = absurd fresh
       kind_way Constructor (Next (Do n x) rest) text closed deep object fresh takes this has = absurd fresh
-      kind_way Constructor (Next (If n x y z) rest) text closed deep object fresh takes this has = absurd fresh
+      kind_way Constructor (Next (If n o x y z) rest) text closed deep object fresh takes this has = absurd fresh
       kind_way Constructor (Next (While n x y) rest) text closed deep object fresh takes this has = absurd fresh
       kind_way Constructor (Next (Return n x) rest) text closed deep object fresh takes this has = absurd fresh
 

@@ -38,4 +38,4 @@ linked = record { function = functions; start = refl; marked = refl; room = λ k
     functions (suc (suc (suc g))) h = absurd (no h)
 
 pub rows : RowsLaw
-rows = record { method = refl; function = refl; constructor = refl; fits = fits; linked = linked }
+rows = record { method = refl; function = refl; empty_else = refl; constructor = refl; fits = fits; linked = linked }

@@ -4,16 +4,16 @@ use Rattle.std.specs.Prelude.{◌==◌}
 use Rattle.std.proofs.lemmas.Bool.{cases_eq, eq-eqb, ne_eqb}
 use Rattle.std.proofs.lemmas.List.{append-nil, take_more, map-append, length-map}
 use Rattle.std.proofs.Math.ListN.{length-set}
-use Rattle.vm_tree.specs.declared.program.Function.{Function}
+use Rattle.vm_tree.specs.declared.program.File.{File}
 use Rattle.jack_meaning.specs.Text.{Subroutine, Program}
 use Rattle.jack_meaning.specs.Text.{Class as AClass}
 use Rattle.jack_core.specs.declared.program.Class.{Class}
 use Rattle.jack_core.specs.declared.program.Core.{Core}
 use Rattle.jack_core.specs.declared.program.Subroutine.{Subroutine as TheSubroutine}
-use Rattle.jack_core.specs.Texts.{the_class, the_subroutine, the_program}
+use Rattle.jack_core.specs.Texts.{the_class, the_subroutine, the_program, names_of, class_names_of}
 use Rattle.jack_compiler.specs.Lines.{Around}
-use Rattle.jack_compiler.specs.Files.{statics_before, function_of, functions_of, file_of, files_from, files_of, around_class, name_at, names_in}
-use Rattle.jack_compiler.specs.Added.{AddsFunction, AreFunctions}
+use Rattle.jack_compiler.specs.Files.{statics_before, function_of, functions_of, file_of, class_file, files_from, files_of, around_class, name_at}
+use Rattle.jack_compiler.specs.Added.{no_file, with_more, AddsFunction, AreFiles}
 
 pub statics_before-none : (cs : List AClass) → statics_before cs 0 ≡ 0
 statics_before-none [] = refl
@@ -24,13 +24,8 @@ statics_before-more [] i c h e = absurd (omega arith)
 statics_before-more (d ∷ cs) zero c h e = let same = ap (λ z. z.statics) e in let none = statics_before-none (map the_class cs) in omega arith
 statics_before-more (d ∷ cs) (suc i) c h e = rw add-one (let ih = statics_before-more cs i c (omega arith) e in let x = rw add-one at ih in omega arith)
 
-pub statics_step : (cs : List Class) (i : ℕ) (d : Class) (n m : ℕ) → i < length cs → n ≡ m + (get_or cs i d).statics → m ≡ statics_before (map the_class cs) i → n ≡ statics_before (map the_class cs) (i + 1)
-statics_step cs i d n m h e f = let x = statics_before-more cs i (get_or cs i d) h (get_or-default cs i d (get_or cs i d) h) in omega arith
-  where
-    get_or-default : (xs : List Class) (i : ℕ) (d e : Class) → i < length xs → get_or xs i d ≡ get_or xs i e
-    get_or-default [] i d e h = absurd (omega arith)
-    get_or-default (x ∷ xs) zero d e h = refl
-    get_or-default (x ∷ xs) (suc i) d e h = get_or-default xs i d e (omega arith)
+pub statics_step : (cs : List Class) (i : ℕ) (c : Class) (n m : ℕ) → i < length cs → c ≡ get_or cs i c → n ≡ m + c.statics → m ≡ statics_before (map the_class cs) i → n ≡ statics_before (map the_class cs) (i + 1)
+statics_step cs i c n m h is e f = let x = statics_before-more cs i c h is in omega arith
 
 -- what the code looks up
 pub before_is : (cs ds : List Class) (bs us : List ℕ) (k r : ℕ) → ds ≡ cs → us ≡ bs
@@ -61,30 +56,32 @@ functions_of-push around k g (s ∷ subs) sub =
     by_test true e = ap (λ z. function_of around g s ∷ z) e
     by_test false e = e
 
--- the files of lists of functions
-files_from_is : (program : Program) (names : List (List ℕ)) (k : ℕ) (cs : List AClass) (fs : List (List Function)) → length fs ≡ length cs
-    → ((j : ℕ) → j < length cs → get_or fs j [] ≡ functions_of (around_class program.classes names (k + j)) (k + j) 1 (drop 1 program.subroutines))
-    → map file_of fs ≡ files_from program names k cs
-files_from_is program names k [] [] n h = refl
-files_from_is program names k [] (f ∷ fs) n h = absurd (omega arith)
-files_from_is program names k (c ∷ cs) [] n h = absurd (omega arith)
-files_from_is program names k (c ∷ cs) (f ∷ fs) n h =
-    let here : f ≡ functions_of (around_class program.classes names k) k 1 (drop 1 program.subroutines) =
-    h 0 (omega arith) ∙ ap (λ (z : ℕ). functions_of (around_class program.classes names z) z 1 (drop 1 program.subroutines)) (omega arith) in
-    let later : map file_of fs ≡ files_from program names (k + 1) cs =
-    files_from_is program names (k + 1) cs fs (omega arith)
-    (λ j b. h (suc j) (omega arith) ∙ ap (λ (z : ℕ). functions_of (around_class program.classes names z) z 1 (drop 1 program.subroutines)) (omega arith)) in
-    ap (λ z. file_of z ∷ map file_of fs) here ∙ ap (λ z. file_of (functions_of (around_class program.classes names k) k 1 (drop 1 program.subroutines)) ∷ z) later
+-- the files in order
+files_from_is : (program : Program) (names class_names : List (List ℕ)) (k : ℕ) (cs : List AClass) (fs : List File) → length fs ≡ length cs
+    → ((j : ℕ) → j < length cs → get_or fs j no_file ≡ class_file program names class_names (k + j))
+    → fs ≡ files_from program names class_names k cs
+files_from_is program names class_names k [] [] n h = refl
+files_from_is program names class_names k [] (f ∷ fs) n h = absurd (omega arith)
+files_from_is program names class_names k (c ∷ cs) [] n h = absurd (omega arith)
+files_from_is program names class_names k (c ∷ cs) (f ∷ fs) n h =
+    let here : f ≡ class_file program names class_names k = h 0 (omega arith) ∙ ap (class_file program names class_names) (let z : k + 0 ≡ k = omega arith in z) in
+    let later : fs ≡ files_from program names class_names (k + 1) cs =
+    files_from_is program names class_names (k + 1) cs fs (omega arith)
+    (λ j b. h (suc j) (omega arith) ∙ ap (class_file program names class_names) (let z : k + suc j ≡ k + 1 + j = omega arith in z)) in
+    ap (λ z. z ∷ fs) here ∙ ap (λ z. class_file program names class_names k ∷ z) later
 
 map_rest : (xs : List TheSubroutine) → map the_subroutine (drop 1 xs) ≡ drop 1 (map the_subroutine xs)
 map_rest [] = refl
 map_rest (x ∷ xs) = refl
 
-pub files_made : (core : Core) (others : List TheSubroutine) (fs : List (List Function)) → others ≡ drop 1 core.subroutines.items
-    → AreFunctions (map the_class core.classes.items) (names_in core) (map the_subroutine others) fs → map file_of fs ≡ files_of core
+pub files_made : (core : Core) (others : List TheSubroutine) (fs : List File) → others ≡ drop 1 core.subroutines.items
+    → AreFiles (map the_class core.classes.items) (names_of core) (class_names_of core) (map the_subroutine others) fs → fs ≡ files_of core
 files_made core others fs e h =
-    files_from_is (the_program core) (names_in core) 0 (map the_class core.classes.items) fs h.count
-    (λ j b. h.each j b ∙ (λ i. functions_of (around_class (map the_class core.classes.items) (names_in core) (zero_plus j i)) (zero_plus j i) 1 ((ap (map the_subroutine) e ∙ map_rest core.subroutines.items) i)))
+    files_from_is (the_program core) (names_of core) (class_names_of core) 0 (map the_class core.classes.items) fs h.count
+    (λ j b.
+    h.each j b
+    ∙ ap (λ z. file_of (get_or (class_names_of core) j []) (functions_of (around_class (map the_class core.classes.items) (names_of core) j) j 1 z)) (ap (map the_subroutine) e ∙ map_rest core.subroutines.items)
+    ∙ ap (class_file (the_program core) (names_of core) (class_names_of core)) (zero_plus j))
   where
     zero_plus : (j : ℕ) → j ≡ 0 + j
     zero_plus j = omega arith
@@ -107,46 +104,55 @@ get_other d (x ∷ xs) zero (suc k) y h = refl
 get_other d (x ∷ xs) (suc i) zero y h = refl
 get_other d (x ∷ xs) (suc i) (suc k) y h = get_other d xs i k y (λ e. h (ap suc e))
 
-pub adds_here : (around : Around) (number : ℕ) (sub : Subroutine) (old : List (List Function)) → sub.class < length old
-    → AddsFunction around number sub old (set old sub.class (get_or old sub.class [] ++ function_of around number sub ∷ []))
+no_more : (f : File) → with_more f [] ≡ f
+no_more f = ap (λ z. record f { functions = z }) (append-nil f.functions)
+
+pub adds_here : (around : Around) (number : ℕ) (sub : Subroutine) (old : List File) → sub.class < length old
+    → AddsFunction around number sub old (set old sub.class (with_more (get_or old sub.class no_file) (function_of around number sub ∷ [])))
 adds_here around number sub old h = record {
-  count = length-set old sub.class (get_or old sub.class [] ++ function_of around number sub ∷ []);
+  count = length-set old sub.class (with_more (get_or old sub.class no_file) (function_of around number sub ∷ []));
   each = λ k b. by_cases k (cases_eq sub.class k);
 }
   where
-    new : List (List Function)
-    new = set old sub.class (get_or old sub.class [] ++ function_of around number sub ∷ [])
-
     by_cases : (k : ℕ) → (sub.class ≡ k) ⊎ (sub.class ≡ k → ⊥)
-        → get_or (set old sub.class (get_or old sub.class [] ++ function_of around number sub ∷ [])) k [] ≡ get_or old k [] ++ (if sub.class == k then function_of around number sub ∷ [] else [])
+        → get_or (set old sub.class (with_more (get_or old sub.class no_file) (function_of around number sub ∷ []))) k no_file ≡ with_more (get_or old k no_file) (if sub.class == k then function_of around number sub ∷ [] else [])
     by_cases k (inl e) =
-        subst (λ z. get_or (set old sub.class (get_or old sub.class [] ++ function_of around number sub ∷ [])) z [] ≡ get_or old z [] ++ (if sub.class == z then function_of around number sub ∷ [] else [])) e
-        (rw (eq-eqb sub.class sub.class refl) (get_set [] old sub.class (get_or old sub.class [] ++ function_of around number sub ∷ []) h))
-    by_cases k (inr f) = rw (ne_eqb sub.class k f) (get_other [] old sub.class k _ f ∙ sym (append-nil (get_or old k [])))
+        subst (λ z. get_or (set old sub.class (with_more (get_or old sub.class no_file) (function_of around number sub ∷ []))) z no_file ≡ with_more (get_or old z no_file) (if sub.class == z then function_of around number sub ∷ [] else [])) e
+        (rw (eq-eqb sub.class sub.class refl) (get_set no_file old sub.class (with_more (get_or old sub.class no_file) (function_of around number sub ∷ [])) h))
+    by_cases k (inr f) = rw (ne_eqb sub.class k f) (get_other no_file old sub.class k _ f ∙ sym (no_more (get_or old k no_file)))
 
-pub adds_nowhere : (around : Around) (number : ℕ) (sub : Subroutine) (old : List (List Function)) → length old ≤ sub.class → AddsFunction around number sub old old
+pub adds_nowhere : (around : Around) (number : ℕ) (sub : Subroutine) (old : List File) → length old ≤ sub.class → AddsFunction around number sub old old
 adds_nowhere around number sub old h = record {
   count = refl;
-  each = λ k b. let other : sub.class ≡ k → ⊥ = λ e. omega arith in rw (ne_eqb sub.class k other) (sym (append-nil (get_or old k [])));
+  each = λ k b. let other : sub.class ≡ k → ⊥ = λ e. omega arith in rw (ne_eqb sub.class k other) (sym (no_more (get_or old k no_file)));
 }
 
 length_classes : (cs : List Class) → length (map the_class cs) ≡ length cs
 length_classes [] = refl
 length_classes (c ∷ cs) = let ih = length_classes cs in omega arith
 
-pub functions_none : (cs : List Class) (names : List (List ℕ)) (fs : List (List Function)) → length fs ≡ length cs → ((k : ℕ) → k < length cs → get_or fs k [] ≡ [])
-    → AreFunctions (map the_class cs) names [] fs
-functions_none cs names fs n h = record { count = n ∙ sym (length_classes cs); each = λ k b. h k (let l = length_classes cs in omega arith) }
+-- the files without functions
+pub files_none : (cs : List Class) (names : List (List ℕ)) (fs : List File) → fs ≡ map (λ class. file_of class.name []) cs
+    → AreFiles (map the_class cs) names (map (λ class. class.name) cs) [] fs
+files_none cs names fs e = record {
+  count = ap length e ∙ length-map cs (λ class. file_of class.name []) ∙ sym (length_classes cs);
+  each = λ k b. ap (λ z. get_or z k no_file) e ∙ named cs k;
+}
+  where
+    named : (cs : List Class) (k : ℕ) → get_or (map (λ class. file_of class.name []) cs) k no_file ≡ file_of (get_or (map (λ class. class.name) cs) k []) []
+    named [] k = refl
+    named (c ∷ cs) zero = refl
+    named (c ∷ cs) (suc k) = named cs k
 
-functions_more : (classes : List AClass) (names : List (List ℕ)) (subs : List Subroutine) (sub : Subroutine) (around : Around) (number : ℕ) (old new : List (List Function))
-    → AreFunctions classes names subs old → AddsFunction around number sub old new → number ≡ 1 + length subs → around.name ≡ name_at names
-    → (sub.class < length classes → around.before ≡ statics_before classes sub.class) → AreFunctions classes names (subs ++ sub ∷ []) new
-functions_more classes names subs sub around number old new h a e same before = record {
+functions_more : (classes : List AClass) (names class_names : List (List ℕ)) (subs : List Subroutine) (sub : Subroutine) (around : Around) (number : ℕ) (old new : List File)
+    → AreFiles classes names class_names subs old → AddsFunction around number sub old new → number ≡ 1 + length subs → around.name ≡ name_at names
+    → (sub.class < length classes → around.before ≡ statics_before classes sub.class) → AreFiles classes names class_names (subs ++ sub ∷ []) new
+functions_more classes names class_names subs sub around number old new h a e same before = record {
   count = a.count ∙ h.count;
   each = λ k b.
-      a.each k (let n = h.count in omega arith) ∙ ap (λ z. z ++ (if sub.class == k then function_of around number sub ∷ [] else [])) (h.each k b)
-      ∙ ap (λ z. functions_of (around_class classes names k) k 1 subs ++ z) (by_cases k b (cases_eq sub.class k))
-      ∙ sym (functions_of-push (around_class classes names k) k 1 subs sub);
+      a.each k (let n = h.count in omega arith) ∙ ap (λ z. with_more z (if sub.class == k then function_of around number sub ∷ [] else [])) (h.each k b)
+      ∙ ap (λ z. file_of (get_or class_names k []) (functions_of (around_class classes names k) k 1 subs ++ z)) (by_cases k b (cases_eq sub.class k))
+      ∙ ap (file_of (get_or class_names k [])) (sym (functions_of-push (around_class classes names k) k 1 subs sub));
 }
   where
     by_cases : (k : ℕ) → k < length classes → (sub.class ≡ k) ⊎ (sub.class ≡ k → ⊥)
@@ -156,13 +162,13 @@ functions_more classes names subs sub around number old new h a e same before = 
         λ i. if sub.class == k then function_of (record { name = same i; before = here i }) (e i) sub ∷ [] else []
     by_cases k b (inr f) = rw (ne_eqb sub.class k f) refl
 
-pub functions_next : (cs : List Class) (names : List (List ℕ)) (others : List TheSubroutine) (i : ℕ) (s : TheSubroutine) (around : Around) (old new : List (List Function))
-    → i < length others → s ≡ get_or others i s → AreFunctions (map the_class cs) names (map the_subroutine (take i others)) old → AddsFunction around (i + 1) (the_subroutine s) old new
+pub functions_next : (cs : List Class) (names class_names : List (List ℕ)) (others : List TheSubroutine) (i : ℕ) (s : TheSubroutine) (around : Around) (old new : List File)
+    → i < length others → s ≡ get_or others i s → AreFiles (map the_class cs) names class_names (map the_subroutine (take i others)) old → AddsFunction around (i + 1) (the_subroutine s) old new
     → around.name ≡ name_at names → (s.class < length cs → around.before ≡ statics_before (map the_class cs) s.class)
-    → AreFunctions (map the_class cs) names (map the_subroutine (take (i + 1) others)) new
-functions_next cs names others i s around old new h e a adds same before =
+    → AreFiles (map the_class cs) names class_names (map the_subroutine (take (i + 1) others)) new
+functions_next cs names class_names others i s around old new h e a adds same before =
     let more : take (i + 1) others ≡ take i others ++ s ∷ [] = take_more others i s h ∙ ap (λ x. take i others ++ x ∷ []) (sym e) in
     let l : length (map the_subroutine (take i others)) ≡ i = length-map (take i others) the_subroutine ∙ length_taken others i h in
-    subst (λ z. AreFunctions (map the_class cs) names z new) (sym (ap (map the_subroutine) more ∙ map-append the_subroutine (take i others) (s ∷ [])))
-    (functions_more (map the_class cs) names (map the_subroutine (take i others)) (the_subroutine s) around (i + 1) old new a adds (omega arith) same
+    subst (λ z. AreFiles (map the_class cs) names class_names z new) (sym (ap (map the_subroutine) more ∙ map-append the_subroutine (take i others) (s ∷ [])))
+    (functions_more (map the_class cs) names class_names (map the_subroutine (take i others)) (the_subroutine s) around (i + 1) old new a adds (omega arith) same
     (λ b. before (let n = length_classes cs in omega arith)))

@@ -68,6 +68,18 @@ keeps_from P (kept {i = at} p r) zero s e = (0, e, (let z : at ≡ at + 0 = omeg
 keeps_from P (kept {i = at} p r) (suc i) s e = let f = keeps_from P r i s e in (suc f.0, f.1, (let z : suc at + f.0 ≡ at + suc f.0 = omega arith in subst P z f.2))
 keeps_from P (dropped {i = at} p r) i s e = let f = keeps_from P r i s e in (suc f.0, f.1, (let z : suc at + f.0 ≡ at + suc f.0 = omega arith in subst P z f.2))
 
+-- no section is kept twice, where they are numbered
+pub keeps_once : (P : ℕ → Type 0) {at : ℕ} {ss ks : List Section} → Keeps P at ss ks → ((k : ℕ) (s : Section) → slice_get ss k ≡ Some s → s.number ≡ 1 + at + k)
+    → (i j : ℕ) (s t : Section) → slice_get ks i ≡ Some s → slice_get ks j ≡ Some t → s.number ≡ t.number → i ≡ j
+keeps_once P none numbers i j s t a b e = absurd cc
+keeps_once P (kept {i = at} p r) numbers zero zero s t a b e = refl
+keeps_once P (kept {i = at} p r) numbers zero (suc j) s t a b e =
+    let f = keeps_from P r j t b in let n = numbers 0 s a in let m = numbers (suc f.0) t f.1 in absurd (omega arith)
+keeps_once P (kept {i = at} p r) numbers (suc i) zero s t a b e =
+    let f = keeps_from P r i s a in let n = numbers 0 t b in let m = numbers (suc f.0) s f.1 in absurd (omega arith)
+keeps_once P (kept {i = at} p r) numbers (suc i) (suc j) s t a b e = ap suc (keeps_once P r (λ k x f. let n = numbers (suc k) x f in omega arith) i j s t a b e)
+keeps_once P (dropped {i = at} p r) numbers i j s t a b e = keeps_once P r (λ k x f. let n = numbers (suc k) x f in omega arith) i j s t a b e
+
 -- a reached function of a name is kept
 reached_kept : (ss ks : List Section) → Keeps (Reached ss) 0 ss ks → (name : List ℕ) (i : ℕ) → IsFunction ss name i → Reached ss i → list_any (is_named name) ks ≡ true
 reached_kept ss ks k name i f r =

@@ -7,7 +7,9 @@ pub mod Begun
 pub mod Begins
 pub mod Entering
 pub mod Whole
+pub mod Converse
 pub mod Starts
+pub mod Running
 pub mod Examples
 pub mod Naming
 pub mod Postfix
@@ -18,9 +20,11 @@ pub mod Marked
 pub mod Placed
 pub mod Sectioned
 pub mod Called
+pub mod Members
 pub mod Calling
 pub mod Keeping
 pub mod Resolving
+pub mod Reaching
 pub mod Numbering
 pub mod Seam
 pub mod Small

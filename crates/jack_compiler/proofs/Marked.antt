@@ -11,7 +11,7 @@ use Rattle.vm_tree.specs.declared.command.Command.{Command}
 use Rattle.vm_tree.specs.declared.command.Command.TheVariants as command
 use Rattle.vm_link.specs.Sections.{label, target}
 use Rattle.jack_meaning.specs.Text.{Variable, Argument, Local, Static, Sign, Minus, Complement, Operator, Plus, Subtract, And, Or, Less, Greater, Equal, Expression, Literal, Value, Name, This, Field, Unary, Binary, Load, Call, Open, Expressions, NoMore, More, Statement, Let, LetField, LetThis, Store, Do, If, While, Return, Text, End, Next}
-use Rattle.jack_compiler.specs.Templates.{first_number, is_end}
+use Rattle.jack_compiler.specs.Templates.{first_number, no_else}
 use Rattle.jack_compiler.specs.Lines.{Around, quiet, commit, if_true, if_false, if_end, while_exp, while_do, while_end, into_if, into_else, into_while, out_of_while, literal_lines, sign_command, operator_command, push_variable, pop_variable, load_lines, store_lines, expression_lines, arguments_lines, statement_lines, text_lines, ifs_of, ifs_in, whiles_of, whiles_in}
 
 -- how often a label stands among lines
@@ -236,7 +236,7 @@ plain_aims none_plain = no_aims
 plain_aims {whole} (more_plain h r) = more_aims (subst (Aimed whole) (sym h.no_target) tt) (plain_aims r)
 
 abbrev pub IsSimple : Statement → Type 0
-IsSimple (If n c a b) = ⊥
+IsSimple (If n o c a b) = ⊥
 IsSimple (While n c s) = ⊥
 IsSimple _ = Unit {0}
 
@@ -252,7 +252,7 @@ module _ (around : Around) where
       plain_both (expression_plain around n a) (plain_both (expression_plain around n j) (more_plain (plain _ refl refl) (plain_both (expression_plain around n e) (store_plain n))))
   simple_plain next i w (Do n e) h = plain_both (expression_plain around n e) (more_plain (plain _ refl refl) none_plain)
   simple_plain next i w (Return n e) h = plain_both (expression_plain around n e) (more_plain (plain _ refl refl) none_plain)
-  simple_plain next i w (If n c a b) h = absurd h
+  simple_plain next i w (If n o c a b) h = absurd h
   simple_plain next i w (While n c s) h = absurd h
 
   -- the labels of an `if`, and what its commands go to
@@ -289,8 +289,8 @@ module _ (around : Around) where
   mutual
     pub statement_marks : (l : List ℕ) (next i w : ℕ) (t : Statement) → i + ifs_of t ≤ 2 ^ 64 → w + whiles_of t ≤ 2 ^ 64
         → marks l (statement_lines around next i w t) + done l i w ≤ done l (i + ifs_of t) (w + whiles_of t)
-    statement_marks l next i w (If n c a b) hi hw =
-        if_marks l n (first_number next b) next i w c (text_lines around next (suc i) w a) (text_lines around next (suc i + ifs_in a) (w + whiles_in a) b) (is_end b)
+    statement_marks l next i w (If n o c a b) hi hw =
+        if_marks l n (first_number next b) next i w c (text_lines around next (suc i) w a) (text_lines around next (suc i + ifs_in a) (w + whiles_in a) b) (no_else o b)
         (ifs_in a) (ifs_in b) (whiles_in a) (whiles_in b) (omega arith)
         (text_marks l next (suc i) w a (omega arith) (omega arith)) (text_marks l next (suc i + ifs_in a) (w + whiles_in a) b (omega arith) (omega arith))
     statement_marks l next i w (While n c s) hi hw =

@@ -17,7 +17,7 @@ use Rattle.vm_machine.specs.State.{words_in_use}
 use Rattle.vm_machine.specs.State.{Frame as VmFrame, State as VmState}
 use Rattle.vm_machine.specs.Step.{code_in, act, pushed, load}
 use Rattle.vm_machine.specs.Step.{Acts as VmActs, Strays as VmStrays}
-use Rattle.vm_machine.specs.Level.{command_words}
+use Rattle.hack_blocks.specs.Budgets.{most_steps}
 use Rattle.jack_meaning.specs.Text.{Variable, Argument, Local, Static, Sign, Minus, Complement, Operator, Plus, Subtract, And, Or, Less, Greater, Equal, Expression, Value, Open, Text, Program}
 use Rattle.jack_meaning.specs.Words.{sign_of, operator_of}
 use Rattle.jack_meaning.specs.Expressions.{Move, Stands, Rewrites, Strays, within, variable_of, loaded}
@@ -97,14 +97,14 @@ module _ (program : Program) (numbers : Numbers) (linked : Linked) (depth : ℕ)
       -- the last command pushes the value
       push_last : (p : ℕ) (vs : List ℕ) (t : ℕ) (c : Step) (heard : Bool) (w : ℕ → ℕ) → slice_get (code_in linked vf.function) p ≡ Some (commit n c)
           → ((key : ℕ) → act key c (now p vs t) (at p vs t) (vg ∷ vbs) ≡ VmActs heard (now (p + 1) (w key ∷ us) t)) → others + length us + 1 ≤ 1792
-          → Steps (λ key. Rewrites heard (Value (w key))) → Goes_on (p + 1) → Goes program numbers linked depth u (command_words c) (now p vs t)
+          → Steps (λ key. Rewrites heard (Value (w key))) → Goes_on (p + 1) → Goes program numbers linked depth u (most_steps c) (now p vs t)
       push_last p vs t c heard w h acts room steps on =
           last_way program numbers linked depth u V (at p vs t) (vg ∷ vbs) n c heard (λ key. with_top u (g ∷ below) (record f { text = whole (plug (Value (w key))) })) (λ key. now (p + 1) (w key ∷ us) t)
           (here_at p vs t) number h acts (λ key. omega (arith, room)) steps
           (λ key. record { frames = (on (w key) t, callers); memory = record { words = memory.words; statics = memory.statics; known = memory.known; temps = memory.temps } })
 
       stray_last : (p : ℕ) (vs : List ℕ) (t : ℕ) (c : Step) (a : ℕ) → slice_get (code_in linked vf.function) p ≡ Some (commit n c)
-          → ((key : ℕ) → act key c (now p vs t) (at p vs t) (vg ∷ vbs) ≡ VmStrays (stray.Address a)) → Steps (λ key. Strays a) → Goes program numbers linked depth u (command_words c) (now p vs t)
+          → ((key : ℕ) → act key c (now p vs t) (at p vs t) (vg ∷ vbs) ≡ VmStrays (stray.Address a)) → Steps (λ key. Strays a) → Goes program numbers linked depth u (most_steps c) (now p vs t)
       stray_last p vs t c a h acts steps = stray_way program numbers linked depth u V (at p vs t) (vg ∷ vbs) n c a (here_at p vs t) number h acts steps
 
       -- the word at an address
@@ -112,7 +112,7 @@ module _ (program : Program) (numbers : Numbers) (linked : Linked) (depth : ℕ)
           → ((key : ℕ) → act key c (now p us t) (at p us t) (vg ∷ vbs) ≡ (if lower then VmStrays (stray.Address a) else (if data_ then pushed false (now p us t) (at p us t) (vg ∷ vbs) (slice_index V.words (a - 2048)) else (if key_ then pushed true (now p us t) (at p us t) (vg ∷ vbs) key else VmStrays (stray.Address a)))))
           → others + length us + 1 ≤ 1792
           → Steps (λ key. if lower then Strays a else (if data_ then Rewrites false (Value (slice_index ws (a - 2048))) else (if key_ then Rewrites true (Value key) else Strays a)))
-          → Goes_on (p + 1) → Goes program numbers linked depth u (command_words c) (now p us t)
+          → Goes_on (p + 1) → Goes program numbers linked depth u (most_steps c) (now p us t)
       load_with p t c a true d k h acts room steps on = stray_last p us t c a h acts steps
       load_with p t c a false true k h acts room steps on =
           push_last p us t c false (λ key. slice_index ws (a - 2048)) h (λ key. acts key ∙ ap (λ l. VmActs false (now (p + 1) (slice_index l (a - 2048) ∷ us) t)) memory.words) room steps on
@@ -121,7 +121,7 @@ module _ (program : Program) (numbers : Numbers) (linked : Linked) (depth : ℕ)
 
       load_last : (p t : ℕ) (c : Step) (a : ℕ) → slice_get (code_in linked vf.function) p ≡ Some (commit n c)
           → ((key : ℕ) → act key c (now p us t) (at p us t) (vg ∷ vbs) ≡ load key a (now p us t) (at p us t) (vg ∷ vbs)) → others + length us + 1 ≤ 1792
-          → Steps (λ key. loaded (view_of key u f) a) → Goes_on (p + 1) → Goes program numbers linked depth u (command_words c) (now p us t)
+          → Steps (λ key. loaded (view_of key u f) a) → Goes_on (p + 1) → Goes program numbers linked depth u (most_steps c) (now p us t)
       load_last p t c a h acts room steps on = load_with p t c a (nat_lt a 2048) (nat_lt a 24576) (nat_eq a 24576) h acts room steps on
 
       push_act : (key p t : ℕ) (x : Variable) → IsThere program.subroutines numbers scope x → act key (push_variable numbers x) (now p us t) (at p us t) (vg ∷ vbs) ≡ VmActs false (now (p + 1) (variable_of (view_of key u f) x ∷ us) t)
@@ -146,7 +146,7 @@ module _ (program : Program) (numbers : Numbers) (linked : Linked) (depth : ℕ)
       join_act key p t x y Greater = refl
       join_act key p t x y Equal = refl
 
-      operator_words : (o : Operator) → command_words (operator_step o) ≤ 66
+      operator_words : (o : Operator) → most_steps (operator_step o) ≤ 66
       operator_words Plus = omega arith
       operator_words Subtract = omega arith
       operator_words And = omega arith
@@ -155,11 +155,11 @@ module _ (program : Program) (numbers : Numbers) (linked : Linked) (depth : ℕ)
       operator_words Greater = omega arith
       operator_words Equal = omega arith
 
-      sign_words : (o : Sign) → command_words (sign_step o) ≤ 66
+      sign_words : (o : Sign) → most_steps (sign_step o) ≤ 66
       sign_words Minus = omega arith
       sign_words Complement = omega arith
 
-      variable_words : (x : Variable) → command_words (push_variable numbers x) ≤ 66
+      variable_words : (x : Variable) → most_steps (push_variable numbers x) ≤ 66
       variable_words (Argument k) = omega arith
       variable_words (Local k) = omega arith
       variable_words (Static k) = omega arith
@@ -186,7 +186,7 @@ module _ (program : Program) (numbers : Numbers) (linked : Linked) (depth : ℕ)
       pub part_way : (r : Redex) (p t : ℕ) → IsFitRedex program.subroutines numbers scope r → HasAt (code_in linked vf.function) p (redex_code numbers n r)
           → others + length (operands r us) + 8 ≤ 1792
           → Steps (λ key. redex_move (view_of key u f) r) → Goes_on (p + length (redex_code numbers n r))
-          → ((w : ℕ) → filled_text w (whole (plug Open)) ≡ whole (plug (Value w))) → length us ≤ standing_first (whole (plug Open))
+          → ((w : ℕ) → filled_text w (whole (plug Open)) ≡ whole (plug (Value w))) → (length us ≤ standing_first (whole (plug Open))) × (standing_first (whole (plug Open)) ≤ suc (length us))
           → Goes program numbers linked depth u 66 (now p (operands r us) t)
       part_way (Number w) p t fit has room steps on filled_is many = literal_way w p t (nat_eq w 65535) refl fit has (omega (arith, room)) steps on
       part_way (Reads x) p t fit has room steps on filled_is many =
@@ -228,7 +228,7 @@ module _ (program : Program) (numbers : Numbers) (linked : Linked) (depth : ℕ)
               entering (record { kept = fit.0; function = refl; arguments = refl; arguments_length = fit.1; locals = refl; this = refl; text = refl; place = refl; none = refl; values = refl }),
               (
                 (λ w. subst (λ t'. TopMatch program numbers linked depth (record f { text = t' }) (at (p + 1) (w ∷ us) t)) (sym (filled_is w)) (on w t)),
-                record { kept = same.kept; arguments = ap length same.arguments; locals = ap length same.locals; values = many },
+                record { kept = same.kept; arguments = ap length same.arguments; locals = ap length same.locals; values = many.0; stands = many.1 },
                 callers,
               ),
             );

@@ -12,7 +12,7 @@ use Rattle.vm_link.specs.Sections.{Section, label, labels, target, stands_in, ha
 use Rattle.vm_link.specs.Faults.{first_repeat, repeat_after, first_of, lacking, label_twice, no_label}
 use Rattle.vm_link.specs.Resolved.{code_of, step_of, steps, label_place, first_statement}
 use Rattle.jack_meaning.specs.Text.{Expression, Literal, Value, Name, This, Field, Unary, Binary, Load, Call, Open, Expressions, NoMore, More, Statement, Let, LetField, LetThis, Store, Do, If, While, Return, Text, End, Next, number_of, Kind, Constructor, Function, Method, Subroutine}
-use Rattle.jack_compiler.specs.Templates.{first_number, is_end}
+use Rattle.jack_compiler.specs.Templates.{first_number, no_else}
 use Rattle.jack_compiler.specs.Lines.{Around, quiet, commit, if_true, if_false, if_end, while_exp, while_do, while_end, into_if, into_else, into_while, out_of_while, literal_lines, expression_lines, arguments_lines, statement_lines, text_lines, object_lines, subroutine_lines, ifs_of, ifs_in, whiles_of, whiles_in}
 use Rattle.jack_compiler.proofs.Coded.{Places}
 use Rattle.jack_compiler.proofs.Marked.{here, marks, marks_both, here_self, same_name, text_marks, done_most, Aimed, Aims, no_aims, more_aims, aims_both, plain_aims, simple_plain, expression_plain}
@@ -133,8 +133,8 @@ module _ (around : Around) (whole : List Line) where
 
   mutual
     statement_aims : (next i w : ℕ) (t : Statement) → Within whole (statement_lines around next i w t) → Aims whole (statement_lines around next i w t)
-    statement_aims next i w (If n c a b) h =
-        if_aims n (first_number next b) next i c (text_lines around next (suc i) w a) (text_lines around next (suc i + ifs_in a) (w + whiles_in a) b) (is_end b) h
+    statement_aims next i w (If n o c a b) h =
+        if_aims n (first_number next b) next i c (text_lines around next (suc i) w a) (text_lines around next (suc i + ifs_in a) (w + whiles_in a) b) (no_else o b) h
         (λ k. text_aims next (suc i) w a k) (λ k. text_aims next (suc i + ifs_in a) (w + whiles_in a) b k)
     statement_aims next i w (While n c s) h =
         let sums : (l : List ℕ) → marks l (text_lines around n i (suc w) s) + here l (Some (while_exp w)) + here l (Some (while_do w)) + here l (Some (while_end w)) ≤ marks l whole =
@@ -254,7 +254,7 @@ module _ (around : Around) where
       ∙ expression_first n a _ (ap first_statement (append_assoc (expression_lines around n j) _ zs) ∙ expression_first n j _ refl)
   statement_first next i w (Do n e) zs = ap first_statement (append_assoc (expression_lines around n e) _ zs) ∙ expression_first n e _ refl
   statement_first next i w (Return n e) zs = ap first_statement (append_assoc (expression_lines around n e) _ zs) ∙ expression_first n e _ refl
-  statement_first next i w (If n c a b) zs = ap first_statement (append_assoc (expression_lines around n c) _ zs) ∙ expression_first n c _ refl
+  statement_first next i w (If n o c a b) zs = ap first_statement (append_assoc (expression_lines around n c) _ zs) ∙ expression_first n c _ refl
   statement_first next i w (While n c s) zs = refl
 
   text_first : (t : Text) → first_statement (text_lines around 0 0 0 t) ≡ first_number 0 t

@@ -1,5 +1,5 @@
 -- The sections of a program with resolved names: linking finds no fault in their text.
-use Rattle.std.proofs.Common.{◌≡◌, ◌+◌, ◌<◌, ◌≤◌, inl, inr, ◌&&◌, ℕ, zero, suc, Bool, true, false, nat_lt, List, [], ◌∷◌, Some, None, option_map, length, get_or, drop, refl, sym, ap, subst, ◌∙◌, arith, slice_get, if◌then◌else◌}
+use Rattle.std.proofs.Common.{◌≡◌, ◌+◌, ◌<◌, ◌≤◌, inl, inr, ◌&&◌, ℕ, zero, suc, Bool, true, false, nat_lt, List, [], ◌∷◌, Some, None, option_map, length, drop, refl, sym, ap, subst, ◌∙◌, arith, slice_get, if◌then◌else◌}
 use Rattle.std.specs.List.{list_any}
 use Rattle.std.specs.Option.{option_or}
 use Rattle.std.specs.Str.{bytes_eq}
@@ -74,17 +74,21 @@ module _ (program : Program) (names : List (List ℕ)) (resolved : IsResolved pr
   abbrev pub all : List Section
   all = sections_of program names 1 (drop 1 program.subroutines)
 
-  pub name_is : (g : ℕ) → g < length program.subroutines → name_at names g ≡ get_or names g []
-  name_is g h = ap (λ (b : Bool). if b then get_or names g [] else []) (resolved.texts g (let n = resolved.named in omega arith))
-
   pub names_apart : (g h : ℕ) → g < length program.subroutines → h < length program.subroutines → name_at names g ≡ name_at names h → g ≡ h
-  names_apart g h a b e = resolved.apart g h (let n = resolved.named in omega arith) (let n = resolved.named in omega arith) (sym (name_is g a) ∙ (e ∙ name_is h b))
+  names_apart g h a b e = resolved.apart g h (let n = resolved.named in omega arith) (let n = resolved.named in omega arith) e
 
   pub known : (i : ℕ) (s : Section) → slice_get (all) i ≡ Some s → IsOf program names s
   known i s e =
       let item = sections_item program names 1 (drop 1 program.subroutines) i s e in
       let r = at_rest program.subroutines i item.0 item.1 in
       record { number = 1 + i; lower = omega arith; upper = r.0; is = item.2 ∙ ap (section_of program names (1 + i)) (sym r.1) }
+
+  -- by its place
+  pub known_at : (i : ℕ) (s : Section) → slice_get (all) i ≡ Some s → (1 + i < length program.subroutines) × (s ≡ section_of program names (1 + i) (subroutine_at program.subroutines (1 + i)))
+  known_at i s e =
+      let item = sections_item program names 1 (drop 1 program.subroutines) i s e in
+      let r = at_rest program.subroutines i item.0 item.1 in
+      (r.0, item.2 ∙ ap (section_of program names (1 + i)) (sym r.1))
 
   pub there : (g : ℕ) → 0 < g → g < length program.subroutines → (i : ℕ) × (slice_get (all) i ≡ Some (section_of program names g (subroutine_at program.subroutines g)))
   there zero a b = absurd (omega arith)
@@ -147,7 +151,7 @@ module _ (program : Program) (names : List (List ℕ)) (resolved : IsResolved pr
       subst (λ (z : Section). marks l z.lines ≤ 1) (sym k.is) (subroutine_marks (around_class program.classes names (subroutine_at program.subroutines k.number).class) (subroutine_at program.subroutines k.number) l (omega arith) (omega arith))
 
   pub start_there : list_any (is_named sys_init) (all) ≡ true
-  start_there = subst (λ n. list_any (is_named n) (all) ≡ true) (name_is program.init resolved.init_there ∙ resolved.init_name) (named_there program.init resolved.init resolved.init_there)
+  start_there = subst (λ n. list_any (is_named n) (all) ≡ true) resolved.init_name (named_there program.init resolved.init resolved.init_there)
 
   pub text_none : text_fault false (all) ≡ None
   text_none =

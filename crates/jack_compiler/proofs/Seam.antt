@@ -1,11 +1,11 @@
 -- The linked code of a compiled program is the code of the program.
-use Rattle.std.proofs.Common.{◌≡◌, ◌+◌, ◌-◌, ◌<◌, ◌≤◌, ◌++◌, ◌⊎◌, inl, inr, ◌&&◌, ℕ, zero, suc, Bool, true, false, nat_lt, List, [], ◌∷◌, Some, None, Ok, Err, option_map, unwrap_or, length, map, refl, sym, ap, subst, ◌∙◌, arith, slice_get}
+use Rattle.std.proofs.Common.{◌≡◌, ◌+◌, ◌-◌, ◌<◌, ◌≤◌, ◌++◌, ◌⊎◌, inl, inr, ◌&&◌, ℕ, zero, suc, Bool, true, false, nat_lt, List, [], ◌∷◌, Some, None, Ok, Err, option_map, unwrap_or, length, map, max, refl, sym, ap, subst, ◌∙◌, arith, slice_get}
 use Rattle.std.specs.Prelude.{Result}
 use Rattle.std.specs.Result.{IfOk, IfErr}
 use Rattle.jack_core.specs.declared.program.Core.{Core}
 use Rattle.std.specs.List.{list_any, position_from}
 use Rattle.std.proofs.lemmas.List.{append-nil}
-use Rattle.std.proofs.lemmas.Bool.{ltb-true}
+use Rattle.std.proofs.lemmas.Bool.{cases_lt, ltb-true}
 use Rattle.std.proofs.lemmas.Bool.Decides.{nat_tests}
 use Rattle.std.proofs.lemmas.Option.{slice_get-map}
 use Rattle.std.proofs.lemmas.Slice.Eq.{bytes_eq-Decides}
@@ -24,22 +24,26 @@ use Rattle.vm_link.specs.Resolved.{function_of, linked}
 use Rattle.vm_link.specs.Links.{Links, memory, faulty, kept_faulty, whole}
 use Rattle.jack_meaning.specs.Text.{Let, LetField, LetThis, Store, Do, If, While, Return, Text, End, Next, Kind, Constructor, Function, Method, Subroutine, Program}
 use Rattle.jack_meaning.specs.Meaning.{subroutine_at}
-use Rattle.jack_core.specs.Texts.{the_program}
+use Rattle.jack_core.specs.Texts.{the_program, names_of, class_names_of}
+use Rattle.jack_meaning.specs.Linked.{IsLinked}
+use Rattle.jack_meaning.specs.Gap.{nest_in, IsMost, depth_of, locals_of}
 use Rattle.jack_compiler.specs.Templates.{Numbers, quiet, first_number, object_code, text_code, statement_code, subroutine_code}
-use Rattle.jack_compiler.specs.Fits.{Scope, scope_of, without_object, IsBody, IsFitSubroutine, IsFit, nest_in}
+use Rattle.jack_compiler.specs.Fits.{Scope, scope_of, without_object, IsBody, IsFitSubroutine, IsFit}
 use Rattle.jack_compiler.specs.Match.{IsCodeOf}
 use Rattle.jack_compiler.specs.Lines.{Around, short, statement_lines, text_lines, object_lines, subroutine_lines}
-use Rattle.jack_compiler.specs.Files.{files_of, name_at, statics_before, around_class, program_files, names_in}
-use Rattle.jack_compiler.specs.Resolved.{IsResolvedCore, is_own, named_in, IsResolved, greatest, depth_in, most_locals_in}
-use Rattle.jack_compiler.specs.Linked.{CompiledLaw, IsLinkedOf, IsOnlyFault}
+use Rattle.jack_compiler.specs.Files.{files_of, name_at, statics_before, around_class, program_files}
+use Rattle.jack_compiler.specs.Resolved.{IsResolvedCore, is_own, named_in, IsResolved}
+use Rattle.jack_compiler.specs.Linked.{CompiledLaw, IsLinkedProgram, IsLinkedOf, IsOnlyFault}
 use Rattle.jack_compiler.proofs.Coded.{Gives, Stands, Places, Codes, join, back, short_is, expression_codes, last_codes, text_codes}
 use Rattle.jack_compiler.proofs.Placed.{places_are, subroutine_marks, subroutine_first}
 use Rattle.jack_compiler.proofs.Sectioned.{section_of, sections_are}
 use Rattle.jack_compiler.proofs.Called as called_by
 use Rattle.jack_compiler.proofs.Called.{all_named, names_static, body_kept}
 use Rattle.jack_compiler.proofs.Calling.{calls_at, subroutine_calls, subroutine_commits}
-use Rattle.jack_compiler.proofs.Keeping.{found, any_at, keeps_from, closed, start_kept, first_none, only_statics}
-use Rattle.jack_compiler.proofs.Resolving.{and_first, and_second, IsOf, all, name_is, names_apart, known, under, named_there, start_there, text_none, keeps_there, calls_there}
+use Rattle.jack_compiler.proofs.Keeping.{found, any_at, keeps_from, keeps_once, closed, start_kept, first_none, only_statics}
+use Rattle.jack_compiler.proofs.Resolving.{and_first, and_second, IsOf, all, names_apart, known, known_at, under, named_there, start_there, text_none, keeps_there, calls_there}
+use Rattle.jack_compiler.proofs.Members.{linked_kept}
+use Rattle.jack_compiler.proofs.Reaching.{reached_linked}
 use Rattle.jack_compiler.proofs.Numbering.{class_is, own_lower, own_upper, has_static, numbers_of, held, held_apart, held_below}
 
 and_both : (a b : Bool) → a ≡ true → b ≡ true → (a && b) ≡ true
@@ -49,10 +53,35 @@ and_both false b e f = absurd cc
 is_below : (k n : ℕ) → k < n → nat_lt k n ≡ true
 is_below k n h = grind (arith, nat_tests)
 
+-- the greatest count of what is linked
+abbrev greatest : (ℕ → ℕ) → List LinkedFunction → ℕ
+greatest count [] = 0
+greatest count (f ∷ fs) = max (count f.number) (greatest count fs)
+
 greatest_at : (count : ℕ → ℕ) (fs : List LinkedFunction) (i : ℕ) (f : LinkedFunction) → slice_get fs i ≡ Some f → count f.number ≤ greatest count fs
 greatest_at count [] i f e = absurd cc
 greatest_at count (x ∷ xs) zero f e = let same : x ≡ f = cc in let n = ap (λ (z : LinkedFunction). count z.number) same in omega arith
 greatest_at count (x ∷ xs) (suc i) f e = let ih = greatest_at count xs i f e in omega arith
+
+-- one of them has so many
+greatest_of : (count : ℕ → ℕ) (xs : List LinkedFunction) (x : LinkedFunction) → (j : ℕ) × (f : LinkedFunction) × (slice_get (x ∷ xs) j ≡ Some f) × (count f.number ≡ greatest count (x ∷ xs))
+greatest_of count [] x = (0, x, refl, omega arith)
+greatest_of count (y ∷ ys) x =
+    let ih = greatest_of count ys y in
+    elim (cases_lt (count x.number) (greatest count (y ∷ ys))) [
+      | inl less ↦ (let e = ih.3 in (suc ih.0, ih.1, ih.2, omega arith))
+      | inr more ↦ (0, x, refl, omega arith)
+    ]
+
+greatest_there : (count : ℕ → ℕ) (fs : List LinkedFunction) (i : ℕ) (f : LinkedFunction) → slice_get fs i ≡ Some f → (j : ℕ) × (h : LinkedFunction) × (slice_get fs j ≡ Some h) × (count h.number ≡ greatest count fs)
+greatest_there count [] i f e = absurd cc
+greatest_there count (x ∷ xs) i f e = greatest_of count xs x
+
+-- the item that a mapped one was made of
+mapped_from : {A B : Type 0} (F : A → B) (xs : List A) (k : ℕ) (y : B) → slice_get (map F xs) k ≡ Some y → (x : A) × (slice_get xs k ≡ Some x) × (y ≡ F x)
+mapped_from F [] k y e = absurd cc
+mapped_from F (x ∷ xs) zero y e = (x, refl, cc)
+mapped_from F (x ∷ xs) (suc k) y e = mapped_from F xs k y e
 
 object_codes : (ks : List Section) (s : Section) (k : Kind) (n : ℕ) → Codes ks s (object_lines k n) (object_code k n)
 object_codes ks s Method n = record { is = refl }
@@ -77,19 +106,19 @@ module _ (subs : List Subroutine) (first numbers : Numbers) (around : Around) (k
   body_codes Constructor p (Next (LetField n k e) rest) h st = absurd h
   body_codes Constructor p (Next (Store n a j e) rest) h st = absurd h
   body_codes Constructor p (Next (Do n e) rest) h st = absurd h
-  body_codes Constructor p (Next (If n c a b) rest) h st = absurd h
+  body_codes Constructor p (Next (If n o c a b) rest) h st = absurd h
   body_codes Constructor p (Next (While n c t) rest) h st = absurd h
   body_codes Constructor p (Next (Return n e) rest) h st = absurd h
 
-module _ (program : Program) (names : List (List ℕ)) (resolved : IsResolved program names) where
+module _ (program : Program) (names class_names : List (List ℕ)) (resolved : IsResolved program names) where
   abbrev files : List File
-  files = program_files program names
+  files = program_files program names class_names
 
   abbrev ss : List Section
   ss = all program names resolved
 
   sections_is : sections false (files) ≡ ss
-  sections_is = sections_are program names resolved.order (under program names resolved)
+  sections_is = sections_are program names class_names resolved.order (under program names resolved)
 
   abbrev sub_at : ℕ → Subroutine
   sub_at g = subroutine_at program.subroutines g
@@ -109,6 +138,31 @@ module _ (program : Program) (names : List (List ℕ)) (resolved : IsResolved pr
 
     calls_none : first_of (no_function ss) ks ≡ None
     calls_none = first_none (no_function ss) ks (λ i s e. calls_there program names resolved s (is_known i s e))
+
+    -- the deepest nesting of what is kept, and the most locals
+    abbrev depth_in : ℕ
+    depth_in = greatest (depth_of program) (map (function_of ks) ks)
+
+    abbrev most_locals_in : ℕ
+    most_locals_in = greatest (locals_of program) (map (function_of ks) ks)
+
+    -- each function is that of a subroutine that the program can come to
+    only_linked : (k : ℕ) (f : LinkedFunction) → slice_get (map (function_of ks) ks) k ≡ Some f → IsLinked program f.number
+    only_linked k f e =
+        let m = mapped_from (function_of ks) ks k f e in
+        let from = keeps_from (Reached ss) (keeps) k m.0 m.1 in
+        let z : 0 + from.0 ≡ from.0 = omega arith in
+        let at = known_at program names resolved from.0 m.0 from.1 in
+        let number : 1 + from.0 ≡ f.number = sym (ap (λ (z : Section). z.number) at.1) ∙ sym (ap (λ (z : LinkedFunction). z.number) m.2) in
+        subst (IsLinked program) number (reached_linked program names resolved from.0 (subst (Reached ss) z from.2))
+
+    -- each is there once
+    linked_once : (j k : ℕ) (f g : LinkedFunction) → slice_get (map (function_of ks) ks) j ≡ Some f → slice_get (map (function_of ks) ks) k ≡ Some g → f.number ≡ g.number → j ≡ k
+    linked_once j k f g a b e =
+        let m = mapped_from (function_of ks) ks j f a in
+        let n = mapped_from (function_of ks) ks k g b in
+        keeps_once (Reached ss) (keeps) (λ i s h. ap (λ (z : Section). z.number) (known_at program names resolved i s h).1 ∙ (let z : 1 + i ≡ 1 + 0 + i = omega arith in z)) j k m.0 n.0 m.1 n.1
+        (sym (ap (λ (z : LinkedFunction). z.number) m.2) ∙ e ∙ ap (λ (z : LinkedFunction). z.number) n.2)
 
     -- the section of a kept subroutine
     record Kept (g : ℕ) : Type 0 where
@@ -180,7 +234,7 @@ module _ (program : Program) (names : List (List ℕ)) (resolved : IsResolved pr
         (subst (λ (z : Section). list_any (λ x. x.commit) z.lines ≡ true) (sym k.is) (subroutine_commits (around_of k.number) (sub_at k.number) (resolved.each k.number k.lower k.upper).closed))
 
     init_name : name_at names program.init ≡ sys_init
-    init_name = name_is program names resolved program.init resolved.init_there ∙ resolved.init_name
+    init_name = resolved.init_name
 
     init_kept : (numbers).keeps program.init ≡ true
     init_kept =
@@ -211,7 +265,7 @@ module _ (program : Program) (names : List (List ℕ)) (resolved : IsResolved pr
       }
 
       fit_subroutine : (g : ℕ) → (numbers).keeps g ≡ true
-          → IsFitSubroutine program.subroutines (numbers) (depth_in program (linked false (files) ks)) (most_locals_in program (linked false (files) ks)) (sub_at g)
+          → IsFitSubroutine program.subroutines (numbers) depth_in most_locals_in (sub_at g)
       fit_subroutine g h =
           let k = kept_of g h in
           let r = resolved.each g k.lower k.upper in
@@ -239,13 +293,13 @@ module _ (program : Program) (names : List (List ℕ)) (resolved : IsResolved pr
                 (called_by.back K H (object_lines (sub_at g).kind (first_number 0 (sub_at g).body)) (text_lines (around_of g) 0 0 0 (sub_at g).body) named);
             closed = r.closed;
             takes = r.takes;
-            nested = subst (λ z. nest_in (sub_at z).body ≤ depth_in program (linked false (files) ks)) number
-                (greatest_at (λ z. nest_in (sub_at z).body) (map (function_of ks) ks) ((numbers).function g) (function_of ks k.item) function);
-            few = subst (λ z. (sub_at z).locals ≤ most_locals_in program (linked false (files) ks)) number
-                (greatest_at (λ z. (sub_at z).locals) (map (function_of ks) ks) ((numbers).function g) (function_of ks k.item) function);
+            nested = subst (λ z. nest_in (sub_at z).body ≤ depth_in) number
+                (greatest_at (depth_of program) (map (function_of ks) ks) ((numbers).function g) (function_of ks k.item) function);
+            few = subst (λ z. (sub_at z).locals ≤ most_locals_in) number
+                (greatest_at (locals_of program) (map (function_of ks) ks) ((numbers).function g) (function_of ks k.item) function);
           }
 
-      fit : IsFit program (numbers) (depth_in program (linked false (files) ks)) (most_locals_in program (linked false (files) ks))
+      fit : IsFit program (numbers) depth_in most_locals_in
       fit = record {
         each = fit_subroutine;
         init = init_kept;
@@ -253,10 +307,32 @@ module _ (program : Program) (names : List (List ℕ)) (resolved : IsResolved pr
         statics = λ k h. held_below program ks k _ (held program names (files) ks resolved.statics kept none k h);
       }
 
-  linked_is : (l : Linked) → Links false (files) (Ok l) → (numbers : Numbers) × IsCodeOf program numbers l × IsFit program numbers (depth_in program l) (most_locals_in program l)
-  linked_is l (whole ks text kept none e) =
-      subst (λ z. (numbers : Numbers) × IsCodeOf program numbers z × IsFit program numbers (depth_in program z) (most_locals_in program z)) (sym e)
-      (numbers_of program names ks, code_of_program ks kept none, fit ks kept none)
+      -- one of them has most
+      most_of : (count : ℕ → ℕ) → ((g : ℕ) → (numbers).keeps g ≡ true → count g ≤ greatest count (map (function_of ks) ks)) → IsMost program count (greatest count (map (function_of ks) ks))
+      most_of count few =
+          let k = kept_of program.init (init_kept) in
+          let g = greatest_there count (map (function_of ks) ks) ((numbers).function program.init) (function_of ks k.item) (function_is program.init k) in
+          record {
+            bounds = λ h l. few h (linked_kept program (numbers) (depth_in) (most_locals_in) (fit) h l);
+            reached = (g.1.number, only_linked g.0 g.1 g.2, g.3);
+          }
+
+      linked_program : IsLinkedProgram program (linked false (files) ks)
+      linked_program = record {
+        numbers = numbers;
+        depth = depth_in;
+        most_locals = most_locals_in;
+        code = code_of_program;
+        all = linked_kept program (numbers) (depth_in) (most_locals_in) (fit);
+        only = only_linked;
+        once = linked_once;
+        deepest = most_of (depth_of program) (λ g h. (fit_subroutine g h).nested);
+        most = most_of (locals_of program) (λ g h. (fit_subroutine g h).few);
+        fits = fit;
+      }
+
+  linked_is : (l : Linked) → Links false (files) (Ok l) → IsLinkedProgram program l
+  linked_is l (whole ks text kept none e) = subst (IsLinkedProgram program) (sym e) (linked_program ks kept none)
 
   no_text_fault : (f : LinkFault) → text_fault false (sections false (files)) ≡ Some f → ⊥
   no_text_fault f e = let a = text_none program names resolved in let b = ap (text_fault false) (sections_is) in let z : None ≡ Some f = sym a ∙ (sym b ∙ e) in absurd cc
@@ -270,8 +346,8 @@ module _ (program : Program) (names : List (List ℕ)) (resolved : IsResolved pr
 
 pub compiled : CompiledLaw
 compiled = record {
-  linked = λ core l resolved h. linked_is (the_program core) (names_in core) resolved l h;
-  faults = λ core f resolved h. fault_is (the_program core) (names_in core) resolved f h;
+  linked = λ core l resolved h. linked_is (the_program core) (names_of core) (class_names_of core) resolved l h;
+  faults = λ core f resolved h. fault_is (the_program core) (names_of core) (class_names_of core) resolved f h;
 }
 
 -- whatever linking answers

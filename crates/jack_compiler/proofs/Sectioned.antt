@@ -106,11 +106,11 @@ under_rest : (k : ℕ) (xs ys : List Subroutine) → AreUnder k (xs ++ ys) → A
 under_rest k [] ys h = h
 under_rest k (x ∷ xs) ys h = under_rest k xs ys h.1
 
-sections_from_are : (program : Program) (names : List (List ℕ)) (k : ℕ) (cs : List Class) (ys xs : List Subroutine) → drop 1 program.subroutines ≡ ys ++ xs → AreUnder k ys → AreInOrder k xs
-    → AreUnder (k + length cs) xs → sections_from false k (1 + length ys) (files_from program names k cs) ≡ sections_of program names (1 + length ys) xs
-sections_from_are program names k [] ys [] e u o b = refl
-sections_from_are program names k [] ys (x ∷ xs) e u o b = let lower = o.0 in let upper = b.0 in absurd (omega arith)
-sections_from_are program names k (c ∷ cs) ys xs e u o b =
+sections_from_are : (program : Program) (names : List (List ℕ)) (class_names : List (List ℕ)) (k : ℕ) (cs : List Class) (ys xs : List Subroutine) → drop 1 program.subroutines ≡ ys ++ xs → AreUnder k ys → AreInOrder k xs
+    → AreUnder (k + length cs) xs → sections_from false k (1 + length ys) (files_from program names class_names k cs) ≡ sections_of program names (1 + length ys) xs
+sections_from_are program names class_names k [] ys [] e u o b = refl
+sections_from_are program names class_names k [] ys (x ∷ xs) e u o b = let lower = o.0 in let upper = b.0 in absurd (omega arith)
+sections_from_are program names class_names k (c ∷ cs) ys xs e u o b =
     let around = around_class program.classes names k in
     let n = 1 + length ys in
     let r = split k xs o in
@@ -128,14 +128,14 @@ sections_from_are program names k (c ∷ cs) ys xs e u o b =
     let whole : drop 1 program.subroutines ≡ (ys ++ r.run) ++ r.rest = e ∙ (ap (λ z. ys ++ z) r.whole ∙ sym (append_assoc ys r.run r.rest)) in
     let under : AreUnder (k + 1) (ys ++ r.run) = under_both (k + 1) ys r.run (under_more k (k + 1) ys (omega arith) u) (under_own k r.run r.own) in
     let bound : AreUnder (k + length (c ∷ cs)) r.rest = under_rest (k + length (c ∷ cs)) r.run r.rest (subst (AreUnder (k + length (c ∷ cs))) r.whole b) in
-    let ih = sections_from_are program names (k + 1) cs (ys ++ r.run) r.rest whole under r.order (under_more (k + length (c ∷ cs)) (k + 1 + length cs) r.rest (omega arith) bound) in
-    ap (λ z. z ++ sections_from false (k + 1) (n + length (functions_from k n (functions_of around k 1 (drop 1 program.subroutines)))) (files_from program names (k + 1) cs)) front
-    ∙ (ap (λ (z : ℕ). sections_of program names n r.run ++ sections_from false (k + 1) z (files_from program names (k + 1) cs)) count
+    let ih = sections_from_are program names class_names (k + 1) cs (ys ++ r.run) r.rest whole under r.order (under_more (k + length (c ∷ cs)) (k + 1 + length cs) r.rest (omega arith) bound) in
+    ap (λ z. z ++ sections_from false (k + 1) (n + length (functions_from k n (functions_of around k 1 (drop 1 program.subroutines)))) (files_from program names class_names (k + 1) cs)) front
+    ∙ (ap (λ (z : ℕ). sections_of program names n r.run ++ sections_from false (k + 1) z (files_from program names class_names (k + 1) cs)) count
     ∙ (ap (λ z. sections_of program names n r.run ++ z) ih
     ∙ (ap (λ (z : ℕ). sections_of program names n r.run ++ sections_of program names z r.rest) (let m = length-append ys r.run in let z : 1 + length (ys ++ r.run) ≡ 1 + length ys + length r.run = omega arith in z)
     ∙ (sym (sections_both program names n r.run r.rest) ∙ ap (sections_of program names n) (sym r.whole)))))
 
-pub sections_are : (program : Program) (names : List (List ℕ)) → AreInOrder 0 (drop 1 program.subroutines) → AreUnder (length program.classes) (drop 1 program.subroutines)
-    → sections false (program_files program names) ≡ sections_of program names 1 (drop 1 program.subroutines)
-sections_are program names o b =
-    sections_from_are program names 0 program.classes [] (drop 1 program.subroutines) refl tt o (under_more (length program.classes) (0 + length program.classes) (drop 1 program.subroutines) (omega arith) b)
+pub sections_are : (program : Program) (names class_names : List (List ℕ)) → AreInOrder 0 (drop 1 program.subroutines) → AreUnder (length program.classes) (drop 1 program.subroutines)
+    → sections false (program_files program names class_names) ≡ sections_of program names 1 (drop 1 program.subroutines)
+sections_are program names class_names o b =
+    sections_from_are program names class_names 0 program.classes [] (drop 1 program.subroutines) refl tt o (under_more (length program.classes) (0 + length program.classes) (drop 1 program.subroutines) (omega arith) b)

@@ -1,15 +1,10 @@
 -- The rows, by computation.
-use Rattle.std.proofs.Common.{◌≡◌, ◌+◌, ◌<◌, ◌≤◌, ◌&&◌, ℕ, zero, suc, Bool, true, nat_lt, List, [], ◌∷◌, length, get_or, refl, ap, arith, inl}
-use Rattle.std.specs.Prelude.{codes}
+use Rattle.std.proofs.Common.{◌≡◌, ◌+◌, ◌<◌, ◌≤◌, ℕ, zero, suc, [], length, get_or, refl, ap, arith, inl}
 use Rattle.std.specs.Fmt.{digits}
-use Rattle.std.proofs.lemmas.Bool.{ltb-true}
-use Rattle.std.specs.Str.{is_utf8, IsAscii}
-use Rattle.std.proofs.lemmas.Str.{is_utf8-from_IsUtf8, IsUtf8-from_ascii}
 use Rattle.jack_meaning.specs.Meaning.{subroutine_at}
 use Rattle.jack_meaning.specs.Rows.{stores_one}
 use Rattle.jack_compiler.specs.Files.{statics_before}
 use Rattle.jack_compiler.specs.Resolved.{IsResolved, IsResolvedSubroutine}
-use Rattle.jack_compiler.proofs.Resolving.{and_first, and_second}
 use Rattle.jack_compiler.specs.Small.{SmallLaw, small_names}
 
 each : (g : ℕ) → 0 < g → g < length (stores_one 16384).subroutines → IsResolvedSubroutine (stores_one 16384) (subroutine_at (stores_one 16384).subroutines g)
@@ -41,26 +36,6 @@ few zero = omega arith
 few (suc zero) = omega arith
 few (suc (suc k)) = omega arith
 
-all_small : List ℕ → Bool
-all_small [] = true
-all_small (b ∷ bs) = nat_lt b 128 && all_small bs
-
-are_ascii : (bs : List ℕ) → all_small bs ≡ true → IsAscii bs
-unfolding all_small
-are_ascii [] h i = omega arith
-are_ascii (b ∷ bs) h zero = ltb-true b 128 (and_first (nat_lt b 128) (all_small bs) h)
-are_ascii (b ∷ bs) h (suc i) = are_ascii bs (and_second (nat_lt b 128) (all_small bs) h) i
-
-ascii : (bs : List ℕ) → all_small bs ≡ true → is_utf8 bs ≡ true
-ascii bs h = is_utf8-from_IsUtf8 bs (IsUtf8-from_ascii bs (are_ascii bs h))
-
-texts : (g : ℕ) → g < length small_names → is_utf8 (get_or small_names g []) ≡ true
-unfolding all_small
-texts zero h = ascii (codes "start") refl
-texts (suc zero) h = ascii (codes "Sys.init") refl
-texts (suc (suc zero)) h = ascii (codes "Main.main") refl
-texts (suc (suc (suc g))) h = absurd (omega arith)
-
 -- the first bytes tell the names apart
 apart : (g h : ℕ) → g < length small_names → h < length small_names → get_or (get_or small_names g []) 0 0 ≡ get_or (get_or small_names h []) 0 0 → g ≡ h
 apart zero zero a b e = refl
@@ -83,7 +58,6 @@ resolved = record {
   order = (omega arith, (omega arith, tt));
   statics = few;
   named = refl;
-  texts = texts;
   apart = λ g h a b e. apart g h a b (ap (λ z. get_or z 0 0) e);
   init = omega arith;
   init_there = omega arith;
@@ -93,4 +67,4 @@ resolved = record {
 
 pub small : SmallLaw
 unfolding digits
-small = record { method = refl; function = refl; constructor = refl; resolved = resolved }
+small = record { method = refl; function = refl; empty_else = refl; constructor = refl; resolved = resolved }

@@ -17,6 +17,7 @@ use Rattle.jack_compiler.specs.Places.{Making}
 use Rattle.jack_compiler.specs.Match.{IsCodeOf, scope_at, TopMatch, entering, between, begun, making, StartMatch, before, answered, after, Callers, MatchFrames, Match}
 use Rattle.jack_compiler.proofs.Whole.{callers_words, begun_length, part_length, simulates, strays_too}
 use Rattle.jack_compiler.specs.Laws.{SimulationLaw}
+use Rattle.jack_compiler.proofs.Converse.{frames_stand}
 
 zeros : (n k : ℕ) → slice_index (replicate n 0) k ≡ 0
 zeros zero k = refl
@@ -44,7 +45,7 @@ module _ (program : Program) (numbers : Numbers) (linked : Linked) (depth : ℕ)
   making_length f vf (Next (LetField n x y) rest) b = absurd b
   making_length f vf (Next (Store n x y z) rest) b = absurd b
   making_length f vf (Next (Do n x) rest) b = absurd b
-  making_length f vf (Next (If n x y z) rest) b = absurd b
+  making_length f vf (Next (If n o x y z) rest) b = absurd b
   making_length f vf (Next (While n x y) rest) b = absurd b
   making_length f vf (Next (Return n x) rest) b = absurd b
   making_length f vf (Next (LetThis n x) rest) b =
@@ -77,5 +78,6 @@ simulation = record {
   steps = λ program numbers linked depth most_locals fit agree. simulates program numbers linked depth agree most_locals fit;
   strays = λ program numbers linked depth most_locals fit agree s v key a m h e. strays_too program numbers linked depth agree most_locals fit s v key a m h e;
   words = λ program numbers linked depth s v m. frames_words program numbers linked depth s.frames v.frames m.frames;
+  words_back = λ program numbers linked depth most_locals fit s v m. frames_stand program numbers linked depth most_locals fit s.frames v.frames m.frames;
   starts = λ program numbers linked depth most_locals fit agree. starts program numbers linked depth most_locals fit agree;
 }

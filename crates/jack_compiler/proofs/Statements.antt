@@ -8,7 +8,7 @@ use Rattle.vm_link.specs.declared.linked.Linked.{Linked}
 use Rattle.vm_machine.specs.State.{Frame as VmFrame, State as VmState}
 use Rattle.vm_machine.specs.Step.{code_in, act, goes, after}
 use Rattle.vm_machine.specs.Step.{Strays as VmStrays}
-use Rattle.vm_machine.specs.Level.{command_words}
+use Rattle.hack_blocks.specs.Budgets.{most_steps}
 use Rattle.jack_meaning.specs.Text.{Expression, Value, Open, Statement, Text, End, Next, joined, Program, Subroutine}
 use Rattle.jack_meaning.specs.Expressions.{Move, Stands, Rewrites, Calls, Strays, within, rewrite, filled, standing}
 use Rattle.jack_meaning.specs.Meaning.{Frame, State, Outcome, Stray, step, step_part, view_of, with_top, filled_text, text_point, passed_over}
@@ -45,6 +45,10 @@ any_otherwise subs s f below Stands plug whole_ o o' h = absurd h
 any_otherwise subs s f below (Rewrites b e) plug whole_ o o' h = refl
 any_otherwise subs s f below (Calls g xs e) plug whole_ o o' h = refl
 any_otherwise subs s f below (Strays a) plug whole_ o o' h = refl
+
+-- The values that stand in an expression and below it are those of its text, or one less.
+abbrev pub AreStanding : List ℕ → Expression → Text → Type 0
+AreStanding below_ e t = (standing e + length below_ ≤ standing_first t) × (standing_first t ≤ suc (standing e + length below_))
 
 module _ (program : Program) (numbers : Numbers) (linked : Linked) (depth : ℕ) where
   module _ (ss ws : List ℕ) (f g : Frame) (below : List Frame) (V : VmState) (vf vg : VmFrame) (vbs : List VmFrame) where
@@ -89,7 +93,7 @@ module _ (program : Program) (numbers : Numbers) (linked : Linked) (depth : ℕ)
           → ((key : ℕ) → step program.subroutines key upper ≡ step_part program.subroutines upper f (g ∷ below) (rewrite (view_of key upper f) e) whole_ (otherwise key))
           → ((e' : Expression) (q : ℕ) (vs : List ℕ) (t : ℕ) → Part program.subroutines numbers scope depth the_code scope n e' rest below_ q vs → q + length (expression_code numbers n e') ≡ p + length (expression_code numbers n e) → TopMatch program numbers linked depth (record f { text = whole_ e' }) (frame_at q vs t))
           → ((w : ℕ) (e' : Expression) → filled_text w (whole_ e') ≡ whole_ (filled w e'))
-          → ((e' : Expression) → standing e' + length below_ ≤ standing_first (whole_ e'))
+          → ((e' : Expression) → AreStanding below_ e' (whole_ e'))
           → GoesFrom 66 (state_at p values that)
       expression_way scope same n number p values that room e rest below_ part fe whole_ otherwise steps on fills stands =
           let us = fe.under below_ in
@@ -97,7 +101,8 @@ module _ (program : Program) (numbers : Numbers) (linked : Linked) (depth : ℕ)
           let values_are : values ≡ operands r us = part.values_are ∙ fe.stack below_ in
           let has_at : (w : ℕ) → HasAt the_code p (redex_code numbers n r ++ (expression_code numbers n (fe.plug (Value w)) ++ rest)) =
           λ w. subst (HasAt the_code p) (ap (λ c. c ++ rest) (fe.rest w) ∙ append_assoc (redex_code numbers n r) _ _) part.has in
-          let many : length us ≤ standing_first (whole_ (fe.plug Open)) = omega (arith, fe.many below_, stands (fe.plug Open)) in
+          let few = stands (fe.plug Open) in
+          let many : (length us ≤ standing_first (whole_ (fe.plug Open))) × (standing_first (whole_ (fe.plug Open)) ≤ suc (length us)) = (omega (arith, fe.many below_, few.0), omega (arith, fe.many below_, few.1)) in
           let way = part_way program numbers linked depth ss ws f g below V vf vg vbs here memory callers scope same n number us fe.plug whole_ (otherwise 0) r p that fe.fit
           (has_front the_code p (redex_code numbers n r) _ (has_at 0)) (omega (arith, room, ap length values_are))
           (λ key. steps key ∙ (ap (λ m. step_part program.subroutines upper f (g ∷ below) m whole_ (otherwise key)) (fe.moves (view_of key upper f))
@@ -125,7 +130,7 @@ module _ (program : Program) (numbers : Numbers) (linked : Linked) (depth : ℕ)
           → ((key : ℕ) → act key c (record V' { frames = frame_at p values that ∷ vg ∷ vbs }) (frame_at p values that) (vg ∷ vbs) ≡ (if lower then VmStrays (stray.Address a) else (if data_ then goes (record V' { frames = frame_at p values that ∷ vg ∷ vbs; words = slice_set V'.words (a - 2048) w }) (vg ∷ vbs) (after (frame_at p values that) []) else VmStrays (stray.Address a))))
           → ((key : ℕ) → step program.subroutines key upper ≡ (if lower then Stray a else (if data_ then passed_over (record upper { words = slice_set ws (a - 2048) w }) f (g ∷ below) rest else Stray a)))
           → IsClosed rest → Reads program.subroutines numbers (scope_at program numbers linked depth f.subroutine) depth the_code 0 rest (p + 1)
-          → GoesFrom (command_words c) (record V' { frames = frame_at p values that ∷ vg ∷ vbs })
+          → GoesFrom (most_steps c) (record V' { frames = frame_at p values that ∷ vg ∷ vbs })
       store_with same n number p values that V' m c a w rest true d h room acts steps closed reads =
           stray_way program numbers linked depth upper V' (frame_at p values that) (vg ∷ vbs) n c a (record { words = m.words; sub = here.sub }) number h acts steps
       store_with same n number p values that V' m c a w rest false false h room acts steps closed reads =

@@ -1,6 +1,6 @@
 -- Commands of the virtual machine as parts of a way.
 use Rattle.std.proofs.Common.{◌≡◌, inl, ℕ, ◌+◌, ◌≤◌, Bool, true, false, nat_lt, List, [], ◌∷◌, refl, sym, ap, ◌∙◌, subst, arith}
-use Rattle.std.specs.Prelude.{Some, None, if◌then◌else◌, ◌-◌, slice_index, slice_get}
+use Rattle.std.specs.Prelude.{Some, if◌then◌else◌, ◌-◌, slice_index, slice_get}
 use Rattle.std.proofs.lemmas.Bool.Decides.{nat_tests}
 use Rattle.outer_world.specs.declared.point.Point.{Point}
 use Rattle.machine_io.specs.declared.machine.Stray.TheVariants as stray
@@ -11,11 +11,11 @@ use Rattle.vm_machine.specs.State.{words_in_use}
 use Rattle.vm_machine.specs.State.{Frame as VmFrame, State as VmState}
 use Rattle.vm_machine.specs.Step.{code_in, act, fitted}
 use Rattle.vm_machine.specs.Step.{Acts as VmActs, Strays as VmStrays, Full as VmFull, step as vm_step}
-use Rattle.vm_machine.specs.Level.{state_after, is_fit, is_commit, subroutine_of, statement_of, end_statement, vm_system, command_words, cost_of, vm_cost}
+use Rattle.hack_blocks.specs.Budgets.{most_steps}
+use Rattle.vm_machine.specs.Level.{state_after, is_fit, is_commit, subroutine_of, statement_of, end_statement, vm_system, cost_of, vm_cost}
 use Rattle.vm_machine.specs.Level.{has_heard as vm_heard, is_done as vm_done}
 use Rattle.layers.specs.System.{System}
-use Rattle.layers.specs.Layers.{Shows, Way, lands, rests}
-use Rattle.layers.specs.Layers.{onward as way_onward}
+use Rattle.layers.specs.Layers.{Shows, GoesAstray, Ends, strays, Along, last, onward, Way}
 use Rattle.layers.proofs.Ways.{quiet_step, last_step}
 use Rattle.jack_meaning.specs.Text.{Program}
 use Rattle.jack_meaning.specs.Meaning.{State, Acts, Stray, step, point_of}
@@ -23,7 +23,7 @@ use Rattle.jack_meaning.specs.Level.{has_heard, is_done, meaning_of}
 use Rattle.jack_meaning.specs.Level.{next_of as state_of}
 use Rattle.jack_compiler.specs.Templates.{Numbers, quiet, commit}
 use Rattle.jack_compiler.specs.Match.{Match}
-use Rattle.jack_compiler.specs.Astray.{ComesAstray, astray, onward}
+use Rattle.jack_compiler.specs.Astray.{StraysAt, ComesAstray}
 
 abbrev made : ℕ → ℕ → Point
 made s m = record { sub = s; number = m }
@@ -38,18 +38,20 @@ module _ (program : Program) (numbers : Numbers) (linked : Linked) (depth : ℕ)
   abbrev pub R : State → VmState → Type 0
   R = Match program numbers linked depth
 
-  -- within so many words of machine code the step of u is made, or its end comes; and where u strays, v does in the end
+  -- within so many steps of the computer the step of u is made, or its end comes; and where u strays, v does in the end
   pub record Goes (u : State) (m : ℕ) (v : VmState) : Type 0 where
-    pub way : Way up low (vm_cost linked) R u m [] v
-    pub strays : (a : ℕ) → ((key : ℕ) → step program.subroutines key u ≡ Stray a) → ComesAstray linked v a
+    pub way : Way up low (vm_cost most_steps linked) R u m [] v
+    pub strays : (a : ℕ) → ((key : ℕ) → step program.subroutines key u ≡ Stray a) → ComesAstray program.subroutines linked u a m v
 
-  longer_way : (u : State) (m m' : ℕ) (pend : List ℕ) (v : VmState) → m ≤ m' → Way up low (vm_cost linked) R u m pend v → Way up low (vm_cost linked) R u m' pend v
-  longer_way u m m' pend v h (lands _ _ _ l c) = lands m' pend v l (omega (arith, h, c))
-  longer_way u m m' pend v h (rests _ _ l c) = rests m' v l (omega (arith, h, c))
-  longer_way u m m' pend v h (way_onward _ k _ _ s q c to e w) = way_onward m' k pend v s q (omega (arith, h, c)) to e w
+  longer : (u : State) (End : List ℕ → VmState → Type 0) (m m' : ℕ) (pend : List ℕ) (v : VmState) → m ≤ m' → Along up low (vm_cost most_steps linked) u End m pend v → Along up low (vm_cost most_steps linked) u End m' pend v
+  longer u End m m' pend v h (last _ _ _ l c) = last m' pend v l (omega (arith, h, c))
+  longer u End m m' pend v h (onward _ k _ _ s q c to e w) = onward m' k pend v s q (omega (arith, h, c)) to e w
 
   pub way_more : (u : State) (m m' : ℕ) (v : VmState) → m ≤ m' → Goes u m v → Goes u m' v
-  way_more u m m' v h w = record { way = longer_way u m m' [] v h w.way; strays = w.strays }
+  way_more u m m' v h w = record {
+    way = longer u (Ends up low R u) m m' [] v h w.way;
+    strays = λ a s. longer u (StraysAt program.subroutines linked u a) m m' [] v h (w.strays a s);
+  }
 
   -- a state on the way: heap and screen and the subroutine are those of the upper state
   pub record Here (u : State) (V : VmState) (vf : VmFrame) : Type 0 where
@@ -91,56 +93,57 @@ module _ (program : Program) (numbers : Numbers) (linked : Linked) (depth : ℕ)
 
   -- a command on the way
   pub quiet_way : (u : State) (V : VmState) (vf : VmFrame) (vbelow : List VmFrame) (n : ℕ) (c : Step) (m : ℕ) (v' : VmState) → Here u V vf → n ≡ (point_of u.frames).1 → slice_get (code_in linked vf.function) vf.place ≡ Some (quiet n c)
-      → ((key : ℕ) → act key c (record V { frames = vf ∷ vbelow }) vf vbelow ≡ VmActs false v') → words_in_use v'.frames ≤ 1792 → Goes u m v' → Goes u (command_words c + m) (record V { frames = vf ∷ vbelow })
+      → ((key : ℕ) → act key c (record V { frames = vf ∷ vbelow }) vf vbelow ≡ VmActs false v') → words_in_use v'.frames ≤ 1792 → Goes u m v' → Goes u (most_steps c + m) (record V { frames = vf ∷ vbelow })
   quiet_way u V vf vbelow n c m v' here number h acts room rest =
       let ran : (key : ℕ) → vm_step linked key (record V { frames = vf ∷ vbelow }) ≡ VmActs false v' = λ key. runs key false V vf vbelow (quiet n c) v' h (acts key) room in
-      let words : vm_cost linked (record V { frames = vf ∷ vbelow }) ≡ command_words c = ap cost_of h in
-      record {
-        way = quiet_step up low (vm_cost linked) R u (command_words c + m) m [] (record V { frames = vf ∷ vbelow }) v'
-            (shows_at u V vf vbelow (quiet n c) here number h (ap is_fit (ran 0)))
-            (ap is_commit h) (ap vm_heard (ran 0)) (omega (arith, words)) (λ key w. ap state_after (ran key)) rest.way;
-        strays = λ a s. onward (record V { frames = vf ∷ vbelow }) v' a (ap is_commit h) ran (rest.strays a s);
-      }
+      let words : vm_cost most_steps linked (record V { frames = vf ∷ vbelow }) ≡ most_steps c = ap (cost_of most_steps) h in
+      let passes = λ (End : List ℕ → VmState → Type 0) (after : Along up low (vm_cost most_steps linked) u End m [] v').
+      quiet_step up low (vm_cost most_steps linked) u End (most_steps c + m) m [] (record V { frames = vf ∷ vbelow }) v'
+      (shows_at u V vf vbelow (quiet n c) here number h (ap is_fit (ran 0)))
+      (ap is_commit h) (ap vm_heard (ran 0)) (omega (arith, words)) (λ key w. ap state_after (ran key)) after in
+      record { way = passes (Ends up low R u) rest.way; strays = λ a s. passes (StraysAt program.subroutines linked u a) (rest.strays a s) }
 
   -- the commit
   pub last_way : (u : State) (V : VmState) (vf : VmFrame) (vbelow : List VmFrame) (n : ℕ) (c : Step) (heard : Bool) (u' : ℕ → State) (v' : ℕ → VmState) → Here u V vf → n ≡ (point_of u.frames).1 → slice_get (code_in linked vf.function) vf.place ≡ Some (commit n c)
       → ((key : ℕ) → act key c (record V { frames = vf ∷ vbelow }) vf vbelow ≡ VmActs heard (v' key)) → ((key : ℕ) → words_in_use (v' key).frames ≤ 1792)
-      → ((key : ℕ) → step program.subroutines key u ≡ Acts heard (u' key)) → ((key : ℕ) → R (u' key) (v' key)) → Goes u (command_words c) (record V { frames = vf ∷ vbelow })
+      → ((key : ℕ) → step program.subroutines key u ≡ Acts heard (u' key)) → ((key : ℕ) → R (u' key) (v' key)) → Goes u (most_steps c) (record V { frames = vf ∷ vbelow })
   last_way u V vf vbelow n c heard u' v' here number h acts room steps matches =
       let ran : (key : ℕ) → vm_step linked key (record V { frames = vf ∷ vbelow }) ≡ VmActs heard (v' key) = λ key. runs key heard V vf vbelow (commit n c) (v' key) h (acts key) (room key) in
-      let words : vm_cost linked (record V { frames = vf ∷ vbelow }) ≡ command_words c = ap cost_of h in
+      let words : vm_cost most_steps linked (record V { frames = vf ∷ vbelow }) ≡ most_steps c = ap (cost_of most_steps) h in
       record {
-        way = last_step up low (vm_cost linked) R u (command_words c) (record V { frames = vf ∷ vbelow })
+        way = last_step up low (vm_cost most_steps linked) u R (most_steps c) (record V { frames = vf ∷ vbelow })
             (shows_at u V vf vbelow (commit n c) here number h (ap is_fit (ran 0)))
             (ap is_commit h) (ap is_done (steps 0)) (ap vm_done (ran 0)) (ap vm_heard (ran 0) ∙ sym (ap has_heard (steps 0))) (omega (arith, words))
-            (λ key w s e.
-            let same : u' key ≡ s = only (u' key) s (sym (ap state_of (steps key)) ∙ e) in
-            (v' key, ap state_after (ran key), subst (λ x. R x (v' key)) same (matches key)));
+            (λ key w. (u' key, ap state_of (steps key), v' key, ap state_after (ran key), matches key));
         strays = λ a s. absurd (acted heard (u' 0) a (sym (steps 0) ∙ s 0));
       }
     where
       acted : (b : Bool) (x : State) (a : ℕ) → Acts b x ≡ Stray a → ⊥
       acted b x a e = cc e
 
-      only : (x y : State) → Some x ≡ Some y → x ≡ y
-      only x y e = cc e
-
   -- the last command, where there is no step: an address outside the memory
   pub stray_way : (u : State) (V : VmState) (vf : VmFrame) (vbelow : List VmFrame) (n : ℕ) (c : Step) (a : ℕ) → Here u V vf → n ≡ (point_of u.frames).1 → slice_get (code_in linked vf.function) vf.place ≡ Some (commit n c)
-      → ((key : ℕ) → act key c (record V { frames = vf ∷ vbelow }) vf vbelow ≡ VmStrays (stray.Address a)) → ((key : ℕ) → step program.subroutines key u ≡ Stray a) → Goes u (command_words c) (record V { frames = vf ∷ vbelow })
+      → ((key : ℕ) → act key c (record V { frames = vf ∷ vbelow }) vf vbelow ≡ VmStrays (stray.Address a)) → ((key : ℕ) → step program.subroutines key u ≡ Stray a) → Goes u (most_steps c) (record V { frames = vf ∷ vbelow })
   stray_way u V vf vbelow n c a here number h acts steps =
       let ran : (key : ℕ) → vm_step linked key (record V { frames = vf ∷ vbelow }) ≡ VmStrays (stray.Address a) = λ key. strays_at key a V vf vbelow (commit n c) h (acts key) in
-      let words : vm_cost linked (record V { frames = vf ∷ vbelow }) ≡ command_words c = ap cost_of h in
+      let words : vm_cost most_steps linked (record V { frames = vf ∷ vbelow }) ≡ most_steps c = ap (cost_of most_steps) h in
+      let astray : GoesAstray up low u (record V { frames = vf ∷ vbelow }) = record {
+        shows = shows_at u V vf vbelow (commit n c) here number h (ap is_fit (ran 0));
+        commit = ap is_commit h;
+        going = ap is_done (steps 0);
+        moving = ap vm_done (ran 0);
+        deaf = (ap has_heard (steps 0), ap vm_heard (ran 0));
+        none = λ key w. ap state_of (steps key);
+      } in
       record {
-        way = last_step up low (vm_cost linked) R u (command_words c) (record V { frames = vf ∷ vbelow })
-            (shows_at u V vf vbelow (commit n c) here number h (ap is_fit (ran 0)))
-            (ap is_commit h) (ap is_done (steps 0)) (ap vm_done (ran 0)) (ap vm_heard (ran 0) ∙ sym (ap has_heard (steps 0))) (omega (arith, words))
-            (λ key w s e. absurd (never s (sym (ap state_of (steps key)) ∙ e)));
-        strays = λ a' s. astray (record V { frames = vf ∷ vbelow }) a' (subst (λ x. (key : ℕ) → vm_step linked key (record V { frames = vf ∷ vbelow }) ≡ VmStrays (stray.Address x)) (one a a' (sym (steps 0) ∙ s 0)) ran);
+        way = last (most_steps c) [] (record V { frames = vf ∷ vbelow }) (strays (record V { frames = vf ∷ vbelow }) astray) (omega (arith, words));
+        strays = λ a' s. last (most_steps c) [] (record V { frames = vf ∷ vbelow })
+            (record {
+              astray = astray;
+              unheard = refl;
+              address = subst (λ x. (key : ℕ) → vm_step linked key (record V { frames = vf ∷ vbelow }) ≡ VmStrays (stray.Address x)) (one a a' (sym (steps 0) ∙ s 0)) ran;
+            }) (omega (arith, words));
       }
     where
       one : (x y : ℕ) → Stray x ≡ Stray y → x ≡ y
       one x y e = cc e
-
-      never : (x : State) → None ≡ Some x → ⊥
-      never x e = cc e

@@ -13,6 +13,7 @@ use Rattle.vm_machine.specs.State.{words_in_use}
 use Rattle.vm_machine.specs.State.{Frame as VmFrame, State as VmState}
 use Rattle.vm_machine.specs.Step.{code_in}
 use Rattle.vm_machine.specs.Step.{Done as VmDone, step as vm_step}
+use Rattle.hack_blocks.specs.Budgets.{most_steps}
 use Rattle.vm_machine.specs.Level.{is_done, vm_system, vm_cost, subroutine_of, number_of as function_number}
 use Rattle.jack_meaning.specs.Text.{Expression, Value, Call, Open, NoMore, Let, LetField, LetThis, Store, Do, If, While, Return, Text, End, Next, Program, Subroutine}
 use Rattle.jack_meaning.specs.Expressions.{standing}
@@ -27,13 +28,14 @@ use Rattle.jack_compiler.proofs.Parts.{is_below}
 use Rattle.jack_compiler.proofs.Begun.{begun_way, making_way}
 use Rattle.outer_world.specs.declared.point.Point.{Point}
 use Rattle.vm_machine.specs.Level.{point_of as vm_point, is_fit}
-use Rattle.layers.specs.Layers.{Shows, Way, lands, rests, onward, Simulates}
+use Rattle.layers.specs.Layers.{Shows, Ends, lands, rests, strays, last, onward, Way, Simulates}
 use Rattle.jack_meaning.specs.Expressions.{standing_in}
 use Rattle.jack_meaning.specs.Text.{Literal, Name, This, Field, Unary, Binary, Load, Expressions, More}
 use Rattle.jack_meaning.specs.Meaning.{new_frame}
 use Rattle.jack_meaning.specs.StackWords.{stack_words}
 use Rattle.jack_meaning.specs.Level.{meaning_of, point_in}
-use Rattle.jack_compiler.specs.Fits.{IsFit, gap}
+use Rattle.jack_compiler.specs.Fits.{IsFit}
+use Rattle.jack_meaning.specs.Gap.{gap}
 use Rattle.jack_compiler.specs.Places.{stacks_of, Making}
 use Rattle.jack_compiler.specs.Astray.{ComesAstray}
 use Rattle.jack_meaning.proofs.Deaf.{law as meaning}
@@ -74,7 +76,7 @@ module _ (subs : List Subroutine) (numbers : Numbers) (scope : Scope) (depth : �
   begun_length (Next (LetThis n e) rest) p vs b = absurd b
   begun_length (Next (Store n a i e) rest) p vs b = storing_length n rest p vs a i e b
   begun_length (Next (Do n e) rest) p vs b = omega (arith, part_length scope n e _ [] p vs b.part)
-  begun_length (Next (If n c a1 a2) rest) p vs b = omega (arith, part_length scope n c _ [] p vs b.part)
+  begun_length (Next (If n o c a1 a2) rest) p vs b = omega (arith, part_length scope n c _ [] p vs b.part)
   begun_length (Next (While n c a) rest) p vs b = absurd b
   begun_length (Next (Return n e) rest) p vs b = omega (arith, part_length scope n e _ [] p vs b)
 
@@ -141,7 +143,7 @@ module _ (program : Program) (numbers : Numbers) (linked : Linked) (depth : ℕ)
         making_with (Next (LetField n x y) rest) text closed b = absurd b
         making_with (Next (Store n x y z) rest) text closed b = absurd b
         making_with (Next (Do n x) rest) text closed b = absurd b
-        making_with (Next (If n x y z) rest) text closed b = absurd b
+        making_with (Next (If n o x y z) rest) text closed b = absurd b
         making_with (Next (While n x y) rest) text closed b = absurd b
         making_with (Next (Return n x) rest) text closed b = absurd b
         making_with (Next (LetThis n x) rest) text closed b =
@@ -218,12 +220,13 @@ module _ (program : Program) (numbers : Numbers) (linked : Linked) (depth : ℕ)
       after_way a =
           start_frame_is f vf End 2 [] GoesStart a
           (record {
-            way = rests most_words _
+            way = last most_words [] _
+                (rests _
                 (record {
                   shows = record { words = λ x d. ap (λ l. slice_index l (x - 2048)) memory.words; point = inl refl; fits = ap is_fit ended };
                   upper = refl;
                   lower = ap is_done ended;
-                }) (omega arith);
+                })) (omega arith);
             strays = λ x s. absurd (no_stray x (s 0));
           })
         where
@@ -245,10 +248,14 @@ module _ (program : Program) (numbers : Numbers) (linked : Linked) (depth : ℕ)
     frames_way (f ∷ g ∷ below) ss ws (vf ∷ []) V m memory h = absurd m
     frames_way (f ∷ g ∷ below) ss ws (vf ∷ vg ∷ vbs) V m memory h = top_way ss ws f g below V vf vg vbs memory m.1 (fits_are (stack_words (f ∷ g ∷ below)) h) m.0
 
+    end_shows : (s : State) (pend : List ℕ) (v : VmState) → Ends (up program numbers linked depth) (low program numbers linked depth) (R program numbers linked depth) s pend v → Shows (up program numbers linked depth) (low program numbers linked depth) s v
+    end_shows s pend v (lands _ _ l) = l.shows
+    end_shows s pend v (rests _ l) = l.shows
+    end_shows s pend v (strays _ l) = l.shows
+
     -- every state on a way shows the upper one
-    way_shows : (s : State) (m : ℕ) (pend : List ℕ) (v : VmState) → Way (up program numbers linked depth) (low program numbers linked depth) (vm_cost linked) (R program numbers linked depth) s m pend v → Shows (up program numbers linked depth) (low program numbers linked depth) s v
-    way_shows s m pend v (lands _ _ _ l c) = l.shows
-    way_shows s m pend v (rests _ _ l c) = l.shows
+    way_shows : (s : State) (m : ℕ) (pend : List ℕ) (v : VmState) → Way (up program numbers linked depth) (low program numbers linked depth) (vm_cost most_steps linked) (R program numbers linked depth) s m pend v → Shows (up program numbers linked depth) (low program numbers linked depth) s v
+    way_shows s m pend v (last _ _ _ l c) = end_shows s pend v l
     way_shows s m pend v (onward _ _ _ _ sh q c to e w) = sh
 
     pointed : (p q : Point) → (Some p ≡ Some q) ⊎ (Some p ≡ None) → Some p ≡ Some q
@@ -259,12 +266,12 @@ module _ (program : Program) (numbers : Numbers) (linked : Linked) (depth : ℕ)
     gap_is = omega arith
 
     -- Each step of the meaning is made by the virtual machine, within the gap less 16.
-    pub simulates : Simulates (meaning_of program.subroutines) (vm_system linked) (vm_cost linked) (Match program numbers linked depth) (λ s. gap depth most_locals - 16)
+    pub simulates : Simulates (meaning_of program.subroutines) (vm_system linked) (vm_cost most_steps linked) (Match program numbers linked depth) (λ s. gap depth most_locals - 16)
     simulates = record {
       point = λ s v m h. pointed (vm_point linked v.frames) (point_in s) (way_shows s most_words [] v (frames_way s.frames s.statics s.words v.frames v m.frames m.memory h).way).point;
       goes = λ s v m h. (subst (λ n. Goes program numbers linked depth s n v) gap_is (frames_way s.frames s.statics s.words v.frames v m.frames m.memory h)).way;
     }
 
     -- where the meaning strays, the virtual machine does in the end
-    pub strays_too : (s : State) (v : VmState) (key a : ℕ) → Match program numbers linked depth s v → nat_le (stack_words s.frames + 8) 1792 ≡ true → step program.subroutines key s ≡ Stray a → ComesAstray linked v a
-    strays_too s v key a m h e = (frames_way s.frames s.statics s.words v.frames v m.frames m.memory h).strays a (λ key'. meaning.strays program s key key' a e)
+    pub strays_too : (s : State) (v : VmState) (key a : ℕ) → Match program numbers linked depth s v → nat_le (stack_words s.frames + 8) 1792 ≡ true → step program.subroutines key s ≡ Stray a → ComesAstray program.subroutines linked s a (gap depth most_locals - 16) v
+    strays_too s v key a m h e = (subst (λ n. Goes program numbers linked depth s n v) gap_is (frames_way s.frames s.statics s.words v.frames v m.frames m.memory h)).strays a (λ key'. meaning.strays program s key key' a e)

@@ -1,7 +1,8 @@
 -- What the text of a program with resolved names meets, and what is kept of it while it runs.
-use Rattle.std.specs.Prelude.{◌≡◌, ◌⊎◌, ◌<◌, ◌≤◌, ℕ, ◌+◌, ◌*◌, suc, max, Bool, true, false, List}
+use Rattle.std.specs.Prelude.{◌≡◌, ◌⊎◌, ◌<◌, ◌≤◌, ℕ, Bool, true, false, List}
 use Rattle.jack_meaning.specs.Text.{Variable, Argument, Local, Static, Sign, Operator, Expression, Literal, Value, Name, This, Field, Unary, Binary, Load, Call, Open, Expressions, NoMore, More, Statement, Let, LetField, LetThis, Store, Do, If, While, Return, Text, End, Next, Kind, Constructor, Function, Method, Subroutine, Program}
 use Rattle.jack_meaning.specs.Meaning.{subroutine_at, statics_of}
+use Rattle.jack_meaning.specs.Gap.{nest_in}
 use Rattle.jack_compiler.specs.Templates.{Numbers, count}
 
 -- what a text can name: so many arguments and locals, and maybe an object
@@ -82,7 +83,7 @@ module _ (subs : List Subroutine) (numbers : Numbers) (scope : Scope) where
     IsFresh (LetThis n e) = ⊥
     IsFresh (Store n a i e) = IsWhole a × IsWhole i × IsWhole e
     IsFresh (Do n e) = IsWhole e
-    IsFresh (If n c a b) = IsWhole c × IsFreshText a × IsFreshText b
+    IsFresh (If n o c a b) = IsWhole c × IsFreshText a × IsFreshText b
     IsFresh (While n c s) = IsWhole c × IsFreshText s
     IsFresh (Return n e) = IsWhole e
 
@@ -99,17 +100,6 @@ abbrev pub IsClosed : Text → Type 0
 IsClosed End = ⊥
 IsClosed (Next s End) = IsReturn s
 IsClosed (Next s (Next s' rest)) = IsClosed (Next s' rest)
-
--- how deep the choices and loops of a text are nested
-abbrev mutual
-  pub nest : Statement → ℕ
-  nest (If n c a b) = suc (max (nest_in a) (nest_in b))
-  nest (While n c s) = suc (nest_in s)
-  nest _ = 0
-
-  pub nest_in : Text → ℕ
-  nest_in End = 0
-  nest_in (Next s rest) = max (nest s) (nest_in rest)
 
 -- The body of a subroutine: a constructor's first statement takes the memory of its object.
 abbrev pub IsBody : List Subroutine → Numbers → Scope → Kind → Text → Type 0
@@ -140,7 +130,3 @@ pub record IsFit (program : Program) (numbers : Numbers) (depth most_locals : �
   pub init : numbers.keeps program.init ≡ true
   pub init_arguments : (subroutine_at program.subroutines program.init).arguments ≡ 0
   pub statics : (k : ℕ) → numbers.holds k ≡ true → k < statics_of program
-
--- the most words that a step and its start may take in machine code
-abbrev pub gap : ℕ → ℕ → ℕ
-gap depth most_locals = 128 + 4 * most_locals + 4 * depth

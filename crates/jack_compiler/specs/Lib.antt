@@ -4,6 +4,7 @@ pub mod Places
 pub mod Match
 pub mod Astray
 pub mod Laws
+pub mod Runs
 pub mod Rows
 pub mod Lines
 pub mod Files

@@ -8,7 +8,7 @@ use Rattle.vm_tree.specs.declared.command.Command.{Command}
 use Rattle.vm_tree.specs.declared.command.Command.TheVariants as command
 use Rattle.vm_tree.specs.declared.command.Line.{Line}
 use Rattle.jack_meaning.specs.Text.{Variable, Argument, Local, Static, Sign, Minus, Complement, Operator, Plus, Subtract, And, Or, Less, Greater, Equal, Expression, Literal, Value, Name, This, Field, Unary, Binary, Load, Call, Open, Expressions, NoMore, More, Statement, Let, LetField, LetThis, Store, Do, If, While, Return, Text, End, Next, Kind, Constructor, Function, Method, Subroutine}
-use Rattle.jack_compiler.specs.Templates.{count, first_number, is_end}
+use Rattle.jack_compiler.specs.Templates.{count, first_number, no_else}
 
 -- What a subroutine's commands need of the program: the name of each subroutine, and how many statics the classes before its own have. (The
 -- VM numbers the statics of each file from 0.)
@@ -49,7 +49,7 @@ while_end k = codes "WHILE_END" ++ decimal k
 -- how many choices and how many loops a text has
 abbrev mutual
   pub ifs_of : Statement → ℕ
-  ifs_of (If n c a b) = suc (ifs_in a + ifs_in b)
+  ifs_of (If n o c a b) = suc (ifs_in a + ifs_in b)
   ifs_of (While n c s) = ifs_in s
   ifs_of _ = 0
 
@@ -59,7 +59,7 @@ abbrev mutual
 
 abbrev mutual
   pub whiles_of : Statement → ℕ
-  whiles_of (If n c a b) = whiles_in a + whiles_in b
+  whiles_of (If n o c a b) = whiles_in a + whiles_in b
   whiles_of (While n c s) = suc (whiles_in s)
   whiles_of _ = 0
 
@@ -145,7 +145,7 @@ module _ (around : Around) where
 
   -- The commands of a statement and of a text, where `next` is the number of the statement that follows, and so many choices and loops stand
   -- before it in the subroutine. An `if-goto` ends the step that chooses; a `goto` belongs to the statement that it leads to. An `if` without
-  -- statements in its second branch has no `goto` behind the first one.
+  -- an `else` has no `goto` and no third label; with an empty `else` it has both.
   abbrev mutual
     pub statement_lines : ℕ → ℕ → ℕ → Statement → List Line
     statement_lines next i w (Let n x e) = expression_lines n e ++ commit n (pop_variable x) ∷ []
@@ -156,11 +156,11 @@ module _ (around : Around) where
         ++ (expression_lines n j ++ (quiet n (command.Operate operation.Add) ∷ (expression_lines n e ++ store_lines n)))
     statement_lines next i w (Do n e) = expression_lines n e ++ commit n (command.Pop segment.Temp 0) ∷ []
     statement_lines next i w (Return n e) = expression_lines n e ++ commit n command.Return ∷ []
-    statement_lines next i w (If n c a b) =
+    statement_lines next i w (If n o c a b) =
         expression_lines n c
         ++ (into_if n (first_number next b) i
         ++ (text_lines next (suc i) w a
-        ++ (if is_end b then quiet n (command.Label (if_false i)) ∷ []
+        ++ (if no_else o b then quiet n (command.Label (if_false i)) ∷ []
         else into_else n next i ++ (text_lines next (suc i + ifs_in a) (w + whiles_in a) b ++ quiet n (command.Label (if_end i)) ∷ []))))
     statement_lines next i w (While n c s) =
         quiet n (command.Label (while_exp w))

@@ -1,5 +1,5 @@
 -- States of the meaning and of the virtual machine that match, and what linked code has to do with a program.
-use Rattle.std.specs.Prelude.{◌≡◌, ◌≤◌, ◌<◌, ℕ, true, List, [], ◌∷◌, length, slice_get, slice_index, replicate, Some, None}
+use Rattle.std.specs.Prelude.{◌≡◌, ◌≤◌, ◌<◌, ℕ, suc, true, List, [], ◌∷◌, length, slice_get, slice_index, replicate, Some, None}
 use Rattle.vm_link.specs.declared.linked.Code.{Code}
 use Rattle.vm_link.specs.declared.linked.LinkedFunction.{LinkedFunction}
 use Rattle.vm_link.specs.declared.linked.Linked.{Linked}
@@ -61,12 +61,14 @@ module _ (program : Program) (numbers : Numbers) (linked : Linked) (depth : ℕ)
     making : Same (without_object (scope_at f.subroutine)) f vf → IsClosed f.text
         → Making program.subroutines numbers (scope_at f.subroutine) depth (code_for vf) f.text vf.place vf.values → TopMatch f vf
 
-  -- a caller has the variables of the meaning's, and no more values than stand in its text
+  -- A caller has the variables of the meaning's, and no more values than stand in its text, and at most one less: of a base and an index that
+  -- are values there is only the sum.
   pub record Waits (f : Frame) (vf : VmFrame) : Type 0 where
     pub kept : numbers.keeps f.subroutine ≡ true
     pub arguments : length vf.arguments ≡ length f.arguments
     pub locals : length vf.locals ≡ length f.locals
     pub values : length vf.values ≤ standing_first f.text
+    pub stands : standing_first f.text ≤ suc (length vf.values)
 
   -- `start`: before its call, with the value of its call, or at its end; and while the call is made
   pub record AtStart (f : Frame) (vf : VmFrame) (text : Text) (place : ℕ) (values : List ℕ) : Type 0 where

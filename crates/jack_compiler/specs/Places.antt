@@ -6,8 +6,9 @@ use Rattle.vm_tree.specs.declared.command.Segment.TheVariants as segment
 use Rattle.vm_link.specs.declared.linked.Step.TheVariants as command
 use Rattle.vm_link.specs.declared.linked.Code.{Code}
 use Rattle.jack_meaning.specs.Text.{Expression, Value, Unary, Binary, Load, Call, Expressions, NoMore, More, Statement, Let, LetField, LetThis, Store, Do, If, While, Return, Text, End, Next, joined, number_of, Subroutine}
+use Rattle.jack_meaning.specs.Gap.{nest}
 use Rattle.jack_compiler.specs.Templates.{Numbers, quiet, commit, pop_variable, store_code, expression_code, statement_code, first_number}
-use Rattle.jack_compiler.specs.Fits.{Scope, IsWhole, IsField, IsThere, Ordered, IsFresh, nest}
+use Rattle.jack_compiler.specs.Fits.{Scope, IsWhole, IsField, IsThere, Ordered, IsFresh}
 
 -- the values that stand in an expression, the last one first, on the values below
 abbrev mutual
@@ -88,7 +89,7 @@ module _ (subs : List Subroutine) (numbers : Numbers) (scope : Scope) (depth : �
   Begun (LetThis n e) rest p values = ⊥
   Begun (Store n a i e) rest p values = Storing n rest p values a i e
   Begun (Do n e) rest p values = Last scope n e (commit n (command.Pop segment.Temp 0)) rest p values
-  Begun (If n c a b) rest p values = Choosing n c a b rest p values
+  Begun (If n o c a b) rest p values = Choosing n c a b rest p values
   Begun (While n c s) rest p values = ⊥
   Begun (Return n e) rest p values = Part scope n e (commit n command.Return ∷ []) [] p values
 

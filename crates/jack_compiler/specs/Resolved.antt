@@ -1,18 +1,14 @@
--- What a program with resolved names meets, and what a linked part of it keeps.
-use Rattle.std.specs.Prelude.{◌≡◌, ◌<◌, ◌≤◌, ℕ, suc, ◌+◌, ◌^◌, ◌&&◌, Bool, nat_lt, nat_le, max, List, [], ◌∷◌, length, get_or, drop}
-use Rattle.std.specs.Str.{is_utf8}
-use Rattle.vm_link.specs.declared.linked.LinkedFunction.{LinkedFunction}
-use Rattle.vm_link.specs.declared.linked.Linked.{Linked}
+-- What a program with resolved names meets.
+use Rattle.std.specs.Prelude.{◌≡◌, ◌<◌, ◌≤◌, ℕ, suc, ◌+◌, ◌^◌, ◌&&◌, Bool, nat_lt, nat_le, List, [], ◌∷◌, length, get_or, drop}
 use Rattle.vm_link.specs.Faults.{sys_init}
 use Rattle.jack_meaning.specs.Text.{Subroutine, Class, Program}
 use Rattle.jack_meaning.specs.Meaning.{subroutine_at}
 use Rattle.jack_core.specs.declared.program.Core.{Core}
-use Rattle.jack_core.specs.Texts.{the_program}
+use Rattle.jack_core.specs.Texts.{the_program, names_of}
 use Rattle.jack_compiler.specs.Templates.{Numbers}
-use Rattle.jack_compiler.specs.Fits.{scope_of, IsBody, IsClosed, TakesObject, nest_in}
+use Rattle.jack_compiler.specs.Fits.{scope_of, IsBody, IsClosed, TakesObject}
 use Rattle.jack_compiler.specs.Lines.{ifs_in, whiles_in}
-use Rattle.jack_compiler.specs.Files.{statics_before, names_in}
-use Rattle.std.specs.Prelude.{true}
+use Rattle.jack_compiler.specs.Files.{statics_before}
 
 -- the class of a static: this one has it
 abbrev pub is_own : List Class → ℕ → ℕ → Bool
@@ -51,7 +47,6 @@ pub record IsResolved (program : Program) (names : List (List ℕ)) : Type 0 whe
   pub order : AreInOrder 0 (drop 1 program.subroutines)
   pub statics : (k : ℕ) → statics_before program.classes (suc k) ≤ statics_before program.classes k + 65535
   pub named : length names ≡ length program.subroutines
-  pub texts : (g : ℕ) → g < length names → is_utf8 (get_or names g []) ≡ true
   pub apart : (g h : ℕ) → g < length names → h < length names → get_or names g [] ≡ get_or names h [] → g ≡ h
   pub init : 0 < program.init
   pub init_there : program.init < length program.subroutines
@@ -59,16 +54,4 @@ pub record IsResolved (program : Program) (names : List (List ℕ)) : Type 0 whe
   pub init_arguments : (subroutine_at program.subroutines program.init).arguments ≡ 0
 
 abbrev pub IsResolvedCore : Core → Type 0
-IsResolvedCore core = IsResolved (the_program core) (names_in core)
-
--- the greatest count of what is linked
-abbrev pub greatest : (ℕ → ℕ) → List LinkedFunction → ℕ
-greatest count [] = 0
-greatest count (f ∷ fs) = max (count f.number) (greatest count fs)
-
--- the deepest nesting, and the most locals
-abbrev pub depth_in : Program → Linked → ℕ
-depth_in program linked = greatest (λ g. nest_in (subroutine_at program.subroutines g).body) linked.functions
-
-abbrev pub most_locals_in : Program → Linked → ℕ
-most_locals_in program linked = greatest (λ g. (subroutine_at program.subroutines g).locals) linked.functions
+IsResolvedCore core = IsResolved (the_program core) (names_of core)

@@ -24,7 +24,7 @@ a_method = record {
   arguments = 2;
   locals = 1;
   body = text_of (
-      If 1 (Name (Argument 1)) (text_of (Let 2 (Local 0) (Unary Minus (Literal 1)) ∷ [])) (text_of (LetField 3 2 (Literal 65535) ∷ []))
+      If 1 true (Name (Argument 1)) (text_of (Let 2 (Local 0) (Unary Minus (Literal 1)) ∷ [])) (text_of (LetField 3 2 (Literal 65535) ∷ []))
       ∷ While 4 (Name (Local 0)) (text_of (Store 5 (Name (Static 0)) (Name (Local 0)) This ∷ []))
       ∷ Return 6 (Name (Local 0))
       ∷ []
@@ -39,10 +39,20 @@ a_function = record {
   arguments = 0;
   locals = 1;
   body = text_of (
-      If 1 (Load (Name (Local 0)) (Literal 1)) (text_of (Do 2 (Call 4 (More (Literal 2) (More (Unary Complement (Literal 3)) NoMore))) ∷ [])) (text_of [])
+      If 1 false (Load (Name (Local 0)) (Literal 1)) (text_of (Do 2 (Call 4 (More (Literal 2) (More (Unary Complement (Literal 3)) NoMore))) ∷ [])) (text_of [])
       ∷ Return 3 (Literal 0)
       ∷ []
       );
+}
+
+-- function void h(int x) { if (x) { let x = 1; } else { } return; }
+abbrev pub an_empty_else : Subroutine
+an_empty_else = record {
+  kind = Function;
+  class = 0;
+  arguments = 1;
+  locals = 0;
+  body = text_of (If 1 true (Name (Argument 0)) (text_of (Let 2 (Argument 0) (Literal 1) ∷ [])) (text_of []) ∷ Return 3 (Literal 0) ∷ []);
 }
 
 -- constructor Main new(int x) { let f = x; return this; }
@@ -116,6 +126,18 @@ pub record RowsLaw : Type 0 where
       ∷ commit 2 (command.Operate operation.Not)
       ∷ commit 2 (command.Call 9 2)
       ∷ commit 2 (command.Pop segment.Temp 0)
+      ∷ commit 3 (command.Push segment.Constant 0)
+      ∷ commit 3 command.Return
+      ∷ []
+  -- behind the first branch stands a `goto` to the end, which is where the empty second one begins
+  pub empty_else : subroutine_code some_numbers an_empty_else ≡
+      quiet 1 (command.Function 0)
+      ∷ commit 1 (command.Push segment.Argument 0)
+      ∷ commit 1 (command.IfGoto 4)
+      ∷ quiet 3 (command.Goto 7)
+      ∷ commit 2 (command.Push segment.Constant 1)
+      ∷ commit 2 (command.Pop segment.Argument 0)
+      ∷ quiet 3 (command.Goto 7)
       ∷ commit 3 (command.Push segment.Constant 0)
       ∷ commit 3 command.Return
       ∷ []

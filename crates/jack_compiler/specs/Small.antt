@@ -3,7 +3,7 @@ use Rattle.std.specs.Prelude.{◌≡◌, ℕ, List, [], ◌∷◌, codes}
 use Rattle.vm_tree.specs.Printed.{lines_text}
 use Rattle.jack_meaning.specs.Rows.{stores_one}
 use Rattle.jack_compiler.specs.Lines.{Around, subroutine_lines}
-use Rattle.jack_compiler.specs.Rows.{a_method, a_function, a_constructor}
+use Rattle.jack_compiler.specs.Rows.{a_method, a_function, an_empty_else, a_constructor}
 use Rattle.jack_compiler.specs.Resolved.{IsResolved}
 
 -- each subroutine is `Main.g`, and the class is the first one
@@ -20,6 +20,9 @@ pub record SmallLaw : Type 0 where
   -- function void f() { var Array a; if (a[1]) { do Main.g(2, ~3); } return; }
   pub function : lines_text (subroutine_lines somewhere a_function) ≡
       codes "push local 0\npush constant 1\nadd\npop pointer 1\npush that 0\nif-goto IF_TRUE0\ngoto IF_FALSE0\nlabel IF_TRUE0\npush constant 2\npush constant 3\nnot\ncall Main.g 2\npop temp 0\nlabel IF_FALSE0\npush constant 0\nreturn\n"
+  -- function void h(int x) { if (x) { let x = 1; } else { } return; }
+  pub empty_else : lines_text (subroutine_lines somewhere an_empty_else) ≡
+      codes "push argument 0\nif-goto IF_TRUE0\ngoto IF_FALSE0\nlabel IF_TRUE0\npush constant 1\npop argument 0\ngoto IF_END0\nlabel IF_FALSE0\nlabel IF_END0\npush constant 0\nreturn\n"
   -- constructor Main new(int x) { let f = x; return this; }
   pub constructor : lines_text (subroutine_lines somewhere a_constructor) ≡
       codes "push constant 1\ncall Main.g 1\npop pointer 0\npush argument 0\npop this 0\npush pointer 0\nreturn\n"

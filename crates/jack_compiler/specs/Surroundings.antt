@@ -5,4 +5,4 @@ use Rattle.jack_compiler.specs.Files.{name_at}
 use Rattle.jack_compiler.specs.declared.expressions.Around.{Around as TheAround}
 
 abbrev pub the_around : TheAround → Around
-the_around around = record { name = name_at (map (λ name. name.items) around.names.now); before = around.before }
+the_around around = record { name = name_at (map (λ sub. sub.name) around.subroutines.now); before = around.before }

@@ -4,7 +4,7 @@
 -- In the VM language the same templates have labels: `label WHILE_EXP` stands where a loop begins, `label WHILE_END` behind it;
 -- `label IF_TRUE`, `label IF_FALSE`, `label IF_END` where the first branch begins, where the second one begins, and where it ends. A label is no step, so
 -- the place of a label is the number of commands before it: just the places that stand here.
-use Rattle.std.specs.Prelude.{ℕ, ◌+◌, Bool, true, false, nat_eq, if◌then◌else◌, List, [], ◌∷◌, ◌++◌, length}
+use Rattle.std.specs.Prelude.{ℕ, ◌+◌, Bool, true, false, not, nat_eq, if◌then◌else◌, List, [], ◌∷◌, ◌++◌, length}
 use Rattle.vm_tree.specs.declared.command.Operation.TheVariants as operation
 use Rattle.vm_tree.specs.declared.command.Segment.TheVariants as segment
 use Rattle.vm_link.specs.declared.linked.Step.{Step}
@@ -94,13 +94,14 @@ abbrev pub first_number : ℕ → Text → ℕ
 first_number next End = next
 first_number next (Next s rest) = number_of s
 
-abbrev pub is_end : Text → Bool
-is_end End = true
-is_end (Next s rest) = false
+-- whether an `if` has no second branch, not even an empty one
+abbrev pub no_else : Bool → Text → Bool
+no_else o End = not o
+no_else o (Next s rest) = false
 
 -- The commands of a statement and of a text that begin at a place, where `next` is the number of the statement that follows. An `if-goto`
--- ends the step that chooses; a `goto` belongs to the statement that it leads to. An `if` without statements in its second branch has no
--- `goto` behind the first one.
+-- ends the step that chooses; a `goto` belongs to the statement that it leads to. An `if` without an `else` has no `goto` behind its
+-- statements; with an empty one it has.
 abbrev mutual
   pub statement_code : Numbers → ℕ → ℕ → Statement → List Code
   statement_code numbers next p (Let n x e) = expression_code numbers n e ++ commit n (pop_variable numbers x) ∷ []
@@ -111,15 +112,15 @@ abbrev mutual
       ++ (expression_code numbers n i ++ (quiet n (command.Operate operation.Add) ∷ (expression_code numbers n e ++ store_code n)))
   statement_code numbers next p (Do n e) = expression_code numbers n e ++ commit n (command.Pop segment.Temp 0) ∷ []
   statement_code numbers next p (Return n e) = expression_code numbers n e ++ commit n command.Return ∷ []
-  statement_code numbers next p (If n c a b) =
+  statement_code numbers next p (If n o c a b) =
       let q = p + length (expression_code numbers n c) in
       let first = text_code numbers next (q + 2) a in
       let other = q + 2 + length first in
       let second = text_code numbers next (other + 1) b in
       expression_code numbers n c
       ++ (commit n (command.IfGoto (q + 2))
-      ∷ quiet (first_number next b) (command.Goto (if is_end b then other else other + 1))
-      ∷ (first ++ (if is_end b then [] else quiet next (command.Goto (other + 1 + length second)) ∷ second)))
+      ∷ quiet (first_number next b) (command.Goto (if no_else o b then other else other + 1))
+      ∷ (first ++ (if no_else o b then [] else quiet next (command.Goto (other + 1 + length second)) ∷ second)))
   statement_code numbers next p (While n c s) =
       let q = p + length (expression_code numbers n c) in
       let turn = text_code numbers n (q + 2) s in

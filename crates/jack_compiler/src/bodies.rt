@@ -2,9 +2,9 @@
 ghost use Rattle.std.specs.Prelude.{◌≡◌, ◌+◌, ◌++◌, ◌∷◌, [], OnOk, IfOk, ℕ, decimal, suc};
 ghost use Rattle.jack_core.specs.Reading.{the_expression};
 ghost use Rattle.jack_core.specs.Texts.{the_statement, the_block};
-ghost use Rattle.jack_meaning.specs.Text.{Store, If, While, number_of};
+ghost use Rattle.jack_meaning.specs.Text.{Store, If, While};
 ghost use Rattle.vm_tree.specs.declared.command.Command.TheVariants as command;
-ghost use Rattle.jack_compiler.specs.Templates.{first_number, is_end};
+ghost use Rattle.jack_compiler.specs.Templates.{first_number, no_else};
 ghost use Rattle.jack_compiler.specs.Lines.{into_if, into_else, into_while, out_of_while, store_lines, expression_lines, statement_lines, text_lines, ifs_of, ifs_in, whiles_of, whiles_in, short};
 ghost use Rattle.jack_compiler.specs.Lines.{quiet as quiet_line, commit as commit_line};
 ghost use Rattle.jack_compiler.specs.Surroundings.{the_around};
@@ -13,8 +13,9 @@ ghost use Rattle.jack_compiler.specs.Added.{last_command, Adds, AddsText};
 use crate::expressions::{Around, add_expression, pop_variable};
 use crate::lines::{add_goto, add_if_goto, add_label, commit, quiet};
 use jack_core::{Expression, Statement};
+use outer_world::List;
 use std::alloc::{AllocError, Global};
-use vm_tree::{Command, Line, List, Operation, Segment};
+use vm_tree::{Command, Line, Operation, Segment};
 
 /// The commands of a subroutine so far, and how many choices and loops stand there.
 #[derive(Drop)]
@@ -31,37 +32,31 @@ fn one_more(count: u32) -> Result<u32, AllocError>
     count.checked_add(1).ok_or(AllocError)
 }
 
-fn number_of(s: &Statement) -> u32
-    ensures { result ≡ number_of (the_statement s.now) }
-{
-    match s {
-        Statement::Let { number, .. }
-        | Statement::LetField { number, .. }
-        | Statement::LetThis { number, .. }
-        | Statement::Store { number, .. }
-        | Statement::Do { number, .. }
-        | Statement::If { number, .. }
-        | Statement::While { number, .. }
-        | Statement::Return { number, .. } => *number,
-    }
-}
-
 /// The number of the first statement, or of what follows where there is none.
 pub(crate) fn first_number(next: u32, ss: &[Statement]) -> u32
     ensures { result ≡ first_number next (the_block ss.now) }
 {
     match ss.first() {
-        Some(s) => number_of(s),
+        Some(s) => s.number(),
         None => next,
     }
 }
 
-fn is_end(ss: &[Statement]) -> bool
-    ensures { result ≡ is_end (the_block ss.now) }
+// The branches of an `if`: the first one, whether the text has an `else`, and the statements of that.
+#[derive(Clone, Copy)]
+struct Branches<'a> {
+    holds: &'a [Statement],
+    has_else: bool,
+    fails: &'a [Statement],
+}
+
+// Whether there is no second branch, not even an empty one.
+fn no_else(branches: &Branches<'_>) -> bool
+    ensures { result ≡ no_else branches.now.has_else (the_block branches.now.fails.now) }
 {
-    match ss.first() {
+    match branches.fails.first() {
         Some(_) => false,
-        None => true,
+        None => !branches.has_else,
     }
 }
 
@@ -182,10 +177,9 @@ fn add_if(
     next: u32,
     n: u32,
     condition: &Expression,
-    holds: &[Statement],
-    fails: &[Statement],
+    branches: &Branches<'_>,
 ) -> Result<(), AllocError>
-    ensures { OnOk result (Adds (the_around around.now) next (If n (the_expression condition.now) (the_block holds.now) (the_block fails.now)) body.old body.new) }
+    ensures { OnOk result (Adds (the_around around.now) next (If n branches.now.has_else (the_expression condition.now) (the_block branches.now.holds.now) (the_block branches.now.fails.now)) body.old body.new) }
 {
     let k = body.ifs;
     body.ifs = one_more(k)?;
@@ -194,15 +188,15 @@ fn add_if(
         around.alloc,
         &mut body.lines,
         n,
-        first_number(next, fails),
+        first_number(next, branches.fails),
         k,
     )?;
-    add_statements(body, around, next, holds)?;
-    if is_end(fails) {
+    add_statements(body, around, next, branches.holds)?;
+    if no_else(branches) {
         return add_label(around.alloc, &mut body.lines, n, "IF_FALSE", k);
     }
     enter_else(around.alloc, &mut body.lines, n, next, k)?;
-    add_statements(body, around, next, fails)?;
+    add_statements(body, around, next, branches.fails)?;
     add_label(around.alloc, &mut body.lines, n, "IF_END", k)
 }
 
@@ -256,10 +250,18 @@ fn add_statement(
         } => add_element(&mut body.lines, around, *number, base, index, value),
         Statement::If {
             number,
+            has_else,
             condition,
             holds,
             fails,
-        } => add_if(body, around, next, *number, condition, holds, fails),
+        } => {
+            let branches = Branches {
+                holds,
+                has_else: *has_else,
+                fails,
+            };
+            add_if(body, around, next, *number, condition, &branches)
+        }
         Statement::While {
             number,
             condition,

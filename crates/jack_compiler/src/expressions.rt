@@ -7,18 +7,18 @@ ghost use Rattle.jack_compiler.specs.Postfix.{part_lines};
 ghost use Rattle.jack_compiler.specs.Files.{name_at};
 ghost use Rattle.jack_compiler.specs.Surroundings.{the_around};
 
-use crate::lines::{commit, name_of, quiet, short};
-use jack_core::{Expression, Operator, Part, Sign, Variable};
-use outer_world::Name;
+use crate::lines::{commit, quiet, short};
+use jack_core::{Expression, Operator, Part, Sign, Subroutine, Variable};
+use outer_world::{List, Name};
 use std::alloc::{AllocError, Global};
-use vm_tree::{Command, Line, List, Operation, Segment};
+use vm_tree::{Command, Line, Operation, Segment};
 
-/// What commands need of the program round their subroutine: the names of all subroutines, and how many statics the
-/// classes before its own have.
+/// What commands need of the program round their subroutine: all subroutines, which are called by their names, and how
+/// many statics the classes before its own have.
 #[derive(Clone, Copy)]
 pub struct Around<'a> {
     pub alloc: Global,
-    pub names: &'a [Vec<u8>],
+    pub subroutines: &'a [Subroutine],
     pub before: u32,
 }
 
@@ -26,8 +26,8 @@ pub struct Around<'a> {
 pub(crate) fn name_at(around: &Around<'_>, number: usize) -> Result<Name, AllocError>
     ensures { IfOk result (λ name. name ≡ (the_around around.now).name number) }
 {
-    match around.names.get(number) {
-        Some(name) => name_of(around.alloc, name.as_slice()),
+    match around.subroutines.get(number) {
+        Some(sub) => sub.name.clone(),
         None => Name::new(around.alloc, ""),
     }
 }

@@ -4,13 +4,14 @@
 //! `compile` makes the program; what it is stands in `specs/`: `Lines` (the templates, with names) and `Files`. The other
 //! definitions are `Postfix` (the lines of each part of an expression), `Templates` (the code that linking makes of the templates),
 //! `Fits` (what a program with resolved names meets as far as it is linked), `Resolved` (what the checks of names see to), `Places` and
-//! `Match` (which states of the meaning and of the virtual machine match), `Astray`, `Linked`, `Laws`, `Rows` and `Small`. The
+//! `Match` (which states of the meaning and of the virtual machine match), `Astray`, `Runs`, `Linked`, `Laws`, `Rows` and `Small`. The
 //! functions that are laws do nothing; their contracts say what holds of the definitions.
 #![tactic(auto)]
 
 ghost use Rattle.jack_compiler.specs.Laws.{SimulationLaw};
 ghost use Rattle.jack_compiler.specs.Linked.{CompiledLaw};
 ghost use Rattle.jack_compiler.specs.Rows.{RowsLaw};
+ghost use Rattle.jack_compiler.specs.Runs.{VmRunLaw};
 ghost use Rattle.jack_compiler.specs.Small.{SmallLaw};
 
 mod bodies;
@@ -23,13 +24,21 @@ pub use linking::link_core;
 pub use program::compile;
 
 /// Each step of a program's meaning is made by commands of the virtual machine that runs its code, the last of which
-/// alone is a commit, within the gap less 16; matching states have one point, and no more words on the stack.
+/// alone is a commit, within the gap less 16. Where the meaning strays, the machine does in the same way, at the same address.
+/// Matching states have one point; the machine has no more words on the stack than the meaning, and about as many.
 pub fn simulation_law()
     ensures { SimulationLaw }
 {}
 
-/// Where a program's names are resolved, what linking answers for its compiled files is the code of the program, and the
-/// program fits. The only fault of linking is that there are too many static words.
+/// After any number of moves of the virtual machine over a program's code, heap and screen and the point are those of the
+/// meaning after as many steps as there were commits. The machine goes on where the meaning does, and ends or strays only
+/// where the meaning does.
+pub fn vm_run_law()
+    ensures { VmRunLaw }
+{}
+
+/// Where a program's names are resolved, what linking answers for its compiled files is the code of just the subroutines that
+/// the program can come to, and the program fits. The only fault of linking is that there are too many static words.
 pub fn compiled_law()
     ensures { CompiledLaw }
 {}

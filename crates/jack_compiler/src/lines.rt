@@ -3,12 +3,10 @@ ghost use Rattle.std.specs.Prelude.{◌≡◌, ◌++◌, ◌∷◌, [], OnOk, If
 ghost use Rattle.vm_tree.specs.declared.command.Command.TheVariants as command;
 ghost use Rattle.jack_compiler.specs.Lines.{short};
 ghost use Rattle.jack_compiler.specs.Lines.{quiet as quiet_line, commit as commit_line};
-ghost use Rattle.jack_compiler.specs.Files.{name_of, name_at};
 
-use outer_world::Name;
+use outer_world::{List, Name};
 use std::alloc::{AllocError, Global};
-use std::str::from_utf8;
-use vm_tree::{Command, Line, List};
+use vm_tree::{Command, Line};
 
 // A line at the end.
 fn add(
@@ -104,14 +102,4 @@ pub(crate) fn short(number: u32) -> u16
     ensures { result ≡ short number }
 {
     number.min(65_535) as u16
-}
-
-/// Bytes as a name: those that are no text make an empty one.
-pub(crate) fn name_of(alloc: Global, bytes: &[u8]) -> Result<Name, AllocError>
-    ensures { IfOk result (λ name. name ≡ name_of bytes.now) }
-{
-    match from_utf8(bytes) {
-        Ok(text) => Name::new(alloc, text),
-        Err(_) => Name::new(alloc, ""),
-    }
 }

@@ -1,19 +1,19 @@
 //! The VM program of a program with resolved names.
 ghost use Rattle.std.specs.Prelude.{◌≡◌, ◌+◌, ◌++◌, ◌∷◌, ◌<◌, ℕ, [], OnOk, IfOk, map, length, slice_index, slice_get, drop, get_or};
-ghost use Rattle.jack_core.specs.Texts.{the_class, the_kind, the_subroutine, the_subroutines, the_program};
+ghost use Rattle.jack_core.specs.Texts.{the_class, the_kind, the_subroutine, names_of, class_names_of};
 ghost use Rattle.jack_compiler.specs.Lines.{object_lines};
-ghost use Rattle.jack_compiler.specs.Files.{class_part, file_name, files_of, names_in, statics_before};
-ghost use Rattle.jack_compiler.specs.Added.{AddsFunction, AreFunctions};
+ghost use Rattle.jack_compiler.specs.Files.{files_of, statics_before};
+ghost use Rattle.jack_compiler.specs.Added.{AddsFunction, AreFiles};
 ghost use Rattle.jack_compiler.specs.Files.{file_of as file_made, function_of as function_made};
 ghost use Rattle.jack_compiler.specs.Surroundings.{the_around};
 
 use crate::bodies::{Body, add_statements, first_number};
 use crate::expressions::{Around, name_at};
-use crate::lines::{name_of, quiet, short};
+use crate::lines::{quiet, short};
 use jack_core::{Class, Core, Kind, Subroutine};
-use outer_world::Name;
+use outer_world::List;
 use std::alloc::{AllocError, Global};
-use vm_tree::{Command, File, Function, Line, List, Program, Segment};
+use vm_tree::{Command, File, Function, Line, Program, Segment};
 
 // A method's object is its first argument.
 fn add_object(lines: &mut List<Line>, kind: Kind, n: u32) -> Result<(), AllocError>
@@ -65,30 +65,34 @@ fn statics_before(alloc: Global, classes: &[Class]) -> Result<Vec<u32>, AllocErr
     Ok(before)
 }
 
-// As many lists without functions.
-fn no_functions(alloc: Global, classes: usize) -> Result<Vec<List<Function>>, AllocError>
-    ensures { IfOk result (λ v. (length v.items ≡ classes) × ((k : ℕ) → k < classes → get_or v.items k [] ≡ [])) }
+// A file for each class, without functions.
+fn files(alloc: Global, classes: &[Class]) -> Result<Vec<File>, AllocError>
+    ensures { IfOk result (λ v. v.items ≡ map (λ class. file_made class.name []) classes.now) }
 {
-    let mut functions = Vec::new(alloc);
-    for _ in 0..classes {
-        functions.push(List::new(alloc))?;
+    let mut files = Vec::new(alloc);
+    for class in classes {
+        files.push(File {
+            name: class.name.clone()?,
+            opening: List::new(alloc),
+            functions: List::new(alloc),
+        })?;
     }
-    Ok(functions)
+    Ok(files)
 }
 
-// The function of a subroutine comes to those of its class, where that is there.
+// The function of a subroutine comes to the file of its class, where that is there.
 fn add_function(
-    functions: &mut Vec<List<Function>>,
+    files: &mut Vec<File>,
     around: &Around<'_>,
     number: usize,
     sub: &Subroutine,
 ) -> Result<(), AllocError>
-    ensures { OnOk result (AddsFunction (the_around around.now) number (the_subroutine sub.now) functions.old.items functions.new.items) }
+    ensures { OnOk result (AddsFunction (the_around around.now) number (the_subroutine sub.now) files.old.items files.new.items) }
 {
     let class = sub.class as usize;
-    if class < functions.len() {
+    if class < files.len() {
         let function = function_of(around, number, sub)?;
-        functions[class].push(function)?;
+        files[class].functions.push(function)?;
     }
     Ok(())
 }
@@ -103,65 +107,23 @@ fn before_of(sub: &Subroutine, before: &[u32]) -> u32
     }
 }
 
-// The functions of each class, in order of their numbers. (Subroutine 0 has none.)
-fn functions(
+// The files with the functions of each class, in order of their numbers. (Subroutine 0 has none.)
+fn with_functions(
     alloc: Global,
     core: &Core,
     others: &[Subroutine],
-) -> Result<Vec<List<Function>>, AllocError>
-    ensures { IfOk result (λ v. AreFunctions (map the_class core.now.classes.items) (names_in core.now) (map the_subroutine others.now) v.items) }
+) -> Result<Vec<File>, AllocError>
+    ensures { IfOk result (λ v. AreFiles (map the_class core.now.classes.items) (names_of core.now) (class_names_of core.now) (map the_subroutine others.now) v.items) }
 {
     let before = statics_before(alloc, &core.classes)?;
-    let mut functions = no_functions(alloc, core.classes.len())?;
+    let mut files = files(alloc, &core.classes)?;
     for (index, sub) in others.iter().enumerate() {
         let around = Around {
             alloc,
-            names: &core.names,
+            subroutines: &core.subroutines,
             before: before_of(sub, &before),
         };
-        add_function(&mut functions, &around, index + 1, sub)?;
-    }
-    Ok(functions)
-}
-
-// What stands before the dot of a name.
-fn class_part(name: &[u8]) -> &[u8]
-    ensures { result.now ≡ class_part name.now }
-{
-    for (end, b) in name.iter().enumerate() {
-        if *b == b'.' {
-            return &name[..end];
-        }
-    }
-    name
-}
-
-// What stands before the dot of the first function's name.
-fn file_name(alloc: Global, functions: &[Function]) -> Result<Name, AllocError>
-    ensures { IfOk result (λ name. name ≡ file_name functions.now) }
-{
-    match functions.first() {
-        Some(function) => name_of(alloc, class_part(function.name.as_bytes())),
-        None => Name::new(alloc, ""),
-    }
-}
-
-fn file_of(alloc: Global, functions: List<Function>) -> Result<File, AllocError>
-    ensures { IfOk result (λ file. file ≡ file_made functions) }
-{
-    Ok(File {
-        name: file_name(alloc, functions.as_slice())?,
-        opening: List::new(alloc),
-        functions,
-    })
-}
-
-fn files_of(alloc: Global, functions: Vec<List<Function>>) -> Result<Vec<File>, AllocError>
-    ensures { IfOk result (λ files. files.items ≡ map file_made functions.items) }
-{
-    let mut files = Vec::new(alloc);
-    for functions in functions {
-        files.push(file_of(alloc, functions)?)?;
+        add_function(&mut files, &around, index + 1, sub)?;
     }
     Ok(files)
 }
@@ -176,11 +138,11 @@ fn others(core: &Core) -> &[Subroutine]
     }
 }
 
-/// The VM program of a program with resolved names: a file for each class, with the commands of the book's chapters 7 to
+/// The VM program of a program with resolved names: a file for each class, which has its name, with the commands of the book's chapters 7 to
 /// 11 for its subroutines. Each command has the number of its statement, and whether it ends a step of the meaning.
 pub fn compile(alloc: Global, core: &Core) -> Result<Program, AllocError>
     ensures { IfOk result (λ program. program ≡ files_of core.now) }
 {
-    let functions = functions(alloc, core, others(core))?;
-    Ok(List::of(files_of(alloc, functions)?))
+    let files = with_functions(alloc, core, others(core))?;
+    Ok(List::of(files))
 }

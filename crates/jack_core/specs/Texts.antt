@@ -1,5 +1,5 @@
 -- What the statements and programs of the code stand for.
-use Rattle.std.specs.Prelude.{List, map}
+use Rattle.std.specs.Prelude.{ℕ, List, map}
 use Rattle.jack_meaning.specs.Text.{Let, LetField, LetThis, Store, Do, If, While, Return, Text, End, Next, text_of, Constructor, Function, Method}
 use Rattle.jack_meaning.specs.Text.{Statement as AStatement, Kind as AKind, Subroutine as ASubroutine, Class as AClass, Program}
 use Rattle.jack_core.specs.Reading.{the_variable, the_expression}
@@ -16,7 +16,7 @@ abbrev mutual
   the_statement (Statement.LetThis n e) = LetThis n (the_expression e)
   the_statement (Statement.Store n a i e) = Store n (the_expression a) (the_expression i) (the_expression e)
   the_statement (Statement.Do n e) = Do n (the_expression e)
-  the_statement (If' n c p a q b) = If n (the_expression c) (the_row a) (the_row b)
+  the_statement (If' n o c p a q b) = If n o (the_expression c) (the_row a) (the_row b)
   the_statement (While' n c p s) = While n (the_expression c) (the_row s)
   the_statement (Statement.Return n e) = Return n (the_expression e)
 
@@ -45,3 +45,10 @@ the_subroutines core = map the_subroutine core.subroutines.items
 
 abbrev pub the_program : Core → Program
 the_program core = record { classes = map the_class core.classes.items; subroutines = the_subroutines core; init = core.init }
+
+-- the names of the subroutines in the order of their numbers, as `Main.main`, and those of the classes
+abbrev pub names_of : Core → List (List ℕ)
+names_of core = map (λ s. s.name) core.subroutines.items
+
+abbrev pub class_names_of : Core → List (List ℕ)
+class_names_of core = map (λ c. c.name) core.classes.items

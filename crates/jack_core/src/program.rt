@@ -1,6 +1,11 @@
 //! Statements, subroutines and whole programs.
 
+ghost use Rattle.std.specs.Prelude.{◌≡◌};
+ghost use Rattle.jack_meaning.specs.Text.{number_of};
+ghost use Rattle.jack_core.specs.Texts.{the_statement};
+
 use crate::tree::{Expression, Variable};
+use outer_world::Name;
 
 /// A statement with its number in its subroutine: statements are numbered from 1 in the order of the text, nested
 /// ones included. A constructor's statement 0 is the one that takes its memory.
@@ -33,8 +38,10 @@ pub enum Statement {
         number: u32,
         call: Expression,
     },
+    /// Whether the text has an `else`: without one, `fails` is empty.
     If {
         number: u32,
+        has_else: bool,
         condition: Expression,
         holds: Vec<Statement>,
         fails: Vec<Statement>,
@@ -50,6 +57,24 @@ pub enum Statement {
     },
 }
 
+impl Statement {
+    /// Its number.
+    pub fn number(&self) -> u32
+        ensures { result ≡ number_of (the_statement self.now) }
+    {
+        match self {
+            Statement::Let { number, .. }
+            | Statement::LetField { number, .. }
+            | Statement::LetThis { number, .. }
+            | Statement::Store { number, .. }
+            | Statement::Do { number, .. }
+            | Statement::If { number, .. }
+            | Statement::While { number, .. }
+            | Statement::Return { number, .. } => *number,
+        }
+    }
+}
+
 #[derive(Clone, Copy, PartialEq, Eq, Debug)]
 pub enum Kind {
     Constructor,
@@ -57,10 +82,11 @@ pub enum Kind {
     Method,
 }
 
-/// A subroutine: its kind, the number of its class, how many arguments it takes (a method's object is one) and how
-/// many locals it has, and its statements, the last of which is a `Return`.
+/// A subroutine: its whole name as it is printed (`Main.main`), its kind, the number of its class, how many arguments it
+/// takes (a method's object is one) and how many locals it has, and its statements, the last of which is a `Return`.
 #[derive(Drop)]
 pub struct Subroutine {
+    pub name: Name,
     pub kind: Kind,
     pub class: u32,
     pub arguments: u32,
@@ -68,19 +94,18 @@ pub struct Subroutine {
     pub body: Vec<Statement>,
 }
 
-/// How many fields and how many statics a class has.
-#[derive(Clone, Copy, PartialEq, Eq, Debug)]
+/// A class, with subroutines or without: its name, and how many fields and how many statics it has.
+#[derive(Drop)]
 pub struct Class {
+    pub name: Name,
     pub fields: u32,
     pub statics: u32,
 }
 
 /// A program: its classes, its subroutines and the number of `Sys.init`. Number 0 is `start`, which no call names.
-/// The names are those of the subroutines in their order, as `Main.main`.
 #[derive(Drop)]
 pub struct Core {
     pub classes: Vec<Class>,
     pub subroutines: Vec<Subroutine>,
     pub init: u32,
-    pub names: Vec<Vec<u8>>,
 }

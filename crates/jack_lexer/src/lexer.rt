@@ -100,7 +100,8 @@ fn word_kind(text: &[u8]) -> Kind
 }
 
 fn symbol<'a>(scan: &mut Scan<'a>, byte: u8) -> Result<Token<'a>, Fault>
-    requires { first (left scan.old) ≡ Some byte }
+    requires begun { first (left scan.old) ≡ Some byte }
+    requires sign { is_sign byte ≡ true }
     ensures { TokenBy view (symbol_piece byte (left scan.old)) scan.old result scan.new }
 {
     let place = scan.place();

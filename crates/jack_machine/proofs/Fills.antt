@@ -1,5 +1,5 @@
 -- A value in place of the open call: parts of the program have none, so it comes in among their operands.
-use Rattle.std.proofs.Common.{◌≡◌, ℕ, zero, suc, List, [], ◌∷◌, map, take, drop, reverse, refl, sym, ap, ◌∙◌}
+use Rattle.std.proofs.Common.{◌≡◌, ℕ, false, zero, suc, List, [], ◌∷◌, map, take, drop, reverse, refl, sym, ap, ◌∙◌}
 use Rattle.std.proofs.lemmas.List.{take-map, drop-map}
 use Rattle.jack_meaning.specs.Text.{Expression, Value, More, Call, Unary, Binary, Load, Store, If, Do, Return, Let, LetField, LetThis, End, Next, Text}
 use Rattle.jack_meaning.specs.Expressions.{filled, filled_in}
@@ -57,8 +57,8 @@ module _ (w : ℕ) where
       ∙ ap (λ x. Store n (operand 2 (all es)) x (filled w (operand 0 es))) (operand_filled 1 es)
       ∙ ap (Store n (operand 2 (all es)) (operand 1 (all es))) (operand_filled 0 es)
   written_filled (Statement.Do n e) es = ap (Do n) (operand_filled 0 es)
-  written_filled (If' n c p a q b) es = ap (λ x. If n x (the_row a) (the_row b)) (operand_filled 0 es)
-  written_filled (While' n c p s) es = ap (λ x. If n x (turn_of n (the_expression c) (the_row s)) End) (operand_filled 0 es)
+  written_filled (If' n o c p a q b) es = ap (λ x. If n o x (the_row a) (the_row b)) (operand_filled 0 es)
+  written_filled (While' n c p s) es = ap (λ x. If n false x (turn_of n (the_expression c) (the_row s)) End) (operand_filled 0 es)
   written_filled (Statement.Return n e) es = ap (Return n) (operand_filled 0 es)
 
   first_filled : (first : First) (es : List Expression) (rest : Text) → filled_text w (written_first first es rest) ≡ written_first first (all es) rest
@@ -86,7 +86,7 @@ module _ (w : ℕ) where
       ap (λ x. Store n x (filled w (the_expression i)) (filled w (the_expression e))) (expression_filled a)
       ∙ ap (λ x. Store n (the_expression a) x (filled w (the_expression e))) (expression_filled i) ∙ ap (Store n (the_expression a) (the_expression i)) (expression_filled e)
   statement_filled (Statement.Do n e) = ap (Do n) (expression_filled e)
-  statement_filled (If' n c p a q b) = ap (λ x. If n x (the_row a) (the_row b)) (expression_filled c)
+  statement_filled (If' n o c p a q b) = ap (λ x. If n o x (the_row a) (the_row b)) (expression_filled c)
   statement_filled (While' n c p s) = refl
   statement_filled (Statement.Return n e) = ap (Return n) (expression_filled e)
 

@@ -1,5 +1,5 @@
 -- The step of what comes first: its next part moves, or it acts.
-use Rattle.std.proofs.Common.{◌≡◌, ℕ, zero, suc, ◌+◌, true, List, [], ◌∷◌, ◌++◌, Some, length, drop, map, reverse, refl, sym, ap, ◌∙◌, arith}
+use Rattle.std.proofs.Common.{◌≡◌, ℕ, zero, suc, ◌+◌, false, true, List, [], ◌∷◌, ◌++◌, Some, length, drop, map, reverse, refl, sym, ap, ◌∙◌, arith}
 use Rattle.std.proofs.lemmas.List.{length-append, length-map, nil_from_length}
 use Rattle.jack_meaning.specs.Text.{Expression, Value, Open, Let, LetField, LetThis, Store, Do, If, Return, Text, End, Next, Subroutine}
 use Rattle.jack_meaning.specs.Expressions.{View, Move, Stands, Rewrites, Calls, Strays, within, rewrite, value_of}
@@ -40,7 +40,7 @@ module _ (subs : List Subroutine) (key : ℕ) (s : State) (f : Frame) (below : L
   statement_begins (Statement.LetThis n e) = refl
   statement_begins (Statement.Store n a i e) = ap (λ l. step_of (Next (Store n (operand 2 l) (operand 1 l) (operand 0 l)) rest)) (sym (store_reads n a i e))
   statement_begins (Statement.Do n e) = refl
-  statement_begins (If' n c p a q b) = refl
+  statement_begins (If' n o c p a q b) = refl
   statement_begins (While' n c p a) = refl
   statement_begins (Statement.Return n e) = refl
 
@@ -80,9 +80,9 @@ module _ (subs : List Subroutine) (key : ℕ) (s : State) (f : Frame) (below : L
     one_moves (Statement.LetThis n e) c place h = in_place c place (λ a. Next (LetThis n a) rest) (passed_over s (record f { this = value_of (c r) }) below rest)
     one_moves (Statement.Store n a i e) c place h = cc
     one_moves (Statement.Do n e) c place h = in_place c place (λ a. Next (Do n a) rest) (passed_over s f below rest)
-    one_moves (If' n d p a q b) c place h = in_place c place (λ x. Next (If n x (the_row a) (the_row b)) rest) (act_of s f below (If n (c r) (the_row a) (the_row b)) rest)
+    one_moves (If' n o d p a q b) c place h = in_place c place (λ x. Next (If n o x (the_row a) (the_row b)) rest) (act_of s f below (If n o (c r) (the_row a) (the_row b)) rest)
     one_moves (While' n d p a) c place h =
-        in_place c place (λ x. Next (If n x (turn_of n (the_expression d) (the_row a)) End) rest) (act_of s f below (If n (c r) (turn_of n (the_expression d) (the_row a)) End) rest)
+        in_place c place (λ x. Next (If n false x (turn_of n (the_expression d) (the_row a)) End) rest) (act_of s f below (If n false (c r) (turn_of n (the_expression d) (the_row a)) End) rest)
     one_moves (Statement.Return n e) c place h = in_place c place (λ a. Next (Return n a) rest) (returned s below (value_of (c r)))
 
     three_move : (n : ℕ) (fresh : List Expression) (c : Expression → Expression) (low : List ℕ) → IsPlace c → length fresh + suc (length low) ≡ 3
@@ -135,7 +135,7 @@ module _ (subs : List Subroutine) (key : ℕ) (s : State) (f : Frame) (below : L
       statement_moves (Statement.LetThis n e) h = with_one (Statement.LetThis n e) refl h
       statement_moves (Statement.Store n a i e) h = with_three n h
       statement_moves (Statement.Do n e) h = with_one (Statement.Do n e) refl h
-      statement_moves (If' n c p a q b) h = with_one (If' n c p a q b) refl h
+      statement_moves (If' n o c p a q b) h = with_one (If' n o c p a q b) refl h
       statement_moves (While' n c p a) h = with_one (While' n c p a) refl h
       statement_moves (Statement.Return n e) h = with_one (Statement.Return n e) refl h
 
@@ -164,7 +164,7 @@ module _ (subs : List Subroutine) (key : ℕ) (s : State) (f : Frame) (below : L
   one_acts (Statement.LetThis n e) w h = refl
   one_acts (Statement.Store n a i e) w h = cc
   one_acts (Statement.Do n e) w h = refl
-  one_acts (If' n c p a q b) w h = refl
+  one_acts (If' n o c p a q b) w h = refl
   one_acts (While' n c p a) w h = refl
   one_acts (Statement.Return n e) w h = refl
 
@@ -187,7 +187,7 @@ module _ (subs : List Subroutine) (key : ℕ) (s : State) (f : Frame) (below : L
   statement_acts (Statement.LetThis n e) ws h = only_one (Statement.LetThis n e) ws refl h
   statement_acts (Statement.Store n a i e) ws h = three_act n a i e ws h
   statement_acts (Statement.Do n e) ws h = only_one (Statement.Do n e) ws refl h
-  statement_acts (If' n c p a q b) ws h = only_one (If' n c p a q b) ws refl h
+  statement_acts (If' n o c p a q b) ws h = only_one (If' n o c p a q b) ws refl h
   statement_acts (While' n c p a) ws h = only_one (While' n c p a) ws refl h
   statement_acts (Statement.Return n e) ws h = only_one (Statement.Return n e) ws refl h
 

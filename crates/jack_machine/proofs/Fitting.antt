@@ -28,7 +28,7 @@ statement_fits (Statement.LetField n k e) = e.one
 statement_fits (Statement.LetThis n e) = e.one
 statement_fits (Statement.Store n a i e) = three a i e
 statement_fits (Statement.Do n e) = e.one
-statement_fits (If' n c p a q b) = c.one
+statement_fits (If' n o c p a q b) = c.one
 statement_fits (While' n c p s) = c.one
 statement_fits (Statement.Return n e) = e.one
 

@@ -1,5 +1,5 @@
 -- The rest of a text and the rows behind what comes first.
-use Rattle.std.proofs.Common.{◌≡◌, ℕ, zero, suc, ◌+◌, false, List, if◌then◌else◌, refl, sym, ap, ◌∙◌, rules}
+use Rattle.std.proofs.Common.{◌≡◌, ℕ, zero, suc, ◌+◌, Bool, false, List, if◌then◌else◌, refl, sym, ap, ◌∙◌, rules}
 use Rattle.std.specs.Prelude.{nat_eq}
 use Rattle.std.proofs.Math.Numerals.{add-one}
 use Rattle.jack_meaning.specs.Text.{If, While, Text, End, Next, joined}
@@ -30,12 +30,12 @@ branch_is zero a b = refl
 branch_is (suc w) a b = let more : nat_eq (suc w) 0 ≡ false = search rules in rw more refl
 
 -- the texts that choices are written as
-pub if_written : (n : ℕ) (c : Expression) (a b : Vec Statement Global) (es : List AnExpression) (w : ℕ) (rest : Text)
-    → chosen_text w (Next (written (Statement.If n c a b) es) rest) ≡ joined (chosen w (the_block a.items) (the_block b.items)) rest
-if_written n c a b es w rest = ap (λ t. joined (branch t) rest) (if_reads n c a b)
+pub if_written : (n : ℕ) (o : Bool) (c : Expression) (a b : Vec Statement Global) (es : List AnExpression) (w : ℕ) (rest : Text)
+    → chosen_text w (Next (written (Statement.If n o c a b) es) rest) ≡ joined (chosen w (the_block a.items) (the_block b.items)) rest
+if_written n o c a b es w rest = ap (λ t. joined (branch t) rest) (if_reads n o c a b)
   where
     branch : AStatement → Text
-    branch (If m d x y) = chosen w x y
+    branch (If m o d x y) = chosen w x y
     branch _ = End
 
 loop_turns : (n : ℕ) (c : Expression) (s : Vec Statement Global) (es : List AnExpression) (w : ℕ) (rest : Text)

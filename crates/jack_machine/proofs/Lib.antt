@@ -8,3 +8,4 @@ pub mod Sights
 pub mod Tops
 pub mod Stacks
 pub mod Histories
+pub mod Replies

@@ -165,6 +165,10 @@ stored_over f m m' below a w text text' s e =
     ∙ ap (λ x. Acts false (record { frames = with_text f x ∷ below; statics = m.statics.items; words = m'.words.items })) (sym e)
     ∙ ap (λ x. Acts false (record { frames = with_text f text' ∷ below; statics = x; words = m'.words.items })) (sym s.1)
 
+pub if_err : {T E : Type 0} {P Q : Type 0} (r : Result T E) → (P → Q) → OnErr r P → OnErr r Q
+if_err (Ok x) h p = tt
+if_err (Err e) h p = h p
+
 pub if_ok : {T E : Type 0} {P Q : T → Type 0} (r : Result T E) → ((x : T) → P x → Q x) → IfOk r P → IfOk r Q
 if_ok (Ok x) h p = h x p
 if_ok (Err e) h p = tt

@@ -15,7 +15,7 @@ act_of s f below (LetField n k e) rest = stored s f below rest (word_add f.this 
 act_of s f below (LetThis n e) rest = passed_over s (record f { this = value_of e }) below rest
 act_of s f below (Store n a i e) rest = stored s f below rest (word_add (value_of a) (value_of i)) (value_of e)
 act_of s f below (Do n e) rest = passed_over s f below rest
-act_of s f below (If n c a b) rest = passed_over s f below (joined (chosen (value_of c) a b) rest)
+act_of s f below (If n o c a b) rest = passed_over s f below (joined (chosen (value_of c) a b) rest)
 act_of s f below (While n c a) rest = Done
 act_of s f below (Return n e) rest = returned s below (value_of e)
 

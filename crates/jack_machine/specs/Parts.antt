@@ -12,7 +12,7 @@ parts_in (Statement.LetField n k e) = e.parts.items
 parts_in (Statement.LetThis n e) = e.parts.items
 parts_in (Statement.Store n a i e) = a.parts.items ++ i.parts.items ++ e.parts.items
 parts_in (Statement.Do n e) = e.parts.items
-parts_in (If' n c p a q b) = c.parts.items
+parts_in (If' n o c p a q b) = c.parts.items
 parts_in (While' n c p s) = c.parts.items
 parts_in (Statement.Return n e) = e.parts.items
 

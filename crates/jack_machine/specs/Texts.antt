@@ -1,5 +1,5 @@
 -- What the rest of a frame's text stands for.
-use Rattle.std.specs.Prelude.{ℕ, zero, List, [], ◌∷◌, map, reverse, drop}
+use Rattle.std.specs.Prelude.{ℕ, zero, false, List, [], ◌∷◌, map, reverse, drop}
 use Rattle.jack_meaning.specs.Text.{Let, LetField, LetThis, Store, Do, If, Return, Value, Open, Text as AText, End, Next, joined}
 use Rattle.jack_meaning.specs.Text.{Expression as AnExpression, Statement as AStatement}
 use Rattle.jack_meaning.specs.Meaning.{chosen, turn_of}
@@ -20,8 +20,8 @@ written (Statement.LetField n k e) es = LetField n k (operand 0 es)
 written (Statement.LetThis n e) es = LetThis n (operand 0 es)
 written (Statement.Store n a i e) es = Store n (operand 2 es) (operand 1 es) (operand 0 es)
 written (Statement.Do n e) es = Do n (operand 0 es)
-written (If' n c p a q b) es = If n (operand 0 es) (the_row a) (the_row b)
-written (While' n c p s) es = If n (operand 0 es) (turn_of n (the_expression c) (the_row s)) End
+written (If' n o c p a q b) es = If n o (operand 0 es) (the_row a) (the_row b)
+written (While' n c p s) es = If n false (operand 0 es) (turn_of n (the_expression c) (the_row s)) End
 written (Statement.Return n e) es = Return n (operand 0 es)
 
 -- a text that begins so, and this text behind it
@@ -67,7 +67,7 @@ the_waiting_text t = begun t.front.first t.front.done (built (waiting (reverse t
 
 -- a choice that comes first is taken
 abbrev pub chosen_text : ℕ → AText → AText
-chosen_text w (Next (If n c a b) rest) = joined (chosen w a b) rest
+chosen_text w (Next (If n o c a b) rest) = joined (chosen w a b) rest
 chosen_text w (Next s rest) = rest
 chosen_text w End = End
 

@@ -1,11 +1,12 @@
 -- A step of the whole machine, and its history, by the meaning.
 use Rattle.std.specs.Prelude.{◌≡◌, ℕ, Bool, List, [], ◌∷◌, ◌-◌, slice_index}
+use Rattle.word16.specs.Memory.{heap}
 use Rattle.machine_io.specs.History.{Turn}
 use Rattle.machine_io.specs.declared.machine.Moved.{Moved}
 use Rattle.machine_io.specs.declared.machine.Stray.TheVariants as Why
 use Rattle.outer_world.specs.declared.point.Point.{Point}
 use Rattle.jack_meaning.specs.Text.{Subroutine}
-use Rattle.jack_meaning.specs.Meaning.{Frame, State, Acts, Stray, Done, step, start, start_text, point_of}
+use Rattle.jack_meaning.specs.Meaning.{Frame, State, Outcome, Acts, Stray, Done, step, start, start_text, point_of}
 use Rattle.jack_core.specs.Texts.{the_subroutines, the_program}
 use Rattle.jack_machine.specs.Frames.{the_state, called}
 use Rattle.jack_machine.specs.Machine.{the_stack}
@@ -33,6 +34,16 @@ JackStep key old (Moved.Stray (Why.Address a)) new = (step (the_subroutines old.
 JackStep key old Moved.Done new = (step (the_subroutines old.core.now) key (jack_state old) ≡ Done) × IsSame old new
 JackStep key old _ new = ⊥
 
+-- the answer that tells of an outcome
+abbrev pub answer_of : Outcome → Moved
+answer_of (Acts heard s) = Moved.Acted
+answer_of (Stray a) = Moved.Stray (Why.Address a)
+answer_of Done = Moved.Done
+
+-- the answer of the machine to a key, as it stands
+abbrev pub jack_reply : Jack → ℕ → Moved
+jack_reply j key = answer_of (step (the_subroutines j.core.now) key (jack_state j))
+
 -- A turn of the meaning: its answer to a key, and the state after it.
 abbrev pub IsTurn : List Subroutine → State → Turn → State → Type 0
 IsTurn subs s t s' = by_answer t.answer
@@ -54,7 +65,7 @@ Stands j turns = Leads (the_subroutines j.core.now) (start (the_program j.core.n
 
 -- the word at an address of heap or screen
 abbrev pub jack_word : Jack → ℕ → ℕ
-jack_word j a = slice_index j.memory.words.items (a - 2048)
+jack_word j a = slice_index j.memory.words.items (a - heap)
 
 -- the first frame, `start`
 abbrev pub start_frame : ℕ → Frame

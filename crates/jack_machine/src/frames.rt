@@ -15,6 +15,7 @@ use crate::parts::{next_part, operands, put};
 use crate::texts::{Text, advance, choose};
 use jack_core::{Part, Statement, Variable};
 use std::alloc::AllocError;
+use word16::{HEAP, KEYBOARD};
 
 /// A call that was made and has not returned: its variables, and the rest of its text.
 #[derive(Drop)]
@@ -59,10 +60,10 @@ fn assign(variables: &mut Variables, memory: &mut Memory, x: Variable, w: u16)
 fn store(memory: &mut Memory, address: u16, w: u16) -> bool
     ensures { StoresAt address w memory.old result memory.new }
 {
-    if address < 2048 || address >= 24576 {
+    if address < HEAP || address >= KEYBOARD {
         return false;
     }
-    set(&mut memory.words, address as usize - 2048, w);
+    set(&mut memory.words, address as usize - HEAP as usize, w);
     true
 }
 

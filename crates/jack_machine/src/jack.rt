@@ -6,7 +6,7 @@ ghost use Rattle.jack_meaning.specs.Meaning.{start};
 ghost use Rattle.jack_core.specs.declared.tree.Part.TheVariants as part;
 ghost use Rattle.jack_core.specs.Texts.{the_program};
 ghost use Rattle.jack_machine.specs.Frames.{the_frame, IsNext};
-ghost use Rattle.jack_machine.specs.Whole.{IsCalled, IsSame, JackStep, Stands, jack_state, jack_point, jack_word, start_frame};
+ghost use Rattle.jack_machine.specs.Whole.{IsCalled, IsSame, JackStep, Stands, jack_state, jack_point, jack_word, jack_reply, start_frame};
 
 use crate::calling::{call, enter, last_values, leave};
 use crate::frames::{Act, Frame, step_top};
@@ -17,6 +17,7 @@ use jack_core::{Class, Core, Part};
 use machine_io::{Level, Moved, Stray};
 use outer_world::Point;
 use std::alloc::{AllocError, Global};
+use word16::{HEAP, HEAP_AND_SCREEN_SIZE};
 
 /// A machine that steps a program by its meaning. Its frames point into the program.
 #[derive(Drop)]
@@ -79,7 +80,7 @@ impl<'a> Jack<'a> {
         ensures stands { IfOk result (λ j. Stands j []) }
     {
         let statics = new_statics(alloc, &core.classes)?;
-        let words = vec![in alloc; 0u16; 22528]?;
+        let words = vec![in alloc; 0u16; HEAP_AND_SCREEN_SIZE]?;
         Ok(Self {
             core,
             top: first_frame(alloc, core.init),
@@ -142,6 +143,8 @@ impl<'a> Level for Jack<'a> {
 
     ghost at_point = { jack_point };
 
+    ghost reply = { jack_reply };
+
     ghost sure = { false };
 
     ghost Program = { Core };
@@ -157,7 +160,7 @@ impl<'a> Level for Jack<'a> {
     }
 
     fn word_at(&self, a: u16) -> u16 {
-        word_in(&self.memory.words, a as usize - 2048)
+        word_in(&self.memory.words, a as usize - HEAP as usize)
     }
 
     fn steps(&self) -> u64 {

@@ -8,6 +8,7 @@ ghost use Rattle.jack_machine.specs.Looks.{the_view, Sees, IsOfCall, Loads};
 
 use crate::words::{operate, sign};
 use jack_core::{Part, Variable};
+use word16::{HEAP, KEYBOARD};
 
 /// A frame's arguments and locals, and its `this`.
 #[derive(Drop)]
@@ -17,7 +18,7 @@ pub(crate) struct Variables {
     pub this: u16,
 }
 
-/// The statics, and the words 2048 to 24575.
+/// The statics, and the words of heap and screen.
 #[derive(Drop)]
 pub(crate) struct Memory {
     pub statics: Vec<u16>,
@@ -64,12 +65,12 @@ fn variable(variables: &Variables, memory: &Memory, x: Variable) -> u16
 fn load(memory: &Memory, address: u16) -> Sight
     ensures { (v : View) → v.words ≡ memory.now.words.items → Loads v address result }
 {
-    if address < 2048 || address > 24576 {
+    if address < HEAP || address > KEYBOARD {
         Sight::Strays(address)
-    } else if address == 24576 {
+    } else if address == KEYBOARD {
         Sight::Hears
     } else {
-        Sight::Puts(word_in(&memory.words, address as usize - 2048))
+        Sight::Puts(word_in(&memory.words, address as usize - HEAP as usize))
     }
 }
 

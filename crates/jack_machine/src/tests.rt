@@ -8,7 +8,7 @@ use jack_core::{
     Class, Core, Expression, Kind, Operator, Part, Sign, Statement, Subroutine, Variable,
 };
 use machine_io::{End, Keyboard, Level, Stray, drive};
-use outer_world::Point;
+use outer_world::{Name, Point};
 use std::alloc::{AllocError, Global};
 use std::test::Fail;
 
@@ -52,14 +52,28 @@ fn leave(alloc: Global, number: u32) -> Result<Statement, AllocError> {
     })
 }
 
-fn function(locals: u32, body: Vec<Statement>) -> Subroutine {
-    Subroutine {
+fn function(
+    alloc: Global,
+    name: &str,
+    locals: u32,
+    body: Vec<Statement>,
+) -> Result<Subroutine, AllocError> {
+    Ok(Subroutine {
+        name: Name::new(alloc, name)?,
         kind: Kind::Function,
         class: 0,
         arguments: 0,
         locals,
         body,
-    }
+    })
+}
+
+fn class(alloc: Global, name: &str, fields: u32, statics: u32) -> Result<Class, AllocError> {
+    Ok(Class {
+        name: Name::new(alloc, name)?,
+        fields,
+        statics,
+    })
 }
 
 // `Sys.init` is `do Main.main(); return;`, and Main.main is number 2.
@@ -71,21 +85,12 @@ fn program(alloc: Global, main: Subroutine) -> Result<Core, AllocError> {
         },
         leave(alloc, 2)?,
     ]?;
-    let start = function(0, Vec::new(alloc));
+    let start = function(alloc, "start", 0, Vec::new(alloc))?;
+    let init = function(alloc, "Sys.init", 0, init)?;
     Ok(Core {
-        classes: vec![in alloc;
-            Class {
-                fields: 1,
-                statics: 2
-            },
-            Class {
-                fields: 0,
-                statics: 1
-            },
-        ]?,
-        subroutines: vec![in alloc; start, function(0, init), main]?,
+        classes: vec![in alloc; class(alloc, "Main", 1, 2)?, class(alloc, "Sys", 0, 1)?]?,
+        subroutines: vec![in alloc; start, init, main]?,
         init: 1,
-        names: Vec::new(alloc),
     })
 }
 
@@ -96,7 +101,7 @@ fn puts(alloc: Global, value: Expression) -> Result<Core, AllocError> {
         store(alloc, 2, 0, value)?,
         leave(alloc, 3)?,
     ]?;
-    program(alloc, function(1, body))
+    program(alloc, function(alloc, "Main.main", 1, body)?)
 }
 
 // let s = 100; let s[0] = 1; return;
@@ -106,7 +111,7 @@ fn strays(alloc: Global) -> Result<Core, AllocError> {
         store(alloc, 2, 0, literal(alloc, 1)?)?,
         leave(alloc, 3)?,
     ]?;
-    program(alloc, function(1, body))
+    program(alloc, function(alloc, "Main.main", 1, body)?)
 }
 
 // The key of a move is its number, from 1 to 100 and again.
@@ -184,7 +189,7 @@ fn a_loop(rt: HostRuntime) -> Result<(), Fail> {
         turns(alloc)?,
         leave(alloc, 6)?,
     ]?;
-    let core = program(alloc, function(2, body))?;
+    let core = program(alloc, function(alloc, "Main.main", 2, body)?)?;
     let mut jack = Jack::new(alloc, &core)?;
     assert_eq!(rt; drive(&mut jack, &Counting, 100)?, End::Done);
     assert_eq!(rt; jack.moves(), 47);
@@ -212,7 +217,7 @@ fn two_keys(rt: HostRuntime) -> Result<(), Fail> {
         store(alloc, 4, 1, first_of(alloc)?)?,
         leave(alloc, 5)?,
     ]?;
-    let core = program(alloc, function(2, body))?;
+    let core = program(alloc, function(alloc, "Main.main", 2, body)?)?;
     let mut jack = Jack::new(alloc, &core)?;
     assert_eq!(rt; drive(&mut jack, &Counting, 100)?, End::Done);
     assert_eq!(rt; jack.moves(), 24);
@@ -225,6 +230,7 @@ fn difference(alloc: Global) -> Result<Subroutine, AllocError> {
     let x = Part::Name(Variable::Argument(1));
     let value = expression(vec![in alloc; Part::This, x, Part::Binary(Operator::Subtract)]?);
     Ok(Subroutine {
+        name: Name::new(alloc, "Main.get")?,
         kind: Kind::Method,
         class: 0,
         arguments: 2,

@@ -2,7 +2,7 @@
 
 ghost use Rattle.std.specs.Prelude.{◌≡◌, ◌+◌, ◌<◌, IfOk, OnOk, OnErr, List, [], nat_eq, if◌then◌else◌};
 ghost use Rattle.std.specs.Vec.{vec_len, vec_capacity};
-ghost use Rattle.jack_meaning.specs.Text.{Expression as AnExpression, Next, joined, number_of};
+ghost use Rattle.jack_meaning.specs.Text.{Expression as AnExpression, Next, joined};
 ghost use Rattle.jack_meaning.specs.Meaning.{text_point};
 ghost use Rattle.jack_core.specs.Reading.{built};
 ghost use Rattle.jack_core.specs.Texts.{the_statement, the_block};
@@ -103,29 +103,13 @@ pub(crate) fn choose<'a>(
     Ok(())
 }
 
-// The number of a statement.
-fn number_in(s: &Statement) -> u32
-    ensures { result ≡ number_of (the_statement s.now) }
-{
-    match s {
-        Statement::Let { number, .. } => *number,
-        Statement::LetField { number, .. } => *number,
-        Statement::LetThis { number, .. } => *number,
-        Statement::Store { number, .. } => *number,
-        Statement::Do { number, .. } => *number,
-        Statement::If { number, .. } => *number,
-        Statement::While { number, .. } => *number,
-        Statement::Return { number, .. } => *number,
-    }
-}
-
 /// The number of the first statement; 2 where none is left.
 pub(crate) fn first_number(text: &Text) -> u32
     ensures { result ≡ text_point (the_text text.now) }
 {
     match text.front.first {
         First::Start(_) => 1,
-        First::Statement(s) => number_in(s),
+        First::Statement(s) => s.number(),
         First::Nothing => 2,
     }
 }

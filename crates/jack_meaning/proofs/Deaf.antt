@@ -8,6 +8,7 @@ use Rattle.jack_meaning.specs.Meaning.{Frame, State, view_of, Outcome, Acts, Str
 use Rattle.jack_meaning.specs.Level.{next_of, has_heard, is_done, point_in, meaning_of}
 use Rattle.layers.specs.System.{IsMeaning}
 use Rattle.jack_meaning.specs.Laws.{MeaningLaw}
+use Rattle.jack_meaning.proofs.Gaps.{gap_once}
 
 abbrev hears_in : {A : Type 0} → Move A → Bool
 hears_in (Rewrites b a) = b
@@ -84,7 +85,7 @@ module _ (subs : List Subroutine) (key k : ℕ) (s : State) (f : Frame) (below :
   first_even (Next (LetThis n e) rest) h = of_part e _ _ _ (λ _. refl) h
   first_even (Next (Store n a i e) rest) h = of_part a _ _ _ (of_part i _ _ _ (of_part e _ _ _ (λ _. refl))) h
   first_even (Next (Do n e) rest) h = of_part e _ _ _ (λ _. refl) h
-  first_even (Next (If n c a b) rest) h = of_part c _ _ _ (λ _. refl) h
+  first_even (Next (If n o c a b) rest) h = of_part c _ _ _ (λ _. refl) h
   first_even (Next (While n c a) rest) h = of_part c _ _ _ (λ _. refl) h
   first_even (Next (Return n e) rest) h = of_part e _ _ _ (λ _. refl) h
 
@@ -121,5 +122,6 @@ law = record {
   strays = λ program s key key' a h. step_even program.subroutines key key' s (ap has_heard h) ∙ h;
   done = λ program s key key' h. step_even program.subroutines key key' s (ap has_heard h) ∙ h;
   begins = λ program. refl;
+  one_gap = gap_once;
   level = λ program. is_level program.subroutines;
 }

@@ -1,5 +1,6 @@
 -- How an expression becomes a value, one part at a time. (Chapter 9 says what the parts mean.)
 use Rattle.std.specs.Prelude.{ℕ, ◌+◌, ◌-◌, Bool, true, false, nat_lt, nat_eq, if◌then◌else◌, List, [], ◌∷◌, slice_index}
+use Rattle.word16.specs.Memory.{heap, keyboard}
 use Rattle.word16.specs.Words.{word_add}
 use Rattle.jack_meaning.specs.Words.{sign_of, operator_of}
 use Rattle.jack_meaning.specs.Text.{Variable, Argument, Local, Static, Expression, Literal, Value, Name, This, Field, Unary, Binary, Load, Call, Open, Expressions, NoMore, More}
@@ -22,7 +23,7 @@ within (Rewrites heard a) whole after = Rewrites heard (whole a)
 within (Calls g xs a) whole after = Calls g xs (whole a)
 within (Strays a) whole after = Strays a
 
--- what an expression can read: the frame's variables and its `this`, the statics, the words 2048 to 24575, and the key
+-- what an expression can read: the frame's variables and its `this`, the statics, the words of heap and screen, and the key
 pub record View : Type 0 where
   pub arguments : List ℕ
   pub locals : List ℕ
@@ -47,12 +48,12 @@ abbrev pub values_of : Expressions → List ℕ
 values_of NoMore = []
 values_of (More e es) = value_of e ∷ values_of es
 
--- The word at an address becomes a value: heap from 2048, screen from 16384, and at 24576 the key.
+-- The word at an address becomes a value: that of heap or screen, and at the keyboard's address the key.
 abbrev pub loaded : View → ℕ → Move Expression
 loaded v a =
-    if nat_lt a 2048 then Strays a
-    else (if nat_lt a 24576 then Rewrites false (Value (slice_index v.words (a - 2048)))
-    else (if nat_eq a 24576 then Rewrites true (Value v.key) else Strays a))
+    if nat_lt a heap then Strays a
+    else (if nat_lt a keyboard then Rewrites false (Value (slice_index v.words (a - heap)))
+    else (if nat_eq a keyboard then Rewrites true (Value v.key) else Strays a))
 
 -- The leftmost innermost part that is no value becomes its value. A field is the word at `this` plus its number.
 abbrev mutual

@@ -4,6 +4,7 @@ use Rattle.jack_meaning.specs.Text.{Program}
 use Rattle.layers.specs.System.{IsMeaning}
 use Rattle.jack_meaning.specs.Meaning.{State, Stray, Done, step, start, point_of}
 use Rattle.jack_meaning.specs.Level.{has_heard, meaning_of}
+use Rattle.jack_meaning.specs.Gap.{IsGap}
 
 pub record MeaningLaw : Type 0 where
   -- a step that does not hear the key is the same under every key
@@ -16,5 +17,7 @@ pub record MeaningLaw : Type 0 where
   pub done : (program : Program) (s : State) (key key' : ℕ) → step program.subroutines key s ≡ Done → step program.subroutines key' s ≡ Done
   -- the start's point
   pub begins : (program : Program) → point_of (start program).frames ≡ (0, 1)
+  -- a program has one gap
+  pub one_gap : (program : Program) (words words' : ℕ) → IsGap program words → IsGap program words' → words ≡ words'
   -- what is asked of a program's meaning as a level
   pub level : (program : Program) → IsMeaning (meaning_of program.subroutines)

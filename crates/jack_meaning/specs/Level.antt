@@ -1,5 +1,6 @@
 -- The meaning as a machine that moves in steps, and its runs over a list of keys.
 use Rattle.std.specs.Prelude.{ℕ, ◌+◌, ◌-◌, nat_le, Bool, true, false, List, slice_index, Option, Some, None}
+use Rattle.word16.specs.Memory.{heap}
 use Rattle.outer_world.specs.declared.point.Point.{Point}
 use Rattle.layers.specs.System.{System, Listening, run_of, Tame}
 use Rattle.jack_meaning.specs.Text.{Subroutine, Program}
@@ -38,7 +39,7 @@ meaning_of subs = record {
   halted = λ s. is_done (step subs 0 s);
   fits = λ s. nat_le (stack_words s.frames + 8) 1792;
   point = λ s. Some (point_in s);
-  word = λ s a. slice_index s.words (a - 2048);
+  word = λ s a. slice_index s.words (a - heap);
 }
 
 -- The state after m steps from the start, where the keys heard are those of a list; none where a step is missing.

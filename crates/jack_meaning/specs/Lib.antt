@@ -3,6 +3,8 @@ pub mod Text
 pub mod Expressions
 pub mod Meaning
 pub mod StackWords
+pub mod Linked
+pub mod Gap
 pub mod Level
 pub mod Laws
 pub mod Rows

@@ -1,6 +1,7 @@
 -- The meaning of a program: each step rewrites the text of the top frame. (The language of chapter 9, as the compiler of
 -- chapters 10 and 11 reads it.) There is no stack of words and no address of code or of a variable.
 use Rattle.std.specs.Prelude.{ℕ, zero, suc, ◌-◌, Bool, false, nat_lt, if◌then◌else◌, List, [], ◌∷◌, replicate, get_or, slice_index, slice_set, sum_by}
+use Rattle.word16.specs.Memory.{heap, keyboard, heap_and_screen_size}
 use Rattle.word16.specs.Words.{word_add}
 use Rattle.jack_meaning.specs.Text.{Variable, Argument, Local, Static, Expression, Call, NoMore, Statement, Let, LetField, LetThis, Store, Do, If, While, Return, Text, End, Next, joined, number_of, Kind, Constructor, Function, Method, Subroutine, Program}
 use Rattle.jack_meaning.specs.Expressions.{Move, Stands, Rewrites, Calls, Strays, View, value_of, rewrite, filled}
@@ -13,7 +14,7 @@ pub record Frame : Type 0 where
   pub this : ℕ
   pub text : Text
 
--- the frames, the top one first; the statics; the words 2048 to 24575 (heap and screen)
+-- the frames, the top one first; the statics; the words of heap and screen
 pub record State : Type 0 where
   pub frames : List Frame
   pub statics : List ℕ
@@ -62,7 +63,7 @@ filled_first w (LetField n k e) = LetField n k (filled w e)
 filled_first w (LetThis n e) = LetThis n (filled w e)
 filled_first w (Store n a i e) = Store n (filled w a) (filled w i) (filled w e)
 filled_first w (Do n e) = Do n (filled w e)
-filled_first w (If n c a b) = If n (filled w c) a b
+filled_first w (If n o c a b) = If n o (filled w c) a b
 filled_first w (While n c s) = While n c s
 filled_first w (Return n e) = Return n (filled w e)
 
@@ -91,8 +92,8 @@ assigned s f below rest (Static k) w = passed_over (record s { statics = slice_s
 -- the word at an address of heap or screen is replaced
 abbrev pub stored : State → Frame → List Frame → Text → ℕ → ℕ → Outcome
 stored s f below rest a w =
-    if nat_lt a 2048 then Stray a
-    else (if nat_lt a 24576 then passed_over (record s { words = slice_set s.words (a - 2048) w }) f below rest
+    if nat_lt a heap then Stray a
+    else (if nat_lt a keyboard then passed_over (record s { words = slice_set s.words (a - heap) w }) f below rest
     else Stray a)
 
 -- the top frame is taken off, and its value stands in place of the caller's open call
@@ -130,11 +131,11 @@ step_first subs key s f below (Next (Store n a i e) rest) =
 step_first subs key s f below (Next (Do n e) rest) =
     step_part subs s f below (rewrite (view_of key s f) e) (λ e'. Next (Do n e') rest)
     (passed_over s f below rest)
-step_first subs key s f below (Next (If n c a b) rest) =
-    step_part subs s f below (rewrite (view_of key s f) c) (λ c'. Next (If n c' a b) rest)
+step_first subs key s f below (Next (If n o c a b) rest) =
+    step_part subs s f below (rewrite (view_of key s f) c) (λ c'. Next (If n o c' a b) rest)
     (passed_over s f below (joined (chosen (value_of c) a b) rest))
 step_first subs key s f below (Next (While n c a) rest) =
-    step_part subs s f below (rewrite (view_of key s f) c) (λ c'. Next (If n c' (turn_of n c a) End) rest)
+    step_part subs s f below (rewrite (view_of key s f) c) (λ c'. Next (If n false c' (turn_of n c a) End) rest)
     (passed_over s f below (joined (chosen (value_of c) (turn_of n c a) End) rest))
 step_first subs key s f below (Next (Return n e) rest) =
     step_part subs s f below (rewrite (view_of key s f) e) (λ e'. Next (Return n e') rest)
@@ -144,7 +145,7 @@ abbrev pub step_frames : List Subroutine → ℕ → State → List Frame → Ou
 step_frames subs key s [] = Done
 step_frames subs key s (f ∷ below) = step_first subs key s f below f.text
 
--- One step under a key, which a load at 24576 hears.
+-- One step under a key, which a load at the keyboard's address hears.
 abbrev pub step : List Subroutine → ℕ → State → Outcome
 step subs key s = step_frames subs key s s.frames
 
@@ -160,7 +161,7 @@ abbrev pub start : Program → State
 start program = record {
   frames = record { subroutine = 0; arguments = []; locals = []; this = 0; text = start_text program.init } ∷ [];
   statics = replicate (statics_of program) 0;
-  words = replicate 22528 0;
+  words = replicate heap_and_screen_size 0;
 }
 
 -- The control point: the top frame's subroutine and the number of its first statement. `start` with no statement left is at 2.

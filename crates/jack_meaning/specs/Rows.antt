@@ -1,9 +1,12 @@
--- Small programs and where their steps lead, by computation.
-use Rattle.std.specs.Prelude.{◌≡◌, ℕ, ◌-◌, List, [], ◌∷◌, slice_index, Some, option_map}
-use Rattle.jack_meaning.specs.Text.{Argument, Local, Static, Minus, Complement, Subtract, Less, Expression, Literal, Name, This, Unary, Binary, Load, Call, NoMore, More, Statement, Let, LetField, LetThis, Store, Do, If, While, Return, text_of, Constructor, Function, Method, Subroutine, Class, Program}
-use Rattle.jack_meaning.specs.Meaning.{State, Outcome, Stray, Done, step, point_of}
+-- Small programs and where their steps lead, and what the bounds of a run and of a program are for small ones, by computation.
+use Rattle.std.specs.Prelude.{◌≡◌, ℕ, ◌-◌, true, false, List, [], ◌∷◌, slice_index, Some, option_map}
+use Rattle.jack_meaning.specs.Text.{Argument, Local, Static, Minus, Complement, Plus, Subtract, Less, Expression, Literal, Value, Name, This, Unary, Binary, Load, Call, Open, NoMore, More, Statement, Let, LetField, LetThis, Store, Do, If, While, Return, text_of, Constructor, Function, Method, Subroutine, Class, Program}
+use Rattle.jack_meaning.specs.Meaning.{Frame, State, Outcome, Stray, Done, step, point_of}
+use Rattle.jack_meaning.specs.StackWords.{stack_words}
+use Rattle.jack_meaning.specs.Linked.{IsLinked}
+use Rattle.jack_meaning.specs.Gap.{nest_in, IsGap}
 use Rattle.layers.specs.System.{Listening, first_key}
-use Rattle.jack_meaning.specs.Level.{run}
+use Rattle.jack_meaning.specs.Level.{run, IsTame}
 
 -- the point, and the word at an address
 abbrev pub seen : ℕ → Listening State → (ℕ × ℕ) × ℕ
@@ -70,8 +73,8 @@ lays_heap = record {
 abbrev pub chooses : Program
 chooses =
     main 16384 (
-    If 2 (Literal 2) (text_of (s_at 3 0 (Literal 1) ∷ [])) (text_of (s_at 4 0 (Literal 2) ∷ []))
-    ∷ If 5 (Unary Complement (Literal 2)) (text_of (s_at 6 1 (Literal 1) ∷ [])) (text_of (s_at 7 1 (Literal 2) ∷ []))
+    If 2 true (Literal 2) (text_of (s_at 3 0 (Literal 1) ∷ [])) (text_of (s_at 4 0 (Literal 2) ∷ []))
+    ∷ If 5 true (Unary Complement (Literal 2)) (text_of (s_at 6 1 (Literal 1) ∷ [])) (text_of (s_at 7 1 (Literal 2) ∷ []))
     ∷ Return 8 (Literal 0)
     ∷ []
     )
@@ -120,6 +123,69 @@ asks =
     ∷ []
     )
 
+-- After m steps over these keys, the frames may want so many words of the stack.
+abbrev pub Wants : Program → List ℕ → ℕ → ℕ → Type 0
+Wants program keys m w = option_map (λ l. stack_words l.state.frames) (run program keys m) ≡ Some w
+
+-- After m steps over these keys, those are still to be heard.
+abbrev pub Leaves : Program → List ℕ → ℕ → List ℕ → Type 0
+Leaves program keys m left = option_map (λ l. l.keys) (run program keys m) ≡ Some left
+
+-- class Main { function void main() { do Main.main(); return; } }, where `Sys.init` has so many locals
+abbrev pub calls_itself : ℕ → Program
+calls_itself locals = record {
+  classes = class_of 0 0 ∷ class_of 0 0 ∷ [];
+  subroutines =
+      function 0 0 []
+      ∷ function 0 locals (Do 1 (Call 2 NoMore) ∷ Return 2 (Literal 0) ∷ [])
+      ∷ function 1 0 (Do 1 (Call 2 NoMore) ∷ Return 2 (Literal 0) ∷ [])
+      ∷ [];
+  init = 1;
+}
+
+-- a frame with this text, and with so many arguments and locals as these lists have words
+abbrev pub frame_of : List ℕ → List ℕ → List Statement → Frame
+frame_of arguments locals ss = record { subroutine = 2; arguments = arguments; locals = locals; this = 0; text = text_of ss }
+
+-- 2 arguments, 3 locals, and the text let x = 3 + (4 + 5), of which 3 and 4 are values already
+abbrev pub adding : Frame
+adding = frame_of (1 ∷ 2 ∷ []) (0 ∷ 0 ∷ 0 ∷ []) (Let 1 (Local 0) (Binary Plus (Value 3) (Binary Plus (Value 4) (Literal 5))) ∷ Return 2 (Literal 0) ∷ [])
+
+-- no arguments, 1 local, and the text do f(8, g()), where 8 is a value and the call of g is open
+abbrev pub calling : Frame
+calling = frame_of [] (0 ∷ []) (Do 1 (Call 3 (More (Value 8) (More Open NoMore))) ∷ Return 2 (Literal 0) ∷ [])
+
+-- neither arguments nor locals, and the text let 100[0] = -1, of which 100, 0 and 1 are values
+abbrev pub storing : Frame
+storing = frame_of [] [] (Store 1 (Value 100) (Value 0) (Unary Minus (Value 1)) ∷ Return 2 (Value 7) ∷ [])
+
+-- the frame `start`: its call is open, or has returned 7
+abbrev pub open_start : Frame
+open_start = frame_of [] [] (Do 1 Open ∷ [])
+
+abbrev pub closed_start : Frame
+closed_start = frame_of [] [] (Do 1 (Value 7) ∷ [])
+
+-- while (x) { if (x) { do Main.f(Main.g()); } }
+abbrev pub loop_with_choice : Statement
+loop_with_choice = While 1 (Name (Local 0)) (text_of (If 2 false (Name (Local 0)) (text_of (Do 3 (Call 3 (More (Call 4 NoMore) NoMore)) ∷ [])) (text_of []) ∷ []))
+
+-- if (1) { } else { while (1) { } } while (1) { }
+abbrev pub in_else : List Statement
+in_else = If 1 true (Literal 1) (text_of []) (text_of (While 2 (Literal 1) (text_of []) ∷ [])) ∷ While 3 (Literal 1) (text_of []) ∷ []
+
+-- `Main.main` is `var int x;` and the loop above, `Main.f` has three locals, and `Main.g` none. Nothing calls the last subroutine, which has nine
+-- locals, deeper loops, and a call of its own.
+abbrev pub calls_some : Program
+calls_some =
+    small (class_of 0 0 ∷ class_of 0 0 ∷ []) (
+    function 1 1 (loop_with_choice ∷ Return 4 (Literal 0) ∷ [])
+    ∷ record { kind = Function; class = 1; arguments = 1; locals = 3; body = text_of (Return 1 (Literal 0) ∷ []) }
+    ∷ function 1 0 (Return 1 (Literal 1) ∷ [])
+    ∷ function 1 9 (While 1 (Literal 1) (text_of (loop_with_choice ∷ [])) ∷ Do 5 (Call 5 NoMore) ∷ Return 6 (Literal 0) ∷ [])
+    ∷ []
+    )
+
 pub record RowsLaw : Type 0 where
   -- 14 steps, and `start` has no statement left
   pub store : IsAt (stores_one 16384) [] 14 (0, 2) 16384 1
@@ -153,3 +219,38 @@ pub record RowsLaw : Type 0 where
   pub two_keys : IsAt listens (65 ∷ 66 ∷ []) 24 (0, 2) 16385 66
   -- a method's object is its first argument
   pub method : IsAt asks [] 20 (0, 2) 16384 42
+  -- What is heard: a key goes with the step that loads it, and not before.
+  pub unheard : Leaves listens (65 ∷ 66 ∷ 67 ∷ []) 10 (65 ∷ 66 ∷ 67 ∷ [])
+  pub one_heard : Leaves listens (65 ∷ 66 ∷ 67 ∷ []) 11 (66 ∷ 67 ∷ [])
+  pub still_one : Leaves listens (65 ∷ 66 ∷ 67 ∷ []) 16 (66 ∷ 67 ∷ [])
+  pub two_heard : Leaves listens (65 ∷ 66 ∷ 67 ∷ []) 17 (67 ∷ [])
+  pub heard_in_all : Leaves listens (65 ∷ 66 ∷ 67 ∷ []) 24 (67 ∷ [])
+  -- The words of the stack: 2 arguments, 3 locals, two values and five words for the call; an open call is no value, and `start` is no call.
+  pub words_of_adding : stack_words (adding ∷ open_start ∷ []) ≡ 12
+  pub words_of_both : stack_words (adding ∷ calling ∷ open_start ∷ []) ≡ 19
+  pub words_of_storing : stack_words (storing ∷ open_start ∷ []) ≡ 8
+  pub words_of_start : stack_words (closed_start ∷ []) ≡ 1
+  -- A run is tame as long as it goes on and eight words are to spare: 1,784 words are tame, and 1,785 are not.
+  pub tame_store : IsTame (stores_one 16384) [] 14
+  pub no_further : IsTame (stores_one 16384) [] 15 → ⊥
+  pub tame_before_stray : IsTame (stores_one 100) [] 7
+  pub stray_not_tame : IsTame (stores_one 100) [] 8 → ⊥
+  pub wants_much : Wants (calls_itself 0) [] 356 1780
+  pub tame_still : IsTame (calls_itself 0) [] 356
+  pub wants_too_much : Wants (calls_itself 0) [] 357 1785
+  pub tame_no_more : IsTame (calls_itself 0) [] 357 → ⊥
+  pub wants_most : Wants (calls_itself 4) [] 356 1784
+  pub tame_at_most : IsTame (calls_itself 4) [] 356
+  -- An `if` in a `while` is nested two deep, and so is a `while` in an `else`; what follows it is not deeper.
+  pub depth_of_choice : nest_in (text_of (loop_with_choice ∷ [])) ≡ 2
+  pub depth_in_else : nest_in (text_of in_else) ≡ 2
+  pub depth_of_none : nest_in (text_of (Return 1 (Literal 0) ∷ [])) ≡ 0
+  -- What is linked: `Sys.init`, what it calls, and what that calls, as an argument of a call too; not `start`, and not what nothing linked calls.
+  pub linked_init : IsLinked calls_some 1
+  pub linked_main : IsLinked calls_some 2
+  pub linked_outer : IsLinked calls_some 3
+  pub linked_inner : IsLinked calls_some 4
+  pub not_start : IsLinked calls_some 0 → ⊥
+  pub not_last : IsLinked calls_some 5 → ⊥
+  -- The gap is that of the linked ones: three locals and two deep.
+  pub gap_of_linked : IsGap calls_some 148

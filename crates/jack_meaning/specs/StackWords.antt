@@ -12,7 +12,7 @@ standing_first (Next (LetField n k e) rest) = standing e
 standing_first (Next (LetThis n e) rest) = standing e
 standing_first (Next (Store n a i e) rest) = standing a + standing i + standing e
 standing_first (Next (Do n e) rest) = standing e
-standing_first (Next (If n c a b) rest) = standing c
+standing_first (Next (If n o c a b) rest) = standing c
 standing_first (Next (While n c s) rest) = 0
 standing_first (Next (Return n e) rest) = standing e
 

@@ -1,6 +1,6 @@
 -- The text of a program: its statements and expressions with their names resolved, in which some parts have become values.
 -- (The language of the book's chapter 9; a string and the operators * and / are calls.)
-use Rattle.std.specs.Prelude.{ℕ, List, [], ◌∷◌}
+use Rattle.std.specs.Prelude.{ℕ, Bool, List, [], ◌∷◌}
 
 -- A variable, by its number among those of its kind. A method's object is argument 0; the statics are numbered through all classes.
 pub data Variable : Type 0 where
@@ -50,7 +50,8 @@ mutual
     -- `let` of an array's element: base, index, value
     Store : ℕ → Expression → Expression → Expression → Statement
     Do : ℕ → Expression → Statement
-    If : ℕ → Expression → Text → Text → Statement
+    -- whether the text has an `else`, the condition, and the statements of both branches
+    If : ℕ → Bool → Expression → Text → Text → Statement
     While : ℕ → Expression → Text → Statement
     Return : ℕ → Expression → Statement
 
@@ -75,7 +76,7 @@ number_of (LetField n k e) = n
 number_of (LetThis n e) = n
 number_of (Store n a i e) = n
 number_of (Do n e) = n
-number_of (If n c a b) = n
+number_of (If n o c a b) = n
 number_of (While n c s) = n
 number_of (Return n e) = n
 

@@ -2,19 +2,22 @@
 //!
 //! The definitions are in `specs/`: `Text` (programs), `Words` (operators), `Expressions` and `Meaning` (the step),
 //! `StackWords` (the room that calls want), `Level` (the meaning as a machine that moves in steps, and its runs over
-//! keys), `Laws` and `Rows`. The two functions here do nothing; their contracts say what holds of the definitions.
+//! keys), `Linked` (the subroutines that a program can come to), `Gap` (the bound on the length of a step in machine
+//! code), `Laws` and `Rows`. The two functions here do nothing; their contracts say what holds of the definitions.
 #![tactic(auto)]
 
 ghost use Rattle.jack_meaning.specs.Laws.{MeaningLaw};
 ghost use Rattle.jack_meaning.specs.Rows.{RowsLaw};
 
 /// A step that does not hear the key is the same under every key, a program that has come to its end makes no step
-/// under any key, and the start is at `start 1`.
+/// under any key, the start is at `start 1`, and a program has one gap.
 pub fn meaning_law()
     ensures { MeaningLaw }
 {}
 
-/// Small programs make the steps that the book's chapters 9 and 12 say.
+/// Small programs make the steps that the book's chapters 9 and 12 say. And what no code computes is so for small
+/// cases: which keys are heard, the words of the stack, how long a run is tame, how deep statements are nested, which
+/// subroutines are linked, and the gap.
 pub fn rows_law()
     ensures { RowsLaw }
 {}

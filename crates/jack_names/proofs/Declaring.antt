@@ -24,14 +24,14 @@ more a b n h x = among-append x a n ∙ ap (λ (c : Bool). cond c true (is_among
 pub declared_same : (shipped : Bool) (a b : List (List ℕ)) (cs : List Class) → ((x : List ℕ) → is_among x a ≡ is_among x b) → declarations_fault shipped a cs ≡ declarations_fault shipped b cs
 declared_same shipped a b [] h = refl
 declared_same shipped a b (c ∷ cs) h =
-    let name = c.name.text.items in
+    let name = c.name.text in
     let source = source_of shipped c in
     let rest = declared_same shipped (a ++ name ∷ []) (b ++ name ∷ []) cs (more a b name h) in
     λ i. first_of (first_of (file_fault source c) (first_of (cond (h name i) (Some (told_name source kinds.ClassTwice c.name)) None) (members_fault source c))) (rest i)
 
 marked : (cs : List Class) → names_in (marks cs) ≡ class_names cs
 marked [] = refl
-marked (c ∷ cs) = ap (λ (l : List (List ℕ)). c.name.text.items ∷ l) (marked cs)
+marked (c ∷ cs) = ap (λ (l : List (List ℕ)). c.name.text ∷ l) (marked cs)
 
 pub marks_are : (cs : List Class) (x : List ℕ) → is_among x (names_in (with_all [] (marks cs))) ≡ is_among x (class_names cs)
 marks_are cs x = sym (found_among x (with_all [] (marks cs))) ∙ ap is_some (found_filled x (marks cs)) ∙ found_among x (marks cs) ∙ ap (is_among x) (marked cs)

@@ -1,5 +1,6 @@
 -- The rows of arguments and statements in trees mean what their vectors hold.
-use Rattle.std.proofs.Common.{◌≡◌, ℕ, zero, suc, ◌+◌, ◌<◌, ◌≤◌, List, [], ◌∷◌, ◌++◌, length, take, get_or, Option, Some, None, refl, sym, ap, ◌∙◌, arith, Vec, Global}
+use Rattle.std.specs.Prelude.{is_some}
+use Rattle.std.proofs.Common.{◌≡◌, ℕ, true, false, zero, suc, ◌+◌, ◌<◌, ◌≤◌, List, [], ◌∷◌, ◌++◌, length, take, get_or, Option, Some, None, refl, sym, ap, ◌∙◌, arith, Vec, Global}
 use Rattle.jack_meaning.specs.Text as meaning
 use Rattle.scan_text.specs.declared.Place.{Place}
 use Rattle.std.proofs.lemmas.List.{take_more}
@@ -86,17 +87,17 @@ if_counts at e a (Some v) =
     let q = row_counts other.0 other.1 ∙ ap sizes (statements.items_hidden-the_row-Statement-0 v) in
     λ i. 1 + p i + q i
 
-pub if_means : (s : Scope) (k : ℕ) (at : Place) (e : Expression) (a : Vec statements.Statement Global) (b : Option (Vec statements.Statement Global)) → statement_meant s k (statements.If at e a b) ≡ meaning.If k (exp_meant s e) (meaning.text_of (statements_meant s (k + 1) a.items)) (else_meant s (k + 1 + sizes a.items) b)
+pub if_means : (s : Scope) (k : ℕ) (at : Place) (e : Expression) (a : Vec statements.Statement Global) (b : Option (Vec statements.Statement Global)) → statement_meant s k (statements.If at e a b) ≡ meaning.If k (is_some b) (exp_meant s e) (meaning.text_of (statements_meant s (k + 1) a.items)) (else_meant s (k + 1 + sizes a.items) b)
 if_means s k at e a None =
     let row = first_row (statements.If at e a None) in
-    ap (λ (x : meaning.Text). meaning.If k (exp_meant s e) x meaning.End) (block_means s (k + 1) row.0 row.1 ∙ ap (block s (k + 1)) (statements.items_hidden-the_row-Statement-0 a))
+    ap (λ (x : meaning.Text). meaning.If k false (exp_meant s e) x meaning.End) (block_means s (k + 1) row.0 row.1 ∙ ap (block s (k + 1)) (statements.items_hidden-the_row-Statement-0 a))
 if_means s k at e a (Some v) =
     let row = first_row (statements.If at e a (Some v)) in
     let other = second_row (statements.If at e a (Some v)) in
     let p = block_means s (k + 1) row.0 row.1 ∙ ap (block s (k + 1)) (statements.items_hidden-the_row-Statement-0 a) in
     let n = row_counts row.0 row.1 ∙ ap sizes (statements.items_hidden-the_row-Statement-0 a) in
     let q = block_means s (k + 1 + row_size row.1) other.0 other.1 ∙ ap (block s (k + 1 + row_size row.1)) (statements.items_hidden-the_row-Statement-0 v) ∙ ap (λ (m : ℕ). block s (k + 1 + m) v.items) n in
-    λ i. meaning.If k (exp_meant s e) (p i) (q i)
+    λ i. meaning.If k true (exp_meant s e) (p i) (q i)
 
 -- one statement more
 pub statements_meant-push : (s : Scope) (k : ℕ) (ss : List statements.Statement) (t : statements.Statement) → statements_meant s k (ss ++ t ∷ []) ≡ statements_meant s k ss ++ statement_meant s (k + sizes ss) t ∷ []

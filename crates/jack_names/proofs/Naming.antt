@@ -65,7 +65,7 @@ with_all-append es (x ∷ xs) ys = with_all-append (with_new es x.0 x.1) xs ys
 pub class_numbers-append : (n m : ℕ) (xs ys : List Class) → m ≡ n + length xs → class_numbers n (xs ++ ys) ≡ class_numbers n xs ++ class_numbers m ys
 class_numbers-append n m [] ys h = let e : n ≡ m = omega (arith, h) in ap (λ (k : ℕ). class_numbers k ys) e
 class_numbers-append n m (x ∷ xs) ys h =
-    ap (λ (l : List (List ℕ × ℕ)). (x.name.text.items, n) ∷ l) (class_numbers-append (n + 1) m xs ys (omega (arith, h)))
+    ap (λ (l : List (List ℕ × ℕ)). (x.name.text, n) ∷ l) (class_numbers-append (n + 1) m xs ys (omega (arith, h)))
 
 pub all_signatures-append : (n m : ℕ) (xs ys : List Class) → m ≡ n + subroutine_count xs → all_signatures n (xs ++ ys) ≡ all_signatures n xs ++ all_signatures m ys
 all_signatures-append n m [] ys h = let e : n ≡ m = omega (arith, h) in ap (λ (k : ℕ). all_signatures k ys) e

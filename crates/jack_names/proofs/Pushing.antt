@@ -91,17 +91,17 @@ by_variable (Some v) es = refl
 
 by_object : (s : Scope) (o : Option Name) (es : List meaning.Expression) → with_object s o (arguments_of es) ≡ arguments_of (object_meant s o ++ es)
 by_object s None es = refl
-by_object s (Some x) es = by_variable (s.variable x.text.items) es
+by_object s (Some x) es = by_variable (s.variable x.text) es
 
-invoked_is : (s : Scope) (o : Option Name) (f : Name) (args : List meaning.Expression) → invoked s o f (listed args meaning.NoMore) ≡ meaning.Call (called_number s f.text.items (callee s o)) (arguments_of (object_meant s o ++ args))
-invoked_is s o f args = ap (λ xs. meaning.Call (called_number s f.text.items (callee s o)) xs) (ap (with_object s o) (listed_is args) ∙ by_object s o args)
+invoked_is : (s : Scope) (o : Option Name) (f : Name) (args : List meaning.Expression) → invoked s o f (listed args meaning.NoMore) ≡ meaning.Call (called_number s f.text (callee s o)) (arguments_of (object_meant s o ++ args))
+invoked_is s o f args = ap (λ xs. meaning.Call (called_number s f.text (callee s o)) xs) (ap (with_object s o) (listed_is args) ∙ by_object s o args)
 
 in_order : (first next es : List meaning.Expression) → reverse next ++ (reverse first ++ es) ≡ reverse (first ++ next) ++ es
 in_order first next es = sym (append_assoc (reverse next) (reverse first) es) ∙ ap (λ xs. xs ++ es) (sym (reverse-append first next))
 
 -- the object of a call, its arguments, and the call
 pub called : (s : Scope) (o : Option Name) (f : Name) (args : List meaning.Expression) (g n : ℕ) (old middle full new : List Part)
-    → AddsAll (object_meant s o) old middle → AddsAll args middle full → g ≡ called_number s f.text.items (callee s o) → n ≡ length (object_meant s o) + length args
+    → AddsAll (object_meant s o) old middle → AddsAll args middle full → g ≡ called_number s f.text (callee s o) → n ≡ length (object_meant s o) + length args
     → Puts (part.Call g n) full new → Adds (invoked s o f (listed args meaning.NoMore)) old new
 called s o f args g n old middle full new first next number count last es h =
     let all = object_meant s o ++ args in

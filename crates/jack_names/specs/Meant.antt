@@ -1,7 +1,7 @@
 -- The program that trees mean (book, chapters 9 to 12): names become numbers, true is -1, false and null are 0, the operators * and / are calls
 -- of Math, a string is made by String.new and filled by appendChar, and a method call has its object as first argument. Each statement gets its
 -- number in the order of the text, and a body whose last statement is no `return` gets one. A constructor first takes the memory of its object.
-use Rattle.std.specs.Prelude.{ℕ, ◌+◌, ◌%◌, List, [], ◌∷◌, map, Option, Some, None, length, codes, Vec}
+use Rattle.std.specs.Prelude.{ℕ, ◌+◌, ◌%◌, Bool, true, false, List, [], ◌∷◌, map, Option, Some, None, length, codes, Vec}
 use Rattle.std.specs.Global.{Global}
 use Rattle.jack_meaning.specs.Text as meaning
 use Rattle.jack_tree.specs.declared.tree.Name.{Name}
@@ -37,7 +37,7 @@ declared_meant None = meaning.Literal 0
 declared_meant (Some v) = slot_meant v.slot
 
 abbrev pub variable_meant : Scope → Name → meaning.Expression
-variable_meant s x = declared_meant (s.variable x.text.items)
+variable_meant s x = declared_meant (s.variable x.text)
 
 -- the number of a subroutine
 abbrev pub number_by : Option Signature → ℕ
@@ -63,10 +63,10 @@ with_variable (Some v) es = meaning.More (slot_meant v.slot) es
 
 abbrev pub with_object : Scope → Option Name → meaning.Expressions → meaning.Expressions
 with_object s None es = meaning.More meaning.This es
-with_object s (Some x) es = with_variable (s.variable x.text.items) es
+with_object s (Some x) es = with_variable (s.variable x.text) es
 
 abbrev pub invoked : Scope → Option Name → Name → meaning.Expressions → meaning.Expression
-invoked s o f es = meaning.Call (called_number s f.text.items (callee s o)) (with_object s o es)
+invoked s o f es = meaning.Call (called_number s f.text (callee s o)) (with_object s o es)
 
 -- one argument and two
 abbrev pub one : meaning.Expression → meaning.Expressions
@@ -90,7 +90,7 @@ string_meant s text =
 
 abbrev pub constant_meant : Scope → Constant → meaning.Expression
 constant_meant s (constant.Integer n) = meaning.Literal n
-constant_meant s (constant.Text t) = string_meant s t.text.items
+constant_meant s (constant.Text t) = string_meant s t.text
 constant_meant s constant.True = meaning.Literal 65535
 constant_meant s constant.False = meaning.Literal 0
 constant_meant s constant.Null = meaning.Literal 0
@@ -163,7 +163,7 @@ let_by None n e = meaning.Let n (meaning.Local 0) e
 let_by (Some v) n e = assigned v.slot n e
 
 abbrev pub let_meant : Scope → ℕ → Name → Option Expression → Expression → meaning.Statement
-let_meant s n x None e = let_by (s.variable x.text.items) n (exp_meant s e)
+let_meant s n x None e = let_by (s.variable x.text) n (exp_meant s e)
 let_meant s n x (Some i) e = meaning.Store n (variable_meant s x) (exp_meant s i) (exp_meant s e)
 
 -- `return;` is `return 0;`
@@ -171,11 +171,16 @@ abbrev pub value_meant : Scope → Option Expression → meaning.Expression
 value_meant s None = meaning.Literal 0
 value_meant s (Some e) = exp_meant s e
 
+-- whether the text has an `else`, be it one without statements
+abbrev pub is_else : statements.Held-Statement-If-3 → Bool
+is_else statements.None' = false
+is_else (statements.Some' m a) = true
+
 -- a statement whose number is n; those in it follow
 abbrev mutual
   pub statement_meant : Scope → ℕ → statements.Statement → meaning.Statement
   statement_meant s n (statements.Let at x i e) = let_meant s n x i e
-  statement_meant s n (statements.If' at e m a b) = meaning.If n (exp_meant s e) (block_meant s (n + 1) a) (other_meant s (n + 1 + row_size a) b)
+  statement_meant s n (statements.If' at e m a b) = meaning.If n (is_else b) (exp_meant s e) (block_meant s (n + 1) a) (other_meant s (n + 1 + row_size a) b)
   statement_meant s n (statements.While' at e m a) = meaning.While n (exp_meant s e) (block_meant s (n + 1) a)
   statement_meant s n (statements.Do at c) = meaning.Do n (call_meant s c)
   statement_meant s n (statements.Return at v) = meaning.Return n (value_meant s v)

@@ -43,4 +43,4 @@ most _ = 4294967296
 
 -- the names of classes, as entries of a table that only tells which are there
 abbrev pub marks : List Class → List (List ℕ × Unit {0})
-marks cs = map (λ c. (c.name.text.items, tt)) cs
+marks cs = map (λ c. (c.name.text, tt)) cs

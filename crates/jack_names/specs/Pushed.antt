@@ -41,4 +41,4 @@ object_by (Some v) = slot_meant v.slot ∷ []
 
 abbrev pub object_meant : Scope → Option Name → List meaning.Expression
 object_meant s None = meaning.This ∷ []
-object_meant s (Some x) = object_by (s.variable x.text.items)
+object_meant s (Some x) = object_by (s.variable x.text)

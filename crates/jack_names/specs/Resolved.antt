@@ -1,6 +1,7 @@
 -- What resolving the names of a program answers.
-use Rattle.std.specs.Prelude.{◌≡◌, ℕ, List, Option, None, Result, Ok, Err, Vec}
-use Rattle.std.specs.Global.{Global}
+use Rattle.std.specs.Prelude.{◌≡◌, ℕ, List, Option, None, Result, Ok, Err}
+use Rattle.jack_core.specs.declared.program.Subroutine.{Subroutine}
+use Rattle.jack_core.specs.declared.program.Class.{Class}
 use Rattle.jack_core.specs.declared.program.Core.{Core}
 use Rattle.jack_names.specs.Faults.{Told, Checks}
 use Rattle.jack_names.specs.declared.fault.NameError.{NameError}
@@ -10,5 +11,9 @@ abbrev pub Resolves : Option Told → Result Core NameError → Type 0
 Resolves wanted (Ok core) = wanted ≡ None
 Resolves wanted (Err e) = Checks wanted (Err e)
 
-abbrev pub seen_bytes : Vec ℕ Global → List ℕ
-seen_bytes v = v.items
+-- the name of a subroutine, and of a class
+abbrev pub the_name : Subroutine → List ℕ
+the_name s = s.name
+
+abbrev pub the_class_name : Class → List ℕ
+the_class_name c = c.name

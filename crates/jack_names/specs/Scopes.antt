@@ -68,7 +68,7 @@ callee_by (Some v) class = through way.ByObject v.class
 
 abbrev pub callee : Scope → Option Name → Option Callee
 callee s None = Some (record { way = way.Own; class = s.own })
-callee s (Some x) = callee_by (s.variable x.text.items) (s.class x.text.items)
+callee s (Some x) = callee_by (s.variable x.text) (s.class x.text)
 
 -- What is wrong with the front name of a call: it leads to no class, or it is a field in a function.
 abbrev pub front_by : Form → Option Declared → Option Callee → Option NameKind
@@ -78,7 +78,7 @@ front_by f (Some v) (Some c) = field_kind f v
 
 abbrev pub front_fault : Scope → Option Name → Option Told
 front_fault s None = None
-front_fault s (Some x) = told_if s.source x.text.items x.place (front_by s.form (s.variable x.text.items) (callee s (Some x)))
+front_fault s (Some x) = told_if s.source x.text x.place (front_by s.form (s.variable x.text) (callee s (Some x)))
 
 -- the number of arguments differs
 abbrev pub count_kind : ℕ → Signature → Option NameKind
@@ -155,15 +155,15 @@ string_fault s text at =
     else made_told s.source (codes "String") (codes "new") at (new_kind s)
 
 abbrev pub call_fault : Scope → Option Name → Name → ℕ → Option Told
-call_fault s o f n = first_of (front_fault s o) (told_if s.source f.text.items f.place (called_kind s f.text.items n (callee s o)))
+call_fault s o f n = first_of (front_fault s o) (told_if s.source f.text f.place (called_kind s f.text n (callee s o)))
 
 -- what is wrong with a use
 abbrev pub use_fault : Scope → Use → Option Told
-use_fault s (Variable x) = told_if s.source x.text.items x.place (variable_kind s.form (s.variable x.text.items))
+use_fault s (Variable x) = told_if s.source x.text x.place (variable_kind s.form (s.variable x.text))
 use_fault s (This at) = told_if s.source (codes "this") at (this_kind s.form)
 use_fault s (Calls o f n) = call_fault s o f n
 use_fault s (Makes c f n at) = made_told s.source c f at (made_kind s way.ByClass f n (s.class c))
-use_fault s (Text t) = string_fault s t.text.items t.place
+use_fault s (Text t) = string_fault s t.text t.place
 
 -- the first use with which something is wrong
 abbrev pub first_fault : Scope → List Use → Option Told

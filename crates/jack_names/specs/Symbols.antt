@@ -23,12 +23,12 @@ use Rattle.jack_names.specs.declared.scope.Signature.{Signature}
 -- each class by its number, in order from this one on
 abbrev pub class_numbers : ℕ → List Class → List (List ℕ × ℕ)
 class_numbers n [] = []
-class_numbers n (c ∷ cs) = (c.name.text.items, n) ∷ class_numbers (n + 1) cs
+class_numbers n (c ∷ cs) = (c.name.text, n) ∷ class_numbers (n + 1) cs
 
 -- the subroutines of a class, numbered from this one on
 abbrev pub signatures : ℕ → List Subroutine → List (List ℕ × Signature)
 signatures n [] = []
-signatures n (s ∷ ss) = (s.name.text.items, record { number = n; form = s.form; parameters = length s.parameters.items }) ∷ signatures (n + 1) ss
+signatures n (s ∷ ss) = (s.name.text, record { number = n; form = s.form; parameters = length s.parameters.items }) ∷ signatures (n + 1) ss
 
 -- for each class its subroutines, which are numbered through all classes
 abbrev pub all_signatures : ℕ → List Class → List (List (List ℕ × Signature))
@@ -51,13 +51,13 @@ symbols_of all = record { class = λ x. found x (class_numbers 0 all); subroutin
 
 -- the number of the class that is a type
 abbrev pub type_class : Symbols → types.Type → Option ℕ
-type_class symbols (type.Class n) = symbols.class n.text.items
+type_class symbols (type.Class n) = symbols.class n.text
 type_class symbols _ = None
 
 -- names of one declaration, numbered from this one on
 abbrev pub line_entries : (ℕ → Slot) → Option ℕ → ℕ → List Name → List (List ℕ × Declared)
 line_entries at class k [] = []
-line_entries at class k (x ∷ xs) = (x.text.items, record { slot = at k; class = class }) ∷ line_entries at class (k + 1) xs
+line_entries at class k (x ∷ xs) = (x.text, record { slot = at k; class = class }) ∷ line_entries at class (k + 1) xs
 
 -- Fields and statics are numbered apart, in order of declaration; f fields and s statics come before.
 abbrev pub member_line : Symbols → ℕ → ℕ → ClassVariables → scopes.Scope → List (List ℕ × Declared)
@@ -86,7 +86,7 @@ member_entries symbols f s (v ∷ vs) = member_line symbols f s v v.scope ++ mem
 
 abbrev pub parameter_entries : Symbols → ℕ → List Parameter → List (List ℕ × Declared)
 parameter_entries symbols k [] = []
-parameter_entries symbols k (p ∷ ps) = (p.name.text.items, record { slot = slot.Argument k; class = type_class symbols p.kind }) ∷ parameter_entries symbols (k + 1) ps
+parameter_entries symbols k (p ∷ ps) = (p.name.text, record { slot = slot.Argument k; class = type_class symbols p.kind }) ∷ parameter_entries symbols (k + 1) ps
 
 abbrev pub local_entries : Symbols → ℕ → List Locals → List (List ℕ × Declared)
 local_entries symbols k [] = []

@@ -14,19 +14,19 @@ use Rattle.jack_names.specs.declared.fault.NameKind.{NameKind}
 use Rattle.jack_names.specs.declared.fault.NameKind.TheVariants as kinds
 
 abbrev pub told_name : Source → NameKind → Name → Told
-told_name source kind x = told_in source x.text.items x.place kind
+told_name source kind x = told_in source x.text x.place kind
 
 -- a name that is there before
 abbrev pub twice_fault : Source → NameKind → List (List ℕ) → Name → Option Told
-twice_fault source kind before x = if is_among x.text.items before then Some (told_name source kind x) else None
+twice_fault source kind before x = if is_among x.text before then Some (told_name source kind x) else None
 
 abbrev pub texts_of : List Name → List (List ℕ)
-texts_of xs = map (λ x. x.text.items) xs
+texts_of xs = map (λ x. x.text) xs
 
 -- the first of these names that is there before, or stands among them before
 abbrev pub first_twice : Source → NameKind → List (List ℕ) → List Name → Option Told
 first_twice source kind before [] = None
-first_twice source kind before (x ∷ xs) = first_of (twice_fault source kind before x) (first_twice source kind (before ++ x.text.items ∷ []) xs)
+first_twice source kind before (x ∷ xs) = first_of (twice_fault source kind before x) (first_twice source kind (before ++ x.text ∷ []) xs)
 
 abbrev pub names_of : Names → List Name
 names_of ns = ns.first ∷ ns.more.items
@@ -58,7 +58,7 @@ abbrev pub subroutines_fault : Source → List (List ℕ) → List Subroutine �
 subroutines_fault source before [] = None
 subroutines_fault source before (s ∷ ss) =
     first_of (twice_fault source kinds.MemberTwice before s.name)
-    (first_of (variables_fault source s) (subroutines_fault source (before ++ s.name.text.items ∷ []) ss))
+    (first_of (variables_fault source s) (subroutines_fault source (before ++ s.name.text ∷ []) ss))
 
 abbrev pub members_fault : Source → Class → Option Told
 members_fault source c = first_of (members_twice source [] c.variables.items) (subroutines_fault source [] c.subroutines.items)
@@ -68,7 +68,7 @@ source_of shipped c = record { shipped = shipped; file = c.file }
 
 -- A class is named as its file, without the ending.
 abbrev pub file_fault : Source → Class → Option Told
-file_fault source c = if bytes_eq (c.name.text.items ++ codes ".jack") c.file then None else Some (told_name source kinds.FileName c.name)
+file_fault source c = if bytes_eq (c.name.text ++ codes ".jack") c.file then None else Some (told_name source kinds.FileName c.name)
 
 -- The first fault of kinds 1 to 4 in a class, where classes of these names are already there.
 abbrev pub declaration_fault : Bool → List (List ℕ) → Class → Option Told
@@ -80,4 +80,4 @@ declaration_fault shipped before c =
 abbrev pub declarations_fault : Bool → List (List ℕ) → List Class → Option Told
 declarations_fault shipped before [] = None
 declarations_fault shipped before (c ∷ cs) =
-    first_of (declaration_fault shipped before c) (declarations_fault shipped (before ++ c.name.text.items ∷ []) cs)
+    first_of (declaration_fault shipped before c) (declarations_fault shipped (before ++ c.name.text ∷ []) cs)

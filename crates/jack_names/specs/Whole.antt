@@ -25,7 +25,7 @@ abbrev pub no_place : Place
 no_place = record { line = 0; column = 0 }
 
 abbrev pub class_names : List Class → List (List ℕ)
-class_names cs = map (λ c. c.name.text.items) cs
+class_names cs = map (λ c. c.name.text) cs
 
 -- Declarations: the folder's classes are tried with those of the operating system already there.
 abbrev pub declared_fault : List Class → List Class → Option Told
@@ -174,11 +174,11 @@ program_meant own os =
 
 -- the names of the subroutines, in order of their numbers
 abbrev pub subroutine_name : List ℕ → Subroutine → List ℕ
-subroutine_name class t = class ++ (codes "." ++ t.name.text.items)
+subroutine_name class t = class ++ (codes "." ++ t.name.text)
 
 abbrev pub names_meant : List Class → List (List ℕ)
 names_meant [] = []
-names_meant (c ∷ cs) = map (subroutine_name c.name.text.items) c.subroutines.items ++ names_meant cs
+names_meant (c ∷ cs) = map (subroutine_name c.name.text) c.subroutines.items ++ names_meant cs
 
 abbrev pub all_names_meant : List Class → List Class → List (List ℕ)
 all_names_meant own os = codes "start" ∷ (names_meant own ++ names_meant os)

@@ -61,7 +61,7 @@ fn let_meant<'a>(
     match index {
         None => {
             let value = expression_meant(alloc, scope, value)?;
-            Ok(let_by(number, scope.variable(name.text.as_slice()), value))
+            Ok(let_by(number, scope.variable(name.text.as_bytes()), value))
         }
         Some(index) => {
             let index = expression_meant(alloc, scope, index)?;
@@ -96,9 +96,11 @@ fn statement_meant<'a>(
         Statement::If(_, condition, holds, fails) => {
             let condition = expression_meant(alloc, scope, condition)?;
             let (holds, middle) = statements_meant(alloc, scope, number + 1, holds)?;
+            let has_else = fails.is_some();
             let (fails, next) = else_meant(alloc, scope, middle, fails)?;
             let text = CoreStatement::If {
                 number,
+                has_else,
                 condition,
                 holds,
                 fails,

@@ -60,7 +60,7 @@ fn tell_made(
 fn check_variable<'a>(alloc: Global, scope: &Scope<'a, '_>, name: &'a Name) -> Result<(), NameError>
     ensures { Checks (use_fault (the_scope scope.now) (Variable name.now)) result }
 {
-    let text = name.text.as_slice();
+    let text = name.text.as_bytes();
     let kind = variable_kind(scope.form, scope.variable(text));
     tell_if(alloc, scope, text, name.place, kind)
 }
@@ -95,7 +95,7 @@ fn check_string(alloc: Global, scope: &Scope, text: &Name) -> Result<(), NameErr
     ensures { Checks (use_fault (the_scope scope.now) (Text text.now)) result }
 {
     let first = new_kind(scope);
-    let second = append_kind(scope, text.text.as_slice());
+    let second = append_kind(scope, text.text.as_bytes());
     let class = b"String".as_slice();
     if is_lesser(first, second) {
         tell_made(
@@ -123,7 +123,7 @@ fn check_front<'a>(
     match object {
         None => Ok(()),
         Some(name) => {
-            let text = name.text.as_slice();
+            let text = name.text.as_bytes();
             let kind = front_by(scope.form, scope.variable(text), callee);
             tell_if(alloc, scope, text, name.place, kind)
         }
@@ -141,7 +141,7 @@ fn check_call<'a>(
 {
     let callee = callee(scope, object);
     check_front(alloc, scope, object, callee)?;
-    let text = name.text.as_slice();
+    let text = name.text.as_bytes();
     let kind = called_kind(scope, text, n, callee);
     tell_if(alloc, scope, text, name.place, kind)
 }

@@ -10,12 +10,13 @@ ghost use Rattle.jack_names.specs.Entered.{Finds};
 ghost use Rattle.jack_names.specs.Scoped.{the_scope};
 ghost use Rattle.jack_names.specs.Symbols.{member_entries, variable_entries, class_scope, scope_in, fields_of, statics_of};
 ghost use Rattle.jack_names.specs.Limits.{HasFew, AllHaveFew, IsWithin, AreWithin};
-ghost use Rattle.jack_names.specs.Whole.{class_fault, uses_fault, system_file, start_fault, os_fault, all_statics, subroutine_meant, class_subroutines, subroutines_meant};
+ghost use Rattle.jack_names.specs.Whole.{class_fault, uses_fault, system_file, start_fault, os_fault, all_statics, subroutine_meant, class_subroutines, subroutines_meant, subroutine_name, names_meant};
 ghost use Rattle.jack_names.specs.Named.{the_symbols, the_class_scope};
+ghost use Rattle.jack_names.specs.Resolved.{the_name};
 
 use crate::checks::{check_made, check_subroutine};
 use crate::fault::{File, NO_PLACE, NameError};
-use crate::scope::{ClassScope, Declared, Names, Scope};
+use crate::scope::{ClassScope, Declared, Names, Owner, Scope};
 use crate::subroutine::subroutine_meant;
 use crate::table::Table;
 use crate::variables::{fields_of, members_of, statics_of, variables_of};
@@ -47,14 +48,15 @@ fn scope_in<'a, 'b>(
 fn push_meant<'a>(
     alloc: Global,
     scope: &Scope<'a, '_>,
-    fields: u16,
+    owner: Owner<'_>,
     s: &'a Subroutine,
     subroutines: &mut Vec<CoreSubroutine>,
 ) -> Result<(), AllocError>
     requires { HasFew s.now }
-    ensures { OnOk result (map the_subroutine subroutines.new.items ≡ map the_subroutine subroutines.old.items ++ subroutine_meant (the_scope scope.now) fields s.now ∷ []) }
+    ensures program { OnOk result (map the_subroutine subroutines.new.items ≡ map the_subroutine subroutines.old.items ++ subroutine_meant (the_scope scope.now) owner.entry.fields s.now ∷ []) }
+    ensures names { OnOk result (map the_name subroutines.new.items ≡ map the_name subroutines.old.items ++ subroutine_name owner.entry.name.now s.now ∷ []) }
 {
-    let meant = subroutine_meant(alloc, scope, fields, s)?;
+    let meant = subroutine_meant(alloc, scope, owner, s)?;
     subroutines.push(meant)?;
     Ok(())
 }
@@ -62,35 +64,37 @@ fn push_meant<'a>(
 fn resolve_subroutine<'a>(
     alloc: Global,
     class: ClassScope<'a, '_>,
-    fields: u16,
+    owner: Owner<'_>,
     s: &'a Subroutine,
     subroutines: &mut Vec<CoreSubroutine>,
 ) -> Result<(), NameError>
     requires { HasFew s.now }
     ensures checks { Checks (first_fault (scope_in (the_class_scope class.entry) s.now) (subroutine_uses s.now)) result }
-    ensures program { OnOk result (map the_subroutine subroutines.new.items ≡ map the_subroutine subroutines.old.items ++ subroutine_meant (scope_in (the_class_scope class.entry) s.now) fields s.now ∷ []) }
+    ensures program { OnOk result (map the_subroutine subroutines.new.items ≡ map the_subroutine subroutines.old.items ++ subroutine_meant (scope_in (the_class_scope class.entry) s.now) owner.entry.fields s.now ∷ []) }
+    ensures names { OnOk result (map the_name subroutines.new.items ≡ map the_name subroutines.old.items ++ subroutine_name owner.entry.name.now s.now ∷ []) }
 {
     let locals = variables_of(alloc, class.names, s)?;
     let scope = scope_in(class, &locals, s);
     check_subroutine(alloc, &scope, s)?;
-    push_meant(alloc, &scope, fields, s, subroutines)?;
+    push_meant(alloc, &scope, owner, s, subroutines)?;
     Ok(())
 }
 
 fn resolve_subroutines<'a>(
     alloc: Global,
     class: ClassScope<'a, '_>,
-    fields: u16,
+    owner: Owner<'_>,
     trees: &'a [Subroutine],
     subroutines: &mut Vec<CoreSubroutine>,
 ) -> Result<(), NameError>
     requires { AllHaveFew trees.now }
     ensures checks { Checks (class_fault (the_class_scope class.entry) trees.now) result }
-    ensures program { OnOk result (map the_subroutine subroutines.new.items ≡ map the_subroutine subroutines.old.items ++ class_subroutines (the_class_scope class.entry) fields trees.now) }
+    ensures program { OnOk result (map the_subroutine subroutines.new.items ≡ map the_subroutine subroutines.old.items ++ class_subroutines (the_class_scope class.entry) owner.entry.fields trees.now) }
+    ensures names { OnOk result (map the_name subroutines.new.items ≡ map the_name subroutines.old.items ++ map (subroutine_name owner.entry.name.now) trees.now) }
 {
     let mut rest = trees;
     while let Some((s, others)) = rest.split_first() {
-        resolve_subroutine(alloc, class, fields, s, subroutines)?;
+        resolve_subroutine(alloc, class, owner, s, subroutines)?;
         rest = others;
     }
     Ok(())
@@ -134,11 +138,16 @@ fn resolve_class<'a>(
     requires limits { IsWithin class.now }
     ensures checks { Checks (class_fault (class_scope (the_symbols names.now) shipped own statics class.now) class.now.subroutines.items) result }
     ensures program { OnOk result (map the_subroutine subroutines.new.items ≡ map the_subroutine subroutines.old.items ++ class_subroutines (class_scope (the_symbols names.now) shipped own statics class.now) (fields_of class.now.variables.items) class.now.subroutines.items) }
+    ensures names { OnOk result (map the_name subroutines.new.items ≡ map the_name subroutines.old.items ++ map (subroutine_name class.now.name.text) class.now.subroutines.items) }
 {
     let members = members_of(alloc, names, statics, &class.variables)?;
     let scope = class_scope(names, &members, shipped, own, statics, class);
     let fields = fields_of(&class.variables) as u16;
-    resolve_subroutines(alloc, scope, fields, &class.subroutines, subroutines)
+    let owner = Owner {
+        name: &class.name.text,
+        fields,
+    };
+    resolve_subroutines(alloc, scope, owner, &class.subroutines, subroutines)
 }
 
 /// The subroutines of classes, before which there are so many classes and statics: their first fault, or what they mean.
@@ -156,6 +165,7 @@ pub(crate) fn resolve_classes<'a>(
     requires limits { AreWithin classes.now }
     ensures checks { Checks (uses_fault (the_symbols names.now) shipped first before classes.now) result }
     ensures program { OnOk result (map the_subroutine subroutines.new.items ≡ map the_subroutine subroutines.old.items ++ subroutines_meant (the_symbols names.now) shipped first before classes.now) }
+    ensures names { OnOk result (map the_name subroutines.new.items ≡ map the_name subroutines.old.items ++ names_meant classes.now) }
 {
     let mut own = first;
     let mut statics = before;
@@ -218,6 +228,7 @@ pub(crate) fn resolve_system<'a>(
     requires limits { AreWithin classes.now }
     ensures checks { Checks (os_fault (the_symbols names.now) first before classes.now) result }
     ensures program { OnOk result (map the_subroutine subroutines.new.items ≡ map the_subroutine subroutines.old.items ++ subroutines_meant (the_symbols names.now) true first before classes.now) }
+    ensures names { OnOk result (map the_name subroutines.new.items ≡ map the_name subroutines.old.items ++ names_meant classes.now) }
 {
     let mut own = first;
     let mut statics = before;

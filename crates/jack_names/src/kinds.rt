@@ -98,7 +98,7 @@ pub(crate) fn callee<'a>(scope: &Scope<'a, '_>, object: &'a Option<Name>) -> Opt
             class: scope.own,
         }),
         Some(name) => {
-            let name = name.text.as_slice();
+            let name = name.text.as_bytes();
             callee_by(scope.variable(name), scope.class(name))
         }
     }

@@ -42,7 +42,7 @@ fn variable_part<'a>(scope: &Scope<'a, '_>, name: &'a Name) -> Part
     ensures takes { takes result ≡ 0 }
     ensures made { made result [] ≡ variable_meant (the_scope scope.now) name.now }
 {
-    declared_part(scope.variable(name.text.as_slice()))
+    declared_part(scope.variable(name.text.as_bytes()))
 }
 
 pub(crate) fn number_by(signature: Option<Signature>) -> u32
@@ -101,7 +101,7 @@ fn push_object<'a>(
 {
     let part = match object {
         None => Part::This,
-        Some(name) => match scope.variable(name.text.as_slice()) {
+        Some(name) => match scope.variable(name.text.as_bytes()) {
             None => return Ok(0),
             Some(variable) => slot_part(variable.slot),
         },
@@ -147,7 +147,7 @@ fn push_constant(
 {
     match constant {
         Constant::Integer(n) => push_value(parts, Part::Literal(*n)),
-        Constant::Text(text) => push_string(parts, scope, text.text.as_slice()),
+        Constant::Text(text) => push_string(parts, scope, text.text.as_bytes()),
         Constant::True => push_value(parts, Part::Literal(65535)),
         Constant::False | Constant::Null => push_value(parts, Part::Literal(0)),
         Constant::This(_) => push_value(parts, Part::This),
@@ -234,7 +234,7 @@ fn push_call<'a>(
     push_arguments(parts, scope, &call.arguments)?;
     let number = called_number(
         scope,
-        call.name.text.as_slice(),
+        call.name.text.as_bytes(),
         callee(scope, &call.object),
     );
     push_part(parts, Part::Call(number, objects + call.arguments.len()))

@@ -24,7 +24,7 @@ fn enter_classes<'a>(
     let mut number = first;
     let mut rest = classes;
     while let Some((class, others)) = rest.split_first() {
-        table.enter(class.name.text.as_slice(), number)?;
+        table.enter(class.name.text.as_bytes(), number)?;
         number += 1;
         rest = others;
     }
@@ -49,7 +49,7 @@ fn signatures_of<'a>(
             form: s.form,
             parameters: s.parameters.len(),
         };
-        table.enter(s.name.text.as_slice(), signature)?;
+        table.enter(s.name.text.as_bytes(), signature)?;
         number += 1;
         rest = others;
     }

@@ -1,14 +1,14 @@
 //! The names of a whole program.
 
-ghost use Rattle.std.specs.Prelude.{◌≡◌, ◌+◌, ◌≤◌, ◌<◌, ◌^◌, ◌++◌, ◌∷◌, [], length, map, IfOk, OnOk, IsOk, SomeIff, ◌↔◌, ◌-◌};
-ghost use Rattle.jack_core.specs.Texts.{the_subroutine, the_class, the_program};
+ghost use Rattle.std.specs.Prelude.{◌≡◌, ◌+◌, ◌≤◌, ◌<◌, ◌^◌, ◌++◌, ◌∷◌, [], length, map, codes, IfOk, OnOk, IsOk, SomeIff, ◌↔◌, ◌-◌};
+ghost use Rattle.jack_core.specs.Texts.{the_subroutine, the_class, the_program, names_of, class_names_of};
 ghost use Rattle.jack_names.specs.Faults.{Checks};
 ghost use Rattle.jack_names.specs.Entered.{table_of};
 ghost use Rattle.jack_names.specs.Symbols.{fields_of, statics_of};
 ghost use Rattle.jack_names.specs.Limits.{AreWithin, subroutine_count};
-ghost use Rattle.jack_names.specs.Whole.{declared_fault, is_plain, main_fault, all_statics, all_uses_fault, first_name_fault, all_subroutines_meant, start_subroutine, class_meant, program_meant, subroutine_name, names_meant, all_names_meant};
+ghost use Rattle.jack_names.specs.Whole.{declared_fault, is_plain, main_fault, all_statics, all_uses_fault, first_name_fault, all_subroutines_meant, start_subroutine, class_meant, program_meant, class_names, names_meant, all_names_meant};
 ghost use Rattle.jack_names.specs.Named.{with_all, the_symbols, marks};
-ghost use Rattle.jack_names.specs.Resolved.{Resolves, seen_bytes};
+ghost use Rattle.jack_names.specs.Resolved.{Resolves, the_name, the_class_name};
 
 use crate::classes::{resolve_classes, resolve_system};
 use crate::fault::{File, NO_PLACE, NameError, NameKind, tell};
@@ -20,8 +20,8 @@ use crate::table::Table;
 use crate::twice::check_declarations;
 use crate::variables::{fields_of, left_by, statics_of};
 use jack_core::{Class as CoreClass, Core, Kind, Subroutine as CoreSubroutine};
-use jack_tree::{Class, Subroutine};
-use outer_world::Name as FileName;
+use jack_tree::Class;
+use outer_world::Name as Text;
 use std::alloc::{AllocError, Global};
 
 // The statics of all classes have numbers below this one.
@@ -32,7 +32,7 @@ fn mark_classes<'a>(seen: &mut Table<'a, ()>, classes: &'a [Class]) -> Result<()
 {
     let mut rest = classes;
     while let Some((class, others)) = rest.split_first() {
-        seen.enter(class.name.text.as_slice(), ())?;
+        seen.enter(class.name.text.as_bytes(), ())?;
         rest = others;
     }
     Ok(())
@@ -62,7 +62,7 @@ fn check_main(alloc: Global, names: &Names) -> Result<(), NameError>
     if is_plain(names.find(b"Main".as_slice(), b"main".as_slice())) {
         return Ok(());
     }
-    let path = FileName::new(alloc, "Main.jack")?;
+    let path = Text::new(alloc, "Main.jack")?;
     let file = File {
         shipped: false,
         name: &path,
@@ -126,6 +126,7 @@ fn resolve_all<'a>(
     requires os { AreWithin os.now }
     ensures checks { Checks (all_uses_fault (the_symbols names.now) own.now os.now) result }
     ensures program { OnOk result (map the_subroutine subroutines.new.items ≡ map the_subroutine subroutines.old.items ++ all_subroutines_meant (the_symbols names.now) own.now os.now) }
+    ensures names { OnOk result (map the_name subroutines.new.items ≡ map the_name subroutines.old.items ++ (names_meant own.now ++ names_meant os.now)) }
 {
     resolve_classes(alloc, names, false, 0, 0, own, subroutines)?;
     resolve_system(
@@ -140,9 +141,11 @@ fn resolve_all<'a>(
 
 // Subroutine 0, which no call names.
 fn started(alloc: Global) -> Result<Vec<CoreSubroutine>, AllocError>
-    ensures { IfOk result (λ r. map the_subroutine r.items ≡ start_subroutine ∷ []) }
+    ensures program { IfOk result (λ r. map the_subroutine r.items ≡ start_subroutine ∷ []) }
+    ensures names { IfOk result (λ r. map the_name r.items ≡ codes "start" ∷ []) }
 {
     let start = CoreSubroutine {
+        name: Text::new(alloc, "start")?,
         kind: Kind::Function,
         class: 0,
         arguments: 0,
@@ -152,84 +155,41 @@ fn started(alloc: Global) -> Result<Vec<CoreSubroutine>, AllocError>
     Ok(vec![in alloc; start]?)
 }
 
-fn class_meant(class: &Class) -> CoreClass
+fn class_meant(class: &Class) -> Result<CoreClass, AllocError>
     requires fields { fields_of class.now.variables.items ≤ 16384 }
     requires statics { statics_of class.now.variables.items ≤ 2 ^ 31 }
-    ensures { the_class result ≡ class_meant class.now }
+    ensures means { IfOk result (λ r. the_class r ≡ class_meant class.now) }
+    ensures name { IfOk result (λ r. the_class_name r ≡ class.now.name.text) }
 {
-    CoreClass {
+    Ok(CoreClass {
+        name: class.name.text.clone()?,
         fields: fields_of(&class.variables),
         statics: statics_of(&class.variables),
-    }
+    })
 }
 
 // The classes, behind these.
 fn push_classes(classes: &mut Vec<CoreClass>, trees: &[Class]) -> Result<(), AllocError>
     requires limits { AreWithin trees.now }
     requires statics { all_statics trees.now ≤ 2 ^ 31 }
-    ensures { OnOk result (map the_class classes.new.items ≡ map the_class classes.old.items ++ map class_meant trees.now) }
+    ensures means { OnOk result (map the_class classes.new.items ≡ map the_class classes.old.items ++ map class_meant trees.now) }
+    ensures names { OnOk result (map the_class_name classes.new.items ≡ map the_class_name classes.old.items ++ class_names trees.now) }
 {
     let mut rest = trees;
     while let Some((class, others)) = rest.split_first() {
-        classes.push(class_meant(class))?;
+        let meant = class_meant(class)?;
+        classes.push(meant)?;
         rest = others;
     }
     Ok(())
-}
-
-fn subroutine_name(alloc: Global, class: &[u8], s: &Subroutine) -> Result<Vec<u8>, AllocError>
-    ensures { IfOk result (λ r. r.items ≡ subroutine_name class.now s.now) }
-{
-    let mut name = Vec::from_slice(alloc, class)?;
-    name.extend_from_slice(b".".as_slice())?;
-    name.extend_from_slice(s.name.text.as_slice())?;
-    Ok(name)
-}
-
-// The names of the subroutines of a class, behind these.
-fn push_class_names(
-    alloc: Global,
-    class: &[u8],
-    trees: &[Subroutine],
-    names: &mut Vec<Vec<u8>>,
-) -> Result<(), AllocError>
-    ensures { OnOk result (map seen_bytes names.new.items ≡ map seen_bytes names.old.items ++ map (subroutine_name class.now) trees.now) }
-{
-    let mut rest = trees;
-    while let Some((s, others)) = rest.split_first() {
-        let name = subroutine_name(alloc, class, s)?;
-        names.push(name)?;
-        rest = others;
-    }
-    Ok(())
-}
-
-fn push_names(alloc: Global, trees: &[Class], names: &mut Vec<Vec<u8>>) -> Result<(), AllocError>
-    ensures { OnOk result (map seen_bytes names.new.items ≡ map seen_bytes names.old.items ++ names_meant trees.now) }
-{
-    let mut rest = trees;
-    while let Some((class, others)) = rest.split_first() {
-        push_class_names(alloc, class.name.text.as_slice(), &class.subroutines, names)?;
-        rest = others;
-    }
-    Ok(())
-}
-
-fn all_names(alloc: Global, own: &[Class], os: &[Class]) -> Result<Vec<Vec<u8>>, AllocError>
-    ensures { IfOk result (λ r. map seen_bytes r.items ≡ all_names_meant own.now os.now) }
-{
-    let start = Vec::from_slice(alloc, b"start".as_slice())?;
-    let mut names = vec![in alloc; start]?;
-    push_names(alloc, own, &mut names)?;
-    push_names(alloc, os, &mut names)?;
-    Ok(names)
 }
 
 fn all_classes(alloc: Global, own: &[Class], os: &[Class]) -> Result<Vec<CoreClass>, AllocError>
     requires statics { all_statics own.now + all_statics os.now < 2 ^ 31 }
     requires own { AreWithin own.now }
     requires os { AreWithin os.now }
-    ensures { IfOk result (λ r. map the_class r.items ≡ map class_meant own.now ++ map class_meant os.now) }
+    ensures means { IfOk result (λ r. map the_class r.items ≡ map class_meant own.now ++ map class_meant os.now) }
+    ensures names { IfOk result (λ r. map the_class_name r.items ≡ class_names own.now ++ class_names os.now) }
 {
     let mut classes = Vec::new(alloc);
     push_classes(&mut classes, own)?;
@@ -246,7 +206,8 @@ fn resolve_numbered<'a>(alloc: Global, own: &'a [Class], os: &'a [Class]) -> Res
     requires os { AreWithin os.now }
     ensures checks { Resolves (first_name_fault own.now os.now) result }
     ensures program { IfOk result (λ core. the_program core ≡ program_meant own.now os.now) }
-    ensures names { IfOk result (λ core. map seen_bytes core.names.items ≡ all_names_meant own.now os.now) }
+    ensures names { IfOk result (λ core. names_of core ≡ all_names_meant own.now os.now) }
+    ensures classes { IfOk result (λ core. class_names_of core ≡ class_names own.now ++ class_names os.now) }
 {
     check_declared(alloc, own, os)?;
     let names = names_of(alloc, own, os)?;
@@ -257,12 +218,12 @@ fn resolve_numbered<'a>(alloc: Global, own: &'a [Class], os: &'a [Class]) -> Res
         classes: all_classes(alloc, own, os)?,
         subroutines,
         init: number_by(names.find(b"Sys".as_slice(), b"init".as_slice())),
-        names: all_names(alloc, own, os)?,
     })
 }
 
 /// The program that the classes of a folder and those of the operating system mean, or the first fault in their names:
-/// in what they declare, at `Main.main`, or in what they use. Statics without a number are a want of memory.
+/// in what they declare, at `Main.main`, or in what they use. It has the names of all classes and of all subroutines, each made once.
+/// Statics without a number are a want of memory.
 pub fn resolve<'a>(alloc: Global, own: &'a [Class], os: &'a [Class]) -> Result<Core, NameError>
     requires classes { length own.now + length os.now < 2 ^ 31 }
     requires subroutines { subroutine_count own.now + subroutine_count os.now < 2 ^ 31 }
@@ -270,7 +231,8 @@ pub fn resolve<'a>(alloc: Global, own: &'a [Class], os: &'a [Class]) -> Result<C
     requires os { AreWithin os.now }
     ensures checks { Resolves (first_name_fault own.now os.now) result }
     ensures program { IfOk result (λ core. the_program core ≡ program_meant own.now os.now) }
-    ensures names { IfOk result (λ core. map seen_bytes core.names.items ≡ all_names_meant own.now os.now) }
+    ensures names { IfOk result (λ core. names_of core ≡ all_names_meant own.now os.now) }
+    ensures classes { IfOk result (λ core. class_names_of core ≡ class_names own.now ++ class_names os.now) }
 {
     check_statics(own, os)?;
     resolve_numbered(alloc, own, os)

@@ -6,6 +6,7 @@ ghost use Rattle.jack_names.specs.Scoped.{the_scope, found_in};
 use crate::fault::File;
 use crate::table::Table;
 use jack_tree::Form;
+use outer_world::Name as Text;
 
 /// Where a variable is: its number among those of its kind. The statics are numbered through all classes.
 #[derive(Clone, Copy, Debug, PartialEq, Eq)]
@@ -60,6 +61,13 @@ pub(crate) struct ClassScope<'a, 'b> {
     pub members: &'b Table<'a, Declared>,
     pub own: u32,
     pub file: File<'b>,
+}
+
+/// What a subroutine has from its class: the class's name, and how many fields each of its objects has.
+#[derive(Clone, Copy)]
+pub(crate) struct Owner<'a> {
+    pub name: &'a Text,
+    pub fields: u16,
 }
 
 /// What names stand for in a subroutine of a form, in the class of a number.

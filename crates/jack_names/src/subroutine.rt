@@ -4,14 +4,16 @@ ghost use Rattle.std.specs.Prelude.{◌≡◌, ◌+◌, ◌≤◌, ◌^◌, leng
 ghost use Rattle.jack_core.specs.Texts.{the_statement, the_kind, the_subroutine};
 ghost use Rattle.jack_names.specs.Sizes.{sizes};
 ghost use Rattle.jack_names.specs.Symbols.{locals_of, objects};
-ghost use Rattle.jack_names.specs.Whole.{begun, is_return, returns, body_meant, kind_meant, subroutine_meant};
+ghost use Rattle.jack_names.specs.Whole.{begun, is_return, returns, body_meant, kind_meant, subroutine_meant, subroutine_name};
 ghost use Rattle.jack_names.specs.Scoped.{the_scope};
+ghost use Rattle.jack_names.specs.Resolved.{the_name};
 
 use crate::bodies::statements_meant;
 use crate::meant::{call_one, literal, made_number};
-use crate::scope::Scope;
+use crate::scope::{Owner, Scope};
 use jack_core::{Kind, Statement as CoreStatement, Subroutine as CoreSubroutine};
 use jack_tree::{Form, Locals, Statement, Subroutine};
+use outer_world::Name as Text;
 use std::alloc::{AllocError, Global};
 
 // The statement by which a constructor takes the memory of its object.
@@ -105,23 +107,35 @@ fn locals_of(locals: &[Locals]) -> usize
     n
 }
 
-/// The subroutine that a tree means in a scope, in a class of so many fields.
+// The whole name of a subroutine, as `Main.main`.
+fn subroutine_name(alloc: Global, class: &Text, s: &Subroutine) -> Result<Text, AllocError>
+    ensures { IfOk result (λ name. name ≡ subroutine_name class.now s.now) }
+{
+    let mut name = String::from_str(alloc, class.as_str())?;
+    name.push_str(".")?;
+    name.push_str(s.name.text.as_str())?;
+    Text::new(alloc, name.as_str())
+}
+
+/// The subroutine that a tree means in a scope, in a class of this name and so many fields.
 pub(crate) fn subroutine_meant<'a>(
     alloc: Global,
     scope: &Scope<'a, '_>,
-    fields: u16,
+    owner: Owner<'_>,
     s: &'a Subroutine,
 ) -> Result<CoreSubroutine, AllocError>
     requires few { 1 + sizes s.now.statements.items ≤ 2 ^ 31 }
     requires parameters { length s.now.parameters.items ≤ 16384 }
     requires locals { locals_of s.now.locals.items ≤ 16384 }
-    ensures { IfOk result (λ r. the_subroutine r ≡ subroutine_meant (the_scope scope.now) fields s.now) }
+    ensures means { IfOk result (λ r. the_subroutine r ≡ subroutine_meant (the_scope scope.now) owner.entry.fields s.now) }
+    ensures name { IfOk result (λ r. the_name r ≡ subroutine_name owner.entry.name.now s.now) }
 {
     Ok(CoreSubroutine {
+        name: subroutine_name(alloc, owner.name, s)?,
         kind: kind_meant(s.form),
         class: scope.own,
         arguments: objects(s.form) + s.parameters.len() as u32,
         locals: locals_of(&s.locals) as u32,
-        body: body_meant(alloc, scope, fields, s)?,
+        body: body_meant(alloc, scope, owner.fields, s)?,
     })
 }

@@ -13,9 +13,9 @@ use std::test::*;
 
 const NOWHERE: Place = Place { line: 0, column: 0 };
 
-fn name(alloc: Global, text: &[u8]) -> Result<Name, Fail> {
+fn name(alloc: Global, text: &str) -> Result<Name, Fail> {
     Ok(Name {
-        text: Vec::from_slice(alloc, text)?,
+        text: FileName::new(alloc, text)?,
         place: NOWHERE,
     })
 }
@@ -110,17 +110,17 @@ fn meant<'a>(alloc: Global, e: &'a Expression) -> Result<CoreExpression, Fail> {
 // `s.setCharAt(x * 2 - 1, -x)`
 fn call(alloc: Global) -> Result<Call, Fail> {
     let first = Expression {
-        first: Term::Variable(name(alloc, b"x".as_slice())?),
+        first: Term::Variable(name(alloc, "x")?),
         rest: vec![in alloc;
             operation(Operator::Times, integer(2)),
             operation(Operator::Minus, integer(1)),
         ]?,
     };
-    let x = Term::Variable(name(alloc, b"x".as_slice())?);
+    let x = Term::Variable(name(alloc, "x")?);
     let second = alone(alloc, Term::Unary(Sign::Minus, Box::new(alloc, x)?));
     Ok(Call {
-        object: Some(name(alloc, b"s".as_slice())?),
-        name: name(alloc, b"setCharAt".as_slice())?,
+        object: Some(name(alloc, "s")?),
+        name: name(alloc, "setCharAt")?,
         arguments: vec![in alloc; first, second]?,
     })
 }
@@ -171,7 +171,7 @@ fn no_precedence(rt: HostRuntime) -> Result<(), Fail> {
 #[test]
 fn strings(rt: HostRuntime) -> Result<(), Fail> {
     let alloc = rt.alloc();
-    let text = Constant::Text(name(alloc, b"ab".as_slice())?);
+    let text = Constant::Text(name(alloc, "ab")?);
     let value = meant(alloc, &alone(alloc, Term::Constant(text)))?;
     let append = Part::Call(8, 2);
     let want = [

@@ -22,9 +22,9 @@ fn check_new<'a>(
     name: &'a Name,
 ) -> Result<(), NameError>
     ensures checks { Checks (twice_fault (the_file file.entry) kind (names_in (table_of seen.old)) name.now) result }
-    ensures seen { OnOk result (names_in (table_of seen.new) ≡ names_in (table_of seen.old) ++ name.now.text.items ∷ []) }
+    ensures seen { OnOk result (names_in (table_of seen.new) ≡ names_in (table_of seen.old) ++ name.now.text ∷ []) }
 {
-    let text = name.text.as_slice();
+    let text = name.text.as_bytes();
     if seen.enter(text, ())? {
         return Ok(());
     }
@@ -151,7 +151,7 @@ fn check_members(alloc: Global, file: File, class: &Class) -> Result<(), NameErr
 fn check_file(alloc: Global, file: File, class: &Class) -> Result<(), NameError>
     ensures { Checks (file_fault (the_file file.entry) class.now) result }
 {
-    let name = class.name.text.as_slice();
+    let name = class.name.text.as_bytes();
     let mut path = Vec::from_slice(alloc, name)?;
     path.extend_from_slice(b".jack".as_slice())?;
     if path.as_slice() == class.file.as_bytes() {
@@ -167,7 +167,7 @@ fn check_declaration<'a>(
     class: &'a Class,
 ) -> Result<(), NameError>
     ensures checks { Checks (declaration_fault shipped (names_in (table_of seen.old)) class.now) result }
-    ensures seen { OnOk result (names_in (table_of seen.new) ≡ names_in (table_of seen.old) ++ class.now.name.text.items ∷ []) }
+    ensures seen { OnOk result (names_in (table_of seen.new) ≡ names_in (table_of seen.old) ++ class.now.name.text ∷ []) }
 {
     let file = File {
         shipped,

@@ -45,7 +45,7 @@ fn type_class<'a>(names: &Names<'a>, kind: &'a Type) -> Option<u32>
     ensures { result ≡ type_class (the_symbols names.now) kind.now }
 {
     match kind {
-        Type::Class(name) => names.class(name.text.as_slice()),
+        Type::Class(name) => names.class(name.text.as_bytes()),
         _ => None,
     }
 }
@@ -65,7 +65,7 @@ fn enter_list<'a>(
     let mut rest = names;
     while let Some((name, others)) = rest.split_first() {
         let slot = slot_at(sort, k);
-        table.enter(name.text.as_slice(), Declared { slot, class })?;
+        table.enter(name.text.as_bytes(), Declared { slot, class })?;
         k += 1;
         rest = others;
     }
@@ -83,7 +83,7 @@ fn enter_names<'a>(
     ensures { OnOk result (table_of table.new ≡ with_all (table_of table.old) (line_entries (slot_at sort) class first (names_of names.now))) }
 {
     let slot = slot_at(sort, first);
-    table.enter(names.first.text.as_slice(), Declared { slot, class })?;
+    table.enter(names.first.text.as_bytes(), Declared { slot, class })?;
     enter_list(table, sort, class, first + 1, &names.more)
 }
 
@@ -231,7 +231,7 @@ fn enter_parameters<'a>(
             slot: Slot::Argument(k),
             class: type_class(names, &parameter.kind),
         };
-        table.enter(parameter.name.text.as_slice(), declared)?;
+        table.enter(parameter.name.text.as_bytes(), declared)?;
         k += 1;
         rest = others;
     }

@@ -21,7 +21,7 @@ use Rattle.jack_tree.specs.declared.tree.Expression.{Expression, Expression', Ro
 use Rattle.jack_parser.specs.Jack.{Said, Fixed, Placed, unquoted}
 
 abbrev pub name_said : Name → Said
-name_said n = Placed kind.Identifier n.text.items n.place
+name_said n = Placed kind.Identifier n.text n.place
 
 abbrev pub name_leaf : Name → Tree Said
 name_leaf n = Leaf (name_said n)
@@ -49,7 +49,7 @@ sign_said s = Fixed (kind.Symbol (sign_byte s))
 
 abbrev pub constant_leaf_said : Constant → Said
 constant_leaf_said (constant.Integer n) = Fixed (kind.Integer n)
-constant_leaf_said (constant.Text t) = Placed kind.Text t.text.items t.place
+constant_leaf_said (constant.Text t) = Placed kind.Text t.text t.place
 constant_leaf_said constant.True = Fixed (kind.Keyword keyword.True)
 constant_leaf_said constant.False = Fixed (kind.Keyword keyword.False)
 constant_leaf_said constant.Null = Fixed (kind.Keyword keyword.Null)

@@ -8,9 +8,10 @@ ghost use Rattle.jack_parser.specs.Jack.{jack, free, fixed, type_said, is_type, 
 ghost use Rattle.jack_parser.specs.ClassTrees.{type_leaf_said, result_said, form_said};
 
 use crate::counts::Counts;
+use crate::names::name_of;
 use crate::words::grammar_fault;
 use grammar::ReadError;
-use jack_tree::{Form, Keyword, Kind, Name, Token, Type};
+use jack_tree::{Form, Keyword, Kind, Token, Type};
 use scan_text::Place;
 use std::alloc::Global;
 
@@ -29,13 +30,7 @@ fn type_name_at<'a>(
         Kind::Keyword(Keyword::Int) => Ok((Type::Int, rest)),
         Kind::Keyword(Keyword::Char) => Ok((Type::Char, rest)),
         Kind::Keyword(Keyword::Boolean) => Ok((Type::Boolean, rest)),
-        Kind::Identifier => {
-            let name = Name {
-                text: Vec::from_slice(alloc, token.text)?,
-                place: token.place,
-            };
-            Ok((Type::Class(name), rest))
-        }
+        Kind::Identifier => { Ok((Type::Class(name_of(alloc, token)?), rest)) }
         _ => Err(grammar_fault(token.place)),
     }
 }
@@ -68,13 +63,7 @@ fn result_type_at<'a>(
         Kind::Keyword(Keyword::Int) => Ok((Some(Type::Int), rest)),
         Kind::Keyword(Keyword::Char) => Ok((Some(Type::Char), rest)),
         Kind::Keyword(Keyword::Boolean) => Ok((Some(Type::Boolean), rest)),
-        Kind::Identifier => {
-            let name = Name {
-                text: Vec::from_slice(alloc, token.text)?,
-                place: token.place,
-            };
-            Ok((Some(Type::Class(name)), rest))
-        }
+        Kind::Identifier => { Ok((Some(Type::Class(name_of(alloc, token)?)), rest)) }
         _ => Err(grammar_fault(token.place)),
     }
 }

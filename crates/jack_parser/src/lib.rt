@@ -6,6 +6,7 @@ mod counts;
 mod declared;
 mod expressions;
 mod laws;
+mod names;
 mod printing;
 mod reading;
 mod statements;

@@ -73,9 +73,9 @@ fn put_keyword<S: Sink>(keyword: Keyword, status: Put, out: &mut Pieces<'_, S>) 
 
 fn put_name<S: Sink>(name: &Name, status: Put, out: &mut Pieces<'_, S>) -> Put
     ensures same_sink { out.new.sink.ghost_name ≡ out.old.sink.ghost_name }
-    ensures writes { Writes (set_off name.now.text.items) status (S.written out.old.sink.now) (take out.old.len out.old.buffer) (S.faults out.old.sink.now) result (S.written out.new.sink.now) (take out.new.len out.new.buffer) (S.faults out.new.sink.now) }
+    ensures writes { Writes (set_off name.now.text) status (S.written out.old.sink.now) (take out.old.len out.old.buffer) (S.faults out.old.sink.now) result (S.written out.new.sink.now) (take out.new.len out.new.buffer) (S.faults out.new.sink.now) }
 {
-    put_token(&name.text, status, out)
+    put_token(name.text.as_bytes(), status, out)
 }
 
 fn put_constant<S: Sink>(constant: &Constant, status: Put, out: &mut Pieces<'_, S>) -> Put
@@ -87,7 +87,7 @@ fn put_constant<S: Sink>(constant: &Constant, status: Put, out: &mut Pieces<'_, 
             let mut digits = Buffer::new();
             put_token(digits.format(*number).as_bytes(), status, out)
         }
-        Constant::Text(text) => put_string(&text.text, status, out),
+        Constant::Text(text) => put_string(text.text.as_bytes(), status, out),
         Constant::True => put_keyword(Keyword::True, status, out),
         Constant::False => put_keyword(Keyword::False, status, out),
         Constant::Null => put_keyword(Keyword::Null, status, out),

@@ -17,7 +17,7 @@ fn class(rt: HostRuntime) -> Result<(), Fail> {
     let class = parse_class(rt.alloc(), &file, text)
         .ok()
         .ok_or("the text is a class")?;
-    assert!(rt; class.name.text.as_slice() == b"C".as_slice());
+    assert!(rt; class.name.text.as_str() == "C");
     assert_eq!(rt; class.variables.len(), 1);
     assert_eq!(rt; class.subroutines.len(), 1);
     assert!(rt; class.subroutines[0].form == Form::Method);

@@ -2,6 +2,7 @@
 
 ghost use Rattle.jack_tree.specs.Tokens.{view};
 ghost use Rattle.std.specs.Prelude.{map, ◌≡◌, ◌<◌, ◌≤◌, ◌-◌, ◌+◌, ◌^◌, take, drop, length, Some, None, Result, Ok, List, IfOk, ℕ, IfSome, is_some, [], ◌||◌};
+ghost use Rattle.std.specs.Str.{IsAscii};
 ghost use Rattle.grammar.specs.Reading.{ParsesBy, PassesBy, Gives, word_at, mark_at};
 ghost use Rattle.grammar.specs.Rules.{Leaf, next, here};
 ghost use Rattle.jack_parser.specs.Jack.{jack, is_symbol, is_keyword, is_identifier, is_constant, free, check_constant, named, placed, fixed, constant_said, identifier, constant, operator, unary, key, operates, negates, term_opens, statement_opens, count, counted_name, Said, symbol_of, keyword_of, is_operator, is_unary, unquoted};
@@ -9,6 +10,7 @@ ghost use Rattle.jack_parser.specs.Starts.{start_of};
 ghost use Rattle.jack_parser.specs.Trees.{name_said, operator_said, operator_byte, sign_said, sign_byte, constant_leaf_said, IsString};
 
 use crate::counts::{Counted, Counts, count};
+use crate::names::{name_of, text_of};
 use grammar::{Fault, ReadError};
 use jack_tree::{Constant, Keyword, Kind, Name, Operator, Sign, Token};
 use scan_text::Place;
@@ -133,13 +135,7 @@ fn identifier_at<'a>(
     let Kind::Identifier = token.kind else {
         return Err(grammar_fault(token.place));
     };
-    Ok((
-        Name {
-            text: Vec::from_slice(alloc, token.text)?,
-            place: token.place,
-        },
-        rest,
-    ))
+    Ok((name_of(alloc, token)?, rest))
 }
 
 pub fn identifier<'a>(
@@ -171,11 +167,7 @@ fn counted_name_at<'a>(
         return Err(grammar_fault(token.place));
     };
     let counts = count(counted, counts, token.place)?;
-    let name = Name {
-        text: Vec::from_slice(alloc, token.text)?,
-        place: token.place,
-    };
-    Ok(((name, counts), rest))
+    Ok(((name_of(alloc, token)?, counts), rest))
 }
 
 /// A name that is one more of what is counted.
@@ -289,6 +281,7 @@ fn unquoted(text: &[u8]) -> &[u8]
 
 // A string, at most 16,384 bytes.
 fn string(alloc: Global, text: &[u8], place: Place) -> Result<Constant, ReadError>
+    requires { IsAscii text.now }
     ensures { IsString text.now place result }
 {
     let inside = unquoted(text);
@@ -296,7 +289,7 @@ fn string(alloc: Global, text: &[u8], place: Place) -> Result<Constant, ReadErro
         return Err(ReadError::Fault(Fault::Range(place, inside.len().min(1_000_000_000) as u32)));
     }
     Ok(Constant::Text(Name {
-        text: Vec::from_slice(alloc, inside)?,
+        text: text_of(alloc, inside)?,
         place,
     }))
 }

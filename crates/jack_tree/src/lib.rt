@@ -1,6 +1,7 @@
 //! Jack texts as tokens and as trees (book, chapters 9 and 10).
 #![tactic(auto)]
 
+mod spelling;
 mod token;
 mod tree;
 

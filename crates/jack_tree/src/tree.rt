@@ -1,12 +1,12 @@
 //! Trees, with the places of names, strings, `this` and statements.
 
-use outer_world::Name as FileName;
+use outer_world::Name as Text;
 use scan_text::Place;
 
 /// A text of the source, and the place where its token begins: a name, or what is between the quotes of a string.
 #[derive(Debug, Drop)]
 pub struct Name {
-    pub text: Vec<u8>,
+    pub text: Text,
     pub place: Place,
 }
 
@@ -158,7 +158,7 @@ pub struct Subroutine {
 /// A class, with the name of its file.
 #[derive(Drop)]
 pub struct Class {
-    pub file: FileName,
+    pub file: Text,
     pub name: Name,
     pub variables: Vec<ClassVariables>,
     pub subroutines: Vec<Subroutine>,

@@ -5,7 +5,7 @@ use Rattle.std.specs.Option.{option_or}
 use Rattle.outer_world.specs.declared.point.Point.{Point}
 use Rattle.layers.specs.System.{System, IsKey, keys_heard, Listening, run_of, Tame, IsMeaning, IdlesAtEnd}
 use Rattle.layers.specs.Trace.{Trace, steps, heard, point_at, trace_of}
-use Rattle.layers.specs.Layers.{Shows, Lands, Rests, Way, lands, rests, onward, Simulates, Opens, ready, before, Starts}
+use Rattle.layers.specs.Layers.{Shows, Lands, Rests, GoesAstray, Ends, lands, rests, strays, last, onward, Way, Simulates, Opens, ready, before, Starts}
 use Rattle.layers.specs.Headline.{Agrees, Follows}
 use Rattle.layers.proofs.Runs.{Trail, trail-zero, trail-suc, trail-step, trail-end, some_is, none-some, with_keys}
 
@@ -45,6 +45,10 @@ module _ {U L : Type 0} (up : System U) (start : U) (low : System L) (cost : L �
   abbrev pub t : Trace
   t = trace_of low keys state
 
+  -- no step has been made, or u was first met at a cycle
+  abbrev pub Since : U → ℕ → Type 0
+  Since u n = (steps t n ≡ 0) ⊎ ((o : ℕ) × (o ≤ n) × R u (state o) × (up.fits u ≡ true))
+
   pub record Coupled (laws : IsMeaning up) (n : ℕ) : Type 0 where
     pub u : U
     pub used : List ℕ
@@ -55,16 +59,20 @@ module _ {U L : Type 0} (up : System U) (start : U) (low : System L) (cost : L �
     pub way : Way up low cost R u left pend (state n)
     pub point : point_at t n ≡ up.point u
     pub within : left ≤ gap
+    pub since : Since u n
 
   module _ (laws : IsMeaning up) (low_laws : IdlesAtEnd low) (layer : Simulates up low cost R bound) (key_words : (c : ℕ) → IsKey (keys c)) (until : ℕ) (runs : (c : ℕ) → c < until → low.step (keys c) (state c) ≡ Some (state (suc c))) (paid : (l : L) → 1 ≤ cost l) (still : (l l' : L) (key : ℕ) → low.halted l ≡ true → low.step key l ≡ Some l' → cost l' ≤ cost l) (small : (u : U) → bound u + 16 ≤ gap) (begins : up.fits start ≡ true → Starts up low cost R start 16 (state 0)) where
     widen : (u : U) (m n : ℕ) (pend : List ℕ) (l : L) → m ≤ n → Way up low cost R u m pend l → Way up low cost R u n pend l
-    widen u m n pend l b (lands _ _ _ h c) = lands n pend l h (omega arith)
-    widen u m n pend l b (rests _ _ h c) = rests n l h (omega arith)
+    widen u m n pend l b (last _ _ _ h c) = last n pend l h (omega arith)
     widen u m n pend l b (onward _ k _ _ s q c to moves ways) = onward n k pend l s q (omega arith) to moves ways
 
+    end_shows : (u : U) (pend : List ℕ) (l : L) → Ends up low R u pend l → Shows up low u l
+    end_shows u pend l (lands _ _ h) = h.shows
+    end_shows u pend l (rests _ h) = h.shows
+    end_shows u pend l (strays _ h) = h.shows
+
     shows : (u : U) (m : ℕ) (pend : List ℕ) (l : L) → Way up low cost R u m pend l → Shows up low u l
-    shows u m pend l (lands _ _ _ h c) = h.shows
-    shows u m pend l (rests _ _ h c) = h.shows
+    shows u m pend l (last _ _ _ h c) = end_shows u pend l h
     shows u m pend l (onward _ k _ _ s q c to moves ways) = s
 
     opening : (n : ℕ) (l : L) → up.fits start ≡ true → Opens up low cost R start n l → Way up low cost R start (n + bound start) [] l
@@ -80,12 +88,16 @@ module _ {U L : Type 0} (up : System U) (start : U) (low : System L) (cost : L �
     quiet_adds : (n : ℕ) → low.commits (state n) ≡ false → steps t (suc n) ≡ steps t n
     quiet_adds n c = ap (λ b. if b then suc (steps t n) else steps t n) c
 
+    still_since : (u : U) (n : ℕ) → steps t (suc n) ≡ steps t n → Since u n → Since u (suc n)
+    still_since u n e (inl z) = inl (e ∙ z)
+    still_since u n e (inr o) = inr (o.0, (let b = o.1 in omega arith), o.2, o.3)
+
     -- the next cycle
     advance : (n : ℕ) (rest : List ℕ) (u : U) (used pend : List ℕ) (left : ℕ) (l : L) → n < until → state n ≡ l
         → Tame up start (heard t (suc n) ++ rest) (steps t (suc n))
-        → Trail up start laws used (steps t n) u → heard t n ≡ used ++ pend → point_at t n ≡ up.point u → left ≤ gap
+        → Trail up start laws used (steps t n) u → heard t n ≡ used ++ pend → point_at t n ≡ up.point u → left ≤ gap → Since u n
         → Way up low cost R u left pend l → Coupled laws (suc n)
-    advance n rest u used pend left l near e tame trail k p b (lands _ _ _ h c) =
+    advance n rest u used pend left l near e tame trail k p b o (last _ _ _ (lands _ _ h) c) =
         let h' = subst (Lands up low R u pend) (sym e) h in
         let counted = commit_adds n (h'.commit ∙ laws.commits u) in
         let x = h'.leads (keys n) (key_words n) in
@@ -96,8 +108,8 @@ module _ {U L : Type 0} (up : System U) (start : U) (low : System L) (cost : L �
         let made' = subst (λ z. run_of up start z (suc (steps t n)) ≡ Some made.0) (ap (λ z. z ++ rest) listened ∙ append_assoc used now rest) made.1 in
         let u' = made.0.state in
         let step = trail-step up start laws used (steps t n) u x.0 rest made.0 trail made' in
-        let y = x.3 u' step in
-        let r = subst (R u') (some_is y.0 (state (suc n)) (sym {b = Some y.0} y.1 ∙ runs n near)) y.2 in
+        let related = subst (λ z. R z x.5) (some_is x.3 u' (sym {b = Some x.3} x.4 ∙ step)) x.7 in
+        let r = subst (R u') (some_is x.5 (state (suc n)) (sym {b = Some x.5} x.6 ∙ runs n near)) related in
         record {
           u = u';
           used = used ++ now;
@@ -108,8 +120,9 @@ module _ {U L : Type 0} (up : System U) (start : U) (low : System L) (cost : L �
           way = layer.goes u' (state (suc n)) r made.2;
           point = point_new (up.point u') (low.point (state (suc n))) (point_at t n) (laws.pointed u') (layer.point u' (state (suc n)) r made.2);
           within = omega (arith, small u');
+          since = inr (suc n, omega arith, r, made.2);
         }
-    advance n rest u used pend left l near e tame trail k p b (rests _ _ h c) =
+    advance n rest u used pend left l near e tame trail k p b o (last _ _ _ (rests _ h) c) =
         let h' = subst (Rests up low u) (sym e) h in
         let q = low_laws.quiet (state n) h'.lower in
         let i = low_laws.idles (state n) (state (suc n)) (keys n) h'.lower (runs n near) in
@@ -127,11 +140,20 @@ module _ {U L : Type 0} (up : System U) (start : U) (low : System L) (cost : L �
           left = left;
           trail = subst (λ z. Trail up start laws used z u) (sym (quiet_adds n q.0)) trail;
           keys_are = ap (λ b. heard t n ++ keys_heard b (keys n)) q.1 ∙ append-nil (heard t n) ∙ k;
-          way = rests left (state (suc n)) (record { shows = shows'; upper = h'.upper; lower = i.halted }) (omega (arith, less, c'));
+          way = last left [] (state (suc n)) (rests (state (suc n)) (record { shows = shows'; upper = h'.upper; lower = i.halted })) (omega (arith, less, c'));
           point = point_stays (up.point u) (low.point (state (suc n))) (point_at t n) shows'.point p;
           within = b;
+          since = still_since u n (quiet_adds n q.0) o;
         }
-    advance n rest u used pend left l near e tame trail k p b (onward _ m _ _ s q c to moves ways) =
+    advance n rest u used pend left l near e tame trail k p b o (last _ _ _ (strays _ h) c) =
+        let h' = subst (GoesAstray up low u) (sym e) h in
+        let counted = commit_adds n (h'.commit ∙ laws.commits u) in
+        let made = tame (suc (steps t n)) (omega (arith, counted)) in
+        let listened : heard t (suc n) ≡ used ++ keys_heard (up.hears u) 0 =
+        ap (λ z. z ++ keys_heard (low.hears (state n)) (keys n)) k ∙ append_assoc used [] (keys_heard (low.hears (state n)) (keys n)) ∙ ap (λ z. used ++ z) (ap (λ b. keys_heard b (keys n)) h'.deaf.1 ∙ sym (ap (λ b. keys_heard b 0) h'.deaf.0)) in
+        let made' = subst (λ z. run_of up start z (suc (steps t n)) ≡ Some made.0) (ap (λ z. z ++ rest) listened ∙ append_assoc used (keys_heard (up.hears u) 0) rest) made.1 in
+        absurd (none-some made.0.state (sym (h'.none 0 (omega arith)) ∙ trail-step up start laws used (steps t n) u 0 rest made.0 trail made'))
+    advance n rest u used pend left l near e tame trail k p b o (onward _ m _ _ s q c to moves ways) =
         let q' = subst (λ z. low.commits z ≡ false) (sym e) q in
         let next = some_is (to (keys n) (key_words n)) (state (suc n)) (sym (moves (keys n) (key_words n)) ∙ ap (low.step (keys n)) (sym e) ∙ runs n near) in
         let way = subst (λ z. Way up low cost R u m (pend ++ keys_heard (low.hears z) (keys n)) (state (suc n))) (sym e)
@@ -146,6 +168,7 @@ module _ {U L : Type 0} (up : System U) (start : U) (low : System L) (cost : L �
           way = way;
           point = point_stays (up.point u) (low.point (state (suc n))) (point_at t n) (shows u m _ (state (suc n)) way).point p;
           within = omega arith;
+          since = still_since u n (quiet_adds n q') o;
         }
 
     -- at each cycle of a tame run the states are coupled
@@ -164,20 +187,26 @@ module _ {U L : Type 0} (up : System U) (start : U) (low : System L) (cost : L �
           way = opening 16 (state 0) f b.opens;
           point = b.point;
           within = omega (arith, small start);
+          since = inl refl;
         }
     claim (suc n) rest near tame =
         let now = keys_heard (low.hears (state n)) (keys n) in
         let more = one_more (low.commits (state n)) (steps t n) in
         let c = claim n (now ++ rest) (omega arith) (λ j h. subst (λ z. (l : Listening U) × (run_of up start z j ≡ Some l) × (up.fits l.state ≡ true)) (append_assoc (heard t n) now rest) (tame j (omega (arith, h, more)))) in
-        advance n rest c.u c.used c.pend c.left (state n) (omega arith) refl tame c.trail c.keys_are c.point c.within c.way
+        advance n rest c.u c.used c.pend c.left (state n) (omega arith) refl tame c.trail c.keys_are c.point c.within c.since c.way
 
     later : (u : U) (m n : ℕ) (pend : List ℕ) (l : L) → n + m ≤ until → up.halted u ≡ false → state n ≡ l → Way up low cost R u m pend l → steps t n < steps t (n + m)
-    later u m n pend l near g e (lands _ _ _ h c) =
+    later u m n pend l near g e (last _ _ _ (lands _ _ h) c) =
         let h' = subst (Lands up low R u pend) (sym e) h in
         let counted = commit_adds n (h'.commit ∙ laws.commits u) in
         let after = steps_grow t (suc n) (n + m) (omega (arith, paid l)) in
         omega (arith, counted, after)
-    later u m n pend l near g e (rests _ _ h c) = absurd (let h' = h.upper in cc (g, h'))
+    later u m n pend l near g e (last _ _ _ (rests _ h) c) = absurd (let h' = h.upper in cc (g, h'))
+    later u m n pend l near g e (last _ _ _ (strays _ h) c) =
+        let h' = subst (GoesAstray up low u) (sym e) h in
+        let counted = commit_adds n (h'.commit ∙ laws.commits u) in
+        let after = steps_grow t (suc n) (n + m) (omega (arith, paid l)) in
+        omega (arith, counted, after)
     later u m n pend l near g e (onward _ m' _ _ s q c to moves ways) =
         let q' = quiet_adds n (subst (λ z. low.commits z ≡ false) (sym e) q) in
         let next = some_is (to (keys n) (key_words n)) (state (suc n)) (sym (moves (keys n) (key_words n)) ∙ ap (low.step (keys n)) (sym e) ∙ runs n (omega (arith, paid l))) in
@@ -205,6 +234,42 @@ module _ {U L : Type 0} (up : System U) (start : U) (low : System L) (cost : L �
         let rest = later c.u c.left n c.pend (state n) (omega (arith, within)) going refl c.way in
         let after = steps_grow t (n + c.left) (n + gap) (omega (arith, within)) in
         omega (arith, rest, after)
+
+    -- a machine on the way of a step that is made goes on
+    moves : (u : U) (used pend : List ℕ) (m n : ℕ) (made : Listening U) (l : L) → Trail up start laws used (steps t n) u → run_of up start (used ++ pend) (suc (steps t n)) ≡ Some made → Way up low cost R u m pend l → (l' : L) × (low.step (keys n) l ≡ Some l')
+    moves u used pend m n made l trail run (last _ _ _ (lands _ _ h) c) = let x = h.leads (keys n) (key_words n) in (x.5, x.6)
+    moves u used pend m n made l trail run (last _ _ _ (rests _ h) c) = absurd (trail-end up start laws used (steps t n) u [] made trail run h.upper)
+    moves u used pend m n made l trail run (last _ _ _ (strays _ h) c) =
+        let run' = subst (λ z. run_of up start (used ++ z) (suc (steps t n)) ≡ Some made) (sym (ap (λ b. keys_heard b 0 ++ []) h.deaf.0)) run in
+        absurd (none-some made.state (sym (h.none 0 (omega arith)) ∙ trail-step up start laws used (steps t n) u 0 [] made trail run'))
+    moves u used pend m n made l trail run (onward _ k _ _ s q c to e w) = (to (keys n) (key_words n), e (keys n) (key_words n))
+
+    pub moves_on : (n : ℕ) → n ≤ until → Tame up start (heard t n) (suc (steps t n)) → (l : L) × (low.step (keys n) (state n) ≡ Some l)
+    moves_on n near tame =
+        let c = claim n [] near (subst (λ z. Tame up start z (steps t n)) (sym (append-nil (heard t n))) (λ j h. tame j (omega arith))) in
+        let made = tame (suc (steps t n)) (omega arith) in
+        moves c.u c.used c.pend c.left n made.0 (state n) c.trail (subst (λ z. run_of up start z (suc (steps t n)) ≡ Some made.0) c.keys_are made.1) c.way
+
+    -- where the machine stands after n steps: on a way of the state that the meaning has come to
+    pub record Standing (n : ℕ) : Type 0 where
+      pub after : Listening U
+      pub run : run_of up start (heard t n) (steps t n) ≡ Some after
+      pub left : ℕ
+      pub pend : List ℕ
+      pub way : Way up low cost R after.state left pend (state n)
+      pub since : Since after.state n
+
+    pub standing : (n : ℕ) → n ≤ until → Tame up start (heard t n) (steps t n) → Standing n
+    standing n near tame =
+        let c = claim n [] near (subst (λ z. Tame up start z (steps t n)) (sym (append-nil (heard t n))) tame) in
+        record {
+          after = with_keys up start laws c.u c.pend;
+          run = subst (λ z. run_of up start z (steps t n) ≡ Some (with_keys up start laws c.u c.pend)) (sym c.keys_are) (c.trail c.pend);
+          left = c.left;
+          pend = c.pend;
+          way = c.way;
+          since = c.since;
+        }
 
     pub follows : (n : ℕ) → n + gap ≤ until → Follows up start t (λ c. low.word (state c)) gap n
     follows n near = record { agrees = agrees n (omega arith); goes_on = goes_on n near }

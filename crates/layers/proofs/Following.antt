@@ -7,7 +7,7 @@ use Rattle.layers.specs.Trace.{Trace, steps, heard, point_at, trace_of}
 use Rattle.layers.specs.Headline.{Agrees, Follows, CarriesRun}
 use Rattle.layers.specs.Laws.{SameTrace}
 use Rattle.layers.proofs.Runs.{none-some}
-use Rattle.layers.proofs.Cycles.{agrees, follows}
+use Rattle.layers.proofs.Cycles.{agrees, follows, moves_on, Standing, standing}
 use Rattle.layers.proofs.Traces.{steps_same, same_counts}
 
 -- a machine that makes no step at its end
@@ -23,6 +23,14 @@ module _ {U L : Type 0} (up : System U) (start : U) (low : System L) (cost : L �
 
   pub following : (n : ℕ) → n + gap ≤ until → Follows up start (trace_of low keys state) (λ c. low.word (state c)) gap n
   following n near = follows up start low cost R bound keys state gap h.laws h.low_laws h.layer h.key_words until h.runs h.paid h.still h.small h.begins n near
+
+  pub moving : (n : ℕ) → n ≤ until → Tame up start (heard (trace_of low keys state) n) (suc (steps (trace_of low keys state) n)) → (l : L) × (low.step (keys n) (state n) ≡ Some l)
+  moving n near tame = moves_on up start low cost R bound keys state gap h.laws h.low_laws h.layer h.key_words until h.runs h.paid h.still h.small h.begins n near tame
+
+  -- where it stands: on a way of the state that the meaning has come to, from where that was first met
+  pub stands_there : (n : ℕ) → n ≤ until → Tame up start (heard (trace_of low keys state) n) (steps (trace_of low keys state) n)
+      → Standing up start low cost R bound keys state gap h.laws h.low_laws h.layer h.key_words until h.runs h.paid h.still h.small h.begins n
+  stands_there n near tame = standing up start low cost R bound keys state gap h.laws h.low_laws h.layer h.key_words until h.runs h.paid h.still h.small h.begins n near tame
 
 -- what holds at two values holds at values equal to them
 both : {A B : Type 0} (P : A → B → Type 0) (a a' : A) (b b' : B) → a ≡ a' → b ≡ b' → P a b → P a' b'

@@ -1,4 +1,4 @@
--- The laws of layers, at machines whose states are numbers.
+-- The laws of layers, at machines whose states are of any types and are related by tests.
 use Rattle.std.specs.Prelude.{◌≡◌, ℕ, ◌+◌, ◌<◌, ◌≤◌, Bool, true, None}
 use Rattle.layers.specs.System.{System}
 use Rattle.layers.specs.Trace.{Trace, steps, heard, point_at, trace_of}
@@ -6,19 +6,19 @@ use Rattle.layers.specs.Layers.{Simulates, Through}
 use Rattle.layers.specs.Headline.{Follows, CarriesRun}
 
 -- the relation that a test decides
-abbrev pub Related : (ℕ → ℕ → Bool) → ℕ → ℕ → Type 0
+abbrev pub Related : {S T : Type 0} → (S → T → Bool) → S → T → Type 0
 Related r u l = r u l ≡ true
 
 -- Two layers, one on the other, are one layer, where the machine between makes no step at its end.
-abbrev pub LayersCompose : Type 0
-LayersCompose = (up mid low : System ℕ) (cost_mid cost : ℕ → ℕ) (r s : ℕ → ℕ → Bool) (bound : ℕ → ℕ)
-    → ((v key : ℕ) → mid.halted v ≡ true → mid.step key v ≡ None)
+abbrev pub LayersCompose : Type 0 → Type 0 → Type 0 → Type 0
+LayersCompose U V L = (up : System U) (mid : System V) (low : System L) (cost_mid : V → ℕ) (cost : L → ℕ) (r : U → V → Bool) (s : V → L → Bool) (bound : U → ℕ)
+    → ((v : V) (key : ℕ) → mid.halted v ≡ true → mid.step key v ≡ None)
     → Simulates up mid cost_mid (Related r) bound → Simulates mid low cost (Related s) cost_mid
     → Simulates up low cost (Through (Related r) (Related s)) bound
 
 -- A machine that carries the run of a meaning follows it at each cycle.
-abbrev pub RunsFollow : Type 0
-RunsFollow = (up : System ℕ) (start : ℕ) (low : System ℕ) (cost : ℕ → ℕ) (r : ℕ → ℕ → Bool) (bound : ℕ → ℕ) (gap until : ℕ) (keys state : ℕ → ℕ)
+abbrev pub RunsFollow : Type 0 → Type 0 → Type 0
+RunsFollow U L = (up : System U) (start : U) (low : System L) (cost : L → ℕ) (r : U → L → Bool) (bound : U → ℕ) (gap until : ℕ) (keys : ℕ → ℕ) (state : ℕ → L)
     → CarriesRun up start low cost (Related r) bound gap until keys state
     → (n : ℕ) → n + gap ≤ until → Follows up start (trace_of low keys state) (λ c. low.word (state c)) gap n
 

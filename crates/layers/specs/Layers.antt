@@ -15,23 +15,43 @@ module _ {U L : Type 0} (up : System U) (low : System L) where
     pub upper : up.halted u ≡ true
     pub lower : low.halted l ≡ true
 
-  -- The last of the lower steps that make one upper step. `pend` are the keys heard for it so far. Under each key it hears what is
-  -- left to be heard, and it leads to a state that R relates to the next upper one, where there is one.
+  -- The upper machine has not come to its end and has a step under no key: it goes astray. The lower one stands before the last step for
+  -- it, which counts where the upper one's would, and no key is heard.
+  pub record GoesAstray (u : U) (l : L) : Type 0 where
+    pub shows : Shows u l
+    pub commit : low.commits l ≡ up.commits u
+    pub going : up.halted u ≡ false
+    pub moving : low.halted l ≡ false
+    pub deaf : (up.hears u ≡ false) × (low.hears l ≡ false)
+    pub none : (key : ℕ) → IsKey key → up.step key u ≡ None
+
+  -- The last of the lower steps that make one upper step. `pend` are the keys heard for it so far. Under each key the lower machine makes
+  -- the last step, the upper one its step under the key that was heard, and the two states that they lead to are related by R.
   pub record Lands (R : U → L → Type 0) (u : U) (pend : List ℕ) (l : L) : Type 0 where
     pub shows : Shows u l
     pub commit : low.commits l ≡ up.commits u
     pub going : up.halted u ≡ false
     pub moving : low.halted l ≡ false
-    pub leads : (key : ℕ) → IsKey key → (k : ℕ) × IsKey k × (pend ++ keys_heard (low.hears l) key ≡ keys_heard (up.hears u) k) × ((u' : U) → up.step k u ≡ Some u' → (l' : L) × (low.step key l ≡ Some l') × R u' l')
+    pub leads : (key : ℕ) → IsKey key → (k : ℕ) × IsKey k × (pend ++ keys_heard (low.hears l) key ≡ keys_heard (up.hears u) k) × (u' : U) × (up.step k u ≡ Some u') × (l' : L) × (low.step key l ≡ Some l') × R u' l'
+
+  -- the three ends of a way: the lower machine makes the step of u, comes to its end with it, or goes astray with it
+  pub data Ends (R : U → L → Type 0) (u : U) : List ℕ → L → Type 0 where
+    lands : (pend : List ℕ) (l : L) → Lands R u pend l → Ends R u pend l
+    rests : (l : L) → Rests u l → Ends R u [] l
+    strays : (l : L) → GoesAstray u l → Ends R u [] l
 
 -- `cost` is what a lower step costs; costs are counted in steps of the machine at the bottom.
+module _ {U L : Type 0} (up : System U) (low : System L) (cost : L → ℕ) where
+  -- From l, within a cost of n and whatever the keys, the lower machine comes by quiet steps, which don't count, to a last one at which
+  -- End holds of the keys heard; at each state of these it shows u.
+  pub data Along (u : U) (End : List ℕ → L → Type 0) : ℕ → List ℕ → L → Type 0 where
+    last : (n : ℕ) (pend : List ℕ) (l : L) → End pend l → cost l ≤ n → Along u End n pend l
+    onward : (n m : ℕ) (pend : List ℕ) (l : L) → Shows up low u l → low.commits l ≡ false → cost l + m ≤ n → (to : (key : ℕ) → IsKey key → L) → ((key : ℕ) (w : IsKey key) → low.step key l ≡ Some (to key w)) → ((key : ℕ) (w : IsKey key) → Along u End m (pend ++ keys_heard (low.hears l) key) (to key w)) → Along u End n pend l
+
 module _ {U L : Type 0} (up : System U) (low : System L) (cost : L → ℕ) (R : U → L → Type 0) where
-  -- From l, within a cost of n, the lower machine makes the step of u or comes to its end with it, whatever the keys: by quiet steps,
-  -- which don't count, and then the last one.
-  pub data Way (u : U) : ℕ → List ℕ → L → Type 0 where
-    lands : (n : ℕ) (pend : List ℕ) (l : L) → Lands up low R u pend l → cost l ≤ n → Way u n pend l
-    rests : (n : ℕ) (l : L) → Rests up low u l → cost l ≤ n → Way u n [] l
-    onward : (n m : ℕ) (pend : List ℕ) (l : L) → Shows up low u l → low.commits l ≡ false → cost l + m ≤ n → (to : (key : ℕ) → IsKey key → L) → ((key : ℕ) (w : IsKey key) → low.step key l ≡ Some (to key w)) → ((key : ℕ) (w : IsKey key) → Way u m (pend ++ keys_heard (low.hears l) key) (to key w)) → Way u n pend l
+  -- a way of the lower machine that makes a step of the upper one
+  abbrev pub Way : U → ℕ → List ℕ → L → Type 0
+  Way u n pend l = Along up low cost u (Ends up low R u) n pend l
 
   -- The contract between two layers: where the words in use leave room, related states have one point, and a step of the upper
   -- machine is a way of the lower one.

@@ -3,3 +3,4 @@ pub mod Trace
 pub mod Layers
 pub mod Headline
 pub mod Laws
+pub mod Rows

@@ -1,5 +1,6 @@
 -- A machine that moves in steps, as the program's meaning, the stack machine and the computer do.
 use Rattle.std.specs.Prelude.{◌≡◌, ℕ, zero, suc, ◌<◌, ◌≤◌, ◌^◌, Bool, true, false, if◌then◌else◌, List, [], ◌∷◌, Option, Some, None, option_and_then, option_map}
+use Rattle.word16.specs.Memory.{heap, keyboard}
 use Rattle.outer_world.specs.declared.point.Point.{Point}
 
 -- What is known of a machine whose states are S. The key is an argument of the step: it is the key that is held while the step is made.
@@ -21,7 +22,7 @@ pub record System (S : Type 0) : Type 0 where
 
 -- the addresses of the words that the meaning can see: heap and screen
 abbrev pub IsData : ℕ → Type 0
-IsData a = (2048 ≤ a) × (a < 24576)
+IsData a = (heap ≤ a) × (a < keyboard)
 
 -- keys are words
 abbrev pub IsKey : ℕ → Type 0

@@ -1,5 +1,6 @@
 -- The text of a report.
-use Rattle.std.specs.Prelude.{ℕ, false, List, [], ◌∷◌, ◌++◌, codes, decimal}
+use Rattle.std.specs.Prelude.{ℕ, ◌-◌, false, List, [], ◌∷◌, ◌++◌, codes, decimal}
+use Rattle.word16.specs.Memory.{heap, screen}
 use Rattle.machine_io.specs.declared.driving.End.{End}
 use Rattle.machine_io.specs.declared.driving.End.TheVariants as ends
 use Rattle.machine_io.specs.declared.machine.Stray.{Stray}
@@ -47,7 +48,7 @@ head_text level moves steps subroutine statement end =
 -- what is shown of the words of heap and screen
 abbrev pub shown_text : Show → (ℕ → ℕ) → List ℕ
 shown_text shows.Nothing word = []
-shown_text shows.Heap word = words_text word false 2048 16383
+shown_text shows.Heap word = words_text word false heap (screen - 1)
 shown_text shows.Screen word = screen_text word
 
 abbrev pub report_text : LevelName → ℕ → ℕ → List ℕ → ℕ → End → Show → (ℕ → ℕ) → List ℕ

@@ -1,7 +1,8 @@
--- The text of the screen (the book's chapters 4 and 5: 256 rows of 512 pixels, from the word 16384 on).
+-- The text of the screen (the book's chapters 4 and 5: 256 rows of 512 pixels, from the word `screen` on).
 use Rattle.std.specs.Prelude.{ℕ, ◌+◌, ◌*◌, ◌/◌, ◌%◌, ◌==◌, ◌++◌, List, [], ◌∷◌, map, if◌then◌else◌}
 use Rattle.std.specs.Int.{bit_at}
 use Rattle.std.specs.List.{flat_map, range_with_len}
+use Rattle.word16.specs.Memory.{screen}
 
 -- bit k of a word as it is shown: `#` for 1 and `.` for 0
 abbrev pub shade : ℕ → ℕ → ℕ
@@ -13,7 +14,7 @@ pixels_of w = map (shade w) (range_with_len 0 16)
 
 -- the pixel in a row and a column: a row has 32 words of 16 pixels, the lowest bit leftmost
 abbrev pub pixel : (ℕ → ℕ) → ℕ → ℕ → ℕ
-pixel word row column = shade (word (16384 + 32 * row + column / 16)) (column % 16)
+pixel word row column = shade (word (screen + 32 * row + column / 16)) (column % 16)
 
 -- the 512 pixels of a row, and a line feed
 unfoldable pub row_text : (ℕ → ℕ) → ℕ → List ℕ

@@ -1,5 +1,6 @@
 //! A machine that is moved by keys.
 ghost use Rattle.std.specs.Prelude.{◌≡◌, ◌+◌, ◌<◌, ◌≤◌, ◌^◌, ◌++◌, [], ◌∷◌, List, ℕ, Bool, true, IfOk, OnErr, IsOk};
+ghost use Rattle.word16.specs.Memory.{heap, keyboard};
 ghost use Rattle.machine_io.specs.History.{Turn, turn, moves_in, IsSameReading, OnStop};
 ghost use Rattle.machine_io.specs.declared.machine.Moved.{Moved};
 
@@ -39,7 +40,7 @@ pub trait Level {
     /// The number of moves made.
     ghost count: { Self → ℕ };
 
-    /// The words of heap and screen by address, from 2048 up to 24575.
+    /// The words of heap and screen by address.
     ghost word: { Self → ℕ → ℕ };
 
     /// The number of steps of the program's meaning among the moves made.
@@ -47,6 +48,9 @@ pub trait Level {
 
     /// The control point.
     ghost at_point: { Self → Self.Point };
+
+    /// The answer that the machine has for each key, as it stands.
+    ghost reply: { Self → ℕ → Moved };
 
     /// Whether the machine's step never wants memory.
     ghost sure: { Bool };
@@ -58,15 +62,19 @@ pub trait Level {
     ghost program: { Self → Program };
 
     /// Makes the next move, in which `key` is held. After an error, and after any answer but `Acted`, what can
-    /// be read of the machine is as it was. The program stays what it is.
+    /// be read of the machine is as it was, and so is its answer to each key: the same key gets the same answer
+    /// again. The program stays what it is.
     fn step(&mut self, key: u16) -> Result<Moved, AllocError>
         requires { count self.old < 2 ^ 63 }
         ensures stands { IfOk result (λ answer. (turns : List Turn) → stands self.old turns → stands self.new (turns ++ turn key answer ∷ [])) }
         ensures counts { IfOk result (λ answer. count self.new ≡ moves_in answer + count self.old) }
         ensures still { IfOk result (λ answer. OnStop answer (IsSameReading (word self.old) (committed self.old) (at_point self.old) (word self.new) (committed self.new) (at_point self.new))) }
+        ensures replies { IfOk result (λ answer. answer ≡ reply self.old key) }
+        ensures again { IfOk result (λ answer. OnStop answer ((k : ℕ) → reply self.new k ≡ reply self.old k)) }
         ensures refused { OnErr result ((turns : List Turn) → stands self.old turns → stands self.new turns) }
         ensures refused_count { OnErr result (count self.new ≡ count self.old) }
         ensures refused_still { OnErr result (IsSameReading (word self.old) (committed self.old) (at_point self.old) (word self.new) (committed self.new) (at_point self.new)) }
+        ensures refused_again { OnErr result ((k : ℕ) → reply self.new k ≡ reply self.old k) }
         ensures sure { sure ≡ true → IsOk result }
         ensures program { program self.new ≡ program self.old };
 
@@ -76,8 +84,8 @@ pub trait Level {
 
     /// The word at an address of heap or screen.
     fn word_at(&self, a: u16) -> u16
-        requires from { 2048 ≤ a }
-        requires below { a < 24576 }
+        requires from { heap ≤ a }
+        requires below { a < keyboard }
         ensures { result ≡ word self.now a };
 
     /// The number of steps of the program's meaning that were made.

@@ -1,5 +1,6 @@
 //! The report of a run.
 ghost use Rattle.std.specs.Prelude.{◌≡◌, ◌+◌, ◌-◌, ◌<◌, ◌≤◌, ◌++◌, ◌∷◌, [], ℕ, take, decimal, codes};
+ghost use Rattle.word16.specs.Memory.{heap, keyboard};
 ghost use Rattle.outer_world.specs.Written.{CountsPut, Passes, Puts};
 ghost use Rattle.machine_io.specs.Words.{IsCallable, Gives};
 ghost use Rattle.machine_io.specs.Report.{level_name, end_text, said, counts_text, head_text, shown_text, report_text};
@@ -10,6 +11,7 @@ use crate::screen::put_screen;
 use crate::words::put_words;
 use itoa::Buffer;
 use outer_world::{Pieces, Put, Sink};
+use word16::{HEAP, SCREEN};
 
 /// The level at which a program is run: by its meaning, on the stack machine, on the instruction machine, or
 /// on the computer built of gates.
@@ -145,14 +147,14 @@ pub fn put_head<S: Sink>(head: &Head<'_>, out: &mut Pieces<'_, S>) -> Put
 
 /// Puts what is shown of the words of heap and screen.
 pub fn put_shown<W: Fn(u16) -> u16, S: Sink>(show: Show, word: &W, out: &mut Pieces<'_, S>) -> Put
-    requires { IsCallable (W.pre word.now) 2048 24575 }
+    requires { IsCallable (W.pre word.now) heap (keyboard - 1) }
     ensures same_sink { out.new.sink.ghost_name ≡ out.old.sink.ghost_name }
-    ensures passes { (words : ℕ → ℕ) → Gives (W.post word.now) 2048 24575 words → Passes (S.written out.old.sink.now) (take out.old.len out.old.buffer) (S.written out.new.sink.now) (take out.new.len out.new.buffer) (shown_text show words) result }
+    ensures passes { (words : ℕ → ℕ) → Gives (W.post word.now) heap (keyboard - 1) words → Passes (S.written out.old.sink.now) (take out.old.len out.old.buffer) (S.written out.new.sink.now) (take out.new.len out.new.buffer) (shown_text show words) result }
     ensures counts { CountsPut (S.faults out.old.sink.now) (S.faults out.new.sink.now) result }
 {
     match show {
         Show::Nothing => Put::Done,
-        Show::Heap => put_words(word, 2048, 16383, false, out),
+        Show::Heap => put_words(word, HEAP, SCREEN - 1, false, out),
         Show::Screen => put_screen(word, out),
     }
 }
@@ -164,9 +166,9 @@ fn put_report<W: Fn(u16) -> u16, S: Sink>(
     word: &W,
     out: &mut Pieces<'_, S>,
 ) -> Put
-    requires { IsCallable (W.pre word.now) 2048 24575 }
+    requires { IsCallable (W.pre word.now) heap (keyboard - 1) }
     ensures same_sink { out.new.sink.ghost_name ≡ out.old.sink.ghost_name }
-    ensures passes { (words : ℕ → ℕ) → Gives (W.post word.now) 2048 24575 words → Passes (S.written out.old.sink.now) (take out.old.len out.old.buffer) (S.written out.new.sink.now) (take out.new.len out.new.buffer) (report_text head.now.level head.now.moves head.now.steps head.now.subroutine.now head.now.statement head.now.end show words) result }
+    ensures passes { (words : ℕ → ℕ) → Gives (W.post word.now) heap (keyboard - 1) words → Passes (S.written out.old.sink.now) (take out.old.len out.old.buffer) (S.written out.new.sink.now) (take out.new.len out.new.buffer) (report_text head.now.level head.now.moves head.now.steps head.now.subroutine.now head.now.statement head.now.end show words) result }
     ensures counts { CountsPut (S.faults out.old.sink.now) (S.faults out.new.sink.now) result }
 {
     match put_head(head, out) {
@@ -182,10 +184,10 @@ fn put_all<W: Fn(u16) -> u16, S: Sink>(
     word: &W,
     out: &mut Pieces<'_, S>,
 ) -> Put
-    requires callable { IsCallable (W.pre word.now) 2048 24575 }
+    requires callable { IsCallable (W.pre word.now) heap (keyboard - 1) }
     requires empty { take out.old.len out.old.buffer ≡ [] }
     ensures same_sink { out.new.sink.ghost_name ≡ out.old.sink.ghost_name }
-    ensures put { (words : ℕ → ℕ) → Gives (W.post word.now) 2048 24575 words → Puts (S.written out.old.sink.now) (S.written out.new.sink.now) (report_text head.now.level head.now.moves head.now.steps head.now.subroutine.now head.now.statement head.now.end show words) result }
+    ensures put { (words : ℕ → ℕ) → Gives (W.post word.now) heap (keyboard - 1) words → Puts (S.written out.old.sink.now) (S.written out.new.sink.now) (report_text head.now.level head.now.moves head.now.steps head.now.subroutine.now head.now.statement head.now.end show words) result }
     ensures counts { CountsPut (S.faults out.old.sink.now) (S.faults out.new.sink.now) result }
 {
     match put_report(head, show, word, out) {
@@ -201,8 +203,8 @@ pub fn show_report<W: Fn(u16) -> u16, S: Sink>(
     word: W,
     out: &mut S,
 ) -> Put
-    requires { IsCallable (W.pre word) 2048 24575 }
-    ensures put { (words : ℕ → ℕ) → Gives (W.post word) 2048 24575 words → Puts (S.written out.old) (S.written out.new) (report_text head.now.level head.now.moves head.now.steps head.now.subroutine.now head.now.statement head.now.end show words) result }
+    requires { IsCallable (W.pre word) heap (keyboard - 1) }
+    ensures put { (words : ℕ → ℕ) → Gives (W.post word) heap (keyboard - 1) words → Puts (S.written out.old) (S.written out.new) (report_text head.now.level head.now.moves head.now.steps head.now.subroutine.now head.now.statement head.now.end show words) result }
     ensures counts { CountsPut (S.faults out.old) (S.faults out.new) result }
 {
     let mut pieces = Pieces::new(out);

@@ -1,12 +1,12 @@
 //! The screen, as lines of characters.
-ghost use Rattle.std.specs.Prelude.{◌≡◌, ◌+◌, ◌*◌, ◌<◌, ◌≤◌, ◌++◌, ◌∷◌, [], ℕ, take};
+ghost use Rattle.std.specs.Prelude.{◌≡◌, ◌+◌, ◌-◌, ◌*◌, ◌<◌, ◌≤◌, ◌++◌, ◌∷◌, [], ℕ, take};
+ghost use Rattle.word16.specs.Memory.{keyboard, screen};
 ghost use Rattle.outer_world.specs.Written.{CountsPut, Passes, Puts};
 ghost use Rattle.machine_io.specs.Words.{IsCallable, Gives};
 ghost use Rattle.machine_io.specs.Screen.{shade, pixels_of, row_text, screen_text};
 
 use outer_world::{Pieces, Put, Sink};
-
-const SCREEN: u16 = 16384;
+use word16::SCREEN;
 
 const ROWS: u16 = 256;
 
@@ -32,10 +32,10 @@ fn pixels(word: u16) -> [u8; 16]
 
 // The line of a row.
 fn put_row<W: Fn(u16) -> u16, S: Sink>(word: &W, row: u16, out: &mut Pieces<'_, S>) -> Put
-    requires callable { IsCallable (W.pre word.now) 16384 24575 }
+    requires callable { IsCallable (W.pre word.now) screen (keyboard - 1) }
     requires row { row < 256 }
     ensures same_sink { out.new.sink.ghost_name ≡ out.old.sink.ghost_name }
-    ensures passes { (words : ℕ → ℕ) → Gives (W.post word.now) 16384 24575 words → Passes (S.written out.old.sink.now) (take out.old.len out.old.buffer) (S.written out.new.sink.now) (take out.new.len out.new.buffer) (row_text words row) result }
+    ensures passes { (words : ℕ → ℕ) → Gives (W.post word.now) screen (keyboard - 1) words → Passes (S.written out.old.sink.now) (take out.old.len out.old.buffer) (S.written out.new.sink.now) (take out.new.len out.new.buffer) (row_text words row) result }
     ensures counts { CountsPut (S.faults out.old.sink.now) (S.faults out.new.sink.now) result }
 {
     let start = SCREEN + WORDS_OF_ROW * row;
@@ -50,9 +50,9 @@ fn put_row<W: Fn(u16) -> u16, S: Sink>(word: &W, row: u16, out: &mut Pieces<'_, 
 
 /// Puts the screen as 256 lines of 512 characters, `#` for a pixel that is 1 and `.` for 0.
 pub fn put_screen<W: Fn(u16) -> u16, S: Sink>(word: &W, out: &mut Pieces<'_, S>) -> Put
-    requires { IsCallable (W.pre word.now) 16384 24575 }
+    requires { IsCallable (W.pre word.now) screen (keyboard - 1) }
     ensures same_sink { out.new.sink.ghost_name ≡ out.old.sink.ghost_name }
-    ensures passes { (words : ℕ → ℕ) → Gives (W.post word.now) 16384 24575 words → Passes (S.written out.old.sink.now) (take out.old.len out.old.buffer) (S.written out.new.sink.now) (take out.new.len out.new.buffer) (screen_text words) result }
+    ensures passes { (words : ℕ → ℕ) → Gives (W.post word.now) screen (keyboard - 1) words → Passes (S.written out.old.sink.now) (take out.old.len out.old.buffer) (S.written out.new.sink.now) (take out.new.len out.new.buffer) (screen_text words) result }
     ensures counts { CountsPut (S.faults out.old.sink.now) (S.faults out.new.sink.now) result }
 {
     for row in 0..ROWS {
@@ -66,10 +66,10 @@ pub fn put_screen<W: Fn(u16) -> u16, S: Sink>(word: &W, out: &mut Pieces<'_, S>)
 
 // The same from an empty buffer, which is empty again after it.
 fn put_all_screen<W: Fn(u16) -> u16, S: Sink>(word: &W, out: &mut Pieces<'_, S>) -> Put
-    requires callable { IsCallable (W.pre word.now) 16384 24575 }
+    requires callable { IsCallable (W.pre word.now) screen (keyboard - 1) }
     requires empty { take out.old.len out.old.buffer ≡ [] }
     ensures same_sink { out.new.sink.ghost_name ≡ out.old.sink.ghost_name }
-    ensures put { (words : ℕ → ℕ) → Gives (W.post word.now) 16384 24575 words → Puts (S.written out.old.sink.now) (S.written out.new.sink.now) (screen_text words) result }
+    ensures put { (words : ℕ → ℕ) → Gives (W.post word.now) screen (keyboard - 1) words → Puts (S.written out.old.sink.now) (S.written out.new.sink.now) (screen_text words) result }
     ensures counts { CountsPut (S.faults out.old.sink.now) (S.faults out.new.sink.now) result }
 {
     match put_screen(word, out) {
@@ -80,8 +80,8 @@ fn put_all_screen<W: Fn(u16) -> u16, S: Sink>(word: &W, out: &mut Pieces<'_, S>)
 
 /// Puts the screen as 256 lines of 512 characters, `#` for a pixel that is 1 and `.` for 0.
 pub fn show_screen<W: Fn(u16) -> u16, S: Sink>(word: W, out: &mut S) -> Put
-    requires { IsCallable (W.pre word) 16384 24575 }
-    ensures put { (words : ℕ → ℕ) → Gives (W.post word) 16384 24575 words → Puts (S.written out.old) (S.written out.new) (screen_text words) result }
+    requires { IsCallable (W.pre word) screen (keyboard - 1) }
+    ensures put { (words : ℕ → ℕ) → Gives (W.post word) screen (keyboard - 1) words → Puts (S.written out.old) (S.written out.new) (screen_text words) result }
     ensures counts { CountsPut (S.faults out.old) (S.faults out.new) result }
 {
     let mut pieces = Pieces::new(out);

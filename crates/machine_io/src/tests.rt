@@ -1,7 +1,7 @@
 //! The drive, on a machine that counts; and the printed texts.
-ghost use Rattle.std.specs.Prelude.{◌≡◌, ◌+◌, ◌*◌, ◌%◌, ◌<◌, ◌≤◌, ◌^◌, ℕ, sum_by, true, false};
+ghost use Rattle.std.specs.Prelude.{◌≡◌, ◌+◌, ◌*◌, ◌%◌, ◌<◌, ◌≤◌, ◌^◌, ℕ, sum_by, true, false, nat_eq, nat_lt, if◌then◌else◌, IfOk};
 ghost use Rattle.std.proofs.Common.{rules};
-ghost use Rattle.machine_io.specs.History.{moves_in};
+ghost use Rattle.machine_io.specs.History.{moves_in, OnStop};
 ghost use Rattle.machine_io.specs.Words.{words_text};
 ghost use Rattle.outer_world.specs.Written.{Puts};
 
@@ -22,6 +22,9 @@ struct Counter {
 }
 
 impl Level for Counter {
+    ghost use Rattle.machine_io.specs.declared.machine.Moved.TheVariants.{Acted, Done, Full, Stray};
+    ghost use Rattle.machine_io.specs.declared.machine.Stray.TheVariants.{Values};
+
     type Point = u16;
 
     ghost stands = { λ r turns. r.moves ≡ sum_by (λ t. moves_in t.answer) turns };
@@ -33,6 +36,8 @@ impl Level for Counter {
     ghost committed = { λ r. r.moves };
 
     ghost at_point = { λ r. r.last_key };
+
+    ghost reply = { λ r k. if nat_eq k 0 then Stray Values else (if nat_eq k 9 then Done else (if nat_lt r.moves r.room then Acted else Full 5)) };
 
     ghost sure = { true };
 
@@ -91,6 +96,29 @@ fn new_counter(room: u64) -> Counter
         moves: 0,
         last_key: 0,
     }
+}
+
+// What a machine that can't move answers, it answers again.
+fn asked_twice<L: Level>(level: &mut L, key: u16) -> Result<(Moved, Moved), AllocError>
+    requires { L.count level.old + 1 < 2 ^ 63 }
+    ensures { IfOk result (λ answers. OnStop answers.0 (answers.1 ≡ answers.0)) }
+{
+    let first = level.step(key)?;
+    let second = level.step(key)?;
+    Ok((first, second))
+}
+
+#[test]
+fn the_same_key_gets_the_same_answer(rt: HostRuntime) -> Result<(), Fail> {
+    let mut level = new_counter(1);
+    let gone = asked_twice(&mut level, 0)?;
+    assert_eq!(rt;
+        gone,
+        (Moved::Stray(Stray::Values), Moved::Stray(Stray::Values))
+    );
+    assert!(rt; level.moves() == 0);
+    assert_eq!(rt; asked_twice(&mut level, 3)?, (Moved::Acted, Moved::Full(5)));
+    Ok(())
 }
 
 #[test]

@@ -9,7 +9,8 @@ use Rattle.outer_world.specs.Texts.{fault_line}
 use Rattle.outer_world.proofs.Passing.{Got-nothing}
 use Rattle.hack_isa.specs.declared.Instr.{Instr}
 use Rattle.hack_isa.specs.declared.Instr.TheVariants.{Address, Compute}
-use Rattle.hack_asm.specs.Written.{AreSpelled, IsSpelled, Texts, comp_table, computations, entry, memory_computations}
+use Rattle.hack_asm.specs.Comps.{Texts, comp_table, computations, entry, memory_computations}
+use Rattle.hack_asm.specs.Written.{AreSpelled, IsSpelled}
 use Rattle.vm_tree.specs.declared.program.File.{File}
 use Rattle.vm_parser.specs.Files.{Refuses}
 use Rattle.vm_link.specs.Links.{Links, whole}

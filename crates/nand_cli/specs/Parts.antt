@@ -1,6 +1,7 @@
 -- What the parts of a call say; the call's own contract needs none of it.
 use Rattle.std.specs.Prelude.{◌≡◌, ◌≤◌, ◌<◌, ◌++◌, ℕ, Bool, List, Option, Some, None, Result, Ok, Err, Vec, codes, length, min}
 use Rattle.std.specs.declared.alloc.Global.{Global}
+use Rattle.hack_isa.specs.Machine.{image_words}
 use Rattle.command_line.specs.Line.{Line}
 use Rattle.command_line.specs.declared.reader.LineError.{LineError}
 use Rattle.command_line.specs.declared.reader.LineError.TheVariants as no_line
@@ -93,7 +94,7 @@ SaysWrong form text None = Unit {0}
 SaysWrong form text (Some wrong) = TextSays form text (Err wrong)
 
 abbrev pub ReadsText : Form → List ℕ → Result (Vec ℕ Global) AsmFault → Type 0
-ReadsText form text (Ok words) = TextSays form text (Ok words.items) × (length words.items ≤ 32768)
+ReadsText form text (Ok words) = TextSays form text (Ok words.items) × (length words.items ≤ image_words)
 ReadsText form text (Err fault) = SaysWrong form text (wrong_of fault)
 
 -- What loading says: this of what is loaded, and this of the line of a refusal.
@@ -127,7 +128,7 @@ LoadsText files path r = Loaded (λ (text : Vec ℕ Global). HasFile files path 
 -- What loading the words of a file in a form says.
 abbrev pub Loads : Form → Option Files → List ℕ → Result (Vec ℕ Global) Failure → Type 0
 Loads form files path r =
-    Loaded (λ (words : Vec ℕ Global). IsFileOf form files path words.items × (length words.items ≤ 32768)) (IsNoFile form files path) r
+    Loaded (λ (words : Vec ℕ Global). IsFileOf form files path words.items × (length words.items ≤ image_words)) (IsNoFile form files path) r
 
 -- What reading the source at a path says, with what its text spells and with which faults.
 abbrev pub LoadsSource : {A : Type 0} → (List ℕ → A → Type 0) → (List ℕ → Fault → Type 0) → Option Files → List ℕ → Result A Failure → Type 0
@@ -182,7 +183,7 @@ LinksProgram bare folder program r = Made (λ (linked : Linked). Links bare prog
 
 abbrev pub Codes : Bool → List ℕ → List File → Result Coded Failure → Type 0
 Codes bare folder program r =
-    Made (λ (coded : Coded). (linked : Linked) × Links bare program (Ok linked) × (coded.instrs ≡ image_of linked) × (length (image_of linked) ≤ 32768))
+    Made (λ (coded : Coded). (linked : Linked) × Links bare program (Ok linked) × (coded.instrs ≡ image_of linked) × (length (image_of linked) ≤ image_words))
     (IsNoCode bare folder program) r
 
 -- What running a program and putting its report says of out: the report, or a front part of it, or nothing where memory is wanting.

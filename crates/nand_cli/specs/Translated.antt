@@ -1,6 +1,7 @@
 -- The command `vm`: the assembly of the program that the VM files of a folder spell, or why the folder is refused. (The
 -- book, chapters 7 and 8.)
 use Rattle.std.specs.Prelude.{◌≡◌, ◌≤◌, ◌⊎◌, ℕ, Bool, List, [], ◌∷◌, Option, Ok, Err, length, codes, decimal}
+use Rattle.hack_isa.specs.Machine.{image_words}
 use Rattle.outer_world.specs.Files.{Files}
 use Rattle.outer_world.specs.Texts.{fault_line}
 use Rattle.hack_asm.specs.Written.{asm_text}
@@ -30,7 +31,7 @@ HasProgram bare files folder program = FolderSpells (SpellsVmFile bare) (codes "
 abbrev pub IsTranslation : Bool → Option Files → List ℕ → List ℕ → Type 0
 IsTranslation bare files folder text =
     (program : List File) × (linked : Linked) × HasProgram bare files folder program × Links bare program (Ok linked)
-    × (length (image_of linked) ≤ 32768) × (text ≡ asm_text (image_of linked))
+    × (length (image_of linked) ≤ image_words) × (text ≡ asm_text (image_of linked))
 
 -- The line that tells why a program is not linked. Want of memory has none.
 abbrev pub IsLinkLine : List ℕ → LinkFault → List ℕ → Type 0

@@ -1,7 +1,7 @@
 //! The command `exec`: words of the memory after a run of the instruction machine.
 ghost use Rattle.std.specs.Prelude.{◌≡◌, ◌≤◌, List, ℕ, IfOk, Option, length};
 ghost use Rattle.command_line.specs.Line.{exec};
-ghost use Rattle.hack_isa.specs.Machine.{machine_at};
+ghost use Rattle.hack_isa.specs.Machine.{machine_at, image_words};
 ghost use Rattle.hack_machine.specs.Loaded.{machine_of};
 ghost use Rattle.nand_cli.specs.Parts.{Counts, Does};
 
@@ -21,7 +21,7 @@ fn machine_after<K: Keyboard>(
     keys: &K,
     cycles: u32,
 ) -> Result<Hack, AllocError>
-    requires { length image.now ≤ 32768 }
+    requires { length image.now ≤ image_words }
     ensures { IfOk result (λ hack. machine_of hack ≡ machine_at image.now (K.code keys.now) cycles) }
 {
     let mut hack = Hack::new(alloc, image)?;

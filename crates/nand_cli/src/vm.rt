@@ -14,12 +14,12 @@ use crate::folder::{path_in, sources_in, stem};
 use crate::reading::{NOWHERE, not_read, text_of};
 use crate::refusal::{Detail, Failure, Kind, refusal_at};
 use hack_asm::write_asm;
-use outer_world::{Name, Put, Shelf, Sink};
+use outer_world::{List, Name, Put, Shelf, Sink};
 use std::alloc::Global;
 use vm_link::{LinkFault, Linked, link};
 use vm_parser::parse_file;
 use vm_translator::{CodeFault, Coded, translate};
-use vm_tree::{File, List, Program};
+use vm_tree::{File, Program};
 
 const ENDING: &str = ".vm";
 

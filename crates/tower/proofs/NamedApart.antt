@@ -73,27 +73,27 @@ not_among_by source kind n true h = absurd cc
 not_among_by source kind n false h = refl
 
 -- a name that is there before is not that of the next thing
-next_new : (source : Source) (kind : NameKind) (n : Name) (before : List (List ℕ)) (x : List ℕ) → twice_fault source kind before n ≡ None → is_among x before ≡ true → x ≡ n.text.items → ⊥
+next_new : (source : Source) (kind : NameKind) (n : Name) (before : List (List ℕ)) (x : List ℕ) → twice_fault source kind before n ≡ None → is_among x before ≡ true → x ≡ n.text → ⊥
 next_new source kind n before x h k e =
-    false≢true (sym (not_among_by source kind n (is_among n.text.items before) h) ∙ ap (λ (y : List ℕ). is_among y before) (sym e) ∙ k)
+    false≢true (sym (not_among_by source kind n (is_among n.text before) h) ∙ ap (λ (y : List ℕ). is_among y before) (sym e) ∙ k)
 
 abbrev pub texts : List Subroutine → List (List ℕ)
-texts ss = map (λ t. t.name.text.items) ss
+texts ss = map (λ t. t.name.text) ss
 
 module _ (source : Source) where
   later_new : (before : List (List ℕ)) (ss : List Subroutine) (x : List ℕ) → subroutines_fault source before ss ≡ None → is_among x before ≡ true → IsNew x (texts ss)
   later_new before [] x h k = tt
   later_new before (s ∷ ss) x h k =
       let a = none_both (twice_fault source kinds.MemberTwice before s.name) _ h in
-      let b = none_both (variables_fault source s) (subroutines_fault source (before ++ s.name.text.items ∷ []) ss) a.1 in
-      (next_new source kinds.MemberTwice s.name before x a.0 k, later_new (before ++ s.name.text.items ∷ []) ss x b.1 (among_front x s.name.text.items before k))
+      let b = none_both (variables_fault source s) (subroutines_fault source (before ++ s.name.text ∷ []) ss) a.1 in
+      (next_new source kinds.MemberTwice s.name before x a.0 k, later_new (before ++ s.name.text ∷ []) ss x b.1 (among_front x s.name.text before k))
 
   members_apart : (before : List (List ℕ)) (ss : List Subroutine) → subroutines_fault source before ss ≡ None → AreApart (texts ss)
   members_apart before [] h = tt
   members_apart before (s ∷ ss) h =
       let a = none_both (twice_fault source kinds.MemberTwice before s.name) _ h in
-      let b = none_both (variables_fault source s) (subroutines_fault source (before ++ s.name.text.items ∷ []) ss) a.1 in
-      (later_new (before ++ s.name.text.items ∷ []) ss s.name.text.items b.1 (among_last s.name.text.items before), members_apart (before ++ s.name.text.items ∷ []) ss b.1)
+      let b = none_both (variables_fault source s) (subroutines_fault source (before ++ s.name.text ∷ []) ss) a.1 in
+      (later_new (before ++ s.name.text ∷ []) ss s.name.text b.1 (among_last s.name.text before), members_apart (before ++ s.name.text ∷ []) ss b.1)
 
 -- what a class without a fault in its declarations keeps
 pub record IsDeclared (shipped : Bool) (before : List (List ℕ)) (c : Class) : Type 0 where
@@ -111,19 +111,19 @@ declared shipped before c h =
 pub later_classes : (shipped : Bool) (before : List (List ℕ)) (cs : List Class) (x : List ℕ) → declarations_fault shipped before cs ≡ None → is_among x before ≡ true → IsNew x (class_names cs)
 later_classes shipped before [] x h k = tt
 later_classes shipped before (c ∷ cs) x h k =
-    let a = none_both (declaration_fault shipped before c) (declarations_fault shipped (before ++ c.name.text.items ∷ []) cs) h in
-    (next_new (source_of shipped c) kinds.ClassTwice c.name before x (declared shipped before c a.0).new k, later_classes shipped (before ++ c.name.text.items ∷ []) cs x a.1 (among_front x c.name.text.items before k))
+    let a = none_both (declaration_fault shipped before c) (declarations_fault shipped (before ++ c.name.text ∷ []) cs) h in
+    (next_new (source_of shipped c) kinds.ClassTwice c.name before x (declared shipped before c a.0).new k, later_classes shipped (before ++ c.name.text ∷ []) cs x a.1 (among_front x c.name.text before k))
 
 -- classes whose names are apart, with subroutines whose names are apart in each
 abbrev pub Declared : List Class → Type 0
 Declared [] = Unit {0}
-Declared (c ∷ cs) = IsNew c.name.text.items (class_names cs) × AreApart (texts c.subroutines.items) × Declared cs
+Declared (c ∷ cs) = IsNew c.name.text (class_names cs) × AreApart (texts c.subroutines.items) × Declared cs
 
 pub all_declared : (shipped : Bool) (before : List (List ℕ)) (cs : List Class) → declarations_fault shipped before cs ≡ None → Declared cs
 all_declared shipped before [] h = tt
 all_declared shipped before (c ∷ cs) h =
-    let a = none_both (declaration_fault shipped before c) (declarations_fault shipped (before ++ c.name.text.items ∷ []) cs) h in (
-      later_classes shipped (before ++ c.name.text.items ∷ []) cs c.name.text.items a.1 (among_last c.name.text.items before),
+    let a = none_both (declaration_fault shipped before c) (declarations_fault shipped (before ++ c.name.text ∷ []) cs) h in (
+      later_classes shipped (before ++ c.name.text ∷ []) cs c.name.text a.1 (among_last c.name.text before),
       (declared shipped before c a.0).apart,
-      all_declared shipped (before ++ c.name.text.items ∷ []) cs a.1,
+      all_declared shipped (before ++ c.name.text ∷ []) cs a.1,
     )

@@ -31,7 +31,7 @@ let_within (Some v) n e = assigned_within v.slot n e
 
 mutual
   statement_within : (s : Scope) (n : ℕ) (t : statements.Statement) → Within (statement_meant s n t) (size t)
-  statement_within s n (statements.Let at x None e) = let_within (s.variable x.text.items) n (exp_meant s e)
+  statement_within s n (statements.Let at x None e) = let_within (s.variable x.text) n (exp_meant s e)
   statement_within s n (statements.Let at x (Some i) e) = record { ifs = omega arith; whiles = omega arith }
   statement_within s n (statements.If' at e m a b) =
       let p = block_within s (n + 1) _ a in

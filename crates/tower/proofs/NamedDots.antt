@@ -1,21 +1,17 @@
--- The names of a program's subroutines are apart, since those of classes have no dot, and all are of ASCII.
-use Rattle.std.proofs.Common.{◌≡◌, ◌<◌, ℕ, Bool, true, false, cond, List, [], ◌∷◌, ◌++◌, map, codes, None, refl, sym, ap, subst, ◌∙◌, arith}
-use Rattle.std.specs.List.{All}
-use Rattle.std.specs.Str.{bytes_eq, is_utf8}
+-- The names of a program's subroutines are apart, since those of classes have no dot.
+use Rattle.std.proofs.Common.{◌≡◌, ℕ, Bool, true, false, cond, List, [], ◌∷◌, ◌++◌, map, codes, None, refl, sym, ap, subst, ◌∙◌, arith}
+use Rattle.std.specs.Str.{bytes_eq}
 use Rattle.std.proofs.lemmas.Bool.{false≢true}
-use Rattle.std.proofs.lemmas.Bool.Decides.{nat_tests}
 use Rattle.std.proofs.lemmas.List.{append_cancel_left}
-use Rattle.std.proofs.lemmas.List.Elements.{All-nil, All-cons, All-head, All-tail, All-append, All-weaker}
+use Rattle.std.proofs.lemmas.List.Elements.{All-head, All-tail}
 use Rattle.std.proofs.lemmas.Slice.Eq.{bytes_eq-Decides}
-use Rattle.std.proofs.lemmas.Str.{is_utf8-from_IsUtf8, IsUtf8-from_ascii}
-use Rattle.std.proofs.lemmas.Str.Ascii.{IsAscii-from_all}
 use Rattle.jack_lexer.specs.Cut.{is_name_byte}
 use Rattle.jack_tree.specs.declared.tree.Subroutine.{Subroutine}
 use Rattle.jack_tree.specs.declared.tree.Class.{Class}
 use Rattle.jack_names.specs.Tables.{is_among}
 use Rattle.jack_names.specs.Twice.{declarations_fault}
 use Rattle.jack_names.specs.Whole.{class_names, subroutine_name, names_meant, declared_fault}
-use Rattle.tower.specs.Read.{IsName, AreReadSubroutines, AreReadClasses}
+use Rattle.tower.specs.Read.{IsName, AreReadClasses}
 use Rattle.tower.proofs.NamedFaults.{none_both}
 use Rattle.tower.proofs.NamedApart.{IsNew, AreApart, AreNew, new_both, apart_both, texts, Declared, later_classes, all_declared}
 
@@ -50,77 +46,43 @@ dotted (x ∷ a) (y ∷ b) t p e = let k : a ≡ b ++ (46 ∷ t) = cc in dotted 
 
 class_new : (a s d : List ℕ) (ss : List Subroutine) → IsPlain a → IsPlain d → (a ≡ d → ⊥) → IsNew (a ++ (46 ∷ s)) (map (subroutine_name d) ss)
 class_new a s d [] p q n = tt
-class_new a s d (t ∷ ss) p q n = (λ e. n (before_dot a d s t.name.text.items p q e), class_new a s d ss p q n)
+class_new a s d (t ∷ ss) p q n = (λ e. n (before_dot a d s t.name.text p q e), class_new a s d ss p q n)
 
 names_new : (a s : List ℕ) (cs : List Class) → IsPlain a → AreReadClasses cs → IsNew a (class_names cs) → IsNew (a ++ (46 ∷ s)) (names_meant cs)
 names_new a s [] p r n = tt
 names_new a s (c ∷ cs) p r n =
-    new_both (a ++ (46 ∷ s)) (map (subroutine_name c.name.text.items) c.subroutines.items) (names_meant cs)
-    (class_new a s c.name.text.items c.subroutines.items p (plain c.name.text.items r.0.name) n.0) (names_new a s cs p r.1 n.1)
+    new_both (a ++ (46 ∷ s)) (map (subroutine_name c.name.text) c.subroutines.items) (names_meant cs)
+    (class_new a s c.name.text c.subroutines.items p (plain c.name.text r.0.name) n.0) (names_new a s cs p r.1 n.1)
 
 all_new : (a : List ℕ) (ss : List Subroutine) (cs : List Class) → IsPlain a → AreReadClasses cs → IsNew a (class_names cs) → AreNew (map (subroutine_name a) ss) (names_meant cs)
 all_new a [] cs p r n = tt
-all_new a (t ∷ ss) cs p r n = (names_new a t.name.text.items cs p r n, all_new a ss cs p r n)
+all_new a (t ∷ ss) cs p r n = (names_new a t.name.text cs p r n, all_new a ss cs p r n)
 
 member_new : (a t : List ℕ) (ss : List Subroutine) → IsNew t (texts ss) → IsNew (a ++ (46 ∷ t)) (map (subroutine_name a) ss)
 member_new a t [] n = tt
 member_new a t (s ∷ ss) n =
-    (λ e. n.0 (let k : 46 ∷ t ≡ 46 ∷ s.name.text.items = append_cancel_left a (46 ∷ t) (46 ∷ s.name.text.items) e in cc), member_new a t ss n.1)
+    (λ e. n.0 (let k : 46 ∷ t ≡ 46 ∷ s.name.text = append_cancel_left a (46 ∷ t) (46 ∷ s.name.text) e in cc), member_new a t ss n.1)
 
 members_apart : (a : List ℕ) (ss : List Subroutine) → AreApart (texts ss) → AreApart (map (subroutine_name a) ss)
 members_apart a [] n = tt
-members_apart a (s ∷ ss) n = (member_new a s.name.text.items ss n.0, members_apart a ss n.1)
+members_apart a (s ∷ ss) n = (member_new a s.name.text ss n.0, members_apart a ss n.1)
 
 pub names_apart : (cs : List Class) → AreReadClasses cs → Declared cs → AreApart (names_meant cs)
 names_apart [] r d = tt
 names_apart (c ∷ cs) r d =
-    apart_both (map (subroutine_name c.name.text.items) c.subroutines.items) (names_meant cs) (members_apart c.name.text.items c.subroutines.items d.1) (names_apart cs r.1 d.2)
-    (all_new c.name.text.items c.subroutines.items cs (plain c.name.text.items r.0.name) r.1 d.0)
+    apart_both (map (subroutine_name c.name.text) c.subroutines.items) (names_meant cs) (members_apart c.name.text c.subroutines.items d.1) (names_apart cs r.1 d.2)
+    (all_new c.name.text c.subroutines.items cs (plain c.name.text r.0.name) r.1 d.0)
 
 start_of_class : (d : List ℕ) (ss : List Subroutine) → IsNew (codes "start") (map (subroutine_name d) ss)
 start_of_class d [] = tt
-start_of_class d (t ∷ ss) = (λ e. dotted (codes "start") d t.name.text.items start_plain e, start_of_class d ss)
+start_of_class d (t ∷ ss) = (λ e. dotted (codes "start") d t.name.text start_plain e, start_of_class d ss)
   where
     start_plain : IsPlain (codes "start")
     start_plain = (λ e. absurd (omega arith), (λ e. absurd (omega arith), (λ e. absurd (omega arith), (λ e. absurd (omega arith), (λ e. absurd (omega arith), tt)))))
 
 pub start_new : (cs : List Class) → IsNew (codes "start") (names_meant cs)
 start_new [] = tt
-start_new (c ∷ cs) = new_both (codes "start") (map (subroutine_name c.name.text.items) c.subroutines.items) (names_meant cs) (start_of_class c.name.text.items c.subroutines.items) (start_new cs)
-
--- names of ASCII are UTF-8
-low_digit : (b : ℕ) → is_name_byte b ≡ true → b < 128
-low_digit b h = grind (arith, nat_tests)
-
-name_low : (text : List ℕ) → IsName text → All (λ b. b < 128) text
-name_low text h = All-weaker (λ b. is_name_byte b ≡ true) (λ b. b < 128) low_digit text h
-
-utf8 : (text : List ℕ) → All (λ b. b < 128) text → is_utf8 text ≡ true
-utf8 text h = is_utf8-from_IsUtf8 text (IsUtf8-from_ascii text (IsAscii-from_all text h))
-
-name_utf8 : (a t : List ℕ) → IsName a → IsName t → is_utf8 (a ++ (46 ∷ t)) ≡ true
-name_utf8 a t p q = utf8 (a ++ (46 ∷ t)) (All-append (λ b. b < 128) a (46 ∷ t) (name_low a p) (All-cons (λ b. b < 128) 46 t (omega arith) (name_low t q)))
-
-members_utf8 : (a : List ℕ) (ss : List Subroutine) → IsName a → AreReadSubroutines ss → All (λ n. is_utf8 n ≡ true) (map (subroutine_name a) ss)
-members_utf8 a [] p r = All-nil (λ n. is_utf8 n ≡ true)
-members_utf8 a (s ∷ ss) p r =
-    All-cons (λ n. is_utf8 n ≡ true) (subroutine_name a s) (map (subroutine_name a) ss) (name_utf8 a s.name.text.items p r.0.name) (members_utf8 a ss p r.1)
-
-pub names_utf8 : (cs : List Class) → AreReadClasses cs → All (λ n. is_utf8 n ≡ true) (names_meant cs)
-names_utf8 [] r = All-nil (λ n. is_utf8 n ≡ true)
-names_utf8 (c ∷ cs) r =
-    All-append (λ n. is_utf8 n ≡ true) (map (subroutine_name c.name.text.items) c.subroutines.items) (names_meant cs) (members_utf8 c.name.text.items c.subroutines.items r.0.name r.0.subroutines) (names_utf8 cs r.1)
-
-abbrev AreLow : List ℕ → Type 0
-AreLow [] = Unit {0}
-AreLow (b ∷ bs) = (b < 128) × AreLow bs
-
-lows : (bs : List ℕ) → AreLow bs → All (λ b. b < 128) bs
-lows [] h = All-nil (λ b. b < 128)
-lows (b ∷ bs) h = All-cons (λ c. c < 128) b bs h.0 (lows bs h.1)
-
-pub start_utf8 : is_utf8 (codes "start") ≡ true
-start_utf8 = utf8 (codes "start") (lows (codes "start") (omega arith, (omega arith, (omega arith, (omega arith, (omega arith, tt))))))
+start_new (c ∷ cs) = new_both (codes "start") (map (subroutine_name c.name.text) c.subroutines.items) (names_meant cs) (start_of_class c.name.text c.subroutines.items) (start_new cs)
 
 -- Those of two lists of classes.
 among_by : (b c : Bool) → c ≡ true → cond b true c ≡ true
@@ -146,14 +108,14 @@ rest_new x xs (y ∷ ys) h = (h.0.1, rest_new x xs ys h.1)
 
 class_names-append : (xs ys : List Class) → class_names (xs ++ ys) ≡ class_names xs ++ class_names ys
 class_names-append [] ys = refl
-class_names-append (c ∷ xs) ys = ap (λ (l : List (List ℕ)). c.name.text.items ∷ l) (class_names-append xs ys)
+class_names-append (c ∷ xs) ys = ap (λ (l : List (List ℕ)). c.name.text ∷ l) (class_names-append xs ys)
 
 declared_append : (xs ys : List Class) → Declared xs → Declared ys → AreNew (class_names ys) (class_names xs) → Declared (xs ++ ys)
 declared_append [] ys a b h = b
 declared_append (c ∷ xs) ys a b h = (
-  subst (IsNew c.name.text.items) (sym (class_names-append xs ys)) (new_both c.name.text.items (class_names xs) (class_names ys) a.0 (front_new c.name.text.items (class_names xs) (class_names ys) h)),
+  subst (IsNew c.name.text) (sym (class_names-append xs ys)) (new_both c.name.text (class_names xs) (class_names ys) a.0 (front_new c.name.text (class_names xs) (class_names ys) h)),
   a.1,
-  declared_append xs ys a.2 b (rest_new c.name.text.items (class_names xs) (class_names ys) h),
+  declared_append xs ys a.2 b (rest_new c.name.text (class_names xs) (class_names ys) h),
 )
 
 pub both_declared : (own os : List Class) → declared_fault own os ≡ None → Declared (own ++ os)
@@ -168,7 +130,7 @@ read_append (c ∷ xs) ys a b = (a.0, read_append xs ys a.1 b)
 
 pub names_meant-append : (xs ys : List Class) → names_meant (xs ++ ys) ≡ names_meant xs ++ names_meant ys
 names_meant-append [] ys = refl
-names_meant-append (c ∷ xs) ys = ap (λ (l : List (List ℕ)). map (subroutine_name c.name.text.items) c.subroutines.items ++ l) (names_meant-append xs ys) ∙ sym (assoc (map (subroutine_name c.name.text.items) c.subroutines.items) (names_meant xs) (names_meant ys))
+names_meant-append (c ∷ xs) ys = ap (λ (l : List (List ℕ)). map (subroutine_name c.name.text) c.subroutines.items ++ l) (names_meant-append xs ys) ∙ sym (assoc (map (subroutine_name c.name.text) c.subroutines.items) (names_meant xs) (names_meant ys))
   where
     assoc : (a b d : List (List ℕ)) → (a ++ b) ++ d ≡ a ++ (b ++ d)
     assoc [] b d = refl

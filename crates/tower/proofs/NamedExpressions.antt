@@ -72,7 +72,7 @@ module _ (subs : List meaning.Subroutine) (numbers : Numbers) (scope : Scope) (s
   variable_by x (Some v) e h = declared_whole x v e h
 
   pub variable_whole : (x : Name) → use_fault s (Variable x) ≡ None → W (variable_meant s x)
-  variable_whole x h = variable_by x.text.items (s.variable x.text.items) refl (told_none s.source x.text.items x.place (variable_kind s.form (s.variable x.text.items)) h)
+  variable_whole x h = variable_by x.text (s.variable x.text) refl (told_none s.source x.text x.place (variable_kind s.form (s.variable x.text)) h)
 
   -- a call that the meaning makes by itself
   pub made_takes : (w : Way) (f : List ℕ) (n : ℕ) (o : Option ℕ) → made_kind s w f n o ≡ None → T (made_by s f o) (before w + n)
@@ -111,7 +111,7 @@ module _ (subs : List meaning.Subroutine) (numbers : Numbers) (scope : Scope) (s
 
   constant_whole : (c : Constant) → first_fault s (constant_uses c) ≡ None → IsReadConstant c → W (constant_meant s c)
   constant_whole (constant.Integer n) h r = inl (omega arith)
-  constant_whole (constant.Text t) h r = string_whole t.text.items t.place (none_both (string_fault s t.text.items t.place) None h).0 r
+  constant_whole (constant.Text t) h r = string_whole t.text t.place (none_both (string_fault s t.text t.place) None h).0 r
   constant_whole constant.True h r = inr refl
   constant_whole constant.False h r = inl (omega arith)
   constant_whole constant.Null h r = inl (omega arith)
@@ -162,12 +162,12 @@ module _ (subs : List meaning.Subroutine) (numbers : Numbers) (scope : Scope) (s
 
   invoked_whole : (o : Option Name) (f : Name) (n : ℕ) (es : meaning.Expressions) → call_fault s o f n ≡ None → count es ≡ n → Ws es → W (invoked s o f es)
   invoked_whole None f n es h c w =
-      own_whole f.text.items n es c w (told_none s.source f.text.items f.place (called_kind s f.text.items n (callee s None)) h)
+      own_whole f.text n es c w (told_none s.source f.text f.place (called_kind s f.text n (callee s None)) h)
   invoked_whole (Some x) f n es h c w =
-      let a = none_both (front_fault s (Some x)) (told_if s.source f.text.items f.place (called_kind s f.text.items n (callee s (Some x)))) h in
-      through_whole f.text.items n es c w x.text.items (s.variable x.text.items) (s.class x.text.items) refl
-      (told_none s.source x.text.items x.place (front_by s.form (s.variable x.text.items) (callee s (Some x))) a.0)
-      (told_none s.source f.text.items f.place (called_kind s f.text.items n (callee s (Some x))) a.1)
+      let a = none_both (front_fault s (Some x)) (told_if s.source f.text f.place (called_kind s f.text n (callee s (Some x)))) h in
+      through_whole f.text n es c w x.text (s.variable x.text) (s.class x.text) refl
+      (told_none s.source x.text x.place (front_by s.form (s.variable x.text) (callee s (Some x))) a.0)
+      (told_none s.source f.text f.place (called_kind s f.text n (callee s (Some x))) a.1)
 
   mutual
     term_whole : (t : terms.Term) → first_fault s (term_uses t) ≡ None → IsReadTerm t → W (term_meant s t)

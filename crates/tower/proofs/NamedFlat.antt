@@ -58,7 +58,7 @@ pub record Signed (n : ℕ) (ss : List Subroutine) (f : List ℕ) (g : Signature
   pub subroutine : Subroutine
   pub number : g.number ≡ n + place
   pub there : slice_get ss place ≡ Some subroutine
-  pub name : f ≡ subroutine.name.text.items
+  pub name : f ≡ subroutine.name.text
   pub form : g.form ≡ subroutine.form
   pub parameters : g.parameters ≡ length subroutine.parameters.items
 
@@ -75,9 +75,9 @@ signed_on n s ss f g h = record {
 
 pub signed : (n : ℕ) (ss : List Subroutine) (f : List ℕ) (g : Signature) → found f (signatures n ss) ≡ Some g → Signed n ss f g
 signed n [] f g h = absurd cc
-signed n (s ∷ ss) f g h = by_test (bytes_eq f s.name.text.items) refl (λ k. signed_on n s ss f g (signed (n + 1) ss f g k)) h
+signed n (s ∷ ss) f g h = by_test (bytes_eq f s.name.text) refl (λ k. signed_on n s ss f g (signed (n + 1) ss f g k)) h
   where
-    by_test : (b : Bool) → bytes_eq f s.name.text.items ≡ b → (found f (signatures (n + 1) ss) ≡ Some g → Signed n (s ∷ ss) f g) → cond b (Some (sign n s)) (found f (signatures (n + 1) ss)) ≡ Some g → Signed n (s ∷ ss) f g
+    by_test : (b : Bool) → bytes_eq f s.name.text ≡ b → (found f (signatures (n + 1) ss) ≡ Some g → Signed n (s ∷ ss) f g) → cond b (Some (sign n s)) (found f (signatures (n + 1) ss)) ≡ Some g → Signed n (s ∷ ss) f g
     by_test true e go k =
         let same : sign n s ≡ g = cc in
         record {
@@ -85,7 +85,7 @@ signed n (s ∷ ss) f g h = by_test (bytes_eq f s.name.text.items) refl (λ k. s
           subroutine = s;
           number = sym (ap (λ (x : Signature). x.number) same) ∙ omega arith;
           there = refl;
-          name = (bytes_eq-Decides f s.name.text.items).0 e;
+          name = (bytes_eq-Decides f s.name.text).0 e;
           form = sym (ap (λ (x : Signature). x.form) same);
           parameters = sym (ap (λ (x : Signature). x.parameters) same);
         }
@@ -99,7 +99,7 @@ pub record Found (n : ℕ) (cs : List Class) (k : ℕ) (f : List ℕ) (g : Signa
   pub number : g.number ≡ n + place
   pub there : slice_get (flat cs) place ≡ Some (owned class subroutine)
   pub class_there : slice_get cs k ≡ Some class
-  pub name : f ≡ subroutine.name.text.items
+  pub name : f ≡ subroutine.name.text
   pub form : g.form ≡ subroutine.form
   pub parameters : g.parameters ≡ length subroutine.parameters.items
 
@@ -140,17 +140,17 @@ pub record Numbered (n : ℕ) (cs : List Class) (x : List ℕ) (k : ℕ) : Type 
   pub class : Class
   pub number : k ≡ n + place
   pub there : slice_get cs place ≡ Some class
-  pub name : x ≡ class.name.text.items
+  pub name : x ≡ class.name.text
 
 numbered_on : (n : ℕ) (c : Class) (cs : List Class) (x : List ℕ) (k : ℕ) → Numbered (n + 1) cs x k → Numbered n (c ∷ cs) x k
 numbered_on n c cs x k r = record { place = suc r.place; class = r.class; number = let a = r.number in omega (arith, a); there = r.there; name = r.name }
 
 pub numbered : (n : ℕ) (cs : List Class) (x : List ℕ) (k : ℕ) → found x (class_numbers n cs) ≡ Some k → Numbered n cs x k
 numbered n [] x k h = absurd cc
-numbered n (c ∷ cs) x k h = by_test (bytes_eq x c.name.text.items) refl (λ p. numbered_on n c cs x k (numbered (n + 1) cs x k p)) h
+numbered n (c ∷ cs) x k h = by_test (bytes_eq x c.name.text) refl (λ p. numbered_on n c cs x k (numbered (n + 1) cs x k p)) h
   where
-    by_test : (b : Bool) → bytes_eq x c.name.text.items ≡ b → (found x (class_numbers (n + 1) cs) ≡ Some k → Numbered n (c ∷ cs) x k) → cond b (Some n) (found x (class_numbers (n + 1) cs)) ≡ Some k → Numbered n (c ∷ cs) x k
+    by_test : (b : Bool) → bytes_eq x c.name.text ≡ b → (found x (class_numbers (n + 1) cs) ≡ Some k → Numbered n (c ∷ cs) x k) → cond b (Some n) (found x (class_numbers (n + 1) cs)) ≡ Some k → Numbered n (c ∷ cs) x k
     by_test true e go p =
         let same : n ≡ k = cc in
-        record { place = 0; class = c; number = sym same ∙ omega arith; there = refl; name = (bytes_eq-Decides x c.name.text.items).0 e }
+        record { place = 0; class = c; number = sym same ∙ omega arith; there = refl; name = (bytes_eq-Decides x c.name.text).0 e }
     by_test false e go p = go p

@@ -2,10 +2,9 @@
 use Rattle.std.proofs.Common.{◌≡◌, ◌<◌, ◌≤◌, ℕ, zero, suc, ◌+◌, true, false, nat_lt, List, [], ◌∷◌, ◌++◌, map, length, get_or, codes, Option, Some, None, refl, sym, ap, subst, ◌∙◌, arith}
 use Rattle.std.specs.Prelude.{slice_get}
 use Rattle.std.specs.List.{All}
-use Rattle.std.specs.Str.{is_utf8}
 use Rattle.std.proofs.lemmas.Bool.{lt-ltb, ltb-true, and_from, and_parts}
 use Rattle.std.proofs.lemmas.List.{map-append, length-map, length-append, append-nil}
-use Rattle.std.proofs.lemmas.List.Elements.{All-cons, All-append, All-get_or}
+use Rattle.std.proofs.lemmas.List.Elements.{All-append, All-get_or}
 use Rattle.vm_link.specs.Faults.{sys_init}
 use Rattle.jack_meaning.specs.Text.{Program}
 use Rattle.jack_meaning.specs.Text.{Subroutine as Meant, Class as MeantClass}
@@ -29,7 +28,7 @@ use Rattle.tower.proofs.NamedSound.{Takes, IsSound, signature_sound}
 use Rattle.tower.proofs.NamedExpressions.{made_none}
 use Rattle.tower.proofs.NamedFlat.{owned, flat, flat-append, find, numbered}
 use Rattle.tower.proofs.NamedApart.{AreApart, apart_at}
-use Rattle.tower.proofs.NamedDots.{names_apart, start_new, names_utf8, start_utf8, both_declared, read_append, names_meant-append}
+use Rattle.tower.proofs.NamedDots.{names_apart, start_new, both_declared, read_append, names_meant-append}
 use Rattle.tower.proofs.NamedRows.{arity, named, taken, taken_at, mapped_at, name_at, all_taken, all_named, in_order, before_front, before_behind, statics_few}
 use Rattle.tower.proofs.NamedClasses.{Counted, classes_resolved, os_none}
 
@@ -125,11 +124,6 @@ module _ (own os : List Class) where
     each_resolved zero p q = absurd (omega arith)
     each_resolved (suc g) p q = All-get_or (IsResolvedSubroutine program) subs g (subroutine_at [] 0) (omega arith) all_resolved
 
-    all_utf8 : All (λ n. is_utf8 n ≡ true) (all_names_meant own os)
-    all_utf8 =
-        All-cons (λ n. is_utf8 n ≡ true) (codes "start") (names_meant own ++ names_meant os) start_utf8
-        (All-append (λ n. is_utf8 n ≡ true) (names_meant own) (names_meant os) (names_utf8 own read) (names_utf8 os os_read))
-
     all_apart : AreApart (all_names_meant own os)
     all_apart =
         let a = none_both (declared_fault own os) (first_of (main_fault symbols) (all_uses_fault symbols own os)) well in
@@ -164,7 +158,7 @@ module _ (own os : List Class) where
         let at : k ≡ c.place = c.number ∙ omega arith in
         let both : Some c.class ≡ Some r.class = sym c.there ∙ ap (slice_get all) (sym at) ∙ r.class_there in
         let same : c.class ≡ r.class = cc in
-        let front : codes "Sys" ≡ r.class.name.text.items = c.name ∙ ap (λ (d : Class). d.name.text.items) same in
+        let front : codes "Sys" ≡ r.class.name.text = c.name ∙ ap (λ (d : Class). d.name.text) same in
         let n : g.number ≡ suc r.place = r.number ∙ omega arith in
         let there = name_at (names_meant own ++ names_meant os) r.place (named (owned r.class r.subroutine))
         (ap (λ (l : List (List ℕ)). slice_get l r.place) names_are ∙ mapped_at named (flat all) r.place (owned r.class r.subroutine) r.there) in
@@ -191,7 +185,6 @@ module _ (own os : List Class) where
       order = subs_order;
       statics = statics_are read os_read;
       named = names_length;
-      texts = λ g h. All-get_or (λ n. is_utf8 n ≡ true) (all_names_meant own os) g [] h all_utf8;
       apart = λ g h p q e. apart_at (all_names_meant own os) all_apart g h p q e;
       init = init_is.positive;
       init_there = init_is.below;

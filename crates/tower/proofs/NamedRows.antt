@@ -16,7 +16,7 @@ abbrev pub arity : Owned → ℕ
 arity o = objects o.subroutine.form + length o.subroutine.parameters.items
 
 abbrev pub named : Owned → List ℕ
-named o = subroutine_name o.class.name.text.items o.subroutine
+named o = subroutine_name o.class.name.text o.subroutine
 
 abbrev pub taken : List Meant → List ℕ
 taken xs = map (λ s. s.arguments) xs
@@ -51,9 +51,9 @@ all_taken symbols shipped own statics (c ∷ cs) =
     let q = all_taken symbols shipped (own + 1) (statics + statics_of c.variables.items) cs in
     map-append (λ s. s.arguments) (class_subroutines scope fields c.subroutines.items) rest ∙ (λ i. p i ++ q i) ∙ sym (map-append arity (map (owned c) c.subroutines.items) (flat cs))
 
-class_named : (c : Class) (ss : List Subroutine) → map (subroutine_name c.name.text.items) ss ≡ map named (map (owned c) ss)
+class_named : (c : Class) (ss : List Subroutine) → map (subroutine_name c.name.text) ss ≡ map named (map (owned c) ss)
 class_named c [] = refl
-class_named c (t ∷ ss) = ap (λ (l : List (List ℕ)). subroutine_name c.name.text.items t ∷ l) (class_named c ss)
+class_named c (t ∷ ss) = ap (λ (l : List (List ℕ)). subroutine_name c.name.text t ∷ l) (class_named c ss)
 
 pub all_named : (cs : List Class) → names_meant cs ≡ map named (flat cs)
 all_named [] = refl

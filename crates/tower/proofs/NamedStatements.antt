@@ -44,8 +44,8 @@ module _ (subs : List meaning.Subroutine) (numbers : Numbers) (scope : Scope) (s
     pub statement_fresh : (n : ℕ) (t : statements.Statement) → first_fault s (statement_uses t) ≡ None → IsReadStatement t → F (statement_meant s n t)
     statement_fresh n (statements.Let at x None e) h r =
         let a = first_use s (Variable x) (exp_uses e) h in
-        let_fresh x.text.items (s.variable x.text.items) n (exp_meant s e) refl
-        (told_none s.source x.text.items x.place (variable_kind s.form (s.variable x.text.items)) a.0) (exp_whole subs numbers scope s sound e a.1 r.1)
+        let_fresh x.text (s.variable x.text) n (exp_meant s e) refl
+        (told_none s.source x.text x.place (variable_kind s.form (s.variable x.text)) a.0) (exp_whole subs numbers scope s sound e a.1 r.1)
     statement_fresh n (statements.Let at x (Some i) e) h r =
         let a = first_use s (Variable x) (exp_uses i ++ exp_uses e) h in
         let b = uses_both s (exp_uses i) (exp_uses e) a.1 in

@@ -1,22 +1,16 @@
 -- The program of classes that some texts spell, with those of the operating system.
-use Rattle.std.proofs.Common.{◌≡◌, ◌≤◌, ◌<◌, ◌+◌, ◌^◌, ℕ, List, [], length, map, get_or, Ok, Vec, Global, ap, sym, subst, ◌∙◌, arith}
-use Rattle.std.specs.Prelude.{All, IsUtf8}
-use Rattle.std.proofs.lemmas.List.{get_or-map, length-map}
-use Rattle.std.proofs.lemmas.List.Elements.{All-from_get_or, All-get_or}
-use Rattle.std.proofs.lemmas.Str.{IsUtf8-from_is_utf8}
+use Rattle.std.proofs.Common.{◌≡◌, ◌≤◌, ◌<◌, ◌+◌, ◌++◌, ◌^◌, ℕ, List, length, Ok, sym, subst, arith}
 use Rattle.jack_tree.specs.declared.tree.Class.{Class}
 use Rattle.jack_meaning.specs.Text.{Program}
-use Rattle.jack_core.specs.Texts.{the_program}
+use Rattle.jack_core.specs.Texts.{the_program, names_of, class_names_of}
 use Rattle.jack_core.specs.declared.program.Core.{Core}
 use Rattle.jack_names.specs.Limits.{AreWithin, subroutine_count}
-use Rattle.jack_names.specs.Resolved.{seen_bytes}
-use Rattle.jack_names.specs.Whole.{WellNamed, program_meant, all_names_meant}
+use Rattle.jack_names.specs.Whole.{WellNamed, class_names, program_meant, all_names_meant}
 use Rattle.tower.specs.Read.{AreReadClasses}
 use Rattle.tower.specs.Spelled.{AreSpelled, ReadLaw}
 use Rattle.jack_os.specs.System.{SpellClasses, system}
-use Rattle.jack_compiler.specs.Files.{names_in}
 use Rattle.jack_compiler.specs.Resolved.{IsResolved, IsResolvedCore}
-use Rattle.tower.specs.Program.{Means, named_core}
+use Rattle.tower.specs.Program.{Means}
 use Rattle.tower.specs.Resolved.{ResolvedLaw}
 use Rattle.tower.proofs.NamedProgram.{well_named_resolved}
 use Rattle.tower.proofs.Spelled.{spelled_are_read, read_within, few_subroutines, files_spell, as_many}
@@ -26,16 +20,6 @@ resolved_by law own os well spelled os_spelled =
     let own_read = spelled_are_read law own spelled in
     let os_read = spelled_are_read law os os_spelled in
     well_named_resolved own os well (read_within own own_read) (read_within os os_read) own_read os_read
-
--- the names of resolved subroutines are texts
-pub names_utf8 : (core : Core) → IsResolvedCore core → All IsUtf8 (map seen_bytes core.names.items)
-names_utf8 core resolved = All-from_get_or IsUtf8 (names_in core) [] (λ g below. IsUtf8-from_is_utf8 (get_or (names_in core) g []) (resolved.texts g below))
-
-pub item_utf8 : (names : List (Vec ℕ Global)) (i : ℕ) (item : Vec ℕ Global) (bytes : List ℕ) → All IsUtf8 (map seen_bytes names) → i < length names → item ≡ get_or names i item → bytes ≡ item.items → IsUtf8 bytes
-item_utf8 names i item bytes h below is same =
-    let n = length-map names seen_bytes in
-    let at = same ∙ ap seen_bytes is ∙ sym (get_or-map seen_bytes names i item [] below) in
-    subst IsUtf8 (sym at) (All-get_or IsUtf8 (map seen_bytes names) i [] (omega (arith, n, below)) h)
 
 module _ (law : ReadLaw) (own os : List Class) (few : length own ≤ 256) (spelled : AreSpelled own) (is_system : SpellClasses system os) where
   own_read : AreReadClasses own
@@ -59,9 +43,9 @@ module _ (law : ReadLaw) (own os : List Class) (few : length own ≤ 256) (spell
   pub os_within : AreWithin os
   os_within = read_within os os_read
 
-  module _ (core : Core) (well : WellNamed own os) (program : the_program core ≡ program_meant own os) (names : map seen_bytes core.names.items ≡ all_names_meant own os) where
-    pub core_means : Means own (Ok (named_core core))
-    core_means = (os, is_system, well, program, names)
+  module _ (core : Core) (well : WellNamed own os) (program : the_program core ≡ program_meant own os) (names : names_of core ≡ all_names_meant own os) where
+    pub core_means : class_names_of core ≡ class_names own ++ class_names os → Means own (Ok core)
+    core_means class_names = (os, is_system, well, program, names, class_names)
 
     pub core_resolved : IsResolvedCore core
     core_resolved =

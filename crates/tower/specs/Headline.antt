@@ -1,5 +1,6 @@
 -- What the computer with the image of a program does: it follows the program's meaning, cycle by cycle.
 use Rattle.std.specs.Prelude.{ℕ, List}
+use Rattle.hack_blocks.specs.Templates.{endless_loop}
 use Rattle.hack_isa.specs.Machine.{machine_at}
 use Rattle.layers.specs.System.{IsKey}
 use Rattle.layers.specs.Trace.{Trace, trace_of}
@@ -11,26 +12,31 @@ use Rattle.jack_meaning.specs.Text.{Program}
 use Rattle.jack_meaning.specs.Meaning.{start}
 use Rattle.jack_meaning.specs.Level.{meaning_of}
 use Rattle.jack_compiler.specs.Templates.{Numbers}
-use Rattle.jack_compiler.specs.Fits.{IsFit, gap}
+use Rattle.jack_meaning.specs.Gap.{gap, IsGap}
+use Rattle.jack_compiler.specs.Fits.{IsFit}
 use Rattle.jack_compiler.specs.Match.{IsCodeOf}
 
 -- What is counted of the computer's run with this image and map, from its start, under these keys.
 abbrev pub run_trace : List ℕ → Map → (ℕ → ℕ) → Trace
-run_trace image map keys = trace_of (hack_system image map 51) keys (machine_at image keys)
+run_trace image map keys = trace_of (hack_system image map endless_loop) keys (machine_at image keys)
 
 -- the word of the computer at a cycle and an address
 abbrev pub run_word : List ℕ → (ℕ → ℕ) → ℕ → ℕ → ℕ
 run_word image keys n = (machine_at image keys n).memory
 
 -- At cycle n the run of this image and map agrees with the meaning of the program, as far as that is tame, and it makes the meaning's next
--- tame step within the gap.
-abbrev pub RunFollows : Program → ℕ → List ℕ → Map → (ℕ → ℕ) → ℕ → Type 0
-RunFollows program most image map keys n =
+-- tame step within so many cycles.
+abbrev pub FollowsWithin : Program → ℕ → List ℕ → Map → (ℕ → ℕ) → ℕ → Type 0
+FollowsWithin program most image map keys n =
     Follows (meaning_of program.subroutines) (start program) (run_trace image map keys) (run_word image keys) most n
+
+-- The same, within the gap of the program.
+abbrev pub RunFollows : Program → List ℕ → Map → (ℕ → ℕ) → ℕ → Type 0
+RunFollows program image map keys n = (most : ℕ) × IsGap program most × FollowsWithin program most image map keys n
 
 -- Where linked code is that of a program with resolved names, and an image and its map do what that code does, the computer with this
 -- image follows the program's meaning, at each cycle and under all keys.
 abbrev pub HeadlineLaw : Type 0
 HeadlineLaw = (program : Program) (numbers : Numbers) (linked : Linked) (depth most_locals : ℕ) (image : List ℕ) (map : Map)
-    → IsFit program numbers depth most_locals → IsCodeOf program numbers linked → IsTranslated linked image map 51
-    → (keys : ℕ → ℕ) → ((c : ℕ) → IsKey (keys c)) → (n : ℕ) → RunFollows program (gap depth most_locals) image map keys n
+    → IsFit program numbers depth most_locals → IsCodeOf program numbers linked → IsTranslated linked image map endless_loop
+    → (keys : ℕ → ℕ) → ((c : ℕ) → IsKey (keys c)) → (n : ℕ) → FollowsWithin program (gap depth most_locals) image map keys n

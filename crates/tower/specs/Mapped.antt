@@ -4,7 +4,7 @@ use Rattle.std.specs.List.{All, list_any}
 use Rattle.outer_world.specs.declared.point.Point.{Point}
 use Rattle.machine_io.specs.History.{Turn}
 use Rattle.machine_io.specs.declared.machine.Moved.TheVariants.{Acted}
-use Rattle.hack_isa.specs.Machine.{machine_at}
+use Rattle.hack_isa.specs.Machine.{machine_at, image_words}
 use Rattle.hack_machine.specs.Loaded.{LoadedMachine, machine_of}
 use Rattle.layers.specs.Trace.{steps, point_at}
 use Rattle.hack_blocks.specs.Computer.{Map}
@@ -39,7 +39,7 @@ program_in h = record { image = h.hack.image; commits = h.commits; ranges = h.ra
 -- The image is one that the computer has room for, and each address of it has a point.
 pub record IsMapped (image : List ℕ) (ranges : List PointRange) : Type 0 where
   pub some : 0 < length image
-  pub room : length image ≤ 32768
+  pub room : length image ≤ image_words
   pub covers : Covers 0 ranges (length image)
 
 -- the point of an address that has one

@@ -25,7 +25,7 @@ pub record IsString (text : List ℕ) : Type 0 where
 
 abbrev pub IsReadConstant : Constant → Type 0
 IsReadConstant (constant.Integer n) = n ≤ 32767
-IsReadConstant (constant.Text t) = IsString t.text.items
+IsReadConstant (constant.Text t) = IsString t.text
 IsReadConstant _ = Unit {0}
 
 abbrev mutual
@@ -80,7 +80,7 @@ AreReadStatements [] = Unit {0}
 AreReadStatements (t ∷ ts) = IsReadStatement t × AreReadStatements ts
 
 pub record IsReadSubroutine (s : Subroutine) : Type 0 where
-  pub name : IsName s.name.text.items
+  pub name : IsName s.name.text
   pub statements : AreReadStatements s.statements.items
 
 abbrev pub AreReadSubroutines : List Subroutine → Type 0
@@ -89,7 +89,7 @@ AreReadSubroutines (s ∷ ss) = IsReadSubroutine s × AreReadSubroutines ss
 
 pub record IsReadClass (c : Class) : Type 0 where
   pub within : IsWithin c
-  pub name : IsName c.name.text.items
+  pub name : IsName c.name.text
   pub statics : statics_of c.variables.items ≤ 16384
   pub few : length c.subroutines.items ≤ 1048576
   pub subroutines : AreReadSubroutines c.subroutines.items

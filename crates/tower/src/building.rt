@@ -1,5 +1,7 @@
 //! From linked code to the image that the computer runs.
 ghost use Rattle.std.specs.Prelude.{◌≡◌, ◌<◌, ◌≤◌, All, IfOk, IfErr, false, length, map};
+ghost use Rattle.hack_isa.specs.Machine.{image_words};
+ghost use Rattle.hack_blocks.specs.Templates.{endless_loop};
 ghost use Rattle.hack_isa.specs.Table.{word_of};
 ghost use Rattle.vm_link.specs.Sound.{IsSound};
 ghost use Rattle.vm_translator.specs.Mapping.{Covers};
@@ -9,12 +11,12 @@ ghost use Rattle.tower.specs.declared.building.BuildError.TheVariants.{Memory};
 ghost use Rattle.tower.specs.Built.{IsUnbuilt, map_for, run_program};
 
 use hack_isa::{Instr, encode};
+use outer_world::List;
 use std::alloc::{AllocError, Global};
 use std::marker::Model;
 use thiserror::Error;
 use vm_link::Linked;
 use vm_translator::{CodeFault, Coded, PointRange, translate};
-use vm_tree::List;
 
 /// Why a program has no computer: memory ran out, its files have so many static words, which are more than 240, or its image
 /// would have so many words, which are more than 32,768.
@@ -69,7 +71,7 @@ fn words(alloc: Global, instrs: &[Instr]) -> Result<Vec<u16>, AllocError>
 // The image of translated code with its map.
 fn built_of(alloc: Global, coded: Coded) -> Result<Built, AllocError>
     requires some { 0 < length coded.instrs }
-    requires room { length coded.instrs ≤ 32768 }
+    requires room { length coded.instrs ≤ image_words }
     requires plain { All IsPlain coded.instrs }
     requires covers { Covers 0 coded.points (length coded.instrs) }
     ensures { IfOk result (λ b. b ≡ record { image = map word_of coded.instrs; commits = coded.commits; ranges = coded.points }) }
@@ -87,8 +89,8 @@ pub(crate) fn build_linked(alloc: Global, linked: &Linked) -> Result<Built, Buil
     requires sound { IsSound linked.now }
     requires starts { linked.now.bare ≡ false }
     ensures program { IfOk result (λ b. b ≡ run_program linked.now) }
-    ensures translated { IfOk result (λ b. IsTranslated linked.now b.image (map_for b) 51) }
-    ensures fits { IfOk result (λ b. length b.image ≤ 32768) }
+    ensures translated { IfOk result (λ b. IsTranslated linked.now b.image (map_for b) endless_loop) }
+    ensures fits { IfOk result (λ b. length b.image ≤ image_words) }
     ensures unbuilt { IfErr result (IsUnbuilt linked.now) }
 {
     match translate(alloc, linked, false) {

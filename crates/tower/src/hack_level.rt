@@ -2,7 +2,7 @@
 //! program's meaning and knows its control point.
 ghost use Rattle.std.specs.Prelude.{◌≡◌, ◌+◌, ◌<◌, ◌≤◌, ◌^◌, ◌++◌, [], ◌∷◌, ℕ, List, suc, true, false, nat_eq, nat_lt, if◌then◌else◌, length, slice_index_or, IfOk};
 ghost use Rattle.std.specs.List.{list_any};
-ghost use Rattle.hack_isa.specs.Machine.{step};
+ghost use Rattle.hack_isa.specs.Machine.{step, image_words};
 ghost use Rattle.hack_machine.specs.Loaded.{machine_of};
 ghost use Rattle.machine_io.specs.History.{Turn, turn};
 ghost use Rattle.machine_io.specs.declared.machine.Moved.TheVariants.{Acted};
@@ -11,11 +11,10 @@ ghost use Rattle.tower.specs.Mapped.{MappedMachine, StandsAt, HasFollowed, IsKep
 
 use hack_machine::Hack;
 use machine_io::{Level, Moved};
-use outer_world::Point;
+use outer_world::{List, Point};
 use std::alloc::{AllocError, Global};
 use std::marker::Model;
 use vm_translator::PointRange;
-use vm_tree::List;
 
 // Told where there is no control point; each machine that `new` makes has one.
 const NOWHERE: Point = Point { sub: 0, number: 0 };
@@ -98,7 +97,7 @@ impl HackLevel {
         points: List<PointRange>,
     ) -> Result<HackLevel, AllocError>
         requires some { 0 < length image.now }
-        requires room { length image.now ≤ 32768 }
+        requires room { length image.now ≤ image_words }
         requires covers { Covers 0 points (length image.now) }
         ensures program { IfOk result (λ h. program_in h ≡ record { image = image.now; commits = commits; ranges = points }) }
         ensures moves { IfOk result (λ h. h.hack.moves ≡ 0) }
@@ -115,23 +114,26 @@ impl HackLevel {
         })
     }
 
-    /// One move: the instruction at the program counter, while `key` is held.
+    /// One move: the instruction at the program counter, while `key` is held. There is always one.
     #[inline(always)]
-    pub fn step(&mut self, key: u16)
+    pub fn step(&mut self, key: u16) -> Moved
         requires { self.old.hack.moves < 2 ^ 63 }
         ensures program { program_in self.new ≡ program_in self.old }
         ensures moves { self.new.hack.moves ≡ self.old.hack.moves + 1 }
         ensures machine { machine_of self.new.hack ≡ step self.old.hack.image key (machine_of self.old.hack) }
+        ensures acts { result ≡ Acted }
         ensures stands { (turns : List Turn) → HasFollowed self.old turns → HasFollowed self.new (turns ++ turn key Acted ∷ []) }
     {
         let commit = self.marks[self.hack.pc() as usize];
-        self.hack.step(key);
+        let answer = self.hack.step(key);
         self.steps = counted(commit, self.steps);
         self.seen = last_seen(self.mapped, self.hack.pc(), self.seen);
+        answer
     }
 }
 
 impl Level for HackLevel {
+    ghost use Rattle.machine_io.specs.declared.machine.Moved.TheVariants.{Acted};
     ghost use Rattle.tower.specs.Mapped.{RunProgram};
 
     type Point = Point;
@@ -146,6 +148,8 @@ impl Level for HackLevel {
 
     ghost at_point = { λ h. h.place };
 
+    ghost reply = { λ _ _. Acted };
+
     ghost sure = { true };
 
     ghost Program = { RunProgram };
@@ -154,8 +158,7 @@ impl Level for HackLevel {
 
     #[inline(always)]
     fn step(&mut self, key: u16) -> Result<Moved, AllocError> {
-        HackLevel::step(self, key);
-        Ok(Moved::Acted)
+        Ok(HackLevel::step(self, key))
     }
 
     fn moves(&self) -> u64 {

@@ -11,7 +11,7 @@ pub use building::{BuildError, Built};
 pub use computer::{build, prepare_hack};
 pub use hack_level::HackLevel;
 pub use laws::{headline_law, read_law, resolved_law};
-pub use program::{Program, ProgramError, program_of_classes};
+pub use program::{ProgramError, program_of_classes};
 
 #[cfg(test)]
 mod tests;

@@ -67,12 +67,13 @@ fn method_and_static(rt: HostRuntime) -> Result<(), Fail> {
         function void main() { var Main m; let m = 16384;
             while (n < 3) { let n = n + 1; do m.add(n); } return; } }",
     )?;
-    let program = program_of_classes(rt.alloc(), &own)
+    let core = program_of_classes(rt.alloc(), &own)
         .ok()
         .ok_or("the class is a program")?;
-    assert!(rt; program.names.len() == 4);
-    assert!(rt; program.names[1].as_str() == "Main.add");
-    let built = build(rt.alloc(), &program.core)
+    assert!(rt; core.subroutines.len() == 4);
+    assert!(rt; core.subroutines[1].name.as_str() == "Main.add");
+    assert!(rt; core.classes[0].name.as_str() == "Main");
+    let built = build(rt.alloc(), &core)
         .ok()
         .ok_or("the program has an image")?;
     let mut hack = prepare_hack(rt.alloc(), built)?;

@@ -2,21 +2,20 @@
 use Rattle.std.specs.Prelude.{◌≡◌, ℕ, Bool, List, Option, map, option_map, is_some}
 use Rattle.std.specs.List.{position_from}
 use Rattle.std.specs.Borrow.{Bor}
-use Rattle.std.specs.HashMap.{HashMap, get_by}
-use Rattle.std.specs.Str.{bytes_eq}
-use Rattle.std.specs.declared.hash.FoldHasher.{FoldHasher}
-use Rattle.std.specs.declared.hash.BuildHasherDefault.{BuildHasherDefault}
+use Rattle.std.specs.BTreeMap.{BTreeMap, get_by}
+use Rattle.std.specs.Cmp.Lexicographic.{slice_cmp}
+use Rattle.std.specs.Ordering.{nat_cmp}
 use Rattle.vm_link.specs.Sections.{Section, is_named}
 use Rattle.vm_link.specs.Faults.{words_before}
 use Rattle.vm_link.specs.Resolved.{label_place, first_place}
 use Rattle.vm_link.specs.declared.section.Part.{Part}
 
 abbrev pub Numbers : Type 0
-Numbers = HashMap (Bor (List ℕ)) ℕ (BuildHasherDefault FoldHasher)
+Numbers = BTreeMap (Bor (List ℕ)) ℕ
 
 -- the number of a name, where the map has it
 abbrev pub number : Numbers → List ℕ → Option ℕ
-number m name = get_by (λ k. bytes_eq name k.now) m
+number m name = get_by (λ k. slice_cmp nat_cmp name k.now) m
 
 -- a part as a section
 abbrev pub seen : Part → Section

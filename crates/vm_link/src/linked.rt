@@ -1,6 +1,6 @@
 //! Linked code.
-use outer_world::Name;
-use vm_tree::{List, Operation, Segment};
+use outer_world::{List, Name};
+use vm_tree::{Operation, Segment};
 
 /// A command of linked code. A static has its number among the static words of all files.
 #[derive(Clone, Copy, Debug, PartialEq, Eq)]

@@ -16,9 +16,9 @@ use crate::section::{Part, parts};
 use crate::statics::{all_words, bases, file_words};
 use crate::text_faults::{SYS_INIT, no_function, text_fault};
 use crate::{LinkFault, Linked, LinkedFile, LinkedFunction};
-use outer_world::Name;
+use outer_world::{List, Name};
 use std::alloc::{AllocError, Global};
-use vm_tree::{File, Line, List, Program};
+use vm_tree::{File, Line, Program};
 
 // More static words than there are.
 fn too_many(words: u64) -> Option<LinkFault>

@@ -8,10 +8,10 @@ ghost use Rattle.vm_link.specs.Maps.{number, texts, seen, all_seen, AreNumbers};
 
 use crate::section::{Part, label};
 use std::alloc::{AllocError, Global};
-use std::collections::HashMap;
+use std::collections::BTreeMap;
 
-/// Numbers by name.
-pub type Numbers<'a> = HashMap<&'a str, usize>;
+/// Numbers by name. The names are a text's own, so the map is an ordered one: no choice of names makes it slow.
+pub type Numbers<'a> = BTreeMap<&'a str, usize>;
 
 // A name that has a number keeps it. Whether the name is new.
 fn note<'a>(numbers: &mut Numbers<'a>, name: &'a str, value: usize) -> Result<bool, AllocError>
@@ -31,7 +31,7 @@ fn note<'a>(numbers: &mut Numbers<'a>, name: &'a str, value: usize) -> Result<bo
 pub fn first_repeat<'a>(alloc: Global, names: &[&'a str]) -> Result<Option<&'a str>, AllocError>
     ensures { IfOk result (λ name. option_map (λ n. n.now) name ≡ first_repeat (texts names.now)) }
 {
-    let mut seen = HashMap::new(alloc);
+    let mut seen = BTreeMap::new(alloc);
     for name in names {
         let is_new = note(&mut seen, name, 0)?;
         if !is_new {
@@ -45,7 +45,7 @@ pub fn first_repeat<'a>(alloc: Global, names: &[&'a str]) -> Result<Option<&'a s
 pub fn function_numbers<'a>(alloc: Global, parts: &[Part<'a>]) -> Result<Numbers<'a>, AllocError>
     ensures { IfOk result (λ m. AreNumbers m (all_seen parts.now)) }
 {
-    let mut numbers = HashMap::new(alloc);
+    let mut numbers = BTreeMap::new(alloc);
     for (place, part) in parts.iter().enumerate() {
         if let Some(name) = part.name {
             note(&mut numbers, name, place)?;
@@ -58,7 +58,7 @@ pub fn function_numbers<'a>(alloc: Global, parts: &[Part<'a>]) -> Result<Numbers
 pub fn label_places<'a>(alloc: Global, part: &Part<'a>) -> Result<Numbers<'a>, AllocError>
     ensures { IfOk result (λ m. (q : List ℕ) → number m q ≡ label_place q (first_place (seen part.now)) (seen part.now).lines) }
 {
-    let mut places = HashMap::new(alloc);
+    let mut places = BTreeMap::new(alloc);
     let mut place = if part.name.is_some() { 1 } else { 0 };
     for line in part.lines {
         if let Some(label) = label(&line.command) {

@@ -9,9 +9,9 @@ ghost use Rattle.vm_link.specs.Maps.{AreNumbers, Tells, number, seen};
 use crate::numbers::{Numbers, label_places};
 use crate::section::Part;
 use crate::{Code, LinkedFunction, Step};
-use outer_world::Name;
+use outer_world::{List, Name};
 use std::alloc::{AllocError, Global};
-use vm_tree::{Command, Line, List, Segment};
+use vm_tree::{Command, Line, Segment};
 
 // The number of a name, 0 where it has none.
 fn number_or_zero(numbers: &Numbers<'_>, name: &Name) -> usize

@@ -1,8 +1,8 @@
 use super::*;
-use outer_world::Name;
+use outer_world::{List, Name};
 use std::alloc::Global;
 use std::test::*;
-use vm_tree::{Command, File, Function, Line, List, Program, Segment};
+use vm_tree::{Command, File, Function, Line, Program, Segment};
 
 fn name(alloc: Global, text: &str) -> Result<Name, Fail> {
     Ok(Name::new(alloc, text).ok().ok_or("memory")?)
@@ -125,6 +125,50 @@ fn statics(rt: HostRuntime) -> Result<(), Fail> {
             link(rt.alloc(), many, false),
             Err(LinkFault::TooManyStatics(241))
         )
+    );
+    Ok(())
+}
+
+// A file with one function, which sets the first static word.
+fn setting_file(alloc: Global, file: &str, function_name: &str) -> Result<File, Fail> {
+    let mut lines = List::new(alloc);
+    add(&mut lines, Command::Push(Segment::Constant, 7))?;
+    add(&mut lines, Command::Pop(Segment::Static, 0))?;
+    add(&mut lines, Command::Call(name(alloc, "A.f")?, 0))?;
+    let mut functions = List::new(alloc);
+    functions
+        .push(function(alloc, function_name, lines)?)
+        .ok()
+        .ok_or("memory")?;
+    Ok(File {
+        name: name(alloc, file)?,
+        opening: List::new(alloc),
+        functions,
+    })
+}
+
+// Two files that each set `static 0` set two words.
+#[test]
+fn statics_of_two_files(rt: HostRuntime) -> Result<(), Fail> {
+    let mut files = List::new(rt.alloc());
+    files
+        .push(setting_file(rt.alloc(), "A", "A.f")?)
+        .ok()
+        .ok_or("memory")?;
+    files
+        .push(setting_file(rt.alloc(), "Sys", "Sys.init")?)
+        .ok()
+        .ok_or("memory")?;
+    let linked = link(rt.alloc(), files, false).ok().ok_or("a fault")?;
+    let functions = linked.functions.as_slice();
+    assert_eq!(rt; functions.len(), 2);
+    assert_eq!(rt;
+        functions[0].code.as_slice()[2].step,
+        Step::Pop(Segment::Static, 0)
+    );
+    assert_eq!(rt;
+        functions[1].code.as_slice()[2].step,
+        Step::Pop(Segment::Static, 1)
     );
     Ok(())
 }

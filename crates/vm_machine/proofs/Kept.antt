@@ -7,7 +7,7 @@ use Rattle.std.proofs.lemmas.Grind.{reverse_onto}
 use Rattle.std.proofs.lemmas.Option.{slice_get_within}
 use Rattle.std.proofs.lemmas.Nat.{or_lt, and_le_l}
 use Rattle.std.proofs.lemmas.Bool.{ltb-false, ltb-true}
-use Rattle.word16.specs.Words.{word_add, word_sub, word_neg, word_not, signed}
+use Rattle.word16.specs.Words.{word_add, word_sub, word_neg, word_not, signed, truth}
 use Rattle.machine_io.specs.declared.machine.Stray.{Stray}
 use Rattle.machine_io.specs.declared.machine.Stray.TheVariants as stray
 use Rattle.vm_tree.specs.declared.command.Operation.{Operation}
@@ -21,7 +21,7 @@ use Rattle.vm_link.specs.declared.linked.LinkedFunction.{LinkedFunction}
 use Rattle.vm_link.specs.declared.linked.Linked.{Linked}
 use Rattle.vm_link.specs.Sound.{IsSound, IsSoundStep, IsSoundFunction}
 use Rattle.vm_machine.specs.State.{Frame, State, words_in_use}
-use Rattle.vm_machine.specs.Step.{Outcome, Acts, Strays, Full, Done, after, pushed, truth, on_top, on_two, on_word, turned, joined, operate, load, store, push, pop, call, begin, return, act, fitted, code_of, code_in, ended, perform, step_frames, step, start}
+use Rattle.vm_machine.specs.Step.{Outcome, Acts, Strays, Full, Done, after, pushed, on_top, on_two, on_word, turned, joined, operate, load, store, push, pop, call, begin, return, act, fitted, code_of, code_in, ended, perform, step_frames, step, start}
 use Rattle.vm_machine.specs.Sound.{AreWords, IsSoundFrame, AreSoundFrames, IsSoundState}
 use Rattle.vm_machine.specs.Laws.{SoundLaw}
 
@@ -86,9 +86,14 @@ module _ (l : Linked) where
   top_of f (g ∷ below) h = h.0
 
   retop : (f f' : Frame) (below : List Frame) → AreSoundFrames l (f ∷ below) → IsSoundFrame l f' → f'.function ≡ f.function
-      → (f.arguments ≡ [] → f'.arguments ≡ []) → (f.locals ≡ [] → f'.locals ≡ []) → AreSoundFrames l (f' ∷ below)
-  retop f f' [] h t e a b = (t, record { function = e ∙ h.1.function; arguments = a h.1.arguments; locals = b h.1.locals })
-  retop f f' (g ∷ below) h t e a b = (t, (h.1.0, e ∙ h.1.1, h.1.2), h.2)
+      → (f.arguments ≡ [] → f'.arguments ≡ []) → (f.locals ≡ [] → f'.locals ≡ []) → (below ≡ [] → (f'.this ≡ f.this) × (f'.that ≡ f.that)) → AreSoundFrames l (f' ∷ below)
+  retop f f' [] h t e a b p = let q = p refl in (t, record { function = e ∙ h.1.function; arguments = a h.1.arguments; locals = b h.1.locals; this = q.0 ∙ h.1.this; that = q.1 ∙ h.1.that })
+  retop f f' (g ∷ below) h t e a b p = (t, (h.1.0, e ∙ h.1.1, h.1.2), h.2)
+
+  -- a command that sets no pointer of the frame that it is done in
+  abbrev KeepsPointers : Step → Type 0
+  KeepsPointers (command.Pop segment.Pointer i) = ⊥
+  KeepsPointers c = Unit {0}
 
   top_good : (xs : List ℕ) (k : ℕ → List ℕ → Outcome) → AreWords xs → ((w : ℕ) (ws : List ℕ) → w < 65536 → AreWords ws → Good (k w ws)) → Good (on_top xs k)
   top_good [] k a h = tt
@@ -115,7 +120,7 @@ module _ (l : Linked) where
     -- a frame with other values at another place
     moved : (place : ℕ) (values : List ℕ) → place ≤ length (code_in l f.function) → AreWords values → AreSoundFrames l (record f { place = place; values = values } ∷ below)
     moved place values h ws = retop f (record f { place = place; values = values }) below fs
-        (record { place = h; arguments = there.arguments; locals = there.locals; values = ws; this = there.this; that = there.that }) refl (λ e. e) (λ e. e)
+        (record { place = h; arguments = there.arguments; locals = there.locals; values = ws; this = there.this; that = there.that }) refl (λ e. e) (λ e. e) (λ e. (refl, refl))
 
     pushed_good : (heard : Bool) (w : ℕ) → w < 65536 → Good (pushed heard s f below w)
     pushed_good heard w h = (moved (f.place + 1) (w ∷ f.values) more (word_more w f.values h there.values), m)
@@ -168,21 +173,21 @@ module _ (l : Linked) where
     push_good segment.This i = if_good (nat_lt i 32768) _ _ (load_good (word_add f.this i)) tt
     push_good segment.That i = if_good (nat_lt i 32768) _ _ (load_good (word_add f.that i)) tt
 
-    pop_good : (g : Segment) (i w : ℕ) (values : List ℕ) → w < 65536 → AreWords values → Good (pop g i s f below w values)
-    pop_good segment.Constant i w values h ws = tt
-    pop_good segment.Argument i w values h ws = if_good (nat_lt i (length f.arguments)) _ _ (
+    pop_good : (g : Segment) (i : ℕ) → (below ≡ [] → KeepsPointers (command.Pop g i)) → (w : ℕ) (values : List ℕ) → w < 65536 → AreWords values → Good (pop g i s f below w values)
+    pop_good segment.Constant i keep w values h ws = tt
+    pop_good segment.Argument i keep w values h ws = if_good (nat_lt i (length f.arguments)) _ _ (
       retop f (record (after f values) { arguments = slice_set f.arguments i w }) below fs
           (record { place = more; arguments = All-set IsWord f.arguments i w h there.arguments; locals = there.locals; values = ws; this = there.this; that = there.that })
-          refl (λ e. ap (λ xs. slice_set xs i w) e) (λ e. e),
+          refl (λ e. ap (λ xs. slice_set xs i w) e) (λ e. e) (λ e. (refl, refl)),
       m,
     ) tt
-    pop_good segment.Local i w values h ws = if_good (nat_lt i (length f.locals)) _ _ (
+    pop_good segment.Local i keep w values h ws = if_good (nat_lt i (length f.locals)) _ _ (
       retop f (record (after f values) { locals = slice_set f.locals i w }) below fs
           (record { place = more; arguments = there.arguments; locals = All-set IsWord f.locals i w h there.locals; values = ws; this = there.this; that = there.that })
-          refl (λ e. e) (λ e. ap (λ xs. slice_set xs i w) e),
+          refl (λ e. e) (λ e. ap (λ xs. slice_set xs i w) e) (λ e. (refl, refl)),
       m,
     ) tt
-    pop_good segment.Static i w values h ws = if_good (nat_lt i (length s.statics)) _ _ (
+    pop_good segment.Static i keep w values h ws = if_good (nat_lt i (length s.statics)) _ _ (
       moved (f.place + 1) values more ws,
       record {
         statics = All-set IsWord s.statics i w h m.statics;
@@ -193,7 +198,7 @@ module _ (l : Linked) where
         words_length = m.words_length;
       },
     ) tt
-    pop_good segment.Temp i w values h ws = if_good (nat_lt i (length s.temps)) _ _ (
+    pop_good segment.Temp i keep w values h ws = if_good (nat_lt i (length s.temps)) _ _ (
       moved (f.place + 1) values more ws,
       record {
         statics = m.statics;
@@ -204,18 +209,18 @@ module _ (l : Linked) where
         words_length = m.words_length;
       },
     ) tt
-    pop_good segment.Pointer i w values h ws = if_good (nat_eq i 0) _ _ (
+    pop_good segment.Pointer i keep w values h ws = if_good (nat_eq i 0) _ _ (
       retop f (record (after f values) { this = w }) below fs
-          (record { place = more; arguments = there.arguments; locals = there.locals; values = ws; this = h; that = there.that }) refl (λ e. e) (λ e. e),
+          (record { place = more; arguments = there.arguments; locals = there.locals; values = ws; this = h; that = there.that }) refl (λ e. e) (λ e. e) (λ e. absurd (keep e)),
       m,
     )
         (if_good (nat_eq i 1) _ _ (
           retop f (record (after f values) { that = w }) below fs
-              (record { place = more; arguments = there.arguments; locals = there.locals; values = ws; this = there.this; that = h }) refl (λ e. e) (λ e. e),
+              (record { place = more; arguments = there.arguments; locals = there.locals; values = ws; this = there.this; that = h }) refl (λ e. e) (λ e. e) (λ e. absurd (keep e)),
           m,
         ) tt)
-    pop_good segment.This i w values h ws = if_good (nat_lt i 32768) _ _ (store_good (word_add f.this i) w values h ws) tt
-    pop_good segment.That i w values h ws = if_good (nat_lt i 32768) _ _ (store_good (word_add f.that i) w values h ws) tt
+    pop_good segment.This i keep w values h ws = if_good (nat_lt i 32768) _ _ (store_good (word_add f.this i) w values h ws) tt
+    pop_good segment.That i keep w values h ws = if_good (nat_lt i 32768) _ _ (store_good (word_add f.that i) w values h ws) tt
 
     call_good : (g n : ℕ) → g < length l.functions → Good (call g n s f below)
     call_good g n h = if_good (nat_lt (length f.values) n) _ _ tt (
@@ -237,21 +242,21 @@ module _ (l : Linked) where
     return_good [] w values h hw = tt
     return_good (g ∷ rest) w values h hw =
         let t = top_of g rest h.2 in
-        (retop g (record g { values = w ∷ g.values }) rest h.2 (record { place = t.place; arguments = t.arguments; locals = t.locals; values = word_more w g.values hw t.values; this = t.this; that = t.that }) refl (λ e. e) (λ e. e), m)
+        (retop g (record g { values = w ∷ g.values }) rest h.2 (record { place = t.place; arguments = t.arguments; locals = t.locals; values = word_more w g.values hw t.values; this = t.this; that = t.that }) refl (λ e. e) (λ e. e) (λ e. (refl, refl)), m)
 
     landing : (b : Bool) (p : ℕ) → p ≤ length (code_in l f.function) → (if b then f.place + 1 else p) ≤ length (code_in l f.function)
     landing true p h = more
     landing false p h = h
 
-    act_good : (c : Step) → IsSoundStep (length l.functions) (length (code_in l f.function)) c → Good (act key c s f below)
-    act_good (command.Operate o) h = operate_good o
-    act_good (command.Push g i) h = push_good g i
-    act_good (command.Pop g i) h = top_good f.values _ there.values (pop_good g i)
-    act_good (command.Goto p) h = (moved p f.values h there.values, m)
-    act_good (command.IfGoto p) h = top_good f.values _ there.values (λ w ws hw hs. (moved (if nat_eq w 0 then f.place + 1 else p) ws (landing (nat_eq w 0) p h) hs, m))
-    act_good (command.Function n) h = begin_good n f.locals f.values below fs
-    act_good (command.Call g n) h = call_good g n h
-    act_good command.Return h = top_good f.values _ there.values (λ w ws hw hs. return_good below w ws fs hw)
+    act_good : (c : Step) → IsSoundStep (length l.functions) (length (code_in l f.function)) c → (below ≡ [] → KeepsPointers c) → Good (act key c s f below)
+    act_good (command.Operate o) h keep = operate_good o
+    act_good (command.Push g i) h keep = push_good g i
+    act_good (command.Pop g i) h keep = top_good f.values _ there.values (pop_good g i keep)
+    act_good (command.Goto p) h keep = (moved p f.values h there.values, m)
+    act_good (command.IfGoto p) h keep = top_good f.values _ there.values (λ w ws hw hs. (moved (if nat_eq w 0 then f.place + 1 else p) ws (landing (nat_eq w 0) p h) hs, m))
+    act_good (command.Function n) h keep = begin_good n f.locals f.values below fs
+    act_good (command.Call g n) h keep = call_good g n h
+    act_good command.Return h keep = top_good f.values _ there.values (λ w ws hw hs. return_good below w ws fs hw)
 
   -- one of the two commands of `start`
   abbrev IsOfStart : Code → Type 0
@@ -274,6 +279,17 @@ module _ (l : Linked) where
         (more_of IsOfStart second [] (tt {0}) (none IsOfStart))
     code_sound (Some k) = function_sound k (slice_get l.functions k) refl
 
+    -- the commands of `start` set no pointers
+    abbrev KeepThem : List Code → Type 0
+    KeepThem code = All (λ c. KeepsPointers c.step) code
+
+    start_keeps : (f : Frame) (below : List Frame) → AreSoundFrames l (f ∷ below) → below ≡ [] → KeepThem (code_in l f.function)
+    start_keeps f [] h e =
+        let call : Code = record { step = command.Call (unwrap_or l.start 0) 0; statement = 1; commit = l.marked } in
+        let drop_value : Code = record { step = command.Pop segment.Temp 0; statement = 1; commit = l.marked } in
+        subst (λ o. KeepThem (code_in l o)) (sym h.1.function) (more_of (λ c. KeepsPointers c.step) call (drop_value ∷ []) tt (more_of (λ c. KeepsPointers c.step) drop_value [] tt (none (λ c. KeepsPointers c.step))))
+    start_keeps f (g ∷ below) h e = absurd (cc e)
+
     module _ (key : ℕ) (is_word : key < 65536) (s : State) (m : AreMemory s.statics s.temps s.words) where
       ended_good : (o : Option ℕ) → Good (ended o)
       ended_good None = tt
@@ -285,6 +301,7 @@ module _ (l : Linked) where
           let within = slice_get_within (code_in l f.function) f.place c e in
           act_good key is_word s m f below fs (omega (arith, within)) c.step
           (all_at (λ c'. IsSoundStep (length l.functions) (length (code_in l f.function)) c'.step) (code_in l f.function) f.place c (code_sound f.function) e)
+          (λ none_below. all_at (λ c'. KeepsPointers c'.step) (code_in l f.function) f.place c (start_keeps f below fs none_below) e)
 
       frames_good : (fs : List Frame) → AreSoundFrames l fs → Good (step_frames l key s fs)
       frames_good [] h = absurd h
@@ -321,7 +338,7 @@ kept l sound whole s s' key heard is_word h e =
 starts : (l : Linked) → IsSoundState l start
 starts l = record {
   room = omega arith;
-  frames = (record { place = omega arith; arguments = none IsWord; locals = none IsWord; values = none IsWord; this = omega arith; that = omega arith }, record { function = refl; arguments = refl; locals = refl });
+  frames = (record { place = omega arith; arguments = none IsWord; locals = none IsWord; values = none IsWord; this = omega arith; that = omega arith }, record { function = refl; arguments = refl; locals = refl; this = refl; that = refl });
   statics = All-replicate IsWord 240 0 (omega arith);
   temps = All-replicate IsWord 8 0 (omega arith);
   words = All-replicate IsWord 22528 0 (omega arith);

@@ -1,12 +1,10 @@
 -- The virtual machine as a machine that moves in steps.
-use Rattle.std.specs.Prelude.{ℕ, ◌+◌, ◌*◌, ◌-◌, Bool, true, false, List, [], ◌∷◌, Option, Some, None, slice_get, slice_index}
+use Rattle.std.specs.Prelude.{ℕ, ◌-◌, Bool, true, false, List, [], ◌∷◌, Option, Some, None, slice_get, slice_index}
+use Rattle.word16.specs.Memory.{heap}
 use Rattle.outer_world.specs.declared.point.Point.{Point}
 use Rattle.layers.specs.System.{System}
 use Rattle.machine_io.specs.declared.machine.Stray.TheVariants as stray
-use Rattle.vm_tree.specs.declared.command.Operation.{Operation}
-use Rattle.vm_tree.specs.declared.command.Operation.TheVariants.{Add, Sub, Neg, Eq, Gt, Lt, And, Or, Not}
 use Rattle.vm_link.specs.declared.linked.Step.{Step}
-use Rattle.vm_link.specs.declared.linked.Step.TheVariants as command
 use Rattle.vm_link.specs.declared.linked.Code.{Code}
 use Rattle.vm_link.specs.declared.linked.LinkedFunction.{LinkedFunction}
 use Rattle.vm_link.specs.declared.linked.Linked.{Linked}
@@ -93,36 +91,14 @@ vm_system l = record {
   halted = λ s. is_done (step l 0 s);
   fits = λ s. is_fit (step l 0 s);
   point = λ s. Some (point_of l s.frames);
-  word = λ s a. slice_index s.words (a - 2048);
+  word = λ s a. slice_index s.words (a - heap);
 }
 
--- the words of machine code that an operation may have
-abbrev pub operation_words : Operation → ℕ
-operation_words Add = 5
-operation_words Sub = 5
-operation_words And = 5
-operation_words Or = 5
-operation_words Neg = 3
-operation_words Not = 3
-operation_words Eq = 48
-operation_words Gt = 48
-operation_words Lt = 48
+-- The price of the next command, where each command has one; a machine that has come to its end pays 1. The prices are those of the computer
+-- that the machine is made on, in its steps.
+abbrev pub cost_of : (Step → ℕ) → Option Code → ℕ
+cost_of price None = 1
+cost_of price (Some c) = price c.step
 
--- the words of machine code that a command may have
-abbrev pub command_words : Step → ℕ
-command_words (command.Operate o) = operation_words o
-command_words (command.Push g i) = 9
-command_words (command.Pop g i) = 12
-command_words (command.Goto p) = 2
-command_words (command.IfGoto p) = 5
-command_words (command.Function n) = 14 + 4 * n
-command_words (command.Call g n) = 60
-command_words command.Return = 66
-
--- the words of the next command; a machine that has come to its end costs 1
-abbrev pub cost_of : Option Code → ℕ
-cost_of None = 1
-cost_of (Some c) = command_words c.step
-
-abbrev pub vm_cost : Linked → State → ℕ
-vm_cost l s = cost_of (next_of l s.frames)
+abbrev pub vm_cost : (Step → ℕ) → Linked → State → ℕ
+vm_cost price l s = cost_of price (next_of l s.frames)

@@ -1,11 +1,11 @@
 -- What the machine makes of a command, and of an operation.
-use Rattle.std.specs.Prelude.{ℕ, Bool, true, false, nat_eq, int_lt, bit_and, bit_or, List}
+use Rattle.std.specs.Prelude.{ℕ, Bool, true, false, bit_and, bit_or, List}
 use Rattle.machine_io.specs.declared.machine.Moved.{Moved}
-use Rattle.word16.specs.Words.{word_add, word_sub, word_neg, word_not, signed}
+use Rattle.word16.specs.Words.{word_add, word_sub, word_neg, word_not, word_eq, word_lt, word_gt}
 use Rattle.vm_tree.specs.declared.command.Operation.{Operation}
 use Rattle.vm_tree.specs.declared.command.Operation.TheVariants.{Add, Sub, Neg, Eq, Gt, Lt, And, Or, Not}
 use Rattle.vm_machine.specs.State.{Frame, State}
-use Rattle.vm_machine.specs.Step.{Outcome, fitted, truth}
+use Rattle.vm_machine.specs.Step.{Outcome, fitted}
 use Rattle.vm_machine.specs.Moves.{Makes, state_of}
 use Rattle.vm_machine.specs.declared.commands.Machine.{Machine}
 
@@ -31,9 +31,9 @@ abbrev pub word_of : Operation → ℕ → ℕ → ℕ
 word_of Add x y = word_add x y
 word_of Sub x y = word_sub x y
 word_of Neg x y = word_neg y
-word_of Eq x y = truth (nat_eq x y)
-word_of Gt x y = truth (int_lt (signed y) (signed x))
-word_of Lt x y = truth (int_lt (signed x) (signed y))
+word_of Eq x y = word_eq x y
+word_of Gt x y = word_gt x y
+word_of Lt x y = word_lt x y
 word_of And x y = bit_and x y
 word_of Or x y = bit_or x y
 word_of Not x y = word_not y

@@ -1,5 +1,6 @@
 -- States that keep the machine's bounds.
 use Rattle.std.specs.Prelude.{◌≡◌, ◌≤◌, ◌<◌, ℕ, List, [], ◌∷◌, All, length, Some, None}
+use Rattle.word16.specs.Memory.{heap_and_screen_size}
 use Rattle.vm_link.specs.declared.linked.Linked.{Linked}
 use Rattle.vm_machine.specs.State.{Frame, State, words_in_use}
 use Rattle.vm_machine.specs.Step.{code_in}
@@ -17,11 +18,13 @@ pub record IsSoundFrame (l : Linked) (f : Frame) : Type 0 where
   pub this : f.this < 65536
   pub that : f.that < 65536
 
--- the frame `start`
+-- The frame `start`. Its two commands never set its pointers.
 pub record IsStart (f : Frame) : Type 0 where
   pub function : f.function ≡ None
   pub arguments : f.arguments ≡ []
   pub locals : f.locals ≡ []
+  pub this : f.this ≡ 0
+  pub that : f.that ≡ 0
 
 -- the frame of a call of a function that is there
 abbrev pub IsCall : Linked → Frame → Type 0
@@ -41,4 +44,4 @@ pub record IsSoundState (l : Linked) (s : State) : Type 0 where
   pub words : AreWords s.words
   pub statics_length : length s.statics ≡ 240
   pub temps_length : length s.temps ≡ 8
-  pub words_length : length s.words ≡ 22528
+  pub words_length : length s.words ≡ heap_and_screen_size

@@ -12,7 +12,7 @@ pub record Frame : Type 0 where
   pub this : ℕ
   pub that : ℕ
 
--- the frames, the innermost first; the static words by number; the eight temp words; the words 2048 to 24575 (heap and screen)
+-- the frames, the innermost first; the static words by number; the eight temp words; the words of heap and screen
 pub record State : Type 0 where
   pub frames : List Frame
   pub statics : List ℕ

@@ -1,6 +1,7 @@
 -- What each command does. (The book, chapters 7 and 8.)
-use Rattle.std.specs.Prelude.{ℕ, ◌+◌, ◌-◌, Bool, true, false, nat_lt, nat_eq, if◌then◌else◌, List, [], ◌∷◌, length, Option, Some, None, slice_get, slice_index, slice_set, take, drop, reverse, replicate, unwrap_or, bit_and, bit_or, int_lt}
-use Rattle.word16.specs.Words.{word_add, word_sub, word_neg, word_not, signed}
+use Rattle.std.specs.Prelude.{ℕ, ◌+◌, ◌-◌, Bool, true, false, nat_lt, nat_eq, if◌then◌else◌, List, [], ◌∷◌, length, Option, Some, None, slice_get, slice_index, slice_set, take, drop, reverse, replicate, unwrap_or, bit_and, bit_or}
+use Rattle.word16.specs.Memory.{heap, keyboard, heap_and_screen_size}
+use Rattle.word16.specs.Words.{word_add, word_sub, word_neg, word_not, word_eq, word_lt, word_gt}
 use Rattle.vm_tree.specs.declared.command.Operation.{Operation}
 use Rattle.vm_tree.specs.declared.command.Operation.TheVariants.{Add, Sub, Neg, Eq, Gt, Lt, And, Or, Not}
 use Rattle.vm_tree.specs.declared.command.Segment.{Segment}
@@ -53,10 +54,6 @@ abbrev pub on_word : Stray → Option ℕ → (ℕ → Outcome) → Outcome
 on_word why None act = Strays why
 on_word why (Some w) act = act w
 
--- true is -1, false is 0
-abbrev pub truth : Bool → ℕ
-truth b = if b then 65535 else 0
-
 -- the topmost value becomes another
 abbrev pub turned : (ℕ → ℕ) → State → Frame → List Frame → Outcome
 turned op s f below = on_top f.values (λ x values. goes s below (after f (op x ∷ values)))
@@ -65,30 +62,30 @@ turned op s f below = on_top f.values (λ x values. goes s below (after f (op x 
 abbrev pub joined : (ℕ → ℕ → ℕ) → State → Frame → List Frame → Outcome
 joined op s f below = on_two f.values (λ x y values. goes s below (after f (op x y ∷ values)))
 
--- Sums, differences and negation modulo 65,536. The signed readings are compared as whole numbers.
+-- Sums, differences and negation modulo 65,536. Words are compared by their signed readings, and true is -1.
 abbrev pub operate : Operation → State → Frame → List Frame → Outcome
 operate Add s f below = joined word_add s f below
 operate Sub s f below = joined word_sub s f below
 operate Neg s f below = turned word_neg s f below
-operate Eq s f below = joined (λ x y. truth (nat_eq x y)) s f below
-operate Gt s f below = joined (λ x y. truth (int_lt (signed y) (signed x))) s f below
-operate Lt s f below = joined (λ x y. truth (int_lt (signed x) (signed y))) s f below
+operate Eq s f below = joined word_eq s f below
+operate Gt s f below = joined word_gt s f below
+operate Lt s f below = joined word_lt s f below
 operate And s f below = joined bit_and s f below
 operate Or s f below = joined bit_or s f below
 operate Not s f below = turned word_not s f below
 
--- the word at an address is pushed: heap from 2048, screen from 16384, and at 24576 the key
+-- the word at an address is pushed: that of heap or screen, and at the keyboard's address the key
 abbrev pub load : ℕ → ℕ → State → Frame → List Frame → Outcome
 load key a s f below =
-    if nat_lt a 2048 then Strays (stray.Address a)
-    else (if nat_lt a 24576 then pushed false s f below (slice_index s.words (a - 2048))
-    else (if nat_eq a 24576 then pushed true s f below key else Strays (stray.Address a)))
+    if nat_lt a heap then Strays (stray.Address a)
+    else (if nat_lt a keyboard then pushed false s f below (slice_index s.words (a - heap))
+    else (if nat_eq a keyboard then pushed true s f below key else Strays (stray.Address a)))
 
 -- the word at an address of heap or screen is replaced
 abbrev pub store : ℕ → ℕ → List ℕ → State → Frame → List Frame → Outcome
 store a w values s f below =
-    if nat_lt a 2048 then Strays (stray.Address a)
-    else (if nat_lt a 24576 then goes (record s { words = slice_set s.words (a - 2048) w }) below (after f values)
+    if nat_lt a heap then Strays (stray.Address a)
+    else (if nat_lt a keyboard then goes (record s { words = slice_set s.words (a - heap) w }) below (after f values)
     else Strays (stray.Address a))
 
 -- No text has a number over 32,767, a pointer but 0 and 1, a temp word but 0 to 7, or a pop to constant: such a command is none.
@@ -197,7 +194,7 @@ abbrev pub step_frames : Linked → ℕ → State → List Frame → Outcome
 step_frames l key s [] = Done
 step_frames l key s (f ∷ below) = perform key s f below (slice_get (code_in l f.function) f.place)
 
--- One step under a key, which a load at 24576 hears.
+-- One step under a key, which a load at the keyboard's address hears.
 unfoldable pub step : Linked → ℕ → State → Outcome
 step l key s = fitted (step_frames l key s s.frames)
 
@@ -210,5 +207,5 @@ start = record {
   frames = start_frame ∷ [];
   statics = replicate 240 0;
   temps = replicate 8 0;
-  words = replicate 22528 0;
+  words = replicate heap_and_screen_size 0;
 }

@@ -1,8 +1,8 @@
 //! What each command does.
-ghost use Rattle.std.specs.Prelude.{◌≡◌, ◌≤◌, ◌<◌, ◌+◌, ◌^◌, ◌∷◌, [], Bool, false, Option, Some, None, length, drop, slice_get, int_lt, nat_eq, if◌then◌else◌};
-ghost use Rattle.word16.specs.Words.{signed, word_add};
+ghost use Rattle.std.specs.Prelude.{◌≡◌, ◌≤◌, ◌<◌, ◌+◌, ◌^◌, ◌∷◌, [], Bool, false, Option, Some, None, length, drop, slice_get, nat_eq, if◌then◌else◌};
+ghost use Rattle.word16.specs.Words.{word_add};
 ghost use Rattle.vm_machine.specs.State.{State, words_in_use};
-ghost use Rattle.vm_machine.specs.Step.{Acts, after, act, begin, call, goes, load, on_top, on_word, operate, pop, push, pushed, return, store, truth, written};
+ghost use Rattle.vm_machine.specs.Step.{Acts, after, act, begin, call, goes, load, on_top, on_word, operate, pop, push, pushed, return, store, written};
 ghost use Rattle.vm_tree.specs.declared.command.Segment.{Segment};
 ghost use Rattle.vm_machine.specs.Performs.{Performs, takes_one, word_of};
 
@@ -11,6 +11,7 @@ use crate::stack::{ROOM, Stack};
 use machine_io::{Moved, Stray};
 use vm_link::Step;
 use vm_tree::{Operation, Segment};
+use word16::{HEAP, KEYBOARD};
 
 /// The machine without its program: the calls in progress, and the words that are no stack.
 #[derive(Drop)]
@@ -48,12 +49,6 @@ fn take(machine: &mut Machine, place: usize) -> Moved
     Moved::Acted
 }
 
-fn truth(b: bool) -> u16
-    ensures { result ≡ truth b }
-{
-    if b { 65535 } else { 0 }
-}
-
 fn takes_one(o: Operation) -> bool
     ensures { result ≡ takes_one o }
 {
@@ -64,18 +59,6 @@ fn takes_one(o: Operation) -> bool
     }
 }
 
-fn equal(x: u16, y: u16) -> u16
-    ensures { result ≡ truth (nat_eq x y) }
-{
-    truth(x == y)
-}
-
-fn less(x: u16, y: u16) -> u16
-    ensures { result ≡ truth (int_lt (signed x) (signed y)) }
-{
-    truth(word16::lt(x, y))
-}
-
 fn word_of(o: Operation, x: u16, y: u16) -> u16
     ensures { result ≡ word_of o x y }
 {
@@ -83,9 +66,9 @@ fn word_of(o: Operation, x: u16, y: u16) -> u16
         Operation::Add => word16::add(x, y),
         Operation::Sub => word16::sub(x, y),
         Operation::Neg => word16::neg(y),
-        Operation::Eq => equal(x, y),
-        Operation::Gt => less(y, x),
-        Operation::Lt => less(x, y),
+        Operation::Eq => word16::word_eq(x, y),
+        Operation::Gt => word16::word_gt(x, y),
+        Operation::Lt => word16::word_lt(x, y),
         Operation::And => word16::and(x, y),
         Operation::Or => word16::or(x, y),
         Operation::Not => word16::not(y),
@@ -124,10 +107,10 @@ fn load(machine: &mut Machine, key: u16, a: u16) -> Moved
     requires { machine.old.stack.top.place + 1 < 2 ^ 64 }
     ensures { Performs (load key a) machine.old result machine.new }
 {
-    if a < 2048 || a > 24576 {
+    if a < HEAP || a > KEYBOARD {
         return Moved::Stray(Stray::Address(a));
     }
-    if a == 24576 {
+    if a == KEYBOARD {
         return give(machine, 0, key);
     }
     let w = machine.memory.word(a);
@@ -208,7 +191,7 @@ fn store(machine: &mut Machine, a: u16, w: u16) -> Moved
     requires place { machine.old.stack.top.place + 1 < 2 ^ 64 }
     ensures { Performs (λ s f below. store a w (drop 1 f.values) s f below) machine.old result machine.new }
 {
-    if a < 2048 || a >= 24576 {
+    if a < HEAP || a >= KEYBOARD {
         return Moved::Stray(Stray::Address(a));
     }
     machine.memory.set_word(a, w);

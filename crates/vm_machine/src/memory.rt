@@ -1,11 +1,13 @@
 //! Statics, temp words, heap and screen.
 ghost use Rattle.std.specs.Prelude.{◌≡◌, ◌≤◌, ◌<◌, ◌-◌, length, slice_get, slice_index, slice_set, nat_lt, replicate, IfOk};
+ghost use Rattle.word16.specs.Memory.{heap, keyboard, heap_and_screen_size};
 ghost use Rattle.vm_machine.specs.Moves.{Words};
 
 use std::alloc::{AllocError, Global};
 use std::marker::Model;
+use word16::{HEAP, HEAP_AND_SCREEN_SIZE};
 
-/// The words that are no stack: the statics by number, the eight temp words, and heap and screen from 2048 on.
+/// The words that are no stack: the statics by number, the eight temp words, and heap and screen from `HEAP` on.
 #[derive(Drop)]
 pub struct Memory {
     statics: Vec<u16>,
@@ -18,7 +20,7 @@ impl Model for Memory {
 
     ghost view = { λ m. record { statics = m.statics.items; temps = m.temps.items; heap_and_screen = m.words.items } };
 
-    ghost invariant = { λ m. (length m.words.items ≡ 22528) × (length m.statics.items ≡ 240) × (length m.temps.items ≡ 8) };
+    ghost invariant = { λ m. (length m.words.items ≡ heap_and_screen_size) × (length m.statics.items ≡ 240) × (length m.temps.items ≡ 8) };
 }
 
 fn zeros(alloc: Global, n: usize) -> Result<Vec<u16>, AllocError>
@@ -30,31 +32,31 @@ fn zeros(alloc: Global, n: usize) -> Result<Vec<u16>, AllocError>
 impl Memory {
     /// All words 0.
     pub fn new(alloc: Global) -> Result<Memory, AllocError>
-        ensures { IfOk result (λ m. m ≡ record { statics = replicate 240 0; temps = replicate 8 0; heap_and_screen = replicate 22528 0 }) }
+        ensures { IfOk result (λ m. m ≡ record { statics = replicate 240 0; temps = replicate 8 0; heap_and_screen = replicate heap_and_screen_size 0 }) }
     {
         Ok(Memory {
             statics: zeros(alloc, 240)?,
             temps: zeros(alloc, 8)?,
-            words: zeros(alloc, 22528)?,
+            words: zeros(alloc, HEAP_AND_SCREEN_SIZE)?,
         })
     }
 
     /// The word at an address of heap or screen.
     pub fn word(&self, a: u16) -> u16
-        requires from { 2048 ≤ a }
-        requires below { a < 24576 }
-        ensures { result ≡ slice_index self.now.heap_and_screen (a - 2048) }
+        requires from { heap ≤ a }
+        requires below { a < keyboard }
+        ensures { result ≡ slice_index self.now.heap_and_screen (a - heap) }
     {
-        self.words[(a - 2048) as usize]
+        self.words[(a - HEAP) as usize]
     }
 
     /// That word gets another value.
     pub fn set_word(&mut self, a: u16, w: u16)
-        requires from { 2048 ≤ a }
-        requires below { a < 24576 }
-        ensures { self.new ≡ record self.old { heap_and_screen = slice_set self.old.heap_and_screen (a - 2048) w } }
+        requires from { heap ≤ a }
+        requires below { a < keyboard }
+        ensures { self.new ≡ record self.old { heap_and_screen = slice_set self.old.heap_and_screen (a - heap) w } }
     {
-        self.words[(a - 2048) as usize] = w;
+        self.words[(a - HEAP) as usize] = w;
     }
 
     /// A static word.

@@ -4,11 +4,11 @@ ghost use Rattle.std.specs.Prelude.{◌≡◌, ◌+◌, ◌%◌, ℕ, IfOk};
 
 use crate::Vm;
 use machine_io::{End, Keyboard, Stray, drive};
-use outer_world::{Name, Point};
+use outer_world::{List, Name, Point};
 use std::alloc::Global;
 use std::test::Fail;
 use vm_link::{Step, link};
-use vm_tree::{Command, File, Function, Line, List, Operation, Segment};
+use vm_tree::{Command, File, Function, Line, Operation, Segment};
 
 fn name(alloc: Global, text: &str) -> Result<Name, Fail> {
     Ok(Name::new(alloc, text).ok().ok_or("memory")?)

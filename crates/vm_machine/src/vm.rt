@@ -1,5 +1,6 @@
 //! The machine with its program.
 ghost use Rattle.std.specs.Prelude.{◌≡◌, ◌≤◌, ◌<◌, ◌+◌, ◌-◌, ◌^◌, ◌++◌, ◌∷◌, [], List, ℕ, true, IfOk, IfSome, Some, slice_get, slice_index};
+ghost use Rattle.word16.specs.Memory.{heap, keyboard};
 ghost use Rattle.machine_io.specs.History.{moves_in, OnStop};
 ghost use Rattle.vm_machine.specs.Step.{code_in, ended, start, start_code, step};
 ghost use Rattle.vm_machine.specs.Level.{end_statement, is_commit, last_statement, next_of, point_of, subroutine_of};
@@ -191,9 +192,9 @@ impl Vm {
 
     /// The word at an address of heap or screen.
     pub fn word_at(&self, a: u16) -> u16
-        requires from { 2048 ≤ a }
-        requires below { a < 24576 }
-        ensures { result ≡ slice_index self.now.state.words (a - 2048) }
+        requires from { heap ≤ a }
+        requires below { a < keyboard }
+        ensures { result ≡ slice_index self.now.state.words (a - heap) }
     {
         self.machine.memory.word(a)
     }
@@ -223,11 +224,13 @@ impl Level for Vm {
 
     ghost count = { λ vm. vm.moves };
 
-    ghost word = { λ vm a. slice_index vm.state.words (a - 2048) };
+    ghost word = { λ vm a. slice_index vm.state.words (a - heap) };
 
     ghost committed = { λ vm. vm.steps };
 
     ghost at_point = { λ vm. point_of vm.linked vm.state.frames };
+
+    ghost reply = { λ vm key. answer_of (step vm.linked key vm.state) };
 
     ghost sure = { true };
 

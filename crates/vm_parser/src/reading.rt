@@ -16,10 +16,10 @@ use crate::rules::{functions, opening};
 use crate::token::Token;
 use crate::words::grammar_fault;
 use grammar::ReadError;
-use outer_world::Name;
+use outer_world::{List, Name};
 use scan_text::Place;
 use std::alloc::Global;
-use vm_tree::{File, List, Program};
+use vm_tree::{File, Program};
 
 /// Why a VM text is not read: memory ran out, or the text has a fault, which is Grammar or Range.
 pub type VmFault = ReadError;

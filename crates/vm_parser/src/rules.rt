@@ -14,10 +14,10 @@ use crate::words::{
     role_next, segment,
 };
 use grammar::ReadError;
-use outer_world::Name;
+use outer_world::{List, Name};
 use scan_text::Place;
 use std::alloc::Global;
-use vm_tree::{Command, Function, Line, List, Segment};
+use vm_tree::{Command, Function, Line, Segment};
 
 // What a rule reads: what the tokens say, and those that are left.
 type Read<'a, X> = Result<(X, &'a [Token<'a>]), ReadError>;

@@ -1,7 +1,7 @@
 -- Each command's instructions carry the memory to the next state.
 use Rattle.std.proofs.Common.{◌≡◌, ℕ, Option, ◌+◌, ◌≤◌, Bool, false, List, ◌∷◌, length, refl, ap, ◌∙◌, subst, arith}
 use Rattle.std.specs.Prelude.{nat_eq, bit_and, bit_or, int_lt}
-use Rattle.word16.specs.Words.{word_add, word_sub, word_neg, word_not, signed}
+use Rattle.word16.specs.Words.{word_add, word_sub, word_neg, word_not, signed, truth}
 use Rattle.vm_tree.specs.declared.command.Operation.{Operation}
 use Rattle.vm_tree.specs.declared.command.Operation.TheVariants as operation
 use Rattle.vm_link.specs.declared.linked.Linked.{Linked}
@@ -11,7 +11,7 @@ use Rattle.hack_blocks.specs.Effects.{Pushed, Joined, Turned}
 use Rattle.hack_blocks.specs.Comparing.{equal, greater, less}
 use Rattle.hack_blocks.specs.Commands.{IsShape, HasRoom, HasValues, topmost, second, Ready, Effect, next}
 use Rattle.vm_machine.specs.State.{Frame, State, words_in_use}
-use Rattle.vm_machine.specs.Step.{Acts, fitted, truth, operate, joined, turned, goes, after}
+use Rattle.vm_machine.specs.Step.{Acts, fitted, operate, joined, turned, goes, after}
 use Rattle.vm_machine.specs.Sound.{IsSoundState}
 use Rattle.vm_translator.specs.Stands.{SameMemory}
 use Rattle.vm_translator.specs.Shapes.{operated}

@@ -1,5 +1,5 @@
 -- What the computer does for each step, told by instructions.
-use Rattle.std.proofs.Common.{◌≡◌, ℕ, Option, Some, None, ◌+◌, ◌-◌, ◌<◌, ◌≤◌, Bool, true, false, List, [], ◌∷◌, length, refl, ap, ◌∙◌, sym, subst, arith}
+use Rattle.std.proofs.Common.{◌≡◌, inl, ℕ, zero, suc, Option, Some, None, ◌+◌, ◌-◌, ◌<◌, ◌≤◌, Bool, true, false, List, [], ◌∷◌, length, refl, ap, ◌∙◌, sym, subst, arith}
 use Rattle.std.specs.Prelude.{slice_get, map}
 use Rattle.hack_isa.specs.Machine.{Machine}
 use Rattle.hack_isa.specs.Table.{word_of}
@@ -14,37 +14,38 @@ use Rattle.vm_link.specs.declared.linked.Step.{Step}
 use Rattle.vm_link.specs.declared.linked.Step.TheVariants as step
 use Rattle.vm_link.specs.declared.linked.Linked.{Linked}
 use Rattle.vm_link.specs.Sound.{IsSound}
-use Rattle.hack_blocks.specs.declared.shape.Shape.TheVariants as shape
-use Rattle.hack_blocks.specs.Templates.{template, size, budget}
-use Rattle.hack_blocks.specs.Computer.{Stands, Map}
-use Rattle.hack_blocks.specs.Going.{Does, DoesHearing}
-use Rattle.hack_blocks.specs.Own.{IsOwn}
+use Rattle.hack_blocks.specs.Templates.{size}
+use Rattle.hack_blocks.specs.Budgets.{most_steps}
+use Rattle.hack_blocks.specs.Computer.{Map}
+use Rattle.hack_blocks.specs.Going.{Does}
 use Rattle.hack_blocks.specs.Commands.{MayStore}
+use Rattle.hack_blocks.proofs.Block.{within as fewer}
 use Rattle.vm_machine.specs.State.{Frame, State}
 use Rattle.vm_machine.specs.Step.{Outcome, Acts, Strays, Full, Done, act, fitted, ended, code_in, start, on_top, pop, goes, after}
 use Rattle.vm_machine.specs.Step as vm
-use Rattle.vm_machine.specs.Level.{vm_system, vm_cost, cost_of, command_words, next_of, is_done, has_heard, state_after}
+use Rattle.vm_machine.specs.Level.{vm_cost, cost_of, next_of, is_done, has_heard, state_after}
 use Rattle.vm_machine.specs.Sound.{AreSoundFrames}
 use Rattle.vm_machine.proofs.Deaf.{key_law}
 use Rattle.vm_machine.proofs.Ends.{end_law}
 use Rattle.vm_machine.proofs.Kept.{sound_law}
-use Rattle.vm_translator.specs.Shapes.{operated, pushed, popped, shape_of}
+use Rattle.vm_translator.specs.Shapes.{push_from, operated, pushed, popped, shape_of}
 use Rattle.vm_translator.specs.Image.{commits_of, image_of, points_of}
 use Rattle.vm_translator.specs.Carries.{IsStep}
 use Rattle.vm_translator.specs.Related.{StandsFor}
 use Rattle.vm_translator.specs.declared.coded.PointRange.{PointRange}
 use Rattle.vm_translator.specs.Mapping.{map_of, location, Covers}
 use Rattle.vm_translator.proofs.Covered.{covers}
-use Rattle.vm_translator.specs.Translated.{Writes, IsStore, IsWithin, MakesStep, MakesHearing, IsTranslated}
-use Rattle.vm_translator.proofs.Clamped.{named_is}
+use Rattle.vm_translator.specs.Translated.{Writes, IsStore, IsWithin, IsLast, MakesStep, MakesHearing, IsTranslated}
+use Rattle.vm_translator.proofs.Clamped.{push_size, pop_data}
+use Rattle.vm_translator.proofs.Sums.{size_one, size_quick}
 use Rattle.vm_translator.proofs.Cases.{top_case, less_case}
 use Rattle.vm_translator.proofs.Segments.{argument_at, local_at}
 use Rattle.vm_translator.proofs.Keys.{all_steps_carry}
-use Rattle.vm_translator.proofs.Outcomes.{Allowed, may_hear, may_miss, outcome_allowed, by_kind, never_done}
+use Rattle.vm_translator.proofs.Outcomes.{Allowed, may_hear, may_miss, outcome_allowed, never_done}
 use Rattle.vm_translator.proofs.Ways.{acts_does, does_map, hearing_map}
-use Rattle.vm_translator.proofs.OtherWays.{hears_does, push_stray_does, pop_stray_does}
+use Rattle.vm_translator.proofs.OtherWays.{hears_does, stray_does}
 use Rattle.vm_translator.proofs.Placing.{image_words, has_loop}
-use Rattle.vm_translator.proofs.Simulating.{step_cost, location_low, ended_is, here, own, at_step, acts_is, own_key, at_loop, simulates, starts_so}
+use Rattle.vm_translator.proofs.Simulating.{location_low, ended_is, here, own, own_point, at_step, acts_is, at_loop, simulates, starts_so, opens_so}
 
 -- no instruction of these writes data
 operation_quiet : (o : Operation) (m : ℕ → ℕ) → MayStore (operated o) m → ⊥
@@ -58,13 +59,17 @@ operation_quiet operation.And m h = h
 operation_quiet operation.Or m h = h
 operation_quiet operation.Not m h = h
 
+from_quiet : (base i : ℕ) (m : ℕ → ℕ) → MayStore (push_from base i) m → ⊥
+from_quiet base zero m h = h
+from_quiet base (suc i) m h = h
+
 push_quiet : (g : Segment) (i : ℕ) (m : ℕ → ℕ) → MayStore (pushed g i) m → ⊥
-push_quiet segment.Argument i m h = h
-push_quiet segment.Local i m h = h
+push_quiet segment.Argument i m h = from_quiet 2 i m h
+push_quiet segment.Local i m h = from_quiet 1 i m h
 push_quiet segment.Static i m h = h
 push_quiet segment.Constant i m h = h
-push_quiet segment.This i m h = h
-push_quiet segment.That i m h = h
+push_quiet segment.This i m h = from_quiet 3 i m h
+push_quiet segment.That i m h = from_quiet 4 i m h
 push_quiet segment.Pointer i m h = h
 push_quiet segment.Temp i m h = h
 
@@ -75,14 +80,16 @@ module _ (address : Option ℕ → ℕ → ℕ) (l : Linked) (v v' : State) (f :
       let small = less_case i (length f.arguments) _ stray.Argument false v' one.3 in
       let at = argument_at address l v f below m s.frames s.sound s.memory s.words place i small.0 in
       let low = at.2 in
-      let data_ = h.0 in
+      let is_data = pop_data 2 m s.words i (omega arith) h in
+      let high = is_data.0 in
       omega arith
   pop_writes segment.Local i s acts h =
       let one = top_case f.values (pop segment.Local i v f below) false v' acts in
       let small = less_case i (length f.locals) _ stray.Local false v' one.3 in
       let at = local_at address l v f below m s.frames s.sound s.memory s.words place i small.0 in
       let low = at.2 in
-      let data_ = h.0 in
+      let is_data = pop_data 1 m s.words i (omega arith) h in
+      let high = is_data.0 in
       omega arith
   pop_writes segment.Static i s acts h = h
   pop_writes segment.Constant i s acts h = h
@@ -110,16 +117,6 @@ module _ (l : Linked) (sound : IsSound l) (whole : l.bare ≡ false) (few : leng
 
   abbrev Stood : State → Machine → Type 0
   Stood = StandsFor (location l) l
-
-  -- from a command's own addresses
-  made : (v : State) (s : Machine) (inside : ℕ → Type 0) (last n : ℕ) (may may' : Type 0) (goal : Machine → Type 0) → IsOwn (vm_system l) Points 51 v inside last → n ≡ vm_cost l v - 1 → (may → may')
-      → Does Image inside last may goal n s → MakesStep l Image Points v may' goal s
-  made v s inside last n may may' goal o e w d = record {
-    last = last;
-    is_last = record { point = o.last_point; commit = o.last_commit };
-    does = subst (λ k. Does (map word_of (image_of l)) (IsWithin l (map word_of (image_of l)) (map_of (commits_of l) (points_of l)) v) last may' goal k s) e
-        (does_map Image inside (IsWithin l Image Points v) last may may' goal goal n s (λ k i. (o.points k i, o.commits k i)) w (λ t g. g) d);
-  }
 
   module _ (v : State) (s : Machine) (h : StandsFor (location l) l v s) (f : Frame) (below : List Frame) (e : v.frames ≡ f ∷ below) where
     -- what the frame without a command does not do
@@ -154,127 +151,81 @@ module _ (l : Linked) (sound : IsSound l) (whole : l.bare ≡ false) (few : leng
       next_is : (x : Step) → Nexts x → next_of l v.frames ≡ Some (record { step = x; statement = n; commit = b })
       next_is x g = ap (next_of l) e ∙ g
 
-      cost_is : (x : Step) → Nexts x → vm_cost l v ≡ command_words x
-      cost_is x g = ap cost_of (next_is x g)
+      cost_is : (x : Step) → Nexts x → vm_cost most_steps l v ≡ most_steps x
+      cost_is x g = ap (cost_of most_steps) (next_is x g)
 
       allowed : (x : Step) → Nexts x → (o : Outcome) → vm.step l 0 v ≡ o → Allowed (may_hear x) (may_miss x) o
       allowed x g o q = subst (Allowed (may_hear x) (may_miss x)) (acts_is l sound whole few v s h f below e n b x g 0 o q) (outcome_allowed 0 v f below x)
 
-      acted : (x : Step) → Nexts x → (v' : State) → vm.step l 0 v ≡ Acts false v' → MakesStep l Image Points v (IsStore (next_of l v.frames)) (StandsFor (location l) l v') s
+      -- its own addresses and its last
+      abbrev Inside : (x : Step) → Nexts x → ℕ → Type 0
+      Inside x g k = let p = here l sound whole few v s h f below e (With x) g in (s.pc ≤ k) × (k + 1 < s.pc + size (shape_of p.to x))
+
+      abbrev LastOf : (x : Step) → Nexts x → ℕ
+      LastOf x g = let p = here l sound whole few v s h f below e (With x) g in s.pc + size (shape_of p.to x) - 1
+
+      within : (x : Step) (g : Nexts x) (k : ℕ) → Inside x g k → IsWithin l Image Points v k
+      within x g k i =
+          let o = own l sound whole few v s h f below e (With x) g in
+          (inl (own_point l sound whole few v s h f below e (With x) g k i.0 (let j = i.1 in omega arith)), o.commits k i)
+
+      ends_last : (x : Step) (g : Nexts x) → IsLast l Image Points v (LastOf x g)
+      ends_last x g =
+          let p = here l sound whole few v s h f below e (With x) g in
+          let some = size_one p.to x in
+          let o = own l sound whole few v s h f below e (With x) g in
+          record { place = inl (own_point l sound whole few v s h f below e (With x) g (LastOf x g) (omega arith) (omega arith)); commit = o.last_commit }
+
+      -- what is done at a command's own addresses, in as many steps as it has instructions
+      made : (x : Step) (g : Nexts x) (may may' : Type 0) (goal : Machine → Type 0) → (may → may')
+          → (let p = here l sound whole few v s h f below e (With x) g in Does Image (Inside x g) (LastOf x g) may goal (size (shape_of p.to x) - 1) s) → MakesStep l Image Points v may' goal s
+      made x g may may' goal w d =
+          let p = here l sound whole few v s h f below e (With x) g in
+          let quick = size_quick p.to x in
+          let cost = cost_is x g in
+          record {
+            last = LastOf x g;
+            is_last = ends_last x g;
+            does = fewer (size (shape_of p.to x) - 1) (vm_cost most_steps l v - 1) s (omega arith)
+                (does_map Image (Inside x g) (IsWithin l Image Points v) (LastOf x g) may may' goal goal (size (shape_of p.to x) - 1) s (within x g) w (λ t r. r) d);
+          }
+
+      acted : (x : Step) → Nexts x → (v' : State) → vm.step l 0 v ≡ Acts false v' → MakesStep l (map word_of (image_of l)) (map_of (commits_of l) (points_of l)) v (IsStore (next_of l v.frames)) (StandsFor (location l) l v') s
       acted x g v' q =
           let p = here l sound whole few v s h f below e (With x) g in
           let at = at_step l sound whole few v s h f below e n b x g in
-          made v s (λ k. (s.pc ≤ k) × (k + 1 < s.pc + size (shape_of p.to x))) (s.pc + size (shape_of p.to x) - 1) (budget (shape_of p.to x) - 1) (MayStore (shape_of p.to x) s.memory) (IsStore (next_of l v.frames)) (StandsFor (location l) l v')
-          (own l sound whole few v s h f below e (With x) g) (ap (λ k. k - 1) (step_cost p.to x ∙ sym (cost_is x g)))
+          made x g (MayStore (shape_of p.to x) s.memory) (IsStore (next_of l v.frames)) (StandsFor (location l) l v')
           (λ w. subst IsStore (sym (next_is x g)) (store_is (location l) l v v' f below s.pc p.to s.memory x at (acts_is l sound whole few v s h f below e n b x g 0 (Acts false v') q) w))
           (acts_does (location l) l key_law sound_law sound whole Image (image_words l sound whole few) Points 51 v v' s f below (With x) p.to e g q h (location_low l) p.next p.target p.stands p.fits)
 
-      abbrev Heard : Step → Type 0
-      Heard x = Nexts x → (v' : State) → vm.step l 0 v ≡ Acts true v' → MakesHearing l (map word_of (image_of l)) (map_of (commits_of l) (points_of l)) v (λ key t. (u : State) → vm.step l key v ≡ Acts true u → StandsFor (location l) l u t) s
-
       -- a key read in the middle of a push
-      heard_by : (x : Step) (g : Nexts x) → command_words x ≡ 9 → IsOwn (vm_system l) Points 51 v (λ k. (s.pc ≤ k) × (k + 1 < s.pc + 9)) (s.pc + 8)
-          → DoesHearing Image (λ k. (s.pc ≤ k) × (k + 1 < s.pc + 9)) (s.pc + 8) ⊥ (λ key t. (u : State) → vm.step l key v ≡ Acts true u → StandsFor (location l) l u t) 4 3 s
-          → MakesHearing l Image Points v (λ key t. (u : State) → vm.step l key v ≡ Acts true u → StandsFor (location l) l u t) s
-      heard_by x g nine o d =
+      heard : (x : Step) → Nexts x → (v' : State) → vm.step l 0 v ≡ Acts true v' → MakesHearing l (map word_of (image_of l)) (map_of (commits_of l) (points_of l)) v (λ key t. (u : State) → vm.step l key v ≡ Acts true u → StandsFor (location l) l u t) s
+      heard x g v' q =
+          let p = here l sound whole few v s h f below e (With x) g in
+          let law = all_steps_carry (location l) l v f below s.pc p.to s.memory in
+          let carry = λ (key : ℕ) (u : State) (acts : vm.step l key v ≡ Acts true u). law.hears key x u (at_step l sound whole few v s h f below e n b x g) (acts_is l sound whole few v s h f below e n b x g key (Acts true u) acts) in
+          let zero = carry 0 v' q in
+          let seven = push_size (shape_of p.to x) s.memory 24576 zero.at_key in
+          let quick = size_quick p.to x in
           let cost = cost_is x g in
           record {
-            last = s.pc + 8;
-            is_last = record { point = o.last_point; commit = o.last_commit };
-            before = 4;
+            last = LastOf x g;
+            is_last = ends_last x g;
+            before = size (shape_of p.to x) - 5;
             after = 3;
             few = omega arith;
-            does = hearing_map Image (λ k. (s.pc ≤ k) × (k + 1 < s.pc + 9)) (IsWithin l Image Points v) (s.pc + 8) ⊥ (λ key t. (u : State) → vm.step l key v ≡ Acts true u → StandsFor (location l) l u t) (λ key t. (u : State) → vm.step l key v ≡ Acts true u → StandsFor (location l) l u t) 3 4 s
-                (λ k i. (o.points k i, o.commits k i)) (λ key w t r. r) d;
+            does = hearing_map Image (Inside x g) (IsWithin l Image Points v) (LastOf x g) ⊥ (λ key t. (u : State) → vm.step l key v ≡ Acts true u → StandsFor (location l) l u t) (λ key t. (u : State) → vm.step l key v ≡ Acts true u → StandsFor (location l) l u t) 3 (size (shape_of p.to x) - 5) s
+                (within x g) (λ key w t r. r)
+                (hears_does (location l) l key_law sound_law sound whole Image (image_words l sound whole few) Points 51 v s h (shape_of p.to x) (ap has_heard q) carry v' (ap state_after q) (p.stands, p.fits));
           }
 
-      this_heard : (i : ℕ) → Heard (step.Push segment.This i)
-      this_heard i g v' q =
-          let x = step.Push segment.This i in
+      missed : (x : Step) → Nexts x → (a : ℕ) → vm.step l 0 v ≡ Strays (stray.Address a) → MakesStep l (map word_of (image_of l)) (map_of (commits_of l) (points_of l)) v (Unit {0}) (λ t. Unit {0}) s
+      missed x g a q =
           let p = here l sound whole few v s h f below e (With x) g in
           let law = all_steps_carry (location l) l v f below s.pc p.to s.memory in
-          let carry = λ (key : ℕ) (u : State) (acts : vm.step l key v ≡ Acts true u). law.hears_this key i u (at_step l sound whole few v s h f below e n b x g) (acts_is l sound whole few v s h f below e n b x g key (Acts true u) acts) in
-          let zero = carry 0 v' q in
-          let small = zero.numbers in
-          heard_by x g refl (own_key l sound whole few v s h f below e n b 3 i x g refl)
-          (hears_does (location l) l key_law sound_law sound whole Image (image_words l sound whole few) Points 51 v s h 3 i (ap has_heard q) carry v' (ap state_after q)
-          (subst (λ j. Stands (map word_of (image_of l)) s.pc (template s.pc (shape.PushAt 3 j))) (named_is i small.2) p.stands) p.fits)
-
-      that_heard : (i : ℕ) → Heard (step.Push segment.That i)
-      that_heard i g v' q =
-          let x = step.Push segment.That i in
-          let p = here l sound whole few v s h f below e (With x) g in
-          let law = all_steps_carry (location l) l v f below s.pc p.to s.memory in
-          let carry = λ (key : ℕ) (u : State) (acts : vm.step l key v ≡ Acts true u). law.hears_that key i u (at_step l sound whole few v s h f below e n b x g) (acts_is l sound whole few v s h f below e n b x g key (Acts true u) acts) in
-          let zero = carry 0 v' q in
-          let small = zero.numbers in
-          heard_by x g refl (own_key l sound whole few v s h f below e n b 4 i x g refl)
-          (hears_does (location l) l key_law sound_law sound whole Image (image_words l sound whole few) Points 51 v s h 4 i (ap has_heard q) carry v' (ap state_after q)
-          (subst (λ j. Stands (map word_of (image_of l)) s.pc (template s.pc (shape.PushAt 4 j))) (named_is i small.2) p.stands) p.fits)
-
-      deaf_heard : (x : Step) → may_hear x ≡ false → Heard x
-      deaf_heard x never g v' q = let hears = allowed x g (Acts true v') q in let z : false ≡ true = sym never ∙ hears in absurd (cc z)
-
-      heard : (x : Step) → Heard x
-      heard = by_kind Heard (λ x p r. deaf_heard x p) this_heard that_heard (λ i. deaf_heard (step.Pop segment.This i) refl) (λ i. deaf_heard (step.Pop segment.That i) refl)
-
-      abbrev Missed : Step → Type 0
-      Missed x = Nexts x → (a : ℕ) → vm.step l 0 v ≡ Strays (stray.Address a) → MakesStep l (map word_of (image_of l)) (map_of (commits_of l) (points_of l)) v (Unit {0}) (λ t. Unit {0}) s
-
-      missed_push : (x : Step) (base i : ℕ) (g : Nexts x) → command_words x ≡ 9 → IsOwn (vm_system l) Points 51 v (λ k. (s.pc ≤ k) × (k + 1 < s.pc + 9)) (s.pc + 9 - 1)
-          → Does Image (λ k. (s.pc ≤ k) × (k + 1 < s.pc + 9)) (s.pc + 9 - 1) (Unit {0}) (λ t. Unit {0}) 8 s → MakesStep l Image Points v (Unit {0}) (λ t. Unit {0}) s
-      missed_push x base i g nine o d = let cost = cost_is x g in made v s (λ k. (s.pc ≤ k) × (k + 1 < s.pc + 9)) (s.pc + 9 - 1) 8 (Unit {0}) (Unit {0}) (λ t. Unit {0}) o (omega arith) (λ w. w) d
-
-      missed_pop : (x : Step) (base i : ℕ) (g : Nexts x) → command_words x ≡ 12 → IsOwn (vm_system l) Points 51 v (λ k. (s.pc ≤ k) × (k + 1 < s.pc + 12)) (s.pc + 12 - 1)
-          → Does Image (λ k. (s.pc ≤ k) × (k + 1 < s.pc + 12)) (s.pc + 12 - 1) (Unit {0}) (λ t. Unit {0}) 11 s → MakesStep l Image Points v (Unit {0}) (λ t. Unit {0}) s
-      missed_pop x base i g twelve o d = let cost = cost_is x g in made v s (λ k. (s.pc ≤ k) × (k + 1 < s.pc + 12)) (s.pc + 12 - 1) 11 (Unit {0}) (Unit {0}) (λ t. Unit {0}) o (omega arith) (λ w. w) d
-
-      this_missed : (i : ℕ) → Missed (step.Push segment.This i)
-      this_missed i g a q =
-          let x = step.Push segment.This i in
-          let p = here l sound whole few v s h f below e (With x) g in
-          let law = all_steps_carry (location l) l v f below s.pc p.to s.memory in
-          let miss = law.misses_this 0 i a (at_step l sound whole few v s h f below e n b x g) (acts_is l sound whole few v s h f below e n b x g 0 (Strays (stray.Address a)) q) in
-          let small = miss.numbers in
-          missed_push x 3 i g refl (own l sound whole few v s h f below e (With x) g)
-          (push_stray_does (location l) l key_law sound_law sound whole Image (image_words l sound whole few) Points 51 v s h 3 i miss
-          (subst (λ j. Stands (map word_of (image_of l)) s.pc (template s.pc (shape.PushAt 3 j))) (named_is i small.2) p.stands) p.fits)
-
-      that_missed : (i : ℕ) → Missed (step.Push segment.That i)
-      that_missed i g a q =
-          let x = step.Push segment.That i in
-          let p = here l sound whole few v s h f below e (With x) g in
-          let law = all_steps_carry (location l) l v f below s.pc p.to s.memory in
-          let miss = law.misses_that 0 i a (at_step l sound whole few v s h f below e n b x g) (acts_is l sound whole few v s h f below e n b x g 0 (Strays (stray.Address a)) q) in
-          let small = miss.numbers in
-          missed_push x 4 i g refl (own l sound whole few v s h f below e (With x) g)
-          (push_stray_does (location l) l key_law sound_law sound whole Image (image_words l sound whole few) Points 51 v s h 4 i miss
-          (subst (λ j. Stands (map word_of (image_of l)) s.pc (template s.pc (shape.PushAt 4 j))) (named_is i small.2) p.stands) p.fits)
-
-      this_popped : (i : ℕ) → Missed (step.Pop segment.This i)
-      this_popped i g a q =
-          let x = step.Pop segment.This i in
-          let p = here l sound whole few v s h f below e (With x) g in
-          let law = all_steps_carry (location l) l v f below s.pc p.to s.memory in
-          let miss = law.pops_this 0 i a (at_step l sound whole few v s h f below e n b x g) (acts_is l sound whole few v s h f below e n b x g 0 (Strays (stray.Address a)) q) in
-          let small = miss.numbers in
-          missed_pop x 3 i g refl (own l sound whole few v s h f below e (With x) g)
-          (pop_stray_does (location l) l key_law sound_law sound whole Image (image_words l sound whole few) Points 51 v s h 3 i miss
-          (subst (λ j. Stands (map word_of (image_of l)) s.pc (template s.pc (shape.PopAt 3 j))) (named_is i small.2) p.stands) p.fits)
-
-      that_popped : (i : ℕ) → Missed (step.Pop segment.That i)
-      that_popped i g a q =
-          let x = step.Pop segment.That i in
-          let p = here l sound whole few v s h f below e (With x) g in
-          let law = all_steps_carry (location l) l v f below s.pc p.to s.memory in
-          let miss = law.pops_that 0 i a (at_step l sound whole few v s h f below e n b x g) (acts_is l sound whole few v s h f below e n b x g 0 (Strays (stray.Address a)) q) in
-          let small = miss.numbers in
-          missed_pop x 4 i g refl (own l sound whole few v s h f below e (With x) g)
-          (pop_stray_does (location l) l key_law sound_law sound whole Image (image_words l sound whole few) Points 51 v s h 4 i miss
-          (subst (λ j. Stands (map word_of (image_of l)) s.pc (template s.pc (shape.PopAt 4 j))) (named_is i small.2) p.stands) p.fits)
-
-      missed : (x : Step) → Missed x
-      missed = by_kind Missed (λ x p r g a q. let misses = allowed x g (Strays (stray.Address a)) q in let z : false ≡ true = sym r ∙ misses in absurd (cc z)) this_missed that_missed this_popped that_popped
+          let miss = law.misses 0 x a (at_step l sound whole few v s h f below e n b x g) (acts_is l sound whole few v s h f below e n b x g 0 (Strays (stray.Address a)) q) in
+          made x g (Unit {0}) (Unit {0}) (λ t. Unit {0}) (λ w. w)
+          (stray_does (location l) l key_law sound_law sound whole Image (image_words l sound whole few) Points 51 v s h (shape_of p.to x) miss (p.stands, p.fits))
 
     frame_acts : (o : Option Code) → slice_get (code_in l f.function) f.place ≡ o → (v' : State) → vm.step l 0 v ≡ Acts false v' → MakesStep l Image Points v (IsStore (next_of l v.frames)) (StandsFor (location l) l v') s
     frame_acts None g v' q = absurd (no_act g false v' q)
@@ -325,6 +276,7 @@ module _ (l : Linked) (sound : IsSound l) (whole : l.bare ≡ false) (few : leng
   translated = record {
     stops = end_law.ends l;
     starts = starts_so l sound whole few;
+    opens = opens_so l sound whole few;
     steps = simulates l sound whole few;
     ends = has_loop l sound whole few;
     acts = acts;

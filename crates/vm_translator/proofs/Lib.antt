@@ -25,3 +25,4 @@ pub mod Placing
 pub mod Outcomes
 pub mod Simulating
 pub mod Instructed
+pub mod PieceSizes

@@ -18,7 +18,7 @@ use Rattle.vm_link.specs.declared.linked.Step.TheVariants as step
 use Rattle.vm_link.specs.declared.linked.Linked.{Linked}
 use Rattle.vm_link.specs.declared.linked.LinkedFunction.{LinkedFunction}
 use Rattle.vm_translator.specs.declared.layout.Placed.{Placed}
-use Rattle.vm_translator.specs.Shapes.{operated, pushed, popped, shape_of, step_size}
+use Rattle.vm_translator.specs.Shapes.{push_from, pop_to, operated, pushed, popped, shape_of, step_size}
 use Rattle.vm_translator.specs.Places.{address, base_of, code_at, end_of, named, program, target_of, words_in}
 use Rattle.vm_translator.specs.Image.{closing, entry_of, image_of, names, names_end, opening, piece}
 use Rattle.vm_translator.specs.Plain.{IsPlain, is_spelled}
@@ -52,8 +52,10 @@ plain_all (i ∷ is) e = let h = and_parts _ _ e in (plain i h.0, plain_all is h
 abbrev IsNumbered : Shape → Type 0
 IsNumbered (shape.PushConstant n) = n < 32768
 IsNumbered (shape.PushAt b i) = (b < 32768) × (i < 32768)
+IsNumbered (shape.PushFirst b) = b < 32768
 IsNumbered (shape.PushWord a) = a < 32768
 IsNumbered (shape.PopAt b i) = (b < 32768) × (i < 32768)
+IsNumbered (shape.PopFirst b) = b < 32768
 IsNumbered (shape.PopWord a) = a < 32768
 IsNumbered (shape.Goto t) = t < 32768
 IsNumbered (shape.IfGoto t) = t < 32768
@@ -165,9 +167,11 @@ plain_template : (here : ℕ) (s : Shape) → here + size s ≤ 32768 → IsNumb
 unfolding Each
 plain_template here (shape.PushConstant n) h w = plain_constant n w
 plain_template here (shape.PushAt b i) h w = (w.1, (plain D_IS_A refl, (w.0, plain_all (A_IS_D_PLUS_M ∷ D_IS_M ∷ push_d) refl)))
+plain_template here (shape.PushFirst b) h w = (w, plain_all (A_IS_M ∷ D_IS_M ∷ push_d) refl)
 plain_template here (shape.PushWord a) h w = plain_word a w
 plain_template here (shape.PopAt b i) h w =
     (w.1, (plain D_IS_A refl, (w.0, plain_all (D_IS_D_PLUS_M ∷ Address 13 ∷ M_IS_D ∷ (pop_d ++ Address 13 ∷ A_IS_M ∷ M_IS_D ∷ [])) refl)))
+plain_template here (shape.PopFirst b) h w = each_both IsPlain pop_d (Address b ∷ A_IS_M ∷ M_IS_D ∷ []) (plain_all pop_d refl) (w, plain_all (A_IS_M ∷ M_IS_D ∷ []) refl)
 plain_template here (shape.PopWord a) h w = each_both IsPlain pop_d (Address a ∷ M_IS_D ∷ []) (plain_all pop_d refl) (w, plain_all (M_IS_D ∷ []) refl)
 plain_template here shape.Add h w = plain_all (join M_IS_D_PLUS_M) refl
 plain_template here shape.Sub h w = plain_all (join M_IS_M_MINUS_D) refl
@@ -195,23 +199,31 @@ numbered_operation operation.And = tt
 numbered_operation operation.Or = tt
 numbered_operation operation.Not = tt
 
+numbered_from : (base i : ℕ) → base < 32768 → IsNumbered (push_from base i)
+numbered_from base zero h = h
+numbered_from base (suc i) h = (h, omega arith)
+
+numbered_to : (base i : ℕ) → base < 32768 → IsNumbered (pop_to base i)
+numbered_to base zero h = h
+numbered_to base (suc i) h = (h, omega arith)
+
 numbered_push : (g : Segment) (i : ℕ) → IsNumbered (pushed g i)
-numbered_push segment.Argument i = (omega arith, omega arith)
-numbered_push segment.Local i = (omega arith, omega arith)
+numbered_push segment.Argument i = numbered_from 2 i (omega arith)
+numbered_push segment.Local i = numbered_from 1 i (omega arith)
 numbered_push segment.Static i = omega arith
 numbered_push segment.Constant i = omega arith
-numbered_push segment.This i = (omega arith, omega arith)
-numbered_push segment.That i = (omega arith, omega arith)
+numbered_push segment.This i = numbered_from 3 i (omega arith)
+numbered_push segment.That i = numbered_from 4 i (omega arith)
 numbered_push segment.Pointer i = omega arith
 numbered_push segment.Temp i = omega arith
 
 numbered_pop : (g : Segment) (i : ℕ) → IsNumbered (popped g i)
-numbered_pop segment.Argument i = (omega arith, omega arith)
-numbered_pop segment.Local i = (omega arith, omega arith)
+numbered_pop segment.Argument i = numbered_to 2 i (omega arith)
+numbered_pop segment.Local i = numbered_to 1 i (omega arith)
 numbered_pop segment.Static i = omega arith
 numbered_pop segment.Constant i = omega arith
-numbered_pop segment.This i = (omega arith, omega arith)
-numbered_pop segment.That i = (omega arith, omega arith)
+numbered_pop segment.This i = numbered_to 3 i (omega arith)
+numbered_pop segment.That i = numbered_to 4 i (omega arith)
 numbered_pop segment.Pointer i = omega arith
 numbered_pop segment.Temp i = omega arith
 

@@ -17,7 +17,7 @@ use Rattle.vm_machine.specs.Step as vm
 use Rattle.vm_machine.specs.Sound.{IsSoundState, AreSoundFrames}
 use Rattle.vm_translator.specs.Stands.{SameMemory, saved}
 use Rattle.vm_translator.specs.Carries.{Carries, place_of}
-use Rattle.vm_translator.proofs.Clamped.{pushed, popped}
+use Rattle.vm_translator.proofs.Clamped.{push_from, pop_to, pushed, popped, push_shape, push_ready, push_effect, pop_shape, pop_ready, pop_effect}
 use Rattle.vm_translator.proofs.Stack.{holds_front, holds_back, holds_at}
 use Rattle.vm_translator.proofs.Frames.{Written, taken_first, inner_of, base, at_frames, left_words, dropped_same}
 use Rattle.vm_translator.proofs.Sets.{set_static, set_temp, set_word, set_this, set_that, set_local, set_argument, local_place, argument_place}
@@ -80,10 +80,10 @@ module _ (address : Option ℕ → ℕ → ℕ) (l : Linked) (v : State) (f : Fr
   pointed : (r a i : ℕ) → m r ≡ a → address_at m r i ≡ word_add a i
   pointed r a i is = ap (λ k. (k + i) % 65536) is
 
-  push_at_carries : (r i w : ℕ) (v' : State) → 1 ≤ r → r ≤ 4 → i < 32768 → address_at m r i < 24576 → m (address_at m r i) ≡ w → next (shape.PushAt r i) here m ≡ address f.function (f.place + 1)
-      → fitted (vm.pushed false v f below w) ≡ Acts false v' → Carries address (shape.PushAt r i) here m v'
+  push_at_carries : (r i w : ℕ) (v' : State) → 1 ≤ r → r ≤ 4 → i < 32768 → address_at m r i < 24576 → m (address_at m r i) ≡ w → next (push_from r i) here m ≡ address f.function (f.place + 1)
+      → fitted (vm.pushed false v f below w) ≡ Acts false v' → Carries address (push_from r i) here m v'
   push_at_carries r i w v' one four small near is to acts =
-      push_carries address l v f below m e sound h here (shape.PushAt r i) w false false v' (one, four, small) (λ s. (s, near)) (λ t p. subst (Pushed m t) is p) to acts
+      push_carries address l v f below m e sound h here (push_from r i) w false false v' (push_shape r m words i one four small) (λ s. push_ready r m words i s near) (λ t p. subst (Pushed m t) is (push_effect r m words i here t p)) to acts
 
   push_word_carries : (a w : ℕ) (v' : State) → 3 ≤ a → a < 256 → m a ≡ w → next (shape.PushWord a) here m ≡ address f.function (f.place + 1)
       → fitted (vm.pushed false v f below w) ≡ Acts false v' → Carries address (shape.PushWord a) here m v'
@@ -91,8 +91,8 @@ module _ (address : Option ℕ → ℕ → ℕ) (l : Linked) (v : State) (f : Fr
       push_carries address l v f below m e sound h here (shape.PushWord a) w false false v' (low, small) (λ s. s) (λ t p. subst (Pushed m t) is p) to acts
 
   -- a load of heap or screen
-  load_carries : (r base key i : ℕ) (v' : State) → 1 ≤ r → r ≤ 4 → m r ≡ base → next (shape.PushAt r i) here m ≡ address f.function (f.place + 1)
-      → fitted (vm.written i (load key (word_add base i) v f below)) ≡ Acts false v' → Carries address (shape.PushAt r i) here m v'
+  load_carries : (r base key i : ℕ) (v' : State) → 1 ≤ r → r ≤ 4 → m r ≡ base → next (push_from r i) here m ≡ address f.function (f.place + 1)
+      → fitted (vm.written i (load key (word_add base i) v f below)) ≡ Acts false v' → Carries address (push_from r i) here m v'
   load_carries r base key i v' one four is to acts =
       let p = less_case i 32768 (load key (word_add base i) v f below) stray.Code false v' acts in
       let a = word_add base i in
@@ -184,15 +184,15 @@ module _ (address : Option ℕ → ℕ → ℕ) (l : Linked) (v : State) (f : Fr
         })
 
     -- a store to heap or screen
-    store_carries : (r base i : ℕ) (v' : State) → 1 ≤ r → r ≤ 4 → m r ≡ base → next (shape.PopAt r i) here m ≡ address f.function (f.place + 1)
-        → fitted (vm.written i (store (word_add base i) y values v f below)) ≡ Acts false v' → Carries address (shape.PopAt r i) here m v'
+    store_carries : (r base i : ℕ) (v' : State) → 1 ≤ r → r ≤ 4 → m r ≡ base → next (pop_to r i) here m ≡ address f.function (f.place + 1)
+        → fitted (vm.written i (store (word_add base i) y values v f below)) ≡ Acts false v' → Carries address (pop_to r i) here m v'
     store_carries r base i v' one four is_base to acts =
         let p = less_case i 32768 (store (word_add base i) y values v f below) stray.Code false v' acts in
         let a = word_add base i in
         let at = pointed r base i is_base in
         let q = not_less_case a 2048 _ (stray.Address a) false v' p.1 in
         let d = less_case a 24576 _ (stray.Address a) false v' q.1 in
-        pop_carries (shape.PopAt r i) a (record v { frames = after f values ∷ below; words = slice_set v.words (a - 2048) y }) v' (one, four, p.0) (λ s. (s, omega (arith, at, q.0), omega (arith, at, d.0))) (omega (arith, q.0)) (λ t s. subst (Stored m t) at s) to
+        pop_carries (pop_to r i) a (record v { frames = after f values ∷ below; words = slice_set v.words (a - 2048) y }) v' (pop_shape r m words i one four p.0) (λ s. pop_ready r m words i s (omega (arith, at, q.0)) (omega (arith, at, d.0))) (omega (arith, q.0)) (λ t s. subst (Stored m t) at (pop_effect r m words i here t s)) to
         (λ t mid same w drop. set_word address (record v { frames = after f values ∷ below }) mid t same room1 a y q.0 d.0 sound.words_length w)
         d.1
 
@@ -204,7 +204,7 @@ module _ (address : Option ℕ → ℕ → ℕ) (l : Linked) (v : State) (f : Fr
         let a = near 2 i at.2 in
         let k = caller l f below frames (inl (omega (arith, p.0))) in
         let e' : after f values ∷ below ≡ after f values ∷ k.0 ∷ k.1 = ap (λ fs. after f values ∷ fs) k.2 in
-        pop_carries (shape.PopAt 2 i) (m 2 + i) (record v { frames = record (after f values) { arguments = slice_set f.arguments i y } ∷ below }) v' (omega arith, omega arith, omega (arith, at.2)) (λ s. (s, omega (arith, a, at.1), omega (arith, a, at.2))) (omega (arith, at.1)) (λ t s. subst (Stored m t) a s) to
+        pop_carries (pop_to 2 i) (m 2 + i) (record v { frames = record (after f values) { arguments = slice_set f.arguments i y } ∷ below }) v' (pop_shape 2 m words i (omega arith) (omega arith) (omega (arith, at.2))) (λ s. pop_ready 2 m words i s (omega (arith, a, at.1)) (omega (arith, a, at.2))) (omega (arith, at.1)) (λ t s. subst (Stored m t) a (pop_effect 2 m words i here t s)) to
         (λ t mid same w drop.
         let kept = drop.same 2 (omega arith, omega arith, omega arith, omega arith) in
         let r = set_argument address (record v { frames = after f values ∷ below }) mid t same room1 (after f values) k.0 k.1 i y e' p.0 (subst (λ b. Written mid t (b + i) y) (sym kept) w) in
@@ -216,7 +216,7 @@ module _ (address : Option ℕ → ℕ → ℕ) (l : Linked) (v : State) (f : Fr
         let a = near 1 i at.2 in
         let k = caller l f below frames (inr (omega (arith, p.0))) in
         let e' : after f values ∷ below ≡ after f values ∷ k.0 ∷ k.1 = ap (λ fs. after f values ∷ fs) k.2 in
-        pop_carries (shape.PopAt 1 i) (m 1 + i) (record v { frames = record (after f values) { locals = slice_set f.locals i y } ∷ below }) v' (omega arith, omega arith, omega (arith, at.2)) (λ s. (s, omega (arith, a, at.1), omega (arith, a, at.2))) (omega (arith, at.1)) (λ t s. subst (Stored m t) a s) to
+        pop_carries (pop_to 1 i) (m 1 + i) (record v { frames = record (after f values) { locals = slice_set f.locals i y } ∷ below }) v' (pop_shape 1 m words i (omega arith) (omega arith) (omega (arith, at.2))) (λ s. pop_ready 1 m words i s (omega (arith, a, at.1)) (omega (arith, a, at.2))) (omega (arith, at.1)) (λ t s. subst (Stored m t) a (pop_effect 1 m words i here t s)) to
         (λ t mid same w drop.
         let kept = drop.same 1 (omega arith, omega arith, omega arith, omega arith) in
         let r = set_local address (record v { frames = after f values ∷ below }) mid t same room1 (after f values) k.0 k.1 i y e' p.0 (subst (λ b. Written mid t (b + i) y) (sym kept) w) in

@@ -6,81 +6,36 @@ use Rattle.hack_isa.specs.Machine as hack
 use Rattle.hack_isa.specs.Table.{word_of}
 use Rattle.layers.specs.Layers.{Way, Simulates, Starts, Opens, ready, before}
 use Rattle.machine_io.specs.declared.machine.Stray.TheVariants as stray
-use Rattle.vm_tree.specs.declared.command.Operation.{Operation}
-use Rattle.vm_tree.specs.declared.command.Operation.TheVariants as operation
-use Rattle.vm_tree.specs.declared.command.Segment.{Segment}
-use Rattle.vm_tree.specs.declared.command.Segment.TheVariants as segment
 use Rattle.vm_link.specs.declared.linked.Code.{Code}
 use Rattle.vm_link.specs.declared.linked.Step.{Step}
-use Rattle.vm_link.specs.declared.linked.Step.TheVariants as step
 use Rattle.vm_link.specs.declared.linked.Linked.{Linked}
 use Rattle.vm_link.specs.Sound.{IsSound}
-use Rattle.hack_blocks.specs.declared.shape.Shape.TheVariants as shape
-use Rattle.hack_blocks.specs.Templates.{template, size, budget}
-use Rattle.hack_blocks.specs.Computer.{Stands, hack_system}
+use Rattle.hack_blocks.specs.Templates.{size}
+use Rattle.hack_blocks.specs.Budgets.{most_steps}
+use Rattle.hack_blocks.specs.Computer.{hack_system}
+use Rattle.hack_blocks.specs.Going.{Quiet, Reaches}
 use Rattle.hack_blocks.specs.Own.{IsOwn}
 use Rattle.vm_machine.specs.State.{Frame, State}
 use Rattle.vm_machine.specs.Step.{Outcome, Acts, Strays, Full, Done, act, fitted, ended, perform, step_frames, code_in, start}
 use Rattle.vm_machine.specs.Step as vm
-use Rattle.vm_machine.specs.Level.{vm_system, vm_cost, cost_of, command_words, operation_words, next_of, point_of, subroutine_of, statement_of, end_statement, is_commit, is_fit, has_heard, state_after}
+use Rattle.vm_machine.specs.Level.{vm_system, vm_cost, cost_of, next_of, point_of, subroutine_of, statement_of, end_statement, is_commit, is_fit, has_heard, state_after}
 use Rattle.vm_machine.specs.Sound.{AreSoundFrames}
 use Rattle.vm_machine.proofs.Deaf.{key_law}
 use Rattle.vm_machine.proofs.Kept.{sound_law}
-use Rattle.vm_translator.specs.Shapes.{operated, pushed, popped, shape_of, step_size}
+use Rattle.vm_translator.specs.Shapes.{shape_of, step_size}
 use Rattle.vm_translator.specs.Image.{commits_of, entry_of, image_of, points_of}
 use Rattle.vm_translator.specs.Carries.{place_of, IsStep}
 use Rattle.vm_translator.specs.Related.{StandsFor}
+use Rattle.vm_translator.specs.Translated.{IsWithin}
 use Rattle.vm_translator.specs.Mapping.{point_in, map_of, location, start_address}
-use Rattle.vm_translator.proofs.Sums.{size_to, size_some}
-use Rattle.vm_translator.proofs.Clamped.{named_is}
+use Rattle.vm_translator.proofs.Sums.{size_to, size_some, size_one, size_quick}
+use Rattle.vm_translator.proofs.Clamped.{push_size}
 use Rattle.vm_translator.proofs.Keys.{all_steps_carry}
-use Rattle.vm_translator.proofs.Outcomes.{Allowed, may_hear, may_miss, outcome_allowed, by_kind}
-use Rattle.vm_translator.proofs.Ways.{step_is, acts_way}
-use Rattle.vm_translator.proofs.OtherWays.{hears_way, push_stray_way, pop_stray_way, done_way}
-use Rattle.vm_translator.proofs.Opening.{start_opens}
+use Rattle.vm_translator.proofs.Outcomes.{Allowed, may_hear, may_miss, outcome_allowed}
+use Rattle.vm_translator.proofs.Ways.{step_is, longer, acts_way}
+use Rattle.vm_translator.proofs.OtherWays.{hears_way, stray_way, done_way}
+use Rattle.vm_translator.proofs.Opening.{start_opens, start_reaches}
 use Rattle.vm_translator.proofs.Placing.{Placing, placing, image_words, start_stands, start_point, loop_point, early_quiet}
-
--- a step costs as many words as the command's instructions may be
-operation_cost : (o : Operation) → budget (operated o) ≡ operation_words o
-operation_cost operation.Add = refl
-operation_cost operation.Sub = refl
-operation_cost operation.Neg = refl
-operation_cost operation.Eq = refl
-operation_cost operation.Gt = refl
-operation_cost operation.Lt = refl
-operation_cost operation.And = refl
-operation_cost operation.Or = refl
-operation_cost operation.Not = refl
-
-push_cost : (g : Segment) (i : ℕ) → budget (pushed g i) ≡ 9
-push_cost segment.Argument i = refl
-push_cost segment.Local i = refl
-push_cost segment.Static i = refl
-push_cost segment.Constant i = refl
-push_cost segment.This i = refl
-push_cost segment.That i = refl
-push_cost segment.Pointer i = refl
-push_cost segment.Temp i = refl
-
-pop_cost : (g : Segment) (i : ℕ) → budget (popped g i) ≡ 12
-pop_cost segment.Argument i = refl
-pop_cost segment.Local i = refl
-pop_cost segment.Static i = refl
-pop_cost segment.Constant i = refl
-pop_cost segment.This i = refl
-pop_cost segment.That i = refl
-pop_cost segment.Pointer i = refl
-pop_cost segment.Temp i = refl
-
-pub step_cost : (to : ℕ) (c : Step) → budget (shape_of to c) ≡ command_words c
-step_cost to (step.Operate o) = operation_cost o
-step_cost to (step.Push g i) = push_cost g i
-step_cost to (step.Pop g i) = pop_cost g i
-step_cost to (step.Goto p) = refl
-step_cost to (step.IfGoto p) = refl
-step_cost to (step.Function n) = refl
-step_cost to (step.Call f n) = refl
-step_cost to step.Return = refl
 
 pub location_low : (l : Linked) (function : Option ℕ) (p : ℕ) → location l function p < 32768
 location_low l None zero = omega arith
@@ -127,9 +82,16 @@ module _ (l : Linked) (sound : IsSound l) (whole : l.bare ≡ false) (few : leng
         away pc n some (inl a) = (λ q. omega arith, λ q. omega arith)
         away pc n some (inr a) = (λ q. omega arith, λ q. omega arith)
 
+    -- the command's own addresses have its point
+    pub own_point : (c : Code) (g : slice_get (code_in l f.function) f.place ≡ Some c) → let p = here c g in (k : ℕ) → s.pc ≤ k → k < s.pc + size (shape_of p.to c.step) → point_in (points_of l) k ≡ (vm_system l).point v
+    own_point c g k a b =
+        let p = here c g in
+        let n : size (shape_of p.to c.step) ≡ step_size c.step = size_to p.to c.step in
+        p.points k a (omega arith) ∙ point_is c g
+
     -- the step that a command of this kind makes is a way of the computer
     abbrev W : Step → Type 0
-    W x = Way (vm_system l) (hack_system (map word_of (image_of l)) (map_of (commits_of l) (points_of l)) 51) (λ z. 1) (StandsFor (location l) l) v (command_words x) [] s
+    W x = Way (vm_system l) (hack_system (map word_of (image_of l)) (map_of (commits_of l) (points_of l)) 51) (λ z. 1) (StandsFor (location l) l) v (most_steps x) [] s
 
     module _ (n : ℕ) (b : Bool) where
       abbrev pub Next : Step → Type 0
@@ -143,101 +105,58 @@ module _ (l : Linked) (sound : IsSound l) (whole : l.bare ≡ false) (few : leng
       pub acts_is : (x : Step) (g : Next x) (key : ℕ) (o : Outcome) → vm.step l key v ≡ o → fitted (act key x v f below) ≡ o
       acts_is x g key o q = sym (step_is l v f below (record { step = x; statement = n; commit = b }) key e g) ∙ q
 
+      -- a way of so many steps as the command has instructions
+      quick : (x : Step) (g : Next x) → let p = here (record { step = x; statement = n; commit = b }) g in (m : ℕ) → m ≤ size (shape_of p.to x)
+          → Way (vm_system l) (hack_system (map word_of (image_of l)) (map_of (commits_of l) (points_of l)) 51) (λ z. 1) (StandsFor (location l) l) v m [] s → W x
+      quick x g m few way =
+          let p = here (record { step = x; statement = n; commit = b }) g in
+          let most = size_quick p.to x in
+          longer (vm_system l) (hack_system (map word_of (image_of l)) (map_of (commits_of l) (points_of l)) 51) (StandsFor (location l) l) v m (most_steps x) [] s (omega arith) way
+
       acting : (x : Step) → Next x → (v' : State) → vm.step l 0 v ≡ Acts false v' → W x
       acting x g v' q =
           let c : Code = record { step = x; statement = n; commit = b } in
           let p = here c g in
-          subst (λ m. Way (vm_system l) (hack_system (map word_of (image_of l)) (map_of (commits_of l) (points_of l)) 51) (λ z. 1) (StandsFor (location l) l) v m [] s) (step_cost p.to x)
+          quick x g (size (shape_of p.to x)) (omega arith)
           (acts_way (location l) l key_law sound_law sound whole (map word_of (image_of l)) (image_words l sound whole few) (map_of (commits_of l) (points_of l)) 51
           v v' s f below c p.to e g q h (location_low l) p.next p.target p.stands p.fits (own c g))
 
-      by_outcome : (x : Step) → Next x → (o : Outcome) → vm.step l 0 v ≡ o → Allowed (may_hear x) (may_miss x) o → is_fit o ≡ true
-          → (may_hear x ≡ true → (v' : State) → vm.step l 0 v ≡ Acts true v' → W x) → (may_miss x ≡ true → (a : ℕ) → vm.step l 0 v ≡ Strays (stray.Address a) → W x) → W x
-      by_outcome x g (Acts false v') q a fit heard missed = acting x g v' q
-      by_outcome x g (Acts true v') q a fit heard missed = heard a v' q
-      by_outcome x g (Strays (stray.Address k)) q a fit heard missed = missed a k q
-      by_outcome x g (Strays stray.Values) q a fit heard missed = absurd (cc fit)
-      by_outcome x g (Strays stray.Argument) q a fit heard missed = absurd (cc fit)
-      by_outcome x g (Strays stray.Local) q a fit heard missed = absurd (cc fit)
-      by_outcome x g (Strays stray.Code) q a fit heard missed = absurd (cc fit)
-      by_outcome x g (Full w) q a fit heard missed = absurd (cc fit)
-      by_outcome x g Done q a fit heard missed = absurd a
-
-      by_step : (x : Step) → Next x → is_fit (vm.step l 0 v) ≡ true → (may_hear x ≡ true → (v' : State) → vm.step l 0 v ≡ Acts true v' → W x) → (may_miss x ≡ true → (a : ℕ) → vm.step l 0 v ≡ Strays (stray.Address a) → W x) → W x
-      by_step x g fit heard missed =
-          by_outcome x g (vm.step l 0 v) refl (subst (Allowed (may_hear x) (may_miss x)) (acts_is x g 0 (vm.step l 0 v) refl) (outcome_allowed 0 v f below x)) fit heard missed
-
-      straight : (x : Step) → Next x → is_fit (vm.step l 0 v) ≡ true → may_hear x ≡ false → may_miss x ≡ false → W x
-      straight x g fit p q = by_step x g fit (λ t. absurd (let z : false ≡ true = sym p ∙ t in cc z)) (λ t. absurd (let z : false ≡ true = sym q ∙ t in cc z))
-
-      pub own_key : (base i : ℕ) (x : Step) (g : Next x) → let p = here (record { step = x; statement = n; commit = b }) g in size (shape_of p.to x) ≡ 9 → IsOwn (vm_system l) (map_of (commits_of l) (points_of l)) 51 v (λ k. (s.pc ≤ k) × (k + 1 < s.pc + 9)) (s.pc + 8)
-      own_key base i x g is =
-          let z : s.pc + 9 - 1 ≡ s.pc + 8 = omega arith in
-          subst (λ m. IsOwn (vm_system l) (map_of (commits_of l) (points_of l)) 51 v (λ k. (s.pc ≤ k) × (k + 1 < s.pc + 9)) m) z
-          (subst (λ m. IsOwn (vm_system l) (map_of (commits_of l) (points_of l)) 51 v (λ k. (s.pc ≤ k) × (k + 1 < s.pc + m)) (s.pc + m - 1)) is (own (record { step = x; statement = n; commit = b }) g))
-
-      load_this_goes : (i : ℕ) → Next (step.Push segment.This i) → is_fit (vm.step l 0 v) ≡ true → W (step.Push segment.This i)
-      load_this_goes i g fit =
-          let x = step.Push segment.This i in
+      -- a push that hears the key
+      hearing : (x : Step) → Next x → (v' : State) → vm.step l 0 v ≡ Acts true v' → W x
+      hearing x g v' q =
           let p = here (record { step = x; statement = n; commit = b }) g in
           let law = all_steps_carry (location l) l v f below s.pc p.to s.memory in
-          by_step x g fit
-          (λ t v' q.
-          let carry = λ (key : ℕ) (u : State) (acts : vm.step l key v ≡ Acts true u). law.hears_this key i u (at_step x g) (acts_is x g key (Acts true u) acts) in
+          let carry = λ (key : ℕ) (u : State) (acts : vm.step l key v ≡ Acts true u). law.hears key x u (at_step x g) (acts_is x g key (Acts true u) acts) in
           let zero = carry 0 v' q in
-          let small = zero.numbers in
-          hears_way (location l) l key_law sound_law sound whole (map word_of (image_of l)) (image_words l sound whole few) (map_of (commits_of l) (points_of l)) 51 v s h 3 i (ap has_heard q) carry v' (ap state_after q)
-          (subst (λ j. Stands (map word_of (image_of l)) s.pc (template s.pc (shape.PushAt 3 j))) (named_is i small.2) p.stands) p.fits (own_key 3 i x g refl))
-          (λ t a q.
-          let miss = law.misses_this 0 i a (at_step x g) (acts_is x g 0 (Strays (stray.Address a)) q) in
-          let small = miss.numbers in
-          push_stray_way (location l) l key_law sound_law sound whole (map word_of (image_of l)) (image_words l sound whole few) (map_of (commits_of l) (points_of l)) 51 v s h 3 i a q miss
-          (subst (λ j. Stands (map word_of (image_of l)) s.pc (template s.pc (shape.PushAt 3 j))) (named_is i small.2) p.stands) p.fits (own (record { step = x; statement = n; commit = b }) g))
+          let five = push_size (shape_of p.to x) s.memory 24576 zero.at_key in
+          quick x g (size (shape_of p.to x) - 5 + 5) (omega arith)
+          (hears_way (location l) l key_law sound_law sound whole (map word_of (image_of l)) (image_words l sound whole few) (map_of (commits_of l) (points_of l)) 51 v s h (shape_of p.to x) (ap has_heard q) carry v' (ap state_after q)
+          (p.stands, p.fits) (own (record { step = x; statement = n; commit = b }) g))
 
-      load_that_goes : (i : ℕ) → Next (step.Push segment.That i) → is_fit (vm.step l 0 v) ≡ true → W (step.Push segment.That i)
-      load_that_goes i g fit =
-          let x = step.Push segment.That i in
+      -- a command that goes astray at an address
+      missing : (x : Step) → Next x → (a : ℕ) → vm.step l 0 v ≡ Strays (stray.Address a) → W x
+      missing x g a q =
           let p = here (record { step = x; statement = n; commit = b }) g in
           let law = all_steps_carry (location l) l v f below s.pc p.to s.memory in
-          by_step x g fit
-          (λ t v' q.
-          let carry = λ (key : ℕ) (u : State) (acts : vm.step l key v ≡ Acts true u). law.hears_that key i u (at_step x g) (acts_is x g key (Acts true u) acts) in
-          let zero = carry 0 v' q in
-          let small = zero.numbers in
-          hears_way (location l) l key_law sound_law sound whole (map word_of (image_of l)) (image_words l sound whole few) (map_of (commits_of l) (points_of l)) 51 v s h 4 i (ap has_heard q) carry v' (ap state_after q)
-          (subst (λ j. Stands (map word_of (image_of l)) s.pc (template s.pc (shape.PushAt 4 j))) (named_is i small.2) p.stands) p.fits (own_key 4 i x g refl))
-          (λ t a q.
-          let miss = law.misses_that 0 i a (at_step x g) (acts_is x g 0 (Strays (stray.Address a)) q) in
-          let small = miss.numbers in
-          push_stray_way (location l) l key_law sound_law sound whole (map word_of (image_of l)) (image_words l sound whole few) (map_of (commits_of l) (points_of l)) 51 v s h 4 i a q miss
-          (subst (λ j. Stands (map word_of (image_of l)) s.pc (template s.pc (shape.PushAt 4 j))) (named_is i small.2) p.stands) p.fits (own (record { step = x; statement = n; commit = b }) g))
+          let miss = law.misses 0 x a (at_step x g) (acts_is x g 0 (Strays (stray.Address a)) q) in
+          let some = size_one p.to x in
+          quick x g (suc (size (shape_of p.to x) - 1)) (omega arith)
+          (stray_way (location l) l key_law sound_law sound whole (map word_of (image_of l)) (image_words l sound whole few) (map_of (commits_of l) (points_of l)) 51 v s h (shape_of p.to x) a q miss
+          (p.stands, p.fits) (own (record { step = x; statement = n; commit = b }) g))
 
-      store_this_goes : (i : ℕ) → Next (step.Pop segment.This i) → is_fit (vm.step l 0 v) ≡ true → W (step.Pop segment.This i)
-      store_this_goes i g fit =
-          let x = step.Pop segment.This i in
-          let p = here (record { step = x; statement = n; commit = b }) g in
-          let law = all_steps_carry (location l) l v f below s.pc p.to s.memory in
-          by_step x g fit (λ t. absurd (cc t))
-          (λ t a q.
-          let miss = law.pops_this 0 i a (at_step x g) (acts_is x g 0 (Strays (stray.Address a)) q) in
-          let small = miss.numbers in
-          pop_stray_way (location l) l key_law sound_law sound whole (map word_of (image_of l)) (image_words l sound whole few) (map_of (commits_of l) (points_of l)) 51 v s h 3 i a q miss
-          (subst (λ j. Stands (map word_of (image_of l)) s.pc (template s.pc (shape.PopAt 3 j))) (named_is i small.2) p.stands) p.fits (own (record { step = x; statement = n; commit = b }) g))
-
-      store_that_goes : (i : ℕ) → Next (step.Pop segment.That i) → is_fit (vm.step l 0 v) ≡ true → W (step.Pop segment.That i)
-      store_that_goes i g fit =
-          let x = step.Pop segment.That i in
-          let p = here (record { step = x; statement = n; commit = b }) g in
-          let law = all_steps_carry (location l) l v f below s.pc p.to s.memory in
-          by_step x g fit (λ t. absurd (cc t))
-          (λ t a q.
-          let miss = law.pops_that 0 i a (at_step x g) (acts_is x g 0 (Strays (stray.Address a)) q) in
-          let small = miss.numbers in
-          pop_stray_way (location l) l key_law sound_law sound whole (map word_of (image_of l)) (image_words l sound whole few) (map_of (commits_of l) (points_of l)) 51 v s h 4 i a q miss
-          (subst (λ j. Stands (map word_of (image_of l)) s.pc (template s.pc (shape.PopAt 4 j))) (named_is i small.2) p.stands) p.fits (own (record { step = x; statement = n; commit = b }) g))
+      by_outcome : (x : Step) → Next x → (o : Outcome) → vm.step l 0 v ≡ o → Allowed (may_hear x) (may_miss x) o → is_fit o ≡ true → W x
+      by_outcome x g (Acts false v') q a fit = acting x g v' q
+      by_outcome x g (Acts true v') q a fit = hearing x g v' q
+      by_outcome x g (Strays (stray.Address k)) q a fit = missing x g k q
+      by_outcome x g (Strays stray.Values) q a fit = absurd (cc fit)
+      by_outcome x g (Strays stray.Argument) q a fit = absurd (cc fit)
+      by_outcome x g (Strays stray.Local) q a fit = absurd (cc fit)
+      by_outcome x g (Strays stray.Code) q a fit = absurd (cc fit)
+      by_outcome x g (Full w) q a fit = absurd (cc fit)
+      by_outcome x g Done q a fit = absurd a
 
       goes_by : (x : Step) → Next x → is_fit (vm.step l 0 v) ≡ true → W x
-      goes_by = by_kind (λ x. Next x → is_fit (vm.step l 0 v) ≡ true → W x) (λ x p q g fit. straight x g fit p q) load_this_goes load_that_goes store_this_goes store_that_goes
+      goes_by x g fit = by_outcome x g (vm.step l 0 v) refl (subst (Allowed (may_hear x) (may_miss x)) (acts_is x g 0 (vm.step l 0 v) refl) (outcome_allowed 0 v f below x)) fit
 
     -- where no command is left, the computer is in its endless loop
     pub at_loop : slice_get (code_in l f.function) f.place ≡ None → f.function ≡ None → place_of (location l) v.frames ≡ 51
@@ -270,15 +189,15 @@ module _ (l : Linked) (sound : IsSound l) (whole : l.bare ≡ false) (few : leng
         by_function (Some k) q = absurd (no_code g k q fit)
 
     frame_goes : (o : Option Code) → slice_get (code_in l f.function) f.place ≡ o → is_fit (vm.step l 0 v) ≡ true
-        → Way (vm_system l) (hack_system (map word_of (image_of l)) (map_of (commits_of l) (points_of l)) 51) (λ z. 1) (StandsFor (location l) l) v (vm_cost l v) [] s
+        → Way (vm_system l) (hack_system (map word_of (image_of l)) (map_of (commits_of l) (points_of l)) 51) (λ z. 1) (StandsFor (location l) l) v (vm_cost most_steps l v) [] s
     frame_goes (Some c) g fit =
-        let cost : vm_cost l v ≡ command_words c.step = ap (λ fs. cost_of (next_of l fs)) e ∙ ap cost_of g in
+        let cost : vm_cost most_steps l v ≡ most_steps c.step = ap (λ fs. cost_of most_steps (next_of l fs)) e ∙ ap (cost_of most_steps) g in
         subst (λ m. Way (vm_system l) (hack_system (map word_of (image_of l)) (map_of (commits_of l) (points_of l)) 51) (λ z. 1) (StandsFor (location l) l) v m [] s) (sym cost) (goes_by c.statement c.commit c.step g fit)
     frame_goes None g fit = by_function f.function refl
       where
-        by_function : (function : Option ℕ) → f.function ≡ function → Way (vm_system l) (hack_system (map word_of (image_of l)) (map_of (commits_of l) (points_of l)) 51) (λ z. 1) (StandsFor (location l) l) v (vm_cost l v) [] s
+        by_function : (function : Option ℕ) → f.function ≡ function → Way (vm_system l) (hack_system (map word_of (image_of l)) (map_of (commits_of l) (points_of l)) 51) (λ z. 1) (StandsFor (location l) l) v (vm_cost most_steps l v) [] s
         by_function None q =
-            let cost : vm_cost l v ≡ 1 = ap (λ fs. cost_of (next_of l fs)) e ∙ ap cost_of g in
+            let cost : vm_cost most_steps l v ≡ 1 = ap (λ fs. cost_of most_steps (next_of l fs)) e ∙ ap (cost_of most_steps) g in
             subst (λ m. Way (vm_system l) (hack_system (map word_of (image_of l)) (map_of (commits_of l) (points_of l)) 51) (λ z. 1) (StandsFor (location l) l) v m [] s) (sym cost)
             (done_way (location l) l key_law sound_law sound whole (map word_of (image_of l)) (image_words l sound whole few) (map_of (commits_of l) (points_of l)) 51 v s h (done_is g q) (at_loop g q) (inl (done_point g q)))
         by_function (Some k) q = absurd (no_code g k q fit)
@@ -290,14 +209,14 @@ module _ (l : Linked) (sound : IsSound l) (whole : l.bare ≡ false) (few : leng
       by_frames [] e = absurd (subst (AreSoundFrames l) e h.sound.frames)
       by_frames (f ∷ below) e = frame_point v s h f below e (slice_get (code_in l f.function) f.place) refl fit
 
-  goes : (v : State) (s : Machine) → StandsFor (location l) l v s → is_fit (vm.step l 0 v) ≡ true → Way (vm_system l) (hack_system (map word_of (image_of l)) (map_of (commits_of l) (points_of l)) 51) (λ z. 1) (StandsFor (location l) l) v (vm_cost l v) [] s
+  goes : (v : State) (s : Machine) → StandsFor (location l) l v s → is_fit (vm.step l 0 v) ≡ true → Way (vm_system l) (hack_system (map word_of (image_of l)) (map_of (commits_of l) (points_of l)) 51) (λ z. 1) (StandsFor (location l) l) v (vm_cost most_steps l v) [] s
   goes v s h fit = by_frames v.frames refl
     where
-      by_frames : (fs : List Frame) → v.frames ≡ fs → Way (vm_system l) (hack_system (map word_of (image_of l)) (map_of (commits_of l) (points_of l)) 51) (λ z. 1) (StandsFor (location l) l) v (vm_cost l v) [] s
+      by_frames : (fs : List Frame) → v.frames ≡ fs → Way (vm_system l) (hack_system (map word_of (image_of l)) (map_of (commits_of l) (points_of l)) 51) (λ z. 1) (StandsFor (location l) l) v (vm_cost most_steps l v) [] s
       by_frames [] e = absurd (subst (AreSoundFrames l) e h.sound.frames)
       by_frames (f ∷ below) e = frame_goes v s h f below e (slice_get (code_in l f.function) f.place) refl fit
 
-  pub simulates : Simulates (vm_system l) (hack_system (map word_of (image_of l)) (map_of (commits_of l) (points_of l)) 51) (λ z. 1) (StandsFor (location l) l) (vm_cost l)
+  pub simulates : Simulates (vm_system l) (hack_system (map word_of (image_of l)) (map_of (commits_of l) (points_of l)) 51) (λ z. 1) (StandsFor (location l) l) (vm_cost most_steps l)
   simulates = record { point = point_same; goes = goes }
 
   opens_more : (n m : ℕ) (s : Machine) → n ≤ m → Opens (vm_system l) (hack_system (map word_of (image_of l)) (map_of (commits_of l) (points_of l)) 51) (λ z. 1) (StandsFor (location l) l) start n s
@@ -311,3 +230,8 @@ module _ (l : Linked) (sound : IsSound l) (whole : l.bare ≡ false) (few : leng
     opens = opens_more 4 16 hack.start (omega arith) (start_opens (location l) l sound_law refl (map word_of (image_of l)) (image_words l sound whole few) (map_of (commits_of l) (points_of l)) 51 (entry_of l) (start_stands l sound whole few)
         (λ k a. inl (start_point l sound whole few k (omega arith))) (λ k a. early_quiet l sound whole few k (omega arith) (λ q. omega arith) (λ q. omega arith)));
   }
+
+  -- the same, told by instructions
+  pub opens_so : Reaches (map word_of (image_of l)) (Quiet (map word_of (image_of l)) (IsWithin l (map word_of (image_of l)) (map_of (commits_of l) (points_of l)) start)) (StandsFor (location l) l start) 16 hack.start
+  opens_so = start_reaches (location l) l sound_law refl (map word_of (image_of l)) (IsWithin l (map word_of (image_of l)) (map_of (commits_of l) (points_of l)) start) (entry_of l) (start_stands l sound whole few)
+      (λ k a. (inl (start_point l sound whole few k (omega arith)), early_quiet l sound whole few k (omega arith) (λ q. omega arith) (λ q. omega arith)))

@@ -22,8 +22,10 @@ length_function (suc n) = let e = length_function n in omega arith
 pub length_template : (here : ℕ) (s : Shape) → length (template here s) ≡ size s
 length_template here (shape.PushConstant n) = refl
 length_template here (shape.PushAt b i) = refl
+length_template here (shape.PushFirst b) = refl
 length_template here (shape.PushWord a) = refl
 length_template here (shape.PopAt b i) = refl
+length_template here (shape.PopFirst b) = refl
 length_template here (shape.PopWord a) = refl
 length_template here shape.Add = refl
 length_template here shape.Sub = refl

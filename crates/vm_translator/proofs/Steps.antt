@@ -3,7 +3,6 @@ use Rattle.std.proofs.Common.{◌≡◌, ℕ, Option, Some, ◌+◌, ◌≤◌, 
 use Rattle.std.specs.Prelude.{nat_eq, if◌then◌else◌, replicate}
 use Rattle.machine_io.specs.declared.machine.Stray.TheVariants as stray
 use Rattle.vm_tree.specs.declared.command.Operation.{Operation}
-use Rattle.vm_tree.specs.declared.command.Segment.{Segment}
 use Rattle.vm_link.specs.declared.linked.Step.{Step}
 use Rattle.vm_link.specs.declared.linked.Step.TheVariants as step
 use Rattle.vm_link.specs.declared.linked.Linked.{Linked}
@@ -14,7 +13,7 @@ use Rattle.vm_machine.specs.State.{Frame, State, words_in_use}
 use Rattle.vm_machine.specs.Step.{Acts, fitted, goes, after, act, on_top, pop, call, called, begin, return}
 use Rattle.vm_translator.specs.Shapes.{shape_of}
 use Rattle.vm_translator.specs.Carries.{Carries, IsStep}
-use Rattle.vm_translator.proofs.Clamped.{plain_of, plain_same}
+use Rattle.vm_translator.proofs.Clamped.{plain_of, plain_same, push_next, pop_next}
 use Rattle.std.proofs.lemmas.List.{length-reverse, length-take-le, length-drop}
 use Rattle.vm_translator.proofs.Frames.{inner_of, left_words, dropped_same, moved_same}
 use Rattle.vm_translator.proofs.Calls.{length-copies, called_same, begun_same, links, return_address, returned_same}
@@ -138,16 +137,10 @@ module _ (address : Option ℕ → ℕ → ℕ) (l : Linked) (v : State) (f : Fr
     where
       plain_operate : (o : Operation) → (here + size (shape_of to (step.Operate o))) % 32768 ≡ address f.function (f.place + 1) → next (plain_of to (step.Operate o)) here m ≡ address f.function (f.place + 1)
       plain_operate o e = grind arith
-  plainly key (step.Push g i) v' s acts = segment_push_carries address l v f below m s.frames s.sound s.memory s.words here key g i v' (plain_push g s.after) acts
-    where
-      plain_push : (g : Segment) → (here + size (shape_of to (step.Push g i))) % 32768 ≡ address f.function (f.place + 1) → next (plain_of to (step.Push g i)) here m ≡ address f.function (f.place + 1)
-      plain_push g e = grind arith
+  plainly key (step.Push g i) v' s acts = segment_push_carries address l v f below m s.frames s.sound s.memory s.words here key g i v' (sym (push_next g i here m) ∙ s.after) acts
   plainly key (step.Pop g i) v' s acts =
       let one = top_case f.values (λ w values. pop g i v f below w values) false v' acts in
-      segment_pop_carries address l v f below m s.frames s.sound s.memory s.words here one.0 one.1 one.2 g i v' (plain_pop g s.after) one.3
-    where
-      plain_pop : (g : Segment) → (here + size (shape_of to (step.Pop g i))) % 32768 ≡ address f.function (f.place + 1) → next (plain_of to (step.Pop g i)) here m ≡ address f.function (f.place + 1)
-      plain_pop g e = grind arith
+      segment_pop_carries address l v f below m s.frames s.sound s.memory s.words here one.0 one.1 one.2 g i v' (sym (pop_next g i here m) ∙ s.after) one.3
   plainly key (step.Goto p) v' s acts = goto_carries p v' s acts
   plainly key (step.IfGoto p) v' s acts = if_goto_carries p v' s acts
   plainly key (step.Function n) v' s acts = begin_carries n below f.locals f.values v' refl refl refl s acts

@@ -8,17 +8,19 @@ use Rattle.vm_link.specs.declared.linked.Step.{Step}
 use Rattle.vm_link.specs.declared.linked.Step.TheVariants as step
 use Rattle.vm_link.specs.declared.linked.Code.{Code}
 use Rattle.vm_link.specs.declared.linked.LinkedFunction.{LinkedFunction}
-use Rattle.hack_blocks.specs.Templates.{size, budget}
-use Rattle.vm_translator.specs.Shapes.{operated, pushed, popped, shape_of, step_size, step_budget}
+use Rattle.hack_blocks.specs.Templates.{size}
+use Rattle.hack_blocks.specs.Budgets.{operation_words, most_words, most_steps}
+use Rattle.hack_blocks.proofs.Budgets.{takes_steps_as_words}
+use Rattle.vm_translator.specs.Shapes.{push_from, pop_to, operated, pushed, popped, shape_of, step_size}
 use Rattle.vm_translator.specs.Places.{words_of, words_in, code_at, address}
 use Rattle.vm_translator.specs.Image.{budget_in, budget_from}
 
--- a size between one and the budget
+-- a size between one and the most
 record IsBetween (n m : ℕ) : Type 0 where
   some : 0 < n
   within : n ≤ m
 
-operation_between : (o : Operation) → IsBetween (size (operated o)) (budget (operated o))
+operation_between : (o : Operation) → IsBetween (size (operated o)) (operation_words o)
 operation_between operation.Add = record { some = omega arith; within = omega arith }
 operation_between operation.Sub = record { some = omega arith; within = omega arith }
 operation_between operation.Neg = record { some = omega arith; within = omega arith }
@@ -29,27 +31,35 @@ operation_between operation.And = record { some = omega arith; within = omega ar
 operation_between operation.Or = record { some = omega arith; within = omega arith }
 operation_between operation.Not = record { some = omega arith; within = omega arith }
 
-push_between : (g : Segment) (i : ℕ) → IsBetween (size (pushed g i)) (budget (pushed g i))
-push_between segment.Argument i = record { some = omega arith; within = omega arith }
-push_between segment.Local i = record { some = omega arith; within = omega arith }
+from_between : (base i : ℕ) → IsBetween (size (push_from base i)) 9
+from_between base zero = record { some = omega arith; within = omega arith }
+from_between base (suc i) = record { some = omega arith; within = omega arith }
+
+to_between : (base i : ℕ) → IsBetween (size (pop_to base i)) 12
+to_between base zero = record { some = omega arith; within = omega arith }
+to_between base (suc i) = record { some = omega arith; within = omega arith }
+
+push_between : (g : Segment) (i : ℕ) → IsBetween (size (pushed g i)) 9
+push_between segment.Argument i = from_between 2 i
+push_between segment.Local i = from_between 1 i
 push_between segment.Static i = record { some = omega arith; within = omega arith }
 push_between segment.Constant i = record { some = omega arith; within = omega arith }
-push_between segment.This i = record { some = omega arith; within = omega arith }
-push_between segment.That i = record { some = omega arith; within = omega arith }
+push_between segment.This i = from_between 3 i
+push_between segment.That i = from_between 4 i
 push_between segment.Pointer i = record { some = omega arith; within = omega arith }
 push_between segment.Temp i = record { some = omega arith; within = omega arith }
 
-pop_between : (g : Segment) (i : ℕ) → IsBetween (size (popped g i)) (budget (popped g i))
-pop_between segment.Argument i = record { some = omega arith; within = omega arith }
-pop_between segment.Local i = record { some = omega arith; within = omega arith }
+pop_between : (g : Segment) (i : ℕ) → IsBetween (size (popped g i)) 12
+pop_between segment.Argument i = to_between 2 i
+pop_between segment.Local i = to_between 1 i
 pop_between segment.Static i = record { some = omega arith; within = omega arith }
 pop_between segment.Constant i = record { some = omega arith; within = omega arith }
-pop_between segment.This i = record { some = omega arith; within = omega arith }
-pop_between segment.That i = record { some = omega arith; within = omega arith }
+pop_between segment.This i = to_between 3 i
+pop_between segment.That i = to_between 4 i
 pop_between segment.Pointer i = record { some = omega arith; within = omega arith }
 pop_between segment.Temp i = record { some = omega arith; within = omega arith }
 
-step_between : (s : Step) → IsBetween (step_size s) (step_budget s)
+step_between : (s : Step) → IsBetween (step_size s) (most_words s)
 step_between (step.Operate o) = operation_between o
 step_between (step.Push g i) = push_between g i
 step_between (step.Pop g i) = pop_between g i
@@ -72,6 +82,16 @@ size_to to (step.IfGoto p) = refl
 size_to to (step.Function n) = refl
 size_to to (step.Call f n) = refl
 size_to to step.Return = refl
+
+pub size_one : (to : ℕ) (s : Step) → 1 ≤ size (shape_of to s)
+size_one to s = let b = size_some s in let e = size_to to s in omega arith
+
+-- the instructions of a step are at most as many as it may have words, and as it may take steps
+pub size_few : (to : ℕ) (s : Step) → size (shape_of to s) ≤ most_words s
+size_few to s = let b = step_between s in let w = b.within in let e = size_to to s in omega arith
+
+pub size_quick : (to : ℕ) (s : Step) → size (shape_of to s) ≤ most_steps s
+size_quick to s = let w = size_few to s in let e = takes_steps_as_words s in omega arith
 
 pub words_within : (cs : List Code) → words_of cs ≤ budget_in cs
 words_within [] = omega arith

@@ -2,16 +2,18 @@
 -- meaning. (The book, chapters 7 and 8.)
 use Rattle.std.specs.Prelude.{◌≡◌, ◌<◌, ◌≤◌, ◌^◌, min, length, ℕ, ◌+◌, ◌-◌, ◌++◌, Bool, List, [], ◌∷◌, Option, Some, None, nat_eq, ◌&&◌, ◌||◌, not, map, unwrap_or, if◌then◌else◌}
 use Rattle.std.specs.List.{flat_map, filter_map, list_any}
+use Rattle.hack_isa.specs.Machine.{image_words}
 use Rattle.hack_isa.specs.declared.Instr.{Instr}
 use Rattle.hack_isa.specs.declared.Instr.TheVariants.{Address}
 use Rattle.outer_world.specs.declared.point.Point.{Point}
 use Rattle.vm_link.specs.declared.linked.Linked.{Linked}
 use Rattle.vm_link.specs.declared.linked.Code.{Code}
 use Rattle.vm_link.specs.declared.linked.LinkedFunction.{LinkedFunction}
-use Rattle.hack_blocks.specs.Templates.{template, start_code}
+use Rattle.hack_blocks.specs.Budgets.{most_words}
+use Rattle.hack_blocks.specs.Templates.{template, start_code, endless_loop, start_size}
 use Rattle.vm_translator.specs.declared.coded.PointRange.{PointRange}
 use Rattle.vm_translator.specs.declared.layout.Placed.{Placed}
-use Rattle.vm_translator.specs.Shapes.{shape_of, step_size, step_budget}
+use Rattle.vm_translator.specs.Shapes.{shape_of, step_size}
 use Rattle.vm_translator.specs.Places.{address_of, base_of, end_of, named, program, target_of}
 
 -- the instructions of a placed step
@@ -59,8 +61,8 @@ range_of c = record { from = c.at; to = c.at + step_size c.code.step; point = c.
 -- The start code up to its endless loop has the point 1 of the subroutine 0, the loop has the point 2.
 abbrev pub start_ranges : Linked → List PointRange
 start_ranges l =
-    if l.bare then [] else record { from = 0; to = 51; point = record { sub = 0; number = 1 } }
-    ∷ record { from = 51; to = 53; point = record { sub = 0; number = 2 } } ∷ []
+    if l.bare then [] else record { from = 0; to = endless_loop; point = record { sub = 0; number = 1 } }
+    ∷ record { from = endless_loop; to = start_size; point = record { sub = 0; number = 2 } } ∷ []
 
 abbrev pub same_point : Point → Point → Bool
 same_point p q = nat_eq p.sub q.sub && nat_eq p.number q.number
@@ -87,10 +89,10 @@ points_of l =
     let ranges = merged (start_ranges l ++ map range_of (program l)) in
     if names_end l then stretched (end_of l + 1) ranges else ranges
 
--- The budget by commands: 256 for the start and what is shared, and for each step what it may have.
+-- The budget by commands: 256 for the start and what is shared, and for each step the most words that it may have.
 abbrev pub budget_in : List Code → ℕ
 budget_in [] = 0
-budget_in (c ∷ cs) = step_budget c.step + budget_in cs
+budget_in (c ∷ cs) = most_words c.step + budget_in cs
 
 abbrev pub budget_from : List LinkedFunction → ℕ
 budget_from [] = 0
@@ -102,5 +104,5 @@ budget_of l = 256 + budget_from l.functions
 -- The image has so many words, or 2^64 - 1 where it has more, and they are more than there is room for.
 pub record IsTooLarge (l : Linked) (w : ℕ) : Type 0 where
   pub words : w ≡ min (length (image_of l)) (2 ^ 64 - 1)
-  pub over : 32768 < length (image_of l)
+  pub over : image_words < length (image_of l)
   pub within : w ≤ budget_of l

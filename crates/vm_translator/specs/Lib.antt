@@ -1,4 +1,5 @@
 pub mod Shapes
+pub mod Pieces
 pub mod Places
 pub mod Image
 pub mod Plain

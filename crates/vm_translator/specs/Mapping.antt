@@ -1,6 +1,7 @@
 -- The map of an image, as the computer sees it, and where the places of code are in the image.
 use Rattle.std.specs.Prelude.{◌≡◌, ◌<◌, ℕ, zero, suc, ◌%◌, ◌&&◌, nat_le, nat_lt, nat_eq, List, [], ◌∷◌, Option, Some, None, if◌then◌else◌}
 use Rattle.std.specs.List.{list_any}
+use Rattle.hack_blocks.specs.Templates.{endless_loop}
 use Rattle.outer_world.specs.declared.point.Point.{Point}
 use Rattle.hack_blocks.specs.Computer.{Map}
 use Rattle.vm_link.specs.declared.linked.Linked.{Linked}
@@ -25,7 +26,7 @@ Covers at (r ∷ rs) to = (r.from ≡ at) × (at < r.to) × Covers r.to rs to
 abbrev pub start_address : ℕ → ℕ
 start_address zero = 4
 start_address (suc zero) = 46
-start_address (suc (suc p)) = 51
+start_address (suc (suc p)) = endless_loop
 
 -- The address where the code of a function, or of `start`, goes on at a place. After the last word of the longest image it is 0.
 abbrev pub location : Linked → Option ℕ → ℕ → ℕ

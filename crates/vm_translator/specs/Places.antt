@@ -1,5 +1,6 @@
 -- Where each step of a linked program stands.
 use Rattle.std.specs.Prelude.{ℕ, ◌+◌, List, [], ◌∷◌, ◌++◌, option_map, slice_get, take, unwrap_or, if◌then◌else◌}
+use Rattle.hack_blocks.specs.Templates.{start_size}
 use Rattle.vm_link.specs.declared.linked.Code.{Code}
 use Rattle.vm_link.specs.declared.linked.LinkedFunction.{LinkedFunction}
 use Rattle.vm_link.specs.declared.linked.Linked.{Linked}
@@ -59,9 +60,9 @@ named base fs k next (step.Pop g i) = []
 named base fs k next (step.Function n) = []
 named base fs k next step.Return = []
 
--- The functions come after the start code, which has 53 instructions; a program that keeps its opening texts has none.
+-- The functions come after the start code; a program that keeps its opening texts has none.
 abbrev pub base_of : Linked → ℕ
-base_of l = if l.bare then 0 else 53
+base_of l = if l.bare then 0 else start_size
 
 abbrev pub program : Linked → List Placed
 program l = placed_from 0 (base_of l) l.functions

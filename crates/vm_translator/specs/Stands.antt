@@ -1,5 +1,6 @@
 -- The memory of the computer holds the state of the virtual machine. (The book, chapters 7 and 8: the mapping onto Hack.)
 use Rattle.std.specs.Prelude.{◌≡◌, ℕ, ◌+◌, ◌-◌, ◌<◌, ◌≤◌, List, [], ◌∷◌, ◌++◌, length, Option, reverse, slice_index}
+use Rattle.word16.specs.Memory.{heap, keyboard}
 use Rattle.vm_machine.specs.State.{Frame, State, words_in_use}
 
 -- these words stand in the memory from an address on
@@ -52,4 +53,4 @@ module _ (address : Option ℕ → ℕ → ℕ) where
     pub temps : (k : ℕ) → k < 8 → m (5 + k) ≡ slice_index v.temps k
     pub statics : (k : ℕ) → k < 240 → m (16 + k) ≡ slice_index v.statics k
     pub laid : Laid m v.frames
-    pub words : (k : ℕ) → 2048 ≤ k → k < 24576 → m k ≡ slice_index v.words (k - 2048)
+    pub words : (k : ℕ) → heap ≤ k → k < keyboard → m k ≡ slice_index v.words (k - heap)

@@ -1,10 +1,9 @@
 //! The instructions of a step, by its shape.
 ghost use Rattle.std.specs.Prelude.{◌≡◌, ◌≤◌, ◌<◌, ◌+◌, ◌++◌, OnOk, take};
 ghost use Rattle.hack_isa.specs.declared.Instr.{Instr};
-ghost use Rattle.hack_blocks.specs.Templates.{call_code, compare, function_code, go_back, go_to, if_go_to, join, pop_at, pop_d, pop_word, push_at, push_constant, push_d, push_word, put_result, restore, return_code, save_return, set_pointers, size, start_code, template, turn};
+ghost use Rattle.hack_blocks.specs.Templates.{call_code, compare, function_code, go_back, go_to, if_go_to, join, pop_at, pop_d, pop_first, pop_word, push_at, push_constant, push_d, push_first, push_word, put_result, restore, return_code, save_return, set_pointers, size, start_code, template, turn};
 ghost use Rattle.vm_translator.specs.Tables.{IsInLimit};
 
-use hack_blocks::Shape;
 use hack_blocks::instructions::{
     A_IS_A_MINUS_1, A_IS_D_MINUS_A, A_IS_D_PLUS_M, A_IS_M, A_IS_M_MINUS_1, AM_IS_M_MINUS_1,
     AM_IS_M_PLUS_1, D_IS_0, D_IS_1, D_IS_A, D_IS_D_MINUS_A, D_IS_D_MINUS_M, D_IS_D_PLUS_M, D_IS_M,
@@ -12,6 +11,7 @@ use hack_blocks::instructions::{
     IF_D_NOT_LESS, JUMP, M_IS_0, M_IS_D, M_IS_D_AND_M, M_IS_D_OR_M, M_IS_D_PLUS_M, M_IS_M_MINUS_D,
     M_IS_MINUS_M, M_IS_NOT_M,
 };
+use hack_blocks::{ENDLESS_LOOP, Shape};
 use hack_isa::Instr;
 use std::alloc::AllocError;
 
@@ -61,6 +61,13 @@ fn push_at(out: &mut Vec<Instr>, base: u16, index: u16) -> Result<(), AllocError
     push_d(out)
 }
 
+fn push_first(out: &mut Vec<Instr>, base: u16) -> Result<(), AllocError>
+    ensures { OnOk result (out.new.items ≡ out.old.items ++ push_first base) }
+{
+    put(out, &[Instr::Address(base), A_IS_M, D_IS_M])?;
+    push_d(out)
+}
+
 fn pop_d(out: &mut Vec<Instr>) -> Result<(), AllocError>
     ensures { OnOk result (out.new.items ≡ out.old.items ++ pop_d) }
 {
@@ -90,6 +97,13 @@ fn pop_at(out: &mut Vec<Instr>, base: u16, index: u16) -> Result<(), AllocError>
     )?;
     pop_d(out)?;
     put(out, &[Instr::Address(13), A_IS_M, M_IS_D])
+}
+
+fn pop_first(out: &mut Vec<Instr>, base: u16) -> Result<(), AllocError>
+    ensures { OnOk result (out.new.items ≡ out.old.items ++ pop_first base) }
+{
+    pop_d(out)?;
+    put(out, &[Instr::Address(base), A_IS_M, M_IS_D])
 }
 
 fn join(out: &mut Vec<Instr>, operation: Instr) -> Result<(), AllocError>
@@ -299,8 +313,10 @@ pub fn template(out: &mut Vec<Instr>, here: u16, shape: Shape) -> Result<(), All
     match shape {
         Shape::PushConstant(number) => push_constant(out, number),
         Shape::PushAt { base, index } => push_at(out, base, index),
+        Shape::PushFirst { base } => push_first(out, base),
         Shape::PushWord(address) => push_word(out, address),
         Shape::PopAt { base, index } => pop_at(out, base, index),
+        Shape::PopFirst { base } => pop_first(out, base),
         Shape::PopWord(address) => pop_word(out, address),
         Shape::Add => join(out, M_IS_D_PLUS_M),
         Shape::Sub => join(out, M_IS_M_MINUS_D),
@@ -329,5 +345,5 @@ pub fn start_code(out: &mut Vec<Instr>, entry: u16) -> Result<(), AllocError>
     )?;
     call_code(out, 46, entry, 0)?;
     pop_word(out, 5)?;
-    put(out, &[Instr::Address(51), JUMP])
+    put(out, &[Instr::Address(ENDLESS_LOOP), JUMP])
 }

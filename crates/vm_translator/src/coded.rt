@@ -3,10 +3,9 @@ ghost use Rattle.std.specs.Prelude.{◌≡◌};
 ghost use Rattle.vm_translator.specs.declared.coded.CodeFault.TheVariants.{Memory};
 
 use hack_isa::Instr;
-use outer_world::Point;
+use outer_world::{List, Point};
 use std::alloc::AllocError;
 use thiserror::Error;
-use vm_tree::List;
 
 /// Addresses that follow each other and have one control point.
 #[derive(Clone, Copy, Debug, PartialEq, Eq)]

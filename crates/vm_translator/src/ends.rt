@@ -1,10 +1,12 @@
 //! What names the end of a program's code, and how many words the program has.
 ghost use Rattle.std.specs.Prelude.{◌≡◌, ◌≤◌, ◌+◌, ◌-◌, ◌^◌, ◌<◌, ◌&&◌, not, nat_eq, length, min, unwrap_or, if◌then◌else◌};
+ghost use Rattle.hack_blocks.specs.Templates.{start_size};
 ghost use Rattle.vm_translator.specs.Places.{words_in, words_of};
 ghost use Rattle.vm_translator.specs.Tables.{IsFilled, code_names_end, functions_name_end, is_end, step_names_end};
 ghost use Rattle.vm_translator.specs.Image.{image_of, names_end};
 
 use crate::shapes::step_size;
+use hack_blocks::START_SIZE;
 use vm_link::{Code, Linked, LinkedFunction, Step};
 
 // The number of functions that are filled after one more, whose number this is.
@@ -142,9 +144,9 @@ fn count(functions: &[LinkedFunction], base: u64) -> u64
 
 /// The words of the start code, which a program that keeps its opening texts has not.
 pub fn base_of(bare: bool) -> u16
-    ensures { result ≡ (if bare then 0 else 53) }
+    ensures { result ≡ (if bare then 0 else start_size) }
 {
-    if bare { 0 } else { 53 }
+    if bare { 0 } else { START_SIZE }
 }
 
 /// The words of a program, or 2^64 - 1 where they are more.

@@ -1,8 +1,11 @@
 //! Laws of what the image of a linked program does: no code, only the statements.
 ghost use Rattle.std.specs.Prelude.{◌≡◌, ◌≤◌, false, length, map};
+ghost use Rattle.hack_isa.specs.Machine.{image_words};
+ghost use Rattle.hack_blocks.specs.Templates.{endless_loop};
 ghost use Rattle.hack_isa.specs.Table.{word_of};
 ghost use Rattle.vm_link.specs.declared.linked.Linked.{Linked};
 ghost use Rattle.vm_link.specs.Sound.{IsSound};
+ghost use Rattle.vm_translator.specs.Pieces.{PiecesFit};
 ghost use Rattle.vm_translator.specs.Image.{commits_of, image_of, points_of};
 ghost use Rattle.vm_translator.specs.Laws.{AllStepsCarry};
 ghost use Rattle.vm_translator.specs.Mapping.{map_of, Covers};
@@ -15,10 +18,16 @@ pub fn steps_carry_law()
 {}
 
 /// Law: the image of a sound linked program that has start code and fits does, with its map, what the program does. Its
-/// endless loop is at 51. The points cover each address of an image once.
+/// endless loop is at `endless_loop`. The points cover each address of an image once.
 #[tactic(auto, using(crate::proofs::Covered::covers))]
 pub fn translated_law()
-    ensures does { (l : Linked) → IsSound l → l.bare ≡ false → length (image_of l) ≤ 32768
-        → IsTranslated l (map word_of (image_of l)) (map_of (commits_of l) (points_of l)) 51 }
+    ensures does { (l : Linked) → IsSound l → l.bare ≡ false → length (image_of l) ≤ image_words
+        → IsTranslated l (map word_of (image_of l)) (map_of (commits_of l) (points_of l)) endless_loop }
     ensures covers { (l : Linked) → Covers 0 (points_of l) (length (image_of l)) }
+{}
+
+/// Law: the commands of a compiled program's pieces have at most so many words together.
+#[tactic(auto, using(crate::proofs::PieceSizes::pieces_fit))]
+pub fn pieces_law()
+    ensures { PiecesFit }
 {}

@@ -12,7 +12,7 @@ mod shapes;
 mod translating;
 
 pub use coded::{CodeFault, Coded, PointRange};
-pub use laws::{steps_carry_law, translated_law};
+pub use laws::{pieces_law, steps_carry_law, translated_law};
 pub use translating::{size_law, translate};
 
 #[cfg(test)]

@@ -1,6 +1,7 @@
 //! The commits and the control points of a program.
 ghost use Rattle.std.specs.Prelude.{◌≡◌, ◌≤◌, ◌+◌, ◌++◌, [], ◌∷◌, All, IfOk, OnOk, if◌then◌else◌};
 ghost use Rattle.std.specs.List.{filter_map};
+ghost use Rattle.hack_blocks.specs.Templates.{endless_loop, start_size};
 ghost use Rattle.vm_translator.specs.Image.{commit_of, commits_of, names_end, points_of, range_of, same_point, start_commits, start_ranges, stretched, merged};
 ghost use Rattle.vm_translator.specs.Places.{base_of, program};
 ghost use Rattle.vm_translator.specs.Shapes.{step_size};
@@ -9,6 +10,7 @@ ghost use Rattle.vm_translator.specs.Tables.{IsLayout, IsReady, added};
 use crate::PointRange;
 use crate::layout::{Layout, Placed};
 use crate::shapes::step_size;
+use hack_blocks::{ENDLESS_LOOP, START_SIZE};
 use outer_world::Point;
 use std::alloc::{AllocError, Global};
 use vm_link::Linked;
@@ -90,18 +92,18 @@ fn range_of(placed: &Placed) -> PointRange
 }
 
 fn start_points(alloc: Global, bare: bool) -> Result<Vec<PointRange>, AllocError>
-    ensures { IfOk result (λ v. v.items ≡ (if bare then [] else record { from = 0; to = 51; point = record { sub = 0; number = 1 } } ∷ record { from = 51; to = 53; point = record { sub = 0; number = 2 } } ∷ [])) }
+    ensures { IfOk result (λ v. v.items ≡ (if bare then [] else record { from = 0; to = endless_loop; point = record { sub = 0; number = 1 } } ∷ record { from = endless_loop; to = start_size; point = record { sub = 0; number = 2 } } ∷ [])) }
 {
     let mut points = Vec::new(alloc);
     if !bare {
         points.push(PointRange {
             from: 0,
-            to: 51,
+            to: ENDLESS_LOOP as u32,
             point: Point { sub: 0, number: 1 },
         })?;
         points.push(PointRange {
-            from: 51,
-            to: 53,
+            from: ENDLESS_LOOP as u32,
+            to: START_SIZE as u32,
             point: Point { sub: 0, number: 2 },
         })?;
     }

@@ -1,6 +1,7 @@
 //! The shapes of steps, and their sizes.
 ghost use Rattle.std.specs.Prelude.{◌≡◌, ◌<◌, ◌≤◌};
-ghost use Rattle.vm_translator.specs.Shapes.{named, operated, pushed, popped, shape_of, step_size};
+ghost use Rattle.hack_blocks.specs.Templates.{size};
+ghost use Rattle.vm_translator.specs.Shapes.{named, operated, push_from, pop_to, pushed, popped, shape_of, step_size};
 
 use hack_blocks::Shape;
 use vm_link::Step;
@@ -29,28 +30,44 @@ fn operated(operation: Operation) -> Shape
     }
 }
 
+// A push from a segment that begins where the register `base` points.
+fn push_from(base: u16, index: u16) -> Shape
+    ensures { result ≡ push_from base index }
+{
+    if index == 0 {
+        Shape::PushFirst { base }
+    } else {
+        Shape::PushAt {
+            base,
+            index: named(index),
+        }
+    }
+}
+
+// A pop to such a segment.
+fn pop_to(base: u16, index: u16) -> Shape
+    ensures { result ≡ pop_to base index }
+{
+    if index == 0 {
+        Shape::PopFirst { base }
+    } else {
+        Shape::PopAt {
+            base,
+            index: named(index),
+        }
+    }
+}
+
 fn pushed(segment: Segment, index: u16) -> Shape
     ensures { result ≡ pushed segment index }
 {
     match segment {
-        Segment::Argument => Shape::PushAt {
-            base: 2,
-            index: named(index),
-        },
-        Segment::Local => Shape::PushAt {
-            base: 1,
-            index: named(index),
-        },
+        Segment::Argument => push_from(2, index),
+        Segment::Local => push_from(1, index),
         Segment::Static => Shape::PushWord(named(index.saturating_add(16))),
         Segment::Constant => Shape::PushConstant(named(index)),
-        Segment::This => Shape::PushAt {
-            base: 3,
-            index: named(index),
-        },
-        Segment::That => Shape::PushAt {
-            base: 4,
-            index: named(index),
-        },
+        Segment::This => push_from(3, index),
+        Segment::That => push_from(4, index),
         Segment::Pointer => Shape::PushWord(named(index.saturating_add(3))),
         Segment::Temp => Shape::PushWord(named(index.saturating_add(5))),
     }
@@ -60,24 +77,12 @@ fn popped(segment: Segment, index: u16) -> Shape
     ensures { result ≡ popped segment index }
 {
     match segment {
-        Segment::Argument => Shape::PopAt {
-            base: 2,
-            index: named(index),
-        },
-        Segment::Local => Shape::PopAt {
-            base: 1,
-            index: named(index),
-        },
+        Segment::Argument => pop_to(2, index),
+        Segment::Local => pop_to(1, index),
         Segment::Static => Shape::PopWord(named(index.saturating_add(16))),
         Segment::Constant => Shape::PopWord(13),
-        Segment::This => Shape::PopAt {
-            base: 3,
-            index: named(index),
-        },
-        Segment::That => Shape::PopAt {
-            base: 4,
-            index: named(index),
-        },
+        Segment::This => pop_to(3, index),
+        Segment::That => pop_to(4, index),
         Segment::Pointer => Shape::PopWord(named(index.saturating_add(3))),
         Segment::Temp => Shape::PopWord(named(index.saturating_add(5))),
     }
@@ -102,6 +107,34 @@ pub fn shape_of(to: u16, step: Step) -> Shape
     }
 }
 
+// The number of a push's instructions.
+fn push_size(segment: Segment, index: u16) -> u32
+    ensures size { result ≡ size (pushed segment index) }
+    ensures some { 0 < result }
+    ensures small { result < 10 }
+{
+    match segment {
+        Segment::Argument | Segment::Local | Segment::This | Segment::That => {
+            if index == 0 { 7 } else { 9 }
+        }
+        _ => 6,
+    }
+}
+
+// The number of a pop's instructions.
+fn pop_size(segment: Segment, index: u16) -> u32
+    ensures size { result ≡ size (popped segment index) }
+    ensures some { 0 < result }
+    ensures small { result < 13 }
+{
+    match segment {
+        Segment::Argument | Segment::Local | Segment::This | Segment::That => {
+            if index == 0 { 6 } else { 12 }
+        }
+        _ => 5,
+    }
+}
+
 /// The number of a step's instructions.
 pub fn step_size(step: Step) -> u32
     ensures size { result ≡ step_size step }
@@ -112,10 +145,8 @@ pub fn step_size(step: Step) -> u32
         Step::Operate(Operation::Neg | Operation::Not) => 3,
         Step::Operate(Operation::Eq | Operation::Gt | Operation::Lt) => 38,
         Step::Operate(_) => 5,
-        Step::Push(Segment::Argument | Segment::Local | Segment::This | Segment::That, _) => 9,
-        Step::Push(_, _) => 6,
-        Step::Pop(Segment::Argument | Segment::Local | Segment::This | Segment::That, _) => 12,
-        Step::Pop(_, _) => 5,
+        Step::Push(segment, index) => push_size(segment, index),
+        Step::Pop(segment, index) => pop_size(segment, index),
         Step::Goto(_) => 2,
         Step::IfGoto(_) => 5,
         Step::Function(locals) => 4 * locals as u32 + 1,

@@ -6,12 +6,12 @@ ghost use Rattle.vm_link.specs.Sound.{IsSound};
 use super::*;
 use hack_isa::{Instr, encode};
 use hack_machine::Hack;
-use outer_world::Name;
+use outer_world::{List, Name};
 use std::alloc::Global;
 use std::test::*;
 use vm_link::{Linked, Step, link};
 use vm_machine::Vm;
-use vm_tree::{Command, File, Function, Line, List, Operation, Segment};
+use vm_tree::{Command, File, Function, Line, Operation, Segment};
 
 fn name(alloc: Global, text: &str) -> Result<Name, Fail> {
     Ok(Name::new(alloc, text).ok().ok_or("memory")?)

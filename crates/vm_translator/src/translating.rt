@@ -1,5 +1,7 @@
 //! Translating.
 ghost use Rattle.std.specs.Prelude.{◌≡◌, ◌≤◌, [], ℕ, All, IfOk, IfErr, false, length, map};
+ghost use Rattle.hack_isa.specs.Machine.{image_words};
+ghost use Rattle.hack_blocks.specs.Templates.{endless_loop};
 ghost use Rattle.hack_isa.specs.Table.{word_of};
 ghost use Rattle.vm_link.specs.declared.linked.Linked.{Linked};
 ghost use Rattle.vm_link.specs.Sound.{IsSound};
@@ -13,9 +15,10 @@ use crate::ends::{base_of, names_end, words};
 use crate::layout::lay_out;
 use crate::map::{commits, points};
 use crate::{CodeFault, Coded};
+use hack_isa::IMAGE_WORDS;
+use outer_world::List;
 use std::alloc::Global;
 use vm_link::Linked;
-use vm_tree::List;
 
 /// The code of a linked program and its map. A program that keeps its opening texts has no start code.
 pub fn translate(alloc: Global, linked: &Linked, bare: bool) -> Result<Coded, CodeFault>
@@ -25,15 +28,15 @@ pub fn translate(alloc: Global, linked: &Linked, bare: bool) -> Result<Coded, Co
     ensures commits { IfOk result (λ coded. coded.commits ≡ commits_of linked.now) }
     ensures points { IfOk result (λ coded. coded.points ≡ points_of linked.now) }
     ensures shared { IfOk result (λ coded. coded.shared ≡ []) }
-    ensures fits { IfOk result (λ coded. length (image_of linked.now) ≤ 32768) }
+    ensures fits { IfOk result (λ coded. length (image_of linked.now) ≤ image_words) }
     ensures well_formed { IfOk result (λ coded. All IsPlain coded.instrs) }
     ensures covers { IfOk result (λ coded. Covers 0 coded.points (length coded.instrs)) }
-    ensures translated { linked.now.bare ≡ false → IfOk result (λ coded. IsTranslated linked.now (map word_of coded.instrs) (map_of coded.commits coded.points) 51) }
+    ensures translated { linked.now.bare ≡ false → IfOk result (λ coded. IsTranslated linked.now (map word_of coded.instrs) (map_of coded.commits coded.points) endless_loop) }
     ensures too_large { IfErr result (λ e. (w : ℕ) → e ≡ CodeFault.TooLarge w → IsTooLarge linked.now w) }
 {
     let ends = names_end(linked);
     let words = words(linked, ends);
-    if words > 32768 {
+    if words > IMAGE_WORDS as u64 {
         return Err(CodeFault::TooLarge(words));
     }
     let layout = lay_out(alloc, linked.functions.as_slice(), base_of(bare))?;

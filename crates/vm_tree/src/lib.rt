@@ -2,12 +2,10 @@
 #![tactic(auto)]
 
 mod command;
-mod list;
 mod printing;
 mod program;
 
 pub use command::{Command, Line, Operation, Segment};
-pub use list::List;
 pub use printing::print;
 pub use program::{File, Function, Program};
 

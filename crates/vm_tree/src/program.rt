@@ -1,6 +1,6 @@
 //! Functions, files and programs.
-use crate::{Line, List};
-use outer_world::Name;
+use crate::Line;
+use outer_world::{List, Name};
 
 /// A function: its `function` line, and the lines up to the next one.
 #[derive(Drop)]

@@ -1,5 +1,5 @@
 use super::*;
-use outer_world::{MemorySink, Name, Put};
+use outer_world::{List, MemorySink, Name, Put};
 use std::alloc::Global;
 use std::test::*;
 

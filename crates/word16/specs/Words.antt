@@ -1,5 +1,5 @@
 -- Words of 16 bits: numbers below 65,536. (The book, chapter 2: two's complement, and sums modulo 2^16.)
-use Rattle.std.specs.Prelude.{ℕ, ◌+◌, ◌-◌, ◌*◌, ◌/◌, ◌%◌, ◌^◌, Bool, nat_lt, nat_eq, ℤ, pos, negsuc, if◌then◌else◌, List, [], ◌∷◌, map}
+use Rattle.std.specs.Prelude.{ℕ, ◌+◌, ◌-◌, ◌*◌, ◌/◌, ◌%◌, ◌^◌, Bool, nat_lt, nat_eq, ℤ, pos, negsuc, int_lt, if◌then◌else◌, List, [], ◌∷◌, map}
 use Rattle.std.specs.List.{range_with_len}
 
 -- sum, difference and negation modulo 65,536
@@ -19,6 +19,20 @@ word_not w = 65535 - w
 -- the signed reading of a word: w below 32,768, else w - 65,536
 abbrev pub signed : ℕ → ℤ
 signed w = if nat_lt w 32768 then pos w else negsuc (65535 - w)
+
+-- true is -1, each of its bits 1; false is 0. (Chapter 7.)
+abbrev pub truth : Bool → ℕ
+truth holds = if holds then 65535 else 0
+
+-- the comparisons, as words: equal, less, greater; their signed readings are compared as whole numbers
+abbrev pub word_eq : ℕ → ℕ → ℕ
+word_eq x y = truth (nat_eq x y)
+
+abbrev pub word_lt : ℕ → ℕ → ℕ
+word_lt x y = truth (int_lt (signed x) (signed y))
+
+abbrev pub word_gt : ℕ → ℕ → ℕ
+word_gt x y = truth (int_lt (signed y) (signed x))
 
 -- bit k of a number is set
 abbrev pub has_bit : ℕ → ℕ → Bool

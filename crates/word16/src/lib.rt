@@ -1,8 +1,12 @@
-//! Words of 16 bits: sums, comparisons and bits, by 16-bit operations. (The book, chapter 2.)
+//! Words of 16 bits: sums, comparisons and bits, by 16-bit operations, and where words stand in memory. (The book, chapter 2.)
 #![tactic(auto)]
 
 ghost use Rattle.std.specs.Prelude.{◌≡◌, ◌<◌, ◌<ℤ◌, ◌↔◌, IsTrue, bit_and, bit_or};
-ghost use Rattle.word16.specs.Words.{word_add, word_sub, word_neg, word_not, signed, has_bit, bit_list, number_of};
+ghost use Rattle.word16.specs.Words.{word_add, word_sub, word_neg, word_not, signed, truth, word_eq, word_lt, word_gt, has_bit, bit_list, number_of};
+
+mod memory;
+
+pub use memory::{HEAP, HEAP_AND_SCREEN_SIZE, KEYBOARD, SCREEN};
 
 /// The sum modulo 65,536.
 pub fn add(a: u16, b: u16) -> u16
@@ -66,6 +70,34 @@ pub fn eq(a: u16, b: u16) -> bool
     ensures { IsTrue result ↔ (a ≡ b) }
 {
     a == b
+}
+
+/// The word of a truth value: -1 for true, 0 for false.
+pub fn truth(holds: bool) -> u16
+    ensures { result ≡ truth holds }
+{
+    if holds { 65535 } else { 0 }
+}
+
+/// True, as a word, where the two words are the same.
+pub fn word_eq(a: u16, b: u16) -> u16
+    ensures { result ≡ word_eq a b }
+{
+    truth(eq(a, b))
+}
+
+/// True, as a word, where `a` is less than `b` as signed numbers.
+pub fn word_lt(a: u16, b: u16) -> u16
+    ensures { result ≡ word_lt a b }
+{
+    truth(lt(a, b))
+}
+
+/// True, as a word, where `a` is greater than `b` as signed numbers.
+pub fn word_gt(a: u16, b: u16) -> u16
+    ensures { result ≡ word_gt a b }
+{
+    truth(gt(a, b))
 }
 
 /// Bit `k` of a word; bit 0 is the lowest.

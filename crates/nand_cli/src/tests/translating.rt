@@ -139,6 +139,29 @@ fn vm_takes_files_in_order_of_name(rt: HostRuntime) -> Result<(), Fail> {
     refused(&rt, rt.alloc(), &case, "vm v --bare", line)
 }
 
+// Each of two files has its own word for `static 0`: the first file by name has the word 16.
+#[test]
+fn vm_keeps_the_statics_of_files_apart(rt: HostRuntime) -> Result<(), Fail> {
+    let alloc = rt.alloc();
+    let case = Case {
+        other: Some((
+            "v/A.vm",
+            b"function A.set 0\npush constant 3\npop static 0\npush static 0\nreturn\n",
+        )),
+        ..one_file(
+            "v/Sys.vm",
+            b"function Sys.init 0\npush constant 5\npop static 0\ncall A.set 0\npop temp 0\npush static 0\npop temp 1\nlabel END\ngoto END\n",
+        )
+    };
+    let outcome = outcome_of(alloc, &case, &["vm", "v"])?;
+    assert_eq!(rt; outcome.status, Status::Done);
+    let assembly = one_file("a.asm", outcome.out.bytes());
+    let line = "exec a.asm --cycles 2000 --from 16 --to 17";
+    done(&rt, alloc, &assembly, line, "16 3\n17 5\n")?;
+    let line = "exec a.asm --cycles 2000 --from 5 --to 6";
+    done(&rt, alloc, &assembly, line, "5 3\n6 5\n")
+}
+
 #[test]
 fn vm_refuses_code_past_its_limit(rt: HostRuntime) -> Result<(), Fail> {
     let mut text = String::from_str(rt.alloc(), "function Sys.init 0\n")?;

@@ -1,5 +1,6 @@
 use Rattle.std.proofs.Common.{rules, ap, ◌∙◌}
-use Rattle.hdl_parser.specs.Tokens.{is_name_byte, word_kind}
+use Rattle.hdl_tree.specs.Writable.{is_name_byte}
+use Rattle.hdl_parser.specs.Tokens.{word_kind}
 use Rattle.hdl_parser.proofs.Pieces.{word_taken}
 use Rattle.hdl_parser.proofs.lexer.word.Goals as goal
 

@@ -7,7 +7,7 @@ use Rattle.hdl_parser.proofs.Rows.{listing_tree-some}
 use Rattle.hdl_parser.proofs.rules.pins.Goals as goal
 
 pub returns-then-not-keyword_stands-clause-reads : goal.returns-then-not-keyword_stands-clause-reads
-returns-then-not-keyword_stands-clause-reads c = rw c.new.ensures.items (passed (sym c.if-not-keyword_stands.ensures))
+returns-then-not-keyword_stands-clause-reads c = rw c.new.ensures (passed (sym c.if-not-keyword_stands.ensures))
 
 pub returns-in_err-rest-clause-reads : goal.returns-in_err-rest-clause-reads
 returns-in_err-rest-clause-reads c =
@@ -25,4 +25,4 @@ returns-in_err-rest-2-clause-reads c =
     rw (p.1, p.2) (halt_option (sym c.if-not-keyword_stands.ensures) (halt_second c.in_ok-rest.ensures.reads (halt_second c.in_ok-pins.ensures.reads c.in_err-rest-2.ensures.reads)))
 
 pub returns-clause-reads : goal.returns-clause-reads
-returns-clause-reads c = rw (listing_tree-some pin_tree c.in_ok-pins.pins.items c.in_ok-pins.ensures.some) (taken (sym c.if-not-keyword_stands.ensures) (both c.in_ok-rest.ensures.reads (both c.in_ok-pins.ensures.reads c.in_ok-rest-2.ensures.reads)))
+returns-clause-reads c = rw (listing_tree-some pin_tree c.in_ok-pins.pins c.in_ok-pins.ensures.some) (taken (sym c.if-not-keyword_stands.ensures) (both c.in_ok-rest.ensures.reads (both c.in_ok-pins.ensures.reads c.in_ok-rest-2.ensures.reads)))

@@ -5,13 +5,13 @@ use Rattle.grammar.specs.Reading.{fault}
 use Rattle.grammar.proofs.Exits.{halt_left, halt_right}
 use Rattle.hdl_parser.proofs.rules.source.Goals as goal
 
-pub returns-in_err-wire-clause-reads : goal.returns-in_err-wire-clause-reads
-returns-in_err-wire-clause-reads c =
+pub returns-in_err-selection-clause-reads : goal.returns-in_err-selection-clause-reads
+returns-in_err-selection-clause-reads c =
     let p = err_from_is_err_and c.from_residual.result c.from_residual.ensures.1 in
-    rw (p.1, p.2) (halt_left (sym c.if-name_stands.ensures) c.in_err-wire.ensures.reads)
+    rw (p.1, p.2) (halt_left (sym c.if-name_stands.ensures) c.in_err-selection.ensures.reads)
 
 pub returns-then-name_stands-clause-reads : goal.returns-then-name_stands-clause-reads
-returns-then-name_stands-clause-reads c = left (sym c.if-name_stands.ensures) c.in_ok-wire.ensures.reads
+returns-then-name_stands-clause-reads c = left (sym c.if-name_stands.ensures) c.in_ok-selection.ensures.reads
 
 pub returns-then-not-constant_stands-clause-reads : goal.returns-then-not-constant_stands-clause-reads
 returns-then-not-constant_stands-clause-reads c = rw (c.grammar_fault.ensures, c.here.ensures) (fault (neither (sym c.if-name_stands.ensures) (sym c.if-not-constant_stands.ensures)))

@@ -23,7 +23,7 @@ add_while-add_statements-requires t c = (omega (arith, c.decreases), tt)
 pub add_statement-add_if-requires : goal.add_statement-add_if-requires
 add_statement-add_if-requires t c =
     let size_is : weight_of (the_statement c.args.s.now) ≡ suc (suc (weight_in (the_block c.in-If.holds.items) + weight_in (the_block c.in-If.fails.items))) =
-    ap (λ z. weight_of (the_statement z)) c.in-If.is ∙ ap weight_of (if_reads c.in-If.number c.in-If.condition c.in-If.holds c.in-If.fails) in
+    ap (λ z. weight_of (the_statement z)) c.in-If.is ∙ ap weight_of (if_reads c.in-If.number c.in-If.has_else c.in-If.condition c.in-If.holds c.in-If.fails) in
     let holds : weight_in (the_block c.deref.result.now) ≡ weight_in (the_block c.in-If.holds.items) = ap (λ z. weight_in (the_block z)) c.deref.ensures.value in
     let fails : weight_in (the_block c.deref-in-If.result.now) ≡ weight_in (the_block c.in-If.fails.items) = ap (λ z. weight_in (the_block z)) c.deref-in-If.ensures.value in
     (omega (arith, c.decreases, size_is, holds, fails), tt)
@@ -53,8 +53,8 @@ pub add_statement-returns-in-If : goal.add_statement-returns-in-If
 add_statement-returns-in-If t c =
     on_ok_weaker c.add_if.result
     (λ e. subst (λ s. Adds (the_around c.args.around.now) c.args.next s c.args.body.now c.add_if.new.body)
-    ((λ i. If c.in-If.number (the_expression c.in-If.condition) (the_block (c.deref.ensures.value i)) (the_block (c.deref-in-If.ensures.value i)))
-    ∙ sym (if_reads c.in-If.number c.in-If.condition c.in-If.holds c.in-If.fails) ∙ ap the_statement (sym c.in-If.is)) e)
+    ((λ i. If c.in-If.number c.in-If.has_else (the_expression c.in-If.condition) (the_block (c.deref.ensures.value i)) (the_block (c.deref-in-If.ensures.value i)))
+    ∙ sym (if_reads c.in-If.number c.in-If.has_else c.in-If.condition c.in-If.holds c.in-If.fails) ∙ ap the_statement (sym c.in-If.is)) e)
     c.add_if.ensures
 
 pub add_statement-returns-in-While : goal.add_statement-returns-in-While
@@ -68,8 +68,8 @@ add_statement-returns-in-While t c =
 pub add_if-returns : goal.add_if-returns
 add_if-returns t c =
     on_ok_weaker c.add_label-2.result
-    (λ e. adds_long (the_around c.args.around.now) c.args.next c.args.n (the_expression c.args.condition.now) (the_block c.args.holds.now) (the_block c.args.fails.now)
-    c.args.body.now _ _ c.add_statements.new.body _ c.add_statements-2.new.body _ _ (sym c.is_end.ensures ∙ c.if-is_end.false) c.in_ok-add_expression.ensures
+    (λ e. adds_long (the_around c.args.around.now) c.args.next c.args.n c.args.branches.now.has_else (the_expression c.args.condition.now) (the_block c.args.branches.now.holds.now) (the_block c.args.branches.now.fails.now)
+    c.args.body.now _ _ c.add_statements.new.body _ c.add_statements-2.new.body _ _ (sym c.no_else.ensures ∙ c.if-no_else.false) c.in_ok-add_expression.ensures
     (c.in_ok-enter_if.ensures ∙ ap (λ (z : ℕ). c.add_expression.new.lines ++ into_if c.args.n z c.args.body.now.ifs) c.first_number.ensures) refl c.in_ok-body.ensures refl c.in_ok-add_statements.ensures
     c.in_ok-enter_else.ensures refl refl c.in_ok-add_statements-2.ensures e refl refl)
     c.add_label-2.ensures

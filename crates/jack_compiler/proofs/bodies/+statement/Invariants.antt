@@ -8,7 +8,7 @@ abbrev pub invariant-add_statements-loop-index : goal.invariant-add_statements-l
 invariant-add_statements-loop-index l = GoesOn (the_around l.around) l.next (the_block l.ss) l.initial.body l.body (the_block (drop l.index l.ss))
 
 abbrev pub decreases-add_if : goal.decreases-add_if
-decreases-add_if l = suc (weight_in (the_block l.holds.now) + weight_in (the_block l.fails.now))
+decreases-add_if l = suc (weight_in (the_block l.branches.now.holds.now) + weight_in (the_block l.branches.now.fails.now))
 
 abbrev pub decreases-add_while : goal.decreases-add_while
 decreases-add_while l = suc (weight_in (the_block l.turn.now))

@@ -3,4 +3,4 @@ use Rattle.jack_compiler.proofs.Functions.{files_made}
 use Rattle.jack_compiler.proofs.program.compile.Goals as goal
 
 pub returns : goal.returns
-returns c = c.of.ensures ∙ c.in_ok-files_of.ensures ∙ files_made c.args.core.now c.others.result.now c.in_ok-functions.functions.items c.others.ensures c.in_ok-functions.ensures
+returns c = c.of.ensures ∙ files_made c.args.core.now c.others.result.now c.in_ok-files.files.items c.others.ensures c.in_ok-files.ensures

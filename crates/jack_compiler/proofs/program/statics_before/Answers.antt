@@ -15,7 +15,7 @@ loop-class-preserved c =
     let pushed = c.in_ok-push.ensures.items in
     record {
       count = ap length pushed ∙ length-append c.loop-class.before.items (c.loop-class.statics ∷ []) ∙ ap (λ z. z + 1) n;
-      sum = statics_step c.args.classes.now i _ _ _ c.loop-class-test.true c.in_ok-statics.ensures inv.sum;
+      sum = statics_step c.args.classes.now i c.class-item.result _ _ c.loop-class-test.true c.class-item.is c.in_ok-statics.ensures inv.sum;
       each = below_more _ _
           (λ k h. ap (λ z. slice_index z k) pushed ∙ index_front c.loop-class.before.items (c.loop-class.statics ∷ []) k (omega arith) ∙ inv.each k h)
           (ap (λ z. slice_index z i) pushed ∙ ap (λ (z : ℕ). slice_index (c.loop-class.before.items ++ c.loop-class.statics ∷ []) z) (sym n) ∙ index_last c.loop-class.before.items c.loop-class.statics ∙ inv.sum);

@@ -1,6 +1,8 @@
+use Rattle.scan_text.specs.View.{left}
 use Rattle.std.proofs.Common.{rules, ap, ◌∙◌}
 use Rattle.jack_lexer.specs.Cut.{is_name_byte, word_kind}
 use Rattle.jack_lexer.proofs.Pieces.{word_taken}
+use Rattle.jack_lexer.proofs.Ascii.{name_ascii}
 use Rattle.jack_lexer.proofs.lexer.word.Goals as goal
 
 pub returns : goal.returns
@@ -9,3 +11,6 @@ returns c =
     let left = c.take_while-text.ensures.left is_name_byte (λ b r lt h. search (rules, h)) in
     let place = c.take_while-text.ensures.place is_name_byte (λ b r lt h. search (rules, h)) in
     word_taken _ _ _ _ c.requires.begun c.requires.letter left place (c.word_kind-kind.ensures ∙ ap word_kind text) text c.place-place.ensures
+
+pub invariant_of-result : goal.invariant_of-result
+invariant_of-result c = record { ascii = name_ascii (left c.args.scan.now) _ (c.take_while-text.ensures.text is_name_byte (λ b r lt h. search (rules, h))) }

@@ -1,5 +1,5 @@
 -- The statics of one more class.
-use Rattle.std.proofs.Common.{◌++◌, sym, ap, ◌∙◌, take, replicate}
+use Rattle.std.proofs.Common.{◌+◌, ◌++◌, sym, ap, ◌∙◌, take, replicate}
 use Rattle.std.specs.Prelude.{sum_by}
 use Rattle.std.proofs.lemmas.List.{replicate-append-replicate}
 use Rattle.std.proofs.lemmas.List.Sums.{sum_by_more}
@@ -12,4 +12,4 @@ loop-class-preserved c =
     ∙ ap (λ l. l ++ c.in_ok-zeros.zeros.items) c.loop-class.invariant
     ∙ ap (λ l. replicate (sum_by (λ x. x.statics) before) 0 ++ l) (c.in_ok-zeros.ensures.items_if_clones_equal (λ y h. h))
     ∙ replicate-append-replicate _ _ 0
-    ∙ ap (λ n. replicate n 0) (sym (sum_by_more (λ x. x.statics) c.args.classes.now c.loop-class.class-index _ c.loop-class-test.true))
+    ∙ ap (λ n. replicate n 0) (ap (λ x. sum_by (λ y. y.statics) before + x.statics) c.class-item.is ∙ sym (sum_by_more (λ x. x.statics) c.args.classes.now c.loop-class.class-index c.class-item.result c.loop-class-test.true))

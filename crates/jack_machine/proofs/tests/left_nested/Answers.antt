@@ -1,5 +1,5 @@
 -- A value more and an operator: one is left again.
-use Rattle.std.proofs.Common.{◌≡◌, Some, List, [], ◌∷◌, ◌++◌, ap, ◌∙◌}
+use Rattle.std.proofs.Common.{◌≡◌, Some, [], ◌∷◌, ap, ◌∙◌}
 use Rattle.jack_core.specs.declared.tree.Part.TheVariants as part
 use Rattle.jack_core.specs.declared.tree.Operator.{Operator}
 use Rattle.jack_core.specs.Heights.{height}

@@ -1,5 +1,5 @@
 -- A value more.
-use Rattle.std.proofs.Common.{◌≡◌, ◌≤◌, ◌+◌, ◌-◌, Some, List, [], ◌∷◌, ◌++◌, ap, ◌∙◌, arith}
+use Rattle.std.proofs.Common.{◌≡◌, ◌≤◌, ◌+◌, ◌-◌, Some, [], ◌∷◌, ap, ◌∙◌, arith}
 use Rattle.jack_core.specs.declared.tree.Part.TheVariants as part
 use Rattle.jack_core.specs.Heights.{height}
 use Rattle.jack_core.proofs.Postfix.{height_more, height_first}

@@ -1,5 +1,5 @@
 -- An operator takes two values and leaves one.
-use Rattle.std.proofs.Common.{◌≡◌, ◌≤◌, ◌<◌, ◌+◌, ◌-◌, Some, List, [], ◌∷◌, ◌++◌, ap, ◌∙◌, arith}
+use Rattle.std.proofs.Common.{◌≡◌, ◌≤◌, ◌+◌, ◌-◌, Some, [], ◌∷◌, ap, ◌∙◌, arith}
 use Rattle.jack_core.specs.declared.tree.Part.TheVariants as part
 use Rattle.jack_core.specs.declared.tree.Operator.{Operator}
 use Rattle.jack_core.specs.Heights.{height}

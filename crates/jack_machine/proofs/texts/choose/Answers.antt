@@ -18,7 +18,7 @@ returns-in-If-clause-done c es =
     ∙ ap (λ l. joined (the_block l) kept) (c.branch_of.ensures ∙ ap (λ l. if nat_eq w 0 then l else c.deref.result.now) c.deref-in-If.ensures.value ∙ ap (λ l. if nat_eq w 0 then fails.items else l) c.deref.ensures.value)
     ∙ ap (λ t. joined t kept) (branch_is w holds.items fails.items)
     ∙ ap (λ l. joined (chosen w (the_block holds.items) (the_block fails.items)) (the_after l)) c.reserve.ensures.items
-    ∙ sym (if_written c.in-If.number c.in-If.condition holds fails es w (the_after c.args.after.now.items))
+    ∙ sym (if_written c.in-If.number c.in-If.has_else c.in-If.condition holds fails es w (the_after c.args.after.now.items))
     ∙ ap (λ t. chosen_text w (Next (written t es) (the_after c.args.after.now.items))) (sym c.in-If.is)
 
 pub returns-then-w-ne0-clause-done : goal.returns-then-w-ne0-clause-done

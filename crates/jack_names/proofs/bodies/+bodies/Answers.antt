@@ -1,6 +1,8 @@
 use Rattle.std.proofs.Common.{◌≡◌, ◌+◌, [], ◌∷◌, ◌++◌, ℕ, map, take, sym, ap, ◌∙◌, arith}
+use Rattle.std.specs.Prelude.{is_some}
 use Rattle.std.proofs.lemmas.List.{map-append, take_more}
 use Rattle.jack_meaning.specs.Text.{If, While, text_of}
+use Rattle.jack_core.specs.Reading.{the_expression}
 use Rattle.jack_core.specs.Texts.{the_statement, the_block}
 use Rattle.jack_core.proofs.Blocks.{if_reads, while_reads}
 use Rattle.jack_names.specs.Sizes.{size, sizes, else_size}
@@ -34,10 +36,12 @@ statement_meant-returns-in_ok-fails-in-If-clause-text t c =
     let e = c.in-If.condition in
     let a = c.in-If.holds in
     let middle : c.in_ok-holds-in-If.middle ≡ n + 1 + sizes a.items = c.in_ok-holds-in-If.ensures.next ∙ ap (λ ss. n + 1 + sizes ss) c.deref.ensures.value in
-    if_reads n c.in_ok-condition-in-If.condition c.in_ok-holds-in-If.holds c.in_ok-fails-in-If.fails
-    ∙ ap (λ x. If n x (the_block c.in_ok-holds-in-If.holds.items) (the_block c.in_ok-fails-in-If.fails.items)) c.in_ok-condition-in-If.ensures
-    ∙ ap (λ x. If n (exp_meant s e) (text_of x) (the_block c.in_ok-fails-in-If.fails.items)) (c.in_ok-holds-in-If.ensures.text ∙ ap (statements_meant s (n + 1)) c.deref.ensures.value)
-    ∙ ap (λ x. If n (exp_meant s e) (text_of (statements_meant s (n + 1) a.items)) x) (c.in_ok-fails-in-If.ensures.text ∙ ap (λ (k : ℕ). else_meant s k c.in-If.fails) middle)
+    let o = is_some c.in-If.fails in
+    if_reads n c.is_some-has_else.result c.in_ok-condition-in-If.condition c.in_ok-holds-in-If.holds c.in_ok-fails-in-If.fails
+    ∙ ap (λ x. If n x (the_expression c.in_ok-condition-in-If.condition) (the_block c.in_ok-holds-in-If.holds.items) (the_block c.in_ok-fails-in-If.fails.items)) c.is_some-has_else.ensures
+    ∙ ap (λ x. If n o x (the_block c.in_ok-holds-in-If.holds.items) (the_block c.in_ok-fails-in-If.fails.items)) c.in_ok-condition-in-If.ensures
+    ∙ ap (λ x. If n o (exp_meant s e) (text_of x) (the_block c.in_ok-fails-in-If.fails.items)) (c.in_ok-holds-in-If.ensures.text ∙ ap (statements_meant s (n + 1)) c.deref.ensures.value)
+    ∙ ap (λ x. If n o (exp_meant s e) (text_of (statements_meant s (n + 1) a.items)) x) (c.in_ok-fails-in-If.ensures.text ∙ ap (λ (k : ℕ). else_meant s k c.in-If.fails) middle)
     ∙ sym (if_means s n c.in-If.field-0 e a c.in-If.fails) ∙ ap (statement_meant s n) (sym c.in-If.is)
 
 pub statement_meant-returns-in_ok-fails-in-If-clause-next : goal.statement_meant-returns-in_ok-fails-in-If-clause-next

@@ -57,7 +57,7 @@ push_call-returns t c =
     let old = c.args.parts.now.items in
     let new = c.push_part.new.parts.items in
     let args = map (exp_meant s) c.deref.result.now in
-    let number : c.called_number-number.result ≡ called_number s k.name.text.items (callee s k.object) = cc in
+    let number : c.called_number-number.result ≡ called_number s k.name.text (callee s k.object) = cc in
     let count : c.in_ok-objects.objects + c.len.result ≡ length (object_meant s k.object) + length args = omega (arith, c.in_ok-objects.ensures.count, c.len.ensures, c.deref.ensures.len, length-map c.deref.result.now (exp_meant s), ap length c.deref.ensures.value) in
     let same : invoked s k.object k.name (arguments_meant s c.deref.result.now) ≡ call_meant s c.args.call.now = ap (λ es. invoked s k.object k.name (arguments_meant s es)) c.deref.ensures.value ∙ sym (call_means s c.args.call.now) in
     on_ok_weaker c.push_part.result

@@ -45,7 +45,7 @@ returns-clause-program c =
     let os = c.args.os.now in
     let sy = the_symbols c.in_ok-names.names in
     let subroutines : map the_subroutine c.resolve_all.new.subroutines.items ≡ start_subroutine ∷ all_subroutines_meant (symbols_of (own ++ os)) own os =
-    c.in_ok-resolve_all.ensures.program ∙ ap (λ l. l ++ all_subroutines_meant sy own os) c.in_ok-subroutines.ensures ∙ ap (λ s. start_subroutine ∷ all_subroutines_meant s own os) c.in_ok-names.ensures in
+    c.in_ok-resolve_all.ensures.program ∙ ap (λ l. l ++ all_subroutines_meant sy own os) c.in_ok-subroutines.ensures.program ∙ ap (λ s. start_subroutine ∷ all_subroutines_meant s own os) c.in_ok-names.ensures in
     let init : c.number_by.result ≡ number_by (found_subroutine (symbols_of (own ++ os)) (codes "Sys") (codes "init")) =
     c.number_by.ensures ∙ ap number_by (c.find.ensures ∙ ap (λ x. found_subroutine sy x c.as_slice-2.result.now) c.as_slice.ensures ∙ ap (found_subroutine sy (codes "Sys")) c.as_slice-2.ensures ∙ ap (λ s. found_subroutine s (codes "Sys") (codes "init")) c.in_ok-names.ensures) in
-    λ i. record { classes = c.in_ok-all_classes.ensures i; subroutines = subroutines i; init = init i }
+    λ i. record { classes = c.in_ok-all_classes.ensures.means i; subroutines = subroutines i; init = init i }

@@ -6,42 +6,42 @@ use Rattle.vm_translator.proofs.PlainLemmas.{plain_image}
 use Rattle.vm_translator.proofs.Instructed.{covers_as, translated_as}
 use Rattle.vm_translator.proofs.translating.translate.Goals as goal
 
-pub returns-then-words-gt32768-clause-too_large : goal.returns-then-words-gt32768-clause-too_large
-returns-then-words-gt32768-clause-too_large c = λ w e.
+pub returns-then-words-clause-too_large : goal.returns-then-words-clause-too_large
+returns-then-words-clause-too_large c = λ w e.
     let s : c.words-words.result ≡ w = cc in
-    too_large c.args.linked.now w (sym s ∙ c.words-words.ensures) (let t = c.if-words-gt32768.true in omega arith)
+    too_large c.args.linked.now w (sym s ∙ c.words-words.ensures) (let t = c.if-words.true in omega arith)
 
 pub lay_out-requires : goal.lay_out-requires
 lay_out-requires c =
     let l = c.args.linked.now in
-    let f = functions_fit l (fits l c.words-words.result c.words-words.ensures c.if-words-gt32768.false) in
+    let f = functions_fit l (fits l c.words-words.result c.words-words.ensures c.if-words.false) in
     rw (c.base_of.ensures, c.requires.bare, c.as_slice.ensures) f
 
 pub instrs-requires-clause-ready : goal.instrs-requires-clause-ready
 instrs-requires-clause-ready c =
     let l = c.args.linked.now in
-    ready_in l c.in_ok-layout.layout c.base_of.result c.args.bare c.as_slice.result.now c.requires.sound (fits l c.words-words.result c.words-words.ensures c.if-words-gt32768.false)
+    ready_in l c.in_ok-layout.layout c.base_of.result c.args.bare c.as_slice.result.now c.requires.sound (fits l c.words-words.result c.words-words.ensures c.if-words.false)
     c.requires.bare c.base_of.ensures c.as_slice.ensures c.in_ok-layout.ensures
 
 pub commits-requires-clause-ready : goal.commits-requires-clause-ready
 commits-requires-clause-ready c =
     let l = c.args.linked.now in
-    ready_in l c.in_ok-layout.layout c.base_of.result c.args.bare c.as_slice.result.now c.requires.sound (fits l c.words-words.result c.words-words.ensures c.if-words-gt32768.false)
+    ready_in l c.in_ok-layout.layout c.base_of.result c.args.bare c.as_slice.result.now c.requires.sound (fits l c.words-words.result c.words-words.ensures c.if-words.false)
     c.requires.bare c.base_of.ensures c.as_slice.ensures c.in_ok-layout.ensures
 
 pub points-requires-clause-ready : goal.points-requires-clause-ready
 points-requires-clause-ready c =
     let l = c.args.linked.now in
-    ready_in l c.in_ok-layout.layout c.base_of.result c.args.bare c.as_slice.result.now c.requires.sound (fits l c.words-words.result c.words-words.ensures c.if-words-gt32768.false)
+    ready_in l c.in_ok-layout.layout c.base_of.result c.args.bare c.as_slice.result.now c.requires.sound (fits l c.words-words.result c.words-words.ensures c.if-words.false)
     c.requires.bare c.base_of.ensures c.as_slice.ensures c.in_ok-layout.ensures
 
 pub returns-clause-fits : goal.returns-clause-fits
-returns-clause-fits c = fits c.args.linked.now c.words-words.result c.words-words.ensures c.if-words-gt32768.false
+returns-clause-fits c = fits c.args.linked.now c.words-words.result c.words-words.ensures c.if-words.false
 
 pub returns-clause-well_formed : goal.returns-clause-well_formed
 returns-clause-well_formed c =
     let l = c.args.linked.now in
-    let f = fits l c.words-words.result c.words-words.ensures c.if-words-gt32768.false in
+    let f = fits l c.words-words.result c.words-words.ensures c.if-words.false in
     subst (All IsPlain) (sym (c.of.ensures ∙ c.in_ok-instrs.ensures)) (plain_image l f (all_ready l f c.requires.sound))
 
 pub returns-clause-covers : goal.returns-clause-covers
@@ -50,5 +50,5 @@ returns-clause-covers c = covers_as c.args.linked.now c.of.result c.of-3.result 
 pub returns-clause-translated : goal.returns-clause-translated
 returns-clause-translated c =
     let l = c.args.linked.now in
-    let f = fits l c.words-words.result c.words-words.ensures c.if-words-gt32768.false in
+    let f = fits l c.words-words.result c.words-words.ensures c.if-words.false in
     λ whole. translated_as l c.of.result c.of-2.result c.of-3.result c.requires.sound f (c.of.ensures ∙ c.in_ok-instrs.ensures) (c.of-2.ensures ∙ c.in_ok-commits.ensures) (c.of-3.ensures ∙ c.in_ok-points.ensures) whole

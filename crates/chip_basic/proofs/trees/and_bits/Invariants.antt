@@ -1,0 +1,7 @@
+use Rattle.std.proofs.Common.{◌≡◌}
+use Rattle.chip_basic.specs.Hdl.{each}
+use Rattle.chip_basic.specs.Trees.{and_bit}
+use Rattle.chip_basic.proofs.trees.and_bits.Given as goal
+
+abbrev pub invariant-loop-bit : goal.invariant-loop-bit
+invariant-loop-bit l = l.parts ≡ each l.bit and_bit

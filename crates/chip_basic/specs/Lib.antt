@@ -1,0 +1,4 @@
+pub mod Hdl
+pub mod Trees
+pub mod Laws
+pub mod Inner

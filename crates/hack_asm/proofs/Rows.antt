@@ -1,0 +1,126 @@
+-- The rows that the assembler looks up by letters are those of the texts.
+use Rattle.std.proofs.Common.{◌≡◌, refl}
+use Rattle.hack_asm.specs.declared.token.Letter.TheVariants.{Zero, One, A, D, M}
+use Rattle.hack_asm.specs.declared.token.Operator.TheVariants.{Plus, Minus, And, Or}
+use Rattle.hack_asm.specs.declared.lines.Prefix.TheVariants as prefix
+use Rattle.hack_asm.specs.declared.lines.Comp.{Comp}
+use Rattle.hack_asm.specs.declared.lines.Comp.TheVariants as comp
+use Rattle.hack_asm.specs.Comps.{meaning}
+use Rattle.hack_asm.specs.Inner.Rows.{comp_row}
+
+pub found : (c : Comp) → comp_row c ≡ meaning c
+found (comp.Alone Zero) = refl
+found (comp.Alone One) = refl
+found (comp.Alone A) = refl
+found (comp.Alone D) = refl
+found (comp.Alone M) = refl
+found (comp.Under prefix.Minus Zero) = refl
+found (comp.Under prefix.Minus One) = refl
+found (comp.Under prefix.Minus A) = refl
+found (comp.Under prefix.Minus D) = refl
+found (comp.Under prefix.Minus M) = refl
+found (comp.Under prefix.Not Zero) = refl
+found (comp.Under prefix.Not One) = refl
+found (comp.Under prefix.Not A) = refl
+found (comp.Under prefix.Not D) = refl
+found (comp.Under prefix.Not M) = refl
+found (comp.Pair Zero Plus Zero) = refl
+found (comp.Pair Zero Plus One) = refl
+found (comp.Pair Zero Plus A) = refl
+found (comp.Pair Zero Plus D) = refl
+found (comp.Pair Zero Plus M) = refl
+found (comp.Pair One Plus Zero) = refl
+found (comp.Pair One Plus One) = refl
+found (comp.Pair One Plus A) = refl
+found (comp.Pair One Plus D) = refl
+found (comp.Pair One Plus M) = refl
+found (comp.Pair A Plus Zero) = refl
+found (comp.Pair A Plus One) = refl
+found (comp.Pair A Plus A) = refl
+found (comp.Pair A Plus D) = refl
+found (comp.Pair A Plus M) = refl
+found (comp.Pair D Plus Zero) = refl
+found (comp.Pair D Plus One) = refl
+found (comp.Pair D Plus A) = refl
+found (comp.Pair D Plus D) = refl
+found (comp.Pair D Plus M) = refl
+found (comp.Pair M Plus Zero) = refl
+found (comp.Pair M Plus One) = refl
+found (comp.Pair M Plus A) = refl
+found (comp.Pair M Plus D) = refl
+found (comp.Pair M Plus M) = refl
+found (comp.Pair Zero Minus Zero) = refl
+found (comp.Pair Zero Minus One) = refl
+found (comp.Pair Zero Minus A) = refl
+found (comp.Pair Zero Minus D) = refl
+found (comp.Pair Zero Minus M) = refl
+found (comp.Pair One Minus Zero) = refl
+found (comp.Pair One Minus One) = refl
+found (comp.Pair One Minus A) = refl
+found (comp.Pair One Minus D) = refl
+found (comp.Pair One Minus M) = refl
+found (comp.Pair A Minus Zero) = refl
+found (comp.Pair A Minus One) = refl
+found (comp.Pair A Minus A) = refl
+found (comp.Pair A Minus D) = refl
+found (comp.Pair A Minus M) = refl
+found (comp.Pair D Minus Zero) = refl
+found (comp.Pair D Minus One) = refl
+found (comp.Pair D Minus A) = refl
+found (comp.Pair D Minus D) = refl
+found (comp.Pair D Minus M) = refl
+found (comp.Pair M Minus Zero) = refl
+found (comp.Pair M Minus One) = refl
+found (comp.Pair M Minus A) = refl
+found (comp.Pair M Minus D) = refl
+found (comp.Pair M Minus M) = refl
+found (comp.Pair Zero And Zero) = refl
+found (comp.Pair Zero And One) = refl
+found (comp.Pair Zero And A) = refl
+found (comp.Pair Zero And D) = refl
+found (comp.Pair Zero And M) = refl
+found (comp.Pair One And Zero) = refl
+found (comp.Pair One And One) = refl
+found (comp.Pair One And A) = refl
+found (comp.Pair One And D) = refl
+found (comp.Pair One And M) = refl
+found (comp.Pair A And Zero) = refl
+found (comp.Pair A And One) = refl
+found (comp.Pair A And A) = refl
+found (comp.Pair A And D) = refl
+found (comp.Pair A And M) = refl
+found (comp.Pair D And Zero) = refl
+found (comp.Pair D And One) = refl
+found (comp.Pair D And A) = refl
+found (comp.Pair D And D) = refl
+found (comp.Pair D And M) = refl
+found (comp.Pair M And Zero) = refl
+found (comp.Pair M And One) = refl
+found (comp.Pair M And A) = refl
+found (comp.Pair M And D) = refl
+found (comp.Pair M And M) = refl
+found (comp.Pair Zero Or Zero) = refl
+found (comp.Pair Zero Or One) = refl
+found (comp.Pair Zero Or A) = refl
+found (comp.Pair Zero Or D) = refl
+found (comp.Pair Zero Or M) = refl
+found (comp.Pair One Or Zero) = refl
+found (comp.Pair One Or One) = refl
+found (comp.Pair One Or A) = refl
+found (comp.Pair One Or D) = refl
+found (comp.Pair One Or M) = refl
+found (comp.Pair A Or Zero) = refl
+found (comp.Pair A Or One) = refl
+found (comp.Pair A Or A) = refl
+found (comp.Pair A Or D) = refl
+found (comp.Pair A Or M) = refl
+found (comp.Pair D Or Zero) = refl
+found (comp.Pair D Or One) = refl
+found (comp.Pair D Or A) = refl
+found (comp.Pair D Or D) = refl
+found (comp.Pair D Or M) = refl
+found (comp.Pair M Or Zero) = refl
+found (comp.Pair M Or One) = refl
+found (comp.Pair M Or A) = refl
+found (comp.Pair M Or D) = refl
+found (comp.Pair M Or M) = refl

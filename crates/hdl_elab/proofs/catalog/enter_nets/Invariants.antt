@@ -1,0 +1,12 @@
+use Rattle.std.proofs.Common.{◌≡◌, ℕ, ◌++◌, List, length}
+use Rattle.hdl_elab.specs.Tables.{found}
+use Rattle.hdl_elab.specs.Inner.Entered.{table_of, Finds}
+use Rattle.hdl_elab.specs.declared.check.Port.{Port}
+use Rattle.hdl_elab.specs.Faults.{widths_of, drivers_by}
+use Rattle.hdl_elab.proofs.catalog.enter_nets.Given as goal
+
+abbrev pub invariant-loop-connection : goal.invariant-loop-connection
+invariant-loop-connection l = (inner : List (List ℕ × Port)) (x : List ℕ) → Finds l.ports inner → found x (table_of l.nets ++ widths_of (drivers_by inner l.rest)) ≡ found x (table_of l.fn.nets ++ widths_of (drivers_by inner l.connections))
+
+abbrev pub decreases-loop-connection : goal.decreases-loop-connection
+decreases-loop-connection l = length l.rest

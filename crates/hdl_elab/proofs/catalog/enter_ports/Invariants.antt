@@ -1,0 +1,12 @@
+use Rattle.std.proofs.Common.{◌≡◌, ℕ, ◌++◌, List, length}
+use Rattle.hdl_elab.specs.Tables.{found}
+use Rattle.hdl_elab.specs.Inner.Entered.{table_of, Finds}
+use Rattle.hdl_elab.specs.declared.check.Port.{Port}
+use Rattle.hdl_elab.specs.Faults.{ports_in}
+use Rattle.hdl_elab.proofs.catalog.enter_ports.Given as goal
+
+abbrev pub invariant-loop-pin : goal.invariant-loop-pin
+invariant-loop-pin l = (x : List ℕ) → found x (table_of l.table ++ ports_in l.input l.rest) ≡ found x (table_of l.fn.table ++ ports_in l.input l.pins)
+
+abbrev pub decreases-loop-pin : goal.decreases-loop-pin
+decreases-loop-pin l = length l.rest

@@ -1,0 +1,5 @@
+pub mod Entered
+pub mod Marked
+pub mod Checked
+pub mod Seen
+pub mod Progress

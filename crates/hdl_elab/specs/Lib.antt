@@ -1,0 +1,5 @@
+pub mod Tables
+pub mod Faults
+pub mod Locations
+pub mod Whole
+pub mod Inner

@@ -1,0 +1,5 @@
+pub mod Plans
+pub mod Planned
+pub mod Loops
+pub mod Ways
+pub mod Nets

@@ -1,0 +1,7 @@
+use Rattle.std.proofs.Common.{map, take}
+use Rattle.jack_core.specs.Texts.{the_class, the_subroutine, names_of, class_names_of}
+use Rattle.jack_compiler.specs.Added.{AreFiles}
+use Rattle.jack_compiler.proofs.program.with_functions.Given as goal
+
+abbrev pub invariant-loop-index : goal.invariant-loop-index
+invariant-loop-index l = AreFiles (map the_class l.core.classes.items) (names_of l.core) (class_names_of l.core) (map the_subroutine (take l.index l.others)) l.files.items

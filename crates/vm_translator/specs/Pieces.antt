@@ -1,0 +1,43 @@
+-- How many words the commands of a compiled program's pieces have together. (The book, chapter 11: the commands of each piece of a program.)
+use Rattle.std.specs.Prelude.{ℕ, ◌+◌, ◌*◌, ◌≤◌, List, [], ◌∷◌}
+use Rattle.vm_tree.specs.declared.command.Operation.{Operation}
+use Rattle.vm_tree.specs.declared.command.Operation.TheVariants as operation
+use Rattle.vm_tree.specs.declared.command.Segment.{Segment}
+use Rattle.vm_tree.specs.declared.command.Segment.TheVariants as segment
+use Rattle.vm_link.specs.declared.linked.Step.{Step}
+use Rattle.vm_link.specs.declared.linked.Step.TheVariants as step
+use Rattle.hack_blocks.specs.Budgets.{operation_words, most_words}
+use Rattle.hack_blocks.specs.Templates.{size, start_size}
+use Rattle.vm_translator.specs.Shapes.{shape_of, step_size}
+
+-- the instructions of commands that follow one another
+abbrev pub words : List Step → ℕ
+words [] = 0
+words (c ∷ cs) = step_size c + words cs
+
+pub record PiecesFit : Type 0 where
+  -- no command has more instructions than it may have words
+  pub each : (to : ℕ) (c : Step) → size (shape_of to c) ≤ most_words c
+  -- a literal, and `true`
+  pub literal : (n : ℕ) → words (step.Push segment.Constant n ∷ []) ≤ 9
+  pub all_ones : words (step.Push segment.Constant 0 ∷ step.Operate operation.Not ∷ []) ≤ 9
+  -- a name or `this`
+  pub name : (g : Segment) (i : ℕ) → words (step.Push g i ∷ []) ≤ 9
+  -- the sign or the operator of an expression
+  pub operator : (o : Operation) → words (step.Operate o ∷ []) ≤ operation_words o
+  -- `a[i]`, behind the code of a and i
+  pub load : words (step.Operate operation.Add ∷ step.Pop segment.Pointer 1 ∷ step.Push segment.That 0 ∷ []) ≤ 18
+  -- `let a[i] = e`, beside the code of a, i and e
+  pub store : words (step.Operate operation.Add ∷ step.Pop segment.Temp 0 ∷ step.Pop segment.Pointer 1 ∷ step.Push segment.Temp 0 ∷ step.Pop segment.That 0 ∷ []) ≤ 28
+  -- `let x = e`, behind the code of e
+  pub assignment : (g : Segment) (i : ℕ) → words (step.Pop g i ∷ []) ≤ 12
+  -- a call, behind the code of its arguments, and `do`, behind its call
+  pub call : (f n : ℕ) → words (step.Call f n ∷ []) ≤ 60
+  pub dropped : words (step.Pop segment.Temp 0 ∷ []) ≤ 5
+  -- `if` and `while`, beside the code of the condition and of the statements
+  pub branches : (p q r : ℕ) → words (step.IfGoto p ∷ step.Goto q ∷ step.Goto r ∷ []) ≤ 9
+  pub return : words (step.Return ∷ []) ≤ 66
+  -- the entry of a subroutine, also that of a method, which sets `this`
+  pub entry : (n : ℕ) → words (step.Function n ∷ step.Push segment.Argument 0 ∷ step.Pop segment.Pointer 0 ∷ []) ≤ 14 + 4 * n
+  -- the start code
+  pub start : start_size ≤ 256
