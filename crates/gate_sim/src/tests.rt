@@ -1,9 +1,9 @@
 //! Small netlists.
 
-ghost use Rattle.std.specs.Prelude.{◌≡◌, ◌<◌, ℕ, [], ◌∷◌, length, IfOk, Some, slice_get, MatchOption};
+ghost use Rattle.std.specs.Prelude.{◌≡◌, ◌<◌, [], ◌∷◌, length, IfOk, Some, slice_get};
 ghost use Rattle.std.specs.List.{All};
 ghost use Rattle.netlist.specs.declared.node.Node.TheVariants.{Pin, Nand, Flip, Word};
-ghost use Rattle.netlist.specs.Histories.{HasBits};
+ghost use Rattle.netlist.specs.Histories.{HasBits, pin_count};
 
 use crate::Sim;
 use hdl_tree::List;
@@ -44,9 +44,8 @@ fn two_nands(rt: HostRuntime) -> Result<(), Fail> {
 
 // Pins 0 and 1 are the word that comes into a block of two words, pin 2 is its load and pin 3 its address. Nodes 4 and 5 are the bits of
 // its word, 6 is a flip-flop, and 7, its input, is a Nand.
-fn mixed(alloc: Global) -> Result<Result<Netlist, NetFault>, AllocError>
-    ensures nodes { IfOk result (λ made. IfOk made (λ net. net.nodes ≡ Pin ∷ Pin ∷ Pin ∷ Pin ∷ Word 0 0 ∷ Word 0 1 ∷ Flip 7 ∷ Nand 4 6 ∷ [])) }
-    ensures blocks { IfOk result (λ made. IfOk made (λ net. MatchOption (slice_get net.blocks 0) ⊥ (λ b. b.words ≡ 2))) }
+fn mixed_nodes(alloc: Global) -> Result<List<Node>, AllocError>
+    ensures { IfOk result (λ nodes. nodes ≡ Pin ∷ Pin ∷ Pin ∷ Pin ∷ Word 0 0 ∷ Word 0 1 ∷ Flip 7 ∷ Nand 4 6 ∷ []) }
 {
     let nodes = vec![in alloc;
         Node::Pin,
@@ -58,6 +57,12 @@ fn mixed(alloc: Global) -> Result<Result<Netlist, NetFault>, AllocError>
         Node::Flip(7),
         Node::Nand(4, 6),
     ]?;
+    Ok(List::of(nodes))
+}
+
+fn mixed_blocks(alloc: Global) -> Result<List<Block>, AllocError>
+    ensures { IfOk result (λ blocks. blocks ≡ record { words = 2; «data» = 0 ∷ 1 ∷ []; load = 2; address = 3 ∷ [] } ∷ []) }
+{
     let data = vec![in alloc; 0, 1]?;
     let address = vec![in alloc; 3]?;
     let blocks = vec![in alloc;
@@ -68,7 +73,7 @@ fn mixed(alloc: Global) -> Result<Result<Netlist, NetFault>, AllocError>
             address: List::of(address),
         },
     ]?;
-    Ok(Netlist::new(List::of(nodes), List::of(blocks)))
+    Ok(List::of(blocks))
 }
 
 // The pins of cycle `c`.
@@ -90,7 +95,8 @@ fn bits_in_each(alloc: Global) -> Result<List<List<bool>>, AllocError>
 {
     let mut pins = List::new(alloc);
     for c in 0..20 {
-        pins.push(bits_in(alloc, c)?)?;
+        let bits = bits_in(alloc, c)?;
+        pins.push(bits)?;
     }
     Ok(pins)
 }
@@ -108,6 +114,38 @@ fn history(alloc: Global) -> Result<History, AllocError>
     })
 }
 
+fn push_read(
+    alloc: Global,
+    net: &Netlist,
+    history: &History,
+    c: u64,
+    values: &mut Vec<bool>,
+) -> Result<(), AllocError>
+    requires nodes { length net.now.nodes ≡ 8 }
+    requires cycle { c < length history.now.pins }
+    requires bits { HasBits net.now.nodes history.now.pins }
+{
+    for node in 0..8 {
+        let value = net.value(alloc, history, node, c)?;
+        values.push(value)?;
+    }
+    Ok(())
+}
+
+// The values of all nodes in each cycle, as a history gives them.
+fn read_values(alloc: Global, net: &Netlist, history: &History) -> Result<Vec<bool>, AllocError>
+    requires nodes { length net.now.nodes ≡ 8 }
+    requires pins { pin_count net.now.nodes ≡ 4 }
+    requires cycles { length history.now.pins ≡ 20 }
+    requires bits { All (λ bits. length bits ≡ 4) history.now.pins }
+{
+    let mut values = Vec::new(alloc);
+    for c in 0..20 {
+        push_read(alloc, net, history, c, &mut values)?;
+    }
+    Ok(values)
+}
+
 fn set_pins(sim: &mut Sim, c: u64)
     requires first { slice_get sim.old.net.nodes 0 ≡ Some Pin }
     requires second { slice_get sim.old.net.nodes 1 ≡ Some Pin }
@@ -122,69 +160,62 @@ fn set_pins(sim: &mut Sim, c: u64)
     sim.set(3, address);
 }
 
-// Whether each node has its value of cycle `c`.
-fn agrees(
-    alloc: Global,
-    sim: &Sim,
-    net: &Netlist,
-    history: &History,
-    c: u64,
-) -> Result<bool, AllocError>
-    requires sim { length sim.now.net.nodes ≡ 8 }
-    requires net { length net.now.nodes ≡ 8 }
-    requires cycle { c < length history.now.pins }
-    requires bits { HasBits net.now.nodes history.now.pins }
+fn push_simulated(sim: &Sim, values: &mut Vec<bool>) -> Result<(), AllocError>
+    requires { length sim.now.net.nodes ≡ 8 }
 {
     for node in 0..8 {
-        if sim.get(node) != net.value(alloc, history, node, c)? {
-            return Ok(false);
-        }
+        values.push(sim.get(node))?;
     }
-    Ok(true)
+    Ok(())
 }
 
-// Whether each node has its values of all cycles.
-fn agrees_always(
-    alloc: Global,
-    sim: &mut Sim,
-    net: &Netlist,
-    history: &History,
-) -> Result<bool, AllocError>
-    requires sim { sim.old.net.nodes ≡ Pin ∷ Pin ∷ Pin ∷ Pin ∷ Word 0 0 ∷ Word 0 1 ∷ Flip 7 ∷ Nand 4 6 ∷ [] }
-    requires net { length net.now.nodes ≡ 8 }
-    requires cycles { length history.now.pins ≡ 20 }
-    requires bits { HasBits net.now.nodes history.now.pins }
+// The values of all nodes in each cycle, as a simulator has them.
+fn simulated_values(alloc: Global, sim: &mut Sim) -> Result<Vec<bool>, AllocError>
+    requires nodes { length sim.old.net.nodes ≡ 8 }
+    requires first { slice_get sim.old.net.nodes 0 ≡ Some Pin }
+    requires second { slice_get sim.old.net.nodes 1 ≡ Some Pin }
+    requires load { slice_get sim.old.net.nodes 2 ≡ Some Pin }
+    requires address { slice_get sim.old.net.nodes 3 ≡ Some Pin }
 {
+    let mut values = Vec::new(alloc);
     for c in 0..20 {
         set_pins(sim, c);
         sim.eval();
-        if !agrees(alloc, sim, net, history, c)? {
-            return Ok(false);
-        }
+        push_simulated(sim, &mut values)?;
         sim.cycle();
     }
-    Ok(true)
+    Ok(values)
+}
+
+// Whether a simulator has the values that a history gives.
+fn agrees(alloc: Global) -> Result<bool, AllocError> {
+    let history = history(alloc)?;
+    let nodes = mixed_nodes(alloc)?;
+    let blocks = mixed_blocks(alloc)?;
+    match Netlist::new(nodes, blocks) {
+        Err(_) => Ok(false),
+        Ok(net) => {
+            let read = read_values(alloc, &net, &history)?;
+            let mut sim = Sim::new(alloc, net)?;
+            sim.load_block(0, 1, &[2]);
+            let simulated = simulated_values(alloc, &mut sim)?;
+            Ok(read == simulated)
+        }
+    }
 }
 
 #[test]
 fn twenty_cycles(rt: HostRuntime) -> Result<(), Fail> {
-    let alloc = rt.alloc();
-    let history = history(alloc)?;
-    match (mixed(alloc)?, mixed(alloc)?) {
-        (Ok(net), Ok(other)) => {
-            let mut sim = Sim::new(alloc, other)?;
-            sim.load_block(0, 1, &[2]);
-            assert!(rt; agrees_always(alloc, &mut sim, &net, &history)?);
-        }
-        _ => assert!(rt; false),
-    }
+    assert!(rt; agrees(rt.alloc())?);
     Ok(())
 }
 
 // A word of two bits at an address of one bit.
 #[test]
 fn words(rt: HostRuntime) -> Result<(), Fail> {
-    match mixed(rt.alloc())? {
+    let nodes = mixed_nodes(rt.alloc())?;
+    let blocks = mixed_blocks(rt.alloc())?;
+    match Netlist::new(nodes, blocks) {
         Err(_) => assert!(rt; false),
         Ok(net) => {
             let mut sim = Sim::new(rt.alloc(), net)?;
