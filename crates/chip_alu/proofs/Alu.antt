@@ -1,7 +1,7 @@
 -- The ALU.
 use Rattle.std.proofs.Common.{◌≡◌, ℕ, zero, suc, ◌+◌, ◌*◌, ◌^◌, ◌<◌, ◌%◌, Bool, true, false, cond, eqb, ltb, List, [], ◌∷◌, Some, None, refl, sym, ap, ap₂, ◌∙◌, subst, arith, lit<, zero-add, ◌≢◌, ne_eqb, pow-add}
 use Rattle.std.proofs.lemmas.Bool.Decides.{nat_tests}
-use Rattle.std.specs.Prelude.{not, ◌&&◌, ◌||◌, codes, slice_get, bit_and}
+use Rattle.std.specs.Prelude.{not, ◌||◌, codes, slice_get, bit_and}
 use Rattle.word16.specs.Words.{word_not}
 use Rattle.hack_isa.specs.Table.{preset, combine}
 use Rattle.hdl_tree.specs.declared.tree.Source.{Source}
@@ -12,9 +12,9 @@ use Rattle.hdl_tree.specs.declared.library.Entry.{Entry}
 use Rattle.hdl_tree.specs.Memory.{number}
 use Rattle.hdl_tree.specs.Chips.{Chips, end_of, parts_of}
 use Rattle.hdl_tree.specs.Behaviour.{Histories, World, source_value, Joins, Works, width_of}
-use Rattle.chip_basic.specs.Hdl.{shipped, wire, wire_to, connect, part}
+use Rattle.chip_basic.specs.Hdl.{shipped, wire_to, part}
 use Rattle.chip_basic.specs.Trees.{not_tree, or_tree, not16_tree, and16_tree, mux16_tree, or8way_tree}
-use Rattle.chip_basic.specs.Laws.{word, some_bit}
+use Rattle.chip_basic.specs.Laws.{word}
 use Rattle.chip_basic.proofs.Inside.{PartOf, part_of, whole_joined}
 use Rattle.chip_basic.proofs.Gates.{not_works, or_works}
 use Rattle.chip_basic.proofs.Numbers.{number_same, number_cond, number_below, some_number}

@@ -1,5 +1,5 @@
 -- What the chips from HalfAdder to the ALU do: each is its function, in every behaviour of its tree. (The book, chapter 2.)
-use Rattle.std.specs.Prelude.{◌≡◌, ℕ, ◌+◌, ◌*◌, Bool, true, cond, ◌==◌, nat_lt, List, [], ◌∷◌}
+use Rattle.std.specs.Prelude.{◌≡◌, ℕ, ◌+◌, ◌*◌, Bool, true, cond, ◌==◌, nat_lt, [], ◌∷◌}
 use Rattle.word16.specs.Words.{word_add}
 use Rattle.hack_isa.specs.Table.{preset, combine}
 use Rattle.hdl_tree.specs.Writable.{all, chip_can}

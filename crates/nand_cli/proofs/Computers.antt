@@ -4,7 +4,7 @@ use Rattle.std.proofs.lemmas.List.Elements.{recursion_from_All}
 use Rattle.outer_world.specs.declared.point.Point.{Point}
 use Rattle.hack_machine.specs.Loaded.{machine_of}
 use Rattle.jack_core.specs.declared.program.Core.{Core}
-use Rattle.jack_compiler.specs.Files.{names_in}
+use Rattle.jack_core.specs.Texts.{names_of}
 use Rattle.machine_io.specs.Driven.{EndsBy, IsDriven}
 use Rattle.machine_io.specs.History.{moves_from}
 use Rattle.machine_io.specs.Report.{report_text}
@@ -17,7 +17,6 @@ use Rattle.machine_io.specs.declared.report.Show.{Show}
 use Rattle.tower.specs.Built.{IsComputerOf}
 use Rattle.tower.specs.Headline.{run_trace}
 use Rattle.tower.specs.Mapped.{HasFollowed, HoldsKeys, MappedMachine, RunProgram, StandsAt, map_in, program_in}
-use Rattle.tower.specs.Program.{named_core}
 use Rattle.layers.specs.System.{IsKey}
 use Rattle.layers.specs.Trace.{steps}
 use Rattle.command_line.specs.declared.request.RunLevel.TheVariants as levels
@@ -49,16 +48,15 @@ cycled code old new c n c' ends.Done by h first = let bad = never_ends code old 
 
 -- ---- the report
 
-pub hack_reported : (n : ℕ) (show : Show) (core : Core) (subs : List (List ℕ)) (program : RunProgram) (new : MappedMachine) (code : ℕ → ℕ) (end : End)
-    → ((c : ℕ) → IsKey (code c)) → subs ≡ names_in core → IsComputerOf (named_core core) program → program_in new ≡ program → HasCycled code n new end
-    → IsReport levels.Hack (named_core core) code n show (hack_text new subs end show)
-hack_reported n show core subs program new code end words named computer same (bound, stands) =
+pub hack_reported : (n : ℕ) (show : Show) (core : Core) (program : RunProgram) (new : MappedMachine) (code : ℕ → ℕ) (end : End)
+    → ((c : ℕ) → IsKey (code c)) → IsComputerOf core program → program_in new ≡ program → HasCycled code n new end
+    → IsReport levels.Hack core code n show (hack_text new (names_of core) end show)
+hack_reported n show core program new code end words computer same (bound, stands) =
     let p = new.place in
-    let all = names_in core in
-    let own : IsComputerOf (named_core core) (program_in new) = subst (IsComputerOf (named_core core)) (sym same) computer in
+    let all = names_of core in
+    let own : IsComputerOf core (program_in new) = subst (IsComputerOf core) (sym same) computer in
     let text =
-    ap (λ (ss : List (List ℕ)). hack_text new ss end show) named
-    ∙ ap (λ m. report_text names.Hack m new.count (name_of all p.sub) p.number end show (machine_of new.hack).memory) stands.moves
+    ap (λ m. report_text names.Hack m new.count (name_of all p.sub) p.number end show (machine_of new.hack).memory) stands.moves
     ∙ ap (λ s. report_text names.Hack n s (name_of all p.sub) p.number end show (machine_of new.hack).memory) stands.counted
     ∙ ap (λ (e : End). report_text names.Hack n (steps (run_trace new.hack.image (map_in new) code) n) (name_of all p.sub) p.number e show (machine_of new.hack).memory) bound
     ∙ ap (λ s. report_text names.Hack n (steps (run_trace new.hack.image (map_in new) code) n) (name_of all p.sub) p.number ends.Bound show s.memory) stands.machine in

@@ -8,7 +8,8 @@ use Rattle.jack_names.specs.Faults.{Told}
 use Rattle.jack_names.specs.declared.fault.NameKind.{NameKind}
 use Rattle.jack_names.specs.declared.fault.NameKind.TheVariants as kinds
 use Rattle.jack_os.specs.System.{SpellsClass}
-use Rattle.tower.specs.Program.{Means, Named, Wrong, InSystem, InName}
+use Rattle.jack_core.specs.declared.program.Core.{Core}
+use Rattle.tower.specs.Program.{Means, Wrong, InSystem, InName}
 use Rattle.nand_cli.specs.Fault.{text_fault_line}
 use Rattle.nand_cli.specs.Spelled.{FolderSpells, IsUnread}
 
@@ -17,8 +18,8 @@ abbrev pub HasClasses : Option Files → List ℕ → List Class → Type 0
 HasClasses files folder classes = FolderSpells SpellsClass (codes ".jack") files folder classes
 
 -- The folder means this program.
-abbrev pub FolderMeans : Option Files → List ℕ → Named → Type 0
-FolderMeans files folder named = (classes : List Class) × HasClasses files folder classes × Means classes (Ok named)
+abbrev pub FolderMeans : Option Files → List ℕ → Core → Type 0
+FolderMeans files folder core = (classes : List Class) × HasClasses files folder classes × Means classes (Ok core)
 
 -- The folder in which a file is told: a file of the operating system stands in `os`.
 abbrev pub home_of : List ℕ → Bool → List ℕ

@@ -25,7 +25,6 @@ use Rattle.jack_meaning.specs.Meaning.{State, start}
 use Rattle.jack_meaning.specs.Level.{meaning_of, point_in}
 use Rattle.jack_core.specs.Texts.{the_program, the_subroutines}
 use Rattle.jack_core.specs.declared.program.Core.{Core}
-use Rattle.jack_compiler.specs.Files.{names_in}
 use Rattle.jack_machine.specs.Whole.{jack_point, jack_word}
 use Rattle.jack_machine.specs.declared.jack.Jack.{Jack}
 use Rattle.jack_names.specs.Faults.{fault_told}
@@ -37,10 +36,9 @@ use Rattle.machine_io.specs.declared.report.LevelName.TheVariants as names
 use Rattle.machine_io.specs.declared.report.Show.{Show}
 use Rattle.tower.specs.Built.{IsComputerOf, LargeImage, ManyStatics}
 use Rattle.tower.specs.Mapped.{MappedMachine, RunProgram, StandsAt}
-use Rattle.tower.specs.Program.{InName, InSystem, Means, named_core}
+use Rattle.tower.specs.Program.{InName, InSystem, Means}
 use Rattle.tower.specs.declared.building.BuildError.{BuildError}
 use Rattle.tower.specs.declared.building.BuildError.TheVariants as builds
-use Rattle.tower.specs.declared.program.Program.{Program}
 use Rattle.tower.specs.declared.program.ProgramError.{ProgramError}
 use Rattle.tower.specs.declared.program.ProgramError.TheVariants as errors
 use Rattle.vm_tree.specs.declared.program.File.{File}
@@ -161,17 +159,15 @@ LoadsClasses files folder r =
     Loaded (λ (classes : Vec Class Global). HasClasses files folder classes.items) (IsUnread SpellsClass RefusesClass (codes ".jack") files folder) r
 
 -- What making the program of a folder's classes says, and what making that of the folder.
-abbrev pub MakesProgram : List ℕ → List Class → Result Program Failure → Type 0
-MakesProgram folder classes r =
-    Made (λ (p : Program). Means classes (Ok (named_core p.core)) × (p.names.items ≡ names_in p.core)) (IsMeaningless folder classes) r
+abbrev pub MakesProgram : List ℕ → List Class → Result Core Failure → Type 0
+MakesProgram folder classes r = Made (λ (core : Core). Means classes (Ok core)) (IsMeaningless folder classes) r
 
-abbrev pub LoadsJack : Option Files → List ℕ → Result Program Failure → Type 0
-LoadsJack files folder r =
-    Loaded (λ (p : Program). FolderMeans files folder (named_core p.core) × (p.names.items ≡ names_in p.core)) (FolderIsRefused files folder) r
+abbrev pub LoadsJack : Option Files → List ℕ → Result Core Failure → Type 0
+LoadsJack files folder r = Loaded (FolderMeans files folder) (FolderIsRefused files folder) r
 
 -- What making the image of a program says.
 abbrev pub MakesImage : List ℕ → Core → Result RunProgram Failure → Type 0
-MakesImage folder core r = Made (IsComputerOf (named_core core)) (BuildIsRefused (named_core core) folder) r
+MakesImage folder core r = Made (IsComputerOf core) (BuildIsRefused core folder) r
 
 -- What reading the key script of a run says.
 abbrev pub LoadsKeys : Option Files → Option (List ℕ) → Result Keys Failure → Type 0

@@ -8,8 +8,8 @@ use Rattle.layers.specs.System.{System}
 use Rattle.jack_meaning.specs.Text.{Subroutine}
 use Rattle.jack_meaning.specs.Meaning.{State, Stray, Done, start, step}
 use Rattle.jack_meaning.specs.Level.{meaning_of, point_in}
-use Rattle.jack_compiler.specs.Fits.{gap}
-use Rattle.jack_compiler.specs.Resolved.{depth_in, most_locals_in}
+use Rattle.jack_core.specs.Texts.{the_program, the_subroutines, names_of}
+use Rattle.jack_core.specs.declared.program.Core.{Core}
 use Rattle.machine_io.specs.Report.{report_text}
 use Rattle.machine_io.specs.declared.driving.End.{End}
 use Rattle.machine_io.specs.declared.driving.End.TheVariants as ends
@@ -21,7 +21,6 @@ use Rattle.layers.specs.Trace.{point_at, steps}
 use Rattle.tower.specs.Built.{IsComputerOf, IsNotBuilt, LargeImage, ManyStatics, Unbuilt, map_for}
 use Rattle.tower.specs.Headline.{RunFollows, run_trace, run_word}
 use Rattle.tower.specs.Mapped.{RunProgram}
-use Rattle.tower.specs.Program.{Named}
 use Rattle.command_line.specs.declared.request.RunLevel.{RunLevel}
 use Rattle.command_line.specs.declared.request.RunLevel.TheVariants as levels
 use Rattle.nand_cli.specs.JackFolder.{FolderIsRefused, FolderMeans}
@@ -51,27 +50,27 @@ EndsAt subs code n m s (ends.Stray (strays.Address a)) = (m < n) × (step subs (
 EndsAt subs code n m s _ = ⊥
 
 -- The report of n moves at the level of the meaning, where each move is a step.
-abbrev pub IsJackReport : Named → (ℕ → ℕ) → ℕ → Show → List ℕ → Type 0
-IsJackReport named code n show text =
-    let meaning : System State = meaning_of named.program.subroutines in
+abbrev pub IsJackReport : Core → (ℕ → ℕ) → ℕ → Show → List ℕ → Type 0
+IsJackReport core code n show text =
+    let meaning : System State = meaning_of (the_subroutines core) in
     (m : ℕ) × (s : State) × (end : End)
-    × (state_after meaning code (start named.program) m ≡ Some s) × EndsAt named.program.subroutines code n m s end
-    × (text ≡ report_text names.Jack m m (name_of named.names (point_in s).sub) (point_in s).number end show (meaning.word s))
+    × (state_after meaning code (start (the_program core)) m ≡ Some s) × EndsAt (the_subroutines core) code n m s end
+    × (text ≡ report_text names.Jack m m (name_of (names_of core) (point_in s).sub) (point_in s).number end show (meaning.word s))
 
 -- The report of n cycles of the computer with the image of the program and its map: the steps and the point are those that the map counts in
 -- its run, and the words are its own. Whatever the program does, that is what is told. And there, at cycle n and under these keys, the run
--- follows the program's meaning, with the gap of the program's linked code.
-abbrev pub IsHackReport : Named → (ℕ → ℕ) → ℕ → Show → List ℕ → Type 0
-IsHackReport named code n show text =
-    (p : RunProgram) × (point : Point) × (computer : IsComputerOf named p)
-    × RunFollows named.program (gap (depth_in named.program computer.linked) (most_locals_in named.program computer.linked)) p.image (map_for p) code n
+-- follows the program's meaning, within the program's gap.
+abbrev pub IsHackReport : Core → (ℕ → ℕ) → ℕ → Show → List ℕ → Type 0
+IsHackReport core code n show text =
+    (p : RunProgram) × (point : Point) × IsComputerOf core p
+    × RunFollows (the_program core) p.image (map_for p) code n
     × (point_at (run_trace p.image (map_for p) code) n ≡ Some point)
-    × (text ≡ report_text names.Hack n (steps (run_trace p.image (map_for p) code) n) (name_of named.names point.sub) point.number ends.Bound show (run_word p.image code n))
+    × (text ≡ report_text names.Hack n (steps (run_trace p.image (map_for p) code) n) (name_of (names_of core) point.sub) point.number ends.Bound show (run_word p.image code n))
 
 -- The report of n moves of a program at a level.
-abbrev pub IsReport : RunLevel → Named → (ℕ → ℕ) → ℕ → Show → List ℕ → Type 0
-IsReport levels.Jack named code n show text = IsJackReport named code n show text
-IsReport levels.Hack named code n show text = IsHackReport named code n show text
+abbrev pub IsReport : RunLevel → Core → (ℕ → ℕ) → ℕ → Show → List ℕ → Type 0
+IsReport levels.Jack core code n show text = IsJackReport core code n show text
+IsReport levels.Hack core code n show text = IsHackReport core code n show text
 
 -- ---- refusals
 
@@ -86,16 +85,16 @@ unbuilt_line folder (ManyStatics w) = fault_line folder 0 0 (codes "TooManyStati
 unbuilt_line folder (LargeImage w) = fault_line folder 0 0 (codes "TooLarge") (decimal w)
 
 -- The program has no computer, and this line tells why.
-abbrev pub BuildIsRefused : Named → List ℕ → List ℕ → Type 0
-BuildIsRefused named folder line = (why : Unbuilt) × IsNotBuilt named why × (line ≡ unbuilt_line folder why)
+abbrev pub BuildIsRefused : Core → List ℕ → List ℕ → Type 0
+BuildIsRefused core folder line = (why : Unbuilt) × IsNotBuilt core why × (line ≡ unbuilt_line folder why)
 
 -- the program has a computer
-abbrev pub IsBuilt : Named → Type 0
-IsBuilt named = (p : RunProgram) × IsComputerOf named p
+abbrev pub IsBuilt : Core → Type 0
+IsBuilt core = (p : RunProgram) × IsComputerOf core p
 
 -- The run is refused, at whatever level, and this line tells why: the folder means no program, or its program has no computer, or, where it has
 -- one, the key script is refused.
 pub data RunIsRefused (files : Option Files) (folder : List ℕ) (keys : Option (List ℕ)) (line : List ℕ) : Type 0 where
   without_program : FolderIsRefused files folder line → RunIsRefused files folder keys line
-  unbuilt : (named : Named) → FolderMeans files folder named → BuildIsRefused named folder line → RunIsRefused files folder keys line
-  without_script : (named : Named) → FolderMeans files folder named → IsBuilt named → ScriptIsRefused files keys line → RunIsRefused files folder keys line
+  unbuilt : (core : Core) → FolderMeans files folder core → BuildIsRefused core folder line → RunIsRefused files folder keys line
+  without_script : (core : Core) → FolderMeans files folder core → IsBuilt core → ScriptIsRefused files keys line → RunIsRefused files folder keys line

@@ -1,13 +1,12 @@
 //! The image of a program, and its run on the computer.
 ghost use Rattle.std.specs.Prelude.{◌≡◌, [], ℕ};
-ghost use Rattle.jack_compiler.specs.Files.{names_in};
+ghost use Rattle.jack_core.specs.Texts.{names_of};
 ghost use Rattle.jack_compiler.specs.Resolved.{IsResolvedCore};
 ghost use Rattle.key_script.specs.Codes.{code_at};
 ghost use Rattle.layers.specs.System.{IsKey};
 ghost use Rattle.outer_world.specs.Written.{CountsPut, Puts};
 ghost use Rattle.tower.specs.Built.{IsComputerOf};
 ghost use Rattle.tower.specs.Mapped.{HasFollowed, program_in};
-ghost use Rattle.tower.specs.Program.{named_core};
 ghost use Rattle.nand_cli.specs.Parts.{CountsReport, HasCycled, MakesImage, Reports, TellsBuilt, hack_text};
 ghost use Rattle.nand_cli.specs.Running.{IsReport};
 
@@ -18,9 +17,9 @@ use command_line::{Run, RunLevel};
 use jack_core::Core;
 use key_script::Keys;
 use machine_io::{End, Head, Level, LevelName, Show, drive, show_report};
-use outer_world::{Name, Put, Sink};
+use outer_world::{Put, Sink};
 use std::alloc::Global;
-use tower::{BuildError, Built, HackLevel, Program, build, prepare_hack};
+use tower::{BuildError, Built, HackLevel, build, prepare_hack};
 
 // Why a program has no computer.
 fn not_built(alloc: Global, folder: &str, error: BuildError) -> Failure
@@ -65,8 +64,8 @@ fn run_hack(level: &mut HackLevel, keys: &Keys, cycles: u32) -> End
 }
 
 // Puts the report of what a computer shows.
-fn put_hack<O: Sink>(level: &HackLevel, names: &[Name], end: End, show: Show, out: &mut O) -> Put
-    ensures put { Puts (O.written out.old) (O.written out.new) (hack_text level.now names.now end show) result }
+fn put_hack<O: Sink>(level: &HackLevel, core: &Core, end: End, show: Show, out: &mut O) -> Put
+    ensures put { Puts (O.written out.old) (O.written out.new) (hack_text level.now (names_of core.now) end show) result }
     ensures counts { CountsPut (O.faults out.old) (O.faults out.new) result }
 {
     let point = level.point();
@@ -74,7 +73,7 @@ fn put_hack<O: Sink>(level: &HackLevel, names: &[Name], end: End, show: Show, ou
         level: LevelName::Hack,
         moves: level.moves(),
         steps: level.steps(),
-        subroutine: name_at(names, point.sub),
+        subroutine: name_at(core, point.sub),
         statement: point.number,
         end,
     };
@@ -84,21 +83,20 @@ fn put_hack<O: Sink>(level: &HackLevel, names: &[Name], end: End, show: Show, ou
 /// Runs a program on the computer with its image, and puts the report. Once the computer is there no memory is wanted.
 pub fn report_hack<O: Sink>(
     alloc: Global,
-    program: &Program,
+    core: &Core,
     built: Built,
     keys: &Keys,
     request: &Run<'_>,
     out: &mut O,
 ) -> Result<(), Failure>
-    requires computer { IsComputerOf (named_core program.now.core) built }
-    requires names { program.now.names.items ≡ names_in program.now.core }
+    requires computer { IsComputerOf core.now built }
     requires words { (c : ℕ) → IsKey (code_at keys.now.lines.items c) }
-    ensures reports { Reports (IsReport RunLevel.Hack (named_core program.now.core) (code_at keys.now.lines.items) request.now.cycles request.now.show) (O.written out.old) (O.written out.new) result }
+    ensures reports { Reports (IsReport RunLevel.Hack core.now (code_at keys.now.lines.items) request.now.cycles request.now.show) (O.written out.old) (O.written out.new) result }
     ensures counts { CountsReport (O.faults out.old) (O.faults out.new) result }
 {
     let mut level = prepare_hack(alloc, built)?;
     let end = run_hack(&mut level, keys, request.cycles);
-    match put_hack(&level, &program.names, end, request.show, out) {
+    match put_hack(&level, core, end, request.show, out) {
         Put::Done => Ok(()),
         Put::Failed => Err(Failure::Write),
     }

@@ -12,12 +12,13 @@ use crate::classes::load_classes;
 use crate::folder::path_in;
 use crate::reading::text_refused;
 use crate::refusal::{Detail, Failure, Kind, refusal_at};
+use jack_core::Core;
 use jack_names::{NameFault, NameKind};
 use jack_os::SystemFault;
 use jack_tree::Class;
 use outer_world::Shelf;
 use std::alloc::Global;
-use tower::{Program, ProgramError, program_of_classes};
+use tower::{ProgramError, program_of_classes};
 
 // The folder in which the files of the operating system are told.
 const SYSTEM: &str = "os";
@@ -94,14 +95,14 @@ fn not_meant(alloc: Global, folder: &str, error: ProgramError) -> Failure
 }
 
 // The program that the classes of a folder mean.
-fn program_of(alloc: Global, folder: &str, classes: &[Class]) -> Result<Program, Failure>
+fn program_of(alloc: Global, folder: &str, classes: &[Class]) -> Result<Core, Failure>
     requires few { length classes.now ≤ 256 }
     requires spelled { AreSpelled classes.now }
     ensures makes { MakesProgram folder.now classes.now result }
-    ensures resolved { IfOk result (λ p. IsResolvedCore p.core) }
+    ensures resolved { IfOk result IsResolvedCore }
 {
     match program_of_classes(alloc, classes) {
-        Ok(program) => Ok(program),
+        Ok(core) => Ok(core),
         Err(error) => Err(not_meant(alloc, folder, error)),
     }
 }
@@ -110,9 +111,9 @@ fn program_of(alloc: Global, folder: &str, classes: &[Class]) -> Result<Program,
 ///
 /// Otherwise the refusal of the files as they are read, else of the first fault in the operating system's texts, else of the
 /// first name fault.
-pub fn load_jack<F: Shelf>(alloc: Global, folder: &str, shelf: &mut F) -> Result<Program, Failure>
+pub fn load_jack<F: Shelf>(alloc: Global, folder: &str, shelf: &mut F) -> Result<Core, Failure>
     ensures loads { LoadsJack (F.files shelf.old) folder.now result }
-    ensures resolved { IfOk result (λ p. IsResolvedCore p.core) }
+    ensures resolved { IfOk result IsResolvedCore }
     ensures counts { CountsLoad (F.faults shelf.old) (F.faults shelf.new) result }
     ensures kept { F.files shelf.new ≡ F.files shelf.old }
 {

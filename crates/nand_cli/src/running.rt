@@ -1,11 +1,10 @@
 //! The command `run`: the report of a program's run.
 ghost use Rattle.std.specs.Prelude.{◌≡◌, [], List, ℕ, IfOk, Option, option_map};
 ghost use Rattle.command_line.specs.Line.{run};
-ghost use Rattle.jack_compiler.specs.Files.{names_in};
+ghost use Rattle.jack_core.specs.Texts.{names_of};
 ghost use Rattle.jack_machine.specs.Whole.{Stands};
 ghost use Rattle.key_script.specs.Codes.{code_at};
 ghost use Rattle.outer_world.specs.Written.{CountsPut, Puts};
-ghost use Rattle.tower.specs.Program.{named_core};
 ghost use Rattle.nand_cli.specs.Parts.{Counts, CountsReport, Does, HasRun, Reports, jack_text};
 ghost use Rattle.nand_cli.specs.Running.{IsReport, name_of};
 
@@ -14,19 +13,19 @@ use crate::meaning::load_jack;
 use crate::refusal::Failure;
 use crate::sources::load_keys;
 use command_line::{Run, RunLevel};
+use jack_core::Core;
 use jack_machine::Jack;
 use key_script::Keys;
 use machine_io::{End, Head, Level, LevelName, Show, drive, show_report};
-use outer_world::{Name, Put, Shelf, Sink};
+use outer_world::{Put, Shelf, Sink};
 use std::alloc::{AllocError, Global};
-use tower::Program;
 
 /// The name of a subroutine by its number.
-pub fn name_at(names: &[Name], sub: u32) -> &str
-    ensures { result.now ≡ name_of names.now sub }
+pub fn name_at(core: &Core, sub: u32) -> &str
+    ensures { result.now ≡ name_of (names_of core.now) sub }
 {
-    match names.get(sub as usize) {
-        Some(name) => name.as_str(),
+    match core.subroutines.get(sub as usize) {
+        Some(subroutine) => subroutine.name.as_str(),
         None => "",
     }
 }
@@ -42,8 +41,8 @@ fn run_jack(jack: &mut Jack, keys: &Keys, moves: u32) -> Result<End, AllocError>
 }
 
 // Puts the report of what a machine shows.
-fn put_jack<O: Sink>(jack: &Jack, names: &[Name], end: End, show: Show, out: &mut O) -> Put
-    ensures put { Puts (O.written out.old) (O.written out.new) (jack_text jack.now names.now end show) result }
+fn put_jack<O: Sink>(jack: &Jack, core: &Core, end: End, show: Show, out: &mut O) -> Put
+    ensures put { Puts (O.written out.old) (O.written out.new) (jack_text jack.now (names_of core.now) end show) result }
     ensures counts { CountsPut (O.faults out.old) (O.faults out.new) result }
 {
     let point = jack.point();
@@ -51,7 +50,7 @@ fn put_jack<O: Sink>(jack: &Jack, names: &[Name], end: End, show: Show, out: &mu
         level: LevelName::Jack,
         moves: jack.moves(),
         steps: jack.steps(),
-        subroutine: name_at(names, point.sub),
+        subroutine: name_at(core, point.sub),
         statement: point.number,
         end,
     };
@@ -61,18 +60,17 @@ fn put_jack<O: Sink>(jack: &Jack, names: &[Name], end: End, show: Show, out: &mu
 // Runs a program by its meaning, and puts the report.
 fn report_jack<O: Sink>(
     alloc: Global,
-    program: &Program,
+    core: &Core,
     keys: &Keys,
     request: &Run<'_>,
     out: &mut O,
 ) -> Result<(), Failure>
-    requires { program.now.names.items ≡ names_in program.now.core }
-    ensures reports { Reports (IsReport RunLevel.Jack (named_core program.now.core) (code_at keys.now.lines.items) request.now.cycles request.now.show) (O.written out.old) (O.written out.new) result }
+    ensures reports { Reports (IsReport RunLevel.Jack core.now (code_at keys.now.lines.items) request.now.cycles request.now.show) (O.written out.old) (O.written out.new) result }
     ensures counts { CountsReport (O.faults out.old) (O.faults out.new) result }
 {
-    let mut jack = Jack::new(alloc, &program.core)?;
+    let mut jack = Jack::new(alloc, core)?;
     let end = run_jack(&mut jack, keys, request.cycles)?;
-    match put_jack(&jack, &program.names, end, request.show, out) {
+    match put_jack(&jack, core, end, request.show, out) {
         Put::Done => Ok(()),
         Put::Failed => Err(Failure::Write),
     }
@@ -89,15 +87,15 @@ pub fn answer_run<F: Shelf, O: Sink>(
     ensures counts { (err : ℕ) → Counts (F.faults shelf.old) (F.faults shelf.new) (O.faults out.old) (O.faults out.new) err err result }
     ensures kept { F.files shelf.new ≡ F.files shelf.old }
 {
-    let program = load_jack(alloc, request.folder, shelf)?;
-    let built = image_of(alloc, request.folder, &program.core)?;
+    let core = load_jack(alloc, request.folder, shelf)?;
+    let built = image_of(alloc, request.folder, &core)?;
     let keys = load_keys(alloc, request.keys, shelf)?;
     match request.level {
         RunLevel::Jack => {
             // The meaning needs no image.
             drop(built);
-            report_jack(alloc, &program, &keys, request, out)
+            report_jack(alloc, &core, &keys, request, out)
         }
-        RunLevel::Hack => report_hack(alloc, &program, built, &keys, request, out),
+        RunLevel::Hack => report_hack(alloc, &core, built, &keys, request, out),
     }
 }

@@ -90,7 +90,7 @@ fn key_shown(
 #[test]
 fn both_levels_read_the_keyboard(rt: HostRuntime) -> Result<(), Fail> {
     let alloc = rt.alloc();
-    // the keyboard is read in the move after 10, and in the cycle after 183; the codes have the bits 0 and 6, and 1 and 6
+    // the keyboard is read in the move after 10, and in the cycle after 173; the codes have the bits 0 and 6, and 1 and 6
     let counts = "level jack\nmoves 18\nsteps 18";
     let level = "jack --cycles 100";
     let report = with_screen(alloc, counts, "done", &[1, 6])?;
@@ -100,7 +100,7 @@ fn both_levels_read_the_keyboard(rt: HostRuntime) -> Result<(), Fail> {
     let counts = "level hack\nmoves 3000\nsteps 18";
     let level = "hack --cycles 3000";
     let report = with_screen(alloc, counts, "bound", &[1, 6])?;
-    key_shown(&rt, alloc, level, 183, &report)?;
+    key_shown(&rt, alloc, level, 173, &report)?;
     let report = with_screen(alloc, counts, "bound", &[0, 6])?;
-    key_shown(&rt, alloc, level, 184, &report)
+    key_shown(&rt, alloc, level, 174, &report)
 }

@@ -221,14 +221,14 @@ fn the_computer_has_limits(rt: HostRuntime) -> Result<(), Fail> {
     }
     let text = with_statics(alloc, 241)?;
     unbuilt(&rt, alloc, &text, "prog:0:0: TooManyStatics 241\n")?;
-    // 54 words for each store
+    // 46 words for each store
     let text = with_stores(alloc, 3000)?;
-    unbuilt(&rt, alloc, &text, "prog:0:0: TooLarge 162220\n")?;
+    unbuilt(&rt, alloc, &text, "prog:0:0: TooLarge 138214\n")?;
     // However many operators stand in a row, they are read, resolved and counted: 11 words for each sum, 48 for each product.
     let text = with_chain(alloc, "0", " + 1", 100_000)?;
-    unbuilt(&rt, alloc, &text, "prog:0:0: TooLarge 1100274\n")?;
+    unbuilt(&rt, alloc, &text, "prog:0:0: TooLarge 1100260\n")?;
     let text = with_chain(alloc, "3", " * 1", 20_000)?;
-    unbuilt(&rt, alloc, &text, "prog:0:0: TooLarge 960459\n")
+    unbuilt(&rt, alloc, &text, "prog:0:0: TooLarge 960433\n")
 }
 
 // The first fault in the names of a folder with this class Main alone.

@@ -1,5 +1,6 @@
 use Rattle.std.proofs.Common.{List, ℕ, subst, rules}
 use Rattle.outer_world.specs.Written.{Puts}
+use Rattle.jack_core.specs.Texts.{names_of}
 use Rattle.jack_machine.specs.Whole.{jack_word}
 use Rattle.nand_cli.proofs.Reporting.{read_of}
 use Rattle.nand_cli.proofs.running.put_jack.Goals as goal
@@ -7,5 +8,5 @@ use Rattle.nand_cli.proofs.running.put_jack.Goals as goal
 pub returns-clause-put : goal.returns-clause-put
 returns-clause-put g c =
     let P : List ℕ → Type 0 = λ t. Puts (g.O.Sink.written c.args.out.now) (g.O.Sink.written c.show_report.new.out) t c.show_report.result in
-    subst P (read_of c.args.jack.now c.args.names.now c.args.end c.args.show c.moves.result c.steps.result c.name_at.result.now c.point-point.result c.moves.ensures c.steps.ensures c.name_at.ensures c.point-point.ensures)
+    subst P (read_of c.args.jack.now (names_of c.args.core.now) c.args.end c.args.show c.moves.result c.steps.result c.name_at.result.now c.point-point.result c.moves.ensures c.steps.ensures c.name_at.ensures c.point-point.ensures)
     (c.show_report.ensures.put (jack_word c.args.jack.now) (λ a w from_on up_to p. search rules))

@@ -1,0 +1,5 @@
+pub mod Registers
+pub mod Counter
+pub mod Blocks
+pub mod Made
+pub mod Rams

@@ -1,0 +1,5 @@
+use Rattle.hack_cpu.proofs.Library.{has_all}
+use Rattle.hack_cpu.proofs.laws.library_law.Goals as goal
+
+pub returns : goal.returns
+returns c blocks = has_all blocks

@@ -1,0 +1,4 @@
+pub mod Trees
+pub mod Cpu
+pub mod Computer
+pub mod Library
