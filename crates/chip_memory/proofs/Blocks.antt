@@ -1,11 +1,11 @@
 -- A block made of smaller blocks, of which the upper part of the address chooses one.
-use Rattle.std.proofs.Common.{◌≡◌, ℕ, zero, suc, ◌+◌, ◌*◌, ◌^◌, ◌<◌, Bool, true, false, cond, eqb, List, [], ◌∷◌, refl, sym, ap, ap₂, ◌∙◌, arith, ne_eqb, eq-eqb, eqb-true, add-zero, pow-add}
+use Rattle.std.proofs.Common.{◌≡◌, ℕ, zero, suc, ◌+◌, ◌*◌, ◌^◌, ◌<◌, Bool, true, false, cond, eqb, refl, sym, ap, ap₂, ◌∙◌, arith, ne_eqb, eq-eqb, eqb-true, add-zero, pow-add}
 use Rattle.std.proofs.lemmas.Bool.{eqb-false}
 use Rattle.std.specs.Prelude.{◌&&◌, codes}
 use Rattle.hdl_tree.specs.Memory.{number, held}
 use Rattle.hdl_tree.specs.Behaviour.{Histories, BlockWorks}
 use Rattle.chip_basic.specs.Laws.{word}
-use Rattle.chip_basic.proofs.Numbers.{number_same, number_below}
+use Rattle.chip_basic.proofs.Numbers.{number_below}
 
 -- ---- places in blocks
 

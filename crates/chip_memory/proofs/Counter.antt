@@ -3,9 +3,9 @@ use Rattle.std.proofs.Common.{◌≡◌, ℕ, zero, suc, ◌+◌, ◌<◌, ◌%�
 use Rattle.std.specs.Prelude.{codes, slice_get}
 use Rattle.hdl_tree.specs.declared.tree.Source.{Source}
 use Rattle.hdl_tree.specs.declared.tree.Source.TheVariants.{Constant}
-use Rattle.hdl_tree.specs.Memory.{number, before}
+use Rattle.hdl_tree.specs.Memory.{before}
 use Rattle.hdl_tree.specs.Chips.{Chips, end_of, parts_of}
-use Rattle.hdl_tree.specs.Behaviour.{Histories, World, Works, IsBehaviour}
+use Rattle.hdl_tree.specs.Behaviour.{Histories, World, IsBehaviour}
 use Rattle.chip_basic.specs.Hdl.{shipped, part, wire, constant}
 use Rattle.chip_basic.specs.Trees.{mux16_tree}
 use Rattle.chip_basic.specs.Laws.{word}

@@ -1,6 +1,6 @@
 -- A memory that is made of a chip that hands on the load, smaller memories, and a chip that chooses one of their words.
 use Prim.Native.String.{String}
-use Rattle.std.proofs.Common.{◌≡◌, ℕ, zero, suc, ◌+◌, ◌^◌, ◌<◌, Bool, true, false, cond, eqb, List, [], ◌∷◌, ◌++◌, map, Some, None, Option, refl, sym, ap, ◌∙◌, subst, arith, lit<, zero-add, add-zero}
+use Rattle.std.proofs.Common.{◌≡◌, ℕ, zero, suc, ◌+◌, ◌^◌, ◌<◌, true, false, eqb, List, [], ◌∷◌, ◌++◌, map, Some, None, Option, refl, sym, ap, ◌∙◌, subst, arith, zero-add, add-zero}
 use Rattle.std.specs.Prelude.{◌&&◌, codes, slice_get}
 use Rattle.std.specs.List.{range_with_len}
 use Rattle.hdl_tree.specs.declared.tree.Subscript.{Subscript}
@@ -10,11 +10,10 @@ use Rattle.hdl_tree.specs.declared.library.Entry.{Entry}
 use Rattle.hdl_tree.specs.Memory.{number}
 use Rattle.hdl_tree.specs.Chips.{Chips, find_chip, parts_of, first}
 use Rattle.hdl_tree.specs.Behaviour.{Histories, World, Each, Joins, Works, IsBehaviour, BlockWorks, width_of}
-use Rattle.chip_basic.specs.Hdl.{connect, wire, wire_to, part_named, numbered, letter, ways}
+use Rattle.chip_basic.specs.Hdl.{connect, wire, part_named, numbered, letter, ways}
 use Rattle.chip_basic.specs.Laws.{word, GoesWay}
 use Rattle.chip_basic.proofs.Inside.{PartOf, part_of, whole_joined}
 use Rattle.chip_basic.proofs.Numbers.{number_same, number_below}
-use Rattle.chip_basic.proofs.Ways.{Muxes}
 use Rattle.chip_memory.proofs.Blocks.{IsSplit, IsFed, low_part, high_part, block_works}
 
 -- ---- lists that begin with a row

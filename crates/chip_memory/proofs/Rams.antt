@@ -1,5 +1,5 @@
 -- The memories, each size from the one below.
-use Rattle.std.proofs.Common.{◌≡◌, ℕ, zero, suc, ◌+◌, ◌-◌, ◌<◌, Bool, true, false, cond, eqb, List, [], ◌∷◌, Some, None, refl, sym, ◌∙◌, subst, arith, lit<}
+use Rattle.std.proofs.Common.{◌≡◌, ℕ, zero, suc, ◌+◌, ◌<◌, Bool, true, false, cond, eqb, List, [], Some, None, refl, sym, ◌∙◌, subst, arith, lit<}
 use Rattle.std.specs.Prelude.{not, ◌&&◌, codes}
 use Rattle.hdl_tree.specs.declared.tree.Subscript.TheVariants.{Bit, Bits}
 use Rattle.hdl_tree.specs.declared.library.Entry.{Entry}
@@ -13,9 +13,9 @@ use Rattle.chip_basic.proofs.Inside.{whole_joined}
 use Rattle.chip_basic.proofs.Gates.{dmux_a, dmux_b}
 use Rattle.chip_basic.proofs.Numbers.{number_same}
 use Rattle.chip_basic.proofs.Words.{mux16_bit}
-use Rattle.chip_basic.proofs.Ways.{Muxes, dmux4way_works, dmux8way_works, mux4way16_bits, mux8way16_bits}
+use Rattle.chip_basic.proofs.Ways.{dmux4way_works, dmux8way_works, mux4way16_bits, mux8way16_bits}
 use Rattle.chip_memory.specs.Trees.{HasMemoryChips, register_tree, word_part, smaller, ram8_tree, ram64_tree, ram512_tree, ram4k_tree, ram16k_tree, screen_tree}
-use Rattle.chip_memory.specs.Laws.{of_gates, IsBlock}
+use Rattle.chip_memory.specs.Laws.{of_gates}
 use Rattle.chip_memory.proofs.Registers.{one_word_works}
 use Rattle.chip_memory.proofs.Blocks.{split1, split8, split64, split512, split4096}
 use Rattle.chip_memory.proofs.Made.{IsJoined, HasWidths, made_works}

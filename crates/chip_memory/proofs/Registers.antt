@@ -1,13 +1,13 @@
 -- Chips that keep bits and words, over histories.
-use Rattle.std.proofs.Common.{◌≡◌, ℕ, zero, suc, ◌+◌, ◌<◌, Bool, true, false, cond, eqb, List, [], ◌∷◌, refl, sym, ◌∙◌, arith, lit<}
+use Rattle.std.proofs.Common.{◌≡◌, ℕ, zero, suc, ◌<◌, Bool, true, false, cond, eqb, List, [], ◌∷◌, refl, ◌∙◌, arith, lit<}
 use Rattle.std.specs.Prelude.{codes, ◌&&◌}
 use Rattle.hdl_tree.specs.declared.tree.Chip.{Chip}
-use Rattle.hdl_tree.specs.Memory.{number, before, held}
+use Rattle.hdl_tree.specs.Memory.{before}
 use Rattle.hdl_tree.specs.Chips.{Chips, end_of, parts_of}
 use Rattle.hdl_tree.specs.Behaviour.{Histories, World, IsBehaviour, BlockWorks}
 use Rattle.chip_basic.specs.Hdl.{shipped, each}
 use Rattle.chip_basic.specs.Trees.{mux_tree}
-use Rattle.chip_basic.specs.Laws.{word, bit}
+use Rattle.chip_basic.specs.Laws.{word}
 use Rattle.chip_basic.proofs.Rows.{get_of_row}
 use Rattle.chip_basic.proofs.Inside.{PartOf, part_of, bit_joined}
 use Rattle.chip_basic.proofs.Gates.{mux_works}

@@ -1,5 +1,5 @@
 -- What the chips that keep words do, over every history of their inputs. (The book, chapter 3.)
-use Rattle.std.specs.Prelude.{◌≡◌, ℕ, ◌<◌, Bool, true, false, cond, List, [], ◌∷◌}
+use Rattle.std.specs.Prelude.{◌≡◌, ℕ, ◌<◌, true, false, cond, List, [], ◌∷◌}
 use Rattle.word16.specs.Words.{word_add}
 use Rattle.hdl_tree.specs.declared.tree.Chip.{Chip}
 use Rattle.hdl_tree.specs.declared.library.Entry.{Entry}

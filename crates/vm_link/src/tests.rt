@@ -147,6 +147,13 @@ fn setting_file(alloc: Global, file: &str, function_name: &str) -> Result<File, 
     })
 }
 
+// The step at a place of a linked function.
+fn step_at(functions: &[LinkedFunction], number: usize, place: usize) -> Option<Step> {
+    let function = functions.get(number)?;
+    let line = function.code.as_slice().get(place)?;
+    Some(line.step)
+}
+
 // Two files that each set `static 0` set two words.
 #[test]
 fn statics_of_two_files(rt: HostRuntime) -> Result<(), Fail> {
@@ -163,12 +170,12 @@ fn statics_of_two_files(rt: HostRuntime) -> Result<(), Fail> {
     let functions = linked.functions.as_slice();
     assert_eq!(rt; functions.len(), 2);
     assert_eq!(rt;
-        functions[0].code.as_slice()[2].step,
-        Step::Pop(Segment::Static, 0)
+        step_at(functions, 0, 2),
+        Some(Step::Pop(Segment::Static, 0))
     );
     assert_eq!(rt;
-        functions[1].code.as_slice()[2].step,
-        Step::Pop(Segment::Static, 1)
+        step_at(functions, 1, 2),
+        Some(Step::Pop(Segment::Static, 1))
     );
     Ok(())
 }

@@ -231,6 +231,35 @@ fn the_computer_has_limits(rt: HostRuntime) -> Result<(), Fail> {
     unbuilt(&rt, alloc, &text, "prog:0:0: TooLarge 960433\n")
 }
 
+// A class Main whose `main` makes this statement of an array and two numbers so many times.
+fn with_statements(alloc: Global, statement: &str, times: u32) -> Result<String, Fail> {
+    let mut text = String::from_str(
+        alloc,
+        "class Main { function void main() { var Array a; var int i, j; ",
+    )?;
+    for _ in 0..times {
+        text.push_str(statement)?;
+    }
+    text.push_str("} }")?;
+    Ok(text)
+}
+
+// A store takes at most 28 words beside those of its parts, and a load 18: so these programs have a computer.
+#[test]
+fn arrays_fit_the_computer(rt: HostRuntime) -> Result<(), Fail> {
+    let alloc = rt.alloc();
+    for (statement, times) in [("let a[i] = j; ", 560), ("let i = a[j]; ", 668)] {
+        let text = with_statements(alloc, statement, times)?;
+        let files = [("Main.jack", text.as_str())];
+        let words = words_in(alloc, "run prog --level hack --cycles 0")?;
+        let outcome = outcome_over(alloc, files_of(alloc, &files)?, &words)?;
+        let begun = b"level hack\nmoves 0\nsteps 0\npoint start 1\nend bound\n";
+        assert_eq!(rt; outcome.out.bytes(), begun.as_slice());
+        assert_eq!(rt; outcome.status, Status::Done);
+    }
+    Ok(())
+}
+
 // The first fault in the names of a folder with this class Main alone.
 #[test]
 fn names_are_refused(rt: HostRuntime) -> Result<(), Fail> {
