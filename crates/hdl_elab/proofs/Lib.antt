@@ -12,3 +12,4 @@ pub mod Stages
 pub mod Fresh
 pub mod Order
 pub mod Tops
+pub mod Tested

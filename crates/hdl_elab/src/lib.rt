@@ -17,3 +17,6 @@ mod table;
 pub use check::{Port, RightSide};
 pub use elab::{check_library, order_law};
 pub use fault::{ElabFault, FaultKind, NamedFault};
+
+#[cfg(test)]
+mod tests;
