@@ -2,6 +2,7 @@ pub mod Order
 pub mod Fault
 pub mod Net
 pub mod Value
+pub mod Rows
 pub mod Present
 pub mod Runs
 pub mod Words

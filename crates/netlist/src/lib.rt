@@ -24,4 +24,4 @@ pub use node::{Block, Node};
 pub use run_sweep::sweep_runs;
 pub use runs::{Kind, Run, runs_of};
 pub use step::{BlockWrite, FlipFlop, fix_states, fix_writes, flip_flops, store, take_states};
-pub use value::History;
+pub use value::{History, rows_law};
