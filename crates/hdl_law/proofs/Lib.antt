@@ -6,3 +6,5 @@ pub mod Walks
 pub mod Circles
 pub mod Peaks
 pub mod Fits
+pub mod Rows
+pub mod Behaves

@@ -3,3 +3,4 @@ pub mod Planned
 pub mod Loops
 pub mod Ways
 pub mod Nets
+pub mod Rows

@@ -2,6 +2,7 @@
 
 ghost use Rattle.hdl_law.specs.Nets.{NetsLaw};
 ghost use Rattle.hdl_law.specs.Planned.{PlanLaw, SoundLaw};
+ghost use Rattle.hdl_law.specs.Rows.{RowsLaw};
 ghost use Rattle.hdl_law.specs.Ways.{CircleLaw, FitLaw, RankLaw};
 
 /// A chip without faults that is no end has the plan of its text.
@@ -32,4 +33,9 @@ pub fn rank_law()
 /// The nets of a circle in the own graph of a chip of a tree are those of a loop of the tree.
 pub fn nets_law()
     ensures { NetsLaw }
+{}
+
+/// Facts about small chips: the sizes of memories, inputs and outputs that nothing is joined to, and loops.
+pub fn rows_law()
+    ensures { RowsLaw }
 {}

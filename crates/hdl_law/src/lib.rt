@@ -6,9 +6,9 @@
 //! outputs depend on which of its inputs.
 //!
 //! The definitions are in `specs/`: `Plans` (what a plan is), `Planned` (the plan of a text), `Loops` (circles, and the names of their
-//! nets), `Ways` (the own graph of a chip), `Nets` (the nets of a circle in it).
+//! nets), `Ways` (the own graph of a chip), `Nets` (the nets of a circle in it), `Rows` (facts about small chips).
 #![tactic(auto)]
 
 mod laws;
 
-pub use laws::{circle_law, fit_law, nets_law, plan_law, rank_law, sound_law};
+pub use laws::{circle_law, fit_law, nets_law, plan_law, rank_law, rows_law, sound_law};

@@ -1,14 +1,12 @@
 -- Ends whose nodes and block stand in a netlist do their work.
-use Rattle.std.proofs.Common.{◌≡◌, ℕ, zero, suc, ◌+◌, ◌<◌, ◌^◌, Bool, true, false, cond, List, [], map, length, Option, Some, None, refl, sym, ap, ap₂, ◌∙◌, arith, subst}
-use Rattle.std.specs.Prelude.{◌&&◌, not, nat_eq, nat_lt, slice_get, slice_index, codes}
-use Rattle.std.specs.List.{range_with_len}
+use Rattle.std.proofs.Common.{◌≡◌, ℕ, zero, suc, ◌+◌, ◌<◌, ◌^◌, Bool, true, false, cond, Option, Some, refl, sym, ap, ◌∙◌, arith, subst}
+use Rattle.std.specs.Prelude.{◌&&◌, nat_eq, nat_lt, slice_get, slice_index, codes}
 use Rattle.std.proofs.lemmas.Bool.{lt-ltb}
 use Rattle.word16.specs.Words.{has_bit}
 use Rattle.hdl_tree.specs.declared.ends.End.{End}
 use Rattle.hdl_tree.specs.declared.ends.End.TheVariants as ends
-use Rattle.hdl_tree.specs.Memory.{number, before, held}
+use Rattle.hdl_tree.specs.Memory.{number, held}
 use Rattle.hdl_tree.specs.Behaviour.{Wires, World, EndWorks}
-use Rattle.netlist.specs.declared.node.Node.{Node}
 use Rattle.netlist.specs.declared.node.Node.TheVariants.{Pin, Nand, Flip, Word}
 use Rattle.netlist.specs.declared.node.Block.{Block}
 use Rattle.netlist.specs.Net.{Net}

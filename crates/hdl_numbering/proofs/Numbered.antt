@@ -1,6 +1,6 @@
 -- The values at the nodes of a numbering are a behaviour.
-use Rattle.std.proofs.Common.{◌≡◌, ℕ, zero, suc, ◌<◌, Bool, true, false, List, [], ◌∷◌, ◌++◌, Option, Some, None, refl, sym, ap, ◌∙◌, arith}
-use Rattle.std.specs.Prelude.{◌&&◌, not, slice_get}
+use Rattle.std.proofs.Common.{◌≡◌, ℕ, zero, suc, ◌<◌, Bool, true, false, List, [], ◌∷◌, ◌++◌, Option, Some, None, refl, ap, ◌∙◌, arith}
+use Rattle.std.specs.Prelude.{◌&&◌, not}
 use Rattle.hdl_tree.specs.declared.tree.Source.{Source}
 use Rattle.hdl_tree.specs.declared.tree.Source.TheVariants as source
 use Rattle.hdl_tree.specs.declared.tree.Connection.{Connection}
@@ -12,7 +12,7 @@ use Rattle.hdl_tree.specs.Behaviour.{Wires, World, chip_at, Each, Joins, source_
 use Rattle.netlist.specs.declared.node.Node.TheVariants.{Nand, Flip}
 use Rattle.netlist.specs.Net.{Net}
 use Rattle.netlist.specs.Value.{Inputs, AreValues}
-use Rattle.hdl_numbering.specs.Numbering.{IsNumbering, Hears, EndStands, EndHears}
+use Rattle.hdl_numbering.specs.Numbering.{IsNumbering, Hears, EndStands}
 use Rattle.hdl_numbering.proofs.Ends.{end_works}
 
 -- wiring is kept by a map of values

@@ -1,5 +1,5 @@
 -- The bits of a chip as nodes of a netlist. (The book, chapters 1 to 3.)
-use Rattle.std.specs.Prelude.{◌≡◌, ℕ, ◌<◌, ◌^◌, Bool, List, [], Option, Some, map, slice_get, codes}
+use Rattle.std.specs.Prelude.{◌≡◌, ℕ, ◌<◌, ◌^◌, Bool, List, [], Some, map, slice_get, codes}
 use Rattle.std.specs.List.{range_with_len}
 use Rattle.hdl_tree.specs.declared.library.Entry.{Entry}
 use Rattle.hdl_tree.specs.declared.ends.End.{End}
@@ -7,7 +7,6 @@ use Rattle.hdl_tree.specs.declared.ends.End.TheVariants as ends
 use Rattle.hdl_tree.specs.Memory.{number}
 use Rattle.hdl_tree.specs.Chips.{Chips, end_of}
 use Rattle.hdl_tree.specs.Behaviour.{Wires, World, chip_at, Wired, IsBehaviour}
-use Rattle.netlist.specs.declared.node.Node.{Node}
 use Rattle.netlist.specs.declared.node.Node.TheVariants.{Pin, Nand, Flip, Word}
 use Rattle.netlist.specs.declared.node.Block.{Block}
 use Rattle.netlist.specs.Net.{Net}
