@@ -15,7 +15,7 @@ use Rattle.hdl_numbering.specs.Numbering.{nodes_of, memory_block, rom_block, Blo
 use Rattle.hdl_numbering.proofs.Numbers.{number_same, number_below, number_word, held_word, at_row, row_length}
 
 -- what nodes of bits spell
-spelled_is : (row : ℕ → Bool) (n : ℕ) (f : ℕ → ℕ) → spelled row (nodes_of n f) ≡ number n (λ k. row (f k))
+pub spelled_is : (row : ℕ → Bool) (n : ℕ) (f : ℕ → ℕ) → spelled row (nodes_of n f) ≡ number n (λ k. row (f k))
 spelled_is row n f =
     ap (λ (m : ℕ). number m (λ k. row (slice_index (nodes_of n f) k))) (row_length f n 0)
     ∙ number_same n (λ k. row (slice_index (nodes_of n f) k)) (λ k. row (f k)) (λ i lt. ap row (at_row f n 0 i lt ∙ zero_plus i))
@@ -53,10 +53,10 @@ module _ (net : Net) (inputs : Inputs) (n : ℕ) (v : ℕ → ℕ → Bool) (are
     word_is : (c : ℕ) → word_in (slice_get net.blocks b) (λ i. v i c) ≡ number 16 (λ k. v (at (codes "in") k) c)
     word_is c = ap (λ (o : Option Block). word_in o (λ i. v i c)) stands.there ∙ spelled_is (λ i. v i c) 16 (at (codes "in"))
 
-    abbrev stood : ℕ → ℕ → ℕ
+    abbrev pub stood : ℕ → ℕ → ℕ
     stood c a = held (λ d. v (at (codes "load") 0) d) (λ d. number bits (λ k. v (at (codes "address") k) d)) (λ d. number 16 (λ k. v (at (codes "in") k) d)) (λ x. 0) c a
 
-    held_is : ((a : ℕ) → inputs.loaded b a ≡ 0) → (c a : ℕ) → held_in net.blocks inputs.loaded v c b a ≡ stood c a
+    pub held_is : ((a : ℕ) → inputs.loaded b a ≡ 0) → (c a : ℕ) → held_in net.blocks inputs.loaded v c b a ≡ stood c a
     held_is zeros c a = λ i. held (λ d. loaded_is d i) (λ d. place_is d i) (λ d. word_is d i) (λ x. zeros x i) c a
 
     stood_word : (c a : ℕ) → stood c a < 65536

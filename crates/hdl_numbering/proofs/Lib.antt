@@ -1,3 +1,4 @@
 pub mod Numbers
 pub mod Ends
 pub mod Numbered
+pub mod Renamed

@@ -26,7 +26,7 @@ module _ {X Y : Type 0} (f : X → Y) (low high : X) (low' high' : Y) (l : f low
   map_each inner outside inside [] j = tt
   map_each inner outside inside (conn ∷ conns) j = ((λ k lt. ap f (j.0 k lt) ∙ map_source conn.source outside k), map_each inner outside inside conns j.1)
 
-  map_parts : (chips : Chips) (chip : Entry) (parts : List Part) (wires : Wires X) (inside : ℕ → Wires X) → PartsWired low high chips chip parts wires inside → PartsWired low' high' chips chip parts (λ name bit. f (wires name bit)) (λ i name bit. f (inside i name bit))
+  pub map_parts : (chips : Chips) (chip : Entry) (parts : List Part) (wires : Wires X) (inside : ℕ → Wires X) → PartsWired low high chips chip parts wires inside → PartsWired low' high' chips chip parts (λ name bit. f (wires name bit)) (λ i name bit. f (inside i name bit))
   map_parts chips chip parts wires inside p = record {
     part = λ i part inner e found. record {
       joined = map_each inner wires (inside i) part.connections (p.part i part inner e found).joined;

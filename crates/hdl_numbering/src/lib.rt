@@ -7,4 +7,4 @@
 
 mod laws;
 
-pub use laws::numbering_law;
+pub use laws::{numbering_law, renaming_law};

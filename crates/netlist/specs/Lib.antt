@@ -1,6 +1,7 @@
 pub mod Order
 pub mod Fault
 pub mod Net
+pub mod Renamed
 pub mod Value
 pub mod Rows
 pub mod Present
