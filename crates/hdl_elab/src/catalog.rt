@@ -16,7 +16,7 @@ use std::alloc::{AllocError, Global};
 
 /// The chips of a library.
 #[derive(Drop)]
-pub(crate) struct Catalog<'a> {
+pub struct Catalog<'a> {
     pub entries: &'a [Entry],
     /// Whether the shipped memories are blocks.
     pub blocks: bool,
@@ -78,11 +78,8 @@ fn name_table<'a>(alloc: Global, entries: &'a [Entry]) -> Result<Table<'a, usize
 }
 
 impl<'a> Catalog<'a> {
-    pub(crate) fn new(
-        alloc: Global,
-        library: &'a Library,
-        blocks: bool,
-    ) -> Result<Catalog<'a>, AllocError>
+    /// The chips of a library whose names differ.
+    pub fn new(alloc: Global, library: &'a Library, blocks: bool) -> Result<Catalog<'a>, AllocError>
         requires { AreDistinct library.now.entries }
         ensures { IfOk result (λ catalog. IsCatalogOf catalog library.now.entries blocks) }
     {
@@ -98,7 +95,7 @@ impl<'a> Catalog<'a> {
     }
 
     /// The place of the chip of this name.
-    pub(crate) fn place(&self, name: &'a [u8]) -> Option<usize>
+    pub fn place(&self, name: &'a [u8]) -> Option<usize>
         requires { IsCatalog self.now }
         ensures { MatchOption result (find_entry self.now.entries.now name.now ≡ None) (λ k. (k < length self.now.entries.now) × (find_entry self.now.entries.now name.now ≡ slice_get self.now.entries.now k)) }
     {

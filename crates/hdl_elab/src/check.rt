@@ -43,7 +43,7 @@ pub(crate) struct Scope<'a, 'b> {
 }
 
 /// The first bit that is taken.
-pub(crate) fn first_bit(subscript: Option<Subscript>) -> u32
+pub fn first_bit(subscript: Option<Subscript>) -> u32
     ensures value { result ≡ first subscript }
     ensures small { result < 256 }
 {
@@ -55,7 +55,7 @@ pub(crate) fn first_bit(subscript: Option<Subscript>) -> u32
 }
 
 /// How many bits are taken of so many.
-pub(crate) fn count_bits(subscript: Option<Subscript>, width: u32) -> u32
+pub fn count_bits(subscript: Option<Subscript>, width: u32) -> u32
     requires { width < 257 }
     ensures value { result ≡ count_of subscript width }
     ensures small { result < 257 }

@@ -13,6 +13,10 @@ mod search;
 mod stage;
 mod table;
 
+// The passes behind this one go through the chips by the same tables.
+pub use catalog::Catalog;
+pub use check::{count_bits, first_bit};
+pub use table::Table;
 // What the definitions of faults speak of.
 pub use check::{Port, RightSide};
 pub use elab::{check_library, order_law};

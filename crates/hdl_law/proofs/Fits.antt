@@ -7,7 +7,7 @@ use Rattle.hdl_tree.specs.declared.tree.Connection.{Connection}
 use Rattle.hdl_tree.specs.declared.tree.Subscript.{Subscript}
 use Rattle.hdl_tree.specs.declared.tree.Subscript.TheVariants as subscript
 use Rattle.hdl_tree.specs.declared.library.Entry.{Entry}
-use Rattle.hdl_tree.specs.Chips.{Chips, parts_of, first, count, is_past}
+use Rattle.hdl_tree.specs.Chips.{Chips, find_chip, parts_of, first, count, is_past}
 use Rattle.hdl_tree.specs.Behaviour.{chip_of, width_in, width_of}
 use Rattle.hdl_elab.specs.Tables.{found, first_of}
 use Rattle.hdl_elab.specs.declared.fault.NamedFault.{NamedFault}
@@ -26,7 +26,7 @@ above w j h = by (leb_tells w j)
     by (inl p) = let f : true ≡ false = sym p.0 ∙ h in absurd cc
     by (inr p) = p.1
 
-not_past : (s : Option Subscript) (w k : ℕ) → is_past s w ≡ false → k < count s w → first s + k < w
+pub not_past : (s : Option Subscript) (w k : ℕ) → is_past s w ≡ false → k < count s w → first s + k < w
 not_past None w k h lt = omega arith
 not_past (Some (subscript.Bit j)) w k h lt = let n = above w j h in omega (arith, lt, n)
 not_past (Some (subscript.Bits a b)) w k h lt = let n = above w b h in omega (arith, lt, n)
@@ -40,7 +40,7 @@ not_told true t o h = absurd cc
 not_told false t o h = refl
 
 -- the pin of a port
-bit_by : (inner : Entry) (name : List ℕ) (bit : ℕ) (port : Port) (input : Bool) (a b : Option ℕ) → width_in inner.chip.inputs name ≡ a → width_in inner.chip.outputs name ≡ b → is_some a ≡ input → first_of (as_port true a) (as_port false b) ≡ Some port → bit < port.width → HasBit (pins_on input inner) name bit
+pub bit_by : (inner : Entry) (name : List ℕ) (bit : ℕ) (port : Port) (input : Bool) (a b : Option ℕ) → width_in inner.chip.inputs name ≡ a → width_in inner.chip.outputs name ≡ b → is_some a ≡ input → first_of (as_port true a) (as_port false b) ≡ Some port → bit < port.width → HasBit (pins_on input inner) name bit
 bit_by inner name bit port true None b e f g h lt = absurd cc
 bit_by inner name bit port true (Some w) b e f g h lt = let p : w ≡ port.width = (let q : record { input = true; width = w } ≡ port = cc in ap (λ (x : Port). x.width) q) in record { width = w; there = e; below = subst (λ v. bit < v) (sym p) lt }
 bit_by inner name bit port false (Some w) b e f g h lt = absurd cc
@@ -57,14 +57,19 @@ fits_by chips text inner conn k input (Some port) e right way lt =
     bit_by inner conn.pin.name (first conn.pin.subscript + k) port input (width_in inner.chip.inputs conn.pin.name) (width_in inner.chip.outputs conn.pin.name) refl refl way
     (sym (found_ports inner.chip conn.pin.name) ∙ e) (not_past conn.pin.subscript port.width k past below)
 
+-- bit k of a connection is one of the pin that it names
+pub conn_fits : (chips : Chips) (names : List (List ℕ)) (chip : Entry) → IsFaultless chips names chip → (i j k : ℕ) (part : Part) (inner : Entry) (conn : Connection) (input : Bool) → slice_get (parts_of chips chip) i ≡ Some part → find_chip chips part.chip ≡ Some inner → slice_get part.connections j ≡ Some conn → is_input inner conn.pin.name ≡ input → k < count conn.pin.subscript (width_of inner conn.pin.name) →
+    HasBit (pins_on input inner) conn.pin.name (first conn.pin.subscript + k)
+conn_fits chips names chip faultless i j k part inner conn input there found_inner here way lt =
+    let text = context chips chip i (ports_of inner.chip) part.connections j in
+    let right : connection_fault text (ports_of inner.chip) conn ≡ None =
+    sym (ap (λ o. fault_of_connection chips chip i o j) there ∙ ap (connection_fault_by chips chip i part j) found_inner ∙ ap (connection_fault_at (context chips chip i (ports_of inner.chip) part.connections j) (ports_of inner.chip)) here) ∙ faultless (AtConnection i j) in
+    fits_by chips text inner conn k input (found conn.pin.name (ports_of inner.chip)) refl right way lt
+
 joints_fit : (chips : Chips) (names : List (List ℕ)) (chip : Entry) → IsFaultless chips names chip → JointsFit chips chip
 joints_fit chips names chip faultless i conn w k input j =
     let same : chip ≡ j.chip = cc (j.at) in
-    let there : slice_get (parts_of chips chip) i ≡ Some j.part = ap (λ c. slice_get (parts_of chips c) i) same ∙ j.there in
-    let text = context chips chip i (ports_of j.inner.chip) j.part.connections j.j in
-    let right : connection_fault text (ports_of j.inner.chip) conn ≡ None =
-    sym (ap (λ o. fault_of_connection chips chip i o j.j) there ∙ ap (connection_fault_by chips chip i j.part j.j) j.found ∙ ap (connection_fault_at (context chips chip i (ports_of j.inner.chip) j.part.connections j.j) (ports_of j.inner.chip)) j.here) ∙ faultless (AtConnection i j.j) in
-    fits_by chips text j.inner conn k input (found conn.pin.name (ports_of j.inner.chip)) refl right j.way j.within
+    conn_fits chips names chip faultless i j.j k j.part j.inner conn input (ap (λ c. slice_get (parts_of chips c) i) same ∙ j.there) j.found j.here j.way j.within
 
 record FineInside (chips : Chips) (inner : Entry) : Type 0 where
   names : List (List ℕ)

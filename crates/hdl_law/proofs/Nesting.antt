@@ -79,7 +79,7 @@ pub record InnerIsFine (chips : Chips) (names : List (List ℕ)) (inner : Entry)
   pub apart : is_among inner.name names ≡ false
   pub faultless : IsFaultless chips (inner.name ∷ names) inner
 
-inner_by : (chips : Chips) (names : List (List ℕ)) (chip : Entry) (i : ℕ) (inner : Entry) (o : Option Part) → slice_get (parts_of chips chip) i ≡ o → chip_of chips o ≡ Some inner → IsFaultless chips names chip → InnerIsFine chips names inner
+pub inner_by : (chips : Chips) (names : List (List ℕ)) (chip : Entry) (i : ℕ) (inner : Entry) (o : Option Part) → slice_get (parts_of chips chip) i ≡ o → chip_of chips o ≡ Some inner → IsFaultless chips names chip → InnerIsFine chips names inner
 inner_by chips names chip i inner None e f faultless = absurd cc
 inner_by chips names chip i inner (Some part) e f faultless =
     let at : part_fault_by names chip.name part.chip (Some inner) ≡ None = sym (ap (fault_of_part chips names chip) e ∙ ap (part_fault_by names chip.name part.chip) f) ∙ faultless (AtPart i) in

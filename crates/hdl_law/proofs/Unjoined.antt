@@ -53,7 +53,7 @@ lies_by p f n name bit (inr h) go = by (or_cases (bytes_eq name p && nat_eq bit 
         let at : bit ≡ f + n = (Decides-eqb bit (f + n)).0 b.1 in
         record { named = (bytes_decides name p).0 b.0; low = omega arith; high = omega arith }
 
-lies : (p : List ℕ) (f n : ℕ) (name : List ℕ) (bit : ℕ) → is_in name bit (bits_of p f n) ≡ true → Lies p f n name bit
+pub lies : (p : List ℕ) (f n : ℕ) (name : List ℕ) (bit : ℕ) → is_in name bit (bits_of p f n) ≡ true → Lies p f n name bit
 lies p f zero name bit h = absurd cc
 lies p f (suc n) name bit h =
     lies_by p f n name bit (or_cases (is_in name bit (bits_of p f n)) ((bytes_eq name p && nat_eq bit (f + n)) || false) (sym (is_in-append name bit (bits_of p f n) _) ∙ h)) (lies p f n name bit)
@@ -68,7 +68,7 @@ le_true a b h = by (leb_tells a b)
 both_true : (a b c : Bool) → a ≡ true → b ≡ true → c ≡ true → (a && (b && c)) ≡ true
 both_true a b c e f g = ap (λ x. x && (b && c)) e ∙ ap (λ x. x && c) f ∙ g
 
-within_true : (p : List ℕ) (f n : ℕ) (name : List ℕ) (bit : ℕ) → Lies p f n name bit → (bytes_eq p name && (nat_le f bit && nat_le (suc bit) (f + n))) ≡ true
+pub within_true : (p : List ℕ) (f n : ℕ) (name : List ℕ) (bit : ℕ) → Lies p f n name bit → (bytes_eq p name && (nat_le f bit && nat_le (suc bit) (f + n))) ≡ true
 within_true p f n name bit l = both_true (bytes_eq p name) (nat_le f bit) (nat_le (suc bit) (f + n)) ((bytes_decides p name).1 (sym l.named)) (le_true f bit l.low) (le_true (suc bit) (f + n) (omega (arith, l.high)))
 
 -- ---- origins
@@ -106,7 +106,7 @@ out_by None None port h k = absurd cc
 out_by None (Some w) port h k = let p : record { input = false; width = w } ≡ port = cc in ap (λ (x : Port). Some x.width) p
 out_by (Some w) b port h k = let p : record { input = true; width = w } ≡ port = cc in let f : true ≡ false = ap (λ (x : Port). x.input) p ∙ k in absurd cc
 
-out_width : (inner : Entry) (name : List ℕ) (port : Port) → found name (ports_of inner.chip) ≡ Some port → port.input ≡ false → width_in inner.chip.outputs name ≡ Some port.width
+pub out_width : (inner : Entry) (name : List ℕ) (port : Port) → found name (ports_of inner.chip) ≡ Some port → port.input ≡ false → width_in inner.chip.outputs name ≡ Some port.width
 out_width inner name port h k = out_by (width_in inner.chip.inputs name) (width_in inner.chip.outputs name) port (sym (found_ports inner.chip name) ∙ h) k
 
 no_driver_from : (i : ℕ) (name : List ℕ) (bit : ℕ) (conn : Connection) (n : ℕ) (s : Source) → drives_bits name bit n s ≡ false → output_from i name bit conn n s ≡ None
@@ -178,7 +178,7 @@ not_twice : (b : Bool) (t : NamedFault) → cond b (Some t) None ≡ None → b 
 not_twice true t h = absurd cc
 not_twice false t h = refl
 
-output_is_no_input : (chips : Chips) (names : List (List ℕ)) (chip : Entry) → IsFaultless chips names chip → end_of chips.blocks chip ≡ None → (name : List ℕ) (w : ℕ) → width_in chip.chip.outputs name ≡ Some w → is_input chip name ≡ false
+pub output_is_no_input : (chips : Chips) (names : List (List ℕ)) (chip : Entry) → IsFaultless chips names chip → end_of chips.blocks chip ≡ None → (name : List ℕ) (w : ℕ) → width_in chip.chip.outputs name ≡ Some w → is_input chip name ≡ false
 output_is_no_input chips names chip faultless no_end name w h =
     let o = pin_of chip.chip.outputs name w h in
     let ins = chip.chip.inputs in
