@@ -1,0 +1,5 @@
+pub mod Existence
+pub mod Loopless
+pub mod Reads
+pub mod Inner
+pub mod Rows
