@@ -2,4 +2,8 @@ pub mod Cpu
 pub mod Memory
 pub mod Instructions
 pub mod Cycle
-pub mod Library
+pub mod HasAll
+pub mod Opened
+pub mod Shown
+pub mod Faces
+pub mod Existing

@@ -2,3 +2,6 @@ pub mod Trees
 pub mod Cpu
 pub mod Computer
 pub mod Library
+pub mod Pins
+pub mod Dependencies
+pub mod Existence

@@ -3,6 +3,9 @@
 ghost use Rattle.hack_cpu.specs.Cpu.{CpuLaw, RegistersLaw};
 ghost use Rattle.hack_cpu.specs.Computer.{CycleLaw};
 ghost use Rattle.hack_cpu.specs.Library.{LibraryLaw, ComputerTextsLaw};
+ghost use Rattle.hack_cpu.specs.Pins.{PinsLaw};
+ghost use Rattle.hack_cpu.specs.Dependencies.{FaultlessLaw, LooplessLaw};
+ghost use Rattle.hack_cpu.specs.Existence.{ExistenceLaw, RunsLaw};
 
 /// What the CPU gives in a cycle, and what its registers hold next.
 pub fn cpu_law()
@@ -27,4 +30,29 @@ pub fn library_law()
 /// Each of the chips of the computer can be written as a text.
 pub fn computer_texts_law()
     ensures { ComputerTextsLaw }
+{}
+
+/// The shipped chips have the pins of the table, and their names are distinct.
+pub fn pins_law()
+    ensures { PinsLaw }
+{}
+
+/// No shipped chip has a fault, with blocks or with memories of gates.
+pub fn faultless_law()
+    ensures { FaultlessLaw }
+{}
+
+/// No shipped chip has a loop, with blocks or with memories of gates, and no output depends on an input but as the table says.
+pub fn loopless_law()
+    ensures { LooplessLaw }
+{}
+
+/// Each shipped chip has a behaviour, with blocks or with memories of gates, whatever comes in.
+pub fn existence_law()
+    ensures { ExistenceLaw }
+{}
+
+/// The Computer has a behaviour with each image, all keys and no reset.
+pub fn runs_law()
+    ensures { RunsLaw }
 {}

@@ -1,4 +1,4 @@
-use Rattle.hack_cpu.proofs.Library.{has_all}
+use Rattle.hack_cpu.proofs.HasAll.{has_all}
 use Rattle.hack_cpu.proofs.laws.library_law.Goals as goal
 
 pub returns : goal.returns

@@ -1,0 +1,39 @@
+-- Shipped chips have behaviours, since they have no faults and no loops.
+use Rattle.std.proofs.Common.{◌≡◌, ℕ, zero, suc, ◌<◌, Bool, true, false, List, [], ◌∷◌, Some, refl, subst, sym, arith}
+use Rattle.std.specs.Prelude.{slice_index, codes}
+use Rattle.std.specs.List.{All}
+use Rattle.std.proofs.lemmas.List.Elements.{All-head, All-tail}
+use Rattle.hdl_elab.specs.Whole.{chips_in}
+use Rattle.hdl_tree.specs.declared.library.Entry.{Entry}
+use Rattle.hdl_law.specs.Ways.{HasBit}
+use Rattle.hdl_exist.specs.Existence.{AreWords, HasBehaviour}
+use Rattle.hdl_exist.proofs.Exists.{exists}
+use Rattle.hdl_shown.proofs.Clean.{find_in}
+use Rattle.chip_basic.specs.Hdl.{shipped}
+use Rattle.hack_cpu.specs.Trees.{computer_tree}
+use Rattle.hack_cpu.specs.Library.{shipped_chips}
+use Rattle.hack_cpu.specs.Computer.{outside}
+use Rattle.hack_cpu.specs.Existence.{ExistenceLaw, ComputerRuns, RunsLaw}
+use Rattle.hack_cpu.proofs.Faces.{faces}
+use Rattle.hack_cpu.proofs.HasAll.{has_all}
+use Rattle.hack_cpu.proofs.Shown.{no_fault, no_loop}
+
+pub existing : ExistenceLaw
+existing blocks name entry found =
+    let r = find_in shipped_chips name entry found in
+    exists (chips_in shipped_chips blocks) name entry (faces.ends blocks) found (no_fault blocks r.place entry r.there) (no_loop blocks r.place entry r.there).no_loop
+
+word_in : (image : List ℕ) (a : ℕ) → All (λ w. w < 65536) image → slice_index image a < 65536
+word_in [] a h = omega arith
+word_in (w ∷ ws) zero h = All-head (λ x. x < 65536) w ws h
+word_in (w ∷ ws) (suc a) h = word_in ws a (All-tail (λ x. x < 65536) w ws h)
+
+reset_bit : HasBit (shipped computer_tree).chip.inputs (codes "reset") 0
+unfolding computer_tree
+reset_bit = record { width = 1; there = refl; below = omega arith }
+
+pub runs : RunsLaw
+runs image keys n words held =
+    let b : HasBehaviour (outside image keys) (chips_in shipped_chips true) (shipped computer_tree) n (λ name bit c. false) =
+    existing true (codes "Computer") (shipped computer_tree) (has_all true).computer (outside image keys) (record { keys = held; words = λ a. word_in image a words }) n (λ name bit c. false) in
+    record { wires = b.wires; behaves = b.behaves; no_reset = λ c. b.hears (codes "reset") 0 c reset_bit }
