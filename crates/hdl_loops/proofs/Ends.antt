@@ -1,0 +1,97 @@
+-- An end has no circle of its own, and its out depends on the inputs that reach it.
+use Rattle.std.proofs.Common.{◌≡◌, ℕ, ◌<◌, Bool, true, false, List, [], ◌∷◌, Option, Some, None, refl, sym, ap, subst, ◌∙◌, arith}
+use Rattle.std.specs.Prelude.{slice_get, codes}
+use Rattle.hdl_tree.specs.declared.tree.Part.{Part}
+use Rattle.hdl_tree.specs.declared.library.Entry.{Entry}
+use Rattle.hdl_tree.specs.declared.ends.End.{End}
+use Rattle.hdl_tree.specs.declared.ends.End.TheVariants as ends
+use Rattle.hdl_tree.specs.Chips.{Chips, end_of, parts_of, parts_of_body, parts_unless}
+use Rattle.hdl_tree.specs.Behaviour.{chip_of}
+use Rattle.hdl_law.specs.Plans.{is_input}
+use Rattle.hdl_law.specs.Loops.{BitAt, bit_at, reaches_out}
+use Rattle.hdl_law.specs.Ways.{Chain, HasBit, JointsFit, Joined, EndReaches, Own, OwnAt, IsOrdered}
+use Rattle.hdl_law.proofs.Circles.{own_way}
+use Rattle.hdl_law.proofs.Walks.{at_part}
+use Rattle.hdl_loops.specs.Inner.Steps.{HasDependency}
+use Rattle.hdl_loops.specs.Inner.Knowing.{TreeOrdered, IsGood}
+use Rattle.hdl_loops.specs.declared.graph.Dependency.{Dependency}
+
+abbrev end_rank : Bool → ℕ
+end_rank true = 0
+end_rank false = 1
+
+out_is_none : (e : End) → reaches_out e (codes "out") ≡ false
+out_is_none ends.Nand = refl
+out_is_none ends.Dff = refl
+out_is_none ends.Keyboard = refl
+out_is_none ends.Rom = refl
+out_is_none (ends.Block bits) = refl
+
+module _ (chips : Chips) (chip : Entry) (e : End) (is : end_of chips.blocks chip ≡ Some e) where
+  no_part : (i : ℕ) (part : Part) → slice_get (parts_of chips chip) i ≡ Some part → ⊥
+  no_part i part h =
+      let none : parts_of chips chip ≡ [] = ap (λ o. parts_unless o (parts_of_body chip.chip.body)) is in
+      let f : slice_get [] i ≡ Some part = ap (λ (ps : List Part). slice_get ps i) (sym none) ∙ h in
+      cc
+
+  no_joint : (i : ℕ) (input : Bool) (x y : BitAt) → Joined chips chip i input x y → ⊥
+  no_joint i input x y f =
+      let j = f.joint in
+      let same : chip ≡ j.chip = cc (j.at) in
+      no_part i j.part (ap (λ c. slice_get (parts_of chips c) i) same ∙ j.there)
+
+  no_inner : (i : ℕ) (inner : Entry) (o : Option Part) → slice_get (parts_of chips chip) i ≡ o → chip_of chips o ≡ Some inner → ⊥
+  no_inner i inner None g h = cc
+  no_inner i inner (Some part) g h = no_part i part g
+
+  -- a step of an end's own graph is its work
+  works_at : (p q n : List ℕ) (b : ℕ) (m : List ℕ) (k : ℕ) → OwnAt chips chip p q n b m k → EndReaches chips chip n m
+  works_at [] [] n b m k f = f
+  works_at [] (i ∷ []) n b m k f = absurd (no_joint i true (bit_at [] n b) (bit_at (i ∷ []) m k) f)
+  works_at [] (i ∷ j ∷ q) n b m k f = absurd f
+  works_at (i ∷ []) [] n b m k f = absurd (no_joint i false (bit_at [] m k) (bit_at (i ∷ []) n b) f)
+  works_at (i ∷ []) (j ∷ []) n b m k f = absurd (no_inner i f.inner (slice_get (parts_of chips chip) i) refl f.found)
+  works_at (i ∷ []) (j ∷ l ∷ q) n b m k f = absurd f
+  works_at (i ∷ l ∷ p) q n b m k f = absurd f
+
+  end_rises : (x y : BitAt) → Own chips chip x y → end_rank (reaches_out e x.name) < end_rank (reaches_out e y.name)
+  end_rises x y f =
+      let w = works_at x.path y.path x.name x.bit y.name y.bit f in
+      let same : w.e ≡ e = cc (w.is, is) in
+      let a : end_rank (reaches_out e x.name) ≡ 0 = ap end_rank (ap (λ v. reaches_out v x.name) (sym same) ∙ w.reaches) in
+      let b : end_rank (reaches_out e y.name) ≡ 1 = ap end_rank (ap (reaches_out e) w.named ∙ out_is_none e) in
+      omega (arith, a, b)
+
+  one_works : (x y : BitAt) → Own chips chip x y → reaches_out e x.name ≡ true
+  one_works x y f =
+      let w = works_at x.path y.path x.name x.bit y.name y.bit f in
+      let same : w.e ≡ e = cc (w.is, is) in
+      ap (λ v. reaches_out v x.name) (sym same) ∙ w.reaches
+
+  first_works : (ms : List BitAt) (x y : BitAt) → Chain (Own chips chip) x ms y → reaches_out e x.name ≡ true
+  first_works [] x y f = one_works x y f
+  first_works (m ∷ ms) x y f = one_works x m f.0
+
+  last_named : (ms : List BitAt) (x y : BitAt) → Chain (Own chips chip) x ms y → y.name ≡ codes "out"
+  last_named [] x y f = (works_at x.path y.path x.name x.bit y.name y.bit f).named
+  last_named (m ∷ ms) x y f = last_named ms m y f.1
+
+  no_joints : JointsFit chips chip
+  no_joints i conn w t input j = absurd (let same : chip ≡ j.chip = cc (j.at) in no_part i j.part (ap (λ c. slice_get (parts_of chips c) i) same ∙ j.there))
+
+  end_ordered : IsOrdered chips chip
+  end_ordered = record { rank = λ x. end_rank (reaches_out e x.name); rises = end_rises }
+
+  ends_here : TreeOrdered chips chip
+  ends_here [] c at = let same : chip ≡ c = cc in subst (IsOrdered chips) same end_ordered
+  ends_here (i ∷ q) c at = let a = at_part chips chip i q c at in absurd (no_inner i a.inner (slice_get (parts_of chips chip) i) refl a.found)
+
+  pub good_end : (ds : List Dependency) → ((n : List ℕ) (b k : ℕ) → HasBit chip.chip.inputs n b → reaches_out e n ≡ true → HasBit chip.chip.outputs (codes "out") k → is_input chip (codes "out") ≡ false → HasDependency ds n b (codes "out") k) → IsGood chips chip ds
+  good_end ds all fit = (
+    (λ n m b k d.
+        let w = own_way chips chip no_joints n m b k d.way in
+        let named : m ≡ codes "out" = last_named w.over (bit_at [] n b) (bit_at [] m k) w.steps in
+        subst (λ v. HasDependency ds n b v k) (sym named)
+        (all n b k d.from (first_works w.over (bit_at [] n b) (bit_at [] m k) w.steps) (subst (λ v. HasBit chip.chip.outputs v k) named d.to) (subst (λ v. is_input chip v ≡ false) named d.apart))),
+    ends_here,
+  )

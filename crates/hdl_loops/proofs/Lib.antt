@@ -1,0 +1,11 @@
+pub mod Widths
+pub mod Kept
+pub mod PinsOf
+pub mod Closed
+pub mod Marking
+pub mod Ends
+pub mod Seen
+pub mod Finding
+pub mod Noting
+pub mod Joining
+pub mod Tops
