@@ -1,0 +1,16 @@
+pub mod Lists
+pub mod Ending
+pub mod Nesting
+pub mod Sizing
+pub mod Wiring
+pub mod Planning
+pub mod Bridges
+pub mod Reading
+pub mod Joining
+pub mod Slots
+pub mod Gates
+pub mod Composite
+pub mod Pins
+pub mod EndsPlaced
+pub mod Within
+pub mod Putting

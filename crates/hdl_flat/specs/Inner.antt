@@ -1,0 +1,6 @@
+pub mod Nests
+pub mod Sizes
+pub mod Wired
+pub mod Plans
+pub mod Puts
+pub mod Putting

@@ -1,0 +1,4 @@
+pub mod Trees
+pub mod Ends
+pub mod Flat
+pub mod Inner
