@@ -2,6 +2,7 @@
 
 ghost use Rattle.std.specs.Prelude.{◌≡◌, ◌≤◌, ◌+◌, ℕ, ◌<◌, ◌∷◌, [], Bool, true, false, List, length, IfOk, Some, None, slice_get, MatchOption};
 ghost use Rattle.netlist.specs.Present.{value_in};
+ghost use Rattle.netlist.specs.Words.{word_at};
 ghost use Rattle.netlist.specs.Steps.{write_at};
 ghost use Rattle.netlist.specs.declared.node.Node.TheVariants.{Pin};
 ghost use Rattle.netlist.specs.declared.node.Block.{Block};
@@ -194,7 +195,8 @@ impl Sim {
     /// The value of a node at the last evaluation.
     pub fn get(&self, node: u32) -> bool
         requires { node < length self.now.net.nodes }
-        ensures { (calls earlier : List Call) (v : ℕ → ℕ → Bool) → StandsFor self.now calls → evaluated calls ≡ Some earlier → AreValues self.now.net earlier v → result ≡ v node (cycle_of earlier) }
+        ensures stored { result ≡ value_in self.now.values node }
+        ensures told { (calls earlier : List Call) (v : ℕ → ℕ → Bool) → StandsFor self.now calls → evaluated calls ≡ Some earlier → AreValues self.now.net earlier v → result ≡ v node (cycle_of earlier) }
     {
         self.values[node as usize]
     }
@@ -202,7 +204,8 @@ impl Sim {
     /// The word at an address of a block now.
     pub fn block_word(&self, block: u32, a: u32) -> u16
         requires { MatchOption (slice_get self.now.net.blocks block) ⊥ (λ b. a < b.words) }
-        ensures { (calls : List Call) (v : ℕ → ℕ → Bool) → StandsFor self.now calls → ArePast self.now.net calls (cycle_of calls) v → result ≡ words_of self.now.net.blocks v calls block a }
+        ensures stored { result ≡ word_at self.now.memory block a }
+        ensures told { (calls : List Call) (v : ℕ → ℕ → Bool) → StandsFor self.now calls → ArePast self.now.net calls (cycle_of calls) v → result ≡ words_of self.now.net.blocks v calls block a }
     {
         self.memory[block as usize][a as usize]
     }

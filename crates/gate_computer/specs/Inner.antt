@@ -1,0 +1,4 @@
+pub mod Told
+pub mod Readable
+pub mod Marked
+pub mod Reading

@@ -1,0 +1,179 @@
+//! The Computer made of gates, moved by keys.
+
+ghost use Rattle.std.specs.Prelude.{◌≡◌, ◌<◌, ◌≤◌, ◌+◌, ◌^◌, ◌++◌, ◌∷◌, [], ℕ, List, suc, if◌then◌else◌, length, IfOk};
+ghost use Rattle.word16.specs.Memory.{keyboard};
+ghost use Rattle.hack_isa.specs.Machine.{image_words};
+ghost use Rattle.machine_io.specs.History.{Turn, turn};
+ghost use Rattle.machine_io.specs.declared.machine.Moved.TheVariants.{Acted};
+ghost use Rattle.vm_translator.specs.Mapping.{Covers};
+ghost use Rattle.gate_computer.specs.Wiring.{IsWired};
+ghost use Rattle.outer_world.specs.Written.{CountsPut};
+ghost use Rattle.layers.specs.System.{IsKey};
+ghost use Rattle.gate_computer.specs.Turns.{HoldsKeys};
+ghost use Rattle.gate_computer.specs.Followed.{HasFollowed, PutsParts, program_in, word_in};
+
+use crate::reading::{hears_key, number_at, set_keyboard};
+use crate::showing::show_parts;
+use crate::tally::Tally;
+use crate::wiring::{WiredComputer, Wiring};
+use gate_sim::Sim;
+use outer_world::{List, Point, Put, Sink};
+use std::alloc::{AllocError, Global};
+use std::marker::Model;
+use vm_translator::PointRange;
+use word16::SCREEN;
+
+/// The simulator of the Computer, with an image in its instruction memory and the map of that image. A move is one cycle under a key.
+#[derive(Drop)]
+pub struct GateComputer {
+    sim: Sim,
+    wiring: Wiring,
+    image: Vec<u16>,
+    tally: Tally,
+    // What the pins of the keyboard hold.
+    key: u16,
+    moves: u64,
+    heard: u64,
+}
+
+impl Model for GateComputer {
+    ghost use Rattle.gate_computer.specs.Followed.{GateMachine};
+    ghost use Rattle.gate_computer.specs.Inner.Readable.{IsKeptWell};
+
+    ghost Value = { GateMachine };
+
+    ghost view = { λ g. record { sim = g.sim; wiring = g.wiring; image = g.image.items; tally = g.tally; key = g.key; moves = g.moves; ears = g.heard } };
+
+    ghost invariant = { λ g. IsKeptWell g.sim.net g.wiring g.tally.count g.heard g.moves };
+}
+
+fn counted(hears: bool, heard: u64) -> u64
+    requires { heard < 2 ^ 63 }
+    ensures { result ≡ (if hears then suc heard else heard) }
+{
+    if hears { heard + 1 } else { heard }
+}
+
+impl GateComputer {
+    /// The Computer at its start, with an image, its commits and its points. All memory is taken here.
+    pub fn new(
+        alloc: Global,
+        wired: WiredComputer,
+        image: &[u16],
+        commits: List<u16>,
+        points: List<PointRange>,
+    ) -> Result<GateComputer, AllocError>
+        requires wired { IsWired wired.net wired.wiring }
+        requires some { 0 < length image.now }
+        requires room { length image.now ≤ image_words }
+        requires covers { Covers 0 points (length image.now) }
+        ensures program { IfOk result (λ g. program_in g ≡ record { image = image.now; commits = commits; ranges = points }) }
+        ensures moves { IfOk result (λ g. g.moves ≡ 0) }
+        ensures stands { IfOk result (λ g. HasFollowed g []) }
+    {
+        let WiredComputer { net, wiring } = wired;
+        // They are in order.
+        let _ = net.nodes();
+        let words = image.len() as u32;
+        let mut sim = Sim::new(alloc, net)?;
+        sim.load_block(wiring.rom, 0, image);
+        Ok(GateComputer {
+            sim,
+            wiring,
+            image: Vec::from_slice(alloc, image)?,
+            tally: Tally::new(alloc, words, commits, points)?,
+            key: 0,
+            moves: 0,
+            heard: 0,
+        })
+    }
+
+    /// One cycle, in which the keyboard holds a key.
+    pub fn cycle(&mut self, key: u16)
+        requires { self.old.moves < 2 ^ 63 }
+        ensures program { program_in self.new ≡ program_in self.old }
+        ensures moves { self.new.moves ≡ self.old.moves + 1 }
+        ensures stands { (turns : List Turn) → HasFollowed self.old turns → HasFollowed self.new (turns ++ turn key Acted ∷ []) }
+    {
+        set_keyboard(
+            &mut self.sim,
+            self.wiring.keyboard.as_slice(),
+            self.key,
+            key,
+        );
+        self.key = key;
+        self.sim.tick();
+        let hears = hears_key(
+            &self.sim,
+            self.wiring.a.as_slice(),
+            &self.image,
+            self.tally.at(),
+        );
+        self.sim.tock();
+        self.tally
+            .go(number_at(&self.sim, self.wiring.pc.as_slice()));
+        self.heard = counted(hears, self.heard);
+        self.moves += 1;
+    }
+
+    /// Shows the outputs of all parts in the cycle that comes next, in which the keyboard holds a key: a line for each part, depth first in the order of
+    /// the texts, with its chip's name, a space, and the bits of its outputs. Only the pins of the keyboard change.
+    pub fn show_nets<S: Sink>(&mut self, key: u16, out: &mut S) -> Put
+        ensures program { program_in self.new ≡ program_in self.old }
+        ensures moves { self.new.moves ≡ self.old.moves }
+        ensures stands { (turns : List Turn) → HasFollowed self.old turns → HasFollowed self.new turns }
+        ensures put { (turns : List Turn) → HasFollowed self.old turns → (keys : ℕ → ℕ) → ((c : ℕ) → IsKey (keys c)) → HoldsKeys keys 0 turns → keys (length turns) ≡ key → PutsParts self.old.image keys (length turns) (S.written out.old) (S.written out.new) result }
+        ensures counts { CountsPut (S.faults out.old) (S.faults out.new) result }
+    {
+        set_keyboard(
+            &mut self.sim,
+            self.wiring.keyboard.as_slice(),
+            self.key,
+            key,
+        );
+        self.key = key;
+        self.sim.eval();
+        show_parts(&self.sim, self.wiring.parts.as_slice(), out)
+    }
+
+    /// The number of cycles so far.
+    pub fn moves(&self) -> u64
+        ensures { result ≡ self.now.moves }
+    {
+        self.moves
+    }
+
+    /// The number of steps of the program's meaning so far.
+    pub fn steps(&self) -> u64
+        ensures { result ≡ self.now.tally.count }
+    {
+        self.tally.steps()
+    }
+
+    /// The number of keys heard so far.
+    pub fn heard(&self) -> u64
+        ensures { result ≡ self.now.ears }
+    {
+        self.heard
+    }
+
+    /// The control point.
+    pub fn point(&self) -> Point
+        ensures { result ≡ self.now.tally.place }
+    {
+        self.tally.point()
+    }
+
+    /// The word at an address of main memory or of the screen.
+    pub fn word_at(&self, a: u16) -> u16
+        requires { a < keyboard }
+        ensures { result ≡ word_in self.now a }
+    {
+        if a < SCREEN {
+            self.sim.block_word(self.wiring.main, u32::from(a))
+        } else {
+            self.sim
+                .block_word(self.wiring.screen, u32::from(a - SCREEN))
+        }
+    }
+}

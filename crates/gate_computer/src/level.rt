@@ -1,0 +1,55 @@
+//! The Computer made of gates as a level: it acts in each of its turns, and never wants memory.
+
+ghost use Rattle.std.specs.Prelude.{true};
+ghost use Rattle.gate_computer.specs.Followed.{HasFollowed, program_in, word_in};
+
+use crate::GateComputer;
+use machine_io::{Level, Moved};
+use outer_world::Point;
+use std::alloc::AllocError;
+
+impl Level for GateComputer {
+    ghost use Rattle.machine_io.specs.declared.machine.Moved.TheVariants.{Acted};
+    ghost use Rattle.gate_computer.specs.Followed.{MappedImage};
+
+    type Point = Point;
+
+    ghost stands = { λ g turns. HasFollowed g turns };
+
+    ghost count = { λ g. g.moves };
+
+    ghost word = { λ g. word_in g };
+
+    ghost committed = { λ g. g.tally.count };
+
+    ghost at_point = { λ g. g.tally.place };
+
+    ghost reply = { λ _ _. Acted };
+
+    ghost sure = { true };
+
+    ghost Program = { MappedImage };
+
+    ghost program = { λ g. program_in g };
+
+    fn step(&mut self, key: u16) -> Result<Moved, AllocError> {
+        self.cycle(key);
+        Ok(Moved::Acted)
+    }
+
+    fn moves(&self) -> u64 {
+        GateComputer::moves(self)
+    }
+
+    fn word_at(&self, a: u16) -> u16 {
+        GateComputer::word_at(self, a)
+    }
+
+    fn steps(&self) -> u64 {
+        GateComputer::steps(self)
+    }
+
+    fn point(&self) -> Point {
+        GateComputer::point(self)
+    }
+}

@@ -1,0 +1,91 @@
+//! The lines that show the outputs of the Computer's parts.
+
+ghost use Rattle.std.specs.Prelude.{◌≡◌, ◌<◌, [], map, take, length, slice_get, ℕ, Some};
+ghost use Rattle.std.specs.List.{All};
+ghost use Rattle.outer_world.specs.Written.{CountsPut, Passes, Puts};
+ghost use Rattle.netlist.specs.Present.{value_in};
+ghost use Rattle.gate_computer.specs.declared.wiring.WiredPart.{WiredPart};
+ghost use Rattle.gate_computer.specs.Parts.{digit};
+ghost use Rattle.gate_computer.specs.Inner.Reading.{ArePartsThere, wired_line, wired_text};
+
+use crate::wiring::WiredPart;
+use gate_sim::Sim;
+use outer_world::{Pieces, Put, Sink};
+
+fn digit(bit: bool) -> u8
+    ensures { result ≡ digit bit }
+{
+    if bit { b'1' } else { b'0' }
+}
+
+fn put_digits<S: Sink>(sim: &Sim, nodes: &[u32], out: &mut Pieces<'_, S>) -> Put
+    requires { All (λ node. node < length sim.now.net.nodes) nodes.now }
+    ensures same_sink { out.new.sink.ghost_name ≡ out.old.sink.ghost_name }
+    ensures passes { Passes (S.written out.old.sink.now) (take out.old.len out.old.buffer) (S.written out.new.sink.now) (take out.new.len out.new.buffer) (map (λ node. digit (value_in sim.now.values node)) nodes.now) result }
+    ensures counts { CountsPut (S.faults out.old.sink.now) (S.faults out.new.sink.now) result }
+{
+    for node in nodes {
+        match out.put(&[digit(sim.get(*node))]) {
+            Put::Done => {}
+            Put::Failed => return Put::Failed,
+        }
+    }
+    Put::Done
+}
+
+// The line of a part.
+fn put_part<S: Sink>(sim: &Sim, part: &WiredPart, out: &mut Pieces<'_, S>) -> Put
+    requires { All (λ node. node < length sim.now.net.nodes) part.now.outputs }
+    ensures same_sink { out.new.sink.ghost_name ≡ out.old.sink.ghost_name }
+    ensures passes { Passes (S.written out.old.sink.now) (take out.old.len out.old.buffer) (S.written out.new.sink.now) (take out.new.len out.new.buffer) (wired_line (value_in sim.now.values) part.now) result }
+    ensures counts { CountsPut (S.faults out.old.sink.now) (S.faults out.new.sink.now) result }
+{
+    match out.put_all(&[part.chip.as_bytes(), b" "]) {
+        Put::Done => {}
+        Put::Failed => return Put::Failed,
+    }
+    match put_digits(sim, part.outputs.as_slice(), out) {
+        Put::Done => {}
+        Put::Failed => return Put::Failed,
+    }
+    out.put(b"\n")
+}
+
+fn put_parts<S: Sink>(sim: &Sim, parts: &[WiredPart], out: &mut Pieces<'_, S>) -> Put
+    requires { ArePartsThere (length sim.now.net.nodes) parts.now }
+    ensures same_sink { out.new.sink.ghost_name ≡ out.old.sink.ghost_name }
+    ensures passes { Passes (S.written out.old.sink.now) (take out.old.len out.old.buffer) (S.written out.new.sink.now) (take out.new.len out.new.buffer) (wired_text (value_in sim.now.values) parts.now) result }
+    ensures counts { CountsPut (S.faults out.old.sink.now) (S.faults out.new.sink.now) result }
+{
+    for part in parts {
+        match put_part(sim, part, out) {
+            Put::Done => {}
+            Put::Failed => return Put::Failed,
+        }
+    }
+    Put::Done
+}
+
+// From an empty buffer, which is empty again after it.
+fn put_all_parts<S: Sink>(sim: &Sim, parts: &[WiredPart], out: &mut Pieces<'_, S>) -> Put
+    requires there { ArePartsThere (length sim.now.net.nodes) parts.now }
+    requires empty { take out.old.len out.old.buffer ≡ [] }
+    ensures same_sink { out.new.sink.ghost_name ≡ out.old.sink.ghost_name }
+    ensures put { Puts (S.written out.old.sink.now) (S.written out.new.sink.now) (wired_text (value_in sim.now.values) parts.now) result }
+    ensures counts { CountsPut (S.faults out.old.sink.now) (S.faults out.new.sink.now) result }
+{
+    match put_parts(sim, parts, out) {
+        Put::Done => out.finish(),
+        Put::Failed => Put::Failed,
+    }
+}
+
+/// Puts the lines of the parts.
+pub fn show_parts<S: Sink>(sim: &Sim, parts: &[WiredPart], out: &mut S) -> Put
+    requires { ArePartsThere (length sim.now.net.nodes) parts.now }
+    ensures put { Puts (S.written out.old) (S.written out.new) (wired_text (value_in sim.now.values) parts.now) result }
+    ensures counts { CountsPut (S.faults out.old) (S.faults out.new) result }
+{
+    let mut pieces = Pieces::new(out);
+    put_all_parts(sim, parts, &mut pieces)
+}
