@@ -8,10 +8,11 @@ use Rattle.clap.specs.Simple.{subcommand_of}
 use Rattle.clap.specs.Faults.{fault_of}
 use Rattle.clap.specs.declared.parser.matches.ArgMatches.{ArgMatches}
 use Rattle.command_line.specs.Table.{table}
-use Rattle.machine_io.specs.declared.report.Show.{Show}
 use Rattle.machine_io.specs.declared.report.Show.TheVariants as shows
 use Rattle.command_line.specs.declared.request.RunLevel.{RunLevel}
 use Rattle.command_line.specs.declared.request.RunLevel.TheVariants as levels
+use Rattle.command_line.specs.declared.request.Shown.{Shown}
+use Rattle.command_line.specs.declared.request.Shown.TheVariants.{Words, Nets}
 use Rattle.command_line.specs.declared.request.SourceKind.{SourceKind}
 use Rattle.command_line.specs.declared.request.SourceKind.TheVariants as kinds
 use Rattle.command_line.specs.declared.request.Request.{Request}
@@ -23,7 +24,7 @@ pub data Line : Type 0 where
   exec : (path : Text) (cycles from to : ℕ) → Line
   vm : (folder : Text) (bare : Bool) → Line
   show : (path : Text) (kind : SourceKind) → Line
-  run : (folder : Text) (level : RunLevel) (cycles : ℕ) (keys : Option Text) (shown : Show) → Line
+  run : (folder : Text) (level : RunLevel) (cycles : ℕ) (keys : Option Text) → Line
 
 -- One or more decimal digits and nothing else, which write a number of at most `most`.
 pub record IsNumber (text : List ℕ) (most n : ℕ) : Type 0 where
@@ -37,14 +38,22 @@ NumberIn rows id most n = (text : Text) × (first_of id rows ≡ Some text) × I
 
 -- the words of the levels at which a program can be run
 abbrev pub level_word : RunLevel → Text
-level_word levels.Jack = codes "jack"
-level_word levels.Hack = codes "hack"
+level_word (levels.Jack words) = codes "jack"
+level_word (levels.Hack words) = codes "hack"
+level_word (levels.Gates shown) = codes "gates"
 
--- the words for what is shown of the memory after a report
-abbrev pub show_word : Show → Text
-show_word shows.Nothing = codes "none"
-show_word shows.Heap = codes "heap"
-show_word shows.Screen = codes "screen"
+-- What is shown after the report of a level: words of the memory, and at level gates alone the outputs of parts in their place.
+abbrev pub shown_at : RunLevel → Shown
+shown_at (levels.Jack words) = Words words
+shown_at (levels.Hack words) = Words words
+shown_at (levels.Gates shown) = shown
+
+-- the words for what is shown after a report
+abbrev pub shown_word : Shown → Text
+shown_word (Words shows.Nothing) = codes "none"
+shown_word (Words shows.Heap) = codes "heap"
+shown_word (Words shows.Screen) = codes "screen"
+shown_word Nets = codes "nets"
 
 -- the value that stands for an option that has no word of its own: whether it stands in the line
 abbrev pub flag_word : Bool → Text
@@ -70,11 +79,11 @@ IsReading name rows (vm folder bare) =
     (name ≡ codes "vm") × (first_of (codes "path") rows ≡ Some folder) × (first_of (codes "bare") rows ≡ Some (flag_word bare))
 IsReading name rows (show path kind) =
     (name ≡ codes "show") × (first_of (codes "path") rows ≡ Some path) × (kind_of path ≡ Some kind)
-IsReading name rows (run folder level cycles keys shown) =
+IsReading name rows (run folder level cycles keys) =
     (name ≡ codes "run") × (first_of (codes "path") rows ≡ Some folder)
     × (first_of (codes "level") rows ≡ Some (level_word level))
     × NumberIn rows (codes "cycles") 1000000000 cycles
-    × (first_of (codes "keys") rows ≡ keys) × (first_of (codes "show") rows ≡ Some (show_word shown))
+    × (first_of (codes "keys") rows ≡ keys) × (first_of (codes "show") rows ≡ Some (shown_word (shown_at level)))
 
 -- The words are the line: `clap` reads them by the table without a fault, as a command of the table
 -- with its matches, and these are the line's. So words are no line where `clap` gives no matches, or
@@ -97,7 +106,7 @@ IsInRange (asm path) = ⊤
 IsInRange (exec path cycles from to) = (cycles ≤ 1000000000) × (from ≤ 32767) × (to ≤ 32767)
 IsInRange (vm folder bare) = ⊤
 IsInRange (show path kind) = ⊤
-IsInRange (run folder level cycles keys shown) = cycles ≤ 1000000000
+IsInRange (run folder level cycles keys) = cycles ≤ 1000000000
 
 -- ---- the code's side
 
@@ -107,7 +116,7 @@ line_of (request.Asm path) = asm path.now
 line_of (request.Exec e) = exec e.path.now e.cycles e.from e.to
 line_of (request.Vm folder bare) = vm folder.now bare
 line_of (request.Show path kind) = show path.now kind
-line_of (request.Run r) = run r.folder.now r.level r.cycles (option_map (λ keys. keys.now) r.keys) r.show
+line_of (request.Run r) = run r.folder.now r.level r.cycles (option_map (λ keys. keys.now) r.keys)
 
 -- the matches of a command, as rows
 abbrev pub rows_in : ArgMatches → List Row
@@ -123,14 +132,24 @@ abbrev pub ReadsNumber : List Row → Text → ℕ → Option ℕ → Type 0
 ReadsNumber rows id most (Some n) = NumberIn rows id most n
 ReadsNumber rows id most None = (n : ℕ) → ¬ NumberIn rows id most n
 
--- the same of a level, and of what is shown
-abbrev pub ReadsLevel : List Row → Option RunLevel → Type 0
-ReadsLevel rows (Some level) = first_of (codes "level") rows ≡ Some (level_word level)
-ReadsLevel rows None = (level : RunLevel) → ¬ (first_of (codes "level") rows ≡ Some (level_word level))
+-- the same of what is shown
+abbrev pub ReadsShown : List Row → Option Shown → Type 0
+ReadsShown rows (Some shown) = first_of (codes "show") rows ≡ Some (shown_word shown)
+ReadsShown rows None = (shown : Shown) → ¬ (first_of (codes "show") rows ≡ Some (shown_word shown))
 
-abbrev pub ReadsShow : List Row → Option Show → Type 0
-ReadsShow rows (Some shown) = first_of (codes "show") rows ≡ Some (show_word shown)
-ReadsShow rows None = (shown : Show) → ¬ (first_of (codes "show") rows ≡ Some (show_word shown))
+-- the same of a level with what is shown
+abbrev pub HasLevel : List Row → RunLevel → Type 0
+HasLevel rows level =
+    (first_of (codes "level") rows ≡ Some (level_word level)) × (first_of (codes "show") rows ≡ Some (shown_word (shown_at level)))
+
+abbrev pub ReadsLevel : List Row → Option RunLevel → Type 0
+ReadsLevel rows (Some level) = HasLevel rows level
+ReadsLevel rows None = (level : RunLevel) → ¬ HasLevel rows level
+
+-- the level that has this word and shows this
+abbrev pub IsLevelOf : Text → Shown → Option RunLevel → Type 0
+IsLevelOf word shown (Some level) = (word ≡ level_word level) × (shown ≡ shown_at level)
+IsLevelOf word shown None = (level : RunLevel) → ¬ ((word ≡ level_word level) × (shown ≡ shown_at level))
 
 abbrev pub ReadsFlag : List Row → Text → Option Bool → Type 0
 ReadsFlag rows id (Some stands) = first_of id rows ≡ Some (flag_word stands)

@@ -10,7 +10,4 @@ mod reader;
 mod request;
 
 pub use reader::{LineError, one_line_law, read};
-pub use request::{Exec, Request, Run, RunLevel, SourceKind};
-
-#[cfg(test)]
-mod tests;
+pub use request::{Exec, Request, Run, RunLevel, Shown, SourceKind};

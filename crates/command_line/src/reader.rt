@@ -1,11 +1,11 @@
 //! The line that words are.
 ghost use Rattle.std.specs.Prelude.{◌≡◌, ◌≤◌, ℕ, List, Some, IfOk, MatchOption, MatchResult, codes, map, option_map, string_bytes};
 ghost use Rattle.clap.specs.Words.{Row, Text, first_of, subcommand_rows_of};
-ghost use Rattle.command_line.specs.Line.{AreOneLine, IsInRange, IsLine, IsNoLine, IsReading, Line, Reads, ReadsFlag, ReadsLevel, ReadsNumber, ReadsShow, kind_of, line_of, rows_in};
+ghost use Rattle.command_line.specs.Line.{AreOneLine, IsInRange, IsLine, IsNoLine, IsLevelOf, IsReading, Line, Reads, ReadsFlag, ReadsLevel, ReadsNumber, ReadsShown, kind_of, line_of, rows_in};
 
 use crate::commands::table;
 use crate::number::number;
-use crate::request::{Exec, Request, Run, RunLevel, SourceKind};
+use crate::request::{Exec, Request, Run, RunLevel, Shown, SourceKind};
 use clap::ArgMatches;
 use clap::error::ErrorKind;
 use machine_io::Show;
@@ -117,33 +117,45 @@ fn show<'a>(matches: &ArgMatches<'a>) -> Option<Request<'a>>
     Some(Request::Show { path, kind })
 }
 
-// The value of `--level`.
-fn level_in(matches: &ArgMatches<'_>) -> Option<RunLevel>
-    ensures { ReadsLevel (rows_in matches.now) result }
-{
-    let Some(text) = text_in(matches, "level") else {
-        return None;
-    };
-    match text {
-        "jack" => Some(RunLevel::Jack),
-        "hack" => Some(RunLevel::Hack),
-        _ => None,
-    }
-}
-
 // The value of `--show`.
-fn show_in(matches: &ArgMatches<'_>) -> Option<Show>
-    ensures { ReadsShow (rows_in matches.now) result }
+fn shown_in(matches: &ArgMatches<'_>) -> Option<Shown>
+    ensures { ReadsShown (rows_in matches.now) result }
 {
     let Some(text) = text_in(matches, "show") else {
         return None;
     };
     match text {
-        "none" => Some(Show::Nothing),
-        "heap" => Some(Show::Heap),
-        "screen" => Some(Show::Screen),
+        "none" => Some(Shown::Words(Show::Nothing)),
+        "heap" => Some(Shown::Words(Show::Heap)),
+        "screen" => Some(Shown::Words(Show::Screen)),
+        "nets" => Some(Shown::Nets),
         _ => None,
     }
+}
+
+// The level of a word, at which this is shown.
+fn level_of(word: &str, shown: Shown) -> Option<RunLevel>
+    ensures { IsLevelOf word.now shown result }
+{
+    match (word, shown) {
+        ("jack", Shown::Words(show)) => Some(RunLevel::Jack(show)),
+        ("hack", Shown::Words(show)) => Some(RunLevel::Hack(show)),
+        ("gates", shown) => Some(RunLevel::Gates(shown)),
+        _ => None,
+    }
+}
+
+// The level, by the values of `--level` and `--show`.
+fn level_in(matches: &ArgMatches<'_>) -> Option<RunLevel>
+    ensures { ReadsLevel (rows_in matches.now) result }
+{
+    let Some(shown) = shown_in(matches) else {
+        return None;
+    };
+    let Some(word) = text_in(matches, "level") else {
+        return None;
+    };
+    level_of(word, shown)
 }
 
 fn run<'a>(matches: &ArgMatches<'a>) -> Option<Request<'a>>
@@ -156,16 +168,12 @@ fn run<'a>(matches: &ArgMatches<'a>) -> Option<Request<'a>>
     let Some(cycles) = number_in(matches, "cycles", MOST_CYCLES) else {
         return None;
     };
-    let Some(show) = show_in(matches) else {
-        return None;
-    };
     let keys = text_in(matches, "keys");
     Some(Request::Run(Run {
         folder,
         level,
         cycles,
         keys,
-        show,
     }))
 }
 

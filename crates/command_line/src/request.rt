@@ -24,13 +24,24 @@ pub enum SourceKind {
     Jack,
 }
 
-/// The levels at which a program can be run.
+/// What is shown after a report.
+#[derive(Clone, Copy, Debug, PartialEq, Eq)]
+pub enum Shown {
+    /// Words of the memory.
+    Words(Show),
+    /// The outputs of all parts of the computer.
+    Nets,
+}
+
+/// The levels at which a program can be run, each with what is shown after its report.
 #[derive(Clone, Copy, Debug, PartialEq, Eq)]
 pub enum RunLevel {
     /// The meaning of the Jack text.
-    Jack,
+    Jack(Show),
     /// The computer, instruction by instruction.
-    Hack,
+    Hack(Show),
+    /// The computer made of gates, the only one that has parts.
+    Gates(Shown),
 }
 
 /// `run D --level L --cycles N [--keys F] [--show W]`: the report of a run of a program.
@@ -38,13 +49,12 @@ pub enum RunLevel {
 pub struct Run<'a> {
     /// The folder of the program.
     pub folder: &'a str,
+    /// The level, with what is shown after the report.
     pub level: RunLevel,
     /// How many moves are made, at most 1,000,000,000.
     pub cycles: u32,
     /// The file of the key script, if there is one.
     pub keys: Option<&'a str>,
-    /// What of the memory is shown after the report.
-    pub show: Show,
 }
 
 /// A line: a command with its values.

@@ -8,3 +8,9 @@ pub mod Holding
 pub mod Prints
 pub mod Outputs
 pub mod Following
+pub mod Counting
+pub mod Standing
+pub mod Turning
+pub mod Listing
+pub mod Wired
+pub mod Shipped

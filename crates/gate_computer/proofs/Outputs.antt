@@ -6,8 +6,9 @@ use Rattle.std.proofs.lemmas.List.Elements.{All-head, All-tail}
 use Rattle.hdl_tree.specs.declared.tree.Pin.{Pin}
 use Rattle.hdl_tree.specs.Chips.{pin_width}
 use Rattle.hdl_tree.specs.Behaviour.{Wires}
+use Rattle.hdl_flat.specs.Trees.{PartIn}
 use Rattle.gate_computer.specs.declared.wiring.WiredPart.{WiredPart}
-use Rattle.gate_computer.specs.Parts.{Place, digit, from_highest, part_line, parts_text}
+use Rattle.gate_computer.specs.Parts.{digit, from_highest, part_line, parts_text}
 use Rattle.gate_computer.specs.Wiring.{part_at}
 use Rattle.gate_computer.specs.Inner.Reading.{wired_line, wired_text, ArePartsThere}
 
@@ -55,7 +56,7 @@ pins_bits row (pin ∷ pins) at =
     ∙ ap (λ l. map digit (from_highest (pin_width pin) (λ bit. row (at pin.name bit))) ++ l) (pins_bits row pins at)
     ∙ sym (bool_join digit (from_highest (pin_width pin) (λ bit. row (at pin.name bit))) (flat_map (λ (p : Pin). from_highest (pin_width p) (λ bit. row (at p.name bit))) pins))
 
-pub text_is : (v : ℕ → ℕ → Bool) (c : ℕ) (at : List ℕ → Wires ℕ) (places : List Place) → wired_text (λ k. v k c) (map (part_at at) places) ≡ parts_text (λ path name bit d. v (at path name bit) d) c places
+pub text_is : (v : ℕ → ℕ → Bool) (c : ℕ) (at : List ℕ → Wires ℕ) (places : List PartIn) → wired_text (λ k. v k c) (map (part_at at) places) ≡ parts_text (λ path name bit d. v (at path name bit) d) c places
 text_is v c at [] = refl
 text_is v c at (place ∷ places) =
     ap (λ l. (place.chip.name ++ 32 ∷ (l ++ 10 ∷ [])) ++ wired_text (λ k. v k c) (map (part_at at) places)) (pins_bits (λ k. v k c) place.chip.chip.outputs (at place.path))

@@ -5,4 +5,6 @@ pub mod Wiring
 pub mod Tallies
 pub mod Turns
 pub mod Followed
+pub mod Nodes
+pub mod Elaborated
 pub mod Inner

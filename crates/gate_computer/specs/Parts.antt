@@ -1,29 +1,15 @@
--- The parts of a chip and of its parts, depth first, and the lines that show their outputs. (The book, appendix 2.)
-use Rattle.std.specs.Prelude.{◌≡◌, ℕ, zero, suc, Bool, List, [], ◌∷◌, ◌++◌, Some, map, if◌then◌else◌}
+-- The parts of the Computer and the parts in them, depth first, and the lines that show their outputs. (The book, appendix 2.)
+use Rattle.std.specs.Prelude.{◌≡◌, ℕ, zero, suc, Bool, List, [], ◌∷◌, ◌++◌, map, if◌then◌else◌}
 use Rattle.std.specs.List.{flat_map}
-use Rattle.hdl_tree.specs.declared.tree.Part.{Part}
 use Rattle.hdl_tree.specs.declared.library.Entry.{Entry}
-use Rattle.hdl_tree.specs.Chips.{Chips, find_chip, parts_of, pin_width}
+use Rattle.hdl_tree.specs.Chips.{pin_width}
 use Rattle.hdl_tree.specs.Behaviour.{Wires, Histories}
+use Rattle.hdl_flat.specs.Trees.{PartIn, IsTree}
 use Rattle.gate_computer.specs.Computer.{chips, computer}
 
--- a part by its path of part numbers, and the chip that it is
-pub record Place : Type 0 where
-  pub path : List ℕ
-  pub chip : Entry
-
--- The places of some parts of the chip at a path, of which the first is its part i: each part is followed by the parts in it.
-pub data AreParts (library : Chips) : List ℕ → ℕ → List Part → List Place → Type 0 where
-  no_part : (path : List ℕ) (i : ℕ) → AreParts library path i [] []
-  one_part : (path : List ℕ) (i : ℕ) (part : Part) (parts : List Part) (inner : Entry) (within after : List Place) →
-      find_chip library part.chip ≡ Some inner →
-      AreParts library (path ++ i ∷ []) 0 (parts_of library inner) within →
-      AreParts library path (suc i) parts after →
-      AreParts library path i (part ∷ parts) (record { path = path ++ i ∷ []; chip = inner } ∷ (within ++ after))
-
--- the places of all parts of the Computer
-abbrev pub AreComputerParts : List Place → Type 0
-AreComputerParts places = AreParts chips [] 0 (parts_of chips computer) places
+-- these are all parts of the Computer, by path, each followed by the parts in it
+abbrev pub AreComputerParts : List PartIn → Type 0
+AreComputerParts places = IsTree chips computer places
 
 -- ---- outputs
 
@@ -40,13 +26,13 @@ abbrev pub digit : Bool → ℕ
 digit b = if b then 49 else 48
 
 -- the name of a part's chip, a space, and the bits of its outputs in a cycle
-abbrev pub part_line : (List ℕ → Histories) → ℕ → Place → List ℕ
+abbrev pub part_line : (List ℕ → Histories) → ℕ → PartIn → List ℕ
 part_line wires c place = place.chip.name ++ 32 ∷ (map digit (output_bits place.chip (λ name bit. wires place.path name bit c)) ++ 10 ∷ [])
 
 -- a line for each of these parts
-abbrev pub parts_text : (List ℕ → Histories) → ℕ → List Place → List ℕ
+abbrev pub parts_text : (List ℕ → Histories) → ℕ → List PartIn → List ℕ
 parts_text wires c places = flat_map (part_line wires c) places
 
 -- the text shows the outputs of all parts of the Computer in a cycle of a behaviour
 abbrev pub ShowsParts : (List ℕ → Histories) → ℕ → List ℕ → Type 0
-ShowsParts wires c text = (places : List Place) × AreComputerParts places × (text ≡ parts_text wires c places)
+ShowsParts wires c text = (places : List PartIn) × AreComputerParts places × (text ≡ parts_text wires c places)

@@ -5,10 +5,11 @@ use Rattle.hdl_tree.specs.Behaviour.{Wires}
 use Rattle.netlist.specs.declared.node.Node.TheVariants.{Pin}
 use Rattle.netlist.specs.Net.{Net}
 use Rattle.hdl_numbering.specs.Numbering.{IsNumbering, nodes_of}
+use Rattle.hdl_flat.specs.Trees.{PartIn}
 use Rattle.gate_computer.specs.declared.wiring.Wiring.{Wiring}
 use Rattle.gate_computer.specs.declared.wiring.WiredPart.{WiredPart}
 use Rattle.gate_computer.specs.Computer.{chips, computer}
-use Rattle.gate_computer.specs.Parts.{Place, AreComputerParts, output_bits}
+use Rattle.gate_computer.specs.Parts.{AreComputerParts, output_bits}
 
 -- ---- paths of the Computer: the CPU is its part 0, the ROM part 1 and Memory part 2
 
@@ -33,7 +34,7 @@ keyboard_path = 2 ∷ 5 ∷ []
 -- ---- what the wiring tells, where `at` gives the node of each bit of each pin by path, and `block` the block of each memory
 
 -- the part at a place: the name of its chip, and the nodes of its outputs
-abbrev pub part_at : (List ℕ → Wires ℕ) → Place → WiredPart
+abbrev pub part_at : (List ℕ → Wires ℕ) → PartIn → WiredPart
 part_at at place = record { chip = place.chip.name; outputs = output_bits place.chip (at place.path) }
 
 -- the nodes of pins and outputs are there, lowest bits first, and the parts are those of the Computer, depth first in the order of the texts
@@ -41,7 +42,7 @@ pub record TellsPins (w : Wiring) (at : List ℕ → Wires ℕ) : Type 0 where
   pub keyboard : w.keyboard ≡ nodes_of 16 (at keyboard_path (codes "out"))
   pub pc : w.pc ≡ nodes_of 15 (at cpu_path (codes "pc"))
   pub a : w.a ≡ nodes_of 16 (at a_register_path (codes "out"))
-  pub places : List Place
+  pub places : List PartIn
   pub all_places : AreComputerParts places
   pub parts : w.parts ≡ map (part_at at) places
 

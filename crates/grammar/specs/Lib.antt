@@ -3,3 +3,4 @@ pub mod Cutting
 pub mod Reading
 pub mod Texts
 pub mod Leaves
+pub mod Faults

@@ -3,15 +3,15 @@ pub mod Tokens
 pub mod Assembly
 pub mod Lines
 pub mod Before
-pub mod Rest
 pub mod Faults
 pub mod Comps
 pub mod Program
 pub mod Entered
-pub mod Steps
 pub mod Meaning
 pub mod Image
 pub mod HackTokens
 pub mod HackText
 pub mod Written
 pub mod Inner
+pub mod Told
+pub mod Computed

@@ -1,6 +1,7 @@
 //! From assembly texts to words.
 
 ghost use Rattle.std.specs.Prelude.{◌≡◌, List, ℕ, Result, Ok, IfOk, IfErr};
+ghost use Rattle.hack_asm.specs.Computed.{RowsCompute};
 ghost use Rattle.hack_asm.specs.Faults.{Wrong, Yields};
 ghost use Rattle.hack_asm.specs.Meaning.{Means, MeansOf, IsRefusal, ReadingLaw, CompsHaveRows};
 
@@ -38,4 +39,11 @@ pub fn assembly_law()
 /// The law of computations: each that a text spells has a row of the table of comp. No code, only the statement.
 pub fn comp_law()
     ensures { CompsHaveRows }
+{}
+
+/// The law of rows: for the row of each computation the ALU gives what the computation's text says, read as an operation on 0, 1, D, A
+/// and M. No code, only the statement.
+#[tactic(auto, using(crate::proofs::Computing::rows_compute))]
+pub fn row_law()
+    ensures { RowsCompute }
 {}

@@ -13,13 +13,11 @@ mod program;
 mod reading;
 mod rules;
 mod symbols;
-#[cfg(test)]
-mod tests;
 mod token;
 mod words;
 mod writing;
 
-pub use assembling::{assemble, assembly_law, comp_law};
+pub use assembling::{assemble, assembly_law, comp_law, row_law};
 pub use fault::AsmFault;
 pub use hack_reading::{hack_law, image_law, read_hack};
 pub use image::{put_hack, write_hack};

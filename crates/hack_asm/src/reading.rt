@@ -4,7 +4,7 @@ ghost use Rattle.std.specs.Prelude.{◌≡◌, ◌<◌, ◌≤◌, map, length, 
 ghost use Rattle.grammar.specs.Reading.{ParsesAllBy};
 ghost use Rattle.hack_asm.specs.Tokens.{view};
 ghost use Rattle.hack_asm.specs.Assembly.{assembly, whole};
-ghost use Rattle.hack_asm.specs.Rest.{ReadsLine};
+ghost use Rattle.hack_asm.specs.Inner.Rest.{ReadsLine};
 ghost use Rattle.hack_asm.specs.Lines.{line_of, text_tree};
 
 use crate::lines::Item;

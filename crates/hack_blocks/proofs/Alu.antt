@@ -4,9 +4,8 @@ use Rattle.word16.specs.Words.{has_bit}
 use Rattle.std.specs.Int.Bits.{and_lt}
 use Rattle.std.specs.Prelude.{nat_eq, bit_and, bit_or, if◌then◌else◌}
 use Rattle.std.proofs.lemmas.Grind.{common_steps}
-use Rattle.std.proofs.lemmas.Nat.{and-not, and_comm}
-use Rattle.std.specs.Int.Bits.{or_add_and}
 use Rattle.hack_isa.specs.Table.{alu_out, preset, combine}
+use Rattle.hack_isa.proofs.Operations.{alu_42, alu_63, alu_58, alu_12, alu_48, alu_13, alu_49, alu_15, alu_51, alu_31, alu_55, alu_14, alu_50, alu_2, alu_19, alu_7, alu_0, alu_21}
 
 abbrev pub comp_value : ℕ → ℕ → ℕ → ℕ
 comp_value bits x y =
@@ -29,87 +28,6 @@ comp_value bits x y =
     if nat_eq bits 0 then bit_and x y else
     if nat_eq bits 21 then bit_or x y else
     alu_out bits x y
-
-and_ones : (x : ℕ) → x < 65536 → x ≡ bit_and x 65535
-and_ones x h = grind (arith, common_steps)
-
-ones_and : (x : ℕ) → x < 65536 → x ≡ bit_and 65535 x
-ones_and x h = grind (arith, common_steps)
-
-alu_42 : (x y : ℕ) → x < 65536 → y < 65536 → 0 ≡ alu_out 42 x y
-unfolding alu_out
-alu_42 x y hx hy = refl
-
-alu_63 : (x y : ℕ) → x < 65536 → y < 65536 → 1 ≡ alu_out 63 x y
-unfolding alu_out
-alu_63 x y hx hy = refl
-
-alu_58 : (x y : ℕ) → x < 65536 → y < 65536 → 65535 ≡ alu_out 58 x y
-unfolding alu_out
-alu_58 x y hx hy = refl
-
-alu_12 : (x y : ℕ) → x < 65536 → y < 65536 → x ≡ alu_out 12 x y
-unfolding alu_out
-alu_12 x y hx hy = and_ones x hx
-
-pub alu_48 : (x y : ℕ) → x < 65536 → y < 65536 → y ≡ alu_out 48 x y
-unfolding alu_out
-alu_48 x y hx hy = ones_and y hy
-
-alu_13 : (x y : ℕ) → x < 65536 → y < 65536 → 65535 - x ≡ alu_out 13 x y
-unfolding alu_out
-alu_13 x y hx hy = ap (λ n. 65535 - n) (and_ones x hx)
-
-alu_49 : (x y : ℕ) → x < 65536 → y < 65536 → 65535 - y ≡ alu_out 49 x y
-unfolding alu_out
-alu_49 x y hx hy = ap (λ n. 65535 - n) (ones_and y hy)
-
-alu_15 : (x y : ℕ) → x < 65536 → y < 65536 → (65536 - x) % 65536 ≡ alu_out 15 x y
-unfolding alu_out
-alu_15 x y hx hy = omega arith
-
-alu_51 : (x y : ℕ) → x < 65536 → y < 65536 → (65536 - y) % 65536 ≡ alu_out 51 x y
-unfolding alu_out
-alu_51 x y hx hy = omega arith
-
-alu_31 : (x y : ℕ) → x < 65536 → y < 65536 → (x + 1) % 65536 ≡ alu_out 31 x y
-unfolding alu_out
-alu_31 x y hx hy = omega arith
-
-alu_55 : (x y : ℕ) → x < 65536 → y < 65536 → (y + 1) % 65536 ≡ alu_out 55 x y
-unfolding alu_out
-alu_55 x y hx hy = omega arith
-
-alu_14 : (x y : ℕ) → x < 65536 → y < 65536 → (x + 65535) % 65536 ≡ alu_out 14 x y
-unfolding alu_out
-alu_14 x y hx hy = omega arith
-
-alu_50 : (x y : ℕ) → x < 65536 → y < 65536 → (y + 65535) % 65536 ≡ alu_out 50 x y
-unfolding alu_out
-alu_50 x y hx hy = omega arith
-
-alu_2 : (x y : ℕ) → x < 65536 → y < 65536 → (x + y) % 65536 ≡ alu_out 2 x y
-unfolding alu_out
-alu_2 x y hx hy = omega arith
-
-alu_19 : (x y : ℕ) → x < 65536 → y < 65536 → (x + (65536 - y)) % 65536 ≡ alu_out 19 x y
-unfolding alu_out
-alu_19 x y hx hy = omega arith
-
-alu_7 : (x y : ℕ) → x < 65536 → y < 65536 → (y + (65536 - x)) % 65536 ≡ alu_out 7 x y
-unfolding alu_out
-alu_7 x y hx hy = omega arith
-
-alu_0 : (x y : ℕ) → x < 65536 → y < 65536 → bit_and x y ≡ alu_out 0 x y
-unfolding alu_out
-alu_0 x y hx hy = refl
-
-alu_21 : (x y : ℕ) → x < 65536 → y < 65536 → bit_or x y ≡ alu_out 21 x y
-unfolding alu_out
-alu_21 x y hx hy =
-    let first : bit_and (65535 - x) (65535 - y) + bit_and x (65535 - y) ≡ 65535 - y = and-not 16 x (65535 - y) hx (omega arith) in
-    let second : bit_and (65535 - y) x + bit_and y x ≡ x = and-not 16 y x hy hx in
-    omega (arith, first, second, and_comm x (65535 - y), and_comm x y, or_add_and x y)
 
 -- one line of a table
 at_line : (bits k v rest out : ℕ) → (bits ≡ k → v ≡ out) → rest ≡ out → (if nat_eq bits k then v else rest) ≡ out

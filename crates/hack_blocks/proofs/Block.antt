@@ -11,7 +11,8 @@ use Rattle.hack_isa.specs.Machine.{Machine, read, write, jumps, perform, fetch, 
 use Rattle.layers.specs.System.{IsData, IsKey}
 use Rattle.hack_blocks.specs.Computer.{Stands}
 use Rattle.hack_blocks.specs.Going.{IsDataWrite, IsKeyRead, Quiet, Hears, Reaches, Does, arrived, further}
-use Rattle.hack_blocks.proofs.Alu.{comp_value, comp_is, comp_small, alu_48}
+use Rattle.hack_isa.proofs.Operations.{alu_48}
+use Rattle.hack_blocks.proofs.Alu.{comp_value, comp_is, comp_small}
 
 -- what instructions without a jump change
 pub record Data : Type 0 where

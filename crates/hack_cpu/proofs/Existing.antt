@@ -1,19 +1,18 @@
 -- Shipped chips have behaviours, since they have no faults and no loops.
-use Rattle.std.proofs.Common.{◌≡◌, ℕ, zero, suc, ◌<◌, Bool, true, false, List, [], ◌∷◌, Some, refl, subst, sym, arith}
+use Rattle.std.proofs.Common.{ℕ, zero, suc, ◌<◌, true, false, List, [], ◌∷◌, refl, arith}
 use Rattle.std.specs.Prelude.{slice_index, codes}
 use Rattle.std.specs.List.{All}
 use Rattle.std.proofs.lemmas.List.Elements.{All-head, All-tail}
 use Rattle.hdl_elab.specs.Whole.{chips_in}
-use Rattle.hdl_tree.specs.declared.library.Entry.{Entry}
 use Rattle.hdl_law.specs.Ways.{HasBit}
-use Rattle.hdl_exist.specs.Existence.{AreWords, HasBehaviour}
+use Rattle.hdl_exist.specs.Existence.{HasBehaviour}
 use Rattle.hdl_exist.proofs.Exists.{exists}
 use Rattle.hdl_shown.proofs.Clean.{find_in}
 use Rattle.chip_basic.specs.Hdl.{shipped}
 use Rattle.hack_cpu.specs.Trees.{computer_tree}
 use Rattle.hack_cpu.specs.Library.{shipped_chips}
 use Rattle.hack_cpu.specs.Computer.{outside}
-use Rattle.hack_cpu.specs.Existence.{ExistenceLaw, ComputerRuns, RunsLaw}
+use Rattle.hack_cpu.specs.Existence.{ExistenceLaw, RunsLaw}
 use Rattle.hack_cpu.proofs.Faces.{faces}
 use Rattle.hack_cpu.proofs.HasAll.{has_all}
 use Rattle.hack_cpu.proofs.Shown.{no_fault, no_loop}

@@ -7,3 +7,4 @@ pub mod Opened
 pub mod Shown
 pub mod Faces
 pub mod Existing
+pub mod Printed

@@ -5,3 +5,4 @@ pub mod Library
 pub mod Pins
 pub mod Dependencies
 pub mod Existence
+pub mod Inner

@@ -31,3 +31,7 @@ LibraryLaw = (blocks : Bool) → HasComputerChips (record { entries = shipped_ch
 -- each of the chips of the computer keeps the rules of texts, so that its printed form spells it
 abbrev pub ComputerTextsLaw : Type 0
 ComputerTextsLaw = all chip_can (rom_tree ∷ keyboard_tree ∷ cpu_tree ∷ memory_tree ∷ computer_tree ∷ []) ≡ true
+
+-- each shipped chip keeps the rules of texts, so that its printed form spells it
+abbrev pub TextsLaw : Type 0
+TextsLaw = all (λ entry. chip_can entry.chip) shipped_chips ≡ true

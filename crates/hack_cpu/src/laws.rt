@@ -2,7 +2,7 @@
 
 ghost use Rattle.hack_cpu.specs.Cpu.{CpuLaw, RegistersLaw};
 ghost use Rattle.hack_cpu.specs.Computer.{CycleLaw};
-ghost use Rattle.hack_cpu.specs.Library.{LibraryLaw, ComputerTextsLaw};
+ghost use Rattle.hack_cpu.specs.Library.{LibraryLaw, ComputerTextsLaw, TextsLaw};
 ghost use Rattle.hack_cpu.specs.Pins.{PinsLaw};
 ghost use Rattle.hack_cpu.specs.Dependencies.{FaultlessLaw, LooplessLaw};
 ghost use Rattle.hack_cpu.specs.Existence.{ExistenceLaw, RunsLaw};
@@ -30,6 +30,11 @@ pub fn library_law()
 /// Each of the chips of the computer can be written as a text.
 pub fn computer_texts_law()
     ensures { ComputerTextsLaw }
+{}
+
+/// Each shipped chip can be written as a text.
+pub fn texts_law()
+    ensures { TextsLaw }
 {}
 
 /// The shipped chips have the pins of the table, and their names are distinct.

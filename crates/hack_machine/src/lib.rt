@@ -7,6 +7,7 @@ ghost use Rattle.word16.specs.Words.{has_bit};
 ghost use Rattle.hack_isa.specs.Table.{instr_of};
 ghost use Rattle.hack_isa.specs.Machine.{read, write, jumps, step, start, image_words};
 ghost use Rattle.hack_machine.specs.Loaded.{LoadedMachine, HasRun, RunsThroughCycles, machine_of, words_of};
+ghost use Rattle.hack_machine.specs.Changes.{Change, Press, PutA, PutD, PutPc, PutWord, after, HasChanged};
 ghost use Rattle.hack_machine.specs.Turns.{HasTaken};
 
 mod level;
@@ -121,6 +122,7 @@ impl Hack {
         ensures start { IfOk result (λ h. machine_of h ≡ start) }
         ensures run { IfOk result (λ h. HasRun h []) }
         ensures turns { IfOk result (λ h. HasTaken h []) }
+        ensures changed { IfOk result (λ h. HasChanged h []) }
     {
         Ok(Hack {
             a: 0,
@@ -182,10 +184,53 @@ impl Hack {
         ensures step { machine_of self.new ≡ step self.old.image key (machine_of self.old) }
         ensures acts { result ≡ Moved.Acted }
         ensures run { (keys : List ℕ) → HasRun self.old keys → HasRun self.new (keys ++ key ∷ []) }
+        ensures changed { (changes : List Change) → HasChanged self.old changes → HasChanged self.new (changes ++ Press key ∷ []) }
     {
         self.perform(key);
         self.moves += 1;
         Moved::Acted
+    }
+
+    /// Puts a value into A, and leaves the rest.
+    pub fn set_a(&mut self, value: u16)
+        ensures image { self.new.image ≡ self.old.image }
+        ensures moves { self.new.moves ≡ self.old.moves }
+        ensures put { machine_of self.new ≡ after self.old.image (PutA value) (machine_of self.old) }
+        ensures changed { (changes : List Change) → HasChanged self.old changes → HasChanged self.new (changes ++ PutA value ∷ []) }
+    {
+        self.a = value;
+    }
+
+    /// Puts a value into D, and leaves the rest.
+    pub fn set_d(&mut self, value: u16)
+        ensures image { self.new.image ≡ self.old.image }
+        ensures moves { self.new.moves ≡ self.old.moves }
+        ensures put { machine_of self.new ≡ after self.old.image (PutD value) (machine_of self.old) }
+        ensures changed { (changes : List Change) → HasChanged self.old changes → HasChanged self.new (changes ++ PutD value ∷ []) }
+    {
+        self.d = value;
+    }
+
+    /// Puts an address below 32,768 into the program counter, and leaves the rest.
+    pub fn set_pc(&mut self, value: u16)
+        requires { value < 32768 }
+        ensures image { self.new.image ≡ self.old.image }
+        ensures moves { self.new.moves ≡ self.old.moves }
+        ensures put { machine_of self.new ≡ after self.old.image (PutPc value) (machine_of self.old) }
+        ensures changed { (changes : List Change) → HasChanged self.old changes → HasChanged self.new (changes ++ PutPc value ∷ []) }
+    {
+        self.pc = value;
+    }
+
+    /// Puts a word at an address below that of the keyboard, and leaves the rest.
+    pub fn set_ram(&mut self, address: u16, value: u16)
+        requires { address < keyboard }
+        ensures image { self.new.image ≡ self.old.image }
+        ensures moves { self.new.moves ≡ self.old.moves }
+        ensures put { machine_of self.new ≡ after self.old.image (PutWord address value) (machine_of self.old) }
+        ensures changed { (changes : List Change) → HasChanged self.old changes → HasChanged self.new (changes ++ PutWord address value ∷ []) }
+    {
+        self.ram[address as usize] = value;
     }
 
     /// The register A.
@@ -258,6 +303,21 @@ mod tests {
         assert_eq!(rt; hack.ram(0), 5);
         assert_eq!(rt; hack.ram(1), 0);
         assert_eq!(rt; hack.moves(), 6);
+        Ok(())
+    }
+
+    // M=D stands at 1; what is put is there, and the instruction finds it.
+    #[test]
+    fn puts_from_outside(rt: HostRuntime) -> Result<(), AllocError> {
+        let mut hack = Hack::new(rt.alloc(), &[0, 58120])?;
+        hack.set_a(5);
+        hack.set_d(3);
+        hack.set_pc(1);
+        hack.set_ram(5, 7);
+        assert_eq!(rt; (hack.a(), hack.d(), hack.pc(), hack.ram(5)), (5, 3, 1, 7));
+        assert!(rt; hack.moves() < 1);
+        hack.step(0);
+        assert_eq!(rt; hack.ram(5), 3);
         Ok(())
     }
 

@@ -1,15 +1,14 @@
 -- One check after another.
-use Rattle.std.proofs.Common.{◌≡◌, ℕ, List, [], ◌∷◌, ◌++◌, Bool, true, false, Option, Some, None, Result, Ok, Err, refl, sym, ap, subst, ◌∙◌}
+use Rattle.std.proofs.Common.{◌≡◌, ℕ, List, [], ◌∷◌, ◌++◌, Bool, true, false, Option, Some, None, Result, Err, refl, ap, subst, ◌∙◌}
 use Rattle.hdl_tree.specs.declared.tree.Connection.{Connection}
 use Rattle.hdl_tree.specs.declared.tree.Selection.{Selection}
 use Rattle.hdl_tree.specs.declared.tree.Source.{Source}
 use Rattle.hdl_tree.specs.declared.tree.Source.TheVariants as source
 use Rattle.hdl_tree.specs.Chips.{first, count}
-use Rattle.hdl_elab.specs.Tables.{found, first_of, BitOf, bits_of}
-use Rattle.hdl_elab.specs.Inner.Entered.{table_of, Finds}
+use Rattle.hdl_elab.specs.Tables.{found, first_of, bits_of}
 use Rattle.hdl_elab.specs.declared.fault.NamedFault.{NamedFault}
 use Rattle.hdl_elab.specs.Inner.Checked.{Checks}
-use Rattle.hdl_elab.specs.Faults.{Context, Driver, right_side_of, driver_by, driver_into, bits_driven, fed_by, width_fault, driven_fault, undriven_fault, wiring_fault, wiring_fault_by, connection_fault}
+use Rattle.hdl_elab.specs.Faults.{Context, right_side_of, driver_by, driver_into, bits_driven, fed_by, width_fault, driven_fault, undriven_fault, wiring_fault, wiring_fault_by, connection_fault}
 use Rattle.hdl_elab.specs.declared.check.Port.{Port}
 use Rattle.hdl_elab.specs.declared.check.RightSide.{RightSide}
 use Rattle.hdl_elab.specs.declared.fault.ElabFault.{ElabFault}

@@ -1,12 +1,11 @@
 -- What a connection drives, by cases.
-use Rattle.std.proofs.Common.{◌≡◌, ℕ, Bool, true, false, cond, List, [], ◌∷◌, ◌++◌, Option, Some, None, refl, sym, ap, ◌∙◌}
+use Rattle.std.proofs.Common.{◌≡◌, ℕ, Bool, false, cond, List, [], ◌∷◌, Option, Some, sym, ap, ◌∙◌}
 use Rattle.hdl_tree.specs.declared.tree.Connection.{Connection}
 use Rattle.hdl_tree.specs.declared.tree.Selection.{Selection}
 use Rattle.hdl_tree.specs.declared.tree.Source.{Source}
 use Rattle.hdl_tree.specs.declared.tree.Source.TheVariants as source
 use Rattle.hdl_tree.specs.Chips.{count}
-use Rattle.hdl_elab.specs.Tables.{found}
-use Rattle.hdl_elab.specs.Faults.{Driver, driver_by, driver_into, drivers_by, widths_of}
+use Rattle.hdl_elab.specs.Faults.{driver_by, driver_into, widths_of}
 use Rattle.hdl_elab.specs.declared.check.Port.{Port}
 
 pub widths_put : (o : Option Port) (port : Port) (conn : Connection) (w : Selection) (name : List ℕ) (n : ℕ) → o ≡ Some port → port.input ≡ false → conn.source ≡ source.Net w → name ≡ w.name → n ≡ count conn.pin.subscript port.width →

@@ -1,28 +1,23 @@
 -- What a part and a chip tell.
-use Rattle.std.proofs.Common.{◌≡◌, ℕ, suc, ◌+◌, ◌<◌, ◌≤◌, ◌⊎◌, inl, inr, Bool, true, false, cond, List, [], ◌∷◌, ◌++◌, length, take, Option, Some, None, is_some, Result, Ok, Err, refl, sym, ap, subst, ◌∙◌, arith}
+use Rattle.std.proofs.Common.{◌≡◌, ℕ, ◌+◌, ◌<◌, ◌⊎◌, inl, inr, true, false, List, [], ◌∷◌, ◌++◌, take, Option, Some, None, is_some, Result, Ok, Err, refl, sym, ap, subst, ◌∙◌, arith}
 use Rattle.std.specs.Prelude.{slice_get, IfErr, OnOk}
-use Rattle.hdl_tree.specs.declared.tree.Connection.{Connection}
 use Rattle.hdl_tree.specs.declared.tree.Part.{Part}
-use Rattle.hdl_tree.specs.declared.tree.Body.{Body}
-use Rattle.hdl_tree.specs.declared.tree.Body.TheVariants as body
 use Rattle.hdl_tree.specs.declared.ends.End.{End}
 use Rattle.hdl_tree.specs.declared.library.Entry.{Entry}
 use Rattle.hdl_tree.specs.Chips.{Chips, end_of, find_chip, parts_of, parts_unless, parts_of_body}
 use Rattle.hdl_elab.specs.Tables.{BitOf}
-use Rattle.hdl_tree.specs.Writable.{is_among}
 use Rattle.hdl_elab.specs.Inner.Marked.{HasMarks, MarksMore}
 use Rattle.hdl_elab.specs.declared.fault.NamedFault.{NamedFault}
-use Rattle.hdl_elab.specs.Faults.{fault_in}
 use Rattle.hdl_elab.specs.Inner.Checked.{Checks}
-use Rattle.hdl_elab.specs.Faults.{ports_of, drivers_of, drivers_by, drivers_of_part, drivers_of_inner, bits_driven, pin_fault, body_fault, body_fault_of, part_fault_by, connection_fault_in, connection_fault_by, connection_fault_of}
+use Rattle.hdl_elab.specs.Faults.{ports_of, drivers_of, drivers_by, drivers_of_inner, bits_driven, pin_fault, body_fault, part_fault_by, connection_fault_in, connection_fault_by, connection_fault_of}
 use Rattle.hdl_elab.specs.Locations.{Location, AtPin, AtBody, AtPart, Inside, AtConnection, IsEarlier, unless, at_inner, inner_of, fault_of_part, fault_of_connection, fault_at, IsFirstFault}
-use Rattle.hdl_elab.specs.Inner.Progress.{IsProgress, Avoids, AreOpen, is_open, PartIsEntered, PartIsFine, PartFails, PartsFail, PartsAreFine, ChipIsFine, IsOf, IsFirstOf, FindsFirst, EntersWrong, FailsInside, FailsAt, IsFineAt}
+use Rattle.hdl_elab.specs.Inner.Progress.{IsProgress, Avoids, PartIsEntered, PartIsFine, PartFails, PartsAreFine, ChipIsFine, IsOf, IsFirstOf, FindsFirst, EntersWrong, FailsInside, FailsAt, IsFineAt}
 use Rattle.hdl_elab.specs.Whole.{Tells}
 use Rattle.hdl_elab.specs.declared.fault.ElabFault.{ElabFault}
 use Rattle.hdl_elab.specs.declared.fault.ElabFault.TheVariants as errors
 use Rattle.hdl_elab.specs.declared.stage.Stage.{Stage}
 use Rattle.hdl_elab.specs.declared.table.Marks.{Marks}
-use Rattle.hdl_elab.proofs.Firsts.{part_none, inside_none, chip_fails}
+use Rattle.hdl_elab.proofs.Firsts.{part_none, inside_none}
 use Rattle.hdl_elab.proofs.MarkLemmas.{has_more}
 use Rattle.hdl_elab.proofs.Rows.{part_next}
 use Rattle.hdl_elab.proofs.Telling.{tells_more}

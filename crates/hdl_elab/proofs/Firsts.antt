@@ -1,21 +1,18 @@
 -- The first fault of a chip, from what was found in its parts.
-use Rattle.std.proofs.Common.{◌≡◌, ◌≢◌, ℕ, zero, suc, ◌+◌, ◌<◌, ◌≤◌, ◌⊎◌, inl, inr, Bool, true, false, cond, List, [], ◌∷◌, length, Option, Some, None, refl, sym, ap, subst, ◌∙◌, arith}
+use Rattle.std.proofs.Common.{◌≡◌, ℕ, ◌<◌, ◌≤◌, ◌⊎◌, inl, inr, Bool, false, cond, List, ◌∷◌, Option, Some, None, refl, ap, subst, ◌∙◌, arith}
 use Rattle.std.specs.Prelude.{slice_get}
-use Rattle.std.specs.Str.{bytes_eq}
 use Rattle.hdl_tree.specs.declared.tree.Part.{Part}
 use Rattle.hdl_tree.specs.declared.library.Entry.{Entry}
-use Rattle.hdl_tree.specs.Chips.{Chips, end_of, find_chip, parts_of}
-use Rattle.std.specs.Cmp.Lexicographic.{bytes_decides}
+use Rattle.hdl_tree.specs.Chips.{Chips, end_of, parts_of}
 use Rattle.hdl_tree.specs.Writable.{is_among}
 use Rattle.hdl_elab.specs.declared.fault.NamedFault.{NamedFault}
 use Rattle.hdl_elab.specs.Faults.{fault_in}
 use Rattle.hdl_elab.specs.declared.fault.FaultKind.TheVariants as kinds
-use Rattle.hdl_elab.specs.Faults.{pin_fault, body_fault, part_fault_by, connection_fault_of}
+use Rattle.hdl_elab.specs.Faults.{pin_fault, body_fault, part_fault_by}
 use Rattle.hdl_elab.specs.Locations.{Location, AtPin, AtBody, AtPart, Inside, AtConnection, IsEarlier, unless, at_inner, inner_of, fault_of_part, fault_of_connection, fault_at, IsFaultless, IsFirstFault}
 use Rattle.hdl_elab.specs.Inner.Progress.{IsProgress, Avoids, AreOpen, is_open, PartIsEntered, PartIsFine, PartFails, PartsFail, PartsAreFine, ChipIsFine, IsOf, IsOfParts}
-use Rattle.hdl_elab.specs.Whole.{AreDistinct}
 use Rattle.hdl_elab.specs.declared.stage.Stage.{Stage}
-use Rattle.hdl_elab.specs.declared.stage.Stage.TheVariants.{New, Open, Done}
+use Rattle.hdl_elab.specs.declared.stage.Stage.TheVariants.{Done}
 
 -- open chips are not done
 open_avoids_by : (o : Option Stage) (q : ℕ) → o ≡ Some (Done q) → is_open o ≡ false

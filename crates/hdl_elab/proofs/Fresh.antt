@@ -1,13 +1,12 @@
 -- The stages before the search.
-use Rattle.std.proofs.Common.{◌≡◌, ℕ, zero, suc, ◌+◌, ◌<◌, Bool, true, false, List, [], ◌∷◌, length, Option, Some, None, Result, Ok, Err, refl, sym, ap, subst, ◌∙◌, arith}
+use Rattle.std.proofs.Common.{◌≡◌, ℕ, zero, suc, ◌<◌, false, List, [], ◌∷◌, length, Some, refl, sym, ap, ◌∙◌, arith}
 use Rattle.std.specs.Prelude.{slice_get, replicate}
 use Rattle.hdl_tree.specs.declared.library.Entry.{Entry}
 use Rattle.hdl_tree.specs.Chips.{Chips}
 use Rattle.hdl_elab.specs.Locations.{IsFaultless}
-use Rattle.hdl_elab.specs.Inner.Progress.{IsProgress, AreOpen, is_open, IsDone, FailsInside}
-use Rattle.hdl_elab.specs.Whole.{Tells}
+use Rattle.hdl_elab.specs.Inner.Progress.{IsProgress, AreOpen, is_open, IsDone}
 use Rattle.hdl_elab.specs.declared.stage.Stage.{Stage}
-use Rattle.hdl_elab.specs.declared.stage.Stage.TheVariants.{New, Open, Done}
+use Rattle.hdl_elab.specs.declared.stage.Stage.TheVariants.{New, Done}
 
 pub new_at : (n k : ℕ) → k < n → slice_get (replicate n New) k ≡ Some New
 new_at zero k lt = absurd (omega arith)

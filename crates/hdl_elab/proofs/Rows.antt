@@ -1,5 +1,5 @@
 -- Rows of connections and parts, one more at a time.
-use Rattle.std.proofs.Common.{◌≡◌, ℕ, zero, suc, ◌+◌, ◌<◌, ◌≤◌, List, [], ◌∷◌, ◌++◌, length, take, map, add-zero, Bool, true, false, cond, Option, Some, None, refl, sym, ap, subst, ◌∙◌, arith}
+use Rattle.std.proofs.Common.{◌≡◌, ℕ, zero, suc, ◌+◌, ◌<◌, List, [], ◌∷◌, ◌++◌, length, take, map, add-zero, Bool, true, false, cond, Option, Some, None, refl, sym, ap, ◌∙◌, arith}
 use Rattle.std.specs.Prelude.{slice_get}
 use Rattle.std.specs.Str.{bytes_eq}
 use Rattle.hdl_tree.specs.declared.tree.Connection.{Connection}
@@ -7,7 +7,7 @@ use Rattle.hdl_tree.specs.declared.tree.Part.{Part}
 use Rattle.hdl_tree.specs.declared.tree.Pin.{Pin}
 use Rattle.hdl_tree.specs.declared.library.Entry.{Entry}
 use Rattle.hdl_tree.specs.Chips.{Chips, find_entry}
-use Rattle.hdl_elab.specs.Tables.{found, BitOf, bits_of, names_in, with_new}
+use Rattle.hdl_elab.specs.Tables.{found, bits_of, names_in, with_new}
 use Rattle.hdl_tree.specs.Writable.{is_among}
 use Rattle.hdl_elab.specs.Faults.{Driver, pin_name, driver_by, drivers_by, drivers_of, drivers_of_part, bits_driven, bits_fed, fed_by, widths_of}
 use Rattle.hdl_elab.specs.Inner.Progress.{numbered}

@@ -1,10 +1,9 @@
 -- What a chip tells, by the stage that it is in.
-use Rattle.std.proofs.Common.{◌≡◌, ℕ, ◌<◌, ◌≤◌, ◌⊎◌, inl, inr, Bool, true, false, cond, List, [], ◌∷◌, length, set, get_or, Option, Some, None, Result, Ok, Err, refl, sym, ap, subst, ◌∙◌, arith}
+use Rattle.std.proofs.Common.{◌≡◌, ℕ, ◌<◌, ◌≤◌, ◌⊎◌, inl, inr, Bool, true, false, cond, List, ◌∷◌, length, set, get_or, Option, Some, None, Result, Ok, Err, ap, subst, ◌∙◌, arith}
 use Rattle.std.specs.Prelude.{slice_get, IfErr}
 use Rattle.std.proofs.lemmas.Option.{slice_get_cases}
 use Rattle.hdl_tree.specs.declared.library.Entry.{Entry}
 use Rattle.hdl_tree.specs.Chips.{Chips}
-use Rattle.hdl_tree.specs.Writable.{is_among}
 use Rattle.hdl_elab.specs.declared.fault.NamedFault.{NamedFault}
 use Rattle.hdl_elab.specs.Faults.{fault_in}
 use Rattle.hdl_elab.specs.Inner.Checked.{Checks}
@@ -16,7 +15,7 @@ use Rattle.hdl_elab.specs.declared.fault.FaultKind.TheVariants as kinds
 use Rattle.hdl_elab.specs.declared.fault.ElabFault.{ElabFault}
 use Rattle.hdl_elab.specs.declared.fault.ElabFault.TheVariants as errors
 use Rattle.hdl_elab.specs.declared.stage.Stage.{Stage}
-use Rattle.hdl_elab.specs.declared.stage.Stage.TheVariants.{New, Open, Done}
+use Rattle.hdl_elab.specs.declared.stage.Stage.TheVariants.{New, Open}
 use Rattle.hdl_elab.proofs.Telling.{tells_more}
 use Rattle.hdl_elab.proofs.Keeping.{opened_names}
 use Rattle.hdl_elab.proofs.Entering.{at_entry}

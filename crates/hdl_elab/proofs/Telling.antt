@@ -1,20 +1,18 @@
 -- The first of some things that are wrong.
-use Rattle.std.proofs.Common.{◌≡◌, ℕ, zero, suc, ◌+◌, ◌-◌, ◌<◌, ◌≤◌, ◌⊎◌, inl, inr, Bool, true, false, not, cond, List, [], ◌∷◌, ◌++◌, length, take, map, Option, Some, None, Result, Ok, Err, refl, sym, ap, subst, ◌∙◌, arith, zero-add}
+use Rattle.std.proofs.Common.{◌≡◌, ℕ, zero, suc, ◌+◌, ◌-◌, ◌<◌, ◌≤◌, ◌⊎◌, inl, inr, Bool, true, false, not, cond, List, [], ◌∷◌, ◌++◌, length, take, map, Option, Some, None, Result, Ok, Err, refl, sym, ap, ◌∙◌, arith, zero-add}
 use Rattle.std.specs.Prelude.{slice_get}
 use Rattle.std.proofs.Math.Seq.{take-append-add}
 use Rattle.std.proofs.lemmas.List.{take-append-le}
-use Rattle.std.proofs.lemmas.Option.{slice_get_past, slice_get_within}
+use Rattle.std.proofs.lemmas.Option.{slice_get_past}
 use Rattle.hdl_tree.specs.declared.tree.Pin.{Pin}
 use Rattle.hdl_tree.specs.declared.tree.Connection.{Connection}
 use Rattle.hdl_tree.specs.declared.library.Entry.{Entry}
-use Rattle.hdl_tree.specs.Chips.{Chips, parts_of}
-use Rattle.hdl_elab.specs.Tables.{found}
+use Rattle.hdl_tree.specs.Chips.{Chips}
 use Rattle.hdl_tree.specs.Writable.{is_among}
-use Rattle.hdl_elab.specs.Inner.Entered.{table_of, Finds}
 use Rattle.hdl_elab.specs.declared.fault.NamedFault.{NamedFault}
 use Rattle.hdl_elab.specs.Faults.{fault_in}
 use Rattle.hdl_elab.specs.Inner.Checked.{Checks}
-use Rattle.hdl_elab.specs.Faults.{pin_name, pin_fault, twice_fault, context, connection_fault_at, connection_fault, connection_fault_in, fed_by, driver_by}
+use Rattle.hdl_elab.specs.Faults.{pin_name, pin_fault, twice_fault, context, connection_fault_at, connection_fault, connection_fault_in}
 use Rattle.hdl_elab.specs.Inner.Seen.{SeesScope}
 use Rattle.hdl_elab.specs.Inner.Progress.{IsFirstOf, FindsFirst, pin_fault_in, SeesChip}
 use Rattle.hdl_elab.specs.Whole.{Tells}

@@ -1,15 +1,14 @@
 -- What the chip at the top tells.
-use Rattle.std.proofs.Common.{◌≡◌, ℕ, Bool, List, [], ◌∷◌, Option, Some, Result, Ok, Err, refl, sym, ap, subst, ◌∙◌}
+use Rattle.std.proofs.Common.{◌≡◌, ℕ, Bool, List, [], ◌∷◌, Some, Err, sym, ap, subst, ◌∙◌}
 use Rattle.std.specs.Prelude.{slice_get}
 use Rattle.hdl_tree.specs.declared.library.Entry.{Entry}
 use Rattle.hdl_tree.specs.Chips.{Chips, find_chip}
 use Rattle.hdl_elab.specs.declared.fault.NamedFault.{NamedFault}
 use Rattle.hdl_elab.specs.Locations.{IsFirstFault, IsFaultless}
 use Rattle.hdl_elab.specs.Inner.Progress.{FailsInside}
-use Rattle.hdl_elab.specs.Whole.{chips_in, Tells, TopFails, TopIsFaultless, IsToldBy}
+use Rattle.hdl_elab.specs.Whole.{chips_in, Tells, IsToldBy}
 use Rattle.hdl_elab.specs.declared.fault.ElabFault.{ElabFault}
 use Rattle.hdl_elab.specs.declared.fault.ElabFault.TheVariants as errors
-use Rattle.hdl_elab.proofs.Telling.{tells_more}
 use Rattle.hdl_elab.proofs.Order.{one_first, not_both}
 
 pub same_chips : (es fs : List Entry) (b d : Bool) → es ≡ fs → b ≡ d → chips_in es b ≡ chips_in fs d

@@ -1,8 +1,6 @@
 -- What can be wrong with one pin, one part's chip or one connection of a chip's text (book, appendix 2).
-use Rattle.std.specs.Prelude.{◌≡◌, ℕ, ◌+◌, Bool, true, false, not, ◌&&◌, ◌||◌, nat_eq, List, [], ◌∷◌, ◌++◌, map, take, Option, Some, None, is_some, slice_get, codes, if◌then◌else◌}
-use Rattle.std.specs.Str.{bytes_eq}
+use Rattle.std.specs.Prelude.{ℕ, Bool, true, false, not, ◌&&◌, ◌||◌, nat_eq, List, [], ◌∷◌, ◌++◌, map, take, Option, Some, None, is_some, slice_get, codes, if◌then◌else◌}
 use Rattle.hdl_tree.specs.declared.tree.Pin.{Pin}
-use Rattle.hdl_tree.specs.declared.tree.Selection.{Selection}
 use Rattle.hdl_tree.specs.declared.tree.Subscript.{Subscript}
 use Rattle.hdl_tree.specs.declared.tree.Source.{Source}
 use Rattle.hdl_tree.specs.declared.tree.Source.TheVariants as source
@@ -12,9 +10,9 @@ use Rattle.hdl_tree.specs.declared.tree.Body.{Body}
 use Rattle.hdl_tree.specs.declared.tree.Body.TheVariants as body
 use Rattle.hdl_tree.specs.declared.tree.Chip.{Chip}
 use Rattle.hdl_tree.specs.declared.library.Entry.{Entry}
-use Rattle.hdl_tree.specs.Chips.{Chips, end_of, find_chip, parts_of, pin_width, first, count, is_past}
+use Rattle.hdl_tree.specs.Chips.{Chips, find_chip, parts_of, pin_width, first, count, is_past}
 use Rattle.hdl_tree.specs.Writable.{is_among}
-use Rattle.hdl_elab.specs.Tables.{found, first_of, BitOf, bits_of, is_in, some_in}
+use Rattle.hdl_elab.specs.Tables.{found, first_of, BitOf, bits_of, some_in}
 use Rattle.hdl_elab.specs.declared.fault.NamedFault.{NamedFault}
 use Rattle.hdl_elab.specs.declared.fault.FaultKind.{FaultKind}
 use Rattle.hdl_elab.specs.declared.fault.FaultKind.TheVariants as kinds

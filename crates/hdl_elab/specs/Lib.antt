@@ -3,3 +3,4 @@ pub mod Faults
 pub mod Locations
 pub mod Whole
 pub mod Inner
+pub mod Told

@@ -1,5 +1,5 @@
 -- The places of a chip's text and of the texts of the chips in it, and the first fault.
-use Rattle.std.specs.Prelude.{◌≡◌, ℕ, ◌<◌, ◌≤◌, ◌⊎◌, Bool, true, false, List, [], ◌∷◌, Option, Some, None, slice_get}
+use Rattle.std.specs.Prelude.{◌≡◌, ℕ, ◌<◌, ◌≤◌, ◌⊎◌, List, ◌∷◌, Option, Some, None, slice_get}
 use Rattle.hdl_tree.specs.declared.tree.Part.{Part}
 use Rattle.hdl_tree.specs.declared.library.Entry.{Entry}
 use Rattle.hdl_tree.specs.declared.ends.End.{End}

@@ -1,5 +1,5 @@
 -- Tables of names, and sets of bits of names.
-use Rattle.std.specs.Prelude.{ℕ, zero, suc, ◌+◌, Bool, true, false, List, [], ◌∷◌, Option, Some, None, if◌then◌else◌, map, ◌++◌, ◌&&◌, ◌||◌, nat_eq}
+use Rattle.std.specs.Prelude.{ℕ, zero, suc, ◌+◌, Bool, false, List, [], ◌∷◌, Option, Some, None, if◌then◌else◌, map, ◌++◌, ◌&&◌, ◌||◌, nat_eq}
 use Rattle.std.specs.Str.{bytes_eq}
 use Rattle.hdl_tree.specs.Writable.{is_among}
 

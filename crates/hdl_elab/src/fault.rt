@@ -4,8 +4,10 @@ ghost use Rattle.std.specs.Prelude.{◌≡◌, Some};
 ghost use Rattle.hdl_elab.specs.declared.fault.ElabFault.TheVariants.{Memory};
 ghost use Rattle.hdl_elab.specs.Faults.{fault_in};
 ghost use Rattle.hdl_elab.specs.Inner.Checked.{Checks};
+ghost use Rattle.hdl_elab.specs.Told.{kind_word, named_told};
 
 use hdl_tree::Name;
+use outer_world::{Detail, Told};
 use std::alloc::{AllocError, Global};
 use std::fmt;
 use thiserror::Error;
@@ -28,6 +30,21 @@ pub enum FaultKind {
     Recursive,
 }
 
+impl FaultKind {
+    fn word(&self) -> &'static str
+        ensures { result.now ≡ kind_word self.now }
+    {
+        match self {
+            FaultKind::UnknownChip => "UnknownChip",
+            FaultKind::UnknownPin => "UnknownPin",
+            FaultKind::Width => "Width",
+            FaultKind::Driven => "Driven",
+            FaultKind::Undriven => "Undriven",
+            FaultKind::Recursive => "Recursive",
+        }
+    }
+}
+
 /// A fault, with the name of the chip whose text has it.
 #[derive(Drop, Error)]
 #[error("{chip}: {kind:?} {name}", chip = .chip.as_bytes().escape_ascii(), name = .name.as_bytes().escape_ascii())]
@@ -40,6 +57,15 @@ pub struct NamedFault {
 impl fmt::Debug for NamedFault {
     fn fmt<W: fmt::Write>(&self, f: &mut fmt::Formatter<W>) -> fmt::Result {
         fmt::Display::fmt(self, f)
+    }
+}
+
+impl NamedFault {
+    /// What the fault tells, beside the path of its chip's text.
+    pub fn told(self) -> Told
+        ensures { result ≡ named_told self }
+    {
+        Told::nowhere(self.kind.word(), Detail::Name(self.name.into_bytes()))
     }
 }
 

@@ -1,6 +1,7 @@
 -- A chip whose parts are placed is placed.
-use Rattle.std.proofs.Common.{◌≡◌, ◌≤◌, ◌<◌, ℕ, suc, ◌+◌, ◌-◌, Bool, true, false, List, [], ◌∷◌, map, Option, Some, None, refl, sym, ap, subst, ◌∙◌, arith}
+use Rattle.std.proofs.Common.{◌≡◌, ◌≤◌, ◌<◌, ℕ, suc, ◌+◌, ◌-◌, inl, inr, Bool, true, false, List, [], ◌∷◌, map, Option, Some, None, codes, refl, sym, ap, subst, ◌∙◌, arith}
 use Rattle.std.specs.Prelude.{slice_get, unwrap_or}
+use Rattle.std.proofs.lemmas.Bool.Decides.{leb_tells}
 use Rattle.hdl_tree.specs.declared.tree.Source.{Source}
 use Rattle.hdl_tree.specs.declared.tree.Source.TheVariants as source
 use Rattle.hdl_tree.specs.declared.tree.Connection.{Connection}
@@ -26,12 +27,13 @@ use Rattle.hdl_flat.specs.Ends.{EndsHavePins}
 use Rattle.hdl_flat.specs.Trees.{all_bits, end_nodes}
 use Rattle.hdl_flat.specs.Inner.Wired.{wires_of, found_bit, origin_at}
 use Rattle.hdl_flat.specs.Inner.Plans.{moved_by, all_sized, parts_driven, end_gates, own_size, part_origins, places, IsPlanned, ArePlans}
-use Rattle.hdl_flat.specs.Inner.Puts.{node_of, IsEndBit, IsPlaced}
+use Rattle.hdl_flat.specs.Inner.Puts.{node_of, IsPlaced}
+use Rattle.hdl_flat.specs.Flat.{IsEndBit}
 use Rattle.hdl_flat.proofs.Wiring.{found-append}
 use Rattle.hdl_flat.proofs.Bridges.{with_place, gate_at, parts_driven_are}
 use Rattle.hdl_flat.proofs.Reading.{node_at, own_nodes}
 use Rattle.hdl_flat.proofs.Joining.{input_joined, input_unjoined}
-use Rattle.hdl_flat.proofs.Slots.{Slot, slot_of, covered}
+use Rattle.hdl_flat.proofs.Slots.{Slot, slot_of, covered, stands_behind}
 use Rattle.hdl_flat.proofs.Gates.{IsOwn, output_own, no_input}
 
 -- ---- nodes
@@ -65,6 +67,21 @@ record PartThere (chips : Chips) (o : Option Part) (inner : Entry) : Type 0 wher
 part_there : (chips : Chips) (o : Option Part) (inner : Entry) → chip_of chips o ≡ Some inner → PartThere chips o inner
 part_there chips None inner h = absurd cc
 part_there chips (Some part) inner h = record { part = part; there = refl; found = h }
+
+-- the part that an output bit of an end is in
+record InPart (chips : Chips) (xs : List Plan) (qs : List PartPlan) (at : List ℕ → Wires ℕ) (size k : ℕ) (path : List ℕ) (bit : ℕ) : Type 0 where
+  j : ℕ
+  x : Plan
+  q : PartPlan
+  plan_there : slice_get xs j ≡ Some x
+  part_there : slice_get qs j ≡ Some q
+  fits : q.offset + x.size.nodes ≤ size
+  inner : IsEndBit chips x.entry.now (λ rest. at (j ∷ rest)) k
+  path_is : path ≡ j ∷ inner.path
+  bit_is : bit ≡ inner.bit
+
+plan_is : (x y : Plan) → Some x ≡ Some y → x ≡ y
+plan_is x y h = cc
 
 module _ (chips : Chips) (net : Net) (plans : List Plan) (i : ℕ) (plan : Plan) (planned : IsPlanned chips plans i plan) (are : ArePlans chips plans) (shipped : EndsHavePins chips) (no_end : end_of chips.blocks plan.entry.now ≡ None) (small : plan.size.nodes ≤ 16777216)
     (base : ℕ) (inputs : List ℕ) (block : List ℕ → ℕ) (at : List ℕ → Wires ℕ) (own : (name : List ℕ) (bit : ℕ) → at [] name bit ≡ node_of base inputs (origin_at (wires_of plan.wires) name bit))
@@ -203,8 +220,76 @@ module _ (chips : Chips) (net : Net) (plans : List Plan) (i : ℕ) (plan : Plan)
         bit = e.bit;
         there = part_at chips entry c.j e.path c.x.entry.now e.chip (ap (chip_of chips) c.there ∙ c.found) e.there;
         is_end = e.is_end;
+        below = e.below;
         node = e.node;
       }
+
+  in_part : (k : ℕ) (path : List ℕ) (chip : Entry) (e : End) (bit : ℕ) → chip_at chips entry path ≡ Some chip → end_of chips.blocks chip ≡ Some e → bit < end_nodes (Some e) → at path (codes "out") bit ≡ k → InPart chips planned.inner plan.parts.items at plan.size.nodes k path bit
+  in_part k [] chip e bit h is lt node =
+      let same : entry ≡ chip = cc in
+      let none : None ≡ Some e = sym no_end ∙ ap (λ (c : Entry). end_of chips.blocks c) same ∙ is in
+      absurd cc
+  in_part k (j ∷ path) chip e bit h is lt node =
+      let a = at_part chips entry j path chip h in
+      let t = part_there chips (slice_get (parts_of chips entry) j) a.inner a.found in
+      let s = slot j t.part t.there in
+      let same = same_chip t.part a.inner s.x.entry.now t.found s.found in
+      record {
+        j = j;
+        x = s.x;
+        q = s.q;
+        plan_there = s.plan_there;
+        part_there = s.part_there;
+        fits = omega (arith, s.fits, sum_is);
+        inner = record { path = path; chip = chip; e = e; bit = bit; there = subst (λ (c : Entry). chip_at chips c path ≡ Some chip) same a.rest; is_end = is; below = lt; node = node };
+        path_is = refl;
+        bit_is = refl;
+      }
+
+  abbrev HasPart : ℕ → List ℕ → ℕ → Type 0
+  HasPart k path bit = InPart chips planned.inner plan.parts.items at plan.size.nodes k path bit
+
+  found_part : (k : ℕ) (x : IsEndBit chips entry at k) → HasPart k x.path x.bit
+  found_part k x = in_part k x.path x.chip x.e x.bit x.there x.is_end x.below x.node
+
+  part_inside : (k : ℕ) (path : List ℕ) (bit : ℕ) (a : HasPart k path bit) → (base + a.q.offset ≤ k) × (k < (base + a.q.offset) + a.x.size.nodes)
+  part_inside k path bit a = (placed a.j a.x a.q a.plan_there a.part_there).inside k a.inner
+
+  inside : (k : ℕ) → IsEndBit chips entry at k → (base ≤ k) × (k < base + plan.size.nodes)
+  inside k x =
+      let a = found_part k x in
+      let h = part_inside k x.path x.bit a in
+      let fits : a.q.offset + a.x.size.nodes ≤ plan.size.nodes = a.fits in
+      (omega (arith, h.0), omega (arith, h.1, fits))
+
+  not_before : (k : ℕ) (path other : List ℕ) (bit n : ℕ) (a : HasPart k path bit) (b : HasPart k other n) → a.j < b.j → ⊥
+  not_before k path other bit n a b lt =
+      let order = stands_behind wires start (parts_of chips entry) planned.inner plan.parts.items a.j b.j a.x a.q b.q planned.parts sum_small a.plan_there a.part_there b.part_there lt in
+      omega (arith, order, (part_inside k path bit a).1, (part_inside k other n b).0)
+
+  not_behind : (k : ℕ) (path other : List ℕ) (bit n : ℕ) (a : HasPart k path bit) (b : HasPart k other n) → b.j ≤ a.j
+  not_behind k path other bit n a b = elim (leb_tells b.j a.j) [ inl h ↦ h.1 | inr h ↦ absurd (not_before k path other bit n a b h.1) ]
+
+  same_bit : (k : ℕ) (path other : List ℕ) (bit n : ℕ) (a : HasPart k path bit) (b : HasPart k other n) → (path ≡ other) × (bit ≡ n)
+  same_bit k path other bit n a b =
+      let same : a.j ≡ b.j = omega (arith, not_behind k path other bit n a b, not_behind k other path n bit b a) in
+      let both : Some a.x ≡ Some b.x = sym a.plan_there ∙ ap (slice_get planned.inner) same ∙ b.plan_there in
+      let plan_same : a.x ≡ b.x = plan_is a.x b.x both in
+      let moved : IsEndBit chips a.x.entry.now (λ rest. at (a.j ∷ rest)) k = record {
+        path = b.inner.path;
+        chip = b.inner.chip;
+        e = b.inner.e;
+        bit = b.inner.bit;
+        there = subst (λ (z : Plan). chip_at chips z.entry.now b.inner.path ≡ Some b.inner.chip) (sym plan_same) b.inner.there;
+        is_end = b.inner.is_end;
+        below = b.inner.below;
+        node = subst (λ (m : ℕ). at (m ∷ b.inner.path) (codes "out") b.inner.bit ≡ k) (sym same) b.inner.node;
+      } in
+      let h = (placed a.j a.x a.q a.plan_there a.part_there).alone k a.inner moved in
+      (a.path_is ∙ ap (λ (p : List ℕ). a.j ∷ p) h.0 ∙ ap (λ (m : ℕ). m ∷ b.inner.path) same ∙ sym b.path_is, a.bit_is ∙ h.1 ∙ sym b.bit_is)
+
+  alone : (k : ℕ) (x y : IsEndBit chips entry at k) → (x.path ≡ y.path) × (x.bit ≡ y.bit)
+  alone k x y = same_bit k x.path y.path x.bit y.bit (found_part k x) (found_part k y)
 
 pub composite : (chips : Chips) (net : Net) (plans : List Plan) (i : ℕ) (plan : Plan) (planned : IsPlanned chips plans i plan) → ArePlans chips plans → EndsHavePins chips → end_of chips.blocks plan.entry.now ≡ None → plan.size.nodes ≤ 16777216 →
     (base : ℕ) (inputs : List ℕ) (block : List ℕ → ℕ) (at : List ℕ → Wires ℕ) →
@@ -215,4 +300,6 @@ composite chips net plans i plan planned are shipped no_end small base inputs bl
   own = own;
   wired = all_wired chips net plans i plan planned are shipped no_end small base inputs block at own placed;
   ends = end_bit chips net plans i plan planned are shipped no_end small base inputs block at own placed;
+  inside = inside chips net plans i plan planned are shipped no_end small base inputs block at own placed;
+  alone = alone chips net plans i plan planned are shipped no_end small base inputs block at own placed;
 }

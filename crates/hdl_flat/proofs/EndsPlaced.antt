@@ -6,7 +6,7 @@ use Rattle.hdl_tree.specs.declared.library.Entry.{Entry}
 use Rattle.hdl_tree.specs.declared.ends.End.{End}
 use Rattle.hdl_tree.specs.declared.ends.End.TheVariants as ends
 use Rattle.hdl_tree.specs.Chips.{Chips, end_of, parts_of, parts_of_body, parts_unless}
-use Rattle.hdl_tree.specs.Behaviour.{Wires, chip_of, ChipWired, Wired}
+use Rattle.hdl_tree.specs.Behaviour.{Wires, chip_of, chip_at, ChipWired, Wired}
 use Rattle.hdl_elab.specs.Tables.{BitOf, bits_of, first_of}
 use Rattle.hdl_law.specs.Plans.{is_input}
 use Rattle.hdl_law.proofs.Walks.{at_part}
@@ -23,7 +23,8 @@ use Rattle.hdl_flat.specs.Ends.{end_inputs, HasPins, EndsHavePins}
 use Rattle.hdl_flat.specs.Trees.{all_bits, end_nodes}
 use Rattle.hdl_flat.specs.Inner.Wired.{wires_of, found_bit, origin_at}
 use Rattle.hdl_flat.specs.Inner.Plans.{numbered, end_gates, parts_driven, all_sized, own_size, places, HavePlans, IsPlanned}
-use Rattle.hdl_flat.specs.Inner.Puts.{node_of, BlockPut, EndPut, IsEndBit, IsPlaced}
+use Rattle.hdl_flat.specs.Inner.Puts.{node_of, BlockPut, EndPut, IsPlaced}
+use Rattle.hdl_flat.specs.Flat.{IsEndBit}
 use Rattle.hdl_flat.proofs.Lists.{nil_after}
 use Rattle.hdl_flat.proofs.Ending.{input_is, out_is_none}
 use Rattle.hdl_flat.proofs.Wiring.{found-append}
@@ -95,7 +96,34 @@ module _ (chips : Chips) (net : Net) (plans : List Plan) (i : ℕ) (plan : Plan)
   end_bit : (k : ℕ) → base ≤ k → k < base + plan.size.nodes → IsEndBit chips entry at k
   end_bit k from to =
       let back : base + (k - base) ≡ k = omega (arith, from) in
-      record { path = []; chip = entry; e = e; bit = k - base; there = refl; is_end = is; node = out_at (k - base) (omega (arith, size_is, from, to)) ∙ back }
+      let lt : k - base < end_nodes (Some e) = omega (arith, size_is, from, to) in
+      record { path = []; chip = entry; e = e; bit = k - base; there = refl; is_end = is; below = lt; node = out_at (k - base) lt ∙ back }
+
+  own_bit : (k : ℕ) (path : List ℕ) (chip : Entry) (f : End) (bit : ℕ) → chip_at chips entry path ≡ Some chip → end_of chips.blocks chip ≡ Some f → bit < end_nodes (Some f) → at path (codes "out") bit ≡ k → (path ≡ []) × (base + bit ≡ k) × (bit < end_nodes (Some e))
+  own_bit k [] chip f bit h g lt node =
+      let same : entry ≡ chip = cc in
+      let both : Some e ≡ Some f = sym is ∙ ap (λ (c : Entry). end_of chips.blocks c) same ∙ g in
+      let end_same : e ≡ f = cc in
+      let here : bit < end_nodes (Some e) = subst (λ (x : End). bit < end_nodes (Some x)) (sym end_same) lt in
+      (refl, sym (out_at bit here) ∙ node, here)
+  own_bit k (j ∷ path) chip f bit h g lt node =
+      let a = at_part chips entry j path chip h in
+      let none : None ≡ Some a.inner = sym (ap (λ (ps : List Part). chip_of chips (slice_get ps j)) no_parts) ∙ a.found in
+      absurd cc
+
+  inside : (k : ℕ) → IsEndBit chips entry at k → (base ≤ k) × (k < base + plan.size.nodes)
+  inside k x =
+      let h = own_bit k x.path x.chip x.e x.bit x.there x.is_end x.below x.node in
+      let node : base + x.bit ≡ k = h.1 in
+      let lt : x.bit < end_nodes (Some e) = h.2 in
+      (omega (arith, node), omega (arith, node, lt, size_is))
+
+  alone : (k : ℕ) (x y : IsEndBit chips entry at k) → (x.path ≡ y.path) × (x.bit ≡ y.bit)
+  alone k x y =
+      let h = own_bit k x.path x.chip x.e x.bit x.there x.is_end x.below x.node in
+      let g = own_bit k y.path y.chip y.e y.bit y.there y.is_end y.below y.node in
+      let sums : base + x.bit ≡ base + y.bit = h.1 ∙ sym g.1 in
+      (h.0 ∙ sym g.0, omega (arith, sums))
 
   abbrev works : List ℕ → End → Type 0
   works path f = EndStands net 0 b f (at path)
@@ -184,4 +212,6 @@ end_placed chips net plans i plan planned shipped e is base inputs b at long own
       own = own;
       wired = all_wired chips net plans i plan planned shipped e is base inputs b at long own here;
       ends = end_bit chips net plans i plan planned shipped e is base inputs b at long own;
+      inside = inside chips net plans i plan planned shipped e is base inputs b at long own;
+      alone = alone chips net plans i plan planned shipped e is base inputs b at long own;
     }

@@ -13,4 +13,7 @@ pub mod Composite
 pub mod Pins
 pub mod EndsPlaced
 pub mod Within
+pub mod Words
 pub mod Putting
+pub mod Sized
+pub mod Flattened

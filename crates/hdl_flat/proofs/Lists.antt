@@ -1,5 +1,5 @@
 -- Facts about lists.
-use Rattle.std.proofs.Common.{◌≡◌, ℕ, zero, suc, ◌<◌, ◌⊎◌, inl, inr, List, [], ◌∷◌, ◌++◌, length, Some, refl, ap, arith}
+use Rattle.std.proofs.Common.{◌≡◌, ℕ, zero, suc, ◌+◌, ◌<◌, ◌≤◌, ◌⊎◌, inl, inr, List, [], ◌∷◌, ◌++◌, length, Some, refl, ap, ◌∙◌, arith}
 use Rattle.std.specs.Prelude.{slice_get}
 
 pub get_there : {X : Type 0} (xs : List X) (i : ℕ) → i < length xs → (x : X) × (slice_get xs i ≡ Some x)
@@ -12,6 +12,10 @@ pub get_front : {X : Type 0} (xs ys : List X) (i : ℕ) (x : X) → slice_get xs
 get_front [] ys i x h = absurd cc
 get_front (z ∷ xs) ys zero x h = h
 get_front (z ∷ xs) ys (suc i) x h = get_front xs ys i x h
+
+pub get_behind : {X : Type 0} (old xs : List X) (k : ℕ) → slice_get (old ++ xs) (length old + k) ≡ slice_get xs k
+get_behind [] xs k = ap (slice_get xs) (omega arith)
+get_behind (z ∷ old) xs k = let e : length (z ∷ old) + k ≡ suc (length old + k) = omega arith in ap (slice_get (z ∷ (old ++ xs))) e ∙ get_behind old xs k
 
 pub get_last : {X : Type 0} (xs : List X) (x : X) → slice_get (xs ++ x ∷ []) (length xs) ≡ Some x
 get_last [] x = refl
@@ -30,3 +34,23 @@ assoc (x ∷ xs) ys zs = ap (λ t. x ∷ t) (assoc xs ys zs)
 pub nil_after : {X : Type 0} (xs : List X) → xs ++ [] ≡ xs
 nil_after [] = refl
 nil_after (x ∷ xs) = ap (λ t. x ∷ t) (nil_after xs)
+
+-- what is there of two lists is in one of them
+pub record Behind {X : Type 0} (xs ys : List X) (i : ℕ) (x : X) : Type 0 where
+  pub j : ℕ
+  pub at : i ≡ length xs + j
+  pub there : slice_get ys j ≡ Some x
+
+pub split_get : {X : Type 0} (xs ys : List X) (i : ℕ) (x : X) → slice_get (xs ++ ys) i ≡ Some x → (slice_get xs i ≡ Some x) ⊎ Behind xs ys i x
+split_get [] ys i x e = inr (record { j = i; at = omega arith; there = e })
+split_get (z ∷ xs) ys zero x e = inl e
+split_get (z ∷ xs) ys (suc i) x e = by (split_get xs ys i x e)
+  where
+    by : (slice_get xs i ≡ Some x) ⊎ Behind xs ys i x → (slice_get (z ∷ xs) (suc i) ≡ Some x) ⊎ Behind (z ∷ xs) ys (suc i) x
+    by (inl h) = inl h
+    by (inr b) = let at : i ≡ length xs + b.j = b.at in inr (record { j = b.j; at = omega (arith, at); there = b.there })
+
+pub below_or : (n k : ℕ) → (n ≤ k) ⊎ (k < n)
+below_or zero k = inl (omega arith)
+below_or (suc n) zero = inr (omega arith)
+below_or (suc n) (suc k) = elim (below_or n k) [ inl h ↦ inl (omega (arith, h)) | inr h ↦ inr (omega (arith, h)) ]

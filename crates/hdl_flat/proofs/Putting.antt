@@ -25,18 +25,20 @@ use Rattle.hdl_flat.specs.declared.plan.Plan.{Plan}
 use Rattle.hdl_flat.specs.declared.plan.PartPlan.{PartPlan}
 use Rattle.hdl_flat.specs.declared.flat.PartAt.{PartAt}
 use Rattle.hdl_flat.specs.declared.flat.Growing.{Growing}
-use Rattle.hdl_flat.specs.Trees.{end_nodes, PartIn, AreListed, none, next, within, all_bits}
+use Rattle.hdl_flat.specs.Trees.{end_nodes, PartIn, AreListed, none, next, within, all_bits, told, chip_nodes, part_nodes}
 use Rattle.hdl_flat.specs.Flat.{Reads, nodes_at, block_at, part_at}
 use Rattle.hdl_flat.specs.Ends.{end_inputs, EndsHavePins}
 use Rattle.hdl_flat.specs.Inner.Sizes.{joined}
 use Rattle.hdl_flat.specs.Inner.Plans.{ArePlans, IsPlanned, IsPartPlan, HasPlan, HavePlans, ArePartPlans, all_sized, all_fed, own_size, places}
 use Rattle.hdl_flat.specs.Inner.Puts.{node_of, EndPut, IsPlaced}
 use Rattle.hdl_flat.specs.Inner.Wired.{bit_of, wires_of, origin_at, origins_at}
-use Rattle.hdl_flat.specs.Inner.Putting.{IsWithin, AreWithin, pins, words, end_puts, end_blocks, rom_of, memory_of, IsEndFed, MayPut, Longer, ReadsBelow, IsPut, Instance, listed_by, tree_of, IsInstance, AreInstances, no_more, one_more, IsGoing}
-use Rattle.hdl_flat.proofs.Lists.{assoc, nil_after, get_front, get_last}
+use Rattle.hdl_flat.specs.Inner.Putting.{IsWithin, AreWithin, pins, words, end_puts, end_blocks, rom_of, memory_of, IsEndFed, MayPut, Longer, ReadsBelow, HasWords, IsPut, Instance, listed_by, tree_of, IsInstance, AreInstances, no_more, one_more, IsGoing}
+use Rattle.hdl_flat.proofs.Lists.{assoc, nil_after, get_front, get_behind, get_last}
 use Rattle.hdl_flat.proofs.Composite.{composite}
+use Rattle.hdl_flat.proofs.Words.{length_words, length_pins, end_words}
 use Rattle.hdl_flat.proofs.Within.{widths, length_all, sized_grows, chip_within, with_origins, with_all_fed}
 use Rattle.hdl_flat.proofs.Planning.{length_map}
+use Rattle.hdl_flat.proofs.Sizing.{part_nodes-append, part_nodes-within, nodes_sum, told_small, end_small}
 
 -- ---- what is longer
 
@@ -87,8 +89,23 @@ module _ (chips : Chips) (net : Net) (base : ℕ) (inputs : List ℕ) where
   instances_listed i (p ∷ ps) (x ∷ xs) (q ∷ qs) [] h = elim h [ ]
   instances_listed i (p ∷ ps) (x ∷ xs) (q ∷ qs) (s ∷ ss) (one_more one more) = next one.found one.listed (instances_listed (suc i) ps xs qs ss more)
 
+  instances_counted : (i : ℕ) (size : Size) (ps : List Part) (xs : List Plan) (qs : List PartPlan) (ss : List Instance) → AreInstances chips net base inputs ps xs qs ss → size.nodes ≤ 1000000000 → (all_sized size xs).nodes ≡ told (size.nodes + part_nodes chips (tree_of i ss))
+  instances_counted i size [] [] [] [] no_more small = omega (arith, small)
+  instances_counted i size [] [] [] (s ∷ ss) h small = elim h [ ]
+  instances_counted i size [] [] (q ∷ qs) ss h small = elim h [ ]
+  instances_counted i size [] (x ∷ xs) qs ss h small = elim h [ ]
+  instances_counted i size (p ∷ ps) [] qs ss h small = elim h [ ]
+  instances_counted i size (p ∷ ps) (x ∷ xs) [] ss h small = elim h [ ]
+  instances_counted i size (p ∷ ps) (x ∷ xs) (q ∷ qs) [] h small = elim h [ ]
+  instances_counted i size (p ∷ ps) (x ∷ xs) (q ∷ qs) (s ∷ ss) (one_more one more) small =
+      let rest = tree_of (suc i) ss in
+      let nodes_are : part_nodes chips (within i s.tree ++ rest) ≡ part_nodes chips s.tree + part_nodes chips rest =
+      part_nodes-append chips (within i s.tree) rest ∙ ap (λ n. n + part_nodes chips rest) (part_nodes-within chips i s.tree) in
+      instances_counted (suc i) (joined size x.size) ps xs qs ss more (told_small _)
+      ∙ nodes_sum size.nodes x.size.nodes (chip_nodes chips s.chip) (part_nodes chips s.tree) (part_nodes chips rest) (part_nodes chips (within i s.tree ++ rest)) one.counted nodes_are
+
 -- the directory
-map_both : {X Y : Type 0} (f : X → Y) (a b : List X) → map f (a ++ b) ≡ map f a ++ map f b
+pub map_both : {X Y : Type 0} (f : X → Y) (a b : List X) → map f (a ++ b) ≡ map f a ++ map f b
 map_both f [] b = refl
 map_both f (x ∷ a) b = ap (λ t. f x ∷ t) (map_both f a b)
 
@@ -155,6 +172,10 @@ all_put chips plans place plan inputs old now rest are pins none_is room e g =
       few = g.few;
       tree = tree_of 0 ss;
       listed = instances_listed chips here base inputs 0 (parts_of chips plan.entry.now) g.planned.inner plan.parts.items ss (stand here (longer_none now.nodes.items) (longer_none now.blocks.items));
+      counted =
+          let few = end_small (end_of chips.blocks plan.entry.now) in
+          ap (λ (s : Size). s.nodes) g.planned.size
+          ∙ instances_counted chips here base inputs 0 (own_size chips plan.entry.now) (parts_of chips plan.entry.now) g.planned.inner plan.parts.items ss (stand here (longer_none now.nodes.items) (longer_none now.blocks.items)) (omega (arith, few));
       block = block;
       at = at;
       parts = g.parts ∙ ap (λ (t : List PartAt). old.parts.items ++ t) (sym (instances_are chips plan.entry.now at block 0 ss (λ j k e. let same : k ≡ j = omega (arith, e) in ap (λ (n : ℕ). (instance_at plan.entry.now ss n).at) same) (λ j k e. let same : k ≡ j = omega (arith, e) in ap (λ (n : ℕ). (instance_at plan.entry.now ss n).block) same)));
@@ -162,6 +183,7 @@ all_put chips plans place plan inputs old now rest are pins none_is room e g =
       placed = λ net f h. composite chips net plans place plan g.planned are pins none_is small base inputs block at (λ name bit. refl)
           (λ j x q e f2. instance_there chips net base inputs plan.entry.now (parts_of chips plan.entry.now) g.planned.inner plan.parts.items ss (stand net f h) j x q e f2);
       reads = g.reads;
+      words = g.words;
     }
 
 -- ---- nothing is put yet
@@ -184,6 +206,7 @@ none_put chips plans place plan inputs old p none_is few =
       few = few;
       parts = sym (nil_after old.parts.items);
       reads = λ n m a b c d e. e;
+      words = λ h. h;
       stand = λ net f h tail t. t;
     }
 
@@ -208,7 +231,7 @@ part_is a b f g h =
     let three : record { chip = b.chip; outs = b.outs; block = a.block } ≡ b = ap (λ (n : Option ℕ). record { chip = b.chip; outs = b.outs; block = n }) h in
     one ∙ two ∙ three
 
-node_below : (base : ℕ) (inputs : List ℕ) (n m k : ℕ) (o : Origin) → length inputs ≡ n → All (λ i. i < k) inputs → 1 < k → base + m ≤ k → IsWithin n m o → node_of base inputs o < k
+pub node_below : (base : ℕ) (inputs : List ℕ) (n m k : ℕ) (o : Origin) → length inputs ≡ n → All (λ i. i < k) inputs → 1 < k → base + m ≤ k → IsWithin n m o → node_of base inputs o < k
 node_below base inputs n m k Low long a b c h = omega (arith, b)
 node_below base inputs n m k High long a b c h = b
 node_below base inputs n m k (Input j) long a b c h = a j 0 (omega (arith, long, h))
@@ -219,7 +242,7 @@ nodes_below base inputs n m k long a b c [] h j d lt = absurd (omega (arith, lt)
 nodes_below base inputs n m k long a b c (o ∷ os) h zero d lt = node_below base inputs n m k o long a b c (h 0 o (omega arith))
 nodes_below base inputs n m k long a b c (o ∷ os) h (suc j) d lt = nodes_below base inputs n m k long a b c os (λ i e l. h (suc i) e (omega (arith, l))) j d (omega (arith, lt))
 
-wider : (n m k : ℕ) (o : Origin) → m ≤ k → IsWithin n m o → IsWithin n k o
+pub wider : (n m k : ℕ) (o : Origin) → m ≤ k → IsWithin n m o → IsWithin n k o
 wider n m k Low h f = tt
 wider n m k High h f = tt
 wider n m k (Input j) h f = f
@@ -229,6 +252,10 @@ pub all_wider : (n m k : ℕ) (os : List Origin) → m ≤ k → All (IsWithin n
 all_wider n m k os h f j d lt = wider n m k (slice_index_or os j d) h (f j d lt)
 
 -- ---- the next part
+
+pub all_one : {X : Type 0} (P : X → Type 0) (x : X) → P x → All P (x ∷ [])
+all_one P x h zero d lt = h
+all_one P x h (suc k) d lt = absurd (omega (arith, lt))
 
 pub record NextPart (chips : Chips) (plans : List Plan) (place : ℕ) (plan : Plan) (ps : List Part) (xs : List Plan) (sum : Size) (q : PartPlan) (qs : List PartPlan) : Type 0 where
   pub p : Part
@@ -342,12 +369,20 @@ module _ (chips : Chips) (plans : List Plan) (place : ℕ) (plan : Plan) (inputs
             let few = longer_length now.blocks.items new.blocks.items grows_blocks in
             let before = g.reads n2 m a b c (omega (arith, few, d)) r in
             let fit = fits.1 in
-            put.reads n2 m (subst (λ (t : List ℕ). All (λ i. i < n2) t) (sym e) (nodes_below base inputs (length inputs) plan.size.nodes n2 refl a b c q.origins.items fed_within)) b (omega (arith, c, fit, sized)) d
-            (record { nodes = subst (λ (t : List Node). All (Reads n2 m) t) (sym f) before.nodes; blocks = subst (λ (t : List Block). All (HasInputs n2) t) (sym h) before.blocks });
+            let fed : All (λ i. i < n2) nodes = subst (λ (t : List ℕ). All (λ i. i < n2) t) (sym e) (nodes_below base inputs (length inputs) plan.size.nodes n2 refl a b c q.origins.items fed_within) in
+            let fed_count : length nodes ≡ length q.origins.items = ap length e ∙ length_nodes (node_of base inputs) q.origins.items in
+            let outs_below : All (λ i. i < n2) listed.outs = subst (λ (t : List ℕ). All (λ i. i < n2) t) (sym outs) (nodes_below (length now.nodes.items) nodes (length q.origins.items) x.size.nodes n2 fed_count fed b (omega (arith, c, fit, g.size)) x.outs.items outs_within) in
+            put.reads n2 m fed b (omega (arith, c, fit, sized)) d
+            (record {
+              nodes = subst (λ (t : List Node). All (Reads n2 m) t) (sym f) before.nodes;
+              blocks = subst (λ (t : List Block). All (HasInputs n2) t) (sym h) before.blocks;
+              parts = subst (λ (t : List PartAt). All (λ p. All (λ i. i < n2) p.outs) t) (sym k) (All-append (λ p. All (λ i. i < n2) p.outs) now.parts.items (listed ∷ []) before.parts (all_one (λ p. All (λ i. i < n2) p.outs) listed outs_below));
+            });
+        words = λ w. put.words (subst (λ (t : List Block). HasWords mid.nodes.items (length t)) (sym h) (subst (λ (t : List Node). HasWords t (length now.blocks.items)) (sym f) (g.words w)));
         stand = λ net a b tail t.
             let placed : IsPlaced chips net x (base + q.offset) (map (node_of base inputs) q.origins.items) put.block put.at =
             subst (λ (m : ℕ). IsPlaced chips net x m (map (node_of base inputs) q.origins.items) put.block put.at) stands (subst (λ (is : List ℕ). IsPlaced chips net x (length mid.nodes.items) is put.block put.at) e (put.placed net a b)) in
-            let one : IsInstance chips net base inputs n.p x q s = record { found = n.has.found; listed = put.listed; placed = placed } in
+            let one : IsInstance chips net base inputs n.p x q s = record { found = n.has.found; listed = put.listed; counted = put.counted; placed = placed } in
             let all = g.stand net (longer_more now.nodes.items new.nodes.items net.nodes grows a) (longer_more now.blocks.items new.blocks.items net.blocks grows_blocks b) (s ∷ tail)
             (subst (λ (ps : List Part). AreInstances chips net base inputs ps g.plans_left (q ∷ qs) (s ∷ tail)) (sym n.parts_are) (subst (λ (xs : List Plan). AreInstances chips net base inputs (n.p ∷ n.others) xs (q ∷ qs) (s ∷ tail)) (sym n.plans_are) (one_more one t))) in
             subst (λ (ss : List Instance). AreInstances chips net base inputs (parts_of chips plan.entry.now) g.planned.inner plan.parts.items ss) (sym (assoc g.done (s ∷ []) tail)) all;
@@ -355,11 +390,7 @@ module _ (chips : Chips) (plans : List Plan) (place : ℕ) (plan : Plan) (inputs
 
 -- ---- an end
 
-all_one : {X : Type 0} (P : X → Type 0) (x : X) → P x → All P (x ∷ [])
-all_one P x h zero d lt = h
-all_one P x h (suc k) d lt = absurd (omega (arith, lt))
-
-all_none : {X : Type 0} (P : X → Type 0) → All P []
+pub all_none : {X : Type 0} (P : X → Type 0) → All P []
 all_none P k d lt = absurd (omega (arith, lt))
 
 all_drop : (n j : ℕ) (xs : List ℕ) → All (λ i. i < n) xs → All (λ i. i < n) (drop j xs)
@@ -417,20 +448,12 @@ block_small : (blocks : Bool) (name : Option (List ℕ)) (bits : ℕ) → end_of
 block_small blocks None bits h = absurd cc
 block_small blocks (Some name) bits h = small_named blocks name bits h
 
-get_behind : {X : Type 0} (old xs : List X) (k : ℕ) → slice_get (old ++ xs) (length old + k) ≡ slice_get xs k
-get_behind [] xs k = ap (slice_get xs) (omega arith)
-get_behind (z ∷ old) xs k = let e : length (z ∷ old) + k ≡ suc (length old + k) = omega arith in ap (slice_get (z ∷ (old ++ xs))) e ∙ get_behind old xs k
-
 -- what was put stands, whatever comes behind
 there_in : {X : Type 0} (old xs new all : List X) → new ≡ old ++ xs → Longer new all → (k : ℕ) (x : X) → slice_get xs k ≡ Some x → slice_get all (length old + k) ≡ Some x
 there_in old xs new all e f k x h =
     ap (λ t. slice_get t (length old + k)) (f.longer ∙ ap (λ t. t ++ f.more) e ∙ assoc old xs f.more) ∙ get_behind old (xs ++ f.more) k ∙ get_front xs f.more k x h
 
-length_words : (b n : ℕ) → length (words b n) ≡ n
-length_words b zero = refl
-length_words b (suc n) = omega (arith, length-append (words b n) (nodes.Word b n ∷ []), length_words b n)
-
-lt_or : (n k : ℕ) → k < suc n → (k < n) ⊎ (k ≡ n)
+pub lt_or : (n k : ℕ) → k < suc n → (k < n) ⊎ (k ≡ n)
 lt_or zero zero h = inr refl
 lt_or zero (suc k) h = absurd (omega (arith, h))
 lt_or (suc n) zero h = inl (omega arith)
@@ -446,10 +469,6 @@ words_step b n k (inr e) f = last_at (words b n) (nodes.Word b n) n k (length_wo
 words_at : (b n k : ℕ) → k < n → slice_get (words b n) k ≡ Some (nodes.Word b k)
 words_at b zero k h = absurd (omega (arith, h))
 words_at b (suc n) k h = words_step b n k (lt_or n k h) (λ lt. words_at b n k lt)
-
-pub length_pins : (n : ℕ) → length (pins n) ≡ n
-length_pins zero = refl
-length_pins (suc n) = omega (arith, length-append (pins n) (nodes.Pin ∷ []), length_pins n)
 
 pins_step : (n k : ℕ) → (k < n) ⊎ (k ≡ n) → (k < n → slice_get (pins n) k ≡ Some nodes.Pin) → slice_get (pins n ++ nodes.Pin ∷ []) k ≡ Some nodes.Pin
 pins_step n k (inl lt) f = get_front (pins n) (nodes.Pin ∷ []) k nodes.Pin (f lt)
@@ -511,7 +530,7 @@ words_read : (n m b k : ℕ) → b < m → k ≤ 16 → All (Reads n m) (words b
 words_read n m b zero lt le j d h = absurd (omega (arith, h))
 words_read n m b (suc k) lt le j d h = All-append (Reads n m) (words b k) (nodes.Word b k ∷ []) (words_read n m b k lt (omega (arith, le))) (all_one (Reads n m) (nodes.Word b k) (lt, omega (arith, le))) j d h
 
-pins_read : (n m k : ℕ) → All (Reads n m) (pins k)
+pub pins_read : (n m k : ℕ) → All (Reads n m) (pins k)
 pins_read n m zero j d h = absurd (omega (arith, h))
 pins_read n m (suc k) j d h = All-append (Reads n m) (pins k) (nodes.Pin ∷ []) (pins_read n m k) (all_one (Reads n m) nodes.Pin tt) j d h
 
@@ -529,12 +548,13 @@ end_blocks_read n ends.Keyboard inputs fed a b = all_none (HasInputs n)
 end_blocks_read n ends.Rom inputs fed a b = all_one (HasInputs n) (rom_of inputs) (a, all_none (λ i. i < n), omega (arith, b), omega arith)
 end_blocks_read n (ends.Block bits) inputs fed a b = all_one (HasInputs n) (memory_of bits inputs) (all_drop n 17 inputs a, all_take n 16 inputs a, a 16 0 (omega (arith, fed.0)), take_few 16 inputs)
 
-end_reads : (n m : ℕ) (old new : Growing) (e : End) (inputs : List ℕ) → new.nodes.items ≡ old.nodes.items ++ end_puts e inputs (length old.blocks.items) → new.blocks.items ≡ old.blocks.items ++ end_blocks e inputs → IsEndFed e (length inputs) → All (λ i. i < n) inputs → 1 < n → length new.blocks.items ≤ m → ReadsBelow n m old → ReadsBelow n m new
-end_reads n m old new e inputs f g fed a b d r =
+end_reads : (n m : ℕ) (old new : Growing) (e : End) (inputs : List ℕ) → new.nodes.items ≡ old.nodes.items ++ end_puts e inputs (length old.blocks.items) → new.blocks.items ≡ old.blocks.items ++ end_blocks e inputs → new.parts.items ≡ old.parts.items → IsEndFed e (length inputs) → All (λ i. i < n) inputs → 1 < n → length new.blocks.items ≤ m → ReadsBelow n m old → ReadsBelow n m new
+end_reads n m old new e inputs f g h fed a b d r =
     let lb = ap length g ∙ length-append old.blocks.items (end_blocks e inputs) in
     record {
       nodes = subst (λ (t : List Node). All (Reads n m) t) (sym f) (All-append (Reads n m) old.nodes.items (end_puts e inputs (length old.blocks.items)) r.nodes (end_nodes_read n m e inputs (length old.blocks.items) fed a (omega (arith, lb, d))));
       blocks = subst (λ (t : List Block). All (HasInputs n) t) (sym g) (All-append (HasInputs n) old.blocks.items (end_blocks e inputs) r.blocks (end_blocks_read n e inputs fed a b));
+      parts = subst (λ (t : List PartAt). All (λ p. All (λ i. i < n) p.outs) t) (sym h) r.parts;
     }
 
 pub end_put : (chips : Chips) (plans : List Plan) (place : ℕ) (plan : Plan) (e : End) (inputs : List ℕ) (old new : Growing) → ArePlans chips plans → EndsHavePins chips → slice_get plans place ≡ Some plan → plan.end ≡ Some e → length inputs ≡ length plan.inputs.items → length old.blocks.items ≤ length old.nodes.items →
@@ -556,12 +576,17 @@ end_put chips plans place plan e inputs old new are pins there is long few f g h
       few = omega (arith, ln, lb, lf, few);
       tree = [];
       listed = subst (λ (ps : List Part). AreListed chips 0 ps []) (sym no_parts_in) none;
+      counted =
+          let few = end_small (Some e) in
+          let here = ap end_nodes is_end in
+          omega (arith, size, few, here);
       block = λ path. length old.blocks.items;
       at = at;
       parts = h ∙ sym (nil_after old.parts.items);
       own_block = refl;
       placed = λ net a b. end_placed chips net plans place plan p pins e is_end (length old.nodes.items) inputs (length old.blocks.items) at long (λ name bit. refl) (stands_end net old new e inputs f g a b);
-      reads = λ n m a b c d r. end_reads n m old new e inputs f g (end_fed chips plans place plan e inputs p pins is long) a b d r;
+      reads = λ n m a b c d r. end_reads n m old new e inputs f g h (end_fed chips plans place plan e inputs p pins is long) a b d r;
+      words = λ w. subst (λ (t : List Block). HasWords new.nodes.items (length t)) (sym g) (subst (λ (t : List Node). HasWords t (length (old.blocks.items ++ end_blocks e inputs))) (sym f) (end_words e inputs old.nodes.items old.blocks.items w));
     }
 
 -- ---- what the code reads

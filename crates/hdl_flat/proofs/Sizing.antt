@@ -15,7 +15,7 @@ use Rattle.hdl_flat.specs.Inner.Nests.{AreAt, IsNested, IsNest, IsNestOf}
 use Rattle.hdl_flat.specs.Inner.Sizes.{joined, joined_if, all_joined, IsSmall, IsSizeAt, IsSizeOf, AreRight, AreSizes}
 use Rattle.hdl_flat.proofs.Lists.{get_there, last_or}
 
-end_small : (o : Option End) → end_nodes o ≤ 16
+pub end_small : (o : Option End) → end_nodes o ≤ 16
 end_small None = omega arith
 end_small (Some ends.Nand) = omega arith
 end_small (Some ends.Dff) = omega arith
@@ -39,7 +39,7 @@ length_both : {X : Type 0} (a b : List X) → length (a ++ b) ≡ length a + len
 length_both [] b = omega arith
 length_both (x ∷ a) b = let h = length_both a b in omega (arith, h)
 
-nodes_sum : (a z c t o w : ℕ) → z ≡ told (c + t) → w ≡ t + o → told (told (a + z) + o) ≡ told (a + (c + w))
+pub nodes_sum : (a z c t o w : ℕ) → z ≡ told (c + t) → w ≡ t + o → told (told (a + z) + o) ≡ told (a + (c + w))
 nodes_sum a z c t o w e f = omega arith
 
 parts_sum : (a z t o w : ℕ) → z ≡ told t → w ≡ t + o → told (told (told (a + 1) + z) + o) ≡ told (a + suc w)
@@ -53,7 +53,7 @@ pub record IsJoined (chips : Chips) (k : ℕ) (parts : List Part) (size sum : Si
   pub parts_are : sum.parts ≡ told (size.parts + length tree)
 
 -- a part in front of others
-in_front : (chips : Chips) (k : ℕ) (p : Part) (ps : List Part) (size z sum more : Size) (chip : Entry) → find_chip chips p.chip ≡ Some chip → IsSizeOf chips chip z → IsJoined chips (suc k) ps (joined size z) more → sum ≡ more → IsJoined chips k (p ∷ ps) size sum
+pub in_front : (chips : Chips) (k : ℕ) (p : Part) (ps : List Part) (size z sum more : Size) (chip : Entry) → find_chip chips p.chip ≡ Some chip → IsSizeOf chips chip z → IsJoined chips (suc k) ps (joined size z) more → sum ≡ more → IsJoined chips k (p ∷ ps) size sum
 in_front chips k p ps size z sum more chip found inner rest is =
     let nodes_are : part_nodes chips (within k inner.tree ++ rest.tree) ≡ part_nodes chips inner.tree + part_nodes chips rest.tree =
     part_nodes-append chips (within k inner.tree) rest.tree ∙ ap (λ n. n + part_nodes chips rest.tree) (part_nodes-within chips k inner.tree) in
@@ -68,7 +68,7 @@ in_front chips k p ps size z sum more chip found inner rest is =
       parts_are = ap (λ (x : Size). x.parts) is ∙ (rest.parts_are ∙ parts_sum_is);
     }
 
-told_small : (n : ℕ) → told n ≤ 1000000000
+pub told_small : (n : ℕ) → told n ≤ 1000000000
 told_small n = omega arith
 
 module _ (chips : Chips) (nest : List Nested) (sizes : List Size) (right : AreRight chips nest sizes) (i : ℕ) (long : i ≡ length sizes) where

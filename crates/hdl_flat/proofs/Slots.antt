@@ -85,6 +85,40 @@ slot_of chips plans n wires size i (y ∷ ps) (x ∷ xs) (q ∷ qs) (suc j) p e 
       fits = s.fits;
     }
 
+-- the nodes of parts stand one behind another
+starts : (wires : List (BitOf × Fed)) (size : Size) (ps : List Part) (xs : List Plan) (qs : List PartPlan) (k : ℕ) (r : PartPlan) → ArePartPlans wires size ps xs qs → (all_sized size xs).nodes ≤ 16777216 → slice_get qs k ≡ Some r → size.nodes ≤ r.offset
+starts wires size [] xs [] k r are small e = absurd cc
+starts wires size [] xs (q ∷ qs) k r are small e = absurd are
+starts wires size (p ∷ ps) [] [] k r are small e = absurd cc
+starts wires size (p ∷ ps) [] (q ∷ qs) k r are small e = absurd are
+starts wires size (p ∷ ps) (x ∷ xs) [] k r are small e = absurd are
+starts wires size (p ∷ ps) (x ∷ xs) (q ∷ qs) zero r are small e =
+    let same : q ≡ r = cc in
+    let off : q.offset ≡ size.nodes = are.0.offset in
+    let here : r.offset ≡ size.nodes = ap (λ (z : PartPlan). z.offset) (sym same) ∙ off in
+    omega (arith, here)
+starts wires size (p ∷ ps) (x ∷ xs) (q ∷ qs) (suc k) r are small e =
+    let exact = sum_exact size x xs small in
+    let rest = starts wires (joined size x.size) ps xs qs k r are.1 small e in
+    omega (arith, exact, rest)
+
+pub stands_behind : (wires : List (BitOf × Fed)) (size : Size) (ps : List Part) (xs : List Plan) (qs : List PartPlan) (j k : ℕ) (x : Plan) (q r : PartPlan) → ArePartPlans wires size ps xs qs → (all_sized size xs).nodes ≤ 16777216 → slice_get xs j ≡ Some x → slice_get qs j ≡ Some q → slice_get qs k ≡ Some r → j < k →
+    q.offset + x.size.nodes ≤ r.offset
+stands_behind wires size [] xs [] j k x q r are small d e f lt = absurd cc
+stands_behind wires size [] xs (p ∷ qs) j k x q r are small d e f lt = absurd are
+stands_behind wires size (p ∷ ps) [] qs j k x q r are small d e f lt = absurd cc
+stands_behind wires size (p ∷ ps) (y ∷ xs) [] j k x q r are small d e f lt = absurd are
+stands_behind wires size (p ∷ ps) (y ∷ xs) (s ∷ qs) j zero x q r are small d e f lt = absurd (omega (arith, lt))
+stands_behind wires size (p ∷ ps) (y ∷ xs) (s ∷ qs) zero (suc k) x q r are small d e f lt =
+    let plan_same : y ≡ x = cc in
+    let part_same : s ≡ q = cc in
+    let off : q.offset ≡ size.nodes = ap (λ (z : PartPlan). z.offset) (sym part_same) ∙ are.0.offset in
+    let wide : y.size.nodes ≡ x.size.nodes = ap (λ (z : Plan). z.size.nodes) plan_same in
+    let exact = sum_exact size y xs small in
+    let rest = starts wires (joined size y.size) ps xs qs k r are.1 small f in
+    omega (arith, off, wide, exact, rest)
+stands_behind wires size (p ∷ ps) (y ∷ xs) (s ∷ qs) (suc j) (suc k) x q r are small d e f lt = stands_behind wires (joined size y.size) ps xs qs j k x q r are.1 small d e f (omega (arith, lt))
+
 -- the part that node k belongs to, counted from the chip's first
 pub record Covers (chips : Chips) (ps : List Part) (xs : List Plan) (qs : List PartPlan) (k : ℕ) : Type 0 where
   pub j : ℕ

@@ -1,6 +1,6 @@
 //! A chip as nodes and blocks.
 
-ghost use Rattle.std.specs.Prelude.{◌≡◌, ℕ, ◌+◌, ◌<◌, ◌≤◌, ◌++◌, [], ◌∷◌, OnOk, IfOk, Some, length, map, slice_get};
+ghost use Rattle.std.specs.Prelude.{IsSome, ◌≡◌, ℕ, ◌+◌, ◌<◌, ◌≤◌, ◌++◌, [], ◌∷◌, OnOk, IfOk, Some, length, map, slice_get};
 ghost use Rattle.std.specs.List.{All};
 ghost use Rattle.hdl_tree.specs.declared.library.Entry.{Entry};
 ghost use Rattle.hdl_elab.specs.Inner.Progress.{IsCatalog, chips_of};
@@ -8,18 +8,20 @@ ghost use Rattle.hdl_flat.specs.declared.plan.Plan.{Plan};
 ghost use Rattle.hdl_flat.specs.Ends.{EndsHavePins};
 ghost use Rattle.hdl_tree.specs.Chips.{pin_width};
 ghost use Rattle.hdl_elab.specs.Tables.{bits_of};
-ghost use Rattle.hdl_flat.specs.Flat.{block_at, nodes_at};
+ghost use Rattle.hdl_flat.specs.Flat.{block_at, nodes_at, NeedsFew, IsFlat};
+ghost use Rattle.hdl_elab.specs.Whole.{AreDistinct, chips_in, TopIsFaultless};
+ghost use Rattle.hdl_tree.specs.Chips.{find_chip, find_entry};
 ghost use Rattle.hdl_flat.specs.Flat as Listed;
 ghost use Rattle.hdl_flat.specs.Inner.Wired.{wires_of};
 ghost use Rattle.hdl_flat.specs.Inner.Plans.{ArePlans};
 ghost use Rattle.hdl_flat.specs.Inner.Puts.{node_of};
 ghost use Rattle.hdl_flat.specs.Inner.Putting.{IsWithin, AreWithin, own_nodes, from_two, constants, pins, words, end_puts, end_blocks, rom_of, memory_of, IsEndFed, MayPut, IsPut};
 
-use crate::nest::entry_at;
-use crate::plan::Plan;
+use crate::nest::{entry_at, nest_of};
+use crate::plan::{Plan, plans_of};
 use crate::wires::{Bit, Origin, Wires};
 use hdl_elab::Catalog;
-use hdl_tree::{End, List, Name, Pin};
+use hdl_tree::{End, Library, List, Name, Pin};
 use netlist::{Block, Node};
 use std::alloc::{AllocError, Global};
 
@@ -36,6 +38,15 @@ pub struct PartAt {
     pub chip: Name,
     pub outs: List<u32>,
     pub block: Option<u32>,
+}
+
+/// The nodes and blocks of a chip, with a directory: the chip's pins, inputs first, and all parts in it, depth first in text order.
+#[derive(Drop)]
+pub struct Flat {
+    pub nodes: List<Node>,
+    pub blocks: List<Block>,
+    pub pins: List<PinAt>,
+    pub parts: List<PartAt>,
 }
 
 /// The nodes of the constants.
@@ -205,7 +216,7 @@ fn part_at<'a>(
 }
 
 /// Puts a chip behind what is there; the nodes of its input bits are given.
-pub(crate) fn put<'a>(
+fn put<'a>(
     alloc: Global,
     catalog: &Catalog<'a>,
     plans: &[Plan<'a>],
@@ -270,7 +281,7 @@ fn pin_at<'a>(
 }
 
 /// The directory of pins of the chip whose nodes begin at base.
-pub(crate) fn list_pins<'a>(
+fn list_pins<'a>(
     alloc: Global,
     wires: &Wires<'a>,
     base: usize,
@@ -289,7 +300,7 @@ pub(crate) fn list_pins<'a>(
 }
 
 /// The nodes of n pins behind the constants.
-pub(crate) fn input_nodes(alloc: Global, n: usize) -> Result<Vec<u32>, AllocError>
+fn input_nodes(alloc: Global, n: usize) -> Result<Vec<u32>, AllocError>
     requires { n ≤ 16777216 }
     ensures { IfOk result (λ v. v.items ≡ from_two n) }
 {
@@ -301,10 +312,63 @@ pub(crate) fn input_nodes(alloc: Global, n: usize) -> Result<Vec<u32>, AllocErro
 }
 
 /// The constants, and a pin for each input bit.
-pub(crate) fn begin(nodes: &mut Vec<Node>, n: usize) -> Result<(), AllocError>
+fn begin(nodes: &mut Vec<Node>, n: usize) -> Result<(), AllocError>
     ensures { OnOk result (nodes.new.items ≡ nodes.old.items ++ (constants ++ pins n)) }
 {
     push_node(nodes, Node::Flip(LOW))?;
     push_node(nodes, Node::Nand(LOW, LOW))?;
     put_pins(nodes, n)
+}
+
+/// The nodes and blocks of a chip without faults, in the order of the text.
+pub fn flatten(
+    alloc: Global,
+    library: &Library,
+    top: &Name,
+    blocks: bool,
+) -> Result<Flat, AllocError>
+    requires distinct { AreDistinct library.now.entries }
+    requires there { IsSome (find_entry library.now.entries top.now) }
+    requires fine { TopIsFaultless (chips_in library.now.entries blocks) top.now }
+    requires ends { EndsHavePins (chips_in library.now.entries blocks) }
+    requires few { NeedsFew (chips_in library.now.entries blocks) top.now }
+    ensures { IfOk result (λ flat. (chip : Entry) → find_chip (chips_in library.now.entries blocks) top.now ≡ Some chip → IsFlat (chips_in library.now.entries blocks) chip flat) }
+{
+    let catalog = Catalog::new(alloc, library, blocks)?;
+    let nest = nest_of(alloc, &catalog, top.as_bytes())?;
+    let plans = plans_of(alloc, &catalog, &nest.chips)?;
+    let plan = &plans[nest.top];
+    let mut flat = Growing {
+        nodes: Vec::new(alloc),
+        blocks: Vec::new(alloc),
+        parts: Vec::new(alloc),
+    };
+    let inputs = input_nodes(alloc, plan.inputs.len())?;
+    begin(&mut flat.nodes, inputs.len())?;
+    let base = flat.nodes.len();
+    put(alloc, &catalog, &plans, nest.top, &inputs, &mut flat)?;
+    let mut pins = Vec::new(alloc);
+    let entry = plan.entry;
+    list_pins(
+        alloc,
+        &plan.wires,
+        base,
+        &inputs,
+        entry.chip.inputs.as_slice(),
+        &mut pins,
+    )?;
+    list_pins(
+        alloc,
+        &plan.wires,
+        base,
+        &inputs,
+        entry.chip.outputs.as_slice(),
+        &mut pins,
+    )?;
+    Ok(Flat {
+        nodes: List::of(flat.nodes),
+        blocks: List::of(flat.blocks),
+        pins: List::of(pins),
+        parts: List::of(flat.parts),
+    })
 }

@@ -12,5 +12,5 @@ mod plan;
 mod size;
 mod wires;
 
-pub use flat::{PartAt, PinAt};
+pub use flat::{Flat, PartAt, PinAt, flatten};
 pub use size::{Size, count};

@@ -9,3 +9,8 @@ pub mod Finding
 pub mod Noting
 pub mod Joining
 pub mod Tops
+pub mod Trips
+pub mod Telling
+pub mod Passing
+pub mod Leaping
+pub mod Outward

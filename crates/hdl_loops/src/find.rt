@@ -10,10 +10,11 @@ ghost use Rattle.hdl_law.specs.Loops.{IsLoop};
 ghost use Rattle.hdl_loops.specs.Inner.Steps.{AreKept, HasReached};
 ghost use Rattle.hdl_loops.specs.Inner.Marked.{AllRise};
 ghost use Rattle.hdl_law.specs.Ways.{HasBit};
-ghost use Rattle.hdl_loops.specs.Inner.Looked.{LooksRight};
+ghost use Rattle.hdl_loops.specs.Inner.Looked.{LooksRight, TellsLoop};
 ghost use Rattle.hdl_loops.specs.Inner.Knowing.{HasSteps, HasAllSteps, AreKnown, IsKnown, IsSeen, KnowNothing};
 
 use crate::check::Ranks;
+use crate::fault::LoopError;
 use crate::graph::{Dependency, Edge, join_part};
 use crate::names::nets_of;
 use crate::search::{Found, Numbered};
@@ -61,7 +62,7 @@ fn join_one<'a>(
     i: usize,
     part: &'a Part,
     edges: &mut Vec<Edge<'a>>,
-) -> Result<(), AllocError>
+) -> Result<(), LoopError>
     requires part { i + 1 < 2 ^ 64 }
     requires long { length known.now ≡ length entries.now }
     ensures kept { OnOk result (AreKept edges.old.items edges.new.items) }
@@ -70,8 +71,11 @@ fn join_one<'a>(
     match place(entries, part.chip.as_bytes()) {
         None => Ok(()),
         Some(k) => match &known[k] {
-            None => Err(AllocError),
-            Some(inside) => join_part(i, &entries[k], part, inside.dependencies.as_slice(), edges),
+            None => Err(LoopError::NotShown),
+            Some(inside) => {
+                join_part(i, &entries[k], part, inside.dependencies.as_slice(), edges)?;
+                Ok(())
+            }
         },
     }
 }
@@ -82,7 +86,7 @@ fn graph_of<'a>(
     entries: &'a [Entry],
     known: &[Option<Known<'a>>],
     parts: &'a [Part],
-) -> Result<Vec<Edge<'a>>, AllocError>
+) -> Result<Vec<Edge<'a>>, LoopError>
     requires few { length parts.now + 1 < 2 ^ 64 }
     requires long { length known.now ≡ length entries.now }
     ensures { IfOk result (λ v. HasAllSteps entries.now known.now v.items parts.now) }
@@ -108,13 +112,13 @@ fn know<'a>(
     edges: Vec<Edge<'a>>,
     graph: &Numbered<'a>,
     ranks: &Ranks<'a>,
-) -> Result<Known<'a>, AllocError>
+) -> Result<Known<'a>, LoopError>
     ensures edges { IfOk result (λ inside. inside.edges ≡ edges.entry) }
     ensures rise { IfOk result (λ inside. AllRise ranks.now inside.edges.items) }
     ensures reached { IfOk result (λ inside. (n : List ℕ) (b : ℕ) → HasBit entry.now.chip.inputs n b → HasReached inside.edges.items entry.now inside.dependencies.items n b) }
 {
     if !ranks.all_rise(edges.as_slice()) {
-        return Err(AllocError);
+        return Err(LoopError::NotShown);
     }
     let dependencies = summarize(alloc, entry, edges.as_slice(), graph)?;
     Ok(Known {
@@ -130,7 +134,7 @@ fn look_at<'a>(
     blocks: bool,
     known: &[Option<Known<'a>>],
     entry: &'a Entry,
-) -> Result<Look<'a>, AllocError>
+) -> Result<Look<'a>, LoopError>
     requires no_end { end_of blocks entry.now ≡ None }
     requires long { length known.now ≡ length entries.now }
     ensures { IfOk result (LooksRight (chips_in entries.now blocks) known.now entry.now) }
@@ -141,7 +145,7 @@ fn look_at<'a>(
     match graph.arrange(alloc)? {
         Found::Circle(circle) => {
             let way = circle.as_slice();
-            let nets = nets_of(alloc, entries, blocks, known, parts, edges.as_slice(), way)?;
+            let nets = nets_of(alloc, entries, blocks, known, entry, edges.as_slice(), way)?;
             Ok(Look::Loop(nets))
         }
         Found::Order(ranks) => {
@@ -177,10 +181,11 @@ fn find_in_parts<'a>(
     known: &mut [Option<Known<'a>>],
     parts: &'a [Part],
     depth: usize,
-) -> Result<Option<Vec<Name>>, AllocError>
+) -> Result<Option<Vec<Name>>, LoopError>
     requires long { length known.old ≡ length entries.now }
     requires right { AreKnown (chips_in entries.now blocks) known.old }
-    ensures { OnOk result (AreKnown (chips_in entries.now blocks) known.new) }
+    ensures right { OnOk result (AreKnown (chips_in entries.now blocks) known.new) }
+    ensures told { IfOk result (λ r. (chip : Entry) → parts.now ≡ parts_in (chips_in entries.now blocks) chip → TellsLoop (chips_in entries.now blocks) chip r) }
 {
     for part in parts {
         if let Some(k) = place(entries, part.chip.as_bytes()) {
@@ -199,13 +204,14 @@ fn find_here<'a>(
     blocks: bool,
     known: &mut [Option<Known<'a>>],
     k: usize,
-) -> Result<Option<Vec<Name>>, AllocError>
+) -> Result<Option<Vec<Name>>, LoopError>
     requires long { length known.old ≡ length entries.now }
     requires there { k < length entries.now }
     requires right { AreKnown (chips_in entries.now blocks) known.old }
     requires no_end { (entry : Entry) → slice_get entries.now k ≡ Some entry → end_of blocks entry ≡ None }
     ensures right { OnOk result (AreKnown (chips_in entries.now blocks) known.new) }
     ensures done { IfOk result (λ r. r ≡ None → IsKnown known.new k) }
+    ensures told { IfOk result (λ r. (chip : Entry) → slice_get entries.now k ≡ Some chip → TellsLoop (chips_in entries.now blocks) chip r) }
 {
     match look_at(alloc, entries, blocks, known, &entries[k])? {
         Look::Loop(nets) => Ok(Some(nets)),
@@ -254,18 +260,19 @@ fn find_in<'a>(
     known: &mut [Option<Known<'a>>],
     k: usize,
     depth: usize,
-) -> Result<Option<Vec<Name>>, AllocError>
+) -> Result<Option<Vec<Name>>, LoopError>
     requires long { length known.old ≡ length entries.now }
     requires there { k < length entries.now }
     requires right { AreKnown (chips_in entries.now blocks) known.old }
     ensures right { OnOk result (AreKnown (chips_in entries.now blocks) known.new) }
     ensures done { IfOk result (λ r. r ≡ None → IsKnown known.new k) }
+    ensures told { IfOk result (λ r. (chip : Entry) → slice_get entries.now k ≡ Some chip → TellsLoop (chips_in entries.now blocks) chip r) }
 {
     if is_known(known, k) {
         return Ok(None);
     }
     if depth == 0 {
-        return Err(AllocError);
+        return Err(LoopError::NotShown);
     }
     match find_end(blocks, &entries[k]) {
         Some(end) => {
@@ -304,17 +311,18 @@ fn nothing_known<'a>(alloc: Global, n: usize) -> Result<Vec<Option<Known<'a>>>, 
     Ok(known)
 }
 
-/// Looks for a loop of the chip of this name, which has no other fault. None is answered only where it has none, which is
-/// proved. The nets of a loop, each once, are what the search comes to; that they are those of a loop is tried, not
-/// proved, nor is it that the error comes for want of memory alone.
+/// Looks for a loop of the chip of this name, which has no other fault. None is answered only where it has none, and nets
+/// only where it has a loop with these nets, each once and named as in the outermost chip that has a name for it. That
+/// `NotShown` never comes is not proved.
 pub fn find_loop(
     alloc: Global,
     library: &Library,
     top: &Name,
     blocks: bool,
-) -> Result<Option<Vec<Name>>, AllocError>
+) -> Result<Option<Vec<Name>>, LoopError>
     requires { TopIsFaultless (chips_in library.now.entries blocks) top.now }
-    ensures { IfOk result (λ r. r ≡ None → (entry : Entry) (nets : List (List ℕ)) → find_chip (chips_in library.now.entries blocks) top.now ≡ Some entry → IsLoop (chips_in library.now.entries blocks) entry nets → ⊥) }
+    ensures none { IfOk result (λ r. r ≡ None → (entry : Entry) (nets : List (List ℕ)) → find_chip (chips_in library.now.entries blocks) top.now ≡ Some entry → IsLoop (chips_in library.now.entries blocks) entry nets → ⊥) }
+    ensures told { IfOk result (λ r. MatchOption r (Unit {0}) (λ nets. (entry : Entry) × (find_chip (chips_in library.now.entries blocks) top.now ≡ Some entry) × (IsLoop (chips_in library.now.entries blocks) entry nets.items))) }
 {
     let entries = library.entries.as_slice();
     let Some(k) = place(entries, top.as_bytes()) else {

@@ -1,66 +1,42 @@
-//! The nets of a circle: those of the chip, and between them those of the ways through its parts, each once.
+//! The nets of a circle: those of the chip, and between them those of the ways through its parts, each once. Each step is seen to be
+//! one as its nets are told, so nothing rests on how the circle was found.
 
+ghost use Rattle.std.specs.Prelude.{◌≡◌, ◌<◌, true, OnOk, IfOk, length, slice_get, Some};
+ghost use Rattle.hdl_tree.specs.declared.library.Entry.{Entry};
+ghost use Rattle.hdl_elab.specs.Whole.{chips_in};
+ghost use Rattle.hdl_law.specs.Loops.{IsLoop};
+ghost use Rattle.hdl_loops.specs.Inner.Told.{AreTold, Tells, TellsThrough, EndLeads};
+
+use crate::fault::LoopError;
 use crate::find::{Known, parts_of, place};
 use crate::graph::{Dependency, Edge, Vertex};
+use crate::hops::{BitOf, Hop, hops_of, start_of};
+use crate::joint::leads_through;
 use crate::search::{Numbered, turned, way_to};
-use hdl_tree::{Entry, Name, Part};
-use indexmap::IndexSet;
+use crate::summary::reaches;
+use crate::told::{Passage, Told};
+use hdl_tree::{End, Entry, Name, find_end};
 use std::alloc::{AllocError, Global};
 
-/// A way through the chip in a place of the library.
-#[derive(Clone, Copy, Debug, PartialEq, Eq, Hash)]
-struct Passage<'a> {
-    chip: usize,
-    through: Dependency<'a>,
+/// Whether an end leads from the input bit to the output bit within the cycle.
+fn end_leads(end: End, through: &Dependency) -> bool
+    ensures { result ≡ true → EndLeads end through.now }
+{
+    reaches(end, through.input) && through.output == b"out".as_slice()
 }
 
-/// The nets that are told, in order, and the ways that are.
-#[derive(Drop)]
-struct Told<'a> {
-    names: IndexSet<&'a [u8]>,
-    passed: IndexSet<Passage<'a>>,
+fn is_same(a: &BitOf, b: &BitOf) -> bool
+    ensures { result ≡ true → (a.now.name.now ≡ b.now.name.now) × (a.now.bit ≡ b.now.bit) }
+{
+    a.name == b.name && a.bit == b.bit
 }
 
-impl<'a> Told<'a> {
-    fn add(&mut self, name: &'a [u8]) -> Result<(), AllocError> {
-        match self.names.insert(name) {
-            Ok(_) => Ok(()),
-            Err(_) => Err(AllocError),
-        }
-    }
-
-    fn has_passed(&self, passage: &Passage<'a>) -> bool {
-        self.passed.contains(passage)
-    }
-
-    fn note(&mut self, passage: Passage<'a>) -> Result<(), AllocError> {
-        match self.passed.insert(passage) {
-            Ok(_) => Ok(()),
-            Err(_) => Err(AllocError),
-        }
-    }
-}
-
-/// Tells the nets of a way through the chip in place k, unless they are told.
-#[cycle(ways)]
-fn pass<'a>(
+/// The hops of a way between these bits of the chip with these steps, as the search proposes them.
+fn way_through<'a>(
     alloc: Global,
-    entries: &'a [Entry],
-    blocks: bool,
-    known: &[Option<Known<'a>>],
-    k: usize,
-    through: Dependency<'a>,
-    depth: usize,
-    told: &mut Told<'a>,
-) -> Result<(), AllocError> {
-    let passage = Passage { chip: k, through };
-    if told.has_passed(&passage) {
-        return Ok(());
-    }
-    let (Some(Some(inside)), Some(entry)) = (known.get(k), entries.get(k)) else {
-        return Err(AllocError);
-    };
-    let edges = inside.edges.as_slice();
+    edges: &[Edge<'a>],
+    through: &Dependency<'a>,
+) -> Result<Vec<Hop<'a>>, AllocError> {
     let from = Vertex {
         place: 0,
         name: through.input,
@@ -71,59 +47,102 @@ fn pass<'a>(
         name: through.output,
         bit: through.out,
     };
-    let parts = parts_of(blocks, entry);
     let graph = Numbered::new(alloc, edges)?;
     let steps = graph.reach(alloc, &from)?;
     let way = way_to(alloc, edges, steps.as_slice(), &from, &to)?;
-    if !edges.is_empty() {
-        follow(
-            alloc,
-            entries,
-            blocks,
-            known,
-            parts,
-            edges,
-            way.as_slice(),
-            from,
-            to,
-            depth,
-            told,
-        )?;
-    }
-    told.note(passage)
+    hops_of(alloc, edges, way.as_slice())
 }
 
-/// Tells what a step passes inside a part.
+/// Tells the nets of a way through chip k, unless they are told.
 #[cycle(ways)]
-fn cross<'a>(
+fn pass<'a>(
     alloc: Global,
     entries: &'a [Entry],
     blocks: bool,
     known: &[Option<Known<'a>>],
-    parts: &'a [Part],
-    edge: &Edge<'a>,
+    k: usize,
+    through: Dependency<'a>,
     depth: usize,
     told: &mut Told<'a>,
-) -> Result<(), AllocError> {
-    if edge.from.place == 0 || edge.to.place == 0 {
+) -> Result<(), LoopError>
+    requires there { k < length entries.now }
+    requires right { AreTold (chips_in entries.now blocks) told.old }
+    ensures right { OnOk result (AreTold (chips_in entries.now blocks) told.new) }
+    ensures told { OnOk result ((entry : Entry) → slice_get entries.now k ≡ Some entry → TellsThrough (chips_in entries.now blocks) entry through.entry told.old told.new) }
+{
+    let passage = Passage { chip: k, through };
+    if told.has_passed(&passage) {
         return Ok(());
     }
-    if depth == 0 {
-        return Err(AllocError);
+    let entry = &entries[k];
+    if let Some(end) = find_end(blocks, entry) {
+        if !end_leads(end, &through) {
+            return Err(LoopError::NotShown);
+        }
+        return Ok(());
     }
-    let Some(part) = parts.get(edge.from.place - 1) else {
-        return Err(AllocError);
+    let Some(Some(inside)) = known.get(k) else {
+        return Err(LoopError::NotShown);
     };
+    let hops = way_through(alloc, inside.edges.as_slice(), &through)?;
+    let from = BitOf {
+        name: through.input,
+        bit: through.bit,
+    };
+    let to = BitOf {
+        name: through.output,
+        bit: through.out,
+    };
+    let way = hops.as_slice();
+    follow(
+        alloc, entries, blocks, known, entry, way, from, to, depth, told,
+    )?;
+    told.note(passage)?;
+    Ok(())
+}
+
+/// Tells what a hop from this bit passes inside its part.
+#[cycle(ways)]
+fn leap<'a>(
+    alloc: Global,
+    entries: &'a [Entry],
+    blocks: bool,
+    known: &[Option<Known<'a>>],
+    entry: &'a Entry,
+    from: &BitOf<'a>,
+    hop: &Hop<'a>,
+    depth: usize,
+    told: &mut Told<'a>,
+) -> Result<(), LoopError>
+    requires { AreTold (chips_in entries.now blocks) told.old }
+    ensures right { OnOk result (AreTold (chips_in entries.now blocks) told.new) }
+    ensures told { OnOk result (Tells (chips_in entries.now blocks) entry.now from.now hop.now.to told.old told.new) }
+{
+    if depth == 0 {
+        return Err(LoopError::NotShown);
+    }
+    let parts = parts_of(blocks, entry);
+    let i = hop.part;
+    if i >= parts.len() {
+        return Err(LoopError::NotShown);
+    }
+    let part = &parts[i];
     let Some(k) = place(entries, part.chip.as_bytes()) else {
-        return Err(AllocError);
+        return Err(LoopError::NotShown);
     };
-    let through = Dependency {
-        input: edge.from.name,
-        bit: edge.from.bit,
-        output: edge.to.name,
-        out: edge.to.bit,
-    };
-    pass(alloc, entries, blocks, known, k, through, depth - 1, told)
+    if !leads_through(&entries[k], part, from, hop) {
+        return Err(LoopError::NotShown);
+    }
+    pass(
+        alloc,
+        entries,
+        blocks,
+        known,
+        k,
+        hop.through,
+        depth - 1,
+        told,
+    )
 }
 
 /// Tells the nets between the ends of a way.
@@ -133,80 +152,58 @@ fn follow<'a>(
     entries: &'a [Entry],
     blocks: bool,
     known: &[Option<Known<'a>>],
-    parts: &'a [Part],
-    edges: &[Edge<'a>],
-    way: &[usize],
-    from: Vertex<'a>,
-    to: Vertex<'a>,
+    entry: &'a Entry,
+    way: &[Hop<'a>],
+    from: BitOf<'a>,
+    to: BitOf<'a>,
     depth: usize,
     told: &mut Told<'a>,
-) -> Result<(), AllocError> {
-    let mut at = from;
-    for (j, step) in way.iter().enumerate() {
-        let Some(edge) = edges.get(*step) else {
-            return Err(AllocError);
-        };
-        if edge.from != at {
-            return Err(AllocError);
-        }
-        cross(alloc, entries, blocks, known, parts, edge, depth, told)?;
-        at = edge.to;
-        if j + 1 < way.len() && at.place == 0 {
-            told.add(at.name)?;
-        }
+) -> Result<(), LoopError>
+    requires { AreTold (chips_in entries.now blocks) told.old }
+    ensures right { OnOk result (AreTold (chips_in entries.now blocks) told.new) }
+    ensures told { OnOk result (Tells (chips_in entries.now blocks) entry.now from.entry to.entry told.old told.new) }
+{
+    let Some((first, rest)) = way.split_first() else {
+        return Err(LoopError::NotShown);
+    };
+    leap(
+        alloc, entries, blocks, known, entry, &from, first, depth, told,
+    )?;
+    let mut at = first.to;
+    for hop in rest {
+        told.add(at.name)?;
+        leap(alloc, entries, blocks, known, entry, &at, hop, depth, told)?;
+        at = hop.to;
     }
-    if way.is_empty() || at != to {
-        return Err(AllocError);
+    if !is_same(&at, &to) {
+        return Err(LoopError::NotShown);
     }
     Ok(())
 }
 
-fn copied(alloc: Global, names: &IndexSet<&[u8]>) -> Result<Vec<Name>, AllocError> {
-    let mut copies = Vec::new(alloc);
-    for name in names.iter() {
-        copies.push(Name::from_bytes(alloc, *name)?)?;
-    }
-    Ok(copies)
-}
-
-/// The nets of a circle in the own graph of a chip with these parts.
+/// The nets of a circle in the own graph of a chip.
 pub(crate) fn nets_of<'a>(
     alloc: Global,
     entries: &'a [Entry],
     blocks: bool,
     known: &[Option<Known<'a>>],
-    parts: &'a [Part],
+    entry: &'a Entry,
     edges: &[Edge<'a>],
     circle: &[usize],
-) -> Result<Vec<Name>, AllocError> {
-    let way = turned(alloc, edges, circle)?;
-    let Some(first) = way.first().copied() else {
-        return Err(AllocError);
+) -> Result<Vec<Name>, LoopError>
+    ensures { IfOk result (λ nets. IsLoop (chips_in entries.now blocks) entry.now nets.items) }
+{
+    let steps = turned(alloc, edges, circle)?;
+    let Some(from) = start_of(edges, steps.as_slice()) else {
+        return Err(LoopError::NotShown);
     };
-    let Some(edge) = edges.get(first) else {
-        return Err(AllocError);
-    };
-    let from = edge.from;
-    if from.place != 0 {
-        return Err(AllocError);
-    }
-    let mut told = Told {
-        names: IndexSet::new(alloc),
-        passed: IndexSet::new(alloc),
-    };
+    let hops = hops_of(alloc, edges, steps.as_slice())?;
+    let way = hops.as_slice();
+    let depth = entries.len();
+    let mut told = Told::new(alloc);
     told.add(from.name)?;
     follow(
-        alloc,
-        entries,
-        blocks,
-        known,
-        parts,
-        edges,
-        way.as_slice(),
-        from,
-        from,
-        entries.len(),
-        &mut told,
+        alloc, entries, blocks, known, entry, way, from, from, depth, &mut told,
     )?;
-    copied(alloc, &told.names)
+    Ok(told.copied(alloc)?)
 }

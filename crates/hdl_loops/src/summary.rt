@@ -9,6 +9,7 @@ ghost use Rattle.hdl_loops.specs.Inner.Steps.{AreKept, HasDependency, HasReached
 ghost use Rattle.hdl_loops.specs.Inner.Marked.{is_marked};
 
 use crate::check::Marks;
+use crate::fault::LoopError;
 use crate::graph::{Dependency, Edge, Vertex};
 use crate::search::Numbered;
 use crate::width::takes_in;
@@ -104,7 +105,7 @@ fn list_reached<'a>(
     input: &'a [u8],
     bit: u32,
     found: &mut Vec<Dependency<'a>>,
-) -> Result<(), AllocError>
+) -> Result<(), LoopError>
     ensures kept { OnOk result (AreKept found.old.items found.new.items) }
     ensures listed { OnOk result (HasReached edges.now entry.now found.new.items input.now bit) }
 {
@@ -116,7 +117,7 @@ fn list_reached<'a>(
     let order = graph.reach(alloc, &from)?;
     let marks = Marks::from(alloc, edges, order.as_slice(), from)?;
     if !marks.are_closed(edges) {
-        return Err(AllocError);
+        return Err(LoopError::NotShown);
     }
     list_outputs(&marks, entry, input, bit, found)?;
     Ok(())
@@ -130,7 +131,7 @@ fn list_input<'a>(
     graph: &Numbered<'a>,
     pin: &'a Pin,
     found: &mut Vec<Dependency<'a>>,
-) -> Result<(), AllocError>
+) -> Result<(), LoopError>
     ensures kept { OnOk result (AreKept found.old.items found.new.items) }
     ensures listed { OnOk result ((b : ℕ) → b < pin_width pin.now → HasReached edges.now entry.now found.new.items pin.now.name b) }
 {
@@ -147,7 +148,7 @@ pub(crate) fn summarize<'a>(
     entry: &'a Entry,
     edges: &[Edge<'a>],
     graph: &Numbered<'a>,
-) -> Result<Vec<Dependency<'a>>, AllocError>
+) -> Result<Vec<Dependency<'a>>, LoopError>
     ensures { IfOk result (λ v. (n : List ℕ) (b : ℕ) → HasBit entry.now.chip.inputs n b → HasReached edges.now entry.now v.items n b) }
 {
     let mut found = Vec::new(alloc);
@@ -158,7 +159,7 @@ pub(crate) fn summarize<'a>(
 }
 
 /// Whether the pin of an end reaches its out within the cycle.
-fn reaches(end: End, name: &[u8]) -> bool
+pub(crate) fn reaches(end: End, name: &[u8]) -> bool
     ensures { result ≡ reaches_out end name.now }
 {
     match end {

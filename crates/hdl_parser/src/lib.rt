@@ -12,6 +12,3 @@ mod words;
 pub use laws::{printed_law, reading_law, tokens_law, trees_law};
 pub use printing::print;
 pub use reading::{HdlFault, parse};
-
-#[cfg(test)]
-mod tests;

@@ -41,6 +41,13 @@ impl Name {
     {
         self.text.as_slice()
     }
+
+    /// The bytes of the name, which is no more.
+    pub fn into_bytes(self) -> Vec<u8>
+        ensures { result.items ≡ self }
+    {
+        self.text
+    }
 }
 
 impl Clone for Name {

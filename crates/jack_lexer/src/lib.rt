@@ -4,6 +4,3 @@
 mod lexer;
 
 pub use lexer::tokens;
-
-#[cfg(test)]
-mod tests;

@@ -12,6 +12,3 @@ mod texts;
 mod words;
 
 pub use jack::Jack;
-
-#[cfg(test)]
-mod tests;

@@ -5,7 +5,7 @@ use Rattle.jack_tree.specs.declared.tree.Class.{Class}
 use Rattle.jack_names.specs.Tables.{first_of, is_among, names_in}
 use Rattle.jack_names.specs.Twice.{told_name, source_of, file_fault, members_fault, declarations_fault}
 use Rattle.jack_names.specs.Whole.{class_names}
-use Rattle.jack_names.specs.Named.{with_all, marks}
+use Rattle.jack_names.specs.Inner.Named.{with_all, marks}
 use Rattle.jack_names.specs.declared.fault.NameKind.TheVariants as kinds
 use Rattle.jack_names.proofs.Entries.{found_among}
 use Rattle.jack_names.proofs.Naming.{found_filled}

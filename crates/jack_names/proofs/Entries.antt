@@ -5,7 +5,7 @@ use Rattle.std.specs.Str.{bytes_eq}
 use Rattle.std.specs.Map.{lookup}
 use Rattle.indexmap.specs.IndexMap.{insert_entry}
 use Rattle.jack_names.specs.Tables.{found, first_of, is_among, names_in, with_new}
-use Rattle.jack_names.specs.Entered.{seen_entry}
+use Rattle.jack_names.specs.Inner.Entered.{seen_entry}
 
 pub entry_at : {V : Type 0} (name : List ℕ) (es : List (Bor (List ℕ) × V)) → lookup (λ (k : Bor (List ℕ)). bytes_eq name k.now) es ≡ found name (map seen_entry es)
 entry_at name [] = refl

@@ -9,11 +9,11 @@ use Rattle.std.proofs.lemmas.Option.{slice_get-map}
 use Rattle.std.proofs.lemmas.Slice.Eq.{bytes_eq-Decides}
 use Rattle.jack_tree.specs.declared.tree.Class.{Class}
 use Rattle.jack_names.specs.Tables.{found, first_of, is_among, names_in, with_new}
-use Rattle.jack_names.specs.Entered.{table_of}
-use Rattle.jack_names.specs.Scoped.{found_in}
+use Rattle.jack_names.specs.Inner.Entered.{table_of}
+use Rattle.jack_names.specs.Inner.Scoped.{found_in}
 use Rattle.jack_names.specs.Symbols.{class_numbers, signatures, all_signatures, found_at, symbols_of}
 use Rattle.jack_names.specs.Limits.{subroutine_count}
-use Rattle.jack_names.specs.Named.{with_all, the_symbols}
+use Rattle.jack_names.specs.Inner.Named.{with_all, the_symbols}
 use Rattle.jack_names.specs.declared.table.Table.{Table}
 use Rattle.jack_names.specs.declared.scope.Signature.{Signature}
 use Rattle.jack_names.specs.declared.scope.Names.{Names}

@@ -12,7 +12,7 @@ use Rattle.jack_core.proofs.Postfix.{built_more, height_more, height_first, put_
 use Rattle.jack_tree.specs.declared.tree.Name.{Name}
 use Rattle.jack_names.specs.Scopes.{Scope, callee}
 use Rattle.jack_names.specs.Meant.{called_number, with_variable, with_object, invoked, listed, one}
-use Rattle.jack_names.specs.Pushed.{Leaves, Adds, AddsAll, Turns, Joins, Puts, object_by, object_meant}
+use Rattle.jack_names.specs.Inner.Pushed.{Leaves, Adds, AddsAll, Turns, Joins, Puts, object_by, object_meant}
 use Rattle.jack_names.specs.declared.scope.Declared.{Declared}
 
 pub puts : (p : Part) (old new : List Part) → new ≡ old ++ p ∷ [] → Puts p old new

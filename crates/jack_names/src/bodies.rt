@@ -5,7 +5,7 @@ ghost use Rattle.jack_core.specs.Texts.{the_statement, the_block};
 ghost use Rattle.jack_core.specs.Reading.{the_expression};
 ghost use Rattle.jack_names.specs.Sizes.{size, sizes, else_size};
 ghost use Rattle.jack_names.specs.Meant.{assigned, let_by, let_meant, statement_meant, statements_meant, else_meant};
-ghost use Rattle.jack_names.specs.Scoped.{the_scope};
+ghost use Rattle.jack_names.specs.Inner.Scoped.{the_scope};
 
 use crate::meant::{call_meant, expression_meant, value_meant, variable_meant};
 use crate::scope::{Declared, Scope, Slot};

@@ -5,7 +5,7 @@ ghost use Rattle.jack_names.specs.Faults.{Checks, told_if};
 ghost use Rattle.jack_names.specs.Uses.{Variable, This, Calls, Makes, Text, Use, constant_uses, operator_uses, term_uses, operation_uses, operations_uses, exp_uses, arguments_uses, call_uses, optional_uses, statement_uses, statements_uses, form_uses, subroutine_uses};
 ghost use Rattle.jack_names.specs.Scopes.{made_told, front_fault, call_fault, string_fault, first_fault, use_fault};
 ghost use Rattle.jack_names.specs.Scopes.{callee as callee_of};
-ghost use Rattle.jack_names.specs.Scoped.{the_scope};
+ghost use Rattle.jack_names.specs.Inner.Scoped.{the_scope};
 
 use crate::fault::{NameError, NameKind, tell};
 use crate::kinds::{

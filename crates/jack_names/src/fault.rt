@@ -2,10 +2,11 @@
 
 ghost use Rattle.std.specs.Prelude.{◌≡◌, Some};
 ghost use Rattle.jack_names.specs.Faults.{Checks, told_in};
-ghost use Rattle.jack_names.specs.Filed.{the_file};
+ghost use Rattle.jack_names.specs.Inner.Filed.{the_file};
+ghost use Rattle.jack_names.specs.Messages.{kind_word, name_told};
 ghost use Rattle.jack_names.specs.declared.fault.NameError.TheVariants.{Memory};
 
-use outer_world::Name as FileName;
+use outer_world::{Detail, Name as FileName, Told};
 use scan_text::Place;
 use std::alloc::{AllocError, Global};
 use thiserror::Error;
@@ -43,6 +44,29 @@ pub enum NameKind {
     NoMain,
 }
 
+impl NameKind {
+    fn word(&self) -> &'static str
+        ensures { result.now ≡ kind_word self.now }
+    {
+        match self {
+            NameKind::FileName => "FileName",
+            NameKind::ClassTwice => "ClassTwice",
+            NameKind::MemberTwice => "MemberTwice",
+            NameKind::VariableTwice => "VariableTwice",
+            NameKind::UnknownVariable => "UnknownVariable",
+            NameKind::UnknownClass => "UnknownClass",
+            NameKind::UnknownSubroutine => "UnknownSubroutine",
+            NameKind::ArgumentCount => "ArgumentCount",
+            NameKind::MethodByClass => "MethodByClass",
+            NameKind::FunctionByObject => "FunctionByObject",
+            NameKind::ThisInFunction => "ThisInFunction",
+            NameKind::FieldInFunction => "FieldInFunction",
+            NameKind::OwnInFunction => "OwnInFunction",
+            NameKind::NoMain => "NoMain",
+        }
+    }
+}
+
 /// A name with which something is wrong, with the file in which it stands and its place there. A shipped file is one
 /// of the operating system.
 #[derive(Debug, Drop, Error)]
@@ -53,6 +77,21 @@ pub struct NameFault {
     pub file: FileName,
     pub name: Vec<u8>,
     pub place: Place,
+}
+
+impl NameFault {
+    /// What the fault tells, beside the path of its file.
+    pub fn told(self) -> Told
+        ensures { result ≡ name_told self }
+    {
+        let word = self.kind.word();
+        Told::at(
+            self.place.line,
+            self.place.column,
+            word,
+            Detail::Name(self.name),
+        )
+    }
 }
 
 /// Why names were not resolved: memory ran out, or a name has a fault.

@@ -5,8 +5,8 @@ ghost use Rattle.jack_meaning.specs.Text.{Expression as AnExpression, Call as Ca
 ghost use Rattle.jack_core.specs.Heights.{takes};
 ghost use Rattle.jack_core.specs.Reading.{made, the_expression, the_sign};
 ghost use Rattle.jack_names.specs.Meant.{slot_meant, declared_meant, variable_meant, number_by, called_number, made_number, one, filled, length_word, string_meant, constant_meant, sign_meant, binary_meant, term_meant, exp_meant, operation_meant, grouped, call_meant, value_meant};
-ghost use Rattle.jack_names.specs.Pushed.{Adds, AddsAll, Turns, Joins, Puts, object_meant};
-ghost use Rattle.jack_names.specs.Scoped.{the_scope};
+ghost use Rattle.jack_names.specs.Inner.Pushed.{Adds, AddsAll, Turns, Joins, Puts, object_meant};
+ghost use Rattle.jack_names.specs.Inner.Scoped.{the_scope};
 
 use crate::kinds::callee;
 use crate::scope::{Callee, Declared, Scope, Signature, Slot};

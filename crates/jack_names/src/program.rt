@@ -3,11 +3,11 @@
 ghost use Rattle.std.specs.Prelude.{◌≡◌, ◌+◌, ◌≤◌, ◌<◌, ◌^◌, ◌++◌, ◌∷◌, [], length, map, codes, IfOk, OnOk, IsOk, SomeIff, ◌↔◌, ◌-◌};
 ghost use Rattle.jack_core.specs.Texts.{the_subroutine, the_class, the_program, names_of, class_names_of};
 ghost use Rattle.jack_names.specs.Faults.{Checks};
-ghost use Rattle.jack_names.specs.Entered.{table_of};
+ghost use Rattle.jack_names.specs.Inner.Entered.{table_of};
 ghost use Rattle.jack_names.specs.Symbols.{fields_of, statics_of};
 ghost use Rattle.jack_names.specs.Limits.{AreWithin, subroutine_count};
 ghost use Rattle.jack_names.specs.Whole.{declared_fault, is_plain, main_fault, all_statics, all_uses_fault, first_name_fault, all_subroutines_meant, start_subroutine, class_meant, program_meant, class_names, names_meant, all_names_meant};
-ghost use Rattle.jack_names.specs.Named.{with_all, the_symbols, marks};
+ghost use Rattle.jack_names.specs.Inner.Named.{with_all, the_symbols, marks};
 ghost use Rattle.jack_names.specs.Resolved.{Resolves, the_name, the_class_name};
 
 use crate::classes::{resolve_classes, resolve_system};

@@ -1,7 +1,7 @@
 //! What names stand for in a subroutine.
 
 ghost use Rattle.std.specs.Prelude.{◌≡◌};
-ghost use Rattle.jack_names.specs.Scoped.{the_scope, found_in};
+ghost use Rattle.jack_names.specs.Inner.Scoped.{the_scope, found_in};
 
 use crate::fault::File;
 use crate::table::Table;

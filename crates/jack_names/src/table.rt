@@ -2,7 +2,7 @@
 
 ghost use Rattle.std.specs.Prelude.{◌≡◌, [], OnOk, OnErr, IfOk, not};
 ghost use Rattle.jack_names.specs.Tables.{found, is_among, names_in, with_new};
-ghost use Rattle.jack_names.specs.Entered.{table_of};
+ghost use Rattle.jack_names.specs.Inner.Entered.{table_of};
 
 use indexmap::IndexMap;
 use std::alloc::{AllocError, Global};

@@ -4,8 +4,8 @@ ghost use Rattle.std.specs.Prelude.{◌≡◌, ◌++◌, ◌∷◌, [], Some, On
 ghost use Rattle.jack_names.specs.declared.fault.NameKind.TheVariants.{VariableTwice};
 ghost use Rattle.jack_names.specs.Tables.{names_in};
 ghost use Rattle.jack_names.specs.Faults.{Checks};
-ghost use Rattle.jack_names.specs.Filed.{the_file};
-ghost use Rattle.jack_names.specs.Entered.{table_of};
+ghost use Rattle.jack_names.specs.Inner.Filed.{the_file};
+ghost use Rattle.jack_names.specs.Inner.Entered.{table_of};
 ghost use Rattle.jack_names.specs.Twice.{twice_fault, first_twice, texts_of, names_of, members_twice, parameter_names, locals_twice, variables_fault, subroutines_fault, members_fault, file_fault, declaration_fault, declarations_fault};
 
 use crate::fault::{File, NameError, NameKind, tell};

@@ -1,8 +1,11 @@
-//! The operating system: its texts, and the classes that they spell.
-//!
-//! So far it is the one class `class Sys { function void init() { do Main.main(); return; } }`.
+//! The operating system: its texts, and the classes that they spell (book, chapter 12).
 #![tactic(auto)]
 
+mod making;
 mod reading;
+mod routines;
+mod shipped;
+#[cfg(test)]
+mod tests;
 
-pub use reading::{SystemError, SystemFault, classes};
+pub use reading::{SystemError, SystemFault, classes, texts};

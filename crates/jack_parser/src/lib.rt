@@ -15,6 +15,3 @@ mod words;
 pub use laws::{lawful, printed_law, reading_law, tokens_law};
 pub use printing::print;
 pub use reading::parse_class;
-
-#[cfg(test)]
-mod tests;

@@ -1,4 +1,3 @@
 pub mod Tokens
 pub mod Script
 pub mod Codes
-pub mod View

@@ -5,7 +5,7 @@ use crate::Keys;
 use machine_io::Keyboard;
 
 impl Keyboard for Keys {
-    ghost code = { λ keys. code_at keys.lines.items };
+    ghost code = { code_at };
 
     fn at(&self, c: u64) -> u16 {
         Keys::at(self, c)

@@ -10,18 +10,30 @@ use crate::lexer::tokens;
 use crate::lines::{Line, all_lines};
 use grammar::ReadError;
 use std::alloc::Global;
+use std::marker::Model;
 
 /// The lines of a key script, with rising moments.
 #[derive(Drop)]
 pub struct Keys {
     lines: Vec<Line>,
-    ghost rising: { are_rising 0 lines.items ≡ true },
+}
+
+impl Model for Keys {
+    ghost use Rattle.std.specs.Prelude.{◌≡◌, List, true};
+    ghost use Rattle.key_script.specs.declared.lines.Line.{Line};
+    ghost use Rattle.key_script.specs.Codes.{are_rising};
+
+    ghost Value = { List Line };
+
+    ghost view = { λ keys. keys.lines.items };
+
+    ghost invariant = { λ keys. are_rising 0 keys.lines.items ≡ true };
 }
 
 impl Keys {
     /// No key at any moment, for a run without a script. It takes no memory.
     pub fn none(alloc: Global) -> Keys
-        ensures { result.lines.items ≡ [] }
+        ensures { result ≡ [] }
     {
         Keys {
             lines: Vec::new(alloc),
@@ -30,7 +42,7 @@ impl Keys {
 
     /// The key that is held at moment `c`: the code of the last line whose moment is at most `c`, or 0 before the first.
     pub fn at(&self, c: u64) -> u16
-        ensures { result ≡ code_at self.now.lines.items c }
+        ensures { result ≡ code_at self.now c }
     {
         let lines = self.lines.as_slice();
         let come = lines.partition_point(|line| line.moment as u64 <= c);
@@ -66,11 +78,11 @@ fn read_lines(alloc: Global, text: &[u8]) -> Result<Vec<Line>, ReadError>
 /// Grammar where a line is not two numbers, Range past a limit, NotRising where a moment is not above the one before.
 pub fn read_keys(alloc: Global, text: &[u8]) -> Result<Keys, ReadError>
     // What is read is spelled so, and all that is spelled is read, unless memory runs out.
-    ensures found { IfOk result (λ k. Spells text.now k.lines.items) }
-    ensures only { (ls : List Line) → Spells text.now ls → Gives (λ k. k.lines.items) result (Ok ls) }
+    ensures found { IfOk result (λ k. Spells text.now k) }
+    ensures only { (ls : List Line) → Spells text.now ls → Gives (λ k. k) result (Ok ls) }
     // A fault is the text's first one, and each text with a fault gets it.
     ensures fault { IfErr result (Halt (Refuses text.now)) }
-    ensures exact { (f : Fault) → Refuses text.now f → Gives (λ k. k.lines.items) result (Err f) }
+    ensures exact { (f : Fault) → Refuses text.now f → Gives (λ k. k) result (Err f) }
 {
     let lines = read_lines(alloc, text)?;
     Ok(Keys { lines })

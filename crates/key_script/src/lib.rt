@@ -13,6 +13,3 @@ mod token;
 pub use keys::{Keys, read_keys};
 pub use laws::reading_law;
 pub use lines::Line;
-
-#[cfg(test)]
-mod tests;

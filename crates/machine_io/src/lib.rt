@@ -13,6 +13,3 @@ pub use machine::{Level, Moved, Stray};
 pub use report::{Head, LevelName, Show, put_head, put_shown, show_report};
 pub use screen::{put_screen, show_screen};
 pub use words::{put_words, show_words};
-
-#[cfg(test)]
-mod tests;

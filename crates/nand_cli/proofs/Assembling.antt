@@ -1,68 +1,36 @@
--- What the meaning of a text of a program says of its length and of its words.
-use Rattle.std.proofs.Common.{◌≡◌, ◌≤◌, ◌<◌, ◌-◌, ℕ, Bool, true, false, List, [], ◌∷◌, Option, Some, None, Result, Ok, Err, length, refl, sym, ◌∙◌, ap, inl, inr, arith, if◌then◌else◌, Vec, Global}
+-- A program of the instruction machine has at most 32,768 words; and what its readers say.
+use Rattle.std.proofs.Common.{◌≡◌, ◌≤◌, ◌-◌, ℕ, Bool, true, false, List, [], ◌∷◌, Option, Some, None, Result, Ok, Err, length, refl, sym, ◌∙◌, ap, inl, inr, arith, if◌then◌else◌, Vec, Global}
 use Rattle.std.specs.Prelude.{nat_lt, IfOk, IfErr}
 use Rattle.std.proofs.lemmas.Bool.Decides.{nat_tests}
 use Rattle.scan_text.specs.declared.Place.{Place}
-use Rattle.grammar.specs.declared.Fault.TheVariants as fault
-use Rattle.hack_asm.specs.Faults.{Wrong, Range, TooLarge, TooManyVariables, wrong_of}
+use Rattle.hack_asm.specs.Faults.{Wrong, TooLarge, TooManyVariables}
 use Rattle.hack_asm.specs.Lines.{Line, number, symbol, label, address, compute}
-use Rattle.hack_asm.specs.Meaning.{Means, MeansWrong, IsRefusal}
+use Rattle.hack_asm.specs.Meaning.{Means, IsRefusal}
 use Rattle.hack_asm.specs.declared.fault.AsmFault.{AsmFault}
 use Rattle.hack_asm.specs.Program.{Table, first_past, if_near, labelled, labels, size, variables, words}
-use Rattle.outer_world.specs.Files.{Files, HasFile}
-use Rattle.hack_asm.specs.HackText.{Holds, HoldsWrong, IsRefusal as IsNoImage, words_of}
-use Rattle.nand_cli.specs.Assembled.{TextSays, wrong_line}
-use Rattle.nand_cli.specs.Parts.{Loads, LoadsText, ReadsText, SaysWrong, Tells, TellsLine}
-use Rattle.nand_cli.specs.declared.load.Form.{Form}
-use Rattle.nand_cli.specs.declared.load.Form.TheVariants.{Assembly, Image}
-use Rattle.nand_cli.specs.declared.refusal.Failure.{Failure}
-use Rattle.nand_cli.specs.declared.refusal.Failure.TheVariants as failure
-use Rattle.nand_cli.proofs.Loading.{past}
-
--- ---- a text that is too long
-
-too_long : (form : Form) (text : List ℕ) → 1048576 < length text → TextSays form text (Err (Range (record { line = 0; column = 0 }) 1048577))
-too_long Assembly text h =
-    let at : Place = record { line = 0; column = 0 } in
-    let test = past 1048576 (length text) h in
-    inr (fault.Range at 1048577, inl (rw test refl), refl)
-too_long Image text h =
-    let at : Place = record { line = 0; column = 0 } in
-    let test = past 1048576 (length text) h in
-    inr (fault.Range at 1048577, inl (rw test refl), refl)
-
--- the words of a file whose text is not read
-pub words_unread : (form : Form) (files : Option Files) (path : List ℕ) (f : Failure) → LoadsText files path (Err f) → Loads form files path (Err f)
-words_unread form files path (failure.Refused r) (text, has, h, e) = (text, Range (record { line = 0; column = 0 }) 1048577, has, too_long form text h, e)
-words_unread form files path failure.Read h = tt
-words_unread form files path failure.Write h = h
-words_unread form files path failure.Memory h = tt
-
--- the failure that tells of what is wrong with the text of a file
-told : (form : Form) (files : Option Files) (path : List ℕ) (f : Failure) (text : List ℕ) (w : Wrong) → HasFile files path text → TextSays form text (Err w) → TellsLine (wrong_line path w) f → Loads form files path (Err f)
-told form files path (failure.Refused r) text w has m e = (text, w, has, m, e)
-told form files path failure.Read text w has m e = absurd e
-told form files path failure.Write text w has m e = absurd e
-told form files path failure.Memory text w has m e = tt
-
--- the same, where memory may have been wanting before
-pub told_by : (form : Form) (files : Option Files) (path : List ℕ) (f : Failure) (text : List ℕ) (o : Option Wrong) → HasFile files path text → SaysWrong form text o → Tells path o f → Loads form files path (Err f)
-told_by form files path f text (Some w) has m e = told form files path f text w has m e
-told_by form files path f text None has m e = rw e tt
+use Rattle.hack_asm.specs.HackText.{Holds, IsRefusal as IsNoImage, words_of}
+use Rattle.source_files.specs.Loads.{IsWhy, text_error}
+use Rattle.source_files.specs.declared.error.TextError.{TextError}
+use Rattle.source_files.proofs.Told.{why_told}
+use Rattle.hack_asm.specs.Told.{asm_told}
+use Rattle.nand_cli.specs.Languages.{IsRefused, RefusesWords, SpellsWords}
+use Rattle.nand_cli.specs.Inner.Parts.{ReadsWords}
+use Rattle.nand_cli.specs.declared.languages.Form.{Form}
+use Rattle.nand_cli.specs.declared.languages.Form.TheVariants.{Assembly, Image}
 
 -- ---- a program has at most 32,768 words
 
-few_words : (table : Table) (ls : List Line) → length (words table ls) ≡ size ls
-few_words table [] = refl
-few_words table (None ∷ ls) = let h = few_words table ls in omega arith
-few_words table (Some (label s) ∷ ls) = let h = few_words table ls in omega arith
-few_words table (Some (address (number n)) ∷ ls) = let h = few_words table ls in omega arith
-few_words table (Some (address (symbol s)) ∷ ls) = let h = few_words table ls in omega arith
-few_words table (Some (compute c) ∷ ls) = let h = few_words table ls in omega arith
+size_words : (table : Table) (ls : List Line) → length (words table ls) ≡ size ls
+size_words table [] = refl
+size_words table (None ∷ ls) = let h = size_words table ls in omega arith
+size_words table (Some (label s) ∷ ls) = let h = size_words table ls in omega arith
+size_words table (Some (address (number n)) ∷ ls) = let h = size_words table ls in omega arith
+size_words table (Some (address (symbol s)) ∷ ls) = let h = size_words table ls in omega arith
+size_words table (Some (compute c) ∷ ls) = let h = size_words table ls in omega arith
 
 with_variables_few : (b : Bool) (w : Wrong) (all : Table) (ls : List Line) (ws : List ℕ) → (if b then Err w else Ok (words all ls)) ≡ Ok ws → length ws ≡ size ls
 with_variables_few true w all ls ws e = absurd (let bad : ⊥ = cc in bad)
-with_variables_few false w all ls ws e = let same : words all ls ≡ ws = cc in ap length (sym same) ∙ few_words all ls
+with_variables_few false w all ls ws e = let same : words all ls ≡ ws = cc in ap length (sym same) ∙ size_words all ls
 
 if_near_few : (past : Option Place) (table : Table) (ls : List Line) (ws : List ℕ) → if_near past table ls ≡ Ok ws → length ws ≡ size ls
 if_near_few (Some at) table ls ws e = absurd (let bad : ⊥ = cc in bad)
@@ -96,20 +64,20 @@ pub few_held : (text ws : List ℕ) → Holds text (Ok ws) → length ws ≤ 327
 few_held text ws (inl (ls, spelled, e)) = limited_few (length (words_of ls)) (nat_lt 32768 (length (words_of ls))) (words_of ls) ws refl refl e
 few_held text ws (inr (f, refused, e)) = absurd (no_words _ ws e)
 
+pub few_words : (form : Form) (text ws : List ℕ) → SpellsWords form text ws → length ws ≤ 32768
+few_words Assembly text ws h = few text ws h
+few_words Image text ws h = few_held text ws h
+
 -- ---- what a reader answers
 
-assembly_wrong : (text : List ℕ) (o : Option Wrong) → MeansWrong text o → SaysWrong Assembly text o
-assembly_wrong text None h = tt
-assembly_wrong text (Some w) h = h
+pub read_assembly : (text : List ℕ) (r : Result (Vec ℕ Global) AsmFault) → IfOk r (λ v. Means text (Ok v.items)) → IfErr r (IsRefusal text) → ReadsWords Assembly text r
+read_assembly text (Ok v) h k = h
+read_assembly text (Err e) h k = k
 
-image_wrong : (text : List ℕ) (o : Option Wrong) → HoldsWrong text o → SaysWrong Image text o
-image_wrong text None h = tt
-image_wrong text (Some w) h = h
+pub read_image : (text : List ℕ) (r : Result (Vec ℕ Global) AsmFault) → IfOk r (λ v. Holds text (Ok v.items)) → IfErr r (IsNoImage text) → ReadsWords Image text r
+read_image text (Ok v) h k = h
+read_image text (Err e) h k = k
 
-pub read_assembly : (text : List ℕ) (r : Result (Vec ℕ Global) AsmFault) → IfOk r (λ v. Means text (Ok v.items)) → IfErr r (IsRefusal text) → ReadsText Assembly text r
-read_assembly text (Ok v) h k = (h, few text v.items h)
-read_assembly text (Err e) h k = assembly_wrong text (wrong_of e) k
-
-pub read_image : (text : List ℕ) (r : Result (Vec ℕ Global) AsmFault) → IfOk r (λ v. Holds text (Ok v.items)) → IfErr r (IsNoImage text) → ReadsText Image text r
-read_image text (Ok v) h k = (h, few_held text v.items h)
-read_image text (Err e) h k = image_wrong text (wrong_of e) k
+-- what is told of a text that is not that of a program
+pub told_why : (form : Form) (text : List ℕ) (fault : AsmFault) (e : TextError) → IsRefused form text fault → e ≡ text_error (asm_told fault) → IsWhy (RefusesWords form text) e
+told_why form text fault e h k = why_told (RefusesWords form text) (asm_told fault) e (λ t same. (fault, h, same)) k

@@ -1,7 +1,6 @@
 -- The computer of a program after its cycles, and its report.
-use Rattle.std.proofs.Common.{◌≡◌, ℕ, zero, suc, List, [], length, refl, ap, ◌∙◌, sym, subst, append-nil}
+use Rattle.std.proofs.Common.{◌≡◌, ℕ, zero, suc, [], length, refl, ap, ◌∙◌, sym, subst, append-nil}
 use Rattle.std.proofs.lemmas.List.Elements.{recursion_from_All}
-use Rattle.outer_world.specs.declared.point.Point.{Point}
 use Rattle.hack_machine.specs.Loaded.{machine_of}
 use Rattle.jack_core.specs.declared.program.Core.{Core}
 use Rattle.jack_core.specs.Texts.{names_of}
@@ -14,14 +13,16 @@ use Rattle.machine_io.specs.declared.machine.Moved.{Moved}
 use Rattle.machine_io.specs.declared.machine.Moved.TheVariants as moved
 use Rattle.machine_io.specs.declared.report.LevelName.TheVariants as names
 use Rattle.machine_io.specs.declared.report.Show.{Show}
+use Rattle.jack_compiler.specs.Resolved.{IsResolvedCore}
 use Rattle.tower.specs.Built.{IsComputerOf}
+use Rattle.tower.proofs.Computers.{computer as computer_follows}
 use Rattle.tower.specs.Headline.{run_trace}
 use Rattle.tower.specs.Mapped.{HasFollowed, HoldsKeys, MappedMachine, RunProgram, StandsAt, map_in, program_in}
 use Rattle.layers.specs.System.{IsKey}
 use Rattle.layers.specs.Trace.{steps}
 use Rattle.command_line.specs.declared.request.RunLevel.TheVariants as levels
-use Rattle.nand_cli.specs.Parts.{HasCycled, hack_text}
-use Rattle.nand_cli.specs.Running.{IsReport, name_of}
+use Rattle.nand_cli.specs.Inner.Reports.{HasCycled, hack_text}
+use Rattle.nand_cli.specs.Commands.Run.{IsReport, name_of}
 use Rattle.nand_cli.proofs.Driving.{last_acted}
 
 -- ---- after the cycles
@@ -49,9 +50,9 @@ cycled code old new c n c' ends.Done by h first = let bad = never_ends code old 
 -- ---- the report
 
 pub hack_reported : (n : ℕ) (show : Show) (core : Core) (program : RunProgram) (new : MappedMachine) (code : ℕ → ℕ) (end : End)
-    → ((c : ℕ) → IsKey (code c)) → IsComputerOf core program → program_in new ≡ program → HasCycled code n new end
-    → IsReport levels.Hack core code n show (hack_text new (names_of core) end show)
-hack_reported n show core program new code end words computer same (bound, stands) =
+    → IsResolvedCore core → ((c : ℕ) → IsKey (code c)) → IsComputerOf core program → program_in new ≡ program → HasCycled code n new end
+    → IsReport (levels.Hack show) core code n (hack_text new (names_of core) end show)
+hack_reported n show core program new code end resolved words computer same (bound, stands) =
     let p = new.place in
     let all = names_of core in
     let own : IsComputerOf core (program_in new) = subst (IsComputerOf core) (sym same) computer in
@@ -60,12 +61,15 @@ hack_reported n show core program new code end words computer same (bound, stand
     ∙ ap (λ s. report_text names.Hack n s (name_of all p.sub) p.number end show (machine_of new.hack).memory) stands.counted
     ∙ ap (λ (e : End). report_text names.Hack n (steps (run_trace new.hack.image (map_in new) code) n) (name_of all p.sub) p.number e show (machine_of new.hack).memory) bound
     ∙ ap (λ s. report_text names.Hack n (steps (run_trace new.hack.image (map_in new) code) n) (name_of all p.sub) p.number ends.Bound show s.memory) stands.machine in
-    (program_in new, p, own, own.follows code words n, stands.seen, text)
-
-pub hack_read : (h : MappedMachine) (subs : List (List ℕ)) (end : End) (show : Show) (moves count : ℕ) (name : List ℕ) (p : Point) → moves ≡ h.hack.moves → count ≡ h.count → name ≡ name_of subs p.sub → p ≡ h.place
-    → report_text names.Hack moves count name p.number end show (machine_of h.hack).memory ≡ hack_text h subs end show
-hack_read h subs end show moves count name p e f g k =
-    ap (λ m. report_text names.Hack m count name p.number end show (machine_of h.hack).memory) e
-    ∙ ap (λ s. report_text names.Hack h.hack.moves s name p.number end show (machine_of h.hack).memory) f
-    ∙ ap (λ n. report_text names.Hack h.hack.moves h.count n p.number end show (machine_of h.hack).memory) g
-    ∙ ap (λ (q : Point). report_text names.Hack h.hack.moves h.count (name_of subs q.sub) q.number end show (machine_of h.hack).memory) k
+    let follows = computer_follows core (program_in new) resolved own code words n in
+    record {
+      computer = program_in new;
+      is_computer = own;
+      point = p;
+      seen = stands.seen;
+      reports = text;
+      most = follows.0;
+      gap = follows.1;
+      agrees = follows.2.agrees;
+      goes_on = follows.2.goes_on;
+    }

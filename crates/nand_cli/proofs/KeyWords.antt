@@ -13,7 +13,7 @@ use Rattle.key_script.specs.Script.{KeyTree, Part, Spells, check_code, lines, li
 use Rattle.key_script.specs.Tokens.{finish}
 use Rattle.layers.specs.System.{IsKey}
 use Rattle.outer_world.specs.Files.{Files}
-use Rattle.nand_cli.specs.Running.{HasKeys}
+use Rattle.nand_cli.specs.Commands.Run.{HasKeys}
 
 -- ---- the checks of a tree
 

@@ -1,6 +1,5 @@
 -- The machine after a drive, by the meaning of its program.
-use Rattle.std.proofs.Common.{◌≡◌, ◌+◌, ℕ, zero, suc, List, [], ◌∷◌, ◌++◌, Some, Result, Ok, Err, refl, sym, ◌∙◌, ap, subst, append-nil, arith}
-use Rattle.std.specs.Prelude.{IfOk}
+use Rattle.std.proofs.Common.{◌≡◌, ◌+◌, ℕ, zero, suc, List, [], ◌∷◌, ◌++◌, Some, refl, sym, ◌∙◌, ap, subst, append-nil, arith}
 use Rattle.jack_meaning.specs.Text.{Subroutine}
 use Rattle.jack_meaning.specs.Meaning.{State, start}
 use Rattle.jack_meaning.specs.Level.{meaning_of, point_in}
@@ -14,8 +13,8 @@ use Rattle.machine_io.specs.declared.driving.End.TheVariants as ends
 use Rattle.machine_io.specs.declared.machine.Moved.{Moved}
 use Rattle.machine_io.specs.declared.machine.Moved.TheVariants as moved
 use Rattle.machine_io.specs.declared.machine.Stray.TheVariants as strays
-use Rattle.nand_cli.specs.Parts.{HasRun, Shows}
-use Rattle.nand_cli.specs.Running.{state_after}
+use Rattle.nand_cli.specs.Inner.Reports.{HasRun, Shows}
+use Rattle.nand_cli.specs.Commands.Run.{state_after}
 
 -- what the machine shows is the state that it stands for
 shows : (jack : Jack) (s : State) → jack_state jack ≡ s → Shows jack s
@@ -64,7 +63,7 @@ by_answer code new c m answer first count leads =
       subst (λ k. IsTurn subs r.0 (turn (code k) answer) (jack_state new)) (sym count) r.2,
     )
 
-ran : (code : ℕ → ℕ) (old new : Jack) (n : ℕ) (end : Ending) → IsDriven code (Stands old) old.moves n end (Stands new) new.moves → Stands old [] → old.moves ≡ 0 → HasRun code n new end
+pub ran : (code : ℕ → ℕ) (old new : Jack) (n : ℕ) (end : Ending) → IsDriven code (Stands old) old.moves n end (Stands new) new.moves → Stands old [] → old.moves ≡ 0 → HasRun code n new end
 ran code old new n ends.Bound goes h first = by_bound code new old.moves n first goes.counts (goes.leads [] h)
 ran code old new n ends.Done (m, below, goes) h first =
     let r = by_answer code new old.moves m moved.Done first goes.counts (goes.leads [] h) in
@@ -77,8 +76,3 @@ ran code old new n (ends.Stray strays.Argument) (m, below, goes) h first = absur
 ran code old new n (ends.Stray strays.Local) (m, below, goes) h first = absurd (by_answer code new old.moves m (moved.Stray strays.Local) first goes.counts (goes.leads [] h)).2
 ran code old new n (ends.Stray strays.Code) (m, below, goes) h first = absurd (by_answer code new old.moves m (moved.Stray strays.Code) first goes.counts (goes.leads [] h)).2
 ran code old new n (ends.Full w) (m, below, goes) h first = absurd (by_answer code new old.moves m (moved.Full w) first goes.counts (goes.leads [] h)).2
-
-pub ran_by : {E : Type 0} (code : ℕ → ℕ) (old new : Jack) (n m : ℕ) (r : Result Ending E) → IfOk r (λ end. IsDriven code (Stands old) old.moves n end (Stands new) new.moves)
-    → Stands old [] → old.moves ≡ 0 → n ≡ m → IfOk r (λ end. HasRun code m new end)
-ran_by code old new n m (Ok end) driven h first same = subst (λ k. HasRun code k new end) same (ran code old new n end driven h first)
-ran_by code old new n m (Err e) driven h first same = tt

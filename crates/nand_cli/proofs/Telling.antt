@@ -1,130 +1,152 @@
--- What a call answers after a failure.
-use Rattle.std.proofs.Common.{◌≡◌, ◌⊎◌, ◌++◌, ℕ, List, [], Option, Err, refl, sym, ◌∙◌, subst, inl, inr}
-use Rattle.outer_world.specs.Files.{Files}
+-- What a call promises after a failure, where words are no line, and where all is done.
+use Rattle.std.proofs.Common.{◌≡◌, ◌≢◌, ◌++◌, ℕ, List, [], Option, Ok, Err, refl, ◌∙◌, subst, inl, inr}
 use Rattle.outer_world.specs.Texts.{read_fault_line, usage_line, want_of_memory_line}
 use Rattle.outer_world.specs.Faults.{Rose}
-use Rattle.outer_world.specs.Written.{GotPart}
 use Rattle.outer_world.specs.declared.sink.Put.TheVariants as put
 use Rattle.outer_world.proofs.Passing.{Got-nothing, Got-then}
 use Rattle.command_line.specs.Line.{Line, IsLine, IsNoLine}
 use Rattle.command_line.specs.declared.reader.LineError.{LineError}
 use Rattle.command_line.specs.declared.reader.LineError.TheVariants as no_line
-use Rattle.nand_cli.specs.Answer.{Answers, Causes, Stops}
-use Rattle.nand_cli.specs.Fault.{refusal_line}
-use Rattle.nand_cli.specs.Parts.{Counts, Does, TellsFailure, TellsNoLine}
+use Rattle.source_files.specs.Loads.{line_of}
+use Rattle.source_files.specs.declared.error.LoadError.TheVariants as errors
+use Rattle.nand_cli.specs.Answer.{Answers, Causes, Promises}
+use Rattle.nand_cli.specs.Outside.{Outside}
+use Rattle.nand_cli.specs.Inner.Parts.{Counts, Does, TellsFailure, TellsNoLine}
 use Rattle.nand_cli.specs.declared.command.Status.{Status}
 use Rattle.nand_cli.specs.declared.command.Status.TheVariants as status
-use Rattle.nand_cli.specs.declared.refusal.Failure.{Failure}
-use Rattle.nand_cli.specs.declared.refusal.Failure.TheVariants as failure
-use Rattle.nand_cli.proofs.Saying.{Got-then-part, GotPart-none, GotPart-whole}
+use Rattle.nand_cli.specs.declared.failure.Failure.{Failure}
+use Rattle.nand_cli.specs.declared.failure.Failure.TheVariants as failure
+use Rattle.nand_cli.proofs.Saying.{Got-then-part}
+
+usage_not_done : status.Usage ≢ status.Done
+usage_not_done = λ e. let bad : ⊥ = cc in bad
+
+refused_not_done : status.Refused ≢ status.Done
+refused_not_done = λ e. let bad : ⊥ = cc in bad
+
+fault_not_done : status.ReadFault ≢ status.Done
+fault_not_done = λ e. let bad : ⊥ = cc in bad
+
+memory_not_done : status.NoMemory ≢ status.Done
+memory_not_done = λ e. let bad : ⊥ = cc in bad
 
 -- ---- words that are no line
 
-pub no_line_answers : (files : Option Files) (words : List (List ℕ)) (out err err' : Option (List ℕ)) (f f' : ℕ) (error : LineError) (s : Status) → (error ≡ no_line.Usage → IsNoLine words)
-    → TellsNoLine error f f' err err' s → Answers files words out out err err' s
-no_line_answers files words out err err' f f' no_line.Usage s none (put.Done, said, e) = rw e ([], usage_line, (none refl, refl, refl), Got-nothing out, said.1)
-no_line_answers files words out err err' f f' no_line.Usage s none (put.Failed, said, e) = rw e (status.Usage, [], usage_line, (none refl, refl, refl), GotPart-none out [], said.1)
-no_line_answers files words out err err' f f' no_line.Memory s none (put.Done, said, e) = rw e ([], want_of_memory_line, inl (refl, refl), Got-nothing out, said.1)
-no_line_answers files words out err err' f f' no_line.Memory s none (put.Failed, said, e) = rw e (status.NoMemory, [], want_of_memory_line, inl (refl, refl), GotPart-none out [], said.1)
+no_line_answers : (words : List (List ℕ)) (before after : Outside) (error : LineError) (s : Status) → (error ≡ no_line.Usage → IsNoLine words) → after.out ≡ before.out → after.out_faults ≡ before.out_faults
+    → TellsNoLine error before.err_faults after.err_faults before.err after.err s → Answers words before after s
+no_line_answers words before after no_line.Usage s none out quiet (put.Done, said, e) =
+    rw e ([], usage_line, inl (none refl, refl, refl), rw out (Got-nothing before.out), said.1)
+no_line_answers words before after no_line.Usage s none out quiet (put.Failed, said, e) =
+    rw e (inl (status.Usage, [], usage_line, usage_not_done, (none refl, refl, refl), rw out (Got-nothing before.out), quiet, said.1, said.0))
+no_line_answers words before after no_line.Memory s none out quiet (put.Done, said, e) =
+    rw e ([], want_of_memory_line, inl (refl, refl), rw out (Got-nothing before.out), said.1)
+no_line_answers words before after no_line.Memory s none out quiet (put.Failed, said, e) =
+    rw e (inl (status.NoMemory, [], want_of_memory_line, memory_not_done, (refl, refl), rw out (Got-nothing before.out), quiet, said.1, said.0))
 
-pub no_line_causes : (shelf out f f' : ℕ) (err err' : Option (List ℕ)) (error : LineError) (s : Status) → TellsNoLine error f f' err err' s → Causes shelf shelf out out f f' s
-no_line_causes shelf out f f' err err' no_line.Usage s (put.Done, said, e) = rw e (refl, refl, said.0)
-no_line_causes shelf out f f' err err' no_line.Usage s (put.Failed, said, e) = rw e (inr said.0, inl refl)
-no_line_causes shelf out f f' err err' no_line.Memory s (put.Done, said, e) = rw e (refl, refl, said.0)
-no_line_causes shelf out f f' err err' no_line.Memory s (put.Failed, said, e) = rw e (inr said.0, inl refl)
+no_line_causes : (before after : Outside) (error : LineError) (s : Status) → after.shelf_faults ≡ before.shelf_faults → after.out_faults ≡ before.out_faults
+    → TellsNoLine error before.err_faults after.err_faults before.err after.err s → Causes before after s
+no_line_causes before after no_line.Usage s shelf out (put.Done, said, e) = rw e (shelf, out, said.0)
+no_line_causes before after no_line.Usage s shelf out (put.Failed, said, e) = rw e (inr said.0, inl shelf)
+no_line_causes before after no_line.Memory s shelf out (put.Done, said, e) = rw e (shelf, out, said.0)
+no_line_causes before after no_line.Memory s shelf out (put.Failed, said, e) = rw e (inr said.0, inl shelf)
 
--- ---- a line that is not done
+pub not_read : (words : List (List ℕ)) (before after : Outside) (error : LineError) (s : Status) → (error ≡ no_line.Usage → IsNoLine words) → after.files ≡ before.files → after.out ≡ before.out
+    → after.shelf_faults ≡ before.shelf_faults → after.out_faults ≡ before.out_faults → TellsNoLine error before.err_faults after.err_faults before.err after.err s → Promises words before after s
+not_read words before after error s none kept out shelf quiet tells = record {
+  answers = no_line_answers words before after error s none out quiet tells;
+  causes = no_line_causes before after error s shelf quiet tells;
+  kept = kept;
+}
 
-pub failure_answers : (files : Option Files) (words : List (List ℕ)) (line : Line) (out out' err between err' : Option (List ℕ)) (f f' : ℕ) (why : Failure) (s : Status) → IsLine words line
-    → Does files line out out' err between (Err why) → TellsFailure why f f' between err' s → Answers files words out out' err err' s
-failure_answers files words line out out' err between err' f f' (failure.Refused r) s l (o, e, ends, got, part) (put.Done, said, so) =
-    rw so (o, e ++ refusal_line r, (line, l, ends), got, Got-then err between err' e (refusal_line r) part said.1)
-failure_answers files words line out out' err between err' f f' (failure.Refused r) s l (o, e, ends, got, part) (put.Failed, said, so) =
-    rw so (status.Refused, o, e ++ refusal_line r, (line, l, ends), GotPart-whole out out' o got, Got-then-part err between err' e (refusal_line r) part said.1)
-failure_answers files words line out out' err between err' f f' failure.Read s l (o, e, ends, got, part) (put.Done, said, so) =
-    rw so (o, e ++ read_fault_line, (line, l, (e, ends, refl)), got, Got-then err between err' e read_fault_line part said.1)
-failure_answers files words line out out' err between err' f f' failure.Read s l (o, e, ends, got, part) (put.Failed, said, so) =
-    rw so (status.ReadFault, o, e ++ read_fault_line, (line, l, (e, ends, refl)), GotPart-whole out out' o got, Got-then-part err between err' e read_fault_line part said.1)
-failure_answers files words line out out' err between err' f f' failure.Write s l (o, e, ends, got, kept) (so, count, same) =
-    rw so (status.Done, o, e, (line, l, ends), got, subst (λ written. GotPart err written e) (sym (same ∙ kept)) (GotPart-none err e))
-failure_answers files words line out out' err between err' f f' failure.Memory s l (o, e, ends, got, part) (put.Done, said, so) =
-    rw so (o, e ++ want_of_memory_line, inr (line, l, (e, ends, refl)), got, Got-then err between err' e want_of_memory_line part said.1)
-failure_answers files words line out out' err between err' f f' failure.Memory s l (o, e, ends, got, part) (put.Failed, said, so) =
-    rw so (status.NoMemory, o, e ++ want_of_memory_line, inr (line, l, (e, ends, refl)), GotPart-whole out out' o got, Got-then-part err between err' e want_of_memory_line part said.1)
+-- ---- a line that is not done; the bytes and the count of faults of err are told before its line too
 
-pub failure_causes : (shelf shelf' out out' err between err' : ℕ) (written written' : Option (List ℕ)) (why : Failure) (s : Status)
-    → Counts shelf shelf' out out' err between (Err why) → TellsFailure why between err' written written' s → Causes shelf shelf' out out' err err' s
-failure_causes shelf shelf' out out' err between err' written written' (failure.Refused r) s (a, b, c) (put.Done, said, so) = rw so (a, b, said.0 ∙ c)
-failure_causes shelf shelf' out out' err between err' written written' (failure.Refused r) s (a, b, c) (put.Failed, said, so) =
-    rw so (inr (subst (λ n. Rose n err') c said.0), inl a)
-failure_causes shelf shelf' out out' err between err' written written' failure.Read s (a, b, c) (put.Done, said, so) = rw so (a, b, said.0 ∙ c)
-failure_causes shelf shelf' out out' err between err' written written' failure.Read s (a, b, c) (put.Failed, said, so) =
-    rw so (inr (subst (λ n. Rose n err') c said.0), inr a)
-failure_causes shelf shelf' out out' err between err' written written' failure.Write s (a, rose, c) (so, count, same) = rw so (inl rose, inl a)
-failure_causes shelf shelf' out out' err between err' written written' failure.Memory s (a, b, c) (put.Done, said, so) = rw so (a, b, said.0 ∙ c)
-failure_causes shelf shelf' out out' err between err' written written' failure.Memory s (a, b, c) (put.Failed, said, so) =
-    rw so (inr (subst (λ n. Rose n err') c said.0), inl a)
-
--- ---- nothing more after a write fault
-
-not_done : (s : Status) → s ≡ status.Usage ⊎ (s ≡ status.Refused ⊎ (s ≡ status.ReadFault ⊎ (s ≡ status.NoMemory))) → s ≡ status.Done → ⊥
-not_done s (inl h) e = let bad : ⊥ = cc in bad
-not_done s (inr (inl h)) e = let bad : ⊥ = cc in bad
-not_done s (inr (inr (inl h))) e = let bad : ⊥ = cc in bad
-not_done s (inr (inr (inr h))) e = let bad : ⊥ = cc in bad
-
-module _ (files : Option Files) (words : List (List ℕ)) where
-  -- words that are no line
-  pub no_line_stops : (out err err' : Option (List ℕ)) (o f f' : ℕ) (error : LineError) (s : Status) → (error ≡ no_line.Usage → IsNoLine words)
-      → TellsNoLine error f f' err err' s → Stops files words out out err err' o o f f' s
-  no_line_stops out err err' o f f' no_line.Usage s none (put.Done, said, e) = rw e tt
-  no_line_stops out err err' o f f' no_line.Usage s none (put.Failed, said, e) =
-      rw e (inr (status.Usage, [], usage_line, not_done status.Usage (inl refl), (none refl, refl, refl), Got-nothing out, refl, said.1, said.0))
-  no_line_stops out err err' o f f' no_line.Memory s none (put.Done, said, e) = rw e tt
-  no_line_stops out err err' o f f' no_line.Memory s none (put.Failed, said, e) =
-      rw e (inr (status.NoMemory, [], want_of_memory_line, not_done status.NoMemory (inr (inr (inr refl))), inl (refl, refl), Got-nothing out, refl, said.1, said.0))
-
-  -- a line that is not done
-  pub failure_stops : (line : Line) (out out' err between err' : Option (List ℕ)) (shelf shelf' f f' g h g' : ℕ) (why : Failure) (s : Status) → IsLine words line
-      → Does files line out out' err between (Err why) → Counts shelf shelf' f f' g h (Err why) → TellsFailure why h g' between err' s → Stops files words out out' err err' f f' g g' s
-  failure_stops line out out' err between err' shelf shelf' f f' g h g' (failure.Refused r) s l (o, e, ends, got, part) (a, b, c) (put.Done, said, so) = rw so tt
-  failure_stops line out out' err between err' shelf shelf' f f' g h g' (failure.Refused r) s l (o, e, ends, got, part) (a, b, c) (put.Failed, said, so) =
+module _ (words : List (List ℕ)) (before after : Outside) (line : Line) (is_line : IsLine words line) (between : Option (List ℕ)) (count : ℕ) where
+  failure_answers : (why : Failure) (s : Status) → Does before.files before.unfailing line before.out after.out before.err between (Err why)
+      → Counts before.shelf_faults after.shelf_faults before.out_faults after.out_faults before.err_faults count (Err why)
+      → TellsFailure why count after.err_faults between after.err s → Answers words before after s
+  failure_answers (failure.Unloaded (errors.Refused r)) s (o, e, ends, got, part) (a, b, c) (put.Done, said, so) =
+      rw so (o, e ++ line_of r, inr (line, is_line, ends), got, Got-then before.err between after.err e (line_of r) part said.1)
+  failure_answers (failure.Unloaded (errors.Refused r)) s (o, e, ends, got, part) (a, b, c) (put.Failed, said, so) =
       rw so (inr (
-        status.Refused,
-        o,
-        e ++ refusal_line r,
-        not_done status.Refused (inr (inl refl)),
-        (line, l, ends),
-        got,
-        b,
-        Got-then-part err between err' e (refusal_line r) part said.1,
-        subst (λ n. Rose n g') c said.0,
+        line,
+        is_line,
+        inr (
+          status.Refused,
+          o,
+          e ++ line_of r,
+          refused_not_done,
+          ends,
+          got,
+          b,
+          Got-then-part before.err between after.err e (line_of r) part said.1,
+          subst (λ n. Rose n after.err_faults) c said.0,
+        ),
       ))
-  failure_stops line out out' err between err' shelf shelf' f f' g h g' failure.Read s l (o, e, ends, got, part) (a, b, c) (put.Done, said, so) = rw so tt
-  failure_stops line out out' err between err' shelf shelf' f f' g h g' failure.Read s l (o, e, ends, got, part) (a, b, c) (put.Failed, said, so) =
+  failure_answers (failure.Unloaded errors.Failed) s (o, e, ends, may, got, part) (a, b, c) (put.Done, said, so) =
+      rw so (o, e ++ read_fault_line, inr (line, is_line, (e, ends, refl, may)), got, Got-then before.err between after.err e read_fault_line part said.1)
+  failure_answers (failure.Unloaded errors.Failed) s (o, e, ends, may, got, part) (a, b, c) (put.Failed, said, so) =
       rw so (inr (
-        status.ReadFault,
-        o,
-        e ++ read_fault_line,
-        not_done status.ReadFault (inr (inr (inl refl))),
-        (line, l, (e, ends, refl)),
-        got,
-        b,
-        Got-then-part err between err' e read_fault_line part said.1,
-        subst (λ n. Rose n g') c said.0,
+        line,
+        is_line,
+        inr (
+          status.ReadFault,
+          o,
+          e ++ read_fault_line,
+          fault_not_done,
+          (e, ends, refl, may),
+          got,
+          b,
+          Got-then-part before.err between after.err e read_fault_line part said.1,
+          subst (λ n. Rose n after.err_faults) c said.0,
+        ),
       ))
-  failure_stops line out out' err between err' shelf shelf' f f' g h g' failure.Write s l (o, e, ends, got, kept) (a, rose, c) (so, count, same) =
-      rw so (inl (o, e, (line, l, ends), got, rose, same ∙ kept, count ∙ c))
-  failure_stops line out out' err between err' shelf shelf' f f' g h g' failure.Memory s l (o, e, ends, got, part) (a, b, c) (put.Done, said, so) = rw so tt
-  failure_stops line out out' err between err' shelf shelf' f f' g h g' failure.Memory s l (o, e, ends, got, part) (a, b, c) (put.Failed, said, so) =
+  failure_answers (failure.Unloaded errors.Memory) s (o, e, ends, got, part) (a, b, c) (put.Done, said, so) =
+      rw so (o, e ++ want_of_memory_line, inr (line, is_line, (e, ends, refl)), got, Got-then before.err between after.err e want_of_memory_line part said.1)
+  failure_answers (failure.Unloaded errors.Memory) s (o, e, ends, got, part) (a, b, c) (put.Failed, said, so) =
       rw so (inr (
-        status.NoMemory,
-        o,
-        e ++ want_of_memory_line,
-        not_done status.NoMemory (inr (inr (inr refl))),
-        inr (line, l, (e, ends, refl)),
-        got,
-        b,
-        Got-then-part err between err' e want_of_memory_line part said.1,
-        subst (λ n. Rose n g') c said.0,
+        line,
+        is_line,
+        inr (
+          status.NoMemory,
+          o,
+          e ++ want_of_memory_line,
+          memory_not_done,
+          (e, ends, refl),
+          got,
+          b,
+          Got-then-part before.err between after.err e want_of_memory_line part said.1,
+          subst (λ n. Rose n after.err_faults) c said.0,
+        ),
       ))
+  failure_answers failure.Write s (o, e, prints, part, kept) (a, rose, c) (so, counts, same) =
+      rw so (inr (line, is_line, inl (o, e, prints, part, rose, same ∙ kept, counts ∙ c)))
+
+  failure_causes : (why : Failure) (s : Status) → Counts before.shelf_faults after.shelf_faults before.out_faults after.out_faults before.err_faults count (Err why)
+      → TellsFailure why count after.err_faults between after.err s → Causes before after s
+  failure_causes (failure.Unloaded (errors.Refused r)) s (a, b, c) (put.Done, said, so) = rw so (a, b, said.0 ∙ c)
+  failure_causes (failure.Unloaded (errors.Refused r)) s (a, b, c) (put.Failed, said, so) = rw so (inr (subst (λ n. Rose n after.err_faults) c said.0), inl a)
+  failure_causes (failure.Unloaded errors.Failed) s (a, b, c) (put.Done, said, so) = rw so (a, b, said.0 ∙ c)
+  failure_causes (failure.Unloaded errors.Failed) s (a, b, c) (put.Failed, said, so) = rw so (inr (subst (λ n. Rose n after.err_faults) c said.0), inr a)
+  failure_causes (failure.Unloaded errors.Memory) s (a, b, c) (put.Done, said, so) = rw so (a, b, said.0 ∙ c)
+  failure_causes (failure.Unloaded errors.Memory) s (a, b, c) (put.Failed, said, so) = rw so (inr (subst (λ n. Rose n after.err_faults) c said.0), inl a)
+  failure_causes failure.Write s (a, rose, c) (so, counts, same) = rw so (inl rose, inl a)
+
+  pub failed : (why : Failure) (s : Status) → after.files ≡ before.files → Does before.files before.unfailing line before.out after.out before.err between (Err why)
+      → Counts before.shelf_faults after.shelf_faults before.out_faults after.out_faults before.err_faults count (Err why)
+      → TellsFailure why count after.err_faults between after.err s → Promises words before after s
+  failed why s kept does counts tells = record {
+    answers = failure_answers why s does counts tells;
+    causes = failure_causes why s counts tells;
+    kept = kept;
+  }
+
+-- ---- a line that is done
+
+pub done : (words : List (List ℕ)) (before after : Outside) (line : Line) → IsLine words line → after.files ≡ before.files
+    → Does before.files before.unfailing line before.out after.out before.err after.err (Ok tt)
+    → Counts before.shelf_faults after.shelf_faults before.out_faults after.out_faults before.err_faults after.err_faults (Ok tt) → Promises words before after status.Done
+done words before after line is_line kept (o, e, prints, out, err) counts = record {
+  answers = (o, e, inr (line, is_line, prints), out, err);
+  causes = counts;
+  kept = kept;
+}

@@ -1,65 +1,55 @@
 -- The assembly of a folder's program, or why there is none.
-use Rattle.std.proofs.Common.{◌≡◌, ◌<◌, ◌||◌, ◌⊎◌, ℕ, Bool, true, false, List, [], ◌∷◌, Option, Ok, Err, All, length, codes, decimal, refl, sym, ap, subst, inl, inr, arith}
+use Rattle.std.proofs.Common.{◌≡◌, ◌≤◌, ◌||◌, ◌⊎◌, ℕ, Bool, true, false, List, [], ◌∷◌, Ok, Err, All, length, refl, sym, ap, subst, inl, inr, arith}
 use Rattle.std.specs.Prelude.{is_some, nat_eq}
 use Rattle.std.specs.List.{AllByRecursion}
 use Rattle.std.proofs.lemmas.List.Elements.{recursion_from_All}
 use Rattle.std.proofs.lemmas.Bool.Decides.{nat_tests}
-use Rattle.outer_world.specs.Files.{Files}
-use Rattle.outer_world.specs.Texts.{fault_line}
-use Rattle.outer_world.proofs.Passing.{Got-nothing}
+use Rattle.hack_isa.specs.Machine.{image_words}
 use Rattle.hack_isa.specs.declared.Instr.{Instr}
 use Rattle.hack_isa.specs.declared.Instr.TheVariants.{Address, Compute}
 use Rattle.hack_asm.specs.Comps.{Texts, comp_table, computations, entry, memory_computations}
 use Rattle.hack_asm.specs.Written.{AreSpelled, IsSpelled}
+use Rattle.source_files.specs.Loads.{Loads, TellsOf}
+use Rattle.source_files.specs.declared.error.LoadError.{LoadError}
+use Rattle.source_files.proofs.Told.{told_of, without}
 use Rattle.vm_tree.specs.declared.program.File.{File}
-use Rattle.vm_parser.specs.Files.{Refuses}
 use Rattle.vm_link.specs.Links.{Links, whole}
+use Rattle.vm_link.specs.Told.{link_told}
 use Rattle.vm_link.specs.declared.fault.LinkFault.{LinkFault}
 use Rattle.vm_link.specs.declared.linked.Linked.{Linked}
-use Rattle.vm_translator.specs.Image.{IsTooLarge}
+use Rattle.vm_translator.specs.Image.{IsTooLarge, image_of}
+use Rattle.vm_translator.specs.Told.{code_told}
+use Rattle.vm_translator.specs.declared.coded.Coded.{Coded}
+use Rattle.vm_translator.specs.declared.coded.CodeFault.{CodeFault}
+use Rattle.vm_translator.specs.declared.coded.CodeFault.TheVariants as coding
 use Rattle.vm_translator.specs.Plain.{IsPlain, comps_of_a, comps_of_d, is_spelled, stands_among}
-use Rattle.command_line.specs.Line.{vm}
-use Rattle.nand_cli.specs.Parts.{Codes, Does, LinksProgram, TellsLine, TellsLink, too_long}
-use Rattle.nand_cli.specs.Translated.{HasProgram, without_code}
-use Rattle.nand_cli.specs.declared.refusal.Failure.{Failure}
-use Rattle.nand_cli.specs.declared.refusal.Failure.TheVariants as failure
-use Rattle.nand_cli.proofs.Loading.{past}
-
-pub file_too_long : (bare : Bool) (text : List ℕ) → 1048576 < length text → Refuses bare text too_long
-file_too_long bare text h = let test = past 1048576 (length text) h in inl (rw test refl)
+use Rattle.nand_cli.specs.Commands.Vm.{IsNoCode}
 
 -- ---- its code
 
-pub unlinked : (bare : Bool) (folder : List ℕ) (program : List File) (fault : LinkFault) (f : Failure) → Links bare program (Err fault) → TellsLink folder fault f → LinksProgram bare folder program (Err f)
-unlinked bare folder program fault (failure.Refused r) links e = inl (fault, links, e)
-unlinked bare folder program fault failure.Read links e = e
-unlinked bare folder program fault failure.Write links e = e
-unlinked bare folder program fault failure.Memory links e = tt
+-- what linked code says of its answer
+abbrev pub HasLinked : Bool → List File → Linked → Type 0
+HasLinked bare program linked = Links bare program (Ok linked)
+
+abbrev pub HasCode : Bool → List File → Coded → Type 0
+HasCode bare program coded = (linked : Linked) × Links bare program (Ok linked) × (coded.instrs ≡ image_of linked) × (length (image_of linked) ≤ image_words)
+
+pub unlinked : (bare : Bool) (folder : List ℕ) (program : List File) (fault : LinkFault) (e : LoadError) → Links bare program (Err fault) → TellsOf folder (link_told fault) e
+    → Loads (HasLinked bare program) (IsNoCode bare folder program) ⊥ (Err e)
+unlinked bare folder program fault e links tells = told_of (HasLinked bare program) (IsNoCode bare folder program) ⊥ folder (link_told fault) e (λ t same. (t, inl (fault, links, same), refl)) tells
 
 pub same_bare : (bare : Bool) (program : List File) (l : Linked) → Links bare program (Ok l) → bare ≡ l.bare
 same_bare bare program l (whole kept text k fault e) = ap (λ (m : Linked). m.bare) (sym e)
 
-pub uncoded : (bare : Bool) (folder : List ℕ) (program : List File) (f : Failure) → LinksProgram bare folder program (Err f) → Codes bare folder program (Err f)
-uncoded bare folder program (failure.Refused r) h = h
-uncoded bare folder program failure.Read h = h
-uncoded bare folder program failure.Write h = h
-uncoded bare folder program failure.Memory h = tt
+pub uncoded : (bare : Bool) (folder : List ℕ) (program : List File) (e : LoadError) → Loads (HasLinked bare program) (IsNoCode bare folder program) ⊥ (Err e) → Loads (HasCode bare program) (IsNoCode bare folder program) ⊥ (Err e)
+uncoded bare folder program e h = without (HasLinked bare program) (IsNoCode bare folder program) ⊥ (HasCode bare program) (IsNoCode bare folder program) ⊥ e (λ line k. k) (λ k. k) h
 
-pub too_large : (bare : Bool) (folder : List ℕ) (program : List File) (l : Linked) (words : ℕ) (f : Failure) → Links bare program (Ok l) → IsTooLarge l words
-    → TellsLine (fault_line folder 0 0 (codes "TooLarge") (decimal words)) f → Codes bare folder program (Err f)
-too_large bare folder program l words (failure.Refused r) links large e = inr (l, words, links, large, e)
-too_large bare folder program l words failure.Read links large e = e
-too_large bare folder program l words failure.Write links large e = e
-too_large bare folder program l words failure.Memory links large e = tt
-
--- ---- nothing is put
-
-pub no_code : (bare : Bool) (files : Option Files) (folder : List ℕ) (program : List File) (out err : Option (List ℕ)) (f : Failure) → HasProgram bare files folder program
-    → Codes bare folder program (Err f) → Does files (vm folder bare) out out err err (Err f)
-no_code bare files folder program out err (failure.Refused r) spells h = ([], [], (refl, without_code program spells h), Got-nothing out, Got-nothing err)
-no_code bare files folder program out err failure.Read spells h = absurd h
-no_code bare files folder program out err failure.Write spells h = absurd h
-no_code bare files folder program out err failure.Memory spells h = ([], [], (refl, refl), Got-nothing out, Got-nothing err)
+pub untranslated : (bare : Bool) (folder : List ℕ) (program : List File) (l : Linked) (fault : CodeFault) (e : LoadError) → Links bare program (Ok l) → ((words : ℕ) → fault ≡ coding.TooLarge words → IsTooLarge l words) → TellsOf folder (code_told fault) e
+    → Loads (HasCode bare program) (IsNoCode bare folder program) ⊥ (Err e)
+untranslated bare folder program l (coding.TooLarge words) e links large tells =
+    told_of (HasCode bare program) (IsNoCode bare folder program) ⊥ folder (code_told (coding.TooLarge words)) e (λ t same. (t, inr (l, words, links, large words refl, same), refl)) tells
+untranslated bare folder program l coding.Memory e links large tells =
+    told_of (HasCode bare program) (IsNoCode bare folder program) ⊥ folder (code_told coding.Memory) e (λ t same. absurd (let bad : ⊥ = cc in bad)) tells
 
 -- ---- the translator's instructions can be written
 

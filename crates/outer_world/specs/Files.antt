@@ -21,6 +21,10 @@ file_at (file ∷ files) path = if bytes_eq file.0 path then Some file.1 else fi
 abbrev pub HasFile : Option Files → List ℕ → List ℕ → Type 0
 HasFile told path bytes = IfSome told (λ files. file_at files path ≡ Some bytes)
 
+-- No file stands at a path, where the files are told.
+abbrev pub LacksFile : Option Files → List ℕ → Type 0
+LacksFile told path = IfSome told (λ files. file_at files path ≡ None)
+
 -- the path of a name in a folder; an empty folder is the present one
 abbrev pub path_in : List ℕ → List ℕ → List ℕ
 path_in [] name = name
@@ -28,6 +32,11 @@ path_in (c ∷ folder) name = (c ∷ folder) ++ 47 ∷ name
 
 abbrev pub has_slash : List ℕ → Bool
 has_slash = list_any (λ c. c == 47)
+
+-- No file stands in a folder, where the files are told.
+abbrev pub LacksFolder : Option Files → List ℕ → Type 0
+LacksFolder told folder =
+    IfSome told (λ files. (name : List ℕ) → has_slash name ≡ false → file_at files (path_in folder name) ≡ None)
 
 -- a name stands among names
 abbrev pub has_name : List (List ℕ) → List ℕ → Bool

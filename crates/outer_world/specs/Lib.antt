@@ -2,5 +2,6 @@ pub mod Faults
 pub mod Files
 pub mod Written
 pub mod Texts
+pub mod Refusals
 pub mod Reader
 pub mod Plans

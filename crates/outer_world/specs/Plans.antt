@@ -15,6 +15,21 @@ use Rattle.outer_world.specs.declared.sink.Put.TheVariants as put
 abbrev pub files_of : List (Name × Vec ℕ Global) → Files
 files_of files = map (λ file. (file.0, file.1.items)) files
 
+-- a shelf in memory: its files, the numbers of the calls that fail, and how many calls and faults there were
+pub record ShelfState : Type 0 where
+  pub files : Files
+  pub fails : List ℕ
+  pub calls : ℕ
+  pub faults : ℕ
+
+-- a sink in memory: its bytes, the room for them, the calls that fail, each with the bytes that it still takes, and the counts
+pub record SinkState : Type 0 where
+  pub bytes : List ℕ
+  pub room : ℕ
+  pub fails : List (ℕ × ℕ)
+  pub calls : ℕ
+  pub faults : ℕ
+
 -- a count after one more; it stays at its type's end
 abbrev pub counted : ℕ → ℕ
 counted count = min (count + 1) (2 ^ 64 - 1)
@@ -22,6 +37,10 @@ counted count = min (count + 1) (2 ^ 64 - 1)
 -- a call of this number is planned to fail
 abbrev pub is_planned : List ℕ → ℕ → Bool
 is_planned fails call = list_any (λ planned. planned == call) fails
+
+-- Of the calls after so many, none is planned to fail.
+abbrev pub NoneToCome : List ℕ → ℕ → Type 0
+NoneToCome fails calls = (n : ℕ) → calls ≤ n → is_planned fails (counted n) ≡ false
 
 -- A shelf in memory fails to list where the call is planned to fail, and at no other.
 abbrev pub ListsAsPlanned : Bool → Listing → Type 0

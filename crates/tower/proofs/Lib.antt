@@ -22,4 +22,5 @@ pub mod NamedRows
 pub mod NamedClasses
 pub mod NamedProgram
 pub mod Spelled
+pub mod Completed
 pub mod Programs

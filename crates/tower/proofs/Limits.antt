@@ -1,5 +1,5 @@
 -- A class that some text spells is within the limits.
-use Rattle.std.proofs.Common.{◌≤◌, List, [], ◌∷◌, arith}
+use Rattle.std.proofs.Common.{◌≤◌, List, [], ◌∷◌, length, arith}
 use Rattle.scan_text.specs.declared.Place.{Place}
 use Rattle.grammar.specs.Rules.{NoMore, listed, repeat}
 use Rattle.jack_tree.specs.declared.tree.Subroutine.{Subroutine}
@@ -15,7 +15,7 @@ use Rattle.tower.specs.Spelled.{IsSpelled}
 use Rattle.tower.proofs.Words.{words_read}
 use Rattle.tower.proofs.Trees.{IsReadTree, whole_read}
 use Rattle.tower.proofs.Literals.{subroutines_read}
-use Rattle.tower.proofs.Weights.{weight, weighs, sizes_within, subroutines_within}
+use Rattle.tower.proofs.Weights.{weight, weighs, sizes_within, subroutines_within, thrice_within}
 use Rattle.tower.proofs.Gains.{Reach, two_parts, after_mark, after_free, one_more_of, in_own, fields_gain, statics_gain, locals_gain, parameters_counted, parameters_free}
 
 module _ (at : Place) where
@@ -69,3 +69,11 @@ spelled_read c (text, h) =
     let t = whole_read at told.1 h.3 in
     let p = two_parts at (fresh 0) h.1 _ _ _ _ (h.0, [], h.3) in
     class_read at c p.0 (omega (arith, w, told.0)) t.0 p.1
+
+-- a class that is spelled has room for some subroutines more
+pub spelled_few : (c : Class) → IsSpelled c → length c.subroutines.items ≤ 1048573
+spelled_few c (text, h) =
+    let told = words_read text h.0 h.2 in
+    let w = weighs Word Counts Part Said (jack (finish text)) h.3 in
+    let n = thrice_within c.subroutines.items in
+    omega (arith, w, told.0, n)

@@ -8,28 +8,30 @@ use Rattle.jack_names.specs.Limits.{AreWithin, subroutine_count}
 use Rattle.jack_names.specs.Whole.{WellNamed, class_names, program_meant, all_names_meant}
 use Rattle.tower.specs.Read.{AreReadClasses}
 use Rattle.tower.specs.Spelled.{AreSpelled, ReadLaw}
-use Rattle.jack_os.specs.System.{SpellClasses, system}
+use Rattle.jack_os.specs.System.{Texts, AreClassesOf, system}
+use Rattle.jack_os.proofs.Spelling.{system_count}
 use Rattle.jack_compiler.specs.Resolved.{IsResolved, IsResolvedCore}
 use Rattle.tower.specs.Program.{Means}
 use Rattle.tower.specs.Resolved.{ResolvedLaw}
 use Rattle.tower.proofs.NamedProgram.{well_named_resolved}
-use Rattle.tower.proofs.Spelled.{spelled_are_read, read_within, few_subroutines, files_spell, as_many}
+use Rattle.tower.proofs.Spelled.{spelled_are_read, read_within, few_subroutines}
+use Rattle.tower.proofs.Completed.{files_read, as_many_classes}
 
 pub resolved_by : ReadLaw → ResolvedLaw
-resolved_by law own os well spelled os_spelled =
+resolved_by law own os files well spelled of_files =
     let own_read = spelled_are_read law own spelled in
-    let os_read = spelled_are_read law os os_spelled in
+    let os_read = files_read law files os of_files in
     well_named_resolved own os well (read_within own own_read) (read_within os os_read) own_read os_read
 
-module _ (law : ReadLaw) (own os : List Class) (few : length own ≤ 256) (spelled : AreSpelled own) (is_system : SpellClasses system os) where
+module _ (law : ReadLaw) (own os : List Class) (few : length own ≤ 256) (spelled : AreSpelled own) (is_system : AreClassesOf system os) where
   own_read : AreReadClasses own
   own_read = spelled_are_read law own spelled
 
   os_read : AreReadClasses os
-  os_read = spelled_are_read law os (files_spell system os is_system)
+  os_read = files_read law system os is_system
 
   os_few : length os ≤ 256
-  os_few = let n = as_many system os is_system in omega (arith, n)
+  os_few = let n = as_many_classes system os is_system in omega (arith, n, system_count)
 
   pub few_classes : length own + length os < 2 ^ 31
   few_classes = omega (arith, few, os_few)
@@ -49,7 +51,7 @@ module _ (law : ReadLaw) (own os : List Class) (few : length own ≤ 256) (spell
 
     pub core_resolved : IsResolvedCore core
     core_resolved =
-        let meant = resolved_by law own os well spelled (files_spell system os is_system) in
+        let meant = resolved_by law own os system well spelled is_system in
         let P : Program → Type 0 = λ p. IsResolved p (all_names_meant own os) in
         let N : List (List ℕ) → Type 0 = λ ns. IsResolved (the_program core) ns in
         subst N (sym names) (subst P (sym program) meant)

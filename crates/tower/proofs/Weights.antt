@@ -1,5 +1,5 @@
 -- A tree keeps no more words than there are tokens, and a class has no more subroutines and statements than its tree keeps words.
-use Rattle.std.proofs.Common.{ℕ, ◌+◌, ◌≤◌, List, [], ◌∷◌, length, arith}
+use Rattle.std.proofs.Common.{ℕ, ◌+◌, ◌*◌, ◌≤◌, List, [], ◌∷◌, length, arith}
 use Rattle.grammar.specs.Rules.{Rule, Tree, Skip, Node, Leaf, Pair, Left, Right, Absent, Present, NoMore, More, listed, Rules, Reads, marked, worded, at_end, both, left, right, passed, taken, ended, again, named, inside}
 use Rattle.jack_tree.specs.declared.tree.Statement as statements
 use Rattle.jack_tree.specs.declared.tree.Subroutine.{Subroutine}
@@ -60,3 +60,8 @@ sizes_within (s ∷ ss) = omega (arith, size_within s, sizes_within ss)
 pub subroutines_within : (ss : List Subroutine) → length ss ≤ weight (listed subroutine_tree ss NoMore)
 subroutines_within [] = omega arith
 subroutines_within (s ∷ ss) = omega (arith, subroutines_within ss)
+
+-- it begins with three such words: its form, its result and its name
+pub thrice_within : (ss : List Subroutine) → 3 * length ss ≤ weight (listed subroutine_tree ss NoMore)
+thrice_within [] = omega arith
+thrice_within (s ∷ ss) = omega (arith, thrice_within ss)

@@ -13,6 +13,7 @@ use Rattle.jack_meaning.specs.Text.{Program}
 use Rattle.jack_core.specs.declared.program.Core.{Core}
 use Rattle.jack_core.specs.Texts.{the_program}
 use Rattle.jack_compiler.specs.Files.{files_of}
+use Rattle.jack_compiler.specs.Resolved.{IsResolvedCore}
 use Rattle.tower.specs.Headline.{RunFollows}
 use Rattle.tower.specs.Mapped.{RunProgram}
 use Rattle.tower.specs.declared.building.BuildError.{BuildError}
@@ -30,13 +31,17 @@ map_for p = map_of p.commits p.ranges
 abbrev pub FollowsProgram : Program → RunProgram → Type 0
 FollowsProgram program p = (keys : ℕ → ℕ) → ((c : ℕ) → IsKey (keys c)) → (n : ℕ) → RunFollows program p.image (map_for p) keys n
 
--- This is the image of the program and its map. (Each program has one at most: its files are linked in one way.)
+-- This is the image of the program and its map: those of the linked code of its compiled files, which the computer has room for. (Each program
+-- has one at most: its files are linked in one way.)
 pub record IsComputerOf (core : Core) (p : RunProgram) : Type 0 where
   pub linked : Linked
   pub links : Links false (files_of core) (Ok linked)
   pub is_image : p ≡ run_program linked
   pub fits : length p.image ≤ image_words
-  pub follows : FollowsProgram (the_program core) p
+
+-- Where the names of a program are resolved, the computer with its image follows its meaning.
+abbrev pub ComputerLaw : Type 0
+ComputerLaw = (core : Core) (p : RunProgram) → IsResolvedCore core → IsComputerOf core p → FollowsProgram (the_program core) p
 
 -- Why a program has no computer.
 pub data Unbuilt : Type 0 where

@@ -5,3 +5,4 @@ pub mod Resolved
 pub mod Headline
 pub mod Mapped
 pub mod Built
+pub mod Told

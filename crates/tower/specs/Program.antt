@@ -7,7 +7,7 @@ use Rattle.jack_core.specs.Texts.{the_program, names_of, class_names_of}
 use Rattle.jack_core.specs.declared.program.Core.{Core}
 use Rattle.jack_names.specs.Faults.{Told, fault_told}
 use Rattle.jack_names.specs.Whole.{WellNamed, first_name_fault, class_names, program_meant, all_names_meant}
-use Rattle.jack_os.specs.System.{HasFault, SpellClasses, system}
+use Rattle.jack_os.specs.System.{HasFault, AreClassesOf, system}
 use Rattle.tower.specs.declared.program.ProgramError.{ProgramError}
 use Rattle.tower.specs.declared.program.ProgramError.TheVariants as errors
 
@@ -20,10 +20,10 @@ pub data Wrong : Type 0 where
 -- first that is wrong.
 abbrev pub Means : List Class → Result Core Wrong → Type 0
 Means own (Ok core) =
-    (os : List Class) × SpellClasses system os × WellNamed own os
+    (os : List Class) × AreClassesOf system os × WellNamed own os
     × (the_program core ≡ program_meant own os) × (names_of core ≡ all_names_meant own os) × (class_names_of core ≡ class_names own ++ class_names os)
 Means own (Err (InSystem file fault)) = HasFault system file fault
-Means own (Err (InName told)) = (os : List Class) × SpellClasses system os × (first_name_fault own os ≡ Some told)
+Means own (Err (InName told)) = (os : List Class) × AreClassesOf system os × (first_name_fault own os ≡ Some told)
 
 -- The classes mean this program, or this is the first that is wrong, unless memory ran out.
 abbrev pub IsProgram : List Class → Result Core ProgramError → Type 0

@@ -9,9 +9,11 @@ ghost use Rattle.vm_translator.specs.Plain.{IsPlain};
 ghost use Rattle.vm_translator.specs.Translated.{IsTranslated};
 ghost use Rattle.tower.specs.declared.building.BuildError.TheVariants.{Memory};
 ghost use Rattle.tower.specs.Built.{IsUnbuilt, map_for, run_program};
+ghost use Rattle.tower.specs.Mapped.{IsMapped};
+ghost use Rattle.tower.specs.Told.{build_told};
 
 use hack_isa::{Instr, encode};
-use outer_world::List;
+use outer_world::{Detail, List, Told};
 use std::alloc::{AllocError, Global};
 use std::marker::Model;
 use thiserror::Error;
@@ -28,6 +30,21 @@ pub enum BuildError {
     TooManyStatics(u64),
     #[error("TooLarge {0}")]
     TooLarge(u64),
+}
+
+impl BuildError {
+    /// What the fault tells. Want of memory tells nothing.
+    pub fn told(self) -> Option<Told>
+        ensures { result ≡ build_told self }
+    {
+        match self {
+            BuildError::TooManyStatics(words) => {
+                Some(Told::nowhere("TooManyStatics", Detail::Number(words)))
+            }
+            BuildError::TooLarge(words) => Some(Told::nowhere("TooLarge", Detail::Number(words))),
+            BuildError::Memory => None,
+        }
+    }
 }
 
 impl From<AllocError> for BuildError {
@@ -54,6 +71,39 @@ impl Model for Built {
     ghost view = { λ b. record { image = b.image.items; commits = b.commits; ranges = b.points } };
 
     ghost invariant = { λ b. IsMapped b.image.items b.points };
+}
+
+impl Built {
+    /// The words of the image.
+    pub fn image(&self) -> &[u16]
+        ensures { result.now ≡ self.now.image }
+    {
+        &self.image
+    }
+
+    /// The addresses at which a step of the program's meaning is committed, rising.
+    pub fn commits(&self) -> &[u16]
+        ensures { result.now ≡ self.now.commits }
+    {
+        self.commits.as_slice()
+    }
+
+    /// The control points of the addresses of the image, in ranges, rising.
+    pub fn points(&self) -> &[PointRange]
+        ensures { result.now ≡ self.now.ranges }
+    {
+        self.points.as_slice()
+    }
+
+    /// The image, the addresses of its commits, and the ranges of its points.
+    pub fn into_parts(self) -> (Vec<u16>, List<u16>, List<PointRange>)
+        ensures image { result.0.items ≡ self.image }
+        ensures commits { result.1 ≡ self.commits }
+        ensures points { result.2 ≡ self.ranges }
+        ensures mapped { IsMapped result.0.items result.2 }
+    {
+        (self.image, self.commits, self.points)
+    }
 }
 
 // The words of instructions.

@@ -1,5 +1,6 @@
 //! Laws: no code, only the statements.
 
+ghost use Rattle.tower.specs.Built.{ComputerLaw};
 ghost use Rattle.tower.specs.Headline.{HeadlineLaw};
 ghost use Rattle.tower.specs.Resolved.{ResolvedLaw};
 ghost use Rattle.tower.specs.Spelled.{ReadLaw};
@@ -19,4 +20,9 @@ pub fn resolved_law()
 /// The computer with the image of a program follows the program's meaning, cycle by cycle, under all keys.
 pub fn headline_law()
     ensures { HeadlineLaw }
+{}
+
+/// The image of a program whose names are resolved, with its map, is one with which the computer follows the program's meaning.
+pub fn computer_law()
+    ensures { ComputerLaw }
 {}

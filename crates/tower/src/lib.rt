@@ -10,7 +10,7 @@ mod program;
 pub use building::{BuildError, Built};
 pub use computer::{build, prepare_hack};
 pub use hack_level::HackLevel;
-pub use laws::{headline_law, read_law, resolved_law};
+pub use laws::{computer_law, headline_law, read_law, resolved_law};
 pub use program::{ProgramError, program_of_classes};
 
 #[cfg(test)]

@@ -3,7 +3,7 @@
 ghost use Rattle.std.specs.Prelude.{◌≡◌, ◌≤◌, List, IfOk, IfErr, Ok, Err, length};
 ghost use Rattle.jack_compiler.specs.Resolved.{IsResolvedCore};
 ghost use Rattle.tower.specs.Spelled.{AreSpelled};
-ghost use Rattle.jack_os.specs.System.{SpellClasses, system};
+ghost use Rattle.jack_os.specs.System.{AreClassesOf, system};
 ghost use Rattle.tower.specs.Program.{IsProgram, Means};
 ghost use Rattle.tower.specs.declared.program.ProgramError.TheVariants.{Memory};
 
@@ -36,7 +36,7 @@ impl From<AllocError> for ProgramError {
 
 // The classes of the operating system.
 fn system_classes(alloc: Global) -> Result<Vec<Class>, ProgramError>
-    ensures found { IfOk result (λ os. SpellClasses system os.items) }
+    ensures found { IfOk result (λ os. AreClassesOf system os.items) }
     ensures fault { IfErr result (λ e. (own : List Class) → IsProgram own (Err e)) }
 {
     match classes(alloc) {
@@ -50,7 +50,7 @@ fn system_classes(alloc: Global) -> Result<Vec<Class>, ProgramError>
 fn core_of(alloc: Global, own: &[Class], os: &[Class]) -> Result<Core, ProgramError>
     requires few { length own.now ≤ 256 }
     requires spelled { AreSpelled own.now }
-    requires os { SpellClasses system os.now }
+    requires os { AreClassesOf system os.now }
     ensures means { IfOk result (λ core. Means own.now (Ok core)) }
     ensures resolved { IfOk result IsResolvedCore }
     ensures fault { IfErr result (λ e. IsProgram own.now (Err e)) }

@@ -7,3 +7,4 @@ pub mod Maps
 pub mod Marks
 pub mod Words
 pub mod Sound
+pub mod Told

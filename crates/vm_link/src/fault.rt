@@ -1,8 +1,10 @@
 //! What is wrong with a program.
 ghost use Rattle.std.specs.Prelude.{◌≡◌};
+ghost use Rattle.outer_world.specs.Refusals.{message};
+ghost use Rattle.vm_link.specs.Told.{link_told};
 ghost use Rattle.vm_link.specs.declared.fault.LinkFault.TheVariants.{Memory};
 
-use outer_world::Name;
+use outer_world::{Detail, Name, Told};
 use std::alloc::{AllocError, AllocFailed};
 use thiserror::Error;
 
@@ -29,6 +31,32 @@ pub enum LinkFault {
     TooManyStatics(u64),
     #[error("want of memory")]
     Memory,
+}
+
+impl LinkFault {
+    /// What the fault tells. Want of memory tells nothing.
+    pub fn told(self) -> Option<Told>
+        ensures { result ≡ link_told self }
+    {
+        match self {
+            LinkFault::NoFunction(name) => Some(named("NoFunction", name)),
+            LinkFault::TwiceDefined(name) => Some(named("TwiceDefined", name)),
+            LinkFault::NoLabel(name) => Some(named("NoLabel", name)),
+            LinkFault::LabelTwice(name) => Some(named("LabelTwice", name)),
+            LinkFault::NoSysInit => Some(Told::nowhere("NoSysInit", Detail::Nothing)),
+            LinkFault::TooManyStatics(words) => {
+                Some(Told::nowhere("TooManyStatics", Detail::Number(words)))
+            }
+            LinkFault::Memory => None,
+        }
+    }
+}
+
+// What a fault with a name tells.
+fn named(word: &'static str, name: Name) -> Told
+    ensures { result ≡ message 0 0 word.now name }
+{
+    Told::nowhere(word, Detail::Name(name.into_bytes()))
 }
 
 impl From<AllocError> for LinkFault {

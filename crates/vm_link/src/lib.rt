@@ -17,6 +17,3 @@ pub use fault::LinkFault;
 pub use laws::linked_once;
 pub use linked::{Code, Linked, LinkedFile, LinkedFunction, Step};
 pub use linking::link;
-
-#[cfg(test)]
-mod tests;

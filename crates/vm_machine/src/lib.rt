@@ -17,6 +17,3 @@ pub fn vm_law()
     ensures keys { KeyLaw }
     ensures ends { EndLaw }
 {}
-
-#[cfg(test)]
-mod tests;

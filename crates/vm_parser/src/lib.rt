@@ -10,6 +10,3 @@ mod words;
 
 pub use laws::{printed_law, reading_law};
 pub use reading::{VmFault, parse, parse_file};
-
-#[cfg(test)]
-mod tests;

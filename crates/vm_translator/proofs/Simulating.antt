@@ -26,7 +26,7 @@ use Rattle.vm_translator.specs.Shapes.{shape_of, step_size}
 use Rattle.vm_translator.specs.Image.{commits_of, entry_of, image_of, points_of}
 use Rattle.vm_translator.specs.Carries.{place_of, IsStep}
 use Rattle.vm_translator.specs.Related.{StandsFor}
-use Rattle.vm_translator.specs.Translated.{IsWithin}
+use Rattle.vm_translator.specs.Translated.{IsOpening}
 use Rattle.vm_translator.specs.Mapping.{point_in, map_of, location, start_address}
 use Rattle.vm_translator.proofs.Sums.{size_to, size_some, size_one, size_quick}
 use Rattle.vm_translator.proofs.Clamped.{push_size}
@@ -232,6 +232,6 @@ module _ (l : Linked) (sound : IsSound l) (whole : l.bare ≡ false) (few : leng
   }
 
   -- the same, told by instructions
-  pub opens_so : Reaches (map word_of (image_of l)) (Quiet (map word_of (image_of l)) (IsWithin l (map word_of (image_of l)) (map_of (commits_of l) (points_of l)) start)) (StandsFor (location l) l start) 16 hack.start
-  opens_so = start_reaches (location l) l sound_law refl (map word_of (image_of l)) (IsWithin l (map word_of (image_of l)) (map_of (commits_of l) (points_of l)) start) (entry_of l) (start_stands l sound whole few)
-      (λ k a. (inl (start_point l sound whole few k (omega arith)), early_quiet l sound whole few k (omega arith) (λ q. omega arith) (λ q. omega arith)))
+  pub opens_so : Reaches (map word_of (image_of l)) (Quiet (map word_of (image_of l)) (IsOpening l (map word_of (image_of l)) (map_of (commits_of l) (points_of l)))) (StandsFor (location l) l start) 16 hack.start
+  opens_so = start_reaches (location l) l sound_law refl (map word_of (image_of l)) (IsOpening l (map word_of (image_of l)) (map_of (commits_of l) (points_of l))) (entry_of l) (start_stands l sound whole few)
+      (λ k a. (start_point l sound whole few k (omega arith), early_quiet l sound whole few k (omega arith) (λ q. omega arith) (λ q. omega arith)))

@@ -10,3 +10,4 @@ pub mod Laws
 pub mod Related
 pub mod Mapping
 pub mod Translated
+pub mod Told

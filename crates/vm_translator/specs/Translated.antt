@@ -38,6 +38,10 @@ module _ (l : Linked) (image : List ℕ) (map : Map) where
   abbrev pub IsWithin : State → ℕ → Type 0
   IsWithin v k = IsPlace v k × (map.commits k ≡ false)
 
+  -- An address with the point of the start that is no commit: the computer is there on the way to where the virtual machine starts.
+  abbrev pub IsOpening : ℕ → Type 0
+  IsOpening k = (map.points k ≡ (vm_system l).point start) × (map.commits k ≡ false)
+
   -- that of the last instruction of the next command: it is a commit where the command is one
   pub record IsLast (v : State) (k : ℕ) : Type 0 where
     pub place : IsPlace v k
@@ -66,7 +70,7 @@ module _ (l : Linked) (image : List ℕ) (map : Map) where
     -- The computer's start comes within 16 steps to where the virtual machine starts.
     pub starts : Starts (vm_system l) (hack_system image map loop) (λ s. 1) (StandsFor (location l) l) start 16 hack.start
     -- It comes there by steps at addresses with the start's point, without a commit, a data write or a key read.
-    pub opens : Reaches image (Quiet image (IsWithin start)) (StandsFor (location l) l start) 16 hack.start
+    pub opens : Reaches image (Quiet image IsOpening) (StandsFor (location l) l start) 16 hack.start
     -- from where the computer stands for a state, each step of the virtual machine is made, within the steps that its command may take
     pub steps : Simulates (vm_system l) (hack_system image map loop) (λ s. 1) (StandsFor (location l) l) (vm_cost most_steps l)
     -- The endless loop is there.

@@ -1,9 +1,10 @@
 //! Translated programs.
 ghost use Rattle.std.specs.Prelude.{◌≡◌};
+ghost use Rattle.vm_translator.specs.Told.{code_told};
 ghost use Rattle.vm_translator.specs.declared.coded.CodeFault.TheVariants.{Memory};
 
 use hack_isa::Instr;
-use outer_world::{List, Point};
+use outer_world::{Detail, List, Point, Told};
 use std::alloc::AllocError;
 use thiserror::Error;
 
@@ -37,6 +38,18 @@ pub enum CodeFault {
     TooLarge(u64),
     #[error("want of memory")]
     Memory,
+}
+
+impl CodeFault {
+    /// What the fault tells. Want of memory tells nothing.
+    pub fn told(self) -> Option<Told>
+        ensures { result ≡ code_told self }
+    {
+        match self {
+            CodeFault::TooLarge(words) => Some(Told::nowhere("TooLarge", Detail::Number(words))),
+            CodeFault::Memory => None,
+        }
+    }
 }
 
 impl From<AllocError> for CodeFault {

@@ -14,6 +14,3 @@ mod translating;
 pub use coded::{CodeFault, Coded, PointRange};
 pub use laws::{pieces_law, steps_carry_law, translated_law};
 pub use translating::{size_law, translate};
-
-#[cfg(test)]
-mod tests;

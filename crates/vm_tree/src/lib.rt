@@ -8,6 +8,3 @@ mod program;
 pub use command::{Command, Line, Operation, Segment};
 pub use printing::print;
 pub use program::{File, Function, Program};
-
-#[cfg(test)]
-mod tests;

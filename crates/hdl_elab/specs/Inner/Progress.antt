@@ -18,7 +18,6 @@ use Rattle.hdl_elab.specs.declared.catalog.Catalog.{Catalog}
 use Rattle.hdl_elab.specs.declared.stage.Stage.{Stage}
 use Rattle.hdl_elab.specs.declared.stage.Stage.TheVariants.{New, Open, Done}
 use Rattle.hdl_elab.specs.declared.fault.ElabFault.{ElabFault}
-use Rattle.hdl_elab.specs.declared.fault.ElabFault.TheVariants as errors
 
 -- ---- the library as the code has it
 

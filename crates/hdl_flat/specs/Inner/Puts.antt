@@ -1,10 +1,9 @@
 -- A chip that is put into a netlist: from a node on stand those of its ends, and its input bits are nodes that are there.
-use Rattle.std.specs.Prelude.{◌≡◌, ◌≤◌, ◌<◌, ℕ, ◌+◌, ◌^◌, List, [], Some, take, drop, slice_get, slice_index, codes}
-use Rattle.hdl_tree.specs.declared.library.Entry.{Entry}
+use Rattle.std.specs.Prelude.{◌≡◌, ◌≤◌, ◌<◌, ℕ, ◌+◌, ◌^◌, List, [], Some, take, drop, slice_get, slice_index}
 use Rattle.hdl_tree.specs.declared.ends.End.{End}
 use Rattle.hdl_tree.specs.declared.ends.End.TheVariants as ends
-use Rattle.hdl_tree.specs.Chips.{Chips, end_of}
-use Rattle.hdl_tree.specs.Behaviour.{Wires, Wired, chip_at}
+use Rattle.hdl_tree.specs.Chips.{Chips}
+use Rattle.hdl_tree.specs.Behaviour.{Wires, Wired}
 use Rattle.netlist.specs.declared.node.Node.TheVariants as nodes
 use Rattle.netlist.specs.declared.node.Block.{Block}
 use Rattle.netlist.specs.Net.{Net}
@@ -12,6 +11,7 @@ use Rattle.hdl_numbering.specs.Numbering.{EndStands}
 use Rattle.hdl_flat.specs.declared.wires.Origin.{Origin}
 use Rattle.hdl_flat.specs.declared.wires.Origin.TheVariants.{Low, High, Input, Gate}
 use Rattle.hdl_flat.specs.declared.plan.Plan.{Plan}
+use Rattle.hdl_flat.specs.Flat.{IsEndBit}
 use Rattle.hdl_flat.specs.Inner.Wired.{origin_at, wires_of}
 
 -- the node of what feeds a bit, where the chip's own nodes begin at base: 0 and 1 are the constants
@@ -21,22 +21,14 @@ node_of base inputs High = 1
 node_of base inputs (Input k) = slice_index inputs k
 node_of base inputs (Gate k) = base + k
 
--- a node is an output bit of an end of the chip
-pub record IsEndBit (chips : Chips) (top : Entry) (at : List ℕ → Wires ℕ) (k : ℕ) : Type 0 where
-  pub path : List ℕ
-  pub chip : Entry
-  pub e : End
-  pub bit : ℕ
-  pub there : chip_at chips top path ≡ Some chip
-  pub is_end : end_of chips.blocks chip ≡ Some e
-  pub node : at path (codes "out") bit ≡ k
-
 -- The chip of this plan stands in the netlist from node base on, fed by these nodes: its bits are nodes as the plan says, all in it is wired,
--- and each of its nodes is an output bit of an end in it.
+-- and each of its nodes is an output bit of an end in it, of just one, all of whose bits are nodes of it.
 pub record IsPlaced (chips : Chips) (net : Net) (plan : Plan) (base : ℕ) (inputs : List ℕ) (block : List ℕ → ℕ) (at : List ℕ → Wires ℕ) : Type 0 where
   pub own : (name : List ℕ) (bit : ℕ) → at [] name bit ≡ node_of base inputs (origin_at (wires_of plan.wires) name bit)
   pub wired : Wired 0 1 chips plan.entry.now (λ path e. EndStands net 0 (block path) e (at path)) at
   pub ends : (k : ℕ) → base ≤ k → k < base + plan.size.nodes → IsEndBit chips plan.entry.now at k
+  pub inside : (k : ℕ) → IsEndBit chips plan.entry.now at k → (base ≤ k) × (k < base + plan.size.nodes)
+  pub alone : (k : ℕ) (x y : IsEndBit chips plan.entry.now at k) → (x.path ≡ y.path) × (x.bit ≡ y.bit)
 
 -- ---- ends
 

@@ -1,5 +1,5 @@
 -- How a chip is put behind the nodes, blocks and parts that are there.
-use Rattle.std.specs.Prelude.{◌≡◌, ◌≤◌, ◌<◌, ◌^◌, ℕ, zero, suc, ◌+◌, List, [], ◌∷◌, ◌++◌, Some, map, length, take, drop, slice_get, slice_index}
+use Rattle.std.specs.Prelude.{◌≡◌, ◌≤◌, ◌<◌, ◌*◌, ◌^◌, ℕ, zero, suc, ◌+◌, List, [], ◌∷◌, ◌++◌, Some, map, length, take, drop, slice_get, slice_index}
 use Rattle.std.specs.List.{All}
 use Rattle.hdl_tree.specs.declared.tree.Part.{Part}
 use Rattle.hdl_tree.specs.declared.library.Entry.{Entry}
@@ -20,7 +20,7 @@ use Rattle.hdl_flat.specs.declared.plan.Plan.{Plan}
 use Rattle.hdl_flat.specs.declared.plan.PartPlan.{PartPlan}
 use Rattle.hdl_flat.specs.declared.flat.PartAt.{PartAt}
 use Rattle.hdl_flat.specs.declared.flat.Growing.{Growing}
-use Rattle.hdl_flat.specs.Trees.{PartIn, IsTree, within}
+use Rattle.hdl_flat.specs.Trees.{PartIn, IsTree, within, told, chip_nodes, part_nodes}
 use Rattle.hdl_flat.specs.Flat.{Reads, block_at, part_at}
 use Rattle.hdl_flat.specs.Inner.Plans.{IsPlanned, HavePlans, ArePartPlans, all_sized, places}
 use Rattle.hdl_flat.specs.Inner.Puts.{node_of, IsPlaced}
@@ -94,14 +94,31 @@ pub record Longer {X : Type 0} (old new : List X) : Type 0 where
   pub more : List X
   pub longer : new ≡ old ++ more
 
--- nodes and blocks that are read are there, where n nodes and m blocks are there in the end
+-- nodes and blocks that are read or listed are there, where n nodes and m blocks are there in the end
 pub record ReadsBelow (n m : ℕ) (flat : Growing) : Type 0 where
   pub nodes : All (Reads n m) flat.nodes.items
   pub blocks : All (HasInputs n) flat.blocks.items
+  pub parts : All (λ p. All (λ i. i < n) p.outs) flat.parts.items
 
 -- so does what comes after, if all of the chip's nodes are there
 abbrev pub ReadMore : Plan → List ℕ → Growing → Growing → Type 0
 ReadMore plan inputs old new = (n m : ℕ) → All (λ i. i < n) inputs → 1 < n → length old.nodes.items + plan.size.nodes ≤ n → length new.blocks.items ≤ m → ReadsBelow n m old → ReadsBelow n m new
+
+-- a node has the first bit of the block's word
+pub record HasWord (ns : List Node) (b : ℕ) : Type 0 where
+  pub k : ℕ
+  pub there : slice_get ns k ≡ Some (nodes.Word b 0)
+
+-- the words of so many blocks have nodes, each bit just one, and no others have
+pub record HasWords (ns : List Node) (m : ℕ) : Type 0 where
+  pub few : 16 * m ≤ length ns
+  pub below : (k b bit : ℕ) → slice_get ns k ≡ Some (nodes.Word b bit) → b < m
+  pub used : (b : ℕ) → b < m → HasWord ns b
+  pub once : (i j b bit : ℕ) → slice_get ns i ≡ Some (nodes.Word b bit) → slice_get ns j ≡ Some (nodes.Word b bit) → i ≡ j
+
+-- so has what comes after
+abbrev pub WordsMore : Growing → Growing → Type 0
+WordsMore old new = HasWords old.nodes.items (length old.blocks.items) → HasWords new.nodes.items (length new.blocks.items)
 
 -- the chip at this place of the plans may be put
 pub record MayPut (plans : List Plan) (place : ℕ) (inputs : List ℕ) (flat : Growing) : Type 0 where
@@ -120,12 +137,14 @@ pub record IsPut (chips : Chips) (plan : Plan) (inputs : List ℕ) (old new : Gr
   pub few : length new.blocks.items ≤ length new.nodes.items
   pub tree : List PartIn
   pub listed : IsTree chips plan.entry.now tree
+  pub counted : plan.size.nodes ≡ told (chip_nodes chips plan.entry.now + part_nodes chips tree)
   pub block : List ℕ → ℕ
   pub at : List ℕ → Wires ℕ
   pub parts : new.parts.items ≡ old.parts.items ++ map (part_at chips at block) tree
   pub own_block : block_at (end_of chips.blocks plan.entry.now) (block []) ≡ block_at (end_of chips.blocks plan.entry.now) (length old.blocks.items)
   pub placed : (net : Net) → Longer new.nodes.items net.nodes → Longer new.blocks.items net.blocks → IsPlaced chips net plan (length old.nodes.items) inputs block at
   pub reads : ReadMore plan inputs old new
+  pub words : WordsMore old new
 
 -- ---- parts of a chip that are put one after another
 
@@ -149,6 +168,7 @@ tree_of i (s ∷ ss) = record { path = i ∷ []; chip = s.chip } ∷ (within i s
 pub record IsInstance (chips : Chips) (net : Net) (base : ℕ) (inputs : List ℕ) (p : Part) (x : Plan) (q : PartPlan) (s : Instance) : Type 0 where
   pub found : find_chip chips p.chip ≡ Some s.chip
   pub listed : IsTree chips s.chip s.tree
+  pub counted : x.size.nodes ≡ told (chip_nodes chips s.chip + part_nodes chips s.tree)
   pub placed : IsPlaced chips net x (base + q.offset) (map (node_of base inputs) q.origins.items) s.block s.at
 
 pub data AreInstances (chips : Chips) (net : Net) (base : ℕ) (inputs : List ℕ) : List Part → List Plan → List PartPlan → List Instance → Type 0 where
@@ -171,5 +191,6 @@ pub record IsGoing (chips : Chips) (plans : List Plan) (place : ℕ) (plan : Pla
   pub few : length now.blocks.items ≤ length now.nodes.items
   pub parts : now.parts.items ≡ old.parts.items ++ listed_by chips done
   pub reads : ReadMore plan inputs old now
+  pub words : WordsMore old now
   pub stand : (net : Net) → Longer now.nodes.items net.nodes → Longer now.blocks.items net.blocks → (tail : List Instance) → AreInstances chips net (length old.nodes.items) inputs parts_left plans_left rest tail →
       AreInstances chips net (length old.nodes.items) inputs (parts_of chips plan.entry.now) planned.inner plan.parts.items (done ++ tail)

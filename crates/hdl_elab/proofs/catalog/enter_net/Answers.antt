@@ -1,8 +1,7 @@
-use Rattle.std.proofs.Common.{◌≡◌, ℕ, List, [], ◌∷◌, ◌++◌, Some, sym, ap, ◌∙◌}
+use Rattle.std.proofs.Common.{◌≡◌, ◌++◌, sym, ap, ◌∙◌}
 use Rattle.hdl_tree.specs.Chips.{count}
 use Rattle.hdl_elab.specs.Tables.{found}
 use Rattle.hdl_elab.specs.Inner.Entered.{table_of}
-use Rattle.hdl_elab.specs.Faults.{widths_of, driver_by}
 use Rattle.hdl_elab.proofs.Entries.{one_next}
 use Rattle.hdl_elab.proofs.Drivers.{widths_put}
 use Rattle.hdl_elab.proofs.catalog.enter_net.Goals as goal

@@ -1,4 +1,4 @@
-use Rattle.std.proofs.Common.{◌≡◌, ℕ, List, [], ◌∷◌, ◌++◌, sym, ap, ◌∙◌}
+use Rattle.std.proofs.Common.{◌≡◌, ℕ, List, ◌∷◌, ◌++◌, sym, ap, ◌∙◌}
 use Rattle.hdl_tree.specs.declared.tree.Pin.{Pin}
 use Rattle.hdl_elab.specs.Tables.{found}
 use Rattle.hdl_elab.specs.Inner.Entered.{table_of}

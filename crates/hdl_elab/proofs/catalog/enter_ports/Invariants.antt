@@ -1,7 +1,6 @@
 use Rattle.std.proofs.Common.{◌≡◌, ℕ, ◌++◌, List, length}
 use Rattle.hdl_elab.specs.Tables.{found}
-use Rattle.hdl_elab.specs.Inner.Entered.{table_of, Finds}
-use Rattle.hdl_elab.specs.declared.check.Port.{Port}
+use Rattle.hdl_elab.specs.Inner.Entered.{table_of}
 use Rattle.hdl_elab.specs.Faults.{ports_in}
 use Rattle.hdl_elab.proofs.catalog.enter_ports.Given as goal
 

@@ -1,7 +1,6 @@
 use Rattle.std.proofs.Common.{◌≡◌, ℕ, ◌++◌, List, length}
 use Rattle.hdl_elab.specs.Tables.{found}
-use Rattle.hdl_elab.specs.Inner.Entered.{table_of, Finds}
-use Rattle.hdl_elab.specs.declared.check.Port.{Port}
+use Rattle.hdl_elab.specs.Inner.Entered.{table_of}
 use Rattle.hdl_elab.specs.Faults.{widths_of, drivers_of}
 use Rattle.hdl_elab.specs.Inner.Progress.{chips_of}
 use Rattle.hdl_elab.proofs.catalog.net_table.Given as goal

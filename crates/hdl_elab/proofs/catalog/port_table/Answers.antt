@@ -1,4 +1,4 @@
-use Rattle.std.proofs.Common.{◌≡◌, true, false, List, [], ◌∷◌, ◌++◌, sym, ap, ◌∙◌}
+use Rattle.std.proofs.Common.{true, false, ◌++◌, ap, ◌∙◌}
 use Rattle.hdl_elab.specs.Tables.{found}
 use Rattle.hdl_elab.specs.Inner.Entered.{table_of}
 use Rattle.hdl_elab.specs.Faults.{ports_in}

@@ -1,4 +1,3 @@
-use Rattle.hdl_tree.specs.Chips.{first, count}
 use Rattle.hdl_elab.specs.Tables.{bits_of}
 use Rattle.hdl_elab.proofs.MarkLemmas.{some_marked_is}
 use Rattle.hdl_elab.proofs.Checking.{fed_is}

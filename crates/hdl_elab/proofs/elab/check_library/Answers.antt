@@ -3,7 +3,7 @@ use Rattle.hdl_tree.specs.Chips.{find_entry}
 use Rattle.std.proofs.lemmas.Result.{err_from_is_err_and}
 use Rattle.hdl_elab.specs.Inner.Progress.{chips_of}
 use Rattle.hdl_elab.specs.Whole.{chips_in}
-use Rattle.hdl_elab.proofs.Tops.{same_chips, exact_err, exact_ok}
+use Rattle.hdl_elab.proofs.Tops.{same_chips, exact_err}
 use Rattle.hdl_elab.proofs.elab.check_library.Goals as goal
 
 pub returns-in_err-check_all-in-Some-clause-exact : goal.returns-in_err-check_all-in-Some-clause-exact

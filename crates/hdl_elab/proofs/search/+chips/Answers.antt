@@ -1,13 +1,11 @@
-use Rattle.std.proofs.Common.{◌≡◌, ℕ, ◌+◌, ◌<◌, ◌++◌, List, [], ◌∷◌, length, set, get_or, take, is_some, false, Err, Option, Some, None, refl, sym, ap, subst, ◌∙◌, arith}
+use Rattle.std.proofs.Common.{◌≡◌, ℕ, ◌+◌, ◌<◌, List, length, get_or, is_some, false, Err, Some, None, refl, sym, ap, subst, ◌∙◌, arith}
 use Rattle.std.specs.Prelude.{slice_get, OnOk, vec_len}
 use Rattle.std.proofs.lemmas.List.{length-set}
 use Rattle.std.proofs.lemmas.Option.{slice_get_read, slice_get_within, slice_get-get_or}
 use Rattle.std.proofs.lemmas.Result.{err_from_is_err_and, on_ok_weaker}
 use Rattle.hdl_tree.specs.declared.tree.Connection.{Connection}
 use Rattle.hdl_tree.specs.declared.tree.Part.{Part}
-use Rattle.hdl_tree.specs.declared.library.Entry.{Entry}
-use Rattle.hdl_tree.specs.Chips.{Chips, end_of, find_chip, find_entry, parts_of, parts_of_body}
-use Rattle.hdl_elab.specs.declared.fault.NamedFault.{NamedFault}
+use Rattle.hdl_tree.specs.Chips.{end_of, find_chip, find_entry, parts_of, parts_of_body}
 use Rattle.hdl_elab.specs.Faults.{fault_in}
 use Rattle.hdl_elab.specs.Inner.Checked.{Checks}
 use Rattle.hdl_elab.specs.Inner.Marked.{MarksMore}
@@ -18,9 +16,9 @@ use Rattle.hdl_elab.specs.declared.fault.FaultKind.TheVariants as kinds
 use Rattle.hdl_elab.specs.declared.stage.Stage.{Stage}
 use Rattle.hdl_elab.specs.declared.stage.Stage.TheVariants.{New, Open, Done}
 use Rattle.hdl_elab.proofs.Firsts.{open_avoids, parts_fail, chip_fails}
-use Rattle.hdl_elab.proofs.Keeping.{get_set_same, opened, closed, kept_all, kept_trans, kept_refl, still_open, fewer_new, open_kept, parts_kept}
+use Rattle.hdl_elab.proofs.Keeping.{get_set_same, opened, closed, kept_all, kept_trans, still_open, fewer_new, open_kept, parts_kept}
 use Rattle.hdl_elab.proofs.Telling.{tells_more}
-use Rattle.hdl_elab.proofs.Entering.{name_wrong, entering_wrong, connections_wrong, part_fine, part_marked, if_err, parts_more, its_parts, pins_fail, body_wrong, pins_right, body_right, end_fine, fails_at, fine_there}
+use Rattle.hdl_elab.proofs.Entering.{name_wrong, entering_wrong, connections_wrong, part_fine, part_marked, if_err, parts_more, its_parts, pins_fail, body_wrong, pins_right, body_right, fails_at, fine_there}
 use Rattle.hdl_elab.proofs.Stages.{entry_there, inside_of, open_wrong, new_wrong, err_of, checks_err}
 use Rattle.hdl_elab.proofs.search.+chips.Goals as goal
 

@@ -1,4 +1,4 @@
-use Rattle.std.proofs.Common.{◌≡◌, ℕ, ◌+◌, ◌++◌, List, length, take, Option, Some, None, refl, sym, ap, subst, ◌∙◌, below_more, arith}
+use Rattle.std.proofs.Common.{◌≡◌, ◌++◌, List, length, take, Option, Some, refl, sym, ap, subst, ◌∙◌, below_more, arith}
 use Rattle.std.specs.Prelude.{slice_get}
 use Rattle.std.proofs.lemmas.Option.{slice_get_read}
 use Rattle.std.proofs.lemmas.List.{take_all}
@@ -11,7 +11,7 @@ use Rattle.hdl_elab.specs.Inner.Marked.{HasMarks, MarksMore}
 use Rattle.hdl_elab.specs.Faults.{ports_of, context, bits_fed, bits_driven, fed_by, driver_by, drivers_by, drivers_of, connection_fault, connection_fault_in}
 use Rattle.hdl_elab.specs.Inner.Progress.{chips_of}
 use Rattle.hdl_elab.specs.declared.check.Port.{Port}
-use Rattle.hdl_elab.proofs.MarkLemmas.{has_more, more_then, more_none}
+use Rattle.hdl_elab.proofs.MarkLemmas.{has_more, more_then}
 use Rattle.hdl_elab.proofs.Telling.{tells_first, connection_is, no_connection, sees_round, all_clear}
 use Rattle.hdl_elab.proofs.Rows.{put_next, fed_next}
 use Rattle.hdl_elab.proofs.search.check_connections.Goals as goal

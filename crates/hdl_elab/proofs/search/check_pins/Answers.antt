@@ -1,4 +1,4 @@
-use Rattle.std.proofs.Common.{◌≡◌, ℕ, [], None, sym, ap, subst, ◌∙◌, List}
+use Rattle.std.proofs.Common.{[], sym, ap, subst, ◌∙◌, List}
 use Rattle.std.proofs.lemmas.Result.{err_from_is_err_and}
 use Rattle.hdl_tree.specs.declared.tree.Pin.{Pin}
 use Rattle.hdl_elab.specs.Inner.Progress.{pin_fault_in, FindsFirst, IsFirstOf}

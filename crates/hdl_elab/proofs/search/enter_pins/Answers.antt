@@ -1,14 +1,11 @@
-use Rattle.std.proofs.Common.{◌≡◌, ℕ, ◌+◌, [], ◌∷◌, ◌++◌, Bool, true, false, map, take, length, Some, not, refl, sym, ap, ◌∙◌, below_more, arith}
+use Rattle.std.proofs.Common.{◌≡◌, false, length, Some, refl, below_more, arith}
 use Rattle.std.specs.Prelude.{slice_get}
-use Rattle.std.proofs.lemmas.Option.{slice_get_read, slice_get_past}
-use Rattle.hdl_elab.specs.Faults.{pin_name}
+use Rattle.std.proofs.lemmas.Option.{slice_get_read}
 use Rattle.hdl_elab.specs.Tables.{names_in}
 use Rattle.hdl_tree.specs.Writable.{is_among}
 use Rattle.hdl_elab.specs.Inner.Entered.{table_of}
-use Rattle.hdl_elab.specs.Faults.{fault_in}
 use Rattle.hdl_elab.specs.Inner.Progress.{pin_fault_in}
-use Rattle.hdl_elab.specs.declared.fault.FaultKind.TheVariants as kinds
-use Rattle.hdl_elab.proofs.Telling.{told_first, twice_is, no_pin, all_clear, not_is, is_not}
+use Rattle.hdl_elab.proofs.Telling.{twice_is, no_pin, all_clear, not_is}
 use Rattle.hdl_elab.proofs.Rows.{names_next}
 use Rattle.hdl_elab.proofs.search.enter_pins.Goals as goal
 

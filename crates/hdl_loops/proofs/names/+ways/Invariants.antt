@@ -1,4 +1,6 @@
 use Rattle.std.proofs.Common.{◌+◌, ◌*◌}
+use Rattle.hdl_elab.specs.Whole.{chips_in}
+use Rattle.hdl_loops.specs.Inner.Told.{AreTold, Tells}
 use Rattle.hdl_loops.proofs.names.+ways.Given as goal
 
 abbrev pub decreases-pass : goal.decreases-pass
@@ -7,5 +9,11 @@ decreases-pass l = 3 * l.depth + 2
 abbrev pub decreases-follow : goal.decreases-follow
 decreases-follow l = 3 * l.depth + 1
 
-abbrev pub decreases-cross : goal.decreases-cross
-decreases-cross l = 3 * l.depth
+abbrev pub decreases-leap : goal.decreases-leap
+decreases-leap l = 3 * l.depth
+
+abbrev pub invariant-follow-loop-hop : goal.invariant-follow-loop-hop
+invariant-follow-loop-hop l = record {
+  right : AreTold (chips_in l.entries l.blocks) l.told;
+  told : Tells (chips_in l.entries l.blocks) l.entry l.fn.from l.at l.fn.told l.told;
+}

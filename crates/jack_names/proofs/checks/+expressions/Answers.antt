@@ -4,7 +4,7 @@ use Rattle.jack_tree.specs.declared.tree.Call.{out-Call}
 use Rattle.jack_tree.specs.declared.tree.Expression.{out-Expression}
 use Rattle.jack_names.specs.Uses.{Calls, term_uses, exp_uses, operation_uses, operations_uses, arguments_uses}
 use Rattle.jack_names.specs.Scopes.{use_fault, first_fault}
-use Rattle.jack_names.specs.Scoped.{the_scope}
+use Rattle.jack_names.specs.Inner.Scoped.{the_scope}
 use Rattle.jack_names.proofs.Checking.{as_uses, in_first, in_second, uses_first, uses_second, in_each, one_clear}
 use Rattle.jack_names.proofs.Rows.{call_is, exp_is}
 use Rattle.jack_names.proofs.checks.+expressions.Goals as goal

@@ -2,7 +2,7 @@ use Rattle.std.proofs.Common.{◌++◌, sym, ap, ◌∙◌, Ok, Err}
 use Rattle.std.proofs.lemmas.Result.{err_from_is_err_and}
 use Rattle.jack_names.specs.Uses.{Variable, exp_uses, optional_uses, statement_uses, statements_uses}
 use Rattle.jack_names.specs.Scopes.{use_fault, first_fault}
-use Rattle.jack_names.specs.Scoped.{the_scope}
+use Rattle.jack_names.specs.Inner.Scoped.{the_scope}
 use Rattle.jack_names.proofs.Checking.{as_uses, in_second, uses_first, uses_second, in_each, one_clear}
 use Rattle.jack_names.proofs.Rows.{if_uses, while_uses, else_uses}
 use Rattle.jack_names.proofs.checks.+statements.Goals as goal

@@ -1,7 +1,7 @@
 use Rattle.std.proofs.Common.{◌≡◌, None, take}
 use Rattle.jack_names.specs.Uses.{statements_uses}
 use Rattle.jack_names.specs.Scopes.{first_fault}
-use Rattle.jack_names.specs.Scoped.{the_scope}
+use Rattle.jack_names.specs.Inner.Scoped.{the_scope}
 use Rattle.jack_names.proofs.checks.+statements.Given as goal
 
 abbrev pub invariant-check_statements-loop-s : goal.invariant-check_statements-loop-s

@@ -1,4 +1,4 @@
-use Rattle.jack_names.specs.Named.{the_symbols}
+use Rattle.jack_names.specs.Inner.Named.{the_symbols}
 use Rattle.jack_names.specs.Twice.{source_of}
 use Rattle.jack_names.proofs.classes.class_scope.Goals as goal
 

@@ -1,7 +1,7 @@
 use Rattle.jack_names.specs.Tables.{found, first_of}
-use Rattle.jack_names.specs.Entered.{table_of}
-use Rattle.jack_names.specs.Filed.{the_file}
-use Rattle.jack_names.specs.Named.{the_symbols}
+use Rattle.jack_names.specs.Inner.Entered.{table_of}
+use Rattle.jack_names.specs.Inner.Filed.{the_file}
+use Rattle.jack_names.specs.Inner.Named.{the_symbols}
 use Rattle.jack_names.proofs.classes.scope_in.Goals as goal
 
 pub returns : goal.returns

@@ -9,8 +9,8 @@ use Rattle.jack_core.specs.Reading.{made, the_sign}
 use Rattle.jack_core.specs.declared.tree.Part.TheVariants as part
 use Rattle.jack_names.specs.Scopes.{callee}
 use Rattle.jack_names.specs.Meant.{exp_meant, term_meant, binary_meant, operation_meant, called_number, variable_meant, sign_meant, invoked, grouped, arguments_meant, call_meant}
-use Rattle.jack_names.specs.Scoped.{the_scope}
-use Rattle.jack_names.specs.Pushed.{object_meant}
+use Rattle.jack_names.specs.Inner.Scoped.{the_scope}
+use Rattle.jack_names.specs.Inner.Pushed.{object_meant}
 use Rattle.jack_names.proofs.Meanings.{call_means, exp_means, grouped_more}
 use Rattle.jack_names.proofs.Pushing.{turned, turned_as, turns, joins, joined, called, added_as, added_turned}
 use Rattle.jack_names.proofs.meant.+meant.Goals as goal

@@ -1,8 +1,8 @@
 -- The arguments so far are added, and the last expression is continued by the operations so far.
 use Rattle.std.proofs.Common.{map, take}
 use Rattle.jack_names.specs.Meant.{exp_meant, grouped}
-use Rattle.jack_names.specs.Scoped.{the_scope}
-use Rattle.jack_names.specs.Pushed.{AddsAll, Turns}
+use Rattle.jack_names.specs.Inner.Scoped.{the_scope}
+use Rattle.jack_names.specs.Inner.Pushed.{AddsAll, Turns}
 use Rattle.jack_names.proofs.meant.+meant.Given as goal
 
 abbrev pub invariant-push_arguments-loop-e : goal.invariant-push_arguments-loop-e

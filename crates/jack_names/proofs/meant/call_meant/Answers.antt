@@ -1,6 +1,6 @@
 -- The parts are added to none.
 use Rattle.jack_names.specs.Meant.{call_meant}
-use Rattle.jack_names.specs.Scoped.{the_scope}
+use Rattle.jack_names.specs.Inner.Scoped.{the_scope}
 use Rattle.jack_names.proofs.Pushing.{alone, means}
 use Rattle.jack_names.proofs.meant.call_meant.Goals as goal
 

@@ -1,7 +1,7 @@
 -- The last expression is filled with the bytes so far.
 use Rattle.std.proofs.Common.{take}
 use Rattle.jack_names.specs.Meant.{filled}
-use Rattle.jack_names.specs.Pushed.{Turns}
+use Rattle.jack_names.specs.Inner.Pushed.{Turns}
 use Rattle.jack_names.proofs.meant.push_bytes.Given as goal
 
 abbrev pub invariant-loop-byte : goal.invariant-loop-byte

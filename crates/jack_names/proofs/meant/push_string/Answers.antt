@@ -4,7 +4,7 @@ use Rattle.std.proofs.lemmas.Result.{on_ok_weaker}
 use Rattle.jack_meaning.specs.Text as meaning
 use Rattle.jack_core.specs.declared.tree.Part.TheVariants as part
 use Rattle.jack_names.specs.Meant.{filled, one, string_meant}
-use Rattle.jack_names.specs.Scoped.{the_scope}
+use Rattle.jack_names.specs.Inner.Scoped.{the_scope}
 use Rattle.jack_names.proofs.Pushing.{added_as, added_turned, turns}
 use Rattle.jack_names.proofs.meant.push_string.Goals as goal
 

@@ -1,7 +1,7 @@
 use Rattle.std.proofs.Common.{◌≡◌, ◌+◌, length}
-use Rattle.jack_names.specs.Entered.{table_of}
+use Rattle.jack_names.specs.Inner.Entered.{table_of}
 use Rattle.jack_names.specs.Symbols.{class_numbers}
-use Rattle.jack_names.specs.Named.{with_all}
+use Rattle.jack_names.specs.Inner.Named.{with_all}
 use Rattle.jack_names.proofs.names.enter_classes.Given as goal
 
 abbrev pub invariant-loop-class : goal.invariant-loop-class

@@ -1,7 +1,7 @@
 use Rattle.std.proofs.Common.{[], ◌++◌, length, map, ap, ◌∙◌}
-use Rattle.jack_names.specs.Entered.{table_of}
+use Rattle.jack_names.specs.Inner.Entered.{table_of}
 use Rattle.jack_names.specs.Symbols.{class_numbers, all_signatures}
-use Rattle.jack_names.specs.Named.{with_all}
+use Rattle.jack_names.specs.Inner.Named.{with_all}
 use Rattle.jack_names.proofs.Naming.{symbols_are}
 use Rattle.jack_names.proofs.names.names_of.Goals as goal
 

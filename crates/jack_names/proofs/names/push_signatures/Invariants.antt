@@ -1,8 +1,8 @@
 use Rattle.std.proofs.Common.{◌≡◌, ◌+◌, ◌++◌, [], length, map}
-use Rattle.jack_names.specs.Entered.{table_of}
+use Rattle.jack_names.specs.Inner.Entered.{table_of}
 use Rattle.jack_names.specs.Symbols.{all_signatures}
 use Rattle.jack_names.specs.Limits.{subroutine_count}
-use Rattle.jack_names.specs.Named.{with_all}
+use Rattle.jack_names.specs.Inner.Named.{with_all}
 use Rattle.jack_names.proofs.names.push_signatures.Given as goal
 
 abbrev pub invariant-loop-class : goal.invariant-loop-class

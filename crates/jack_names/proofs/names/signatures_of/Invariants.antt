@@ -1,7 +1,7 @@
 use Rattle.std.proofs.Common.{◌≡◌, ◌+◌, [], length}
-use Rattle.jack_names.specs.Entered.{table_of}
+use Rattle.jack_names.specs.Inner.Entered.{table_of}
 use Rattle.jack_names.specs.Symbols.{signatures}
-use Rattle.jack_names.specs.Named.{with_all}
+use Rattle.jack_names.specs.Inner.Named.{with_all}
 use Rattle.jack_names.proofs.names.signatures_of.Given as goal
 
 abbrev pub invariant-loop-s : goal.invariant-loop-s

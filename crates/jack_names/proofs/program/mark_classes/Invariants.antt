@@ -1,6 +1,6 @@
 use Rattle.std.proofs.Common.{◌≡◌, length}
-use Rattle.jack_names.specs.Entered.{table_of}
-use Rattle.jack_names.specs.Named.{with_all, marks}
+use Rattle.jack_names.specs.Inner.Entered.{table_of}
+use Rattle.jack_names.specs.Inner.Named.{with_all, marks}
 use Rattle.jack_names.proofs.program.mark_classes.Given as goal
 
 abbrev pub invariant-loop-class : goal.invariant-loop-class

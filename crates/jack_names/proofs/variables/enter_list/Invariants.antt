@@ -1,7 +1,7 @@
 use Rattle.std.proofs.Common.{◌≡◌, ◌+◌, length}
-use Rattle.jack_names.specs.Entered.{table_of}
+use Rattle.jack_names.specs.Inner.Entered.{table_of}
 use Rattle.jack_names.specs.Symbols.{line_entries}
-use Rattle.jack_names.specs.Named.{with_all, slot_at}
+use Rattle.jack_names.specs.Inner.Named.{with_all, slot_at}
 use Rattle.jack_names.proofs.variables.enter_list.Given as goal
 
 abbrev pub invariant-loop-name : goal.invariant-loop-name

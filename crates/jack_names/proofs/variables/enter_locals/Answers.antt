@@ -1,8 +1,8 @@
 use Rattle.std.proofs.Common.{◌≡◌, ◌+◌, ◌∷◌, length, ap, sym, ◌∙◌, arith}
-use Rattle.jack_names.specs.Entered.{table_of}
+use Rattle.jack_names.specs.Inner.Entered.{table_of}
 use Rattle.jack_names.specs.Twice.{names_of}
 use Rattle.jack_names.specs.Symbols.{type_class, line_entries, local_entries, locals_of}
-use Rattle.jack_names.specs.Named.{with_all, the_symbols}
+use Rattle.jack_names.specs.Inner.Named.{with_all, the_symbols}
 use Rattle.jack_names.specs.declared.scope.Slot.TheVariants as slot
 use Rattle.jack_names.proofs.Naming.{with_all-append}
 use Rattle.jack_names.proofs.variables.enter_locals.Goals as goal

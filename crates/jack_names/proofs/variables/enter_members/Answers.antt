@@ -1,7 +1,7 @@
 use Rattle.std.proofs.Common.{◌≡◌, ◌+◌, ◌∷◌, ap, sym, ◌∙◌, arith}
-use Rattle.jack_names.specs.Entered.{table_of}
+use Rattle.jack_names.specs.Inner.Entered.{table_of}
 use Rattle.jack_names.specs.Symbols.{member_line, member_entries, fields_in, statics_in, fields_of, statics_of}
-use Rattle.jack_names.specs.Named.{with_all, the_symbols}
+use Rattle.jack_names.specs.Inner.Named.{with_all, the_symbols}
 use Rattle.jack_names.proofs.Naming.{with_all-append}
 use Rattle.jack_names.proofs.variables.enter_members.Goals as goal
 

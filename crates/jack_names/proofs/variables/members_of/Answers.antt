@@ -1,7 +1,7 @@
 use Rattle.std.proofs.Common.{ap, ◌∙◌}
 use Rattle.jack_names.specs.Tables.{found}
 use Rattle.jack_names.specs.Symbols.{member_entries}
-use Rattle.jack_names.specs.Named.{with_all, the_symbols}
+use Rattle.jack_names.specs.Inner.Named.{with_all, the_symbols}
 use Rattle.jack_names.proofs.Naming.{found_filled}
 use Rattle.jack_names.proofs.variables.members_of.Goals as goal
 

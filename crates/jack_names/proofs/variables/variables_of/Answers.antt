@@ -1,8 +1,8 @@
 use Rattle.std.proofs.Common.{[], ap, sym, ◌∙◌}
 use Rattle.jack_names.specs.Tables.{found}
-use Rattle.jack_names.specs.Entered.{table_of}
+use Rattle.jack_names.specs.Inner.Entered.{table_of}
 use Rattle.jack_names.specs.Symbols.{parameter_entries, local_entries, variable_entries, objects}
-use Rattle.jack_names.specs.Named.{with_all, the_symbols}
+use Rattle.jack_names.specs.Inner.Named.{with_all, the_symbols}
 use Rattle.jack_names.proofs.Naming.{found_filled, with_all-append}
 use Rattle.jack_names.proofs.variables.variables_of.Goals as goal
 

@@ -3,4 +3,4 @@ use Rattle.tower.proofs.computer.build.Goals as goal
 
 pub returns-in-Ok : goal.returns-in-Ok
 returns-in-Ok c =
-    built c.args.core.now c.in-Ok.linked c.in-Ok.ensures.links (c.in-Ok.ensures.code c.requires.resolved) c.build_linked.result c.build_linked.ensures.program c.build_linked.ensures.translated c.build_linked.ensures.fits c.build_linked.ensures.unbuilt
+    built c.args.core.now c.in-Ok.linked c.in-Ok.ensures.links c.build_linked.result c.build_linked.ensures.program c.build_linked.ensures.fits c.build_linked.ensures.unbuilt

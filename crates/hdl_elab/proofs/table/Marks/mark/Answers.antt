@@ -1,4 +1,4 @@
-use Rattle.std.proofs.Common.{◌≡◌, Bool, true, ap, ◌∙◌, ◌&&◌, ◌||◌, List}
+use Rattle.std.proofs.Common.{ap, ◌∙◌, List}
 use Rattle.std.specs.List.{list_any}
 use Rattle.hdl_elab.specs.Inner.Marked.{is_mark}
 use Rattle.hdl_elab.specs.declared.table.Mark.{Mark}

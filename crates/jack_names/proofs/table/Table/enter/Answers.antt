@@ -1,5 +1,5 @@
 use Rattle.std.proofs.Common.{ap, sym, ◌∙◌, map, not}
-use Rattle.jack_names.specs.Entered.{seen_entry, table_of}
+use Rattle.jack_names.specs.Inner.Entered.{seen_entry, table_of}
 use Rattle.jack_names.proofs.Entries.{entered_at, is_there, is_new, stays, grows}
 use Rattle.jack_names.proofs.table.Table.enter.Goals as goal
 

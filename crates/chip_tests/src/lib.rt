@@ -1,0 +1,9 @@
+//! Tests of chips (book, chapters 1 to 5): their texts, the simulator, and the shipped chips.
+#![tactic(auto)]
+
+#[cfg(test)]
+mod chip_texts;
+#[cfg(test)]
+mod shipped_chips;
+#[cfg(test)]
+mod simulating;

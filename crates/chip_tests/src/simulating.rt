@@ -1,0 +1,242 @@
+//! Small netlists.
+
+ghost use Rattle.std.specs.Prelude.{◌≡◌, ◌<◌, [], ◌∷◌, length, IfOk, Some, slice_get};
+ghost use Rattle.std.specs.List.{All};
+ghost use Rattle.netlist.specs.declared.node.Node.TheVariants.{Pin, Nand, Flip, Word};
+ghost use Rattle.netlist.specs.Histories.{HasBits, pin_count};
+
+use gate_sim::Sim;
+use hdl_tree::List;
+use netlist::{Block, History, NetFault, Netlist, Node};
+use std::alloc::{AllocError, Global};
+use std::test::Fail;
+
+#[test]
+fn nand_of_itself(rt: HostRuntime) -> Result<(), Fail> {
+    let nodes = vec![in rt.alloc(); Node::Nand(0, 0)]?;
+    let blocks: List<Block> = List::new(rt.alloc());
+    match Netlist::new(List::of(nodes), blocks) {
+        Err(fault) => assert_eq!(rt; fault, NetFault::NotOrdered(0)),
+        Ok(_) => assert!(rt; false),
+    }
+    Ok(())
+}
+
+#[test]
+fn two_nands(rt: HostRuntime) -> Result<(), Fail> {
+    let nodes = vec![in rt.alloc(); Node::Pin, Node::Pin, Node::Nand(0, 1), Node::Nand(2, 2)]?;
+    let blocks: List<Block> = List::new(rt.alloc());
+    match Netlist::new(List::of(nodes), blocks) {
+        Err(_) => assert!(rt; false),
+        Ok(net) => {
+            let mut sim = Sim::new(rt.alloc(), net)?;
+            sim.set(0, true);
+            sim.eval();
+            assert!(rt; !sim.get(3));
+            sim.set(1, true);
+            assert!(rt; !sim.get(1));
+            sim.eval();
+            assert!(rt; sim.get(3));
+        }
+    }
+    Ok(())
+}
+
+// Pins 0 and 1 are the word that comes into a block of two words, pin 2 is its load and pin 3 its address. Nodes 4 and 5 are the bits of
+// its word, 6 is a flip-flop, and 7, its input, is a Nand.
+fn mixed_nodes(alloc: Global) -> Result<List<Node>, AllocError>
+    ensures { IfOk result (λ nodes. nodes ≡ Pin ∷ Pin ∷ Pin ∷ Pin ∷ Word 0 0 ∷ Word 0 1 ∷ Flip 7 ∷ Nand 4 6 ∷ []) }
+{
+    let nodes = vec![in alloc;
+        Node::Pin,
+        Node::Pin,
+        Node::Pin,
+        Node::Pin,
+        Node::Word { block: 0, bit: 0 },
+        Node::Word { block: 0, bit: 1 },
+        Node::Flip(7),
+        Node::Nand(4, 6),
+    ]?;
+    Ok(List::of(nodes))
+}
+
+fn mixed_blocks(alloc: Global) -> Result<List<Block>, AllocError>
+    ensures { IfOk result (λ blocks. blocks ≡ record { words = 2; «data» = 0 ∷ 1 ∷ []; load = 2; address = 3 ∷ [] } ∷ []) }
+{
+    let data = vec![in alloc; 0, 1]?;
+    let address = vec![in alloc; 3]?;
+    let blocks = vec![in alloc;
+        Block {
+            words: 2,
+            data: List::of(data),
+            load: 2,
+            address: List::of(address),
+        },
+    ]?;
+    Ok(List::of(blocks))
+}
+
+// The pins of cycle `c`.
+fn pins_in(c: u64) -> (bool, bool, bool, bool) {
+    (c % 5 < 2, c / 2 % 2 == 1, c % 3 != 0, c % 4 < 2)
+}
+
+fn bits_in(alloc: Global, c: u64) -> Result<List<bool>, AllocError>
+    ensures { IfOk result (λ bits. length bits ≡ 4) }
+{
+    let (first, second, load, address) = pins_in(c);
+    let bits = vec![in alloc; first, second, load, address]?;
+    Ok(List::of(bits))
+}
+
+fn bits_in_each(alloc: Global) -> Result<List<List<bool>>, AllocError>
+    ensures cycles { IfOk result (λ pins. length pins ≡ 20) }
+    ensures bits { IfOk result (λ pins. All (λ bits. length bits ≡ 4) pins) }
+{
+    let mut pins = List::new(alloc);
+    for c in 0..20 {
+        let bits = bits_in(alloc, c)?;
+        pins.push(bits)?;
+    }
+    Ok(pins)
+}
+
+// Of the words that are loaded at an address the last counts, and one past the words of the block is none.
+fn history(alloc: Global) -> Result<History, AllocError>
+    ensures cycles { IfOk result (λ history. length history.pins ≡ 20) }
+    ensures bits { IfOk result (λ history. All (λ bits. length bits ≡ 4) history.pins) }
+{
+    let pins = bits_in_each(alloc)?;
+    let loads = vec![in alloc; (0, 1, 1), (0, 1, 2), (0, 2, 3)]?;
+    Ok(History {
+        pins,
+        loads: List::of(loads),
+    })
+}
+
+fn push_read(
+    alloc: Global,
+    net: &Netlist,
+    history: &History,
+    c: u64,
+    values: &mut Vec<bool>,
+) -> Result<(), AllocError>
+    requires nodes { length net.now.nodes ≡ 8 }
+    requires cycle { c < length history.now.pins }
+    requires bits { HasBits net.now.nodes history.now.pins }
+{
+    for node in 0..8 {
+        let value = net.value(alloc, history, node, c)?;
+        values.push(value)?;
+    }
+    Ok(())
+}
+
+// The values of all nodes in each cycle, as a history gives them.
+fn read_values(alloc: Global, net: &Netlist, history: &History) -> Result<Vec<bool>, AllocError>
+    requires nodes { length net.now.nodes ≡ 8 }
+    requires pins { pin_count net.now.nodes ≡ 4 }
+    requires cycles { length history.now.pins ≡ 20 }
+    requires bits { All (λ bits. length bits ≡ 4) history.now.pins }
+{
+    let mut values = Vec::new(alloc);
+    for c in 0..20 {
+        push_read(alloc, net, history, c, &mut values)?;
+    }
+    Ok(values)
+}
+
+fn set_pins(sim: &mut Sim, c: u64)
+    requires first { slice_get sim.old.net.nodes 0 ≡ Some Pin }
+    requires second { slice_get sim.old.net.nodes 1 ≡ Some Pin }
+    requires load { slice_get sim.old.net.nodes 2 ≡ Some Pin }
+    requires address { slice_get sim.old.net.nodes 3 ≡ Some Pin }
+    ensures { sim.new.net ≡ sim.old.net }
+{
+    let (first, second, load, address) = pins_in(c);
+    sim.set(0, first);
+    sim.set(1, second);
+    sim.set(2, load);
+    sim.set(3, address);
+}
+
+fn push_simulated(sim: &Sim, values: &mut Vec<bool>) -> Result<(), AllocError>
+    requires { length sim.now.net.nodes ≡ 8 }
+{
+    for node in 0..8 {
+        values.push(sim.get(node))?;
+    }
+    Ok(())
+}
+
+// The values of all nodes in each cycle, as a simulator has them.
+fn simulated_values(alloc: Global, sim: &mut Sim) -> Result<Vec<bool>, AllocError>
+    requires nodes { length sim.old.net.nodes ≡ 8 }
+    requires first { slice_get sim.old.net.nodes 0 ≡ Some Pin }
+    requires second { slice_get sim.old.net.nodes 1 ≡ Some Pin }
+    requires load { slice_get sim.old.net.nodes 2 ≡ Some Pin }
+    requires address { slice_get sim.old.net.nodes 3 ≡ Some Pin }
+{
+    let mut values = Vec::new(alloc);
+    for c in 0..20 {
+        set_pins(sim, c);
+        sim.eval();
+        push_simulated(sim, &mut values)?;
+        sim.cycle();
+    }
+    Ok(values)
+}
+
+// Whether a simulator has the values that a history gives.
+fn agrees(alloc: Global) -> Result<bool, AllocError> {
+    let history = history(alloc)?;
+    let nodes = mixed_nodes(alloc)?;
+    let blocks = mixed_blocks(alloc)?;
+    match Netlist::new(nodes, blocks) {
+        Err(_) => Ok(false),
+        Ok(net) => {
+            let read = read_values(alloc, &net, &history)?;
+            let mut sim = Sim::new(alloc, net)?;
+            sim.load_block(0, 1, &[2]);
+            let simulated = simulated_values(alloc, &mut sim)?;
+            Ok(read == simulated)
+        }
+    }
+}
+
+#[test]
+fn twenty_cycles(rt: HostRuntime) -> Result<(), Fail> {
+    assert!(rt; agrees(rt.alloc())?);
+    Ok(())
+}
+
+// A word of two bits at an address of one bit.
+#[test]
+fn words(rt: HostRuntime) -> Result<(), Fail> {
+    let nodes = mixed_nodes(rt.alloc())?;
+    let blocks = mixed_blocks(rt.alloc())?;
+    match Netlist::new(nodes, blocks) {
+        Err(_) => assert!(rt; false),
+        Ok(net) => {
+            let mut sim = Sim::new(rt.alloc(), net)?;
+            sim.set(1, true);
+            sim.set(2, true);
+            sim.tick();
+            // What is written shows from the next cycle on.
+            assert!(rt; !sim.get(5));
+            assert_eq!(rt; sim.block_word(0, 0), 0);
+            sim.tock();
+            assert!(rt; sim.get(5));
+            assert_eq!(rt; sim.block_word(0, 0), 2);
+            // A tock without a tick writes the same word again, after one that was put.
+            sim.load_block(0, 0, &[1]);
+            assert_eq!(rt; sim.block_word(0, 0), 1);
+            sim.tock();
+            assert_eq!(rt; sim.block_word(0, 0), 2);
+            sim.set(3, true);
+            sim.eval();
+            assert!(rt; !sim.get(5));
+        }
+    }
+    Ok(())
+}

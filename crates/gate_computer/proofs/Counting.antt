@@ -1,0 +1,84 @@
+-- How many nodes a chip needs, by a table: where the count of each chip of a library is told by those of its parts, so is that of a whole tree.
+use Rattle.std.proofs.Common.{◌≡◌, ◌+◌, ℕ, suc, Bool, true, false, List, [], ◌∷◌, ◌++◌, Some, refl, ap, ◌∙◌, arith}
+use Rattle.std.specs.Prelude.{unwrap_or, nat_eq, codes, if◌then◌else◌}
+use Rattle.std.proofs.lemmas.Bool.Decides.{Decides-eqb}
+use Rattle.hdl_tree.specs.declared.tree.Part.{Part}
+use Rattle.hdl_tree.specs.declared.library.Entry.{Entry}
+use Rattle.hdl_tree.specs.Chips.{Chips, find_chip, parts_of}
+use Rattle.hdl_tree.specs.Writable.{all}
+use Rattle.hdl_elab.specs.Whole.{chips_in}
+use Rattle.hdl_elab.specs.Tables.{found}
+use Rattle.hdl_flat.specs.Trees.{PartIn, within, AreListed, none, next, chip_nodes, part_nodes, node_count}
+use Rattle.gate_computer.specs.Computer.{computer}
+use Rattle.gate_computer.specs.Nodes.{NodesLaw}
+use Rattle.hack_cpu.specs.Library.{shipped_chips}
+use Rattle.hdl_shown.proofs.Clean.{find_in}
+use Rattle.hdl_shown.proofs.Levels.{all_at}
+use Rattle.hack_cpu.proofs.Opened.{opened}
+
+nodes-append : (chips : Chips) (a b : List PartIn) → part_nodes chips (a ++ b) ≡ part_nodes chips a + part_nodes chips b
+nodes-append chips [] b = omega arith
+nodes-append chips (p ∷ a) b = let h = nodes-append chips a b in omega (arith, h)
+
+nodes-within : (chips : Chips) (i : ℕ) (tree : List PartIn) → part_nodes chips (within i tree) ≡ part_nodes chips tree
+nodes-within chips i [] = refl
+nodes-within chips i (p ∷ tree) = ap (λ n. chip_nodes chips p.chip + n) (nodes-within chips i tree)
+
+module _ (chips : Chips) (table : List (List ℕ × ℕ)) where
+  -- the nodes of the ends in a chip of this name
+  abbrev told_of : List ℕ → ℕ
+  told_of name = unwrap_or (found name table) 0
+
+  abbrev told_in : List Part → ℕ
+  told_in [] = 0
+  told_in (part ∷ parts) = told_of part.chip + told_in parts
+
+  abbrev is_told : Entry → Bool
+  is_told chip = nat_eq (told_of chip.name) (chip_nodes chips chip + told_in (parts_of chips chip))
+
+  module _ (told : all is_told chips.entries ≡ true) where
+    told_found : (name : List ℕ) (chip : Entry) → find_chip chips name ≡ Some chip → told_of name ≡ chip_nodes chips chip + told_in (parts_of chips chip)
+    told_found name chip found_it =
+        let r = find_in chips.entries name chip found_it in
+        ap told_of r.named ∙ (Decides-eqb (told_of chip.name) (chip_nodes chips chip + told_in (parts_of chips chip))).0 (all_at is_told chips.entries told r.place chip r.there)
+
+    nodes_in : (i : ℕ) (parts : List Part) (tree : List PartIn) → AreListed chips i parts tree → part_nodes chips tree ≡ told_in parts
+    nodes_in i parts tree none = refl
+    nodes_in i parts tree (next {part = part} {parts = behind} {chip = chip} {inner = inner} {others = others} found_it inside after) =
+        let whole = nodes-append chips (within i inner) others in
+        let same = nodes-within chips i inner in
+        let a = nodes_in 0 (parts_of chips chip) inner inside in
+        let b = nodes_in (suc i) behind others after in
+        let c = told_found part.chip chip found_it in
+        omega (arith, whole, same, a, b, c)
+
+-- ---- the shipped chips
+
+-- the nodes of the ends in each of them, with blocks or with memories of gates
+abbrev table_of : Bool → List (List ℕ × ℕ)
+table_of blocks =
+    (codes "Nand", 1) ∷ (codes "Not", 1) ∷ (codes "And", 2) ∷ (codes "Or", 3) ∷ (codes "Xor", 4) ∷ (codes "Mux", 4) ∷ (codes "DMux", 5) ∷ (codes "Not16", 16) ∷ (codes "And16", 32) ∷ (codes "Or16", 48) ∷ (codes "Mux16", 64)
+    ∷ (codes "Or8Way", 21) ∷ (codes "Mux4Way16", 192) ∷ (codes "Mux8Way16", 448) ∷ (codes "DMux4Way", 15) ∷ (codes "DMux8Way", 35)
+    ∷ (codes "HalfAdder", 6) ∷ (codes "FullAdder", 15) ∷ (codes "Add16", 231) ∷ (codes "Inc16", 231) ∷ (codes "ALU", 741)
+    ∷ (codes "DFF", 1) ∷ (codes "Bit", 5) ∷ (codes "Register", 80) ∷ (codes "ARegister", 80) ∷ (codes "DRegister", 80) ∷ (codes "PC", 503)
+    ∷ (codes "RAM8", if blocks then 16 else 1123) ∷ (codes "RAM64", if blocks then 16 else 9467) ∷ (codes "RAM512", if blocks then 16 else 76219) ∷ (codes "RAM4K", if blocks then 16 else 610235)
+    ∷ (codes "RAM16K", if blocks then 16 else 2441147) ∷ (codes "Screen", if blocks then 16 else 1220539)
+    ∷ (codes "ROM32K", 16) ∷ (codes "Keyboard", 16) ∷ (codes "CPU", 1558) ∷ (codes "Memory", if blocks then 184 else 3661838) ∷ (codes "Computer", if blocks then 1758 else 3663412) ∷ []
+
+all_told : (blocks : Bool) → all (is_told (chips_in shipped_chips blocks) (table_of blocks)) shipped_chips ≡ true
+unfolding opened
+all_told true = refl
+all_told false = refl
+
+computer_told : (blocks : Bool) → told_in (chips_in shipped_chips blocks) (table_of blocks) (parts_of (chips_in shipped_chips blocks) computer) ≡ (if blocks then 1758 else 3663412)
+unfolding opened
+computer_told true = refl
+computer_told false = refl
+
+count_by : (blocks : Bool) (tree : List PartIn) (n : ℕ) → part_nodes (chips_in shipped_chips blocks) tree ≡ n → node_count (chips_in shipped_chips blocks) computer tree ≡ n + 3
+unfolding opened
+count_by blocks tree n e = omega (arith, e)
+
+pub computer_nodes : NodesLaw
+computer_nodes true tree is = count_by true tree 1758 (nodes_in (chips_in shipped_chips true) (table_of true) (all_told true) 0 _ tree is ∙ computer_told true)
+computer_nodes false tree is = count_by false tree 3663412 (nodes_in (chips_in shipped_chips false) (table_of false) (all_told false) 0 _ tree is ∙ computer_told false)

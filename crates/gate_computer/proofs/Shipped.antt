@@ -1,0 +1,81 @@
+-- What elaboration asks of the Computer among the shipped chips.
+use Rattle.std.proofs.Common.{◌≡◌, ◌≤◌, ℕ, Bool, true, false, List, Some, IsSome, refl, ap, sym, subst, ◌∙◌, arith}
+use Rattle.std.specs.Prelude.{codes, if◌then◌else◌}
+use Rattle.hdl_tree.specs.declared.library.Entry.{Entry}
+use Rattle.hdl_tree.specs.declared.ends.End.{End}
+use Rattle.hdl_tree.specs.declared.ends.End.TheVariants as ends
+use Rattle.hdl_elab.specs.Whole.{chips_in}
+use Rattle.hdl_shown.proofs.Clean.{find_in}
+use Rattle.hdl_flat.specs.Ends.{EndsHavePins, HasPins, end_inputs, end_outputs}
+use Rattle.hdl_flat.specs.Flat.{NeedsFew}
+use Rattle.hdl_flat.specs.Trees.{IsTree, node_count}
+use Rattle.hdl_elaborate.specs.declared.put.Elab.{Elab}
+use Rattle.hdl_elaborate.specs.Elaborated.{IsElaborated, TopIsElaborated}
+use Rattle.hack_cpu.specs.Library.{shipped_chips}
+use Rattle.hack_cpu.specs.Pins.{Port, face_of, end_face}
+use Rattle.hack_cpu.proofs.Faces.{faces}
+use Rattle.hack_cpu.proofs.HasAll.{has_all}
+use Rattle.hack_cpu.proofs.Shown.{no_fault, no_loop}
+use Rattle.gate_computer.specs.Computer.{chips, computer}
+use Rattle.gate_computer.specs.Elaborated.{BuildableLaw, CanBeNet}
+use Rattle.gate_computer.proofs.Counting.{computer_nodes}
+
+-- ---- the pins of ends
+
+inputs_are : (e : End) → (end_face e).0 ≡ end_inputs e
+inputs_are ends.Nand = refl
+inputs_are ends.Dff = refl
+inputs_are ends.Keyboard = refl
+inputs_are ends.Rom = refl
+inputs_are (ends.Block bits) = refl
+
+outputs_are : (e : End) → (end_face e).1 ≡ end_outputs e
+outputs_are ends.Nand = refl
+outputs_are ends.Dff = refl
+outputs_are ends.Keyboard = refl
+outputs_are ends.Rom = refl
+outputs_are (ends.Block bits) = refl
+
+has_pins : (chip : Entry) (e : End) → ((face_of chip).inputs, (face_of chip).outputs) ≡ end_face e → HasPins chip e
+has_pins chip e h = record {
+  inputs = ap (λ (p : List Port × List Port). p.0) h ∙ inputs_are e;
+  outputs = ap (λ (p : List Port × List Port). p.1) h ∙ outputs_are e;
+}
+
+ends_have_pins : (blocks : Bool) → EndsHavePins (chips_in shipped_chips blocks)
+ends_have_pins blocks name chip e found is = has_pins chip e (faces.end_pins blocks name chip e found is)
+
+-- ---- how many nodes
+
+few_nodes : (blocks : Bool) (n : ℕ) → n ≡ (if blocks then 1761 else 3663415) → n ≤ 16777216
+few_nodes true n e = omega (arith, e)
+few_nodes false n e = omega (arith, e)
+
+few : (blocks : Bool) → NeedsFew (chips_in shipped_chips blocks) (codes "Computer")
+few blocks chip tree found is =
+    let both : Some chip ≡ Some computer = sym found ∙ (has_all blocks).computer in
+    let same : chip ≡ computer = cc in
+    few_nodes blocks (node_count (chips_in shipped_chips blocks) chip tree)
+    (ap (λ (e : Entry). node_count (chips_in shipped_chips blocks) e tree) same
+    ∙ computer_nodes blocks tree (subst (λ (e : Entry). IsTree (chips_in shipped_chips blocks) e tree) same is))
+
+-- ---- all
+
+pub can_be_net : BuildableLaw
+can_be_net blocks = record {
+  distinct = faces.distinct;
+  there = subst (λ o. IsSome o) (sym (has_all blocks).computer) refl;
+  faultless = λ entry found. let r = find_in shipped_chips (codes "Computer") entry found in no_fault blocks r.place entry r.there;
+  ends = ends_have_pins blocks;
+  few = few blocks;
+  no_loop = λ top found nets. let r = find_in shipped_chips (codes "Computer") top found in (no_loop blocks r.place top r.there).no_loop nets;
+}
+
+-- the same of a library that has these chips, and of this name
+pub built_of : (entries : List Entry) (name : List ℕ) → entries ≡ shipped_chips → name ≡ codes "Computer" → CanBeNet entries true name
+built_of entries name e f = subst (λ n. CanBeNet entries true n) (sym f) (subst (λ es. CanBeNet es true (codes "Computer")) (sym e) (can_be_net true))
+
+-- what is elaborated under this name is the Computer
+pub computer_found : (entries : List Entry) (name : List ℕ) → entries ≡ shipped_chips → name ≡ codes "Computer" → (e : Elab) → TopIsElaborated (chips_in entries true) name e → IsElaborated chips computer e
+computer_found entries name same named e is =
+    subst (λ n. TopIsElaborated (chips_in shipped_chips true) n e) named (subst (λ es. TopIsElaborated (chips_in es true) name e) same is) computer (has_all true).computer

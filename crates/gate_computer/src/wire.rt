@@ -1,0 +1,71 @@
+//! The wiring of the Computer, from the directory of its netlist.
+
+ghost use Rattle.std.specs.Prelude.{◌≡◌, IfOk};
+ghost use Rattle.hack_cpu.specs.Library.{shipped_chips};
+ghost use Rattle.hdl_elaborate.specs.Elaborated.{IsElaborated};
+ghost use Rattle.gate_computer.specs.Computer.{chips, computer};
+ghost use Rattle.gate_computer.specs.Wiring.{IsWired};
+ghost use Rattle.gate_computer.specs.Inner.Directory.{CanTell, IsToldBy};
+
+use crate::directory::{block_named, outs_named, wire_parts};
+use crate::wiring::{WiredComputer, Wiring};
+use hack_cpu::library;
+use hdl_elaborate::{Elab, build_net};
+use hdl_flat::PartAt;
+use hdl_tree::{Library, List, Name};
+use std::alloc::{AllocError, Global};
+
+// The outputs of the CPU are outM, writeM, addressM and pc: so many bits stand before those of the pc.
+const BEFORE_PC: usize = 32;
+
+fn list_from(alloc: Global, nodes: &[u32]) -> Result<List<u32>, AllocError>
+    ensures { IfOk result (λ list. list ≡ nodes.now) }
+{
+    Ok(List::of(Vec::from_slice(alloc, nodes)?))
+}
+
+fn wiring_of(alloc: Global, library: &Library, parts: &[PartAt]) -> Result<Wiring, AllocError>
+    requires { CanTell library.now.entries parts.now }
+    ensures { IfOk result (λ w. IsToldBy library.now.entries parts.now w) }
+{
+    let keyboard = list_from(alloc, outs_named(parts, b"Keyboard"))?;
+    let outputs = outs_named(parts, b"CPU");
+    let pc = list_from(alloc, &outputs[BEFORE_PC..])?;
+    let a = list_from(alloc, outs_named(parts, b"ARegister"))?;
+    Ok(Wiring {
+        keyboard,
+        pc,
+        a,
+        rom: block_named(parts, b"ROM32K"),
+        main: block_named(parts, b"RAM16K"),
+        screen: block_named(parts, b"Screen"),
+        parts: wire_parts(alloc, library, parts)?,
+    })
+}
+
+/// The Computer with its wiring, from its netlist with the directory; the library is that of the shipped chips.
+pub fn wire_computer(
+    alloc: Global,
+    library: &Library,
+    elab: Elab,
+) -> Result<WiredComputer, AllocError>
+    requires library { library.now.entries ≡ shipped_chips }
+    requires elaborated { IsElaborated chips computer elab }
+    ensures { IfOk result (λ wired. IsWired wired.net wired.wiring) }
+{
+    let wiring = wiring_of(alloc, library, elab.parts.as_slice())?;
+    Ok(WiredComputer {
+        net: elab.net,
+        wiring,
+    })
+}
+
+/// The Computer of the shipped chips as a netlist, its memories as blocks, with its wiring.
+pub fn build_computer(alloc: Global) -> Result<WiredComputer, AllocError>
+    ensures { IfOk result (λ wired. IsWired wired.net wired.wiring) }
+{
+    let library = library(alloc)?;
+    let name = Name::from_bytes(alloc, b"Computer")?;
+    let elab = build_net(alloc, &library, &name, true)?;
+    wire_computer(alloc, &library, elab)
+}

@@ -1,0 +1,126 @@
+//! The library of shipped chips.
+ghost use Rattle.std.specs.Prelude.{◌≡◌, ◌++◌, ◌∷◌, [], true, Some, None, IfOk, IfSome, IfNone};
+ghost use Rattle.hdl_tree.specs.Chips.{find_entry};
+ghost use Rattle.hdl_tree.specs.Writable.{chip_can};
+ghost use Rattle.chip_basic.specs.Hdl.{shipped};
+ghost use Rattle.hack_cpu.specs.Library.{basic_chips, computing_chips, memory_chips, computer_chips, shipped_chips};
+
+use crate::trees::{computer_tree, cpu_tree, keyboard_tree, memory_tree, rom_tree};
+use chip_alu::{add16_tree, alu_tree, full_adder_tree, half_adder_tree, inc16_tree};
+use chip_basic::{
+    and_tree, and16_tree, dmux_tree, dmux4way_tree, dmux8way_tree, mux_tree, mux4way16_tree,
+    mux8way16_tree, mux16_tree, nand_tree, not_tree, not16_tree, or_tree, or8way_tree, or16_tree,
+    xor_tree,
+};
+use chip_memory::{
+    a_register_tree, bit_tree, d_register_tree, dff_tree, pc_tree, ram4k_tree, ram8_tree,
+    ram16k_tree, ram64_tree, ram512_tree, register_tree, screen_tree,
+};
+use hdl_tree::{Chip, Entry, Library, List};
+use std::alloc::{AllocError, Global};
+
+// A chip under its own name, behind those that are there.
+fn add_shipped(alloc: Global, entries: &mut List<Entry>, chip: Chip) -> Result<(), AllocError>
+    ensures { IfOk result (λ _. entries.new ≡ entries.old ++ shipped chip ∷ []) }
+{
+    let name = chip.name.clone()?;
+    let own = chip.name.clone()?;
+    entries.push(Entry {
+        name,
+        chip,
+        shipped: Some(own),
+    })?;
+    Ok(())
+}
+
+fn basic_entries(alloc: Global) -> Result<List<Entry>, AllocError>
+    ensures { IfOk result (λ entries. entries ≡ basic_chips) }
+{
+    let mut entries = List::new(alloc);
+    add_shipped(alloc, &mut entries, nand_tree(alloc)?)?;
+    add_shipped(alloc, &mut entries, not_tree(alloc)?)?;
+    add_shipped(alloc, &mut entries, and_tree(alloc)?)?;
+    add_shipped(alloc, &mut entries, or_tree(alloc)?)?;
+    add_shipped(alloc, &mut entries, xor_tree(alloc)?)?;
+    add_shipped(alloc, &mut entries, mux_tree(alloc)?)?;
+    add_shipped(alloc, &mut entries, dmux_tree(alloc)?)?;
+    add_shipped(alloc, &mut entries, not16_tree(alloc)?)?;
+    add_shipped(alloc, &mut entries, and16_tree(alloc)?)?;
+    add_shipped(alloc, &mut entries, or16_tree(alloc)?)?;
+    add_shipped(alloc, &mut entries, mux16_tree(alloc)?)?;
+    add_shipped(alloc, &mut entries, or8way_tree(alloc)?)?;
+    add_shipped(alloc, &mut entries, mux4way16_tree(alloc)?)?;
+    add_shipped(alloc, &mut entries, mux8way16_tree(alloc)?)?;
+    add_shipped(alloc, &mut entries, dmux4way_tree(alloc)?)?;
+    add_shipped(alloc, &mut entries, dmux8way_tree(alloc)?)?;
+    Ok(entries)
+}
+
+fn add_computing_entries(alloc: Global, entries: &mut List<Entry>) -> Result<(), AllocError>
+    requires { entries.old ≡ basic_chips }
+    ensures { IfOk result (λ _. entries.new ≡ basic_chips ++ computing_chips) }
+{
+    add_shipped(alloc, entries, half_adder_tree(alloc)?)?;
+    add_shipped(alloc, entries, full_adder_tree(alloc)?)?;
+    add_shipped(alloc, entries, add16_tree(alloc)?)?;
+    add_shipped(alloc, entries, inc16_tree(alloc)?)?;
+    add_shipped(alloc, entries, alu_tree(alloc)?)?;
+    Ok(())
+}
+
+fn add_memory_entries(alloc: Global, entries: &mut List<Entry>) -> Result<(), AllocError>
+    requires { entries.old ≡ basic_chips ++ computing_chips }
+    ensures { IfOk result (λ _. entries.new ≡ basic_chips ++ (computing_chips ++ memory_chips)) }
+{
+    add_shipped(alloc, entries, dff_tree(alloc)?)?;
+    add_shipped(alloc, entries, bit_tree(alloc)?)?;
+    add_shipped(alloc, entries, register_tree(alloc)?)?;
+    add_shipped(alloc, entries, a_register_tree(alloc)?)?;
+    add_shipped(alloc, entries, d_register_tree(alloc)?)?;
+    add_shipped(alloc, entries, pc_tree(alloc)?)?;
+    add_shipped(alloc, entries, ram8_tree(alloc)?)?;
+    add_shipped(alloc, entries, ram64_tree(alloc)?)?;
+    add_shipped(alloc, entries, ram512_tree(alloc)?)?;
+    add_shipped(alloc, entries, ram4k_tree(alloc)?)?;
+    add_shipped(alloc, entries, ram16k_tree(alloc)?)?;
+    add_shipped(alloc, entries, screen_tree(alloc)?)?;
+    Ok(())
+}
+
+fn add_computer_entries(alloc: Global, entries: &mut List<Entry>) -> Result<(), AllocError>
+    requires { entries.old ≡ basic_chips ++ (computing_chips ++ memory_chips) }
+    ensures { IfOk result (λ _. entries.new ≡ basic_chips ++ (computing_chips ++ (memory_chips ++ computer_chips))) }
+{
+    add_shipped(alloc, entries, rom_tree(alloc)?)?;
+    add_shipped(alloc, entries, keyboard_tree(alloc)?)?;
+    add_shipped(alloc, entries, cpu_tree(alloc)?)?;
+    add_shipped(alloc, entries, memory_tree(alloc)?)?;
+    add_shipped(alloc, entries, computer_tree(alloc)?)?;
+    Ok(())
+}
+
+/// All shipped chips, each under its own name.
+#[tactic(auto, unfolding(crate::specs::Library::shipped_chips))]
+pub fn library(alloc: Global) -> Result<Library, AllocError>
+    ensures { IfOk result (λ library. library.entries ≡ shipped_chips) }
+{
+    let mut entries = basic_entries(alloc)?;
+    add_computing_entries(alloc, &mut entries)?;
+    add_memory_entries(alloc, &mut entries)?;
+    add_computer_entries(alloc, &mut entries)?;
+    Ok(Library { entries })
+}
+
+/// The chip of this name in a library, if there is one. A shipped chip can be printed.
+pub fn find_shipped<'a>(library: &'a Library, name: &[u8]) -> Option<&'a Entry>
+    ensures found { IfSome result (λ entry. find_entry library.now.entries name.now ≡ Some entry.now) }
+    ensures none { IfNone result (find_entry library.now.entries name.now ≡ None) }
+    ensures printed { library.now.entries ≡ shipped_chips → IfSome result (λ entry. chip_can entry.now.chip ≡ true) }
+{
+    for entry in library.entries.as_slice() {
+        if name == entry.name.as_bytes() {
+            return Some(entry);
+        }
+    }
+    None
+}

@@ -1,0 +1,5 @@
+//! Tests of the Hack machine: words, instructions, assembly and steps (book, chapters 4 to 6).
+#![tactic(auto)]
+
+#[cfg(test)]
+mod assembling;

@@ -1,0 +1,6 @@
+pub mod Sound
+pub mod Moved
+pub mod Elaborated
+pub mod Orderly
+pub mod Behaviour
+pub mod Hearing

@@ -1,0 +1,113 @@
+-- Ways whose nets are told.
+use Rattle.std.specs.Prelude.{◌≡◌, ℕ, ◌+◌, ◌<◌, Bool, true, false, List, [], ◌∷◌, ◌++◌, ◌||◌, ◌&&◌, map, length, Some, nat_eq, nat_lt, slice_get, codes, if◌then◌else◌}
+use Rattle.std.specs.Str.{bytes_eq}
+use Rattle.std.specs.List.{list_any}
+use Rattle.hdl_tree.specs.declared.tree.Selection.{Selection}
+use Rattle.hdl_tree.specs.declared.tree.Source.TheVariants as source
+use Rattle.hdl_tree.specs.declared.tree.Connection.{Connection}
+use Rattle.hdl_tree.specs.declared.tree.Part.{Part}
+use Rattle.hdl_tree.specs.declared.library.Entry.{Entry}
+use Rattle.hdl_tree.specs.declared.ends.End.{End}
+use Rattle.hdl_tree.specs.Writable.{is_among}
+use Rattle.hdl_tree.specs.Chips.{Chips, first, count}
+use Rattle.hdl_tree.specs.Behaviour.{width_of}
+use Rattle.hdl_law.specs.Plans.{is_input}
+use Rattle.hdl_law.specs.Loops.{BitAt, bit_at, reaches_out, Feeds, peaks}
+use Rattle.hdl_law.specs.Ways.{Chain}
+use Rattle.hdl_loops.specs.declared.graph.Dependency.{Dependency}
+use Rattle.hdl_loops.specs.declared.hops.BitOf.{BitOf}
+use Rattle.hdl_loops.specs.declared.hops.Hop.{Hop}
+use Rattle.hdl_loops.specs.declared.told.Passage.{Passage}
+use Rattle.hdl_loops.specs.declared.told.Told.{Told}
+
+-- ---- connections
+
+-- a connection to a part of this chip joins a bit of a net to a bit of a pin, an input or none
+pub record Connects (inner : Entry) (conn : Connection) (input : Bool) (net : List ℕ) (b : ℕ) (pin : List ℕ) (k : ℕ) : Type 0 where
+  pub w : Selection
+  pub n : ℕ
+  pub right : conn.source ≡ source.Net w
+  pub way : is_input inner conn.pin.name ≡ input
+  pub within : n < count conn.pin.subscript (width_of inner conn.pin.name)
+  pub net_is : w.name ≡ net
+  pub b_is : b ≡ first w.subscript + n
+  pub pin_is : conn.pin.name ≡ pin
+  pub k_is : k ≡ first conn.pin.subscript + n
+
+pub record HasConnection (inner : Entry) (part : Part) (input : Bool) (net : List ℕ) (b : ℕ) (pin : List ℕ) (k : ℕ) : Type 0 where
+  pub j : ℕ
+  pub conn : Connection
+  pub here : slice_get part.connections j ≡ Some conn
+  pub joins : Connects inner conn input net b pin k
+
+-- a hop from this bit goes in and out by connections of the part
+abbrev pub LeadsThrough : Entry → Part → BitOf → Hop → Type 0
+LeadsThrough inner part from hop = HasConnection inner part true from.name.now from.bit hop.through.input.now hop.through.bit × HasConnection inner part false hop.to.name.now hop.to.bit hop.through.output.now hop.through.out
+
+abbrev pub EndLeads : End → Dependency → Type 0
+EndLeads end through = (reaches_out end through.input.now ≡ true) × (through.output.now ≡ codes "out")
+
+-- ---- ways with their nets
+
+-- a way of bits, whose outermost bits between its ends have these names
+pub record Trip (chips : Chips) (chip : Entry) (x y : BitAt) (names : List (List ℕ)) : Type 0 where
+  pub over : List BitAt
+  pub steps : Chain (Feeds chips chip) x over y
+  pub named : peaks x over y ≡ names
+
+abbrev pub head_of : List BitAt → BitAt → BitAt
+head_of [] y = y
+head_of (m ∷ ms) y = m
+
+abbrev pub last_of : BitAt → List BitAt → BitAt
+last_of x [] = x
+last_of x (m ∷ ms) = last_of m ms
+
+-- a way between bits of the chip which leaves the one and comes to the other by a part
+pub record DeepTrip (chips : Chips) (chip : Entry) (x y : BitAt) (names : List (List ℕ)) : Type 0 where
+  pub trip : Trip chips chip x y names
+  pub head : nat_lt 0 (length (head_of trip.over y).path) ≡ true
+  pub last : nat_lt 0 (length (last_of x trip.over).path) ≡ true
+
+-- ---- what is told
+
+-- one name more, unless it is there
+abbrev pub add_name : List (List ℕ) → List ℕ → List (List ℕ)
+add_name told x = if is_among x told then told else told ++ x ∷ []
+
+abbrev pub add_names : List (List ℕ) → List (List ℕ) → List (List ℕ)
+add_names told [] = told
+add_names told (x ∷ xs) = add_names (add_name told x) xs
+
+abbrev pub AllAmong : List (List ℕ) → List (List ℕ) → Type 0
+AllAmong [] told = Unit {0}
+AllAmong (x ∷ xs) told = (is_among x told ≡ true) × AllAmong xs told
+
+abbrev pub names_of : Told → List (List ℕ)
+names_of told = map (λ name. name.now) told.names.keys
+
+abbrev pub is_passage : ℕ → List ℕ → ℕ → List ℕ → ℕ → Passage → Bool
+is_passage chip n b m k p = nat_eq chip p.chip && (bytes_eq n p.through.input.now && (nat_eq b p.through.bit && (bytes_eq m p.through.output.now && nat_eq k p.through.out)))
+
+abbrev pub was_passed : Told → ℕ → List ℕ → ℕ → List ℕ → ℕ → Bool
+was_passed told chip n b m k = list_any (is_passage chip n b m k) told.passed.keys
+
+-- no other way than this is noted beside those that were
+abbrev pub NotesOne : Told → Told → Passage → Type 0
+NotesOne old new p = (chip : ℕ) (n : List ℕ) (b : ℕ) (m : List ℕ) (k : ℕ) → was_passed new chip n b m k ≡ true → (was_passed old chip n b m k || is_passage chip n b m k p) ≡ true
+
+-- there is a way through the chip, all of whose nets are among these
+abbrev pub TripAmong : Chips → Entry → List ℕ → ℕ → List ℕ → ℕ → List (List ℕ) → Type 0
+TripAmong chips chip n b m k told = (names : List (List ℕ)) × (Trip chips chip (bit_at [] n b) (bit_at [] m k) names) × AllAmong names told
+
+-- each way that is noted is one, and its nets are told
+abbrev pub AreTold : Chips → Told → Type 0
+AreTold chips told = (place : ℕ) (n : List ℕ) (b : ℕ) (m : List ℕ) (k : ℕ) → was_passed told place n b m k ≡ true → (chip : Entry) → slice_get chips.entries place ≡ Some chip → TripAmong chips chip n b m k (names_of told)
+
+-- there is a way through the chip, and its nets, in order, are what is told more
+abbrev pub TellsThrough : Chips → Entry → Dependency → Told → Told → Type 0
+TellsThrough chips chip d old new = (names : List (List ℕ)) × (Trip chips chip (bit_at [] d.input.now d.bit) (bit_at [] d.output.now d.out) names) × (names_of new ≡ add_names (names_of old) names)
+
+-- the same of a way between bits of the chip, by its parts
+abbrev pub Tells : Chips → Entry → BitOf → BitOf → Told → Told → Type 0
+Tells chips chip x y old new = (names : List (List ℕ)) × (DeepTrip chips chip (bit_at [] x.name.now x.bit) (bit_at [] y.name.now y.bit) names) × (names_of new ≡ add_names (names_of old) names)

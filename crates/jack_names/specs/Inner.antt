@@ -1,0 +1,5 @@
+pub mod Entered
+pub mod Filed
+pub mod Named
+pub mod Pushed
+pub mod Scoped

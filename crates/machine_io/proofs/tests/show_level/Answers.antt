@@ -1,5 +1,0 @@
-use Rattle.std.proofs.Common.{rules}
-use Rattle.machine_io.proofs.tests.show_level.Goals as goal
-
-pub returns : goal.returns
-returns g c = c.show_words.ensures.put (g.L.Level.word c.args.level.now) (λ a w from_on up_to p. search rules)

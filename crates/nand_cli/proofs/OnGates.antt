@@ -1,0 +1,250 @@
+-- The computer made of gates after its cycles, and its report.
+use Rattle.std.proofs.Common.{◌≡◌, ◌<◌, ◌++◌, ℕ, zero, suc, List, [], Option, Result, Ok, Err, IfOk, length, refl, ap, ◌∙◌, sym, subst, append-nil}
+use Rattle.std.proofs.lemmas.List.Elements.{recursion_from_All}
+use Rattle.word16.specs.Memory.{keyboard}
+use Rattle.outer_world.specs.Written.{Got, GotPart, Puts}
+use Rattle.outer_world.specs.declared.sink.Put.{Put}
+use Rattle.outer_world.specs.declared.sink.Put.TheVariants as put
+use Rattle.outer_world.proofs.Passing.{Passes-cut, Passes-pending, Passes-put, Passes-then, Puts-failed, Puts-finished}
+use Rattle.machine_io.specs.Driven.{EndsBy, IsDriven}
+use Rattle.machine_io.specs.History.{Turn, moves_from}
+use Rattle.machine_io.specs.Report.{head_text, shown_text}
+use Rattle.machine_io.specs.declared.driving.End.{End}
+use Rattle.machine_io.specs.declared.driving.End.TheVariants as ends
+use Rattle.machine_io.specs.declared.machine.Moved.{Moved}
+use Rattle.machine_io.specs.declared.machine.Moved.TheVariants as moved
+use Rattle.machine_io.specs.declared.report.LevelName.TheVariants as names
+use Rattle.machine_io.specs.declared.report.Show.{Show}
+use Rattle.machine_io.specs.declared.report.Show.TheVariants as shows
+use Rattle.layers.specs.Headline.{Agrees, Follows}
+use Rattle.layers.specs.Laws.{SameCounts}
+use Rattle.layers.specs.System.{IsKey, Listening, System, Tame, run_of}
+use Rattle.layers.specs.Trace.{Trace, heard, point_at, steps}
+use Rattle.jack_core.specs.Texts.{names_of, the_program}
+use Rattle.jack_core.specs.declared.program.Core.{Core}
+use Rattle.jack_meaning.specs.Meaning.{State, start}
+use Rattle.hdl_tree.specs.Behaviour.{Histories}
+use Rattle.hack_cpu.specs.Computer.{word_at}
+use Rattle.gate_computer.specs.Computer.{IsComputer}
+use Rattle.gate_computer.specs.Followed.{GateMachine, HasFollowed, MappedImage, PutsParts, ShowsCycle, program_in, word_in}
+use Rattle.gate_computer.specs.Parts.{ShowsParts, parts_text}
+use Rattle.gate_computer.specs.Turns.{HoldsKeys}
+use Rattle.gate_computer.proofs.Seen.{gates, seen}
+use Rattle.jack_compiler.specs.Resolved.{IsResolvedCore}
+use Rattle.vm_translator.specs.declared.coded.PointRange.{PointRange}
+use Rattle.tower.specs.Built.{IsComputerOf, map_for}
+use Rattle.tower.specs.Headline.{run_trace, run_word}
+use Rattle.tower.specs.Mapped.{RunProgram}
+use Rattle.tower.proofs.Computers.{computer as computer_follows}
+use Rattle.command_line.specs.declared.request.Shown.{Shown}
+use Rattle.command_line.specs.declared.request.Shown.TheVariants.{Nets, Words}
+use Rattle.nand_cli.specs.Commands.Gates.{ComesAfter, IsGatesReport, ReportsCycle, gates_trace, meaning_in}
+use Rattle.nand_cli.specs.Commands.Run.{name_of}
+use Rattle.nand_cli.specs.Inner.Parts.{finished}
+use Rattle.nand_cli.specs.Inner.Reports.{IsAtStart, Reports, gates_text, program_of}
+use Rattle.nand_cli.specs.declared.failure.Failure.{Failure}
+use Rattle.nand_cli.specs.declared.failure.Failure.TheVariants as failure
+use Rattle.nand_cli.proofs.Driving.{last_acted}
+use Rattle.nand_cli.proofs.Reporting.{reports_by}
+use Rattle.nand_cli.proofs.Showing.{shown_same}
+
+-- ---- after the cycles
+
+pub keys_held : (code : ℕ → ℕ) (c n : ℕ) → HoldsKeys code c (moves_from code c n)
+keys_held code c zero = tt
+keys_held code c (suc n) = (refl, keys_held code (suc c) n)
+
+pub moves_length : (code : ℕ → ℕ) (c n : ℕ) → length (moves_from code c n) ≡ n
+moves_length code c zero = refl
+moves_length code c (suc n) = ap suc (moves_length code (suc c) n)
+
+never_ends : (code : ℕ → ℕ) (old new : GateMachine) (c n c' : ℕ) (answer : Moved) → EndsBy code (HasFollowed old) c n answer (HasFollowed new) c' → HasFollowed old [] → answer ≡ moved.Acted
+never_ends code old new c n c' answer (m, below, goes) h =
+    last_acted (moves_from code c m) _ (recursion_from_All (λ t. t.answer ≡ moved.Acted) _ (goes.leads [] h).acted)
+
+-- It has followed the keys of n cycles, and all of them were made.
+pub record HasTurned (code : ℕ → ℕ) (n : ℕ) (g : GateMachine) (end : End) : Type 0 where
+  pub bound : end ≡ ends.Bound
+  pub followed : HasFollowed g (moves_from code 0 n)
+
+pub turned : (code : ℕ → ℕ) (old new : GateMachine) (c n c' : ℕ) (end : End) → IsDriven code (HasFollowed old) c n end (HasFollowed new) c' → HasFollowed old [] → c ≡ 0 → HasTurned code n new end
+turned code old new c n c' ends.Bound goes h first = record {
+  bound = refl;
+  followed = subst (λ k. HasFollowed new (moves_from code k n)) first (subst (HasFollowed new) (append-nil (moves_from code c n)) (goes.leads [] h));
+}
+turned code old new c n c' (ends.Stray s) by h first = let bad = never_ends code old new c n c' (moved.Stray s) by h in absurd (let no : ⊥ = cc in no)
+turned code old new c n c' (ends.Full w) by h first = let bad = never_ends code old new c n c' (moved.Full w) by h in absurd (let no : ⊥ = cc in no)
+turned code old new c n c' ends.Done by h first = let bad = never_ends code old new c n c' moved.Done by h in absurd (let no : ⊥ = cc in no)
+
+-- ---- one cycle of a behaviour
+
+module _ (g : GateMachine) (code : ℕ → ℕ) (n : ℕ) (followed : HasFollowed g (moves_from code 0 n)) where
+  moves_are : g.moves ≡ n
+  moves_are = followed.counts ∙ moves_length code 0 n
+
+  shows_cycle : (m : ℕ) (wires : List ℕ → Histories) → n < m → IsComputer g.image code m wires → ShowsCycle g code wires n
+  shows_cycle m wires near is =
+      subst (λ k. ShowsCycle g code wires k) (moves_length code 0 n)
+      (followed.shows code (keys_held code 0 n) m wires (subst (λ k. k < m) (sym (moves_length code 0 n)) near) is)
+
+  -- the five lines
+  head_is : (subs : List (List ℕ)) (end : End) (wires : List ℕ → Histories) → end ≡ ends.Bound → ShowsCycle g code wires n
+      → head_text names.Gates g.moves g.tally.count (name_of subs g.tally.place.sub) g.tally.place.number end
+      ≡ head_text names.Gates n (steps (gates_trace (program_of g) code wires) n) (name_of subs g.tally.place.sub) g.tally.place.number ends.Bound
+  head_is subs end wires bound s =
+      let p = g.tally.place in
+      ap (λ m. head_text names.Gates m g.tally.count (name_of subs p.sub) p.number end) moves_are
+      ∙ ap (λ k. head_text names.Gates n k (name_of subs p.sub) p.number end) s.counted
+      ∙ ap (λ (e : End). head_text names.Gates n (steps (gates_trace (program_of g) code wires) n) (name_of subs p.sub) p.number e) bound
+
+  -- the report of words
+  words_told : (core : Core) (end : End) (show : Show) → end ≡ ends.Bound → (m : ℕ) (wires : List ℕ → Histories) → n < m → IsComputer g.image code m wires
+      → ReportsCycle core (program_of g) code n (Words show) (gates_text g (names_of core) end show) wires
+  words_told core end show bound m wires near is =
+      let s = shows_cycle m wires near is in
+      let all = names_of core in
+      let told = head_text names.Gates n (steps (gates_trace (program_of g) code wires) n) (name_of all g.tally.place.sub) g.tally.place.number ends.Bound in
+      record {
+        point = g.tally.place;
+        seen = s.seen;
+        rest = shown_text show (word_at wires n);
+        after = refl;
+        is_text = ap (λ l. l ++ shown_text show (word_in g)) (head_is all end wires bound s)
+            ∙ ap (λ l. told ++ l) (shown_same (word_in g) (word_at wires n) (λ a from_on below. s.words a below) show);
+      }
+
+  -- the report of parts: no words, and the lines of the parts
+  nets_told : (core : Core) (end : End) (other : List ℕ → Histories) (rest : List ℕ) → end ≡ ends.Bound → IsComputer g.image code (suc n) other → ShowsParts other n rest
+      → (m : ℕ) (wires : List ℕ → Histories) → n < m → IsComputer g.image code m wires
+      → ReportsCycle core (program_of g) code n Nets (gates_text g (names_of core) end shows.Nothing ++ rest) wires
+  nets_told core end other rest bound behaves shown m wires near is =
+      let s = shows_cycle m wires near is in
+      let all = names_of core in
+      let head = head_text names.Gates g.moves g.tally.count (name_of all g.tally.place.sub) g.tally.place.number end in
+      record {
+        point = g.tally.place;
+        seen = s.seen;
+        rest = rest;
+        after = (other, behaves, shown);
+        is_text = ap (λ l. l ++ rest) (append-nil head) ∙ ap (λ l. l ++ rest) (head_is all end wires bound s);
+      }
+
+  -- there are lines of the parts
+  parts_there : ((c : ℕ) → IsKey (code c)) → (rest : List ℕ) × (wires : List ℕ → Histories) × IsComputer g.image code (suc n) wires × ShowsParts wires n rest
+  parts_there words =
+      let behaviour = followed.behaves code words (suc n) in
+      let pins = followed.told.wired.pins in
+      (parts_text behaviour.0 n pins.places, behaviour.0, behaviour.1, (pins.places, pins.all_places, refl))
+
+-- ---- the headline
+
+both : {A B : Type 0} (P : A → B → Type 0) (a a' : A) (b b' : B) → a ≡ a' → b ≡ b' → P a b → P a' b'
+both P a a' b b' e f p = subst (λ z. P z b') e (subst (P a) f p)
+
+-- what agrees agrees by what is seen alike
+agrees_too : {S : Type 0} (meaning : System S) (first : S) (t t' : Trace) (word word' : ℕ → ℕ → ℕ) (n : ℕ) → SameCounts t t' n → ((a : ℕ) → a < keyboard → word n a ≡ word' n a)
+    → (Tame meaning first (heard t' n) (steps t' n) → Agrees meaning first t' word' n) → Tame meaning first (heard t n) (steps t n) → Agrees meaning first t word n
+agrees_too {S} meaning first t t' word word' n same words f tame =
+    let r = f (both (λ ks m. Tame meaning first ks m) _ _ _ _ same.heard_are same.steps_are tame) in
+    let after : Listening S = r.after in
+    record {
+      after = after;
+      run = ap (λ ks. run_of meaning first ks (steps t n)) same.heard_are ∙ ap (run_of meaning first (heard t' n)) same.steps_are ∙ r.run;
+      words = λ a d. words a d.1 ∙ r.words a d;
+      point = same.point_is ∙ r.point;
+    }
+
+-- the report of a computer that has followed the keys
+gates_reported : (core : Core) (code : ℕ → ℕ) (n : ℕ) (shown : Shown) (text : List ℕ) (g : GateMachine) → IsResolvedCore core → ((c : ℕ) → IsKey (code c)) → IsComputerOf core (program_of g)
+    → HasFollowed g (moves_from code 0 n)
+    → ((m : ℕ) (wires : List ℕ → Histories) → n < m → IsComputer g.image code m wires → ReportsCycle core (program_of g) code n shown text wires)
+    → IsGatesReport core code n shown text
+gates_reported core code n shown text g resolved words computer followed told =
+    let p = program_of g in
+    let first = start (the_program core) in
+    let follows = computer_follows core p resolved computer code words n in
+    let law : Follows (meaning_in core) first (run_trace p.image (map_for p) code) (run_word p.image code) follows.0 n = follows.2 in
+    record {
+      computer = p;
+      is_computer = computer;
+      behaves = followed.behaves code words;
+      reports = told;
+      agrees = λ m wires near is.
+          let alike = seen p.image (map_for p) code m wires is n near in
+          agrees_too (meaning_in core) first (gates_trace p code wires) (run_trace p.image (map_for p) code) (word_at wires) (run_word p.image code) n alike.counts alike.words law.agrees;
+      most = follows.0;
+      gap = follows.1;
+      goes_on = λ m wires near is. (gates State (meaning_in core) first p.image (map_for p) code follows.0 n law m wires near is).goes_on;
+    }
+
+-- ---- the texts
+
+pub puts_then : (a b c : Option (List ℕ)) (s t : List ℕ) (p : Put) → Puts a b s put.Done → Puts b c t p → Puts a c (s ++ t) p
+puts_then a b c s t p h k = Puts-finished a b c t (s ++ t) p (Passes-then a b b [] [] t s t put.Done (Passes-put a b [] s put.Done h) (Passes-pending b [] t)) k
+
+pub puts_cut : (a b : Option (List ℕ)) (s t : List ℕ) → GotPart a b s → GotPart a b (s ++ t)
+puts_cut a b s t h = Puts-failed a b [] (s ++ t) (Passes-cut a b [] [] s t (Passes-put a b [] s put.Failed h))
+
+-- ---- from the start
+
+same_program : (g : GateMachine) (p : RunProgram) → g.image ≡ p.image → g.tally.commits ≡ p.commits → g.tally.ranges ≡ p.ranges → program_of g ≡ p
+same_program g p e f k =
+    let by_image : List ℕ → RunProgram = λ i. record { image = i; commits = g.tally.commits; ranges = g.tally.ranges } in
+    let by_commits : List ℕ → RunProgram = λ cs. record { image = p.image; commits = cs; ranges = g.tally.ranges } in
+    let by_ranges : List PointRange → RunProgram = λ rs. record { image = p.image; commits = p.commits; ranges = rs } in
+    ap by_image e ∙ ap by_commits f ∙ ap by_ranges k
+
+-- what is prepared with the image of the program
+pub prepared : {E : Type 0} (core : Core) (built : RunProgram) (image commits : List ℕ) (ranges : List PointRange) (r : Result GateMachine E) → IsComputerOf core built
+    → image ≡ built.image → commits ≡ built.commits → ranges ≡ built.ranges → IfOk r (λ g. program_in g ≡ record { image = image; commits = commits; ranges = ranges })
+    → IfOk r (λ g. g.moves ≡ 0) → IfOk r (λ g. HasFollowed g []) → IfOk r (IsAtStart core)
+prepared core built image commits ranges (Ok g) computer e f k program moves stands =
+    let same = same_program g built (ap (λ (p : MappedImage). p.image) program ∙ e) (ap (λ (p : MappedImage). p.commits) program ∙ f) (ap (λ (p : MappedImage). p.ranges) program ∙ k) in
+    record { computer = subst (IsComputerOf core) (sym same) computer; moves = moves; stands = stands }
+prepared core built image commits ranges (Err x) computer e f k program moves stands = tt
+
+module _ (core : Core) (code : ℕ → ℕ) (n : ℕ) (resolved : IsResolvedCore core) (words : (c : ℕ) → IsKey (code c)) (old new : GateMachine) (at : IsAtStart core old) (same : program_in new ≡ program_in old) where
+  own_computer : IsComputerOf core (program_of new)
+  own_computer =
+      let P : MappedImage → Type 0 = λ p. IsComputerOf core (record { image = p.image; commits = p.commits; ranges = p.ranges }) in
+      subst P (sym same) at.computer
+
+  -- it was driven, and this is told of it
+  abbrev pub IsToldOf : Show → List ℕ → Type 0
+  IsToldOf show t = (end : End) × IsDriven code (HasFollowed old) old.moves n end (HasFollowed new) new.moves × (t ≡ gates_text new (names_of core) end show)
+
+  pub with_words : (show : Show) (t : List ℕ) → IsToldOf show t → IsGatesReport core code n (Words show) t
+  with_words show t (end, driven, is) =
+      let turns = turned code old new old.moves n new.moves end driven at.stands at.moves in
+      let Q = IsGatesReport core code n (Words show) in
+      subst Q (sym is)
+      (gates_reported core code n (Words show) (gates_text new (names_of core) end show) new resolved words own_computer turns.followed (words_told new code n turns.followed core end show turns.bound))
+
+  with_nets : (t rest : List ℕ) (other : List ℕ → Histories) → IsToldOf shows.Nothing t → IsComputer new.image code (suc n) other → ShowsParts other n rest → IsGatesReport core code n Nets (t ++ rest)
+  with_nets t rest other (end, driven, is) behaves shown =
+      let turns = turned code old new old.moves n new.moves end driven at.stands at.moves in
+      let Q : List ℕ → Type 0 = λ l. IsGatesReport core code n Nets (l ++ rest) in
+      subst Q (sym is)
+      (gates_reported core code n Nets (gates_text new (names_of core) end shows.Nothing ++ rest) new resolved words own_computer turns.followed (nets_told new code n turns.followed core end other rest turns.bound behaves shown))
+
+  -- the parts are put after the five lines
+  pub nets_after : (out mid out' : Option (List ℕ)) (t : List ℕ) (p : Put) → IsToldOf shows.Nothing t → Got out mid t → PutsParts new.image code n mid out' p → Reports (IsGatesReport core code n Nets) out out' (finished p)
+  nets_after out mid out' t p told got parts =
+      reports_by (IsGatesReport core code n Nets) (t ++ parts.text) out out' p (with_nets t parts.text parts.wires told parts.behaves parts.shows) (puts_then out mid out' t parts.text p got parts.puts)
+
+  -- the five lines are not put whole
+  pub nets_cut : (out mid : Option (List ℕ)) (f : Failure) → Reports (IsToldOf shows.Nothing) out mid (Err f) → Reports (IsGatesReport core code n Nets) out mid (Err f)
+  nets_cut out mid failure.Write (t, told, part) =
+      let turns = turned code old new old.moves n new.moves told.0 told.1 at.stands at.moves in
+      let (rest, other, behaves, shown) = parts_there new code n turns.followed words in
+      (t ++ rest, with_nets t rest other told behaves shown, puts_cut out mid t rest part)
+  nets_cut out mid (failure.Unloaded e) h = h
+
+  -- the parts are asked for at the cycle that comes next
+  pub parts_put : (mid out' : Option (List ℕ)) (t : List ℕ) (p : Put) (key : ℕ) → IsToldOf shows.Nothing t → key ≡ code n
+      → ((turns : List Turn) → HasFollowed new turns → (keys : ℕ → ℕ) → ((c : ℕ) → IsKey (keys c)) → HoldsKeys keys 0 turns → keys (length turns) ≡ key → PutsParts new.image keys (length turns) mid out' p)
+      → PutsParts new.image code n mid out' p
+  parts_put mid out' t p key (end, driven, is) held put_by =
+      let turns = turned code old new old.moves n new.moves end driven at.stands at.moves in
+      let P : ℕ → Type 0 = λ k. PutsParts new.image code k mid out' p in
+      subst P (moves_length code 0 n) (put_by (moves_from code 0 n) turns.followed code words (keys_held code 0 n) (ap code (moves_length code 0 n) ∙ sym held))

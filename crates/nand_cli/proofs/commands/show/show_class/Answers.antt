@@ -1,0 +1,35 @@
+use Rattle.std.proofs.Common.{[], refl}
+use Rattle.std.proofs.lemmas.Result.{err_from_is_err_and}
+use Rattle.outer_world.specs.Files.{LacksFile}
+use Rattle.source_files.specs.Sources.{IsFaulty, SpellsAt}
+use Rattle.jack_tree.specs.declared.tree.Class.{Class}
+use Rattle.jack_os.specs.System.{SpellsClass}
+use Rattle.jack_parser.specs.Printed.{class_text}
+use Rattle.command_line.specs.Line.{show}
+use Rattle.command_line.specs.declared.request.SourceKind.TheVariants as kinds
+use Rattle.nand_cli.specs.Languages.{RefusesClass}
+use Rattle.nand_cli.proofs.Doing.{done_by, done_counts, nothing_put, unread_counts}
+use Rattle.nand_cli.proofs.commands.show.show_class.Goals as goal
+
+pub returns-in_err-class-clause-does : goal.returns-in_err-class-clause-does
+returns-in_err-class-clause-does g c = λ err.
+    let p = err_from_is_err_and c.from_residual.result c.from_residual.ensures.1 in
+    let files = g.F.Shelf.files c.args.shelf.now in
+    let path = c.args.path.now in
+    rw (p.1, p.2) (nothing_put (SpellsAt (SpellsClass []) files path) (IsFaulty RefusesClass files path) (g.F.Shelf.unfailing c.args.shelf.now → LacksFile files path)
+    files (g.F.Shelf.unfailing c.args.shelf.now) (show path kinds.Jack) (g.O.Sink.written c.args.out.now) err _ (λ line k. (refl, k)) (λ h. h) c.in_err-class.ensures.loads)
+
+pub returns-in_err-class-clause-counts : goal.returns-in_err-class-clause-counts
+returns-in_err-class-clause-counts g c = λ err.
+    let p = err_from_is_err_and c.from_residual.result c.from_residual.ensures.1 in
+    rw (p.1, p.2) (unread_counts Class _ _ _ _ err c.in_err-class.ensures.counts)
+
+pub returns-clause-does : goal.returns-clause-does
+returns-clause-does g c = λ err.
+    let source = c.in_ok-class.class in
+    let loaded = c.in_ok-class.ensures.loads in
+    rw (c.finished.ensures) (done_by _ _ (show c.args.path.now kinds.Jack) (class_text source) _ _ err c.print.result ((source, (loaded.0, loaded.1, loaded.2.0), refl), refl) c.print.ensures.put)
+
+pub returns-clause-counts : goal.returns-clause-counts
+returns-clause-counts g c = λ err.
+    rw (c.finished.ensures) (done_counts _ _ _ _ err c.print.result c.in_ok-class.ensures.counts c.print.ensures.counts)

@@ -1,5 +1,0 @@
-use Rattle.nand_cli.proofs.Means.{not_meant}
-use Rattle.nand_cli.proofs.meaning.program_of.Goals as goal
-
-pub returns-in-Err-clause-makes : goal.returns-in-Err-clause-makes
-returns-in-Err-clause-makes c = not_meant c.args.folder.now c.args.classes.now c.in-Err.error c.not_meant.result c.in-Err.ensures.program c.not_meant.ensures

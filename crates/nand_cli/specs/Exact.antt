@@ -1,0 +1,45 @@
+-- The answers of a line are exact: over told files a line prints one thing or is refused for one thing, and not both.
+use Rattle.std.specs.Prelude.{◌≡◌, ℕ, Bool, List, Option, Some}
+use Rattle.outer_world.specs.Files.{Files}
+use Rattle.command_line.specs.Line.{Line, asm, exec, run, show, vm}
+use Rattle.command_line.specs.declared.request.RunLevel.{RunLevel}
+use Rattle.command_line.specs.declared.request.RunLevel.TheVariants.{Gates}
+use Rattle.command_line.specs.declared.request.Shown.TheVariants.{Nets}
+use Rattle.command_line.specs.declared.request.SourceKind.{SourceKind}
+use Rattle.nand_cli.specs.Answer.{Prints, Refuses}
+
+-- What is shown at the level is one text. The outputs of parts are told as those of some behaviour of the Computer; that it has no other is not
+-- claimed.
+abbrev pub ShowsOneText : RunLevel → Type 0
+ShowsOneText (Gates Nets) = ⊥
+ShowsOneText level = Unit {0}
+
+abbrev pub HasOneText : Line → Type 0
+HasOneText (run folder level cycles keys) = ShowsOneText level
+HasOneText line = Unit {0}
+
+-- Over these files the line, where it shows one text, prints at most one thing on out and on err, is refused with at most one, and is not both done and refused.
+pub record IsExact (files : Files) (line : Line) : Type 0 where
+  pub prints : HasOneText line → (out err out' err' : List ℕ) → Prints (Some files) line out err → Prints (Some files) line out' err' → (out ≡ out') × (err ≡ err')
+  pub refuses : (out err out' err' : List ℕ) → Refuses (Some files) line out err → Refuses (Some files) line out' err' → (out ≡ out') × (err ≡ err')
+  pub apart : (out err out' err' : List ℕ) → Prints (Some files) line out err → Refuses (Some files) line out' err' → ⊥
+
+-- by command
+abbrev pub AsmExactLaw : Type 0
+AsmExactLaw = (files : Files) (path : List ℕ) → IsExact files (asm path)
+
+abbrev pub ExecExactLaw : Type 0
+ExecExactLaw = (files : Files) (path : List ℕ) (cycles from to : ℕ) → IsExact files (exec path cycles from to)
+
+abbrev pub VmExactLaw : Type 0
+VmExactLaw = (files : Files) (folder : List ℕ) (bare : Bool) → IsExact files (vm folder bare)
+
+abbrev pub ShowExactLaw : Type 0
+ShowExactLaw = (files : Files) (path : List ℕ) (kind : SourceKind) → IsExact files (show path kind)
+
+abbrev pub RunExactLaw : Type 0
+RunExactLaw = (files : Files) (folder : List ℕ) (level : RunLevel) (cycles : ℕ) (keys : Option (List ℕ)) → IsExact files (run folder level cycles keys)
+
+-- The law of exactness.
+abbrev pub ExactLaw : Type 0
+ExactLaw = (files : Files) (line : Line) → IsExact files line

@@ -1,0 +1,104 @@
+-- What the parts of a call say; the call's own contract needs none of it.
+use Rattle.std.specs.Prelude.{◌≡◌, ◌++◌, ℕ, List, Option, Result, Ok, Err, Vec, codes}
+use Rattle.std.specs.declared.alloc.Global.{Global}
+use Rattle.command_line.specs.Line.{Line}
+use Rattle.command_line.specs.declared.reader.LineError.{LineError}
+use Rattle.command_line.specs.declared.reader.LineError.TheVariants as no_line
+use Rattle.grammar.specs.Faults.{fault_told}
+use Rattle.grammar.specs.declared.ReadError.{ReadError}
+use Rattle.grammar.specs.declared.ReadError.TheVariants as reads
+use Rattle.hack_asm.specs.declared.fault.AsmFault.{AsmFault}
+use Rattle.outer_world.specs.Faults.{Rose}
+use Rattle.outer_world.specs.Files.{Files, path_in}
+use Rattle.outer_world.specs.Texts.{read_fault_line, usage_line, want_of_memory_line}
+use Rattle.outer_world.specs.Written.{Got, GotPart}
+use Rattle.outer_world.specs.declared.sink.Put.{Put}
+use Rattle.outer_world.specs.declared.sink.Put.TheVariants as put
+use Rattle.source_files.specs.Loads.{Refused, line_of}
+use Rattle.source_files.specs.declared.error.LoadError.{LoadError}
+use Rattle.source_files.specs.declared.error.LoadError.TheVariants as errors
+use Rattle.source_files.specs.declared.error.TextError.{TextError}
+use Rattle.source_files.specs.declared.error.TextError.TheVariants as texts
+use Rattle.jack_names.specs.Messages.{name_told}
+use Rattle.tower.specs.declared.program.ProgramError.{ProgramError}
+use Rattle.tower.specs.declared.program.ProgramError.TheVariants as programs
+use Rattle.nand_cli.specs.Answer.{Before, MayFail, Prints, Refuses}
+use Rattle.nand_cli.specs.JackFolder.{home_of}
+use Rattle.nand_cli.specs.Languages.{IsRefused, SpellsWords}
+use Rattle.nand_cli.specs.declared.command.Status.{Status}
+use Rattle.nand_cli.specs.declared.command.Status.TheVariants as status
+use Rattle.nand_cli.specs.declared.languages.Form.{Form}
+use Rattle.nand_cli.specs.declared.failure.Failure.{Failure}
+use Rattle.nand_cli.specs.declared.failure.Failure.TheVariants as failure
+
+-- ---- a line
+
+-- What doing a line put on out and on err; the line of a failure is still to be put, but none after a write fault, which is one of out.
+abbrev pub Does : Option Files → Type 0 → Line → Option (List ℕ) → Option (List ℕ) → Option (List ℕ) → Option (List ℕ) → Result (Unit {0}) Failure → Type 0
+Does files unfailing line out out' err err' (Ok _) =
+    (o : List ℕ) × (e : List ℕ) × Prints files line o e × Got out out' o × Got err err' e
+Does files unfailing line out out' err err' (Err (failure.Unloaded (errors.Refused refusal))) =
+    (o : List ℕ) × (e : List ℕ) × Refuses files line o (e ++ line_of refusal) × Got out out' o × Got err err' e
+Does files unfailing line out out' err err' (Err (failure.Unloaded errors.Failed)) =
+    (o : List ℕ) × (e : List ℕ) × Before files line o e × MayFail files unfailing line × Got out out' o × Got err err' e
+Does files unfailing line out out' err err' (Err (failure.Unloaded errors.Memory)) =
+    (o : List ℕ) × (e : List ℕ) × Before files line o e × Got out out' o × Got err err' e
+Does files unfailing line out out' err err' (Err failure.Write) =
+    (o : List ℕ) × (e : List ℕ) × Prints files line o e × GotPart out out' o × (err' ≡ err)
+
+-- What doing a line says of the counts of faults of shelf, out and err.
+abbrev pub Counts : ℕ → ℕ → ℕ → ℕ → ℕ → ℕ → Result (Unit {0}) Failure → Type 0
+Counts shelf shelf' out out' err err' (Err (failure.Unloaded errors.Failed)) = Rose shelf shelf' × (out' ≡ out) × (err' ≡ err)
+Counts shelf shelf' out out' err err' (Err failure.Write) = (shelf' ≡ shelf) × Rose out out' × (err' ≡ err)
+Counts shelf shelf' out out' err err' _ = (shelf' ≡ shelf) × (out' ≡ out) × (err' ≡ err)
+
+-- how a line ends with the last that it puts on out
+abbrev pub finished : Put → Result (Unit {0}) Failure
+finished put.Done = Ok tt
+finished put.Failed = Err failure.Write
+
+-- ---- texts
+
+-- A fault of a text is told, unless memory is wanting.
+abbrev pub TellsText : ReadError → TextError → Type 0
+TellsText (reads.Fault fault) e = e ≡ texts.Refused (fault_told fault)
+TellsText reads.Memory e = e ≡ texts.Memory
+
+-- What reading the words of a text in a form says: the words, or for which fault it is refused, unless memory is wanting.
+abbrev pub ReadsWords : Form → List ℕ → Result (Vec ℕ Global) AsmFault → Type 0
+ReadsWords form text (Ok words) = SpellsWords form text words.items
+ReadsWords form text (Err fault) = IsRefused form text fault
+
+-- Why classes mean no program is told, unless memory is wanting.
+abbrev pub TellsWrong : List ℕ → ProgramError → LoadError → Type 0
+TellsWrong folder (programs.System f) e = Refused (path_in (codes "os") f.file) (fault_told f.fault) e
+TellsWrong folder (programs.Name f) e = Refused (path_in (home_of folder f.shipped) f.file) (name_told f) e
+TellsWrong folder programs.Memory e = e ≡ errors.Memory
+
+-- ---- what is told on err
+
+-- What putting a text on err says of its count and its bytes.
+abbrev pub Says : ℕ → ℕ → Option (List ℕ) → Option (List ℕ) → List ℕ → Put → Type 0
+Says faults faults' written written' text put.Done = (faults' ≡ faults) × Got written written' text
+Says faults faults' written written' text put.Failed = Rose faults faults' × GotPart written written' text
+
+-- the status after a line was put on err, where this one is wanted
+abbrev pub told_status : Put → Status → Status
+told_status put.Done wanted = wanted
+told_status put.Failed wanted = status.WriteFault
+
+-- What telling by a line says: the line was put and this is the status, or its putting failed.
+abbrev pub TellsBy : List ℕ → Status → ℕ → ℕ → Option (List ℕ) → Option (List ℕ) → Status → Type 0
+TellsBy line wanted faults faults' written written' s =
+    (p : Put) × Says faults faults' written written' line p × (s ≡ told_status p wanted)
+
+-- So words that are no line are told, and so is a failure. After a write fault nothing more is put.
+abbrev pub TellsNoLine : LineError → ℕ → ℕ → Option (List ℕ) → Option (List ℕ) → Status → Type 0
+TellsNoLine no_line.Usage faults faults' written written' s = TellsBy usage_line status.Usage faults faults' written written' s
+TellsNoLine no_line.Memory faults faults' written written' s = TellsBy want_of_memory_line status.NoMemory faults faults' written written' s
+
+abbrev pub TellsFailure : Failure → ℕ → ℕ → Option (List ℕ) → Option (List ℕ) → Status → Type 0
+TellsFailure (failure.Unloaded (errors.Refused r)) faults faults' written written' s = TellsBy (line_of r) status.Refused faults faults' written written' s
+TellsFailure (failure.Unloaded errors.Failed) faults faults' written written' s = TellsBy read_fault_line status.ReadFault faults faults' written written' s
+TellsFailure (failure.Unloaded errors.Memory) faults faults' written written' s = TellsBy want_of_memory_line status.NoMemory faults faults' written written' s
+TellsFailure failure.Write faults faults' written written' s = (s ≡ status.WriteFault) × (faults' ≡ faults) × (written' ≡ written)

@@ -1,0 +1,27 @@
+-- What is outside of a call, as far as it is told.
+use Rattle.std.specs.Prelude.{ℕ, List, Option}
+use Rattle.outer_world.specs.Files.{Files}
+
+pub record Outside : Type 1 where
+  -- the files of the shelf, where they are told
+  pub files : Option Files
+  -- no call of the shelf is planned to fail
+  pub unfailing : Type 0
+  -- the bytes on out and on err, where they are told
+  pub out : Option (List ℕ)
+  pub err : Option (List ℕ)
+  -- how often a call of the shelf, of out and of err has failed
+  pub shelf_faults : ℕ
+  pub out_faults : ℕ
+  pub err_faults : ℕ
+
+abbrev pub outside : Option Files → Type 0 → Option (List ℕ) → Option (List ℕ) → ℕ → ℕ → ℕ → Outside
+outside files unfailing out err shelf_faults out_faults err_faults = record {
+  files = files;
+  unfailing = unfailing;
+  out = out;
+  err = err;
+  shelf_faults = shelf_faults;
+  out_faults = out_faults;
+  err_faults = err_faults;
+}

@@ -1,0 +1,6 @@
+//! The commands: each does its line, and leaves to the caller what comes on err after a failure.
+pub mod asm;
+pub mod exec;
+pub mod run;
+pub mod show;
+pub mod vm;

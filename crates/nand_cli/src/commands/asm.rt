@@ -1,0 +1,29 @@
+//! The command `asm`: the words of an assembly file, as binary digits.
+ghost use Rattle.std.specs.Prelude.{◌≡◌, List, ℕ, Option};
+ghost use Rattle.command_line.specs.Line.{asm};
+ghost use Rattle.nand_cli.specs.Inner.Parts.{Counts, Does};
+
+use crate::failure::{Failure, finished};
+use crate::languages::{Form, ProgramText};
+use hack_asm::write_hack;
+use outer_world::{Shelf, Sink};
+use source_files::load;
+use std::alloc::Global;
+
+/// Does a line of `asm`; err is left as it is.
+pub fn answer_asm<F: Shelf, O: Sink>(
+    alloc: Global,
+    path: &str,
+    shelf: &mut F,
+    out: &mut O,
+) -> Result<(), Failure>
+    ensures does { (err : Option (List ℕ)) → Does (F.files shelf.old) (F.unfailing shelf.old) (asm path.now) (O.written out.old) (O.written out.new) err err result }
+    ensures counts { (err : ℕ) → Counts (F.faults shelf.old) (F.faults shelf.new) (O.faults out.old) (O.faults out.new) err err result }
+    ensures kept { F.files shelf.new ≡ F.files shelf.old }
+{
+    let assembly = ProgramText {
+        form: Form::Assembly,
+    };
+    let words = load(alloc, &assembly, path, "", shelf)?;
+    finished(write_hack(&words, out))
+}

@@ -1,0 +1,61 @@
+//! The command `show`: the printed form of a source.
+ghost use Rattle.std.specs.Prelude.{◌≡◌, List, ℕ, Option};
+ghost use Rattle.command_line.specs.Line.{show};
+ghost use Rattle.nand_cli.specs.Inner.Parts.{Counts, Does};
+
+use crate::failure::{Failure, finished};
+use crate::languages::{JackText, VmText};
+use command_line::SourceKind;
+use outer_world::{List, Shelf, Sink};
+use source_files::load;
+use std::alloc::Global;
+
+// Shows a VM text.
+fn show_vm<F: Shelf, O: Sink>(
+    alloc: Global,
+    path: &str,
+    shelf: &mut F,
+    out: &mut O,
+) -> Result<(), Failure>
+    ensures does { (err : Option (List ℕ)) → Does (F.files shelf.old) (F.unfailing shelf.old) (show path.now SourceKind.Vm) (O.written out.old) (O.written out.new) err err result }
+    ensures counts { (err : ℕ) → Counts (F.faults shelf.old) (F.faults shelf.new) (O.faults out.old) (O.faults out.new) err err result }
+    ensures kept { F.files shelf.new ≡ F.files shelf.old }
+{
+    let file = load(alloc, &VmText { bare: true }, path, "", shelf)?;
+    let mut program = List::new(alloc);
+    program.push(file)?;
+    finished(vm_tree::print(&program, out))
+}
+
+// Shows a Jack class.
+fn show_class<F: Shelf, O: Sink>(
+    alloc: Global,
+    path: &str,
+    shelf: &mut F,
+    out: &mut O,
+) -> Result<(), Failure>
+    ensures does { (err : Option (List ℕ)) → Does (F.files shelf.old) (F.unfailing shelf.old) (show path.now SourceKind.Jack) (O.written out.old) (O.written out.new) err err result }
+    ensures counts { (err : ℕ) → Counts (F.faults shelf.old) (F.faults shelf.new) (O.faults out.old) (O.faults out.new) err err result }
+    ensures kept { F.files shelf.new ≡ F.files shelf.old }
+{
+    let class = load(alloc, &JackText, path, "", shelf)?;
+    finished(jack_parser::print(&class, out))
+}
+
+/// Does a line of `show`; err is left as it is.
+pub fn answer_show<F: Shelf, O: Sink>(
+    alloc: Global,
+    path: &str,
+    kind: SourceKind,
+    shelf: &mut F,
+    out: &mut O,
+) -> Result<(), Failure>
+    ensures does { (err : Option (List ℕ)) → Does (F.files shelf.old) (F.unfailing shelf.old) (show path.now kind) (O.written out.old) (O.written out.new) err err result }
+    ensures counts { (err : ℕ) → Counts (F.faults shelf.old) (F.faults shelf.new) (O.faults out.old) (O.faults out.new) err err result }
+    ensures kept { F.files shelf.new ≡ F.files shelf.old }
+{
+    match kind {
+        SourceKind::Vm => show_vm(alloc, path, shelf, out),
+        SourceKind::Jack => show_class(alloc, path, shelf, out),
+    }
+}

@@ -1,0 +1,80 @@
+//! Why a line is not done, and the lines on err that tell of it.
+ghost use Rattle.std.specs.Prelude.{◌≡◌};
+ghost use Rattle.outer_world.specs.Texts.{read_fault_line, usage_line, want_of_memory_line};
+ghost use Rattle.source_files.specs.Loads.{line_of};
+ghost use Rattle.source_files.specs.declared.error.LoadError.TheVariants.{Memory};
+ghost use Rattle.nand_cli.specs.Inner.Parts.{Says, finished};
+ghost use Rattle.nand_cli.specs.declared.failure.Failure.TheVariants.{Unloaded};
+
+use outer_world::{Put, Sink};
+use source_files::{LoadError, Refusal};
+use std::alloc::{AllocError, AllocFailed};
+
+/// Why a line is not done: what it needs is not loaded or made, or out could not be written.
+#[derive(Drop)]
+pub enum Failure {
+    Unloaded(LoadError),
+    Write,
+}
+
+impl From<LoadError> for Failure {
+    ghost from_gives = { λ e f. f ≡ Unloaded e };
+
+    fn from(error: LoadError) -> Self {
+        Failure::Unloaded(error)
+    }
+}
+
+impl From<AllocError> for Failure {
+    ghost from_gives = { λ _ f. f ≡ Unloaded Memory };
+
+    fn from(_: AllocError) -> Self {
+        Failure::Unloaded(LoadError::Memory)
+    }
+}
+
+impl<T: Drop> From<AllocFailed<T>> for Failure {
+    ghost from_gives = { λ _ f. f ≡ Unloaded Memory };
+
+    fn from(_: AllocFailed<T>) -> Self {
+        Failure::Unloaded(LoadError::Memory)
+    }
+}
+
+/// How a line ends with the last that it puts on out.
+pub fn finished(put: Put) -> Result<(), Failure>
+    ensures { result ≡ finished put }
+{
+    match put {
+        Put::Done => Ok(()),
+        Put::Failed => Err(Failure::Write),
+    }
+}
+
+/// Puts the line of a refusal.
+pub fn tell_refusal<E: Sink>(refusal: &Refusal, err: &mut E) -> Put
+    ensures { Says (E.faults err.old) (E.faults err.new) (E.written err.old) (E.written err.new) (line_of refusal.now) result }
+{
+    refusal.told.put(refusal.path.as_str(), err)
+}
+
+/// Puts the line that tells that the words are none.
+pub fn tell_usage<E: Sink>(err: &mut E) -> Put
+    ensures { Says (E.faults err.old) (E.faults err.new) (E.written err.old) (E.written err.new) usage_line result }
+{
+    err.put(b"usage: nand COMMAND ARGUMENTS\n")
+}
+
+/// Puts the line that tells of a fault of the shelf.
+pub fn tell_read_fault<E: Sink>(err: &mut E) -> Put
+    ensures { Says (E.faults err.old) (E.faults err.new) (E.written err.old) (E.written err.new) read_fault_line result }
+{
+    err.put(b"nand: read fault\n")
+}
+
+/// Puts the line that tells of want of memory.
+pub fn tell_memory<E: Sink>(err: &mut E) -> Put
+    ensures { Says (E.faults err.old) (E.faults err.new) (E.written err.old) (E.written err.new) want_of_memory_line result }
+{
+    err.put(b"nand: want of memory\n")
+}

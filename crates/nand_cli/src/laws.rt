@@ -1,0 +1,52 @@
+//! Laws of lines: over told files a line has one answer.
+ghost use Rattle.nand_cli.specs.Exact.{AsmExactLaw, ExactLaw, ExecExactLaw, RunExactLaw, ShowExactLaw, VmExactLaw};
+
+/// Law: over told files a line of `asm` prints one text or is refused with one line, and not both.
+pub fn asm_exact_law()
+    ensures { AsmExactLaw }
+{
+    hack_asm::assembly_law();
+    hack_asm::hack_law();
+}
+
+/// Law: so does a line of `exec`.
+pub fn exec_exact_law()
+    ensures { ExecExactLaw }
+{
+    hack_asm::assembly_law();
+    hack_asm::hack_law();
+}
+
+/// Law: so does a line of `show`.
+pub fn show_exact_law()
+    ensures { ShowExactLaw }
+{
+    vm_parser::reading_law();
+    jack_parser::reading_law();
+}
+
+/// Law: so does a line of `vm`.
+pub fn vm_exact_law()
+    ensures { VmExactLaw }
+{
+    vm_parser::reading_law();
+}
+
+/// Law: so does a line of `run`, at each level.
+pub fn run_exact_law()
+    ensures { RunExactLaw }
+{
+    jack_parser::reading_law();
+    key_script::reading_law();
+}
+
+/// Law: over told files each line has one answer: it prints one thing or is refused for one thing, and not both.
+pub fn exact_law()
+    ensures { ExactLaw }
+{
+    asm_exact_law();
+    exec_exact_law();
+    vm_exact_law();
+    show_exact_law();
+    run_exact_law();
+}

@@ -1,0 +1,32 @@
+-- What a fault tells, and the line on err that tells it of a file: `path:line:column: Word detail`.
+use Rattle.std.specs.Prelude.{◌++◌, ◌∷◌, ℕ, List, [], decimal}
+use Rattle.outer_world.specs.Texts.{fault_line, fault_text}
+use Rattle.outer_world.specs.declared.refusal.Detail.{Detail}
+use Rattle.outer_world.specs.declared.refusal.Detail.TheVariants as detail
+
+-- the place of a fault, both 0 where it has none, its word, and its detail
+pub record Message : Type 0 where
+  pub line : ℕ
+  pub column : ℕ
+  pub word : List ℕ
+  pub detail : List ℕ
+
+abbrev pub message : ℕ → ℕ → List ℕ → List ℕ → Message
+message line column word detail = record { line = line; column = column; word = word; detail = detail }
+
+-- the line that tells it of the file at a path
+abbrev pub told_line : List ℕ → Message → List ℕ
+told_line path m = fault_line path m.line m.column m.word m.detail
+
+-- a detail as a text: a number in decimal, a name as it stands
+abbrev pub detail_text : Detail → List ℕ
+detail_text detail.Nothing = []
+detail_text (detail.Number n) = decimal n
+detail_text (detail.Name name) = name.items
+
+-- the line up to its word, and what follows it
+abbrev pub front_of : List ℕ → Message → List ℕ
+front_of path m = path ++ 58 ∷ (decimal m.line ++ 58 ∷ (decimal m.column ++ 58 ∷ 32 ∷ m.word))
+
+abbrev pub rest_of : List ℕ → List ℕ
+rest_of detail = fault_text [] detail ++ 10 ∷ []

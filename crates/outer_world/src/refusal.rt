@@ -1,0 +1,150 @@
+//! What a fault tells, and the line that tells it.
+ghost use Rattle.std.specs.Prelude.{◌≡◌, ◌++◌, ◌∷◌, [], length, take};
+ghost use Rattle.outer_world.specs.Refusals.{detail_text, front_of, message, rest_of, told_line};
+ghost use Rattle.outer_world.specs.Written.{CountsPut, Passes, Puts};
+
+use crate::{Pieces, Put, Sink};
+use itoa::Buffer;
+use std::marker::Model;
+
+/// What a fault tells beside its word.
+#[derive(Drop)]
+pub enum Detail {
+    Nothing,
+    Number(u64),
+    Name(Vec<u8>),
+}
+
+/// What a fault tells: the line and column of its place, both 0 where it has none, its word, and its
+/// detail. The path of the file is not part of it.
+#[derive(Drop)]
+pub struct Told {
+    line: u32,
+    column: u32,
+    word: &'static str,
+    detail: Detail,
+}
+
+impl Model for Told {
+    ghost use Rattle.outer_world.specs.Refusals.{Message, detail_text, message};
+
+    ghost Value = { Message };
+
+    ghost view = { λ t. message t.line t.column t.word.now (detail_text t.detail) };
+}
+
+impl Told {
+    /// What a fault at a place tells.
+    pub fn at(line: u32, column: u32, word: &'static str, detail: Detail) -> Told
+        ensures { result ≡ message line column word.now (detail_text detail) }
+    {
+        Told {
+            line,
+            column,
+            word,
+            detail,
+        }
+    }
+
+    /// What a fault tells that has no place.
+    pub fn nowhere(word: &'static str, detail: Detail) -> Told
+        ensures { result ≡ message 0 0 word.now (detail_text detail) }
+    {
+        Told::at(0, 0, word, detail)
+    }
+
+    /// Puts the line that tells it of the file at a path.
+    pub fn put<S: Sink>(&self, path: &str, sink: &mut S) -> Put
+        ensures put { Puts (S.written sink.old) (S.written sink.new) (told_line path.now self.now) result }
+        ensures counts { CountsPut (S.faults sink.old) (S.faults sink.new) result }
+    {
+        let mut pieces = Pieces::new(sink);
+        put_whole(self, path, &mut pieces)
+    }
+}
+
+// Puts the line through a buffer that is empty before.
+fn put_whole<S: Sink>(told: &Told, path: &str, pieces: &mut Pieces<'_, S>) -> Put
+    requires empty { take pieces.old.len pieces.old.buffer ≡ [] }
+    ensures same_sink { pieces.new.sink.ghost_name ≡ pieces.old.sink.ghost_name }
+    ensures put { Puts (S.written pieces.old.sink.now) (S.written pieces.new.sink.now) (told_line path.now told.now) result }
+    ensures counts { CountsPut (S.faults pieces.old.sink.now) (S.faults pieces.new.sink.now) result }
+{
+    match put_line(told, path, pieces) {
+        Put::Done => pieces.finish(),
+        Put::Failed => Put::Failed,
+    }
+}
+
+// Hands the line to a buffer.
+fn put_line<S: Sink>(told: &Told, path: &str, pieces: &mut Pieces<'_, S>) -> Put
+    ensures same_sink { pieces.new.sink.ghost_name ≡ pieces.old.sink.ghost_name }
+    ensures passes { Passes (S.written pieces.old.sink.now) (take pieces.old.len pieces.old.buffer) (S.written pieces.new.sink.now) (take pieces.new.len pieces.new.buffer) (told_line path.now told.now) result }
+    ensures counts { CountsPut (S.faults pieces.old.sink.now) (S.faults pieces.new.sink.now) result }
+{
+    match put_front(told, path, pieces) {
+        Put::Done => put_detail(&told.detail, pieces),
+        Put::Failed => Put::Failed,
+    }
+}
+
+// Hands the front of the line to a buffer, up to the word.
+fn put_front<S: Sink>(told: &Told, path: &str, pieces: &mut Pieces<'_, S>) -> Put
+    ensures same_sink { pieces.new.sink.ghost_name ≡ pieces.old.sink.ghost_name }
+    ensures passes { Passes (S.written pieces.old.sink.now) (take pieces.old.len pieces.old.buffer) (S.written pieces.new.sink.now) (take pieces.new.len pieces.new.buffer) (front_of path.now told.now) result }
+    ensures counts { CountsPut (S.faults pieces.old.sink.now) (S.faults pieces.new.sink.now) result }
+{
+    let mut first = Buffer::new();
+    let mut second = Buffer::new();
+    put_place(
+        path,
+        first.format(told.line),
+        second.format(told.column),
+        told.word,
+        pieces,
+    )
+}
+
+fn put_place<S: Sink>(
+    path: &str,
+    line: &str,
+    column: &str,
+    word: &str,
+    pieces: &mut Pieces<'_, S>,
+) -> Put
+    ensures same_sink { pieces.new.sink.ghost_name ≡ pieces.old.sink.ghost_name }
+    ensures passes { Passes (S.written pieces.old.sink.now) (take pieces.old.len pieces.old.buffer) (S.written pieces.new.sink.now) (take pieces.new.len pieces.new.buffer) (path.now ++ 58 ∷ (line.now ++ 58 ∷ (column.now ++ 58 ∷ 32 ∷ word.now))) result }
+    ensures counts { CountsPut (S.faults pieces.old.sink.now) (S.faults pieces.new.sink.now) result }
+{
+    pieces.put_all(&[
+        path.as_bytes(),
+        b":",
+        line.as_bytes(),
+        b":",
+        column.as_bytes(),
+        b": ",
+        word.as_bytes(),
+    ])
+}
+
+// Hands the rest of the line to a buffer.
+fn put_detail<S: Sink>(detail: &Detail, pieces: &mut Pieces<'_, S>) -> Put
+    ensures same_sink { pieces.new.sink.ghost_name ≡ pieces.old.sink.ghost_name }
+    ensures passes { Passes (S.written pieces.old.sink.now) (take pieces.old.len pieces.old.buffer) (S.written pieces.new.sink.now) (take pieces.new.len pieces.new.buffer) (rest_of (detail_text detail.now)) result }
+    ensures counts { CountsPut (S.faults pieces.old.sink.now) (S.faults pieces.new.sink.now) result }
+{
+    match detail {
+        Detail::Nothing => pieces.put(b"\n"),
+        Detail::Number(value) => {
+            let mut buffer = Buffer::new();
+            let value = buffer.format(*value).as_bytes();
+            pieces.put_all(&[b" ", value, b"\n"])
+        }
+        Detail::Name(name) => {
+            if name.is_empty() {
+                return pieces.put(b"\n");
+            }
+            pieces.put_all(&[b" ", name.as_slice(), b"\n"])
+        }
+    }
+}

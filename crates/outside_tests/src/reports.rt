@@ -1,0 +1,260 @@
+//! The drive, on a machine that counts; and the printed texts.
+ghost use Rattle.std.specs.Prelude.{◌≡◌, ◌+◌, ◌*◌, ◌%◌, ◌<◌, ◌≤◌, ◌^◌, ℕ, sum_by, true, false, nat_eq, nat_lt, if◌then◌else◌, IfOk};
+ghost use Rattle.std.proofs.Common.{rules};
+ghost use Rattle.machine_io.specs.History.{moves_in, OnStop};
+ghost use Rattle.machine_io.specs.Words.{words_text};
+ghost use Rattle.outer_world.specs.Written.{Puts};
+
+use machine_io::{
+    End, Head, Keyboard, Level, LevelName, Moved, Show, Stray, drive, show_report, show_screen,
+    show_words,
+};
+use outer_world::{MemorySink, Put, Sink};
+use std::alloc::AllocError;
+use std::test::Fail;
+
+// Makes so many moves, and then is full. Key 0 leads it astray, key 9 to its end.
+#[derive(Drop)]
+struct Counter {
+    room: u64,
+    moves: u64,
+    last_key: u16,
+}
+
+impl Level for Counter {
+    ghost use Rattle.machine_io.specs.declared.machine.Moved.TheVariants.{Acted, Done, Full, Stray};
+    ghost use Rattle.machine_io.specs.declared.machine.Stray.TheVariants.{Values};
+
+    type Point = u16;
+
+    ghost stands = { λ r turns. r.moves ≡ sum_by (λ t. moves_in t.answer) turns };
+
+    ghost count = { λ r. r.moves };
+
+    ghost word = { λ r a. r.last_key };
+
+    ghost committed = { λ r. r.moves };
+
+    ghost at_point = { λ r. r.last_key };
+
+    ghost reply = { λ r k. if nat_eq k 0 then Stray Values else (if nat_eq k 9 then Done else (if nat_lt r.moves r.room then Acted else Full 5)) };
+
+    ghost sure = { true };
+
+    ghost Program = { ℕ };
+
+    ghost program = { λ r. r.room };
+
+    fn step(&mut self, key: u16) -> Result<Moved, AllocError> {
+        if key == 0 {
+            return Ok(Moved::Stray(Stray::Values));
+        }
+        if key == 9 {
+            return Ok(Moved::Done);
+        }
+        if self.moves >= self.room {
+            return Ok(Moved::Full(5));
+        }
+        self.moves += 1;
+        self.last_key = key;
+        Ok(Moved::Acted)
+    }
+
+    fn moves(&self) -> u64 {
+        self.moves
+    }
+
+    fn word_at(&self, _a: u16) -> u16 {
+        self.last_key
+    }
+
+    fn steps(&self) -> u64 {
+        self.moves
+    }
+
+    fn point(&self) -> u16 {
+        self.last_key
+    }
+}
+
+// The key is 4, 5, 6 .. 13 and 4 again.
+struct Turning;
+
+impl Keyboard for Turning {
+    ghost code = { λ _ c. 4 + c % 10 };
+
+    fn at(&self, c: u64) -> u16 {
+        4 + (c % 10) as u16
+    }
+}
+
+fn new_counter(room: u64) -> Counter
+    ensures { result.moves ≡ 0 }
+{
+    Counter {
+        room,
+        moves: 0,
+        last_key: 0,
+    }
+}
+
+// What a machine that can't move answers, it answers again.
+fn asked_twice<L: Level>(level: &mut L, key: u16) -> Result<(Moved, Moved), AllocError>
+    requires { L.count level.old + 1 < 2 ^ 63 }
+    ensures { IfOk result (λ answers. OnStop answers.0 (answers.1 ≡ answers.0)) }
+{
+    let first = level.step(key)?;
+    let second = level.step(key)?;
+    Ok((first, second))
+}
+
+#[test]
+fn the_same_key_gets_the_same_answer(rt: HostRuntime) -> Result<(), Fail> {
+    let mut level = new_counter(1);
+    let gone = asked_twice(&mut level, 0)?;
+    assert_eq!(rt;
+        gone,
+        (Moved::Stray(Stray::Values), Moved::Stray(Stray::Values))
+    );
+    assert!(rt; level.moves() == 0);
+    assert_eq!(rt; asked_twice(&mut level, 3)?, (Moved::Acted, Moved::Full(5)));
+    Ok(())
+}
+
+#[test]
+fn drive_makes_the_moves(rt: HostRuntime) -> Result<(), Fail> {
+    let mut level = new_counter(100);
+    assert_eq!(rt; drive(&mut level, &Turning, 3)?, End::Bound);
+    assert_eq!(rt; (level.moves(), level.point()), (3, 6));
+    Ok(())
+}
+
+#[test]
+fn drive_goes_on_where_it_was(rt: HostRuntime) -> Result<(), Fail> {
+    let mut level = new_counter(100);
+    assert_eq!(rt; drive(&mut level, &Turning, 3)?, End::Bound);
+    assert_eq!(rt; level.moves(), 3);
+    assert_eq!(rt; drive(&mut level, &Turning, 30)?, End::Done);
+    assert_eq!(rt; (level.moves(), level.point()), (5, 8));
+    Ok(())
+}
+
+#[test]
+fn drive_stops_at_a_full_machine(rt: HostRuntime) -> Result<(), Fail> {
+    let mut level = new_counter(2);
+    assert_eq!(rt; drive(&mut level, &Turning, 3)?, End::Full(5));
+    assert_eq!(rt; level.moves(), 2);
+    Ok(())
+}
+
+fn word_of(a: u16) -> u16 {
+    match a {
+        16 => 3,
+        18 => 0xffff,
+        19 => 0x8000,
+        16384 => 1,
+        16385 => 0x8000,
+        24575 => 2,
+        _ => 0,
+    }
+}
+
+#[test]
+fn words_have_their_lines(rt: HostRuntime) -> Result<(), Fail> {
+    let mut sink = MemorySink::new(rt.alloc(), 1000, Vec::new(rt.alloc()))?;
+    assert_eq!(rt; show_words(word_of, 16, 19, true, &mut sink), Put::Done);
+    assert_eq!(rt; sink.bytes(), b"16 3\n17 0\n18 -1\n19 -32768\n".as_slice());
+    Ok(())
+}
+
+#[test]
+fn zeros_are_left_out(rt: HostRuntime) -> Result<(), Fail> {
+    let mut sink = MemorySink::new(rt.alloc(), 1000, Vec::new(rt.alloc()))?;
+    assert_eq!(rt; show_words(word_of, 16, 18, false, &mut sink), Put::Done);
+    assert_eq!(rt; sink.bytes(), b"16 3\n18 -1\n".as_slice());
+    Ok(())
+}
+
+#[test]
+fn no_words_from_later_to_earlier(rt: HostRuntime) -> Result<(), Fail> {
+    let mut sink = MemorySink::new(rt.alloc(), 1000, Vec::new(rt.alloc()))?;
+    assert_eq!(rt; show_words(word_of, 18, 16, true, &mut sink), Put::Done);
+    assert_eq!(rt; sink.bytes().len(), 0);
+    Ok(())
+}
+
+#[test]
+fn the_screen_has_its_pixels(rt: HostRuntime) -> Result<(), Fail> {
+    let mut sink = MemorySink::new(rt.alloc(), 200_000, Vec::new(rt.alloc()))?;
+    assert_eq!(rt; show_screen(word_of, &mut sink), Put::Done);
+    assert_eq!(rt; sink.bytes().len(), 256 * 513);
+    let black = sink.bytes().iter().filter(|b| **b == b'#').count();
+    assert_eq!(rt; black, 3);
+    for place in [0, 31, 255 * 513 + 497] {
+        assert_eq!(rt; sink.bytes().get(place).copied(), Some(b'#'), "at {place}");
+    }
+    assert_eq!(rt; sink.bytes().get(512).copied(), Some(b'\n'));
+    Ok(())
+}
+
+#[test]
+fn a_failing_sink_ends_the_screen(rt: HostRuntime) -> Result<(), Fail> {
+    let mut sink = MemorySink::new(rt.alloc(), 5000, Vec::new(rt.alloc()))?;
+    assert_eq!(rt; show_screen(word_of, &mut sink), Put::Failed);
+    assert_eq!(rt; sink.bytes().len(), 5000);
+    Ok(())
+}
+
+#[test]
+fn a_report_has_its_lines(rt: HostRuntime) -> Result<(), Fail> {
+    let mut head = Head {
+        level: LevelName::Vm,
+        moves: 120,
+        steps: 7,
+        subroutine: "Main.main",
+        statement: 2,
+        end: End::Stray(Stray::Address(40000)),
+    };
+    let mut sink = MemorySink::new(rt.alloc(), 1000, Vec::new(rt.alloc()))?;
+    assert_eq!(rt;
+        show_report(&head, Show::Heap, |a| a / 8191 % 2, &mut sink),
+        Put::Failed
+    );
+    let text =
+        b"level vm\nmoves 120\nsteps 7\npoint Main.main 2\nend stray 40000\n8191 1\n8192 1\n";
+    assert!(rt; sink.bytes().starts_with(text));
+    head.end = End::Full(2000);
+    let mut sink = MemorySink::new(rt.alloc(), 1000, Vec::new(rt.alloc()))?;
+    assert_eq!(rt;
+        show_report(&head, Show::Nothing, word_of, &mut sink),
+        Put::Done
+    );
+    assert_eq!(rt;
+        sink.bytes(),
+        b"level vm\nmoves 120\nsteps 7\npoint Main.main 2\nend full 2000\n".as_slice()
+    );
+    Ok(())
+}
+
+// Any level can be shown.
+fn show_level<L: Level, S: Sink>(level: &L, out: &mut S) -> Put
+    ensures { Puts (S.written out.old) (S.written out.new) (words_text (L.word level.now) false 2048 16383) result }
+{
+    show_words(|a| level.word_at(a), 2048, 16383, false, out)
+}
+
+#[test]
+fn a_level_shows_its_words(rt: HostRuntime) -> Result<(), Fail> {
+    let mut level = new_counter(100);
+    let mut sink = MemorySink::new(rt.alloc(), 1000, Vec::new(rt.alloc()))?;
+    assert_eq!(rt; show_level(&level, &mut sink), Put::Done);
+    assert_eq!(rt; sink.bytes().len(), 0);
+    // behind the third move each word is 6
+    assert_eq!(rt; drive(&mut level, &Turning, 3)?, End::Bound);
+    let mut sink = MemorySink::new(rt.alloc(), 200_000, Vec::new(rt.alloc()))?;
+    assert_eq!(rt; show_level(&level, &mut sink), Put::Done);
+    assert!(rt; sink.bytes().starts_with(b"2048 6\n2049 6\n"));
+    assert!(rt; sink.bytes().ends_with(b"\n16382 6\n16383 6\n"));
+    assert_eq!(rt; sink.bytes().len(), 7952 * 7 + 6384 * 8);
+    Ok(())
+}

@@ -1,0 +1,260 @@
+//! Shelves and sinks, in memory and real, each on its happy path and where it fails.
+use outer_world::{
+    Detail, FolderShelf, Listing, MemoryShelf, MemorySink, Name, Pieces, PlainSink, Put, Reading,
+    Shelf, Sink, StdSink, Told,
+};
+use std::alloc::{AllocError, Global};
+use std::io::{ErrorKind, Write};
+use std::test::Fail;
+use std::{env, fs, io, process};
+
+// What a reading says, as a text.
+fn shown(alloc: Global, reading: Reading) -> Result<String, AllocError> {
+    match reading {
+        Reading::Bytes(bytes) => Ok(format!(in alloc; "{:?}", bytes.as_slice())?),
+        Reading::TooLong(limit) => Ok(format!(in alloc; "longer than {limit}")?),
+        Reading::Failed => String::from_str(alloc, "failed"),
+        Reading::Memory => String::from_str(alloc, "memory"),
+    }
+}
+
+// The names of a listing in order, each before a space.
+fn names_of(alloc: Global, listing: Listing) -> Result<String, AllocError> {
+    let mut names = match listing {
+        Listing::Names(names) => names,
+        Listing::Failed => return String::from_str(alloc, "failed"),
+        Listing::Memory => return String::from_str(alloc, "memory"),
+    };
+    names.sort()?;
+    let mut text = String::new(alloc);
+    for name in &names {
+        text.push_str(name.as_str())?;
+        text.push(' ')?;
+    }
+    Ok(text)
+}
+
+fn shelf_of(
+    alloc: Global,
+    files: &[(&str, &[u8])],
+    fails: &[u64],
+) -> Result<MemoryShelf, AllocError> {
+    let mut held = Vec::new(alloc);
+    for (path, bytes) in files {
+        held.push((Name::new(alloc, path)?, bytes.to_vec(alloc)?))?;
+    }
+    Ok(MemoryShelf::new(held, fails.to_vec(alloc)?))
+}
+
+#[test]
+fn shelf_in_memory(rt: HostRuntime) -> Result<(), Fail> {
+    let alloc = rt.alloc();
+    let files: [(&str, &[u8]); 6] = [
+        ("prog/Main.jack", b"abc"),
+        ("prog/Ball.jack", b""),
+        ("prog/Main.jack", b"later"),
+        ("prog/sub/Main.jack", b"x"),
+        ("program", b"y"),
+        ("Add.asm", b"@2\n"),
+    ];
+    let mut shelf = shelf_of(alloc, &files, &[3, 10])?;
+    assert_eq!(rt;
+        names_of(alloc, shelf.list(alloc, "prog"))?.as_str(),
+        "Ball.jack Main.jack "
+    );
+    assert_eq!(rt;
+        names_of(alloc, shelf.list(alloc, ""))?.as_str(),
+        "Add.asm program "
+    );
+    assert_eq!(rt;
+        names_of(alloc, shelf.list(alloc, "prog"))?.as_str(),
+        "failed"
+    );
+    assert_eq!(rt; names_of(alloc, shelf.list(alloc, "pro"))?.as_str(), "");
+    assert_eq!(rt;
+        names_of(alloc, shelf.list(alloc, "prog/sub"))?.as_str(),
+        "Main.jack "
+    );
+    assert_eq!(rt;
+        shown(alloc, shelf.read(alloc, "prog/Main.jack", 3))?.as_str(),
+        "[97, 98, 99]"
+    );
+    assert_eq!(rt;
+        shown(alloc, shelf.read(alloc, "prog/Main.jack", 2))?.as_str(),
+        "longer than 2"
+    );
+    assert_eq!(rt;
+        shown(alloc, shelf.read(alloc, "prog/Ball.jack", 0))?.as_str(),
+        "[]"
+    );
+    assert_eq!(rt;
+        shown(alloc, shelf.read(alloc, "Sub.asm", 9))?.as_str(),
+        "failed"
+    );
+    assert_eq!(rt;
+        shown(alloc, shelf.read(alloc, "Add.asm", 9))?.as_str(),
+        "failed"
+    );
+    assert_eq!(rt;
+        shown(alloc, shelf.read(alloc, "Add.asm", 9))?.as_str(),
+        "[64, 50, 10]"
+    );
+    Ok(())
+}
+
+#[test]
+fn sink_in_memory(rt: HostRuntime) -> Result<(), Fail> {
+    let alloc = rt.alloc();
+    let plan = [(2, 1), (4, 9), (4, 0)].to_vec(alloc)?;
+    let mut sink = MemorySink::new(alloc, 11, plan)?;
+    let puts: [(&str, Put); 7] = [
+        ("abc", Put::Done),
+        ("def", Put::Failed),
+        ("", Put::Done),
+        ("ghi", Put::Failed),
+        ("jkl", Put::Done),
+        ("mn", Put::Failed),
+        ("", Put::Done),
+    ];
+    for (piece, expected) in &puts {
+        assert_eq!(rt; sink.put(piece.as_bytes()), *expected, "at {piece}");
+    }
+    assert_eq!(rt; sink.bytes(), b"abcdghijklm".as_slice());
+    assert_eq!(rt; PlainSink::new().put(b"abc"), Put::Done);
+    Ok(())
+}
+
+// Puts 3,000 times `012`, and finishes.
+fn put_many<S: Sink>(pieces: &mut Pieces<'_, S>) -> Put {
+    for _ in 0..1500u32 {
+        if pieces.put_all(&[b"0", b"12012"]) == Put::Failed {
+            return Put::Failed;
+        }
+    }
+    pieces.finish()
+}
+
+#[test]
+fn buffer_of_pieces(rt: HostRuntime) -> Result<(), Fail> {
+    let alloc = rt.alloc();
+    for (fails, expected, length) in [
+        (&[].as_slice(), Put::Done, 9000),
+        (&[(3, 5)].as_slice(), Put::Failed, 4096 + 4096 + 5),
+        (&[(2, 4096)].as_slice(), Put::Failed, 4096 + 4096),
+        (&[(4, 0)].as_slice(), Put::Done, 9000),
+    ] {
+        let mut sink = MemorySink::new(alloc, 1_000_000, fails.to_vec(alloc)?)?;
+        assert_eq!(rt; put_many(&mut Pieces::new(&mut sink)), expected);
+        assert_eq!(rt; sink.bytes().len(), length);
+        for (place, byte) in sink.bytes().iter().enumerate() {
+            assert_eq!(rt; *byte as usize, 48 + place % 3, "at {place}");
+        }
+    }
+    Ok(())
+}
+
+#[test]
+fn real_files(rt: HostRuntime) -> Result<(), Fail> {
+    let alloc = rt.alloc();
+    let folder = format!(in alloc;
+        "{}/nand-outer-world-{}",
+        env::temp_dir(&rt)?.as_str(),
+        process::id(rt.process())
+    )?;
+    let inner = format!(in alloc; "{folder}/sub")?;
+    let main = format!(in alloc; "{folder}/Main.jack")?;
+    let ball = format!(in alloc; "{folder}/Ball.jack")?;
+    fs::create_dir_all(&rt, inner.as_str())?;
+    fs::write(&rt, ball.as_str(), "")?;
+
+    let mut sink = StdSink::new(fs::create(&rt, main.as_str())?);
+    assert_eq!(rt; put_many(&mut Pieces::new(&mut sink)), Put::Done);
+    let text = fs::read_to_string(&rt, main.as_str())?;
+    assert_eq!(rt; text.len(), 9000);
+    assert!(rt; text.as_str().starts_with("012012"));
+
+    let mut shelf = FolderShelf::new(rt.clone()?);
+    let listed = names_of(alloc, shelf.list(alloc, folder.as_str()))?;
+    let listed_inner = names_of(alloc, shelf.list(alloc, inner.as_str()))?;
+    let listed_none = names_of(alloc, shelf.list(alloc, main.as_str()))?;
+    let whole = shown(alloc, shelf.read(alloc, ball.as_str(), 0))?;
+    let long = shown(alloc, shelf.read(alloc, main.as_str(), 8999))?;
+    let none = shown(alloc, shelf.read(alloc, inner.as_str(), 9000))?;
+    let read_back = shelf.read(alloc, main.as_str(), 9000);
+    fs::remove_dir_all(&rt, folder.as_str())?;
+
+    assert_eq!(rt; listed.as_str(), "Ball.jack Main.jack ");
+    assert_eq!(rt; listed_inner.as_str(), "");
+    assert_eq!(rt; listed_none.as_str(), "failed");
+    assert_eq!(rt; whole.as_str(), "[]");
+    assert_eq!(rt; long.as_str(), "longer than 8999");
+    assert_eq!(rt; none.as_str(), "failed");
+    match read_back {
+        Reading::Bytes(bytes) => assert_eq!(rt; bytes.as_slice(), text.as_bytes()),
+        _ => panic!(rt; "the file was not read"),
+    }
+    Ok(())
+}
+
+// A writer of five bytes a call that fails at its third.
+#[derive(Drop)]
+struct Halting {
+    calls: u32,
+}
+
+impl Write for Halting {
+    fn write(&mut self, buf: &[u8]) -> io::Result<usize> {
+        self.calls = self.calls.saturating_add(1);
+        if self.calls == 3 {
+            return Err(io::Error::from(ErrorKind::BrokenPipe));
+        }
+        Ok(buf.len().min(5))
+    }
+
+    fn flush(&mut self) -> io::Result<()> {
+        Ok(())
+    }
+}
+
+#[test]
+fn real_stream_that_fails(rt: HostRuntime) {
+    let mut sink = StdSink::new(Halting { calls: 0 });
+    assert_eq!(rt; sink.put(b"0123456"), Put::Done);
+    assert_eq!(rt; sink.put(b"0123456"), Put::Failed);
+    assert_eq!(rt; sink.put(b"0123456"), Put::Done);
+}
+
+#[test]
+fn names(rt: HostRuntime) -> Result<(), Fail> {
+    let alloc = rt.alloc();
+    let name = Name::new(alloc, "Main")?;
+    let copy = name.clone()?;
+    assert_eq!(rt; copy.as_bytes(), b"Main".as_slice());
+    assert!(rt; name == copy);
+    assert!(rt; name > Name::new(alloc, "Ball")?);
+    Ok(())
+}
+
+#[test]
+fn lines_of_faults(rt: HostRuntime) -> Result<(), Fail> {
+    let alloc = rt.alloc();
+    let twice = Detail::Name(b"LOOP".to_vec(alloc)?);
+    let told = Told::at(3, 14, "LabelTwice", twice);
+    let plan = [(2, 9)].to_vec(alloc)?;
+    let mut sink = MemorySink::new(alloc, 1000, plan)?;
+    assert_eq!(rt; told.put("f/Max.asm", &mut sink), Put::Done);
+    assert_eq!(rt; told.put("f/Max.asm", &mut sink), Put::Failed);
+    assert_eq!(rt;
+        Told::nowhere("TooLarge", Detail::Number(32769)).put("D", &mut sink),
+        Put::Done
+    );
+    assert_eq!(rt;
+        Told::nowhere("NoSysInit", Detail::Nothing).put("D", &mut sink),
+        Put::Done
+    );
+    assert_eq!(rt;
+        sink.bytes(),
+        b"f/Max.asm:3:14: LabelTwice LOOP\nf/Max.asmD:0:0: TooLarge 32769\nD:0:0: NoSysInit\n".as_slice()
+    );
+    Ok(())
+}

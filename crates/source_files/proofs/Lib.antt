@@ -1,0 +1,5 @@
+pub mod Listing
+pub mod Told
+pub mod Spelling
+pub mod Names
+pub mod Once

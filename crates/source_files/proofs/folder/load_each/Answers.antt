@@ -1,0 +1,56 @@
+use Rattle.std.proofs.Common.{◌+◌, ◌++◌, ◌∷◌, [], ℕ, List, Option, Result, Err, Vec, drop, take, ap, subst, sym, ◌∙◌}
+use Rattle.std.specs.declared.alloc.Global.{Global}
+use Rattle.std.proofs.lemmas.List.{take_more}
+use Rattle.std.proofs.lemmas.Result.{err_from_is_err_and}
+use Rattle.outer_world.specs.Files.{Files, LacksFile, path_in}
+use Rattle.source_files.specs.Loads.{Loads}
+use Rattle.source_files.specs.Sources.{IsFaulty, SpellEach, SpellsAt}
+use Rattle.source_files.specs.declared.error.LoadError.{LoadError}
+use Rattle.source_files.proofs.Spelling.{around, spell_more, text_unread}
+use Rattle.source_files.proofs.Told.{without}
+use Rattle.source_files.proofs.folder.load_each.Goals as goal
+
+pub returns-in_err-source-clause-loads : goal.returns-in_err-source-clause-loads
+returns-in_err-source-clause-loads g c =
+    let p = err_from_is_err_and c.from_residual.result c.from_residual.ensures.1 in
+    let at = c.loop-name.name-index in
+    let names = c.args.names.now in
+    let folder = c.args.folder.now in
+    let told = g.F.Shelf.files c.args.shelf.now in
+    let steady = g.F.Shelf.unfailing c.args.shelf.now in
+    let later = g.F.Shelf.unfailing c.loop-name.shelf in
+    let spells = g.L.Language.spells c.args.language.now in
+    let refuses = g.L.Language.refuses c.args.language.now in
+    let r : Result g.row.L-Source.Denot LoadError = Err c.in_err-source.field-0.0 in
+    let N : List ℕ → Type 0 = λ name. Loads (SpellsAt (spells name) (g.F.Shelf.files c.loop-name.shelf) (path_in folder name)) (IsFaulty refuses (g.F.Shelf.files c.loop-name.shelf) (path_in folder name))
+    (later → LacksFile (g.F.Shelf.files c.loop-name.shelf) (path_in folder name)) r in
+    let name = c.name-item.result in
+    let path = path_in folder name in
+    let T : Option Files → Type 0 = λ files. Loads (SpellsAt (spells name) files path) (IsFaulty refuses files path) (later → LacksFile files path) r in
+    let read = without (SpellsAt (spells name) told path) (IsFaulty refuses told path) (later → LacksFile told path) (SpellsAt (spells name) told path) (IsFaulty refuses told path) (steady → LacksFile told path) _
+    (λ line h. h) (λ gone s. gone (c.loop-name.invariant.keeps s)) (subst T c.loop-name.invariant.kept (subst N c.as_str.ensures c.in_err-source.ensures.loads)) in
+    rw (p.1, p.2) (text_unread spells refuses (λ (sources : Vec g.row.L-Source.Denot Global). SpellEach spells told folder names sources.items) steady told folder names (take at names) (drop (at + 1) names) name c.loop-name.sources.items _
+    (around names at name c.loop-name-test.true c.name-item.is) c.loop-name.invariant.spelled read)
+
+pub loop-name-preserved : goal.loop-name-preserved
+loop-name-preserved g c =
+    let at = c.loop-name.name-index in
+    let names = c.args.names.now in
+    let folder = c.args.folder.now in
+    let told = g.F.Shelf.files c.args.shelf.now in
+    let spells = g.L.Language.spells c.args.language.now in
+    let name = c.name-item.result in
+    let source = c.in_ok-source.source in
+    let N : List ℕ → Type 0 = λ n. SpellsAt (spells n) (g.F.Shelf.files c.loop-name.shelf) (path_in folder n) source in
+    let T : Option Files → Type 0 = λ files. SpellsAt (spells name) files (path_in folder name) source in
+    let read = subst T c.loop-name.invariant.kept (subst N c.as_str.ensures c.in_ok-source.ensures.loads) in
+    let more = spell_more spells told folder (take at names) c.loop-name.sources.items name source c.loop-name.invariant.spelled read in
+    let longer = take_more names at name c.loop-name-test.true ∙ ap (λ n. take at names ++ n ∷ []) (sym c.name-item.is) in
+    let P : List (List ℕ) → Type 0 = λ ns. SpellEach spells told folder ns (c.loop-name.sources.items ++ source ∷ []) in
+    let Q : List g.row.L-Source.Denot → Type 0 = λ ss. SpellEach spells told folder (take (at + 1) names) ss in
+    record {
+      spelled = subst Q (sym c.in_ok-push.ensures.items) (subst P (sym longer) more);
+      counts = c.in_ok-source.ensures.counts ∙ c.loop-name.invariant.counts;
+      kept = c.in_ok-source.ensures.kept ∙ c.loop-name.invariant.kept;
+      keeps = λ s. c.in_ok-source.ensures.keeps (c.loop-name.invariant.keeps s);
+    }

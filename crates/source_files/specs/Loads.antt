@@ -1,0 +1,60 @@
+-- What loading says: of what is loaded, of the line of a refusal, and of a fault of the shelf.
+use Rattle.std.specs.Prelude.{◌≡◌, ◌<◌, ℕ, List, Option, Some, None, Result, Ok, Err, true, length, is_some, IfSome}
+use Rattle.std.specs.List.{AllByRecursion}
+use Rattle.outer_world.specs.Faults.{Rose}
+use Rattle.outer_world.specs.Files.{Files, HasFile, file_at, path_in}
+use Rattle.outer_world.specs.Refusals.{Message, told_line}
+use Rattle.source_files.specs.Folder.{overfull}
+use Rattle.source_files.specs.Sources.{past_limit}
+use Rattle.source_files.specs.declared.error.LoadError.{LoadError}
+use Rattle.source_files.specs.declared.error.LoadError.TheVariants as errors
+use Rattle.source_files.specs.declared.error.Refusal.{Refusal}
+use Rattle.source_files.specs.declared.error.TextError.{TextError}
+use Rattle.source_files.specs.declared.error.TextError.TheVariants as texts
+
+-- the line of a refusal
+abbrev pub line_of : Refusal → List ℕ
+line_of r = told_line r.path r.told
+
+-- What is loaded is good, a refusal has such a line, a fault of the shelf comes for this alone, or memory is wanting.
+abbrev pub Loads : {A : Type 0} → (A → Type 0) → (List ℕ → Type 0) → Type 0 → Result A LoadError → Type 0
+Loads good refused missed (Ok loaded) = good loaded
+Loads good refused missed (Err (errors.Refused r)) = refused (line_of r)
+Loads good refused missed (Err errors.Failed) = missed
+Loads good refused missed (Err errors.Memory) = Unit {0}
+
+-- The count of faults of the shelf rises with a fault of the shelf alone.
+abbrev pub CountsLoad : {A : Type 0} → ℕ → ℕ → Result A LoadError → Type 0
+CountsLoad shelf shelf' (Err errors.Failed) = Rose shelf shelf'
+CountsLoad shelf shelf' _ = shelf' ≡ shelf
+
+-- A refusal tells this of what stands at a path, unless memory is wanting.
+abbrev pub Refused : List ℕ → Message → LoadError → Type 0
+Refused path told (errors.Refused r) = line_of r ≡ told_line path told
+Refused path told errors.Failed = ⊥
+Refused path told errors.Memory = Unit {0}
+
+-- What is told of what stands at a path is its refusal; where nothing is told, memory is wanting.
+abbrev pub TellsOf : List ℕ → Option Message → LoadError → Type 0
+TellsOf path (Some told) e = Refused path told e
+TellsOf path None e = e ≡ errors.Memory
+
+abbrev pub text_error : Option Message → TextError
+text_error (Some told) = texts.Refused told
+text_error None = texts.Memory
+
+-- A text is not read for this, unless memory is wanting.
+abbrev pub IsWhy : (Message → Type 0) → TextError → Type 0
+IsWhy refuses (texts.Refused told) = refuses told
+IsWhy refuses texts.Memory = Unit {0}
+
+-- The text at a path is past the limit, as this line tells.
+abbrev pub IsPastLimit : Option Files → List ℕ → List ℕ → Type 0
+IsPastLimit files path line = (text : List ℕ) × HasFile files path text × (1048576 < length text) × (line ≡ told_line path past_limit)
+
+abbrev pub TellsOverfull : List ℕ → ℕ → LoadError → Type 0
+TellsOverfull folder n e = Refused folder (overfull n) e
+
+-- Of the files of these names in a folder some is not there, where the files are told.
+abbrev pub LacksOne : Option Files → List ℕ → List (List ℕ) → Type 0
+LacksOne told folder names = IfSome told (λ files. ¬ AllByRecursion (λ name. is_some (file_at files (path_in folder name)) ≡ true) names)

@@ -1,0 +1,88 @@
+//! Why a source is not loaded.
+ghost use Rattle.std.specs.Prelude.{◌≡◌};
+ghost use Rattle.source_files.specs.Loads.{Refused, TellsOf, text_error};
+ghost use Rattle.source_files.specs.declared.error.LoadError.TheVariants.{Memory};
+ghost use Rattle.source_files.specs.declared.error.TextError.TheVariants as text;
+
+use outer_world::{Name, Told};
+use std::alloc::{AllocError, AllocFailed, Global};
+
+/// Why a text is not read: what its fault tells, or want of memory.
+#[derive(Drop)]
+pub enum TextError {
+    Refused(Told),
+    Memory,
+}
+
+/// Why a text or a folder is refused: its path, and what its fault tells.
+#[derive(Drop)]
+pub struct Refusal {
+    pub path: Name,
+    pub told: Told,
+}
+
+/// Why a source is not loaded: a refusal, a fault of the shelf, or want of memory.
+#[derive(Drop)]
+pub enum LoadError {
+    Refused(Refusal),
+    Failed,
+    Memory,
+}
+
+impl From<AllocError> for TextError {
+    ghost from_gives = { λ _ e. e ≡ text.Memory };
+
+    fn from(_: AllocError) -> Self {
+        TextError::Memory
+    }
+}
+
+impl From<AllocError> for LoadError {
+    ghost from_gives = { λ _ e. e ≡ Memory };
+
+    fn from(_: AllocError) -> Self {
+        LoadError::Memory
+    }
+}
+
+impl<T: Drop> From<AllocFailed<T>> for LoadError {
+    ghost from_gives = { λ _ e. e ≡ Memory };
+
+    fn from(_: AllocFailed<T>) -> Self {
+        LoadError::Memory
+    }
+}
+
+impl TextError {
+    /// What a fault tells is why; where it tells nothing, memory is wanting.
+    pub fn told(told: Option<Told>) -> TextError
+        ensures { result ≡ text_error told }
+    {
+        match told {
+            Some(told) => TextError::Refused(told),
+            None => TextError::Memory,
+        }
+    }
+}
+
+impl LoadError {
+    /// What a fault of what stands at a path tells is its refusal; where it tells nothing, memory is wanting.
+    pub fn told(alloc: Global, path: &str, told: Option<Told>) -> LoadError
+        ensures { TellsOf path.now told result }
+    {
+        match told {
+            Some(told) => LoadError::refused(alloc, path, told),
+            None => LoadError::Memory,
+        }
+    }
+
+    /// The refusal of what stands at a path.
+    pub fn refused(alloc: Global, path: &str, told: Told) -> LoadError
+        ensures { Refused path.now told result }
+    {
+        match Name::new(alloc, path) {
+            Ok(path) => LoadError::Refused(Refusal { path, told }),
+            Err(_) => LoadError::Memory,
+        }
+    }
+}

@@ -1,0 +1,55 @@
+//! The source of a file.
+ghost use Rattle.std.specs.Prelude.{◌≡◌, ℕ, Vec};
+ghost use Rattle.std.specs.declared.alloc.Global.{Global};
+ghost use Rattle.outer_world.specs.Files.{HasFile, LacksFile};
+ghost use Rattle.source_files.specs.Loads.{CountsLoad, IsPastLimit, Loads};
+ghost use Rattle.source_files.specs.Sources.{IsFaulty, SpellsAt};
+
+use crate::error::{LoadError, TextError};
+use crate::language::Language;
+use outer_world::{Detail, Reading, Shelf, Told};
+use std::alloc::Global;
+
+const FILE_LIMIT: u32 = 1_048_576;
+
+// The text of a file.
+fn text_of<F: Shelf>(alloc: Global, path: &str, shelf: &mut F) -> Result<Vec<u8>, LoadError>
+    ensures loads { Loads (λ (text : Vec ℕ Global). HasFile (F.files shelf.old) path.now text.items) (IsPastLimit (F.files shelf.old) path.now) (F.unfailing shelf.old → LacksFile (F.files shelf.old) path.now) result }
+    ensures counts { CountsLoad (F.faults shelf.old) (F.faults shelf.new) result }
+    ensures kept { F.files shelf.new ≡ F.files shelf.old }
+    ensures keeps { F.unfailing shelf.old → F.unfailing shelf.new }
+{
+    match shelf.read(alloc, path, FILE_LIMIT) {
+        Reading::Bytes(text) => Ok(text),
+        Reading::TooLong(_) => {
+            let bytes = Detail::Number(u64::from(FILE_LIMIT) + 1);
+            Err(LoadError::refused(alloc, path, Told::nowhere("Range", bytes)))
+        }
+        Reading::Failed => Err(LoadError::Failed),
+        Reading::Memory => Err(LoadError::Memory),
+    }
+}
+
+/// What the text at a path spells, as that of a file of this name.
+///
+/// Otherwise its refusal, that the shelf failed, or want of memory. A shelf no call of which is planned to fail fails where
+/// there is no such file alone.
+pub fn load<L: Language, F: Shelf>(
+    alloc: Global,
+    language: &L,
+    path: &str,
+    name: &str,
+    shelf: &mut F,
+) -> Result<L::Source, LoadError>
+    ensures loads { Loads (SpellsAt (L.spells language.now name.now) (F.files shelf.old) path.now) (IsFaulty (L.refuses language.now) (F.files shelf.old) path.now) (F.unfailing shelf.old → LacksFile (F.files shelf.old) path.now) result }
+    ensures counts { CountsLoad (F.faults shelf.old) (F.faults shelf.new) result }
+    ensures kept { F.files shelf.new ≡ F.files shelf.old }
+    ensures keeps { F.unfailing shelf.old → F.unfailing shelf.new }
+{
+    let text = text_of(alloc, path, shelf)?;
+    match language.read(alloc, name, &text) {
+        Ok(source) => Ok(source),
+        Err(TextError::Refused(told)) => Err(LoadError::refused(alloc, path, told)),
+        Err(TextError::Memory) => Err(LoadError::Memory),
+    }
+}
