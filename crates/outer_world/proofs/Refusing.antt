@@ -1,7 +1,8 @@
 -- The line of a fault, as the part up to its word and the rest.
 use Rattle.std.proofs.Common.{◌≡◌, ◌<◌, ◌++◌, ◌∷◌, [], ℕ, List, length, decimal, refl, sym, ◌∙◌, ap, append_assoc, arith}
 use Rattle.outer_world.specs.Texts.{fault_text}
-use Rattle.outer_world.specs.Refusals.{Message, front_of, rest_of, told_line}
+use Rattle.outer_world.specs.Inner.Parts.{front_of, rest_of}
+use Rattle.outer_world.specs.Refusals.{Message, told_line}
 
 after_word : (word d : List ℕ) → fault_text word d ++ 10 ∷ [] ≡ word ++ (fault_text [] d ++ 10 ∷ [])
 after_word word [] = refl

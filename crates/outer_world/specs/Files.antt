@@ -33,10 +33,13 @@ path_in (c ∷ folder) name = (c ∷ folder) ++ 47 ∷ name
 abbrev pub has_slash : List ℕ → Bool
 has_slash = list_any (λ c. c == 47)
 
--- No file stands in a folder, where the files are told.
-abbrev pub LacksFolder : Option Files → List ℕ → Type 0
-LacksFolder told folder =
-    IfSome told (λ files. (name : List ℕ) → has_slash name ≡ false → file_at files (path_in folder name) ≡ None)
+-- No file stands in a folder.
+abbrev pub IsEmptyFolder : Files → List ℕ → Type 0
+IsEmptyFolder files folder = (name : List ℕ) → has_slash name ≡ false → file_at files (path_in folder name) ≡ None
+
+-- A folder is not there, so no file stands in it, where the files are told. A folder that is there may be empty as well.
+abbrev pub LacksFolder : Option Files → (List ℕ → Bool) → List ℕ → Type 0
+LacksFolder told there folder = IfSome told (λ files. (there folder ≡ false) × IsEmptyFolder files folder)
 
 -- a name stands among names
 abbrev pub has_name : List (List ℕ) → List ℕ → Bool

@@ -3,5 +3,5 @@ pub mod Files
 pub mod Written
 pub mod Texts
 pub mod Refusals
-pub mod Reader
 pub mod Plans
+pub mod Inner

@@ -15,6 +15,10 @@ use Rattle.outer_world.specs.declared.sink.Put.TheVariants as put
 abbrev pub files_of : List (Name × Vec ℕ Global) → Files
 files_of files = map (λ file. (file.0, file.1.items)) files
 
+-- in memory each folder is there, also one in which no file stands
+abbrev pub each_folder_there : List ℕ → Bool
+each_folder_there folder = true
+
 -- a shelf in memory: its files, the numbers of the calls that fail, and how many calls and faults there were
 pub record ShelfState : Type 0 where
   pub files : Files

@@ -1,6 +1,6 @@
 -- What a fault tells, and the line on err that tells it of a file: `path:line:column: Word detail`.
-use Rattle.std.specs.Prelude.{◌++◌, ◌∷◌, ℕ, List, [], decimal}
-use Rattle.outer_world.specs.Texts.{fault_line, fault_text}
+use Rattle.std.specs.Prelude.{ℕ, List, [], decimal}
+use Rattle.outer_world.specs.Texts.{fault_line}
 use Rattle.outer_world.specs.declared.refusal.Detail.{Detail}
 use Rattle.outer_world.specs.declared.refusal.Detail.TheVariants as detail
 
@@ -23,10 +23,3 @@ abbrev pub detail_text : Detail → List ℕ
 detail_text detail.Nothing = []
 detail_text (detail.Number n) = decimal n
 detail_text (detail.Name name) = name.items
-
--- the line up to its word, and what follows it
-abbrev pub front_of : List ℕ → Message → List ℕ
-front_of path m = path ++ 58 ∷ (decimal m.line ++ 58 ∷ (decimal m.column ++ 58 ∷ 32 ∷ m.word))
-
-abbrev pub rest_of : List ℕ → List ℕ
-rest_of detail = fault_text [] detail ++ 10 ∷ []

@@ -1,6 +1,7 @@
 //! What a fault tells, and the line that tells it.
 ghost use Rattle.std.specs.Prelude.{◌≡◌, ◌++◌, ◌∷◌, [], length, take};
-ghost use Rattle.outer_world.specs.Refusals.{detail_text, front_of, message, rest_of, told_line};
+ghost use Rattle.outer_world.specs.Inner.Parts.{front_of, rest_of};
+ghost use Rattle.outer_world.specs.Refusals.{detail_text, message, told_line};
 ghost use Rattle.outer_world.specs.Written.{CountsPut, Passes, Puts};
 
 use crate::{Pieces, Put, Sink};

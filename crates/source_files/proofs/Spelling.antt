@@ -10,7 +10,8 @@ use Rattle.std.proofs.lemmas.List.Sorted.{All-permutation}
 use Rattle.outer_world.specs.Files.{Files, IsListing, LacksFile, LacksFolder, file_at, has_name, path_in}
 use Rattle.outer_world.specs.Refusals.{Message}
 use Rattle.source_files.specs.Folder.{AreNames, AreSources, IsOverfull, ending_in}
-use Rattle.source_files.specs.Loads.{LacksOne, Loads}
+use Rattle.source_files.specs.Inner.Limits.{LacksOne}
+use Rattle.source_files.specs.Loads.{Loads}
 use Rattle.source_files.specs.Sources.{FolderSpells, IsFaulty, IsFirstFaulty, IsUnread, SpellEach, SpellsAt}
 use Rattle.source_files.specs.declared.error.LoadError.{LoadError}
 use Rattle.source_files.specs.declared.error.LoadError.TheVariants as errors
@@ -84,19 +85,19 @@ all_kept : {A : Type 0} (P : A → Type 0) (test : A → Bool) (xs : List A) →
 all_kept P test [] h = tt
 all_kept P test (x ∷ xs) h = kept_cons P (test x) x (filter test xs) h.0 (all_kept P test xs h.1)
 
--- so a folder whose files are told lacks none of them: only one without a file fails
-pub lacks_none : (told : Option Files) (folder ending : List ℕ) (names : List (List ℕ)) → AreNames told folder ending names → LacksOne told folder names → LacksFolder told folder
-lacks_none None folder ending names are lacks = tt
-lacks_none (Some files) folder ending names ((all, listing, moved), sorted) lacks =
+-- so a folder whose files are told lacks none of them
+pub lacks_none : (told : Option Files) (there : List ℕ → Bool) (folder ending : List ℕ) (names : List (List ℕ)) → AreNames told folder ending names → LacksOne told folder names → LacksFolder told there folder
+lacks_none None there folder ending names are lacks = tt
+lacks_none (Some files) there folder ending names ((all, listing, moved), sorted) lacks =
     let P : List ℕ → Type 0 = λ name. is_some (file_at files (path_in folder name)) ≡ true in
     absurd (lacks (recursion_from_All P names (All-permutation P (ending_in ending all) names moved (All-from_recursion P (ending_in ending all) (all_kept P (λ name. ends_with nat_eq name ending) all (all_there files folder all all listing (λ n h. h)))))))
 
 -- ---- the folder
 
-module _ {A B : Type 0} (spells : List ℕ → List ℕ → A → Type 0) (refuses : List ℕ → Message → Type 0) (ending : List ℕ) (items : B → List A) (steady : Type 0) (files : Option Files) (folder : List ℕ) where
+module _ {A B : Type 0} (spells : List ℕ → List ℕ → A → Type 0) (refuses : List ℕ → Message → Type 0) (ending : List ℕ) (items : B → List A) (steady : Type 0) (files : Option Files) (there : List ℕ → Bool) (folder : List ℕ) where
   -- names that are not listed, or are too many
-  pub unlisted : (e : LoadError) → Loads (λ (names : Vec (List ℕ) Global). AreSources files folder ending names.items) (IsOverfull files folder ending) (steady → LacksFolder files folder) (Err e)
-      → Loads (λ (b : B). FolderSpells spells ending files folder (items b)) (IsUnread spells refuses ending files folder) (steady → LacksFolder files folder) (Err e)
+  pub unlisted : (e : LoadError) → Loads (λ (names : Vec (List ℕ) Global). AreSources files folder ending names.items) (IsOverfull files folder ending) (steady → LacksFolder files there folder) (Err e)
+      → Loads (λ (b : B). FolderSpells spells ending files folder (items b)) (IsUnread spells refuses ending files folder) (steady → LacksFolder files there folder) (Err e)
   unlisted (errors.Refused r) h = inl h
   unlisted errors.Failed h = h
   unlisted errors.Memory h = tt
@@ -104,8 +105,8 @@ module _ {A B : Type 0} (spells : List ℕ → List ℕ → A → Type 0) (refus
   -- the files of these names are those of the folder
   pub sourced_later : (later : Type 0) (names : List (List ℕ)) (r : Result B LoadError) → (steady → later) → AreSources files folder ending names
       → Loads (λ (b : B). SpellEach spells files folder names (items b)) (IsFirstFaulty spells refuses files folder names) (later → LacksOne files folder names) r
-      → Loads (λ (b : B). FolderSpells spells ending files folder (items b)) (IsUnread spells refuses ending files folder) (steady → LacksFolder files folder) r
+      → Loads (λ (b : B). FolderSpells spells ending files folder (items b)) (IsUnread spells refuses ending files folder) (steady → LacksFolder files there folder) r
   sourced_later later names (Ok b) keeps are h = (names, are, h)
   sourced_later later names (Err (errors.Refused r)) keeps are h = inr (names, are, h)
-  sourced_later later names (Err errors.Failed) keeps are h = λ s. lacks_none files folder ending names are.0 (h (keeps s))
+  sourced_later later names (Err errors.Failed) keeps are h = λ s. lacks_none files there folder ending names are.0 (h (keeps s))
   sourced_later later names (Err errors.Memory) keeps are h = tt

@@ -2,7 +2,8 @@
 use Rattle.std.proofs.Common.{◌≡◌, ◌<◌, ℕ, List, Option, Some, None, Err, length, refl, sym, subst}
 use Rattle.outer_world.specs.Files.{Files}
 use Rattle.outer_world.specs.Refusals.{Message, told_line}
-use Rattle.source_files.specs.Loads.{IsPastLimit, IsWhy, Loads, Refused, TellsOf, text_error}
+use Rattle.source_files.specs.Inner.Limits.{IsPastLimit}
+use Rattle.source_files.specs.Loads.{IsWhy, Loads, Refused, TellsOf, text_error}
 use Rattle.source_files.specs.Sources.{IsFaulty, past_limit}
 use Rattle.source_files.specs.declared.error.LoadError.{LoadError}
 use Rattle.source_files.specs.declared.error.LoadError.TheVariants as errors

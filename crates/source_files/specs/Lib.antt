@@ -1,3 +1,4 @@
 pub mod Folder
 pub mod Sources
 pub mod Loads
+pub mod Inner

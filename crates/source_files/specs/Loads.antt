@@ -1,11 +1,7 @@
 -- What loading says: of what is loaded, of the line of a refusal, and of a fault of the shelf.
-use Rattle.std.specs.Prelude.{◌≡◌, ◌<◌, ℕ, List, Option, Some, None, Result, Ok, Err, true, length, is_some, IfSome}
-use Rattle.std.specs.List.{AllByRecursion}
+use Rattle.std.specs.Prelude.{◌≡◌, ℕ, List, Option, Some, None, Result, Ok, Err}
 use Rattle.outer_world.specs.Faults.{Rose}
-use Rattle.outer_world.specs.Files.{Files, HasFile, file_at, path_in}
 use Rattle.outer_world.specs.Refusals.{Message, told_line}
-use Rattle.source_files.specs.Folder.{overfull}
-use Rattle.source_files.specs.Sources.{past_limit}
 use Rattle.source_files.specs.declared.error.LoadError.{LoadError}
 use Rattle.source_files.specs.declared.error.LoadError.TheVariants as errors
 use Rattle.source_files.specs.declared.error.Refusal.{Refusal}
@@ -47,14 +43,3 @@ text_error None = texts.Memory
 abbrev pub IsWhy : (Message → Type 0) → TextError → Type 0
 IsWhy refuses (texts.Refused told) = refuses told
 IsWhy refuses texts.Memory = Unit {0}
-
--- The text at a path is past the limit, as this line tells.
-abbrev pub IsPastLimit : Option Files → List ℕ → List ℕ → Type 0
-IsPastLimit files path line = (text : List ℕ) × HasFile files path text × (1048576 < length text) × (line ≡ told_line path past_limit)
-
-abbrev pub TellsOverfull : List ℕ → ℕ → LoadError → Type 0
-TellsOverfull folder n e = Refused folder (overfull n) e
-
--- Of the files of these names in a folder some is not there, where the files are told.
-abbrev pub LacksOne : Option Files → List ℕ → List (List ℕ) → Type 0
-LacksOne told folder names = IfSome told (λ files. ¬ AllByRecursion (λ name. is_some (file_at files (path_in folder name)) ≡ true) names)

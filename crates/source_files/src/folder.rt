@@ -6,7 +6,8 @@ ghost use Rattle.std.specs.Cmp.Lexicographic.{slice_cmp};
 ghost use Rattle.std.specs.declared.alloc.Global.{Global};
 ghost use Rattle.outer_world.specs.Files.{LacksFile, LacksFolder, path_in};
 ghost use Rattle.source_files.specs.Folder.{AreNames, AreSources, IsOverfull, ending_in, stem_of};
-ghost use Rattle.source_files.specs.Loads.{CountsLoad, LacksOne, Loads, TellsOverfull};
+ghost use Rattle.source_files.specs.Loads.{CountsLoad, Loads};
+ghost use Rattle.source_files.specs.Inner.Limits.{LacksOne, TellsOverfull};
 ghost use Rattle.source_files.specs.Sources.{FolderSpells, IsFaulty, IsFirstFaulty, IsUnread, SpellEach, SpellsAt};
 
 use crate::error::LoadError;
@@ -66,9 +67,10 @@ fn names_in<F: Shelf>(
     ending: &str,
     shelf: &mut F,
 ) -> Result<Vec<Name>, LoadError>
-    ensures loads { Loads (λ (names : Vec (List ℕ) Global). AreNames (F.files shelf.old) folder.now ending.now names.items) (λ _. ⊥) (F.unfailing shelf.old → LacksFolder (F.files shelf.old) folder.now) result }
+    ensures loads { Loads (λ (names : Vec (List ℕ) Global). AreNames (F.files shelf.old) folder.now ending.now names.items) (λ _. ⊥) (F.unfailing shelf.old → LacksFolder (F.files shelf.old) (F.there shelf.old) folder.now) result }
     ensures counts { CountsLoad (F.faults shelf.old) (F.faults shelf.new) result }
     ensures kept { F.files shelf.new ≡ F.files shelf.old }
+    ensures stays { F.there shelf.new ≡ F.there shelf.old }
     ensures keeps { F.unfailing shelf.old → F.unfailing shelf.new }
 {
     let names = match shelf.list(alloc, folder) {
@@ -95,9 +97,10 @@ fn sources_in<F: Shelf>(
     ending: &str,
     shelf: &mut F,
 ) -> Result<Vec<Name>, LoadError>
-    ensures loads { Loads (λ (names : Vec (List ℕ) Global). AreSources (F.files shelf.old) folder.now ending.now names.items) (IsOverfull (F.files shelf.old) folder.now ending.now) (F.unfailing shelf.old → LacksFolder (F.files shelf.old) folder.now) result }
+    ensures loads { Loads (λ (names : Vec (List ℕ) Global). AreSources (F.files shelf.old) folder.now ending.now names.items) (IsOverfull (F.files shelf.old) folder.now ending.now) (F.unfailing shelf.old → LacksFolder (F.files shelf.old) (F.there shelf.old) folder.now) result }
     ensures counts { CountsLoad (F.faults shelf.old) (F.faults shelf.new) result }
     ensures kept { F.files shelf.new ≡ F.files shelf.old }
+    ensures stays { F.there shelf.new ≡ F.there shelf.old }
     ensures keeps { F.unfailing shelf.old → F.unfailing shelf.new }
 {
     let names = names_in(alloc, folder, ending, shelf)?;
@@ -118,6 +121,7 @@ fn load_in<L: Language, F: Shelf>(
     ensures loads { Loads (SpellsAt (L.spells language.now name.now) (F.files shelf.old) (path_in folder.now name.now)) (IsFaulty (L.refuses language.now) (F.files shelf.old) (path_in folder.now name.now)) (F.unfailing shelf.old → LacksFile (F.files shelf.old) (path_in folder.now name.now)) result }
     ensures counts { CountsLoad (F.faults shelf.old) (F.faults shelf.new) result }
     ensures kept { F.files shelf.new ≡ F.files shelf.old }
+    ensures stays { F.there shelf.new ≡ F.there shelf.old }
     ensures keeps { F.unfailing shelf.old → F.unfailing shelf.new }
 {
     let path = path_in(alloc, folder, name)?;
@@ -135,6 +139,7 @@ fn load_each<L: Language, F: Shelf>(
     ensures loads { Loads (λ (sources : Vec L.Source Global). SpellEach (L.spells language.now) (F.files shelf.old) folder.now names.now sources.items) (IsFirstFaulty (L.spells language.now) (L.refuses language.now) (F.files shelf.old) folder.now names.now) (F.unfailing shelf.old → LacksOne (F.files shelf.old) folder.now names.now) result }
     ensures counts { CountsLoad (F.faults shelf.old) (F.faults shelf.new) result }
     ensures kept { F.files shelf.new ≡ F.files shelf.old }
+    ensures stays { F.there shelf.new ≡ F.there shelf.old }
     ensures keeps { F.unfailing shelf.old → F.unfailing shelf.new }
 {
     let mut sources = Vec::new(alloc);
@@ -148,7 +153,7 @@ fn load_each<L: Language, F: Shelf>(
 /// What the texts of the folder's files spell whose names end so, in order of name.
 ///
 /// Otherwise the refusal of more than 256 files, else of the first with a fault, that the shelf failed, or want of memory. A shelf
-/// that tells its files and no call of which is planned to fail fails only for a folder in which no file stands.
+/// that tells its files and no call of which is planned to fail fails only for a folder that is not there.
 pub fn load_folder<L: Language, F: Shelf>(
     alloc: Global,
     language: &L,
@@ -156,9 +161,10 @@ pub fn load_folder<L: Language, F: Shelf>(
     ending: &str,
     shelf: &mut F,
 ) -> Result<Vec<L::Source>, LoadError>
-    ensures loads { Loads (λ (sources : Vec L.Source Global). FolderSpells (L.spells language.now) ending.now (F.files shelf.old) folder.now sources.items) (IsUnread (L.spells language.now) (L.refuses language.now) ending.now (F.files shelf.old) folder.now) (F.unfailing shelf.old → LacksFolder (F.files shelf.old) folder.now) result }
+    ensures loads { Loads (λ (sources : Vec L.Source Global). FolderSpells (L.spells language.now) ending.now (F.files shelf.old) folder.now sources.items) (IsUnread (L.spells language.now) (L.refuses language.now) ending.now (F.files shelf.old) folder.now) (F.unfailing shelf.old → LacksFolder (F.files shelf.old) (F.there shelf.old) folder.now) result }
     ensures counts { CountsLoad (F.faults shelf.old) (F.faults shelf.new) result }
     ensures kept { F.files shelf.new ≡ F.files shelf.old }
+    ensures stays { F.there shelf.new ≡ F.there shelf.old }
     ensures keeps { F.unfailing shelf.old → F.unfailing shelf.new }
 {
     let names = sources_in(alloc, folder, ending, shelf)?;

@@ -2,7 +2,8 @@
 ghost use Rattle.std.specs.Prelude.{◌≡◌, ℕ, Vec};
 ghost use Rattle.std.specs.declared.alloc.Global.{Global};
 ghost use Rattle.outer_world.specs.Files.{HasFile, LacksFile};
-ghost use Rattle.source_files.specs.Loads.{CountsLoad, IsPastLimit, Loads};
+ghost use Rattle.source_files.specs.Inner.Limits.{IsPastLimit};
+ghost use Rattle.source_files.specs.Loads.{CountsLoad, Loads};
 ghost use Rattle.source_files.specs.Sources.{IsFaulty, SpellsAt};
 
 use crate::error::{LoadError, TextError};
@@ -17,6 +18,7 @@ fn text_of<F: Shelf>(alloc: Global, path: &str, shelf: &mut F) -> Result<Vec<u8>
     ensures loads { Loads (λ (text : Vec ℕ Global). HasFile (F.files shelf.old) path.now text.items) (IsPastLimit (F.files shelf.old) path.now) (F.unfailing shelf.old → LacksFile (F.files shelf.old) path.now) result }
     ensures counts { CountsLoad (F.faults shelf.old) (F.faults shelf.new) result }
     ensures kept { F.files shelf.new ≡ F.files shelf.old }
+    ensures stays { F.there shelf.new ≡ F.there shelf.old }
     ensures keeps { F.unfailing shelf.old → F.unfailing shelf.new }
 {
     match shelf.read(alloc, path, FILE_LIMIT) {
@@ -44,6 +46,7 @@ pub fn load<L: Language, F: Shelf>(
     ensures loads { Loads (SpellsAt (L.spells language.now name.now) (F.files shelf.old) path.now) (IsFaulty (L.refuses language.now) (F.files shelf.old) path.now) (F.unfailing shelf.old → LacksFile (F.files shelf.old) path.now) result }
     ensures counts { CountsLoad (F.faults shelf.old) (F.faults shelf.new) result }
     ensures kept { F.files shelf.new ≡ F.files shelf.old }
+    ensures stays { F.there shelf.new ≡ F.there shelf.old }
     ensures keeps { F.unfailing shelf.old → F.unfailing shelf.new }
 {
     let text = text_of(alloc, path, shelf)?;

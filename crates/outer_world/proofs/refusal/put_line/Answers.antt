@@ -1,5 +1,6 @@
 use Rattle.std.proofs.Common.{List, ℕ, take, subst, sym, ◌∙◌, ap, ◌++◌}
-use Rattle.outer_world.specs.Refusals.{Message, front_of, rest_of}
+use Rattle.outer_world.specs.Inner.Parts.{front_of, rest_of}
+use Rattle.outer_world.specs.Refusals.{Message}
 use Rattle.outer_world.specs.Written.{Passes}
 use Rattle.outer_world.specs.declared.sink.Put.TheVariants as put
 use Rattle.outer_world.proofs.Passing.{Passes-then, Passes-cut}

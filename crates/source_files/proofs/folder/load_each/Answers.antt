@@ -52,5 +52,6 @@ loop-name-preserved g c =
       spelled = subst Q (sym c.in_ok-push.ensures.items) (subst P (sym longer) more);
       counts = c.in_ok-source.ensures.counts ∙ c.loop-name.invariant.counts;
       kept = c.in_ok-source.ensures.kept ∙ c.loop-name.invariant.kept;
+      stays = c.in_ok-source.ensures.stays ∙ c.loop-name.invariant.stays;
       keeps = λ s. c.in_ok-source.ensures.keeps (c.loop-name.invariant.keeps s);
     }

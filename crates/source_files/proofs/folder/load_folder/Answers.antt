@@ -2,7 +2,8 @@ use Rattle.std.proofs.Common.{List, ℕ, Option, Vec, subst}
 use Rattle.std.specs.declared.alloc.Global.{Global}
 use Rattle.std.proofs.lemmas.Result.{err_from_is_err_and}
 use Rattle.outer_world.specs.Files.{Files}
-use Rattle.source_files.specs.Loads.{LacksOne, Loads}
+use Rattle.source_files.specs.Inner.Limits.{LacksOne}
+use Rattle.source_files.specs.Loads.{Loads}
 use Rattle.source_files.specs.Sources.{IsFirstFaulty, SpellEach}
 use Rattle.source_files.proofs.Spelling.{sourced_later, unlisted}
 use Rattle.source_files.proofs.folder.load_folder.Goals as goal
@@ -15,7 +16,7 @@ returns-in_err-names-clause-loads g c =
     let ending = c.args.ending.now in
     let spells = g.L.Language.spells c.args.language.now in
     let refuses = g.L.Language.refuses c.args.language.now in
-    rw (p.1, p.2) (unlisted spells refuses ending (λ (sources : Vec g.row.L-Source.Denot Global). sources.items) (g.F.Shelf.unfailing c.args.shelf.now) told folder _ c.in_err-names.ensures.loads)
+    rw (p.1, p.2) (unlisted spells refuses ending (λ (sources : Vec g.row.L-Source.Denot Global). sources.items) (g.F.Shelf.unfailing c.args.shelf.now) told (g.F.Shelf.there c.args.shelf.now) folder _ c.in_err-names.ensures.loads)
 
 pub returns-clause-loads : goal.returns-clause-loads
 returns-clause-loads g c =
@@ -27,5 +28,5 @@ returns-clause-loads g c =
     let later = g.F.Shelf.unfailing c.sources_in.new.shelf in
     let T : Option Files → Type 0 = λ files. Loads (λ (sources : Vec g.row.L-Source.Denot Global). SpellEach spells files folder c.deref.result.now sources.items) (IsFirstFaulty spells refuses files folder c.deref.result.now) (later → LacksOne files folder c.deref.result.now) c.load_each.result in
     let N : List (List ℕ) → Type 0 = λ names. Loads (λ (sources : Vec g.row.L-Source.Denot Global). SpellEach spells told folder names sources.items) (IsFirstFaulty spells refuses told folder names) (later → LacksOne told folder names) c.load_each.result in
-    sourced_later spells refuses ending (λ (sources : Vec g.row.L-Source.Denot Global). sources.items) (g.F.Shelf.unfailing c.args.shelf.now) told folder later c.in_ok-names.names.items c.load_each.result
+    sourced_later spells refuses ending (λ (sources : Vec g.row.L-Source.Denot Global). sources.items) (g.F.Shelf.unfailing c.args.shelf.now) told (g.F.Shelf.there c.args.shelf.now) folder later c.in_ok-names.names.items c.load_each.result
     c.in_ok-names.ensures.keeps c.in_ok-names.ensures.loads (subst N c.deref.ensures.value (subst T c.in_ok-names.ensures.kept c.load_each.ensures.loads))

@@ -2,7 +2,7 @@ use Rattle.std.proofs.Common.{ℕ, Vec}
 use Rattle.std.specs.declared.alloc.Global.{Global}
 use Rattle.std.proofs.lemmas.Result.{err_from_is_err_and}
 use Rattle.outer_world.specs.Files.{HasFile, LacksFile}
-use Rattle.source_files.specs.Loads.{IsPastLimit}
+use Rattle.source_files.specs.Inner.Limits.{IsPastLimit}
 use Rattle.source_files.specs.Sources.{IsFaulty, SpellsAt}
 use Rattle.source_files.proofs.Told.{long_faulty, without}
 use Rattle.source_files.proofs.loading.load.Goals as goal
