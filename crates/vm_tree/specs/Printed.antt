@@ -61,3 +61,14 @@ file_text f = lines_text f.opening ++ functions_text f.functions
 
 abbrev pub program_text : List File → List ℕ
 program_text files = flat_map file_text files
+
+-- The line of a file is a comment. (The name of a class and of its file are one; a VM file ends in `.vm`, chapters 7 and 11.)
+abbrev pub file_line : List ℕ → List ℕ
+file_line name = codes "// file " ++ (name ++ codes ".vm\n")
+
+abbrev pub named_text : File → List ℕ
+named_text f = file_line f.name ++ file_text f
+
+-- files, each behind its line
+abbrev pub files_text : List File → List ℕ
+files_text files = flat_map named_text files

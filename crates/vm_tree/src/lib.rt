@@ -6,5 +6,5 @@ mod printing;
 mod program;
 
 pub use command::{Command, Line, Operation, Segment};
-pub use printing::print;
+pub use printing::{print, print_files};
 pub use program::{File, Function, Program};

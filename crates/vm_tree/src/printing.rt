@@ -1,7 +1,7 @@
 //! The printed form of programs.
 ghost use Rattle.std.specs.Prelude.{◌≡◌, ◌++◌, ◌∷◌, [], take};
 ghost use Rattle.outer_world.specs.Written.{CountsPut, Passes, Puts};
-ghost use Rattle.vm_tree.specs.Printed.{command_text, file_text, function_text, functions_text, lines_text, operation_text, program_text, segment_text, with_number};
+ghost use Rattle.vm_tree.specs.Printed.{command_text, file_line, file_text, files_text, function_text, functions_text, lines_text, named_text, operation_text, program_text, segment_text, with_number};
 
 use crate::{Command, File, Function, Line, Operation, Program, Segment};
 use itoa::Buffer;
@@ -182,4 +182,61 @@ pub fn print<S: Sink>(program: &Program, out: &mut S) -> Put
 {
     let mut pieces = Pieces::new(out);
     put_program(program, &mut pieces)
+}
+
+// The line that names a file.
+fn put_file_line<S: Sink>(name: &str, out: &mut Pieces<'_, S>) -> Put
+    ensures same_sink { out.new.sink.ghost_name ≡ out.old.sink.ghost_name }
+    ensures passes { Passes (S.written out.old.sink.now) (take out.old.len out.old.buffer) (S.written out.new.sink.now) (take out.new.len out.new.buffer) (file_line name.now) result }
+    ensures counts { CountsPut (S.faults out.old.sink.now) (S.faults out.new.sink.now) result }
+{
+    out.put_all(&[b"// file ", name.as_bytes(), b".vm\n"])
+}
+
+// A file behind its line.
+fn put_named<S: Sink>(file: &File, out: &mut Pieces<'_, S>) -> Put
+    ensures same_sink { out.new.sink.ghost_name ≡ out.old.sink.ghost_name }
+    ensures passes { Passes (S.written out.old.sink.now) (take out.old.len out.old.buffer) (S.written out.new.sink.now) (take out.new.len out.new.buffer) (named_text file.now) result }
+    ensures counts { CountsPut (S.faults out.old.sink.now) (S.faults out.new.sink.now) result }
+{
+    match put_file_line(file.name.as_str(), out) {
+        Put::Done => put_file(file, out),
+        Put::Failed => Put::Failed,
+    }
+}
+
+fn put_all_named<S: Sink>(files: &[File], out: &mut Pieces<'_, S>) -> Put
+    ensures same_sink { out.new.sink.ghost_name ≡ out.old.sink.ghost_name }
+    ensures passes { Passes (S.written out.old.sink.now) (take out.old.len out.old.buffer) (S.written out.new.sink.now) (take out.new.len out.new.buffer) (files_text files.now) result }
+    ensures counts { CountsPut (S.faults out.old.sink.now) (S.faults out.new.sink.now) result }
+{
+    for file in files {
+        match put_named(file, out) {
+            Put::Done => {}
+            Put::Failed => return Put::Failed,
+        }
+    }
+    Put::Done
+}
+
+// The same with an empty buffer before, and after.
+fn put_listing<S: Sink>(files: &[File], pieces: &mut Pieces<'_, S>) -> Put
+    requires { take pieces.old.len pieces.old.buffer ≡ [] }
+    ensures same_sink { pieces.new.sink.ghost_name ≡ pieces.old.sink.ghost_name }
+    ensures put { Puts (S.written pieces.old.sink.now) (S.written pieces.new.sink.now) (files_text files.now) result }
+    ensures counts { CountsPut (S.faults pieces.old.sink.now) (S.faults pieces.new.sink.now) result }
+{
+    match put_all_named(files, pieces) {
+        Put::Done => pieces.finish(),
+        Put::Failed => Put::Failed,
+    }
+}
+
+/// Prints files in this order, each behind a line `// file NAME.vm`.
+pub fn print_files<S: Sink>(files: &[File], out: &mut S) -> Put
+    ensures put { Puts (S.written out.old) (S.written out.new) (files_text files.now) result }
+    ensures counts { CountsPut (S.faults out.old) (S.faults out.new) result }
+{
+    let mut pieces = Pieces::new(out);
+    put_listing(files, &mut pieces)
 }

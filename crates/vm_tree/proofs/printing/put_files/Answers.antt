@@ -1,5 +1,5 @@
 use Rattle.std.proofs.Common.{◌∙◌, ap, drop, ◌+◌}
-use Rattle.vm_tree.specs.Printed.{program_text, file_text}
+use Rattle.vm_tree.specs.Printed.{program_text}
 use Rattle.vm_tree.proofs.Prints.{prints_more, prints_failed, rest_at}
 use Rattle.vm_tree.proofs.printing.put_files.Goals as goal
 

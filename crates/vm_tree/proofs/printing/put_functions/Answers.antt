@@ -1,5 +1,5 @@
 use Rattle.std.proofs.Common.{◌∙◌, ap, drop, ◌+◌}
-use Rattle.vm_tree.specs.Printed.{functions_text, function_text}
+use Rattle.vm_tree.specs.Printed.{functions_text}
 use Rattle.vm_tree.proofs.Prints.{prints_more, prints_failed, rest_at}
 use Rattle.vm_tree.proofs.printing.put_functions.Goals as goal
 

@@ -1,5 +1,5 @@
 use Rattle.std.proofs.Common.{◌∙◌, ap, drop, ◌+◌}
-use Rattle.vm_tree.specs.Printed.{lines_text, command_text}
+use Rattle.vm_tree.specs.Printed.{lines_text}
 use Rattle.vm_tree.proofs.Prints.{prints_more, prints_failed, rest_at}
 use Rattle.vm_tree.proofs.printing.put_lines.Goals as goal
 
