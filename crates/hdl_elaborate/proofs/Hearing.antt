@@ -39,7 +39,7 @@ sixteen : bits_named ((codes "out", 16) ∷ []) ≡ bits_of (codes "out") 0 16
 unfolding bits_named
 sixteen = refl
 
-index_is : (at : Wires ℕ) (name : List ℕ) (n k : ℕ) → k < n → slice_index (nodes_at at (bits_of name 0 n)) k ≡ at name k
+pub index_is : (at : Wires ℕ) (name : List ℕ) (n k : ℕ) → k < n → slice_index (nodes_at at (bits_of name 0 n)) k ≡ at name k
 index_is at name n k lt =
     let long = bits_long name 0 n in
     let b = item_at (bits_of name 0 n) k (omega (arith, long)) in

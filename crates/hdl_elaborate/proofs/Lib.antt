@@ -6,3 +6,5 @@ pub mod Behaves
 pub mod Trees
 pub mod Hearing
 pub mod Building
+pub mod Sizes
+pub mod Alone

@@ -8,6 +8,7 @@ use Rattle.hdl_tree.specs.Chips.{Chips, end_of, find_chip}
 use Rattle.hdl_tree.specs.Behaviour.{World}
 use Rattle.netlist.specs.Value.{Inputs, AreValues}
 use Rattle.hdl_flat.specs.declared.flat.PartAt.{PartAt}
+use Rattle.hdl_flat.specs.declared.flat.PinAt.{PinAt}
 use Rattle.hdl_flat.specs.Ends.{EndsHavePins}
 use Rattle.hdl_flat.specs.Trees.{PartIn, IsTree}
 use Rattle.hdl_elaborate.specs.declared.put.Elab.{Elab}
@@ -40,3 +41,18 @@ abbrev pub DirectoryLaw : Type 0
 DirectoryLaw =
     (world : World) (chips : Chips) (name : List ℕ) (top : Entry) (e : Elab) → IsElaborated chips top e → EndsHavePins chips → find_chip chips name ≡ Some top → end_of chips.blocks top ≡ None → (tree : List PartIn) → IsTree chips top tree →
     (inputs : Inputs) (n : ℕ) (v : ℕ → ℕ → Bool) → DirectoryHears world inputs n chips tree e → AreValues e.net inputs n v → ValuesBehave world chips top n e v
+
+-- ---- a chip that is an end itself, as a memory that is a block: its pins are those of the chip, and it has the only block
+
+abbrev pub EndAloneHears : World → Inputs → ℕ → End → Elab → Type 0
+EndAloneHears world inputs n ends.Nand e = Unit {0}
+EndAloneHears world inputs n ends.Dff e = Unit {0}
+EndAloneHears world inputs n ends.Keyboard e = (pin : PinAt) → slice_get e.pins 0 ≡ Some pin → (c : ℕ) → c < n → number 16 (λ k. inputs.pin c (slice_index pin.nodes k)) ≡ world.key c
+EndAloneHears world inputs n ends.Rom e = (a : ℕ) → a < 32768 → (inputs.loaded 0 a ≡ world.rom a) × (world.rom a < 65536)
+EndAloneHears world inputs n (ends.Block bits) e = (a : ℕ) → inputs.loaded 0 a ≡ 0
+
+-- Where it is given that, the values of the netlist, at the nodes of its pins, are a behaviour of the chip.
+abbrev pub EndAloneLaw : Type 0
+EndAloneLaw =
+    (world : World) (chips : Chips) (name : List ℕ) (top : Entry) (kind : End) (e : Elab) → IsElaborated chips top e → EndsHavePins chips → find_chip chips name ≡ Some top → end_of chips.blocks top ≡ Some kind →
+    (inputs : Inputs) (n : ℕ) (v : ℕ → ℕ → Bool) → EndAloneHears world inputs n kind e → AreValues e.net inputs n v → ValuesBehave world chips top n e v

@@ -4,3 +4,4 @@ pub mod Elaborated
 pub mod Orderly
 pub mod Behaviour
 pub mod Hearing
+pub mod Faults

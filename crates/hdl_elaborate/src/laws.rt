@@ -2,7 +2,7 @@
 
 ghost use Rattle.hdl_elaborate.specs.Behaviour.{BehaviourLaw};
 ghost use Rattle.hdl_elaborate.specs.Elaborated.{ElaboratedLaw};
-ghost use Rattle.hdl_elaborate.specs.Hearing.{DirectoryLaw, HearingLaw};
+ghost use Rattle.hdl_elaborate.specs.Hearing.{DirectoryLaw, EndAloneLaw, HearingLaw};
 ghost use Rattle.hdl_elaborate.specs.Orderly.{OrderlyLaw};
 
 /// A flat chip without faults and without a loop can be put in order.
@@ -28,4 +28,9 @@ pub fn hearing_law()
 /// Where the ends in the directory are given what the world gives, the values of the netlist, at the nodes that the directory names, are a behaviour of the chip.
 pub fn directory_law()
     ensures { DirectoryLaw }
+{}
+
+/// Where a chip that is an end itself is given what the world gives it, the values of the netlist, at the nodes of its pins, are a behaviour of the chip.
+pub fn end_alone_law()
+    ensures { EndAloneLaw }
 {}
