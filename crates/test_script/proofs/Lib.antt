@@ -1,0 +1,7 @@
+pub mod Pieces
+pub mod Acts
+pub mod Exits
+pub mod Blocks
+pub mod Apart
+pub mod WholeTexts
+pub mod RowsTold

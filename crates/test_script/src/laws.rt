@@ -1,0 +1,24 @@
+//! Laws of the grammar, and small scripts.
+
+ghost use Rattle.scan_text.specs.declared.Place.{Place};
+ghost use Rattle.grammar.specs.Rules.{IsLawful};
+ghost use Rattle.test_script.specs.declared.nesting.Nesting.{Nesting};
+ghost use Rattle.test_script.specs.Tokens.{Word};
+ghost use Rattle.test_script.specs.Script.{Part, Said, script};
+ghost use Rattle.test_script.specs.Trees.{ReadingLaw};
+ghost use Rattle.test_script.specs.Rows.{RowsLaw};
+
+/// The table of first tokens is that of the rules, and each named rule takes a token.
+pub fn first_tokens_law()
+    ensures { (end : Place) → IsLawful Word Nesting Part Said (script end) }
+{}
+
+/// A text spells at most one script, has at most one first fault, and not both.
+pub fn reading_law()
+    ensures { ReadingLaw }
+{}
+
+/// Small scripts, what they spell and their first faults.
+pub fn rows_law()
+    ensures { RowsLaw }
+{}

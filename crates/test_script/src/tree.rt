@@ -1,0 +1,61 @@
+//! What a test script says (book, appendix 3).
+use outer_world::List;
+use scan_text::Place;
+
+/// A word of a script, with the place where it stands.
+#[derive(Drop)]
+pub struct Placed {
+    pub text: List<u8>,
+    pub place: Place,
+}
+
+/// How an item is shown: as sixteen binary digits, as a decimal, or as a text.
+#[derive(Clone, Copy, Debug, PartialEq, Eq)]
+pub enum Format {
+    Binary,
+    Decimal,
+    Text,
+}
+
+/// An item of an output list: its variable, its format, and how many blanks, characters and blanks it takes.
+#[derive(Drop)]
+pub struct Item {
+    pub variable: Placed,
+    pub format: Format,
+    pub left: u8,
+    pub shown: u8,
+    pub right: u8,
+}
+
+/// A command of one word.
+#[derive(Clone, Copy, Debug, PartialEq, Eq)]
+pub enum Step {
+    Eval,
+    Tick,
+    Tock,
+    TickTock,
+    Output,
+}
+
+/// A command that is no repetition.
+#[derive(Drop)]
+pub enum Act {
+    Step(Step),
+    /// `load`: a chip or a program.
+    Load(Placed),
+    OutputFile(Placed),
+    CompareTo(Placed),
+    OutputList(List<Item>),
+    /// `set`: the variable, and the word that it gets.
+    Set(Placed, u16),
+    Echo(List<u8>),
+    /// `ROM32K load`: that first word, and the program.
+    LoadRom(Placed, Placed),
+}
+
+/// A command: an act, or commands that are repeated so many times.
+#[derive(Drop)]
+pub enum Command {
+    Act(Act),
+    Repeat(u32, Vec<Command>),
+}
