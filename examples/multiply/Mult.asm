@@ -1,0 +1,32 @@
+// R2 = R0 * R1, by adding R0 as many times as R1 says.
+// Memory is 0 at the start, so the program sets what it multiplies.
+        @6
+        D=A
+        @R0
+        M=D
+        @7
+        D=A
+        @R1
+        M=D
+        @R2
+        M=0
+        @count
+        M=0
+(LOOP)
+        @count
+        D=M
+        @R1
+        D=D-M
+        @END
+        D;JEQ
+        @R0
+        D=M
+        @R2
+        M=D+M
+        @count
+        M=M+1
+        @LOOP
+        0;JMP
+(END)
+        @END
+        0;JMP
