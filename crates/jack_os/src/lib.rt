@@ -5,7 +5,5 @@ mod making;
 mod reading;
 mod routines;
 mod shipped;
-#[cfg(test)]
-mod tests;
 
 pub use reading::{SystemError, SystemFault, classes, texts};

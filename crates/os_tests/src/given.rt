@@ -1,4 +1,5 @@
-use crate::classes;
+//! The subroutines that are made by code, as the texts of the book give them.
+use jack_os::classes;
 use jack_parser::{parse_class, print};
 use jack_tree::Class;
 use outer_world::{MemorySink, Name, Put};
