@@ -1,0 +1,13 @@
+//! A chip that a script drives.
+
+use crate::directory::Directory;
+use gate_sim::Sim;
+
+/// A chip that a script drives: its simulator, its time, and what has a name.
+#[derive(Drop)]
+pub struct DrivenChip {
+    pub(crate) sim: Sim,
+    pub(crate) cycle: u64,
+    pub(crate) ticked: bool,
+    pub(crate) directory: Directory,
+}

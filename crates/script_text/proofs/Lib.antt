@@ -1,0 +1,3 @@
+pub mod Agreeing
+pub mod Cutting
+pub mod Numerals

@@ -1,0 +1,4 @@
+pub mod Columns
+pub mod Comparison
+pub mod Rows
+pub mod Inner
