@@ -18,6 +18,3 @@ pub use laws::{
 };
 pub use program::{ProgramError, program_of_classes};
 pub use vm_level::prepare_vm;
-
-#[cfg(test)]
-mod tests;

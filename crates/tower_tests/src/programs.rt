@@ -2,7 +2,6 @@ ghost use Rattle.std.specs.Prelude.{◌≡◌, IfOk, length};
 ghost use Rattle.jack_compiler.specs.Resolved.{IsResolvedCore};
 ghost use Rattle.tower.specs.Spelled.{AreSpelled};
 
-use crate::{ProgramError, build, compile_classes, prepare_hack, prepare_vm, program_of_classes};
 use jack_core::Core;
 use jack_names::NameKind;
 use jack_parser::parse_class;
@@ -12,6 +11,7 @@ use outer_world::{MemorySink, Name, Point, Put};
 use scan_text::Place;
 use std::alloc::Global;
 use std::test::*;
+use tower::{ProgramError, build, compile_classes, prepare_hack, prepare_vm, program_of_classes};
 use vm_machine::Vm;
 use vm_tree::print_files;
 
