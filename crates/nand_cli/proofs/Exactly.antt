@@ -1,7 +1,7 @@
 -- A line of `asm`, of `exec`, of `show` and of `vm` prints one thing or is refused for one thing, and not both.
 use Rattle.std.specs.Prelude.{min, ◌^◌}
-use Rattle.std.proofs.Common.{◌≡◌, ◌≤◌, ◌-◌, inl, inr, true, ℕ, Bool, List, [], ◌∷◌, Some, Result, Ok, Err, codes, length, map, refl, sym, ◌∙◌, ap, subst, arith}
-use Rattle.outer_world.specs.Files.{Files}
+use Rattle.std.proofs.Common.{◌≡◌, ◌≤◌, ◌-◌, inl, inr, true, None, ℕ, Bool, List, [], ◌∷◌, Some, Result, Ok, Err, codes, length, map, refl, sym, ◌∙◌, ap, subst, arith}
+use Rattle.outer_world.specs.Files.{Files, LacksFolder, file_at}
 use Rattle.outer_world.specs.Refusals.{Message, told_line}
 use Rattle.hack_isa.specs.Machine.{image_words, machine_at, read}
 use Rattle.hack_asm.specs.Image.{image_text}
@@ -27,6 +27,7 @@ use Rattle.jack_parser.specs.Printed.{text_of}
 use Rattle.jack_parser.specs.Whole.{ReadingLaw as JackLaw, Spells as SpellsTree, whole_tree}
 use Rattle.command_line.specs.declared.request.SourceKind.TheVariants as kinds
 use Rattle.source_files.proofs.Once.{never_both, never_unread, one_fault, one_folder, one_refusal, one_source}
+use Rattle.source_files.specs.Sources.{IsFaulty, SpellsAt}
 use Rattle.nand_cli.specs.Exact.{AsmExactLaw, ExecExactLaw, ShowExactLaw, VmExactLaw}
 use Rattle.nand_cli.specs.Languages.{RefusesClass, RefusesVm, RefusesWords, SpellsVmFile, SpellsWords}
 use Rattle.nand_cli.specs.Commands.Exec.{form_of}
@@ -34,6 +35,18 @@ use Rattle.nand_cli.specs.Commands.Vm.{HasNoCode, HasProgram, VmPrints, VmRefuse
 use Rattle.nand_cli.specs.declared.languages.Form.{Form}
 use Rattle.nand_cli.specs.declared.languages.Form.TheVariants.{Assembly}
 use Rattle.nand_cli.proofs.ReadOnce.{file_once, program_once, tree_once, words_once}
+
+-- ---- what is not there
+
+-- a file that is not there spells nothing and is not refused
+pub no_source : {A : Type 0} (spells : List ℕ → A → Type 0) (files : Files) (path : List ℕ) (a : A) → file_at files path ≡ None → SpellsAt spells (Some files) path a → ⊥
+no_source spells files path a gone (text, has, h) = let no : ⊥ = cc in no
+
+pub no_fault : (refuses : List ℕ → Message → Type 0) (files : Files) (path line : List ℕ) → file_at files path ≡ None → IsFaulty refuses (Some files) path line → ⊥
+no_fault refuses files path line gone (text, told, has, h, e) = let no : ⊥ = cc in no
+
+pub not_missing : (there : List ℕ → Bool) (files : Files) (folder : List ℕ) → there folder ≡ true → LacksFolder (Some files) there folder → ⊥
+not_missing there files folder is (gone, empty) = let no : ⊥ = cc in no
 
 -- ---- `asm` and `exec`
 
@@ -52,6 +65,7 @@ asm_exact assembly image files path =
         one_fault (spelled_in Assembly) (RefusesWords Assembly) (λ (ws : List ℕ). ws) once files path err err' h.1 k.1,
       );
       apart = λ out err out' err' h k. never_both (spelled_in Assembly) (RefusesWords Assembly) (λ (ws : List ℕ). ws) once files [] path h.0.0 err' h.0.1 k.1;
+      lacking = λ there has gone out err. (λ h. no_source (SpellsWords Assembly) files path h.0.0 gone h.0.1, λ k. no_fault (RefusesWords Assembly) files path err gone k.1);
     }
 
 pub exec_exact : AssemblyLaw → ImageLaw → ExecExactLaw
@@ -69,6 +83,7 @@ exec_exact assembly image files path cycles from to =
         one_fault (spelled_in form) (RefusesWords form) (λ (ws : List ℕ). ws) once files path err err' h.1 k.1,
       );
       apart = λ out err out' err' h k. never_both (spelled_in form) (RefusesWords form) (λ (ws : List ℕ). ws) once files [] path h.0.0 err' h.0.1 k.1;
+      lacking = λ there has gone out err. (λ h. no_source (SpellsWords form) files path h.0.0 gone h.0.1, λ k. no_fault (RefusesWords form) files path err gone k.1);
     }
 
 -- ---- `show`
@@ -91,6 +106,7 @@ show_exact vm_law jack_law files path kinds.Vm =
         one_fault program_in (RefusesVm true) (λ (p : List File). p) once files path err err' h.1 k.1,
       );
       apart = λ out err out' err' h k. never_both program_in (RefusesVm true) (λ (p : List File). p) once files [] path h.0.0 err' h.0.1 k.1;
+      lacking = λ there has gone out err. (λ h. no_source (program_in []) files path h.0.0 gone h.0.1, λ k. no_fault (RefusesVm true) files path err gone k.1);
     }
 show_exact vm_law jack_law files path kinds.Jack =
     let once = tree_once jack_law in record {
@@ -103,6 +119,7 @@ show_exact vm_law jack_law files path kinds.Jack =
         one_fault tree_in RefusesClass whole_tree once files path err err' h.1 k.1,
       );
       apart = λ out err out' err' h k. never_both tree_in RefusesClass whole_tree once files [] path h.0.0 err' h.0.1 k.1;
+      lacking = λ there has gone out err. (λ h. no_source (tree_in []) files path h.0.0 gone h.0.1, λ k. no_fault RefusesClass files path err gone k.1);
     }
 
 -- ---- `vm`
@@ -174,4 +191,5 @@ vm_exact law files folder bare = record {
   prints = λ one out err out' err' h k. (vm_prints law files folder bare out out' h.0 k.0, h.1 ∙ sym k.1);
   refuses = λ out err out' err' h k. (h.0 ∙ sym k.0, vm_refuses law files folder bare err err' h.1 k.1);
   apart = λ out err out' err' h k. vm_apart law files folder bare out err' h.0 k.1;
+  lacking = λ there has gone out err. absurd (not_missing there files folder has gone);
 }

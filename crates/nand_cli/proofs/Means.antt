@@ -1,5 +1,5 @@
 -- The program of a folder's classes, or why there is none; and why it has no computer.
-use Rattle.std.proofs.Common.{◌≡◌, List, ℕ, Vec, Global, Option, Result, Ok, Err, codes, refl}
+use Rattle.std.proofs.Common.{◌≡◌, List, ℕ, Bool, Vec, Global, Option, Result, Ok, Err, codes, refl}
 use Rattle.grammar.specs.Faults.{fault_told}
 use Rattle.jack_names.specs.Messages.{name_told}
 use Rattle.outer_world.specs.Files.{Files, LacksFolder, path_in}
@@ -26,15 +26,15 @@ not_meant folder classes programs.Memory e h tells = rw tells tt
 not_meant folder classes (programs.System f) e h tells = told (λ (core : Core). Means classes (Ok core)) (IsMeaningless folder classes) ⊥ (path_in (codes "os") f.file) (fault_told f.fault) e (programs.System f, h, refl) tells
 not_meant folder classes (programs.Name f) e h tells = told (λ (core : Core). Means classes (Ok core)) (IsMeaningless folder classes) ⊥ (path_in (home_of folder f.shipped) f.file) (name_told f) e (programs.Name f, h, refl) tells
 
-module _ (files : Option Files) (folder : List ℕ) (steady : Type 0) where
+module _ (files : Option Files) (folder : List ℕ) (there : List ℕ → Bool) (steady : Type 0) where
   -- what the folder's program says of loading it
   abbrev pub LoadsJack : Result Core LoadError → Type 0
-  LoadsJack r = Loads (FolderMeans files folder) (FolderIsRefused files folder) (steady → LacksFolder files folder) r
+  LoadsJack r = Loads (FolderMeans files folder) (FolderIsRefused files folder) (steady → LacksFolder files there folder) r
 
-  pub without_classes : (e : LoadError) → Loads (λ (classes : Vec Class Global). HasClasses files folder classes.items) (IsUnread SpellsClass RefusesClass (codes ".jack") files folder) (steady → LacksFolder files folder) (Err e) → LoadsJack (Err e)
+  pub without_classes : (e : LoadError) → Loads (λ (classes : Vec Class Global). HasClasses files folder classes.items) (IsUnread SpellsClass RefusesClass (codes ".jack") files folder) (steady → LacksFolder files there folder) (Err e) → LoadsJack (Err e)
   without_classes e h =
-      without (λ (classes : Vec Class Global). HasClasses files folder classes.items) (IsUnread SpellsClass RefusesClass (codes ".jack") files folder) (steady → LacksFolder files folder)
-      (FolderMeans files folder) (FolderIsRefused files folder) (steady → LacksFolder files folder) e (λ line k. unread k) (λ k. k) h
+      without (λ (classes : Vec Class Global). HasClasses files folder classes.items) (IsUnread SpellsClass RefusesClass (codes ".jack") files folder) (steady → LacksFolder files there folder)
+      (FolderMeans files folder) (FolderIsRefused files folder) (steady → LacksFolder files there folder) e (λ line k. unread k) (λ k. k) h
 
   pub meant : (classes : List Class) (r : Result Core LoadError) → HasClasses files folder classes → Loads (λ (core : Core). Means classes (Ok core)) (IsMeaningless folder classes) ⊥ r → LoadsJack r
   meant classes (Ok core) has h = (classes, has, h)

@@ -53,12 +53,13 @@ use Rattle.tower.specs.declared.building.BuildError.TheVariants as building
 use Rattle.tower.specs.declared.program.ProgramError.{ProgramError}
 use Rattle.tower.specs.declared.program.ProgramError.TheVariants as errors
 use Rattle.source_files.proofs.Once.{never_both, never_unread, one_fault, one_folder, one_refusal, one_source}
+use Rattle.nand_cli.specs.Answer.{Lacks}
 use Rattle.nand_cli.specs.Exact.{AsmExactLaw, ExactLaw, ExecExactLaw, RunExactLaw, ShowExactLaw, ShowsOneText, VmExactLaw}
 use Rattle.nand_cli.specs.Languages.{RefusesClass, RefusesKeys}
 use Rattle.nand_cli.specs.JackFolder.{BuildIsRefused, FolderIsRefused, FolderMeans, HasClasses, IsWrongLine, home_of, meaningless, unread}
 use Rattle.nand_cli.specs.Commands.Gates.{IsGatesReport, gates_trace}
-use Rattle.nand_cli.specs.Commands.Run.{EndsAt, HasKeys, IsHackReport, IsReport, RunPrints, RunRefuses, ScriptIsRefused, name_of, state_after, trace_in, unbuilt, without_program, without_script}
-use Rattle.nand_cli.proofs.Exactly.{not_linked, one_link_fault, one_linked, one_size}
+use Rattle.nand_cli.specs.Commands.Run.{EndsAt, HasKeys, IsHackReport, IsReport, LacksKeys, RunPrints, RunRefuses, ScriptIsRefused, name_of, state_after, trace_in, unbuilt, without_program, without_script}
+use Rattle.nand_cli.proofs.Exactly.{no_fault, no_source, not_linked, not_missing, one_link_fault, one_linked, one_size}
 use Rattle.nand_cli.proofs.ReadOnce.{class_once, keys_once}
 use Rattle.nand_cli.proofs.SameClasses.{SameClasses, added_class, all_class_names_same, all_names_same, class_seen, first_name_fault_same, program_meant_same}
 
@@ -392,11 +393,35 @@ module _ (jack_law : JackLaw) (key_law : KeyLaw) (files : Files) (folder : List 
       never_unbuilt core core' (one_meaning jack_law files folder core core' means means') built.0 k.0 k.1 built.1 k.2 k.3
   run_apart out line (core, ls, means, built, has, is) (without_script core' means' built' k) = never_scripted key_law files keys ls line has k
 
+  -- a key script that is not there
+  no_keys : (path : Option (List ℕ)) (ls : List Line) → LacksKeys (Some files) path → HasKeys (Some files) path ls → ⊥
+  no_keys None ls gone has = gone
+  no_keys (Some path) ls gone has = no_source SpellsLines files path ls gone has
+
+  no_script : (path : Option (List ℕ)) (line : List ℕ) → LacksKeys (Some files) path → ScriptIsRefused (Some files) path line → ⊥
+  no_script None line gone refused = gone
+  no_script (Some path) line gone refused = no_fault RefusesKeys files path line gone refused
+
+  never_printed : (there : List ℕ → Bool) (out : List ℕ) → there folder ≡ true → Lacks there files (run folder level cycles keys) → RunPrints (Some files) folder level cycles keys out → ⊥
+  never_printed there out has (inl gone) h = not_missing there files folder has gone
+  never_printed there out has (inr (core, means, built, gone)) (core', ls, means', built', keyed, is) = no_keys keys ls gone keyed
+
+  never_run_refused : (there : List ℕ → Bool) (line : List ℕ) → there folder ≡ true → Lacks there files (run folder level cycles keys) → RunRefuses (Some files) folder keys line → ⊥
+  never_run_refused there line has (inl gone) h = not_missing there files folder has gone
+  never_run_refused there line has (inr (core, means, built, gone)) (without_program k) = never_refused jack_law files folder core line means k
+  never_run_refused there line has (inr (core, means, built, gone)) (unbuilt core' means' k) =
+      never_unbuilt core core' (one_meaning jack_law files folder core core' means means') built.0 k.0 k.1 built.1 k.2 k.3
+  never_run_refused there line has (inr (core, means, built, gone)) (without_script core' means' built' k) = no_script keys line gone k
+
 pub run_exact : JackLaw → KeyLaw → RunExactLaw
 run_exact jack_law key_law files folder level cycles keys = record {
   prints = λ one out err out' err' h k. (run_prints jack_law key_law files folder level cycles keys one out out' h.0 k.0, h.1 ∙ sym k.1);
   refuses = λ out err out' err' h k. (h.0 ∙ sym k.0, run_refuses jack_law key_law files folder level cycles keys err err' h.1 k.1);
   apart = λ out err out' err' h k. run_apart jack_law key_law files folder level cycles keys out err' h.0 k.1;
+  lacking = λ there has gone out err. (
+    λ h. never_printed jack_law key_law files folder level cycles keys there out has gone h.0,
+    λ k. never_run_refused jack_law key_law files folder level cycles keys there err has gone k.1,
+  );
 }
 
 -- ---- each line

@@ -91,10 +91,11 @@ fn program_of(alloc: Global, folder: &str, classes: &[Class]) -> Result<Core, Lo
 /// Otherwise the refusal of the files as they are read, else of the first fault in the operating system's texts, else of the
 /// first name fault.
 pub fn load_jack<F: Shelf>(alloc: Global, folder: &str, shelf: &mut F) -> Result<Core, LoadError>
-    ensures loads { Loads (FolderMeans (F.files shelf.old) folder.now) (FolderIsRefused (F.files shelf.old) folder.now) (F.unfailing shelf.old → LacksFolder (F.files shelf.old) folder.now) result }
+    ensures loads { Loads (FolderMeans (F.files shelf.old) folder.now) (FolderIsRefused (F.files shelf.old) folder.now) (F.unfailing shelf.old → LacksFolder (F.files shelf.old) (F.there shelf.old) folder.now) result }
     ensures resolved { IfOk result IsResolvedCore }
     ensures counts { CountsLoad (F.faults shelf.old) (F.faults shelf.new) result }
     ensures kept { F.files shelf.new ≡ F.files shelf.old }
+    ensures stays { F.there shelf.new ≡ F.there shelf.old }
     ensures keeps { F.unfailing shelf.old → F.unfailing shelf.new }
 {
     let classes = load_folder(alloc, &JackText, folder, ENDING, shelf)?;
