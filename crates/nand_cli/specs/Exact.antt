@@ -2,7 +2,7 @@
 -- it reads is not there.
 use Rattle.std.specs.Prelude.{◌≡◌, ℕ, Bool, true, List, Option, Some}
 use Rattle.outer_world.specs.Files.{Files}
-use Rattle.command_line.specs.Line.{Line, asm, exec, run, show, vm}
+use Rattle.command_line.specs.Line.{Line, asm, build, chip, exec, map_line, run, show, vm}
 use Rattle.command_line.specs.declared.request.RunLevel.{RunLevel}
 use Rattle.command_line.specs.declared.request.RunLevel.TheVariants.{Gates}
 use Rattle.command_line.specs.declared.request.Shown.TheVariants.{Nets}
@@ -23,6 +23,8 @@ HasOneText line = Unit {0}
 abbrev pub HasFolder : (List ℕ → Bool) → Line → Type 0
 HasFolder there (vm folder bare) = there folder ≡ true
 HasFolder there (run folder level cycles keys) = there folder ≡ true
+HasFolder there (build folder) = there folder ≡ true
+HasFolder there (map_line folder) = there folder ≡ true
 HasFolder there line = Unit {0}
 
 -- Over these files the line, where it shows one text, prints at most one thing on out and on err, is refused with at most one, and is not both done
@@ -49,6 +51,15 @@ ShowExactLaw = (files : Files) (path : List ℕ) (kind : SourceKind) → IsExact
 
 abbrev pub RunExactLaw : Type 0
 RunExactLaw = (files : Files) (folder : List ℕ) (level : RunLevel) (cycles : ℕ) (keys : Option (List ℕ)) → IsExact files (run folder level cycles keys)
+
+abbrev pub ChipExactLaw : Type 0
+ChipExactLaw = (files : Files) (name : List ℕ) → IsExact files (chip name)
+
+abbrev pub BuildExactLaw : Type 0
+BuildExactLaw = (files : Files) (folder : List ℕ) → IsExact files (build folder)
+
+abbrev pub MapExactLaw : Type 0
+MapExactLaw = (files : Files) (folder : List ℕ) → IsExact files (map_line folder)
 
 -- The law of exactness.
 abbrev pub ExactLaw : Type 0

@@ -4,7 +4,7 @@ ghost use Rattle.command_line.specs.Line.{show};
 ghost use Rattle.nand_cli.specs.Inner.Parts.{Counts, Does};
 
 use crate::failure::{Failure, finished};
-use crate::languages::{JackText, VmText};
+use crate::languages::{HdlText, JackText, VmText};
 use command_line::SourceKind;
 use outer_world::{List, Shelf, Sink};
 use source_files::load;
@@ -44,6 +44,22 @@ fn show_class<F: Shelf, O: Sink>(
     finished(jack_parser::print(&class, out))
 }
 
+// Shows a chip.
+fn show_chip<F: Shelf, O: Sink>(
+    alloc: Global,
+    path: &str,
+    shelf: &mut F,
+    out: &mut O,
+) -> Result<(), Failure>
+    ensures does { (err : Option (List ℕ)) → Does (F.files shelf.old) (F.there shelf.old) (F.unfailing shelf.old) (show path.now SourceKind.Hdl) (O.written out.old) (O.written out.new) err err result }
+    ensures counts { (err : ℕ) → Counts (F.faults shelf.old) (F.faults shelf.new) (O.faults out.old) (O.faults out.new) err err result }
+    ensures kept { F.files shelf.new ≡ F.files shelf.old }
+    ensures stays { F.there shelf.new ≡ F.there shelf.old }
+{
+    let chip = load(alloc, &HdlText, path, "", shelf)?;
+    finished(hdl_parser::print(&chip, out))
+}
+
 /// Does a line of `show`; err is left as it is.
 pub fn answer_show<F: Shelf, O: Sink>(
     alloc: Global,
@@ -60,5 +76,6 @@ pub fn answer_show<F: Shelf, O: Sink>(
     match kind {
         SourceKind::Vm => show_vm(alloc, path, shelf, out),
         SourceKind::Jack => show_class(alloc, path, shelf, out),
+        SourceKind::Hdl => show_chip(alloc, path, shelf, out),
     }
 }
