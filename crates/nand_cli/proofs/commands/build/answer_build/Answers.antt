@@ -28,7 +28,7 @@ pub returns-clause-does : goal.returns-clause-does
 returns-clause-does g c = λ err.
     let P : List ℕ → Type 0 = λ words. Puts (g.O.Sink.written c.args.out.now) (g.O.Sink.written c.write_hack.new.out) (image_text words) c.write_hack.result in
     let program = c.in_ok-program.program in
-    rw (c.finished.ensures) (done_by _ _ _ (build c.args.folder.now) (image_text program.built.image) _ _ err c.write_hack.result
+    rw (c.finished.ensures) (done_by (g.F.Shelf.files c.args.shelf.now) (g.F.Shelf.there c.args.shelf.now) (g.F.Shelf.unfailing c.args.shelf.now) (build c.args.folder.now) (image_text program.built.image) _ _ err c.write_hack.result
     ((program.core, program.built, c.in_ok-program.ensures.loads, refl), refl) (subst P c.image.ensures c.write_hack.ensures.put))
 
 pub returns-clause-counts : goal.returns-clause-counts

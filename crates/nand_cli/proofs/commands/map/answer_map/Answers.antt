@@ -43,7 +43,7 @@ returns-clause-does g c = λ err.
     let R : List ℕ → Type 0 = λ cs. Puts out out' (map_text names ranges cs) r in
     let put = subst R c.commits.ensures c.show_map.ensures.put in
     let named = ap (map (λ n. n.now)) c.deref.ensures.value ∙ c.in_ok-names.ensures in
-    rw (c.finished.ensures) (done_by _ _ _ (map_line c.args.folder.now) (map_text (names_of core) computer.ranges computer.commits) _ _ err r
+    rw (c.finished.ensures) (done_by (g.F.Shelf.files c.args.shelf.now) (g.F.Shelf.there c.args.shelf.now) (g.F.Shelf.unfailing c.args.shelf.now) (map_line c.args.folder.now) (map_text (names_of core) computer.ranges computer.commits) _ _ err r
     ((core, computer, c.in_ok-program.ensures.loads, covered core computer c.in_ok-program.ensures.loads.1, refl), refl) (subst P named (subst Q c.points.ensures put)))
 
 pub returns-clause-counts : goal.returns-clause-counts

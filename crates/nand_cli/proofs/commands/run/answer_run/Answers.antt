@@ -69,7 +69,7 @@ returns-in-Jack-clause-does g c = λ err.
     let P : Option Files → Type 0 = λ files. HasKeys files path c.in_ok-keys.keys in
     let Q : RunLevel → Type 0 = λ level. Does (g.F.Shelf.files c.args.shelf.now) (g.F.Shelf.there c.args.shelf.now) steady (run request.folder.now level request.cycles path) (g.O.Sink.written c.args.out.now) (g.O.Sink.written c.report_jack.new.out) err err c.report_jack.result in
     subst Q (sym c.in-Jack.is)
-    (answered (levels.Jack c.in-Jack.show) _ _ steady request.folder.now request.cycles path c.in_ok-core.core c.in_ok-keys.keys _ _ err c.report_jack.result c.in_ok-core.ensures.loads
+    (answered (levels.Jack c.in-Jack.show) _ (g.F.Shelf.there c.args.shelf.now) steady request.folder.now request.cycles path c.in_ok-core.core c.in_ok-keys.keys _ _ err c.report_jack.result c.in_ok-core.ensures.loads
     (c.in_ok-built.built, c.in_ok-built.ensures) (subst P c.in_ok-core.ensures.kept c.in_ok-keys.ensures.loads) c.report_jack.ensures.reports)
 
 pub returns-in-Jack-clause-counts : goal.returns-in-Jack-clause-counts
@@ -88,7 +88,7 @@ returns-in-Hack-clause-does g c = λ err.
     let P : Option Files → Type 0 = λ files. HasKeys files path c.in_ok-keys.keys in
     let Q : RunLevel → Type 0 = λ level. Does (g.F.Shelf.files c.args.shelf.now) (g.F.Shelf.there c.args.shelf.now) steady (run request.folder.now level request.cycles path) (g.O.Sink.written c.args.out.now) (g.O.Sink.written c.report_hack.new.out) err err c.report_hack.result in
     subst Q (sym c.in-Hack.is)
-    (answered (levels.Hack c.in-Hack.show) _ _ steady request.folder.now request.cycles path c.in_ok-core.core c.in_ok-keys.keys _ _ err c.report_hack.result c.in_ok-core.ensures.loads
+    (answered (levels.Hack c.in-Hack.show) _ (g.F.Shelf.there c.args.shelf.now) steady request.folder.now request.cycles path c.in_ok-core.core c.in_ok-keys.keys _ _ err c.report_hack.result c.in_ok-core.ensures.loads
     (c.in_ok-built.built, c.in_ok-built.ensures) (subst P c.in_ok-core.ensures.kept c.in_ok-keys.ensures.loads) c.report_hack.ensures.reports)
 
 pub returns-in-Hack-clause-counts : goal.returns-in-Hack-clause-counts
@@ -107,7 +107,7 @@ returns-clause-does g c = λ err.
     let P : Option Files → Type 0 = λ files. HasKeys files path c.in_ok-keys.keys in
     let Q : RunLevel → Type 0 = λ level. Does (g.F.Shelf.files c.args.shelf.now) (g.F.Shelf.there c.args.shelf.now) steady (run request.folder.now level request.cycles path) (g.O.Sink.written c.args.out.now) (g.O.Sink.written c.report_gates.new.out) err err c.report_gates.result in
     subst Q (sym c.in-Gates.is)
-    (answered (levels.Gates c.in-Gates.shown) _ _ steady request.folder.now request.cycles path c.in_ok-core.core c.in_ok-keys.keys _ _ err c.report_gates.result c.in_ok-core.ensures.loads
+    (answered (levels.Gates c.in-Gates.shown) _ (g.F.Shelf.there c.args.shelf.now) steady request.folder.now request.cycles path c.in_ok-core.core c.in_ok-keys.keys _ _ err c.report_gates.result c.in_ok-core.ensures.loads
     (c.in_ok-built.built, c.in_ok-built.ensures) (subst P c.in_ok-core.ensures.kept c.in_ok-keys.ensures.loads) c.report_gates.ensures.reports)
 
 pub returns-clause-counts : goal.returns-clause-counts

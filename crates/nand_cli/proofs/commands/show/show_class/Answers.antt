@@ -28,7 +28,7 @@ pub returns-clause-does : goal.returns-clause-does
 returns-clause-does g c = λ err.
     let source = c.in_ok-class.class in
     let loaded = c.in_ok-class.ensures.loads in
-    rw (c.finished.ensures) (done_by _ _ _ (show c.args.path.now kinds.Jack) (class_text source) _ _ err c.print.result ((source, (loaded.0, loaded.1, loaded.2.0), refl), refl) c.print.ensures.put)
+    rw (c.finished.ensures) (done_by (g.F.Shelf.files c.args.shelf.now) (g.F.Shelf.there c.args.shelf.now) (g.F.Shelf.unfailing c.args.shelf.now) (show c.args.path.now kinds.Jack) (class_text source) _ _ err c.print.result ((source, (loaded.0, loaded.1, loaded.2.0), refl), refl) c.print.ensures.put)
 
 pub returns-clause-counts : goal.returns-clause-counts
 returns-clause-counts g c = λ err.
