@@ -14,3 +14,4 @@ pub mod Turning
 pub mod Listing
 pub mod Wired
 pub mod Shipped
+pub mod Libraries

@@ -42,7 +42,7 @@ has_pins chip e h = record {
   outputs = ap (λ (p : List Port × List Port). p.1) h ∙ outputs_are e;
 }
 
-ends_have_pins : (blocks : Bool) → EndsHavePins (chips_in shipped_chips blocks)
+pub ends_have_pins : (blocks : Bool) → EndsHavePins (chips_in shipped_chips blocks)
 ends_have_pins blocks name chip e found is = has_pins chip e (faces.end_pins blocks name chip e found is)
 
 -- ---- how many nodes
