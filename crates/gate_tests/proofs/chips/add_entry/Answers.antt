@@ -1,0 +1,12 @@
+use Rattle.std.proofs.Common.{rules, arith, ◌≡◌, List, None, sym, subst}
+use Rattle.std.proofs.lemmas.Grind.{common_steps}
+use Rattle.hdl_tree.specs.declared.library.Entry.{Entry}
+use Rattle.hdl_tree.specs.Chips.{find_entry}
+use Rattle.gate_computer.specs.Elaborated.{IsLibrary}
+use Rattle.gate_computer.proofs.Libraries.{libraries}
+use Rattle.gate_tests.proofs.chips.add_entry.Goals as goal
+
+pub returns : goal.returns
+returns c =
+    let none : find_entry c.args.library.now.entries c.args.entry.name ≡ None = first_of (search rules, grind (arith, common_steps)) in
+    subst (λ (es : List Entry). IsLibrary es) (sym c.in_ok-push.ensures.ok) (libraries.more c.args.library.now.entries c.args.entry c.requires.library none c.requires.known)

@@ -1,0 +1,5 @@
+use Rattle.gate_computer.proofs.Libraries.{libraries}
+use Rattle.gate_tests.proofs.chips.answer.Goals as goal
+
+pub elaborate-requires-clause-ends : goal.elaborate-requires-clause-ends
+elaborate-requires-clause-ends c = libraries.ends c.args.library.now.entries c.args.blocks c.requires

@@ -1,0 +1,5 @@
+use Rattle.gate_computer.specs.Elaborated.{IsLibrary}
+use Rattle.gate_tests.proofs.refusals.chained.Given as goal
+
+abbrev pub invariant-loop-k : goal.invariant-loop-k
+invariant-loop-k l = IsLibrary l.library.entries

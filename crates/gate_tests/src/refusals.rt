@@ -1,0 +1,130 @@
+//! Why chips have no netlist.
+
+ghost use Rattle.std.specs.Prelude.{IfOk};
+ghost use Rattle.gate_computer.specs.Elaborated.{IsLibrary};
+
+use crate::chips::{add_text, answer, library_with, shipped_library};
+use hdl_elaborate::ElaborationFault;
+use hdl_tree::{Library, Name};
+use std::alloc::{AllocError, Global};
+use std::test::*;
+
+fn nets_text(alloc: Global, nets: &[Name]) -> Result<String, AllocError> {
+    let mut text = String::new(alloc);
+    text.push_str("Loop")?;
+    for net in nets {
+        let name = String::from_utf8_lossy(alloc, net.as_bytes())?;
+        text.push_str(" ")?;
+        text.push_str(name.as_str())?;
+    }
+    Ok(text)
+}
+
+// A fault as a text.
+fn fault_text(alloc: Global, fault: &ElaborationFault) -> Result<String, AllocError> {
+    match fault {
+        ElaborationFault::Memory => String::from_str(alloc, "Memory"),
+        ElaborationFault::NotShown => String::from_str(alloc, "NotShown"),
+        ElaborationFault::Named(fault) => format!(in alloc; "{fault}"),
+        ElaborationFault::Loop(nets) => nets_text(alloc, nets.as_slice()),
+        ElaborationFault::TooManyNodes(n) => format!(in alloc; "TooManyNodes {n}"),
+    }
+}
+
+// Why a chip has no netlist; nothing, if it has one.
+fn why_not(alloc: Global, library: &Library, name: &[u8], blocks: bool) -> Result<String, Fail>
+    requires { IsLibrary library.now.entries }
+{
+    match answer(alloc, library, name, blocks)? {
+        Ok(_) => Ok(String::new(alloc)),
+        Err(fault) => Ok(fault_text(alloc, &fault)?),
+    }
+}
+
+// The chip F that texts spell, with memories as blocks, and what is told of it.
+#[test]
+fn faults(rt: HostRuntime) -> Result<(), Fail> {
+    let alloc = rt.alloc();
+    let rows = [
+        // a fault of each kind
+        ("Foo(in=a, out=out);", "F: UnknownChip Foo"),
+        ("Nand(a=a, q=a, out=out);", "F: UnknownPin q"),
+        ("Nand(a=a, b=b, out=out);", "F: Width b"),
+        (
+            "Nand(a=a, b=a, out=out); Nand(a=a, b=a, out=out);",
+            "F: Driven out",
+        ),
+        ("Nand(a=a, b=n, out=out);", "F: Undriven n"),
+        ("F(a=a, out=out);", "F: Recursive F"),
+        // the first in the text, what stands in a part before its connections
+        ("Bad(in=b, out=out);", "Bad: UnknownChip Foo"),
+        ("Nand(a=a, b=n, out=n); Foo(in=a);", "F: UnknownChip Foo"),
+        // each side of a connection
+        ("Not16(in[0..15]=b, out[0]=out);", "F: Width b"),
+        ("Not16(in[0..1]=b[1..2], out[0]=out);", "F: Width b"),
+        ("Not(in[1]=a, out=out);", "F: Width in"),
+        (
+            "Not16(in=true, out=n); Not(in=n[0], out=out);",
+            "F: Width n",
+        ),
+        ("Not(in=a, out=a);", "F: Driven a"),
+        ("Not(in=a, out=true);", "F: Driven true"),
+        ("Not(in=a, in=a, out=out);", "F: Driven in"),
+        ("Not(in=a, out=out); Not(in=out, out=n);", "F: Driven out"),
+        // loops of bits within a cycle
+        ("Not(in=x, out=x);", "Loop x"),
+        ("Not(in=x, out=y); Not(in=y, out=x);", "Loop x y"),
+        ("Twice(in=x, out=x);", "Loop x m"),
+        ("DFF(in=x, out=x);", ""),
+        ("RAM8(in=true, load=a, address=x, out[0..2]=x);", "Loop x"),
+        ("RAM8(in[0..2]=x, load=a, address=true, out[0..2]=x);", ""),
+        ("Not16(in[0..1]=x, out[1..2]=x);", ""),
+        ("Not(in=a, out=out);", ""),
+    ];
+    for (parts, told) in rows {
+        let text = format!(in alloc; "CHIP F {{ IN a, b[2]; OUT out; PARTS: {parts} }}")?;
+        let library = library_with(
+            alloc,
+            &[
+                text.as_bytes(),
+                b"CHIP Bad { IN in; OUT out; PARTS: Foo(in=in, out=out); }",
+                b"CHIP Twice { IN in; OUT out; PARTS: Not(in=in, out=m); Not(in=m, out=out); }",
+            ],
+        )?;
+        let why = why_not(alloc, &library, b"F", true)?;
+        assert_eq!(rt; why.as_str(), told);
+    }
+    Ok(())
+}
+
+// Forty chips, of which each chains two of the one before, behind the first.
+fn chained(alloc: Global, first: &[u8]) -> Result<Library, Fail>
+    ensures { IfOk result (λ library. IsLibrary library.entries) }
+{
+    let mut library = shipped_library(alloc)?;
+    add_text(alloc, &mut library, first)?;
+    for k in 1..41u32 {
+        let before = k - 1;
+        let text = format!(in alloc;
+            "CHIP C{k} {{ IN in; OUT out; PARTS: C{before}(in=in, out=x); C{before}(in=x, out=out); }}"
+        )?;
+        add_text(alloc, &mut library, text.as_bytes())?;
+    }
+    Ok(library)
+}
+
+// They are told at once: no chip is expanded, and no directory begun.
+#[test]
+fn forty_chips(rt: HostRuntime) -> Result<(), Fail> {
+    let alloc = rt.alloc();
+    let nands = chained(
+        alloc,
+        b"CHIP C0 { IN in; OUT out; PARTS: Nand(a=in, b=in, out=out); }",
+    )?;
+    let why = why_not(alloc, &nands, b"C40", false)?;
+    assert_eq!(rt; why.as_str(), "TooManyNodes 1000000000");
+    let nothing = chained(alloc, b"CHIP C0 { IN in; OUT out; PARTS: }")?;
+    let why = why_not(alloc, &nothing, b"C40", false)?;
+    assert_eq!(rt; why.as_str(), "Memory");
+    Ok(())
+}
