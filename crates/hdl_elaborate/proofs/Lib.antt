@@ -8,3 +8,4 @@ pub mod Hearing
 pub mod Building
 pub mod Sizes
 pub mod Alone
+pub mod There

@@ -46,16 +46,16 @@ pub record Stands {X : Type 0} (xs : List X) (x : X) : Type 0 where
   pub k : ℕ
   pub there : slice_get xs k ≡ Some x
 
-stands_left : {X : Type 0} (xs ys : List X) (k : ℕ) (x : X) → slice_get xs k ≡ Some x → slice_get (xs ++ ys) k ≡ Some x
+pub stands_left : {X : Type 0} (xs ys : List X) (k : ℕ) (x : X) → slice_get xs k ≡ Some x → slice_get (xs ++ ys) k ≡ Some x
 stands_left [] ys k x e = absurd cc
 stands_left (y ∷ xs) ys zero x e = e
 stands_left (y ∷ xs) ys (suc k) x e = stands_left xs ys k x e
 
-stands_right : {X : Type 0} (xs ys : List X) (x : X) → Stands ys x → Stands (xs ++ ys) x
+pub stands_right : {X : Type 0} (xs ys : List X) (x : X) → Stands ys x → Stands (xs ++ ys) x
 stands_right [] ys x s = s
 stands_right (y ∷ xs) ys x s = let r = stands_right xs ys x s in record { k = suc r.k; there = r.there }
 
-abbrev part_in : List ℕ → Entry → PartIn
+abbrev pub part_in : List ℕ → Entry → PartIn
 part_in path chip = record { path = path; chip = chip }
 
 -- ---- each part in a chip stands in the chip's tree

@@ -5,3 +5,4 @@ pub mod Orderly
 pub mod Behaviour
 pub mod Hearing
 pub mod Faults
+pub mod Directory

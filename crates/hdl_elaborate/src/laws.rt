@@ -1,6 +1,7 @@
 //! Laws of elaborated chips.
 
 ghost use Rattle.hdl_elaborate.specs.Behaviour.{BehaviourLaw};
+ghost use Rattle.hdl_elaborate.specs.Directory.{ThereLaw};
 ghost use Rattle.hdl_elaborate.specs.Elaborated.{ElaboratedLaw};
 ghost use Rattle.hdl_elaborate.specs.Hearing.{DirectoryLaw, EndAloneLaw, HearingLaw};
 ghost use Rattle.hdl_elaborate.specs.Orderly.{OrderlyLaw};
@@ -33,4 +34,9 @@ pub fn directory_law()
 /// Where a chip that is an end itself is given what the world gives it, the values of the netlist, at the nodes of its pins, are a behaviour of the chip.
 pub fn end_alone_law()
     ensures { EndAloneLaw }
+{}
+
+/// What the directory of an elaborated chip names is there, and the nodes of the chip's inputs come in from outside.
+pub fn there_law()
+    ensures { ThereLaw }
 {}

@@ -2,9 +2,9 @@
 //!
 //! `elaboration` asks whether anything is wrong with the chip, and else has `build` make it flat and put its nodes in order: `put`, with
 //! `moving` for the directory. The definitions are in `specs/`: `Elaborated` (what a chip's netlist and directory are), `Behaviour` (that
-//! the values of the netlist are a behaviour of the chip), `Hearing` (what comes in at its ends, told by the directory), `Faults` (why a
-//! chip has no netlist), `Sound` (what a chip must not have), `Orderly` (what can be put in order) and `Moved` (a flat chip whose nodes
-//! have other numbers).
+//! the values of the netlist are a behaviour of the chip), `Hearing` (what comes in at its ends, told by the directory), `Directory` (that
+//! what the directory names is there), `Faults` (why a chip has no netlist), `Sound` (what a chip must not have), `Orderly` (what can be put
+//! in order) and `Moved` (a flat chip whose nodes have other numbers).
 #![tactic(auto)]
 
 mod build;
@@ -19,5 +19,6 @@ pub use elaboration::elaborate;
 pub use fault::ElaborationFault;
 pub use laws::{
     behaviour_law, directory_law, elaborated_law, end_alone_law, hearing_law, orderly_law,
+    there_law,
 };
 pub use put::{Elab, put_in_net};
