@@ -18,7 +18,7 @@ use Rattle.command_line.specs.declared.request.RunLevel.TheVariants as levels
 use Rattle.command_line.specs.declared.request.Shown.{Shown}
 use Rattle.command_line.specs.declared.request.Shown.TheVariants.{Words, Nets}
 use Rattle.command_line.specs.declared.request.SourceKind.{SourceKind}
-use Rattle.command_line.specs.Line.{AreOneLine, IsInRange, IsLine, IsReading, Line, NumberIn, asm, build, chip, exec, flag_word, kind_of as source_kind, level_word, map_line, run, show, shown_at, shown_word, vm}
+use Rattle.command_line.specs.Line.{AreOneLine, IsInRange, IsLine, IsReading, Line, NumberIn, asm, build, chip, compile, exec, flag_word, kind_of as source_kind, level_word, map_line, run, show, shown_at, shown_word, vm}
 
 -- ---- the names of the commands, which differ in their first letter or in their second
 
@@ -28,6 +28,7 @@ command_of (exec path cycles from to) = codes "exec"
 command_of (vm folder bare) = codes "vm"
 command_of (show path kind) = codes "show"
 command_of (run folder level cycles keys) = codes "run"
+command_of (compile folder) = codes "compile"
 command_of (build folder) = codes "build"
 command_of (map_line folder) = codes "map"
 command_of (chip chosen) = codes "chip"
@@ -38,6 +39,7 @@ named name rows (exec path cycles from to) h = h.0
 named name rows (vm folder bare) h = h.0
 named name rows (show path kind) h = h.0
 named name rows (run folder level cycles keys) h = h.0
+named name rows (compile folder) h = h.0
 named name rows (build folder) h = h.0
 named name rows (map_line folder) h = h.0
 named name rows (chip chosen) h = h.0
@@ -111,6 +113,7 @@ in_range ws (exec path c f t) (free, name, rows, found, reading) = (reading.2.2.
 in_range ws (vm folder bare) h = tt
 in_range ws (show path kind) h = tt
 in_range ws (run folder level n keys) (free, name, rows, found, reading) = reading.3.2.small
+in_range ws (compile folder) h = tt
 in_range ws (build folder) h = tt
 in_range ws (map_line folder) h = tt
 in_range ws (chip chosen) h = tt
@@ -154,6 +157,7 @@ same_shown s u e = absurd (apart (shown_word s) (shown_word u) refl e)
 -- so do those for the levels
 same_level : (l m : RunLevel) → level_word l ≡ level_word m → shown_at l ≡ shown_at m → l ≡ m
 same_level (levels.Jack s) (levels.Jack u) e f = cc
+same_level (levels.Vm s) (levels.Vm u) e f = cc
 same_level (levels.Hack s) (levels.Hack u) e f = cc
 same_level (levels.Gates s) (levels.Gates u) e f = cc
 same_level l m e f = absurd (apart (level_word l) (level_word m) refl e)
@@ -202,6 +206,9 @@ same_line name other rows others (run p l c js) (run q m d ks) same h k e =
     let cycles : c ≡ d = same_number rows (codes "cycles") 1000000000 c d h.3 k'.3 in
     let keys : js ≡ ks = sym h.4 ∙ k'.4 in
     cc
+same_line name other rows others (compile p) (compile q) same h k e =
+    let R : List Row → Type 0 = λ r. IsReading other r (compile q) in
+    ap compile (same_word rows (codes "path") p q h.1 (subst R (sym same) k).1)
 same_line name other rows others (build p) (build q) same h k e =
     let R : List Row → Type 0 = λ r. IsReading other r (build q) in
     ap build (same_word rows (codes "path") p q h.1 (subst R (sym same) k).1)

@@ -25,6 +25,7 @@ pub data Line : Type 0 where
   vm : (folder : Text) (bare : Bool) → Line
   show : (path : Text) (kind : SourceKind) → Line
   run : (folder : Text) (level : RunLevel) (cycles : ℕ) (keys : Option Text) → Line
+  compile : (folder : Text) → Line
   build : (folder : Text) → Line
   map_line : (folder : Text) → Line
   chip : (name : Text) → Line
@@ -42,12 +43,14 @@ NumberIn rows id most n = (text : Text) × (first_of id rows ≡ Some text) × I
 -- the words of the levels at which a program can be run
 abbrev pub level_word : RunLevel → Text
 level_word (levels.Jack words) = codes "jack"
+level_word (levels.Vm words) = codes "vm"
 level_word (levels.Hack words) = codes "hack"
 level_word (levels.Gates shown) = codes "gates"
 
 -- What is shown after the report of a level: words of the memory, and at level gates alone the outputs of parts in their place.
 abbrev pub shown_at : RunLevel → Shown
 shown_at (levels.Jack words) = Words words
+shown_at (levels.Vm words) = Words words
 shown_at (levels.Hack words) = Words words
 shown_at (levels.Gates shown) = shown
 
@@ -88,6 +91,7 @@ IsReading name rows (run folder level cycles keys) =
     × (first_of (codes "level") rows ≡ Some (level_word level))
     × NumberIn rows (codes "cycles") 1000000000 cycles
     × (first_of (codes "keys") rows ≡ keys) × (first_of (codes "show") rows ≡ Some (shown_word (shown_at level)))
+IsReading name rows (compile folder) = (name ≡ codes "compile") × (first_of (codes "path") rows ≡ Some folder)
 IsReading name rows (build folder) = (name ≡ codes "build") × (first_of (codes "path") rows ≡ Some folder)
 IsReading name rows (map_line folder) = (name ≡ codes "map") × (first_of (codes "path") rows ≡ Some folder)
 IsReading name rows (chip chosen) = (name ≡ codes "chip") × (first_of (codes "name") rows ≡ Some chosen)
@@ -114,6 +118,7 @@ IsInRange (exec path cycles from to) = (cycles ≤ 1000000000) × (from ≤ 3276
 IsInRange (vm folder bare) = ⊤
 IsInRange (show path kind) = ⊤
 IsInRange (run folder level cycles keys) = cycles ≤ 1000000000
+IsInRange (compile folder) = ⊤
 IsInRange (build folder) = ⊤
 IsInRange (map_line folder) = ⊤
 IsInRange (chip name) = ⊤
@@ -127,6 +132,7 @@ line_of (request.Exec e) = exec e.path.now e.cycles e.from e.to
 line_of (request.Vm folder bare) = vm folder.now bare
 line_of (request.Show path kind) = show path.now kind
 line_of (request.Run r) = run r.folder.now r.level r.cycles (option_map (λ keys. keys.now) r.keys)
+line_of (request.Compile folder) = compile folder.now
 line_of (request.Build folder) = build folder.now
 line_of (request.Map folder) = map_line folder.now
 line_of (request.Chip name) = chip name.now

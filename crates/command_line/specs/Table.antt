@@ -60,6 +60,10 @@ run_command = command (codes "run")
     (word_rule (codes "path") ∷ option_rule (codes "level") ∷ option_rule (codes "cycles")
     ∷ extra_rule (codes "keys") ∷ default_rule (codes "show") (codes "none") ∷ [])
 
+-- `compile D`
+abbrev pub compile_command : Shape
+compile_command = path_command (codes "compile")
+
 -- `build D`
 abbrev pub build_command : Shape
 build_command = path_command (codes "build")
@@ -85,5 +89,5 @@ bare_table = record {
 abbrev pub table : App
 table = record bare_table {
   top = record bare_table.top { is_leaf = false };
-  subs = asm_command ∷ exec_command ∷ vm_command ∷ show_command ∷ run_command ∷ build_command ∷ map_command ∷ chip_command ∷ [];
+  subs = asm_command ∷ exec_command ∷ vm_command ∷ show_command ∷ run_command ∷ compile_command ∷ build_command ∷ map_command ∷ chip_command ∷ [];
 }

@@ -2,7 +2,7 @@
 ghost use Rattle.std.specs.Prelude.{◌≡◌, ◌∷◌, [], IfOk, false, codes};
 ghost use Rattle.clap.specs.Words.{app_of, rule_of, shape_of, with_subcommand};
 ghost use Rattle.clap.specs.declared.builder.Command.TheViews.{out-Command as fields_of};
-ghost use Rattle.command_line.specs.Table.{asm_command, bare_table, build_command, chip_command, command, default_rule, exec_command, extra_rule, flag_rule, map_command, option_rule, path_command, run_command, show_command, vm_command, word_rule};
+ghost use Rattle.command_line.specs.Table.{asm_command, bare_table, build_command, chip_command, command, compile_command, default_rule, exec_command, extra_rule, flag_rule, map_command, option_rule, path_command, run_command, show_command, vm_command, word_rule};
 ghost use Rattle.command_line.specs.Table as table;
 
 use clap::{Arg, ArgAction, Command};
@@ -131,12 +131,19 @@ fn with_sources<'a>(alloc: Global, top: Command<'a>) -> Result<Command<'a>, Allo
         .subcommand(path_only(alloc, "show")?)
 }
 
-// Adds `build`, `map` and `chip`.
-fn with_printers<'a>(alloc: Global, top: Command<'a>) -> Result<Command<'a>, AllocError>
-    ensures { IfOk result (λ c. app_of c ≡ with_subcommand (with_subcommand (with_subcommand (app_of top.entry) build_command) map_command) chip_command) }
+// Adds `compile` and `build`.
+fn with_compilers<'a>(alloc: Global, top: Command<'a>) -> Result<Command<'a>, AllocError>
+    ensures { IfOk result (λ c. app_of c ≡ with_subcommand (with_subcommand (app_of top.entry) compile_command) build_command) }
 {
-    top.subcommand(path_only(alloc, "build")?)?
-        .subcommand(path_only(alloc, "map")?)?
+    top.subcommand(path_only(alloc, "compile")?)?
+        .subcommand(path_only(alloc, "build")?)
+}
+
+// Adds `map` and `chip`.
+fn with_printers<'a>(alloc: Global, top: Command<'a>) -> Result<Command<'a>, AllocError>
+    ensures { IfOk result (λ c. app_of c ≡ with_subcommand (with_subcommand (app_of top.entry) map_command) chip_command) }
+{
+    top.subcommand(path_only(alloc, "map")?)?
         .subcommand(word_only(alloc, "chip", "name")?)
 }
 
@@ -145,5 +152,5 @@ pub fn table<'a>(alloc: Global) -> Result<Command<'a>, AllocError>
     ensures { IfOk result (λ c. app_of c ≡ table.table) }
 {
     let programs = with_sources(alloc, with_machine(alloc, bare(alloc))?)?.subcommand(run(alloc)?)?;
-    with_printers(alloc, programs)
+    with_printers(alloc, with_compilers(alloc, programs)?)
 }

@@ -141,6 +141,7 @@ fn level_of(word: &str, shown: Shown) -> Option<RunLevel>
 {
     match (word, shown) {
         ("jack", Shown::Words(show)) => Some(RunLevel::Jack(show)),
+        ("vm", Shown::Words(show)) => Some(RunLevel::Vm(show)),
         ("hack", Shown::Words(show)) => Some(RunLevel::Hack(show)),
         ("gates", shown) => Some(RunLevel::Gates(shown)),
         _ => None,
@@ -179,6 +180,13 @@ fn run<'a>(matches: &ArgMatches<'a>) -> Option<Request<'a>>
     }))
 }
 
+fn compile<'a>(matches: &ArgMatches<'a>) -> Option<Request<'a>>
+    ensures { Reads (codes "compile") (rows_in matches.now) result }
+{
+    let folder = text_in(matches, "path")?;
+    Some(Request::Compile { folder })
+}
+
 fn build<'a>(matches: &ArgMatches<'a>) -> Option<Request<'a>>
     ensures { Reads (codes "build") (rows_in matches.now) result }
 {
@@ -210,6 +218,7 @@ fn reading<'a>(name: &str, matches: &ArgMatches<'a>) -> Option<Request<'a>>
         "vm" => vm(matches),
         "show" => show(matches),
         "run" => run(matches),
+        "compile" => compile(matches),
         "build" => build(matches),
         "map" => map_of(matches),
         "chip" => chip(matches),

@@ -40,6 +40,8 @@ pub enum Shown {
 pub enum RunLevel {
     /// The meaning of the Jack text.
     Jack(Show),
+    /// The virtual machine, command by command.
+    Vm(Show),
     /// The computer, instruction by instruction.
     Hack(Show),
     /// The computer made of gates, the only one that has parts.
@@ -70,6 +72,8 @@ pub enum Request<'a> {
     /// `show F`: the printed form of a source; its path tells the kind.
     Show { path: &'a str, kind: SourceKind },
     Run(Run<'a>),
+    /// `compile D`: the VM text of a folder's own classes.
+    Compile { folder: &'a str },
     /// `build D`: the image of a folder's program, as `.hack` text.
     Build { folder: &'a str },
     /// `map D`: the map of that image.

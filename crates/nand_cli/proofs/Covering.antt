@@ -1,5 +1,5 @@
 -- The points of a program's computer cover each address of its image.
-use Rattle.std.proofs.Common.{◌≡◌, ℕ, length, sym, subst}
+use Rattle.std.proofs.Common.{ℕ, length, sym, subst}
 use Rattle.hack_isa.specs.Table.{word_of}
 use Rattle.jack_core.specs.declared.program.Core.{Core}
 use Rattle.vm_link.proofs.Marking.{length_mapped}

@@ -19,7 +19,7 @@ use Rattle.machine_io.specs.declared.report.Show.TheVariants as shows
 use Rattle.layers.specs.Headline.{Agrees, Follows}
 use Rattle.layers.specs.Laws.{SameCounts}
 use Rattle.layers.specs.System.{IsKey, Listening, System, Tame, run_of}
-use Rattle.layers.specs.Trace.{Trace, heard, point_at, steps}
+use Rattle.layers.specs.Trace.{Trace, heard, steps}
 use Rattle.jack_core.specs.Texts.{names_of, the_program}
 use Rattle.jack_core.specs.declared.program.Core.{Core}
 use Rattle.jack_meaning.specs.Meaning.{State, start}
@@ -38,7 +38,7 @@ use Rattle.tower.specs.Mapped.{RunProgram}
 use Rattle.tower.proofs.Computers.{computer as computer_follows}
 use Rattle.command_line.specs.declared.request.Shown.{Shown}
 use Rattle.command_line.specs.declared.request.Shown.TheVariants.{Nets, Words}
-use Rattle.nand_cli.specs.Commands.Gates.{ComesAfter, IsGatesReport, ReportsCycle, gates_trace, meaning_in}
+use Rattle.nand_cli.specs.Commands.Gates.{IsGatesReport, ReportsCycle, gates_trace, meaning_in}
 use Rattle.nand_cli.specs.Commands.Run.{name_of}
 use Rattle.nand_cli.specs.Inner.Parts.{finished}
 use Rattle.nand_cli.specs.Inner.Reports.{IsAtStart, Reports, gates_text, program_of}

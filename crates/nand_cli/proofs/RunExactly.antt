@@ -37,7 +37,7 @@ use Rattle.jack_parser.specs.Whole.{ReadingLaw as JackLaw, Refuses as RefusesTre
 use Rattle.jack_names.specs.Faults.{Told, fault_told}
 use Rattle.jack_names.specs.Messages.{kind_word}
 use Rattle.jack_os.specs.System.{AreClassesOf, HasFault, IsClassOf, SpellClasses, SpellsClass, Texts, added_to, system}
-use Rattle.command_line.specs.Line.{asm, build, chip, exec, map_line, run, show, vm}
+use Rattle.command_line.specs.Line.{asm, build, chip, compile, exec, map_line, run, show, vm}
 use Rattle.command_line.specs.declared.request.RunLevel.{RunLevel}
 use Rattle.command_line.specs.declared.request.RunLevel.TheVariants as levels
 use Rattle.command_line.specs.declared.request.Shown.TheVariants.{Nets, Words}
@@ -54,13 +54,15 @@ use Rattle.tower.specs.declared.program.ProgramError.{ProgramError}
 use Rattle.tower.specs.declared.program.ProgramError.TheVariants as errors
 use Rattle.source_files.proofs.Once.{never_both, never_unread, one_fault, one_folder, one_refusal, one_source}
 use Rattle.nand_cli.specs.Answer.{Lacks}
-use Rattle.nand_cli.specs.Exact.{AsmExactLaw, BuildExactLaw, ChipExactLaw, ExactLaw, ExecExactLaw, MapExactLaw, RunExactLaw, ShowExactLaw, ShowsOneText, VmExactLaw}
+use Rattle.nand_cli.specs.Exact.{AsmExactLaw, BuildExactLaw, ChipExactLaw, CompileExactLaw, ExactLaw, ExecExactLaw, MapExactLaw, RunExactLaw, ShowExactLaw, ShowsOneText, VmExactLaw}
 use Rattle.nand_cli.specs.Languages.{RefusesClass, RefusesKeys}
 use Rattle.nand_cli.specs.JackFolder.{BuildIsRefused, FolderIsRefused, FolderMeans, HasClasses, IsWrongLine, home_of, meaningless, unread}
 use Rattle.nand_cli.specs.Commands.Gates.{IsGatesReport, gates_trace}
+use Rattle.nand_cli.specs.Commands.RunVm.{IsVmReport}
 use Rattle.nand_cli.specs.Commands.Run.{EndsAt, HasKeys, IsHackReport, IsReport, LacksKeys, RunPrints, RunRefuses, ScriptIsRefused, name_of, state_after, trace_in, unbuilt, without_program, without_script}
 use Rattle.nand_cli.proofs.Exactly.{none_refused, no_source, not_linked, not_missing, one_link_fault, one_linked, one_size}
 use Rattle.nand_cli.proofs.ReadOnce.{class_once, keys_once}
+use Rattle.nand_cli.proofs.VmExactly.{one_vm_text}
 use Rattle.nand_cli.proofs.SameClasses.{SameClasses, added_class, all_class_names_same, all_names_same, class_seen, first_name_fault_same, program_meant_same}
 
 -- ---- the operating system
@@ -129,7 +131,7 @@ abbrev name_line : List ℕ → Told → List ℕ
 name_line folder t = told_line (path_in (home_of folder t.shipped) t.file) (message t.place.line t.place.column (kind_word t.kind) t.name)
 
 module _ (law : JackLaw) (own own' : List Class) (same : SameClasses own own') where
-  one_program : (core core' : Core) → Means own (Ok core) → Means own' (Ok core') → SameProgram core core'
+  pub one_program : (core core' : Core) → Means own (Ok core) → Means own' (Ok core') → SameProgram core core'
   one_program core core' (os, are, well, p, n, k) (os', are', well', p', n', k') =
       let theirs = one_system law system os os' are are' in
       record {
@@ -163,7 +165,7 @@ module _ (law : JackLaw) (own own' : List Class) (same : SameClasses own own') w
 -- ---- the program of a folder
 
 module _ (law : JackLaw) (files : Files) (folder : List ℕ) where
-  one_list_of_classes : (cs ds : List Class) → HasClasses (Some files) folder cs → HasClasses (Some files) folder ds → SameClasses cs ds
+  pub one_list_of_classes : (cs ds : List Class) → HasClasses (Some files) folder cs → HasClasses (Some files) folder ds → SameClasses cs ds
   one_list_of_classes cs ds h k = one_folder SpellsClass RefusesClass class_seen (class_once law) files folder (codes ".jack") cs ds h k
 
   pub one_meaning : (core core' : Core) → FolderMeans (Some files) folder core → FolderMeans (Some files) folder core' → SameProgram core core'
@@ -183,7 +185,7 @@ module _ (law : JackLaw) (files : Files) (folder : List ℕ) where
 -- ---- its computer
 
 module _ (core core' : Core) (same : SameProgram core core') where
-  one_list_of_files : files_of core ≡ files_of core'
+  pub one_list_of_files : files_of core ≡ files_of core'
   one_list_of_files = λ i. program_files (same.program i) (same.names i) (same.classes i)
 
   linked_here : (r : Result Linked LinkFault) → Links false (files_of core') r → Links false (files_of core) r
@@ -357,10 +359,20 @@ one_gates_report core core' code n shown text text' same h k =
     ∙ (λ i. head (computer i) (same.names i) (point i) ++ shown_text shown (word_at b.0 n))
     ∙ sym (s.is_text ∙ ap (λ l. head k.computer (names_of core') s.point ++ l) s.after)
 
+-- ---- the report at level vm
+
+one_vm_report : (core core' : Core) (code : ℕ → ℕ) (n : ℕ) (shown : Show) (text text' : List ℕ) → SameProgram core core' → IsVmReport core code n shown text → IsVmReport core' code n shown text' → text ≡ text'
+one_vm_report core core' code n shown text text' same h k =
+    let there : Links false (files_of core) (Ok k.linked) = subst (λ (fs : List File). Links false fs (Ok k.linked)) (sym (one_list_of_files core core' same)) k.is_code in
+    one_vm_text core core' code n shown text text' h k (one_linked false (files_of core) h.linked k.linked h.is_code there) same.names
+
+-- ---- the report at a level
+
 one_report : (level : RunLevel) (core core' : Core) (code : ℕ → ℕ) (n : ℕ) (text text' : List ℕ) → ShowsOneText level → SameProgram core core' → IsReport level core code n text → IsReport level core' code n text' → text ≡ text'
 one_report (levels.Jack shown) core core' code n text text' one same h k =
     let there : JackReport (the_program core) (names_of core') code n shown text' = subst (λ (p : Program). JackReport p (names_of core') code n shown text') (sym same.program) k in
     one_jack_report (the_program core) (names_of core) code n shown text text' h (subst (λ (ns : List (List ℕ)). JackReport (the_program core) ns code n shown text') (sym same.names) there)
+one_report (levels.Vm shown) core core' code n text text' one same h k = one_vm_report core core' code n shown text text' same h k
 one_report (levels.Hack shown) core core' code n text text' one same h k = one_hack_report core core' code n shown text text' same h k
 one_report (levels.Gates (Words shown)) core core' code n text text' one same h k = one_gates_report core core' code n shown text text' same h k
 one_report (levels.Gates Nets) core core' code n text text' one same h k = absurd one
@@ -426,12 +438,13 @@ run_exact jack_law key_law files folder level cycles keys = record {
 
 -- ---- each line
 
-pub exact : AsmExactLaw → ExecExactLaw → VmExactLaw → ShowExactLaw → RunExactLaw → ChipExactLaw → BuildExactLaw → MapExactLaw → ExactLaw
-exact for_asm for_exec for_vm for_show for_run for_chip for_build for_map files (asm path) = for_asm files path
-exact for_asm for_exec for_vm for_show for_run for_chip for_build for_map files (exec path cycles from to) = for_exec files path cycles from to
-exact for_asm for_exec for_vm for_show for_run for_chip for_build for_map files (vm folder bare) = for_vm files folder bare
-exact for_asm for_exec for_vm for_show for_run for_chip for_build for_map files (show path kind) = for_show files path kind
-exact for_asm for_exec for_vm for_show for_run for_chip for_build for_map files (run folder level cycles keys) = for_run files folder level cycles keys
-exact for_asm for_exec for_vm for_show for_run for_chip for_build for_map files (chip name) = for_chip files name
-exact for_asm for_exec for_vm for_show for_run for_chip for_build for_map files (build folder) = for_build files folder
-exact for_asm for_exec for_vm for_show for_run for_chip for_build for_map files (map_line folder) = for_map files folder
+pub exact : AsmExactLaw → ExecExactLaw → VmExactLaw → ShowExactLaw → RunExactLaw → ChipExactLaw → CompileExactLaw → BuildExactLaw → MapExactLaw → ExactLaw
+exact for_asm for_exec for_vm for_show for_run for_chip for_compile for_build for_map files (asm path) = for_asm files path
+exact for_asm for_exec for_vm for_show for_run for_chip for_compile for_build for_map files (exec path cycles from to) = for_exec files path cycles from to
+exact for_asm for_exec for_vm for_show for_run for_chip for_compile for_build for_map files (vm folder bare) = for_vm files folder bare
+exact for_asm for_exec for_vm for_show for_run for_chip for_compile for_build for_map files (show path kind) = for_show files path kind
+exact for_asm for_exec for_vm for_show for_run for_chip for_compile for_build for_map files (run folder level cycles keys) = for_run files folder level cycles keys
+exact for_asm for_exec for_vm for_show for_run for_chip for_compile for_build for_map files (chip name) = for_chip files name
+exact for_asm for_exec for_vm for_show for_run for_chip for_compile for_build for_map files (compile folder) = for_compile files folder
+exact for_asm for_exec for_vm for_show for_run for_chip for_compile for_build for_map files (build folder) = for_build files folder
+exact for_asm for_exec for_vm for_show for_run for_chip for_compile for_build for_map files (map_line folder) = for_map files folder

@@ -2,8 +2,10 @@ pub mod Asm
 pub mod Exec
 pub mod Vm
 pub mod Show
+pub mod Compile
 pub mod Build
 pub mod Map
 pub mod Chip
 pub mod Gates
+pub mod RunVm
 pub mod Run

@@ -2,7 +2,7 @@
 -- it reads is not there.
 use Rattle.std.specs.Prelude.{◌≡◌, ℕ, Bool, true, List, Option, Some}
 use Rattle.outer_world.specs.Files.{Files}
-use Rattle.command_line.specs.Line.{Line, asm, build, chip, exec, map_line, run, show, vm}
+use Rattle.command_line.specs.Line.{Line, asm, build, chip, compile, exec, map_line, run, show, vm}
 use Rattle.command_line.specs.declared.request.RunLevel.{RunLevel}
 use Rattle.command_line.specs.declared.request.RunLevel.TheVariants.{Gates}
 use Rattle.command_line.specs.declared.request.Shown.TheVariants.{Nets}
@@ -23,6 +23,7 @@ HasOneText line = Unit {0}
 abbrev pub HasFolder : (List ℕ → Bool) → Line → Type 0
 HasFolder there (vm folder bare) = there folder ≡ true
 HasFolder there (run folder level cycles keys) = there folder ≡ true
+HasFolder there (compile folder) = there folder ≡ true
 HasFolder there (build folder) = there folder ≡ true
 HasFolder there (map_line folder) = there folder ≡ true
 HasFolder there line = Unit {0}
@@ -54,6 +55,9 @@ RunExactLaw = (files : Files) (folder : List ℕ) (level : RunLevel) (cycles : �
 
 abbrev pub ChipExactLaw : Type 0
 ChipExactLaw = (files : Files) (name : List ℕ) → IsExact files (chip name)
+
+abbrev pub CompileExactLaw : Type 0
+CompileExactLaw = (files : Files) (folder : List ℕ) → IsExact files (compile folder)
 
 abbrev pub BuildExactLaw : Type 0
 BuildExactLaw = (files : Files) (folder : List ℕ) → IsExact files (build folder)

@@ -31,7 +31,8 @@ pub struct BuiltProgram {
     pub built: Built,
 }
 
-const ENDING: &str = ".jack";
+/// The ending of the names of Jack files.
+pub const ENDING: &str = ".jack";
 
 // The folder in which the files of the operating system are told.
 const SYSTEM: &str = "os";
@@ -71,8 +72,8 @@ fn name_refused(alloc: Global, folder: &str, fault: NameFault) -> LoadError
     }
 }
 
-// Why the classes of a folder mean no program.
-fn not_meant(alloc: Global, folder: &str, error: ProgramError) -> LoadError
+/// Why the classes of a folder mean no program.
+pub fn not_meant(alloc: Global, folder: &str, error: ProgramError) -> LoadError
     ensures { TellsWrong folder.now error result }
 {
     match error {

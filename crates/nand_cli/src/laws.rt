@@ -1,5 +1,5 @@
 //! Laws of lines: over told files a line has one answer.
-ghost use Rattle.nand_cli.specs.Exact.{AsmExactLaw, BuildExactLaw, ChipExactLaw, ExactLaw, ExecExactLaw, MapExactLaw, RunExactLaw, ShowExactLaw, VmExactLaw};
+ghost use Rattle.nand_cli.specs.Exact.{AsmExactLaw, BuildExactLaw, ChipExactLaw, CompileExactLaw, ExactLaw, ExecExactLaw, MapExactLaw, RunExactLaw, ShowExactLaw, VmExactLaw};
 
 /// Law: over told files a line of `asm` prints one text or is refused with one line, and not both.
 pub fn asm_exact_law()
@@ -47,6 +47,13 @@ pub fn chip_exact_law()
     ensures { ChipExactLaw }
 {}
 
+/// Law: so does a line of `compile`.
+pub fn compile_exact_law()
+    ensures { CompileExactLaw }
+{
+    jack_parser::reading_law();
+}
+
 /// Law: so does a line of `build`.
 pub fn build_exact_law()
     ensures { BuildExactLaw }
@@ -71,6 +78,7 @@ pub fn exact_law()
     show_exact_law();
     run_exact_law();
     chip_exact_law();
+    compile_exact_law();
     build_exact_law();
     map_exact_law();
 }

@@ -329,8 +329,10 @@ fn reads_show(rt: HostRuntime) -> Result<(), Fail> {
 }
 
 #[test]
-fn reads_build_map_and_chip(rt: HostRuntime) -> Result<(), Fail> {
+fn reads_compile_build_map_and_chip(rt: HostRuntime) -> Result<(), Fail> {
     let lines = [
+        ("compile prog", Request::Compile { folder: "prog" }),
+        ("compile -- -p", Request::Compile { folder: "-p" }),
         ("build prog", Request::Build { folder: "prog" }),
         ("build -- -p", Request::Build { folder: "-p" }),
         ("map prog", Request::Map { folder: "prog" }),
@@ -339,6 +341,10 @@ fn reads_build_map_and_chip(rt: HostRuntime) -> Result<(), Fail> {
     ];
     assert_eq!(rt; first_misread(rt.alloc(), &lines)?, None);
     let texts = [
+        "compile",
+        "compile a b",
+        "compile a --bare",
+        "Compile a",
         "build",
         "build a b",
         "build a --bare",
@@ -401,6 +407,10 @@ fn reads_run(rt: HostRuntime) -> Result<(), Fail> {
             run(7, Some("-k"), Show::Nothing),
         ),
         (
+            "run prog --level vm --cycles 2000 --show heap",
+            run_at(RunLevel::Vm(Show::Heap), 2000, None),
+        ),
+        (
             "run prog --level hack --cycles 2000 --show screen",
             run_at(RunLevel::Hack(Show::Screen), 2000, None),
         ),
@@ -426,7 +436,8 @@ fn refuses_other_runs(rt: HostRuntime) -> Result<(), Fail> {
         "run --level jack --cycles 1",
         "run prog other --level jack --cycles 1",
         "run prog --level Jack --cycles 1",
-        "run prog --level vm --cycles 1",
+        "run prog --level VM --cycles 1",
+        "run prog --level vm --cycles 1 --show nets",
         "run prog --level gate --cycles 1",
         "run prog --level jack --cycles 1 --show nets",
         "run prog --level hack --cycles 1 --show nets",

@@ -194,7 +194,7 @@ fn shows(
 fn screens(rt: &impl Abort, alloc: Global, body: &str, columns: &[usize]) -> Result<(), Fail> {
     let text = class_of(alloc, body)?;
     let case = one_file("prog/Main.jack", &text);
-    for level in ["jack", "hack", "gates"] {
+    for level in ["jack", "vm", "hack", "gates"] {
         let line = format!(in alloc; "run prog --level {level} --cycles 100000 --show screen")?;
         shows(rt, alloc, &case, &line, columns)?;
     }

@@ -27,6 +27,7 @@ use Rattle.tower.specs.Mapped.{RunProgram}
 use Rattle.command_line.specs.declared.request.RunLevel.{RunLevel}
 use Rattle.command_line.specs.declared.request.RunLevel.TheVariants as levels
 use Rattle.nand_cli.specs.Commands.Gates.{IsGatesReport}
+use Rattle.nand_cli.specs.Commands.RunVm.{IsVmReport}
 use Rattle.nand_cli.specs.JackFolder.{BuildIsRefused, FolderIsRefused, FolderMeans, IsBuilt}
 use Rattle.nand_cli.specs.Languages.{RefusesKeys}
 
@@ -97,6 +98,7 @@ pub record IsHackReport (core : Core) (code : ℕ → ℕ) (n : ℕ) (show : Sho
 -- The report of n moves of a program at a level, with what is shown there.
 abbrev pub IsReport : RunLevel → Core → (ℕ → ℕ) → ℕ → List ℕ → Type 0
 IsReport (levels.Jack show) core code n text = IsJackReport core code n show text
+IsReport (levels.Vm show) core code n text = IsVmReport core code n show text
 IsReport (levels.Hack show) core code n text = IsHackReport core code n show text
 IsReport (levels.Gates shown) core code n text = IsGatesReport core code n shown text
 

@@ -17,6 +17,7 @@ use crate::gates::report_gates;
 use crate::jack::{image_of, load_jack};
 use crate::languages::KeyText;
 use crate::report::report;
+use crate::vm_run::report_vm;
 use command_line::{Run, RunLevel};
 use jack_core::Core;
 use jack_machine::Jack;
@@ -104,6 +105,11 @@ pub fn answer_run<F: Shelf, O: Sink>(
             // The meaning needs no image.
             drop(built);
             report_jack(alloc, &core, &keys, request.cycles, show, out)
+        }
+        RunLevel::Vm(show) => {
+            // The machine links its code itself.
+            drop(built);
+            report_vm(alloc, &core, &keys, request.cycles, show, out)
         }
         RunLevel::Hack(show) => {
             report_hack(alloc, &core, built, &keys, request.cycles, show, out)

@@ -1,4 +1,4 @@
-//! Lines of `build`, `map` and `chip`.
+//! Lines of `compile`, `build`, `map` and `chip`.
 use super::{Case, READ_FAULT, done, expect, one_file, outcome_of, refused};
 use nand_cli::Status;
 use std::test::Fail;
@@ -11,6 +11,22 @@ fn folder<'a>() -> Case<'a> {
         other: Some(("prog/A.jack", b"class A { }")),
         ..one_file("prog/Main.jack", MAIN)
     }
+}
+
+// The classes stand in order of file name, each behind its name, also one without subroutines.
+#[test]
+fn a_folder_is_compiled(rt: HostRuntime) -> Result<(), Fail> {
+    let main = "// file Main.vm\nfunction Main.main 0\npush constant 0\nreturn\n";
+    let alone = one_file("prog/Main.jack", MAIN);
+    done(&rt, rt.alloc(), &alone, "compile prog", main)?;
+    let both = format!(in rt.alloc(); "// file A.vm\n{main}")?;
+    done(&rt, rt.alloc(), &folder(), "compile prog", &both)?;
+    // a subroutine that nothing calls is there too
+    let text = b"class Main { function void main() { } function int f(int n) { return -n; } }";
+    let further = "function Main.f 0\npush argument 0\nneg\nreturn\n";
+    let more = format!(in rt.alloc(); "{main}{further}")?;
+    let case = one_file("prog/Main.jack", text);
+    done(&rt, rt.alloc(), &case, "compile prog", &more)
 }
 
 // The words of the image stand one a line, and the map begins with the points of the start code.
@@ -35,6 +51,7 @@ fn a_folder_is_not_built(rt: HostRuntime) -> Result<(), Fail> {
         ..one_file("prog/Main.jack", MAIN)
     };
     let told = "prog/Math.jack:1:7: ClassTwice Math\n";
+    refused(&rt, rt.alloc(), &twice, "compile prog", told)?;
     refused(&rt, rt.alloc(), &twice, "build prog", told)?;
     refused(&rt, rt.alloc(), &twice, "map prog", told)
 }

@@ -1,11 +1,30 @@
 //! Lines of `run` at the levels of the computer, beside the same at the level of the meaning.
-use super::{Case, STORE, class_of, one_file, refused, reports, screens, shows};
+use super::{Case, STORE, class_of, one_file, outcome_of, refused, reports, screens, shows};
+use nand_cli::Status;
 use std::test::Fail;
 
 #[test]
 fn the_computer_starts_as_the_meaning(rt: HostRuntime) -> Result<(), Fail> {
     let start = "level hack\nmoves 0\nsteps 0\npoint start 1\nend bound\n";
     reports(&rt, rt.alloc(), STORE, "hack --cycles 0", start)
+}
+
+#[test]
+fn the_virtual_machine_starts_as_the_meaning(rt: HostRuntime) -> Result<(), Fail> {
+    let start = "level vm\nmoves 0\nsteps 0\npoint start 1\nend bound\n";
+    reports(&rt, rt.alloc(), STORE, "vm --cycles 0", start)
+}
+
+// 358 frames of 5 words stand, and the next one needs 5 more.
+#[test]
+fn the_virtual_machine_tells_that_its_stack_is_full(rt: HostRuntime) -> Result<(), Fail> {
+    let text = class_of(rt.alloc(), "do Main.main(); return;")?;
+    let words = ["run", "prog", "--level", "vm", "--cycles", "1000000"];
+    let outcome = outcome_of(rt.alloc(), &one_file("prog/Main.jack", &text), &words)?;
+    assert_eq!(rt; outcome.status, Status::Done);
+    assert!(rt; outcome.out.bytes().starts_with(b"level vm\n"));
+    assert!(rt; outcome.out.bytes().ends_with(b"end full 1795\n"));
+    Ok(())
 }
 
 #[test]
@@ -67,7 +86,7 @@ fn all_levels_read_the_keyboard(rt: HostRuntime) -> Result<(), Fail> {
     let body = "var Array s; let s = 16384; let s[0] = Keyboard.keyPressed(); return;";
     let text = class_of(alloc, body)?;
     let case = with_keys(&text, "0 65\n1000000 66\n");
-    for level in ["jack", "hack", "gates"] {
+    for level in ["jack", "vm", "hack", "gates"] {
         let line = format!(in alloc;
             "run prog --level {level} --cycles 100000 --keys k.txt --show screen"
         )?;

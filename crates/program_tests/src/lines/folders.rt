@@ -40,7 +40,7 @@ fn refused(rt: &impl Abort, alloc: Global, files: &[(&str, &str)], line: &str) -
     answers(rt, alloc, files, "--cycles 100", Status::Refused, "", line)
 }
 
-// At both levels these files are run with the screen shown, which has black pixels in these columns of its first row.
+// At these levels these files are run with the screen shown, which has black pixels in these columns of its first row.
 fn screens(
     rt: &impl Abort,
     alloc: Global,
@@ -58,7 +58,7 @@ fn screens(
     Ok(())
 }
 
-const BOTH: &[&str] = &["jack", "hack"];
+const LEVELS: &[&str] = &["jack", "vm", "hack"];
 
 const POINT: &str =
     "class Point { static int count; field int x, y; constructor Point new(int ax, int ay) { let x = ax; let y = ay; let count = count + 1; return this; } method int sum() { return x + y; } method void move(int dx) { let x = x + dx; do turn(); return; } method void turn() { let y = -y; } method boolean same(Point other) { return this = other; } function int total() { return count; } }";
@@ -99,7 +99,7 @@ fn a_folder_of_classes_runs(rt: HostRuntime) -> Result<(), Fail> {
         ("Point.jack", POINT),
         ("Main.jack", MAIN),
     ];
-    screens(&rt, rt.alloc(), &files, BOTH, BITS)
+    screens(&rt, rt.alloc(), &files, LEVELS, BITS)
 }
 
 // A class Main with so many statics, of which `main` sets the last.
@@ -146,19 +146,23 @@ fn a_long_expression_runs(rt: HostRuntime) -> Result<(), Fail> {
     // the bits of 2,000
     let text = with_chain(alloc, "0", " + 1", 2_000)?;
     let files = [("Main.jack", text.as_str())];
-    screens(&rt, alloc, &files, BOTH, &[4, 6, 7, 8, 9, 10])?;
+    screens(&rt, alloc, &files, LEVELS, &[4, 6, 7, 8, 9, 10])?;
     // each product is a call in the first argument of the next
     let text = with_chain(alloc, "3", " * 1", 400)?;
     let files = [("Main.jack", text.as_str())];
     screens(&rt, alloc, &files, &["jack"], &[0, 1])
 }
 
-// At both levels these files cannot be built, as this line tells. The key script, whose moments do not rise or which is not there, is not
+// At each level these files cannot be built, as this line tells. The key script, whose moments do not rise or which is not there, is not
 // told.
 fn unbuilt(rt: &impl Abort, alloc: Global, main: &str, line: &str) -> Result<(), Fail> {
     let script = "5 65\n5 66\n";
     let files = [("Main.jack", main), ("k.txt", script)];
-    for level in ["jack --keys prog/k.txt", "hack --keys k.txt"] {
+    for level in [
+        "jack --keys prog/k.txt",
+        "vm --keys k.txt",
+        "hack --keys k.txt",
+    ] {
         let words = format!(in alloc; "run prog --level {level} --cycles 0")?;
         let words = words_in(alloc, &words)?;
         let outcome = outcome_over(alloc, files_of(alloc, &files)?, &words)?;
@@ -175,7 +179,7 @@ fn the_computer_has_limits(rt: HostRuntime) -> Result<(), Fail> {
     let alloc = rt.alloc();
     let text = with_statics(alloc, 235)?;
     let files = [("Main.jack", text.as_str())];
-    for level in ["jack", "hack"] {
+    for level in ["jack", "vm", "hack"] {
         let line = format!(in alloc; "run prog --level {level} --cycles 0")?;
         let outcome = outcome_over(alloc, files_of(alloc, &files)?, &words_in(alloc, &line)?)?;
         let begun = format!(in alloc;

@@ -30,6 +30,12 @@ returns-in-Vm-clause-does g c = rw c.in-Vm.is (c.answer_vm.ensures.does (g.E.Sin
 pub returns-in-Vm-clause-counts : goal.returns-in-Vm-clause-counts
 returns-in-Vm-clause-counts g c = c.answer_vm.ensures.counts (g.E.Sink.faults c.args._err.now)
 
+pub returns-in-Compile-clause-does : goal.returns-in-Compile-clause-does
+returns-in-Compile-clause-does g c = rw c.in-Compile.is (c.answer_compile.ensures.does (g.E.Sink.written c.args._err.now))
+
+pub returns-in-Compile-clause-counts : goal.returns-in-Compile-clause-counts
+returns-in-Compile-clause-counts g c = c.answer_compile.ensures.counts (g.E.Sink.faults c.args._err.now)
+
 pub returns-in-Build-clause-does : goal.returns-in-Build-clause-does
 returns-in-Build-clause-does g c = rw c.in-Build.is (c.answer_build.ensures.does (g.E.Sink.written c.args._err.now))
 

@@ -77,6 +77,28 @@ returns-in-Jack-clause-counts g c = λ err.
     report_counts (IsReport (levels.Jack c.in-Jack.show) c.in_ok-core.core (code_at c.in_ok-keys.keys) c.args.request.now.cycles) _ _ _ _ _ _ err c.report_jack.result
     (c.in_ok-keys.ensures.counts ∙ c.in_ok-core.ensures.counts) c.report_jack.ensures.reports c.report_jack.ensures.counts
 
+pub report_vm-requires-clause-built : goal.report_vm-requires-clause-built
+report_vm-requires-clause-built g c = (c.in_ok-built.built, c.in_ok-built.ensures)
+
+pub report_vm-requires-clause-words : goal.report_vm-requires-clause-words
+report_vm-requires-clause-words g c = keys_are_words _ _ c.in_ok-keys.keys c.in_ok-keys.ensures.loads
+
+pub returns-in-Vm-clause-does : goal.returns-in-Vm-clause-does
+returns-in-Vm-clause-does g c = λ err.
+    let request = c.args.request.now in
+    let path = option_map (λ keys. keys.now) request.keys in
+    let steady = g.F.Shelf.unfailing c.args.shelf.now in
+    let P : Option Files → Type 0 = λ files. HasKeys files path c.in_ok-keys.keys in
+    let Q : RunLevel → Type 0 = λ level. Does (g.F.Shelf.files c.args.shelf.now) (g.F.Shelf.there c.args.shelf.now) steady (run request.folder.now level request.cycles path) (g.O.Sink.written c.args.out.now) (g.O.Sink.written c.report_vm.new.out) err err c.report_vm.result in
+    subst Q (sym c.in-Vm.is)
+    (answered (levels.Vm c.in-Vm.show) _ (g.F.Shelf.there c.args.shelf.now) steady request.folder.now request.cycles path c.in_ok-core.core c.in_ok-keys.keys _ _ err c.report_vm.result c.in_ok-core.ensures.loads
+    (c.in_ok-built.built, c.in_ok-built.ensures) (subst P c.in_ok-core.ensures.kept c.in_ok-keys.ensures.loads) c.report_vm.ensures.reports)
+
+pub returns-in-Vm-clause-counts : goal.returns-in-Vm-clause-counts
+returns-in-Vm-clause-counts g c = λ err.
+    report_counts (IsReport (levels.Vm c.in-Vm.show) c.in_ok-core.core (code_at c.in_ok-keys.keys) c.args.request.now.cycles) _ _ _ _ _ _ err c.report_vm.result
+    (c.in_ok-keys.ensures.counts ∙ c.in_ok-core.ensures.counts) c.report_vm.ensures.reports c.report_vm.ensures.counts
+
 pub report_hack-requires-clause-words : goal.report_hack-requires-clause-words
 report_hack-requires-clause-words g c = keys_are_words _ _ c.in_ok-keys.keys c.in_ok-keys.ensures.loads
 

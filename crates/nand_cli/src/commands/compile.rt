@@ -1,0 +1,49 @@
+//! The command `compile`: the VM text of a folder's classes.
+ghost use Rattle.std.specs.Prelude.{◌≡◌, ◌≤◌, IfOk, List, ℕ, Option, length};
+ghost use Rattle.command_line.specs.Line.{compile};
+ghost use Rattle.tower.specs.Compiled.{AreCompiled, AreNamed};
+ghost use Rattle.tower.specs.Spelled.{AreSpelled};
+ghost use Rattle.vm_tree.specs.declared.program.File.{File};
+ghost use Rattle.source_files.specs.Loads.{Loads};
+ghost use Rattle.nand_cli.specs.JackFolder.{IsMeaningless};
+ghost use Rattle.nand_cli.specs.Inner.Parts.{Counts, Does};
+
+use crate::failure::{Failure, finished};
+use crate::jack::{ENDING, not_meant};
+use crate::languages::JackText;
+use jack_tree::Class;
+use outer_world::{Shelf, Sink};
+use source_files::{LoadError, load_folder};
+use std::alloc::Global;
+use tower::compile_classes;
+use vm_tree::{Program, print_files};
+
+// The VM files of the program that the classes of a folder mean.
+fn compiled(alloc: Global, folder: &str, classes: &[Class]) -> Result<Program, LoadError>
+    requires few { length classes.now ≤ 256 }
+    requires spelled { AreSpelled classes.now }
+    ensures makes { Loads (λ (files : List File). AreCompiled classes.now files) (IsMeaningless folder.now classes.now) ⊥ result }
+    ensures named { IfOk result (AreNamed classes.now) }
+{
+    match compile_classes(alloc, classes) {
+        Ok(files) => Ok(files),
+        Err(error) => Err(not_meant(alloc, folder, error)),
+    }
+}
+
+/// Does a line of `compile`; err is left as it is.
+pub fn answer_compile<F: Shelf, O: Sink>(
+    alloc: Global,
+    folder: &str,
+    shelf: &mut F,
+    out: &mut O,
+) -> Result<(), Failure>
+    ensures does { (err : Option (List ℕ)) → Does (F.files shelf.old) (F.there shelf.old) (F.unfailing shelf.old) (compile folder.now) (O.written out.old) (O.written out.new) err err result }
+    ensures counts { (err : ℕ) → Counts (F.faults shelf.old) (F.faults shelf.new) (O.faults out.old) (O.faults out.new) err err result }
+    ensures kept { F.files shelf.new ≡ F.files shelf.old }
+    ensures stays { F.there shelf.new ≡ F.there shelf.old }
+{
+    let classes = load_folder(alloc, &JackText, folder, ENDING, shelf)?;
+    let files = compiled(alloc, folder, &classes)?;
+    finished(print_files(&files.as_slice()[..classes.len()], out))
+}
