@@ -130,7 +130,7 @@ fn exec_faults() -> [&'static str; 40] {
         "exe a --cycles 1 --from 2 --to 3",
         "a.asm --cycles 1 --from 2 --to 3",
         "--cycles 1 exec a --from 2 --to 3",
-        "build prog",
+        "builds prog",
         "run prog",
         "soak 1 2",
         // a path too few, too many
