@@ -18,7 +18,7 @@ use Rattle.command_line.specs.declared.request.RunLevel.TheVariants as levels
 use Rattle.command_line.specs.declared.request.Shown.{Shown}
 use Rattle.command_line.specs.declared.request.Shown.TheVariants.{Words, Nets}
 use Rattle.command_line.specs.declared.request.SourceKind.{SourceKind}
-use Rattle.command_line.specs.Line.{AreOneLine, IsInRange, IsLine, IsReading, Line, NumberIn, asm, exec, flag_word, kind_of as source_kind, level_word, run, show, shown_at, shown_word, vm}
+use Rattle.command_line.specs.Line.{AreOneLine, IsInRange, IsLine, IsReading, Line, NumberIn, asm, build, chip, exec, flag_word, kind_of as source_kind, level_word, map_line, run, show, shown_at, shown_word, vm}
 
 -- ---- the names of the commands, which differ in their first letter or in their second
 
@@ -28,6 +28,9 @@ command_of (exec path cycles from to) = codes "exec"
 command_of (vm folder bare) = codes "vm"
 command_of (show path kind) = codes "show"
 command_of (run folder level cycles keys) = codes "run"
+command_of (build folder) = codes "build"
+command_of (map_line folder) = codes "map"
+command_of (chip chosen) = codes "chip"
 
 named : (name : Text) (rows : List Row) (l : Line) → IsReading name rows l → name ≡ command_of l
 named name rows (asm path) h = h.0
@@ -35,6 +38,9 @@ named name rows (exec path cycles from to) h = h.0
 named name rows (vm folder bare) h = h.0
 named name rows (show path kind) h = h.0
 named name rows (run folder level cycles keys) h = h.0
+named name rows (build folder) h = h.0
+named name rows (map_line folder) h = h.0
+named name rows (chip chosen) h = h.0
 
 abbrev letters : Text → ℕ
 letters t = 256 * slice_index t 0 + slice_index t 1
@@ -105,6 +111,9 @@ in_range ws (exec path c f t) (free, name, rows, found, reading) = (reading.2.2.
 in_range ws (vm folder bare) h = tt
 in_range ws (show path kind) h = tt
 in_range ws (run folder level n keys) (free, name, rows, found, reading) = reading.3.2.small
+in_range ws (build folder) h = tt
+in_range ws (map_line folder) h = tt
+in_range ws (chip chosen) h = tt
 
 -- ---- words are at most one line
 
@@ -193,6 +202,15 @@ same_line name other rows others (run p l c js) (run q m d ks) same h k e =
     let cycles : c ≡ d = same_number rows (codes "cycles") 1000000000 c d h.3 k'.3 in
     let keys : js ≡ ks = sym h.4 ∙ k'.4 in
     cc
+same_line name other rows others (build p) (build q) same h k e =
+    let R : List Row → Type 0 = λ r. IsReading other r (build q) in
+    ap build (same_word rows (codes "path") p q h.1 (subst R (sym same) k).1)
+same_line name other rows others (map_line p) (map_line q) same h k e =
+    let R : List Row → Type 0 = λ r. IsReading other r (map_line q) in
+    ap map_line (same_word rows (codes "path") p q h.1 (subst R (sym same) k).1)
+same_line name other rows others (chip p) (chip q) same h k e =
+    let R : List Row → Type 0 = λ r. IsReading other r (chip q) in
+    ap chip (same_word rows (codes "name") p q h.1 (subst R (sym same) k).1)
 same_line name other rows others l m same h k e =
     absurd (apart (command_of l) (command_of m) refl (sym (named name rows l h) ∙ e ∙ named other others m k))
 

@@ -25,6 +25,9 @@ pub data Line : Type 0 where
   vm : (folder : Text) (bare : Bool) → Line
   show : (path : Text) (kind : SourceKind) → Line
   run : (folder : Text) (level : RunLevel) (cycles : ℕ) (keys : Option Text) → Line
+  build : (folder : Text) → Line
+  map_line : (folder : Text) → Line
+  chip : (name : Text) → Line
 
 -- One or more decimal digits and nothing else, which write a number of at most `most`.
 pub record IsNumber (text : List ℕ) (most n : ℕ) : Type 0 where
@@ -60,12 +63,13 @@ abbrev pub flag_word : Bool → Text
 flag_word true = codes "true"
 flag_word false = codes "false"
 
--- The kind of source that a path tells: `.vm` ends the path of a VM text, `.jack` that of a Jack class, and no
--- other path is that of a source.
+-- The kind of source that a path tells: `.vm` ends the path of a VM text, `.jack` that of a Jack class, `.hdl` that of a
+-- chip, and no other path is that of a source.
 abbrev pub kind_of : Text → Option SourceKind
 kind_of path =
     if ends_with nat_eq path (codes ".vm") then Some kinds.Vm
     else if ends_with nat_eq path (codes ".jack") then Some kinds.Jack
+    else if ends_with nat_eq path (codes ".hdl") then Some kinds.Hdl
     else None
 
 -- The matches of the command `name` are those of the line: a case for each row of the table.
@@ -84,6 +88,9 @@ IsReading name rows (run folder level cycles keys) =
     × (first_of (codes "level") rows ≡ Some (level_word level))
     × NumberIn rows (codes "cycles") 1000000000 cycles
     × (first_of (codes "keys") rows ≡ keys) × (first_of (codes "show") rows ≡ Some (shown_word (shown_at level)))
+IsReading name rows (build folder) = (name ≡ codes "build") × (first_of (codes "path") rows ≡ Some folder)
+IsReading name rows (map_line folder) = (name ≡ codes "map") × (first_of (codes "path") rows ≡ Some folder)
+IsReading name rows (chip chosen) = (name ≡ codes "chip") × (first_of (codes "name") rows ≡ Some chosen)
 
 -- The words are the line: `clap` reads them by the table without a fault, as a command of the table
 -- with its matches, and these are the line's. So words are no line where `clap` gives no matches, or
@@ -107,6 +114,9 @@ IsInRange (exec path cycles from to) = (cycles ≤ 1000000000) × (from ≤ 3276
 IsInRange (vm folder bare) = ⊤
 IsInRange (show path kind) = ⊤
 IsInRange (run folder level cycles keys) = cycles ≤ 1000000000
+IsInRange (build folder) = ⊤
+IsInRange (map_line folder) = ⊤
+IsInRange (chip name) = ⊤
 
 -- ---- the code's side
 
@@ -117,6 +127,9 @@ line_of (request.Exec e) = exec e.path.now e.cycles e.from e.to
 line_of (request.Vm folder bare) = vm folder.now bare
 line_of (request.Show path kind) = show path.now kind
 line_of (request.Run r) = run r.folder.now r.level r.cycles (option_map (λ keys. keys.now) r.keys)
+line_of (request.Build folder) = build folder.now
+line_of (request.Map folder) = map_line folder.now
+line_of (request.Chip name) = chip name.now
 
 -- the matches of a command, as rows
 abbrev pub rows_in : ArgMatches → List Row

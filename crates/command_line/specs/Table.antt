@@ -60,6 +60,18 @@ run_command = command (codes "run")
     (word_rule (codes "path") ∷ option_rule (codes "level") ∷ option_rule (codes "cycles")
     ∷ extra_rule (codes "keys") ∷ default_rule (codes "show") (codes "none") ∷ [])
 
+-- `build D`
+abbrev pub build_command : Shape
+build_command = path_command (codes "build")
+
+-- `map D`
+abbrev pub map_command : Shape
+map_command = path_command (codes "map")
+
+-- `chip NAME`
+abbrev pub chip_command : Shape
+chip_command = command (codes "chip") (word_rule (codes "name") ∷ [])
+
 -- ---- the table
 
 -- `nand` without its commands: the words begin with a command's name, and one must stand
@@ -73,5 +85,5 @@ bare_table = record {
 abbrev pub table : App
 table = record bare_table {
   top = record bare_table.top { is_leaf = false };
-  subs = asm_command ∷ exec_command ∷ vm_command ∷ show_command ∷ run_command ∷ [];
+  subs = asm_command ∷ exec_command ∷ vm_command ∷ show_command ∷ run_command ∷ build_command ∷ map_command ∷ chip_command ∷ [];
 }

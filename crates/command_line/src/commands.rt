@@ -2,7 +2,7 @@
 ghost use Rattle.std.specs.Prelude.{◌≡◌, ◌∷◌, [], IfOk, false, codes};
 ghost use Rattle.clap.specs.Words.{app_of, rule_of, shape_of, with_subcommand};
 ghost use Rattle.clap.specs.declared.builder.Command.TheViews.{out-Command as fields_of};
-ghost use Rattle.command_line.specs.Table.{asm_command, bare_table, command, default_rule, exec_command, extra_rule, flag_rule, option_rule, path_command, run_command, show_command, vm_command, word_rule};
+ghost use Rattle.command_line.specs.Table.{asm_command, bare_table, build_command, chip_command, command, default_rule, exec_command, extra_rule, flag_rule, map_command, option_rule, path_command, run_command, show_command, vm_command, word_rule};
 ghost use Rattle.command_line.specs.Table as table;
 
 use clap::{Arg, ArgAction, Command};
@@ -48,12 +48,20 @@ fn flag(alloc: Global, name: &str) -> Arg<'_>
     extra(alloc, name).action(ArgAction::SetTrue)
 }
 
+// A command with one word alone.
+fn word_only<'a>(alloc: Global, name: &'a str, id: &'a str) -> Result<Command<'a>, AllocError>
+    ensures shape { IfOk result (λ c. shape_of c ≡ command name.now (word_rule id.now ∷ [])) }
+    ensures local { IfOk result (λ c. (fields_of c).has_globals ≡ false) }
+{
+    Command::new(alloc, name).arg(word(alloc, id))
+}
+
 // A command with a path alone.
 fn path_only<'a>(alloc: Global, name: &'a str) -> Result<Command<'a>, AllocError>
     ensures shape { IfOk result (λ c. shape_of c ≡ path_command name.now) }
     ensures local { IfOk result (λ c. (fields_of c).has_globals ≡ false) }
 {
-    Command::new(alloc, name).arg(word(alloc, "path"))
+    word_only(alloc, name, "path")
 }
 
 fn exec<'a>(alloc: Global) -> Result<Command<'a>, AllocError>
@@ -123,9 +131,19 @@ fn with_sources<'a>(alloc: Global, top: Command<'a>) -> Result<Command<'a>, Allo
         .subcommand(path_only(alloc, "show")?)
 }
 
+// Adds `build`, `map` and `chip`.
+fn with_printers<'a>(alloc: Global, top: Command<'a>) -> Result<Command<'a>, AllocError>
+    ensures { IfOk result (λ c. app_of c ≡ with_subcommand (with_subcommand (with_subcommand (app_of top.entry) build_command) map_command) chip_command) }
+{
+    top.subcommand(path_only(alloc, "build")?)?
+        .subcommand(path_only(alloc, "map")?)?
+        .subcommand(word_only(alloc, "chip", "name")?)
+}
+
 /// The table of the commands that work.
 pub fn table<'a>(alloc: Global) -> Result<Command<'a>, AllocError>
     ensures { IfOk result (λ c. app_of c ≡ table.table) }
 {
-    with_sources(alloc, with_machine(alloc, bare(alloc))?)?.subcommand(run(alloc)?)
+    let programs = with_sources(alloc, with_machine(alloc, bare(alloc))?)?.subcommand(run(alloc)?)?;
+    with_printers(alloc, programs)
 }

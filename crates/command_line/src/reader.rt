@@ -102,6 +102,8 @@ fn kind_of(path: &str) -> Option<SourceKind>
         Some(SourceKind::Vm)
     } else if path.as_bytes().ends_with(b".jack") {
         Some(SourceKind::Jack)
+    } else if path.as_bytes().ends_with(b".hdl") {
+        Some(SourceKind::Hdl)
     } else {
         None
     }
@@ -177,6 +179,27 @@ fn run<'a>(matches: &ArgMatches<'a>) -> Option<Request<'a>>
     }))
 }
 
+fn build<'a>(matches: &ArgMatches<'a>) -> Option<Request<'a>>
+    ensures { Reads (codes "build") (rows_in matches.now) result }
+{
+    let folder = text_in(matches, "path")?;
+    Some(Request::Build { folder })
+}
+
+fn map_of<'a>(matches: &ArgMatches<'a>) -> Option<Request<'a>>
+    ensures { Reads (codes "map") (rows_in matches.now) result }
+{
+    let folder = text_in(matches, "path")?;
+    Some(Request::Map { folder })
+}
+
+fn chip<'a>(matches: &ArgMatches<'a>) -> Option<Request<'a>>
+    ensures { Reads (codes "chip") (rows_in matches.now) result }
+{
+    let name = text_in(matches, "name")?;
+    Some(Request::Chip { name })
+}
+
 // The request of a command and its matches.
 fn reading<'a>(name: &str, matches: &ArgMatches<'a>) -> Option<Request<'a>>
     ensures { Reads name.now (rows_in matches.now) result }
@@ -187,6 +210,9 @@ fn reading<'a>(name: &str, matches: &ArgMatches<'a>) -> Option<Request<'a>>
         "vm" => vm(matches),
         "show" => show(matches),
         "run" => run(matches),
+        "build" => build(matches),
+        "map" => map_of(matches),
+        "chip" => chip(matches),
         _ => None,
     }
 }

@@ -22,6 +22,8 @@ pub enum SourceKind {
     Vm,
     /// A Jack class: `.jack`.
     Jack,
+    /// A chip: `.hdl`.
+    Hdl,
 }
 
 /// What is shown after a report.
@@ -68,4 +70,10 @@ pub enum Request<'a> {
     /// `show F`: the printed form of a source; its path tells the kind.
     Show { path: &'a str, kind: SourceKind },
     Run(Run<'a>),
+    /// `build D`: the image of a folder's program, as `.hack` text.
+    Build { folder: &'a str },
+    /// `map D`: the map of that image.
+    Map { folder: &'a str },
+    /// `chip NAME`: the printed form of a shipped chip.
+    Chip { name: &'a str },
 }

@@ -1,7 +1,7 @@
 -- A line of `asm`, of `exec`, of `show` and of `vm` prints one thing or is refused for one thing, and not both.
 use Rattle.std.specs.Prelude.{min, ◌^◌}
-use Rattle.std.proofs.Common.{◌≡◌, ◌≤◌, ◌-◌, inl, inr, true, ℕ, Bool, List, [], ◌∷◌, Some, Result, Ok, Err, codes, length, map, refl, sym, ◌∙◌, ap, subst, arith}
-use Rattle.outer_world.specs.Files.{Files}
+use Rattle.std.proofs.Common.{◌≡◌, ◌≤◌, ◌-◌, inl, inr, true, None, ℕ, Bool, List, [], ◌∷◌, Some, Result, Ok, Err, codes, length, map, refl, sym, ◌∙◌, ap, subst, arith}
+use Rattle.outer_world.specs.Files.{Files, LacksFolder, file_at}
 use Rattle.outer_world.specs.Refusals.{Message, told_line}
 use Rattle.hack_isa.specs.Machine.{image_words, machine_at, read}
 use Rattle.hack_asm.specs.Image.{image_text}
@@ -22,18 +22,36 @@ use Rattle.vm_translator.specs.Image.{IsTooLarge, image_of}
 use Rattle.vm_translator.specs.Told.{code_told}
 use Rattle.vm_translator.specs.declared.coded.CodeFault.TheVariants.{TooLarge}
 use Rattle.jack_tree.specs.declared.tree.Class.{Class}
+use Rattle.hdl_tree.specs.declared.tree.Chip.{Chip}
+use Rattle.hdl_tree.specs.declared.library.Entry.{Entry}
+use Rattle.hdl_parser.specs.Printed.{chip_text}
+use Rattle.hdl_parser.specs.Whole.{ReadingLaw as ChipLaw, Spells as SpellsChip}
 use Rattle.jack_parser.specs.Jack.{whole}
 use Rattle.jack_parser.specs.Printed.{text_of}
 use Rattle.jack_parser.specs.Whole.{ReadingLaw as JackLaw, Spells as SpellsTree, whole_tree}
 use Rattle.command_line.specs.declared.request.SourceKind.TheVariants as kinds
 use Rattle.source_files.proofs.Once.{never_both, never_unread, one_fault, one_folder, one_refusal, one_source}
-use Rattle.nand_cli.specs.Exact.{AsmExactLaw, ExecExactLaw, ShowExactLaw, VmExactLaw}
-use Rattle.nand_cli.specs.Languages.{RefusesClass, RefusesVm, RefusesWords, SpellsVmFile, SpellsWords}
+use Rattle.source_files.specs.Sources.{IsFaulty, SpellsAt}
+use Rattle.nand_cli.specs.Exact.{AsmExactLaw, ChipExactLaw, ExecExactLaw, ShowExactLaw, VmExactLaw}
+use Rattle.nand_cli.specs.Languages.{RefusesClass, RefusesHdl, RefusesVm, RefusesWords, SpellsVmFile, SpellsWords}
+use Rattle.nand_cli.specs.Commands.Chip.{ChipPrints, ChipRefuses}
 use Rattle.nand_cli.specs.Commands.Exec.{form_of}
 use Rattle.nand_cli.specs.Commands.Vm.{HasNoCode, HasProgram, VmPrints, VmRefuses, unread, without_code}
 use Rattle.nand_cli.specs.declared.languages.Form.{Form}
 use Rattle.nand_cli.specs.declared.languages.Form.TheVariants.{Assembly}
-use Rattle.nand_cli.proofs.ReadOnce.{file_once, program_once, tree_once, words_once}
+use Rattle.nand_cli.proofs.ReadOnce.{chip_once, file_once, program_once, tree_once, words_once}
+
+-- ---- what is not there
+
+-- a file that is not there spells nothing and is not refused
+pub no_source : {A : Type 0} (spells : List ℕ → A → Type 0) (files : Files) (path : List ℕ) (a : A) → file_at files path ≡ None → SpellsAt spells (Some files) path a → ⊥
+no_source spells files path a gone (text, has, h) = let no : ⊥ = cc in no
+
+pub none_refused : (refuses : List ℕ → Message → Type 0) (files : Files) (path line : List ℕ) → file_at files path ≡ None → IsFaulty refuses (Some files) path line → ⊥
+none_refused refuses files path line gone (text, told, has, h, e) = let no : ⊥ = cc in no
+
+pub not_missing : (there : List ℕ → Bool) (files : Files) (folder : List ℕ) → there folder ≡ true → LacksFolder (Some files) there folder → ⊥
+not_missing there files folder is (gone, empty) = let no : ⊥ = cc in no
 
 -- ---- `asm` and `exec`
 
@@ -52,6 +70,7 @@ asm_exact assembly image files path =
         one_fault (spelled_in Assembly) (RefusesWords Assembly) (λ (ws : List ℕ). ws) once files path err err' h.1 k.1,
       );
       apart = λ out err out' err' h k. never_both (spelled_in Assembly) (RefusesWords Assembly) (λ (ws : List ℕ). ws) once files [] path h.0.0 err' h.0.1 k.1;
+      lacking = λ there has gone out err. (λ h. no_source (SpellsWords Assembly) files path h.0.0 gone h.0.1, λ k. none_refused (RefusesWords Assembly) files path err gone k.1);
     }
 
 pub exec_exact : AssemblyLaw → ImageLaw → ExecExactLaw
@@ -69,6 +88,7 @@ exec_exact assembly image files path cycles from to =
         one_fault (spelled_in form) (RefusesWords form) (λ (ws : List ℕ). ws) once files path err err' h.1 k.1,
       );
       apart = λ out err out' err' h k. never_both (spelled_in form) (RefusesWords form) (λ (ws : List ℕ). ws) once files [] path h.0.0 err' h.0.1 k.1;
+      lacking = λ there has gone out err. (λ h. no_source (SpellsWords form) files path h.0.0 gone h.0.1, λ k. none_refused (RefusesWords form) files path err gone k.1);
     }
 
 -- ---- `show`
@@ -79,8 +99,11 @@ program_in = λ name text program. SpellsProgram true [] text program
 abbrev tree_in : List ℕ → List ℕ → Class → Type 0
 tree_in = λ name text c. SpellsTree text (whole_tree c)
 
-pub show_exact : VmLaw → JackLaw → ShowExactLaw
-show_exact vm_law jack_law files path kinds.Vm =
+abbrev chip_in : List ℕ → List ℕ → Chip → Type 0
+chip_in = λ name text c. SpellsChip text c
+
+pub show_exact : VmLaw → JackLaw → ChipLaw → ShowExactLaw
+show_exact vm_law jack_law chip_law files path kinds.Vm =
     let once = program_once vm_law in record {
       prints = λ one out err out' err' h k. (
         h.0.2 ∙ ap program_text (one_source program_in (RefusesVm true) (λ (p : List File). p) once files [] path h.0.0 k.0.0 h.0.1 k.0.1) ∙ sym k.0.2,
@@ -91,8 +114,9 @@ show_exact vm_law jack_law files path kinds.Vm =
         one_fault program_in (RefusesVm true) (λ (p : List File). p) once files path err err' h.1 k.1,
       );
       apart = λ out err out' err' h k. never_both program_in (RefusesVm true) (λ (p : List File). p) once files [] path h.0.0 err' h.0.1 k.1;
+      lacking = λ there has gone out err. (λ h. no_source (program_in []) files path h.0.0 gone h.0.1, λ k. none_refused (RefusesVm true) files path err gone k.1);
     }
-show_exact vm_law jack_law files path kinds.Jack =
+show_exact vm_law jack_law chip_law files path kinds.Jack =
     let once = tree_once jack_law in record {
       prints = λ one out err out' err' h k. (
         h.0.2 ∙ ap (λ t. text_of t whole) (one_source tree_in RefusesClass whole_tree once files [] path h.0.0 k.0.0 h.0.1 k.0.1) ∙ sym k.0.2,
@@ -103,7 +127,37 @@ show_exact vm_law jack_law files path kinds.Jack =
         one_fault tree_in RefusesClass whole_tree once files path err err' h.1 k.1,
       );
       apart = λ out err out' err' h k. never_both tree_in RefusesClass whole_tree once files [] path h.0.0 err' h.0.1 k.1;
+      lacking = λ there has gone out err. (λ h. no_source (tree_in []) files path h.0.0 gone h.0.1, λ k. none_refused RefusesClass files path err gone k.1);
     }
+show_exact vm_law jack_law chip_law files path kinds.Hdl =
+    let once = chip_once chip_law in record {
+      prints = λ one out err out' err' h k. (
+        h.0.2 ∙ ap chip_text (one_source chip_in RefusesHdl (λ (c : Chip). c) once files [] path h.0.0 k.0.0 h.0.1 k.0.1) ∙ sym k.0.2,
+        h.1 ∙ sym k.1,
+      );
+      refuses = λ out err out' err' h k. (
+        h.0 ∙ sym k.0,
+        one_fault chip_in RefusesHdl (λ (c : Chip). c) once files path err err' h.1 k.1,
+      );
+      apart = λ out err out' err' h k. never_both chip_in RefusesHdl (λ (c : Chip). c) once files [] path h.0.0 err' h.0.1 k.1;
+      lacking = λ there has gone out err. (λ h. no_source (chip_in []) files path h.0.0 gone h.0.1, λ k. none_refused RefusesHdl files path err gone k.1);
+    }
+
+-- ---- `chip`
+
+one_chip : (name out out' : List ℕ) → ChipPrints name out → ChipPrints name out' → out ≡ out'
+one_chip name out out' (c, is, e) (d, also, f) = let same : c ≡ d = cc in e ∙ ap (λ (x : Entry). chip_text x.chip) same ∙ sym f
+
+not_unknown : (name out line : List ℕ) → ChipPrints name out → ChipRefuses name line → ⊥
+not_unknown name out line (c, is, e) (none, f) = let no : ⊥ = cc in no
+
+pub chip_exact : ChipExactLaw
+chip_exact files name = record {
+  prints = λ one out err out' err' h k. (one_chip name out out' h.0 k.0, h.1 ∙ sym k.1);
+  refuses = λ out err out' err' h k. (h.0 ∙ sym k.0, h.1.1 ∙ sym k.1.1);
+  apart = λ out err out' err' h k. not_unknown name out err' h.0 k.1;
+  lacking = λ there has gone out err. absurd gone;
+}
 
 -- ---- `vm`
 
@@ -174,4 +228,5 @@ vm_exact law files folder bare = record {
   prints = λ one out err out' err' h k. (vm_prints law files folder bare out out' h.0 k.0, h.1 ∙ sym k.1);
   refuses = λ out err out' err' h k. (h.0 ∙ sym k.0, vm_refuses law files folder bare err err' h.1 k.1);
   apart = λ out err out' err' h k. vm_apart law files folder bare out err' h.0 k.1;
+  lacking = λ there has gone out err. absurd (not_missing there files folder has gone);
 }

@@ -1,5 +1,5 @@
 -- The program of a folder's classes, or why there is none; and why it has no computer.
-use Rattle.std.proofs.Common.{◌≡◌, List, ℕ, Vec, Global, Option, Result, Ok, Err, codes, refl}
+use Rattle.std.proofs.Common.{◌≡◌, List, ℕ, Bool, Vec, Global, Option, Result, Ok, Err, codes, refl}
 use Rattle.grammar.specs.Faults.{fault_told}
 use Rattle.jack_names.specs.Messages.{name_told}
 use Rattle.outer_world.specs.Files.{Files, LacksFolder, path_in}
@@ -20,21 +20,23 @@ use Rattle.tower.specs.declared.program.ProgramError.TheVariants as programs
 use Rattle.nand_cli.specs.Inner.Parts.{TellsWrong}
 use Rattle.nand_cli.specs.JackFolder.{BuildIsRefused, FolderIsRefused, FolderMeans, HasClasses, IsMeaningless, home_of, meaningless, unread}
 use Rattle.nand_cli.specs.Languages.{RefusesClass}
+use Rattle.nand_cli.specs.Commands.Build.{BuildRefuses, FolderBuilds, unbuilt, without_program}
+use Rattle.nand_cli.specs.declared.jack.BuiltProgram.{BuiltProgram}
 
 pub not_meant : (folder : List ℕ) (classes : List Class) (error : ProgramError) (e : LoadError) → IsProgram classes (Err error) → TellsWrong folder error e → Loads (λ (core : Core). Means classes (Ok core)) (IsMeaningless folder classes) ⊥ (Err e)
 not_meant folder classes programs.Memory e h tells = rw tells tt
 not_meant folder classes (programs.System f) e h tells = told (λ (core : Core). Means classes (Ok core)) (IsMeaningless folder classes) ⊥ (path_in (codes "os") f.file) (fault_told f.fault) e (programs.System f, h, refl) tells
 not_meant folder classes (programs.Name f) e h tells = told (λ (core : Core). Means classes (Ok core)) (IsMeaningless folder classes) ⊥ (path_in (home_of folder f.shipped) f.file) (name_told f) e (programs.Name f, h, refl) tells
 
-module _ (files : Option Files) (folder : List ℕ) (steady : Type 0) where
+module _ (files : Option Files) (folder : List ℕ) (there : List ℕ → Bool) (steady : Type 0) where
   -- what the folder's program says of loading it
   abbrev pub LoadsJack : Result Core LoadError → Type 0
-  LoadsJack r = Loads (FolderMeans files folder) (FolderIsRefused files folder) (steady → LacksFolder files folder) r
+  LoadsJack r = Loads (FolderMeans files folder) (FolderIsRefused files folder) (steady → LacksFolder files there folder) r
 
-  pub without_classes : (e : LoadError) → Loads (λ (classes : Vec Class Global). HasClasses files folder classes.items) (IsUnread SpellsClass RefusesClass (codes ".jack") files folder) (steady → LacksFolder files folder) (Err e) → LoadsJack (Err e)
+  pub without_classes : (e : LoadError) → Loads (λ (classes : Vec Class Global). HasClasses files folder classes.items) (IsUnread SpellsClass RefusesClass (codes ".jack") files folder) (steady → LacksFolder files there folder) (Err e) → LoadsJack (Err e)
   without_classes e h =
-      without (λ (classes : Vec Class Global). HasClasses files folder classes.items) (IsUnread SpellsClass RefusesClass (codes ".jack") files folder) (steady → LacksFolder files folder)
-      (FolderMeans files folder) (FolderIsRefused files folder) (steady → LacksFolder files folder) e (λ line k. unread k) (λ k. k) h
+      without (λ (classes : Vec Class Global). HasClasses files folder classes.items) (IsUnread SpellsClass RefusesClass (codes ".jack") files folder) (steady → LacksFolder files there folder)
+      (FolderMeans files folder) (FolderIsRefused files folder) (steady → LacksFolder files there folder) e (λ line k. unread k) (λ k. k) h
 
   pub meant : (classes : List Class) (r : Result Core LoadError) → HasClasses files folder classes → Loads (λ (core : Core). Means classes (Ok core)) (IsMeaningless folder classes) ⊥ r → LoadsJack r
   meant classes (Ok core) has h = (classes, has, h)
@@ -52,3 +54,25 @@ program_counts folder classes (Err errors.Memory) shelf shelf' h same = same
 
 pub unbuilt_told : (folder : List ℕ) (core : Core) (error : BuildError) (e : LoadError) → Builds core (Err error) → TellsOf folder (build_told error) e → Loads (IsComputerOf core) (BuildIsRefused core folder) ⊥ (Err e)
 unbuilt_told folder core error e h tells = told_of (IsComputerOf core) (BuildIsRefused core folder) ⊥ folder (build_told error) e (λ t same. (error, t, h, same, refl)) tells
+
+-- ---- a program with its computer
+
+module _ (files : Option Files) (folder : List ℕ) (there : List ℕ → Bool) (steady : Type 0) where
+  -- what a folder says of loading its program with its image
+  abbrev pub LoadsBuilt : Result BuiltProgram LoadError → Type 0
+  LoadsBuilt r = Loads (λ (p : BuiltProgram). FolderBuilds files folder p.core p.built) (BuildRefuses files folder) (steady → LacksFolder files there folder) r
+
+  pub without_core : (e : LoadError) → Loads (FolderMeans files folder) (FolderIsRefused files folder) (steady → LacksFolder files there folder) (Err e) → LoadsBuilt (Err e)
+  without_core e h =
+      without (FolderMeans files folder) (FolderIsRefused files folder) (steady → LacksFolder files there folder)
+      (λ (p : BuiltProgram). FolderBuilds files folder p.core p.built) (BuildRefuses files folder) (steady → LacksFolder files there folder) e (λ line k. without_program k) (λ k. k) h
+
+  pub without_computer : (core : Core) (e : LoadError) → FolderMeans files folder core → Loads (IsComputerOf core) (BuildIsRefused core folder) ⊥ (Err e) → LoadsBuilt (Err e)
+  without_computer core e means h =
+      without (IsComputerOf core) (BuildIsRefused core folder) ⊥
+      (λ (p : BuiltProgram). FolderBuilds files folder p.core p.built) (BuildRefuses files folder) (steady → LacksFolder files there folder) e (λ line k. unbuilt core means k) (λ k. absurd k) h
+
+pub unbuilt_counts : (core : Core) (folder : List ℕ) (e : LoadError) (shelf shelf' : ℕ) → Loads (IsComputerOf core) (BuildIsRefused core folder) ⊥ (Err e) → shelf' ≡ shelf → CountsLoad {A = BuiltProgram} shelf shelf' (Err e)
+unbuilt_counts core folder (errors.Refused r) shelf shelf' h same = same
+unbuilt_counts core folder errors.Failed shelf shelf' h same = absurd h
+unbuilt_counts core folder errors.Memory shelf shelf' h same = same

@@ -13,6 +13,8 @@ use Rattle.hack_asm.specs.declared.fault.AsmFault.{AsmFault}
 use Rattle.hack_asm.specs.declared.fault.AsmFault.TheVariants as asm
 use Rattle.vm_tree.specs.declared.program.File.{File}
 use Rattle.vm_parser.specs.Files.{ReadingLaw as VmLaw, Spells as SpellsProgram, Refuses as RefusesProgram}
+use Rattle.hdl_tree.specs.declared.tree.Chip.{Chip}
+use Rattle.hdl_parser.specs.Whole.{ReadingLaw as ChipLaw, Refuses as RefusesChip, Spells as SpellsChip}
 use Rattle.jack_tree.specs.declared.tree.Class.{Class}
 use Rattle.jack_parser.specs.Whole.{ReadingLaw as JackLaw, Refuses as RefusesTree, Spells as SpellsTree, whole_tree}
 use Rattle.jack_os.specs.System.{SpellsClass}
@@ -21,7 +23,7 @@ use Rattle.key_script.specs.declared.lines.Line.{Line}
 use Rattle.source_files.proofs.Once.{ReadsOnce}
 use Rattle.source_files.specs.Folder.{stem_of}
 use Rattle.nand_cli.proofs.SameClasses.{class_same, class_seen}
-use Rattle.nand_cli.specs.Languages.{IsTold, RefusesClass, RefusesKeys, RefusesVm, RefusesWords, SpellsVmFile, SpellsWords}
+use Rattle.nand_cli.specs.Languages.{IsTold, RefusesClass, RefusesHdl, RefusesKeys, RefusesVm, RefusesWords, SpellsVmFile, SpellsWords}
 use Rattle.nand_cli.specs.declared.languages.Form.{Form}
 use Rattle.nand_cli.specs.declared.languages.Form.TheVariants.{Assembly, Image}
 
@@ -118,6 +120,15 @@ class_once law = record {
   one = λ name text a b h k. class_same a b ((law text).one (whole_tree a) (whole_tree b) h.0 k.0) (h.1 ∙ sym k.1);
   one_told = λ text s t h k. one_told (SpellsTree text) RefusesTree text s t (law text) h k;
   not_both = λ name text a t h k. (law text).not_both (whole_tree a) k.0 h.0 k.1;
+}
+
+-- ---- chips
+
+pub chip_once : ChipLaw → ReadsOnce (λ (name text : List ℕ) (c : Chip). SpellsChip text c) RefusesHdl (λ (c : Chip). c)
+chip_once law = record {
+  one = λ name text a b h k. (law text).one a b h k;
+  one_told = λ text s t h k. one_told (SpellsChip text) RefusesChip text s t (law text) h k;
+  not_both = λ name text a t h k. (law text).not_both a k.0 h k.1;
 }
 
 -- ---- key scripts

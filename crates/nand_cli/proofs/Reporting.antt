@@ -1,5 +1,5 @@
 -- The report of what a machine shows; and what a line of `run` does, with a report and without.
-use Rattle.std.proofs.Common.{◌≡◌, ◌-◌, ℕ, List, [], Option, Some, None, Result, Ok, Err, refl, sym, ◌∙◌, ap, subst, inl, inr, slice_index}
+use Rattle.std.proofs.Common.{◌≡◌, ◌-◌, ℕ, Bool, List, [], Option, Some, None, Result, Ok, Err, refl, sym, ◌∙◌, ap, subst, inl, inr, slice_index}
 use Rattle.std.specs.Prelude.{IfSome}
 use Rattle.jack_meaning.specs.Level.{point_in}
 use Rattle.jack_core.specs.declared.program.Core.{Core}
@@ -34,7 +34,7 @@ use Rattle.nand_cli.specs.Inner.Reports.{CountsReport, HasRun, IsPut, Reports, j
 use Rattle.nand_cli.specs.Commands.Run.{HasKeys, IsReport, LacksKeys, ScriptIsRefused, name_of, unbuilt, without_program, without_script}
 use Rattle.nand_cli.specs.declared.failure.Failure.{Failure}
 use Rattle.nand_cli.specs.declared.failure.Failure.TheVariants as failure
-use Rattle.nand_cli.proofs.Doing.{emptied, nothing_put}
+use Rattle.nand_cli.proofs.Doing.{missing, nothing_put}
 
 pub reported : (n : ℕ) (show : Show) (core : Core) (new : Jack) (code : ℕ → ℕ) (end : End)
     → new.core.now ≡ core → HasRun code n new end → IsReport (levels.Jack show) core code n (jack_text new (names_of core) end show)
@@ -76,10 +76,10 @@ reported_as P Q out out' (Err (failure.Unloaded e)) more h = h
 
 -- ---- the line
 
-module _ (level : RunLevel) (files : Option Files) (steady : Type 0) (folder : List ℕ) (n : ℕ) (keys : Option (List ℕ)) where
+module _ (level : RunLevel) (files : Option Files) (there : List ℕ → Bool) (steady : Type 0) (folder : List ℕ) (n : ℕ) (keys : Option (List ℕ)) where
   -- with a report
   pub answered : (core : Core) (lines : List Line) (out out' err : Option (List ℕ)) (r : Result (Unit {0}) Failure) → FolderMeans files folder core → IsBuilt core → HasKeys files keys lines
-      → Reports (IsReport level core (code_at lines) n) out out' r → Does files steady (run folder level n keys) out out' err err r
+      → Reports (IsReport level core (code_at lines) n) out out' r → Does files there steady (run folder level n keys) out out' err err r
   answered core lines out out' err (Ok u) means built has (text, is, got) = (text, [], ((core, lines, means, built, has, is), refl), got, Got-nothing err)
   answered core lines out out' err (Err failure.Write) means built has (text, is, part) = (text, [], ((core, lines, means, built, has, is), refl), part, refl)
   answered core lines out out' err (Err (failure.Unloaded (errors.Refused why))) means built has (same, e) = absurd (let bad : ⊥ = cc in bad)
@@ -88,26 +88,26 @@ module _ (level : RunLevel) (files : Option Files) (steady : Type 0) (folder : L
       ([], [], (refl, refl), subst (λ now. Got out now []) (sym same) (Got-nothing out), Got-nothing err)
 
   -- without a program, without its image, and without keys
-  pub without_jack : (out err : Option (List ℕ)) (e : LoadError) → Loads (FolderMeans files folder) (FolderIsRefused files folder) (steady → LacksFolder files folder) (Err e)
-      → Does files steady (run folder level n keys) out out err err (Err (failure.Unloaded e))
+  pub without_jack : (out err : Option (List ℕ)) (e : LoadError) → Loads (FolderMeans files folder) (FolderIsRefused files folder) (steady → LacksFolder files there folder) (Err e)
+      → Does files there steady (run folder level n keys) out out err err (Err (failure.Unloaded e))
   without_jack out err e h =
-      nothing_put (FolderMeans files folder) (FolderIsRefused files folder) (steady → LacksFolder files folder) files steady (run folder level n keys) out err e
-      (λ told k. (refl, without_program k)) (λ k s. emptied files folder (run folder level n keys) (λ told none. inl none) (k s)) h
+      nothing_put (FolderMeans files folder) (FolderIsRefused files folder) (steady → LacksFolder files there folder) files there steady (run folder level n keys) out err e
+      (λ told k. (refl, without_program k)) (λ k s. missing files there folder (run folder level n keys) (λ told none. inl none) (k s)) h
 
   pub without_image : (out err : Option (List ℕ)) (core : Core) (e : LoadError) → FolderMeans files folder core → Loads (IsComputerOf core) (BuildIsRefused core folder) ⊥ (Err e)
-      → Does files steady (run folder level n keys) out out err err (Err (failure.Unloaded e))
+      → Does files there steady (run folder level n keys) out out err err (Err (failure.Unloaded e))
   without_image out err core e means h =
-      nothing_put (IsComputerOf core) (BuildIsRefused core folder) ⊥ files steady (run folder level n keys) out err e
+      nothing_put (IsComputerOf core) (BuildIsRefused core folder) ⊥ files there steady (run folder level n keys) out err e
       (λ told k. (refl, unbuilt core means k)) (λ k. absurd k) h
 
-  without_script_file : (told : Option Files) (core : Core) → FolderMeans told folder core → IsBuilt core → LacksKeys told keys → IfSome told (λ fs. Lacks fs (run folder level n keys))
+  without_script_file : (told : Option Files) (core : Core) → FolderMeans told folder core → IsBuilt core → LacksKeys told keys → IfSome told (λ fs. Lacks there fs (run folder level n keys))
   without_script_file None core means built lacks = tt
   without_script_file (Some fs) core means built lacks = inr (core, means, built, lacks)
 
   pub without_keys : (out err : Option (List ℕ)) (core : Core) (e : LoadError) → FolderMeans files folder core → IsBuilt core
-      → Loads (λ (k : Keys). HasKeys files keys k) (ScriptIsRefused files keys) (steady → LacksKeys files keys) (Err e) → Does files steady (run folder level n keys) out out err err (Err (failure.Unloaded e))
+      → Loads (λ (k : Keys). HasKeys files keys k) (ScriptIsRefused files keys) (steady → LacksKeys files keys) (Err e) → Does files there steady (run folder level n keys) out out err err (Err (failure.Unloaded e))
   without_keys out err core e means built h =
-      nothing_put (λ (k : Keys). HasKeys files keys k) (ScriptIsRefused files keys) (steady → LacksKeys files keys) files steady (run folder level n keys) out err e
+      nothing_put (λ (k : Keys). HasKeys files keys k) (ScriptIsRefused files keys) (steady → LacksKeys files keys) files there steady (run folder level n keys) out err e
       (λ told k. (refl, without_script core means built k)) (λ k s. without_script_file files core means built (k s)) h
 
 -- ---- the counts

@@ -37,7 +37,7 @@ use Rattle.jack_parser.specs.Whole.{ReadingLaw as JackLaw, Refuses as RefusesTre
 use Rattle.jack_names.specs.Faults.{Told, fault_told}
 use Rattle.jack_names.specs.Messages.{kind_word}
 use Rattle.jack_os.specs.System.{AreClassesOf, HasFault, IsClassOf, SpellClasses, SpellsClass, Texts, added_to, system}
-use Rattle.command_line.specs.Line.{asm, exec, run, show, vm}
+use Rattle.command_line.specs.Line.{asm, build, chip, exec, map_line, run, show, vm}
 use Rattle.command_line.specs.declared.request.RunLevel.{RunLevel}
 use Rattle.command_line.specs.declared.request.RunLevel.TheVariants as levels
 use Rattle.command_line.specs.declared.request.Shown.TheVariants.{Nets, Words}
@@ -53,12 +53,13 @@ use Rattle.tower.specs.declared.building.BuildError.TheVariants as building
 use Rattle.tower.specs.declared.program.ProgramError.{ProgramError}
 use Rattle.tower.specs.declared.program.ProgramError.TheVariants as errors
 use Rattle.source_files.proofs.Once.{never_both, never_unread, one_fault, one_folder, one_refusal, one_source}
-use Rattle.nand_cli.specs.Exact.{AsmExactLaw, ExactLaw, ExecExactLaw, RunExactLaw, ShowExactLaw, ShowsOneText, VmExactLaw}
+use Rattle.nand_cli.specs.Answer.{Lacks}
+use Rattle.nand_cli.specs.Exact.{AsmExactLaw, BuildExactLaw, ChipExactLaw, ExactLaw, ExecExactLaw, MapExactLaw, RunExactLaw, ShowExactLaw, ShowsOneText, VmExactLaw}
 use Rattle.nand_cli.specs.Languages.{RefusesClass, RefusesKeys}
 use Rattle.nand_cli.specs.JackFolder.{BuildIsRefused, FolderIsRefused, FolderMeans, HasClasses, IsWrongLine, home_of, meaningless, unread}
 use Rattle.nand_cli.specs.Commands.Gates.{IsGatesReport, gates_trace}
-use Rattle.nand_cli.specs.Commands.Run.{EndsAt, HasKeys, IsHackReport, IsReport, RunPrints, RunRefuses, ScriptIsRefused, name_of, state_after, trace_in, unbuilt, without_program, without_script}
-use Rattle.nand_cli.proofs.Exactly.{not_linked, one_link_fault, one_linked, one_size}
+use Rattle.nand_cli.specs.Commands.Run.{EndsAt, HasKeys, IsHackReport, IsReport, LacksKeys, RunPrints, RunRefuses, ScriptIsRefused, name_of, state_after, trace_in, unbuilt, without_program, without_script}
+use Rattle.nand_cli.proofs.Exactly.{none_refused, no_source, not_linked, not_missing, one_link_fault, one_linked, one_size}
 use Rattle.nand_cli.proofs.ReadOnce.{class_once, keys_once}
 use Rattle.nand_cli.proofs.SameClasses.{SameClasses, added_class, all_class_names_same, all_names_same, class_seen, first_name_fault_same, program_meant_same}
 
@@ -165,17 +166,17 @@ module _ (law : JackLaw) (files : Files) (folder : List ℕ) where
   one_list_of_classes : (cs ds : List Class) → HasClasses (Some files) folder cs → HasClasses (Some files) folder ds → SameClasses cs ds
   one_list_of_classes cs ds h k = one_folder SpellsClass RefusesClass class_seen (class_once law) files folder (codes ".jack") cs ds h k
 
-  one_meaning : (core core' : Core) → FolderMeans (Some files) folder core → FolderMeans (Some files) folder core' → SameProgram core core'
+  pub one_meaning : (core core' : Core) → FolderMeans (Some files) folder core → FolderMeans (Some files) folder core' → SameProgram core core'
   one_meaning core core' (cs, has, means) (ds, has', means') = one_program law cs ds (one_list_of_classes cs ds has has') core core' means means'
 
-  one_folder_line : (line line' : List ℕ) → FolderIsRefused (Some files) folder line → FolderIsRefused (Some files) folder line' → line ≡ line'
+  pub one_folder_line : (line line' : List ℕ) → FolderIsRefused (Some files) folder line → FolderIsRefused (Some files) folder line' → line ≡ line'
   one_folder_line line line' (unread h) (unread k) = one_refusal SpellsClass RefusesClass class_seen (class_once law) files folder (codes ".jack") line line' h k
   one_folder_line line line' (unread h) (meaningless ds has k) = absurd (never_unread SpellsClass RefusesClass class_seen (class_once law) files folder (codes ".jack") ds line has h)
   one_folder_line line line' (meaningless cs has h) (unread k) = absurd (never_unread SpellsClass RefusesClass class_seen (class_once law) files folder (codes ".jack") cs line' has k)
   one_folder_line line line' (meaningless cs has (error, h, e)) (meaningless ds has' (error', k, d)) =
       one_wrong law cs ds (one_list_of_classes cs ds has has') folder line line' error error' h k e d
 
-  never_refused : (core : Core) (line : List ℕ) → FolderMeans (Some files) folder core → FolderIsRefused (Some files) folder line → ⊥
+  pub never_refused : (core : Core) (line : List ℕ) → FolderMeans (Some files) folder core → FolderIsRefused (Some files) folder line → ⊥
   never_refused core line (cs, has, means) (unread k) = never_unread SpellsClass RefusesClass class_seen (class_once law) files folder (codes ".jack") cs line has k
   never_refused core line (cs, has, means) (meaningless ds has' (error, k, e)) = never_wrong law cs ds (one_list_of_classes cs ds has has') folder line core error means k e
 
@@ -188,7 +189,7 @@ module _ (core core' : Core) (same : SameProgram core core') where
   linked_here : (r : Result Linked LinkFault) → Links false (files_of core') r → Links false (files_of core) r
   linked_here r h = subst (λ (fs : List File). Links false fs r) (sym one_list_of_files) h
 
-  one_computer : (p q : RunProgram) → IsComputerOf core p → IsComputerOf core' q → p ≡ q
+  pub one_computer : (p q : RunProgram) → IsComputerOf core p → IsComputerOf core' q → p ≡ q
   one_computer p q h k =
       h.is_image ∙ ap run_program (one_linked false (files_of core) h.linked k.linked h.links (linked_here (Ok k.linked) k.links)) ∙ sym k.is_image
 
@@ -212,7 +213,7 @@ module _ (core core' : Core) (same : SameProgram core core') where
       let r = ap (λ j. build_told (building.TooLarge j)) n in
       let same_told : s ≡ t = cc in same_told
 
-  one_build_line : (folder line line' : List ℕ) → BuildIsRefused core folder line → BuildIsRefused core' folder line' → line ≡ line'
+  pub one_build_line : (folder line line' : List ℕ) → BuildIsRefused core folder line → BuildIsRefused core' folder line' → line ≡ line'
   one_build_line folder line line' (error, s, h, e, d) (error', t, k, e', d') = d ∙ ap (told_line folder) (one_build_told error error' s t h k e e') ∙ sym d'
 
   never_large : (p : RunProgram) (m : Linked) (w : ℕ) → IsComputerOf core p → Links false (files_of core') (Ok m) → IsTooLarge m w → ⊥
@@ -224,7 +225,7 @@ module _ (core core' : Core) (same : SameProgram core core') where
       let e = ap (λ (x : Linked). length (image_of x)) (one_linked false (files_of core) h.linked m h.links (linked_here (Ok m) k)) in
       omega (arith, over, fits, is, long, e)
 
-  never_unbuilt : (p : RunProgram) (error : BuildError) (t : Message) → IsComputerOf core p → Builds core' (Err error) → build_told error ≡ Some t → ⊥
+  pub never_unbuilt : (p : RunProgram) (error : BuildError) (t : Message) → IsComputerOf core p → Builds core' (Err error) → build_told error ≡ Some t → ⊥
   never_unbuilt p building.Memory t h k e = let no : ⊥ = cc in no
   never_unbuilt p (building.TooManyStatics w) t h k e = not_linked false (files_of core) h.linked (linking.TooManyStatics w) _ h.links (linked_here (Err (linking.TooManyStatics w)) k) refl
   never_unbuilt p (building.TooLarge w) t h (m, k, large) e = never_large p m w h k large
@@ -392,18 +393,45 @@ module _ (jack_law : JackLaw) (key_law : KeyLaw) (files : Files) (folder : List 
       never_unbuilt core core' (one_meaning jack_law files folder core core' means means') built.0 k.0 k.1 built.1 k.2 k.3
   run_apart out line (core, ls, means, built, has, is) (without_script core' means' built' k) = never_scripted key_law files keys ls line has k
 
+  -- a key script that is not there
+  no_keys : (path : Option (List ℕ)) (ls : List Line) → LacksKeys (Some files) path → HasKeys (Some files) path ls → ⊥
+  no_keys None ls gone has = gone
+  no_keys (Some path) ls gone has = no_source SpellsLines files path ls gone has
+
+  no_script : (path : Option (List ℕ)) (line : List ℕ) → LacksKeys (Some files) path → ScriptIsRefused (Some files) path line → ⊥
+  no_script None line gone refused = gone
+  no_script (Some path) line gone refused = none_refused RefusesKeys files path line gone refused
+
+  never_printed : (there : List ℕ → Bool) (out : List ℕ) → there folder ≡ true → Lacks there files (run folder level cycles keys) → RunPrints (Some files) folder level cycles keys out → ⊥
+  never_printed there out has (inl gone) h = not_missing there files folder has gone
+  never_printed there out has (inr (core, means, built, gone)) (core', ls, means', built', keyed, is) = no_keys keys ls gone keyed
+
+  never_run_refused : (there : List ℕ → Bool) (line : List ℕ) → there folder ≡ true → Lacks there files (run folder level cycles keys) → RunRefuses (Some files) folder keys line → ⊥
+  never_run_refused there line has (inl gone) h = not_missing there files folder has gone
+  never_run_refused there line has (inr (core, means, built, gone)) (without_program k) = never_refused jack_law files folder core line means k
+  never_run_refused there line has (inr (core, means, built, gone)) (unbuilt core' means' k) =
+      never_unbuilt core core' (one_meaning jack_law files folder core core' means means') built.0 k.0 k.1 built.1 k.2 k.3
+  never_run_refused there line has (inr (core, means, built, gone)) (without_script core' means' built' k) = no_script keys line gone k
+
 pub run_exact : JackLaw → KeyLaw → RunExactLaw
 run_exact jack_law key_law files folder level cycles keys = record {
   prints = λ one out err out' err' h k. (run_prints jack_law key_law files folder level cycles keys one out out' h.0 k.0, h.1 ∙ sym k.1);
   refuses = λ out err out' err' h k. (h.0 ∙ sym k.0, run_refuses jack_law key_law files folder level cycles keys err err' h.1 k.1);
   apart = λ out err out' err' h k. run_apart jack_law key_law files folder level cycles keys out err' h.0 k.1;
+  lacking = λ there has gone out err. (
+    λ h. never_printed jack_law key_law files folder level cycles keys there out has gone h.0,
+    λ k. never_run_refused jack_law key_law files folder level cycles keys there err has gone k.1,
+  );
 }
 
 -- ---- each line
 
-pub exact : AsmExactLaw → ExecExactLaw → VmExactLaw → ShowExactLaw → RunExactLaw → ExactLaw
-exact for_asm for_exec for_vm for_show for_run files (asm path) = for_asm files path
-exact for_asm for_exec for_vm for_show for_run files (exec path cycles from to) = for_exec files path cycles from to
-exact for_asm for_exec for_vm for_show for_run files (vm folder bare) = for_vm files folder bare
-exact for_asm for_exec for_vm for_show for_run files (show path kind) = for_show files path kind
-exact for_asm for_exec for_vm for_show for_run files (run folder level cycles keys) = for_run files folder level cycles keys
+pub exact : AsmExactLaw → ExecExactLaw → VmExactLaw → ShowExactLaw → RunExactLaw → ChipExactLaw → BuildExactLaw → MapExactLaw → ExactLaw
+exact for_asm for_exec for_vm for_show for_run for_chip for_build for_map files (asm path) = for_asm files path
+exact for_asm for_exec for_vm for_show for_run for_chip for_build for_map files (exec path cycles from to) = for_exec files path cycles from to
+exact for_asm for_exec for_vm for_show for_run for_chip for_build for_map files (vm folder bare) = for_vm files folder bare
+exact for_asm for_exec for_vm for_show for_run for_chip for_build for_map files (show path kind) = for_show files path kind
+exact for_asm for_exec for_vm for_show for_run for_chip for_build for_map files (run folder level cycles keys) = for_run files folder level cycles keys
+exact for_asm for_exec for_vm for_show for_run for_chip for_build for_map files (chip name) = for_chip files name
+exact for_asm for_exec for_vm for_show for_run for_chip for_build for_map files (build folder) = for_build files folder
+exact for_asm for_exec for_vm for_show for_run for_chip for_build for_map files (map_line folder) = for_map files folder

@@ -50,18 +50,19 @@ no_line_causes before after no_line.Usage s shelf out (put.Failed, said, e) = rw
 no_line_causes before after no_line.Memory s shelf out (put.Done, said, e) = rw e (shelf, out, said.0)
 no_line_causes before after no_line.Memory s shelf out (put.Failed, said, e) = rw e (inr said.0, inl shelf)
 
-pub not_read : (words : List (List ℕ)) (before after : Outside) (error : LineError) (s : Status) → (error ≡ no_line.Usage → IsNoLine words) → after.files ≡ before.files → after.out ≡ before.out
+pub not_read : (words : List (List ℕ)) (before after : Outside) (error : LineError) (s : Status) → (error ≡ no_line.Usage → IsNoLine words) → after.files ≡ before.files → after.there ≡ before.there → after.out ≡ before.out
     → after.shelf_faults ≡ before.shelf_faults → after.out_faults ≡ before.out_faults → TellsNoLine error before.err_faults after.err_faults before.err after.err s → Promises words before after s
-not_read words before after error s none kept out shelf quiet tells = record {
+not_read words before after error s none kept stays out shelf quiet tells = record {
   answers = no_line_answers words before after error s none out quiet tells;
   causes = no_line_causes before after error s shelf quiet tells;
   kept = kept;
+  stays = stays;
 }
 
 -- ---- a line that is not done; the bytes and the count of faults of err are told before its line too
 
 module _ (words : List (List ℕ)) (before after : Outside) (line : Line) (is_line : IsLine words line) (between : Option (List ℕ)) (count : ℕ) where
-  failure_answers : (why : Failure) (s : Status) → Does before.files before.unfailing line before.out after.out before.err between (Err why)
+  failure_answers : (why : Failure) (s : Status) → Does before.files before.there before.unfailing line before.out after.out before.err between (Err why)
       → Counts before.shelf_faults after.shelf_faults before.out_faults after.out_faults before.err_faults count (Err why)
       → TellsFailure why count after.err_faults between after.err s → Answers words before after s
   failure_answers (failure.Unloaded (errors.Refused r)) s (o, e, ends, got, part) (a, b, c) (put.Done, said, so) =
@@ -131,22 +132,24 @@ module _ (words : List (List ℕ)) (before after : Outside) (line : Line) (is_li
   failure_causes (failure.Unloaded errors.Memory) s (a, b, c) (put.Failed, said, so) = rw so (inr (subst (λ n. Rose n after.err_faults) c said.0), inl a)
   failure_causes failure.Write s (a, rose, c) (so, counts, same) = rw so (inl rose, inl a)
 
-  pub failed : (why : Failure) (s : Status) → after.files ≡ before.files → Does before.files before.unfailing line before.out after.out before.err between (Err why)
+  pub failed : (why : Failure) (s : Status) → after.files ≡ before.files → after.there ≡ before.there → Does before.files before.there before.unfailing line before.out after.out before.err between (Err why)
       → Counts before.shelf_faults after.shelf_faults before.out_faults after.out_faults before.err_faults count (Err why)
       → TellsFailure why count after.err_faults between after.err s → Promises words before after s
-  failed why s kept does counts tells = record {
+  failed why s kept stays does counts tells = record {
     answers = failure_answers why s does counts tells;
     causes = failure_causes why s counts tells;
     kept = kept;
+    stays = stays;
   }
 
 -- ---- a line that is done
 
-pub done : (words : List (List ℕ)) (before after : Outside) (line : Line) → IsLine words line → after.files ≡ before.files
-    → Does before.files before.unfailing line before.out after.out before.err after.err (Ok tt)
+pub done : (words : List (List ℕ)) (before after : Outside) (line : Line) → IsLine words line → after.files ≡ before.files → after.there ≡ before.there
+    → Does before.files before.there before.unfailing line before.out after.out before.err after.err (Ok tt)
     → Counts before.shelf_faults after.shelf_faults before.out_faults after.out_faults before.err_faults after.err_faults (Ok tt) → Promises words before after status.Done
-done words before after line is_line kept (o, e, prints, out, err) counts = record {
+done words before after line is_line kept stays (o, e, prints, out, err) counts = record {
   answers = (o, e, inr (line, is_line, prints), out, err);
   causes = counts;
   kept = kept;
+  stays = stays;
 }

@@ -2,5 +2,8 @@ pub mod Asm
 pub mod Exec
 pub mod Vm
 pub mod Show
+pub mod Build
+pub mod Map
+pub mod Chip
 pub mod Gates
 pub mod Run

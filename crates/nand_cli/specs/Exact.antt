@@ -1,12 +1,13 @@
--- The answers of a line are exact: over told files a line prints one thing or is refused for one thing, and not both.
-use Rattle.std.specs.Prelude.{◌≡◌, ℕ, Bool, List, Option, Some}
+-- The answers of a line are exact: over told files a line prints one thing or is refused for one thing, and not both; and neither, where what
+-- it reads is not there.
+use Rattle.std.specs.Prelude.{◌≡◌, ℕ, Bool, true, List, Option, Some}
 use Rattle.outer_world.specs.Files.{Files}
-use Rattle.command_line.specs.Line.{Line, asm, exec, run, show, vm}
+use Rattle.command_line.specs.Line.{Line, asm, build, chip, exec, map_line, run, show, vm}
 use Rattle.command_line.specs.declared.request.RunLevel.{RunLevel}
 use Rattle.command_line.specs.declared.request.RunLevel.TheVariants.{Gates}
 use Rattle.command_line.specs.declared.request.Shown.TheVariants.{Nets}
 use Rattle.command_line.specs.declared.request.SourceKind.{SourceKind}
-use Rattle.nand_cli.specs.Answer.{Prints, Refuses}
+use Rattle.nand_cli.specs.Answer.{Lacks, Prints, Refuses}
 
 -- What is shown at the level is one text. The outputs of parts are told as those of some behaviour of the Computer; that it has no other is not
 -- claimed.
@@ -18,11 +19,22 @@ abbrev pub HasOneText : Line → Type 0
 HasOneText (run folder level cycles keys) = ShowsOneText level
 HasOneText line = Unit {0}
 
--- Over these files the line, where it shows one text, prints at most one thing on out and on err, is refused with at most one, and is not both done and refused.
+-- The folder that a line names is there, be it empty; a line that names a file alone wants none.
+abbrev pub HasFolder : (List ℕ → Bool) → Line → Type 0
+HasFolder there (vm folder bare) = there folder ≡ true
+HasFolder there (run folder level cycles keys) = there folder ≡ true
+HasFolder there (build folder) = there folder ≡ true
+HasFolder there (map_line folder) = there folder ≡ true
+HasFolder there line = Unit {0}
+
+-- Over these files the line, where it shows one text, prints at most one thing on out and on err, is refused with at most one, and is not both done
+-- and refused. Where its folder is there and something that it reads is not, it is neither: so a shelf that tells its files and is not planned to
+-- fail leaves no choice among Done, Refused and ReadFault. (A folder that is not there may be read as an empty one.)
 pub record IsExact (files : Files) (line : Line) : Type 0 where
   pub prints : HasOneText line → (out err out' err' : List ℕ) → Prints (Some files) line out err → Prints (Some files) line out' err' → (out ≡ out') × (err ≡ err')
   pub refuses : (out err out' err' : List ℕ) → Refuses (Some files) line out err → Refuses (Some files) line out' err' → (out ≡ out') × (err ≡ err')
   pub apart : (out err out' err' : List ℕ) → Prints (Some files) line out err → Refuses (Some files) line out' err' → ⊥
+  pub lacking : (there : List ℕ → Bool) → HasFolder there line → Lacks there files line → (out err : List ℕ) → (Prints (Some files) line out err → ⊥) × (Refuses (Some files) line out err → ⊥)
 
 -- by command
 abbrev pub AsmExactLaw : Type 0
@@ -39,6 +51,15 @@ ShowExactLaw = (files : Files) (path : List ℕ) (kind : SourceKind) → IsExact
 
 abbrev pub RunExactLaw : Type 0
 RunExactLaw = (files : Files) (folder : List ℕ) (level : RunLevel) (cycles : ℕ) (keys : Option (List ℕ)) → IsExact files (run folder level cycles keys)
+
+abbrev pub ChipExactLaw : Type 0
+ChipExactLaw = (files : Files) (name : List ℕ) → IsExact files (chip name)
+
+abbrev pub BuildExactLaw : Type 0
+BuildExactLaw = (files : Files) (folder : List ℕ) → IsExact files (build folder)
+
+abbrev pub MapExactLaw : Type 0
+MapExactLaw = (files : Files) (folder : List ℕ) → IsExact files (map_line folder)
 
 -- The law of exactness.
 abbrev pub ExactLaw : Type 0

@@ -9,6 +9,7 @@ use Rattle.hack_asm.specs.HackText.{Holds, IsRefusal as IsNoImage}
 use Rattle.hack_asm.specs.Told.{asm_told}
 use Rattle.hack_asm.specs.declared.fault.AsmFault.{AsmFault}
 use Rattle.key_script.specs.Script.{Refuses as RefusesLines}
+use Rattle.hdl_parser.specs.Whole.{Refuses as RefusesChip}
 use Rattle.jack_parser.specs.Whole.{Refuses as RefusesTree}
 use Rattle.vm_tree.specs.declared.program.File.{File}
 use Rattle.vm_parser.specs.Files.{Spells as SpellsProgram, Refuses as RefusesProgram}
@@ -47,6 +48,11 @@ RefusesVm bare text told = IsTold (RefusesProgram bare) text told
 
 abbrev pub RefusesClass : List ℕ → Message → Type 0
 RefusesClass text told = IsTold RefusesTree text told
+
+-- ---- chips (the book, chapter 1 and appendix 2)
+
+abbrev pub RefusesHdl : List ℕ → Message → Type 0
+RefusesHdl text told = IsTold RefusesChip text told
 
 -- ---- key scripts
 

@@ -1,10 +1,12 @@
 -- What is outside of a call, as far as it is told.
-use Rattle.std.specs.Prelude.{ℕ, List, Option}
+use Rattle.std.specs.Prelude.{ℕ, Bool, List, Option}
 use Rattle.outer_world.specs.Files.{Files}
 
 pub record Outside : Type 1 where
   -- the files of the shelf, where they are told
   pub files : Option Files
+  -- which folders are there
+  pub there : List ℕ → Bool
   -- no call of the shelf is planned to fail
   pub unfailing : Type 0
   -- the bytes on out and on err, where they are told
@@ -15,9 +17,10 @@ pub record Outside : Type 1 where
   pub out_faults : ℕ
   pub err_faults : ℕ
 
-abbrev pub outside : Option Files → Type 0 → Option (List ℕ) → Option (List ℕ) → ℕ → ℕ → ℕ → Outside
-outside files unfailing out err shelf_faults out_faults err_faults = record {
+abbrev pub outside : Option Files → (List ℕ → Bool) → Type 0 → Option (List ℕ) → Option (List ℕ) → ℕ → ℕ → ℕ → Outside
+outside files there unfailing out err shelf_faults out_faults err_faults = record {
   files = files;
+  there = there;
   unfailing = unfailing;
   out = out;
   err = err;

@@ -9,7 +9,9 @@ ghost use Rattle.grammar.specs.Faults.{fault_told};
 ghost use Rattle.jack_names.specs.Messages.{name_told};
 ghost use Rattle.outer_world.specs.Files.{LacksFolder, path_in};
 ghost use Rattle.source_files.specs.Loads.{CountsLoad, Loads, Refused};
+ghost use Rattle.nand_cli.specs.Commands.Build.{BuildRefuses, FolderBuilds};
 ghost use Rattle.nand_cli.specs.Inner.Parts.{TellsWrong};
+ghost use Rattle.nand_cli.specs.declared.jack.BuiltProgram.{BuiltProgram};
 ghost use Rattle.nand_cli.specs.JackFolder.{BuildIsRefused, FolderIsRefused, FolderMeans, IsMeaningless, home_of};
 
 use crate::languages::JackText;
@@ -21,6 +23,13 @@ use outer_world::{Shelf, Told};
 use source_files::{LoadError, load_folder, path_in};
 use std::alloc::Global;
 use tower::{Built, ProgramError, build, program_of_classes};
+
+/// A folder's program with its image.
+#[derive(Drop)]
+pub struct BuiltProgram {
+    pub core: Core,
+    pub built: Built,
+}
 
 const ENDING: &str = ".jack";
 
@@ -91,10 +100,11 @@ fn program_of(alloc: Global, folder: &str, classes: &[Class]) -> Result<Core, Lo
 /// Otherwise the refusal of the files as they are read, else of the first fault in the operating system's texts, else of the
 /// first name fault.
 pub fn load_jack<F: Shelf>(alloc: Global, folder: &str, shelf: &mut F) -> Result<Core, LoadError>
-    ensures loads { Loads (FolderMeans (F.files shelf.old) folder.now) (FolderIsRefused (F.files shelf.old) folder.now) (F.unfailing shelf.old → LacksFolder (F.files shelf.old) folder.now) result }
+    ensures loads { Loads (FolderMeans (F.files shelf.old) folder.now) (FolderIsRefused (F.files shelf.old) folder.now) (F.unfailing shelf.old → LacksFolder (F.files shelf.old) (F.there shelf.old) folder.now) result }
     ensures resolved { IfOk result IsResolvedCore }
     ensures counts { CountsLoad (F.faults shelf.old) (F.faults shelf.new) result }
     ensures kept { F.files shelf.new ≡ F.files shelf.old }
+    ensures stays { F.there shelf.new ≡ F.there shelf.old }
     ensures keeps { F.unfailing shelf.old → F.unfailing shelf.new }
 {
     let classes = load_folder(alloc, &JackText, folder, ENDING, shelf)?;
@@ -110,4 +120,20 @@ pub fn image_of(alloc: Global, folder: &str, core: &Core) -> Result<Built, LoadE
         Ok(built) => Ok(built),
         Err(error) => Err(LoadError::told(alloc, folder, error.told())),
     }
+}
+
+/// The program that the Jack files of a folder mean, with its image, or why there is none.
+pub fn load_built<F: Shelf>(
+    alloc: Global,
+    folder: &str,
+    shelf: &mut F,
+) -> Result<BuiltProgram, LoadError>
+    ensures loads { Loads (λ (p : BuiltProgram). FolderBuilds (F.files shelf.old) folder.now p.core p.built) (BuildRefuses (F.files shelf.old) folder.now) (F.unfailing shelf.old → LacksFolder (F.files shelf.old) (F.there shelf.old) folder.now) result }
+    ensures counts { CountsLoad (F.faults shelf.old) (F.faults shelf.new) result }
+    ensures kept { F.files shelf.new ≡ F.files shelf.old }
+    ensures stays { F.there shelf.new ≡ F.there shelf.old }
+{
+    let core = load_jack(alloc, folder, shelf)?;
+    let built = image_of(alloc, folder, &core)?;
+    Ok(BuiltProgram { core, built })
 }

@@ -1,13 +1,16 @@
 //! The languages of the files that commands read.
 ghost use Rattle.std.specs.Prelude.{◌≡◌, ℕ, List};
 ghost use Rattle.nand_cli.specs.Inner.Parts.{ReadsWords, TellsText};
-ghost use Rattle.nand_cli.specs.Languages.{RefusesClass, RefusesKeys, RefusesVm, RefusesWords, SpellsVmFile, SpellsWords};
-ghost use Rattle.nand_cli.specs.Inner.Limits.{class_limited, keys_limited, vm_limited, words_limited};
+ghost use Rattle.nand_cli.specs.Languages.{RefusesClass, RefusesHdl, RefusesKeys, RefusesVm, RefusesWords, SpellsVmFile, SpellsWords};
+ghost use Rattle.nand_cli.specs.Inner.Limits.{class_limited, hdl_limited, keys_limited, vm_limited, words_limited};
+ghost use Rattle.hdl_parser.specs.Whole.{Spells as SpellsChip};
 ghost use Rattle.jack_os.specs.System.{SpellsClass};
 ghost use Rattle.key_script.specs.Script.{Spells as SpellsLines};
 
 use grammar::ReadError;
 use hack_asm::{AsmFault, assemble, read_hack};
+use hdl_parser::parse;
+use hdl_tree::Chip;
 use jack_parser::parse_class;
 use jack_tree::Class;
 use key_script::{Keys, read_keys};
@@ -71,6 +74,27 @@ impl Language for VmText {
     }
 
     ghost limited = { λ vm text long. vm_limited vm.bare text long };
+}
+
+/// Chips.
+#[derive(Clone, Copy)]
+pub struct HdlText;
+
+impl Language for HdlText {
+    type Source = Chip;
+
+    ghost spells = { λ _ name text chip. SpellsChip text chip };
+
+    ghost refuses = { λ _ text told. RefusesHdl text told };
+
+    fn read(&self, alloc: Global, _name: &str, text: &[u8]) -> Result<Chip, TextError> {
+        match parse(alloc, text) {
+            Ok(chip) => Ok(chip),
+            Err(error) => Err(not_read(error)),
+        }
+    }
+
+    ghost limited = { λ _ text long. hdl_limited text long };
 }
 
 /// Key scripts.

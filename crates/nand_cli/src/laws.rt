@@ -1,5 +1,5 @@
 //! Laws of lines: over told files a line has one answer.
-ghost use Rattle.nand_cli.specs.Exact.{AsmExactLaw, ExactLaw, ExecExactLaw, RunExactLaw, ShowExactLaw, VmExactLaw};
+ghost use Rattle.nand_cli.specs.Exact.{AsmExactLaw, BuildExactLaw, ChipExactLaw, ExactLaw, ExecExactLaw, MapExactLaw, RunExactLaw, ShowExactLaw, VmExactLaw};
 
 /// Law: over told files a line of `asm` prints one text or is refused with one line, and not both.
 pub fn asm_exact_law()
@@ -23,6 +23,7 @@ pub fn show_exact_law()
 {
     vm_parser::reading_law();
     jack_parser::reading_law();
+    hdl_parser::reading_law();
 }
 
 /// Law: so does a line of `vm`.
@@ -40,6 +41,26 @@ pub fn run_exact_law()
     key_script::reading_law();
 }
 
+/// Law: so does a line of `chip`.
+#[tactic(auto, using(crate::proofs::Exactly::chip_exact))]
+pub fn chip_exact_law()
+    ensures { ChipExactLaw }
+{}
+
+/// Law: so does a line of `build`.
+pub fn build_exact_law()
+    ensures { BuildExactLaw }
+{
+    jack_parser::reading_law();
+}
+
+/// Law: so does a line of `map`.
+pub fn map_exact_law()
+    ensures { MapExactLaw }
+{
+    jack_parser::reading_law();
+}
+
 /// Law: over told files each line has one answer: it prints one thing or is refused for one thing, and not both.
 pub fn exact_law()
     ensures { ExactLaw }
@@ -49,4 +70,7 @@ pub fn exact_law()
     vm_exact_law();
     show_exact_law();
     run_exact_law();
+    chip_exact_law();
+    build_exact_law();
+    map_exact_law();
 }

@@ -299,6 +299,7 @@ fn reads_show(rt: HostRuntime) -> Result<(), Fail> {
         ("show a.jack.vm", show("a.jack.vm", SourceKind::Vm)),
         ("show a.vm.jack", show("a.vm.jack", SourceKind::Jack)),
         ("show -- -a.vm", show("-a.vm", SourceKind::Vm)),
+        ("show t/And.hdl", show("t/And.hdl", SourceKind::Hdl)),
     ];
     assert_eq!(rt; first_misread(rt.alloc(), &lines)?, None);
     // another ending, a path too few, too many, an option
@@ -306,7 +307,7 @@ fn reads_show(rt: HostRuntime) -> Result<(), Fail> {
         "show a",
         "show ",
         "show a.asm",
-        "show a.hdl",
+        "show a.Hdl",
         "show a.Vm",
         "show a.JACK",
         "show avm",
@@ -322,6 +323,30 @@ fn reads_show(rt: HostRuntime) -> Result<(), Fail> {
         "show a.vm --cycles 1",
         "show a.jack --show none",
         "Show a.vm",
+    ];
+    assert_eq!(rt; first_accepted(rt.alloc(), &texts)?, None);
+    Ok(())
+}
+
+#[test]
+fn reads_build_map_and_chip(rt: HostRuntime) -> Result<(), Fail> {
+    let lines = [
+        ("build prog", Request::Build { folder: "prog" }),
+        ("build -- -p", Request::Build { folder: "-p" }),
+        ("map prog", Request::Map { folder: "prog" }),
+        ("chip Not", Request::Chip { name: "Not" }),
+        ("chip map", Request::Chip { name: "map" }),
+    ];
+    assert_eq!(rt; first_misread(rt.alloc(), &lines)?, None);
+    let texts = [
+        "build",
+        "build a b",
+        "build a --bare",
+        "map",
+        "map a --format 1",
+        "chip",
+        "chip Not And",
+        "chips Not",
     ];
     assert_eq!(rt; first_accepted(rt.alloc(), &texts)?, None);
     Ok(())

@@ -1,4 +1,5 @@
 //! Runs over a shelf and sinks in memory.
+mod building;
 mod computing;
 mod executing;
 mod folders;

@@ -8,6 +8,8 @@ mod Limits
 pub mod Headline
 pub mod Mapped
 pub mod Computers
+pub mod OwnFiles
+pub mod VmRuns
 pub mod NamedFaults
 pub mod NamedSound
 pub mod NamedExpressions
@@ -24,3 +26,6 @@ pub mod NamedProgram
 pub mod Spelled
 pub mod Completed
 pub mod Programs
+pub mod BudgetWords
+pub mod Budgets
+pub mod BudgetRows

@@ -6,3 +6,7 @@ pub mod Headline
 pub mod Mapped
 pub mod Built
 pub mod Told
+pub mod VmRun
+pub mod Compiled
+pub mod Budget
+pub mod BudgetRows

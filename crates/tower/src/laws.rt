@@ -1,9 +1,12 @@
 //! Laws: no code, only the statements.
 
+ghost use Rattle.tower.specs.Budget.{BudgetLaw};
+ghost use Rattle.tower.specs.BudgetRows.{BudgetRows};
 ghost use Rattle.tower.specs.Built.{ComputerLaw};
 ghost use Rattle.tower.specs.Headline.{HeadlineLaw};
 ghost use Rattle.tower.specs.Resolved.{ResolvedLaw};
 ghost use Rattle.tower.specs.Spelled.{ReadLaw};
+ghost use Rattle.tower.specs.VmRun.{DrivenLaw, VmLaw};
 
 /// Each class that some text spells keeps to the limits of the language: its names, its integers and its strings, and how
 /// many things it declares.
@@ -25,4 +28,22 @@ pub fn headline_law()
 /// The image of a program whose names are resolved, with its map, is one with which the computer follows the program's meaning.
 pub fn computer_law()
     ensures { ComputerLaw }
+{}
+
+/// A virtual machine that was driven from its start has made the moves of the run of its code under the keys, has counted the
+/// commits among them, and has ended as the run does.
+pub fn vm_driven_law()
+    ensures { DrivenLaw }
+{}
+
+/// The virtual machine with the code of a program whose names are resolved follows the program's meaning, after any number of
+/// moves and under all keys.
+pub fn vm_run_law()
+    ensures { VmLaw }
+{}
+
+/// A program has one budget by its text, and its image has no more words. The budgets of two programs, by computation.
+pub fn budget_law()
+    ensures budgets { BudgetLaw }
+    ensures rows { BudgetRows }
 {}

@@ -2,16 +2,19 @@
 #![tactic(auto)]
 
 mod building;
+mod compiled;
 mod computer;
 mod hack_level;
 mod laws;
 mod program;
+mod vm_level;
 
 pub use building::{BuildError, Built};
+pub use compiled::compile_classes;
 pub use computer::{build, prepare_hack};
 pub use hack_level::HackLevel;
-pub use laws::{computer_law, headline_law, read_law, resolved_law};
+pub use laws::{
+    budget_law, computer_law, headline_law, read_law, resolved_law, vm_driven_law, vm_run_law,
+};
 pub use program::{ProgramError, program_of_classes};
-
-#[cfg(test)]
-mod tests;
+pub use vm_level::prepare_vm;

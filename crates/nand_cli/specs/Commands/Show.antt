@@ -1,5 +1,5 @@
--- The command `show`: the printed form of a source, a VM text or a Jack class, or why the source is refused. (The
--- book, chapters 7, 8 and 10.)
+-- The command `show`: the printed form of a source, a VM text, a Jack class or a chip, or why the source is refused. (The
+-- book, chapters 1, 7, 8 and 10, and appendix 2.)
 use Rattle.std.specs.Prelude.{◌≡◌, ℕ, true, List, [], Option}
 use Rattle.outer_world.specs.Files.{Files}
 use Rattle.outer_world.specs.Refusals.{Message}
@@ -7,12 +7,15 @@ use Rattle.source_files.specs.Sources.{IsFaulty, SpellsAt}
 use Rattle.vm_tree.specs.Printed.{program_text}
 use Rattle.vm_tree.specs.declared.program.File.{File}
 use Rattle.vm_parser.specs.Files.{Spells as SpellsProgram}
+use Rattle.hdl_tree.specs.declared.tree.Chip.{Chip}
+use Rattle.hdl_parser.specs.Printed.{chip_text}
+use Rattle.hdl_parser.specs.Whole.{Spells as SpellsChip}
 use Rattle.jack_tree.specs.declared.tree.Class.{Class}
 use Rattle.jack_parser.specs.Whole.{Spells as SpellsTree, whole_tree}
 use Rattle.jack_parser.specs.Printed.{class_text}
 use Rattle.command_line.specs.declared.request.SourceKind.{SourceKind}
 use Rattle.command_line.specs.declared.request.SourceKind.TheVariants as kinds
-use Rattle.nand_cli.specs.Languages.{RefusesClass, RefusesVm}
+use Rattle.nand_cli.specs.Languages.{RefusesClass, RefusesHdl, RefusesVm}
 
 -- A VM text spells the program of one file, in which commands may stand before the first function. The file has no
 -- name here, since the printed form has none in it.
@@ -27,11 +30,13 @@ SpellsClass text c = SpellsTree text (whole_tree c)
 abbrev pub ShowPrints : Option Files → List ℕ → SourceKind → List ℕ → Type 0
 ShowPrints files path kinds.Vm out = (program : List File) × SpellsAt SpellsVm files path program × (out ≡ program_text program)
 ShowPrints files path kinds.Jack out = (c : Class) × SpellsAt SpellsClass files path c × (out ≡ class_text c)
+ShowPrints files path kinds.Hdl out = (c : Chip) × SpellsAt SpellsChip files path c × (out ≡ chip_text c)
 
 -- a text of this kind is refused
 abbrev pub RefusesKind : SourceKind → List ℕ → Message → Type 0
 RefusesKind kinds.Vm text told = RefusesVm true text told
 RefusesKind kinds.Jack text told = RefusesClass text told
+RefusesKind kinds.Hdl text told = RefusesHdl text told
 
 -- The source at a path is refused, and this line tells why.
 abbrev pub ShowRefuses : Option Files → List ℕ → SourceKind → List ℕ → Type 0

@@ -10,7 +10,7 @@ use Rattle.hack_asm.specs.Meaning.{Means}
 use Rattle.hack_asm.specs.HackText.{Holds}
 use Rattle.hack_asm.specs.declared.fault.AsmFault.TheVariants as asm
 use Rattle.source_files.specs.Sources.{past_limit}
-use Rattle.nand_cli.specs.Languages.{RefusesClass, RefusesKeys, RefusesVm, RefusesWords}
+use Rattle.nand_cli.specs.Languages.{RefusesClass, RefusesHdl, RefusesKeys, RefusesVm, RefusesWords}
 use Rattle.nand_cli.specs.declared.languages.Form.{Form}
 use Rattle.nand_cli.specs.declared.languages.Form.TheVariants.{Assembly, Image}
 
@@ -26,6 +26,9 @@ class_limited text long = (fault.Range nowhere 1048577, inl (cut_long text (faul
 
 pub vm_limited : (bare : Bool) (text : List ℕ) → 1048576 < length text → RefusesVm bare text past_limit
 vm_limited bare text long = (fault.Range nowhere 1048577, inl (cut_long text (fault.Range nowhere 1048577) _ long), refl)
+
+pub hdl_limited : (text : List ℕ) → 1048576 < length text → RefusesHdl text past_limit
+hdl_limited text long = (fault.Range nowhere 1048577, inl (cut_long text (fault.Range nowhere 1048577) _ long), refl)
 
 pub keys_limited : (text : List ℕ) → 1048576 < length text → RefusesKeys text past_limit
 keys_limited text long = (fault.Range nowhere 1048577, inl (cut_long text (fault.Range nowhere 1048577) _ long), refl)

@@ -1,5 +1,5 @@
 -- What the parts of a call say; the call's own contract needs none of it.
-use Rattle.std.specs.Prelude.{◌≡◌, ◌++◌, ℕ, List, Option, Result, Ok, Err, Vec, codes}
+use Rattle.std.specs.Prelude.{◌≡◌, ◌++◌, ℕ, Bool, List, Option, Result, Ok, Err, Vec, codes}
 use Rattle.std.specs.declared.alloc.Global.{Global}
 use Rattle.command_line.specs.Line.{Line}
 use Rattle.command_line.specs.declared.reader.LineError.{LineError}
@@ -34,16 +34,16 @@ use Rattle.nand_cli.specs.declared.failure.Failure.TheVariants as failure
 -- ---- a line
 
 -- What doing a line put on out and on err; the line of a failure is still to be put, but none after a write fault, which is one of out.
-abbrev pub Does : Option Files → Type 0 → Line → Option (List ℕ) → Option (List ℕ) → Option (List ℕ) → Option (List ℕ) → Result (Unit {0}) Failure → Type 0
-Does files unfailing line out out' err err' (Ok _) =
+abbrev pub Does : Option Files → (List ℕ → Bool) → Type 0 → Line → Option (List ℕ) → Option (List ℕ) → Option (List ℕ) → Option (List ℕ) → Result (Unit {0}) Failure → Type 0
+Does files there unfailing line out out' err err' (Ok _) =
     (o : List ℕ) × (e : List ℕ) × Prints files line o e × Got out out' o × Got err err' e
-Does files unfailing line out out' err err' (Err (failure.Unloaded (errors.Refused refusal))) =
+Does files there unfailing line out out' err err' (Err (failure.Unloaded (errors.Refused refusal))) =
     (o : List ℕ) × (e : List ℕ) × Refuses files line o (e ++ line_of refusal) × Got out out' o × Got err err' e
-Does files unfailing line out out' err err' (Err (failure.Unloaded errors.Failed)) =
-    (o : List ℕ) × (e : List ℕ) × Before files line o e × MayFail files unfailing line × Got out out' o × Got err err' e
-Does files unfailing line out out' err err' (Err (failure.Unloaded errors.Memory)) =
+Does files there unfailing line out out' err err' (Err (failure.Unloaded errors.Failed)) =
+    (o : List ℕ) × (e : List ℕ) × Before files line o e × MayFail files there unfailing line × Got out out' o × Got err err' e
+Does files there unfailing line out out' err err' (Err (failure.Unloaded errors.Memory)) =
     (o : List ℕ) × (e : List ℕ) × Before files line o e × Got out out' o × Got err err' e
-Does files unfailing line out out' err err' (Err failure.Write) =
+Does files there unfailing line out out' err err' (Err failure.Write) =
     (o : List ℕ) × (e : List ℕ) × Prints files line o e × GotPart out out' o × (err' ≡ err)
 
 -- What doing a line says of the counts of faults of shelf, out and err.

@@ -17,9 +17,10 @@ pub fn answer_asm<F: Shelf, O: Sink>(
     shelf: &mut F,
     out: &mut O,
 ) -> Result<(), Failure>
-    ensures does { (err : Option (List ℕ)) → Does (F.files shelf.old) (F.unfailing shelf.old) (asm path.now) (O.written out.old) (O.written out.new) err err result }
+    ensures does { (err : Option (List ℕ)) → Does (F.files shelf.old) (F.there shelf.old) (F.unfailing shelf.old) (asm path.now) (O.written out.old) (O.written out.new) err err result }
     ensures counts { (err : ℕ) → Counts (F.faults shelf.old) (F.faults shelf.new) (O.faults out.old) (O.faults out.new) err err result }
     ensures kept { F.files shelf.new ≡ F.files shelf.old }
+    ensures stays { F.there shelf.new ≡ F.there shelf.old }
 {
     let assembly = ProgramText {
         form: Form::Assembly,

@@ -32,6 +32,7 @@ fn load_keys<F: Shelf>(alloc: Global, path: Option<&str>, shelf: &mut F) -> Resu
     ensures loads { Loads (λ (keys : Keys). HasKeys (F.files shelf.old) (option_map (λ path. path.now) path.entry) keys) (ScriptIsRefused (F.files shelf.old) (option_map (λ path. path.now) path.entry)) (F.unfailing shelf.old → LacksKeys (F.files shelf.old) (option_map (λ path. path.now) path.entry)) result }
     ensures counts { CountsLoad (F.faults shelf.old) (F.faults shelf.new) result }
     ensures kept { F.files shelf.new ≡ F.files shelf.old }
+    ensures stays { F.there shelf.new ≡ F.there shelf.old }
 {
     match path {
         None => Ok(Keys::none(alloc)),
@@ -90,9 +91,10 @@ pub fn answer_run<F: Shelf, O: Sink>(
     shelf: &mut F,
     out: &mut O,
 ) -> Result<(), Failure>
-    ensures does { (err : Option (List ℕ)) → Does (F.files shelf.old) (F.unfailing shelf.old) (run request.now.folder.now request.now.level request.now.cycles (option_map (λ keys. keys.now) request.now.keys)) (O.written out.old) (O.written out.new) err err result }
+    ensures does { (err : Option (List ℕ)) → Does (F.files shelf.old) (F.there shelf.old) (F.unfailing shelf.old) (run request.now.folder.now request.now.level request.now.cycles (option_map (λ keys. keys.now) request.now.keys)) (O.written out.old) (O.written out.new) err err result }
     ensures counts { (err : ℕ) → Counts (F.faults shelf.old) (F.faults shelf.new) (O.faults out.old) (O.faults out.new) err err result }
     ensures kept { F.files shelf.new ≡ F.files shelf.old }
+    ensures stays { F.there shelf.new ≡ F.there shelf.old }
 {
     let core = load_jack(alloc, request.folder, shelf)?;
     let built = image_of(alloc, request.folder, &core)?;

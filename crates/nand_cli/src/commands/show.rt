@@ -4,7 +4,7 @@ ghost use Rattle.command_line.specs.Line.{show};
 ghost use Rattle.nand_cli.specs.Inner.Parts.{Counts, Does};
 
 use crate::failure::{Failure, finished};
-use crate::languages::{JackText, VmText};
+use crate::languages::{HdlText, JackText, VmText};
 use command_line::SourceKind;
 use outer_world::{List, Shelf, Sink};
 use source_files::load;
@@ -17,9 +17,10 @@ fn show_vm<F: Shelf, O: Sink>(
     shelf: &mut F,
     out: &mut O,
 ) -> Result<(), Failure>
-    ensures does { (err : Option (List ℕ)) → Does (F.files shelf.old) (F.unfailing shelf.old) (show path.now SourceKind.Vm) (O.written out.old) (O.written out.new) err err result }
+    ensures does { (err : Option (List ℕ)) → Does (F.files shelf.old) (F.there shelf.old) (F.unfailing shelf.old) (show path.now SourceKind.Vm) (O.written out.old) (O.written out.new) err err result }
     ensures counts { (err : ℕ) → Counts (F.faults shelf.old) (F.faults shelf.new) (O.faults out.old) (O.faults out.new) err err result }
     ensures kept { F.files shelf.new ≡ F.files shelf.old }
+    ensures stays { F.there shelf.new ≡ F.there shelf.old }
 {
     let file = load(alloc, &VmText { bare: true }, path, "", shelf)?;
     let mut program = List::new(alloc);
@@ -34,12 +35,29 @@ fn show_class<F: Shelf, O: Sink>(
     shelf: &mut F,
     out: &mut O,
 ) -> Result<(), Failure>
-    ensures does { (err : Option (List ℕ)) → Does (F.files shelf.old) (F.unfailing shelf.old) (show path.now SourceKind.Jack) (O.written out.old) (O.written out.new) err err result }
+    ensures does { (err : Option (List ℕ)) → Does (F.files shelf.old) (F.there shelf.old) (F.unfailing shelf.old) (show path.now SourceKind.Jack) (O.written out.old) (O.written out.new) err err result }
     ensures counts { (err : ℕ) → Counts (F.faults shelf.old) (F.faults shelf.new) (O.faults out.old) (O.faults out.new) err err result }
     ensures kept { F.files shelf.new ≡ F.files shelf.old }
+    ensures stays { F.there shelf.new ≡ F.there shelf.old }
 {
     let class = load(alloc, &JackText, path, "", shelf)?;
     finished(jack_parser::print(&class, out))
+}
+
+// Shows a chip.
+fn show_chip<F: Shelf, O: Sink>(
+    alloc: Global,
+    path: &str,
+    shelf: &mut F,
+    out: &mut O,
+) -> Result<(), Failure>
+    ensures does { (err : Option (List ℕ)) → Does (F.files shelf.old) (F.there shelf.old) (F.unfailing shelf.old) (show path.now SourceKind.Hdl) (O.written out.old) (O.written out.new) err err result }
+    ensures counts { (err : ℕ) → Counts (F.faults shelf.old) (F.faults shelf.new) (O.faults out.old) (O.faults out.new) err err result }
+    ensures kept { F.files shelf.new ≡ F.files shelf.old }
+    ensures stays { F.there shelf.new ≡ F.there shelf.old }
+{
+    let chip = load(alloc, &HdlText, path, "", shelf)?;
+    finished(hdl_parser::print(&chip, out))
 }
 
 /// Does a line of `show`; err is left as it is.
@@ -50,12 +68,14 @@ pub fn answer_show<F: Shelf, O: Sink>(
     shelf: &mut F,
     out: &mut O,
 ) -> Result<(), Failure>
-    ensures does { (err : Option (List ℕ)) → Does (F.files shelf.old) (F.unfailing shelf.old) (show path.now kind) (O.written out.old) (O.written out.new) err err result }
+    ensures does { (err : Option (List ℕ)) → Does (F.files shelf.old) (F.there shelf.old) (F.unfailing shelf.old) (show path.now kind) (O.written out.old) (O.written out.new) err err result }
     ensures counts { (err : ℕ) → Counts (F.faults shelf.old) (F.faults shelf.new) (O.faults out.old) (O.faults out.new) err err result }
     ensures kept { F.files shelf.new ≡ F.files shelf.old }
+    ensures stays { F.there shelf.new ≡ F.there shelf.old }
 {
     match kind {
         SourceKind::Vm => show_vm(alloc, path, shelf, out),
         SourceKind::Jack => show_class(alloc, path, shelf, out),
+        SourceKind::Hdl => show_chip(alloc, path, shelf, out),
     }
 }

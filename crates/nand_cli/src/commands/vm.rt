@@ -32,9 +32,10 @@ fn load_program<F: Shelf>(
     bare: bool,
     shelf: &mut F,
 ) -> Result<Program, LoadError>
-    ensures loads { Loads (HasProgram bare (F.files shelf.old) folder.now) (VmRefuses (F.files shelf.old) folder.now bare) (F.unfailing shelf.old → LacksFolder (F.files shelf.old) folder.now) result }
+    ensures loads { Loads (HasProgram bare (F.files shelf.old) folder.now) (VmRefuses (F.files shelf.old) folder.now bare) (F.unfailing shelf.old → LacksFolder (F.files shelf.old) (F.there shelf.old) folder.now) result }
     ensures counts { CountsLoad (F.faults shelf.old) (F.faults shelf.new) result }
     ensures kept { F.files shelf.new ≡ F.files shelf.old }
+    ensures stays { F.there shelf.new ≡ F.there shelf.old }
 {
     let files = load_folder(alloc, &VmText { bare }, folder, ENDING, shelf)?;
     Ok(List::of(files))
@@ -72,9 +73,10 @@ pub fn answer_vm<F: Shelf, O: Sink>(
     shelf: &mut F,
     out: &mut O,
 ) -> Result<(), Failure>
-    ensures does { (err : Option (List ℕ)) → Does (F.files shelf.old) (F.unfailing shelf.old) (vm folder.now bare) (O.written out.old) (O.written out.new) err err result }
+    ensures does { (err : Option (List ℕ)) → Does (F.files shelf.old) (F.there shelf.old) (F.unfailing shelf.old) (vm folder.now bare) (O.written out.old) (O.written out.new) err err result }
     ensures counts { (err : ℕ) → Counts (F.faults shelf.old) (F.faults shelf.new) (O.faults out.old) (O.faults out.new) err err result }
     ensures kept { F.files shelf.new ≡ F.files shelf.old }
+    ensures stays { F.there shelf.new ≡ F.there shelf.old }
 {
     let program = load_program(alloc, folder, bare, shelf)?;
     let coded = code_of(alloc, folder, program, bare)?;

@@ -64,8 +64,26 @@ fn show_prints_vm_commands(rt: HostRuntime) -> Result<(), Fail> {
 }
 
 #[test]
+fn show_prints_a_chip(rt: HostRuntime) -> Result<(), Fail> {
+    let chips = [
+        (
+            "CHIP And{IN a,b;OUT out;PARTS:Nand(a=a,b=b,out=n);Nand(a=n,b=n,out=out);}",
+            "CHIP And {\nIN a , b ;\nOUT out ;\nPARTS : Nand ( a = a , b = b , out = n ) ;\nNand ( a = n , b = n , out = out ) ;\n}\n",
+        ),
+        (
+            "// f\nCHIP F { IN a[8], b; OUT out[016]; PARTS: Not16(in[0..7]=a, in[8]=true, out=out); }",
+            "CHIP F {\nIN a [ 8 ] , b ;\nOUT out [ 16 ] ;\nPARTS : Not16 ( in [ 0 .. 7 ] = a , in [ 8 ] = true , out = out ) ;\n}\n",
+        ),
+    ];
+    for (text, printed) in chips {
+        shows(&rt, rt.alloc(), "t/F.hdl", text, printed)?;
+    }
+    Ok(())
+}
+
+#[test]
 fn show_refuses_a_text(rt: HostRuntime) -> Result<(), Fail> {
-    let refusals: [(&str, &str, &str); 9] = [
+    let refusals: [(&str, &str, &str); 11] = [
         (
             "show C.jack",
             "class C { function void f() { let x = ; } }",
@@ -87,6 +105,8 @@ fn show_refuses_a_text(rt: HostRuntime) -> Result<(), Fail> {
         ),
         ("show x.vm", "add add", "x.vm:1:5: Grammar\n"),
         ("show d/x.vm", "x", "d/x.vm:1:1: Grammar\n"),
+        ("show F.hdl", "CHIP F { IN a }", "F.hdl:1:15: Grammar\n"),
+        ("show F.hdl", "CHIP F { IN a[17]", "F.hdl:1:15: Range 17\n"),
     ];
     for (line, text, err) in refusals {
         let path = line.strip_prefix("show ").ok_or("a path")?;

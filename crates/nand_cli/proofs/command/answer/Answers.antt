@@ -29,3 +29,22 @@ returns-in-Vm-clause-does g c = rw c.in-Vm.is (c.answer_vm.ensures.does (g.E.Sin
 
 pub returns-in-Vm-clause-counts : goal.returns-in-Vm-clause-counts
 returns-in-Vm-clause-counts g c = c.answer_vm.ensures.counts (g.E.Sink.faults c.args._err.now)
+
+pub returns-in-Build-clause-does : goal.returns-in-Build-clause-does
+returns-in-Build-clause-does g c = rw c.in-Build.is (c.answer_build.ensures.does (g.E.Sink.written c.args._err.now))
+
+pub returns-in-Build-clause-counts : goal.returns-in-Build-clause-counts
+returns-in-Build-clause-counts g c = c.answer_build.ensures.counts (g.E.Sink.faults c.args._err.now)
+
+pub returns-in-Map-clause-does : goal.returns-in-Map-clause-does
+returns-in-Map-clause-does g c = rw c.in-Map.is (c.answer_map.ensures.does (g.E.Sink.written c.args._err.now))
+
+pub returns-in-Map-clause-counts : goal.returns-in-Map-clause-counts
+returns-in-Map-clause-counts g c = c.answer_map.ensures.counts (g.E.Sink.faults c.args._err.now)
+
+pub returns-in-Chip-clause-does : goal.returns-in-Chip-clause-does
+returns-in-Chip-clause-does g c =
+    rw c.in-Chip.is (c.answer_chip.ensures.does (g.E.Sink.written c.args._err.now))
+
+pub returns-in-Chip-clause-counts : goal.returns-in-Chip-clause-counts
+returns-in-Chip-clause-counts g c = c.answer_chip.ensures.counts (g.E.Sink.faults c.args._err.now)

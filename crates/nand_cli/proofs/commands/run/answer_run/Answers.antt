@@ -22,7 +22,7 @@ pub returns-in_err-core-clause-does : goal.returns-in_err-core-clause-does
 returns-in_err-core-clause-does g c = λ err.
     let request = c.args.request.now in
     let p = err_from_is_err_and c.from_residual.result c.from_residual.ensures.1 in
-    rw (p.1, p.2) (without_jack request.level _ (g.F.Shelf.unfailing c.args.shelf.now) request.folder.now request.cycles (option_map (λ keys. keys.now) request.keys) _ err _ c.in_err-core.ensures.loads)
+    rw (p.1, p.2) (without_jack request.level _ (g.F.Shelf.there c.args.shelf.now) (g.F.Shelf.unfailing c.args.shelf.now) request.folder.now request.cycles (option_map (λ keys. keys.now) request.keys) _ err _ c.in_err-core.ensures.loads)
 
 pub returns-in_err-core-clause-counts : goal.returns-in_err-core-clause-counts
 returns-in_err-core-clause-counts g c = λ err.
@@ -33,7 +33,7 @@ pub returns-in_err-built-clause-does : goal.returns-in_err-built-clause-does
 returns-in_err-built-clause-does g c = λ err.
     let request = c.args.request.now in
     let p = err_from_is_err_and c.from_residual-in_err-built.result c.from_residual-in_err-built.ensures.1 in
-    rw (p.1, p.2) (without_image request.level _ (g.F.Shelf.unfailing c.args.shelf.now) request.folder.now request.cycles (option_map (λ keys. keys.now) request.keys) _ err c.in_ok-core.core _ c.in_ok-core.ensures.loads c.in_err-built.ensures)
+    rw (p.1, p.2) (without_image request.level _ (g.F.Shelf.there c.args.shelf.now) (g.F.Shelf.unfailing c.args.shelf.now) request.folder.now request.cycles (option_map (λ keys. keys.now) request.keys) _ err c.in_ok-core.core _ c.in_ok-core.ensures.loads c.in_err-built.ensures)
 
 pub returns-in_err-built-clause-counts : goal.returns-in_err-built-clause-counts
 returns-in_err-built-clause-counts g c = λ err.
@@ -53,7 +53,7 @@ returns-in_err-keys-clause-does g c = λ err.
     let P : Option Files → Type 0 = λ fs. Loads (λ (k : Keys). HasKeys fs path k) (ScriptIsRefused fs path) (later → LacksKeys fs path) (Err e) in
     let read = without (λ (k : Keys). HasKeys files path k) (ScriptIsRefused files path) (later → LacksKeys files path) (λ (k : Keys). HasKeys files path k) (ScriptIsRefused files path) (steady → LacksKeys files path) e
     (λ line h. h) (λ h s. h (c.in_ok-core.ensures.keeps s)) (subst P c.in_ok-core.ensures.kept c.in_err-keys.ensures.loads) in
-    rw (p.1, p.2) (without_keys request.level files steady request.folder.now request.cycles path _ err c.in_ok-core.core e c.in_ok-core.ensures.loads (c.in_ok-built.built, c.in_ok-built.ensures) read)
+    rw (p.1, p.2) (without_keys request.level files (g.F.Shelf.there c.args.shelf.now) steady request.folder.now request.cycles path _ err c.in_ok-core.core e c.in_ok-core.ensures.loads (c.in_ok-built.built, c.in_ok-built.ensures) read)
 
 pub returns-in_err-keys-clause-counts : goal.returns-in_err-keys-clause-counts
 returns-in_err-keys-clause-counts g c = λ err.
@@ -67,9 +67,9 @@ returns-in-Jack-clause-does g c = λ err.
     let path = option_map (λ keys. keys.now) request.keys in
     let steady = g.F.Shelf.unfailing c.args.shelf.now in
     let P : Option Files → Type 0 = λ files. HasKeys files path c.in_ok-keys.keys in
-    let Q : RunLevel → Type 0 = λ level. Does (g.F.Shelf.files c.args.shelf.now) steady (run request.folder.now level request.cycles path) (g.O.Sink.written c.args.out.now) (g.O.Sink.written c.report_jack.new.out) err err c.report_jack.result in
+    let Q : RunLevel → Type 0 = λ level. Does (g.F.Shelf.files c.args.shelf.now) (g.F.Shelf.there c.args.shelf.now) steady (run request.folder.now level request.cycles path) (g.O.Sink.written c.args.out.now) (g.O.Sink.written c.report_jack.new.out) err err c.report_jack.result in
     subst Q (sym c.in-Jack.is)
-    (answered (levels.Jack c.in-Jack.show) _ steady request.folder.now request.cycles path c.in_ok-core.core c.in_ok-keys.keys _ _ err c.report_jack.result c.in_ok-core.ensures.loads
+    (answered (levels.Jack c.in-Jack.show) _ (g.F.Shelf.there c.args.shelf.now) steady request.folder.now request.cycles path c.in_ok-core.core c.in_ok-keys.keys _ _ err c.report_jack.result c.in_ok-core.ensures.loads
     (c.in_ok-built.built, c.in_ok-built.ensures) (subst P c.in_ok-core.ensures.kept c.in_ok-keys.ensures.loads) c.report_jack.ensures.reports)
 
 pub returns-in-Jack-clause-counts : goal.returns-in-Jack-clause-counts
@@ -86,9 +86,9 @@ returns-in-Hack-clause-does g c = λ err.
     let path = option_map (λ keys. keys.now) request.keys in
     let steady = g.F.Shelf.unfailing c.args.shelf.now in
     let P : Option Files → Type 0 = λ files. HasKeys files path c.in_ok-keys.keys in
-    let Q : RunLevel → Type 0 = λ level. Does (g.F.Shelf.files c.args.shelf.now) steady (run request.folder.now level request.cycles path) (g.O.Sink.written c.args.out.now) (g.O.Sink.written c.report_hack.new.out) err err c.report_hack.result in
+    let Q : RunLevel → Type 0 = λ level. Does (g.F.Shelf.files c.args.shelf.now) (g.F.Shelf.there c.args.shelf.now) steady (run request.folder.now level request.cycles path) (g.O.Sink.written c.args.out.now) (g.O.Sink.written c.report_hack.new.out) err err c.report_hack.result in
     subst Q (sym c.in-Hack.is)
-    (answered (levels.Hack c.in-Hack.show) _ steady request.folder.now request.cycles path c.in_ok-core.core c.in_ok-keys.keys _ _ err c.report_hack.result c.in_ok-core.ensures.loads
+    (answered (levels.Hack c.in-Hack.show) _ (g.F.Shelf.there c.args.shelf.now) steady request.folder.now request.cycles path c.in_ok-core.core c.in_ok-keys.keys _ _ err c.report_hack.result c.in_ok-core.ensures.loads
     (c.in_ok-built.built, c.in_ok-built.ensures) (subst P c.in_ok-core.ensures.kept c.in_ok-keys.ensures.loads) c.report_hack.ensures.reports)
 
 pub returns-in-Hack-clause-counts : goal.returns-in-Hack-clause-counts
@@ -105,9 +105,9 @@ returns-clause-does g c = λ err.
     let path = option_map (λ keys. keys.now) request.keys in
     let steady = g.F.Shelf.unfailing c.args.shelf.now in
     let P : Option Files → Type 0 = λ files. HasKeys files path c.in_ok-keys.keys in
-    let Q : RunLevel → Type 0 = λ level. Does (g.F.Shelf.files c.args.shelf.now) steady (run request.folder.now level request.cycles path) (g.O.Sink.written c.args.out.now) (g.O.Sink.written c.report_gates.new.out) err err c.report_gates.result in
+    let Q : RunLevel → Type 0 = λ level. Does (g.F.Shelf.files c.args.shelf.now) (g.F.Shelf.there c.args.shelf.now) steady (run request.folder.now level request.cycles path) (g.O.Sink.written c.args.out.now) (g.O.Sink.written c.report_gates.new.out) err err c.report_gates.result in
     subst Q (sym c.in-Gates.is)
-    (answered (levels.Gates c.in-Gates.shown) _ steady request.folder.now request.cycles path c.in_ok-core.core c.in_ok-keys.keys _ _ err c.report_gates.result c.in_ok-core.ensures.loads
+    (answered (levels.Gates c.in-Gates.shown) _ (g.F.Shelf.there c.args.shelf.now) steady request.folder.now request.cycles path c.in_ok-core.core c.in_ok-keys.keys _ _ err c.report_gates.result c.in_ok-core.ensures.loads
     (c.in_ok-built.built, c.in_ok-built.ensures) (subst P c.in_ok-core.ensures.kept c.in_ok-keys.ensures.loads) c.report_gates.ensures.reports)
 
 pub returns-clause-counts : goal.returns-clause-counts

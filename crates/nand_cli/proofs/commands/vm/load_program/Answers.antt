@@ -14,7 +14,7 @@ returns-in_err-files-clause-loads g c =
     let told = g.F.Shelf.files c.args.shelf.now in
     let folder = c.args.folder.now in
     let bare = c.args.bare in
-    let missed = g.F.Shelf.unfailing c.args.shelf.now → LacksFolder told folder in
+    let missed = g.F.Shelf.unfailing c.args.shelf.now → LacksFolder told (g.F.Shelf.there c.args.shelf.now) folder in
     rw (p.1, p.2) (without (λ (files : Vec File Global). FolderSpells (SpellsVmFile bare) (codes ".vm") told folder files.items) (IsUnread (SpellsVmFile bare) (RefusesVm bare) (codes ".vm") told folder) missed
     (HasProgram bare told folder) (VmRefuses told folder bare) missed _ (λ line h. unread h) (λ h. h) c.in_err-files.ensures.loads)
 

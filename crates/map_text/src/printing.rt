@@ -1,0 +1,129 @@
+//! Puts the text of a map.
+ghost use Rattle.std.specs.Prelude.{◌≡◌, [], map, take, get_or};
+ghost use Rattle.std.specs.List.{flat_map};
+ghost use Rattle.outer_world.specs.Written.{CountsPut, Passes, Puts};
+ghost use Rattle.map_text.specs.Text.{commit_line, map_text, point_line, point_text};
+
+use itoa::Buffer;
+use outer_world::{Pieces, Put, Sink};
+use vm_translator::PointRange;
+
+// The name of a subroutine by its number.
+fn name_at<'a>(names: &[&'a str], sub: u32) -> &'a str
+    ensures { result.now ≡ get_or (map (λ n. n.now) names.now) sub [] }
+{
+    match names.get(sub as usize) {
+        Some(name) => *name,
+        None => "",
+    }
+}
+
+// The line of a range with the name of its subroutine.
+fn put_point<S: Sink>(name: &str, range: &PointRange, out: &mut Pieces<'_, S>) -> Put
+    ensures same_sink { out.new.sink.ghost_name ≡ out.old.sink.ghost_name }
+    ensures passes { Passes (S.written out.old.sink.now) (take out.old.len out.old.buffer) (S.written out.new.sink.now) (take out.new.len out.new.buffer) (point_text name.now range.now) result }
+    ensures counts { CountsPut (S.faults out.old.sink.now) (S.faults out.new.sink.now) result }
+{
+    let mut from = Buffer::new();
+    let mut to = Buffer::new();
+    let mut number = Buffer::new();
+    out.put_all(&[
+        b"point ",
+        from.format(range.from).as_bytes(),
+        b" ",
+        to.format(range.to).as_bytes(),
+        b" ",
+        name.as_bytes(),
+        b" ",
+        number.format(range.point.number).as_bytes(),
+        b"\n",
+    ])
+}
+
+// The lines of the points.
+fn put_points<S: Sink>(names: &[&str], points: &[PointRange], out: &mut Pieces<'_, S>) -> Put
+    ensures same_sink { out.new.sink.ghost_name ≡ out.old.sink.ghost_name }
+    ensures passes { Passes (S.written out.old.sink.now) (take out.old.len out.old.buffer) (S.written out.new.sink.now) (take out.new.len out.new.buffer) (flat_map (point_line (map (λ n. n.now) names.now)) points.now) result }
+    ensures counts { CountsPut (S.faults out.old.sink.now) (S.faults out.new.sink.now) result }
+{
+    for range in points {
+        match put_point(name_at(names, range.point.sub), range, out) {
+            Put::Done => {}
+            Put::Failed => return Put::Failed,
+        }
+    }
+    Put::Done
+}
+
+// The line of a commit.
+fn put_commit<S: Sink>(address: u16, out: &mut Pieces<'_, S>) -> Put
+    ensures same_sink { out.new.sink.ghost_name ≡ out.old.sink.ghost_name }
+    ensures passes { Passes (S.written out.old.sink.now) (take out.old.len out.old.buffer) (S.written out.new.sink.now) (take out.new.len out.new.buffer) (commit_line address) result }
+    ensures counts { CountsPut (S.faults out.old.sink.now) (S.faults out.new.sink.now) result }
+{
+    let mut digits = Buffer::new();
+    out.put_all(&[b"commit ", digits.format(address).as_bytes(), b"\n"])
+}
+
+// The lines of the commits.
+fn put_commits<S: Sink>(commits: &[u16], out: &mut Pieces<'_, S>) -> Put
+    ensures same_sink { out.new.sink.ghost_name ≡ out.old.sink.ghost_name }
+    ensures passes { Passes (S.written out.old.sink.now) (take out.old.len out.old.buffer) (S.written out.new.sink.now) (take out.new.len out.new.buffer) (flat_map commit_line commits.now) result }
+    ensures counts { CountsPut (S.faults out.old.sink.now) (S.faults out.new.sink.now) result }
+{
+    for address in commits {
+        match put_commit(*address, out) {
+            Put::Done => {}
+            Put::Failed => return Put::Failed,
+        }
+    }
+    Put::Done
+}
+
+// All lines.
+fn put_lines<S: Sink>(
+    names: &[&str],
+    points: &[PointRange],
+    commits: &[u16],
+    out: &mut Pieces<'_, S>,
+) -> Put
+    ensures same_sink { out.new.sink.ghost_name ≡ out.old.sink.ghost_name }
+    ensures passes { Passes (S.written out.old.sink.now) (take out.old.len out.old.buffer) (S.written out.new.sink.now) (take out.new.len out.new.buffer) (map_text (map (λ n. n.now) names.now) points.now commits.now) result }
+    ensures counts { CountsPut (S.faults out.old.sink.now) (S.faults out.new.sink.now) result }
+{
+    match out.put(b"map 1\n") {
+        Put::Done => {}
+        Put::Failed => return Put::Failed,
+    }
+    match put_points(names, points, out) {
+        Put::Done => put_commits(commits, out),
+        Put::Failed => Put::Failed,
+    }
+}
+
+// The same from an empty buffer, which is empty again after it.
+fn put_map<S: Sink>(
+    names: &[&str],
+    points: &[PointRange],
+    commits: &[u16],
+    out: &mut Pieces<'_, S>,
+) -> Put
+    requires { take out.old.len out.old.buffer ≡ [] }
+    ensures same_sink { out.new.sink.ghost_name ≡ out.old.sink.ghost_name }
+    ensures put { Puts (S.written out.old.sink.now) (S.written out.new.sink.now) (map_text (map (λ n. n.now) names.now) points.now commits.now) result }
+    ensures counts { CountsPut (S.faults out.old.sink.now) (S.faults out.new.sink.now) result }
+{
+    match put_lines(names, points, commits, out) {
+        Put::Done => out.finish(),
+        Put::Failed => Put::Failed,
+    }
+}
+
+/// Puts the map of an image: a line for each range of points, with the name of its subroutine, and a line for each commit.
+pub fn show_map<S: Sink>(names: &[&str], points: &[PointRange], commits: &[u16], out: &mut S) -> Put
+    ensures put { Puts (S.written out.old) (S.written out.new) (map_text (map (λ n. n.now) names.now) points.now commits.now) result }
+    ensures counts { CountsPut (S.faults out.old) (S.faults out.new) result }
+{
+    let mut pieces = Pieces::new(out);
+    put_map(names, points, commits, &mut pieces)
+}

@@ -1,0 +1,54 @@
+-- A line of `build` and one of `map` prints one thing or is refused for one thing, and not both.
+use Rattle.std.proofs.Common.{◌≡◌, ℕ, List, Some, refl, sym, ◌∙◌, ap}
+use Rattle.outer_world.specs.Files.{Files}
+use Rattle.hack_asm.specs.Image.{image_text}
+use Rattle.jack_parser.specs.Whole.{ReadingLaw as JackLaw}
+use Rattle.jack_core.specs.Texts.{names_of}
+use Rattle.map_text.specs.Text.{map_text}
+use Rattle.tower.specs.Mapped.{RunProgram}
+use Rattle.nand_cli.specs.Exact.{BuildExactLaw, MapExactLaw}
+use Rattle.nand_cli.specs.Commands.Build.{BuildPrints, BuildRefuses, unbuilt, without_program}
+use Rattle.nand_cli.specs.Commands.Map.{MapPrints}
+use Rattle.nand_cli.proofs.Exactly.{not_missing}
+use Rattle.nand_cli.proofs.RunExactly.{never_refused, never_unbuilt, one_build_line, one_computer, one_folder_line, one_meaning}
+
+module _ (law : JackLaw) (files : Files) (folder : List ℕ) where
+  one_image : (out out' : List ℕ) → BuildPrints (Some files) folder out → BuildPrints (Some files) folder out' → out ≡ out'
+  one_image out out' (core, p, builds, e) (core', q, builds', d) =
+      let same = one_meaning law files folder core core' builds.0 builds'.0 in
+      e ∙ ap (λ (x : RunProgram). image_text x.image) (one_computer core core' same p q builds.1 builds'.1) ∙ sym d
+
+  one_map : (out out' : List ℕ) → MapPrints (Some files) folder out → MapPrints (Some files) folder out' → out ≡ out'
+  one_map out out' (core, p, builds, cover, e) (core', q, builds', cover', d) =
+      let same = one_meaning law files folder core core' builds.0 builds'.0 in
+      e
+      ∙ ap (λ (x : RunProgram). map_text (names_of core) x.ranges x.commits) (one_computer core core' same p q builds.1 builds'.1)
+      ∙ ap (λ (ns : List (List ℕ)). map_text ns q.ranges q.commits) same.names
+      ∙ sym d
+
+  one_line : (line line' : List ℕ) → BuildRefuses (Some files) folder line → BuildRefuses (Some files) folder line' → line ≡ line'
+  one_line line line' (without_program h) (without_program k) = one_folder_line law files folder line line' h k
+  one_line line line' (without_program h) (unbuilt core means k) = absurd (never_refused law files folder core line means h)
+  one_line line line' (unbuilt core means h) (without_program k) = absurd (never_refused law files folder core line' means k)
+  one_line line line' (unbuilt core means h) (unbuilt core' means' k) = one_build_line core core' (one_meaning law files folder core core' means means') folder line line' h k
+
+  built_apart : (out line : List ℕ) → BuildPrints (Some files) folder out → BuildRefuses (Some files) folder line → ⊥
+  built_apart out line (core, p, builds, e) (without_program k) = never_refused law files folder core line builds.0 k
+  built_apart out line (core, p, builds, e) (unbuilt core' means' k) =
+      never_unbuilt core core' (one_meaning law files folder core core' builds.0 means') p k.0 k.1 builds.1 k.2 k.3
+
+pub build_exact : JackLaw → BuildExactLaw
+build_exact law files folder = record {
+  prints = λ one out err out' err' h k. (one_image law files folder out out' h.0 k.0, h.1 ∙ sym k.1);
+  refuses = λ out err out' err' h k. (h.0 ∙ sym k.0, one_line law files folder err err' h.1 k.1);
+  apart = λ out err out' err' h k. built_apart law files folder out err' h.0 k.1;
+  lacking = λ there has gone out err. absurd (not_missing there files folder has gone);
+}
+
+pub map_exact : JackLaw → MapExactLaw
+map_exact law files folder = record {
+  prints = λ one out err out' err' h k. (one_map law files folder out out' h.0 k.0, h.1 ∙ sym k.1);
+  refuses = λ out err out' err' h k. (h.0 ∙ sym k.0, one_line law files folder err err' h.1 k.1);
+  apart = λ out err out' err' h k. built_apart law files folder (image_text h.0.1.image) err' (h.0.0, h.0.1, h.0.2, refl) k.1;
+  lacking = λ there has gone out err. absurd (not_missing there files folder has gone);
+}

@@ -1,0 +1,51 @@
+use Rattle.std.proofs.Common.{◌∙◌, List, ℕ, refl, ap, map, subst}
+use Rattle.std.proofs.lemmas.Result.{err_from_is_err_and}
+use Rattle.outer_world.specs.Files.{LacksFolder}
+use Rattle.outer_world.specs.Written.{Puts}
+use Rattle.jack_core.specs.Texts.{names_of}
+use Rattle.map_text.specs.Text.{map_text}
+use Rattle.vm_translator.specs.declared.coded.PointRange.{PointRange}
+use Rattle.command_line.specs.Line.{map_line}
+use Rattle.nand_cli.specs.Commands.Build.{BuildRefuses, FolderBuilds}
+use Rattle.nand_cli.specs.declared.jack.BuiltProgram.{BuiltProgram}
+use Rattle.nand_cli.proofs.Covering.{covered}
+use Rattle.nand_cli.proofs.Doing.{done_by, done_counts, missing, nothing_put, unread_counts}
+use Rattle.nand_cli.proofs.commands.map.answer_map.Goals as goal
+
+pub returns-in_err-program-clause-does : goal.returns-in_err-program-clause-does
+returns-in_err-program-clause-does g c = λ err.
+    let p = err_from_is_err_and c.from_residual.result c.from_residual.ensures.1 in
+    let files = g.F.Shelf.files c.args.shelf.now in
+    let folder = c.args.folder.now in
+    let there = g.F.Shelf.there c.args.shelf.now in
+    let steady = g.F.Shelf.unfailing c.args.shelf.now in
+    rw (p.1, p.2) (nothing_put (λ (b : BuiltProgram). FolderBuilds files folder b.core b.built) (BuildRefuses files folder) (steady → LacksFolder files there folder) files there steady (map_line folder) (g.O.Sink.written c.args.out.now) err _
+    (λ line k. (refl, k)) (λ k s. missing files there folder (map_line folder) (λ told none. none) (k s)) c.in_err-program.ensures.loads)
+
+pub returns-in_err-program-clause-counts : goal.returns-in_err-program-clause-counts
+returns-in_err-program-clause-counts g c = λ err.
+    let p = err_from_is_err_and c.from_residual.result c.from_residual.ensures.1 in
+    rw (p.1, p.2) (unread_counts BuiltProgram _ _ _ _ err c.in_err-program.ensures.counts)
+
+pub returns-clause-does : goal.returns-clause-does
+returns-clause-does g c = λ err.
+    let out = g.O.Sink.written c.args.out.now in
+    let out' = g.O.Sink.written c.show_map.new.out in
+    let program = c.in_ok-program.program in
+    let core = program.core in
+    let computer = program.built in
+    let r = c.show_map.result in
+    let names = map (λ n. n.now) c.deref.result.now in
+    let ranges = c.points.result.now in
+    let commits = c.commits.result.now in
+    let P : List (List ℕ) → Type 0 = λ ns. Puts out out' (map_text ns computer.ranges computer.commits) r in
+    let Q : List PointRange → Type 0 = λ rs. Puts out out' (map_text names rs computer.commits) r in
+    let R : List ℕ → Type 0 = λ cs. Puts out out' (map_text names ranges cs) r in
+    let put = subst R c.commits.ensures c.show_map.ensures.put in
+    let named = ap (map (λ n. n.now)) c.deref.ensures.value ∙ c.in_ok-names.ensures in
+    rw (c.finished.ensures) (done_by (g.F.Shelf.files c.args.shelf.now) (g.F.Shelf.there c.args.shelf.now) (g.F.Shelf.unfailing c.args.shelf.now) (map_line c.args.folder.now) (map_text (names_of core) computer.ranges computer.commits) _ _ err r
+    ((core, computer, c.in_ok-program.ensures.loads, covered core computer c.in_ok-program.ensures.loads.1, refl), refl) (subst P named (subst Q c.points.ensures put)))
+
+pub returns-clause-counts : goal.returns-clause-counts
+returns-clause-counts g c = λ err.
+    rw (c.finished.ensures) (done_counts _ _ _ _ err c.show_map.result c.in_ok-program.ensures.counts c.show_map.ensures.counts)

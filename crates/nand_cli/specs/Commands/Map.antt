@@ -1,0 +1,20 @@
+-- The command `map`: the map of the image of the program of a folder, or why there is none. (The book, chapters 8 and 11.)
+use Rattle.std.specs.Prelude.{◌≡◌, ℕ, List, Option, length}
+use Rattle.outer_world.specs.Files.{Files}
+use Rattle.jack_core.specs.Texts.{names_of}
+use Rattle.jack_core.specs.declared.program.Core.{Core}
+use Rattle.map_text.specs.Text.{map_text}
+use Rattle.tower.specs.Mapped.{RunProgram}
+use Rattle.vm_translator.specs.Mapping.{Covers}
+use Rattle.nand_cli.specs.Commands.Build.{BuildRefuses, FolderBuilds}
+
+-- The folder means a program, and this is the map of its image: the points of its addresses, in ranges that cover each of them once, rising, and
+-- the commits.
+abbrev pub MapPrints : Option Files → List ℕ → List ℕ → Type 0
+MapPrints files folder out =
+    (core : Core) × (computer : RunProgram) × FolderBuilds files folder core computer
+    × Covers 0 computer.ranges (length computer.image) × (out ≡ map_text (names_of core) computer.ranges computer.commits)
+
+-- There is no map where there is no image.
+abbrev pub MapRefuses : Option Files → List ℕ → List ℕ → Type 0
+MapRefuses files folder line = BuildRefuses files folder line

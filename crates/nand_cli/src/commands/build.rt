@@ -1,0 +1,26 @@
+//! The command `build`: the image of a folder's program.
+ghost use Rattle.std.specs.Prelude.{◌≡◌, List, ℕ, Option};
+ghost use Rattle.command_line.specs.Line.{build};
+ghost use Rattle.nand_cli.specs.Inner.Parts.{Counts, Does};
+
+use crate::failure::{Failure, finished};
+use crate::jack::load_built;
+use hack_asm::write_hack;
+use outer_world::{Shelf, Sink};
+use std::alloc::Global;
+
+/// Does a line of `build`; err is left as it is.
+pub fn answer_build<F: Shelf, O: Sink>(
+    alloc: Global,
+    folder: &str,
+    shelf: &mut F,
+    out: &mut O,
+) -> Result<(), Failure>
+    ensures does { (err : Option (List ℕ)) → Does (F.files shelf.old) (F.there shelf.old) (F.unfailing shelf.old) (build folder.now) (O.written out.old) (O.written out.new) err err result }
+    ensures counts { (err : ℕ) → Counts (F.faults shelf.old) (F.faults shelf.new) (O.faults out.old) (O.faults out.new) err err result }
+    ensures kept { F.files shelf.new ≡ F.files shelf.old }
+    ensures stays { F.there shelf.new ≡ F.there shelf.old }
+{
+    let program = load_built(alloc, folder, shelf)?;
+    finished(write_hack(program.built.image(), out))
+}

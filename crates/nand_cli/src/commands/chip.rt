@@ -1,0 +1,46 @@
+//! The command `chip`: the printed form of a shipped chip.
+ghost use Rattle.std.specs.Prelude.{◌≡◌, List, ℕ, Option};
+ghost use Rattle.command_line.specs.Line.{chip};
+ghost use Rattle.source_files.specs.Loads.{Refused};
+ghost use Rattle.nand_cli.specs.Commands.Chip.{unknown_chip};
+ghost use Rattle.nand_cli.specs.Inner.Parts.{Counts, Does};
+
+use crate::failure::{Failure, finished};
+use hack_cpu::{find_shipped, library};
+use hdl_parser::print;
+use outer_world::{Detail, Shelf, Sink, Told};
+use source_files::LoadError;
+use std::alloc::Global;
+
+// Why no shipped chip has this name.
+fn unknown(alloc: Global, name: &str) -> LoadError
+    ensures { Refused name.now (unknown_chip name.now) result }
+{
+    match Vec::from_slice(alloc, name.as_bytes()) {
+        Ok(detail) => LoadError::refused(
+            alloc,
+            name,
+            Told::nowhere("UnknownChip", Detail::Name(detail)),
+        ),
+        Err(_) => LoadError::Memory,
+    }
+}
+
+/// Does a line of `chip`; the shelf and err are left as they are.
+pub fn answer_chip<F: Shelf, O: Sink>(
+    alloc: Global,
+    name: &str,
+    _shelf: &mut F,
+    out: &mut O,
+) -> Result<(), Failure>
+    ensures does { (err : Option (List ℕ)) → Does (F.files _shelf.old) (F.there _shelf.old) (F.unfailing _shelf.old) (chip name.now) (O.written out.old) (O.written out.new) err err result }
+    ensures counts { (err : ℕ) → Counts (F.faults _shelf.old) (F.faults _shelf.new) (O.faults out.old) (O.faults out.new) err err result }
+    ensures kept { F.files _shelf.new ≡ F.files _shelf.old }
+    ensures stays { F.there _shelf.new ≡ F.there _shelf.old }
+{
+    let library = library(alloc)?;
+    match find_shipped(&library, name.as_bytes()) {
+        Some(entry) => finished(print(&entry.chip, out)),
+        None => Err(Failure::Unloaded(unknown(alloc, name))),
+    }
+}

@@ -1,0 +1,39 @@
+//! The command `map`: the map of the image of a folder's program.
+ghost use Rattle.std.specs.Prelude.{◌≡◌, List, ℕ, IfOk, Option, map};
+ghost use Rattle.command_line.specs.Line.{map_line};
+ghost use Rattle.nand_cli.specs.Inner.Parts.{Counts, Does};
+
+use crate::failure::{Failure, finished};
+use crate::jack::load_built;
+use jack_core::Subroutine;
+use map_text::show_map;
+use outer_world::{Shelf, Sink};
+use std::alloc::{AllocError, Global};
+
+// The names of the subroutines, by number.
+fn names<'a>(alloc: Global, subroutines: &'a [Subroutine]) -> Result<Vec<&'a str>, AllocError>
+    ensures { IfOk result (λ v. map (λ n. n.now) v.items ≡ map (λ s. s.name) subroutines.now) }
+{
+    let mut names = Vec::new(alloc);
+    for subroutine in subroutines {
+        names.push(subroutine.name.as_str())?;
+    }
+    Ok(names)
+}
+
+/// Does a line of `map`; err is left as it is.
+pub fn answer_map<F: Shelf, O: Sink>(
+    alloc: Global,
+    folder: &str,
+    shelf: &mut F,
+    out: &mut O,
+) -> Result<(), Failure>
+    ensures does { (err : Option (List ℕ)) → Does (F.files shelf.old) (F.there shelf.old) (F.unfailing shelf.old) (map_line folder.now) (O.written out.old) (O.written out.new) err err result }
+    ensures counts { (err : ℕ) → Counts (F.faults shelf.old) (F.faults shelf.new) (O.faults out.old) (O.faults out.new) err err result }
+    ensures kept { F.files shelf.new ≡ F.files shelf.old }
+    ensures stays { F.there shelf.new ≡ F.there shelf.old }
+{
+    let program = load_built(alloc, folder, shelf)?;
+    let names = names(alloc, &program.core.subroutines)?;
+    finished(show_map(&names, program.built.points(), program.built.commits(), out))
+}

@@ -1,0 +1,5 @@
+//! Tests of the tower: programs from their classes down to each machine.
+#![tactic(auto)]
+
+#[cfg(test)]
+mod programs;
