@@ -66,5 +66,11 @@ rows = record {
   nameless = (no_set (codes "a"), rw (d1, d13) refl);
   missing = one_more [] (inr (inr (refl, refl, refl, refl, refl))) no_more;
   before = inl (refl, refl);
+  in_folder = refl;
+  in_none = refl;
+  nested = refl;
+  silent = (λ a. a, λ l. l);
+  lacking = refl;
+  pieces = (refl, refl);
   differs = (with_bar comparing, record { compared = compare_file; compares = refl; r = comparing; line = codes "|"; puts = (refl, bar); differs = other; is = refl }, refl, refl);
 }

@@ -1,6 +1,6 @@
 -- What each act of a script does. (The book, appendix 3.)
 use Rattle.std.specs.Prelude.{◌≡◌, ◌⊎◌, ◌≤◌, ℕ, ◌-◌, List, [], ◌∷◌, ◌++◌, length, Option, Some, MatchOption, slice_get, replicate, codes, decimal}
-use Rattle.outer_world.specs.Files.{Files, HasFile, path_in}
+use Rattle.outer_world.specs.Files.{HasFile}
 use Rattle.outer_world.specs.Refusals.{message, told_line}
 use Rattle.gate_sim.specs.Calls.{Call}
 use Rattle.gate_sim.specs.Calls.Call.{Load}
@@ -12,20 +12,12 @@ use Rattle.test_script.specs.declared.tree.Step.{Step}
 use Rattle.test_script.specs.declared.tree.Step.TheVariants as steps
 use Rattle.test_script.specs.declared.tree.Act.{Act}
 use Rattle.test_script.specs.declared.tree.Act.TheVariants as acts
+use Rattle.script_run.specs.Setting.{Setting, path_of}
+use Rattle.script_run.specs.Loading.{IsLoaded, IsNotLoaded, IsImage, IsNoImage}
 use Rattle.script_run.specs.Devices.{Device, Source, Means, CanSet, after_set, after_eval, after_tick, after_tock}
 use Rattle.script_run.specs.Devices.Device.{Chip}
 use Rattle.script_run.specs.Lines.{IsLine, AreMeant, head_line}
 use Rattle.script_run.specs.Standing.{Standing, Compared, Agrees, with_line, with_echo}
-
--- What is loaded of the files beside the script: said where chips and images are read.
-pub record Loading : Type 1 where
-  -- a file is loaded as this device, which was told nothing yet
-  pub Loads : List ℕ → Device → Type 0
-  -- or it is none, and this is the line that tells why
-  pub IsNoDevice : List ℕ → List ℕ → Type 0
-  -- a file is this image of an instruction memory
-  pub IsImage : List ℕ → List ℕ → Type 0
-  pub IsNoImage : List ℕ → List ℕ → Type 0
 
 -- the words of an image in the instruction memory of a chip: 0 past it
 abbrev pub whole_memory : List ℕ → List ℕ
@@ -43,8 +35,7 @@ pub record HasRom (device : Device) : Type 0 where
 abbrev pub with_image : (device : Device) → HasRom device → List ℕ → Device
 with_image device rom image = Chip rom.chip (Load rom.block 0 (whole_memory image) ∷ rom.calls)
 
--- The script stands at this path, in this folder, with these files.
-module _ (loading : Loading) (files : Option Files) (path folder : List ℕ) where
+module _ (setting : Setting) where
   -- an act that puts no line on out
   abbrev pub Does : Standing → Act → Standing → Type 0
   Does s (acts.Step steps.Eval) t = t ≡ record s { device = after_eval s.device }
@@ -52,16 +43,16 @@ module _ (loading : Loading) (files : Option Files) (path folder : List ℕ) whe
   Does s (acts.Step steps.Tock) t = t ≡ record s { device = after_tock s.device }
   Does s (acts.Step steps.TickTock) t = t ≡ record s { device = after_tock (after_tick s.device) }
   Does s (acts.Step steps.Output) t = ⊥
-  Does s (acts.Load file) t = (device : Device) × loading.Loads file.text device × (t ≡ record s { device = after_eval device; items = [] })
+  Does s (acts.Load file) t = (chip : LoadedChip) × IsLoaded setting file.text chip × (t ≡ record s { device = after_eval (Chip chip []); items = [] })
   Does s (acts.OutputFile file) t = t ≡ s
   Does s (acts.CompareTo file) t =
-      (text : List ℕ) × HasFile files (path_in folder file.text) text × (length text ≤ 1048576)
-      × (t ≡ record s { compared = Some (record { path = path_in folder file.text; lines = lines_of text }) })
+      (text : List ℕ) × HasFile setting.files (path_of setting file.text) text × (length text ≤ 1048576)
+      × (t ≡ record s { compared = Some (record { path = path_of setting file.text; lines = lines_of text }) })
   Does s (acts.OutputList items) t = ⊥
   Does s (acts.Set variable word) t = (source : Source) × CanSet s.device variable.text source × (t ≡ record s { device = after_set s.device source word })
   Does s (acts.Echo text) t = t ≡ with_echo s text
   Does s (acts.LoadRom word file) t =
-      (rom : HasRom s.device) × ((image : List ℕ) × loading.IsImage file.text image × (t ≡ record s { device = with_image s.device rom image }))
+      (rom : HasRom s.device) × ((image : List ℕ) × IsImage setting file.text image × (t ≡ record s { device = with_image s.device rom image }))
 
   -- the line that an act puts on out, from where the script stands, if it puts one: names at an output list, values at an output
   abbrev pub PutsLine : Standing → Act → Standing → List ℕ → Type 0
@@ -93,7 +84,7 @@ module _ (loading : Loading) (files : Option Files) (path folder : List ℕ) whe
 
   -- a word stands for nothing that is wanted here
   abbrev pub name_line : Placed → List ℕ
-  name_line word = told_line path (message word.place.line word.place.column (codes "Name") word.text)
+  name_line word = told_line setting.path (message word.place.line word.place.column (codes "Name") word.text)
 
   -- the first item whose variable stands for nothing
   pub record IsNameless (device : Device) (items : List Item) (item : Item) : Type 0 where
@@ -105,13 +96,13 @@ module _ (loading : Loading) (files : Option Files) (path folder : List ℕ) whe
 
   abbrev pub Faults : Standing → Act → List ℕ → Type 0
   Faults s (acts.Step step) line = ⊥
-  Faults s (acts.Load file) line = loading.IsNoDevice file.text line
+  Faults s (acts.Load file) line = IsNotLoaded setting file.text line
   Faults s (acts.OutputFile file) line = ⊥
   Faults s (acts.CompareTo file) line =
-      (text : List ℕ) × HasFile files (path_in folder file.text) text × (1048577 ≤ length text) × (line ≡ told_line (path_in folder file.text) (message 0 0 (codes "Range") (decimal 1048577)))
+      (text : List ℕ) × HasFile setting.files (path_of setting file.text) text × (1048577 ≤ length text) × (line ≡ told_line (path_of setting file.text) (message 0 0 (codes "Range") (decimal 1048577)))
   Faults s (acts.OutputList items) line = (item : Item) × IsNameless s.device items item × (line ≡ name_line item.variable)
   Faults s (acts.Set variable word) line = ((source : Source) → CanSet s.device variable.text source → ⊥) × (line ≡ name_line variable)
   Faults s (acts.Echo text) line = ⊥
   Faults s (acts.LoadRom word file) line =
       ((HasRom s.device → ⊥) × (line ≡ name_line word))
-      ⊎ (HasRom s.device × loading.IsNoImage file.text line)
+      ⊎ (HasRom s.device × IsNoImage setting file.text line)

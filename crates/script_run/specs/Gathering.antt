@@ -2,12 +2,15 @@
 -- appendix 2.)
 use Rattle.std.specs.Prelude.{◌≡◌, ◌⊎◌, ℕ, Bool, true, false, List, [], ◌∷◌, ◌++◌, Option, Some, None, map, codes}
 use Rattle.outer_world.specs.Files.{Files, HasFile, has_name, path_in}
-use Rattle.outer_world.specs.Refusals.{Message, told_line}
+use Rattle.outer_world.specs.Refusals.{told_line}
+use Rattle.grammar.specs.declared.Fault.{Fault}
+use Rattle.grammar.specs.Faults.{fault_told}
 use Rattle.hdl_tree.specs.declared.tree.Chip.{Chip}
 use Rattle.hdl_tree.specs.declared.tree.Body.{Body}
 use Rattle.hdl_tree.specs.declared.tree.Body.TheVariants as body
 use Rattle.hdl_tree.specs.declared.library.Entry.{Entry}
 use Rattle.hdl_tree.specs.Chips.{end_of, find_entry, parts_of_body, parts_unless}
+use Rattle.hdl_parser.specs.Whole.{Spells, Refuses}
 
 -- where chips are found: the shipped ones, whether the memories are blocks, the files, the folder and the names in it
 pub record Sources : Type 0 where
@@ -42,33 +45,31 @@ entry_of shipped name chip = entry_with shipped name chip chip.body
 abbrev pub needed : Bool → Entry → List (List ℕ)
 needed blocks entry = map (λ part. part.chip) (parts_unless (end_of blocks entry) (parts_of_body entry.chip.body))
 
--- An HDL text is told by the chip that it spells, and by why it is refused.
-module _ (spells : List ℕ → Chip → Type 0) (refuses : List ℕ → Message → Type 0) where
-  -- a chip of the folder, or a shipped one, is found under a name
-  abbrev pub IsFound : Sources → List ℕ → Entry → Type 0
-  IsFound from name entry =
-      ((is_in_folder from name ≡ true) × ((text : List ℕ) × (chip : Chip) × HasFile from.files (path_of from name) text × spells text chip × (entry ≡ entry_of from.shipped name chip)))
-      ⊎ ((is_in_folder from name ≡ false) × (find_entry from.shipped name ≡ Some entry))
+-- a chip of the folder, or a shipped one, is found under a name
+abbrev pub IsFound : Sources → List ℕ → Entry → Type 0
+IsFound from name entry =
+    ((is_in_folder from name ≡ true) × ((text : List ℕ) × (chip : Chip) × HasFile from.files (path_of from name) text × Spells text chip × (entry ≡ entry_of from.shipped name chip)))
+    ⊎ ((is_in_folder from name ≡ false) × (find_entry from.shipped name ≡ Some entry))
 
-  -- a name is taken among these chips: it is one of them, or is found and comes to them, or is nowhere; the names that it needs come next
-  abbrev pub IsTaken : Sources → List ℕ → List Entry → List (List ℕ) → List Entry → Type 0
-  IsTaken from name entries next entries' =
-      ((entry : Entry) × (find_entry entries name ≡ Some entry) × (next ≡ []) × (entries' ≡ entries))
-      ⊎ (((find_entry entries name ≡ None) × ((entry : Entry) × IsFound from name entry × (next ≡ needed from.blocks entry) × (entries' ≡ entries ++ entry ∷ [])))
-      ⊎ ((find_entry entries name ≡ None) × (is_in_folder from name ≡ false) × (find_entry from.shipped name ≡ None) × (next ≡ []) × (entries' ≡ entries)))
+-- a name is taken among these chips: it is one of them, or is found and comes to them, or is nowhere; the names that it needs come next
+abbrev pub IsTaken : Sources → List ℕ → List Entry → List (List ℕ) → List Entry → Type 0
+IsTaken from name entries next entries' =
+    ((entry : Entry) × (find_entry entries name ≡ Some entry) × (next ≡ []) × (entries' ≡ entries))
+    ⊎ (((find_entry entries name ≡ None) × ((entry : Entry) × IsFound from name entry × (next ≡ needed from.blocks entry) × (entries' ≡ entries ++ entry ∷ [])))
+    ⊎ ((find_entry entries name ≡ None) × (is_in_folder from name ≡ false) × (find_entry from.shipped name ≡ None) × (next ≡ []) × (entries' ≡ entries)))
 
-  -- a name is taken in its turn, and its text is refused with this line
-  abbrev pub IsRefused : Sources → List ℕ → List Entry → List ℕ → Type 0
-  IsRefused from name entries line =
-      (find_entry entries name ≡ None) × (is_in_folder from name ≡ true)
-      × ((text : List ℕ) × (told : Message) × HasFile from.files (path_of from name) text × refuses text told × (line ≡ told_line (path_of from name) told))
+-- a name is taken in its turn, and its text is refused with this line
+abbrev pub IsRefused : Sources → List ℕ → List Entry → List ℕ → Type 0
+IsRefused from name entries line =
+    (find_entry entries name ≡ None) × (is_in_folder from name ≡ true)
+    × ((text : List ℕ) × (fault : Fault) × HasFile from.files (path_of from name) text × Refuses text fault × (line ≡ told_line (path_of from name) (fault_told fault)))
 
 -- From these chips on, these names are taken one after another, and what they need before the names behind them; in the end all are there.
-pub data Gather (spells : List ℕ → Chip → Type 0) (refuses : List ℕ → Message → Type 0) (from : Sources) : List (List ℕ) → List Entry → List Entry → Type 0 where
-  no_more : {entries : List Entry} → Gather spells refuses from [] entries entries
-  one_more : {name : List ℕ} {names : List (List ℕ)} {entries entries' all : List Entry} (next : List (List ℕ)) → IsTaken spells refuses from name entries next entries' → Gather spells refuses from (next ++ names) entries' all → Gather spells refuses from (name ∷ names) entries all
+pub data Gather (from : Sources) : List (List ℕ) → List Entry → List Entry → Type 0 where
+  no_more : {entries : List Entry} → Gather from [] entries entries
+  one_more : {name : List ℕ} {names : List (List ℕ)} {entries entries' all : List Entry} (next : List (List ℕ)) → IsTaken from name entries next entries' → Gather from (next ++ names) entries' all → Gather from (name ∷ names) entries all
 
 -- Or the text of one of them is refused, with this line: those before it are taken.
-pub data GatherFails (spells : List ℕ → Chip → Type 0) (refuses : List ℕ → Message → Type 0) (from : Sources) : List (List ℕ) → List Entry → List ℕ → Type 0 where
-  here : {name : List ℕ} {names : List (List ℕ)} {entries : List Entry} {line : List ℕ} → IsRefused spells refuses from name entries line → GatherFails spells refuses from (name ∷ names) entries line
-  later : {name : List ℕ} {names : List (List ℕ)} {entries entries' : List Entry} {line : List ℕ} (next : List (List ℕ)) → IsTaken spells refuses from name entries next entries' → GatherFails spells refuses from (next ++ names) entries' line → GatherFails spells refuses from (name ∷ names) entries line
+pub data GatherFails (from : Sources) : List (List ℕ) → List Entry → List ℕ → Type 0 where
+  here : {name : List ℕ} {names : List (List ℕ)} {entries : List Entry} {line : List ℕ} → IsRefused from name entries line → GatherFails from (name ∷ names) entries line
+  later : {name : List ℕ} {names : List (List ℕ)} {entries entries' : List Entry} {line : List ℕ} (next : List (List ℕ)) → IsTaken from name entries next entries' → GatherFails from (next ++ names) entries' line → GatherFails from (name ∷ names) entries line
