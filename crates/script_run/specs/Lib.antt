@@ -9,3 +9,4 @@ pub mod Loading
 pub mod Effects
 pub mod Ends
 pub mod Rows
+pub mod Inner

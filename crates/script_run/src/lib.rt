@@ -1,7 +1,12 @@
-//! Test scripts: so far what a script puts on out and on err, as definitions. (The book, appendix 3.)
+//! Test scripts: what a script puts on out and on err, as definitions, and what its variables stand for. (The book, appendix 3.)
 #![tactic(auto)]
 
 ghost use Rattle.script_run.specs.Rows.{ScriptRowsLaw};
+
+mod brackets;
+mod variables;
+
+pub use variables::{Variable, find_settable, find_variable};
 
 /// Small scripts.
 pub fn rows_law()
