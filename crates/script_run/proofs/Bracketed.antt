@@ -1,5 +1,5 @@
 -- Brackets of a text, from the last that opens; and numbers, digit by digit.
-use Rattle.std.proofs.Common.{◌≡◌, ◌⊎◌, ◌<◌, ◌≤◌, ◌+◌, ◌-◌, ◌*◌, ℕ, zero, suc, min, List, [], ◌∷◌, ◌++◌, length, get_or, take, drop, refl, sym, ap, subst, ◌∙◌, arith, add-one}
+use Rattle.std.proofs.Common.{◌≡◌, ◌<◌, ◌+◌, ◌-◌, ◌*◌, ℕ, zero, suc, min, List, [], ◌∷◌, ◌++◌, length, get_or, take, drop, refl, sym, ap, ◌∙◌, arith, add-one}
 use Rattle.std.specs.Prelude.{slice_index}
 use Rattle.std.specs.List.{All}
 use Rattle.std.proofs.Math.Seq.{take-suc, append_snoc, get_or-append_seam, get_or-append_right}

@@ -1,6 +1,9 @@
 -- What a text stands for, from its name and what stands in its brackets.
-use Rattle.std.proofs.Common.{◌≡◌, ◌⊎◌, inl, inr, ◌<◌, ◌≤◌, ◌+◌, ℕ, zero, suc, min, List, [], ◌∷◌, ◌++◌, length, get_or, map, Bor, refl, sym, ap, subst, ◌∙◌, arith}
-use Rattle.std.specs.Prelude.{Option, Some, None, MatchOption, slice_get, codes}
+use Rattle.std.proofs.Common.{◌≡◌, inl, inr, ◌<◌, ℕ, zero, suc, List, [], ◌∷◌, ◌++◌, length, get_or, map, Bor, sym, ap, subst, ◌∙◌, arith}
+use Rattle.std.specs.Str.{bytes_eq}
+use Rattle.std.specs.Cmp.Lexicographic.{bytes_decides}
+use Rattle.std.specs.Prelude.{true, false, ◌==◌, Option, Some, None, MatchOption, slice_get, codes}
+use Rattle.std.proofs.lemmas.Bool.{eqb-true}
 use Rattle.netlist.specs.Net.{Net}
 use Rattle.netlist.specs.declared.node.Block.{Block}
 use Rattle.gate_sim.specs.Calls.{Call}
@@ -15,6 +18,19 @@ use Rattle.script_run.specs.Devices.Device.{Chip}
 use Rattle.script_run.specs.Inner.Brackets.{HasBrackets, NoBrackets}
 use Rattle.script_run.specs.Inner.Sources.{AreSizes, HasSize, IsOut}
 use Rattle.script_run.proofs.Bracketed.{once}
+
+-- ---- lengths, as the code tests them
+
+pub is_none : (n : ℕ) → (n == 0) ≡ true → n ≡ 0
+is_none n e = eqb-true n 0 e
+
+pub is_some : (n : ℕ) → (n == 0) ≡ false → 0 < n
+is_some zero e = absurd cc
+is_some (suc n) e = omega arith
+
+-- the text is not this one
+pub other_text : (text other : List ℕ) → bytes_eq text other ≡ false → text ≡ other → ⊥
+other_text text other unlike e = let yes : bytes_eq text other ≡ true = (bytes_decides text other).1 e in absurd cc
 
 -- ---- `Name[]`
 

@@ -9,7 +9,7 @@ use Rattle.script_run.specs.Devices.Source.{TheTime, OfChip}
 use Rattle.script_run.specs.Lines.{IsLine}
 use Rattle.script_run.specs.Standing.{Standing, Compared, Agrees, at_first, with_line, with_echo}
 use Rattle.script_run.specs.Gathering.Gather.{one_more, no_more}
-use Rattle.script_run.specs.Rows.{ScriptRowsLaw, output, time_item}
+use Rattle.script_run.specs.Rows.{ScriptRowsLaw, time_item}
 
 d0 : decimal 0 ≡ 48 ∷ []
 d0 = decimal_digit 0 (lit< tt)

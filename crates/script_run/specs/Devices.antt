@@ -1,5 +1,5 @@
 -- What a script drives, and what its variables stand for: today nothing, or a chip. (The book, appendix 3.)
-use Rattle.std.specs.Prelude.{◌≡◌, ◌≢◌, ℕ, Bool, true, false, List, [], ◌∷◌, codes}
+use Rattle.std.specs.Prelude.{◌≡◌, ◌≢◌, ℕ, Bool, false, List, ◌∷◌, codes}
 use Rattle.gate_sim.specs.Calls.{Call}
 use Rattle.gate_sim.specs.Calls.Call.{Eval, Tick, Tock}
 use Rattle.script_text.specs.declared.layout.Value.{Value}

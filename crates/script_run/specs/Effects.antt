@@ -1,5 +1,5 @@
 -- What each act of a script does. (The book, appendix 3.)
-use Rattle.std.specs.Prelude.{◌≡◌, ◌⊎◌, ◌≤◌, ℕ, ◌-◌, List, [], ◌∷◌, ◌++◌, length, Option, Some, MatchOption, slice_get, replicate, codes, decimal}
+use Rattle.std.specs.Prelude.{◌≡◌, ◌⊎◌, ◌≤◌, ℕ, ◌-◌, List, [], ◌∷◌, ◌++◌, length, Some, MatchOption, slice_get, replicate, codes, decimal}
 use Rattle.outer_world.specs.Files.{HasFile}
 use Rattle.outer_world.specs.Refusals.{message, told_line}
 use Rattle.gate_sim.specs.Calls.{Call}
@@ -8,7 +8,6 @@ use Rattle.script_text.specs.Comparison.{lines_of}
 use Rattle.driven_chip.specs.Directory.{LoadedChip, HasBlock}
 use Rattle.test_script.specs.declared.tree.Placed.{Placed}
 use Rattle.test_script.specs.declared.tree.Item.{Item}
-use Rattle.test_script.specs.declared.tree.Step.{Step}
 use Rattle.test_script.specs.declared.tree.Step.TheVariants as steps
 use Rattle.test_script.specs.declared.tree.Act.{Act}
 use Rattle.test_script.specs.declared.tree.Act.TheVariants as acts

@@ -1,6 +1,6 @@
 -- What a script loads: chips, and images of the instruction memory in a chip. (The book, chapters 4 and 6, and appendices 2 and 3.)
 use Rattle.std.specs.Prelude.{◌≡◌, ◌⊎◌, ℕ, true, false, List, [], ◌∷◌, ◌++◌, Option, Some, None, Ok, IfSome, codes, decimal}
-use Rattle.outer_world.specs.Files.{HasFile, IsListing, path_in}
+use Rattle.outer_world.specs.Files.{HasFile, IsListing}
 use Rattle.outer_world.specs.Refusals.{Message, message, told_line}
 use Rattle.outer_world.specs.Texts.{joined}
 use Rattle.hack_asm.specs.Meaning as assembly

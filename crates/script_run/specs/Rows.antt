@@ -1,5 +1,5 @@
 -- A few scripts that load nothing, and what they put. (The book, appendix 3.)
-use Rattle.std.specs.Prelude.{◌≡◌, ℕ, true, List, [], ◌∷◌, ◌++◌, Some, None, codes, replicate}
+use Rattle.std.specs.Prelude.{◌≡◌, ℕ, true, List, [], ◌∷◌, Some, None, codes, replicate}
 use Rattle.test_script.specs.declared.tree.Format.TheVariants.{Text}
 use Rattle.test_script.specs.declared.tree.Placed.{Placed}
 use Rattle.test_script.specs.declared.tree.Item.{Item}

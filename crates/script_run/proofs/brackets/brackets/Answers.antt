@@ -1,4 +1,4 @@
-use Rattle.std.proofs.Common.{◌≡◌, ◌+◌, take, drop, sym, ap, subst, ◌∙◌}
+use Rattle.std.proofs.Common.{◌+◌, take, drop, sym, ap, subst, ◌∙◌}
 use Rattle.std.proofs.Math.Seq.{take-length}
 use Rattle.std.proofs.lemmas.List.{length-drop}
 use Rattle.script_run.specs.Inner.Brackets.{IsClosed}

@@ -1,4 +1,4 @@
-use Rattle.std.proofs.Common.{◌≡◌, ◌+◌, ◌-◌, ◌*◌, min, get_or, ap, ◌∙◌}
+use Rattle.std.proofs.Common.{◌+◌, ◌-◌, ◌*◌, min, get_or, ap, ◌∙◌}
 use Rattle.script_run.proofs.Bracketed.{number_more}
 use Rattle.script_run.proofs.brackets.capped_number.Goals as goal
 

@@ -1,4 +1,4 @@
-use Rattle.std.proofs.Common.{◌≡◌, sym, ap, subst, ◌∙◌}
+use Rattle.std.proofs.Common.{sym, ap, subst, ◌∙◌}
 use Rattle.driven_chip.specs.Directory.{pin_named}
 use Rattle.script_run.proofs.Found.{WordFound, sets_nothing}
 use Rattle.script_run.proofs.variables.find_settable.Goals as goal

@@ -1,5 +1,4 @@
-use Rattle.std.proofs.Common.{◌≡◌, sym, ap, ◌∙◌}
-use Rattle.std.specs.Prelude.{Some}
+use Rattle.std.proofs.Common.{sym, ap, ◌∙◌}
 use Rattle.driven_chip.specs.Directory.{part_named}
 use Rattle.script_run.proofs.variables.out_named.Goals as goal
 

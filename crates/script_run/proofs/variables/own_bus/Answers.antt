@@ -1,4 +1,4 @@
-use Rattle.std.proofs.Common.{◌≡◌, ◌++◌, sym, ap, subst, ◌∙◌}
+use Rattle.std.proofs.Common.{◌≡◌, sym, ap, subst, ◌∙◌}
 use Rattle.std.specs.Prelude.{MatchOption, Some, None}
 use Rattle.driven_chip.specs.Directory.{pin_named}
 use Rattle.script_run.proofs.Pins.{pin_before, pin_behind}
