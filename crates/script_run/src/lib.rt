@@ -4,8 +4,10 @@
 ghost use Rattle.script_run.specs.Rows.{ScriptRowsLaw};
 
 mod brackets;
+mod directories;
 mod variables;
 
+pub use directories::{all_pins, part_nodes};
 pub use variables::{Variable, find_settable, find_variable};
 
 /// Small scripts.
