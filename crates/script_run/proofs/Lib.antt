@@ -1,0 +1,4 @@
+pub mod RowsTold
+pub mod Bracketed
+pub mod Pins
+pub mod Found

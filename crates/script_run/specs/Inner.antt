@@ -1,0 +1,3 @@
+-- What only proofs and private contracts speak of.
+pub mod Brackets
+pub mod Sources

@@ -1,0 +1,12 @@
+pub mod Acts
+pub mod Devices
+pub mod Lines
+pub mod Standing
+pub mod Setting
+pub mod Gathering
+pub mod Directories
+pub mod Loading
+pub mod Effects
+pub mod Ends
+pub mod Rows
+pub mod Inner

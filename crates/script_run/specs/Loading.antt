@@ -1,0 +1,109 @@
+-- What a script loads: chips, and images of the instruction memory in a chip. (The book, chapters 4 and 6, and appendices 2 and 3.)
+use Rattle.std.specs.Prelude.{◌≡◌, ◌⊎◌, ℕ, true, false, List, [], ◌∷◌, ◌++◌, Option, Some, None, Ok, IfSome, codes, decimal}
+use Rattle.outer_world.specs.Files.{HasFile, IsListing}
+use Rattle.outer_world.specs.Refusals.{Message, message, told_line}
+use Rattle.outer_world.specs.Texts.{joined}
+use Rattle.hack_asm.specs.Meaning as assembly
+use Rattle.hack_asm.specs.HackText as image
+use Rattle.hack_asm.specs.Told.{asm_told}
+use Rattle.hack_asm.specs.declared.fault.AsmFault.{AsmFault}
+use Rattle.hdl_tree.specs.declared.library.Entry.{Entry}
+use Rattle.hdl_tree.specs.Chips.{find_entry}
+use Rattle.hdl_elab.specs.Told.{named_told}
+use Rattle.hdl_elab.specs.Whole.{chips_in}
+use Rattle.hdl_elaborate.specs.declared.put.Elab.{Elab}
+use Rattle.hdl_elaborate.specs.declared.fault.ElaborationFault.{ElaborationFault}
+use Rattle.hdl_elaborate.specs.declared.fault.ElaborationFault.TheVariants as faults
+use Rattle.hdl_elaborate.specs.Elaborated.{IsElaborated}
+use Rattle.hdl_elaborate.specs.Faults.{IsFaultOf, IsFine}
+use Rattle.hack_cpu.specs.Library.{shipped_chips}
+use Rattle.driven_chip.specs.Directory.{LoadedChip, FitsNet}
+use Rattle.test_script.specs.Numbers.{ends_in}
+use Rattle.script_run.specs.Setting.{Setting, folder, path_of}
+use Rattle.script_run.specs.Gathering.{Sources, Gather, GatherFails, file_of}
+use Rattle.script_run.specs.Directories.{IsDirectory}
+
+-- ---- chips
+
+-- Where chips are found, when a script loads one: the names in its folder are asked for then.
+pub record HasSources (setting : Setting) (from : Sources) : Type 0 where
+  pub shipped : from.shipped ≡ shipped_chips
+  pub blocks : from.blocks ≡ setting.blocks
+  pub files : from.files ≡ setting.files
+  pub beside : from.folder ≡ folder setting
+  pub listed : IfSome setting.files (λ told. IsListing told (folder setting) from.names)
+
+-- The file is that of a chip, which has no fault; all chips that it needs are there. What has a name in it is told by its directory.
+pub record IsLoaded (setting : Setting) (file : List ℕ) (chip : LoadedChip) : Type 0 where
+  pub name : List ℕ
+  pub is : file ≡ file_of name
+  pub from : Sources
+  pub has : HasSources setting from
+  pub entries : List Entry
+  pub gathered : Gather from (name ∷ []) [] entries
+  pub top : Entry
+  pub found : find_entry entries name ≡ Some top
+  pub fine : IsFine (chips_in entries setting.blocks) top
+  pub e : Elab
+  pub elaborated : IsElaborated (chips_in entries setting.blocks) top e
+  pub net : chip.net ≡ e.net
+  pub directory : IsDirectory entries top e chip.directory
+  pub fits : FitsNet chip.net chip.directory
+
+abbrev pub path_of_shipped : Setting → List ℕ → Option (List ℕ) → List ℕ
+path_of_shipped setting name None = path_of setting (file_of name)
+path_of_shipped setting name (Some own) = codes "hdl/" ++ file_of own
+
+abbrev pub path_of_entry : Setting → List ℕ → Option Entry → List ℕ
+path_of_entry setting name None = path_of setting (file_of name)
+path_of_entry setting name (Some entry) = path_of_shipped setting name entry.shipped
+
+-- where the text of a chip stands: that of a shipped one under its own name, that of another in the script's folder
+abbrev pub path_of_text : Setting → List Entry → List ℕ → List ℕ
+path_of_text setting entries name = path_of_entry setting name (find_entry entries name)
+
+-- What is told of a fault of the chip that is loaded, with the path of the text that has it. Want of memory is no refusal, and neither is a search
+-- for loops that came to nothing.
+abbrev pub IsFaultLine : Setting → List Entry → List ℕ → ElaborationFault → List ℕ → Type 0
+IsFaultLine setting entries name faults.Memory line = ⊥
+IsFaultLine setting entries name faults.NotShown line = ⊥
+IsFaultLine setting entries name (faults.Named fault) line = line ≡ told_line (path_of_text setting entries fault.chip) (named_told fault)
+IsFaultLine setting entries name (faults.Loop nets) line = line ≡ told_line (path_of_text setting entries name) (message 0 0 (codes "Loop") (joined nets))
+IsFaultLine setting entries name (faults.TooManyNodes n) line = line ≡ told_line (path_of_text setting entries name) (message 0 0 (codes "TooManyNodes") (decimal n))
+
+-- The chips are there, but the one that is loaded has this fault.
+pub record IsFaulty (setting : Setting) (entries : List Entry) (name line : List ℕ) : Type 0 where
+  pub top : Entry
+  pub found : find_entry entries name ≡ Some top
+  pub fault : ElaborationFault
+  pub is_fault : IsFaultOf (chips_in entries setting.blocks) top fault
+  pub is : IsFaultLine setting entries name fault line
+
+-- The chip that is loaded is nowhere.
+abbrev pub IsUnknown : Setting → List Entry → List ℕ → List ℕ → Type 0
+IsUnknown setting entries name line = (find_entry entries name ≡ None) × (line ≡ told_line setting.path (message 0 0 (codes "UnknownChip") name))
+
+-- The file is that of a chip, and this is the line that tells why it is not loaded: a text that is refused, or else no chip, or a fault of it.
+pub record IsNotLoaded (setting : Setting) (file line : List ℕ) : Type 0 where
+  pub name : List ℕ
+  pub is : file ≡ file_of name
+  pub from : Sources
+  pub has : HasSources setting from
+  pub why : GatherFails from (name ∷ []) [] line ⊎ ((entries : List Entry) × Gather from (name ∷ []) [] entries × (IsUnknown setting entries name line ⊎ IsFaulty setting entries name line))
+
+-- ---- images
+
+-- the words of the program in a text, by the ending of its file, and its fault
+abbrev pub SpellsImage : List ℕ → List ℕ → List ℕ → Type 0
+SpellsImage file text words = ((ends_in (codes ".hack") file ≡ true) × image.Holds text (Ok words)) ⊎ ((ends_in (codes ".hack") file ≡ false) × assembly.Means text (Ok words))
+
+abbrev pub RefusesImage : List ℕ → List ℕ → AsmFault → Type 0
+RefusesImage file text fault = ((ends_in (codes ".hack") file ≡ true) × image.IsRefusal text fault) ⊎ ((ends_in (codes ".hack") file ≡ false) × assembly.IsRefusal text fault)
+
+abbrev pub IsImage : Setting → List ℕ → List ℕ → Type 0
+IsImage setting file words = (text : List ℕ) × HasFile setting.files (path_of setting file) text × SpellsImage file text words
+
+abbrev pub IsNoImage : Setting → List ℕ → List ℕ → Type 0
+IsNoImage setting file line =
+    (text : List ℕ) × (fault : AsmFault) × (told : Message) × HasFile setting.files (path_of setting file) text × RefusesImage file text fault × (asm_told fault ≡ Some told)
+    × (line ≡ told_line (path_of setting file) told)
