@@ -75,7 +75,7 @@ fn other_words_are_no_line(rt: HostRuntime) -> Result<(), Fail> {
     expect(&rt, rt.alloc(), &add, &words, Status::Usage, "", USAGE)?;
     let words = exec("Add.asm", "6", "32768");
     expect(&rt, rt.alloc(), &add, &words, Status::Usage, "", USAGE)?;
-    let words = ["run", "prog", "--level", "vm", "--cycles", "1"];
+    let words = ["run", "prog", "--level", "VM", "--cycles", "1"];
     expect(&rt, rt.alloc(), &add, &words, Status::Usage, "", USAGE)
 }
 
