@@ -1,8 +1,6 @@
 ghost use Rattle.std.specs.Prelude.{◌≡◌, IfOk, length};
-ghost use Rattle.jack_compiler.specs.Resolved.{IsResolvedCore};
 ghost use Rattle.tower.specs.Spelled.{AreSpelled};
 
-use jack_core::Core;
 use jack_names::NameKind;
 use jack_parser::parse_class;
 use jack_tree::Class;
@@ -11,8 +9,7 @@ use outer_world::{MemorySink, Name, Point, Put};
 use scan_text::Place;
 use std::alloc::Global;
 use std::test::*;
-use tower::{ProgramError, build, compile_classes, prepare_hack, prepare_vm, program_of_classes};
-use vm_machine::Vm;
+use tower::{ProgramError, build, compile_classes, prepare_hack, program_of_classes};
 use vm_tree::print_files;
 
 // The class Main that a text spells, as the only class of a folder.
@@ -86,54 +83,6 @@ fn method_and_static(rt: HostRuntime) -> Result<(), Fail> {
     assert!(rt; hack.word_at(16384) == 6);
     assert!(rt; hack.word_at(16385) == 3);
     assert!(rt; hack.point() == Point { sub: 60, number: 1 });
-    Ok(())
-}
-
-// The virtual machine of a program that is built.
-fn vm_of(alloc: Global, core: &Core) -> Result<Vm, Fail>
-    requires { IsResolvedCore core.now }
-{
-    match build(alloc, core) {
-        Ok(_) => Ok(prepare_vm(alloc, core)?),
-        Err(_) => Err(Fail::from("the program has an image")),
-    }
-}
-
-// The same program on the virtual machine. Not every command is a step of the meaning.
-#[test]
-fn method_on_the_virtual_machine(rt: HostRuntime) -> Result<(), Fail> {
-    let own = only(
-        rt.alloc(),
-        b"class Main { static int n; field int sum, last;
-        method void add(int k) { let sum = sum + k; let last = n; return; }
-        function void main() { var Main m; let m = 16384;
-            while (n < 3) { let n = n + 1; do m.add(n); } return; } }",
-    )?;
-    let core = program_of_classes(rt.alloc(), &own)
-        .ok()
-        .ok_or("the class is a program")?;
-    let mut vm = vm_of(rt.alloc(), &core)?;
-    assert!(rt; drive(&mut vm, &NoKeys, 30000)? == End::Bound);
-    assert!(rt; vm.word_at(16384) == 6);
-    assert!(rt; vm.word_at(16385) == 3);
-    assert!(rt; vm.point() == Point { sub: 60, number: 1 });
-    assert!(rt; vm.moves() == 30000);
-    assert!(rt; vm.steps() < 30000);
-    Ok(())
-}
-
-// Each call takes five words of the stack: 358 of them stand, and the next one needs 1,795 words.
-#[test]
-fn calls_fill_the_stack(rt: HostRuntime) -> Result<(), Fail> {
-    let own = only(
-        rt.alloc(),
-        b"class Main { function void main() { do Main.main(); return; } }",
-    )?;
-    let core = program_of_classes(rt.alloc(), &own)
-        .ok()
-        .ok_or("the class is a program")?;
-    let mut vm = vm_of(rt.alloc(), &core)?;
-    assert!(rt; drive(&mut vm, &NoKeys, 1_000_000)? == End::Full(1795));
     Ok(())
 }
 
