@@ -1,7 +1,8 @@
 //! The lines that show the outputs of the Computer's parts.
 
-ghost use Rattle.std.specs.Prelude.{◌≡◌, ◌<◌, [], map, take, length, slice_get, ℕ, Some};
+ghost use Rattle.std.specs.Prelude.{◌≡◌, ◌<◌, [], map, length, slice_get, ℕ, Some};
 ghost use Rattle.std.specs.List.{All};
+ghost use Rattle.outer_world.specs.Held.{HaveSameSink, pending, sink_of};
 ghost use Rattle.outer_world.specs.Written.{CountsPut, Passes, Puts};
 ghost use Rattle.netlist.specs.Present.{value_in};
 ghost use Rattle.gate_computer.specs.declared.wiring.WiredPart.{WiredPart};
@@ -20,9 +21,9 @@ fn digit(bit: bool) -> u8
 
 fn put_digits<S: Sink>(sim: &Sim, nodes: &[u32], out: &mut Pieces<'_, S>) -> Put
     requires { All (λ node. node < length sim.now.net.nodes) nodes.now }
-    ensures same_sink { out.new.sink.ghost_name ≡ out.old.sink.ghost_name }
-    ensures passes { Passes (S.written out.old.sink.now) (take out.old.len out.old.buffer) (S.written out.new.sink.now) (take out.new.len out.new.buffer) (map (λ node. digit (value_in sim.now.values node)) nodes.now) result }
-    ensures counts { CountsPut (S.faults out.old.sink.now) (S.faults out.new.sink.now) result }
+    ensures same_sink { HaveSameSink out.old out.new }
+    ensures passes { Passes (S.written (sink_of out.old)) (pending out.old) (S.written (sink_of out.new)) (pending out.new) (map (λ node. digit (value_in sim.now.values node)) nodes.now) result }
+    ensures counts { CountsPut (S.faults (sink_of out.old)) (S.faults (sink_of out.new)) result }
 {
     for node in nodes {
         match out.put(&[digit(sim.get(*node))]) {
@@ -36,9 +37,9 @@ fn put_digits<S: Sink>(sim: &Sim, nodes: &[u32], out: &mut Pieces<'_, S>) -> Put
 // The line of a part.
 fn put_part<S: Sink>(sim: &Sim, part: &WiredPart, out: &mut Pieces<'_, S>) -> Put
     requires { All (λ node. node < length sim.now.net.nodes) part.now.outputs }
-    ensures same_sink { out.new.sink.ghost_name ≡ out.old.sink.ghost_name }
-    ensures passes { Passes (S.written out.old.sink.now) (take out.old.len out.old.buffer) (S.written out.new.sink.now) (take out.new.len out.new.buffer) (wired_line (value_in sim.now.values) part.now) result }
-    ensures counts { CountsPut (S.faults out.old.sink.now) (S.faults out.new.sink.now) result }
+    ensures same_sink { HaveSameSink out.old out.new }
+    ensures passes { Passes (S.written (sink_of out.old)) (pending out.old) (S.written (sink_of out.new)) (pending out.new) (wired_line (value_in sim.now.values) part.now) result }
+    ensures counts { CountsPut (S.faults (sink_of out.old)) (S.faults (sink_of out.new)) result }
 {
     match out.put_all(&[part.chip.as_bytes(), b" "]) {
         Put::Done => {}
@@ -53,9 +54,9 @@ fn put_part<S: Sink>(sim: &Sim, part: &WiredPart, out: &mut Pieces<'_, S>) -> Pu
 
 fn put_parts<S: Sink>(sim: &Sim, parts: &[WiredPart], out: &mut Pieces<'_, S>) -> Put
     requires { ArePartsThere (length sim.now.net.nodes) parts.now }
-    ensures same_sink { out.new.sink.ghost_name ≡ out.old.sink.ghost_name }
-    ensures passes { Passes (S.written out.old.sink.now) (take out.old.len out.old.buffer) (S.written out.new.sink.now) (take out.new.len out.new.buffer) (wired_text (value_in sim.now.values) parts.now) result }
-    ensures counts { CountsPut (S.faults out.old.sink.now) (S.faults out.new.sink.now) result }
+    ensures same_sink { HaveSameSink out.old out.new }
+    ensures passes { Passes (S.written (sink_of out.old)) (pending out.old) (S.written (sink_of out.new)) (pending out.new) (wired_text (value_in sim.now.values) parts.now) result }
+    ensures counts { CountsPut (S.faults (sink_of out.old)) (S.faults (sink_of out.new)) result }
 {
     for part in parts {
         match put_part(sim, part, out) {
@@ -69,10 +70,10 @@ fn put_parts<S: Sink>(sim: &Sim, parts: &[WiredPart], out: &mut Pieces<'_, S>) -
 // From an empty buffer, which is empty again after it.
 fn put_all_parts<S: Sink>(sim: &Sim, parts: &[WiredPart], out: &mut Pieces<'_, S>) -> Put
     requires there { ArePartsThere (length sim.now.net.nodes) parts.now }
-    requires empty { take out.old.len out.old.buffer ≡ [] }
-    ensures same_sink { out.new.sink.ghost_name ≡ out.old.sink.ghost_name }
-    ensures put { Puts (S.written out.old.sink.now) (S.written out.new.sink.now) (wired_text (value_in sim.now.values) parts.now) result }
-    ensures counts { CountsPut (S.faults out.old.sink.now) (S.faults out.new.sink.now) result }
+    requires empty { pending out.old ≡ [] }
+    ensures same_sink { HaveSameSink out.old out.new }
+    ensures put { Puts (S.written (sink_of out.old)) (S.written (sink_of out.new)) (wired_text (value_in sim.now.values) parts.now) result }
+    ensures counts { CountsPut (S.faults (sink_of out.old)) (S.faults (sink_of out.new)) result }
 {
     match put_parts(sim, parts, out) {
         Put::Done => out.finish(),

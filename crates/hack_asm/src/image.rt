@@ -1,6 +1,7 @@
 //! The text of an image.
 
-ghost use Rattle.std.specs.Prelude.{◌≡◌, ◌<◌, take, []};
+ghost use Rattle.std.specs.Prelude.{◌≡◌, ◌<◌, []};
+ghost use Rattle.outer_world.specs.Held.{HaveSameSink, pending, sink_of};
 ghost use Rattle.outer_world.specs.Written.{CountsPut, Passes, Puts};
 ghost use Rattle.hack_asm.specs.Image.{digit, word_line, image_text};
 
@@ -41,9 +42,9 @@ fn word_line(word: u16) -> [u8; 17]
 
 /// Puts a line of sixteen binary digits for each word, the highest bit first.
 pub fn put_hack<S: Sink>(words: &[u16], out: &mut Pieces<'_, S>) -> Put
-    ensures same_sink { out.new.sink.ghost_name ≡ out.old.sink.ghost_name }
-    ensures passes { Passes (S.written out.old.sink.now) (take out.old.len out.old.buffer) (S.written out.new.sink.now) (take out.new.len out.new.buffer) (image_text words.now) result }
-    ensures counts { CountsPut (S.faults out.old.sink.now) (S.faults out.new.sink.now) result }
+    ensures same_sink { HaveSameSink out.old out.new }
+    ensures passes { Passes (S.written (sink_of out.old)) (pending out.old) (S.written (sink_of out.new)) (pending out.new) (image_text words.now) result }
+    ensures counts { CountsPut (S.faults (sink_of out.old)) (S.faults (sink_of out.new)) result }
 {
     for word in words {
         match out.put(&word_line(*word)) {
@@ -56,10 +57,10 @@ pub fn put_hack<S: Sink>(words: &[u16], out: &mut Pieces<'_, S>) -> Put
 
 // The same from an empty buffer, which is empty again after it.
 fn put_all_hack<S: Sink>(words: &[u16], out: &mut Pieces<'_, S>) -> Put
-    requires { take out.old.len out.old.buffer ≡ [] }
-    ensures same_sink { out.new.sink.ghost_name ≡ out.old.sink.ghost_name }
-    ensures put { Puts (S.written out.old.sink.now) (S.written out.new.sink.now) (image_text words.now) result }
-    ensures counts { CountsPut (S.faults out.old.sink.now) (S.faults out.new.sink.now) result }
+    requires { pending out.old ≡ [] }
+    ensures same_sink { HaveSameSink out.old out.new }
+    ensures put { Puts (S.written (sink_of out.old)) (S.written (sink_of out.new)) (image_text words.now) result }
+    ensures counts { CountsPut (S.faults (sink_of out.old)) (S.faults (sink_of out.new)) result }
 {
     match put_hack(words, out) {
         Put::Done => out.finish(),

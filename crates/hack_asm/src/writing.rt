@@ -1,7 +1,8 @@
 //! Instructions written in assembly.
 
-ghost use Rattle.std.specs.Prelude.{◌≡◌, ◌≤◌, take, [], length};
+ghost use Rattle.std.specs.Prelude.{◌≡◌, ◌≤◌, [], length};
 ghost use Rattle.hack_isa.specs.Machine.{image_words};
+ghost use Rattle.outer_world.specs.Held.{HaveSameSink, pending, sink_of};
 ghost use Rattle.outer_world.specs.Written.{CountsPut, Passes, Puts};
 ghost use Rattle.hack_asm.specs.Comps.{computations, memory_computations, text_in, comp_text};
 ghost use Rattle.hack_asm.specs.Written.{destinations, jumps, instr_text, asm_text, AreSpelled, WrittenMeans};
@@ -98,9 +99,9 @@ fn jump_text(jump: u8) -> &'static [u8]
 
 // The line of an instruction.
 fn put_instr<S: Sink>(instr: &Instr, out: &mut Pieces<'_, S>) -> Put
-    ensures same_sink { out.new.sink.ghost_name ≡ out.old.sink.ghost_name }
-    ensures passes { Passes (S.written out.old.sink.now) (take out.old.len out.old.buffer) (S.written out.new.sink.now) (take out.new.len out.new.buffer) (instr_text instr.now) result }
-    ensures counts { CountsPut (S.faults out.old.sink.now) (S.faults out.new.sink.now) result }
+    ensures same_sink { HaveSameSink out.old out.new }
+    ensures passes { Passes (S.written (sink_of out.old)) (pending out.old) (S.written (sink_of out.new)) (pending out.new) (instr_text instr.now) result }
+    ensures counts { CountsPut (S.faults (sink_of out.old)) (S.faults (sink_of out.new)) result }
 {
     match *instr {
         Instr::Address(n) => {
@@ -123,9 +124,9 @@ fn put_instr<S: Sink>(instr: &Instr, out: &mut Pieces<'_, S>) -> Put
 
 // The lines of instructions.
 fn put_asm<S: Sink>(instrs: &[Instr], out: &mut Pieces<'_, S>) -> Put
-    ensures same_sink { out.new.sink.ghost_name ≡ out.old.sink.ghost_name }
-    ensures passes { Passes (S.written out.old.sink.now) (take out.old.len out.old.buffer) (S.written out.new.sink.now) (take out.new.len out.new.buffer) (asm_text instrs.now) result }
-    ensures counts { CountsPut (S.faults out.old.sink.now) (S.faults out.new.sink.now) result }
+    ensures same_sink { HaveSameSink out.old out.new }
+    ensures passes { Passes (S.written (sink_of out.old)) (pending out.old) (S.written (sink_of out.new)) (pending out.new) (asm_text instrs.now) result }
+    ensures counts { CountsPut (S.faults (sink_of out.old)) (S.faults (sink_of out.new)) result }
 {
     for instr in instrs {
         match put_instr(instr, out) {
@@ -138,10 +139,10 @@ fn put_asm<S: Sink>(instrs: &[Instr], out: &mut Pieces<'_, S>) -> Put
 
 // The same from an empty buffer, which is empty again after it.
 fn put_all_asm<S: Sink>(instrs: &[Instr], out: &mut Pieces<'_, S>) -> Put
-    requires { take out.old.len out.old.buffer ≡ [] }
-    ensures same_sink { out.new.sink.ghost_name ≡ out.old.sink.ghost_name }
-    ensures put { Puts (S.written out.old.sink.now) (S.written out.new.sink.now) (asm_text instrs.now) result }
-    ensures counts { CountsPut (S.faults out.old.sink.now) (S.faults out.new.sink.now) result }
+    requires { pending out.old ≡ [] }
+    ensures same_sink { HaveSameSink out.old out.new }
+    ensures put { Puts (S.written (sink_of out.old)) (S.written (sink_of out.new)) (asm_text instrs.now) result }
+    ensures counts { CountsPut (S.faults (sink_of out.old)) (S.faults (sink_of out.new)) result }
 {
     match put_asm(instrs, out) {
         Put::Done => out.finish(),

@@ -1,8 +1,9 @@
 //! The printed form of chips.
 
-ghost use Rattle.std.specs.Prelude.{◌≡◌, ◌∷◌, ◌||◌, [], codes, take};
+ghost use Rattle.std.specs.Prelude.{◌≡◌, ◌∷◌, ◌||◌, [], codes};
 ghost use Rattle.std.specs.Str.{bytes_eq};
 ghost use Rattle.grammar.specs.Rules.{NoMore, option, repeat, listed};
+ghost use Rattle.outer_world.specs.Held.{HaveSameSink, pending, sink_of};
 ghost use Rattle.outer_world.specs.Written.{CountsPut, Puts};
 ghost use Rattle.hdl_parser.specs.Tokens.{keyword_text};
 ghost use Rattle.hdl_parser.specs.Hdl.{body, builtin, chip, connection, indices, last, listing, name, next_of, part, parts, pin, pins, row, source, subscript, width_rule, selection};
@@ -29,8 +30,8 @@ fn ends_line(token: &[u8]) -> bool
 }
 
 fn put_token<S: Sink>(token: &[u8], status: Put, out: &mut Pieces<'_, S>) -> Put
-    ensures same_sink { out.new.sink.ghost_name ≡ out.old.sink.ghost_name }
-    ensures writes { Writes (set_off token.now) status (S.written out.old.sink.now) (take out.old.len out.old.buffer) (S.faults out.old.sink.now) result (S.written out.new.sink.now) (take out.new.len out.new.buffer) (S.faults out.new.sink.now) }
+    ensures same_sink { HaveSameSink out.old out.new }
+    ensures writes { Writes (set_off token.now) status (S.written (sink_of out.old)) (pending out.old) (S.faults (sink_of out.old)) result (S.written (sink_of out.new)) (pending out.new) (S.faults (sink_of out.new)) }
 {
     if status == Put::Failed {
         return Put::Failed;
@@ -42,29 +43,29 @@ fn put_token<S: Sink>(token: &[u8], status: Put, out: &mut Pieces<'_, S>) -> Put
 }
 
 fn put_symbol<S: Sink>(byte: u8, status: Put, out: &mut Pieces<'_, S>) -> Put
-    ensures same_sink { out.new.sink.ghost_name ≡ out.old.sink.ghost_name }
-    ensures writes { Writes (set_off (byte ∷ [])) status (S.written out.old.sink.now) (take out.old.len out.old.buffer) (S.faults out.old.sink.now) result (S.written out.new.sink.now) (take out.new.len out.new.buffer) (S.faults out.new.sink.now) }
+    ensures same_sink { HaveSameSink out.old out.new }
+    ensures writes { Writes (set_off (byte ∷ [])) status (S.written (sink_of out.old)) (pending out.old) (S.faults (sink_of out.old)) result (S.written (sink_of out.new)) (pending out.new) (S.faults (sink_of out.new)) }
 {
     put_token(&[byte], status, out)
 }
 
 fn put_keyword<S: Sink>(keyword: Keyword, status: Put, out: &mut Pieces<'_, S>) -> Put
-    ensures same_sink { out.new.sink.ghost_name ≡ out.old.sink.ghost_name }
-    ensures writes { Writes (set_off (keyword_text keyword)) status (S.written out.old.sink.now) (take out.old.len out.old.buffer) (S.faults out.old.sink.now) result (S.written out.new.sink.now) (take out.new.len out.new.buffer) (S.faults out.new.sink.now) }
+    ensures same_sink { HaveSameSink out.old out.new }
+    ensures writes { Writes (set_off (keyword_text keyword)) status (S.written (sink_of out.old)) (pending out.old) (S.faults (sink_of out.old)) result (S.written (sink_of out.new)) (pending out.new) (S.faults (sink_of out.new)) }
 {
     put_token(keyword.text().as_bytes(), status, out)
 }
 
 fn put_name<S: Sink>(name: &Name, status: Put, out: &mut Pieces<'_, S>) -> Put
-    ensures same_sink { out.new.sink.ghost_name ≡ out.old.sink.ghost_name }
-    ensures writes { Writes (set_off name.now) status (S.written out.old.sink.now) (take out.old.len out.old.buffer) (S.faults out.old.sink.now) result (S.written out.new.sink.now) (take out.new.len out.new.buffer) (S.faults out.new.sink.now) }
+    ensures same_sink { HaveSameSink out.old out.new }
+    ensures writes { Writes (set_off name.now) status (S.written (sink_of out.old)) (pending out.old) (S.faults (sink_of out.old)) result (S.written (sink_of out.new)) (pending out.new) (S.faults (sink_of out.new)) }
 {
     put_token(name.as_bytes(), status, out)
 }
 
 fn put_number<S: Sink>(number: u8, status: Put, out: &mut Pieces<'_, S>) -> Put
-    ensures same_sink { out.new.sink.ghost_name ≡ out.old.sink.ghost_name }
-    ensures writes { Writes (set_off (said_text (number_said number))) status (S.written out.old.sink.now) (take out.old.len out.old.buffer) (S.faults out.old.sink.now) result (S.written out.new.sink.now) (take out.new.len out.new.buffer) (S.faults out.new.sink.now) }
+    ensures same_sink { HaveSameSink out.old out.new }
+    ensures writes { Writes (set_off (said_text (number_said number))) status (S.written (sink_of out.old)) (pending out.old) (S.faults (sink_of out.old)) result (S.written (sink_of out.new)) (pending out.new) (S.faults (sink_of out.new)) }
 {
     let mut digits = Buffer::new();
     put_token(digits.format(number).as_bytes(), status, out)
@@ -72,8 +73,8 @@ fn put_number<S: Sink>(number: u8, status: Put, out: &mut Pieces<'_, S>) -> Put
 
 // The width of a pin, where one is written.
 fn put_width<S: Sink>(width: &Option<u8>, status: Put, out: &mut Pieces<'_, S>) -> Put
-    ensures same_sink { out.new.sink.ghost_name ≡ out.old.sink.ghost_name }
-    ensures shows { Shows (width_tree width.now) (option width_rule) status (S.written out.old.sink.now) (take out.old.len out.old.buffer) (S.faults out.old.sink.now) result (S.written out.new.sink.now) (take out.new.len out.new.buffer) (S.faults out.new.sink.now) }
+    ensures same_sink { HaveSameSink out.old out.new }
+    ensures shows { Shows (width_tree width.now) (option width_rule) status (S.written (sink_of out.old)) (pending out.old) (S.faults (sink_of out.old)) result (S.written (sink_of out.new)) (pending out.new) (S.faults (sink_of out.new)) }
 {
     match width {
         None => status,
@@ -86,24 +87,24 @@ fn put_width<S: Sink>(width: &Option<u8>, status: Put, out: &mut Pieces<'_, S>) 
 }
 
 fn put_pin<S: Sink>(one: &Pin, status: Put, out: &mut Pieces<'_, S>) -> Put
-    ensures same_sink { out.new.sink.ghost_name ≡ out.old.sink.ghost_name }
-    ensures shows { Shows (pin_tree one.now) pin status (S.written out.old.sink.now) (take out.old.len out.old.buffer) (S.faults out.old.sink.now) result (S.written out.new.sink.now) (take out.new.len out.new.buffer) (S.faults out.new.sink.now) }
+    ensures same_sink { HaveSameSink out.old out.new }
+    ensures shows { Shows (pin_tree one.now) pin status (S.written (sink_of out.old)) (pending out.old) (S.faults (sink_of out.old)) result (S.written (sink_of out.new)) (pending out.new) (S.faults (sink_of out.new)) }
 {
     let named = put_name(&one.name, status, out);
     put_width(&one.width, named, out)
 }
 
 fn put_next_pin<S: Sink>(one: &Pin, status: Put, out: &mut Pieces<'_, S>) -> Put
-    ensures same_sink { out.new.sink.ghost_name ≡ out.old.sink.ghost_name }
-    ensures shows { Shows (next_tree pin_tree one.now) (next_of pin) status (S.written out.old.sink.now) (take out.old.len out.old.buffer) (S.faults out.old.sink.now) result (S.written out.new.sink.now) (take out.new.len out.new.buffer) (S.faults out.new.sink.now) }
+    ensures same_sink { HaveSameSink out.old out.new }
+    ensures shows { Shows (next_tree pin_tree one.now) (next_of pin) status (S.written (sink_of out.old)) (pending out.old) (S.faults (sink_of out.old)) result (S.written (sink_of out.new)) (pending out.new) (S.faults (sink_of out.new)) }
 {
     let separated = put_symbol(b',', status, out);
     put_pin(one, separated, out)
 }
 
 fn put_more_pins<S: Sink>(all: &[Pin], status: Put, out: &mut Pieces<'_, S>) -> Put
-    ensures same_sink { out.new.sink.ghost_name ≡ out.old.sink.ghost_name }
-    ensures shows { Shows (listed (next_tree pin_tree) all.now NoMore) (repeat (next_of pin)) status (S.written out.old.sink.now) (take out.old.len out.old.buffer) (S.faults out.old.sink.now) result (S.written out.new.sink.now) (take out.new.len out.new.buffer) (S.faults out.new.sink.now) }
+    ensures same_sink { HaveSameSink out.old out.new }
+    ensures shows { Shows (listed (next_tree pin_tree) all.now NoMore) (repeat (next_of pin)) status (S.written (sink_of out.old)) (pending out.old) (S.faults (sink_of out.old)) result (S.written (sink_of out.new)) (pending out.new) (S.faults (sink_of out.new)) }
 {
     let mut status = status;
     for one in all {
@@ -114,8 +115,8 @@ fn put_more_pins<S: Sink>(all: &[Pin], status: Put, out: &mut Pieces<'_, S>) -> 
 
 // The pins behind a keyword, where there are some.
 fn put_pins<S: Sink>(word: Keyword, all: &[Pin], status: Put, out: &mut Pieces<'_, S>) -> Put
-    ensures same_sink { out.new.sink.ghost_name ≡ out.old.sink.ghost_name }
-    ensures shows { Shows (pins_tree all.now) (pins word) status (S.written out.old.sink.now) (take out.old.len out.old.buffer) (S.faults out.old.sink.now) result (S.written out.new.sink.now) (take out.new.len out.new.buffer) (S.faults out.new.sink.now) }
+    ensures same_sink { HaveSameSink out.old out.new }
+    ensures shows { Shows (pins_tree all.now) (pins word) status (S.written (sink_of out.old)) (pending out.old) (S.faults (sink_of out.old)) result (S.written (sink_of out.new)) (pending out.new) (S.faults (sink_of out.new)) }
 {
     let Some((first, more)) = all.split_first() else {
         return status;
@@ -127,16 +128,16 @@ fn put_pins<S: Sink>(word: Keyword, all: &[Pin], status: Put, out: &mut Pieces<'
 }
 
 fn put_next_name<S: Sink>(one: &Name, status: Put, out: &mut Pieces<'_, S>) -> Put
-    ensures same_sink { out.new.sink.ghost_name ≡ out.old.sink.ghost_name }
-    ensures shows { Shows (next_tree name_leaf one.now) (next_of name) status (S.written out.old.sink.now) (take out.old.len out.old.buffer) (S.faults out.old.sink.now) result (S.written out.new.sink.now) (take out.new.len out.new.buffer) (S.faults out.new.sink.now) }
+    ensures same_sink { HaveSameSink out.old out.new }
+    ensures shows { Shows (next_tree name_leaf one.now) (next_of name) status (S.written (sink_of out.old)) (pending out.old) (S.faults (sink_of out.old)) result (S.written (sink_of out.new)) (pending out.new) (S.faults (sink_of out.new)) }
 {
     let separated = put_symbol(b',', status, out);
     put_name(one, separated, out)
 }
 
 fn put_more_names<S: Sink>(all: &[Name], status: Put, out: &mut Pieces<'_, S>) -> Put
-    ensures same_sink { out.new.sink.ghost_name ≡ out.old.sink.ghost_name }
-    ensures shows { Shows (listed (next_tree name_leaf) all.now NoMore) (repeat (next_of name)) status (S.written out.old.sink.now) (take out.old.len out.old.buffer) (S.faults out.old.sink.now) result (S.written out.new.sink.now) (take out.new.len out.new.buffer) (S.faults out.new.sink.now) }
+    ensures same_sink { HaveSameSink out.old out.new }
+    ensures shows { Shows (listed (next_tree name_leaf) all.now NoMore) (repeat (next_of name)) status (S.written (sink_of out.old)) (pending out.old) (S.faults (sink_of out.old)) result (S.written (sink_of out.new)) (pending out.new) (S.faults (sink_of out.new)) }
 {
     let mut status = status;
     for one in all {
@@ -147,8 +148,8 @@ fn put_more_names<S: Sink>(all: &[Name], status: Put, out: &mut Pieces<'_, S>) -
 
 // The names behind `CLOCKED`, where there are some.
 fn put_clocked<S: Sink>(all: &[Name], status: Put, out: &mut Pieces<'_, S>) -> Put
-    ensures same_sink { out.new.sink.ghost_name ≡ out.old.sink.ghost_name }
-    ensures shows { Shows (names_tree all.now) (option (listing Keyword.Clocked name)) status (S.written out.old.sink.now) (take out.old.len out.old.buffer) (S.faults out.old.sink.now) result (S.written out.new.sink.now) (take out.new.len out.new.buffer) (S.faults out.new.sink.now) }
+    ensures same_sink { HaveSameSink out.old out.new }
+    ensures shows { Shows (names_tree all.now) (option (listing Keyword.Clocked name)) status (S.written (sink_of out.old)) (pending out.old) (S.faults (sink_of out.old)) result (S.written (sink_of out.new)) (pending out.new) (S.faults (sink_of out.new)) }
 {
     let Some((first, more)) = all.split_first() else {
         return status;
@@ -160,8 +161,8 @@ fn put_clocked<S: Sink>(all: &[Name], status: Put, out: &mut Pieces<'_, S>) -> P
 }
 
 fn put_indices<S: Sink>(bits: Subscript, status: Put, out: &mut Pieces<'_, S>) -> Put
-    ensures same_sink { out.new.sink.ghost_name ≡ out.old.sink.ghost_name }
-    ensures shows { Shows (indices_tree bits) indices status (S.written out.old.sink.now) (take out.old.len out.old.buffer) (S.faults out.old.sink.now) result (S.written out.new.sink.now) (take out.new.len out.new.buffer) (S.faults out.new.sink.now) }
+    ensures same_sink { HaveSameSink out.old out.new }
+    ensures shows { Shows (indices_tree bits) indices status (S.written (sink_of out.old)) (pending out.old) (S.faults (sink_of out.old)) result (S.written (sink_of out.new)) (pending out.new) (S.faults (sink_of out.new)) }
 {
     match bits {
         Subscript::Bit(index) => put_number(index, status, out),
@@ -175,8 +176,8 @@ fn put_indices<S: Sink>(bits: Subscript, status: Put, out: &mut Pieces<'_, S>) -
 
 // The bits in brackets, where some are written.
 fn put_subscript<S: Sink>(bits: &Option<Subscript>, status: Put, out: &mut Pieces<'_, S>) -> Put
-    ensures same_sink { out.new.sink.ghost_name ≡ out.old.sink.ghost_name }
-    ensures shows { Shows (subscript_tree bits.now) (option subscript) status (S.written out.old.sink.now) (take out.old.len out.old.buffer) (S.faults out.old.sink.now) result (S.written out.new.sink.now) (take out.new.len out.new.buffer) (S.faults out.new.sink.now) }
+    ensures same_sink { HaveSameSink out.old out.new }
+    ensures shows { Shows (subscript_tree bits.now) (option subscript) status (S.written (sink_of out.old)) (pending out.old) (S.faults (sink_of out.old)) result (S.written (sink_of out.new)) (pending out.new) (S.faults (sink_of out.new)) }
 {
     match bits {
         None => status,
@@ -189,8 +190,8 @@ fn put_subscript<S: Sink>(bits: &Option<Subscript>, status: Put, out: &mut Piece
 }
 
 fn put_selection<S: Sink>(one: &Selection, status: Put, out: &mut Pieces<'_, S>) -> Put
-    ensures same_sink { out.new.sink.ghost_name ≡ out.old.sink.ghost_name }
-    ensures shows { Shows (selection_tree one.now) selection status (S.written out.old.sink.now) (take out.old.len out.old.buffer) (S.faults out.old.sink.now) result (S.written out.new.sink.now) (take out.new.len out.new.buffer) (S.faults out.new.sink.now) }
+    ensures same_sink { HaveSameSink out.old out.new }
+    ensures shows { Shows (selection_tree one.now) selection status (S.written (sink_of out.old)) (pending out.old) (S.faults (sink_of out.old)) result (S.written (sink_of out.new)) (pending out.new) (S.faults (sink_of out.new)) }
 {
     let named = put_name(&one.name, status, out);
     put_subscript(&one.subscript, named, out)
@@ -203,8 +204,8 @@ fn truth(value: bool) -> Keyword
 }
 
 fn put_source<S: Sink>(one: &Source, status: Put, out: &mut Pieces<'_, S>) -> Put
-    ensures same_sink { out.new.sink.ghost_name ≡ out.old.sink.ghost_name }
-    ensures shows { Shows (source_tree one.now) source status (S.written out.old.sink.now) (take out.old.len out.old.buffer) (S.faults out.old.sink.now) result (S.written out.new.sink.now) (take out.new.len out.new.buffer) (S.faults out.new.sink.now) }
+    ensures same_sink { HaveSameSink out.old out.new }
+    ensures shows { Shows (source_tree one.now) source status (S.written (sink_of out.old)) (pending out.old) (S.faults (sink_of out.old)) result (S.written (sink_of out.new)) (pending out.new) (S.faults (sink_of out.new)) }
 {
     match one {
         Source::Net(selection) => put_selection(selection, status, out),
@@ -213,8 +214,8 @@ fn put_source<S: Sink>(one: &Source, status: Put, out: &mut Pieces<'_, S>) -> Pu
 }
 
 fn put_connection<S: Sink>(one: &Connection, status: Put, out: &mut Pieces<'_, S>) -> Put
-    ensures same_sink { out.new.sink.ghost_name ≡ out.old.sink.ghost_name }
-    ensures shows { Shows (connection_tree one.now) connection status (S.written out.old.sink.now) (take out.old.len out.old.buffer) (S.faults out.old.sink.now) result (S.written out.new.sink.now) (take out.new.len out.new.buffer) (S.faults out.new.sink.now) }
+    ensures same_sink { HaveSameSink out.old out.new }
+    ensures shows { Shows (connection_tree one.now) connection status (S.written (sink_of out.old)) (pending out.old) (S.faults (sink_of out.old)) result (S.written (sink_of out.new)) (pending out.new) (S.faults (sink_of out.new)) }
 {
     let named = put_selection(&one.pin, status, out);
     let joined = put_symbol(b'=', named, out);
@@ -222,16 +223,16 @@ fn put_connection<S: Sink>(one: &Connection, status: Put, out: &mut Pieces<'_, S
 }
 
 fn put_next_connection<S: Sink>(one: &Connection, status: Put, out: &mut Pieces<'_, S>) -> Put
-    ensures same_sink { out.new.sink.ghost_name ≡ out.old.sink.ghost_name }
-    ensures shows { Shows (next_tree connection_tree one.now) (next_of connection) status (S.written out.old.sink.now) (take out.old.len out.old.buffer) (S.faults out.old.sink.now) result (S.written out.new.sink.now) (take out.new.len out.new.buffer) (S.faults out.new.sink.now) }
+    ensures same_sink { HaveSameSink out.old out.new }
+    ensures shows { Shows (next_tree connection_tree one.now) (next_of connection) status (S.written (sink_of out.old)) (pending out.old) (S.faults (sink_of out.old)) result (S.written (sink_of out.new)) (pending out.new) (S.faults (sink_of out.new)) }
 {
     let separated = put_symbol(b',', status, out);
     put_connection(one, separated, out)
 }
 
 fn put_more_connections<S: Sink>(all: &[Connection], status: Put, out: &mut Pieces<'_, S>) -> Put
-    ensures same_sink { out.new.sink.ghost_name ≡ out.old.sink.ghost_name }
-    ensures shows { Shows (listed (next_tree connection_tree) all.now NoMore) (repeat (next_of connection)) status (S.written out.old.sink.now) (take out.old.len out.old.buffer) (S.faults out.old.sink.now) result (S.written out.new.sink.now) (take out.new.len out.new.buffer) (S.faults out.new.sink.now) }
+    ensures same_sink { HaveSameSink out.old out.new }
+    ensures shows { Shows (listed (next_tree connection_tree) all.now NoMore) (repeat (next_of connection)) status (S.written (sink_of out.old)) (pending out.old) (S.faults (sink_of out.old)) result (S.written (sink_of out.new)) (pending out.new) (S.faults (sink_of out.new)) }
 {
     let mut status = status;
     for one in all {
@@ -241,8 +242,8 @@ fn put_more_connections<S: Sink>(all: &[Connection], status: Put, out: &mut Piec
 }
 
 fn put_connections<S: Sink>(all: &[Connection], status: Put, out: &mut Pieces<'_, S>) -> Put
-    ensures same_sink { out.new.sink.ghost_name ≡ out.old.sink.ghost_name }
-    ensures shows { Shows (connections_tree all.now) (row connection) status (S.written out.old.sink.now) (take out.old.len out.old.buffer) (S.faults out.old.sink.now) result (S.written out.new.sink.now) (take out.new.len out.new.buffer) (S.faults out.new.sink.now) }
+    ensures same_sink { HaveSameSink out.old out.new }
+    ensures shows { Shows (connections_tree all.now) (row connection) status (S.written (sink_of out.old)) (pending out.old) (S.faults (sink_of out.old)) result (S.written (sink_of out.new)) (pending out.new) (S.faults (sink_of out.new)) }
 {
     let Some((first, more)) = all.split_first() else {
         return status;
@@ -252,8 +253,8 @@ fn put_connections<S: Sink>(all: &[Connection], status: Put, out: &mut Pieces<'_
 }
 
 fn put_part<S: Sink>(one: &Part, status: Put, out: &mut Pieces<'_, S>) -> Put
-    ensures same_sink { out.new.sink.ghost_name ≡ out.old.sink.ghost_name }
-    ensures shows { Shows (part_tree one.now) part status (S.written out.old.sink.now) (take out.old.len out.old.buffer) (S.faults out.old.sink.now) result (S.written out.new.sink.now) (take out.new.len out.new.buffer) (S.faults out.new.sink.now) }
+    ensures same_sink { HaveSameSink out.old out.new }
+    ensures shows { Shows (part_tree one.now) part status (S.written (sink_of out.old)) (pending out.old) (S.faults (sink_of out.old)) result (S.written (sink_of out.new)) (pending out.new) (S.faults (sink_of out.new)) }
 {
     let named = put_name(&one.chip, status, out);
     let opened = put_symbol(b'(', named, out);
@@ -263,8 +264,8 @@ fn put_part<S: Sink>(one: &Part, status: Put, out: &mut Pieces<'_, S>) -> Put
 }
 
 fn put_all_parts<S: Sink>(all: &[Part], status: Put, out: &mut Pieces<'_, S>) -> Put
-    ensures same_sink { out.new.sink.ghost_name ≡ out.old.sink.ghost_name }
-    ensures shows { Shows (listed part_tree all.now NoMore) (repeat part) status (S.written out.old.sink.now) (take out.old.len out.old.buffer) (S.faults out.old.sink.now) result (S.written out.new.sink.now) (take out.new.len out.new.buffer) (S.faults out.new.sink.now) }
+    ensures same_sink { HaveSameSink out.old out.new }
+    ensures shows { Shows (listed part_tree all.now NoMore) (repeat part) status (S.written (sink_of out.old)) (pending out.old) (S.faults (sink_of out.old)) result (S.written (sink_of out.new)) (pending out.new) (S.faults (sink_of out.new)) }
 {
     let mut status = status;
     for one in all {
@@ -275,8 +276,8 @@ fn put_all_parts<S: Sink>(all: &[Part], status: Put, out: &mut Pieces<'_, S>) ->
 
 // `PARTS`, a colon and the parts.
 fn put_parts<S: Sink>(all: &[Part], status: Put, out: &mut Pieces<'_, S>) -> Put
-    ensures same_sink { out.new.sink.ghost_name ≡ out.old.sink.ghost_name }
-    ensures shows { Shows (parts_tree all.now) parts status (S.written out.old.sink.now) (take out.old.len out.old.buffer) (S.faults out.old.sink.now) result (S.written out.new.sink.now) (take out.new.len out.new.buffer) (S.faults out.new.sink.now) }
+    ensures same_sink { HaveSameSink out.old out.new }
+    ensures shows { Shows (parts_tree all.now) parts status (S.written (sink_of out.old)) (pending out.old) (S.faults (sink_of out.old)) result (S.written (sink_of out.new)) (pending out.new) (S.faults (sink_of out.new)) }
 {
     let begun = put_keyword(Keyword::Parts, status, out);
     let opened = put_symbol(b':', begun, out);
@@ -285,8 +286,8 @@ fn put_parts<S: Sink>(all: &[Part], status: Put, out: &mut Pieces<'_, S>) -> Put
 
 // `BUILTIN`, a name and the names that are clocked.
 fn put_builtin<S: Sink>(chip: &Name, clocked: &[Name], status: Put, out: &mut Pieces<'_, S>) -> Put
-    ensures same_sink { out.new.sink.ghost_name ≡ out.old.sink.ghost_name }
-    ensures shows { Shows (builtin_tree chip.now clocked.now) builtin status (S.written out.old.sink.now) (take out.old.len out.old.buffer) (S.faults out.old.sink.now) result (S.written out.new.sink.now) (take out.new.len out.new.buffer) (S.faults out.new.sink.now) }
+    ensures same_sink { HaveSameSink out.old out.new }
+    ensures shows { Shows (builtin_tree chip.now clocked.now) builtin status (S.written (sink_of out.old)) (pending out.old) (S.faults (sink_of out.old)) result (S.written (sink_of out.new)) (pending out.new) (S.faults (sink_of out.new)) }
 {
     let begun = put_keyword(Keyword::Builtin, status, out);
     let named = put_name(chip, begun, out);
@@ -295,8 +296,8 @@ fn put_builtin<S: Sink>(chip: &Name, clocked: &[Name], status: Put, out: &mut Pi
 }
 
 fn put_body<S: Sink>(one: &Body, status: Put, out: &mut Pieces<'_, S>) -> Put
-    ensures same_sink { out.new.sink.ghost_name ≡ out.old.sink.ghost_name }
-    ensures shows { Shows (body_tree one.now) body status (S.written out.old.sink.now) (take out.old.len out.old.buffer) (S.faults out.old.sink.now) result (S.written out.new.sink.now) (take out.new.len out.new.buffer) (S.faults out.new.sink.now) }
+    ensures same_sink { HaveSameSink out.old out.new }
+    ensures shows { Shows (body_tree one.now) body status (S.written (sink_of out.old)) (pending out.old) (S.faults (sink_of out.old)) result (S.written (sink_of out.new)) (pending out.new) (S.faults (sink_of out.new)) }
 {
     match one {
         Body::Parts(all) => put_parts(all.as_slice(), status, out),
@@ -305,8 +306,8 @@ fn put_body<S: Sink>(one: &Body, status: Put, out: &mut Pieces<'_, S>) -> Put
 }
 
 fn put_chip<S: Sink>(one: &Chip, status: Put, out: &mut Pieces<'_, S>) -> Put
-    ensures same_sink { out.new.sink.ghost_name ≡ out.old.sink.ghost_name }
-    ensures shows { Shows (chip_tree one.now) chip status (S.written out.old.sink.now) (take out.old.len out.old.buffer) (S.faults out.old.sink.now) result (S.written out.new.sink.now) (take out.new.len out.new.buffer) (S.faults out.new.sink.now) }
+    ensures same_sink { HaveSameSink out.old out.new }
+    ensures shows { Shows (chip_tree one.now) chip status (S.written (sink_of out.old)) (pending out.old) (S.faults (sink_of out.old)) result (S.written (sink_of out.new)) (pending out.new) (S.faults (sink_of out.new)) }
 {
     let begun = put_keyword(Keyword::Chip, status, out);
     let named = put_name(&one.name, begun, out);
@@ -319,10 +320,10 @@ fn put_chip<S: Sink>(one: &Chip, status: Put, out: &mut Pieces<'_, S>) -> Put
 
 // The same with an empty buffer before, and after.
 fn put_all<S: Sink>(chip: &Chip, out: &mut Pieces<'_, S>) -> Put
-    requires { take out.old.len out.old.buffer ≡ [] }
-    ensures same_sink { out.new.sink.ghost_name ≡ out.old.sink.ghost_name }
-    ensures put { Puts (S.written out.old.sink.now) (S.written out.new.sink.now) (chip_text chip.now) result }
-    ensures counts { CountsPut (S.faults out.old.sink.now) (S.faults out.new.sink.now) result }
+    requires { pending out.old ≡ [] }
+    ensures same_sink { HaveSameSink out.old out.new }
+    ensures put { Puts (S.written (sink_of out.old)) (S.written (sink_of out.new)) (chip_text chip.now) result }
+    ensures counts { CountsPut (S.faults (sink_of out.old)) (S.faults (sink_of out.new)) result }
 {
     match put_chip(chip, Put::Done, out) {
         Put::Done => out.finish(),

@@ -1,8 +1,9 @@
 //! The printed form of classes.
 
-ghost use Rattle.std.specs.Prelude.{◌≡◌, ◌++◌, ◌∷◌, ◌||◌, [], codes, take};
+ghost use Rattle.std.specs.Prelude.{◌≡◌, ◌++◌, ◌∷◌, ◌||◌, [], codes};
 ghost use Rattle.std.specs.Str.{bytes_eq};
 ghost use Rattle.grammar.specs.Rules.{name, NoMore, option, repeat, listed};
+ghost use Rattle.outer_world.specs.Held.{HaveSameSink, pending, sink_of};
 ghost use Rattle.outer_world.specs.Written.{CountsPut, Puts};
 ghost use Rattle.jack_tree.specs.Tokens.{keyword_text};
 ghost use Rattle.jack_parser.specs.declared.counts.Counted.{Counted};
@@ -34,8 +35,8 @@ fn ends_line(token: &[u8]) -> bool
 }
 
 fn put_token<S: Sink>(token: &[u8], status: Put, out: &mut Pieces<'_, S>) -> Put
-    ensures same_sink { out.new.sink.ghost_name ≡ out.old.sink.ghost_name }
-    ensures writes { Writes (set_off token.now) status (S.written out.old.sink.now) (take out.old.len out.old.buffer) (S.faults out.old.sink.now) result (S.written out.new.sink.now) (take out.new.len out.new.buffer) (S.faults out.new.sink.now) }
+    ensures same_sink { HaveSameSink out.old out.new }
+    ensures writes { Writes (set_off token.now) status (S.written (sink_of out.old)) (pending out.old) (S.faults (sink_of out.old)) result (S.written (sink_of out.new)) (pending out.new) (S.faults (sink_of out.new)) }
 {
     if status == Put::Failed {
         return Put::Failed;
@@ -48,8 +49,8 @@ fn put_token<S: Sink>(token: &[u8], status: Put, out: &mut Pieces<'_, S>) -> Put
 
 // A string in its quotes.
 fn put_string<S: Sink>(text: &[u8], status: Put, out: &mut Pieces<'_, S>) -> Put
-    ensures same_sink { out.new.sink.ghost_name ≡ out.old.sink.ghost_name }
-    ensures writes { Writes (set_off (34 ∷ (text.now ++ 34 ∷ []))) status (S.written out.old.sink.now) (take out.old.len out.old.buffer) (S.faults out.old.sink.now) result (S.written out.new.sink.now) (take out.new.len out.new.buffer) (S.faults out.new.sink.now) }
+    ensures same_sink { HaveSameSink out.old out.new }
+    ensures writes { Writes (set_off (34 ∷ (text.now ++ 34 ∷ []))) status (S.written (sink_of out.old)) (pending out.old) (S.faults (sink_of out.old)) result (S.written (sink_of out.new)) (pending out.new) (S.faults (sink_of out.new)) }
 {
     if status == Put::Failed {
         return Put::Failed;
@@ -58,29 +59,29 @@ fn put_string<S: Sink>(text: &[u8], status: Put, out: &mut Pieces<'_, S>) -> Put
 }
 
 fn put_symbol<S: Sink>(byte: u8, status: Put, out: &mut Pieces<'_, S>) -> Put
-    ensures same_sink { out.new.sink.ghost_name ≡ out.old.sink.ghost_name }
-    ensures writes { Writes (set_off (byte ∷ [])) status (S.written out.old.sink.now) (take out.old.len out.old.buffer) (S.faults out.old.sink.now) result (S.written out.new.sink.now) (take out.new.len out.new.buffer) (S.faults out.new.sink.now) }
+    ensures same_sink { HaveSameSink out.old out.new }
+    ensures writes { Writes (set_off (byte ∷ [])) status (S.written (sink_of out.old)) (pending out.old) (S.faults (sink_of out.old)) result (S.written (sink_of out.new)) (pending out.new) (S.faults (sink_of out.new)) }
 {
     put_token(&[byte], status, out)
 }
 
 fn put_keyword<S: Sink>(keyword: Keyword, status: Put, out: &mut Pieces<'_, S>) -> Put
-    ensures same_sink { out.new.sink.ghost_name ≡ out.old.sink.ghost_name }
-    ensures writes { Writes (set_off (keyword_text keyword)) status (S.written out.old.sink.now) (take out.old.len out.old.buffer) (S.faults out.old.sink.now) result (S.written out.new.sink.now) (take out.new.len out.new.buffer) (S.faults out.new.sink.now) }
+    ensures same_sink { HaveSameSink out.old out.new }
+    ensures writes { Writes (set_off (keyword_text keyword)) status (S.written (sink_of out.old)) (pending out.old) (S.faults (sink_of out.old)) result (S.written (sink_of out.new)) (pending out.new) (S.faults (sink_of out.new)) }
 {
     put_token(keyword.text().as_bytes(), status, out)
 }
 
 fn put_name<S: Sink>(name: &Name, status: Put, out: &mut Pieces<'_, S>) -> Put
-    ensures same_sink { out.new.sink.ghost_name ≡ out.old.sink.ghost_name }
-    ensures writes { Writes (set_off name.now.text) status (S.written out.old.sink.now) (take out.old.len out.old.buffer) (S.faults out.old.sink.now) result (S.written out.new.sink.now) (take out.new.len out.new.buffer) (S.faults out.new.sink.now) }
+    ensures same_sink { HaveSameSink out.old out.new }
+    ensures writes { Writes (set_off name.now.text) status (S.written (sink_of out.old)) (pending out.old) (S.faults (sink_of out.old)) result (S.written (sink_of out.new)) (pending out.new) (S.faults (sink_of out.new)) }
 {
     put_token(name.text.as_bytes(), status, out)
 }
 
 fn put_constant<S: Sink>(constant: &Constant, status: Put, out: &mut Pieces<'_, S>) -> Put
-    ensures same_sink { out.new.sink.ghost_name ≡ out.old.sink.ghost_name }
-    ensures writes { Writes (set_off (said_text (constant_leaf_said constant.now))) status (S.written out.old.sink.now) (take out.old.len out.old.buffer) (S.faults out.old.sink.now) result (S.written out.new.sink.now) (take out.new.len out.new.buffer) (S.faults out.new.sink.now) }
+    ensures same_sink { HaveSameSink out.old out.new }
+    ensures writes { Writes (set_off (said_text (constant_leaf_said constant.now))) status (S.written (sink_of out.old)) (pending out.old) (S.faults (sink_of out.old)) result (S.written (sink_of out.new)) (pending out.new) (S.faults (sink_of out.new)) }
 {
     match constant {
         Constant::Integer(number) => {
@@ -122,8 +123,8 @@ fn sign_byte(sign: Sign) -> u8
 
 #[cycle(printing)]
 fn put_expression<S: Sink>(value: &Expression, status: Put, out: &mut Pieces<'_, S>) -> Put
-    ensures same_sink { out.new.sink.ghost_name ≡ out.old.sink.ghost_name }
-    ensures shows { Shows (exp_tree value.now) (name expression) status (S.written out.old.sink.now) (take out.old.len out.old.buffer) (S.faults out.old.sink.now) result (S.written out.new.sink.now) (take out.new.len out.new.buffer) (S.faults out.new.sink.now) }
+    ensures same_sink { HaveSameSink out.old out.new }
+    ensures shows { Shows (exp_tree value.now) (name expression) status (S.written (sink_of out.old)) (pending out.old) (S.faults (sink_of out.old)) result (S.written (sink_of out.new)) (pending out.new) (S.faults (sink_of out.new)) }
 {
     let begun = put_term(&value.first, status, out);
     put_operations(&value.rest, begun, out)
@@ -132,8 +133,8 @@ fn put_expression<S: Sink>(value: &Expression, status: Put, out: &mut Pieces<'_,
 // Operators with the terms that follow them.
 #[cycle(printing)]
 fn put_operations<S: Sink>(operations: &[Operation], status: Put, out: &mut Pieces<'_, S>) -> Put
-    ensures same_sink { out.new.sink.ghost_name ≡ out.old.sink.ghost_name }
-    ensures shows { Shows (operations_tree operations.now) (repeat operation) status (S.written out.old.sink.now) (take out.old.len out.old.buffer) (S.faults out.old.sink.now) result (S.written out.new.sink.now) (take out.new.len out.new.buffer) (S.faults out.new.sink.now) }
+    ensures same_sink { HaveSameSink out.old out.new }
+    ensures shows { Shows (operations_tree operations.now) (repeat operation) status (S.written (sink_of out.old)) (pending out.old) (S.faults (sink_of out.old)) result (S.written (sink_of out.new)) (pending out.new) (S.faults (sink_of out.new)) }
 {
     let mut status = status;
     for one in operations {
@@ -145,8 +146,8 @@ fn put_operations<S: Sink>(operations: &[Operation], status: Put, out: &mut Piec
 
 #[cycle(printing)]
 fn put_term<S: Sink>(one: &Term, status: Put, out: &mut Pieces<'_, S>) -> Put
-    ensures same_sink { out.new.sink.ghost_name ≡ out.old.sink.ghost_name }
-    ensures shows { Shows (term_tree one.now) (name term) status (S.written out.old.sink.now) (take out.old.len out.old.buffer) (S.faults out.old.sink.now) result (S.written out.new.sink.now) (take out.new.len out.new.buffer) (S.faults out.new.sink.now) }
+    ensures same_sink { HaveSameSink out.old out.new }
+    ensures shows { Shows (term_tree one.now) (name term) status (S.written (sink_of out.old)) (pending out.old) (S.faults (sink_of out.old)) result (S.written (sink_of out.new)) (pending out.new) (S.faults (sink_of out.new)) }
 {
     match one {
         Term::Constant(constant) => put_constant(constant, status, out),
@@ -175,8 +176,8 @@ fn put_term<S: Sink>(one: &Term, status: Put, out: &mut Pieces<'_, S>) -> Put
 
 // The name at the front of a call.
 fn put_front<S: Sink>(call: &Call, status: Put, out: &mut Pieces<'_, S>) -> Put
-    ensures same_sink { out.new.sink.ghost_name ≡ out.old.sink.ghost_name }
-    ensures writes { Writes (set_off (said_text (call_said call.now))) status (S.written out.old.sink.now) (take out.old.len out.old.buffer) (S.faults out.old.sink.now) result (S.written out.new.sink.now) (take out.new.len out.new.buffer) (S.faults out.new.sink.now) }
+    ensures same_sink { HaveSameSink out.old out.new }
+    ensures writes { Writes (set_off (said_text (call_said call.now))) status (S.written (sink_of out.old)) (pending out.old) (S.faults (sink_of out.old)) result (S.written (sink_of out.new)) (pending out.new) (S.faults (sink_of out.new)) }
 {
     match &call.object {
         None => put_name(&call.name, status, out),
@@ -187,8 +188,8 @@ fn put_front<S: Sink>(call: &Call, status: Put, out: &mut Pieces<'_, S>) -> Put
 // What follows that name.
 #[cycle(printing)]
 fn put_invoked<S: Sink>(call: &Call, status: Put, out: &mut Pieces<'_, S>) -> Put
-    ensures same_sink { out.new.sink.ghost_name ≡ out.old.sink.ghost_name }
-    ensures shows { Shows (invoked_tree call.now) invoked status (S.written out.old.sink.now) (take out.old.len out.old.buffer) (S.faults out.old.sink.now) result (S.written out.new.sink.now) (take out.new.len out.new.buffer) (S.faults out.new.sink.now) }
+    ensures same_sink { HaveSameSink out.old out.new }
+    ensures shows { Shows (invoked_tree call.now) invoked status (S.written (sink_of out.old)) (pending out.old) (S.faults (sink_of out.old)) result (S.written (sink_of out.new)) (pending out.new) (S.faults (sink_of out.new)) }
 {
     match &call.object {
         None => {
@@ -208,8 +209,8 @@ fn put_invoked<S: Sink>(call: &Call, status: Put, out: &mut Pieces<'_, S>) -> Pu
 
 #[cycle(printing)]
 fn put_arguments<S: Sink>(values: &[Expression], status: Put, out: &mut Pieces<'_, S>) -> Put
-    ensures same_sink { out.new.sink.ghost_name ≡ out.old.sink.ghost_name }
-    ensures shows { Shows (args_tree values.now) arguments status (S.written out.old.sink.now) (take out.old.len out.old.buffer) (S.faults out.old.sink.now) result (S.written out.new.sink.now) (take out.new.len out.new.buffer) (S.faults out.new.sink.now) }
+    ensures same_sink { HaveSameSink out.old out.new }
+    ensures shows { Shows (args_tree values.now) arguments status (S.written (sink_of out.old)) (pending out.old) (S.faults (sink_of out.old)) result (S.written (sink_of out.new)) (pending out.new) (S.faults (sink_of out.new)) }
 {
     let Some((first, rest)) = values.split_first() else {
         return status;
@@ -224,8 +225,8 @@ fn put_arguments<S: Sink>(values: &[Expression], status: Put, out: &mut Pieces<'
 
 // '(' expression ')'
 fn put_group<S: Sink>(value: &Expression, status: Put, out: &mut Pieces<'_, S>) -> Put
-    ensures same_sink { out.new.sink.ghost_name ≡ out.old.sink.ghost_name }
-    ensures shows { Shows (group_tree value.now) group status (S.written out.old.sink.now) (take out.old.len out.old.buffer) (S.faults out.old.sink.now) result (S.written out.new.sink.now) (take out.new.len out.new.buffer) (S.faults out.new.sink.now) }
+    ensures same_sink { HaveSameSink out.old out.new }
+    ensures shows { Shows (group_tree value.now) group status (S.written (sink_of out.old)) (pending out.old) (S.faults (sink_of out.old)) result (S.written (sink_of out.new)) (pending out.new) (S.faults (sink_of out.new)) }
 {
     let opened = put_symbol(b'(', status, out);
     let inside = put_expression(value, opened, out);
@@ -234,8 +235,8 @@ fn put_group<S: Sink>(value: &Expression, status: Put, out: &mut Pieces<'_, S>) 
 
 // '[' expression ']'
 fn put_subscript<S: Sink>(value: &Expression, status: Put, out: &mut Pieces<'_, S>) -> Put
-    ensures same_sink { out.new.sink.ghost_name ≡ out.old.sink.ghost_name }
-    ensures shows { Shows (group_tree value.now) subscript status (S.written out.old.sink.now) (take out.old.len out.old.buffer) (S.faults out.old.sink.now) result (S.written out.new.sink.now) (take out.new.len out.new.buffer) (S.faults out.new.sink.now) }
+    ensures same_sink { HaveSameSink out.old out.new }
+    ensures shows { Shows (group_tree value.now) subscript status (S.written (sink_of out.old)) (pending out.old) (S.faults (sink_of out.old)) result (S.written (sink_of out.new)) (pending out.new) (S.faults (sink_of out.new)) }
 {
     let opened = put_symbol(b'[', status, out);
     let inside = put_expression(value, opened, out);
@@ -244,8 +245,8 @@ fn put_subscript<S: Sink>(value: &Expression, status: Put, out: &mut Pieces<'_, 
 
 // The index of an element, where one is written.
 fn put_index<S: Sink>(index: &Option<Expression>, status: Put, out: &mut Pieces<'_, S>) -> Put
-    ensures same_sink { out.new.sink.ghost_name ≡ out.old.sink.ghost_name }
-    ensures shows { Shows (index_tree index.now) (option subscript) status (S.written out.old.sink.now) (take out.old.len out.old.buffer) (S.faults out.old.sink.now) result (S.written out.new.sink.now) (take out.new.len out.new.buffer) (S.faults out.new.sink.now) }
+    ensures same_sink { HaveSameSink out.old out.new }
+    ensures shows { Shows (index_tree index.now) (option subscript) status (S.written (sink_of out.old)) (pending out.old) (S.faults (sink_of out.old)) result (S.written (sink_of out.new)) (pending out.new) (S.faults (sink_of out.new)) }
 {
     match index {
         None => status,
@@ -255,8 +256,8 @@ fn put_index<S: Sink>(index: &Option<Expression>, status: Put, out: &mut Pieces<
 
 // The value that is returned, where one is written.
 fn put_value<S: Sink>(value: &Option<Expression>, status: Put, out: &mut Pieces<'_, S>) -> Put
-    ensures same_sink { out.new.sink.ghost_name ≡ out.old.sink.ghost_name }
-    ensures shows { Shows (value_tree value.now) (option (name expression)) status (S.written out.old.sink.now) (take out.old.len out.old.buffer) (S.faults out.old.sink.now) result (S.written out.new.sink.now) (take out.new.len out.new.buffer) (S.faults out.new.sink.now) }
+    ensures same_sink { HaveSameSink out.old out.new }
+    ensures shows { Shows (value_tree value.now) (option (name expression)) status (S.written (sink_of out.old)) (pending out.old) (S.faults (sink_of out.old)) result (S.written (sink_of out.new)) (pending out.new) (S.faults (sink_of out.new)) }
 {
     match value {
         None => status,
@@ -266,8 +267,8 @@ fn put_value<S: Sink>(value: &Option<Expression>, status: Put, out: &mut Pieces<
 
 #[cycle(printing_statements)]
 fn put_statement<S: Sink>(one: &Statement, status: Put, out: &mut Pieces<'_, S>) -> Put
-    ensures same_sink { out.new.sink.ghost_name ≡ out.old.sink.ghost_name }
-    ensures shows { Shows (statement_tree one.now) (name statement) status (S.written out.old.sink.now) (take out.old.len out.old.buffer) (S.faults out.old.sink.now) result (S.written out.new.sink.now) (take out.new.len out.new.buffer) (S.faults out.new.sink.now) }
+    ensures same_sink { HaveSameSink out.old out.new }
+    ensures shows { Shows (statement_tree one.now) (name statement) status (S.written (sink_of out.old)) (pending out.old) (S.faults (sink_of out.old)) result (S.written (sink_of out.new)) (pending out.new) (S.faults (sink_of out.new)) }
 {
     match one {
         Statement::Let(_, name, index, value) => {
@@ -317,8 +318,8 @@ fn put_statement<S: Sink>(one: &Statement, status: Put, out: &mut Pieces<'_, S>)
 
 #[cycle(printing_statements)]
 fn put_statements<S: Sink>(statements: &[Statement], status: Put, out: &mut Pieces<'_, S>) -> Put
-    ensures same_sink { out.new.sink.ghost_name ≡ out.old.sink.ghost_name }
-    ensures shows { Shows (statements_tree statements.now) (repeat (name statement)) status (S.written out.old.sink.now) (take out.old.len out.old.buffer) (S.faults out.old.sink.now) result (S.written out.new.sink.now) (take out.new.len out.new.buffer) (S.faults out.new.sink.now) }
+    ensures same_sink { HaveSameSink out.old out.new }
+    ensures shows { Shows (statements_tree statements.now) (repeat (name statement)) status (S.written (sink_of out.old)) (pending out.old) (S.faults (sink_of out.old)) result (S.written (sink_of out.new)) (pending out.new) (S.faults (sink_of out.new)) }
 {
     let mut status = status;
     for one in statements {
@@ -328,8 +329,8 @@ fn put_statements<S: Sink>(statements: &[Statement], status: Put, out: &mut Piec
 }
 
 fn put_type<S: Sink>(kind: &Type, status: Put, out: &mut Pieces<'_, S>) -> Put
-    ensures same_sink { out.new.sink.ghost_name ≡ out.old.sink.ghost_name }
-    ensures writes { Writes (set_off (said_text (type_leaf_said kind.now))) status (S.written out.old.sink.now) (take out.old.len out.old.buffer) (S.faults out.old.sink.now) result (S.written out.new.sink.now) (take out.new.len out.new.buffer) (S.faults out.new.sink.now) }
+    ensures same_sink { HaveSameSink out.old out.new }
+    ensures writes { Writes (set_off (said_text (type_leaf_said kind.now))) status (S.written (sink_of out.old)) (pending out.old) (S.faults (sink_of out.old)) result (S.written (sink_of out.new)) (pending out.new) (S.faults (sink_of out.new)) }
 {
     match kind {
         Type::Int => put_keyword(Keyword::Int, status, out),
@@ -340,8 +341,8 @@ fn put_type<S: Sink>(kind: &Type, status: Put, out: &mut Pieces<'_, S>) -> Put
 }
 
 fn put_result<S: Sink>(of: &Option<Type>, status: Put, out: &mut Pieces<'_, S>) -> Put
-    ensures same_sink { out.new.sink.ghost_name ≡ out.old.sink.ghost_name }
-    ensures writes { Writes (set_off (said_text (result_said of.now))) status (S.written out.old.sink.now) (take out.old.len out.old.buffer) (S.faults out.old.sink.now) result (S.written out.new.sink.now) (take out.new.len out.new.buffer) (S.faults out.new.sink.now) }
+    ensures same_sink { HaveSameSink out.old out.new }
+    ensures writes { Writes (set_off (said_text (result_said of.now))) status (S.written (sink_of out.old)) (pending out.old) (S.faults (sink_of out.old)) result (S.written (sink_of out.new)) (pending out.new) (S.faults (sink_of out.new)) }
 {
     match of {
         None => put_keyword(Keyword::Void, status, out),
@@ -350,8 +351,8 @@ fn put_result<S: Sink>(of: &Option<Type>, status: Put, out: &mut Pieces<'_, S>) 
 }
 
 fn put_form<S: Sink>(form: Form, status: Put, out: &mut Pieces<'_, S>) -> Put
-    ensures same_sink { out.new.sink.ghost_name ≡ out.old.sink.ghost_name }
-    ensures writes { Writes (set_off (said_text (form_said form))) status (S.written out.old.sink.now) (take out.old.len out.old.buffer) (S.faults out.old.sink.now) result (S.written out.new.sink.now) (take out.new.len out.new.buffer) (S.faults out.new.sink.now) }
+    ensures same_sink { HaveSameSink out.old out.new }
+    ensures writes { Writes (set_off (said_text (form_said form))) status (S.written (sink_of out.old)) (pending out.old) (S.faults (sink_of out.old)) result (S.written (sink_of out.new)) (pending out.new) (S.faults (sink_of out.new)) }
 {
     match form {
         Form::Constructor => put_keyword(Keyword::Constructor, status, out),
@@ -362,16 +363,16 @@ fn put_form<S: Sink>(form: Form, status: Put, out: &mut Pieces<'_, S>) -> Put
 
 // , name
 fn put_next_name<S: Sink>(name: &Name, status: Put, out: &mut Pieces<'_, S>) -> Put
-    ensures same_sink { out.new.sink.ghost_name ≡ out.old.sink.ghost_name }
-    ensures shows { (x : Counted) → Shows (next_name_tree name.now) (next_name x) status (S.written out.old.sink.now) (take out.old.len out.old.buffer) (S.faults out.old.sink.now) result (S.written out.new.sink.now) (take out.new.len out.new.buffer) (S.faults out.new.sink.now) }
+    ensures same_sink { HaveSameSink out.old out.new }
+    ensures shows { (x : Counted) → Shows (next_name_tree name.now) (next_name x) status (S.written (sink_of out.old)) (pending out.old) (S.faults (sink_of out.old)) result (S.written (sink_of out.new)) (pending out.new) (S.faults (sink_of out.new)) }
 {
     let separated = put_symbol(b',', status, out);
     put_name(name, separated, out)
 }
 
 fn put_more_names<S: Sink>(names: &[Name], status: Put, out: &mut Pieces<'_, S>) -> Put
-    ensures same_sink { out.new.sink.ghost_name ≡ out.old.sink.ghost_name }
-    ensures shows { (x : Counted) → Shows (listed next_name_tree names.now NoMore) (repeat (next_name x)) status (S.written out.old.sink.now) (take out.old.len out.old.buffer) (S.faults out.old.sink.now) result (S.written out.new.sink.now) (take out.new.len out.new.buffer) (S.faults out.new.sink.now) }
+    ensures same_sink { HaveSameSink out.old out.new }
+    ensures shows { (x : Counted) → Shows (listed next_name_tree names.now NoMore) (repeat (next_name x)) status (S.written (sink_of out.old)) (pending out.old) (S.faults (sink_of out.old)) result (S.written (sink_of out.new)) (pending out.new) (S.faults (sink_of out.new)) }
 {
     let mut status = status;
     for one in names {
@@ -381,8 +382,8 @@ fn put_more_names<S: Sink>(names: &[Name], status: Put, out: &mut Pieces<'_, S>)
 }
 
 fn put_names<S: Sink>(names: &Names, status: Put, out: &mut Pieces<'_, S>) -> Put
-    ensures same_sink { out.new.sink.ghost_name ≡ out.old.sink.ghost_name }
-    ensures shows { (x : Counted) → Shows (names_tree names.now) (names_rule x) status (S.written out.old.sink.now) (take out.old.len out.old.buffer) (S.faults out.old.sink.now) result (S.written out.new.sink.now) (take out.new.len out.new.buffer) (S.faults out.new.sink.now) }
+    ensures same_sink { HaveSameSink out.old out.new }
+    ensures shows { (x : Counted) → Shows (names_tree names.now) (names_rule x) status (S.written (sink_of out.old)) (pending out.old) (S.faults (sink_of out.old)) result (S.written (sink_of out.new)) (pending out.new) (S.faults (sink_of out.new)) }
 {
     let begun = put_name(&names.first, status, out);
     put_more_names(&names.more, begun, out)
@@ -396,8 +397,8 @@ fn put_declaration<S: Sink>(
     status: Put,
     out: &mut Pieces<'_, S>,
 ) -> Put
-    ensures same_sink { out.new.sink.ghost_name ≡ out.old.sink.ghost_name }
-    ensures shows { (x : Counted) → Shows (declared_tree kind.now names.now) (declaration word x) status (S.written out.old.sink.now) (take out.old.len out.old.buffer) (S.faults out.old.sink.now) result (S.written out.new.sink.now) (take out.new.len out.new.buffer) (S.faults out.new.sink.now) }
+    ensures same_sink { HaveSameSink out.old out.new }
+    ensures shows { (x : Counted) → Shows (declared_tree kind.now names.now) (declaration word x) status (S.written (sink_of out.old)) (pending out.old) (S.faults (sink_of out.old)) result (S.written (sink_of out.new)) (pending out.new) (S.faults (sink_of out.new)) }
 {
     let begun = put_keyword(word, status, out);
     let typed = put_type(kind, begun, out);
@@ -406,8 +407,8 @@ fn put_declaration<S: Sink>(
 }
 
 fn put_variables<S: Sink>(variables: &ClassVariables, status: Put, out: &mut Pieces<'_, S>) -> Put
-    ensures same_sink { out.new.sink.ghost_name ≡ out.old.sink.ghost_name }
-    ensures shows { Shows (variables_tree variables.now) class_variables status (S.written out.old.sink.now) (take out.old.len out.old.buffer) (S.faults out.old.sink.now) result (S.written out.new.sink.now) (take out.new.len out.new.buffer) (S.faults out.new.sink.now) }
+    ensures same_sink { HaveSameSink out.old out.new }
+    ensures shows { Shows (variables_tree variables.now) class_variables status (S.written (sink_of out.old)) (pending out.old) (S.faults (sink_of out.old)) result (S.written (sink_of out.new)) (pending out.new) (S.faults (sink_of out.new)) }
 {
     let (kind, names) = (&variables.kind, &variables.names);
     match variables.scope {
@@ -417,8 +418,8 @@ fn put_variables<S: Sink>(variables: &ClassVariables, status: Put, out: &mut Pie
 }
 
 fn put_all_variables<S: Sink>(all: &[ClassVariables], status: Put, out: &mut Pieces<'_, S>) -> Put
-    ensures same_sink { out.new.sink.ghost_name ≡ out.old.sink.ghost_name }
-    ensures shows { Shows (listed variables_tree all.now NoMore) (repeat class_variables) status (S.written out.old.sink.now) (take out.old.len out.old.buffer) (S.faults out.old.sink.now) result (S.written out.new.sink.now) (take out.new.len out.new.buffer) (S.faults out.new.sink.now) }
+    ensures same_sink { HaveSameSink out.old out.new }
+    ensures shows { Shows (listed variables_tree all.now NoMore) (repeat class_variables) status (S.written (sink_of out.old)) (pending out.old) (S.faults (sink_of out.old)) result (S.written (sink_of out.new)) (pending out.new) (S.faults (sink_of out.new)) }
 {
     let mut status = status;
     for one in all {
@@ -428,15 +429,15 @@ fn put_all_variables<S: Sink>(all: &[ClassVariables], status: Put, out: &mut Pie
 }
 
 fn put_locals<S: Sink>(locals: &Locals, status: Put, out: &mut Pieces<'_, S>) -> Put
-    ensures same_sink { out.new.sink.ghost_name ≡ out.old.sink.ghost_name }
-    ensures shows { Shows (locals_tree locals.now) locals_rule status (S.written out.old.sink.now) (take out.old.len out.old.buffer) (S.faults out.old.sink.now) result (S.written out.new.sink.now) (take out.new.len out.new.buffer) (S.faults out.new.sink.now) }
+    ensures same_sink { HaveSameSink out.old out.new }
+    ensures shows { Shows (locals_tree locals.now) locals_rule status (S.written (sink_of out.old)) (pending out.old) (S.faults (sink_of out.old)) result (S.written (sink_of out.new)) (pending out.new) (S.faults (sink_of out.new)) }
 {
     put_declaration(Keyword::Var, &locals.kind, &locals.names, status, out)
 }
 
 fn put_all_locals<S: Sink>(all: &[Locals], status: Put, out: &mut Pieces<'_, S>) -> Put
-    ensures same_sink { out.new.sink.ghost_name ≡ out.old.sink.ghost_name }
-    ensures shows { Shows (listed locals_tree all.now NoMore) (repeat locals_rule) status (S.written out.old.sink.now) (take out.old.len out.old.buffer) (S.faults out.old.sink.now) result (S.written out.new.sink.now) (take out.new.len out.new.buffer) (S.faults out.new.sink.now) }
+    ensures same_sink { HaveSameSink out.old out.new }
+    ensures shows { Shows (listed locals_tree all.now NoMore) (repeat locals_rule) status (S.written (sink_of out.old)) (pending out.old) (S.faults (sink_of out.old)) result (S.written (sink_of out.new)) (pending out.new) (S.faults (sink_of out.new)) }
 {
     let mut status = status;
     for one in all {
@@ -446,8 +447,8 @@ fn put_all_locals<S: Sink>(all: &[Locals], status: Put, out: &mut Pieces<'_, S>)
 }
 
 fn put_parameter<S: Sink>(one: &Parameter, status: Put, out: &mut Pieces<'_, S>) -> Put
-    ensures same_sink { out.new.sink.ghost_name ≡ out.old.sink.ghost_name }
-    ensures shows { Shows (parameter_tree one.now) parameter status (S.written out.old.sink.now) (take out.old.len out.old.buffer) (S.faults out.old.sink.now) result (S.written out.new.sink.now) (take out.new.len out.new.buffer) (S.faults out.new.sink.now) }
+    ensures same_sink { HaveSameSink out.old out.new }
+    ensures shows { Shows (parameter_tree one.now) parameter status (S.written (sink_of out.old)) (pending out.old) (S.faults (sink_of out.old)) result (S.written (sink_of out.new)) (pending out.new) (S.faults (sink_of out.new)) }
 {
     let typed = put_type(&one.kind, status, out);
     put_name(&one.name, typed, out)
@@ -455,16 +456,16 @@ fn put_parameter<S: Sink>(one: &Parameter, status: Put, out: &mut Pieces<'_, S>)
 
 // , type name
 fn put_next_parameter<S: Sink>(one: &Parameter, status: Put, out: &mut Pieces<'_, S>) -> Put
-    ensures same_sink { out.new.sink.ghost_name ≡ out.old.sink.ghost_name }
-    ensures shows { Shows (next_parameter_tree one.now) next_parameter status (S.written out.old.sink.now) (take out.old.len out.old.buffer) (S.faults out.old.sink.now) result (S.written out.new.sink.now) (take out.new.len out.new.buffer) (S.faults out.new.sink.now) }
+    ensures same_sink { HaveSameSink out.old out.new }
+    ensures shows { Shows (next_parameter_tree one.now) next_parameter status (S.written (sink_of out.old)) (pending out.old) (S.faults (sink_of out.old)) result (S.written (sink_of out.new)) (pending out.new) (S.faults (sink_of out.new)) }
 {
     let separated = put_symbol(b',', status, out);
     put_parameter(one, separated, out)
 }
 
 fn put_more_parameters<S: Sink>(all: &[Parameter], status: Put, out: &mut Pieces<'_, S>) -> Put
-    ensures same_sink { out.new.sink.ghost_name ≡ out.old.sink.ghost_name }
-    ensures shows { Shows (listed next_parameter_tree all.now NoMore) (repeat next_parameter) status (S.written out.old.sink.now) (take out.old.len out.old.buffer) (S.faults out.old.sink.now) result (S.written out.new.sink.now) (take out.new.len out.new.buffer) (S.faults out.new.sink.now) }
+    ensures same_sink { HaveSameSink out.old out.new }
+    ensures shows { Shows (listed next_parameter_tree all.now NoMore) (repeat next_parameter) status (S.written (sink_of out.old)) (pending out.old) (S.faults (sink_of out.old)) result (S.written (sink_of out.new)) (pending out.new) (S.faults (sink_of out.new)) }
 {
     let mut status = status;
     for one in all {
@@ -474,8 +475,8 @@ fn put_more_parameters<S: Sink>(all: &[Parameter], status: Put, out: &mut Pieces
 }
 
 fn put_parameters<S: Sink>(all: &[Parameter], status: Put, out: &mut Pieces<'_, S>) -> Put
-    ensures same_sink { out.new.sink.ghost_name ≡ out.old.sink.ghost_name }
-    ensures shows { Shows (parameters_tree all.now) parameters status (S.written out.old.sink.now) (take out.old.len out.old.buffer) (S.faults out.old.sink.now) result (S.written out.new.sink.now) (take out.new.len out.new.buffer) (S.faults out.new.sink.now) }
+    ensures same_sink { HaveSameSink out.old out.new }
+    ensures shows { Shows (parameters_tree all.now) parameters status (S.written (sink_of out.old)) (pending out.old) (S.faults (sink_of out.old)) result (S.written (sink_of out.new)) (pending out.new) (S.faults (sink_of out.new)) }
 {
     let Some((first, more)) = all.split_first() else {
         return status;
@@ -485,8 +486,8 @@ fn put_parameters<S: Sink>(all: &[Parameter], status: Put, out: &mut Pieces<'_, 
 }
 
 fn put_subroutine<S: Sink>(one: &Subroutine, status: Put, out: &mut Pieces<'_, S>) -> Put
-    ensures same_sink { out.new.sink.ghost_name ≡ out.old.sink.ghost_name }
-    ensures shows { Shows (subroutine_tree one.now) subroutine status (S.written out.old.sink.now) (take out.old.len out.old.buffer) (S.faults out.old.sink.now) result (S.written out.new.sink.now) (take out.new.len out.new.buffer) (S.faults out.new.sink.now) }
+    ensures same_sink { HaveSameSink out.old out.new }
+    ensures shows { Shows (subroutine_tree one.now) subroutine status (S.written (sink_of out.old)) (pending out.old) (S.faults (sink_of out.old)) result (S.written (sink_of out.new)) (pending out.new) (S.faults (sink_of out.new)) }
 {
     let formed = put_form(one.form, status, out);
     let typed = put_result(&one.result, formed, out);
@@ -501,8 +502,8 @@ fn put_subroutine<S: Sink>(one: &Subroutine, status: Put, out: &mut Pieces<'_, S
 }
 
 fn put_subroutines<S: Sink>(all: &[Subroutine], status: Put, out: &mut Pieces<'_, S>) -> Put
-    ensures same_sink { out.new.sink.ghost_name ≡ out.old.sink.ghost_name }
-    ensures shows { Shows (listed subroutine_tree all.now NoMore) (repeat subroutine) status (S.written out.old.sink.now) (take out.old.len out.old.buffer) (S.faults out.old.sink.now) result (S.written out.new.sink.now) (take out.new.len out.new.buffer) (S.faults out.new.sink.now) }
+    ensures same_sink { HaveSameSink out.old out.new }
+    ensures shows { Shows (listed subroutine_tree all.now NoMore) (repeat subroutine) status (S.written (sink_of out.old)) (pending out.old) (S.faults (sink_of out.old)) result (S.written (sink_of out.new)) (pending out.new) (S.faults (sink_of out.new)) }
 {
     let mut status = status;
     for one in all {
@@ -512,8 +513,8 @@ fn put_subroutines<S: Sink>(all: &[Subroutine], status: Put, out: &mut Pieces<'_
 }
 
 fn put_class<S: Sink>(class: &Class, status: Put, out: &mut Pieces<'_, S>) -> Put
-    ensures same_sink { out.new.sink.ghost_name ≡ out.old.sink.ghost_name }
-    ensures shows { Shows (class_tree class.now) class_rule status (S.written out.old.sink.now) (take out.old.len out.old.buffer) (S.faults out.old.sink.now) result (S.written out.new.sink.now) (take out.new.len out.new.buffer) (S.faults out.new.sink.now) }
+    ensures same_sink { HaveSameSink out.old out.new }
+    ensures shows { Shows (class_tree class.now) class_rule status (S.written (sink_of out.old)) (pending out.old) (S.faults (sink_of out.old)) result (S.written (sink_of out.new)) (pending out.new) (S.faults (sink_of out.new)) }
 {
     let begun = put_keyword(Keyword::Class, status, out);
     let named = put_name(&class.name, begun, out);
@@ -525,10 +526,10 @@ fn put_class<S: Sink>(class: &Class, status: Put, out: &mut Pieces<'_, S>) -> Pu
 
 // The same with an empty buffer before, and after.
 fn put_all<S: Sink>(class: &Class, out: &mut Pieces<'_, S>) -> Put
-    requires { take out.old.len out.old.buffer ≡ [] }
-    ensures same_sink { out.new.sink.ghost_name ≡ out.old.sink.ghost_name }
-    ensures put { Puts (S.written out.old.sink.now) (S.written out.new.sink.now) (class_text class.now) result }
-    ensures counts { CountsPut (S.faults out.old.sink.now) (S.faults out.new.sink.now) result }
+    requires { pending out.old ≡ [] }
+    ensures same_sink { HaveSameSink out.old out.new }
+    ensures put { Puts (S.written (sink_of out.old)) (S.written (sink_of out.new)) (class_text class.now) result }
+    ensures counts { CountsPut (S.faults (sink_of out.old)) (S.faults (sink_of out.new)) result }
 {
     match put_class(class, Put::Done, out) {
         Put::Done => out.finish(),

@@ -1,6 +1,7 @@
 //! The report of a run.
-ghost use Rattle.std.specs.Prelude.{◌≡◌, ◌+◌, ◌-◌, ◌<◌, ◌≤◌, ◌++◌, ◌∷◌, [], ℕ, take, decimal, codes};
+ghost use Rattle.std.specs.Prelude.{◌≡◌, ◌+◌, ◌-◌, ◌<◌, ◌≤◌, ◌++◌, ◌∷◌, [], ℕ, decimal, codes};
 ghost use Rattle.word16.specs.Memory.{heap, keyboard};
+ghost use Rattle.outer_world.specs.Held.{HaveSameSink, pending, sink_of};
 ghost use Rattle.outer_world.specs.Written.{CountsPut, Passes, Puts};
 ghost use Rattle.machine_io.specs.Words.{IsCallable, Gives};
 ghost use Rattle.machine_io.specs.Report.{level_name, end_text, said, counts_text, head_text, shown_text, report_text};
@@ -58,35 +59,35 @@ impl LevelName {
 
 // A line of a word, a space and what is said of it.
 fn put_said<S: Sink>(word: &[u8], text: &[u8], out: &mut Pieces<'_, S>) -> Put
-    ensures same_sink { out.new.sink.ghost_name ≡ out.old.sink.ghost_name }
-    ensures passes { Passes (S.written out.old.sink.now) (take out.old.len out.old.buffer) (S.written out.new.sink.now) (take out.new.len out.new.buffer) (said word.now text.now) result }
-    ensures counts { CountsPut (S.faults out.old.sink.now) (S.faults out.new.sink.now) result }
+    ensures same_sink { HaveSameSink out.old out.new }
+    ensures passes { Passes (S.written (sink_of out.old)) (pending out.old) (S.written (sink_of out.new)) (pending out.new) (said word.now text.now) result }
+    ensures counts { CountsPut (S.faults (sink_of out.old)) (S.faults (sink_of out.new)) result }
 {
     out.put_all(&[word, b" ", text, b"\n"])
 }
 
 fn put_number<S: Sink>(word: &[u8], n: u64, out: &mut Pieces<'_, S>) -> Put
-    ensures same_sink { out.new.sink.ghost_name ≡ out.old.sink.ghost_name }
-    ensures passes { Passes (S.written out.old.sink.now) (take out.old.len out.old.buffer) (S.written out.new.sink.now) (take out.new.len out.new.buffer) (said word.now (decimal n)) result }
-    ensures counts { CountsPut (S.faults out.old.sink.now) (S.faults out.new.sink.now) result }
+    ensures same_sink { HaveSameSink out.old out.new }
+    ensures passes { Passes (S.written (sink_of out.old)) (pending out.old) (S.written (sink_of out.new)) (pending out.new) (said word.now (decimal n)) result }
+    ensures counts { CountsPut (S.faults (sink_of out.old)) (S.faults (sink_of out.new)) result }
 {
     let mut buffer = Buffer::new();
     put_said(word, buffer.format(n).as_bytes(), out)
 }
 
 fn put_level<S: Sink>(level: LevelName, out: &mut Pieces<'_, S>) -> Put
-    ensures same_sink { out.new.sink.ghost_name ≡ out.old.sink.ghost_name }
-    ensures passes { Passes (S.written out.old.sink.now) (take out.old.len out.old.buffer) (S.written out.new.sink.now) (take out.new.len out.new.buffer) (said (codes "level") (level_name level)) result }
-    ensures counts { CountsPut (S.faults out.old.sink.now) (S.faults out.new.sink.now) result }
+    ensures same_sink { HaveSameSink out.old out.new }
+    ensures passes { Passes (S.written (sink_of out.old)) (pending out.old) (S.written (sink_of out.new)) (pending out.new) (said (codes "level") (level_name level)) result }
+    ensures counts { CountsPut (S.faults (sink_of out.old)) (S.faults (sink_of out.new)) result }
 {
     put_said(b"level", level.name().as_bytes(), out)
 }
 
 // The lines of the level and the counts.
 fn put_counts<S: Sink>(level: LevelName, moves: u64, steps: u64, out: &mut Pieces<'_, S>) -> Put
-    ensures same_sink { out.new.sink.ghost_name ≡ out.old.sink.ghost_name }
-    ensures passes { Passes (S.written out.old.sink.now) (take out.old.len out.old.buffer) (S.written out.new.sink.now) (take out.new.len out.new.buffer) (counts_text level moves steps) result }
-    ensures counts { CountsPut (S.faults out.old.sink.now) (S.faults out.new.sink.now) result }
+    ensures same_sink { HaveSameSink out.old out.new }
+    ensures passes { Passes (S.written (sink_of out.old)) (pending out.old) (S.written (sink_of out.new)) (pending out.new) (counts_text level moves steps) result }
+    ensures counts { CountsPut (S.faults (sink_of out.old)) (S.faults (sink_of out.new)) result }
 {
     match put_level(level, out) {
         Put::Done => {}
@@ -101,9 +102,9 @@ fn put_counts<S: Sink>(level: LevelName, moves: u64, steps: u64, out: &mut Piece
 
 // The line of the control point.
 fn put_point<S: Sink>(subroutine: &str, statement: u32, out: &mut Pieces<'_, S>) -> Put
-    ensures same_sink { out.new.sink.ghost_name ≡ out.old.sink.ghost_name }
-    ensures passes { Passes (S.written out.old.sink.now) (take out.old.len out.old.buffer) (S.written out.new.sink.now) (take out.new.len out.new.buffer) (said (codes "point") (subroutine.now ++ 32 ∷ decimal statement)) result }
-    ensures counts { CountsPut (S.faults out.old.sink.now) (S.faults out.new.sink.now) result }
+    ensures same_sink { HaveSameSink out.old out.new }
+    ensures passes { Passes (S.written (sink_of out.old)) (pending out.old) (S.written (sink_of out.new)) (pending out.new) (said (codes "point") (subroutine.now ++ 32 ∷ decimal statement)) result }
+    ensures counts { CountsPut (S.faults (sink_of out.old)) (S.faults (sink_of out.new)) result }
 {
     let mut buffer = Buffer::new();
     let statement = buffer.format(statement).as_bytes();
@@ -112,9 +113,9 @@ fn put_point<S: Sink>(subroutine: &str, statement: u32, out: &mut Pieces<'_, S>)
 
 // The line of the end.
 fn put_end<S: Sink>(end: End, out: &mut Pieces<'_, S>) -> Put
-    ensures same_sink { out.new.sink.ghost_name ≡ out.old.sink.ghost_name }
-    ensures passes { Passes (S.written out.old.sink.now) (take out.old.len out.old.buffer) (S.written out.new.sink.now) (take out.new.len out.new.buffer) (said (codes "end") (end_text end)) result }
-    ensures counts { CountsPut (S.faults out.old.sink.now) (S.faults out.new.sink.now) result }
+    ensures same_sink { HaveSameSink out.old out.new }
+    ensures passes { Passes (S.written (sink_of out.old)) (pending out.old) (S.written (sink_of out.new)) (pending out.new) (said (codes "end") (end_text end)) result }
+    ensures counts { CountsPut (S.faults (sink_of out.old)) (S.faults (sink_of out.new)) result }
 {
     match end {
         End::Bound => put_said(b"end", b"bound", out),
@@ -130,9 +131,9 @@ fn put_end<S: Sink>(end: End, out: &mut Pieces<'_, S>) -> Put
 
 /// Puts the five lines that each report begins with.
 pub fn put_head<S: Sink>(head: &Head<'_>, out: &mut Pieces<'_, S>) -> Put
-    ensures same_sink { out.new.sink.ghost_name ≡ out.old.sink.ghost_name }
-    ensures passes { Passes (S.written out.old.sink.now) (take out.old.len out.old.buffer) (S.written out.new.sink.now) (take out.new.len out.new.buffer) (head_text head.now.level head.now.moves head.now.steps head.now.subroutine.now head.now.statement head.now.end) result }
-    ensures counts { CountsPut (S.faults out.old.sink.now) (S.faults out.new.sink.now) result }
+    ensures same_sink { HaveSameSink out.old out.new }
+    ensures passes { Passes (S.written (sink_of out.old)) (pending out.old) (S.written (sink_of out.new)) (pending out.new) (head_text head.now.level head.now.moves head.now.steps head.now.subroutine.now head.now.statement head.now.end) result }
+    ensures counts { CountsPut (S.faults (sink_of out.old)) (S.faults (sink_of out.new)) result }
 {
     match put_counts(head.level, head.moves, head.steps, out) {
         Put::Done => {}
@@ -148,9 +149,9 @@ pub fn put_head<S: Sink>(head: &Head<'_>, out: &mut Pieces<'_, S>) -> Put
 /// Puts what is shown of the words of heap and screen.
 pub fn put_shown<W: Fn(u16) -> u16, S: Sink>(show: Show, word: &W, out: &mut Pieces<'_, S>) -> Put
     requires { IsCallable (W.pre word.now) heap (keyboard - 1) }
-    ensures same_sink { out.new.sink.ghost_name ≡ out.old.sink.ghost_name }
-    ensures passes { (words : ℕ → ℕ) → Gives (W.post word.now) heap (keyboard - 1) words → Passes (S.written out.old.sink.now) (take out.old.len out.old.buffer) (S.written out.new.sink.now) (take out.new.len out.new.buffer) (shown_text show words) result }
-    ensures counts { CountsPut (S.faults out.old.sink.now) (S.faults out.new.sink.now) result }
+    ensures same_sink { HaveSameSink out.old out.new }
+    ensures passes { (words : ℕ → ℕ) → Gives (W.post word.now) heap (keyboard - 1) words → Passes (S.written (sink_of out.old)) (pending out.old) (S.written (sink_of out.new)) (pending out.new) (shown_text show words) result }
+    ensures counts { CountsPut (S.faults (sink_of out.old)) (S.faults (sink_of out.new)) result }
 {
     match show {
         Show::Nothing => Put::Done,
@@ -167,9 +168,9 @@ fn put_report<W: Fn(u16) -> u16, S: Sink>(
     out: &mut Pieces<'_, S>,
 ) -> Put
     requires { IsCallable (W.pre word.now) heap (keyboard - 1) }
-    ensures same_sink { out.new.sink.ghost_name ≡ out.old.sink.ghost_name }
-    ensures passes { (words : ℕ → ℕ) → Gives (W.post word.now) heap (keyboard - 1) words → Passes (S.written out.old.sink.now) (take out.old.len out.old.buffer) (S.written out.new.sink.now) (take out.new.len out.new.buffer) (report_text head.now.level head.now.moves head.now.steps head.now.subroutine.now head.now.statement head.now.end show words) result }
-    ensures counts { CountsPut (S.faults out.old.sink.now) (S.faults out.new.sink.now) result }
+    ensures same_sink { HaveSameSink out.old out.new }
+    ensures passes { (words : ℕ → ℕ) → Gives (W.post word.now) heap (keyboard - 1) words → Passes (S.written (sink_of out.old)) (pending out.old) (S.written (sink_of out.new)) (pending out.new) (report_text head.now.level head.now.moves head.now.steps head.now.subroutine.now head.now.statement head.now.end show words) result }
+    ensures counts { CountsPut (S.faults (sink_of out.old)) (S.faults (sink_of out.new)) result }
 {
     match put_head(head, out) {
         Put::Done => put_shown(show, word, out),
@@ -185,10 +186,10 @@ fn put_all<W: Fn(u16) -> u16, S: Sink>(
     out: &mut Pieces<'_, S>,
 ) -> Put
     requires callable { IsCallable (W.pre word.now) heap (keyboard - 1) }
-    requires empty { take out.old.len out.old.buffer ≡ [] }
-    ensures same_sink { out.new.sink.ghost_name ≡ out.old.sink.ghost_name }
-    ensures put { (words : ℕ → ℕ) → Gives (W.post word.now) heap (keyboard - 1) words → Puts (S.written out.old.sink.now) (S.written out.new.sink.now) (report_text head.now.level head.now.moves head.now.steps head.now.subroutine.now head.now.statement head.now.end show words) result }
-    ensures counts { CountsPut (S.faults out.old.sink.now) (S.faults out.new.sink.now) result }
+    requires empty { pending out.old ≡ [] }
+    ensures same_sink { HaveSameSink out.old out.new }
+    ensures put { (words : ℕ → ℕ) → Gives (W.post word.now) heap (keyboard - 1) words → Puts (S.written (sink_of out.old)) (S.written (sink_of out.new)) (report_text head.now.level head.now.moves head.now.steps head.now.subroutine.now head.now.statement head.now.end show words) result }
+    ensures counts { CountsPut (S.faults (sink_of out.old)) (S.faults (sink_of out.new)) result }
 {
     match put_report(head, show, word, out) {
         Put::Done => out.finish(),

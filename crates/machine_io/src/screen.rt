@@ -1,6 +1,7 @@
 //! The screen, as lines of characters.
-ghost use Rattle.std.specs.Prelude.{◌≡◌, ◌+◌, ◌-◌, ◌*◌, ◌<◌, ◌≤◌, ◌++◌, ◌∷◌, [], ℕ, take};
+ghost use Rattle.std.specs.Prelude.{◌≡◌, ◌+◌, ◌-◌, ◌*◌, ◌<◌, ◌≤◌, ◌++◌, ◌∷◌, [], ℕ};
 ghost use Rattle.word16.specs.Memory.{keyboard, screen};
+ghost use Rattle.outer_world.specs.Held.{HaveSameSink, pending, sink_of};
 ghost use Rattle.outer_world.specs.Written.{CountsPut, Passes, Puts};
 ghost use Rattle.machine_io.specs.Words.{IsCallable, Gives};
 ghost use Rattle.machine_io.specs.Screen.{shade, pixels_of, row_text, screen_text};
@@ -34,9 +35,9 @@ fn pixels(word: u16) -> [u8; 16]
 fn put_row<W: Fn(u16) -> u16, S: Sink>(word: &W, row: u16, out: &mut Pieces<'_, S>) -> Put
     requires callable { IsCallable (W.pre word.now) screen (keyboard - 1) }
     requires row { row < 256 }
-    ensures same_sink { out.new.sink.ghost_name ≡ out.old.sink.ghost_name }
-    ensures passes { (words : ℕ → ℕ) → Gives (W.post word.now) screen (keyboard - 1) words → Passes (S.written out.old.sink.now) (take out.old.len out.old.buffer) (S.written out.new.sink.now) (take out.new.len out.new.buffer) (row_text words row) result }
-    ensures counts { CountsPut (S.faults out.old.sink.now) (S.faults out.new.sink.now) result }
+    ensures same_sink { HaveSameSink out.old out.new }
+    ensures passes { (words : ℕ → ℕ) → Gives (W.post word.now) screen (keyboard - 1) words → Passes (S.written (sink_of out.old)) (pending out.old) (S.written (sink_of out.new)) (pending out.new) (row_text words row) result }
+    ensures counts { CountsPut (S.faults (sink_of out.old)) (S.faults (sink_of out.new)) result }
 {
     let start = SCREEN + WORDS_OF_ROW * row;
     for k in 0..WORDS_OF_ROW {
@@ -51,9 +52,9 @@ fn put_row<W: Fn(u16) -> u16, S: Sink>(word: &W, row: u16, out: &mut Pieces<'_, 
 /// Puts the screen as 256 lines of 512 characters, `#` for a pixel that is 1 and `.` for 0.
 pub fn put_screen<W: Fn(u16) -> u16, S: Sink>(word: &W, out: &mut Pieces<'_, S>) -> Put
     requires { IsCallable (W.pre word.now) screen (keyboard - 1) }
-    ensures same_sink { out.new.sink.ghost_name ≡ out.old.sink.ghost_name }
-    ensures passes { (words : ℕ → ℕ) → Gives (W.post word.now) screen (keyboard - 1) words → Passes (S.written out.old.sink.now) (take out.old.len out.old.buffer) (S.written out.new.sink.now) (take out.new.len out.new.buffer) (screen_text words) result }
-    ensures counts { CountsPut (S.faults out.old.sink.now) (S.faults out.new.sink.now) result }
+    ensures same_sink { HaveSameSink out.old out.new }
+    ensures passes { (words : ℕ → ℕ) → Gives (W.post word.now) screen (keyboard - 1) words → Passes (S.written (sink_of out.old)) (pending out.old) (S.written (sink_of out.new)) (pending out.new) (screen_text words) result }
+    ensures counts { CountsPut (S.faults (sink_of out.old)) (S.faults (sink_of out.new)) result }
 {
     for row in 0..ROWS {
         match put_row(word, row, out) {
@@ -67,10 +68,10 @@ pub fn put_screen<W: Fn(u16) -> u16, S: Sink>(word: &W, out: &mut Pieces<'_, S>)
 // The same from an empty buffer, which is empty again after it.
 fn put_all_screen<W: Fn(u16) -> u16, S: Sink>(word: &W, out: &mut Pieces<'_, S>) -> Put
     requires callable { IsCallable (W.pre word.now) screen (keyboard - 1) }
-    requires empty { take out.old.len out.old.buffer ≡ [] }
-    ensures same_sink { out.new.sink.ghost_name ≡ out.old.sink.ghost_name }
-    ensures put { (words : ℕ → ℕ) → Gives (W.post word.now) screen (keyboard - 1) words → Puts (S.written out.old.sink.now) (S.written out.new.sink.now) (screen_text words) result }
-    ensures counts { CountsPut (S.faults out.old.sink.now) (S.faults out.new.sink.now) result }
+    requires empty { pending out.old ≡ [] }
+    ensures same_sink { HaveSameSink out.old out.new }
+    ensures put { (words : ℕ → ℕ) → Gives (W.post word.now) screen (keyboard - 1) words → Puts (S.written (sink_of out.old)) (S.written (sink_of out.new)) (screen_text words) result }
+    ensures counts { CountsPut (S.faults (sink_of out.old)) (S.faults (sink_of out.new)) result }
 {
     match put_screen(word, out) {
         Put::Done => out.finish(),

@@ -1,5 +1,6 @@
 //! The lines of words and their addresses.
-ghost use Rattle.std.specs.Prelude.{◌≡◌, ◌+◌, ◌-◌, ◌<◌, ◌≤◌, ◌++◌, ◌∷◌, [], ℕ, take, Bool};
+ghost use Rattle.std.specs.Prelude.{◌≡◌, ◌+◌, ◌-◌, ◌<◌, ◌≤◌, ◌++◌, ◌∷◌, [], ℕ, Bool};
+ghost use Rattle.outer_world.specs.Held.{HaveSameSink, pending, sink_of};
 ghost use Rattle.outer_world.specs.Texts.{word_line};
 ghost use Rattle.outer_world.specs.Written.{CountsPut, Passes, Puts};
 ghost use Rattle.machine_io.specs.Words.{IsCallable, Gives, shown_line, words_text};
@@ -9,9 +10,9 @@ use outer_world::{Pieces, Put, Sink};
 
 // The line `address word` with the word's signed reading.
 fn put_line<S: Sink>(address: u16, word: u16, out: &mut Pieces<'_, S>) -> Put
-    ensures same_sink { out.new.sink.ghost_name ≡ out.old.sink.ghost_name }
-    ensures passes { Passes (S.written out.old.sink.now) (take out.old.len out.old.buffer) (S.written out.new.sink.now) (take out.new.len out.new.buffer) (word_line address word) result }
-    ensures counts { CountsPut (S.faults out.old.sink.now) (S.faults out.new.sink.now) result }
+    ensures same_sink { HaveSameSink out.old out.new }
+    ensures passes { Passes (S.written (sink_of out.old)) (pending out.old) (S.written (sink_of out.new)) (pending out.new) (word_line address word) result }
+    ensures counts { CountsPut (S.faults (sink_of out.old)) (S.faults (sink_of out.new)) result }
 {
     let mut first = Buffer::new();
     let mut second = Buffer::new();
@@ -26,9 +27,9 @@ fn put_line<S: Sink>(address: u16, word: u16, out: &mut Pieces<'_, S>) -> Put
 
 // The same, but nothing for a word 0 where zeros are left out.
 fn put_shown_line<S: Sink>(address: u16, word: u16, zeros: bool, out: &mut Pieces<'_, S>) -> Put
-    ensures same_sink { out.new.sink.ghost_name ≡ out.old.sink.ghost_name }
-    ensures passes { Passes (S.written out.old.sink.now) (take out.old.len out.old.buffer) (S.written out.new.sink.now) (take out.new.len out.new.buffer) (shown_line zeros address word) result }
-    ensures counts { CountsPut (S.faults out.old.sink.now) (S.faults out.new.sink.now) result }
+    ensures same_sink { HaveSameSink out.old out.new }
+    ensures passes { Passes (S.written (sink_of out.old)) (pending out.old) (S.written (sink_of out.new)) (pending out.new) (shown_line zeros address word) result }
+    ensures counts { CountsPut (S.faults (sink_of out.old)) (S.faults (sink_of out.new)) result }
 {
     if zeros || word != 0 {
         put_line(address, word, out)
@@ -47,9 +48,9 @@ pub fn put_words<W: Fn(u16) -> u16, S: Sink>(
     out: &mut Pieces<'_, S>,
 ) -> Put
     requires { IsCallable (W.pre word.now) from to }
-    ensures same_sink { out.new.sink.ghost_name ≡ out.old.sink.ghost_name }
-    ensures passes { (words : ℕ → ℕ) → Gives (W.post word.now) from to words → Passes (S.written out.old.sink.now) (take out.old.len out.old.buffer) (S.written out.new.sink.now) (take out.new.len out.new.buffer) (words_text words zeros from to) result }
-    ensures counts { CountsPut (S.faults out.old.sink.now) (S.faults out.new.sink.now) result }
+    ensures same_sink { HaveSameSink out.old out.new }
+    ensures passes { (words : ℕ → ℕ) → Gives (W.post word.now) from to words → Passes (S.written (sink_of out.old)) (pending out.old) (S.written (sink_of out.new)) (pending out.new) (words_text words zeros from to) result }
+    ensures counts { CountsPut (S.faults (sink_of out.old)) (S.faults (sink_of out.new)) result }
 {
     let end = to as u32 + 1;
     for address in from as u32..end {
@@ -71,10 +72,10 @@ fn put_all_words<W: Fn(u16) -> u16, S: Sink>(
     out: &mut Pieces<'_, S>,
 ) -> Put
     requires callable { IsCallable (W.pre word.now) from to }
-    requires empty { take out.old.len out.old.buffer ≡ [] }
-    ensures same_sink { out.new.sink.ghost_name ≡ out.old.sink.ghost_name }
-    ensures put { (words : ℕ → ℕ) → Gives (W.post word.now) from to words → Puts (S.written out.old.sink.now) (S.written out.new.sink.now) (words_text words zeros from to) result }
-    ensures counts { CountsPut (S.faults out.old.sink.now) (S.faults out.new.sink.now) result }
+    requires empty { pending out.old ≡ [] }
+    ensures same_sink { HaveSameSink out.old out.new }
+    ensures put { (words : ℕ → ℕ) → Gives (W.post word.now) from to words → Puts (S.written (sink_of out.old)) (S.written (sink_of out.new)) (words_text words zeros from to) result }
+    ensures counts { CountsPut (S.faults (sink_of out.old)) (S.faults (sink_of out.new)) result }
 {
     match put_words(word, from, to, zeros, out) {
         Put::Done => out.finish(),

@@ -1,6 +1,7 @@
 //! Puts the text of a map.
-ghost use Rattle.std.specs.Prelude.{◌≡◌, [], map, take, get_or};
+ghost use Rattle.std.specs.Prelude.{◌≡◌, [], map, get_or};
 ghost use Rattle.std.specs.List.{flat_map};
+ghost use Rattle.outer_world.specs.Held.{HaveSameSink, pending, sink_of};
 ghost use Rattle.outer_world.specs.Written.{CountsPut, Passes, Puts};
 ghost use Rattle.map_text.specs.Text.{commit_line, map_text, point_line, point_text};
 
@@ -20,9 +21,9 @@ fn name_at<'a>(names: &[&'a str], sub: u32) -> &'a str
 
 // The line of a range with the name of its subroutine.
 fn put_point<S: Sink>(name: &str, range: &PointRange, out: &mut Pieces<'_, S>) -> Put
-    ensures same_sink { out.new.sink.ghost_name ≡ out.old.sink.ghost_name }
-    ensures passes { Passes (S.written out.old.sink.now) (take out.old.len out.old.buffer) (S.written out.new.sink.now) (take out.new.len out.new.buffer) (point_text name.now range.now) result }
-    ensures counts { CountsPut (S.faults out.old.sink.now) (S.faults out.new.sink.now) result }
+    ensures same_sink { HaveSameSink out.old out.new }
+    ensures passes { Passes (S.written (sink_of out.old)) (pending out.old) (S.written (sink_of out.new)) (pending out.new) (point_text name.now range.now) result }
+    ensures counts { CountsPut (S.faults (sink_of out.old)) (S.faults (sink_of out.new)) result }
 {
     let mut from = Buffer::new();
     let mut to = Buffer::new();
@@ -42,9 +43,9 @@ fn put_point<S: Sink>(name: &str, range: &PointRange, out: &mut Pieces<'_, S>) -
 
 // The lines of the points.
 fn put_points<S: Sink>(names: &[&str], points: &[PointRange], out: &mut Pieces<'_, S>) -> Put
-    ensures same_sink { out.new.sink.ghost_name ≡ out.old.sink.ghost_name }
-    ensures passes { Passes (S.written out.old.sink.now) (take out.old.len out.old.buffer) (S.written out.new.sink.now) (take out.new.len out.new.buffer) (flat_map (point_line (map (λ n. n.now) names.now)) points.now) result }
-    ensures counts { CountsPut (S.faults out.old.sink.now) (S.faults out.new.sink.now) result }
+    ensures same_sink { HaveSameSink out.old out.new }
+    ensures passes { Passes (S.written (sink_of out.old)) (pending out.old) (S.written (sink_of out.new)) (pending out.new) (flat_map (point_line (map (λ n. n.now) names.now)) points.now) result }
+    ensures counts { CountsPut (S.faults (sink_of out.old)) (S.faults (sink_of out.new)) result }
 {
     for range in points {
         match put_point(name_at(names, range.point.sub), range, out) {
@@ -57,9 +58,9 @@ fn put_points<S: Sink>(names: &[&str], points: &[PointRange], out: &mut Pieces<'
 
 // The line of a commit.
 fn put_commit<S: Sink>(address: u16, out: &mut Pieces<'_, S>) -> Put
-    ensures same_sink { out.new.sink.ghost_name ≡ out.old.sink.ghost_name }
-    ensures passes { Passes (S.written out.old.sink.now) (take out.old.len out.old.buffer) (S.written out.new.sink.now) (take out.new.len out.new.buffer) (commit_line address) result }
-    ensures counts { CountsPut (S.faults out.old.sink.now) (S.faults out.new.sink.now) result }
+    ensures same_sink { HaveSameSink out.old out.new }
+    ensures passes { Passes (S.written (sink_of out.old)) (pending out.old) (S.written (sink_of out.new)) (pending out.new) (commit_line address) result }
+    ensures counts { CountsPut (S.faults (sink_of out.old)) (S.faults (sink_of out.new)) result }
 {
     let mut digits = Buffer::new();
     out.put_all(&[b"commit ", digits.format(address).as_bytes(), b"\n"])
@@ -67,9 +68,9 @@ fn put_commit<S: Sink>(address: u16, out: &mut Pieces<'_, S>) -> Put
 
 // The lines of the commits.
 fn put_commits<S: Sink>(commits: &[u16], out: &mut Pieces<'_, S>) -> Put
-    ensures same_sink { out.new.sink.ghost_name ≡ out.old.sink.ghost_name }
-    ensures passes { Passes (S.written out.old.sink.now) (take out.old.len out.old.buffer) (S.written out.new.sink.now) (take out.new.len out.new.buffer) (flat_map commit_line commits.now) result }
-    ensures counts { CountsPut (S.faults out.old.sink.now) (S.faults out.new.sink.now) result }
+    ensures same_sink { HaveSameSink out.old out.new }
+    ensures passes { Passes (S.written (sink_of out.old)) (pending out.old) (S.written (sink_of out.new)) (pending out.new) (flat_map commit_line commits.now) result }
+    ensures counts { CountsPut (S.faults (sink_of out.old)) (S.faults (sink_of out.new)) result }
 {
     for address in commits {
         match put_commit(*address, out) {
@@ -87,9 +88,9 @@ fn put_lines<S: Sink>(
     commits: &[u16],
     out: &mut Pieces<'_, S>,
 ) -> Put
-    ensures same_sink { out.new.sink.ghost_name ≡ out.old.sink.ghost_name }
-    ensures passes { Passes (S.written out.old.sink.now) (take out.old.len out.old.buffer) (S.written out.new.sink.now) (take out.new.len out.new.buffer) (map_text (map (λ n. n.now) names.now) points.now commits.now) result }
-    ensures counts { CountsPut (S.faults out.old.sink.now) (S.faults out.new.sink.now) result }
+    ensures same_sink { HaveSameSink out.old out.new }
+    ensures passes { Passes (S.written (sink_of out.old)) (pending out.old) (S.written (sink_of out.new)) (pending out.new) (map_text (map (λ n. n.now) names.now) points.now commits.now) result }
+    ensures counts { CountsPut (S.faults (sink_of out.old)) (S.faults (sink_of out.new)) result }
 {
     match out.put(b"map 1\n") {
         Put::Done => {}
@@ -108,10 +109,10 @@ fn put_map<S: Sink>(
     commits: &[u16],
     out: &mut Pieces<'_, S>,
 ) -> Put
-    requires { take out.old.len out.old.buffer ≡ [] }
-    ensures same_sink { out.new.sink.ghost_name ≡ out.old.sink.ghost_name }
-    ensures put { Puts (S.written out.old.sink.now) (S.written out.new.sink.now) (map_text (map (λ n. n.now) names.now) points.now commits.now) result }
-    ensures counts { CountsPut (S.faults out.old.sink.now) (S.faults out.new.sink.now) result }
+    requires { pending out.old ≡ [] }
+    ensures same_sink { HaveSameSink out.old out.new }
+    ensures put { Puts (S.written (sink_of out.old)) (S.written (sink_of out.new)) (map_text (map (λ n. n.now) names.now) points.now commits.now) result }
+    ensures counts { CountsPut (S.faults (sink_of out.old)) (S.faults (sink_of out.new)) result }
 {
     match put_lines(names, points, commits, out) {
         Put::Done => out.finish(),

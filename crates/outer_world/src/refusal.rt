@@ -1,5 +1,6 @@
 //! What a fault tells, and the line that tells it.
-ghost use Rattle.std.specs.Prelude.{◌≡◌, ◌++◌, ◌∷◌, [], length, take};
+ghost use Rattle.std.specs.Prelude.{◌≡◌, ◌++◌, ◌∷◌, [], length};
+ghost use Rattle.outer_world.specs.Held.{HaveSameSink, pending, sink_of};
 ghost use Rattle.outer_world.specs.Inner.Parts.{front_of, rest_of};
 ghost use Rattle.outer_world.specs.Refusals.{detail_text, message, told_line};
 ghost use Rattle.outer_world.specs.Written.{CountsPut, Passes, Puts};
@@ -66,10 +67,10 @@ impl Told {
 
 // Puts the line through a buffer that is empty before.
 fn put_whole<S: Sink>(told: &Told, path: &str, pieces: &mut Pieces<'_, S>) -> Put
-    requires empty { take pieces.old.len pieces.old.buffer ≡ [] }
-    ensures same_sink { pieces.new.sink.ghost_name ≡ pieces.old.sink.ghost_name }
-    ensures put { Puts (S.written pieces.old.sink.now) (S.written pieces.new.sink.now) (told_line path.now told.now) result }
-    ensures counts { CountsPut (S.faults pieces.old.sink.now) (S.faults pieces.new.sink.now) result }
+    requires empty { pending pieces.old ≡ [] }
+    ensures same_sink { HaveSameSink pieces.old pieces.new }
+    ensures put { Puts (S.written (sink_of pieces.old)) (S.written (sink_of pieces.new)) (told_line path.now told.now) result }
+    ensures counts { CountsPut (S.faults (sink_of pieces.old)) (S.faults (sink_of pieces.new)) result }
 {
     match put_line(told, path, pieces) {
         Put::Done => pieces.finish(),
@@ -79,9 +80,9 @@ fn put_whole<S: Sink>(told: &Told, path: &str, pieces: &mut Pieces<'_, S>) -> Pu
 
 // Hands the line to a buffer.
 fn put_line<S: Sink>(told: &Told, path: &str, pieces: &mut Pieces<'_, S>) -> Put
-    ensures same_sink { pieces.new.sink.ghost_name ≡ pieces.old.sink.ghost_name }
-    ensures passes { Passes (S.written pieces.old.sink.now) (take pieces.old.len pieces.old.buffer) (S.written pieces.new.sink.now) (take pieces.new.len pieces.new.buffer) (told_line path.now told.now) result }
-    ensures counts { CountsPut (S.faults pieces.old.sink.now) (S.faults pieces.new.sink.now) result }
+    ensures same_sink { HaveSameSink pieces.old pieces.new }
+    ensures passes { Passes (S.written (sink_of pieces.old)) (pending pieces.old) (S.written (sink_of pieces.new)) (pending pieces.new) (told_line path.now told.now) result }
+    ensures counts { CountsPut (S.faults (sink_of pieces.old)) (S.faults (sink_of pieces.new)) result }
 {
     match put_front(told, path, pieces) {
         Put::Done => put_detail(&told.detail, pieces),
@@ -91,9 +92,9 @@ fn put_line<S: Sink>(told: &Told, path: &str, pieces: &mut Pieces<'_, S>) -> Put
 
 // Hands the front of the line to a buffer, up to the word.
 fn put_front<S: Sink>(told: &Told, path: &str, pieces: &mut Pieces<'_, S>) -> Put
-    ensures same_sink { pieces.new.sink.ghost_name ≡ pieces.old.sink.ghost_name }
-    ensures passes { Passes (S.written pieces.old.sink.now) (take pieces.old.len pieces.old.buffer) (S.written pieces.new.sink.now) (take pieces.new.len pieces.new.buffer) (front_of path.now told.now) result }
-    ensures counts { CountsPut (S.faults pieces.old.sink.now) (S.faults pieces.new.sink.now) result }
+    ensures same_sink { HaveSameSink pieces.old pieces.new }
+    ensures passes { Passes (S.written (sink_of pieces.old)) (pending pieces.old) (S.written (sink_of pieces.new)) (pending pieces.new) (front_of path.now told.now) result }
+    ensures counts { CountsPut (S.faults (sink_of pieces.old)) (S.faults (sink_of pieces.new)) result }
 {
     let mut first = Buffer::new();
     let mut second = Buffer::new();
@@ -113,9 +114,9 @@ fn put_place<S: Sink>(
     word: &str,
     pieces: &mut Pieces<'_, S>,
 ) -> Put
-    ensures same_sink { pieces.new.sink.ghost_name ≡ pieces.old.sink.ghost_name }
-    ensures passes { Passes (S.written pieces.old.sink.now) (take pieces.old.len pieces.old.buffer) (S.written pieces.new.sink.now) (take pieces.new.len pieces.new.buffer) (path.now ++ 58 ∷ (line.now ++ 58 ∷ (column.now ++ 58 ∷ 32 ∷ word.now))) result }
-    ensures counts { CountsPut (S.faults pieces.old.sink.now) (S.faults pieces.new.sink.now) result }
+    ensures same_sink { HaveSameSink pieces.old pieces.new }
+    ensures passes { Passes (S.written (sink_of pieces.old)) (pending pieces.old) (S.written (sink_of pieces.new)) (pending pieces.new) (path.now ++ 58 ∷ (line.now ++ 58 ∷ (column.now ++ 58 ∷ 32 ∷ word.now))) result }
+    ensures counts { CountsPut (S.faults (sink_of pieces.old)) (S.faults (sink_of pieces.new)) result }
 {
     pieces.put_all(&[
         path.as_bytes(),
@@ -130,9 +131,9 @@ fn put_place<S: Sink>(
 
 // Hands the rest of the line to a buffer.
 fn put_detail<S: Sink>(detail: &Detail, pieces: &mut Pieces<'_, S>) -> Put
-    ensures same_sink { pieces.new.sink.ghost_name ≡ pieces.old.sink.ghost_name }
-    ensures passes { Passes (S.written pieces.old.sink.now) (take pieces.old.len pieces.old.buffer) (S.written pieces.new.sink.now) (take pieces.new.len pieces.new.buffer) (rest_of (detail_text detail.now)) result }
-    ensures counts { CountsPut (S.faults pieces.old.sink.now) (S.faults pieces.new.sink.now) result }
+    ensures same_sink { HaveSameSink pieces.old pieces.new }
+    ensures passes { Passes (S.written (sink_of pieces.old)) (pending pieces.old) (S.written (sink_of pieces.new)) (pending pieces.new) (rest_of (detail_text detail.now)) result }
+    ensures counts { CountsPut (S.faults (sink_of pieces.old)) (S.faults (sink_of pieces.new)) result }
 {
     match detail {
         Detail::Nothing => pieces.put(b"\n"),

@@ -1,9 +1,11 @@
 //! A text of bytes, read from left to right, with the place of each byte.
 #![tactic(auto)]
 
-ghost use Rattle.std.specs.Prelude.{◌≡◌, ℕ, Bool, ◌+◌, ◌-◌, ◌<◌, ◌≤◌, ◌^◌, length, Option, Some, None, drop, take, IfSome, nat_lt};
-ghost use Rattle.scan_text.specs.Blanks.{starts, line_end, line, is_blank, in_line, ends_block, IsWithin, block, comment, blank, blanks, StandsBehind};
-ghost use Rattle.scan_text.specs.Text.{step, walk, front, behind, Computes, first, is_digit, decimal, capped, start, number_of};
+ghost use Rattle.std.specs.Prelude.{◌≡◌, ℕ, Bool, ◌+◌, ◌<◌, ◌≤◌, ◌^◌, length, IfSome};
+ghost use Rattle.scan_text.specs.Blanks.{starts, line_end, line, is_blank, ends_block, IsWithin, block, comment, blank};
+ghost use Rattle.scan_text.specs.Text.{step, walk, front, Computes, is_digit, decimal, capped};
+
+mod reading;
 
 /// A line and a column in bytes, both from 1.
 #[derive(Clone, Copy, Debug, PartialEq, Eq)]
@@ -205,115 +207,4 @@ fn blank_at(bytes: &[u8]) -> Blank
         return Blank::Other;
     }
     comment_at(tail)
-}
-
-impl<'a> Scan<'a> {
-    /// The whole text, from line 1, column 1.
-    pub fn new(text: &'a [u8]) -> Scan<'a>
-        requires { length text.now < 2 ^ 32 - 1 }
-        ensures left { result.rest.now ≡ text.now }
-        ensures place { result.place ≡ start }
-    {
-        Scan {
-            rest: text,
-            place: Place { line: 1, column: 1 },
-        }
-    }
-
-    /// The place of the next byte.
-    pub fn place(&self) -> Place
-        ensures { result ≡ self.now.place }
-    {
-        self.place
-    }
-
-    /// The next byte, or None at the end of the text.
-    pub fn peek(&self) -> Option<u8>
-        ensures { result ≡ first self.now.rest.now }
-    {
-        self.rest.first().copied()
-    }
-
-    /// What is left of the text.
-    pub fn rest(&self) -> &'a [u8]
-        ensures { result.now ≡ self.now.rest.now }
-    {
-        self.rest
-    }
-
-    /// Goes over the next `n` bytes, and hands out their slice of the source.
-    pub fn skip(&mut self, n: usize) -> &'a [u8]
-        requires { n ≤ length self.old.rest.now }
-        ensures text { result.now ≡ take n self.old.rest.now }
-        ensures left { self.new.rest.now ≡ drop n self.old.rest.now }
-        ensures place { self.new.place ≡ walk self.old.place (take n self.old.rest.now) }
-    {
-        let (front, rest) = self.rest.split_at(n);
-        let place = walk(self.place, front);
-        *self = Scan { rest, place };
-        front
-    }
-
-    /// Goes over the longest run of bytes that `keep` keeps, and hands out its slice of the source.
-    pub fn take_while<P: Fn(u8) -> bool>(&mut self, keep: P) -> &'a [u8]
-        requires { P.IsAlwaysCallable keep }
-        ensures text { (test : ℕ → Bool) → Computes (P.post keep) test → result.now ≡ front test self.old.rest.now }
-        ensures left { (test : ℕ → Bool) → Computes (P.post keep) test → self.new.rest.now ≡ behind test self.old.rest.now }
-        ensures place { (test : ℕ → Bool) → Computes (P.post keep) test → self.new.place ≡ walk self.old.place (front test self.old.rest.now) }
-    {
-        let n = run_len(self.rest, keep);
-        self.skip(n)
-    }
-
-    /// Goes over decimal digits, if one comes next: their number, where one over 1,000,000,000 is 1,000,000,001.
-    pub fn number(&mut self) -> Option<u32>
-        ensures value { result ≡ number_of self.old.rest.now }
-        ensures left { self.new.rest.now ≡ behind is_digit self.old.rest.now }
-        ensures place { self.new.place ≡ walk self.old.place (front is_digit self.old.rest.now) }
-    {
-        let digits = self.take_while(|b| b.is_ascii_digit());
-        if digits.is_empty() {
-            None
-        } else {
-            Some(value(digits))
-        }
-    }
-
-    /// Goes over a line end that begins here: a line feed, or a return and a line feed. Tells whether one did.
-    pub fn line_end(&mut self) -> bool
-        ensures found { result ≡ nat_lt 0 (line_end self.old.rest.now) }
-        ensures left { self.new.rest.now ≡ drop (line_end self.old.rest.now) self.old.rest.now }
-        ensures place { self.new.place ≡ walk self.old.place (take (line_end self.old.rest.now) self.old.rest.now) }
-    {
-        let n = line_end_len(self.rest);
-        self.skip(n);
-        n > 0
-    }
-
-    /// The bytes before the next line end, or before the end of the text.
-    pub fn line(&mut self) -> &'a [u8]
-        ensures text { result.now ≡ line self.old.rest.now }
-        ensures left { self.new.rest.now ≡ drop (length (line self.old.rest.now)) self.old.rest.now }
-        ensures place { self.new.place ≡ walk self.old.place (line self.old.rest.now) }
-    {
-        let n = line_len(self.rest);
-        self.skip(n)
-    }
-
-    /// Goes over blanks (space, tab, line feed, return) and comments, `//` to the line's end and `/*` to the next `*/`. A comment
-    /// that is not closed is an error with the place where it begins, and the scan then stands there.
-    pub fn skip_blank(&mut self) -> Result<(), Place>
-        ensures { StandsBehind (blanks 0 self.old.place self.old.rest.now) result self.new.place self.new.rest.now }
-    {
-        let mut next = blank_at(self.rest);
-        while let Blank::Over(n) = next {
-            self.skip(n + 1);
-            self.take_while(|b| is_blank(b));
-            next = blank_at(self.rest);
-        }
-        match next {
-            Blank::Unclosed => Err(self.place),
-            _ => Ok(()),
-        }
-    }
 }

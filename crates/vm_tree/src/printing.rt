@@ -1,5 +1,6 @@
 //! The printed form of programs.
-ghost use Rattle.std.specs.Prelude.{◌≡◌, ◌++◌, ◌∷◌, [], take};
+ghost use Rattle.std.specs.Prelude.{◌≡◌, ◌++◌, ◌∷◌, []};
+ghost use Rattle.outer_world.specs.Held.{HaveSameSink, pending, sink_of};
 ghost use Rattle.outer_world.specs.Written.{CountsPut, Passes, Puts};
 ghost use Rattle.vm_tree.specs.Printed.{command_text, file_line, file_text, files_text, function_text, functions_text, lines_text, named_text, operation_text, program_text, segment_text, with_number};
 
@@ -40,9 +41,9 @@ fn segment_text(segment: Segment) -> &'static str
 
 // Two words and a number, with the end of the line.
 fn put_with_number<S: Sink>(first: &[u8], second: &str, number: u16, out: &mut Pieces<'_, S>) -> Put
-    ensures same_sink { out.new.sink.ghost_name ≡ out.old.sink.ghost_name }
-    ensures passes { Passes (S.written out.old.sink.now) (take out.old.len out.old.buffer) (S.written out.new.sink.now) (take out.new.len out.new.buffer) (with_number first.now second.now number) result }
-    ensures counts { CountsPut (S.faults out.old.sink.now) (S.faults out.new.sink.now) result }
+    ensures same_sink { HaveSameSink out.old out.new }
+    ensures passes { Passes (S.written (sink_of out.old)) (pending out.old) (S.written (sink_of out.new)) (pending out.new) (with_number first.now second.now number) result }
+    ensures counts { CountsPut (S.faults (sink_of out.old)) (S.faults (sink_of out.new)) result }
 {
     let mut digits = Buffer::new();
     out.put_all(&[
@@ -56,17 +57,17 @@ fn put_with_number<S: Sink>(first: &[u8], second: &str, number: u16, out: &mut P
 
 // A word after another, with the end of the line.
 fn put_word<S: Sink>(first: &[u8], second: &str, out: &mut Pieces<'_, S>) -> Put
-    ensures same_sink { out.new.sink.ghost_name ≡ out.old.sink.ghost_name }
-    ensures passes { Passes (S.written out.old.sink.now) (take out.old.len out.old.buffer) (S.written out.new.sink.now) (take out.new.len out.new.buffer) (first.now ++ (second.now ++ 10 ∷ [])) result }
-    ensures counts { CountsPut (S.faults out.old.sink.now) (S.faults out.new.sink.now) result }
+    ensures same_sink { HaveSameSink out.old out.new }
+    ensures passes { Passes (S.written (sink_of out.old)) (pending out.old) (S.written (sink_of out.new)) (pending out.new) (first.now ++ (second.now ++ 10 ∷ [])) result }
+    ensures counts { CountsPut (S.faults (sink_of out.old)) (S.faults (sink_of out.new)) result }
 {
     out.put_all(&[first, second.as_bytes(), b"\n"])
 }
 
 fn put_command<S: Sink>(command: &Command, out: &mut Pieces<'_, S>) -> Put
-    ensures same_sink { out.new.sink.ghost_name ≡ out.old.sink.ghost_name }
-    ensures passes { Passes (S.written out.old.sink.now) (take out.old.len out.old.buffer) (S.written out.new.sink.now) (take out.new.len out.new.buffer) (command_text command.now) result }
-    ensures counts { CountsPut (S.faults out.old.sink.now) (S.faults out.new.sink.now) result }
+    ensures same_sink { HaveSameSink out.old out.new }
+    ensures passes { Passes (S.written (sink_of out.old)) (pending out.old) (S.written (sink_of out.new)) (pending out.new) (command_text command.now) result }
+    ensures counts { CountsPut (S.faults (sink_of out.old)) (S.faults (sink_of out.new)) result }
 {
     match command {
         Command::Operate(operation) => put_word(b"", operation_text(*operation), out),
@@ -91,17 +92,17 @@ fn put_command<S: Sink>(command: &Command, out: &mut Pieces<'_, S>) -> Put
 }
 
 fn put_line<S: Sink>(line: &Line, out: &mut Pieces<'_, S>) -> Put
-    ensures same_sink { out.new.sink.ghost_name ≡ out.old.sink.ghost_name }
-    ensures passes { Passes (S.written out.old.sink.now) (take out.old.len out.old.buffer) (S.written out.new.sink.now) (take out.new.len out.new.buffer) (command_text line.now.command) result }
-    ensures counts { CountsPut (S.faults out.old.sink.now) (S.faults out.new.sink.now) result }
+    ensures same_sink { HaveSameSink out.old out.new }
+    ensures passes { Passes (S.written (sink_of out.old)) (pending out.old) (S.written (sink_of out.new)) (pending out.new) (command_text line.now.command) result }
+    ensures counts { CountsPut (S.faults (sink_of out.old)) (S.faults (sink_of out.new)) result }
 {
     put_command(&line.command, out)
 }
 
 fn put_lines<S: Sink>(lines: &[Line], out: &mut Pieces<'_, S>) -> Put
-    ensures same_sink { out.new.sink.ghost_name ≡ out.old.sink.ghost_name }
-    ensures passes { Passes (S.written out.old.sink.now) (take out.old.len out.old.buffer) (S.written out.new.sink.now) (take out.new.len out.new.buffer) (lines_text lines.now) result }
-    ensures counts { CountsPut (S.faults out.old.sink.now) (S.faults out.new.sink.now) result }
+    ensures same_sink { HaveSameSink out.old out.new }
+    ensures passes { Passes (S.written (sink_of out.old)) (pending out.old) (S.written (sink_of out.new)) (pending out.new) (lines_text lines.now) result }
+    ensures counts { CountsPut (S.faults (sink_of out.old)) (S.faults (sink_of out.new)) result }
 {
     for line in lines {
         match put_line(line, out) {
@@ -113,9 +114,9 @@ fn put_lines<S: Sink>(lines: &[Line], out: &mut Pieces<'_, S>) -> Put
 }
 
 fn put_function<S: Sink>(function: &Function, out: &mut Pieces<'_, S>) -> Put
-    ensures same_sink { out.new.sink.ghost_name ≡ out.old.sink.ghost_name }
-    ensures passes { Passes (S.written out.old.sink.now) (take out.old.len out.old.buffer) (S.written out.new.sink.now) (take out.new.len out.new.buffer) (function_text function.now) result }
-    ensures counts { CountsPut (S.faults out.old.sink.now) (S.faults out.new.sink.now) result }
+    ensures same_sink { HaveSameSink out.old out.new }
+    ensures passes { Passes (S.written (sink_of out.old)) (pending out.old) (S.written (sink_of out.new)) (pending out.new) (function_text function.now) result }
+    ensures counts { CountsPut (S.faults (sink_of out.old)) (S.faults (sink_of out.new)) result }
 {
     match put_with_number(b"function ", function.name.as_str(), function.locals, out) {
         Put::Done => put_lines(function.lines.as_slice(), out),
@@ -124,9 +125,9 @@ fn put_function<S: Sink>(function: &Function, out: &mut Pieces<'_, S>) -> Put
 }
 
 fn put_functions<S: Sink>(functions: &[Function], out: &mut Pieces<'_, S>) -> Put
-    ensures same_sink { out.new.sink.ghost_name ≡ out.old.sink.ghost_name }
-    ensures passes { Passes (S.written out.old.sink.now) (take out.old.len out.old.buffer) (S.written out.new.sink.now) (take out.new.len out.new.buffer) (functions_text functions.now) result }
-    ensures counts { CountsPut (S.faults out.old.sink.now) (S.faults out.new.sink.now) result }
+    ensures same_sink { HaveSameSink out.old out.new }
+    ensures passes { Passes (S.written (sink_of out.old)) (pending out.old) (S.written (sink_of out.new)) (pending out.new) (functions_text functions.now) result }
+    ensures counts { CountsPut (S.faults (sink_of out.old)) (S.faults (sink_of out.new)) result }
 {
     for function in functions {
         match put_function(function, out) {
@@ -138,9 +139,9 @@ fn put_functions<S: Sink>(functions: &[Function], out: &mut Pieces<'_, S>) -> Pu
 }
 
 fn put_file<S: Sink>(file: &File, out: &mut Pieces<'_, S>) -> Put
-    ensures same_sink { out.new.sink.ghost_name ≡ out.old.sink.ghost_name }
-    ensures passes { Passes (S.written out.old.sink.now) (take out.old.len out.old.buffer) (S.written out.new.sink.now) (take out.new.len out.new.buffer) (file_text file.now) result }
-    ensures counts { CountsPut (S.faults out.old.sink.now) (S.faults out.new.sink.now) result }
+    ensures same_sink { HaveSameSink out.old out.new }
+    ensures passes { Passes (S.written (sink_of out.old)) (pending out.old) (S.written (sink_of out.new)) (pending out.new) (file_text file.now) result }
+    ensures counts { CountsPut (S.faults (sink_of out.old)) (S.faults (sink_of out.new)) result }
 {
     match put_lines(file.opening.as_slice(), out) {
         Put::Done => put_functions(file.functions.as_slice(), out),
@@ -149,9 +150,9 @@ fn put_file<S: Sink>(file: &File, out: &mut Pieces<'_, S>) -> Put
 }
 
 fn put_files<S: Sink>(files: &[File], out: &mut Pieces<'_, S>) -> Put
-    ensures same_sink { out.new.sink.ghost_name ≡ out.old.sink.ghost_name }
-    ensures passes { Passes (S.written out.old.sink.now) (take out.old.len out.old.buffer) (S.written out.new.sink.now) (take out.new.len out.new.buffer) (program_text files.now) result }
-    ensures counts { CountsPut (S.faults out.old.sink.now) (S.faults out.new.sink.now) result }
+    ensures same_sink { HaveSameSink out.old out.new }
+    ensures passes { Passes (S.written (sink_of out.old)) (pending out.old) (S.written (sink_of out.new)) (pending out.new) (program_text files.now) result }
+    ensures counts { CountsPut (S.faults (sink_of out.old)) (S.faults (sink_of out.new)) result }
 {
     for file in files {
         match put_file(file, out) {
@@ -164,10 +165,10 @@ fn put_files<S: Sink>(files: &[File], out: &mut Pieces<'_, S>) -> Put
 
 // The same with an empty buffer before, and after.
 fn put_program<S: Sink>(program: &Program, out: &mut Pieces<'_, S>) -> Put
-    requires { take out.old.len out.old.buffer ≡ [] }
-    ensures same_sink { out.new.sink.ghost_name ≡ out.old.sink.ghost_name }
-    ensures put { Puts (S.written out.old.sink.now) (S.written out.new.sink.now) (program_text program.now) result }
-    ensures counts { CountsPut (S.faults out.old.sink.now) (S.faults out.new.sink.now) result }
+    requires { pending out.old ≡ [] }
+    ensures same_sink { HaveSameSink out.old out.new }
+    ensures put { Puts (S.written (sink_of out.old)) (S.written (sink_of out.new)) (program_text program.now) result }
+    ensures counts { CountsPut (S.faults (sink_of out.old)) (S.faults (sink_of out.new)) result }
 {
     match put_files(program.as_slice(), out) {
         Put::Done => out.finish(),
@@ -186,18 +187,18 @@ pub fn print<S: Sink>(program: &Program, out: &mut S) -> Put
 
 // The line that names a file.
 fn put_file_line<S: Sink>(name: &str, out: &mut Pieces<'_, S>) -> Put
-    ensures same_sink { out.new.sink.ghost_name ≡ out.old.sink.ghost_name }
-    ensures passes { Passes (S.written out.old.sink.now) (take out.old.len out.old.buffer) (S.written out.new.sink.now) (take out.new.len out.new.buffer) (file_line name.now) result }
-    ensures counts { CountsPut (S.faults out.old.sink.now) (S.faults out.new.sink.now) result }
+    ensures same_sink { HaveSameSink out.old out.new }
+    ensures passes { Passes (S.written (sink_of out.old)) (pending out.old) (S.written (sink_of out.new)) (pending out.new) (file_line name.now) result }
+    ensures counts { CountsPut (S.faults (sink_of out.old)) (S.faults (sink_of out.new)) result }
 {
     out.put_all(&[b"// file ", name.as_bytes(), b".vm\n"])
 }
 
 // A file behind its line.
 fn put_named<S: Sink>(file: &File, out: &mut Pieces<'_, S>) -> Put
-    ensures same_sink { out.new.sink.ghost_name ≡ out.old.sink.ghost_name }
-    ensures passes { Passes (S.written out.old.sink.now) (take out.old.len out.old.buffer) (S.written out.new.sink.now) (take out.new.len out.new.buffer) (named_text file.now) result }
-    ensures counts { CountsPut (S.faults out.old.sink.now) (S.faults out.new.sink.now) result }
+    ensures same_sink { HaveSameSink out.old out.new }
+    ensures passes { Passes (S.written (sink_of out.old)) (pending out.old) (S.written (sink_of out.new)) (pending out.new) (named_text file.now) result }
+    ensures counts { CountsPut (S.faults (sink_of out.old)) (S.faults (sink_of out.new)) result }
 {
     match put_file_line(file.name.as_str(), out) {
         Put::Done => put_file(file, out),
@@ -206,9 +207,9 @@ fn put_named<S: Sink>(file: &File, out: &mut Pieces<'_, S>) -> Put
 }
 
 fn put_all_named<S: Sink>(files: &[File], out: &mut Pieces<'_, S>) -> Put
-    ensures same_sink { out.new.sink.ghost_name ≡ out.old.sink.ghost_name }
-    ensures passes { Passes (S.written out.old.sink.now) (take out.old.len out.old.buffer) (S.written out.new.sink.now) (take out.new.len out.new.buffer) (files_text files.now) result }
-    ensures counts { CountsPut (S.faults out.old.sink.now) (S.faults out.new.sink.now) result }
+    ensures same_sink { HaveSameSink out.old out.new }
+    ensures passes { Passes (S.written (sink_of out.old)) (pending out.old) (S.written (sink_of out.new)) (pending out.new) (files_text files.now) result }
+    ensures counts { CountsPut (S.faults (sink_of out.old)) (S.faults (sink_of out.new)) result }
 {
     for file in files {
         match put_named(file, out) {
@@ -221,10 +222,10 @@ fn put_all_named<S: Sink>(files: &[File], out: &mut Pieces<'_, S>) -> Put
 
 // The same with an empty buffer before, and after.
 fn put_listing<S: Sink>(files: &[File], pieces: &mut Pieces<'_, S>) -> Put
-    requires { take pieces.old.len pieces.old.buffer ≡ [] }
-    ensures same_sink { pieces.new.sink.ghost_name ≡ pieces.old.sink.ghost_name }
-    ensures put { Puts (S.written pieces.old.sink.now) (S.written pieces.new.sink.now) (files_text files.now) result }
-    ensures counts { CountsPut (S.faults pieces.old.sink.now) (S.faults pieces.new.sink.now) result }
+    requires { pending pieces.old ≡ [] }
+    ensures same_sink { HaveSameSink pieces.old pieces.new }
+    ensures put { Puts (S.written (sink_of pieces.old)) (S.written (sink_of pieces.new)) (files_text files.now) result }
+    ensures counts { CountsPut (S.faults (sink_of pieces.old)) (S.faults (sink_of pieces.new)) result }
 {
     match put_all_named(files, pieces) {
         Put::Done => pieces.finish(),
