@@ -11,6 +11,8 @@ mod connections;
 #[cfg(test)]
 mod memories;
 #[cfg(test)]
+mod ordering;
+#[cfg(test)]
 mod refusals;
 #[cfg(test)]
 mod running;

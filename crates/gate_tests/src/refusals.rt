@@ -67,6 +67,8 @@ fn faults(rt: HostRuntime) -> Result<(), Fail> {
             "Not16(in=true, out=n); Not(in=n[0], out=out);",
             "F: Width n",
         ),
+        ("Nand(a=b[2], b=a, out=out);", "F: Width b"),
+        ("Not(in=a, out=n[0]);", "F: Width n"),
         ("Not(in=a, out=a);", "F: Driven a"),
         ("Not(in=a, out=true);", "F: Driven true"),
         ("Not(in=a, in=a, out=out);", "F: Driven in"),

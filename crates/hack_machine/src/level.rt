@@ -52,27 +52,3 @@ impl Level for Hack {
         self.pc()
     }
 }
-
-#[cfg(test)]
-mod tests {
-    use super::*;
-    use std::process::Abort;
-
-    fn two_moves<L: Level, R: Abort>(rt: &R, level: &mut L) -> Result<u16, AllocError> {
-        for _ in 0..2 {
-            assert!(rt; level.moves() < 2);
-            let answer = level.step(0)?;
-            assert!(rt; answer == Moved::Acted);
-        }
-        Ok(level.word_at(2048))
-    }
-
-    // @2048, M=1.
-    #[test]
-    fn moves_as_a_level(rt: HostRuntime) -> Result<(), AllocError> {
-        let mut hack = Hack::new(rt.alloc(), &[2048, 61384])?;
-        assert_eq!(rt; two_moves(&rt, &mut hack)?, 1);
-        assert_eq!(rt; (hack.steps(), hack.point()), (0, 2));
-        Ok(())
-    }
-}

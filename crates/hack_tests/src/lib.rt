@@ -3,3 +3,9 @@
 
 #[cfg(test)]
 mod assembling;
+#[cfg(test)]
+mod instructions;
+#[cfg(test)]
+mod machine;
+#[cfg(test)]
+mod words;

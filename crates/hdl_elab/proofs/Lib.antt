@@ -12,4 +12,3 @@ pub mod Stages
 pub mod Fresh
 pub mod Order
 pub mod Tops
-pub mod Tested

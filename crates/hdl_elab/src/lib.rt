@@ -21,6 +21,3 @@ pub use table::Table;
 pub use check::{Port, RightSide};
 pub use elab::{check_library, order_law};
 pub use fault::{ElabFault, FaultKind, NamedFault};
-
-#[cfg(test)]
-mod tests;

@@ -19,6 +19,3 @@ pub use fault::{NameError, NameFault, NameKind};
 pub use program::resolve;
 // What the definitions of resolved names speak of.
 pub use scope::{Declared, Signature, Slot, Way};
-
-#[cfg(test)]
-mod tests;

@@ -113,3 +113,19 @@ fn class_compiled(rt: HostRuntime) -> Result<(), Fail> {
     );
     Ok(())
 }
+
+// However many operators stand in a row, neither reading nor resolving them needs more of the stack.
+#[test]
+fn many_operators(rt: HostRuntime) -> Result<(), Fail> {
+    let mut text = String::from_str(
+        rt.alloc(),
+        "class Main { function void main() { var int x; let x = 0",
+    )?;
+    for _ in 0..300_000 {
+        text.push_str("+1")?;
+    }
+    text.push_str("; return; } }")?;
+    let own = only(rt.alloc(), text.as_bytes())?;
+    assert!(rt; program_of_classes(rt.alloc(), &own).is_ok());
+    Ok(())
+}

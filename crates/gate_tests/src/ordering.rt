@@ -1,4 +1,4 @@
-use crate::{OrderError, put_in_order};
+use net_order::{OrderError, put_in_order};
 use netlist::{Block, Node};
 use std::alloc::Global;
 use std::test::*;
