@@ -12,13 +12,13 @@ use Rattle.clap.specs.declared.Error.{Error}
 use Rattle.clap.proofs.OnLiterals.{clap_on_literals}
 use Rattle.machine_io.specs.declared.report.Show.{Show}
 use Rattle.machine_io.specs.declared.report.Show.TheVariants as shows
-use Rattle.command_line.specs.Table.{run_command, table, vm_command}
+use Rattle.command_line.specs.Table.{run_command, table, test_command, vm_command}
 use Rattle.command_line.specs.declared.request.RunLevel.{RunLevel}
 use Rattle.command_line.specs.declared.request.RunLevel.TheVariants as levels
 use Rattle.command_line.specs.declared.request.Shown.{Shown}
 use Rattle.command_line.specs.declared.request.Shown.TheVariants.{Words, Nets}
 use Rattle.command_line.specs.declared.request.SourceKind.{SourceKind}
-use Rattle.command_line.specs.Line.{AreOneLine, IsInRange, IsLine, IsReading, Line, NumberIn, asm, build, chip, compile, exec, flag_word, kind_of as source_kind, level_word, map_line, run, show, shown_at, shown_word, vm}
+use Rattle.command_line.specs.Line.{AreOneLine, IsInRange, IsLine, IsReading, Line, NumberIn, asm, build, chip, compile, exec, flag_word, kind_of as source_kind, level_word, map_line, run, show, shown_at, shown_word, test, vm}
 
 -- ---- the names of the commands, which differ in their first letter or in their second
 
@@ -32,6 +32,7 @@ command_of (compile folder) = codes "compile"
 command_of (build folder) = codes "build"
 command_of (map_line folder) = codes "map"
 command_of (chip chosen) = codes "chip"
+command_of (test path gates) = codes "test"
 
 named : (name : Text) (rows : List Row) (l : Line) → IsReading name rows l → name ≡ command_of l
 named name rows (asm path) h = h.0
@@ -43,6 +44,7 @@ named name rows (compile folder) h = h.0
 named name rows (build folder) h = h.0
 named name rows (map_line folder) h = h.0
 named name rows (chip chosen) h = h.0
+named name rows (test path gates) h = h.0
 
 abbrev letters : Text → ℕ
 letters t = 256 * slice_index t 0 + slice_index t 1
@@ -65,6 +67,10 @@ pub no_vm : (rows : List Row) → ((folder : Text) (bare : Bool) → ¬ IsReadin
 no_vm rows none (vm folder bare) h = none folder bare h
 no_vm rows none l h = apart (codes "vm") (command_of l) refl (named (codes "vm") rows l h)
 
+pub no_test : (rows : List Row) → ((path : Text) (gates : Bool) → ¬ IsReading (codes "test") rows (test path gates)) → (l : Line) → ¬ IsReading (codes "test") rows l
+no_test rows none (test path gates) h = none path gates h
+no_test rows none l h = apart (codes "test") (command_of l) refl (named (codes "test") rows l h)
+
 pub no_run : (rows : List Row) → ((folder : Text) (level : RunLevel) (n : ℕ) (keys : Option Text) → ¬ IsReading (codes "run") rows (run folder level n keys)) → (l : Line) → ¬ IsReading (codes "run") rows l
 no_run rows none (run folder level n keys) h = none folder level n keys h
 no_run rows none l h = apart (codes "run") (command_of l) refl (named (codes "run") rows l h)
@@ -72,11 +78,11 @@ no_run rows none l h = apart (codes "run") (command_of l) refl (named (codes "ru
 -- ---- the table
 
 pub table_is_free : is_simple_and_free table ≡ true
-unfolding clap_on_literals run_command vm_command
+unfolding clap_on_literals run_command test_command vm_command
 table_is_free = refl
 
 pub table_is_simple : is_simple table ≡ true
-unfolding clap_on_literals run_command vm_command
+unfolding clap_on_literals run_command test_command vm_command
 table_is_simple = refl
 
 -- the matches are those of a line
@@ -117,6 +123,7 @@ in_range ws (compile folder) h = tt
 in_range ws (build folder) h = tt
 in_range ws (map_line folder) h = tt
 in_range ws (chip chosen) h = tt
+in_range ws (test path gates) h = tt
 
 -- ---- words are at most one line
 
@@ -195,6 +202,12 @@ same_line name other rows others (vm p b) (vm q c) same h k e =
     let k' = subst R (sym same) k in
     let folder : p ≡ q = same_word rows (codes "path") p q h.1 k'.1 in
     let bare : b ≡ c = same_flag b c (same_word rows (codes "bare") (flag_word b) (flag_word c) h.2 k'.2) in
+    cc
+same_line name other rows others (test p b) (test q c) same h k e =
+    let R : List Row → Type 0 = λ r. IsReading other r (test q c) in
+    let k' = subst R (sym same) k in
+    let path : p ≡ q = same_word rows (codes "path") p q h.1 k'.1 in
+    let gates : b ≡ c = same_flag b c (same_word rows (codes "gates") (flag_word b) (flag_word c) h.2 k'.2) in
     cc
 same_line name other rows others (run p l c js) (run q m d ks) same h k e =
     let R : List Row → Type 0 = λ r. IsReading other r (run q m d ks) in

@@ -29,6 +29,7 @@ pub data Line : Type 0 where
   build : (folder : Text) → Line
   map_line : (folder : Text) → Line
   chip : (name : Text) → Line
+  test : (path : Text) (gates : Bool) → Line
 
 -- One or more decimal digits and nothing else, which write a number of at most `most`.
 pub record IsNumber (text : List ℕ) (most n : ℕ) : Type 0 where
@@ -95,6 +96,8 @@ IsReading name rows (compile folder) = (name ≡ codes "compile") × (first_of (
 IsReading name rows (build folder) = (name ≡ codes "build") × (first_of (codes "path") rows ≡ Some folder)
 IsReading name rows (map_line folder) = (name ≡ codes "map") × (first_of (codes "path") rows ≡ Some folder)
 IsReading name rows (chip chosen) = (name ≡ codes "chip") × (first_of (codes "name") rows ≡ Some chosen)
+IsReading name rows (test path gates) =
+    (name ≡ codes "test") × (first_of (codes "path") rows ≡ Some path) × (first_of (codes "gates") rows ≡ Some (flag_word gates))
 
 -- The words are the line: `clap` reads them by the table without a fault, as a command of the table
 -- with its matches, and these are the line's. So words are no line where `clap` gives no matches, or
@@ -122,6 +125,7 @@ IsInRange (compile folder) = ⊤
 IsInRange (build folder) = ⊤
 IsInRange (map_line folder) = ⊤
 IsInRange (chip name) = ⊤
+IsInRange (test path gates) = ⊤
 
 -- ---- the code's side
 
@@ -136,6 +140,7 @@ line_of (request.Compile folder) = compile folder.now
 line_of (request.Build folder) = build folder.now
 line_of (request.Map folder) = map_line folder.now
 line_of (request.Chip name) = chip name.now
+line_of (request.Test path gates) = test path.now gates
 
 -- the matches of a command, as rows
 abbrev pub rows_in : ArgMatches → List Row

@@ -76,6 +76,10 @@ map_command = path_command (codes "map")
 abbrev pub chip_command : Shape
 chip_command = command (codes "chip") (word_rule (codes "name") ∷ [])
 
+-- `test F [--gates]`
+unfoldable pub test_command : Shape
+test_command = command (codes "test") (word_rule (codes "path") ∷ flag_rule (codes "gates") ∷ [])
+
 -- ---- the table
 
 -- `nand` without its commands: the words begin with a command's name, and one must stand
@@ -89,5 +93,5 @@ bare_table = record {
 abbrev pub table : App
 table = record bare_table {
   top = record bare_table.top { is_leaf = false };
-  subs = asm_command ∷ exec_command ∷ vm_command ∷ show_command ∷ run_command ∷ compile_command ∷ build_command ∷ map_command ∷ chip_command ∷ [];
+  subs = asm_command ∷ exec_command ∷ vm_command ∷ show_command ∷ run_command ∷ compile_command ∷ build_command ∷ map_command ∷ chip_command ∷ test_command ∷ [];
 }

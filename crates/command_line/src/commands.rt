@@ -2,7 +2,7 @@
 ghost use Rattle.std.specs.Prelude.{◌≡◌, ◌∷◌, [], IfOk, false, codes};
 ghost use Rattle.clap.specs.Words.{app_of, rule_of, shape_of, with_subcommand};
 ghost use Rattle.clap.specs.declared.builder.Command.TheViews.{out-Command as fields_of};
-ghost use Rattle.command_line.specs.Table.{asm_command, bare_table, build_command, chip_command, command, compile_command, default_rule, exec_command, extra_rule, flag_rule, map_command, option_rule, path_command, run_command, show_command, vm_command, word_rule};
+ghost use Rattle.command_line.specs.Table.{asm_command, bare_table, build_command, chip_command, command, compile_command, default_rule, exec_command, extra_rule, flag_rule, map_command, option_rule, path_command, run_command, show_command, test_command, vm_command, word_rule};
 ghost use Rattle.command_line.specs.Table as table;
 
 use clap::{Arg, ArgAction, Command};
@@ -106,6 +106,16 @@ fn run<'a>(alloc: Global) -> Result<Command<'a>, AllocError>
         .arg(default(alloc, "show", "none"))
 }
 
+#[tactic(auto, unfolding(crate::specs::Table::test_command))]
+fn test<'a>(alloc: Global) -> Result<Command<'a>, AllocError>
+    ensures shape { IfOk result (λ c. shape_of c ≡ test_command) }
+    ensures local { IfOk result (λ c. (fields_of c).has_globals ≡ false) }
+{
+    Command::new(alloc, "test")
+        .arg(word(alloc, "path"))?
+        .arg(flag(alloc, "gates"))
+}
+
 // The table without its commands.
 fn bare<'a>(alloc: Global) -> Command<'a>
     ensures { app_of result ≡ bare_table }
@@ -147,10 +157,18 @@ fn with_printers<'a>(alloc: Global, top: Command<'a>) -> Result<Command<'a>, All
         .subcommand(word_only(alloc, "chip", "name")?)
 }
 
+// Adds `test`.
+fn with_scripts<'a>(alloc: Global, top: Command<'a>) -> Result<Command<'a>, AllocError>
+    ensures { IfOk result (λ c. app_of c ≡ with_subcommand (app_of top.entry) test_command) }
+{
+    top.subcommand(test(alloc)?)
+}
+
 /// The table of the commands that work.
 pub fn table<'a>(alloc: Global) -> Result<Command<'a>, AllocError>
     ensures { IfOk result (λ c. app_of c ≡ table.table) }
 {
     let programs = with_sources(alloc, with_machine(alloc, bare(alloc))?)?.subcommand(run(alloc)?)?;
-    with_printers(alloc, with_compilers(alloc, programs)?)
+    let printers = with_printers(alloc, with_compilers(alloc, programs)?)?;
+    with_scripts(alloc, printers)
 }

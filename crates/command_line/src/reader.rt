@@ -208,6 +208,16 @@ fn chip<'a>(matches: &ArgMatches<'a>) -> Option<Request<'a>>
     Some(Request::Chip { name })
 }
 
+fn test<'a>(matches: &ArgMatches<'a>) -> Option<Request<'a>>
+    ensures { Reads (codes "test") (rows_in matches.now) result }
+{
+    let path = text_in(matches, "path")?;
+    let Some(gates) = flag_in(matches, "gates") else {
+        return None;
+    };
+    Some(Request::Test { path, gates })
+}
+
 // The request of a command and its matches.
 fn reading<'a>(name: &str, matches: &ArgMatches<'a>) -> Option<Request<'a>>
     ensures { Reads name.now (rows_in matches.now) result }
@@ -222,6 +232,7 @@ fn reading<'a>(name: &str, matches: &ArgMatches<'a>) -> Option<Request<'a>>
         "build" => build(matches),
         "map" => map_of(matches),
         "chip" => chip(matches),
+        "test" => test(matches),
         _ => None,
     }
 }

@@ -80,4 +80,6 @@ pub enum Request<'a> {
     Map { folder: &'a str },
     /// `chip NAME`: the printed form of a shipped chip.
     Chip { name: &'a str },
+    /// `test F [--gates]`: what a test script puts, with `gates` over memories made of gates.
+    Test { path: &'a str, gates: bool },
 }

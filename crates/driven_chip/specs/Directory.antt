@@ -1,5 +1,5 @@
 -- What of a chip that is loaded has a name. (The book, chapters 1 and 3.)
-use Rattle.std.specs.Prelude.{◌<◌, ◌≤◌, ◌≡◌, ℕ, List, [], ◌∷◌, Option, Some, None, IfSome, slice_get, length, if◌then◌else◌}
+use Rattle.std.specs.Prelude.{◌<◌, ◌≤◌, ◌≡◌, ℕ, List, [], ◌∷◌, Option, Some, None, IfSome, slice_get, length, map, if◌then◌else◌}
 use Rattle.std.specs.List.{All}
 use Rattle.std.specs.Str.{bytes_eq}
 use Rattle.netlist.specs.Net.{Net}
@@ -15,6 +15,10 @@ pub record LoadedChip : Type 0 where
 
 abbrev pub loaded_chip : Net → Directory → LoadedChip
 loaded_chip net directory = record { net = net; directory = directory }
+
+-- these are the numbers of words of the blocks
+abbrev pub AreSizes : List ℕ → Net → Type 0
+AreSizes sizes net = sizes ≡ map (λ block. block.words) net.blocks
 
 -- the nodes of the pin of this name
 abbrev pub pin_named : List PinNodes → List ℕ → Option (List ℕ)

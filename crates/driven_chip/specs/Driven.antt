@@ -9,7 +9,7 @@ use Rattle.gate_sim.specs.Values.{AreValues, words_of}
 use Rattle.script_text.specs.declared.layout.Value.{Value}
 use Rattle.script_text.specs.declared.layout.Value.TheVariants.{Time, Wide, Narrow}
 use Rattle.driven_chip.specs.declared.chip.DrivenChip.{DrivenChip}
-use Rattle.driven_chip.specs.Directory.{LoadedChip}
+use Rattle.driven_chip.specs.Directory.{LoadedChip, loaded_chip}
 use Rattle.driven_chip.specs.Variables.{Source}
 use Rattle.driven_chip.specs.Variables.Source.{Nodes, BlockWord}
 
@@ -22,6 +22,14 @@ set_nodes k word (node ∷ nodes) calls = set_nodes (suc k) word nodes (Set node
 abbrev pub set_source : Source → ℕ → List Call → List Call
 set_source (Nodes nodes) word calls = set_nodes 0 word nodes calls
 set_source (BlockWord b a) word calls = Load b a (word ∷ []) ∷ calls
+
+-- what a chip that is driven is: its nodes and blocks, and their names
+abbrev pub chip_of : DrivenChip → LoadedChip
+chip_of chip = loaded_chip chip.sim.net chip.directory
+
+-- the cycles that are over
+abbrev pub time_of : DrivenChip → ℕ
+time_of chip = chip.cycle
 
 -- a chip was told these calls: its simulator stands for them, and its time is theirs
 pub record IsDriven (chip : DrivenChip) (calls : List Call) : Type 0 where

@@ -1,5 +1,7 @@
 //! A chip that a script drives.
 
+ghost use Rattle.driven_chip.specs.Directory.{AreSizes};
+
 use crate::directory::Directory;
 use gate_sim::Sim;
 
@@ -7,7 +9,9 @@ use gate_sim::Sim;
 #[derive(Drop)]
 pub struct DrivenChip {
     pub(crate) sim: Sim,
+    pub(crate) sizes: Vec<u32>,
     pub(crate) cycle: u64,
     pub(crate) ticked: bool,
     pub(crate) directory: Directory,
+    ghost sized: { AreSizes sizes.items sim.net },
 }

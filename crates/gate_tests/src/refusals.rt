@@ -24,7 +24,6 @@ fn nets_text(alloc: Global, nets: &[Name]) -> Result<String, AllocError> {
 fn fault_text(alloc: Global, fault: &ElaborationFault) -> Result<String, AllocError> {
     match fault {
         ElaborationFault::Memory => String::from_str(alloc, "Memory"),
-        ElaborationFault::NotShown => String::from_str(alloc, "NotShown"),
         ElaborationFault::Named(fault) => format!(in alloc; "{fault}"),
         ElaborationFault::Loop(nets) => nets_text(alloc, nets.as_slice()),
         ElaborationFault::TooManyNodes(n) => format!(in alloc; "TooManyNodes {n}"),

@@ -25,10 +25,9 @@ pub record NeedsTooMany (chips : Chips) (top : Entry) (n : ℕ) : Type 0 where
   pub number : n ≡ told (node_count chips top tree)
 
 -- What is wrong with a chip: the first fault of the texts; if there is none, a loop; and if there is none, too many nodes. Want of memory says
--- nothing of the chip, and a search for loops that its checks did not take says only that the texts have no fault.
+-- nothing of the chip.
 abbrev pub IsFaultOf : Chips → Entry → ElaborationFault → Type 0
 IsFaultOf chips top faults.Memory = Unit {0}
-IsFaultOf chips top faults.NotShown = HasNoFault chips top
 IsFaultOf chips top (faults.Named f) = IsFirstFault chips (top.name ∷ []) top f
 IsFaultOf chips top (faults.Loop nets) = HasNoFault chips top × IsLoop chips top nets
 IsFaultOf chips top (faults.TooManyNodes n) = HasNoFault chips top × HasNoLoop chips top × NeedsTooMany chips top n

@@ -14,7 +14,7 @@ use crate::fault::ElaborationFault;
 use crate::put::Elab;
 use hdl_elab::{ElabFault, check_library};
 use hdl_flat::count;
-use hdl_loops::{LoopError, find_loop};
+use hdl_loops::find_loop;
 use hdl_tree::{Library, List, Name};
 use std::alloc::Global;
 
@@ -55,8 +55,7 @@ fn check_loops(
     match find_loop(alloc, library, top, blocks) {
         Ok(None) => Ok(()),
         Ok(Some(nets)) => Err(ElaborationFault::Loop(List::of(nets))),
-        Err(LoopError::Memory) => Err(ElaborationFault::Memory),
-        Err(LoopError::NotShown) => Err(ElaborationFault::NotShown),
+        Err(_) => Err(ElaborationFault::Memory),
     }
 }
 

@@ -14,9 +14,6 @@ use thiserror::Error;
 pub enum ElaborationFault {
     #[error("want of memory")]
     Memory,
-    /// The texts have no fault, and the search for loops came to nothing that its checks took, which would be a fault of the search.
-    #[error("a search for loops that was not seen to be right")]
-    NotShown,
     /// A fault in the text of the chip or of a chip in it.
     #[error("{0}")]
     Named(NamedFault),

@@ -1,24 +1,18 @@
--- An end has no circle of its own, and its out depends on the inputs that reach it.
-use Rattle.std.proofs.Common.{◌≡◌, ℕ, ◌<◌, Bool, true, false, List, [], ◌∷◌, Option, Some, None, refl, sym, ap, subst, ◌∙◌, arith}
-use Rattle.std.specs.Prelude.{slice_get, codes}
+-- An end has no circle of its own, and its out depends only on the inputs that reach it.
+use Rattle.std.proofs.Common.{◌≡◌, ℕ, Bool, true, false, List, [], ◌∷◌, Option, Some, None, refl, sym, ap, subst, ◌∙◌}
+use Rattle.std.specs.Prelude.{slice_get, codes, ◌&&◌}
+use Rattle.std.specs.Cmp.Lexicographic.{bytes_decides}
 use Rattle.hdl_tree.specs.declared.tree.Part.{Part}
 use Rattle.hdl_tree.specs.declared.library.Entry.{Entry}
 use Rattle.hdl_tree.specs.declared.ends.End.{End}
 use Rattle.hdl_tree.specs.declared.ends.End.TheVariants as ends
 use Rattle.hdl_tree.specs.Chips.{Chips, end_of, parts_of, parts_of_body, parts_unless}
 use Rattle.hdl_tree.specs.Behaviour.{chip_of}
-use Rattle.hdl_law.specs.Plans.{is_input}
 use Rattle.hdl_law.specs.Loops.{BitAt, bit_at, reaches_out}
-use Rattle.hdl_law.specs.Ways.{Chain, HasBit, JointsFit, Joined, EndReaches, Own, OwnAt, IsOrdered}
+use Rattle.hdl_law.specs.Ways.{Chain, JointsFit, Joined, EndReaches, Own, OwnAt, OwnCircle, Depends}
 use Rattle.hdl_law.proofs.Circles.{own_way}
 use Rattle.hdl_law.proofs.Walks.{at_part}
-use Rattle.hdl_loops.specs.Inner.Steps.{HasDependency}
-use Rattle.hdl_loops.specs.Inner.Knowing.{TreeOrdered, IsGood}
-use Rattle.hdl_loops.specs.declared.graph.Dependency.{Dependency}
-
-abbrev end_rank : Bool → ℕ
-end_rank true = 0
-end_rank false = 1
+use Rattle.hdl_loops.specs.Inner.Knowing.{TreeClear, end_crosses}
 
 out_is_none : (e : End) → reaches_out e (codes "out") ≡ false
 out_is_none ends.Nand = refl
@@ -26,6 +20,10 @@ out_is_none ends.Dff = refl
 out_is_none ends.Keyboard = refl
 out_is_none ends.Rom = refl
 out_is_none (ends.Block bits) = refl
+
+and_true : (a b : Bool) → a ≡ true → b ≡ true → (a && b) ≡ true
+and_true true b e f = f
+and_true false b e f = absurd cc
 
 module _ (chips : Chips) (chip : Entry) (e : End) (is : end_of chips.blocks chip ≡ Some e) where
   no_part : (i : ℕ) (part : Part) → slice_get (parts_of chips chip) i ≡ Some part → ⊥
@@ -54,14 +52,6 @@ module _ (chips : Chips) (chip : Entry) (e : End) (is : end_of chips.blocks chip
   works_at (i ∷ []) (j ∷ l ∷ q) n b m k f = absurd f
   works_at (i ∷ l ∷ p) q n b m k f = absurd f
 
-  end_rises : (x y : BitAt) → Own chips chip x y → end_rank (reaches_out e x.name) < end_rank (reaches_out e y.name)
-  end_rises x y f =
-      let w = works_at x.path y.path x.name x.bit y.name y.bit f in
-      let same : w.e ≡ e = cc (w.is, is) in
-      let a : end_rank (reaches_out e x.name) ≡ 0 = ap end_rank (ap (λ v. reaches_out v x.name) (sym same) ∙ w.reaches) in
-      let b : end_rank (reaches_out e y.name) ≡ 1 = ap end_rank (ap (reaches_out e) w.named ∙ out_is_none e) in
-      omega (arith, a, b)
-
   one_works : (x y : BitAt) → Own chips chip x y → reaches_out e x.name ≡ true
   one_works x y f =
       let w = works_at x.path y.path x.name x.bit y.name y.bit f in
@@ -79,19 +69,21 @@ module _ (chips : Chips) (chip : Entry) (e : End) (is : end_of chips.blocks chip
   no_joints : JointsFit chips chip
   no_joints i conn w t input j = absurd (let same : chip ≡ j.chip = cc (j.at) in no_part i j.part (ap (λ c. slice_get (parts_of chips c) i) same ∙ j.there))
 
-  end_ordered : IsOrdered chips chip
-  end_ordered = record { rank = λ x. end_rank (reaches_out e x.name); rises = end_rises }
+  out_apart : (n : List ℕ) → reaches_out e n ≡ true → n ≡ codes "out" → ⊥
+  out_apart n h f = let g : true ≡ false = sym h ∙ (ap (reaches_out e) f ∙ out_is_none e) in absurd cc
 
-  ends_here : TreeOrdered chips chip
-  ends_here [] c at = let same : chip ≡ c = cc in subst (IsOrdered chips) same end_ordered
-  ends_here (i ∷ q) c at = let a = at_part chips chip i q c at in absurd (no_inner i a.inner (slice_get (parts_of chips chip) i) refl a.found)
+  no_circle : OwnCircle chips chip → ⊥
+  no_circle c =
+      let x = bit_at [] c.name c.bit in
+      out_apart c.name (first_works c.way.over x x c.way.steps) (last_named c.way.over x x c.way.steps)
 
-  pub good_end : (ds : List Dependency) → ((n : List ℕ) (b k : ℕ) → HasBit chip.chip.inputs n b → reaches_out e n ≡ true → HasBit chip.chip.outputs (codes "out") k → is_input chip (codes "out") ≡ false → HasDependency ds n b (codes "out") k) → IsGood chips chip ds
-  good_end ds all fit = (
-    (λ n m b k d.
-        let w = own_way chips chip no_joints n m b k d.way in
-        let named : m ≡ codes "out" = last_named w.over (bit_at [] n b) (bit_at [] m k) w.steps in
-        subst (λ v. HasDependency ds n b v k) (sym named)
-        (all n b k d.from (first_works w.over (bit_at [] n b) (bit_at [] m k) w.steps) (subst (λ v. HasBit chip.chip.outputs v k) named d.to) (subst (λ v. is_input chip v ≡ false) named d.apart))),
-    ends_here,
-  )
+  pub end_clear : TreeClear chips chip
+  end_clear [] c at circle = let same : c ≡ chip = cc in no_circle (subst (OwnCircle chips) same circle)
+  end_clear (i ∷ q) c at circle = let a = at_part chips chip i q c at in no_inner i a.inner (slice_get (parts_of chips chip) i) refl a.found
+
+  pub end_depends : (n m : List ℕ) (b k : ℕ) → Depends chips chip n b m k → end_crosses e (bit_at [] n b) (bit_at [] m k) ≡ true
+  end_depends n m b k d =
+      let w = own_way chips chip no_joints n m b k d.way in
+      let x = bit_at [] n b in
+      let y = bit_at [] m k in
+      and_true (reaches_out e n) _ (first_works w.over x y w.steps) ((bytes_decides m (codes "out")).1 (last_named w.over x y w.steps))

@@ -11,7 +11,7 @@ use Rattle.hdl_elab.specs.Whole.{chips_in}
 use Rattle.hdl_elab.proofs.Stages.{entry_there}
 use Rattle.hdl_law.specs.Loops.{IsLoop, once_more}
 use Rattle.hdl_loops.specs.Inner.Told.{Tells, add_name, add_names, names_of}
-use Rattle.hdl_loops.specs.Inner.Looked.{TellsLoop}
+use Rattle.hdl_loops.specs.Inner.Looked.{PartTells, TellsLoop}
 use Rattle.hdl_loops.specs.declared.hops.BitOf.{BitOf}
 use Rattle.hdl_loops.specs.declared.told.Told.{Told}
 use Rattle.hdl_loops.proofs.Telling.{told_all}
@@ -23,14 +23,6 @@ circle_told chips chip from none one all nets empty first t is =
     let told : nets ≡ once_more [] (from.name.now ∷ t.0) = is ∙ (t.2 ∙ (ap (λ v. add_names v t.0) (first ∙ ap (λ v. add_name v from.name.now) empty) ∙ told_all (from.name.now ∷ t.0))) in
     subst (IsLoop chips chip) (sym told) (trip_loop chips chip from.name.now from.bit t.0 t.1)
 
--- a loop of the chip of part i
-pub part_loop : (chips : Chips) (chip : Entry) (parts : List Part) (i : ℕ) (part : Part) (k : ℕ) (name : List ℕ) (nets : List (List ℕ)) → parts ≡ parts_of chips chip → slice_get parts i ≡ Some part → name ≡ part.chip → k < length chips.entries → find_entry chips.entries name ≡ slice_get chips.entries k →
-    ((inner : Entry) → slice_get chips.entries k ≡ Some inner → IsLoop chips inner nets) → IsLoop chips chip nets
-part_loop chips chip parts i part k name nets are there named lt found loop =
-    let e = entry_there chips.entries k lt in
-    let at : find_chip chips part.chip ≡ Some e.0 = ap (find_entry chips.entries) (sym named) ∙ (found ∙ e.1) in
-    loop_out chips chip i e.0 (ap (λ (ps : List Part). chip_of chips (slice_get ps i)) (sym are) ∙ (ap (chip_of chips) there ∙ at)) nets (loop e.0 e.1)
-
 abbrev Nets : Type 0
 Nets = Vec (List ℕ) Global
 
@@ -41,3 +33,15 @@ top_has_loop es fs blocks k name top same named lt at (Some nets) told =
     let e = entry_there es k lt in
     let f : find_entry fs top ≡ slice_get es k = subst (λ v. find_entry v top ≡ slice_get es k) same (subst (λ n. find_entry es n ≡ slice_get es k) named at) in
     (e.0, f ∙ e.1, subst (λ v. IsLoop (chips_in v blocks) e.0 nets.items) same (told e.0 e.1))
+
+-- what is told of the chip in a place is told of a part's
+pub place_tells : (chips : Chips) (part : Part) (name : List ℕ) (k : ℕ) → name ≡ part.chip → k < length chips.entries → find_entry chips.entries name ≡ slice_get chips.entries k → (r : Option Nets) → ((chip : Entry) → slice_get chips.entries k ≡ Some chip → TellsLoop chips chip r) → PartTells chips part r
+place_tells chips part name k named lt found None told = tt
+place_tells chips part name k named lt found (Some nets) told =
+    let e = entry_there chips.entries k lt in
+    (e.0, ap (find_entry chips.entries) (sym named) ∙ (found ∙ e.1), told e.0 e.1)
+
+-- a loop of the chip of part i
+pub part_loop : (chips : Chips) (chip : Entry) (parts : List Part) (i : ℕ) (part : Part) (nets : Nets) → parts ≡ parts_of chips chip → slice_get parts i ≡ Some part → PartTells chips part (Some nets) → IsLoop chips chip nets.items
+part_loop chips chip parts i part nets are there told =
+    loop_out chips chip i told.0 (ap (λ (ps : List Part). chip_of chips (slice_get ps i)) (sym are) ∙ (ap (chip_of chips) there ∙ told.1)) nets.items told.2

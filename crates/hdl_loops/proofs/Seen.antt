@@ -1,129 +1,222 @@
--- What was seen of a chip is right, where what is known of the chips of its parts is.
-use Rattle.std.proofs.Common.{◌≡◌, ℕ, suc, ◌+◌, ◌<◌, Bool, true, false, List, [], ◌∷◌, Option, Some, None, refl, sym, ap, subst, ◌∙◌}
-use Rattle.std.specs.Prelude.{slice_get}
+-- A way in the own graph of a chip is one of hops, and what was seen of a chip is right.
+use Rattle.std.proofs.Common.{◌≡◌, ℕ, ◌<◌, ◌⊎◌, inl, inr, Bool, true, false, List, [], ◌∷◌, Option, Some, None, refl, sym, ap, subst, ◌∙◌}
+use Rattle.std.specs.Prelude.{slice_get, is_some}
 use Rattle.hdl_tree.specs.declared.tree.Part.{Part}
 use Rattle.hdl_tree.specs.declared.library.Entry.{Entry}
-use Rattle.hdl_tree.specs.Chips.{Chips, end_of, find_chip, parts_of, first}
-use Rattle.hdl_tree.specs.Behaviour.{chip_of, inner_chip}
-use Rattle.hdl_elab.specs.Locations.{IsFaultless}
+use Rattle.hdl_tree.specs.declared.ends.End.{End}
+use Rattle.hdl_tree.specs.Chips.{Chips, end_of, find_chip, parts_of, count}
+use Rattle.hdl_tree.specs.Behaviour.{chip_of, inner_chip, width_of}
+use Rattle.hdl_law.specs.Plans.{is_input}
 use Rattle.hdl_law.specs.Loops.{BitAt, bit_at, IsLoop}
-use Rattle.hdl_law.specs.Ways.{Chain, TreeFits, Joined, Own, OwnAt, IsOrdered}
-use Rattle.hdl_law.proofs.Circles.{own_way, ordered_no_loop}
-use Rattle.hdl_law.proofs.Fits.{tree_fits}
-use Rattle.hdl_law.proofs.Walks.{at_part, part_at}
-use Rattle.hdl_loops.specs.Inner.Steps.{HasStep, HasJoint, Step, place_of, Cover}
-use Rattle.hdl_loops.specs.Inner.Marked.{Rise, rank_at}
-use Rattle.hdl_loops.specs.Inner.Knowing.{HasKnown, TreeOrdered, IsGood, AreKnown, IsSeen}
-use Rattle.hdl_loops.specs.declared.graph.Edge.{Edge}
-use Rattle.hdl_loops.specs.declared.check.Ranks.{Ranks}
-use Rattle.hdl_loops.specs.declared.find.Known.{Known}
+use Rattle.hdl_law.specs.Ways.{Chain, Way, HasBit, Depends, TreeFits, Joined, Across, Own, OwnAt, OwnCircle}
+use Rattle.hdl_law.proofs.Circles.{own_way, circle_to_own}
+use Rattle.hdl_law.proofs.Walks.{at_part, part_at, joined_inner, one_step, step_way}
+use Rattle.hdl_loops.specs.Inner.Hops.{HasHop, NoRound}
+use Rattle.hdl_loops.specs.Inner.Ties.{tie, ties_in, gather}
+use Rattle.hdl_loops.specs.Inner.Trees.{AreTrees, HasTree}
+use Rattle.hdl_loops.specs.Inner.Knowing.{crosses, crosses_by, crosses_in, place_of, IsGraph, IsRight, AreKnown, IsDone, PartsDone, TreeClear}
+use Rattle.hdl_loops.specs.declared.hops.Hop.{Hop}
+use Rattle.hdl_loops.specs.declared.known.Known.{Known}
+use Rattle.hdl_loops.proofs.Ends.{end_clear, end_depends}
+use Rattle.hdl_loops.proofs.Hopping.{tie_there, graph_hops, graph_has}
+use Rattle.hdl_loops.proofs.Growing.{way_leads}
+use Rattle.hdl_loops.proofs.Lists.{In}
+use Rattle.hdl_loops.proofs.Places.{place_found, place_there}
 
-record PartAt (chips : Chips) (chip : Entry) (i : ℕ) (inner : Entry) : Type 0 where
-  part : Part
-  there : slice_get (parts_of chips chip) i ≡ Some part
-  found : find_chip chips part.chip ≡ Some inner
+pub inner_fits : (chips : Chips) (chip : Entry) (i : ℕ) (inner : Entry) → inner_chip chips chip i ≡ Some inner → TreeFits chips chip → TreeFits chips inner
+inner_fits chips chip i inner found fit q c h = fit (i ∷ q) c (part_at chips chip i q inner c found h)
+
+-- ---- parts
+
+pub record PartAt (chips : Chips) (chip : Entry) (i : ℕ) (inner : Entry) : Type 0 where
+  pub part : Part
+  pub k : ℕ
+  pub there : slice_get (parts_of chips chip) i ≡ Some part
+  pub found : find_chip chips part.chip ≡ Some inner
+  pub placed : place_of chips.entries part.chip ≡ Some k
+  pub at : slice_get chips.entries k ≡ Some inner
 
 part_by : (chips : Chips) (chip : Entry) (i : ℕ) (inner : Entry) (o : Option Part) → slice_get (parts_of chips chip) i ≡ o → chip_of chips o ≡ Some inner → PartAt chips chip i inner
 part_by chips chip i inner None e h = absurd cc
-part_by chips chip i inner (Some part) e h = record { part = part; there = e; found = h }
+part_by chips chip i inner (Some part) e h =
+    let p = place_there chips.entries part.chip inner h in
+    record { part = part; k = p.0; there = e; found = h; placed = p.1; at = sym (place_found chips.entries part.chip p.0 p.1) ∙ h }
 
-inner_fits : (chips : Chips) (chip : Entry) (i : ℕ) (inner : Entry) → inner_chip chips chip i ≡ Some inner → TreeFits chips chip → TreeFits chips inner
-inner_fits chips chip i inner found fit q c h = fit (i ∷ q) c (part_at chips chip i q inner c found h)
+pub part_of : (chips : Chips) (chip : Entry) (i : ℕ) (inner : Entry) → inner_chip chips chip i ≡ Some inner → PartAt chips chip i inner
+part_of chips chip i inner h = part_by chips chip i inner (slice_get (parts_of chips chip) i) refl h
 
--- ---- ranks
+-- the part's chip leads from an input to an output that depends on it
+crosses_by_end : (chips : Chips) (known : List (Option Known)) (k : ℕ) (inner : Entry) (o : Option End) → slice_get chips.entries k ≡ Some inner → end_of chips.blocks inner ≡ o → TreeFits chips inner → AreKnown chips known → IsDone chips known k →
+    (n m : List ℕ) (b l : ℕ) → Depends chips inner n b m l → crosses_by o (slice_get known k) (bit_at [] n b) (bit_at [] m l) ≡ true
+crosses_by_end chips known k inner (Some e) at is fit right done n m b l d = end_depends chips inner e is n m b l d
+crosses_by_end chips known k inner None at is fit right done n m b l d =
+    let r = done inner at is in
+    ap (λ (o : Option (Option Known)). crosses_by None o (bit_at [] n b) (bit_at [] m l)) r.1 ∙ (right k inner r.0 at r.1).covers fit n m b l d
 
-abbrev or_zero : Option ℕ → ℕ
-or_zero None = 0
-or_zero (Some a) = a
+pub depends_cross : (chips : Chips) (known : List (Option Known)) (k : ℕ) (inner : Entry) → slice_get chips.entries k ≡ Some inner → TreeFits chips inner → AreKnown chips known → IsDone chips known k →
+    (n m : List ℕ) (b l : ℕ) → Depends chips inner n b m l → crosses chips known k (bit_at [] n b) (bit_at [] m l) ≡ true
+depends_cross chips known k inner at fit right done n m b l d =
+    ap (λ (o : Option Entry). crosses_in chips o (slice_get known k) (bit_at [] n b) (bit_at [] m l)) at ∙ crosses_by_end chips known k inner (end_of chips.blocks inner) at refl fit right done n m b l d
 
-strict_less : (a b : Option ℕ) → Rise a b → or_zero a < or_zero b
-strict_less (Some a) (Some b) h = h
-strict_less (Some a) None h = absurd h
-strict_less None b h = absurd h
+clear_by_end : (chips : Chips) (known : List (Option Known)) (k : ℕ) (inner : Entry) (o : Option End) → slice_get chips.entries k ≡ Some inner → end_of chips.blocks inner ≡ o → TreeFits chips inner → AreKnown chips known → IsDone chips known k → TreeClear chips inner
+clear_by_end chips known k inner (Some e) at is fit right done = end_clear chips inner e is
+clear_by_end chips known k inner None at is fit right done = let r = done inner at is in (right k inner r.0 at r.1).clear fit
 
-abbrev rank_of : Ranks → BitAt → ℕ
-rank_of r x = or_zero (rank_at r (place_of x.path) x.name x.bit)
+pub done_clear : (chips : Chips) (known : List (Option Known)) (k : ℕ) (inner : Entry) → slice_get chips.entries k ≡ Some inner → TreeFits chips inner → AreKnown chips known → IsDone chips known k → TreeClear chips inner
+done_clear chips known k inner at fit right done = clear_by_end chips known k inner (end_of chips.blocks inner) at refl fit right done
 
-module _ (chips : Chips) (chip : Entry) (known : List (Option Known)) (parts : List Part) (inside : Known)
-    (no_end : end_of chips.blocks chip ≡ None) (are : parts ≡ parts_of chips chip) (good : AreKnown chips known)
-    (seen : IsSeen chips.entries known chip parts inside) (fit : TreeFits chips chip) where
-  abbrev es : List Edge
-  es = inside.edges.items
+-- ---- ways
 
-  known_at : (i : ℕ) (part : Part) (inner : Entry) → slice_get (parts_of chips chip) i ≡ Some part → find_chip chips part.chip ≡ Some inner → HasKnown chips.entries known es i part inner
-  known_at i part inner there found = seen.steps i part (ap (λ ps. slice_get ps i) are ∙ there) inner found
+-- a step from a bit of the chip goes into a part
+record Enters (chips : Chips) (chip : Entry) (p n : List ℕ) (b : ℕ) (m : List ℕ) (k : ℕ) : Type 0 where
+  i : ℕ
+  path : p ≡ i ∷ []
+  joined : Joined chips chip i true (bit_at [] n b) (bit_at (i ∷ []) m k)
 
-  joint_at : (i : ℕ) (input : Bool) (x y : BitAt) (f : Joined chips chip i input x y) → HasJoint es i f.conn.pin f.w input f.k
-  joint_at i input x y f =
+enters_by : (chips : Chips) (chip : Entry) → end_of chips.blocks chip ≡ None → (p n : List ℕ) (b : ℕ) (m : List ℕ) (k : ℕ) → OwnAt chips chip [] p n b m k → Enters chips chip p n b m k
+enters_by chips chip no_end [] n b m k f = absurd (let e = f.is in cc)
+enters_by chips chip no_end (i ∷ []) n b m k f = record { i = i; path = refl; joined = f }
+enters_by chips chip no_end (i ∷ j ∷ q) n b m k f = absurd f
+
+-- a step from a bit of a part's pin goes out, or across the part
+record Leaves (chips : Chips) (chip : Entry) (i : ℕ) (p n : List ℕ) (b : ℕ) (m : List ℕ) (k : ℕ) : Type 0 where
+  path : p ≡ []
+  joined : Joined chips chip i false (bit_at [] m k) (bit_at (i ∷ []) n b)
+
+record Crosses (chips : Chips) (chip : Entry) (i : ℕ) (p n : List ℕ) (b : ℕ) (m : List ℕ) (k : ℕ) : Type 0 where
+  path : p ≡ i ∷ []
+  across : Across chips chip i i n b m k
+
+moves_by : (chips : Chips) (chip : Entry) (i : ℕ) (p n : List ℕ) (b : ℕ) (m : List ℕ) (k : ℕ) → OwnAt chips chip (i ∷ []) p n b m k → Leaves chips chip i p n b m k ⊎ Crosses chips chip i p n b m k
+moves_by chips chip i [] n b m k f = inl (record { path = refl; joined = f })
+moves_by chips chip i (j ∷ []) n b m k f = inr (record { path = ap (λ (v : ℕ). v ∷ []) (sym f.same); across = record { same = refl; inner = f.inner; found = f.found; depends = f.depends } })
+moves_by chips chip i (j ∷ l ∷ q) n b m k f = absurd f
+
+-- where the second of two steps from a bit of the chip leads: across the part that the first went into
+record Second (chips : Chips) (chip : Entry) (n : List ℕ) (b : ℕ) (p q : BitAt) : Type 0 where
+  i : ℕ
+  enter : Joined chips chip i true (bit_at [] n b) (bit_at (i ∷ []) p.name p.bit)
+  path : q.path ≡ i ∷ []
+  across : Across chips chip i i p.name p.bit q.name q.bit
+
+-- the third leads to a bit of the chip again
+record Third (hs : List Hop) (n : List ℕ) (b : ℕ) (r : BitAt) : Type 0 where
+  path : r.path ≡ []
+  hop : HasHop hs (bit_at [] n b) (bit_at [] r.name r.bit)
+
+abbrev flat : BitAt → BitAt
+flat x = bit_at [] x.name x.bit
+
+module _ (chips : Chips) (known : List (Option Known)) (chip : Entry) (hs : List Hop) (no_end : end_of chips.blocks chip ≡ None) (is : IsGraph chips known chip hs)
+    (right : AreKnown chips known) (done : PartsDone chips known chip) (fit : TreeFits chips chip) where
+  -- a bit of a pin of part i
+  way_of : (i : ℕ) (input : Bool) (x y : BitAt) (f : Joined chips chip i input x y) (inner : Entry) → inner_chip chips chip i ≡ Some inner → is_input inner y.name ≡ input
+  way_of i input x y f inner found =
+      let same : f.joint.inner ≡ inner = cc (joined_inner chips chip i input x y f, found) in
+      let named : y.name ≡ f.conn.pin.name = ap (λ (v : BitAt). v.name) f.in_is in
+      ap (is_input inner) named ∙ (ap (λ (v : Entry). is_input v f.conn.pin.name) (sym same) ∙ f.joint.way)
+
+  -- a joint of a part is listed
+  tie_in : (i : ℕ) (input : Bool) (x y : BitAt) (f : Joined chips chip i input x y) (inner : Entry) (at : PartAt chips chip i inner) → In (tie f.conn.pin f.w input f.k) (gather (ties_in inner) at.part.connections)
+  tie_in i input x y f inner at =
       let j = f.joint in
       let same : chip ≡ j.chip = cc (j.at) in
-      let there : slice_get (parts_of chips chip) i ≡ Some j.part = ap (λ c. slice_get (parts_of chips c) i) same ∙ j.there in
-      let r = known_at i j.part j.inner there j.found in
-      subst (λ v. HasJoint es i f.conn.pin f.w v f.k) j.way (r.steps.joined j.j f.conn j.here f.w f.k j.right j.within)
+      let there : slice_get (parts_of chips chip) i ≡ Some j.part = ap (λ (c : Entry). slice_get (parts_of chips c) i) same ∙ j.there in
+      let part_is : j.part ≡ at.part = cc (there, at.there) in
+      let found : find_chip chips at.part.chip ≡ Some j.inner = subst (λ (v : Part). find_chip chips v.chip ≡ Some j.inner) part_is j.found in
+      let inner_is : j.inner ≡ inner = cc (found, at.found) in
+      tie_there inner at.part j.j f.conn f.w f.k input (subst (λ (v : Part). slice_get v.connections j.j ≡ Some f.conn) part_is j.here) j.right
+      (subst (λ (v : Entry). is_input v f.conn.pin.name ≡ input) inner_is j.way) (subst (λ (v : Entry). f.k < count f.conn.pin.subscript (width_of v f.conn.pin.name)) inner_is j.within)
 
-  good_inner : (i : ℕ) (part : Part) (inner : Entry) → slice_get (parts_of chips chip) i ≡ Some part → find_chip chips part.chip ≡ Some inner → (r : HasKnown chips.entries known es i part inner) → Cover chips inner r.inside.dependencies.items × TreeOrdered chips inner
-  good_inner i part inner there found r = good r.k inner r.inside r.there r.known_as (inner_fits chips chip i inner (ap (chip_of chips) there ∙ found) fit)
+  -- in by a joint, through, and out by a joint
+  hop_through : (i : ℕ) (x p q y : BitAt) → Joined chips chip i true x p → Joined chips chip i false y q → (inner : Entry) → inner_chip chips chip i ≡ Some inner → Depends chips inner p.name p.bit q.name q.bit → HasHop hs x y
+  hop_through i x p q y f g inner found d =
+      let at = part_of chips chip i inner found in
+      let ft = tie f.conn.pin f.w true f.k in
+      let gt = tie g.conn.pin g.w false g.k in
+      let a = tie_in i true x p f inner at in
+      let b = tie_in i false y q g inner at in
+      let c : crosses chips known at.k (flat p) (flat q) ≡ true = depends_cross chips known at.k inner at.at (inner_fits chips chip i inner found fit) right (done i at.part at.k at.there at.placed) p.name q.name p.bit q.bit d in
+      let p_is : flat p ≡ ft.pin = ap flat f.in_is in
+      let q_is : flat q ≡ gt.pin = ap flat g.in_is in
+      let c_is : crosses chips known at.k ft.pin gt.pin ≡ true = subst (λ (v : BitAt). crosses chips known at.k ft.pin v ≡ true) q_is (subst (λ (v : BitAt). crosses chips known at.k v (flat q) ≡ true) p_is c) in
+      subst (λ (v : BitAt). HasHop hs x v) (sym g.out_is)
+      (subst (λ (v : BitAt). HasHop hs v gt.net) (sym f.out_is) (graph_has chips known chip hs is i at.part at.k inner ft gt at.there at.placed at.at a b refl refl c_is))
 
-  step_at : (p q n : List ℕ) (b : ℕ) (m : List ℕ) (k : ℕ) → OwnAt chips chip p q n b m k → HasStep es (place_of p) n b (place_of q) m k
-  step_at [] [] n b m k f = absurd (let e = f.is in cc)
-  step_at [] (i ∷ []) n b m k f =
-      subst (λ (v : BitAt). HasStep es 0 v.name v.bit (suc i) m k) (sym f.out_is)
-      (subst (λ (v : BitAt). HasStep es 0 f.w.name (first f.w.subscript + f.k) (suc i) v.name v.bit) (sym f.in_is)
-      (joint_at i true (bit_at [] n b) (bit_at (i ∷ []) m k) f))
-  step_at [] (i ∷ j ∷ q) n b m k f = absurd f
-  step_at (i ∷ []) [] n b m k f =
-      subst (λ (v : BitAt). HasStep es (suc i) v.name v.bit 0 m k) (sym f.in_is)
-      (subst (λ (v : BitAt). HasStep es (suc i) f.conn.pin.name (first f.conn.pin.subscript + f.k) 0 v.name v.bit) (sym f.out_is)
-      (joint_at i false (bit_at [] m k) (bit_at (i ∷ []) n b) f))
-  step_at (i ∷ []) (j ∷ []) n b m k f =
-      let a = part_by chips chip i f.inner (slice_get (parts_of chips chip) i) refl f.found in
-      let r = known_at i a.part f.inner a.there a.found in
-      let d = (good_inner i a.part f.inner a.there a.found r).0 n m b k f.depends in
-      let h : HasStep es (suc i) d.1.input.now d.1.bit (suc i) d.1.output.now d.1.out = r.steps.crossed d.0 d.1 d.2 in
-      subst (λ v. HasStep es (suc i) n b (suc v) m k) f.same
-      (subst (λ v. HasStep es (suc i) v b (suc i) m k) d.3
-      (subst (λ v. HasStep es (suc i) d.1.input.now v (suc i) m k) d.4
-      (subst (λ v. HasStep es (suc i) d.1.input.now d.1.bit (suc i) v k) d.5
-      (subst (λ v. HasStep es (suc i) d.1.input.now d.1.bit (suc i) d.1.output.now v) d.6 h))))
-  step_at (i ∷ []) (j ∷ s ∷ q) n b m k f = absurd f
-  step_at (i ∷ s ∷ p) q n b m k f = absurd f
+  -- out of an input there is no way out, and out of an output none across
+  input_out : (i : ℕ) (x y : BitAt) (n : List ℕ) (b : ℕ) → Joined chips chip i true x (bit_at (i ∷ []) n b) → Joined chips chip i false y (bit_at (i ∷ []) n b) → ⊥
+  input_out i x y n b f g =
+      let pin = bit_at (i ∷ []) n b in
+      let found = joined_inner chips chip i true x pin f in
+      let a = way_of i true x pin f f.joint.inner found in
+      let c = way_of i false y pin g f.joint.inner found in
+      let h : true ≡ false = sym a ∙ c in
+      cc
 
-  step_of : (x y : BitAt) → Own chips chip x y → Step es x y
-  step_of x y f = step_at x.path y.path x.name x.bit y.name y.bit f
+  has_input : (inner : Entry) (n : List ℕ) (b : ℕ) → HasBit inner.chip.inputs n b → is_input inner n ≡ true
+  has_input inner n b h = ap is_some h.there
 
-  chain_of : (ms : List BitAt) (x y : BitAt) → Chain (Own chips chip) x ms y → Chain (Step es) x ms y
-  chain_of [] x y f = step_of x y f
-  chain_of (m ∷ ms) x y f = (step_of x m f.0, chain_of ms m y f.1)
+  across_twice : (i : ℕ) (n m q : List ℕ) (b k l : ℕ) → Across chips chip i i n b m k → Across chips chip i i m k q l → ⊥
+  across_twice i n m q b k l f g =
+      let same : f.inner ≡ g.inner = cc (f.found, g.found) in
+      let a : is_input g.inner m ≡ true = has_input g.inner m k g.depends.from in
+      let c : is_input g.inner m ≡ false = subst (λ (v : Entry). is_input v m ≡ false) same f.depends.apart in
+      let h : true ≡ false = sym a ∙ c in
+      cc
 
-  covers : Cover chips chip inside.dependencies.items
-  covers n m b k d =
-      let w = own_way chips chip (fit [] chip refl) n m b k d.way in
-      seen.reached n b d.from m k d.to d.apart (record { over = w.over; steps = chain_of w.over (bit_at [] n b) (bit_at [] m k) w.steps })
+  second_by : (n : List ℕ) (b : ℕ) (p q : BitAt) (i : ℕ) → Joined chips chip i true (bit_at [] n b) (bit_at (i ∷ []) p.name p.bit) → Leaves chips chip i q.path p.name p.bit q.name q.bit ⊎ Crosses chips chip i q.path p.name p.bit q.name q.bit → Second chips chip n b p q
+  second_by n b p q i f (inl g) = absurd (input_out i (bit_at [] n b) (bit_at [] q.name q.bit) p.name p.bit f g.joined)
+  second_by n b p q i f (inr g) = record { i = i; enter = f; path = g.path; across = g.across }
 
-  step_rises : (x y : BitAt) → Step es x y → rank_of seen.ranks x < rank_of seen.ranks y
-  step_rises x y s =
-      let e = s.1 in
-      let h = strict_less (rank_at seen.ranks e.from.place e.from.name.now e.from.bit) (rank_at seen.ranks e.to.place e.to.name.now e.to.bit) (seen.rise s.0 e s.2) in
-      subst (λ v. or_zero (rank_at seen.ranks v x.name x.bit) < rank_of seen.ranks y) s.3
-      (subst (λ v. or_zero (rank_at seen.ranks e.from.place v x.bit) < rank_of seen.ranks y) s.4
-      (subst (λ v. or_zero (rank_at seen.ranks e.from.place e.from.name.now v) < rank_of seen.ranks y) s.5
-      (subst (λ v. or_zero (rank_at seen.ranks e.from.place e.from.name.now e.from.bit) < or_zero (rank_at seen.ranks v y.name y.bit)) s.6
-      (subst (λ v. or_zero (rank_at seen.ranks e.from.place e.from.name.now e.from.bit) < or_zero (rank_at seen.ranks e.to.place v y.bit)) s.7
-      (subst (λ v. or_zero (rank_at seen.ranks e.from.place e.from.name.now e.from.bit) < or_zero (rank_at seen.ranks e.to.place e.to.name.now v)) s.8 h)))))
+  second_of : (n : List ℕ) (b : ℕ) (p q : BitAt) → OwnAt chips chip [] p.path n b p.name p.bit → Own chips chip p q → Second chips chip n b p q
+  second_of n b p q f g =
+      let e = enters_by chips chip no_end p.path n b p.name p.bit f in
+      let h : OwnAt chips chip (e.i ∷ []) q.path p.name p.bit q.name q.bit = subst (λ (v : List ℕ). OwnAt chips chip v q.path p.name p.bit q.name q.bit) e.path g in
+      second_by n b p q e.i e.joined (moves_by chips chip e.i q.path p.name p.bit q.name q.bit h)
 
-  ordered : IsOrdered chips chip
-  ordered = record { rank = rank_of seen.ranks; rises = λ x y f. step_rises x y (step_of x y f) }
+  third_by : (n : List ℕ) (b : ℕ) (p q r : BitAt) (s : Second chips chip n b p q) → Leaves chips chip s.i r.path q.name q.bit r.name r.bit ⊎ Crosses chips chip s.i r.path q.name q.bit r.name r.bit → Third hs n b r
+  third_by n b p q r s (inl g) =
+      record { path = g.path; hop = hop_through s.i (bit_at [] n b) (bit_at (s.i ∷ []) p.name p.bit) (bit_at (s.i ∷ []) q.name q.bit) (bit_at [] r.name r.bit) s.enter g.joined s.across.inner s.across.found s.across.depends }
+  third_by n b p q r s (inr g) = absurd (across_twice s.i p.name q.name r.name p.bit q.bit r.bit s.across g.across)
 
-  all_ordered : TreeOrdered chips chip
-  all_ordered [] c at = let same : chip ≡ c = cc in subst (IsOrdered chips) same ordered
-  all_ordered (i ∷ q) c at =
+  third_of : (n : List ℕ) (b : ℕ) (p q r : BitAt) → Second chips chip n b p q → Own chips chip q r → Third hs n b r
+  third_of n b p q r s g =
+      let h : OwnAt chips chip (s.i ∷ []) r.path q.name q.bit r.name r.bit = subst (λ (v : List ℕ). OwnAt chips chip v r.path q.name q.bit r.name r.bit) s.path g in
+      third_by n b p q r s (moves_by chips chip s.i r.path q.name q.bit r.name r.bit h)
+
+  -- a way of the own graph between bits of the chip is one of hops
+  hops_of : (ms : List BitAt) (n : List ℕ) (b : ℕ) (m : List ℕ) (k : ℕ) → Chain (Own chips chip) (bit_at [] n b) ms (bit_at [] m k) → Way (HasHop hs) (bit_at [] n b) (bit_at [] m k)
+  hops_of [] n b m k f = absurd (let e = f.is in cc)
+  hops_of (p ∷ []) n b m k f = absurd (let s = second_of n b p (bit_at [] m k) f.0 f.1 in let e = s.path in cc)
+  hops_of (p ∷ q ∷ []) n b m k f = one_step (bit_at [] n b) (bit_at [] m k) (third_of n b p q (bit_at [] m k) (second_of n b p q f.0 f.1.0) f.1.1).hop
+  hops_of (p ∷ q ∷ r ∷ ms) n b m k f =
+      let t = third_of n b p q r (second_of n b p q f.0 f.1.0) f.1.1.0 in
+      let r_is : r ≡ flat r = ap (λ (v : List ℕ). bit_at v r.name r.bit) t.path in
+      step_way (bit_at [] n b) (flat r) (bit_at [] m k) t.hop (hops_of ms r.name r.bit m k (subst (λ (v : BitAt). Chain (Own chips chip) v ms (bit_at [] m k)) r_is f.1.1.1))
+
+  own_hops : (n : List ℕ) (b : ℕ) (m : List ℕ) (k : ℕ) → Way (Own chips chip) (bit_at [] n b) (bit_at [] m k) → Way (HasHop hs) (bit_at [] n b) (bit_at [] m k)
+  own_hops n b m k w = hops_of w.over n b m k w.steps
+
+  depends_hops : (n m : List ℕ) (b k : ℕ) → Depends chips chip n b m k → Way (HasHop hs) (bit_at [] n b) (bit_at [] m k)
+  depends_hops n m b k d = own_hops n b m k (own_way chips chip (fit [] chip refl) n m b k d.way)
+
+  clear_of : NoRound hs → TreeClear chips chip
+  clear_of none [] c at circle = let same : c ≡ chip = cc in let o = subst (OwnCircle chips) same circle in none (bit_at [] o.name o.bit) (own_hops o.name o.bit o.name o.bit o.way)
+  clear_of none (i ∷ q) c at circle =
       let a = at_part chips chip i q c at in
-      let p = part_by chips chip i a.inner (slice_get (parts_of chips chip) i) refl a.found in
-      (good_inner i p.part a.inner p.there p.found (known_at i p.part a.inner p.there p.found)).1 q c a.rest
+      let p = part_of chips chip i a.inner a.found in
+      done_clear chips known p.k a.inner p.at (inner_fits chips chip i a.inner a.found fit) right (done i p.part p.k p.there p.placed) q c a.rest circle
 
-pub seen_good : (chips : Chips) (chip : Entry) (known : List (Option Known)) (parts : List Part) (inside : Known) → end_of chips.blocks chip ≡ None → parts ≡ parts_of chips chip → AreKnown chips known →
-    IsSeen chips.entries known chip parts inside → IsGood chips chip inside.dependencies.items
-seen_good chips chip known parts inside no_end are good seen fit = (covers chips chip known parts inside no_end are good seen fit, all_ordered chips chip known parts inside no_end are good seen fit)
+-- what was seen of a chip is right
+pub seen_right : (chips : Chips) (known : List (Option Known)) (chip : Entry) (inside : Known) → end_of chips.blocks chip ≡ None → IsGraph chips known chip inside.hops.items → AreKnown chips known → PartsDone chips known chip → NoRound inside.hops.items →
+    AreTrees inside.hops.items inside.trees.entries → ((n : List ℕ) (b : ℕ) → HasBit chip.chip.inputs n b → HasTree inside.trees.entries (bit_at [] n b)) → IsRight chips known chip inside
+seen_right chips known chip inside no_end is right done none trees has = record {
+  hops = graph_hops chips known chip inside.hops.items is;
+  trees = trees;
+  covers = λ fit n m b k d. way_leads inside.hops.items inside.trees.entries n b (bit_at [] m k) trees (has n b d.from) (depends_hops chips known chip inside.hops.items no_end is right done fit n m b k d);
+  clear = λ fit. clear_of chips known chip inside.hops.items no_end is right done fit none;
+}
 
-pub good_no_loop : (chips : Chips) (names : List (List ℕ)) (top : Entry) (inside : Known) → IsFaultless chips names top → IsGood chips top inside.dependencies.items → (nets : List (List ℕ)) → IsLoop chips top nets → ⊥
-good_no_loop chips names top inside faultless good = let fit = tree_fits chips names top faultless in ordered_no_loop chips top fit (good fit).1
+-- no loop is in a tree in which the own graph of no chip has a circle
+pub clear_no_loop : (chips : Chips) (top : Entry) → TreeFits chips top → TreeClear chips top → (nets : List (List ℕ)) → IsLoop chips top nets → ⊥
+clear_no_loop chips top fit clear nets l = let h = circle_to_own chips top fit (l.first ∷ l.rest) l.circle in clear h.path h.chip h.at h.circle

@@ -1,5 +1,7 @@
-pub mod Steps
-pub mod Marked
+pub mod Hops
+pub mod Ties
+pub mod Trees
+pub mod Ranked
 pub mod Knowing
 pub mod Looked
 pub mod Told

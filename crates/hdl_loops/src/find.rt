@@ -1,37 +1,27 @@
 //! A loop of a chip, found in the own graphs of the chips in it.
 
-ghost use Rattle.std.specs.Prelude.{◌≡◌, ℕ, List, ◌+◌, ◌<◌, ◌^◌, None, Some, true, OnOk, IfOk, MatchOption, length, slice_get, slice_set};
+ghost use Rattle.std.specs.Prelude.{◌≡◌, ℕ, List, ◌+◌, ◌-◌, ◌<◌, ◌^◌, None, Some, true, OnOk, IfOk, MatchOption, length, slice_get};
 ghost use Rattle.hdl_tree.specs.declared.library.Entry.{Entry};
 ghost use Rattle.hdl_tree.specs.declared.tree.Part.{Part};
 ghost use Rattle.hdl_tree.specs.Chips.{end_of, find_chip, find_entry};
 ghost use Rattle.hdl_tree.specs.Chips.{parts_of as parts_in};
 ghost use Rattle.hdl_elab.specs.Whole.{chips_in, TopIsFaultless};
 ghost use Rattle.hdl_law.specs.Loops.{IsLoop};
-ghost use Rattle.hdl_loops.specs.Inner.Steps.{AreKept, HasReached};
-ghost use Rattle.hdl_loops.specs.Inner.Marked.{AllRise};
-ghost use Rattle.hdl_law.specs.Ways.{HasBit};
-ghost use Rattle.hdl_loops.specs.Inner.Looked.{LooksRight, TellsLoop};
-ghost use Rattle.hdl_loops.specs.Inner.Knowing.{HasSteps, HasAllSteps, AreKnown, IsKnown, IsSeen, KnowNothing};
+ghost use Rattle.hdl_loops.specs.Inner.Looked.{LooksRight, PartTells, TellsLoop};
+ghost use Rattle.hdl_loops.specs.Inner.Knowing.{place_of, AreKnown, IsKnown, IsDone, Notes, Nests, PartDone, PartNests, PartsDone, StaysKnown, KnowNothing, NestsAt, PartsNest};
 
-use crate::check::Ranks;
-use crate::fault::LoopError;
-use crate::graph::{Dependency, Edge, join_part};
+use crate::circle::circle_in;
+use crate::graph::graph_of;
+use crate::known::{Known, trees_of};
 use crate::names::nets_of;
-use crate::search::{Found, Numbered};
-use crate::summary::{summarize, summarize_end};
-use hdl_tree::{Body, End, Entry, Library, Name, Part, find_end};
+use crate::search::Numbered;
+use hdl_tree::{Body, Entry, Library, Name, Part, find_end};
 use std::alloc::{AllocError, Global};
-
-/// What is known of a chip: the steps of its own graph, and which outputs depend on which inputs.
-#[derive(Drop)]
-pub struct Known<'a> {
-    pub edges: Vec<Edge<'a>>,
-    pub dependencies: Vec<Dependency<'a>>,
-}
 
 /// The place of the chip of this name.
 pub(crate) fn place(entries: &[Entry], name: &[u8]) -> Option<usize>
-    ensures { MatchOption result (find_entry entries.now name.now ≡ None) (λ k. (k < length entries.now) × (find_entry entries.now name.now ≡ slice_get entries.now k)) }
+    ensures value { result ≡ place_of entries.now name.now }
+    ensures found { MatchOption result (find_entry entries.now name.now ≡ None) (λ k. (k < length entries.now) × (find_entry entries.now name.now ≡ slice_get entries.now k)) }
 {
     for (k, entry) in entries.iter().enumerate() {
         if name == entry.name.as_bytes() {
@@ -43,8 +33,7 @@ pub(crate) fn place(entries: &[Entry], name: &[u8]) -> Option<usize>
 
 /// The parts of a chip; an end has none.
 pub(crate) fn parts_of<'a>(blocks: bool, entry: &'a Entry) -> &'a [Part]
-    ensures value { (entries : List Entry) → result.now ≡ parts_in (chips_in entries blocks) entry.now }
-    ensures small { length result.now + 1 < 2 ^ 64 }
+    ensures { (entries : List Entry) → result.now ≡ parts_in (chips_in entries blocks) entry.now }
 {
     if find_end(blocks, entry).is_some() {
         return &[];
@@ -55,76 +44,11 @@ pub(crate) fn parts_of<'a>(blocks: bool, entry: &'a Entry) -> &'a [Part]
     }
 }
 
-/// Adds the steps to, across and from part i, if there is its chip.
-fn join_one<'a>(
-    entries: &'a [Entry],
-    known: &[Option<Known<'a>>],
-    i: usize,
-    part: &'a Part,
-    edges: &mut Vec<Edge<'a>>,
-) -> Result<(), LoopError>
-    requires part { i + 1 < 2 ^ 64 }
-    requires long { length known.now ≡ length entries.now }
-    ensures kept { OnOk result (AreKept edges.old.items edges.new.items) }
-    ensures has { OnOk result (HasSteps entries.now known.now edges.new.items i part.now) }
-{
-    match place(entries, part.chip.as_bytes()) {
-        None => Ok(()),
-        Some(k) => match &known[k] {
-            None => Err(LoopError::NotShown),
-            Some(inside) => {
-                join_part(i, &entries[k], part, inside.dependencies.as_slice(), edges)?;
-                Ok(())
-            }
-        },
-    }
-}
-
-/// The own graph of a chip with these parts.
-fn graph_of<'a>(
-    alloc: Global,
-    entries: &'a [Entry],
-    known: &[Option<Known<'a>>],
-    parts: &'a [Part],
-) -> Result<Vec<Edge<'a>>, LoopError>
-    requires few { length parts.now + 1 < 2 ^ 64 }
-    requires long { length known.now ≡ length entries.now }
-    ensures { IfOk result (λ v. HasAllSteps entries.now known.now v.items parts.now) }
-{
-    let mut edges = Vec::new(alloc);
-    for (i, part) in parts.iter().enumerate() {
-        join_one(entries, known, i, part, &mut edges)?;
-    }
-    Ok(edges)
-}
-
 /// What a look at one chip gives: what is known of it, or the nets of a loop.
 #[derive(Drop)]
 pub(crate) enum Look<'a> {
     Fine(Known<'a>),
     Loop(Vec<Name>),
-}
-
-/// What is known of a chip whose bits are in order.
-fn know<'a>(
-    alloc: Global,
-    entry: &'a Entry,
-    edges: Vec<Edge<'a>>,
-    graph: &Numbered<'a>,
-    ranks: &Ranks<'a>,
-) -> Result<Known<'a>, LoopError>
-    ensures edges { IfOk result (λ inside. inside.edges ≡ edges.entry) }
-    ensures rise { IfOk result (λ inside. AllRise ranks.now inside.edges.items) }
-    ensures reached { IfOk result (λ inside. (n : List ℕ) (b : ℕ) → HasBit entry.now.chip.inputs n b → HasReached inside.edges.items entry.now inside.dependencies.items n b) }
-{
-    if !ranks.all_rise(edges.as_slice()) {
-        return Err(LoopError::NotShown);
-    }
-    let dependencies = summarize(alloc, entry, edges.as_slice(), graph)?;
-    Ok(Known {
-        edges,
-        dependencies,
-    })
 }
 
 /// Looks at a chip that is no end, behind those of its parts.
@@ -134,23 +58,25 @@ fn look_at<'a>(
     blocks: bool,
     known: &[Option<Known<'a>>],
     entry: &'a Entry,
-) -> Result<Look<'a>, LoopError>
+    depth: usize,
+) -> Result<Look<'a>, AllocError>
     requires no_end { end_of blocks entry.now ≡ None }
-    requires long { length known.now ≡ length entries.now }
+    requires right { AreKnown (chips_in entries.now blocks) known.now }
+    requires done { PartsDone (chips_in entries.now blocks) known.now entry.now }
+    requires nests { Nests depth (chips_in entries.now blocks) entry.now }
     ensures { IfOk result (LooksRight (chips_in entries.now blocks) known.now entry.now) }
 {
-    let parts = parts_of(blocks, entry);
-    let edges = graph_of(alloc, entries, known, parts)?;
-    let graph = Numbered::new(alloc, edges.as_slice())?;
-    match graph.arrange(alloc)? {
-        Found::Circle(circle) => {
-            let way = circle.as_slice();
-            let nets = nets_of(alloc, entries, blocks, known, entry, edges.as_slice(), way)?;
+    let hops = graph_of(alloc, entries, blocks, known, parts_of(blocks, entry))?;
+    let list = hops.as_slice();
+    let graph = Numbered::new(alloc, list)?;
+    match circle_in(alloc, list, &graph)? {
+        Some(circle) => {
+            let nets = nets_of(alloc, entries, blocks, known, entry, &circle, depth)?;
             Ok(Look::Loop(nets))
         }
-        Found::Order(ranks) => {
-            let inside = know(alloc, entry, edges, &graph, &ranks)?;
-            Ok(Look::Fine(inside))
+        None => {
+            let trees = trees_of(alloc, entry, list, &graph)?;
+            Ok(Look::Fine(Known { hops, trees }))
         }
     }
 }
@@ -165,55 +91,89 @@ fn is_known(known: &[Option<Known>], k: usize) -> bool
     }
 }
 
+/// Notes what is known of chip k, unless that is noted.
 fn note<'a>(known: &mut [Option<Known<'a>>], k: usize, inside: Known<'a>)
     requires { k < length known.old }
-    ensures { known.new ≡ slice_set known.old k (Some inside.entry) }
+    ensures { Notes known.old known.new k inside.entry }
 {
-    known[k] = Some(inside);
+    match &known[k] {
+        Some(_inside) => {}
+        None => known[k] = Some(inside),
+    }
 }
 
-/// The nets of a loop in the parts of a chip.
+/// The nets of a loop in the chip of a part, if there is its chip; none, and that is known, if it is no end.
+#[cycle(tree)]
+fn find_in_part<'a>(
+    alloc: Global,
+    entries: &'a [Entry],
+    blocks: bool,
+    known: &mut [Option<Known<'a>>],
+    part: &'a Part,
+    depth: usize,
+) -> Result<Option<Vec<Name>>, AllocError>
+    requires long { length known.old ≡ length entries.now }
+    requires right { AreKnown (chips_in entries.now blocks) known.old }
+    requires nests { PartNests depth (chips_in entries.now blocks) part.now }
+    ensures right { OnOk result (AreKnown (chips_in entries.now blocks) known.new) }
+    ensures stay { OnOk result (StaysKnown known.old known.new) }
+    ensures done { IfOk result (λ r. r ≡ None → PartDone (chips_in entries.now blocks) known.new part.now) }
+    ensures told { IfOk result (PartTells (chips_in entries.now blocks) part.now) }
+{
+    match place(entries, part.chip.as_bytes()) {
+        None => Ok(None),
+        Some(k) => find_in(alloc, entries, blocks, known, k, depth),
+    }
+}
+
+/// The nets of a loop in the parts of a chip; none, and their chips are known.
 #[cycle(tree)]
 fn find_in_parts<'a>(
     alloc: Global,
     entries: &'a [Entry],
     blocks: bool,
     known: &mut [Option<Known<'a>>],
-    parts: &'a [Part],
+    entry: &'a Entry,
     depth: usize,
-) -> Result<Option<Vec<Name>>, LoopError>
+) -> Result<Option<Vec<Name>>, AllocError>
     requires long { length known.old ≡ length entries.now }
     requires right { AreKnown (chips_in entries.now blocks) known.old }
+    requires nests { PartsNest depth (chips_in entries.now blocks) entry.now }
     ensures right { OnOk result (AreKnown (chips_in entries.now blocks) known.new) }
-    ensures told { IfOk result (λ r. (chip : Entry) → parts.now ≡ parts_in (chips_in entries.now blocks) chip → TellsLoop (chips_in entries.now blocks) chip r) }
+    ensures stay { OnOk result (StaysKnown known.old known.new) }
+    ensures done { IfOk result (λ r. r ≡ None → PartsDone (chips_in entries.now blocks) known.new entry.now) }
+    ensures told { IfOk result (TellsLoop (chips_in entries.now blocks) entry.now) }
 {
+    let parts = parts_of(blocks, entry);
     for part in parts {
-        if let Some(k) = place(entries, part.chip.as_bytes()) {
-            if let Some(nets) = find_in(alloc, entries, blocks, known, k, depth)? {
-                return Ok(Some(nets));
-            }
+        if let Some(nets) = find_in_part(alloc, entries, blocks, known, part, depth)? {
+            return Ok(Some(nets));
         }
     }
     Ok(None)
 }
 
-/// Looks at chip k, which is not known, and whose parts are.
+/// Looks at chip k, which is no end, and whose parts are known.
 fn find_here<'a>(
     alloc: Global,
     entries: &'a [Entry],
     blocks: bool,
     known: &mut [Option<Known<'a>>],
     k: usize,
-) -> Result<Option<Vec<Name>>, LoopError>
+    depth: usize,
+) -> Result<Option<Vec<Name>>, AllocError>
     requires long { length known.old ≡ length entries.now }
     requires there { k < length entries.now }
     requires right { AreKnown (chips_in entries.now blocks) known.old }
     requires no_end { (entry : Entry) → slice_get entries.now k ≡ Some entry → end_of blocks entry ≡ None }
+    requires done { (entry : Entry) → slice_get entries.now k ≡ Some entry → PartsDone (chips_in entries.now blocks) known.old entry }
+    requires nests { NestsAt depth (chips_in entries.now blocks) k }
     ensures right { OnOk result (AreKnown (chips_in entries.now blocks) known.new) }
+    ensures stay { OnOk result (StaysKnown known.old known.new) }
     ensures done { IfOk result (λ r. r ≡ None → IsKnown known.new k) }
     ensures told { IfOk result (λ r. (chip : Entry) → slice_get entries.now k ≡ Some chip → TellsLoop (chips_in entries.now blocks) chip r) }
 {
-    match look_at(alloc, entries, blocks, known, &entries[k])? {
+    match look_at(alloc, entries, blocks, known, &entries[k], depth)? {
         Look::Loop(nets) => Ok(Some(nets)),
         Look::Fine(inside) => {
             note(known, k, inside);
@@ -222,36 +182,7 @@ fn find_here<'a>(
     }
 }
 
-/// Chip k, which is an end.
-fn find_end_here<'a>(
-    alloc: Global,
-    entries: &'a [Entry],
-    blocks: bool,
-    known: &mut [Option<Known<'a>>],
-    k: usize,
-    end: End,
-) -> Result<(), AllocError>
-    requires long { length known.old ≡ length entries.now }
-    requires there { k < length entries.now }
-    requires right { AreKnown (chips_in entries.now blocks) known.old }
-    requires is { (entry : Entry) → slice_get entries.now k ≡ Some entry → end_of blocks entry ≡ Some end }
-    ensures right { OnOk result (AreKnown (chips_in entries.now blocks) known.new) }
-    ensures done { OnOk result (IsKnown known.new k) }
-{
-    let dependencies = summarize_end(alloc, end, &entries[k])?;
-    let edges = Vec::new(alloc);
-    note(
-        known,
-        k,
-        Known {
-            edges,
-            dependencies,
-        },
-    );
-    Ok(())
-}
-
-/// The nets of a loop in chip k, in which chips nest no deeper than this; none, and the chip is known.
+/// The nets of a loop in chip k, in which chips nest less deep than this; none, and the chip is known, if it is no end.
 #[cycle(tree)]
 fn find_in<'a>(
     alloc: Global,
@@ -260,31 +191,27 @@ fn find_in<'a>(
     known: &mut [Option<Known<'a>>],
     k: usize,
     depth: usize,
-) -> Result<Option<Vec<Name>>, LoopError>
+) -> Result<Option<Vec<Name>>, AllocError>
     requires long { length known.old ≡ length entries.now }
     requires there { k < length entries.now }
     requires right { AreKnown (chips_in entries.now blocks) known.old }
+    requires nests { NestsAt depth (chips_in entries.now blocks) k }
     ensures right { OnOk result (AreKnown (chips_in entries.now blocks) known.new) }
-    ensures done { IfOk result (λ r. r ≡ None → IsKnown known.new k) }
+    ensures stay { OnOk result (StaysKnown known.old known.new) }
+    ensures done { IfOk result (λ r. r ≡ None → IsDone (chips_in entries.now blocks) known.new k) }
     ensures told { IfOk result (λ r. (chip : Entry) → slice_get entries.now k ≡ Some chip → TellsLoop (chips_in entries.now blocks) chip r) }
 {
     if is_known(known, k) {
         return Ok(None);
     }
-    if depth == 0 {
-        return Err(LoopError::NotShown);
-    }
     match find_end(blocks, &entries[k]) {
-        Some(end) => {
-            find_end_here(alloc, entries, blocks, known, k, end)?;
-            Ok(None)
-        }
+        Some(_end) => Ok(None),
         None => {
-            let parts = parts_of(blocks, &entries[k]);
-            if let Some(nets) = find_in_parts(alloc, entries, blocks, known, parts, depth - 1)? {
+            let entry = &entries[k];
+            if let Some(nets) = find_in_parts(alloc, entries, blocks, known, entry, depth - 1)? {
                 return Ok(Some(nets));
             }
-            find_here(alloc, entries, blocks, known, k)
+            find_here(alloc, entries, blocks, known, k, depth)
         }
     }
 }
@@ -312,14 +239,14 @@ fn nothing_known<'a>(alloc: Global, n: usize) -> Result<Vec<Option<Known<'a>>>, 
 }
 
 /// Looks for a loop of the chip of this name, which has no other fault. None is answered only where it has none, and nets
-/// only where it has a loop with these nets, each once and named as in the outermost chip that has a name for it. That
-/// `NotShown` never comes is not proved.
+/// only where it has a loop with these nets, each once and named as in the outermost chip that has a name for it. Only want
+/// of memory is an error.
 pub fn find_loop(
     alloc: Global,
     library: &Library,
     top: &Name,
     blocks: bool,
-) -> Result<Option<Vec<Name>>, LoopError>
+) -> Result<Option<Vec<Name>>, AllocError>
     requires { TopIsFaultless (chips_in library.now.entries blocks) top.now }
     ensures none { IfOk result (λ r. r ≡ None → (entry : Entry) (nets : List (List ℕ)) → find_chip (chips_in library.now.entries blocks) top.now ≡ Some entry → IsLoop (chips_in library.now.entries blocks) entry nets → ⊥) }
     ensures told { IfOk result (λ r. MatchOption r (Unit {0}) (λ nets. (entry : Entry) × (find_chip (chips_in library.now.entries blocks) top.now ≡ Some entry) × (IsLoop (chips_in library.now.entries blocks) entry nets.items))) }

@@ -1,184 +1,133 @@
-//! The own graph of a chip: the steps between the bits of its nets and pins, and of the pins of its parts.
+//! The own graph of a chip: the hops between the bits of its nets and pins, each through a part.
 
-ghost use Rattle.std.specs.Prelude.{◌≡◌, ℕ, ◌+◌, ◌<◌, ◌^◌, suc, OnOk, slice_get, Some};
-ghost use Rattle.hdl_tree.specs.declared.tree.Connection.{Connection};
-ghost use Rattle.hdl_loops.specs.Inner.Steps.{AreKept, HasStep, HasJoint, HasJoints, HasCrossings, HasPart};
+ghost use Rattle.std.specs.Prelude.{◌≡◌, ◌<◌, ◌++◌, OnOk, IfOk, length};
+ghost use Rattle.hdl_elab.specs.Whole.{chips_in};
+ghost use Rattle.hdl_loops.specs.Inner.Ties.{tie_of, ties_of, gather};
+ghost use Rattle.hdl_loops.specs.Inner.Knowing.{leads_through, leaps_of, leap_by, leaps_from, leaps_through, part_leaps};
 
-use crate::width::{count_bits, first_bit, pin_width, takes_in};
-use hdl_tree::{Connection, Entry, Part, Selection, Source};
-use std::alloc::AllocError;
+use crate::find::place;
+use crate::hops::{Dependency, Hop};
+use crate::joint::{Joint, joints_of};
+use crate::known::{Known, crosses};
+use hdl_tree::{Entry, Part};
+use std::alloc::{AllocError, Global};
 
-/// A bit of the chip, at place 0, or of a pin of part i, at place i + 1.
-#[derive(Clone, Copy, Debug, PartialEq, Eq, Hash)]
-pub struct Vertex<'a> {
-    pub place: usize,
-    pub name: &'a [u8],
-    pub bit: u32,
-}
-
-/// A step from one bit to another.
-#[derive(Clone, Copy, Debug)]
-pub struct Edge<'a> {
-    pub from: Vertex<'a>,
-    pub to: Vertex<'a>,
-}
-
-/// An output bit of a chip that depends on an input bit.
-#[derive(Clone, Copy, Debug, PartialEq, Eq, Hash)]
-pub struct Dependency<'a> {
-    pub input: &'a [u8],
-    pub bit: u32,
-    pub output: &'a [u8],
-    pub out: u32,
-}
-
-/// Adds bit k of a connection of part i.
-fn join_bit<'a>(
-    i: usize,
-    pin: &'a Selection,
-    net: &'a Selection,
-    input: bool,
-    k: u32,
-    edges: &mut Vec<Edge<'a>>,
-) -> Result<(), AllocError>
-    requires part { i + 1 < 2 ^ 64 }
-    requires small { k < 1024 }
-    ensures kept { OnOk result (AreKept edges.old.items edges.new.items) }
-    ensures has { OnOk result (HasJoint edges.new.items i pin.now net.now input k) }
+/// Whether a way goes in by one joint and out by another, through the part's chip.
+fn goes_through<'a>(
+    entries: &[Entry],
+    blocks: bool,
+    known: &[Option<Known<'a>>],
+    chip: usize,
+    enter: &Joint<'a>,
+    leave: &Joint<'a>,
+) -> bool
+    requires { chip < length entries.now }
+    ensures { result ≡ leads_through (chips_in entries.now blocks) known.now chip (tie_of enter.now) (tie_of leave.now) }
 {
-    let outside = Vertex {
-        place: 0,
-        name: net.name.as_bytes(),
-        bit: first_bit(net.subscript) + k,
+    enter.input && !leave.input && crosses(entries, blocks, known, chip, &enter.pin, &leave.pin)
+}
+
+/// Adds the hop that goes in by one joint and out by another, if the part's chip leads from this pin to that.
+fn hop_by<'a>(
+    entries: &[Entry],
+    blocks: bool,
+    known: &[Option<Known<'a>>],
+    chip: usize,
+    enter: &Joint<'a>,
+    leave: &Joint<'a>,
+    hops: &mut Vec<Hop<'a>>,
+) -> Result<(), AllocError>
+    requires { chip < length entries.now }
+    ensures { OnOk result (leaps_of hops.new.items ≡ leaps_of hops.old.items ++ leap_by (chips_in entries.now blocks) known.now chip (tie_of enter.now) (tie_of leave.now)) }
+{
+    if !goes_through(entries, blocks, known, chip, enter, leave) {
+        return Ok(());
+    }
+    let through = Dependency {
+        input: enter.pin.name,
+        bit: enter.pin.bit,
+        output: leave.pin.name,
+        out: leave.pin.bit,
     };
-    let inside = Vertex {
-        place: i + 1,
-        name: pin.name.as_bytes(),
-        bit: first_bit(pin.subscript) + k,
-    };
-    let edge = if input {
-        Edge {
-            from: outside,
-            to: inside,
-        }
-    } else {
-        Edge {
-            from: inside,
-            to: outside,
-        }
-    };
-    edges.push(edge)?;
+    hops.push(Hop {
+        from: enter.net,
+        chip,
+        through,
+        to: leave.net,
+    })?;
     Ok(())
 }
 
-/// Adds the first n bits of a connection of part i.
-fn join_bits<'a>(
-    i: usize,
-    pin: &'a Selection,
-    net: &'a Selection,
-    input: bool,
-    n: u32,
-    edges: &mut Vec<Edge<'a>>,
+/// Adds the hops that go in by this joint.
+fn hops_from<'a>(
+    entries: &[Entry],
+    blocks: bool,
+    known: &[Option<Known<'a>>],
+    chip: usize,
+    enter: &Joint<'a>,
+    joints: &[Joint<'a>],
+    hops: &mut Vec<Hop<'a>>,
 ) -> Result<(), AllocError>
-    requires part { i + 1 < 2 ^ 64 }
-    requires small { n < 1024 }
-    ensures kept { OnOk result (AreKept edges.old.items edges.new.items) }
-    ensures has { OnOk result ((k : ℕ) → k < n → HasJoint edges.new.items i pin.now net.now input k) }
+    requires { chip < length entries.now }
+    ensures { OnOk result (leaps_of hops.new.items ≡ leaps_of hops.old.items ++ leaps_from (chips_in entries.now blocks) known.now chip (ties_of joints.now) (tie_of enter.now)) }
 {
-    for k in 0..n {
-        join_bit(i, pin, net, input, k, edges)?;
+    for leave in joints {
+        hop_by(entries, blocks, known, chip, enter, leave, hops)?;
     }
     Ok(())
 }
 
-/// Adds a connection of part i.
-fn join_connection<'a>(
-    i: usize,
-    inner: &Entry,
-    connection: &'a Connection,
-    edges: &mut Vec<Edge<'a>>,
+/// Adds the hops through a part with these joints.
+fn hops_through<'a>(
+    entries: &[Entry],
+    blocks: bool,
+    known: &[Option<Known<'a>>],
+    chip: usize,
+    joints: &[Joint<'a>],
+    hops: &mut Vec<Hop<'a>>,
 ) -> Result<(), AllocError>
-    requires part { i + 1 < 2 ^ 64 }
-    ensures kept { OnOk result (AreKept edges.old.items edges.new.items) }
-    ensures has { OnOk result (HasJoints edges.new.items i inner.now connection.now) }
+    requires { chip < length entries.now }
+    ensures { OnOk result (leaps_of hops.new.items ≡ leaps_of hops.old.items ++ leaps_through (chips_in entries.now blocks) known.now chip (ties_of joints.now)) }
 {
-    match &connection.source {
-        Source::Constant(_) => Ok(()),
-        Source::Net(net) => {
-            let pin = &connection.pin;
-            let name = pin.name.as_bytes();
-            let n = count_bits(pin.subscript, pin_width(inner, name));
-            join_bits(i, pin, net, takes_in(inner, name), n, edges)
-        }
+    for enter in joints {
+        hops_from(entries, blocks, known, chip, enter, joints, hops)?;
     }
+    Ok(())
 }
 
-/// Adds the connections of part i.
-fn join_connections<'a>(
-    i: usize,
-    inner: &Entry,
+/// Adds the hops through a part, if there is its chip.
+fn hops_of_part<'a>(
+    alloc: Global,
+    entries: &[Entry],
+    blocks: bool,
+    known: &[Option<Known<'a>>],
     part: &'a Part,
-    edges: &mut Vec<Edge<'a>>,
+    hops: &mut Vec<Hop<'a>>,
 ) -> Result<(), AllocError>
-    requires part { i + 1 < 2 ^ 64 }
-    ensures kept { OnOk result (AreKept edges.old.items edges.new.items) }
-    ensures has { OnOk result ((j : ℕ) (conn : Connection) → slice_get part.now.connections j ≡ Some conn → HasJoints edges.new.items i inner.now conn) }
+    ensures { OnOk result (leaps_of hops.new.items ≡ leaps_of hops.old.items ++ part_leaps (chips_in entries.now blocks) known.now part.now) }
 {
-    for connection in part.connections.as_slice() {
-        join_connection(i, inner, connection, edges)?;
+    match place(entries, part.chip.as_bytes()) {
+        None => Ok(()),
+        Some(k) => {
+            let joints = joints_of(alloc, &entries[k], part)?;
+            hops_through(entries, blocks, known, k, joints.as_slice(), hops)
+        }
     }
-    Ok(())
 }
 
-/// Adds a step across part i.
-fn cross_once<'a>(i: usize, d: &Dependency<'a>, edges: &mut Vec<Edge<'a>>) -> Result<(), AllocError>
-    requires part { i + 1 < 2 ^ 64 }
-    ensures kept { OnOk result (AreKept edges.old.items edges.new.items) }
-    ensures has { OnOk result (HasStep edges.new.items (suc i) d.now.input.now d.now.bit (suc i) d.now.output.now d.now.out) }
+/// The own graph of a chip with these parts.
+pub(crate) fn graph_of<'a>(
+    alloc: Global,
+    entries: &[Entry],
+    blocks: bool,
+    known: &[Option<Known<'a>>],
+    parts: &'a [Part],
+) -> Result<Vec<Hop<'a>>, AllocError>
+    ensures { IfOk result (λ v. leaps_of v.items ≡ gather (part_leaps (chips_in entries.now blocks) known.now) parts.now) }
 {
-    let from = Vertex {
-        place: i + 1,
-        name: d.input,
-        bit: d.bit,
-    };
-    let to = Vertex {
-        place: i + 1,
-        name: d.output,
-        bit: d.out,
-    };
-    edges.push(Edge { from, to })?;
-    Ok(())
-}
-
-/// Adds the steps across part i, from what its outputs depend on to these outputs.
-fn cross<'a>(
-    i: usize,
-    dependencies: &[Dependency<'a>],
-    edges: &mut Vec<Edge<'a>>,
-) -> Result<(), AllocError>
-    requires part { i + 1 < 2 ^ 64 }
-    ensures kept { OnOk result (AreKept edges.old.items edges.new.items) }
-    ensures has { OnOk result (HasCrossings edges.new.items i dependencies.now) }
-{
-    for d in dependencies {
-        cross_once(i, d, edges)?;
+    let mut hops = Vec::new(alloc);
+    for part in parts {
+        hops_of_part(alloc, entries, blocks, known, part, &mut hops)?;
     }
-    Ok(())
-}
-
-/// Adds the steps to, across and from part i.
-pub(crate) fn join_part<'a>(
-    i: usize,
-    inner: &Entry,
-    part: &'a Part,
-    dependencies: &[Dependency<'a>],
-    edges: &mut Vec<Edge<'a>>,
-) -> Result<(), AllocError>
-    requires part { i + 1 < 2 ^ 64 }
-    ensures kept { OnOk result (AreKept edges.old.items edges.new.items) }
-    ensures has { OnOk result (HasPart edges.new.items i inner.now part.now dependencies.now) }
-{
-    join_connections(i, inner, part, edges)?;
-    cross(i, dependencies, edges)?;
-    Ok(())
+    Ok(hops)
 }

@@ -1,56 +1,94 @@
-//! Whether a connection of a part joins two bits.
+//! Which bits around a part its connections join to which bits of its pins.
 
-ghost use Rattle.std.specs.Prelude.{◌≡◌, true};
-ghost use Rattle.hdl_loops.specs.Inner.Told.{Connects, HasConnection, LeadsThrough};
+ghost use Rattle.std.specs.Prelude.{◌≡◌, ◌++◌, ◌∷◌, [], ◌<◌, OnOk, IfOk};
+ghost use Rattle.hdl_loops.specs.Inner.Ties.{ties_of, tie, ties_below, ties_in, gather};
 
-use crate::hops::{BitOf, Hop};
+use crate::hops::BitOf;
 use crate::width::{count_bits, first_bit, pin_width, takes_in};
-use hdl_tree::{Connection, Entry, Part, Source};
+use hdl_tree::{Connection, Entry, Part, Selection, Source};
+use std::alloc::{AllocError, Global};
 
-/// Whether a connection joins a bit of a net to a bit of a pin of this chip, an input or none.
-fn connects(inner: &Entry, connection: &Connection, input: bool, net: &BitOf, pin: &BitOf) -> bool
-    ensures { result ≡ true → Connects inner.now connection.now input net.now.name.now net.now.bit pin.now.name.now pin.now.bit }
-{
-    let Source::Net(source) = &connection.source else {
-        return false;
-    };
-    let name = connection.pin.name.as_bytes();
-    if source.name.as_bytes() != net.name || name != pin.name || takes_in(inner, name) != input {
-        return false;
-    }
-    let first = first_bit(source.subscript);
-    if net.bit < first {
-        return false;
-    }
-    let k = net.bit - first;
-    let n = count_bits(connection.pin.subscript, pin_width(inner, name));
-    k < n && pin.bit == first_bit(connection.pin.subscript) + k
+/// A bit of a net or pin that is joined to a bit of a pin of a part, an input or none.
+#[derive(Clone, Copy, Debug)]
+pub struct Joint<'a> {
+    pub input: bool,
+    pub net: BitOf<'a>,
+    pub pin: BitOf<'a>,
 }
 
-/// Whether a connection of the part, which is of this chip, joins a bit of a net to a bit of a pin, an input or none.
-fn has_connection(inner: &Entry, part: &Part, input: bool, net: &BitOf, pin: &BitOf) -> bool
-    ensures { result ≡ true → HasConnection inner.now part.now input net.now.name.now net.now.bit pin.now.name.now pin.now.bit }
+/// Adds bit k of a connection.
+fn join_bit<'a>(
+    pin: &'a Selection,
+    net: &'a Selection,
+    input: bool,
+    k: u32,
+    joints: &mut Vec<Joint<'a>>,
+) -> Result<(), AllocError>
+    requires { k < 1024 }
+    ensures { OnOk result (ties_of joints.new.items ≡ ties_of joints.old.items ++ tie pin.now net.now input k ∷ []) }
 {
-    for connection in part.connections.as_slice() {
-        if connects(inner, connection, input, net, pin) {
-            return true;
+    let joint = Joint {
+        input,
+        net: BitOf {
+            name: net.name.as_bytes(),
+            bit: first_bit(net.subscript) + k,
+        },
+        pin: BitOf {
+            name: pin.name.as_bytes(),
+            bit: first_bit(pin.subscript) + k,
+        },
+    };
+    joints.push(joint)?;
+    Ok(())
+}
+
+/// Adds the first n bits of a connection.
+fn join_bits<'a>(
+    pin: &'a Selection,
+    net: &'a Selection,
+    input: bool,
+    n: u32,
+    joints: &mut Vec<Joint<'a>>,
+) -> Result<(), AllocError>
+    requires { n < 1024 }
+    ensures { OnOk result (ties_of joints.new.items ≡ ties_of joints.old.items ++ ties_below pin.now net.now input n) }
+{
+    for k in 0..n {
+        join_bit(pin, net, input, k, joints)?;
+    }
+    Ok(())
+}
+
+/// Adds a connection of a part of this chip.
+fn join_connection<'a>(
+    inner: &Entry,
+    connection: &'a Connection,
+    joints: &mut Vec<Joint<'a>>,
+) -> Result<(), AllocError>
+    ensures { OnOk result (ties_of joints.new.items ≡ ties_of joints.old.items ++ ties_in inner.now connection.now) }
+{
+    match &connection.source {
+        Source::Constant(_) => Ok(()),
+        Source::Net(net) => {
+            let pin = &connection.pin;
+            let name = pin.name.as_bytes();
+            let n = count_bits(pin.subscript, pin_width(inner, name));
+            join_bits(pin, net, takes_in(inner, name), n, joints)
         }
     }
-    false
 }
 
-/// Whether a hop from this bit goes in and out by connections of the part, which is of this chip.
-pub(crate) fn leads_through(inner: &Entry, part: &Part, from: &BitOf, hop: &Hop) -> bool
-    ensures { result ≡ true → LeadsThrough inner.now part.now from.now hop.now }
+/// What the connections of a part of this chip join.
+pub(crate) fn joints_of<'a>(
+    alloc: Global,
+    inner: &Entry,
+    part: &'a Part,
+) -> Result<Vec<Joint<'a>>, AllocError>
+    ensures { IfOk result (λ v. ties_of v.items ≡ gather (ties_in inner.now) part.now.connections) }
 {
-    let enters = BitOf {
-        name: hop.through.input,
-        bit: hop.through.bit,
-    };
-    let leaves = BitOf {
-        name: hop.through.output,
-        bit: hop.through.out,
-    };
-    has_connection(inner, part, true, from, &enters)
-        && has_connection(inner, part, false, &hop.to, &leaves)
+    let mut joints = Vec::new(alloc);
+    for connection in part.connections.as_slice() {
+        join_connection(inner, connection, &mut joints)?;
+    }
+    Ok(joints)
 }

@@ -1,29 +1,32 @@
 //! Loops of bits (book, chapter 3 and appendix 2), found chip by chip: no chip is made flat.
 //!
-//! Each chip is looked at once, behind the chips of its parts. `graph` lists the steps of its own graph, in which a part is known by which
-//! of its outputs depend on which of its inputs; `search` looks for a circle, or puts the bits in order; `check` sees that an order is
-//! one; `summary` lists which outputs of the chip depend on which inputs; `find` goes through the chips. A circle is seen to be one as its
-//! nets are told: `hops` has its steps, each through one part; `joint` sees that connections of the part join their ends; `names` goes
-//! through the parts, and `told` keeps what is told. What is proved is either answer: that there is no loop, and that the nets are a loop's.
+//! Each chip is looked at once, behind the chips of its parts. `graph` lists the hops of its own graph, each from a bit of the chip through
+//! one part to a bit of the chip: `joint` lists what the part's connections join, and `known` says which outputs of its chip depend on which
+//! inputs. `circle` finds a circle of hops, or sees that there is none: `ranks` that rise along each hop show that. `tree` lists what is
+//! reached from a bit, and by which ways; `search` only proposes, so that both are quick. `find` goes through the chips. `names` goes along
+//! a circle and through the parts, and `told` keeps the nets that it passes. What is proved is each answer: that there is no loop, or that
+//! the nets are a loop's. There is no other but want of memory.
 #![tactic(auto)]
 
-mod check;
-mod fault;
+mod circle;
 mod find;
 mod graph;
 mod hops;
 mod joint;
+mod known;
 mod names;
+mod ranks;
 mod search;
-mod summary;
 mod told;
+mod tree;
 mod width;
 
-pub use fault::LoopError;
 pub use find::find_loop;
 // What the definitions speak of.
-pub use check::{Marks, Ranks};
-pub use find::Known;
-pub use graph::{Dependency, Edge, Vertex};
-pub use hops::{BitOf, Hop};
+pub use circle::Circle;
+pub use hops::{BitOf, Dependency, Hop};
+pub use joint::Joint;
+pub use known::Known;
+pub use ranks::Ranks;
 pub use told::{Passage, Told};
+pub use tree::{Node, Tree};

@@ -1,56 +1,43 @@
-//! The nets of a circle: those of the chip, and between them those of the ways through its parts, each once. Each step is seen to be
-//! one as its nets are told, so nothing rests on how the circle was found.
+//! The nets of a circle: those of the chip, and between them those of the ways through its parts, each once.
 
 ghost use Rattle.std.specs.Prelude.{◌≡◌, ◌<◌, true, OnOk, IfOk, length, slice_get, Some};
 ghost use Rattle.hdl_tree.specs.declared.library.Entry.{Entry};
 ghost use Rattle.hdl_elab.specs.Whole.{chips_in};
 ghost use Rattle.hdl_law.specs.Loops.{IsLoop};
-ghost use Rattle.hdl_loops.specs.Inner.Told.{AreTold, Tells, TellsThrough, EndLeads};
+ghost use Rattle.hdl_loops.specs.Inner.Hops.{input_of, output_of, AreJoined, WayRound};
+ghost use Rattle.hdl_loops.specs.Inner.Knowing.{crosses, HasTrees, AreKnown, AreHops, IsHop, NestsAt, Nests, leads_in, IsWayIn};
+ghost use Rattle.hdl_loops.specs.Inner.Told.{AreTold, Tells, ToldTo, TellsThrough};
 
-use crate::fault::LoopError;
-use crate::find::{Known, parts_of, place};
-use crate::graph::{Dependency, Edge, Vertex};
-use crate::hops::{BitOf, Hop, hops_of, start_of};
-use crate::joint::leads_through;
-use crate::search::{Numbered, turned, way_to};
-use crate::summary::reaches;
+use crate::circle::Circle;
+use crate::hops::{BitOf, Dependency, Hop};
+use crate::known::Known;
 use crate::told::{Passage, Told};
-use hdl_tree::{End, Entry, Name, find_end};
+use hdl_tree::{Entry, Name, find_end};
 use std::alloc::{AllocError, Global};
 
-/// Whether an end leads from the input bit to the output bit within the cycle.
-fn end_leads(end: End, through: &Dependency) -> bool
-    ensures { result ≡ true → EndLeads end through.now }
-{
-    reaches(end, through.input) && through.output == b"out".as_slice()
-}
-
-fn is_same(a: &BitOf, b: &BitOf) -> bool
-    ensures { result ≡ true → (a.now.name.now ≡ b.now.name.now) × (a.now.bit ≡ b.now.bit) }
-{
-    a.name == b.name && a.bit == b.bit
-}
-
-/// The hops of a way between these bits of the chip with these steps, as the search proposes them.
+/// A way through chip k between these bits.
 fn way_through<'a>(
     alloc: Global,
-    edges: &[Edge<'a>],
+    known: &[Option<Known<'a>>],
+    k: usize,
     through: &Dependency<'a>,
-) -> Result<Vec<Hop<'a>>, AllocError> {
-    let from = Vertex {
-        place: 0,
+) -> Result<Vec<Hop<'a>>, AllocError>
+    requires right { HasTrees known.now k }
+    requires leads { leads_in (slice_get known.now k) (input_of through.now) (output_of through.now) ≡ true }
+    ensures { IfOk result (λ v. IsWayIn (slice_get known.now k) (input_of through.now) v.items (output_of through.now)) }
+{
+    let from = BitOf {
         name: through.input,
         bit: through.bit,
     };
-    let to = Vertex {
-        place: 0,
+    let to = BitOf {
         name: through.output,
         bit: through.out,
     };
-    let graph = Numbered::new(alloc, edges)?;
-    let steps = graph.reach(alloc, &from)?;
-    let way = way_to(alloc, edges, steps.as_slice(), &from, &to)?;
-    hops_of(alloc, edges, way.as_slice())
+    match &known[k] {
+        None => unreachable!(),
+        Some(inside) => inside.way(alloc, &from, &to),
+    }
 }
 
 /// Tells the nets of a way through chip k, unless they are told.
@@ -64,8 +51,11 @@ fn pass<'a>(
     through: Dependency<'a>,
     depth: usize,
     told: &mut Told<'a>,
-) -> Result<(), LoopError>
+) -> Result<(), AllocError>
     requires there { k < length entries.now }
+    requires known { AreKnown (chips_in entries.now blocks) known.now }
+    requires crosses { crosses (chips_in entries.now blocks) known.now k (input_of through) (output_of through) ≡ true }
+    requires nests { NestsAt depth (chips_in entries.now blocks) k }
     requires right { AreTold (chips_in entries.now blocks) told.old }
     ensures right { OnOk result (AreTold (chips_in entries.now blocks) told.new) }
     ensures told { OnOk result ((entry : Entry) → slice_get entries.now k ≡ Some entry → TellsThrough (chips_in entries.now blocks) entry through.entry told.old told.new) }
@@ -75,33 +65,19 @@ fn pass<'a>(
         return Ok(());
     }
     let entry = &entries[k];
-    if let Some(end) = find_end(blocks, entry) {
-        if !end_leads(end, &through) {
-            return Err(LoopError::NotShown);
+    match find_end(blocks, entry) {
+        Some(_end) => Ok(()),
+        None => {
+            let way = way_through(alloc, known, k, &through)?;
+            let hops = way.as_slice();
+            follow(alloc, entries, blocks, known, entry, hops, depth, told)?;
+            told.note(passage)?;
+            Ok(())
         }
-        return Ok(());
     }
-    let Some(Some(inside)) = known.get(k) else {
-        return Err(LoopError::NotShown);
-    };
-    let hops = way_through(alloc, inside.edges.as_slice(), &through)?;
-    let from = BitOf {
-        name: through.input,
-        bit: through.bit,
-    };
-    let to = BitOf {
-        name: through.output,
-        bit: through.out,
-    };
-    let way = hops.as_slice();
-    follow(
-        alloc, entries, blocks, known, entry, way, from, to, depth, told,
-    )?;
-    told.note(passage)?;
-    Ok(())
 }
 
-/// Tells what a hop from this bit passes inside its part.
+/// Tells what a hop passes inside its part.
 #[cycle(ways)]
 fn leap<'a>(
     alloc: Global,
@@ -109,43 +85,30 @@ fn leap<'a>(
     blocks: bool,
     known: &[Option<Known<'a>>],
     entry: &'a Entry,
-    from: &BitOf<'a>,
     hop: &Hop<'a>,
     depth: usize,
     told: &mut Told<'a>,
-) -> Result<(), LoopError>
-    requires { AreTold (chips_in entries.now blocks) told.old }
+) -> Result<(), AllocError>
+    requires known { AreKnown (chips_in entries.now blocks) known.now }
+    requires hop { IsHop (chips_in entries.now blocks) known.now entry.now hop.now }
+    requires nests { Nests depth (chips_in entries.now blocks) entry.now }
+    requires right { AreTold (chips_in entries.now blocks) told.old }
     ensures right { OnOk result (AreTold (chips_in entries.now blocks) told.new) }
-    ensures told { OnOk result (Tells (chips_in entries.now blocks) entry.now from.now hop.now.to told.old told.new) }
+    ensures told { OnOk result (Tells (chips_in entries.now blocks) entry.now hop.now.from hop.now.to told.old told.new) }
 {
-    if depth == 0 {
-        return Err(LoopError::NotShown);
-    }
-    let parts = parts_of(blocks, entry);
-    let i = hop.part;
-    if i >= parts.len() {
-        return Err(LoopError::NotShown);
-    }
-    let part = &parts[i];
-    let Some(k) = place(entries, part.chip.as_bytes()) else {
-        return Err(LoopError::NotShown);
-    };
-    if !leads_through(&entries[k], part, from, hop) {
-        return Err(LoopError::NotShown);
-    }
     pass(
         alloc,
         entries,
         blocks,
         known,
-        k,
+        hop.chip,
         hop.through,
         depth - 1,
         told,
     )
 }
 
-/// Tells the nets between the ends of a way.
+/// Tells the nets between the ends of a way, which has one hop or more.
 #[cycle(ways)]
 fn follow<'a>(
     alloc: Global,
@@ -154,29 +117,23 @@ fn follow<'a>(
     known: &[Option<Known<'a>>],
     entry: &'a Entry,
     way: &[Hop<'a>],
-    from: BitOf<'a>,
-    to: BitOf<'a>,
     depth: usize,
     told: &mut Told<'a>,
-) -> Result<(), LoopError>
-    requires { AreTold (chips_in entries.now blocks) told.old }
+) -> Result<(), AllocError>
+    requires known { AreKnown (chips_in entries.now blocks) known.now }
+    requires hops { AreHops (chips_in entries.now blocks) known.now entry.now way.now }
+    requires some { 0 < length way.now }
+    requires joined { AreJoined way.now }
+    requires nests { Nests depth (chips_in entries.now blocks) entry.now }
+    requires right { AreTold (chips_in entries.now blocks) told.old }
     ensures right { OnOk result (AreTold (chips_in entries.now blocks) told.new) }
-    ensures told { OnOk result (Tells (chips_in entries.now blocks) entry.now from.entry to.entry told.old told.new) }
+    ensures told { OnOk result (ToldTo (chips_in entries.now blocks) entry.now way.now (length way.now) told.old told.new) }
 {
-    let Some((first, rest)) = way.split_first() else {
-        return Err(LoopError::NotShown);
-    };
-    leap(
-        alloc, entries, blocks, known, entry, &from, first, depth, told,
-    )?;
-    let mut at = first.to;
-    for hop in rest {
-        told.add(at.name)?;
-        leap(alloc, entries, blocks, known, entry, &at, hop, depth, told)?;
-        at = hop.to;
-    }
-    if !is_same(&at, &to) {
-        return Err(LoopError::NotShown);
+    leap(alloc, entries, blocks, known, entry, &way[0], depth, told)?;
+    for k in 1..way.len() {
+        let hop = &way[k];
+        told.add(hop.from.name)?;
+        leap(alloc, entries, blocks, known, entry, hop, depth, told)?;
     }
     Ok(())
 }
@@ -188,22 +145,18 @@ pub(crate) fn nets_of<'a>(
     blocks: bool,
     known: &[Option<Known<'a>>],
     entry: &'a Entry,
-    edges: &[Edge<'a>],
-    circle: &[usize],
-) -> Result<Vec<Name>, LoopError>
+    circle: &Circle<'a>,
+    depth: usize,
+) -> Result<Vec<Name>, AllocError>
+    requires known { AreKnown (chips_in entries.now blocks) known.now }
+    requires hops { AreHops (chips_in entries.now blocks) known.now entry.now circle.now.way.items }
+    requires round { WayRound circle.now }
+    requires nests { Nests depth (chips_in entries.now blocks) entry.now }
     ensures { IfOk result (λ nets. IsLoop (chips_in entries.now blocks) entry.now nets.items) }
 {
-    let steps = turned(alloc, edges, circle)?;
-    let Some(from) = start_of(edges, steps.as_slice()) else {
-        return Err(LoopError::NotShown);
-    };
-    let hops = hops_of(alloc, edges, steps.as_slice())?;
-    let way = hops.as_slice();
-    let depth = entries.len();
+    let way = circle.way.as_slice();
     let mut told = Told::new(alloc);
-    told.add(from.name)?;
-    follow(
-        alloc, entries, blocks, known, entry, way, from, from, depth, &mut told,
-    )?;
+    told.add(circle.at.name)?;
+    follow(alloc, entries, blocks, known, entry, way, depth, &mut told)?;
     Ok(told.copied(alloc)?)
 }

@@ -1,24 +1,24 @@
-//! Searches of a graph: an order of its bits or a circle, and what is reached from a bit. What they find is looked at by those who ask:
-//! nothing rests on it here.
+//! Searches of a graph: an order of its bits or a bit of a circle, and what is reached from a bit. What they find are proposals, by which
+//! those who ask come to an answer at once: nothing rests on them.
 
-use crate::check::Ranks;
-use crate::graph::{Edge, Vertex};
-use indexmap::{IndexMap, IndexSet};
+use crate::hops::{BitOf, Hop};
+use crate::ranks::Ranks;
+use indexmap::IndexSet;
 use std::alloc::{AllocError, Global};
 
-/// The bits of a graph by number, and for each the steps that leave it; for each step the bit that it leads to.
+/// The bits of a graph by number, and for each the hops that leave it; for each hop the bit that it leads to.
 #[derive(Drop)]
 pub(crate) struct Numbered<'a> {
-    bits: IndexSet<Vertex<'a>>,
+    bits: IndexSet<BitOf<'a>>,
     leaving: Vec<Vec<usize>>,
     leads_to: Vec<usize>,
 }
 
-/// What a search of all bits finds: ranks, which rise along each step, or the steps of a circle.
+/// What a search of all bits finds: ranks, which rise along each hop where there is no circle, and else a bit of one.
 #[derive(Drop)]
-pub(crate) enum Found<'a> {
-    Order(Ranks<'a>),
-    Circle(Vec<usize>),
+pub(crate) struct Proposal<'a> {
+    pub ranks: Ranks<'a>,
+    pub circle: Option<BitOf<'a>>,
 }
 
 #[derive(Clone, Copy, Debug, PartialEq, Eq)]
@@ -28,18 +28,17 @@ enum Stage {
     Done(u32),
 }
 
-/// A bit on the path of a search, how many of the steps that leave it are looked at, and the step that led to it.
+/// A bit on the path of a search, and how many of the hops that leave it are looked at.
 #[derive(Clone, Copy, Debug)]
 struct Visit {
     bit: usize,
     looked: usize,
-    by: usize,
 }
 
 impl<'a> Numbered<'a> {
     /// The number of a bit, which is entered if it is not there.
-    fn enter(&mut self, alloc: Global, vertex: Vertex<'a>) -> Result<usize, AllocError> {
-        match self.bits.insert_full(vertex) {
+    fn enter(&mut self, alloc: Global, bit: BitOf<'a>) -> Result<usize, AllocError> {
+        match self.bits.insert_full(bit) {
             Err(_) => Err(AllocError),
             Ok((number, new)) => {
                 if new {
@@ -50,9 +49,9 @@ impl<'a> Numbered<'a> {
         }
     }
 
-    fn add(&mut self, alloc: Global, number: usize, edge: &Edge<'a>) -> Result<(), AllocError> {
-        let from = self.enter(alloc, edge.from)?;
-        let to = self.enter(alloc, edge.to)?;
+    fn add(&mut self, alloc: Global, number: usize, hop: &Hop<'a>) -> Result<(), AllocError> {
+        let from = self.enter(alloc, hop.from)?;
+        let to = self.enter(alloc, hop.to)?;
         self.leads_to.push(to)?;
         if let Some(steps) = self.leaving.get_mut(from) {
             steps.push(number)?;
@@ -60,23 +59,22 @@ impl<'a> Numbered<'a> {
         Ok(())
     }
 
-    pub(crate) fn new(alloc: Global, edges: &[Edge<'a>]) -> Result<Numbered<'a>, AllocError> {
+    pub(crate) fn new(alloc: Global, hops: &[Hop<'a>]) -> Result<Numbered<'a>, AllocError> {
         let mut graph = Numbered {
             bits: IndexSet::new(alloc),
             leaving: Vec::new(alloc),
             leads_to: Vec::new(alloc),
         };
-        for (number, edge) in edges.iter().enumerate() {
-            graph.add(alloc, number, edge)?;
+        for (number, hop) in hops.iter().enumerate() {
+            graph.add(alloc, number, hop)?;
         }
         Ok(graph)
     }
 
-    /// The step in place k of those that leave a bit, and the bit that it leads to.
-    fn step(&self, bit: usize, k: usize) -> Option<(usize, usize)> {
+    /// Where the hop in place k of those that leave a bit leads.
+    fn step(&self, bit: usize, k: usize) -> Option<usize> {
         let step = *self.leaving.get(bit)?.get(k)?;
-        let to = *self.leads_to.get(step)?;
-        Some((step, to))
+        self.leads_to.get(step).copied()
     }
 
     /// More than the turns that a search takes.
@@ -88,48 +86,40 @@ impl<'a> Numbered<'a> {
             .saturating_add(2)
     }
 
-    /// Looks at all that is reached from a bit, depth first; the steps of a circle, if one is met.
+    /// Looks at all that is reached from a bit, depth first; a bit of a circle, if one is met.
     fn search(
         &self,
         alloc: Global,
         stages: &mut Vec<Stage>,
         done: &mut u32,
         root: usize,
-    ) -> Result<Option<Vec<usize>>, AllocError> {
+    ) -> Result<Option<usize>, AllocError> {
         let mut path: Vec<Visit> = Vec::new(alloc);
         path.push(Visit {
             bit: root,
             looked: 0,
-            by: 0,
         })?;
         note(stages, root, Stage::Open);
         for _ in 0..self.turns() {
-            let Some(visit) = path.pop() else {
+            let Some(Visit { bit, looked }) = path.pop() else {
                 break;
             };
-            match self.step(visit.bit, visit.looked) {
+            match self.step(bit, looked) {
                 None => {
                     *done = done.saturating_add(1);
-                    note(stages, visit.bit, Stage::Done(*done));
+                    note(stages, bit, Stage::Done(*done));
                 }
-                Some((step, to)) => {
+                Some(to) => {
                     path.push(Visit {
-                        bit: visit.bit,
-                        looked: visit.looked.saturating_add(1),
-                        by: visit.by,
+                        bit,
+                        looked: looked.saturating_add(1),
                     })?;
                     match stages.get(to).copied() {
                         Some(Stage::New) => {
-                            path.push(Visit {
-                                bit: to,
-                                looked: 0,
-                                by: step,
-                            })?;
+                            path.push(Visit { bit: to, looked: 0 })?;
                             note(stages, to, Stage::Open);
                         }
-                        Some(Stage::Open) => {
-                            return Ok(Some(circle_from(alloc, path.as_slice(), to, step)?));
-                        }
+                        Some(Stage::Open) => return Ok(Some(to)),
                         _ => {}
                     }
                 }
@@ -149,23 +139,26 @@ impl<'a> Numbered<'a> {
         Ok(ranks)
     }
 
-    /// An order of the bits, or a circle.
-    pub(crate) fn arrange(&self, alloc: Global) -> Result<Found<'a>, AllocError> {
+    /// Ranks of the bits, or a bit of a circle.
+    pub(crate) fn arrange(&self, alloc: Global) -> Result<Proposal<'a>, AllocError> {
         let n = self.leaving.len();
         let mut stages = vec![in alloc; Stage::New; n]?;
         let mut done: u32 = 0;
+        let mut circle = None;
         for root in 0..n {
             if stages.get(root).copied() == Some(Stage::New) {
-                if let Some(circle) = self.search(alloc, &mut stages, &mut done, root)? {
-                    return Ok(Found::Circle(circle));
+                if let Some(bit) = self.search(alloc, &mut stages, &mut done, root)? {
+                    circle = self.bits.get_index(bit).copied();
+                    break;
                 }
             }
         }
-        Ok(Found::Order(self.ranks(alloc, stages.as_slice())?))
+        let ranks = self.ranks(alloc, stages.as_slice())?;
+        Ok(Proposal { ranks, circle })
     }
 
-    /// The steps by which each bit that is reached from this one is reached first, in order.
-    pub(crate) fn reach(&self, alloc: Global, from: &Vertex<'a>) -> Result<Vec<usize>, AllocError> {
+    /// The hops by which each bit that is reached from this one is reached first, in order.
+    pub(crate) fn reach(&self, alloc: Global, from: &BitOf<'a>) -> Result<Vec<usize>, AllocError> {
         let mut steps = Vec::new(alloc);
         let Some(root) = self.bits.get_index_of(from) else {
             return Ok(steps);
@@ -182,7 +175,7 @@ impl<'a> Numbered<'a> {
         Ok(steps)
     }
 
-    /// Goes on to what the steps that leave a bit lead to.
+    /// Goes on to what the hops that leave a bit lead to.
     fn reach_on(
         &self,
         bit: usize,
@@ -212,88 +205,4 @@ fn note(stages: &mut Vec<Stage>, bit: usize, stage: Stage) {
     if let Some(old) = stages.get_mut(bit) {
         *old = stage;
     }
-}
-
-/// The steps of the path from this bit on, and one more.
-fn circle_from(
-    alloc: Global,
-    path: &[Visit],
-    bit: usize,
-    last: usize,
-) -> Result<Vec<usize>, AllocError> {
-    let mut circle = Vec::new(alloc);
-    let mut inside = false;
-    for visit in path {
-        if inside {
-            circle.push(visit.by)?;
-        }
-        if visit.bit == bit {
-            inside = true;
-        }
-    }
-    circle.push(last)?;
-    Ok(circle)
-}
-
-/// A way to a bit by steps that reach it, of which those before the last are found from it back.
-pub(crate) fn way_to<'a>(
-    alloc: Global,
-    edges: &[Edge<'a>],
-    steps: &[usize],
-    from: &Vertex<'a>,
-    to: &Vertex<'a>,
-) -> Result<Vec<usize>, AllocError> {
-    let mut by: IndexMap<Vertex<'a>, usize> = IndexMap::new(alloc);
-    for step in steps {
-        if let Some(edge) = edges.get(*step) {
-            match by.insert(edge.to, *step) {
-                Ok(_) => {}
-                Err(_) => return Err(AllocError),
-            }
-        }
-    }
-    let mut way = Vec::new(alloc);
-    let mut at = *to;
-    for _ in 0..steps.len() {
-        let Some(step) = by.get(&at).copied() else {
-            break;
-        };
-        way.push(step)?;
-        let Some(edge) = edges.get(step) else {
-            break;
-        };
-        at = edge.from;
-        if at == *from {
-            break;
-        }
-    }
-    way.reverse();
-    Ok(way)
-}
-
-/// The circle with the steps from the first one on that leaves a bit of the chip itself, round to it.
-pub(crate) fn turned(
-    alloc: Global,
-    edges: &[Edge],
-    circle: &[usize],
-) -> Result<Vec<usize>, AllocError> {
-    let mut before = Vec::new(alloc);
-    let mut turned = Vec::new(alloc);
-    let mut begun = false;
-    for step in circle {
-        if let Some(edge) = edges.get(*step) {
-            if edge.from.place == 0 {
-                begun = true;
-            }
-        }
-        if begun {
-            turned.push(*step)?;
-        } else {
-            before.push(*step)?;
-        }
-    }
-    for step in before.as_slice() {
-        turned.push(*step)?;
-    }
-    Ok(turned)
 }

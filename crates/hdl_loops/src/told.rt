@@ -3,7 +3,7 @@
 ghost use Rattle.std.specs.Prelude.{◌≡◌, [], OnOk, IfOk, map};
 ghost use Rattle.hdl_loops.specs.Inner.Told.{names_of, was_passed, add_name, NotesOne};
 
-use crate::graph::Dependency;
+use crate::hops::Dependency;
 use hdl_tree::Name;
 use indexmap::IndexSet;
 use std::alloc::{AllocError, Global};

@@ -1,7 +1,8 @@
 -- A run of the virtual machine over a program's code follows the program's meaning.
 use Rattle.std.proofs.Common.{◌≡◌, ◌⊎◌, inl, inr, ℕ, zero, suc, ◌+◌, ◌-◌, ◌<◌, ◌≤◌, true, false, List, [], ◌++◌, refl, sym, ap, ◌∙◌, subst, arith}
-use Rattle.std.specs.Prelude.{Option, Some, None}
-use Rattle.layers.specs.System.{System, IsKey, keys_heard, Listening, run_of}
+use Rattle.std.specs.Prelude.{Option, Some, None, option_and_then, option_map, if◌then◌else◌}
+use Rattle.std.proofs.lemmas.Bool.{cases_lt}
+use Rattle.layers.specs.System.{System, IsKey, first_key, keys_heard, other_keys, Listening, run_of, step_from}
 use Rattle.layers.specs.Trace.{steps, heard}
 use Rattle.layers.specs.Layers.{lands, rests, strays, Along, last, onward, Way, Simulates, ready}
 use Rattle.layers.specs.Headline.{CarriesRun}
@@ -30,7 +31,7 @@ use Rattle.jack_compiler.specs.Templates.{Numbers}
 use Rattle.jack_compiler.specs.Fits.{IsFit}
 use Rattle.jack_compiler.specs.Match.{IsCodeOf, Match}
 use Rattle.jack_compiler.specs.Astray.{StraysAt}
-use Rattle.jack_compiler.specs.Runs.{Moves, moves_trace, TameFor, Answers, VmRunLaw}
+use Rattle.jack_compiler.specs.Runs.{GoesOn, Moves, moves_trace, TameFor, Answers, VmRunLaw}
 use Rattle.jack_compiler.proofs.Starts.{simulation}
 
 -- every command costs something
@@ -177,6 +178,85 @@ module _ (program : Program) (numbers : Numbers) (linked : Linked) (depth most_l
         let at = stands_there up (start program) (vm_system linked) (vm_cost most_steps linked) (Match program numbers linked depth) (λ s. gap depth most_locals - 16) (gap depth most_locals) n keys state (carries n run) n (omega arith) tame in
         (at.after, at.run, answer_is at.after (origin at.after at.run at.since) at.left at.pend at.way (vm_step linked (keys n) (state n)) refl)
 
+  -- a machine on the way of a step that the meaning makes goes on to the commit
+  module _ (goes : GoesOn linked keys state) (u u' : State) (key : ℕ) (makes : up.step key u ≡ Some u') where
+    -- the first moves to a commit after move c
+    abbrev Arrives : ℕ → Type 0
+    Arrives c = (e : ℕ) × (c < e) × Moves linked keys state e × (steps (moves_trace linked keys state) c < steps (moves_trace linked keys state) e)
+
+    no_step : (o : Option State) → o ≡ Some u' → o ≡ None → ⊥
+    no_step o e d = cc
+
+    one_more : (c : ℕ) → Moves linked keys state c → (v : VmState) → (vm_system linked).step (keys c) (state c) ≡ Some v → Moves linked keys state (suc c)
+    one_more c run v made = record { begins = run.begins; key_words = run.key_words; moves = λ j near. by j near (cases_lt j c) }
+      where
+        last_made : (vm_system linked).step (keys c) (state c) ≡ Some (state (suc c))
+        last_made = made ∙ ap Some (sym (goes c v made))
+
+        by : (j : ℕ) → j < suc c → (j < c) ⊎ (c ≤ j) → (vm_system linked).step (keys j) (state j) ≡ Some (state (suc j))
+        by j near (inl before) = run.moves j before
+        by j near (inr from) =
+            let same : c ≡ j = omega (arith, near, from) in
+            subst (λ k. (vm_system linked).step (keys k) (state k) ≡ Some (state (suc k))) same last_made
+
+    counts : (c : ℕ) → (vm_system linked).commits (state c) ≡ true → steps (moves_trace linked keys state) (suc c) ≡ suc (steps (moves_trace linked keys state) c)
+    counts c e = ap (λ b. if b then suc (steps (moves_trace linked keys state) c) else steps (moves_trace linked keys state) c) e
+
+    stays : (c : ℕ) → (vm_system linked).commits (state c) ≡ false → steps (moves_trace linked keys state) (suc c) ≡ steps (moves_trace linked keys state) c
+    stays c e = ap (λ b. if b then suc (steps (moves_trace linked keys state) c) else steps (moves_trace linked keys state) c) e
+
+    arrives : (m c : ℕ) (pend : List ℕ) (v : VmState) → Moves linked keys state c → state c ≡ v → Way up (vm_system linked) (vm_cost most_steps linked) (Match program numbers linked depth) u m pend v → Arrives c
+    arrives m c pend v run here (last _ _ _ (lands _ _ x) cost) =
+        let y = x.leads (keys c) (run.key_words c) in
+        let made = ap ((vm_system linked).step (keys c)) here ∙ y.6 in
+        let commit = ap (vm_system linked).commits here ∙ x.commit ∙ (meaning.level program).commits u in
+        (suc c, omega arith, one_more c run y.5 made, omega (arith, counts c commit))
+    arrives m c pend v run here (last _ _ _ (rests _ x) cost) = absurd (no_step (up.step key u) makes ((meaning.level program).stops u key x.upper))
+    arrives m c pend v run here (last _ _ _ (strays _ x) cost) = absurd (no_step (up.step key u) makes ((meaning.level program).deaf u key 0 x.deaf.0 ∙ x.none 0 (omega arith)))
+    arrives m c pend v run here (onward _ k _ _ s quiet cost to moves ways) =
+        let key_word = run.key_words c in
+        let made = ap ((vm_system linked).step (keys c)) here ∙ moves (keys c) key_word in
+        let (e, later, more, less) = arrives k (suc c) _ (to (keys c) key_word) (one_more c run (to (keys c) key_word) made) (goes c (to (keys c) key_word) made) (ways (keys c) key_word) in
+        (e, omega (arith, later), more, omega (arith, less, stays c (ap (vm_system linked).commits here ∙ quiet)))
+
+  -- the step that is tame is made
+  made_of : (l after : Listening State) → step_from up l ≡ Some after → (s : State) × (up.step (first_key l.keys) l.state ≡ Some s)
+  made_of l after e = by (up.step (first_key l.keys) l.state) refl e
+    where
+      by : (o : Option State) → up.step (first_key l.keys) l.state ≡ o → option_map (λ s. record { state = s; keys = if up.hears l.state then other_keys l.keys else l.keys }) o ≡ Some after
+          → (s : State) × (up.step (first_key l.keys) l.state ≡ Some s)
+      by None same e = absurd (let no : ⊥ = cc in no)
+      by (Some s) same e = (s, same)
+
+  fewer : (n m : ℕ) → n ≤ m → Moves linked keys state m → Moves linked keys state n
+  fewer n m below run = record { begins = run.begins; key_words = run.key_words; moves = λ c near. run.moves c (omega (arith, below, near)) }
+
+  within_gap : (n : ℕ) → Moves linked keys state (n + gap depth most_locals) → TameFor program linked keys state n (suc (steps (moves_trace linked keys state) n))
+      → steps (moves_trace linked keys state) n < steps (moves_trace linked keys state) (n + gap depth most_locals)
+  within_gap n run tame =
+      (following up (start program) (vm_system linked) (vm_cost most_steps linked) (Match program numbers linked depth) (λ s. gap depth most_locals - 16) (gap depth most_locals) (n + gap depth most_locals) keys state
+      (carries (n + gap depth most_locals) run) n (omega arith)).goes_on tame
+
+  pub goes_on : (n : ℕ) → GoesOn linked keys state → Moves linked keys state n → TameFor program linked keys state n (suc (steps (moves_trace linked keys state) n))
+      → (k : ℕ) × (k ≤ gap depth most_locals) × Moves linked keys state (n + k) × (steps (moves_trace linked keys state) n < steps (moves_trace linked keys state) (n + k))
+  goes_on n goes run tame =
+      let at = stands_there up (start program) (vm_system linked) (vm_cost most_steps linked) (Match program numbers linked depth) (λ s. gap depth most_locals - 16) (gap depth most_locals) n keys state (carries n run) n (omega arith) (λ j near. tame j (omega (arith, near))) in
+      let made = tame (suc (steps (moves_trace linked keys state) n)) (omega arith) in
+      let step_made = made_of at.after made.0 (sym (ap (option_and_then (step_from up)) at.run) ∙ made.1) in
+      let (e, later, moves, less) = arrives goes at.after.state step_made.0 (first_key at.after.keys) step_made.1 at.left n at.pend (state n) run refl at.way in
+      by e later moves less (cases_lt (n + gap depth most_locals) e)
+    where
+      by : (e : ℕ) → n < e → Moves linked keys state e → steps (moves_trace linked keys state) n < steps (moves_trace linked keys state) e → (n + gap depth most_locals < e) ⊎ (e ≤ n + gap depth most_locals)
+          → (k : ℕ) × (k ≤ gap depth most_locals) × Moves linked keys state (n + k) × (steps (moves_trace linked keys state) n < steps (moves_trace linked keys state) (n + k))
+      by e later moves less (inl far) = let near = fewer (n + gap depth most_locals) e (omega (arith, far)) moves in (gap depth most_locals, omega arith, near, within_gap n near tame)
+      by e later moves less (inr near) =
+          let same : e ≡ n + (e - n) = omega (arith, later) in (
+            e - n,
+            omega (arith, near),
+            subst (Moves linked keys state) same moves,
+            subst (λ z. steps (moves_trace linked keys state) n < steps (moves_trace linked keys state) z) same less,
+          )
+
 pub vm_run : VmRunLaw
 vm_run = record {
   agrees = λ program numbers linked depth most_locals fit code keys state n run tame.
@@ -185,8 +265,6 @@ vm_run = record {
   moves_on = λ program numbers linked depth most_locals fit code keys state n run tame.
       moving (meaning_of program.subroutines) (start program) (vm_system linked) (vm_cost most_steps linked) (Match program numbers linked depth) (λ s. gap depth most_locals - 16) (gap depth most_locals) n keys state
       (carries program numbers linked depth most_locals fit code keys state n run) n (omega arith) tame;
-  goes_on = λ program numbers linked depth most_locals fit code keys state n run tame.
-      (following (meaning_of program.subroutines) (start program) (vm_system linked) (vm_cost most_steps linked) (Match program numbers linked depth) (λ s. gap depth most_locals - 16) (gap depth most_locals) (n + gap depth most_locals) keys state
-      (carries program numbers linked depth most_locals fit code keys state (n + gap depth most_locals) run) n (omega arith)).goes_on tame;
+  goes_on = λ program numbers linked depth most_locals fit code keys state n goes run tame. goes_on program numbers linked depth most_locals fit code keys state n goes run tame;
   answers = λ program numbers linked depth most_locals fit code keys state n run tame. answered program numbers linked depth most_locals fit code keys state n run tame;
 }

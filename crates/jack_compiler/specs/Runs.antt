@@ -1,5 +1,5 @@
 -- What a run of the virtual machine over the code of a program says of the program's meaning.
-use Rattle.std.specs.Prelude.{◌≡◌, ◌<◌, ℕ, suc, ◌+◌, Some}
+use Rattle.std.specs.Prelude.{◌≡◌, ◌<◌, ◌≤◌, ℕ, suc, ◌+◌, Some}
 use Rattle.layers.specs.System.{IsKey, Listening, run_of, Tame}
 use Rattle.layers.specs.Trace.{Trace, steps, heard, trace_of}
 use Rattle.layers.specs.Headline.{Agrees}
@@ -22,6 +22,10 @@ module _ (linked : Linked) (keys : ℕ → ℕ) (state : ℕ → VmState) where
     pub begins : state 0 ≡ vm_start
     pub key_words : (c : ℕ) → IsKey (keys c)
     pub moves : (c : ℕ) → c < n → (vm_system linked).step (keys c) (state c) ≡ Some (state (suc c))
+
+  -- As long as there is a next move it is made.
+  abbrev pub GoesOn : Type 0
+  GoesOn = (c : ℕ) (v : VmState) → (vm_system linked).step (keys c) (state c) ≡ Some v → state (suc c) ≡ v
 
   -- what is counted of the moves: the commits, and the keys heard
   abbrev pub moves_trace : Trace
@@ -52,10 +56,10 @@ pub record VmRunLaw : Type 0 where
   pub moves_on : (program : Program) (numbers : Numbers) (linked : Linked) (depth most_locals : ℕ) → IsFit program numbers depth most_locals → IsCodeOf program numbers linked
       → (keys : ℕ → ℕ) (state : ℕ → VmState) (n : ℕ) → Moves linked keys state n → TameFor program linked keys state n (suc (steps (moves_trace linked keys state) n))
       → (v : VmState) × ((vm_system linked).step (keys n) (state n) ≡ Some v)
-  -- it comes to the next commit within as many moves as the gap
+  -- if it makes each move that there is, it makes the next commit, in at most as many moves as the gap
   pub goes_on : (program : Program) (numbers : Numbers) (linked : Linked) (depth most_locals : ℕ) → IsFit program numbers depth most_locals → IsCodeOf program numbers linked
-      → (keys : ℕ → ℕ) (state : ℕ → VmState) (n : ℕ) → Moves linked keys state (n + gap depth most_locals) → TameFor program linked keys state n (suc (steps (moves_trace linked keys state) n))
-      → steps (moves_trace linked keys state) n < steps (moves_trace linked keys state) (n + gap depth most_locals)
+      → (keys : ℕ → ℕ) (state : ℕ → VmState) (n : ℕ) → GoesOn linked keys state → Moves linked keys state n → TameFor program linked keys state n (suc (steps (moves_trace linked keys state) n))
+      → (k : ℕ) × (k ≤ gap depth most_locals) × Moves linked keys state (n + k) × (steps (moves_trace linked keys state) n < steps (moves_trace linked keys state) (n + k))
   -- It is never full. Where it has come to its end, so has the meaning; and where it strays, the meaning strays, at the same address.
   pub answers : (program : Program) (numbers : Numbers) (linked : Linked) (depth most_locals : ℕ) → IsFit program numbers depth most_locals → IsCodeOf program numbers linked
       → (keys : ℕ → ℕ) (state : ℕ → VmState) (n : ℕ) → Moves linked keys state n → TameFor program linked keys state n (steps (moves_trace linked keys state) n)

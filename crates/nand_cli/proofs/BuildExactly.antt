@@ -19,7 +19,7 @@ module _ (law : JackLaw) (files : Files) (folder : List ℕ) where
       e ∙ ap (λ (x : RunProgram). image_text x.image) (one_computer core core' same p q builds.1 builds'.1) ∙ sym d
 
   one_map : (out out' : List ℕ) → MapPrints (Some files) folder out → MapPrints (Some files) folder out' → out ≡ out'
-  one_map out out' (core, p, builds, cover, e) (core', q, builds', cover', d) =
+  one_map out out' (core, p, builds, cover, rise, e) (core', q, builds', cover', rise', d) =
       let same = one_meaning law files folder core core' builds.0 builds'.0 in
       e
       ∙ ap (λ (x : RunProgram). map_text (names_of core) x.ranges x.commits) (one_computer core core' same p q builds.1 builds'.1)
@@ -40,15 +40,15 @@ module _ (law : JackLaw) (files : Files) (folder : List ℕ) where
 pub build_exact : JackLaw → BuildExactLaw
 build_exact law files folder = record {
   prints = λ one out err out' err' h k. (one_image law files folder out out' h.0 k.0, h.1 ∙ sym k.1);
-  refuses = λ out err out' err' h k. (h.0 ∙ sym k.0, one_line law files folder err err' h.1 k.1);
-  apart = λ out err out' err' h k. built_apart law files folder out err' h.0 k.1;
-  lacking = λ there has gone out err. absurd (not_missing there files folder has gone);
+  refuses = λ out before told out' before' told' h k. (h.0 ∙ sym k.0, one_line law files folder told told' h.1 k.1, h.2 ∙ sym k.2);
+  apart = λ out err out' before told h k. built_apart law files folder out told h.0 k.1;
+  lacking = λ there has gone out before told. absurd (not_missing there files folder has gone);
 }
 
 pub map_exact : JackLaw → MapExactLaw
 map_exact law files folder = record {
   prints = λ one out err out' err' h k. (one_map law files folder out out' h.0 k.0, h.1 ∙ sym k.1);
-  refuses = λ out err out' err' h k. (h.0 ∙ sym k.0, one_line law files folder err err' h.1 k.1);
-  apart = λ out err out' err' h k. built_apart law files folder (image_text h.0.1.image) err' (h.0.0, h.0.1, h.0.2, refl) k.1;
-  lacking = λ there has gone out err. absurd (not_missing there files folder has gone);
+  refuses = λ out before told out' before' told' h k. (h.0 ∙ sym k.0, one_line law files folder told told' h.1 k.1, h.2 ∙ sym k.2);
+  apart = λ out err out' before told h k. built_apart law files folder (image_text h.0.1.image) told (h.0.0, h.0.1, h.0.2, refl) k.1;
+  lacking = λ there has gone out before told. absurd (not_missing there files folder has gone);
 }

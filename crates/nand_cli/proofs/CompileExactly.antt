@@ -29,7 +29,7 @@ module _ (law : JackLaw) (files : Files) (folder : List ℕ) where
 pub compile_exact : JackLaw → CompileExactLaw
 compile_exact law files folder = record {
   prints = λ one out err out' err' h k. (one_text law files folder out out' h.0 k.0, h.1 ∙ sym k.1);
-  refuses = λ out err out' err' h k. (h.0 ∙ sym k.0, one_folder_line law files folder err err' h.1 k.1);
-  apart = λ out err out' err' h k. text_apart law files folder out err' h.0 k.1;
-  lacking = λ there has gone out err. absurd (not_missing there files folder has gone);
+  refuses = λ out before told out' before' told' h k. (h.0 ∙ sym k.0, one_folder_line law files folder told told' h.1 k.1, h.2 ∙ sym k.2);
+  apart = λ out err out' before told h k. text_apart law files folder out told h.0 k.1;
+  lacking = λ there has gone out before told. absurd (not_missing there files folder has gone);
 }

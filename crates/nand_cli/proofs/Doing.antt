@@ -1,25 +1,65 @@
 -- What a line does: where nothing is loaded nothing is put, and else what its last putting answers.
-use Rattle.std.proofs.Common.{◌≡◌, ℕ, Bool, List, [], Option, Some, None, Err, refl}
+use Rattle.std.proofs.Common.{◌≡◌, ℕ, Bool, List, [], Option, Some, None, Err, refl, inl, take}
 use Rattle.std.specs.Prelude.{IfSome}
 use Rattle.outer_world.specs.Files.{Files, LacksFolder}
 use Rattle.outer_world.specs.Written.{CountsPut, Puts}
 use Rattle.outer_world.specs.declared.sink.Put.{Put}
 use Rattle.outer_world.specs.declared.sink.Put.TheVariants as put
 use Rattle.outer_world.proofs.Passing.{Got-nothing}
-use Rattle.command_line.specs.Line.{Line}
+use Rattle.command_line.specs.Line.{Line, asm, build, chip, compile, exec, map_line, run, show, test, vm}
 use Rattle.source_files.specs.Loads.{CountsLoad, Loads, line_of}
 use Rattle.source_files.specs.declared.error.LoadError.{LoadError}
 use Rattle.source_files.specs.declared.error.LoadError.TheVariants as errors
-use Rattle.nand_cli.specs.Answer.{Lacks, MayFail, Prints, Refuses}
+use Rattle.nand_cli.specs.Answer.{CutsOut, Lacks, Misses, Prints, Refuses, Starves}
+use Rattle.nand_cli.specs.Exact.{IsNoTest}
 use Rattle.nand_cli.specs.Inner.Parts.{Counts, Does, finished}
 use Rattle.nand_cli.specs.declared.failure.Failure.TheVariants as failure
 
+-- ---- all commands but `test` put nothing before the line that tells how they ended
+
+pub misses_other : (files : Option Files) (there : List ℕ → Bool) (unfailing : Type 0) (line : Line) → IsNoTest line → (unfailing → IfSome files (λ told. Lacks there told line)) → Misses files there unfailing line [] []
+misses_other files there unfailing (asm path) other may = (refl, refl, may)
+misses_other files there unfailing (exec path cycles from to) other may = (refl, refl, may)
+misses_other files there unfailing (vm folder bare) other may = (refl, refl, may)
+misses_other files there unfailing (show path kind) other may = (refl, refl, may)
+misses_other files there unfailing (compile folder) other may = (refl, refl, may)
+misses_other files there unfailing (build folder) other may = (refl, refl, may)
+misses_other files there unfailing (map_line folder) other may = (refl, refl, may)
+misses_other files there unfailing (chip name) other may = (refl, refl, may)
+misses_other files there unfailing (run folder level cycles keys) other may = (refl, refl, may)
+misses_other files there unfailing (test path gates) other may = absurd other
+
+pub starves_other : (files : Option Files) (line : Line) → IsNoTest line → Starves files line [] []
+starves_other files (asm path) other = (refl, refl)
+starves_other files (exec path cycles from to) other = (refl, refl)
+starves_other files (vm folder bare) other = (refl, refl)
+starves_other files (show path kind) other = (refl, refl)
+starves_other files (compile folder) other = (refl, refl)
+starves_other files (build folder) other = (refl, refl)
+starves_other files (map_line folder) other = (refl, refl)
+starves_other files (chip name) other = (refl, refl)
+starves_other files (run folder level cycles keys) other = (refl, refl)
+starves_other files (test path gates) other = absurd other
+
+pub cuts_other : (files : Option Files) (line : Line) (text : List ℕ) (n : ℕ) → IsNoTest line → Prints files line text [] → CutsOut files line (take n text) []
+cuts_other files (asm path) text n other prints = (text, n, prints, refl, refl)
+cuts_other files (exec path cycles from to) text n other prints = (text, n, prints, refl, refl)
+cuts_other files (vm folder bare) text n other prints = (text, n, prints, refl, refl)
+cuts_other files (show path kind) text n other prints = (text, n, prints, refl, refl)
+cuts_other files (compile folder) text n other prints = (text, n, prints, refl, refl)
+cuts_other files (build folder) text n other prints = (text, n, prints, refl, refl)
+cuts_other files (map_line folder) text n other prints = (text, n, prints, refl, refl)
+cuts_other files (chip name) text n other prints = (text, n, prints, refl, refl)
+cuts_other files (run folder level cycles keys) text n other prints = (text, n, prints, refl, refl)
+cuts_other files (test path gates) text n other prints = absurd other
+
 -- nothing is put of what is not loaded
 pub nothing_put : {A : Type 0} (good : A → Type 0) (refused : List ℕ → Type 0) (missed : Type 0) (files : Option Files) (there : List ℕ → Bool) (unfailing : Type 0) (line : Line) (out err : Option (List ℕ)) (e : LoadError)
-    → ((text : List ℕ) → refused text → Refuses files line [] text) → (missed → MayFail files there unfailing line) → Loads good refused missed (Err e) → Does files there unfailing line out out err err (Err (failure.Unloaded e))
-nothing_put good refused missed files there unfailing line out err (errors.Refused r) more may h = ([], [], more (line_of r) h, Got-nothing out, Got-nothing err)
-nothing_put good refused missed files there unfailing line out err errors.Failed more may h = ([], [], (refl, refl), may h, Got-nothing out, Got-nothing err)
-nothing_put good refused missed files there unfailing line out err errors.Memory more may h = ([], [], (refl, refl), Got-nothing out, Got-nothing err)
+    → ((text : List ℕ) → refused text → Refuses files line [] [] text) → (missed → unfailing → IfSome files (λ told. Lacks there told line)) → Loads good refused missed (Err e) → IsNoTest line
+    → Does files there unfailing line out out err err (Err (failure.Unloaded e))
+nothing_put good refused missed files there unfailing line out err (errors.Refused r) more may h other = ([], [], more (line_of r) h, Got-nothing out, Got-nothing err)
+nothing_put good refused missed files there unfailing line out err errors.Failed more may h other = ([], [], misses_other files there unfailing line other (may h), Got-nothing out, Got-nothing err)
+nothing_put good refused missed files there unfailing line out err errors.Memory more may h other = ([], [], starves_other files line other, Got-nothing out, Got-nothing err)
 
 pub unread_counts : (A : Type 0) (e : LoadError) (shelf shelf' out err : ℕ) → CountsLoad {A = A} shelf shelf' (Err e) → Counts shelf shelf' out out err err (Err (failure.Unloaded e))
 unread_counts A (errors.Refused r) shelf shelf' out err h = (h, refl, refl)
@@ -40,10 +80,10 @@ missing (Some told) there folder line so h = so told h
 -- ---- what is put
 
 pub done_by : (files : Option Files) (there : List ℕ → Bool) (unfailing : Type 0) (line : Line) (text : List ℕ) (out out' err : Option (List ℕ)) (p : Put) → Prints files line text [] → Puts out out' text p
-    → Does files there unfailing line out out' err err (finished p)
-done_by files there unfailing line text out out' err put.Done prints puts = (text, [], prints, puts, Got-nothing err)
-done_by files there unfailing line text out out' err put.Failed prints puts = (text, [], prints, puts, refl)
+    → IsNoTest line → Does files there unfailing line out out' err err (finished p)
+done_by files there unfailing line text out out' err put.Done prints puts other = (text, [], prints, puts, Got-nothing err)
+done_by files there unfailing line text out out' err put.Failed prints puts other = (take puts.0 text, [], cuts_other files line text puts.0 other prints, puts.1, Got-nothing err)
 
 pub done_counts : (shelf shelf' out out' err : ℕ) (p : Put) → shelf' ≡ shelf → CountsPut out out' p → Counts shelf shelf' out out' err err (finished p)
 done_counts shelf shelf' out out' err put.Done same counts = (same, counts, refl)
-done_counts shelf shelf' out out' err put.Failed same counts = (same, counts.0, refl)
+done_counts shelf shelf' out out' err put.Failed same counts = (inl same, counts.0, refl)

@@ -65,12 +65,13 @@ asm_exact assembly image files path =
         h.0.2 ∙ ap image_text (one_source (spelled_in Assembly) (RefusesWords Assembly) (λ (ws : List ℕ). ws) once files [] path h.0.0 k.0.0 h.0.1 k.0.1) ∙ sym k.0.2,
         h.1 ∙ sym k.1,
       );
-      refuses = λ out err out' err' h k. (
+      refuses = λ out before told out' before' told' h k. (
         h.0 ∙ sym k.0,
-        one_fault (spelled_in Assembly) (RefusesWords Assembly) (λ (ws : List ℕ). ws) once files path err err' h.1 k.1,
+        one_fault (spelled_in Assembly) (RefusesWords Assembly) (λ (ws : List ℕ). ws) once files path told told' h.1 k.1,
+        h.2 ∙ sym k.2,
       );
-      apart = λ out err out' err' h k. never_both (spelled_in Assembly) (RefusesWords Assembly) (λ (ws : List ℕ). ws) once files [] path h.0.0 err' h.0.1 k.1;
-      lacking = λ there has gone out err. (λ h. no_source (SpellsWords Assembly) files path h.0.0 gone h.0.1, λ k. none_refused (RefusesWords Assembly) files path err gone k.1);
+      apart = λ out err out' before told h k. never_both (spelled_in Assembly) (RefusesWords Assembly) (λ (ws : List ℕ). ws) once files [] path h.0.0 told h.0.1 k.1;
+      lacking = λ there has gone out before told. (λ h. no_source (SpellsWords Assembly) files path h.0.0 gone h.0.1, λ k. none_refused (RefusesWords Assembly) files path told gone k.1);
     }
 
 pub exec_exact : AssemblyLaw → ImageLaw → ExecExactLaw
@@ -83,12 +84,13 @@ exec_exact assembly image files path cycles from to =
             ∙ sym k.0.2,
         h.1 ∙ sym k.1,
       );
-      refuses = λ out err out' err' h k. (
+      refuses = λ out before told out' before' told' h k. (
         h.0 ∙ sym k.0,
-        one_fault (spelled_in form) (RefusesWords form) (λ (ws : List ℕ). ws) once files path err err' h.1 k.1,
+        one_fault (spelled_in form) (RefusesWords form) (λ (ws : List ℕ). ws) once files path told told' h.1 k.1,
+        h.2 ∙ sym k.2,
       );
-      apart = λ out err out' err' h k. never_both (spelled_in form) (RefusesWords form) (λ (ws : List ℕ). ws) once files [] path h.0.0 err' h.0.1 k.1;
-      lacking = λ there has gone out err. (λ h. no_source (SpellsWords form) files path h.0.0 gone h.0.1, λ k. none_refused (RefusesWords form) files path err gone k.1);
+      apart = λ out err out' before told h k. never_both (spelled_in form) (RefusesWords form) (λ (ws : List ℕ). ws) once files [] path h.0.0 told h.0.1 k.1;
+      lacking = λ there has gone out before told. (λ h. no_source (SpellsWords form) files path h.0.0 gone h.0.1, λ k. none_refused (RefusesWords form) files path told gone k.1);
     }
 
 -- ---- `show`
@@ -109,12 +111,13 @@ show_exact vm_law jack_law chip_law files path kinds.Vm =
         h.0.2 ∙ ap program_text (one_source program_in (RefusesVm true) (λ (p : List File). p) once files [] path h.0.0 k.0.0 h.0.1 k.0.1) ∙ sym k.0.2,
         h.1 ∙ sym k.1,
       );
-      refuses = λ out err out' err' h k. (
+      refuses = λ out before told out' before' told' h k. (
         h.0 ∙ sym k.0,
-        one_fault program_in (RefusesVm true) (λ (p : List File). p) once files path err err' h.1 k.1,
+        one_fault program_in (RefusesVm true) (λ (p : List File). p) once files path told told' h.1 k.1,
+        h.2 ∙ sym k.2,
       );
-      apart = λ out err out' err' h k. never_both program_in (RefusesVm true) (λ (p : List File). p) once files [] path h.0.0 err' h.0.1 k.1;
-      lacking = λ there has gone out err. (λ h. no_source (program_in []) files path h.0.0 gone h.0.1, λ k. none_refused (RefusesVm true) files path err gone k.1);
+      apart = λ out err out' before told h k. never_both program_in (RefusesVm true) (λ (p : List File). p) once files [] path h.0.0 told h.0.1 k.1;
+      lacking = λ there has gone out before told. (λ h. no_source (program_in []) files path h.0.0 gone h.0.1, λ k. none_refused (RefusesVm true) files path told gone k.1);
     }
 show_exact vm_law jack_law chip_law files path kinds.Jack =
     let once = tree_once jack_law in record {
@@ -122,12 +125,13 @@ show_exact vm_law jack_law chip_law files path kinds.Jack =
         h.0.2 ∙ ap (λ t. text_of t whole) (one_source tree_in RefusesClass whole_tree once files [] path h.0.0 k.0.0 h.0.1 k.0.1) ∙ sym k.0.2,
         h.1 ∙ sym k.1,
       );
-      refuses = λ out err out' err' h k. (
+      refuses = λ out before told out' before' told' h k. (
         h.0 ∙ sym k.0,
-        one_fault tree_in RefusesClass whole_tree once files path err err' h.1 k.1,
+        one_fault tree_in RefusesClass whole_tree once files path told told' h.1 k.1,
+        h.2 ∙ sym k.2,
       );
-      apart = λ out err out' err' h k. never_both tree_in RefusesClass whole_tree once files [] path h.0.0 err' h.0.1 k.1;
-      lacking = λ there has gone out err. (λ h. no_source (tree_in []) files path h.0.0 gone h.0.1, λ k. none_refused RefusesClass files path err gone k.1);
+      apart = λ out err out' before told h k. never_both tree_in RefusesClass whole_tree once files [] path h.0.0 told h.0.1 k.1;
+      lacking = λ there has gone out before told. (λ h. no_source (tree_in []) files path h.0.0 gone h.0.1, λ k. none_refused RefusesClass files path told gone k.1);
     }
 show_exact vm_law jack_law chip_law files path kinds.Hdl =
     let once = chip_once chip_law in record {
@@ -135,12 +139,13 @@ show_exact vm_law jack_law chip_law files path kinds.Hdl =
         h.0.2 ∙ ap chip_text (one_source chip_in RefusesHdl (λ (c : Chip). c) once files [] path h.0.0 k.0.0 h.0.1 k.0.1) ∙ sym k.0.2,
         h.1 ∙ sym k.1,
       );
-      refuses = λ out err out' err' h k. (
+      refuses = λ out before told out' before' told' h k. (
         h.0 ∙ sym k.0,
-        one_fault chip_in RefusesHdl (λ (c : Chip). c) once files path err err' h.1 k.1,
+        one_fault chip_in RefusesHdl (λ (c : Chip). c) once files path told told' h.1 k.1,
+        h.2 ∙ sym k.2,
       );
-      apart = λ out err out' err' h k. never_both chip_in RefusesHdl (λ (c : Chip). c) once files [] path h.0.0 err' h.0.1 k.1;
-      lacking = λ there has gone out err. (λ h. no_source (chip_in []) files path h.0.0 gone h.0.1, λ k. none_refused RefusesHdl files path err gone k.1);
+      apart = λ out err out' before told h k. never_both chip_in RefusesHdl (λ (c : Chip). c) once files [] path h.0.0 told h.0.1 k.1;
+      lacking = λ there has gone out before told. (λ h. no_source (chip_in []) files path h.0.0 gone h.0.1, λ k. none_refused RefusesHdl files path told gone k.1);
     }
 
 -- ---- `chip`
@@ -154,9 +159,9 @@ not_unknown name out line (c, is, e) (none, f) = let no : ⊥ = cc in no
 pub chip_exact : ChipExactLaw
 chip_exact files name = record {
   prints = λ one out err out' err' h k. (one_chip name out out' h.0 k.0, h.1 ∙ sym k.1);
-  refuses = λ out err out' err' h k. (h.0 ∙ sym k.0, h.1.1 ∙ sym k.1.1);
-  apart = λ out err out' err' h k. not_unknown name out err' h.0 k.1;
-  lacking = λ there has gone out err. absurd gone;
+  refuses = λ out before told out' before' told' h k. (h.0 ∙ sym k.0, h.1.1 ∙ sym k.1.1, h.2 ∙ sym k.2);
+  apart = λ out err out' before told h k. not_unknown name out told h.0 k.1;
+  lacking = λ there has gone out before told. absurd gone;
 }
 
 -- ---- `vm`
@@ -226,7 +231,7 @@ module _ (law : VmLaw) (files : Files) (folder : List ℕ) (bare : Bool) where
 pub vm_exact : VmLaw → VmExactLaw
 vm_exact law files folder bare = record {
   prints = λ one out err out' err' h k. (vm_prints law files folder bare out out' h.0 k.0, h.1 ∙ sym k.1);
-  refuses = λ out err out' err' h k. (h.0 ∙ sym k.0, vm_refuses law files folder bare err err' h.1 k.1);
-  apart = λ out err out' err' h k. vm_apart law files folder bare out err' h.0 k.1;
-  lacking = λ there has gone out err. absurd (not_missing there files folder has gone);
+  refuses = λ out before told out' before' told' h k. (h.0 ∙ sym k.0, vm_refuses law files folder bare told told' h.1 k.1, h.2 ∙ sym k.2);
+  apart = λ out err out' before told h k. vm_apart law files folder bare out told h.0 k.1;
+  lacking = λ there has gone out before told. absurd (not_missing there files folder has gone);
 }

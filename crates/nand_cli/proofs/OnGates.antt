@@ -234,11 +234,13 @@ module _ (core : Core) (code : ℕ → ℕ) (n : ℕ) (resolved : IsResolvedCore
 
   -- the five lines are not put whole
   pub nets_cut : (out mid : Option (List ℕ)) (f : Failure) → Reports (IsToldOf shows.Nothing) out mid (Err f) → Reports (IsGatesReport core code n Nets) out mid (Err f)
-  nets_cut out mid failure.Write (t, told, part) =
+  nets_cut out mid failure.Out (t, told, part) =
       let turns = turned code old new old.moves n new.moves told.0 told.1 at.stands at.moves in
       let (rest, other, behaves, shown) = parts_there new code n turns.followed words in
       (t ++ rest, with_nets t rest other told behaves shown, puts_cut out mid t rest part)
   nets_cut out mid (failure.Unloaded e) h = h
+  nets_cut out mid (failure.Differs d) h = absurd h
+  nets_cut out mid failure.Echo h = absurd h
 
   -- the parts are asked for at the cycle that comes next
   pub parts_put : (mid out' : Option (List ℕ)) (t : List ℕ) (p : Put) (key : ℕ) → IsToldOf shows.Nothing t → key ≡ code n

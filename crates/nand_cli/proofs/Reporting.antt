@@ -1,5 +1,5 @@
 -- The report of what a machine shows; and what a line of `run` does, with a report and without.
-use Rattle.std.proofs.Common.{◌≡◌, ◌-◌, ℕ, Bool, List, [], Option, Some, None, Result, Ok, Err, refl, sym, ◌∙◌, ap, subst, inl, inr, slice_index}
+use Rattle.std.proofs.Common.{◌≡◌, ◌-◌, ℕ, Bool, List, [], Option, Some, None, Result, Ok, Err, refl, sym, ◌∙◌, ap, subst, inl, inr, slice_index, take}
 use Rattle.std.specs.Prelude.{IfSome}
 use Rattle.jack_meaning.specs.Level.{point_in}
 use Rattle.jack_core.specs.declared.program.Core.{Core}
@@ -71,8 +71,10 @@ is_put put.Failed = tt
 -- a report is one of another kind too
 pub reported_as : (P Q : List ℕ → Type 0) (out out' : Option (List ℕ)) (r : Result (Unit {0}) Failure) → ((text : List ℕ) → P text → Q text) → Reports P out out' r → Reports Q out out' r
 reported_as P Q out out' (Ok u) more (text, is, got) = (text, more text is, got)
-reported_as P Q out out' (Err failure.Write) more (text, is, part) = (text, more text is, part)
+reported_as P Q out out' (Err failure.Out) more (text, is, part) = (text, more text is, part)
 reported_as P Q out out' (Err (failure.Unloaded e)) more h = h
+reported_as P Q out out' (Err (failure.Differs d)) more h = absurd h
+reported_as P Q out out' (Err failure.Echo) more h = absurd h
 
 -- ---- the line
 
@@ -81,7 +83,9 @@ module _ (level : RunLevel) (files : Option Files) (there : List ℕ → Bool) (
   pub answered : (core : Core) (lines : List Line) (out out' err : Option (List ℕ)) (r : Result (Unit {0}) Failure) → FolderMeans files folder core → IsBuilt core → HasKeys files keys lines
       → Reports (IsReport level core (code_at lines) n) out out' r → Does files there steady (run folder level n keys) out out' err err r
   answered core lines out out' err (Ok u) means built has (text, is, got) = (text, [], ((core, lines, means, built, has, is), refl), got, Got-nothing err)
-  answered core lines out out' err (Err failure.Write) means built has (text, is, part) = (text, [], ((core, lines, means, built, has, is), refl), part, refl)
+  answered core lines out out' err (Err failure.Out) means built has (text, is, part) = (take part.0 text, [], (text, part.0, ((core, lines, means, built, has, is), refl), refl, refl), part.1, Got-nothing err)
+  answered core lines out out' err (Err (failure.Differs d)) means built has h = absurd h
+  answered core lines out out' err (Err failure.Echo) means built has h = absurd h
   answered core lines out out' err (Err (failure.Unloaded (errors.Refused why))) means built has (same, e) = absurd (let bad : ⊥ = cc in bad)
   answered core lines out out' err (Err (failure.Unloaded errors.Failed)) means built has (same, e) = absurd (let bad : ⊥ = cc in bad)
   answered core lines out out' err (Err (failure.Unloaded errors.Memory)) means built has (same, e) =
@@ -92,13 +96,13 @@ module _ (level : RunLevel) (files : Option Files) (there : List ℕ → Bool) (
       → Does files there steady (run folder level n keys) out out err err (Err (failure.Unloaded e))
   without_jack out err e h =
       nothing_put (FolderMeans files folder) (FolderIsRefused files folder) (steady → LacksFolder files there folder) files there steady (run folder level n keys) out err e
-      (λ told k. (refl, without_program k)) (λ k s. missing files there folder (run folder level n keys) (λ told none. inl none) (k s)) h
+      (λ told k. (refl, without_program k, refl)) (λ k s. missing files there folder (run folder level n keys) (λ told none. inl none) (k s)) h tt
 
   pub without_image : (out err : Option (List ℕ)) (core : Core) (e : LoadError) → FolderMeans files folder core → Loads (IsComputerOf core) (BuildIsRefused core folder) ⊥ (Err e)
       → Does files there steady (run folder level n keys) out out err err (Err (failure.Unloaded e))
   without_image out err core e means h =
       nothing_put (IsComputerOf core) (BuildIsRefused core folder) ⊥ files there steady (run folder level n keys) out err e
-      (λ told k. (refl, unbuilt core means k)) (λ k. absurd k) h
+      (λ told k. (refl, unbuilt core means k, refl)) (λ k. absurd k) h tt
 
   without_script_file : (told : Option Files) (core : Core) → FolderMeans told folder core → IsBuilt core → LacksKeys told keys → IfSome told (λ fs. Lacks there fs (run folder level n keys))
   without_script_file None core means built lacks = tt
@@ -108,14 +112,16 @@ module _ (level : RunLevel) (files : Option Files) (there : List ℕ → Bool) (
       → Loads (λ (k : Keys). HasKeys files keys k) (ScriptIsRefused files keys) (steady → LacksKeys files keys) (Err e) → Does files there steady (run folder level n keys) out out err err (Err (failure.Unloaded e))
   without_keys out err core e means built h =
       nothing_put (λ (k : Keys). HasKeys files keys k) (ScriptIsRefused files keys) (steady → LacksKeys files keys) files there steady (run folder level n keys) out err e
-      (λ told k. (refl, without_script core means built k)) (λ k s. without_script_file files core means built (k s)) h
+      (λ told k. (refl, without_script core means built k, refl)) (λ k s. without_script_file files core means built (k s)) h tt
 
 -- ---- the counts
 
 pub report_counts : (is_report : List ℕ → Type 0) (before now : Option (List ℕ)) (shelf shelf' out out' err : ℕ) (r : Result (Unit {0}) Failure) → shelf' ≡ shelf
     → Reports is_report before now r → CountsReport out out' r → Counts shelf shelf' out out' err err r
 report_counts is_report before now shelf shelf' out out' err (Ok u) e h count = (e, count, refl)
-report_counts is_report before now shelf shelf' out out' err (Err failure.Write) e h count = (e, count, refl)
+report_counts is_report before now shelf shelf' out out' err (Err failure.Out) e h count = (inl e, count, refl)
+report_counts is_report before now shelf shelf' out out' err (Err (failure.Differs d)) e h count = absurd h
+report_counts is_report before now shelf shelf' out out' err (Err failure.Echo) e h count = absurd h
 report_counts is_report before now shelf shelf' out out' err (Err (failure.Unloaded (errors.Refused why))) e h count = (e, count, refl)
 report_counts is_report before now shelf shelf' out out' err (Err (failure.Unloaded errors.Failed)) e (same, bad) count = absurd (let no : ⊥ = cc in no)
 report_counts is_report before now shelf shelf' out out' err (Err (failure.Unloaded errors.Memory)) e h count = (e, count, refl)

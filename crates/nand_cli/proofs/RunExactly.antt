@@ -36,8 +36,9 @@ use Rattle.jack_tree.specs.declared.tree.Class.{Class}
 use Rattle.jack_parser.specs.Whole.{ReadingLaw as JackLaw, Refuses as RefusesTree, whole_tree}
 use Rattle.jack_names.specs.Faults.{Told, fault_told}
 use Rattle.jack_names.specs.Messages.{kind_word}
+use Rattle.jack_names.specs.Whole.{WellNamed}
 use Rattle.jack_os.specs.System.{AreClassesOf, HasFault, IsClassOf, SpellClasses, SpellsClass, Texts, added_to, system}
-use Rattle.command_line.specs.Line.{asm, build, chip, compile, exec, map_line, run, show, vm}
+use Rattle.command_line.specs.Line.{asm, build, chip, compile, exec, map_line, run, show, test, vm}
 use Rattle.command_line.specs.declared.request.RunLevel.{RunLevel}
 use Rattle.command_line.specs.declared.request.RunLevel.TheVariants as levels
 use Rattle.command_line.specs.declared.request.Shown.TheVariants.{Nets, Words}
@@ -72,7 +73,7 @@ module _ (law : JackLaw) where
   one_class file text c d (r, spelled, adds) (t, spelled', adds') =
       added_class (added_to file) r t c d ((law text).one (whole_tree r) (whole_tree t) spelled.0 spelled'.0) (spelled.1 ∙ sym spelled'.1) adds adds'
 
-  one_system : (files : Texts) (cs ds : List Class) → AreClassesOf files cs → AreClassesOf files ds → SameClasses cs ds
+  pub one_system : (files : Texts) (cs ds : List Class) → AreClassesOf files cs → AreClassesOf files ds → SameClasses cs ds
   one_system [] [] [] h k = refl
   one_system [] [] (d ∷ ds) h k = absurd k
   one_system [] (c ∷ cs) ds h k = absurd h
@@ -155,12 +156,15 @@ module _ (law : JackLaw) (own own' : List Class) (same : SameClasses own own') w
       let told : fault_told f ≡ fault_told g = cc in
       e ∙ ap (name_line folder) told ∙ sym d
 
-  never_wrong : (folder line : List ℕ) (core : Core) (error : ProgramError) → Means own (Ok core) → IsProgram own' (Err error) → IsWrongLine folder error line → ⊥
-  never_wrong folder line core errors.Memory h k e = e
-  never_wrong folder line core (errors.System f) (os, are, well, p, n, c) k e = never_faulty law system os f.file f.fault are k
-  never_wrong folder line core (errors.Name f) (os, are, well, p, n, c) (os', are', first) e =
+  pub never_well : (folder line : List ℕ) (os : List Class) (error : ProgramError) → AreClassesOf system os → WellNamed own os → IsProgram own' (Err error) → IsWrongLine folder error line → ⊥
+  never_well folder line os errors.Memory are well k e = e
+  never_well folder line os (errors.System f) are well k e = never_faulty law system os f.file f.fault are k
+  never_well folder line os (errors.Name f) are well (os', are', first) e =
       let theirs = one_system law system os os' are are' in
       let both = sym well ∙ first_name_fault_same own own' os os' same theirs ∙ first in let no : ⊥ = cc in no
+
+  never_wrong : (folder line : List ℕ) (core : Core) (error : ProgramError) → Means own (Ok core) → IsProgram own' (Err error) → IsWrongLine folder error line → ⊥
+  never_wrong folder line core error (os, are, well, p, n, c) k e = never_well folder line os error are well k e
 
 -- ---- the program of a folder
 
@@ -243,7 +247,7 @@ module _ (law : KeyLaw) (files : Files) where
   one_script_line None line line' h k = absurd h
   one_script_line (Some path) line line' h k = one_fault (λ (name text : List ℕ) (keys : List Line). SpellsLines text keys) RefusesKeys (λ (keys : List Line). keys) (keys_once law) files path line line' h k
 
-  never_scripted : (path : Option (List ℕ)) (ls : List Line) (line : List ℕ) → HasKeys (Some files) path ls → ScriptIsRefused (Some files) path line → ⊥
+  pub never_scripted : (path : Option (List ℕ)) (ls : List Line) (line : List ℕ) → HasKeys (Some files) path ls → ScriptIsRefused (Some files) path line → ⊥
   never_scripted None ls line h k = k
   never_scripted (Some path) ls line h k = never_both (λ (name text : List ℕ) (keys : List Line). SpellsLines text keys) RefusesKeys (λ (keys : List Line). keys) (keys_once law) files [] path ls line h k
 
@@ -428,23 +432,24 @@ module _ (jack_law : JackLaw) (key_law : KeyLaw) (files : Files) (folder : List 
 pub run_exact : JackLaw → KeyLaw → RunExactLaw
 run_exact jack_law key_law files folder level cycles keys = record {
   prints = λ one out err out' err' h k. (run_prints jack_law key_law files folder level cycles keys one out out' h.0 k.0, h.1 ∙ sym k.1);
-  refuses = λ out err out' err' h k. (h.0 ∙ sym k.0, run_refuses jack_law key_law files folder level cycles keys err err' h.1 k.1);
-  apart = λ out err out' err' h k. run_apart jack_law key_law files folder level cycles keys out err' h.0 k.1;
-  lacking = λ there has gone out err. (
+  refuses = λ out before told out' before' told' h k. (h.0 ∙ sym k.0, run_refuses jack_law key_law files folder level cycles keys told told' h.1 k.1, h.2 ∙ sym k.2);
+  apart = λ out err out' before told h k. run_apart jack_law key_law files folder level cycles keys out told h.0 k.1;
+  lacking = λ there has gone out before told. (
     λ h. never_printed jack_law key_law files folder level cycles keys there out has gone h.0,
-    λ k. never_run_refused jack_law key_law files folder level cycles keys there err has gone k.1,
+    λ k. never_run_refused jack_law key_law files folder level cycles keys there told has gone k.1,
   );
 }
 
 -- ---- each line
 
 pub exact : AsmExactLaw → ExecExactLaw → VmExactLaw → ShowExactLaw → RunExactLaw → ChipExactLaw → CompileExactLaw → BuildExactLaw → MapExactLaw → ExactLaw
-exact for_asm for_exec for_vm for_show for_run for_chip for_compile for_build for_map files (asm path) = for_asm files path
-exact for_asm for_exec for_vm for_show for_run for_chip for_compile for_build for_map files (exec path cycles from to) = for_exec files path cycles from to
-exact for_asm for_exec for_vm for_show for_run for_chip for_compile for_build for_map files (vm folder bare) = for_vm files folder bare
-exact for_asm for_exec for_vm for_show for_run for_chip for_compile for_build for_map files (show path kind) = for_show files path kind
-exact for_asm for_exec for_vm for_show for_run for_chip for_compile for_build for_map files (run folder level cycles keys) = for_run files folder level cycles keys
-exact for_asm for_exec for_vm for_show for_run for_chip for_compile for_build for_map files (chip name) = for_chip files name
-exact for_asm for_exec for_vm for_show for_run for_chip for_compile for_build for_map files (compile folder) = for_compile files folder
-exact for_asm for_exec for_vm for_show for_run for_chip for_compile for_build for_map files (build folder) = for_build files folder
-exact for_asm for_exec for_vm for_show for_run for_chip for_compile for_build for_map files (map_line folder) = for_map files folder
+exact for_asm for_exec for_vm for_show for_run for_chip for_compile for_build for_map files (asm path) other = for_asm files path
+exact for_asm for_exec for_vm for_show for_run for_chip for_compile for_build for_map files (exec path cycles from to) other = for_exec files path cycles from to
+exact for_asm for_exec for_vm for_show for_run for_chip for_compile for_build for_map files (vm folder bare) other = for_vm files folder bare
+exact for_asm for_exec for_vm for_show for_run for_chip for_compile for_build for_map files (show path kind) other = for_show files path kind
+exact for_asm for_exec for_vm for_show for_run for_chip for_compile for_build for_map files (run folder level cycles keys) other = for_run files folder level cycles keys
+exact for_asm for_exec for_vm for_show for_run for_chip for_compile for_build for_map files (chip name) other = for_chip files name
+exact for_asm for_exec for_vm for_show for_run for_chip for_compile for_build for_map files (compile folder) other = for_compile files folder
+exact for_asm for_exec for_vm for_show for_run for_chip for_compile for_build for_map files (build folder) other = for_build files folder
+exact for_asm for_exec for_vm for_show for_run for_chip for_compile for_build for_map files (map_line folder) other = for_map files folder
+exact for_asm for_exec for_vm for_show for_run for_chip for_compile for_build for_map files (test path gates) other = absurd other

@@ -1,12 +1,14 @@
 -- What a call promises after a failure, where words are no line, and where all is done.
-use Rattle.std.proofs.Common.{◌≡◌, ◌≢◌, ◌++◌, ℕ, List, [], Option, Ok, Err, refl, ◌∙◌, subst, inl, inr}
+use Rattle.std.proofs.Common.{◌≡◌, ◌++◌, ℕ, List, [], Option, Ok, Err, refl, sym, ◌∙◌, subst, inl, inr, take}
 use Rattle.outer_world.specs.Texts.{read_fault_line, usage_line, want_of_memory_line}
 use Rattle.outer_world.specs.Faults.{Rose}
+use Rattle.outer_world.specs.Written.{Got}
 use Rattle.outer_world.specs.declared.sink.Put.TheVariants as put
 use Rattle.outer_world.proofs.Passing.{Got-nothing, Got-then}
 use Rattle.command_line.specs.Line.{Line, IsLine, IsNoLine}
 use Rattle.command_line.specs.declared.reader.LineError.{LineError}
 use Rattle.command_line.specs.declared.reader.LineError.TheVariants as no_line
+use Rattle.script_run.specs.Verdicts.{difference_line}
 use Rattle.source_files.specs.Loads.{line_of}
 use Rattle.source_files.specs.declared.error.LoadError.TheVariants as errors
 use Rattle.nand_cli.specs.Answer.{Answers, Causes, Promises}
@@ -16,19 +18,6 @@ use Rattle.nand_cli.specs.declared.command.Status.{Status}
 use Rattle.nand_cli.specs.declared.command.Status.TheVariants as status
 use Rattle.nand_cli.specs.declared.failure.Failure.{Failure}
 use Rattle.nand_cli.specs.declared.failure.Failure.TheVariants as failure
-use Rattle.nand_cli.proofs.Saying.{Got-then-part}
-
-usage_not_done : status.Usage ≢ status.Done
-usage_not_done = λ e. let bad : ⊥ = cc in bad
-
-refused_not_done : status.Refused ≢ status.Done
-refused_not_done = λ e. let bad : ⊥ = cc in bad
-
-fault_not_done : status.ReadFault ≢ status.Done
-fault_not_done = λ e. let bad : ⊥ = cc in bad
-
-memory_not_done : status.NoMemory ≢ status.Done
-memory_not_done = λ e. let bad : ⊥ = cc in bad
 
 -- ---- words that are no line
 
@@ -37,11 +26,11 @@ no_line_answers : (words : List (List ℕ)) (before after : Outside) (error : Li
 no_line_answers words before after no_line.Usage s none out quiet (put.Done, said, e) =
     rw e ([], usage_line, inl (none refl, refl, refl), rw out (Got-nothing before.out), said.1)
 no_line_answers words before after no_line.Usage s none out quiet (put.Failed, said, e) =
-    rw e (inl (status.Usage, [], usage_line, usage_not_done, (none refl, refl, refl), rw out (Got-nothing before.out), quiet, said.1, said.0))
+    rw e (inl (status.Usage, usage_line, (none refl, refl, refl), rw out (Got-nothing before.out), quiet, said.1, said.0))
 no_line_answers words before after no_line.Memory s none out quiet (put.Done, said, e) =
     rw e ([], want_of_memory_line, inl (refl, refl), rw out (Got-nothing before.out), said.1)
 no_line_answers words before after no_line.Memory s none out quiet (put.Failed, said, e) =
-    rw e (inl (status.NoMemory, [], want_of_memory_line, memory_not_done, (refl, refl), rw out (Got-nothing before.out), quiet, said.1, said.0))
+    rw e (inl (status.NoMemory, want_of_memory_line, (refl, refl), rw out (Got-nothing before.out), quiet, said.1, said.0))
 
 no_line_causes : (before after : Outside) (error : LineError) (s : Status) → after.shelf_faults ≡ before.shelf_faults → after.out_faults ≡ before.out_faults
     → TellsNoLine error before.err_faults after.err_faults before.err after.err s → Causes before after s
@@ -65,62 +54,86 @@ module _ (words : List (List ℕ)) (before after : Outside) (line : Line) (is_li
   failure_answers : (why : Failure) (s : Status) → Does before.files before.there before.unfailing line before.out after.out before.err between (Err why)
       → Counts before.shelf_faults after.shelf_faults before.out_faults after.out_faults before.err_faults count (Err why)
       → TellsFailure why count after.err_faults between after.err s → Answers words before after s
-  failure_answers (failure.Unloaded (errors.Refused r)) s (o, e, ends, got, part) (a, b, c) (put.Done, said, so) =
-      rw so (o, e ++ line_of r, inr (line, is_line, ends), got, Got-then before.err between after.err e (line_of r) part said.1)
-  failure_answers (failure.Unloaded (errors.Refused r)) s (o, e, ends, got, part) (a, b, c) (put.Failed, said, so) =
+  failure_answers (failure.Unloaded (errors.Refused r)) s (o, e, ends, got, there) (a, b, c) (put.Done, said, so) =
+      rw so (o, e ++ (line_of r), inr (line, is_line, (e, (line_of r), ends, refl)), got, Got-then before.err between after.err e (line_of r) there said.1)
+  failure_answers (failure.Unloaded (errors.Refused r)) s (o, e, ends, got, there) (a, b, c) (put.Failed, said, so) =
       rw so (inr (
         line,
         is_line,
-        inr (
+        inr (inr (
           status.Refused,
           o,
-          e ++ line_of r,
-          refused_not_done,
+          e,
+          (line_of r),
+          said.1.0,
           ends,
           got,
           b,
-          Got-then-part before.err between after.err e (line_of r) part said.1,
+          Got-then before.err between after.err e (take said.1.0 (line_of r)) there said.1.1,
           subst (λ n. Rose n after.err_faults) c said.0,
-        ),
+        )),
       ))
-  failure_answers (failure.Unloaded errors.Failed) s (o, e, ends, may, got, part) (a, b, c) (put.Done, said, so) =
-      rw so (o, e ++ read_fault_line, inr (line, is_line, (e, ends, refl, may)), got, Got-then before.err between after.err e read_fault_line part said.1)
-  failure_answers (failure.Unloaded errors.Failed) s (o, e, ends, may, got, part) (a, b, c) (put.Failed, said, so) =
+  failure_answers (failure.Unloaded errors.Failed) s (o, e, ends, got, there) (a, b, c) (put.Done, said, so) =
+      rw so (o, e ++ read_fault_line, inr (line, is_line, (e, read_fault_line, (ends, refl), refl)), got, Got-then before.err between after.err e read_fault_line there said.1)
+  failure_answers (failure.Unloaded errors.Failed) s (o, e, ends, got, there) (a, b, c) (put.Failed, said, so) =
       rw so (inr (
         line,
         is_line,
-        inr (
+        inr (inr (
           status.ReadFault,
           o,
-          e ++ read_fault_line,
-          fault_not_done,
-          (e, ends, refl, may),
+          e,
+          read_fault_line,
+          said.1.0,
+          (ends, refl),
           got,
           b,
-          Got-then-part before.err between after.err e read_fault_line part said.1,
+          Got-then before.err between after.err e (take said.1.0 read_fault_line) there said.1.1,
           subst (λ n. Rose n after.err_faults) c said.0,
-        ),
+        )),
       ))
-  failure_answers (failure.Unloaded errors.Memory) s (o, e, ends, got, part) (a, b, c) (put.Done, said, so) =
-      rw so (o, e ++ want_of_memory_line, inr (line, is_line, (e, ends, refl)), got, Got-then before.err between after.err e want_of_memory_line part said.1)
-  failure_answers (failure.Unloaded errors.Memory) s (o, e, ends, got, part) (a, b, c) (put.Failed, said, so) =
+  failure_answers (failure.Unloaded errors.Memory) s (o, e, ends, got, there) (a, b, c) (put.Done, said, so) =
+      rw so (o, e ++ want_of_memory_line, inr (line, is_line, (e, want_of_memory_line, (ends, refl), refl)), got, Got-then before.err between after.err e want_of_memory_line there said.1)
+  failure_answers (failure.Unloaded errors.Memory) s (o, e, ends, got, there) (a, b, c) (put.Failed, said, so) =
       rw so (inr (
         line,
         is_line,
-        inr (
+        inr (inr (
           status.NoMemory,
           o,
-          e ++ want_of_memory_line,
-          memory_not_done,
-          (e, ends, refl),
+          e,
+          want_of_memory_line,
+          said.1.0,
+          (ends, refl),
           got,
           b,
-          Got-then-part before.err between after.err e want_of_memory_line part said.1,
+          Got-then before.err between after.err e (take said.1.0 want_of_memory_line) there said.1.1,
           subst (λ n. Rose n after.err_faults) c said.0,
-        ),
+        )),
       ))
-  failure_answers failure.Write s (o, e, prints, part, kept) (a, rose, c) (so, counts, same) =
-      rw so (inr (line, is_line, inl (o, e, prints, part, rose, same ∙ kept, counts ∙ c)))
+  failure_answers (failure.Differs d) s (o, e, ends, got, there) (a, b, c) (put.Done, said, so) =
+      rw so (o, e ++ (difference_line d), inr (line, is_line, (e, (difference_line d), ends, refl)), got, Got-then before.err between after.err e (difference_line d) there said.1)
+  failure_answers (failure.Differs d) s (o, e, ends, got, there) (a, b, c) (put.Failed, said, so) =
+      rw so (inr (
+        line,
+        is_line,
+        inr (inr (
+          status.Differs,
+          o,
+          e,
+          (difference_line d),
+          said.1.0,
+          ends,
+          got,
+          b,
+          Got-then before.err between after.err e (take said.1.0 (difference_line d)) there said.1.1,
+          subst (λ n. Rose n after.err_faults) c said.0,
+        )),
+      ))
+  failure_answers failure.Out s (o, e, cut, got, there) (a, rose, c) (so, counts, same) =
+      rw so (inr (line, is_line, inl (o, e, cut, got, subst (λ w. Got before.err w e) (sym same) there, rose, counts ∙ c)))
+  failure_answers failure.Echo s (o, e, cut, got, there) (a, b, rose) (so, counts, same) =
+      rw so (inr (line, is_line, inr (inl (o, e, cut, got, subst (λ w. Got before.err w e) (sym same) there, b, subst (λ n. Rose before.err_faults n) (sym counts) rose))))
 
   failure_causes : (why : Failure) (s : Status) → Counts before.shelf_faults after.shelf_faults before.out_faults after.out_faults before.err_faults count (Err why)
       → TellsFailure why count after.err_faults between after.err s → Causes before after s
@@ -130,7 +143,10 @@ module _ (words : List (List ℕ)) (before after : Outside) (line : Line) (is_li
   failure_causes (failure.Unloaded errors.Failed) s (a, b, c) (put.Failed, said, so) = rw so (inr (subst (λ n. Rose n after.err_faults) c said.0), inr a)
   failure_causes (failure.Unloaded errors.Memory) s (a, b, c) (put.Done, said, so) = rw so (a, b, said.0 ∙ c)
   failure_causes (failure.Unloaded errors.Memory) s (a, b, c) (put.Failed, said, so) = rw so (inr (subst (λ n. Rose n after.err_faults) c said.0), inl a)
-  failure_causes failure.Write s (a, rose, c) (so, counts, same) = rw so (inl rose, inl a)
+  failure_causes (failure.Differs d) s (a, b, c) (put.Done, said, so) = rw so (a, b, said.0 ∙ c)
+  failure_causes (failure.Differs d) s (a, b, c) (put.Failed, said, so) = rw so (inr (subst (λ n. Rose n after.err_faults) c said.0), inl a)
+  failure_causes failure.Out s (a, rose, c) (so, counts, same) = rw so (inl rose, a)
+  failure_causes failure.Echo s (a, b, rose) (so, counts, same) = rw so (inr (subst (λ n. Rose before.err_faults n) (sym counts) rose), inl a)
 
   pub failed : (why : Failure) (s : Status) → after.files ≡ before.files → after.there ≡ before.there → Does before.files before.there before.unfailing line before.out after.out before.err between (Err why)
       → Counts before.shelf_faults after.shelf_faults before.out_faults after.out_faults before.err_faults count (Err why)

@@ -6,6 +6,7 @@ pub mod Compile
 pub mod Build
 pub mod Map
 pub mod Chip
+pub mod Test
 pub mod Gates
 pub mod RunVm
 pub mod Run

@@ -1,8 +1,8 @@
--- The answers of a line are exact: over told files a line prints one thing or is refused for one thing, and not both; and neither, where what
+-- The answers of a line that is no test script are exact: over told files a line prints one thing or is refused for one thing, and not both; and neither, where what
 -- it reads is not there.
 use Rattle.std.specs.Prelude.{◌≡◌, ℕ, Bool, true, List, Option, Some}
 use Rattle.outer_world.specs.Files.{Files}
-use Rattle.command_line.specs.Line.{Line, asm, build, chip, compile, exec, map_line, run, show, vm}
+use Rattle.command_line.specs.Line.{Line, asm, build, chip, compile, exec, map_line, run, show, test, vm}
 use Rattle.command_line.specs.declared.request.RunLevel.{RunLevel}
 use Rattle.command_line.specs.declared.request.RunLevel.TheVariants.{Gates}
 use Rattle.command_line.specs.declared.request.Shown.TheVariants.{Nets}
@@ -33,9 +33,9 @@ HasFolder there line = Unit {0}
 -- fail leaves no choice among Done, Refused and ReadFault. (A folder that is not there may be read as an empty one.)
 pub record IsExact (files : Files) (line : Line) : Type 0 where
   pub prints : HasOneText line → (out err out' err' : List ℕ) → Prints (Some files) line out err → Prints (Some files) line out' err' → (out ≡ out') × (err ≡ err')
-  pub refuses : (out err out' err' : List ℕ) → Refuses (Some files) line out err → Refuses (Some files) line out' err' → (out ≡ out') × (err ≡ err')
-  pub apart : (out err out' err' : List ℕ) → Prints (Some files) line out err → Refuses (Some files) line out' err' → ⊥
-  pub lacking : (there : List ℕ → Bool) → HasFolder there line → Lacks there files line → (out err : List ℕ) → (Prints (Some files) line out err → ⊥) × (Refuses (Some files) line out err → ⊥)
+  pub refuses : (out before told out' before' told' : List ℕ) → Refuses (Some files) line out before told → Refuses (Some files) line out' before' told' → (out ≡ out') × (told ≡ told') × (before ≡ before')
+  pub apart : (out err out' before told : List ℕ) → Prints (Some files) line out err → Refuses (Some files) line out' before told → ⊥
+  pub lacking : (there : List ℕ → Bool) → HasFolder there line → Lacks there files line → (out before told : List ℕ) → (Prints (Some files) line out before → ⊥) × (Refuses (Some files) line out before told → ⊥)
 
 -- by command
 abbrev pub AsmExactLaw : Type 0
@@ -65,6 +65,11 @@ BuildExactLaw = (files : Files) (folder : List ℕ) → IsExact files (build fol
 abbrev pub MapExactLaw : Type 0
 MapExactLaw = (files : Files) (folder : List ℕ) → IsExact files (map_line folder)
 
+-- Of a script that is not claimed: what is seen of its chip is told as values of some netlist of it.
+abbrev pub IsNoTest : Line → Type 0
+IsNoTest (test path gates) = ⊥
+IsNoTest line = Unit {0}
+
 -- The law of exactness.
 abbrev pub ExactLaw : Type 0
-ExactLaw = (files : Files) (line : Line) → IsExact files line
+ExactLaw = (files : Files) (line : Line) → IsNoTest line → IsExact files line

@@ -7,4 +7,5 @@ pub mod exec;
 pub mod map;
 pub mod run;
 pub mod show;
+pub mod test;
 pub mod vm;

@@ -1,20 +1,25 @@
 //! Why a line is not done, and the lines on err that tell of it.
 ghost use Rattle.std.specs.Prelude.{◌≡◌};
 ghost use Rattle.outer_world.specs.Texts.{read_fault_line, usage_line, want_of_memory_line};
+ghost use Rattle.script_run.specs.Verdicts.{difference_line};
 ghost use Rattle.source_files.specs.Loads.{line_of};
 ghost use Rattle.source_files.specs.declared.error.LoadError.TheVariants.{Memory};
 ghost use Rattle.nand_cli.specs.Inner.Parts.{Says, finished};
 ghost use Rattle.nand_cli.specs.declared.failure.Failure.TheVariants.{Unloaded};
 
 use outer_world::{Put, Sink};
+use script_run::Difference;
 use source_files::{LoadError, Refusal};
 use std::alloc::{AllocError, AllocFailed};
 
-/// Why a line is not done: what it needs is not loaded or made, or out could not be written.
+/// Why a line is not done: what it needs is not loaded or made, a line differs from the one to compare it with, or out could not be written, or
+/// an echo on err.
 #[derive(Drop)]
 pub enum Failure {
     Unloaded(LoadError),
-    Write,
+    Differs(Difference),
+    Out,
+    Echo,
 }
 
 impl From<LoadError> for Failure {
@@ -47,7 +52,7 @@ pub fn finished(put: Put) -> Result<(), Failure>
 {
     match put {
         Put::Done => Ok(()),
-        Put::Failed => Err(Failure::Write),
+        Put::Failed => Err(Failure::Out),
     }
 }
 
@@ -56,6 +61,13 @@ pub fn tell_refusal<E: Sink>(refusal: &Refusal, err: &mut E) -> Put
     ensures { Says (E.faults err.old) (E.faults err.new) (E.written err.old) (E.written err.new) (line_of refusal.now) result }
 {
     refusal.told.put(refusal.path.as_str(), err)
+}
+
+/// Puts the line that tells of a line that differs.
+pub fn tell_difference<E: Sink>(difference: &Difference, err: &mut E) -> Put
+    ensures { Says (E.faults err.old) (E.faults err.new) (E.written err.old) (E.written err.new) (difference_line difference.now) result }
+{
+    difference.put(err)
 }
 
 /// Puts the line that tells that the words are none.

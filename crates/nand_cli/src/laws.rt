@@ -1,4 +1,6 @@
-//! Laws of lines: over told files a line has one answer.
+//! Laws of lines: over told files a line has at most one answer, and one with which nothing is wrong is not refused.
+ghost use Rattle.nand_cli.specs.Complete.{SoundLaw};
+ghost use Rattle.nand_cli.specs.CompleteRows.{CompleteRows};
 ghost use Rattle.nand_cli.specs.Exact.{AsmExactLaw, BuildExactLaw, ChipExactLaw, CompileExactLaw, ExactLaw, ExecExactLaw, MapExactLaw, RunExactLaw, ShowExactLaw, VmExactLaw};
 
 /// Law: over told files a line of `asm` prints one text or is refused with one line, and not both.
@@ -81,4 +83,16 @@ pub fn exact_law()
     compile_exact_law();
     build_exact_law();
     map_exact_law();
+}
+
+/// Law: over told files a line of `build`, `map` or `run` with which nothing is wrong is not refused. The limits of static words
+/// and of the budget, by computation.
+pub fn sound_law()
+    ensures sound { SoundLaw }
+    ensures rows { CompleteRows }
+{
+    jack_parser::reading_law();
+    key_script::reading_law();
+    tower::resolved_law();
+    tower::budget_law();
 }

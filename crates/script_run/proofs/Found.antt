@@ -8,15 +8,15 @@ use Rattle.netlist.specs.Net.{Net}
 use Rattle.netlist.specs.declared.node.Block.{Block}
 use Rattle.gate_sim.specs.Calls.{Call}
 use Rattle.driven_chip.specs.declared.directory.Directory.{Directory}
-use Rattle.driven_chip.specs.Directory.{HasBlock, HasOut, loaded_chip, pin_named}
+use Rattle.driven_chip.specs.Directory.{AreSizes, HasBlock, HasOut, loaded_chip, pin_named}
 use Rattle.driven_chip.specs.Variables as chips
 use Rattle.driven_chip.specs.Variables.{HasNumber, HasWord, number_after}
 use Rattle.driven_chip.specs.Variables.Source.{BlockWord, Nodes}
 use Rattle.script_run.specs.Devices.{Source, Means, CanSet}
-use Rattle.script_run.specs.Devices.Source.{TheTime, OfChip}
+use Rattle.script_run.specs.Devices.Source.{TheTime, OfChip, OfMachine}
 use Rattle.script_run.specs.Devices.Device.{Chip}
 use Rattle.script_run.specs.Inner.Brackets.{HasBrackets, NoBrackets}
-use Rattle.script_run.specs.Inner.Sources.{AreSizes, HasSize, IsOut}
+use Rattle.script_run.specs.Inner.Sources.{HasSize, IsOut}
 use Rattle.script_run.proofs.Bracketed.{once}
 
 -- ---- lengths, as the code tests them
@@ -31,6 +31,9 @@ is_some (suc n) e = omega arith
 -- the text is not this one
 pub other_text : (text other : List ℕ) → bytes_eq text other ≡ false → text ≡ other → ⊥
 other_text text other unlike e = let yes : bytes_eq text other ≡ true = (bytes_decides text other).1 e in absurd cc
+
+pub same_text : (text other : List ℕ) → bytes_eq text other ≡ true → text ≡ other
+same_text text other like = (bytes_decides text other).0 like
 
 -- ---- `Name[]`
 
@@ -54,7 +57,7 @@ out_found d text name inside has e (Some nodes) out = is_out d text name inside 
 
 -- ---- `Name[k]`
 
-number_has : (text name : List ℕ) (k : ℕ) (n : HasNumber text name k) → HasBrackets text name n.written
+pub number_has : (text name : List ℕ) (k : ℕ) (n : HasNumber text name k) → HasBrackets text name n.written
 number_has text name k n = record { digits = n.digits; is = n.is }
 
 pub no_word : (net : Net) (d : Directory) (text : List ℕ) (b a : ℕ) → NoBrackets text → chips.Means (loaded_chip net d) text (BlockWord b a) → ⊥
@@ -123,13 +126,16 @@ pub means_nothing : (net : Net) (d : Directory) (calls : List Call) (text : List
 means_nothing net d calls text time pin out word TheTime m = time m
 means_nothing net d calls text time pin out word (OfChip (Nodes nodes)) m = elim m.1 [ inl p ↦ absurd cc | inr o ↦ out nodes o ]
 means_nothing net d calls text time pin out word (OfChip (BlockWord b a)) m = word b a m.1
+means_nothing net d calls text time pin out word (OfMachine register) m = m
 
 pub sets_nothing : (net : Net) (d : Directory) (calls : List Call) (text : List ℕ) → pin_named d.inputs text ≡ None → ((b a : ℕ) → chips.Means (loaded_chip net d) text (BlockWord b a) → ⊥) → (source : Source) → CanSet (Chip (loaded_chip net d) calls) text source → ⊥
 sets_nothing net d calls text pin word TheTime m = m
 sets_nothing net d calls text pin word (OfChip (Nodes nodes)) m = let found : pin_named d.inputs text ≡ Some nodes = m.1 in absurd cc
 sets_nothing net d calls text pin word (OfChip (BlockWord b a)) m = word b a m.1
+sets_nothing net d calls text pin word (OfMachine register) m = m
 
 -- the time cannot be set
 pub time_is_fixed : (net : Net) (d : Directory) (calls : List Call) (text : List ℕ) → text ≡ codes "time" → (source : Source) → CanSet (Chip (loaded_chip net d) calls) text source → ⊥
 time_is_fixed net d calls text time TheTime m = m
 time_is_fixed net d calls text time (OfChip source) m = m.0 time
+time_is_fixed net d calls text time (OfMachine register) m = m

@@ -5,7 +5,7 @@ use Rattle.std.proofs.lemmas.Fmt.{decimal_digit, decimal_step}
 use Rattle.script_text.specs.Comparison.{agrees}
 use Rattle.script_run.specs.Devices.Device.{Empty}
 use Rattle.script_run.specs.Devices.{Source, CanSet}
-use Rattle.script_run.specs.Devices.Source.{TheTime, OfChip}
+use Rattle.script_run.specs.Devices.Source.{TheTime, OfChip, OfMachine}
 use Rattle.script_run.specs.Lines.{IsLine}
 use Rattle.script_run.specs.Standing.{Standing, Compared, Agrees, at_first, with_line, with_echo}
 use Rattle.script_run.specs.Gathering.Gather.{one_more, no_more}
@@ -21,7 +21,7 @@ d13 : decimal 13 ≡ codes "13"
 d13 = decimal_step 13 (lit≤ tt) (lit< tt) ∙ ap (λ t. t ++ 51 ∷ []) d1
 
 bar : IsLine Empty [] (codes "|")
-bar = record { sources = []; meant = tt; told = []; v = λ i c. false; sees = tt; is = refl }
+bar = record { there = ([], ((λ i c. false), tt)); is = λ told v sees. ([], tt, refl) }
 
 abbrev with_bar : Standing → Standing
 with_bar s = with_line s (codes "|")
@@ -30,12 +30,13 @@ abbrev time_line : List ℕ
 time_line = codes "| 0    |"
 
 time : IsLine Empty (time_item ∷ []) time_line
-time = record { sources = TheTime ∷ []; meant = (refl, tt); told = []; v = λ i c. false; sees = tt; is = rw d0 refl }
+time = record { there = ([], ((λ i c. false), tt)); is = λ told v sees. (TheTime ∷ [], (refl, tt), rw d0 refl) }
 
 -- before the first load nothing can be set
 no_set : (text : List ℕ) (source : Source) → CanSet Empty text source → ⊥
 no_set text TheTime can = can
 no_set text (OfChip source) can = can
+no_set text (OfMachine register) can = can
 
 abbrev compare_file : Compared
 compare_file = record { path = codes "t/a.cmp"; lines = codes "||" ∷ [] }

@@ -12,10 +12,11 @@ use Rattle.test_script.specs.declared.tree.Step.TheVariants as steps
 use Rattle.test_script.specs.declared.tree.Act.{Act}
 use Rattle.test_script.specs.declared.tree.Act.TheVariants as acts
 use Rattle.script_run.specs.Setting.{Setting, path_of}
-use Rattle.script_run.specs.Loading.{IsLoaded, IsNotLoaded, IsImage, IsNoImage}
-use Rattle.script_run.specs.Devices.{Device, Source, Means, CanSet, after_set, after_eval, after_tick, after_tock}
-use Rattle.script_run.specs.Devices.Device.{Chip}
-use Rattle.script_run.specs.Lines.{IsLine, AreMeant, head_line}
+use Rattle.script_run.specs.Loading.{IsLoaded, IsNotLoaded, IsProgram, IsImage, IsNoImage}
+use Rattle.script_run.specs.Devices.{Device, Source, CanSet, after_set, after_eval, after_tick, after_tock}
+use Rattle.script_run.specs.Devices.Device.{Chip, Machine}
+use Rattle.script_run.specs.Machines.{loaded_machine}
+use Rattle.script_run.specs.Lines.{IsLine, AreMeant, IsNameless, head_line}
 use Rattle.script_run.specs.Standing.{Standing, Compared, Agrees, with_line, with_echo}
 
 -- the words of an image in the instruction memory of a chip: 0 past it
@@ -42,7 +43,9 @@ module _ (setting : Setting) where
   Does s (acts.Step steps.Tock) t = t ≡ record s { device = after_tock s.device }
   Does s (acts.Step steps.TickTock) t = t ≡ record s { device = after_tock (after_tick s.device) }
   Does s (acts.Step steps.Output) t = ⊥
-  Does s (acts.Load file) t = (chip : LoadedChip) × IsLoaded setting file.text chip × (t ≡ record s { device = after_eval (Chip chip []); items = [] })
+  Does s (acts.Load file) t =
+      ((chip : LoadedChip) × IsLoaded setting file.text chip × (t ≡ record s { device = after_eval (Chip chip []); items = [] }))
+      ⊎ (IsProgram file.text × ((image : List ℕ) × IsImage setting file.text image × (t ≡ record s { device = Machine (loaded_machine image); items = [] })))
   Does s (acts.OutputFile file) t = t ≡ s
   Does s (acts.CompareTo file) t =
       (text : List ℕ) × HasFile setting.files (path_of setting file.text) text × (length text ≤ 1048576)
@@ -85,17 +88,9 @@ module _ (setting : Setting) where
   abbrev pub name_line : Placed → List ℕ
   name_line word = told_line setting.path (message word.place.line word.place.column (codes "Name") word.text)
 
-  -- the first item whose variable stands for nothing
-  pub record IsNameless (device : Device) (items : List Item) (item : Item) : Type 0 where
-    pub earlier : List Item
-    pub later : List Item
-    pub are : items ≡ earlier ++ item ∷ later
-    pub meant : (sources : List Source) × AreMeant device earlier sources
-    pub unmeant : (source : Source) → Means device item.variable.text source → ⊥
-
   abbrev pub Faults : Standing → Act → List ℕ → Type 0
   Faults s (acts.Step step) line = ⊥
-  Faults s (acts.Load file) line = IsNotLoaded setting file.text line
+  Faults s (acts.Load file) line = IsNotLoaded setting file.text line ⊎ (IsProgram file.text × IsNoImage setting file.text line)
   Faults s (acts.OutputFile file) line = ⊥
   Faults s (acts.CompareTo file) line =
       (text : List ℕ) × HasFile setting.files (path_of setting file.text) text × (1048577 ≤ length text) × (line ≡ told_line (path_of setting file.text) (message 0 0 (codes "Range") (decimal 1048577)))

@@ -1,5 +1,5 @@
 -- How a script ends, and what stands on out and on err then. What was put before stays. (The book, appendix 3.)
-use Rattle.std.specs.Prelude.{◌≡◌, ◌⊎◌, ◌<◌, ◌≤◌, ◌-◌, ◌%◌, ℕ, Bool, true, false, List, [], ◌∷◌, ◌++◌, length, take, Some, None, IfSome, is_some, codes}
+use Rattle.std.specs.Prelude.{◌≡◌, ◌⊎◌, ◌≤◌, ◌-◌, ◌%◌, ℕ, Bool, true, false, List, [], ◌∷◌, ◌++◌, length, take, Some, None, IfSome, is_some, codes}
 use Rattle.grammar.specs.declared.Fault.{Fault}
 use Rattle.grammar.specs.Faults.{fault_told}
 use Rattle.outer_world.specs.Files.{Files, HasFile, LacksFolder, file_at}
@@ -27,18 +27,18 @@ Asks s (acts.Set variable word) = ⊥
 Asks s (acts.Echo text) = ⊥
 Asks s (acts.LoadRom word file) = HasRom s.device
 
--- Among these files what the act asks for is not there: its file, or for a chip the folder; a text that the folder names is there.
-abbrev pub Lacks : Setting → Files → Act → Type 0
-Lacks setting told (acts.Step step) = ⊥
-Lacks setting told (acts.Load file) =
-    ((ends_in (codes ".hdl") file.text ≡ true) × LacksFolder (Some told) setting.there (folder setting))
+-- Among these folders and files what the act asks for is not there: its file, or for a chip the folder; a text that the folder names is there.
+abbrev pub Lacks : (List ℕ → Bool) → Setting → Files → Act → Type 0
+Lacks there setting told (acts.Step step) = ⊥
+Lacks there setting told (acts.Load file) =
+    ((ends_in (codes ".hdl") file.text ≡ true) × LacksFolder (Some told) there (folder setting))
     ⊎ ((ends_in (codes ".hdl") file.text ≡ false) × (file_at told (path_of setting file.text) ≡ None))
-Lacks setting told (acts.OutputFile file) = ⊥
-Lacks setting told (acts.CompareTo file) = file_at told (path_of setting file.text) ≡ None
-Lacks setting told (acts.OutputList items) = ⊥
-Lacks setting told (acts.Set variable word) = ⊥
-Lacks setting told (acts.Echo text) = ⊥
-Lacks setting told (acts.LoadRom word file) = file_at told (path_of setting file.text) ≡ None
+Lacks there setting told (acts.OutputFile file) = ⊥
+Lacks there setting told (acts.CompareTo file) = file_at told (path_of setting file.text) ≡ None
+Lacks there setting told (acts.OutputList items) = ⊥
+Lacks there setting told (acts.Set variable word) = ⊥
+Lacks there setting told (acts.Echo text) = ⊥
+Lacks there setting told (acts.LoadRom word file) = file_at told (path_of setting file.text) ≡ None
 
 -- the whole pieces of 4,096 bytes in a text, in bytes
 abbrev pub whole : List ℕ → ℕ
@@ -116,17 +116,17 @@ module _ (setting : Setting) where
 
   -- Or at an act that reads, and all stands there that was put before this act; over told files, where no call is planned to fail, what this very
   -- act asks for is not there. So a shelf may not be asked in vain for what a later act names: what stands before that one would be lost.
-  pub record IsUnreadAt (unfailing : Type 0) (out before : List ℕ) : Type 0 where
+  pub record IsUnreadAt (there : List ℕ → Bool) (unfailing : Type 0) (out before : List ℕ) : Type 0 where
     pub s : Standing
     pub act : Act
     pub is_at : IsAt s act
     pub asks : Asks s act
     pub on_out : out ≡ s.out
     pub on_err : before ≡ s.err
-    pub lacks : unfailing → IfSome setting.files (λ told. Lacks setting told act)
+    pub lacks : unfailing → IfSome setting.files (λ told. Lacks there setting told act)
 
-  abbrev pub IsUnread : Type 0 → List ℕ → List ℕ → Type 0
-  IsUnread unfailing out before = IsNoFile unfailing out before ⊎ IsUnreadAt unfailing out before
+  abbrev pub IsUnread : (List ℕ → Bool) → Type 0 → List ℕ → List ℕ → Type 0
+  IsUnread there unfailing out before = IsNoFile unfailing out before ⊎ IsUnreadAt there unfailing out before
 
   -- Memory ran out, which it may anywhere: nothing stands there, or what the acts put that are done.
   pub record IsStopped (out before : List ℕ) : Type 0 where
@@ -141,11 +141,6 @@ module _ (setting : Setting) where
   abbrev pub IsStarved : List ℕ → List ℕ → Type 0
   IsStarved out before = ((out ≡ []) × (before ≡ [])) ⊎ IsStopped out before
 
-  -- ---- with the line that tells the end, whole
-
-  abbrev pub Ended : (List ℕ → List ℕ → List ℕ → Type 0) → List ℕ → List ℕ → Type 0
-  Ended Ends out err = (before : List ℕ) × (line : List ℕ) × Ends out before line × (err ≡ before ++ line)
-
   -- ---- write faults: nothing is put after
 
   -- the script has put this so far: the acts that are done did, or the last of them a line that differs
@@ -154,7 +149,7 @@ module _ (setting : Setting) where
       ((done : List Act) × (rest : List Act) × HasActs (done ++ rest) × ComesTo done t)
       ⊎ ((s : Standing) × (act : Act) × IsAt s act × Differs setting s act t)
 
-  -- Out failed at a piece that a line made full. All pieces before that line went out, and err has the echoes that come before it and no other.
+  -- Out failed while a line was put. All whole pieces before that line went out, and err has the echoes that come before it and no other.
   pub record LineIsCut (out err : List ℕ) : Type 0 where
     pub s : Standing
     pub act : Act
@@ -163,9 +158,7 @@ module _ (setting : Setting) where
     pub line : List ℕ
     pub puts : PutsLine setting s act r line
     pub n : ℕ
-    pub full : whole s.out < whole (with_line r line).out
     pub from : whole s.out ≤ n
-    pub to : n ≤ whole (with_line r line).out
     pub on_out : out ≡ take n (with_line r line).out
     pub on_err : err ≡ s.err
 
@@ -174,7 +167,6 @@ module _ (setting : Setting) where
     pub t : Standing
     pub put : HasPut t
     pub n : ℕ
-    pub rest : whole t.out < length t.out
     pub from : whole t.out ≤ n
     pub on_out : out ≡ take n t.out
     pub on_err : err ≡ t.err
@@ -190,7 +182,3 @@ module _ (setting : Setting) where
     pub on_out : out ≡ take (whole s.out) s.out
     pub n : ℕ
     pub on_err : err ≡ s.err ++ take n (text ++ 10 ∷ [])
-
-  -- Err failed at the line that tells the end: all lines went out before, and all echoes.
-  abbrev pub LastIsCut : (List ℕ → List ℕ → List ℕ → Type 0) → List ℕ → List ℕ → Type 0
-  LastIsCut Ends out err = (before : List ℕ) × (line : List ℕ) × (n : ℕ) × Ends out before line × (err ≡ before ++ take n line)

@@ -1,3 +1,14 @@
--- What only proofs and private contracts speak of.
 pub mod Brackets
 pub mod Sources
+pub mod Sound
+pub mod Running
+pub mod States
+pub mod Outlets
+pub mod Registers
+pub mod Driving
+pub mod Languages
+pub mod Limits
+pub mod Files
+pub mod Gathered
+pub mod Scripts
+pub mod Loaded

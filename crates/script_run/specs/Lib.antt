@@ -1,4 +1,5 @@
 pub mod Acts
+pub mod Machines
 pub mod Devices
 pub mod Lines
 pub mod Standing
@@ -8,5 +9,6 @@ pub mod Directories
 pub mod Loading
 pub mod Effects
 pub mod Ends
+pub mod Verdicts
 pub mod Rows
 pub mod Inner

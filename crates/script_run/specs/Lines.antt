@@ -36,16 +36,20 @@ AreMeant device [] (source ∷ sources) = ⊥
 AreMeant device (item ∷ items) [] = ⊥
 AreMeant device (item ∷ items) (source ∷ sources) = Means device item.variable.text source × AreMeant device items sources
 
+-- the first item whose variable stands for nothing
+pub record IsNameless (device : Device) (items : List Item) (item : Item) : Type 0 where
+  pub earlier : List Item
+  pub later : List Item
+  pub are : items ≡ earlier ++ item ∷ later
+  pub meant : (sources : List Source) × AreMeant device earlier sources
+  pub unmeant : (source : Source) → Means device item.variable.text source → ⊥
+
 -- the values of these sources
 abbrev pub values_of : Device → List Call → (ℕ → ℕ → Bool) → List Source → List Value
 values_of device told v [] = []
 values_of device told v (source ∷ sources) = value_of device told v source ∷ values_of device told v sources
 
--- The line of the items' values now.
+-- The line of the items' values now: whatever values are seen of the device, which there are, it is the line of them.
 pub record IsLine (device : Device) (items : List Item) (line : List ℕ) : Type 0 where
-  pub sources : List Source
-  pub meant : AreMeant device items sources
-  pub told : List Call
-  pub v : ℕ → ℕ → Bool
-  pub sees : SeesAll device told v
-  pub is : line ≡ (124 ∷ []) ++ columns items (values_of device told v sources)
+  pub there : (told : List Call) × ((v : ℕ → ℕ → Bool) × SeesAll device told v)
+  pub is : (told : List Call) (v : ℕ → ℕ → Bool) → SeesAll device told v → (sources : List Source) × AreMeant device items sources × (line ≡ (124 ∷ []) ++ columns items (values_of device told v sources))

@@ -1,12 +1,13 @@
 -- What a script loads: chips, and images of the instruction memory in a chip. (The book, chapters 4 and 6, and appendices 2 and 3.)
 use Rattle.std.specs.Prelude.{◌≡◌, ◌⊎◌, ℕ, true, false, List, [], ◌∷◌, ◌++◌, Option, Some, None, Ok, IfSome, codes, decimal}
-use Rattle.outer_world.specs.Files.{HasFile, IsListing}
+use Rattle.outer_world.specs.Files.{HasFile, IsListing, path_in}
 use Rattle.outer_world.specs.Refusals.{Message, message, told_line}
 use Rattle.outer_world.specs.Texts.{joined}
 use Rattle.hack_asm.specs.Meaning as assembly
 use Rattle.hack_asm.specs.HackText as image
 use Rattle.hack_asm.specs.Told.{asm_told}
 use Rattle.hack_asm.specs.declared.fault.AsmFault.{AsmFault}
+use Rattle.netlist.specs.Order.{AreOrdered}
 use Rattle.hdl_tree.specs.declared.library.Entry.{Entry}
 use Rattle.hdl_tree.specs.Chips.{find_entry}
 use Rattle.hdl_elab.specs.Told.{named_told}
@@ -33,40 +34,45 @@ pub record HasSources (setting : Setting) (from : Sources) : Type 0 where
   pub beside : from.folder ≡ folder setting
   pub listed : IfSome setting.files (λ told. IsListing told (folder setting) from.names)
 
--- The file is that of a chip, which has no fault; all chips that it needs are there. What has a name in it is told by its directory.
-pub record IsLoaded (setting : Setting) (file : List ℕ) (chip : LoadedChip) : Type 0 where
-  pub name : List ℕ
-  pub is : file ≡ file_of name
-  pub from : Sources
-  pub has : HasSources setting from
-  pub entries : List Entry
-  pub gathered : Gather from (name ∷ []) [] entries
+-- From these chips on, the chip of this name has no fault; its netlist is in order, and what has a name in it is told by its directory.
+pub record IsBuilt (setting : Setting) (entries : List Entry) (name : List ℕ) (chip : LoadedChip) : Type 0 where
   pub top : Entry
   pub found : find_entry entries name ≡ Some top
   pub fine : IsFine (chips_in entries setting.blocks) top
   pub e : Elab
   pub elaborated : IsElaborated (chips_in entries setting.blocks) top e
   pub net : chip.net ≡ e.net
+  pub ordered : AreOrdered chip.net.nodes chip.net.blocks
   pub directory : IsDirectory entries top e chip.directory
   pub fits : FitsNet chip.net chip.directory
 
+-- These are all chips that the chip of this name needs, where each is found.
+abbrev pub HasGathered : Setting → List ℕ → List Entry → Type 0
+HasGathered setting name entries = (from : Sources) × HasSources setting from × Gather from (name ∷ []) [] entries
+
+-- The text of one of them is refused, with this line.
+abbrev pub HasFailed : Setting → List ℕ → List ℕ → Type 0
+HasFailed setting name line = (from : Sources) × HasSources setting from × GatherFails from (name ∷ []) [] line
+
+-- The file is that of a chip; all chips that it needs are there, and it is built from them.
+abbrev pub IsLoaded : Setting → List ℕ → LoadedChip → Type 0
+IsLoaded setting file chip = (name : List ℕ) × (file ≡ file_of name) × ((entries : List Entry) × HasGathered setting name entries × IsBuilt setting entries name chip)
+
 abbrev pub path_of_shipped : Setting → List ℕ → Option (List ℕ) → List ℕ
-path_of_shipped setting name None = path_of setting (file_of name)
+path_of_shipped setting name None = path_in (folder setting) (file_of name)
 path_of_shipped setting name (Some own) = codes "hdl/" ++ file_of own
 
 abbrev pub path_of_entry : Setting → List ℕ → Option Entry → List ℕ
-path_of_entry setting name None = path_of setting (file_of name)
+path_of_entry setting name None = path_in (folder setting) (file_of name)
 path_of_entry setting name (Some entry) = path_of_shipped setting name entry.shipped
 
 -- where the text of a chip stands: that of a shipped one under its own name, that of another in the script's folder
 abbrev pub path_of_text : Setting → List Entry → List ℕ → List ℕ
 path_of_text setting entries name = path_of_entry setting name (find_entry entries name)
 
--- What is told of a fault of the chip that is loaded, with the path of the text that has it. Want of memory is no refusal, and neither is a search
--- for loops that came to nothing.
+-- What is told of a fault of the chip that is loaded, with the path of the text that has it. Want of memory is no refusal.
 abbrev pub IsFaultLine : Setting → List Entry → List ℕ → ElaborationFault → List ℕ → Type 0
 IsFaultLine setting entries name faults.Memory line = ⊥
-IsFaultLine setting entries name faults.NotShown line = ⊥
 IsFaultLine setting entries name (faults.Named fault) line = line ≡ told_line (path_of_text setting entries fault.chip) (named_told fault)
 IsFaultLine setting entries name (faults.Loop nets) line = line ≡ told_line (path_of_text setting entries name) (message 0 0 (codes "Loop") (joined nets))
 IsFaultLine setting entries name (faults.TooManyNodes n) line = line ≡ told_line (path_of_text setting entries name) (message 0 0 (codes "TooManyNodes") (decimal n))
@@ -84,12 +90,10 @@ abbrev pub IsUnknown : Setting → List Entry → List ℕ → List ℕ → Type
 IsUnknown setting entries name line = (find_entry entries name ≡ None) × (line ≡ told_line setting.path (message 0 0 (codes "UnknownChip") name))
 
 -- The file is that of a chip, and this is the line that tells why it is not loaded: a text that is refused, or else no chip, or a fault of it.
-pub record IsNotLoaded (setting : Setting) (file line : List ℕ) : Type 0 where
-  pub name : List ℕ
-  pub is : file ≡ file_of name
-  pub from : Sources
-  pub has : HasSources setting from
-  pub why : GatherFails from (name ∷ []) [] line ⊎ ((entries : List Entry) × Gather from (name ∷ []) [] entries × (IsUnknown setting entries name line ⊎ IsFaulty setting entries name line))
+abbrev pub IsNotLoaded : Setting → List ℕ → List ℕ → Type 0
+IsNotLoaded setting file line =
+    (name : List ℕ) × (file ≡ file_of name)
+    × (HasFailed setting name line ⊎ ((entries : List Entry) × HasGathered setting name entries × (IsUnknown setting entries name line ⊎ IsFaulty setting entries name line)))
 
 -- ---- images
 
@@ -107,3 +111,9 @@ abbrev pub IsNoImage : Setting → List ℕ → List ℕ → Type 0
 IsNoImage setting file line =
     (text : List ℕ) × (fault : AsmFault) × (told : Message) × HasFile setting.files (path_of setting file) text × RefusesImage file text fault × (asm_told fault ≡ Some told)
     × (line ≡ told_line (path_of setting file) told)
+
+-- ---- the instruction machine
+
+-- The file is that of a program, and no chip's.
+abbrev pub IsProgram : List ℕ → Type 0
+IsProgram file = ends_in (codes ".hdl") file ≡ false

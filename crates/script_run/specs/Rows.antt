@@ -10,6 +10,7 @@ use Rattle.test_script.specs.Trees.Commands.{End, Then, Repeat}
 use Rattle.script_run.specs.Acts.{acts_of}
 use Rattle.script_run.specs.Standing.{Standing, at_first}
 use Rattle.script_run.specs.Setting.{Setting, folder}
+use Rattle.outer_world.specs.Plans.{each_folder_there}
 use Rattle.script_run.specs.Gathering.{Gather}
 use Rattle.script_run.specs.Effects.{GoThrough, Differs, Faults}
 use Rattle.script_run.specs.Ends.{Asks, Lacks, IsStarved, whole}
@@ -26,7 +27,7 @@ output = acts.Step steps.Output
 
 -- the script t/a.tst, where no files are told
 abbrev pub setting : Setting
-setting = record { path = codes "t/a.tst"; files = None; there = λ path. true; blocks = true }
+setting = record { path = codes "t/a.tst"; files = None; blocks = true }
 
 -- these acts put this on out and on err
 abbrev pub Puts : List Act → List ℕ → List ℕ → Type 0
@@ -49,8 +50,8 @@ pub record ScriptRowsLaw : Type 0 where
   pub in_none : folder (record setting { path = codes "a.tst" }) ≡ []
   pub nested : folder (record setting { path = codes "/s/t/a.tst" }) ≡ codes "/s/t"
   -- an echo asks for nothing, and lacks nothing; a compare-to lacks its file, which is looked for beside the script
-  pub silent : (Asks at_first (acts.Echo (codes "a")) → ⊥) × (Lacks setting [] (acts.Echo (codes "a")) → ⊥)
-  pub lacking : Lacks setting ((codes "a.cmp", []) ∷ []) (acts.CompareTo (placed (codes "a.cmp")))
+  pub silent : (Asks at_first (acts.Echo (codes "a")) → ⊥) × (Lacks each_folder_there setting [] (acts.Echo (codes "a")) → ⊥)
+  pub lacking : Lacks each_folder_there setting ((codes "a.cmp", []) ∷ []) (acts.CompareTo (placed (codes "a.cmp")))
   -- of 4,095 bytes no piece is whole, and of 4,097 one
   pub pieces : (whole (replicate 4095 124) ≡ 0) × (whole (replicate 4097 124) ≡ 4096)
   pub differs : (t : Standing) × Differs setting (record at_first { compared = Some (record { path = codes "t/a.cmp"; lines = codes "||" ∷ [] }) }) output t × (t.out ≡ codes "|\n") × (t.lines ≡ 1)

@@ -1,10 +1,13 @@
 //! What of an elaborated chip has a name in a script.
 
-ghost use Rattle.std.specs.Prelude.{◌≡◌, None, Some, IfOk, MatchOption, drop, map, take};
+ghost use Rattle.std.specs.Prelude.{◌≡◌, ℕ, List, None, Some, IfOk, MatchOption, drop, map, take};
+ghost use Rattle.std.specs.List.{All, Contains};
 ghost use Rattle.hdl_tree.specs.Chips.{find_entry, pin_width};
-ghost use Rattle.script_run.specs.Directories.{out_among, part_nodes, pin_nodes};
+ghost use Rattle.driven_chip.specs.Directory.{part_named};
+ghost use Rattle.script_run.specs.Directories.{IsDirectory, first_part, out_among, part_nodes, pin_nodes};
 
-use driven_chip::{PartNodes, PinNodes};
+use driven_chip::{Directory, PartNodes, PinNodes, part_named};
+use hdl_elaborate::Elab;
 use hdl_flat::{PartAt, PinAt};
 use hdl_tree::{Entry, Library, List, Pin};
 use std::alloc::{AllocError, Global};
@@ -41,15 +44,15 @@ fn width(pin: &Pin) -> usize
     pin.width.unwrap_or(1) as usize
 }
 
-// The first n of these nodes, and the others.
-fn cut(nodes: &[u32], n: usize) -> (&[u32], &[u32])
-    ensures own { result.0.now ≡ take n nodes.now }
-    ensures others { result.1.now ≡ drop n nodes.now }
+// The first n of these items, and the others.
+fn cut<T>(items: &[T], n: usize) -> (&[T], &[T])
+    ensures own { result.0.now ≡ take n items.now }
+    ensures others { result.1.now ≡ drop n items.now }
 {
-    if n < nodes.len() {
-        nodes.split_at(n)
+    if n < items.len() {
+        items.split_at(n)
     } else {
-        (nodes, &[])
+        (items, &[])
     }
 }
 
@@ -68,7 +71,8 @@ fn out_among<'a>(pins: &[Pin], nodes: &'a [u32]) -> Option<&'a [u32]>
     None
 }
 
-fn entry_named<'a>(entries: &'a [Entry], name: &[u8]) -> Option<&'a Entry>
+/// The chip of this name.
+pub fn entry_named<'a>(entries: &'a [Entry], name: &[u8]) -> Option<&'a Entry>
     ensures { MatchOption result (find_entry entries.now name.now ≡ None) (λ entry. find_entry entries.now name.now ≡ Some entry.now) }
 {
     for entry in entries {
@@ -99,5 +103,41 @@ pub fn part_nodes(alloc: Global, library: &Library, part: &PartAt) -> Result<Par
         chip: part.chip.clone()?,
         out: out_of(alloc, library, part)?,
         block: part.block,
+    })
+}
+
+/// Of each chip in it the first part, of parts depth first in text order.
+pub fn first_parts(
+    alloc: Global,
+    library: &Library,
+    parts: &[PartAt],
+) -> Result<List<PartNodes>, AllocError>
+    ensures first { IfOk result (λ l. (name : List ℕ) → part_named l name ≡ first_part library.now.entries parts.now name) }
+    ensures among { IfOk result (λ l. All (Contains (map (part_nodes library.now.entries) parts.now)) l) }
+{
+    let mut named = Vec::new(alloc);
+    for part in parts {
+        if part_named(&named, part.chip.as_bytes()).is_none() {
+            named.push(part_nodes(alloc, library, part)?)?;
+        }
+    }
+    Ok(List::of(named))
+}
+
+/// What of an elaborated chip has a name.
+pub fn directory_of(
+    alloc: Global,
+    library: &Library,
+    top: &Entry,
+    e: &Elab,
+) -> Result<Directory, AllocError>
+    ensures directory { IfOk result (λ d. IsDirectory library.now.entries top.now e.now d) }
+    ensures among { IfOk result (λ d. All (Contains (map (part_nodes library.now.entries) e.now.parts)) d.parts) }
+{
+    let (inputs, outputs) = cut(e.pins.as_slice(), top.chip.inputs.as_slice().len());
+    Ok(Directory {
+        inputs: all_pins(alloc, inputs)?,
+        outputs: all_pins(alloc, outputs)?,
+        parts: first_parts(alloc, library, e.parts.as_slice())?,
     })
 }

@@ -3,12 +3,12 @@
 ghost use Rattle.std.specs.Prelude.{◌≡◌, ◌↔◌, ◌++◌, ℕ, List, None, Some, IsTrue, MatchOption};
 ghost use Rattle.netlist.specs.Net.{Net};
 ghost use Rattle.gate_sim.specs.Calls.{Call};
-ghost use Rattle.driven_chip.specs.Directory.{HasBlock, HasOut, loaded_chip, pin_named};
+ghost use Rattle.driven_chip.specs.Directory.{AreSizes, HasBlock, HasOut, loaded_chip, pin_named};
 ghost use Rattle.driven_chip.specs.Variables as chips;
 ghost use Rattle.driven_chip.specs.Variables.Source.{BlockWord};
 ghost use Rattle.script_run.specs.Devices.{CanSet, Means, Source};
 ghost use Rattle.script_run.specs.Devices.Device.{Chip};
-ghost use Rattle.script_run.specs.Inner.Sources.{AreSizes, HasSize, IsOut, source_of};
+ghost use Rattle.script_run.specs.Inner.Sources.{HasSize, IsOut, source_of};
 
 use crate::brackets::{CAP, brackets, capped_number};
 use driven_chip::{Directory, part_named, pin_named};
@@ -44,8 +44,8 @@ fn out_named<'a>(directory: &'a Directory, name: &[u8]) -> Option<&'a [u32]>
     }
 }
 
-// The block of the first part of a chip.
-fn block_named(directory: &Directory, name: &[u8]) -> Option<u32>
+/// The block of the first part of a chip.
+pub fn block_named(directory: &Directory, name: &[u8]) -> Option<u32>
     ensures { MatchOption result ((block : ℕ) → HasBlock directory.now name.now block → ⊥) (λ block. HasBlock directory.now name.now block) }
 {
     let Some(part) = part_named(directory.parts.as_slice(), name) else {

@@ -1,4 +1,4 @@
--- The budgets of the two programs.
+-- The budgets of the three programs.
 use Rattle.std.proofs.Common.{◌≡◌, ◌≢◌, ◌+◌, ◌*◌, ℕ, zero, suc, List, [], ◌∷◌, ◌++◌, refl, ◌∙◌, ap, subst, arith}
 use Rattle.std.specs.Prelude.{replicate}
 use Rattle.std.specs.List.{AllByRecursion, AllPairs, Contains}
@@ -7,7 +7,7 @@ use Rattle.jack_meaning.specs.Text.{Literal, Local, Load, Let, Statement, Store,
 use Rattle.jack_meaning.specs.Meaning.{subroutine_at}
 use Rattle.jack_meaning.specs.Linked.{IsLinked, called, init, statement_calls, text_calls}
 use Rattle.tower.specs.Budget.{IsBudget, statement_words, text_words}
-use Rattle.tower.specs.BudgetRows.{BudgetRows, local, repeated}
+use Rattle.tower.specs.BudgetRows.{BudgetRows, local, nested, repeated}
 
 -- the text of Main.main
 abbrev text : ℕ → Statement → Text
@@ -64,4 +64,5 @@ pub rows : BudgetRows
 rows = record {
   stores = budget 560 (Store 0 (local 0) (local 1) (local 2)) refl 31311 refl;
   loads = budget 668 (Let 0 (Local 1) (Load (local 0) (local 2))) refl 32575 refl;
+  others = budget 1 nested refl 822 refl;
 }

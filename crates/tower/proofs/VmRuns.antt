@@ -187,6 +187,13 @@ driven keys old new n end begun goes = ran keys old new n begun end goes
 
 -- ---- the code of a program
 
+-- a move leads to the state after it
+made_next : (s s' : State) (o : Outcome) → state_after o ≡ Some s' → state_or s o ≡ s'
+made_next s s' (Acts heard s'') e = cc
+made_next s s' (Strays why) e = absurd (let no : ⊥ = cc in no)
+made_next s s' (Full w) e = absurd (let no : ⊥ = cc in no)
+made_next s s' Done e = absurd (let no : ⊥ = cc in no)
+
 pub follows : VmLaw
 follows core linked resolved links keys words n made =
     let program = the_program core in
@@ -198,7 +205,9 @@ follows core linked resolved links keys words n made =
       moves_on = vm_run.moves_on program code.numbers linked code.depth code.most_locals code.fits code.code keys (vm_at linked keys) n run;
       most = gap_words code.depth code.most_locals;
       gap = record { depth = code.depth; most_locals = code.most_locals; deepest = code.deepest; most = code.most; sum = refl };
-      goes_on = λ tame far. vm_run.goes_on program code.numbers linked code.depth code.most_locals code.fits code.code keys (vm_at linked keys) n (record { begins = refl; key_words = words; moves = far }) tame;
+      goes_on = λ tame.
+          let (k, few, moves, less) = vm_run.goes_on program code.numbers linked code.depth code.most_locals code.fits code.code keys (vm_at linked keys) n (λ c s made. made_next (vm_at linked keys c) s (outcome_at linked keys c) made) run tame in
+          (k, few, moves.moves, less);
     }
 
 -- ---- what is built was linked

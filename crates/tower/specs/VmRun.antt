@@ -1,6 +1,6 @@
 -- The run of the virtual machine with linked code, and that with the code of a program it follows the program's meaning. (The book, chapters 7 to
 -- 11.)
-use Rattle.std.specs.Prelude.{◌≡◌, ◌<◌, ◌+◌, ℕ, zero, suc, [], Some, Ok, false}
+use Rattle.std.specs.Prelude.{◌≡◌, ◌<◌, ◌≤◌, ◌+◌, ℕ, zero, suc, [], Some, Ok, false}
 use Rattle.layers.specs.System.{IsKey, Listening, run_of}
 use Rattle.layers.specs.Trace.{Trace, heard, steps}
 use Rattle.layers.specs.Headline.{Agrees}
@@ -91,11 +91,11 @@ pub record VmFollows (program : Program) (linked : Linked) (keys : ℕ → ℕ) 
       × Answers program after.state (outcome_at linked keys n)
   -- Where the meaning has one more tame step, the machine has a next move,
   pub moves_on : IsTameFor program linked keys n (suc (steps (vm_trace linked keys) n)) → (s : State) × (state_after (outcome_at linked keys n) ≡ Some s)
-  -- and the next commit is among as many moves as the gap of the program has words.
+  -- and it makes the next commit, in at most as many moves as the gap of the program has words.
   pub most : ℕ
   pub gap : IsGap program most
-  pub goes_on : IsTameFor program linked keys n (suc (steps (vm_trace linked keys) n)) → MakesMoves linked keys (n + most)
-      → steps (vm_trace linked keys) n < steps (vm_trace linked keys) (n + most)
+  pub goes_on : IsTameFor program linked keys n (suc (steps (vm_trace linked keys) n))
+      → (k : ℕ) × (k ≤ most) × MakesMoves linked keys (n + k) × (steps (vm_trace linked keys) n < steps (vm_trace linked keys) (n + k))
 
 -- Where the names of a program are resolved, the virtual machine with its code follows its meaning.
 abbrev pub VmLaw : Type 0

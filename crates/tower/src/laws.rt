@@ -42,7 +42,8 @@ pub fn vm_run_law()
     ensures { VmLaw }
 {}
 
-/// A program has one budget by its text, and its image has no more words. The budgets of two programs, by computation.
+/// A program has one budget by its text, and its image has no more words. The budgets of three programs, by
+/// computation.
 pub fn budget_law()
     ensures budgets { BudgetLaw }
     ensures rows { BudgetRows }

@@ -1,44 +1,140 @@
 -- What is known of chips.
-use Rattle.std.specs.Prelude.{◌≡◌, ℕ, List, Option, Some, slice_get}
+use Rattle.std.specs.Prelude.{◌≡◌, ℕ, zero, suc, ◌&&◌, ◌⊎◌, Bool, true, false, not, List, [], ◌∷◌, map, Option, Some, None, slice_get, codes, if◌then◌else◌}
+use Rattle.std.specs.Str.{bytes_eq}
 use Rattle.hdl_tree.specs.declared.tree.Part.{Part}
 use Rattle.hdl_tree.specs.declared.library.Entry.{Entry}
-use Rattle.hdl_tree.specs.Chips.{Chips, find_entry}
-use Rattle.hdl_tree.specs.Behaviour.{chip_at}
-use Rattle.hdl_law.specs.Ways.{HasBit, TreeFits, IsOrdered}
-use Rattle.hdl_loops.specs.Inner.Steps.{HasPart, HasReached, Cover}
-use Rattle.hdl_loops.specs.Inner.Marked.{AllRise}
-use Rattle.hdl_loops.specs.declared.graph.Edge.{Edge}
-use Rattle.hdl_loops.specs.declared.graph.Dependency.{Dependency}
-use Rattle.hdl_loops.specs.declared.check.Ranks.{Ranks}
-use Rattle.hdl_loops.specs.declared.find.Known.{Known}
+use Rattle.hdl_tree.specs.declared.ends.End.{End}
+use Rattle.hdl_tree.specs.Chips.{Chips, end_of, find_chip, parts_of}
+use Rattle.hdl_tree.specs.Behaviour.{chip_at, inner_chip}
+use Rattle.hdl_law.specs.Loops.{BitAt, bit_at, reaches_out}
+use Rattle.hdl_law.specs.Ways.{Depends, OwnCircle, TreeFits}
+use Rattle.hdl_loops.specs.Inner.Hops.{bit, input_of, output_of, IsWay}
+use Rattle.hdl_loops.specs.Inner.Ties.{Tie, ties_in, gather}
+use Rattle.hdl_loops.specs.Inner.Told.{HasConnection}
+use Rattle.hdl_loops.specs.Inner.Trees.{is_marked, tree_in, AreTrees}
+use Rattle.hdl_loops.specs.declared.hops.Hop.{Hop}
+use Rattle.hdl_loops.specs.declared.tree.Tree.{Tree}
+use Rattle.hdl_loops.specs.declared.known.Known.{Known}
 
--- the list has the steps of part i, whose chip is known
-pub record HasKnown (entries : List Entry) (known : List (Option Known)) (es : List Edge) (i : ℕ) (part : Part) (inner : Entry) : Type 0 where
-  pub k : ℕ
-  pub inside : Known
-  pub there : slice_get entries k ≡ Some inner
-  pub known_as : slice_get known k ≡ Some (Some inside)
-  pub steps : HasPart es i inner part inside.dependencies.items
+-- ---- which bits of a chip lead to which
 
--- the list has the steps of part i, if there is its chip
-abbrev pub HasSteps : List Entry → List (Option Known) → List Edge → ℕ → Part → Type 0
-HasSteps entries known es i part = (inner : Entry) → find_entry entries part.chip ≡ Some inner → HasKnown entries known es i part inner
+abbrev pub leads_by : Option Tree → BitAt → Bool
+leads_by None y = false
+leads_by (Some t) y = is_marked t y
 
--- the list has the steps of all parts
-abbrev pub HasAllSteps : List Entry → List (Option Known) → List Edge → List Part → Type 0
-HasAllSteps entries known es parts = (i : ℕ) (part : Part) → slice_get parts i ≡ Some part → HasSteps entries known es i part
+abbrev pub leads : Known → BitAt → BitAt → Bool
+leads inside x y = leads_by (tree_in inside.trees.entries x) y
 
--- the own graph of each chip of a tree is in order
-abbrev pub TreeOrdered : Chips → Entry → Type 0
-TreeOrdered chips top = (path : List ℕ) (chip : Entry) → chip_at chips top path ≡ Some chip → IsOrdered chips chip
+abbrev pub leads_in : Option (Option Known) → BitAt → BitAt → Bool
+leads_in None x y = false
+leads_in (Some None) x y = false
+leads_in (Some (Some inside)) x y = leads inside x y
 
--- what is known of a chip is right, if its tree fits: these are all its dependencies, and its tree is in order
-abbrev pub IsGood : Chips → Entry → List Dependency → Type 0
-IsGood chips chip ds = TreeFits chips chip → Cover chips chip ds × TreeOrdered chips chip
+abbrev pub end_crosses : End → BitAt → BitAt → Bool
+end_crosses e x y = reaches_out e x.name && bytes_eq y.name (codes "out")
 
--- what is known of the chips is right
+abbrev pub crosses_by : Option End → Option (Option Known) → BitAt → BitAt → Bool
+crosses_by (Some e) known x y = end_crosses e x y
+crosses_by None known x y = leads_in known x y
+
+abbrev pub crosses_in : Chips → Option Entry → Option (Option Known) → BitAt → BitAt → Bool
+crosses_in chips None known x y = false
+crosses_in chips (Some entry) known x y = crosses_by (end_of chips.blocks entry) known x y
+
+-- the output bit of chip k depends on the input bit, as far as is known
+abbrev pub crosses : Chips → List (Option Known) → ℕ → BitAt → BitAt → Bool
+crosses chips known k x y = crosses_in chips (slice_get chips.entries k) (slice_get known k) x y
+
+-- ---- the own graph of a chip
+
+-- a hop, apart from where its names lie
+pub record Leap : Type 0 where
+  pub from : BitAt
+  pub chip : ℕ
+  pub input : BitAt
+  pub output : BitAt
+  pub to : BitAt
+
+abbrev pub leap_of : Hop → Leap
+leap_of h = record { from = bit h.from; chip = h.chip; input = input_of h.through; output = output_of h.through; to = bit h.to }
+
+abbrev pub leaps_of : List Hop → List Leap
+leaps_of hs = map leap_of hs
+
+-- a way goes in by one joint and out by another, through the part's chip
+abbrev pub leads_through : Chips → List (Option Known) → ℕ → Tie → Tie → Bool
+leads_through chips known k a b = a.input && (not b.input && crosses chips known k a.pin b.pin)
+
+abbrev pub leap_if : Bool → ℕ → Tie → Tie → List Leap
+leap_if t k a b = if t then record { from = a.net; chip = k; input = a.pin; output = b.pin; to = b.net } ∷ [] else []
+
+-- the hop that does so, if there is such a way
+abbrev pub leap_by : Chips → List (Option Known) → ℕ → Tie → Tie → List Leap
+leap_by chips known k a b = leap_if (leads_through chips known k a b) k a b
+
+-- the hops that go in by this joint
+abbrev pub leaps_from : Chips → List (Option Known) → ℕ → List Tie → Tie → List Leap
+leaps_from chips known k ties a = gather (leap_by chips known k a) ties
+
+-- the hops through a part with these joints
+abbrev pub leaps_through : Chips → List (Option Known) → ℕ → List Tie → List Leap
+leaps_through chips known k ties = gather (leaps_from chips known k ties) ties
+
+abbrev pub next_place : Option ℕ → Option ℕ
+next_place None = None
+next_place (Some k) = Some (suc k)
+
+-- the place of the chip of this name
+abbrev pub place_of : List Entry → List ℕ → Option ℕ
+place_of [] name = None
+place_of (e ∷ es) name = if bytes_eq name e.name then Some 0 else next_place (place_of es name)
+
+abbrev pub ties_for : Option Entry → Part → List Tie
+ties_for None part = []
+ties_for (Some inner) part = gather (ties_in inner) part.connections
+
+abbrev pub leaps_at : Chips → List (Option Known) → Part → Option ℕ → List Leap
+leaps_at chips known part None = []
+leaps_at chips known part (Some k) = leaps_through chips known k (ties_for (slice_get chips.entries k) part)
+
+-- the hops through a part, if there is its chip
+abbrev pub part_leaps : Chips → List (Option Known) → Part → List Leap
+part_leaps chips known part = leaps_at chips known part (place_of chips.entries part.chip)
+
+-- these are the hops of a chip's own graph
+abbrev pub IsGraph : Chips → List (Option Known) → Entry → List Hop → Type 0
+IsGraph chips known chip hs = leaps_of hs ≡ gather (part_leaps chips known) (parts_of chips chip)
+
+-- a hop of a chip's own graph
+pub record IsHop (chips : Chips) (known : List (Option Known)) (chip : Entry) (h : Hop) : Type 0 where
+  pub i : ℕ
+  pub part : Part
+  pub inner : Entry
+  pub there : slice_get (parts_of chips chip) i ≡ Some part
+  pub found : find_chip chips part.chip ≡ Some inner
+  pub place : slice_get chips.entries h.chip ≡ Some inner
+  pub goes_in : HasConnection inner part true h.from.name.now h.from.bit h.through.input.now h.through.bit
+  pub goes_out : HasConnection inner part false h.to.name.now h.to.bit h.through.output.now h.through.out
+  pub crosses_it : crosses chips known h.chip (input_of h.through) (output_of h.through) ≡ true
+
+abbrev pub AreHops : Chips → List (Option Known) → Entry → List Hop → Type 0
+AreHops chips known chip hs = (p : ℕ) (h : Hop) → slice_get hs p ≡ Some h → IsHop chips known chip h
+
+-- ---- what is known
+
+-- the own graph of no chip of a tree has a circle
+abbrev pub TreeClear : Chips → Entry → Type 0
+TreeClear chips top = (path : List ℕ) (chip : Entry) → chip_at chips top path ≡ Some chip → OwnCircle chips chip → ⊥
+
+-- what is known of a chip that is no end
+pub record IsRight (chips : Chips) (known : List (Option Known)) (chip : Entry) (inside : Known) : Type 0 where
+  pub hops : AreHops chips known chip inside.hops.items
+  pub trees : AreTrees inside.hops.items inside.trees.entries
+  pub covers : TreeFits chips chip → (n m : List ℕ) (b k : ℕ) → Depends chips chip n b m k → leads inside (bit_at [] n b) (bit_at [] m k) ≡ true
+  pub clear : TreeFits chips chip → TreeClear chips chip
+
 abbrev pub AreKnown : Chips → List (Option Known) → Type 0
-AreKnown chips known = (k : ℕ) (inner : Entry) (inside : Known) → slice_get chips.entries k ≡ Some inner → slice_get known k ≡ Some (Some inside) → IsGood chips inner inside.dependencies.items
+AreKnown chips known = (k : ℕ) (chip : Entry) (inside : Known) → slice_get chips.entries k ≡ Some chip → slice_get known k ≡ Some (Some inside) → IsRight chips known chip inside
 
 abbrev pub IsKnown : List (Option Known) → ℕ → Type 0
 IsKnown known k = (inside : Known) × (slice_get known k ≡ Some (Some inside))
@@ -46,9 +142,51 @@ IsKnown known k = (inside : Known) × (slice_get known k ≡ Some (Some inside))
 abbrev pub KnowNothing : List (Option Known) → Type 0
 KnowNothing known = (k : ℕ) (inside : Known) → slice_get known k ≡ Some (Some inside) → ⊥
 
--- what was seen of a chip that is no end: its steps, ranks that rise along them, and its dependencies
-pub record IsSeen (entries : List Entry) (known : List (Option Known)) (chip : Entry) (parts : List Part) (inside : Known) : Type 0 where
-  pub steps : HasAllSteps entries known inside.edges.items parts
-  pub ranks : Ranks
-  pub rise : AllRise ranks inside.edges.items
-  pub reached : (n : List ℕ) (b : ℕ) → HasBit chip.chip.inputs n b → HasReached inside.edges.items chip inside.dependencies.items n b
+-- what is known stays so
+abbrev pub StaysKnown : List (Option Known) → List (Option Known) → Type 0
+StaysKnown old new = (k : ℕ) (inside : Known) → slice_get old k ≡ Some (Some inside) → slice_get new k ≡ Some (Some inside)
+
+-- the chip in this place is known, or is an end
+abbrev pub IsDone : Chips → List (Option Known) → ℕ → Type 0
+IsDone chips known k = (chip : Entry) → slice_get chips.entries k ≡ Some chip → end_of chips.blocks chip ≡ None → IsKnown known k
+
+-- and so is the chip of a part
+abbrev pub PartDone : Chips → List (Option Known) → Part → Type 0
+PartDone chips known part = (k : ℕ) → place_of chips.entries part.chip ≡ Some k → IsDone chips known k
+
+-- and those of all parts
+abbrev pub PartsDone : Chips → List (Option Known) → Entry → Type 0
+PartsDone chips known chip = (i : ℕ) (part : Part) (k : ℕ) → slice_get (parts_of chips chip) i ≡ Some part → place_of chips.entries part.chip ≡ Some k → IsDone chips known k
+
+-- chip k is noted, and what was known stays
+pub record Notes (old new : List (Option Known)) (k : ℕ) (inside : Known) : Type 0 where
+  pub stays : StaysKnown old new
+  pub noted : IsKnown new k
+  pub only : (j : ℕ) (other : Known) → slice_get new j ≡ Some (Some other) → slice_get old j ≡ Some (Some other) ⊎ ((j ≡ k) × (other ≡ inside))
+
+-- ---- depth
+
+-- parts nest less deep than this
+abbrev pub Nests : ℕ → Chips → Entry → Type 0
+Nests zero chips chip = ⊥
+Nests (suc d) chips chip = (i : ℕ) (inner : Entry) → inner_chip chips chip i ≡ Some inner → Nests d chips inner
+
+abbrev pub NestsAt : ℕ → Chips → ℕ → Type 0
+NestsAt d chips k = (chip : Entry) → slice_get chips.entries k ≡ Some chip → Nests d chips chip
+
+abbrev pub PartNests : ℕ → Chips → Part → Type 0
+PartNests d chips part = (inner : Entry) → find_chip chips part.chip ≡ Some inner → Nests d chips inner
+
+abbrev pub PartsNest : ℕ → Chips → Entry → Type 0
+PartsNest d chips chip = (i : ℕ) (inner : Entry) → inner_chip chips chip i ≡ Some inner → Nests d chips inner
+
+-- ---- ways through chips
+
+abbrev pub HasTrees : List (Option Known) → ℕ → Type 0
+HasTrees known k = (inside : Known) → slice_get known k ≡ Some (Some inside) → AreTrees inside.hops.items inside.trees.entries
+
+-- hops of what is known, which are a way between these bits
+abbrev pub IsWayIn : Option (Option Known) → BitAt → List Hop → BitAt → Type 0
+IsWayIn None x ws y = ⊥
+IsWayIn (Some None) x ws y = ⊥
+IsWayIn (Some (Some inside)) x ws y = IsWay inside.hops.items x ws y

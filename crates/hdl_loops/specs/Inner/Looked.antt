@@ -1,21 +1,27 @@
 -- What a look at chips gives.
-use Rattle.std.specs.Prelude.{ℕ, List, Option, Some, None}
+use Rattle.std.specs.Prelude.{◌≡◌, ℕ, List, Option, Some, None}
 use Rattle.std.specs.declared.vec.Vec.{Vec}
 use Rattle.std.specs.declared.alloc.Global.{Global}
+use Rattle.hdl_tree.specs.declared.tree.Part.{Part}
 use Rattle.hdl_tree.specs.declared.library.Entry.{Entry}
-use Rattle.hdl_tree.specs.Chips.{Chips}
+use Rattle.hdl_tree.specs.Chips.{Chips, find_chip}
 use Rattle.hdl_law.specs.Loops.{IsLoop}
-use Rattle.hdl_loops.specs.Inner.Knowing.{AreKnown, IsGood}
-use Rattle.hdl_loops.specs.declared.find.Known.{Known}
+use Rattle.hdl_loops.specs.Inner.Knowing.{IsRight}
+use Rattle.hdl_loops.specs.declared.known.Known.{Known}
 use Rattle.hdl_loops.specs.declared.find.Look.{Look}
 use Rattle.hdl_loops.specs.declared.find.Look.TheVariants as looks
 
--- What is known of a chip without a circle of its own is right, where what is known of those of its parts is. The nets of a loop are those of one.
+-- What is known of a chip without a circle of its own is right. The nets of a loop are those of one.
 abbrev pub LooksRight : Chips → List (Option Known) → Entry → Look → Type 0
-LooksRight chips known entry (looks.Fine inside) = AreKnown chips known → IsGood chips entry inside.dependencies.items
+LooksRight chips known entry (looks.Fine inside) = IsRight chips known entry inside
 LooksRight chips known entry (looks.Loop nets) = IsLoop chips entry nets.items
 
 -- the nets, if there are any, are those of a loop of the chip
 abbrev pub TellsLoop : Chips → Entry → Option (Vec (List ℕ) Global) → Type 0
 TellsLoop chips chip None = Unit {0}
 TellsLoop chips chip (Some nets) = IsLoop chips chip nets.items
+
+-- the nets, if there are any, are those of a loop of the part's chip
+abbrev pub PartTells : Chips → Part → Option (Vec (List ℕ) Global) → Type 0
+PartTells chips part None = Unit {0}
+PartTells chips part (Some nets) = (inner : Entry) × (find_chip chips part.chip ≡ Some inner) × IsLoop chips inner nets.items

@@ -1,5 +1,5 @@
 -- Ways whose nets are told.
-use Rattle.std.specs.Prelude.{◌≡◌, ℕ, ◌+◌, ◌<◌, Bool, true, false, List, [], ◌∷◌, ◌++◌, ◌||◌, ◌&&◌, map, length, Some, nat_eq, nat_lt, slice_get, codes, if◌then◌else◌}
+use Rattle.std.specs.Prelude.{◌≡◌, ℕ, suc, ◌+◌, ◌<◌, Bool, true, false, List, [], ◌∷◌, ◌++◌, ◌||◌, ◌&&◌, map, length, Some, nat_eq, nat_lt, slice_get, if◌then◌else◌}
 use Rattle.std.specs.Str.{bytes_eq}
 use Rattle.std.specs.List.{list_any}
 use Rattle.hdl_tree.specs.declared.tree.Selection.{Selection}
@@ -7,14 +7,13 @@ use Rattle.hdl_tree.specs.declared.tree.Source.TheVariants as source
 use Rattle.hdl_tree.specs.declared.tree.Connection.{Connection}
 use Rattle.hdl_tree.specs.declared.tree.Part.{Part}
 use Rattle.hdl_tree.specs.declared.library.Entry.{Entry}
-use Rattle.hdl_tree.specs.declared.ends.End.{End}
 use Rattle.hdl_tree.specs.Writable.{is_among}
 use Rattle.hdl_tree.specs.Chips.{Chips, first, count}
 use Rattle.hdl_tree.specs.Behaviour.{width_of}
 use Rattle.hdl_law.specs.Plans.{is_input}
-use Rattle.hdl_law.specs.Loops.{BitAt, bit_at, reaches_out, Feeds, peaks}
+use Rattle.hdl_law.specs.Loops.{BitAt, bit_at, Feeds, peaks}
 use Rattle.hdl_law.specs.Ways.{Chain}
-use Rattle.hdl_loops.specs.declared.graph.Dependency.{Dependency}
+use Rattle.hdl_loops.specs.declared.hops.Dependency.{Dependency}
 use Rattle.hdl_loops.specs.declared.hops.BitOf.{BitOf}
 use Rattle.hdl_loops.specs.declared.hops.Hop.{Hop}
 use Rattle.hdl_loops.specs.declared.told.Passage.{Passage}
@@ -40,12 +39,9 @@ pub record HasConnection (inner : Entry) (part : Part) (input : Bool) (net : Lis
   pub here : slice_get part.connections j ≡ Some conn
   pub joins : Connects inner conn input net b pin k
 
--- a hop from this bit goes in and out by connections of the part
-abbrev pub LeadsThrough : Entry → Part → BitOf → Hop → Type 0
-LeadsThrough inner part from hop = HasConnection inner part true from.name.now from.bit hop.through.input.now hop.through.bit × HasConnection inner part false hop.to.name.now hop.to.bit hop.through.output.now hop.through.out
-
-abbrev pub EndLeads : End → Dependency → Type 0
-EndLeads end through = (reaches_out end through.input.now ≡ true) × (through.output.now ≡ codes "out")
+-- a hop goes in and out by connections of the part
+abbrev pub LeadsThrough : Entry → Part → Hop → Type 0
+LeadsThrough inner part hop = HasConnection inner part true hop.from.name.now hop.from.bit hop.through.input.now hop.through.bit × HasConnection inner part false hop.to.name.now hop.to.bit hop.through.output.now hop.through.out
 
 -- ---- ways with their nets
 
@@ -109,5 +105,12 @@ abbrev pub TellsThrough : Chips → Entry → Dependency → Told → Told → T
 TellsThrough chips chip d old new = (names : List (List ℕ)) × (Trip chips chip (bit_at [] d.input.now d.bit) (bit_at [] d.output.now d.out) names) × (names_of new ≡ add_names (names_of old) names)
 
 -- the same of a way between bits of the chip, by its parts
+abbrev pub TellsTo : Chips → Entry → BitAt → BitAt → Told → Told → Type 0
+TellsTo chips chip x y old new = (names : List (List ℕ)) × (DeepTrip chips chip x y names) × (names_of new ≡ add_names (names_of old) names)
+
 abbrev pub Tells : Chips → Entry → BitOf → BitOf → Told → Told → Type 0
-Tells chips chip x y old new = (names : List (List ℕ)) × (DeepTrip chips chip (bit_at [] x.name.now x.bit) (bit_at [] y.name.now y.bit) names) × (names_of new ≡ add_names (names_of old) names)
+Tells chips chip x y old new = TellsTo chips chip (bit_at [] x.name.now x.bit) (bit_at [] y.name.now y.bit) old new
+
+-- of the first n hops of a way, one or more, what they pass is told
+abbrev pub ToldTo : Chips → Entry → List Hop → ℕ → Told → Told → Type 0
+ToldTo chips chip way n old new = (first : Hop) (k : ℕ) (last : Hop) → slice_get way 0 ≡ Some first → suc k ≡ n → slice_get way k ≡ Some last → Tells chips chip first.from last.to old new

@@ -1,5 +1,5 @@
 -- The command `map`: the map of the image of the program of a folder, or why there is none. (The book, chapters 8 and 11.)
-use Rattle.std.specs.Prelude.{◌≡◌, ℕ, List, Option, length}
+use Rattle.std.specs.Prelude.{◌≡◌, ◌≤◌, ℕ, suc, List, [], ◌∷◌, Option, length}
 use Rattle.outer_world.specs.Files.{Files}
 use Rattle.jack_core.specs.Texts.{names_of}
 use Rattle.jack_core.specs.declared.program.Core.{Core}
@@ -8,12 +8,20 @@ use Rattle.tower.specs.Mapped.{RunProgram}
 use Rattle.vm_translator.specs.Mapping.{Covers}
 use Rattle.nand_cli.specs.Commands.Build.{BuildRefuses, FolderBuilds}
 
+-- Each of these addresses is above the one before, and the first is at least this one.
+abbrev pub RiseFrom : ℕ → List ℕ → Type 0
+RiseFrom least [] = Unit {0}
+RiseFrom least (a ∷ more) = (least ≤ a) × RiseFrom (suc a) more
+
+abbrev pub AreRising : List ℕ → Type 0
+AreRising addresses = RiseFrom 0 addresses
+
 -- The folder means a program, and this is the map of its image: the points of its addresses, in ranges that cover each of them once, rising, and
--- the commits.
+-- the commits, rising.
 abbrev pub MapPrints : Option Files → List ℕ → List ℕ → Type 0
 MapPrints files folder out =
     (core : Core) × (computer : RunProgram) × FolderBuilds files folder core computer
-    × Covers 0 computer.ranges (length computer.image) × (out ≡ map_text (names_of core) computer.ranges computer.commits)
+    × Covers 0 computer.ranges (length computer.image) × AreRising computer.commits × (out ≡ map_text (names_of core) computer.ranges computer.commits)
 
 -- There is no map where there is no image.
 abbrev pub MapRefuses : Option Files → List ℕ → List ℕ → Type 0

@@ -1,5 +1,5 @@
 -- What the parts of a call say; the call's own contract needs none of it.
-use Rattle.std.specs.Prelude.{◌≡◌, ◌++◌, ℕ, Bool, List, Option, Result, Ok, Err, Vec, codes}
+use Rattle.std.specs.Prelude.{◌≡◌, ◌⊎◌, ℕ, Bool, List, Option, Result, Ok, Err, Vec, codes}
 use Rattle.std.specs.declared.alloc.Global.{Global}
 use Rattle.command_line.specs.Line.{Line}
 use Rattle.command_line.specs.declared.reader.LineError.{LineError}
@@ -22,7 +22,12 @@ use Rattle.source_files.specs.declared.error.TextError.TheVariants as texts
 use Rattle.jack_names.specs.Messages.{name_told}
 use Rattle.tower.specs.declared.program.ProgramError.{ProgramError}
 use Rattle.tower.specs.declared.program.ProgramError.TheVariants as programs
-use Rattle.nand_cli.specs.Answer.{Before, MayFail, Prints, Refuses}
+use Rattle.script_run.specs.Verdicts.{difference_line}
+use Rattle.script_run.specs.declared.script.Verdict.{Verdict}
+use Rattle.script_run.specs.declared.script.Verdict.TheVariants as verdicts
+use Rattle.script_run.specs.declared.script.ScriptError.{ScriptError}
+use Rattle.script_run.specs.declared.script.ScriptError.TheVariants as scripts
+use Rattle.nand_cli.specs.Answer.{CutsEcho, CutsOut, Disagrees, Misses, Prints, Refuses, Starves}
 use Rattle.nand_cli.specs.JackFolder.{home_of}
 use Rattle.nand_cli.specs.Languages.{IsRefused, SpellsWords}
 use Rattle.nand_cli.specs.declared.command.Status.{Status}
@@ -33,29 +38,39 @@ use Rattle.nand_cli.specs.declared.failure.Failure.TheVariants as failure
 
 -- ---- a line
 
--- What doing a line put on out and on err; the line of a failure is still to be put, but none after a write fault, which is one of out.
+-- What doing a line put on out and on err; the line that tells a failure is still to be put, but none after a write fault.
+abbrev pub Leaves : Option Files → (List ℕ → Bool) → Type 0 → Line → List ℕ → List ℕ → Result (Unit {0}) Failure → Type 0
+Leaves files there unfailing line o e (Ok _) = Prints files line o e
+Leaves files there unfailing line o e (Err (failure.Unloaded (errors.Refused refusal))) = Refuses files line o e (line_of refusal)
+Leaves files there unfailing line o e (Err (failure.Unloaded errors.Failed)) = Misses files there unfailing line o e
+Leaves files there unfailing line o e (Err (failure.Unloaded errors.Memory)) = Starves files line o e
+Leaves files there unfailing line o e (Err (failure.Differs difference)) = Disagrees files line o e (difference_line difference)
+Leaves files there unfailing line o e (Err failure.Out) = CutsOut files line o e
+Leaves files there unfailing line o e (Err failure.Echo) = CutsEcho files line o e
+
 abbrev pub Does : Option Files → (List ℕ → Bool) → Type 0 → Line → Option (List ℕ) → Option (List ℕ) → Option (List ℕ) → Option (List ℕ) → Result (Unit {0}) Failure → Type 0
-Does files there unfailing line out out' err err' (Ok _) =
-    (o : List ℕ) × (e : List ℕ) × Prints files line o e × Got out out' o × Got err err' e
-Does files there unfailing line out out' err err' (Err (failure.Unloaded (errors.Refused refusal))) =
-    (o : List ℕ) × (e : List ℕ) × Refuses files line o (e ++ line_of refusal) × Got out out' o × Got err err' e
-Does files there unfailing line out out' err err' (Err (failure.Unloaded errors.Failed)) =
-    (o : List ℕ) × (e : List ℕ) × Before files line o e × MayFail files there unfailing line × Got out out' o × Got err err' e
-Does files there unfailing line out out' err err' (Err (failure.Unloaded errors.Memory)) =
-    (o : List ℕ) × (e : List ℕ) × Before files line o e × Got out out' o × Got err err' e
-Does files there unfailing line out out' err err' (Err failure.Write) =
-    (o : List ℕ) × (e : List ℕ) × Prints files line o e × GotPart out out' o × (err' ≡ err)
+Does files there unfailing line out out' err err' result = (o : List ℕ) × (e : List ℕ) × Leaves files there unfailing line o e result × Got out out' o × Got err err' e
 
 -- What doing a line says of the counts of faults of shelf, out and err.
 abbrev pub Counts : ℕ → ℕ → ℕ → ℕ → ℕ → ℕ → Result (Unit {0}) Failure → Type 0
 Counts shelf shelf' out out' err err' (Err (failure.Unloaded errors.Failed)) = Rose shelf shelf' × (out' ≡ out) × (err' ≡ err)
-Counts shelf shelf' out out' err err' (Err failure.Write) = (shelf' ≡ shelf) × Rose out out' × (err' ≡ err)
+Counts shelf shelf' out out' err err' (Err failure.Out) = ((shelf' ≡ shelf) ⊎ Rose shelf shelf') × Rose out out' × (err' ≡ err)
+Counts shelf shelf' out out' err err' (Err failure.Echo) = (shelf' ≡ shelf) × (out' ≡ out) × Rose err err'
 Counts shelf shelf' out out' err err' _ = (shelf' ≡ shelf) × (out' ≡ out) × (err' ≡ err)
 
 -- how a line ends with the last that it puts on out
 abbrev pub finished : Put → Result (Unit {0}) Failure
 finished put.Done = Ok tt
-finished put.Failed = Err failure.Write
+finished put.Failed = Err failure.Out
+
+-- how a line of `test` ends
+abbrev pub ended : Result Verdict ScriptError → Result (Unit {0}) Failure
+ended (Ok verdicts.Same) = Ok tt
+ended (Ok verdicts.NoCompare) = Ok tt
+ended (Ok (verdicts.Differs difference)) = Err (failure.Differs difference)
+ended (Err (scripts.Unloaded error)) = Err (failure.Unloaded error)
+ended (Err scripts.Out) = Err failure.Out
+ended (Err scripts.Err) = Err failure.Echo
 
 -- ---- texts
 
@@ -101,4 +116,6 @@ abbrev pub TellsFailure : Failure → ℕ → ℕ → Option (List ℕ) → Opti
 TellsFailure (failure.Unloaded (errors.Refused r)) faults faults' written written' s = TellsBy (line_of r) status.Refused faults faults' written written' s
 TellsFailure (failure.Unloaded errors.Failed) faults faults' written written' s = TellsBy read_fault_line status.ReadFault faults faults' written written' s
 TellsFailure (failure.Unloaded errors.Memory) faults faults' written written' s = TellsBy want_of_memory_line status.NoMemory faults faults' written written' s
-TellsFailure failure.Write faults faults' written written' s = (s ≡ status.WriteFault) × (faults' ≡ faults) × (written' ≡ written)
+TellsFailure (failure.Differs d) faults faults' written written' s = TellsBy (difference_line d) status.Differs faults faults' written written' s
+TellsFailure failure.Out faults faults' written written' s = (s ≡ status.WriteFault) × (faults' ≡ faults) × (written' ≡ written)
+TellsFailure failure.Echo faults faults' written written' s = (s ≡ status.WriteFault) × (faults' ≡ faults) × (written' ≡ written)

@@ -10,7 +10,7 @@ ghost use Rattle.source_files.specs.Loads.{CountsLoad, Loads};
 ghost use Rattle.tower.specs.Built.{IsComputerOf};
 ghost use Rattle.nand_cli.specs.Commands.Run.{HasKeys, IsReport, LacksKeys, ScriptIsRefused};
 ghost use Rattle.nand_cli.specs.Inner.Parts.{Counts, Does};
-ghost use Rattle.nand_cli.specs.Inner.Reports.{CountsReport, Reports};
+ghost use Rattle.nand_cli.specs.Inner.Reports.{CountsReport, IsHackAtStart, IsPut, Reports};
 
 use crate::failure::Failure;
 use crate::gates::report_gates;
@@ -26,7 +26,7 @@ use machine_io::{LevelName, Show};
 use outer_world::{Shelf, Sink};
 use source_files::{LoadError, load};
 use std::alloc::Global;
-use tower::{Built, prepare_hack};
+use tower::{Built, HackLevel, prepare_hack};
 
 // The keys of a run; without a script no key is ever pressed.
 fn load_keys<F: Shelf>(alloc: Global, path: Option<&str>, shelf: &mut F) -> Result<Keys, LoadError>
@@ -57,6 +57,25 @@ fn report_jack<O: Sink>(
     report(&mut jack, LevelName::Jack, core, keys, cycles, show, out)
 }
 
+// The report of the computer with the image of a program, which is there. It wants no memory.
+fn report_cycles<O: Sink>(
+    computer: &mut HackLevel,
+    core: &Core,
+    keys: &Keys,
+    cycles: u32,
+    show: Show,
+    out: &mut O,
+) -> Result<(), Failure>
+    requires resolved { IsResolvedCore core.now }
+    requires words { (c : ℕ) → IsKey (code_at keys.now c) }
+    requires start { IsHackAtStart core.now computer.old }
+    ensures reports { Reports (IsReport (RunLevel.Hack show) core.now (code_at keys.now) cycles) (O.written out.old) (O.written out.new) result }
+    ensures counts { CountsReport (O.faults out.old) (O.faults out.new) result }
+    ensures put { IsPut result }
+{
+    report(computer, LevelName::Hack, core, keys, cycles, show, out)
+}
+
 // Runs a program on the computer with its image. Once the computer is there no memory is wanted.
 fn report_hack<O: Sink>(
     alloc: Global,
@@ -74,15 +93,7 @@ fn report_hack<O: Sink>(
     ensures counts { CountsReport (O.faults out.old) (O.faults out.new) result }
 {
     let mut computer = prepare_hack(alloc, built)?;
-    report(
-        &mut computer,
-        LevelName::Hack,
-        core,
-        keys,
-        cycles,
-        show,
-        out,
-    )
+    report_cycles(&mut computer, core, keys, cycles, show, out)
 }
 
 /// Does a line of `run`; err is left as it is. At each level the program is built first, and then the keys are read.

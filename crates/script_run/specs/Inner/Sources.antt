@@ -1,6 +1,5 @@
 -- What the code finds for a variable of a chip. (The book, appendix 3.)
-use Rattle.std.specs.Prelude.{◌≡◌, ◌<◌, ◌++◌, ℕ, List, MatchOption, map, slice_get, codes}
-use Rattle.netlist.specs.Net.{Net}
+use Rattle.std.specs.Prelude.{◌≡◌, ◌<◌, ◌++◌, ℕ, List, MatchOption, slice_get, codes}
 use Rattle.driven_chip.specs.declared.directory.Directory.{Directory}
 use Rattle.driven_chip.specs.Directory.{HasOut}
 use Rattle.driven_chip.specs.Variables.Source.{Nodes, BlockWord}
@@ -13,10 +12,6 @@ abbrev pub source_of : Variable → Source
 source_of Time = TheTime
 source_of (Bus nodes) = OfChip (Nodes nodes.now)
 source_of (Word block address) = OfChip (BlockWord block address)
-
--- these are the numbers of words of the blocks
-abbrev pub AreSizes : List ℕ → Net → Type 0
-AreSizes sizes net = sizes ≡ map (λ block. block.words) net.blocks
 
 -- a block of so many words has one at an address
 abbrev pub HasSize : List ℕ → ℕ → ℕ → Type 0

@@ -1,24 +1,8 @@
-use Rattle.std.proofs.Common.{◌≡◌, sym, subst}
-use Rattle.jack_core.specs.Texts.{names_of}
-use Rattle.key_script.specs.Codes.{code_at}
-use Rattle.machine_io.specs.Driven.{IsDriven}
-use Rattle.machine_io.specs.declared.driving.End.{End}
-use Rattle.vm_machine.specs.Loaded.{HasTaken}
-use Rattle.tower.specs.VmRun.{IsVmCodeOf}
-use Rattle.tower.proofs.VmRuns.{driven}
-use Rattle.nand_cli.specs.Commands.RunVm.{IsVmReport}
-use Rattle.nand_cli.proofs.OnVm.{vm_reported, vm_text}
-use Rattle.nand_cli.proofs.Reporting.{reported_as}
 use Rattle.nand_cli.proofs.vm_run.report_vm.Goals as goal
 
-pub returns-clause-reports : goal.returns-clause-reports
-returns-clause-reports g c =
-    let code = code_at c.args.keys.now in
-    let core = c.args.core.now in
-    let old = c.in_ok-vm.vm in
-    let new = c.report.new.level in
-    let Q = IsVmReport core code c.args.cycles c.args.show in
-    reported_as (λ t. (end : End) × IsDriven code (HasTaken old) old.moves c.args.cycles end (HasTaken new) new.moves × (t ≡ vm_text new (names_of core) end c.args.show)) Q _ _ c.report.result
-    (λ text (end, by, is). subst Q (sym is) (vm_reported c.args.cycles c.args.show core new code end c.requires.resolved c.requires.words
-    (subst (IsVmCodeOf core) (sym c.report.ensures.program) c.in_ok-vm.ensures.program) (driven code old new c.args.cycles end c.in_ok-vm.ensures.stands by)))
-    c.report.ensures.reports
+pub report_moves-requires-clause-start : goal.report_moves-requires-clause-start
+report_moves-requires-clause-start g c = record {
+  code = c.in_ok-vm.ensures.program;
+  moves = c.in_ok-vm.ensures.moves;
+  stands = c.in_ok-vm.ensures.stands;
+}

@@ -16,7 +16,7 @@ returns-in_err-words-clause-does g c = λ err.
     let files = g.F.Shelf.files c.args.shelf.now in
     let path = c.args.path.now in
     rw (p.1, p.2) (nothing_put (SpellsAt (λ text (words : Vec ℕ Global). SpellsWords Assembly text words.items) files path) (IsFaulty (RefusesWords Assembly) files path) (g.F.Shelf.unfailing c.args.shelf.now → LacksFile files path)
-    files (g.F.Shelf.there c.args.shelf.now) (g.F.Shelf.unfailing c.args.shelf.now) (asm path) (g.O.Sink.written c.args.out.now) err _ (λ line k. (refl, k)) (λ h. h) c.in_err-words.ensures.loads)
+    files (g.F.Shelf.there c.args.shelf.now) (g.F.Shelf.unfailing c.args.shelf.now) (asm path) (g.O.Sink.written c.args.out.now) err _ (λ line k. (refl, k, refl)) (λ h. h) c.in_err-words.ensures.loads tt)
 
 pub returns-in_err-words-clause-counts : goal.returns-in_err-words-clause-counts
 returns-in_err-words-clause-counts g c = λ err.
@@ -30,7 +30,7 @@ returns-clause-does g c = λ err.
     let P : List ℕ → Type 0 = λ words. Puts out out' (image_text words) c.write_hack.result in
     let words = c.in_ok-words.words.items in
     rw (c.finished.ensures) (done_by (g.F.Shelf.files c.args.shelf.now) (g.F.Shelf.there c.args.shelf.now) (g.F.Shelf.unfailing c.args.shelf.now) (asm c.args.path.now) (image_text words) out out' err c.write_hack.result
-    ((words, c.in_ok-words.ensures.loads, refl), refl) (subst P c.deref.ensures.value c.write_hack.ensures.put))
+    ((words, c.in_ok-words.ensures.loads, refl), refl) (subst P c.deref.ensures.value c.write_hack.ensures.put) tt)
 
 pub returns-clause-counts : goal.returns-clause-counts
 returns-clause-counts g c = λ err.

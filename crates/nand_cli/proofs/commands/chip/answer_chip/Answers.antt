@@ -1,4 +1,6 @@
-use Rattle.std.proofs.Common.{◌≡◌, ℕ, List, Some, None, refl, subst}
+use Rattle.std.proofs.Common.{◌≡◌, [], ℕ, List, Some, None, refl, subst}
+use Rattle.std.proofs.lemmas.Result.{err_from_is_err_and}
+use Rattle.outer_world.proofs.Passing.{Got-nothing}
 use Rattle.hdl_tree.specs.Chips.{find_entry}
 use Rattle.hdl_tree.specs.declared.library.Entry.{Entry}
 use Rattle.hdl_parser.specs.Printed.{chip_text}
@@ -11,8 +13,8 @@ use Rattle.nand_cli.proofs.commands.chip.answer_chip.Goals as goal
 pub returns-clause-does : goal.returns-clause-does
 returns-clause-does g c = λ err.
     let name = c.args.name.now in
-    nothing_put (λ (entry : Entry). IsShipped name entry) (ChipRefuses name) ⊥ (g.F.Shelf.files c.args._shelf.now) (g.F.Shelf.there c.args._shelf.now) (g.F.Shelf.unfailing c.args._shelf.now) (chip name) _ err c.unknown.result (λ line k. (refl, k)) (λ k. absurd k)
-    (none_shipped _ name c.unknown.result c.in_ok-library.ensures (subst (λ (n : List ℕ). find_entry c.in_ok-library.library.entries n ≡ None) c.as_bytes.ensures.value c.in-None.ensures.none) c.unknown.ensures)
+    nothing_put (λ (entry : Entry). IsShipped name entry) (ChipRefuses name) ⊥ (g.F.Shelf.files c.args._shelf.now) (g.F.Shelf.there c.args._shelf.now) (g.F.Shelf.unfailing c.args._shelf.now) (chip name) _ err c.unknown.result (λ line k. (refl, k, refl)) (λ k. absurd k)
+    (none_shipped _ name c.unknown.result c.in_ok-library.ensures (subst (λ (n : List ℕ). find_entry c.in_ok-library.library.entries n ≡ None) c.as_bytes.ensures.value c.in-None.ensures.none) c.unknown.ensures) tt
 
 pub returns-clause-counts : goal.returns-clause-counts
 returns-clause-counts g c = λ err.
@@ -26,8 +28,13 @@ returns-in-Some-clause-does g c = λ err.
     let entry = c.in-Some.entry.now in
     let P : List Entry → Type 0 = λ es. find_entry es name ≡ Some entry in
     let found = subst P c.in_ok-library.ensures (subst (λ (n : List ℕ). find_entry c.in_ok-library.library.entries n ≡ Some entry) c.as_bytes.ensures.value c.in-Some.ensures.found) in
-    rw (c.finished.ensures) (done_by (g.F.Shelf.files c.args._shelf.now) (g.F.Shelf.there c.args._shelf.now) (g.F.Shelf.unfailing c.args._shelf.now) (chip name) (chip_text entry.chip) _ _ err c.print.result ((entry, found, refl), refl) c.print.ensures.put)
+    rw (c.finished.ensures) (done_by (g.F.Shelf.files c.args._shelf.now) (g.F.Shelf.there c.args._shelf.now) (g.F.Shelf.unfailing c.args._shelf.now) (chip name) (chip_text entry.chip) _ _ err c.print.result ((entry, found, refl), refl) c.print.ensures.put tt)
 
 pub returns-in-Some-clause-counts : goal.returns-in-Some-clause-counts
 returns-in-Some-clause-counts g c = λ err.
     rw (c.finished.ensures) (done_counts _ _ _ _ err c.print.result refl c.print.ensures.counts)
+
+pub returns-in_err-library-clause-does : goal.returns-in_err-library-clause-does
+returns-in_err-library-clause-does g c = λ err.
+    let p = err_from_is_err_and c.from_residual.result c.from_residual.ensures.1 in
+    rw (p.1, p.2) ([], [], (refl, refl), Got-nothing _, Got-nothing _)

@@ -23,7 +23,7 @@ returns-in_err-classes-clause-does g c = λ err.
     let there = g.F.Shelf.there c.args.shelf.now in
     let steady = g.F.Shelf.unfailing c.args.shelf.now in
     rw (p.1, p.2) (nothing_put (λ (classes : Vec Class Global). HasClasses files folder classes.items) (IsUnread SpellsClass RefusesClass (codes ".jack") files folder) (steady → LacksFolder files there folder) files there steady (compile folder) (g.O.Sink.written c.args.out.now) err _
-    (λ line k. (refl, unread k)) (λ k s. missing files there folder (compile folder) (λ told none. none) (k s)) c.in_err-classes.ensures.loads)
+    (λ line k. (refl, unread k, refl)) (λ k s. missing files there folder (compile folder) (λ told none. none) (k s)) c.in_err-classes.ensures.loads tt)
 
 pub returns-in_err-classes-clause-counts : goal.returns-in_err-classes-clause-counts
 returns-in_err-classes-clause-counts g c = λ err.
@@ -45,7 +45,7 @@ returns-in_err-files-clause-does g c = λ err.
     let P : List Class → Type 0 = λ classes. HasClasses files folder classes in
     let classes = c.deref.result.now in
     rw (p.1, p.2) (nothing_put (λ (compiled : List File). AreCompiled classes compiled) (IsMeaningless folder classes) ⊥ files (g.F.Shelf.there c.args.shelf.now) (g.F.Shelf.unfailing c.args.shelf.now) (compile folder) (g.O.Sink.written c.args.out.now) err _
-    (λ line k. (refl, meaningless classes (subst P (sym c.deref.ensures.value) c.in_ok-classes.ensures.loads) k)) (λ h. absurd h) c.in_err-files.ensures.makes)
+    (λ line k. (refl, meaningless classes (subst P (sym c.deref.ensures.value) c.in_ok-classes.ensures.loads) k, refl)) (λ h. absurd h) c.in_err-files.ensures.makes tt)
 
 pub returns-in_err-files-clause-counts : goal.returns-in_err-files-clause-counts
 returns-in_err-files-clause-counts g c = λ err.
@@ -63,4 +63,4 @@ returns-clause-does g c = λ err.
     let text : files_text (take c.len.result c.as_slice.result.now) ≡ files_text (take (length classes) c.in_ok-files.files) =
     ap (λ (n : ℕ). files_text (take n c.as_slice.result.now)) as_many ∙ ap (λ (compiled : List File). files_text (take (length classes) compiled)) c.as_slice.ensures in
     rw (c.finished.ensures) (done_by files (g.F.Shelf.there c.args.shelf.now) (g.F.Shelf.unfailing c.args.shelf.now) (compile folder) (files_text (take c.len.result c.as_slice.result.now)) _ _ err c.print_files.result
-    ((classes, c.in_ok-files.files, subst P (sym c.deref.ensures.value) c.in_ok-classes.ensures.loads, c.in_ok-files.ensures.makes, text), refl) c.print_files.ensures.put)
+    ((classes, c.in_ok-files.files, subst P (sym c.deref.ensures.value) c.in_ok-classes.ensures.loads, c.in_ok-files.ensures.makes, text), refl) c.print_files.ensures.put tt)

@@ -23,7 +23,7 @@ returns-in_err-program-clause-does g c = λ err.
     let path = request.path.now in
     let Q : Form → Type 0 = λ f. Loads (SpellsAt (λ text (words : Vec ℕ Global). SpellsWords f text words.items) files path) (IsFaulty (RefusesWords f) files path) (g.F.Shelf.unfailing c.args.shelf.now → LacksFile files path) (Err c.in_err-program.field-0.0) in
     rw (p.1, p.2) (nothing_put (SpellsAt (λ text (words : Vec ℕ Global). SpellsWords (form_of path) text words.items) files path) (IsFaulty (RefusesWords (form_of path)) files path) (g.F.Shelf.unfailing c.args.shelf.now → LacksFile files path)
-    files (g.F.Shelf.there c.args.shelf.now) (g.F.Shelf.unfailing c.args.shelf.now) (exec path request.cycles request.from request.to) (g.O.Sink.written c.args.out.now) err _ (λ line k. (refl, k)) (λ h. h) (subst Q c.form_of.ensures c.in_err-program.ensures.loads))
+    files (g.F.Shelf.there c.args.shelf.now) (g.F.Shelf.unfailing c.args.shelf.now) (exec path request.cycles request.from request.to) (g.O.Sink.written c.args.out.now) err _ (λ line k. (refl, k, refl)) (λ h. h) (subst Q c.form_of.ensures c.in_err-program.ensures.loads) tt)
 
 pub returns-in_err-program-clause-counts : goal.returns-in_err-program-clause-counts
 returns-in_err-program-clause-counts g c = λ err.
@@ -45,7 +45,7 @@ returns-clause-does g c = λ err.
     let text = words_text (read (machine_of c.in_ok-hack.hack).memory 0) true request.from request.to in
     rw (c.finished.ensures) (done_by files (g.F.Shelf.there c.args.shelf.now) (g.F.Shelf.unfailing c.args.shelf.now) (exec path request.cycles request.from request.to) text _ _ err c.show_words.result
     ((words, loaded, ap (λ (m : Machine). words_text (read m.memory 0) true request.from request.to) ran), refl)
-    (c.show_words.ensures.put (read (machine_of c.in_ok-hack.hack).memory 0) (λ a w from_on up_to p. search rules)))
+    (c.show_words.ensures.put (read (machine_of c.in_ok-hack.hack).memory 0) (λ a w from_on up_to p. search rules)) tt)
 
 pub returns-clause-counts : goal.returns-clause-counts
 returns-clause-counts g c = λ err.

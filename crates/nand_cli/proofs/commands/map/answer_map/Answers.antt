@@ -1,7 +1,8 @@
-use Rattle.std.proofs.Common.{◌∙◌, List, ℕ, refl, ap, map, subst}
+use Rattle.std.proofs.Common.{◌∙◌, [], List, ℕ, refl, ap, map, subst}
 use Rattle.std.proofs.lemmas.Result.{err_from_is_err_and}
 use Rattle.outer_world.specs.Files.{LacksFolder}
 use Rattle.outer_world.specs.Written.{Puts}
+use Rattle.outer_world.proofs.Passing.{Got-nothing}
 use Rattle.jack_core.specs.Texts.{names_of}
 use Rattle.map_text.specs.Text.{map_text}
 use Rattle.vm_translator.specs.declared.coded.PointRange.{PointRange}
@@ -9,6 +10,7 @@ use Rattle.command_line.specs.Line.{map_line}
 use Rattle.nand_cli.specs.Commands.Build.{BuildRefuses, FolderBuilds}
 use Rattle.nand_cli.specs.declared.jack.BuiltProgram.{BuiltProgram}
 use Rattle.nand_cli.proofs.Covering.{covered}
+use Rattle.nand_cli.proofs.Rising.{rising}
 use Rattle.nand_cli.proofs.Doing.{done_by, done_counts, missing, nothing_put, unread_counts}
 use Rattle.nand_cli.proofs.commands.map.answer_map.Goals as goal
 
@@ -20,7 +22,7 @@ returns-in_err-program-clause-does g c = λ err.
     let there = g.F.Shelf.there c.args.shelf.now in
     let steady = g.F.Shelf.unfailing c.args.shelf.now in
     rw (p.1, p.2) (nothing_put (λ (b : BuiltProgram). FolderBuilds files folder b.core b.built) (BuildRefuses files folder) (steady → LacksFolder files there folder) files there steady (map_line folder) (g.O.Sink.written c.args.out.now) err _
-    (λ line k. (refl, k)) (λ k s. missing files there folder (map_line folder) (λ told none. none) (k s)) c.in_err-program.ensures.loads)
+    (λ line k. (refl, k, refl)) (λ k s. missing files there folder (map_line folder) (λ told none. none) (k s)) c.in_err-program.ensures.loads tt)
 
 pub returns-in_err-program-clause-counts : goal.returns-in_err-program-clause-counts
 returns-in_err-program-clause-counts g c = λ err.
@@ -44,8 +46,13 @@ returns-clause-does g c = λ err.
     let put = subst R c.commits.ensures c.show_map.ensures.put in
     let named = ap (map (λ n. n.now)) c.deref-2.ensures.value ∙ c.in_ok-names.ensures ∙ ap (map (λ s. s.name)) c.deref.ensures.value in
     rw (c.finished.ensures) (done_by (g.F.Shelf.files c.args.shelf.now) (g.F.Shelf.there c.args.shelf.now) (g.F.Shelf.unfailing c.args.shelf.now) (map_line c.args.folder.now) (map_text (names_of core) computer.ranges computer.commits) _ _ err r
-    ((core, computer, c.in_ok-program.ensures.loads, covered core computer c.in_ok-program.ensures.loads.1, refl), refl) (subst P named (subst Q c.points.ensures put)))
+    ((core, computer, c.in_ok-program.ensures.loads, covered core computer c.in_ok-program.ensures.loads.1, rising core computer c.in_ok-program.ensures.loads.1, refl), refl) (subst P named (subst Q c.points.ensures put)) tt)
 
 pub returns-clause-counts : goal.returns-clause-counts
 returns-clause-counts g c = λ err.
     rw (c.finished.ensures) (done_counts _ _ _ _ err c.show_map.result c.in_ok-program.ensures.counts c.show_map.ensures.counts)
+
+pub returns-in_err-names-clause-does : goal.returns-in_err-names-clause-does
+returns-in_err-names-clause-does g c = λ err.
+    let p = err_from_is_err_and c.from_residual-in_err-names.result c.from_residual-in_err-names.ensures.1 in
+    rw (p.1, p.2) ([], [], (refl, refl), Got-nothing _, Got-nothing _)

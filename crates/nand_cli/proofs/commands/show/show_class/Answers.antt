@@ -17,7 +17,7 @@ returns-in_err-class-clause-does g c = λ err.
     let files = g.F.Shelf.files c.args.shelf.now in
     let path = c.args.path.now in
     rw (p.1, p.2) (nothing_put (SpellsAt (SpellsClass []) files path) (IsFaulty RefusesClass files path) (g.F.Shelf.unfailing c.args.shelf.now → LacksFile files path)
-    files (g.F.Shelf.there c.args.shelf.now) (g.F.Shelf.unfailing c.args.shelf.now) (show path kinds.Jack) (g.O.Sink.written c.args.out.now) err _ (λ line k. (refl, k)) (λ h. h) c.in_err-class.ensures.loads)
+    files (g.F.Shelf.there c.args.shelf.now) (g.F.Shelf.unfailing c.args.shelf.now) (show path kinds.Jack) (g.O.Sink.written c.args.out.now) err _ (λ line k. (refl, k, refl)) (λ h. h) c.in_err-class.ensures.loads tt)
 
 pub returns-in_err-class-clause-counts : goal.returns-in_err-class-clause-counts
 returns-in_err-class-clause-counts g c = λ err.
@@ -28,7 +28,7 @@ pub returns-clause-does : goal.returns-clause-does
 returns-clause-does g c = λ err.
     let source = c.in_ok-class.class in
     let loaded = c.in_ok-class.ensures.loads in
-    rw (c.finished.ensures) (done_by (g.F.Shelf.files c.args.shelf.now) (g.F.Shelf.there c.args.shelf.now) (g.F.Shelf.unfailing c.args.shelf.now) (show c.args.path.now kinds.Jack) (class_text source) _ _ err c.print.result ((source, (loaded.0, loaded.1, loaded.2.0), refl), refl) c.print.ensures.put)
+    rw (c.finished.ensures) (done_by (g.F.Shelf.files c.args.shelf.now) (g.F.Shelf.there c.args.shelf.now) (g.F.Shelf.unfailing c.args.shelf.now) (show c.args.path.now kinds.Jack) (class_text source) _ _ err c.print.result ((source, (loaded.0, loaded.1, loaded.2.0), refl), refl) c.print.ensures.put tt)
 
 pub returns-clause-counts : goal.returns-clause-counts
 returns-clause-counts g c = λ err.

@@ -1,0 +1,82 @@
+//! A circle of a chip's own graph.
+
+ghost use Rattle.std.specs.Prelude.{◌≡◌, None, OnOk, IfOk, MatchOption};
+ghost use Rattle.hdl_law.specs.Ways.{Way};
+ghost use Rattle.hdl_loops.specs.Inner.Hops.{bit, HasHop, IsWay, IsRound, NoRound};
+
+use crate::hops::{BitOf, Hop};
+use crate::search::Numbered;
+use crate::tree::Tree;
+use std::alloc::{AllocError, Global};
+
+/// A bit, and a way round to it.
+#[derive(Drop)]
+pub struct Circle<'a> {
+    pub at: BitOf<'a>,
+    pub way: Vec<Hop<'a>>,
+}
+
+/// A way round to this bit, if there is one.
+fn circle_at<'a>(
+    alloc: Global,
+    hops: &[Hop<'a>],
+    graph: &Numbered<'a>,
+    at: BitOf<'a>,
+) -> Result<Option<Circle<'a>>, AllocError>
+    ensures { IfOk result (λ r. MatchOption r (Way (HasHop hops.now) (bit at.entry) (bit at.entry) → ⊥) (IsRound hops.now)) }
+{
+    let order = graph.reach(alloc, &at)?;
+    let tree = Tree::from(alloc, hops, order.as_slice(), at)?;
+    match tree.way_to(alloc, hops, &at)? {
+        None => Ok(None),
+        Some(way) => Ok(Some(Circle { at, way })),
+    }
+}
+
+/// A circle, looked for from each bit.
+fn circle_anywhere<'a>(
+    alloc: Global,
+    hops: &[Hop<'a>],
+    graph: &Numbered<'a>,
+) -> Result<Option<Circle<'a>>, AllocError>
+    ensures { IfOk result (λ r. MatchOption r (NoRound hops.now) (IsRound hops.now)) }
+{
+    for hop in hops {
+        if let Some(circle) = circle_at(alloc, hops, graph, hop.from)? {
+            return Ok(Some(circle));
+        }
+    }
+    Ok(None)
+}
+
+/// A circle, looked for first from this bit.
+fn circle_near<'a>(
+    alloc: Global,
+    hops: &[Hop<'a>],
+    graph: &Numbered<'a>,
+    near: Option<BitOf<'a>>,
+) -> Result<Option<Circle<'a>>, AllocError>
+    ensures { IfOk result (λ r. MatchOption r (NoRound hops.now) (IsRound hops.now)) }
+{
+    if let Some(at) = near {
+        if let Some(circle) = circle_at(alloc, hops, graph, at)? {
+            return Ok(Some(circle));
+        }
+    }
+    circle_anywhere(alloc, hops, graph)
+}
+
+/// A circle, if there is one. A search proposes ranks, or a bit of a circle; whatever it proposes, the answer is right.
+pub(crate) fn circle_in<'a>(
+    alloc: Global,
+    hops: &[Hop<'a>],
+    graph: &Numbered<'a>,
+) -> Result<Option<Circle<'a>>, AllocError>
+    ensures { IfOk result (λ r. MatchOption r (NoRound hops.now) (IsRound hops.now)) }
+{
+    let proposal = graph.arrange(alloc)?;
+    if proposal.ranks.all_rise(hops) {
+        return Ok(None);
+    }
+    circle_near(alloc, hops, graph, proposal.circle)
+}

@@ -1,0 +1,171 @@
+-- A line with which nothing is wrong is not refused, and a call in which nothing failed completes.
+use Rattle.std.proofs.Common.{◌≡◌, ◌⊎◌, inl, inr, ℕ, false, List, Option, Some, Err, codes, refl, sym, ◌∙◌, subst, arith}
+use Rattle.outer_world.specs.Faults.{Rose}
+use Rattle.outer_world.specs.Files.{Files}
+use Rattle.outer_world.specs.Refusals.{Message}
+use Rattle.key_script.specs.Script.{ReadingLaw as KeyLaw}
+use Rattle.vm_tree.specs.declared.program.File.{File}
+use Rattle.vm_link.specs.Links.{Links}
+use Rattle.vm_link.specs.declared.fault.LinkFault.TheVariants.{TooManyStatics}
+use Rattle.jack_parser.specs.Whole.{ReadingLaw as JackLaw}
+use Rattle.jack_meaning.specs.Text.{Program}
+use Rattle.jack_core.specs.declared.program.Core.{Core}
+use Rattle.jack_core.specs.Texts.{the_program}
+use Rattle.jack_names.specs.Whole.{all_names_meant, program_meant}
+use Rattle.jack_os.specs.System.{SpellsClass, system}
+use Rattle.jack_compiler.specs.Files.{files_of, program_files}
+use Rattle.jack_compiler.specs.Resolved.{IsResolved, IsResolvedCore}
+use Rattle.source_files.proofs.Once.{never_unread}
+use Rattle.tower.specs.Budget.{BudgetLaw, IsBudget}
+use Rattle.tower.specs.Built.{Builds}
+use Rattle.tower.specs.Resolved.{ResolvedLaw}
+use Rattle.tower.specs.Told.{build_told}
+use Rattle.tower.specs.declared.building.BuildError.{BuildError}
+use Rattle.tower.specs.declared.building.BuildError.TheVariants as building
+use Rattle.command_line.specs.Line.{IsLine, Line, asm, build, chip, compile, exec, map_line, run, show, test, vm}
+use Rattle.command_line.proofs.Lines.{one_line}
+use Rattle.nand_cli.specs.Answer.{Disagrees, Ends, Promises, Refuses, WordsEnd}
+use Rattle.nand_cli.specs.Commands.Build.{BuildRefuses, unbuilt, without_program}
+use Rattle.nand_cli.specs.Commands.Run.{RunRefuses, unbuilt as run_unbuilt, without_program as run_without_program, without_script}
+use Rattle.nand_cli.specs.Complete.{Completes, IsDoneOrWanting, IsSoundFolder, IsSoundScript, IsUnrefused, NoneFailed, SoundLaw, files_meant}
+use Rattle.nand_cli.specs.JackFolder.{BuildIsRefused, FolderIsRefused, FolderMeans, meaningless, unread}
+use Rattle.nand_cli.specs.Languages.{RefusesClass}
+use Rattle.nand_cli.specs.Outside.{Outside}
+use Rattle.nand_cli.specs.declared.command.Status.{Status}
+use Rattle.nand_cli.specs.declared.command.Status.TheVariants as status
+use Rattle.nand_cli.proofs.ReadOnce.{class_once}
+use Rattle.nand_cli.proofs.RunExactly.{never_scripted, never_well, one_list_of_classes, one_system}
+use Rattle.nand_cli.proofs.SameClasses.{all_class_names_same, all_names_same, class_seen, program_meant_same}
+use Rattle.nand_cli.proofs.Spelling.{spelled_classes}
+use Rattle.nand_cli.proofs.Statics.{statics_over}
+
+-- ---- a folder with which nothing is wrong
+
+-- the laws that this rests on
+pub record Laws : Type 0 where
+  pub classes : JackLaw
+  pub scripts : KeyLaw
+  pub names : ResolvedLaw
+  pub budgets : BudgetLaw
+
+module _ (laws : Laws) (files : Files) (folder : List ℕ) (sound : IsSoundFolder files folder) where
+  abbrev law : JackLaw
+  law = laws.classes
+
+  never_refused : (line : List ℕ) → FolderIsRefused (Some files) folder line → ⊥
+  never_refused line (unread k) = never_unread SpellsClass RefusesClass class_seen (class_once law) files folder (codes ".jack") sound.own line sound.spelled k
+  never_refused line (meaningless ds has (error, k, e)) =
+      never_well law sound.own ds (one_list_of_classes law files folder sound.own ds sound.spelled has) folder line sound.os error sound.shipped sound.named k e
+
+  -- what the folder means is the program that is sound
+  record IsMeant (core : Core) : Type 0 where
+    program : the_program core ≡ program_meant sound.own sound.os
+    compiled : files_of core ≡ files_meant sound.own sound.os
+    resolved : IsResolvedCore core
+
+  meant : (core : Core) → FolderMeans (Some files) folder core → IsMeant core
+  meant core (ds, has, (os, are, well, program, names, classes)) =
+      let mine = one_list_of_classes law files folder ds sound.own has sound.spelled in
+      let theirs = one_system law system os sound.os are sound.shipped in
+      let p = program ∙ program_meant_same ds sound.own os sound.os mine theirs in
+      let n = names ∙ all_names_same ds sound.own os sound.os mine theirs in
+      let k = classes ∙ all_class_names_same ds sound.own os sound.os mine theirs in
+      record {
+        program = p;
+        compiled = λ i. program_files (p i) (n i) (k i);
+        resolved =
+            subst (λ (ns : List (List ℕ)). IsResolved (the_program core) ns) (sym names)
+            (subst (λ (q : Program). IsResolved q (all_names_meant ds os)) (sym program) (laws.names ds os system well (spelled_classes (Some files) folder ds has) are));
+      }
+
+  -- it has a computer
+  built : (core : Core) (error : BuildError) (told : Message) → IsMeant core → Builds core (Err error) → build_told error ≡ Some told → ⊥
+  built core building.Memory told is h e = let no : ⊥ = cc in no
+  built core (building.TooManyStatics w) told is h e =
+      let (words, has, few) = sound.statics in
+      let over = statics_over (files_meant sound.own sound.os) w words (subst (λ (fs : List File). Links false fs (Err (TooManyStatics w))) is.compiled h) has in
+      omega (arith, over, few)
+  built core (building.TooLarge w) told is h e =
+      let (words, budget, few) = sound.budget in
+      let over = (laws.budgets.too_large core w is.resolved h words (subst (λ (p : Program). IsBudget p words) (sym is.program) budget)).1 in
+      omega (arith, over, few)
+
+  never_unbuilt : (core : Core) (line : List ℕ) → FolderMeans (Some files) folder core → BuildIsRefused core folder line → ⊥
+  never_unbuilt core line means (error, told, h, e, d) = built core error told (meant core means) h e
+
+  build_accepted : (line : List ℕ) → BuildRefuses (Some files) folder line → ⊥
+  build_accepted line (without_program k) = never_refused line k
+  build_accepted line (unbuilt core means k) = never_unbuilt core line means k
+
+  run_accepted : (keys : Option (List ℕ)) (line : List ℕ) → IsSoundScript files keys → RunRefuses (Some files) folder keys line → ⊥
+  run_accepted keys line (lines, has) (run_without_program k) = never_refused line k
+  run_accepted keys line (lines, has) (run_unbuilt core means k) = never_unbuilt core line means k
+  run_accepted keys line (lines, has) (without_script core means computer k) = never_scripted laws.scripts files keys lines line has k
+
+pub sound_lines : Laws → SoundLaw
+sound_lines laws files (build folder) sound = record {
+  accepted = λ out before told h. build_accepted laws files folder sound told h.1;
+  agrees = λ out before told h. h;
+}
+sound_lines laws files (map_line folder) sound = record {
+  accepted = λ out before told h. build_accepted laws files folder sound told h.1;
+  agrees = λ out before told h. h;
+}
+sound_lines laws files (run folder level cycles keys) sound = record {
+  accepted = λ out before told h. run_accepted laws files folder sound.0 keys told sound.1 h.1;
+  agrees = λ out before told h. h;
+}
+sound_lines laws files (asm path) sound = absurd sound
+sound_lines laws files (exec path cycles from to) sound = absurd sound
+sound_lines laws files (vm folder bare) sound = absurd sound
+sound_lines laws files (show path kind) sound = absurd sound
+sound_lines laws files (compile folder) sound = absurd sound
+sound_lines laws files (chip name) sound = absurd sound
+sound_lines laws files (test path gates) sound = absurd sound
+
+-- ---- the call
+
+module _ (words : List (List ℕ)) (before after : Outside) where
+  -- words that are a line end as this line does
+  as_line : (s : Status) (out err : List ℕ) (line : Line) → IsLine words line → WordsEnd before words s out err → (s ≡ status.NoMemory) ⊎ Ends before.files before.there before.unfailing line s out err
+  as_line status.Done out err line is (inl never) = absurd never
+  as_line status.Refused out err line is (inl never) = absurd never
+  as_line status.Usage out err line is (inl (none, o, e)) = absurd (none line is)
+  as_line status.ReadFault out err line is (inl never) = absurd never
+  as_line status.WriteFault out err line is (inl never) = absurd never
+  as_line status.NoMemory out err line is (inl h) = inl refl
+  as_line status.Differs out err line is (inl never) = absurd never
+  as_line s out err line is (inr (other, also, ends)) =
+      inr (subst (λ (l : Line). Ends before.files before.there before.unfailing l s out err) (one_line words other line also is) ends)
+
+  done_by : (line : Line) (s : Status) → IsLine words line → IsUnrefused before.files line → NoneFailed before after → Promises words before after s → IsDoneOrWanting s
+  done_by line status.Done is accepted quiet promises = inl refl
+  done_by line status.Refused is accepted quiet promises = by_refusal (as_line status.Refused promises.answers.0 promises.answers.1 line is promises.answers.2)
+    where
+      by_refusal : (status.Refused ≡ status.NoMemory) ⊎ Ends before.files before.there before.unfailing line status.Refused promises.answers.0 promises.answers.1 → IsDoneOrWanting status.Refused
+      by_refusal (inl e) = inr e
+      by_refusal (inr h) = absurd (accepted.accepted promises.answers.0 h.0 h.1 h.2)
+  done_by line status.Usage is accepted quiet promises = by_usage (as_line status.Usage promises.answers.0 promises.answers.1 line is promises.answers.2)
+    where
+      by_usage : (status.Usage ≡ status.NoMemory) ⊎ Ends before.files before.there before.unfailing line status.Usage promises.answers.0 promises.answers.1 → IsDoneOrWanting status.Usage
+      by_usage (inl e) = inr e
+      by_usage (inr h) = absurd h.2
+  done_by line status.ReadFault is accepted quiet promises = absurd (quiet.shelf promises.causes.0)
+  done_by line status.WriteFault is accepted quiet promises = by_write promises.causes.0
+    where
+      by_write : Rose before.out_faults after.out_faults ⊎ Rose before.err_faults after.err_faults → IsDoneOrWanting status.WriteFault
+      by_write (inl h) = absurd (quiet.out h)
+      by_write (inr h) = absurd (quiet.err h)
+  done_by line status.NoMemory is accepted quiet promises = inr refl
+  done_by line status.Differs is accepted quiet promises = by_difference (as_line status.Differs promises.answers.0 promises.answers.1 line is promises.answers.2)
+    where
+      by_difference : (status.Differs ≡ status.NoMemory) ⊎ Ends before.files before.there before.unfailing line status.Differs promises.answers.0 promises.answers.1 → IsDoneOrWanting status.Differs
+      by_difference (inl e) = inr e
+      by_difference (inr h) = absurd (accepted.agrees promises.answers.0 h.0 h.1 h.2)
+
+pub completes : SoundLaw → (words : List (List ℕ)) (before after : Outside) (s : Status) → Promises words before after s → Completes words before after s
+completes law words before after s promises = record {
+  sound = λ files line told is sound quiet.
+      done_by words before after line s is (subst (λ (fs : Option Files). IsUnrefused fs line) (sym told) (law files line sound)) quiet promises;
+  unrefused = λ line is accepted quiet. done_by words before after line s is accepted quiet promises;
+}

@@ -1,0 +1,94 @@
+-- Completeness: where nothing is wrong with what a line of `build`, `map` or `run` names, and no call of the outside fails, the line is done, but
+-- for want of memory. So is every line that is not refused. (The book, chapters 4 and 7 to 12.)
+use Rattle.std.specs.Prelude.{◌≡◌, ◌≤◌, ◌++◌, ◌⊎◌, ℕ, false, List, Option, Some, length}
+use Rattle.hack_isa.specs.Machine.{image_words}
+use Rattle.outer_world.specs.Faults.{Rose}
+use Rattle.outer_world.specs.Files.{Files}
+use Rattle.vm_tree.specs.declared.program.File.{File}
+use Rattle.vm_link.specs.Faults.{words_before}
+use Rattle.vm_link.specs.Reached.{AreKept}
+use Rattle.vm_link.specs.Sections.{Section, sections}
+use Rattle.jack_tree.specs.declared.tree.Class.{Class}
+use Rattle.jack_meaning.specs.Text.{Program}
+use Rattle.jack_names.specs.Whole.{WellNamed, all_names_meant, class_names, program_meant}
+use Rattle.jack_os.specs.System.{AreClassesOf, system}
+use Rattle.jack_compiler.specs.Files.{program_files}
+use Rattle.key_script.specs.declared.lines.Line.{Line as KeyLine}
+use Rattle.tower.specs.Budget.{IsBudget}
+use Rattle.command_line.specs.Line.{Line, IsLine, build, map_line, run}
+use Rattle.nand_cli.specs.Answer.{Disagrees, Refuses}
+use Rattle.nand_cli.specs.Commands.Run.{HasKeys}
+use Rattle.nand_cli.specs.JackFolder.{HasClasses}
+use Rattle.nand_cli.specs.Outside.{Outside}
+use Rattle.nand_cli.specs.declared.command.Status.{Status}
+use Rattle.nand_cli.specs.declared.command.Status.TheVariants as status
+
+-- ---- a program that can be built
+
+-- The static words of VM files: one more than the greatest index of a static that the kept functions of a file name, together for all files.
+abbrev pub HasStatics : List File → ℕ → Type 0
+HasStatics files words = (kept : List Section) × AreKept false (sections false files) kept × (words ≡ words_before kept (length files))
+
+-- There is a word for each of them: 16 to 255.
+abbrev pub HasFewStatics : List File → Type 0
+HasFewStatics files = (words : ℕ) × HasStatics files words × (words ≤ 240)
+
+-- The budget of the program is within the room for an image.
+abbrev pub HasSmallBudget : Program → Type 0
+HasSmallBudget program = (words : ℕ) × IsBudget program words × (words ≤ image_words)
+
+-- the VM files of the program that the folder's classes mean with those of the operating system
+abbrev pub files_meant : List Class → List Class → List File
+files_meant own os = program_files (program_meant own os) (all_names_meant own os) (class_names own ++ class_names os)
+
+-- ---- a line with which nothing is wrong
+
+-- The folder has at most 256 Jack files, each of which spells a class within the limits of the language, as do the texts of the operating system.
+-- Their names are well, their program has at most 240 static words, and its budget is at most 32,768.
+pub record IsSoundFolder (files : Files) (folder : List ℕ) : Type 0 where
+  pub own : List Class
+  pub spelled : HasClasses (Some files) folder own
+  pub os : List Class
+  pub shipped : AreClassesOf system os
+  pub named : WellNamed own os
+  pub statics : HasFewStatics (files_meant own os)
+  pub budget : HasSmallBudget (program_meant own os)
+
+-- The key script, where there is one, spells its lines, with moments that rise.
+abbrev pub IsSoundScript : Files → Option (List ℕ) → Type 0
+IsSoundScript files keys = (lines : List KeyLine) × HasKeys (Some files) keys lines
+
+-- Nothing is wrong with the folder and the key script of a line of `build`, `map` or `run`.
+abbrev pub IsSound : Files → Line → Type 0
+IsSound files (build folder) = IsSoundFolder files folder
+IsSound files (map_line folder) = IsSoundFolder files folder
+IsSound files (run folder level cycles keys) = IsSoundFolder files folder × IsSoundScript files keys
+IsSound files line = ⊥
+
+-- A line is neither refused over the files nor ends with a difference.
+pub record IsUnrefused (files : Option Files) (line : Line) : Type 0 where
+  pub accepted : (out before told : List ℕ) → Refuses files line out before told → ⊥
+  pub agrees : (out before told : List ℕ) → Disagrees files line out before told → ⊥
+
+-- The law of sound lines: over told files nothing refuses them.
+abbrev pub SoundLaw : Type 0
+SoundLaw = (files : Files) (line : Line) → IsSound files line → IsUnrefused (Some files) line
+
+-- ---- the call
+
+-- No count of faults rose: no call of the shelf, of out or of err failed.
+pub record NoneFailed (before after : Outside) : Type 0 where
+  pub shelf : Rose before.shelf_faults after.shelf_faults → ⊥
+  pub out : Rose before.out_faults after.out_faults → ⊥
+  pub err : Rose before.err_faults after.err_faults → ⊥
+
+-- The line is done, or memory was wanting.
+abbrev pub IsDoneOrWanting : Status → Type 0
+IsDoneOrWanting s = (s ≡ status.Done) ⊎ (s ≡ status.NoMemory)
+
+-- What `run` promises of a call with these words, where they are a line and nothing failed.
+pub record Completes (words : List (List ℕ)) (before after : Outside) (s : Status) : Type 0 where
+  -- A line of `build`, `map` or `run` over told files with which nothing is wrong is done,
+  pub sound : (files : Files) (line : Line) → before.files ≡ Some files → IsLine words line → IsSound files line → NoneFailed before after → IsDoneOrWanting s
+  -- and so is every line that is not refused and does not end with a difference.
+  pub unrefused : (line : Line) → IsLine words line → IsUnrefused before.files line → NoneFailed before after → IsDoneOrWanting s

@@ -1,0 +1,39 @@
+//! The command `test`: a test script.
+ghost use Rattle.std.specs.Prelude.{◌≡◌};
+ghost use Rattle.command_line.specs.Line.{test};
+ghost use Rattle.nand_cli.specs.Inner.Parts.{Counts, Does, ended};
+
+use crate::failure::Failure;
+use outer_world::{Shelf, Sink};
+use script_run::{ScriptError, Verdict, run_script};
+use std::alloc::Global;
+
+// How a line of `test` ends.
+fn ended(script: Result<Verdict, ScriptError>) -> Result<(), Failure>
+    ensures { result ≡ ended script }
+{
+    match script {
+        Ok(Verdict::Same | Verdict::NoCompare) => Ok(()),
+        Ok(Verdict::Differs(difference)) => Err(Failure::Differs(difference)),
+        Err(ScriptError::Unloaded(error)) => Err(Failure::Unloaded(error)),
+        Err(ScriptError::Out) => Err(Failure::Out),
+        Err(ScriptError::Err) => Err(Failure::Echo),
+    }
+}
+
+/// Does a line of `test`; the line that tells how it ended is not put.
+pub fn answer_test<F: Shelf, O: Sink, E: Sink>(
+    alloc: Global,
+    path: &str,
+    gates: bool,
+    shelf: &mut F,
+    out: &mut O,
+    err: &mut E,
+) -> Result<(), Failure>
+    ensures does { Does (F.files shelf.old) (F.there shelf.old) (F.unfailing shelf.old) (test path.now gates) (O.written out.old) (O.written out.new) (E.written err.old) (E.written err.new) result }
+    ensures counts { Counts (F.faults shelf.old) (F.faults shelf.new) (O.faults out.old) (O.faults out.new) (E.faults err.old) (E.faults err.new) result }
+    ensures kept { F.files shelf.new ≡ F.files shelf.old }
+    ensures stays { F.there shelf.new ≡ F.there shelf.old }
+{
+    ended(run_script(alloc, path, gates, shelf, out, err))
+}

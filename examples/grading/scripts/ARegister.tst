@@ -1,0 +1,11 @@
+// ARegister: a register of the CPU.
+load ARegister.hdl,
+output-file ARegister.out,
+compare-to ARegister.cmp,
+output-list time%S1.4.1 in%D1.6.1 load%B2.1.2 out%D1.6.1;
+
+set in 4321, set load 0, tick, output; tock, output;
+set load 1, tick, output; tock, output;
+set in -1, set load 0, tick, output; tock, output;
+set load 1, tick, output; tock, output;
+set in 0, tick, output; tock, output;

@@ -1,0 +1,29 @@
+// The screen is black while a key is held, and else white.
+(AGAIN)
+    @KBD
+    D=M
+    @colour
+    M=0
+    @WORDS
+    D;JEQ
+    @colour
+    M=-1
+(WORDS)
+    @SCREEN
+    D=A
+    @at
+    M=D
+(NEXT)
+    @colour
+    D=M
+    @at
+    A=M
+    M=D
+    @at
+    MD=M+1
+    @KBD
+    D=A-D
+    @NEXT
+    D;JGT
+    @AGAIN
+    0;JMP

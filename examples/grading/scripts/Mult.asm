@@ -1,0 +1,23 @@
+// RAM[2] becomes the product of RAM[0] and RAM[1], which are not below 0.
+    @R2
+    M=0
+    @count
+    M=0
+(LOOP)
+    @count
+    D=M
+    @R1
+    D=D-M
+    @END
+    D;JGE
+    @R0
+    D=M
+    @R2
+    M=D+M
+    @count
+    M=M+1
+    @LOOP
+    0;JMP
+(END)
+    @END
+    0;JMP
