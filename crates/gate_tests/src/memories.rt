@@ -47,10 +47,18 @@ fn agree(one: &mut Bench, other: &mut Bench, cycles: u32) -> bool
 fn gates_agree_with_blocks(rt: HostRuntime) -> Result<(), Fail> {
     let alloc = rt.alloc();
     let library = shipped_library(alloc)?;
-    for name in [b"RAM8".as_slice(), b"RAM64".as_slice()] {
+    let memories = [
+        (b"RAM8".as_slice(), 300),
+        (b"RAM64".as_slice(), 300),
+        (b"RAM512".as_slice(), 300),
+        (b"RAM4K".as_slice(), 200),
+        (b"RAM16K".as_slice(), 100),
+        (b"Screen".as_slice(), 100),
+    ];
+    for (name, cycles) in memories {
         let mut gates = put_on_bench(alloc, &library, name, false)?;
         let mut block = put_on_bench(alloc, &library, name, true)?;
-        assert!(rt; agree(&mut gates, &mut block, 300));
+        assert!(rt; agree(&mut gates, &mut block, cycles));
     }
     Ok(())
 }

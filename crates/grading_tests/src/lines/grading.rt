@@ -51,20 +51,25 @@ fn each_is_refused(rt: &impl Abort, alloc: Global, rows: &[(&str, &str)]) -> Res
     Ok(())
 }
 
+// A chip F is refused with this line.
+fn chip_is_refused(rt: &impl Abort, alloc: Global, chip: &str, line: &str) -> Result<(), Fail> {
+    let files = [("t/a.tst", "load F.hdl;"), ("t/F.hdl", chip)];
+    let case = Case {
+        files: &files,
+        words: "test t/a.tst",
+        status: Status::Refused,
+        out: "",
+        err: line,
+    };
+    ends(rt, alloc, &case)
+}
+
 // A chip of this part has this fault.
 fn each_is_faulty(rt: &impl Abort, alloc: Global, rows: &[(&str, &str)]) -> Result<(), Fail> {
     for (part, fault) in rows {
         let chip = format!(in alloc; "CHIP F {{ IN a, b[2]; OUT out; PARTS: {part} }}")?;
         let line = format!(in alloc; "t/F.hdl:0:0: {fault}\n")?;
-        let files = [("t/a.tst", "load F.hdl;"), ("t/F.hdl", chip.as_str())];
-        let case = Case {
-            files: &files,
-            words: "test t/a.tst",
-            status: Status::Refused,
-            out: "",
-            err: line.as_str(),
-        };
-        ends(rt, alloc, &case)?;
+        chip_is_refused(rt, alloc, &chip, &line)?;
     }
     Ok(())
 }
