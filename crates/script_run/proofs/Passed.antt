@@ -1,33 +1,14 @@
 -- How texts pass to a sink in whole pieces.
-use Rattle.std.proofs.Common.{◌≡◌, ◌≤◌, ◌+◌, ◌-◌, ◌%◌, ◌++◌, ℕ, List, Option, length, take, drop, sym, ◌∙◌, ap, arith, inl, inr, length-take, length-drop, length-append}
-use Rattle.std.proofs.Math.Seq.{take-add, take-append_seam}
+use Rattle.std.proofs.Common.{◌≡◌, ◌≤◌, ◌+◌, ◌-◌, ◌%◌, ◌++◌, ℕ, List, Option, length, take, drop, refl, sym, ◌∙◌, ap, arith, inl, inr, length-take, length-drop, length-append}
+use Rattle.std.proofs.Math.Seq.{take-add}
 use Rattle.std.proofs.lemmas.Bool.{cases_lt}
-use Rattle.std.proofs.lemmas.List.{take-take, take_all}
-use Rattle.outer_world.specs.Written.{Got, GotPart}
+use Rattle.std.proofs.lemmas.List.{take_all, drop_all}
+use Rattle.outer_world.specs.Written.{Got, Passes}
+use Rattle.outer_world.specs.declared.sink.Put.{Put}
+use Rattle.outer_world.specs.declared.sink.Put.TheVariants as put
 use Rattle.outer_world.proofs.Passing.{Got-then, Got-same, front_and_more, rest_and_more}
 use Rattle.script_run.specs.Ends.{whole}
-use Rattle.script_run.specs.Inner.Outlets.{HasPassed, WentInPart}
-
--- ---- a text in parts
-
--- the front of a text, and then a part
-pub Got-more : (a b c : Option (List ℕ)) (xs : List ℕ) (i j : ℕ) → i ≤ j → Got a b (take i xs) → Got b c (take (j - i) (drop i xs)) → Got a c (take j xs)
-Got-more a b c xs i j le h k =
-    let e : i + (j - i) ≡ j = omega arith in
-    Got-same a c _ _ (sym (take-add i (j - i) xs) ∙ ap (λ n. take n xs) e) (Got-then a b c _ _ h k)
-
--- some of a front
-take_some : (n w : ℕ) (xs : List ℕ) → (m : ℕ) × (take n (take w xs) ≡ take m xs)
-take_some n w xs = elim (cases_lt n w) [
-  | inl h ↦ (n, take-take n w xs (omega arith))
-  | inr h ↦ (w, take_all n (take w xs) (omega (arith, length-take w xs)))
-]
-
--- the front of a text, and then some of a part
-pub Got-some : (a b c : Option (List ℕ)) (xs : List ℕ) (i w : ℕ) → Got a b (take i xs) → GotPart b c (take w (drop i xs)) → GotPart a c xs
-Got-some a b c xs i w h k =
-    let m = take_some k.0 w (drop i xs) in
-    (i + m.0, Got-same a c _ _ (ap (λ y. take i xs ++ y) m.1 ∙ sym (take-add i m.0 xs)) (Got-then a b c _ _ h k.1))
+use Rattle.script_run.specs.Inner.Outlets.{HasPassed, PutsBehind, WentInPart}
 
 -- ---- whole pieces
 
@@ -56,18 +37,28 @@ HasPassed-then a b c front text p p' w h w_is went rest =
     }
 
 -- or some of them alone
-pub HasPassed-cut : (a b c : Option (List ℕ)) (front text p : List ℕ) (w : ℕ)
-    → HasPassed a b p front → GotPart b c (take w (p ++ text)) → WentInPart a c front (front ++ text)
-HasPassed-cut a b c front text p w h part =
-    let m = take_some part.0 w (p ++ text) in
-    record {
-      n = length (take (whole front) front) + m.0;
-      from = omega (arith, whole_most front);
-      went = Got-same a c _ _ (ap (λ y. take (whole front) front ++ y) m.1 ∙ ap (λ y. take (whole front) front ++ take m.0 (y ++ text)) h.rest ∙ front_and_more front text (whole front) m.0) (Got-then a b c _ _ h.went part.1);
-    }
+pub HasPassed-cut : (a b c : Option (List ℕ)) (front text p : List ℕ) (n : ℕ)
+    → HasPassed a b p front → Got b c (take n (p ++ text)) → WentInPart a c front (front ++ text)
+HasPassed-cut a b c front text p n h went = record {
+  n = length (take (whole front) front) + n;
+  from = omega (arith, whole_most front);
+  went = Got-same a c _ _ (ap (λ y. take (whole front) front ++ take n (y ++ text)) h.rest ∙ front_and_more front text (whole front) n) (Got-then a b c _ _ h.went went);
+}
 
--- what is left of a rotated text
-pub drop_rotated : (xs : List ℕ) (w n : ℕ) → n ≡ length xs → take (n - w) (drop w xs ++ take w xs) ≡ drop w xs
-drop_rotated xs w n e =
-    let l : n - w ≡ length (drop w xs) = ap (λ k. k - w) e ∙ sym (length-drop w xs) in
-    ap (λ k. take k (drop w xs ++ take w xs)) l ∙ take-append_seam (drop w xs) (take w xs)
+-- Where so many bytes of a text are left as make no whole piece, all whole pieces went.
+whole_went : (n : ℕ) (xs : List ℕ) → length (drop n xs) ≡ length xs % 4096 → (take n xs ≡ take (whole xs) xs) × (drop n xs ≡ drop (whole xs) xs)
+whole_went n xs e = elim (cases_lt n (length xs)) [
+  | inl h ↦ let same : n ≡ whole xs = omega (arith, e, length-drop n xs) in (ap (λ k. take k xs) same, ap (λ k. drop k xs) same)
+  | inr h ↦ let none : length xs ≤ whole xs = omega (arith, e, length-drop n xs) in
+      (take_all n xs h ∙ sym (take_all (whole xs) xs none), drop_all n xs h ∙ sym (drop_all (whole xs) xs none))
+]
+
+-- What a buffer that passes pieces on says of a text that it was handed.
+pub PutsBehind-pieces : (a b c : Option (List ℕ)) (front text p p' : List ℕ) (result : Put)
+    → Passes b p c p' text result → (result ≡ put.Done → length p' ≡ (length p + length text) % 4096)
+    → HasPassed a b p front → PutsBehind a c p' front text result
+PutsBehind-pieces a b c front text p p' put.Done passes left h =
+    let rest = passes.rest refl in
+    let all = whole_went passes.n (p ++ text) (sym (ap length rest) ∙ left refl ∙ ap (λ k. k % 4096) (sym (length-append p text))) in
+    HasPassed-then a b c front text p p' (whole (p ++ text)) h refl (Got-same b c _ _ all.0 passes.went) (rest ∙ all.1)
+PutsBehind-pieces a b c front text p p' put.Failed passes left h = HasPassed-cut a b c front text p passes.n h passes.went

@@ -4,7 +4,7 @@ ghost use Rattle.std.specs.Prelude.{◌≡◌, ◌<◌, ◌+◌, ◌^◌, ◌++�
 ghost use Rattle.std.specs.Str.Lossy.{utf8_lossy};
 ghost use Rattle.outer_world.specs.Files.{path_in};
 ghost use Rattle.outer_world.specs.Written.{CountsPut, Puts};
-ghost use Rattle.script_run.specs.Inner.Outlets.{HaveSameSink, pending, sink_of};
+ghost use Rattle.outer_world.specs.Held.{HaveSameSink, pending, sink_of};
 ghost use Rattle.test_script.specs.declared.tree.Act.TheVariants as acts;
 ghost use Rattle.script_run.specs.Devices.{after_tock};
 ghost use Rattle.script_run.specs.Setting.{Setting, folder_of, setting_of};
@@ -14,10 +14,10 @@ ghost use Rattle.script_run.specs.Inner.States.{Becomes, Compares, CountsStop, I
 use crate::files::{load_compared, load_image, path_beside};
 use crate::lines::names_line;
 use crate::loading::load_device;
-use crate::outlet::Outlet;
+use crate::outlet::put_behind;
 use crate::printing::put_through;
 use crate::standing::{CompareFile, Difference, State, Stop};
-use outer_world::{Detail, Name, Put, Shelf, Sink, Told};
+use outer_world::{Detail, Name, Pieces, Put, Shelf, Sink, Told};
 use script_text::{agrees_first, past_line, past_lines};
 use source_files::LoadError;
 use std::alloc::{AllocError, Global};
@@ -80,7 +80,7 @@ fn compare(line: &[u8], state: &mut State<'_>) -> Result<(), Stop>
 fn put_line<O: Sink>(
     line: Vec<u8>,
     state: &mut State<'_>,
-    out: &mut Outlet<'_, O>,
+    out: &mut Pieces<'_, O>,
 ) -> Result<(), Stop>
     requires { (r : Standing) × IsState state.old r }
     ensures puts { (w e f : Option (List ℕ)) (r : Standing) → IsState state.old r → StandsThere w (O.written (sink_of out.old)) e f (pending out.old) r → PutsOut w (O.written (sink_of out.new)) e f (pending out.new) r line.items state.new result }
@@ -92,7 +92,7 @@ fn put_line<O: Sink>(
     }
     let mut text = line;
     text.push(b'\n')?;
-    match out.put(&text)? {
+    match put_behind(&text, out) {
         Put::Done => compare(&text[..text.len() - 1], state),
         Put::Failed => Err(Stop::Out),
     }
@@ -111,7 +111,7 @@ fn tock(state: &mut State<'_>) -> Result<(), Stop>
 fn put_values<O: Sink>(
     alloc: Global,
     state: &mut State<'_>,
-    out: &mut Outlet<'_, O>,
+    out: &mut Pieces<'_, O>,
 ) -> Result<(), Stop>
     requires { (s : Standing) × IsState state.old s }
     ensures does { (setting : Setting) (there : List ℕ → Bool) (w e f : Option (List ℕ)) (s : Standing) → IsState state.old s → StandsThere w (O.written (sink_of out.old)) e f (pending out.old) s → Performs setting there ⊥ w (O.written (sink_of out.new)) e f (pending out.new) s (acts.Step Step.Output) state.new result }
@@ -126,7 +126,7 @@ fn do_step<O: Sink>(
     alloc: Global,
     step: Step,
     state: &mut State<'_>,
-    out: &mut Outlet<'_, O>,
+    out: &mut Pieces<'_, O>,
 ) -> Result<(), Stop>
     requires { (s : Standing) × IsState state.old s }
     ensures does { (setting : Setting) (there : List ℕ → Bool) (w e f : Option (List ℕ)) (s : Standing) → IsState state.old s → StandsThere w (O.written (sink_of out.old)) e f (pending out.old) s → Performs setting there ⊥ w (O.written (sink_of out.new)) e f (pending out.new) s (acts.Step step) state.new result }
@@ -156,7 +156,7 @@ fn do_list<'a, O: Sink>(
     path: &str,
     items: &'a [Item],
     state: &mut State<'a>,
-    out: &mut Outlet<'_, O>,
+    out: &mut Pieces<'_, O>,
 ) -> Result<(), Stop>
     requires { (s : Standing) × IsState state.old s }
     ensures does { (setting : Setting) (there : List ℕ → Bool) (w e f : Option (List ℕ)) (s : Standing) → setting.path ≡ path.now → IsState state.old s → StandsThere w (O.written (sink_of out.old)) e f (pending out.old) s → Performs setting there ⊥ w (O.written (sink_of out.new)) e f (pending out.new) s (acts.OutputList items.now) state.new result }
@@ -280,7 +280,7 @@ pub fn perform<'a, F: Shelf, O: Sink, E: Sink>(
     act: &'a Act,
     state: &mut State<'a>,
     shelf: &mut F,
-    out: &mut Outlet<'_, O>,
+    out: &mut Pieces<'_, O>,
     err: &mut E,
 ) -> Result<(), Stop>
     requires { (w e : Option (List ℕ)) × ((s : Standing) × IsState state.old s × StandsThere w (O.written (sink_of out.old)) e (E.written err.old) (pending out.old) s) }

@@ -6,13 +6,12 @@ ghost use Rattle.test_script.specs.Trees.Commands.{End};
 ghost use Rattle.script_run.specs.Acts.{acts_of};
 ghost use Rattle.script_run.specs.Setting.{setting_of};
 ghost use Rattle.script_run.specs.Standing.{Standing};
-ghost use Rattle.script_run.specs.Inner.Outlets.{HaveSameSink, pending, sink_of};
+ghost use Rattle.outer_world.specs.Held.{HaveSameSink, pending, sink_of};
 ghost use Rattle.script_run.specs.Inner.States.{CountsStop, IsState, PerformsAll, StandsThere};
 
 use crate::acts::{Script, perform};
-use crate::outlet::Outlet;
 use crate::standing::{State, Stop};
-use outer_world::{Shelf, Sink};
+use outer_world::{Pieces, Shelf, Sink};
 use std::alloc::Global;
 use test_script::Command;
 
@@ -24,7 +23,7 @@ fn run_command<'a, F: Shelf, O: Sink, E: Sink>(
     command: &'a Command,
     state: &mut State<'a>,
     shelf: &mut F,
-    out: &mut Outlet<'_, O>,
+    out: &mut Pieces<'_, O>,
     err: &mut E,
 ) -> Result<(), Stop>
     requires { (w e : Option (List ℕ)) × ((s : Standing) × IsState state.old s × StandsThere w (O.written (sink_of out.old)) e (E.written err.old) (pending out.old) s) }
@@ -54,7 +53,7 @@ pub fn run_commands<'a, F: Shelf, O: Sink, E: Sink>(
     commands: &'a [Command],
     state: &mut State<'a>,
     shelf: &mut F,
-    out: &mut Outlet<'_, O>,
+    out: &mut Pieces<'_, O>,
     err: &mut E,
 ) -> Result<(), Stop>
     requires { (w e : Option (List ℕ)) × ((s : Standing) × IsState state.old s × StandsThere w (O.written (sink_of out.old)) e (E.written err.old) (pending out.old) s) }

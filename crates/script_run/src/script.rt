@@ -6,17 +6,16 @@ ghost use Rattle.script_run.specs.Acts.{acts_of};
 ghost use Rattle.script_run.specs.Ends.{HasActs};
 ghost use Rattle.script_run.specs.Setting.{setting_of};
 ghost use Rattle.script_run.specs.Verdicts.{CountsScript, Runs};
-ghost use Rattle.script_run.specs.Inner.Outlets.{HaveSameSink, pending, sink_of};
+ghost use Rattle.outer_world.specs.Held.{HaveSameSink, pending, sink_of};
 ghost use Rattle.script_run.specs.Inner.Scripts.{Finishes, is_cut, verdict_of};
 ghost use Rattle.script_run.specs.declared.script.ScriptError.TheVariants as errors;
 
 use crate::acts::Script;
 use crate::commands::run_commands;
 use crate::device::Device;
-use crate::outlet::Outlet;
 use crate::script_language::ScriptText;
 use crate::standing::{Difference, State, Stop};
-use outer_world::{Put, Shelf, Sink};
+use outer_world::{Pieces, Put, Shelf, Sink};
 use source_files::{LoadError, load};
 use std::alloc::Global;
 use test_script::Command;
@@ -79,7 +78,7 @@ fn verdict_of(end: Result<(), Stop>, compares: bool) -> Result<Verdict, ScriptEr
 fn finish<O: Sink>(
     end: Result<(), Stop>,
     compares: bool,
-    outlet: &mut Outlet<'_, O>,
+    outlet: &mut Pieces<'_, O>,
 ) -> Result<Verdict, ScriptError>
     ensures same_sink { HaveSameSink outlet.old outlet.new }
     ensures finishes { Finishes (is_cut end) (O.written (sink_of outlet.old)) (O.written (sink_of outlet.new)) (pending outlet.old) (O.faults (sink_of outlet.old)) (O.faults (sink_of outlet.new)) (verdict_of end compares) result }
@@ -99,7 +98,7 @@ fn run_into<F: Shelf, O: Sink, E: Sink>(
     script: Script<'_>,
     commands: &[Command],
     shelf: &mut F,
-    outlet: &mut Outlet<'_, O>,
+    outlet: &mut Pieces<'_, O>,
     err: &mut E,
 ) -> Result<Verdict, ScriptError>
     requires { pending outlet.old ≡ [] }
@@ -133,8 +132,7 @@ fn run_whole<F: Shelf, O: Sink, E: Sink>(
     ensures kept { F.files shelf.new ≡ F.files shelf.old }
     ensures stays { F.there shelf.new ≡ F.there shelf.old }
 {
-    let mut bytes = Vec::new(alloc);
-    let mut outlet = Outlet::new(out, &mut bytes);
+    let mut outlet = Pieces::new(out);
     run_into(alloc, script, commands, shelf, &mut outlet, err)
 }
 

@@ -1,6 +1,6 @@
 use Rattle.std.proofs.Common.{refl}
 use Rattle.test_script.specs.declared.tree.Act.TheVariants as acts
-use Rattle.script_run.specs.Inner.Outlets.{pending, sink_of}
+use Rattle.outer_world.specs.Held.{pending, sink_of}
 use Rattle.script_run.proofs.Performed.{Performs-line}
 use Rattle.script_run.proofs.acts.do_list.Goals as goal
 

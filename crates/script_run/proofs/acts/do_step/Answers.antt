@@ -3,7 +3,7 @@ use Rattle.test_script.specs.declared.tree.Step.{Step}
 use Rattle.test_script.specs.declared.tree.Act.TheVariants as acts
 use Rattle.script_run.specs.Devices.{after_eval, after_tick, after_tock}
 use Rattle.script_run.specs.Effects.{Does}
-use Rattle.script_run.specs.Inner.Outlets.{pending, sink_of}
+use Rattle.outer_world.specs.Held.{pending, sink_of}
 use Rattle.script_run.specs.Inner.States.{Performs}
 use Rattle.script_run.proofs.Kept.{IsState-device, Keeps-eval, Keeps-tick}
 use Rattle.script_run.proofs.Performed.{CountsStop-becomes, Performs-becomes}

@@ -3,7 +3,7 @@ use Rattle.test_script.specs.declared.tree.Act.{Act}
 use Rattle.test_script.specs.declared.tree.Act.TheVariants as acts
 use Rattle.test_script.specs.declared.tree.Item.{Item}
 use Rattle.script_run.specs.Setting.{setting_of}
-use Rattle.script_run.specs.Inner.Outlets.{pending, sink_of}
+use Rattle.outer_world.specs.Held.{pending, sink_of}
 use Rattle.script_run.specs.Inner.States.{Misses, Performs}
 use Rattle.script_run.proofs.Performed.{CountsStop-quietly, Performs-echo, Performs-quietly, Performs-silent}
 use Rattle.script_run.proofs.acts.perform.Goals as goal

@@ -3,7 +3,7 @@ use Rattle.test_script.specs.declared.tree.Item.{Item}
 use Rattle.test_script.specs.declared.tree.Step.TheVariants as steps
 use Rattle.test_script.specs.declared.tree.Act.TheVariants as acts
 use Rattle.script_run.specs.Lines.{IsLine}
-use Rattle.script_run.specs.Inner.Outlets.{pending, sink_of}
+use Rattle.outer_world.specs.Held.{pending, sink_of}
 use Rattle.script_run.proofs.Performed.{Performs-line}
 use Rattle.script_run.proofs.acts.put_values.Goals as goal
 

@@ -3,6 +3,7 @@ use Rattle.std.proofs.lemmas.List.{take_all}
 use Rattle.std.proofs.lemmas.Result.{err_from_is_err_and}
 use Rattle.test_script.specs.declared.tree.Command as commands
 use Rattle.script_run.specs.declared.standing.Stop.{Stop}
+use Rattle.outer_world.specs.Held.{pending}
 use Rattle.script_run.specs.Acts.{times}
 use Rattle.script_run.specs.Setting.{setting_of}
 use Rattle.script_run.specs.Inner.States.{CountsStop, PerformsAll}
@@ -21,7 +22,7 @@ run_command-loop-preserved g t c =
       ran = ran_as (times c.loop.counter body ++ body) (times (c.loop.counter + 1) body) (times_next c.loop.counter body)
           (ran_then (times c.loop.counter body) body c.loop.invariant.ran
           (ran_as (acts_in c.deref.result.now) body (ap acts_in c.deref.ensures.value)
-          (ran_of (g.F.Shelf.files now.shelf) (g.F.Shelf.there now.shelf) (g.F.Shelf.unfailing now.shelf) (g.O.Sink.written now.out.sink.now) now.out.bytes.now.items (g.E.Sink.written now.err) (acts_in c.deref.result.now) now.state (Ok tt) done.does done.kept done.stays done.keeps)));
+          (ran_of (g.F.Shelf.files now.shelf) (g.F.Shelf.there now.shelf) (g.F.Shelf.unfailing now.shelf) (g.O.Sink.written now.out.sink.now) (pending now.out) (g.E.Sink.written now.err) (acts_in c.deref.result.now) now.state (Ok tt) done.does done.kept done.stays done.keeps)));
       counts = counts_then _ _ _ _ _ _ _ _ _ (Ok tt) c.loop.invariant.counts done.counts;
       same_sink = done.same_sink ∙ c.loop.invariant.same_sink;
     }
@@ -42,7 +43,7 @@ run_command-returns-in_err-run_commands-in-Repeat g t c =
     (ran_cut (times (n - (i + 1)) body)
     (ran_then (times i body) body c.loop.invariant.ran
     (ran_as (acts_in c.deref.result.now) body (ap acts_in c.deref.ensures.value)
-    (ran_of (g.F.Shelf.files now.shelf) (g.F.Shelf.there now.shelf) (g.F.Shelf.unfailing now.shelf) (g.O.Sink.written now.out.sink.now) now.out.bytes.now.items (g.E.Sink.written now.err) (acts_in c.deref.result.now) now.state (Err stop) done.does done.kept done.stays done.keeps))))) in
+    (ran_of (g.F.Shelf.files now.shelf) (g.F.Shelf.there now.shelf) (g.F.Shelf.unfailing now.shelf) (g.O.Sink.written now.out.sink.now) (pending now.out) (g.E.Sink.written now.err) (acts_in c.deref.result.now) now.state (Err stop) done.does done.kept done.stays done.keeps))))) in
     record {
       does = ran.does;
       counts = subst (λ (r : Result (Unit {0}) Stop). CountsStop (g.F.Shelf.faults c.args.shelf.now) (g.F.Shelf.faults now.shelf) (g.O.Sink.faults c.args.out.now.sink.now) (g.O.Sink.faults now.out.sink.now) (g.E.Sink.faults c.args.err.now) (g.E.Sink.faults now.err) r) (sym is) (counts_then _ _ _ _ _ _ _ _ _ (Err stop) c.loop.invariant.counts done.counts);
@@ -58,8 +59,8 @@ run_command-returns-in-Act-clause-does g t c = λ w e s at stands.
     let there = g.F.Shelf.there c.args.shelf.now in
     let unfailing = g.F.Shelf.unfailing c.args.shelf.now in
     let now = c.perform.new in
-    subst (λ (x : commands.Command). PerformsAll setting there unfailing w (g.O.Sink.written now.out.sink.now) e (g.E.Sink.written now.err) now.out.bytes.now.items s (acts_by x) now.state c.perform.result) (sym c.in-Act.is)
-    (act_all setting there unfailing w (g.O.Sink.written now.out.sink.now) e (g.E.Sink.written now.err) now.out.bytes.now.items s _ now.state c.perform.result (c.perform.ensures.does w e s at stands))
+    subst (λ (x : commands.Command). PerformsAll setting there unfailing w (g.O.Sink.written now.out.sink.now) e (g.E.Sink.written now.err) (pending now.out) s (acts_by x) now.state c.perform.result) (sym c.in-Act.is)
+    (act_all setting there unfailing w (g.O.Sink.written now.out.sink.now) e (g.E.Sink.written now.err) (pending now.out) s _ now.state c.perform.result (c.perform.ensures.does w e s at stands))
 
 pub run_command-returns-after-loop : goal.run_command-returns-after-loop
 run_command-returns-after-loop g t c =
@@ -82,7 +83,7 @@ run_commands-loop-command-preserved g t c =
     record {
       ran = ran_as (acts_in (take i all) ++ acts_by one) (acts_in (take (i + 1) all)) (acts_next all i one c.loop-command-test.true c.command-item.is)
           (ran_then (acts_in (take i all)) (acts_by one) c.loop-command.invariant.ran
-          (ran_of (g.F.Shelf.files now.shelf) (g.F.Shelf.there now.shelf) (g.F.Shelf.unfailing now.shelf) (g.O.Sink.written now.out.sink.now) now.out.bytes.now.items (g.E.Sink.written now.err) (acts_by one) now.state (Ok tt) done.does done.kept done.stays done.keeps));
+          (ran_of (g.F.Shelf.files now.shelf) (g.F.Shelf.there now.shelf) (g.F.Shelf.unfailing now.shelf) (g.O.Sink.written now.out.sink.now) (pending now.out) (g.E.Sink.written now.err) (acts_by one) now.state (Ok tt) done.does done.kept done.stays done.keeps));
       counts = counts_then _ _ _ _ _ _ _ _ _ (Ok tt) c.loop-command.invariant.counts done.counts;
       same_sink = done.same_sink ∙ c.loop-command.invariant.same_sink;
     }
@@ -101,7 +102,7 @@ run_commands-returns-in_err-run_command g t c =
     (ran_as ((acts_in (take i all) ++ acts_by one) ++ acts_in (drop (i + 1) all)) (acts_in all) (acts_at all i one c.loop-command-test.true c.command-item.is)
     (ran_cut (acts_in (drop (i + 1) all))
     (ran_then (acts_in (take i all)) (acts_by one) c.loop-command.invariant.ran
-    (ran_of (g.F.Shelf.files now.shelf) (g.F.Shelf.there now.shelf) (g.F.Shelf.unfailing now.shelf) (g.O.Sink.written now.out.sink.now) now.out.bytes.now.items (g.E.Sink.written now.err) (acts_by one) now.state (Err stop) done.does done.kept done.stays done.keeps)))) in
+    (ran_of (g.F.Shelf.files now.shelf) (g.F.Shelf.there now.shelf) (g.F.Shelf.unfailing now.shelf) (g.O.Sink.written now.out.sink.now) (pending now.out) (g.E.Sink.written now.err) (acts_by one) now.state (Err stop) done.does done.kept done.stays done.keeps)))) in
     record {
       does = ran.does;
       counts = subst (λ (r : Result (Unit {0}) Stop). CountsStop (g.F.Shelf.faults c.args.shelf.now) (g.F.Shelf.faults now.shelf) (g.O.Sink.faults c.args.out.now.sink.now) (g.O.Sink.faults now.out.sink.now) (g.E.Sink.faults c.args.err.now) (g.E.Sink.faults now.err) r) (sym is) (counts_then _ _ _ _ _ _ _ _ _ (Err stop) c.loop-command.invariant.counts done.counts);
