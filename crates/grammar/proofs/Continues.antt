@@ -21,7 +21,7 @@ module _ {T S N V : Type 0} {g : Rules T S N V} where
   pub begun_seq : {a b : Rule T S N V} {x : Tree V} {s s1 : S} {ts us : List T} → Reads T S N V g s a ts x s1 us → Continues T S N V g (seq a b) s ts (Pair x) b s1 us
   begun_seq r = record { reads = λ h. both r h; stops = λ h. second r h }
 
-  -- the same in a named rule
+  -- so it is in a named rule
   pub begun_name : {n : N} {grow : Tree V → Tree V} {left : Rule T S N V} {s s1 : S} {ts us : List T} → Continues T S N V g (g.body n) s ts grow left s1 us → Continues T S N V g (name n) s ts (λ x. Node (grow x)) left s1 us
   begun_name c = record { reads = λ h. named (c.reads h); stops = λ h. in_name (c.stops h) }
 
@@ -29,7 +29,7 @@ module _ {T S N V : Type 0} {g : Rules T S N V} where
   pub go_on : {whole a : Rule T S N V} {grow : Tree V → Tree V} {x : Tree V} {s s1 s2 : S} {ts us vs : List T} → Continues T S N V g whole s ts grow (repeat a) s1 us → enters g a us ≡ true → Reads T S N V g s1 a us x s2 vs → Continues T S N V g whole s ts (λ y. grow (More x y)) (repeat a) s2 vs
   go_on c e r = record { reads = λ h. c.reads (again e r h); stops = λ h. c.stops (later e r h) }
 
-  -- the same, where the tree of the code grows by its own function
+  -- where the tree of the code grows by its own function
   pub go_on_as : {whole a : Rule T S N V} {grow : Tree V → Tree V} {x : Tree V} {s s1 s2 : S} {ts us vs : List T} (grown : Tree V → Tree V) → ((y : Tree V) → grow (More x y) ≡ grown y) → Continues T S N V g whole s ts grow (repeat a) s1 us → enters g a us ≡ true → Reads T S N V g s1 a us x s2 vs → Continues T S N V g whole s ts grown (repeat a) s2 vs
   go_on_as {whole = whole} {s = s} {ts = ts} grown same c e r = record { reads = λ {x} {s2} {vs} h. subst (λ (z : Tree V). Reads T S N V g s whole ts z s2 vs) (same x) (c.reads (again e r h)); stops = λ h. c.stops (later e r h) }
 

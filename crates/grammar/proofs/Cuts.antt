@@ -1,11 +1,23 @@
 -- Going over the bytes of a piece at once is going over them one by one.
-use Rattle.std.proofs.Common.{◌≡◌, ℕ, zero, suc, ◌-◌, ◌<◌, List, [], ◌∷◌, ◌++◌, append_assoc, length-drop, length-append, slice_get, length, take, drop, Result, Ok, Err, Option, Some, None, refl, sym, ap, ◌∙◌, arith}
+use Rattle.std.proofs.Common.{◌≡◌, Bool, true, false, cond, ℕ, zero, suc, ◌-◌, ◌<◌, List, [], ◌∷◌, ◌++◌, append_assoc, length-drop, length-append, slice_get, length, take, drop, Result, Ok, Err, Option, Some, None, refl, sym, ap, ◌∙◌, arith}
 use Rattle.scan_text.specs.declared.Place.{Place}
 use Rattle.scan_text.specs.declared.Scan.{Scan}
 use Rattle.scan_text.specs.Text.{step, walk, first}
 use Rattle.scan_text.specs.View.{left, place}
 use Rattle.grammar.specs.declared.Fault.{Fault}
 use Rattle.grammar.specs.Cutting.{Piece, Passed, Token, Wrong, followed, cut_by, cut, Next, last_of}
+
+-- a text that is cut is within the limit of its length
+pub within_limit : {T : Type 0} (t : Bool) (f : Fault) (r : Result (List T) Fault) (ts : List T) → cond t (Err f) r ≡ Ok ts → r ≡ Ok ts
+within_limit true f r ts e = absurd cc
+within_limit false f r ts e = e
+
+pub followed_is : {T : Type 0} (t : T) (r : Result (List T) Fault) (ts : List T) → followed t r ≡ Ok ts → (us : List T) × (r ≡ Ok us) × (t ∷ us ≡ ts)
+followed_is t (Ok us) ts e = (us, refl, cc)
+followed_is t (Err f) ts e = absurd cc
+
+pub none_is : {T : Type 0} (ts : List T) (l : Result (List T) Fault) → l ≡ Ok ts → l ≡ Ok [] → [] ≡ ts
+none_is ts l e f = cc
 
 module _ {T : Type 0} (piece : List ℕ → Piece T) (close : Option T → Place → List T) where
   pub pending : (last : Option T) (n : ℕ) (at : Place) (bs : List ℕ) → cut piece close last n at bs ≡ cut piece close last 0 (walk at (take n bs)) (drop n bs)

@@ -8,6 +8,12 @@ pub mod Wholes
 pub mod Continues
 pub mod Runs
 pub mod Exits
+pub mod OneToken
 pub mod LeavesRead
-pub mod Reread
+pub mod Alike
+pub mod Endings
+pub mod Spaced
+pub mod Longest
 pub mod Past
+pub mod LinePieces
+pub mod Entered

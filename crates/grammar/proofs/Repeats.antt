@@ -31,6 +31,6 @@ module _ {T S N V X : Type 0} (g : Rules T S N V) (a : Rule T S N V) (tree : X �
   pub Along-stopped : (xs : List X) (s1 : S) (us : List T) (f : Fault) → Along T S N V X g a tree s ts xs s1 us → enters g a us ≡ true → Stops T S N V g s1 a us f → Stops T S N V g s (repeat a) ts f
   Along-stopped xs s1 us f along e h = along.stops (in_repeat e h)
 
-  -- the same, also where memory runs out
+  -- so it is also where memory runs out
   pub Along-halts : (xs : List X) (s1 : S) (us : List T) (e : ReadError) → Along T S N V X g a tree s ts xs s1 us → enters g a us ≡ true → Halt (Stops T S N V g s1 a us) e → Halt (Stops T S N V g s (repeat a) ts) e
   Along-halts xs s1 us e along i h = halt (λ f p. along.stops (in_repeat i p)) h

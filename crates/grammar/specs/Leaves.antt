@@ -2,26 +2,30 @@
 use Rattle.std.specs.Prelude.{List, [], ◌∷◌, ◌++◌}
 use Rattle.grammar.specs.Rules.{Rule, mark, seq, choice, option, repeat, name, within, Tree, Skip, Node, Leaf, Pair, Left, Right, Absent, Present, NoMore, More, Rules}
 
--- What the tokens of a tree say, by the rule that it was read by. A tree that doesn't fit the rule has none.
+-- What the tokens of a tree say, by the rule that it was read by. A tree that doesn't fit the rule has none. body tells the rules that
+-- have names.
+abbrev pub leaves_by : {T S N V : Type 0} → (N → Rule T S N V) → Tree V → Rule T S N V → List V
+leaves_by body Skip (mark v is) = v ∷ []
+leaves_by body Skip r = []
+leaves_by body (Leaf v) r = v ∷ []
+leaves_by body (Pair x y) (seq a b) = leaves_by body x a ++ leaves_by body y b
+leaves_by body (Pair x y) r = []
+leaves_by body (Left x) (choice a b) = leaves_by body x a
+leaves_by body (Left x) r = []
+leaves_by body (Right x) (choice a b) = leaves_by body x b
+leaves_by body (Right x) r = []
+leaves_by body Absent r = []
+leaves_by body (Present x) (option a) = leaves_by body x a
+leaves_by body (Present x) r = []
+leaves_by body NoMore r = []
+leaves_by body (More x y) (repeat a) = leaves_by body x a ++ leaves_by body y (repeat a)
+leaves_by body (More x y) r = []
+leaves_by body (Node x) (name n) = leaves_by body x (body n)
+leaves_by body (Node x) (within enter leave a) = leaves_by body x a
+leaves_by body (Node x) r = []
+
 abbrev pub leaves : {T S N V : Type 0} → Rules T S N V → Tree V → Rule T S N V → List V
-leaves g Skip (mark v is) = v ∷ []
-leaves g Skip r = []
-leaves g (Leaf v) r = v ∷ []
-leaves g (Pair x y) (seq a b) = leaves g x a ++ leaves g y b
-leaves g (Pair x y) r = []
-leaves g (Left x) (choice a b) = leaves g x a
-leaves g (Left x) r = []
-leaves g (Right x) (choice a b) = leaves g x b
-leaves g (Right x) r = []
-leaves g Absent r = []
-leaves g (Present x) (option a) = leaves g x a
-leaves g (Present x) r = []
-leaves g NoMore r = []
-leaves g (More x y) (repeat a) = leaves g x a ++ leaves g y (repeat a)
-leaves g (More x y) r = []
-leaves g (Node x) (name n) = leaves g x (g.body n)
-leaves g (Node x) (within enter leave a) = leaves g x a
-leaves g (Node x) r = []
+leaves g x r = leaves_by g.body x r
 
 -- a tree with other things said
 abbrev pub seen_by : {V Y : Type 0} → (V → Y) → Tree V → Tree Y

@@ -4,3 +4,4 @@ pub mod Reading
 pub mod Texts
 pub mod Leaves
 pub mod Faults
+pub mod Lines

@@ -1,5 +1,5 @@
 -- The ALU gives for each row of the table of comp what its text says.
-use Rattle.std.proofs.Common.{◌≡◌, ◌+◌, ◌%◌, ℕ, sym, ◌∙◌, ap, arith}
+use Rattle.std.proofs.Common.{◌≡◌, ℕ, sym, ◌∙◌, arith}
 use Rattle.std.proofs.lemmas.Nat.{and_comm, or_comm}
 use Rattle.word16.specs.Words.{word_add}
 use Rattle.hack_isa.proofs.Operations.{alu_0, alu_2, alu_7, alu_12, alu_13, alu_14, alu_15, alu_19, alu_21, alu_31, alu_42, alu_48, alu_49, alu_50, alu_51, alu_55, alu_58, alu_63}

@@ -5,8 +5,9 @@ use Rattle.std.proofs.lemmas.Bool.{le-ltb}
 use Rattle.scan_text.specs.declared.Place.{Place}
 use Rattle.scan_text.specs.Text.{start}
 use Rattle.grammar.specs.declared.Fault.{Fault}
-use Rattle.grammar.specs.declared.Fault.TheVariants.{Range}
 use Rattle.grammar.specs.Cutting.{cut, followed}
+use Rattle.grammar.specs.Lines.{is_open}
+use Rattle.grammar.proofs.LinePieces.{close_none, cut_within}
 use Rattle.grammar.specs.Rules.{Reads, marked, worded, at_end, both, right, ended, again}
 use Rattle.word16.specs.Words.{has_bit}
 use Rattle.hack_asm.specs.declared.hack_tokens.Kind.{Kind}
@@ -14,7 +15,7 @@ use Rattle.hack_asm.specs.declared.hack_tokens.Kind.TheVariants.{Digit, LineEnd}
 use Rattle.hack_asm.specs.declared.hack_tokens.Token.{Token}
 use Rattle.hack_asm.specs.Faults.{TooLarge}
 use Rattle.hack_asm.specs.Image.{image_text, word_line}
-use Rattle.hack_asm.specs.HackTokens.{made, piece, is_open, close, tokens_of, finish}
+use Rattle.hack_asm.specs.HackTokens.{made, piece, line_end_token, ends_line, close, finish}
 use Rattle.hack_asm.specs.HackText.{Part, HackTree, hack, four, sixteen, lines, four_tree, word_tree, lines_tree, AreLines, AreWords, limited, words_of, Holds}
 
 abbrev R : Place → Part → List Token → HackTree → List Token → Type 0
@@ -109,8 +110,8 @@ word_read end w at ts =
 abbrev on_lines : List ℕ → List (Option ℕ)
 on_lines ws = map (λ w. Some w) ws
 
-words_read : (ws : List ℕ) (last : Option Token) (at : Place) → is_open last ≡ false → (ts : List Token) × (the_cut last at (image_text ws) ≡ Ok ts) × ((end : Place) → R end lines ts (lines_tree (on_lines ws)) [])
-words_read [] last at shut = ([], ap (λ (b : Bool). Ok (cond b (made LineEnd at ∷ []) [])) shut, λ end. ended refl)
+words_read : (ws : List ℕ) (last : Option Token) (at : Place) → is_open ends_line last ≡ false → (ts : List Token) × (the_cut last at (image_text ws) ≡ Ok ts) × ((end : Place) → R end lines ts (lines_tree (on_lines ws)) [])
+words_read [] last at shut = ([], ap Ok (close_none line_end_token ends_line last at shut), λ end. ended refl)
 words_read (w ∷ ws) last at shut =
     let rest = words_read ws (Some (made LineEnd (behind at))) (below (behind at)) refl in (
       word_tokens w at rest.0,
@@ -130,10 +131,6 @@ are_lines : (ws : List ℕ) → AreWords ws → AreLines (on_lines ws)
 are_lines [] h = tt
 are_lines (w ∷ ws) h = (h.0, are_lines ws h.1)
 
-short : (text : List ℕ) (ts : List Token) → length text ≤ 1048576 → the_cut None start text ≡ Ok ts → tokens_of text ≡ Ok ts
-short text ts h e =
-    ap (λ (b : Bool). cond b (Err (Range (record { line = 0; column = 0 }) 1048577)) (the_cut None start text)) (le-ltb 1048576 (length text) h) ∙ e
-
 small : (ws : List ℕ) → length ws ≤ 32768 → limited ws ≡ Ok ws
 small ws h = ap (λ (b : Bool). cond b (Err (TooLarge (length ws))) (Ok ws)) (le-ltb 32768 (length ws) h)
 
@@ -143,6 +140,6 @@ reads_back ws words few =
     let fits : length (image_text ws) ≤ 1048576 = omega (arith, text_length ws, few) in
     inl (
       on_lines ws,
-      (are_lines ws words, (read.0, tt, short (image_text ws) read.0 fits read.1, both (read.2 (finish (image_text ws))) at_end)),
+      (are_lines ws words, (read.0, tt, cut_within piece close (image_text ws) read.0 fits read.1, both (read.2 (finish (image_text ws))) at_end)),
       sym (ap limited (words_back ws) ∙ small ws few),
     )

@@ -17,7 +17,7 @@ use Rattle.hack_asm.specs.Tokens.{Word}
 use Rattle.hack_asm.specs.Assembly.{Said, Letter', Operator', Part, assembly, letter_role, role_said, operator_role, is_zero, is_one, is_a, is_d, is_m, by_letter, some_letter, operation, adds, meets, assigns, assignment, after_letter, comp, sign, unary, assigned, several_role, is_several, Several}
 use Rattle.hack_asm.specs.Lines.{AsmTree, branch, other, operation_tree}
 use Rattle.hack_asm.specs.Before.{letter_by, letter_next, operator_by, operator_next, assigns_next, several_by, several_next, suits}
-use Rattle.hack_asm.proofs.Entered.{firm, entered, skip, skip_stops}
+use Rattle.grammar.proofs.Entered.{firm, entered, skip, skip_stops}
 
 abbrev pub R : Place → Part → List Word → AsmTree → List Word → Type 0
 R end r ts x us = Reads Word (Unit {0}) (Unit {0}) Said (assembly end) tt r ts x tt us

@@ -1,19 +1,17 @@
 -- The pieces of an assembly text that are runs of bytes.
-use Rattle.std.proofs.Common.{◌≡◌, ℕ, suc, ◌-◌, ◌≤◌, Bool, true, false, cond, List, [], ◌∷◌, length, take, drop, Some, None, Ok, refl, sym, ap, subst, ◌∙◌, arith}
+use Rattle.std.proofs.Common.{◌≡◌, ℕ, ◌-◌, ◌≤◌, Bool, true, false, cond, length, Some, Ok, refl, sym, ap, subst, ◌∙◌, arith}
 use Rattle.std.specs.Prelude.{min, nat_lt}
 use Rattle.std.proofs.lemmas.Bool.{le-ltb}
 use Rattle.scan_text.specs.declared.Scan.{Scan}
 use Rattle.scan_text.specs.Text.{first, front, behind, walk, is_digit, digits, decimal, capped, number_of}
-use Rattle.scan_text.specs.Blanks.{starts, line}
-use Rattle.scan_text.proofs.Gone.{take_line}
 use Rattle.scan_text.specs.View.{left, place}
-use Rattle.grammar.specs.declared.Fault.TheVariants.{Grammar, Range}
-use Rattle.grammar.specs.Cutting.{Piece, Passed, Wrong, Next}
+use Rattle.grammar.specs.declared.Fault.TheVariants.{Range}
+use Rattle.grammar.specs.Cutting.{Piece, Wrong, Next}
 use Rattle.grammar.proofs.Runs.{run_text, run_moved, number_stands}
 use Rattle.hack_asm.specs.declared.token.Kind.{Kind}
 use Rattle.hack_asm.specs.declared.token.Kind.TheVariants.{Number, Symbol}
 use Rattle.hack_asm.specs.Roles.{role_of}
-use Rattle.hack_asm.specs.Tokens.{Word, word_of, number_piece, symbol_piece, comment_piece, is_letter, is_symbol_byte}
+use Rattle.hack_asm.specs.Tokens.{Word, word_of, number_piece, symbol_piece, is_letter, is_symbol_byte}
 
 -- a token of a whole run
 run_taken : (test : ℕ → Bool) (kind : Kind) (old new : Scan) (b : ℕ) (w : Word) → first (left old) ≡ Some b → test b ≡ true → left new ≡ behind test (left old) → place new ≡ walk (place old) (front test (left old)) → w.kind ≡ kind → w.role ≡ role_of w.text → w.text ≡ front test (left old) → w.place ≡ place old → Next (word_of kind (length (front test (left old)) - 1) (left old)) old (Ok (Some w)) new
@@ -36,27 +34,3 @@ symbol_begins b e = rw e refl
 
 pub symbol_taken : (old new : Scan) (b : ℕ) (w : Word) → first (left old) ≡ Some b → is_letter b ≡ true → left new ≡ behind is_symbol_byte (left old) → place new ≡ walk (place old) (front is_symbol_byte (left old)) → w.kind ≡ Symbol → w.role ≡ role_of w.text → w.text ≡ front is_symbol_byte (left old) → w.place ≡ place old → Next (symbol_piece (left old)) old (Ok (Some w)) new
 symbol_taken old new b w e d l p k r t at = run_taken is_symbol_byte Symbol old new b w e (symbol_begins b d) l p k r t at
-
-starts_by : (bs : List ℕ) → first bs ≡ Some 47 → starts 47 bs ≡ true
-starts_by [] e = absurd cc
-starts_by (b ∷ bs) e = let same : b ≡ 47 = cc in rw same refl
-
-line_stands : (bs : List ℕ) → first bs ≡ Some 47 → 1 ≤ length (line bs)
-line_stands [] e = absurd cc
-line_stands (b ∷ bs) e = let same : b ≡ 47 = cc in rw same (omega arith)
-
-line_passed : (bs : List ℕ) → first bs ≡ Some 47 → suc (length (line bs) - 1) ≡ length (line bs)
-line_passed bs e = let h = line_stands bs e in omega arith
-
--- a comment up to the end of the line
-pub comment_passed : (old new : Scan) → first (left old) ≡ Some 47 → first (drop 1 (left old)) ≡ Some 47 → left new ≡ drop (length (line (left old))) (left old) → place new ≡ walk (place old) (line (left old)) → Next (comment_piece (left old)) old (Ok None) new
-comment_passed old new e f l p =
-    let n = line_passed (left old) e in
-    subst (λ (q : Piece Word). Next q old (Ok None) new)
-    (ap (λ (x : Bool). cond x (Passed (length (line (left old)) - 1)) (Wrong Grammar)) (sym (starts_by (drop 1 (left old)) f))) (
-      refl,
-      record {
-        rest = l ∙ ap (λ (k : ℕ). drop k (left old)) (sym n);
-        at = p ∙ ap (walk (place old)) (sym (take_line (left old)) ∙ ap (λ (k : ℕ). take k (left old)) (sym n));
-      },
-    )

@@ -1,5 +1,5 @@
 -- Each computation that a text spells has a row of the table of comp.
-use Rattle.std.proofs.Common.{◌≡◌, ℕ, Bool, true, false, List, [], ◌∷◌, Option, Some, None, is_some, refl, ap, sym, subst}
+use Rattle.std.proofs.Common.{◌≡◌, Bool, true, List, [], ◌∷◌, Option, Some, None, is_some, refl, ap, sym, subst}
 use Rattle.std.specs.List.{AllByRecursion}
 use Rattle.grammar.specs.Rules.{Rule, mark, word, end, seq, choice, option, repeat, name, within, Tree, Skip, Node, Leaf, Pair, Left, Right, Absent, Present, NoMore, More, Rules, Reads, marked, worded, at_end, both, left, right, passed, taken, ended, again, named, inside}
 use Rattle.hack_asm.specs.Tokens.{Word, finish}
@@ -9,7 +9,6 @@ use Rattle.hack_asm.specs.declared.token.Operator.{Operator}
 use Rattle.hack_asm.specs.declared.token.Operator.TheVariants.{Plus, Minus, And, Or}
 use Rattle.hack_asm.specs.declared.token.Role.{Role}
 use Rattle.hack_asm.specs.declared.token.Role.TheVariants as role
-use Rattle.hack_asm.specs.declared.lines.Prefix.{Prefix}
 use Rattle.hack_asm.specs.declared.lines.Prefix.TheVariants as prefix
 use Rattle.hack_asm.specs.declared.lines.Comp.{Comp}
 use Rattle.hack_asm.specs.declared.lines.Comp.TheVariants as comps
@@ -17,7 +16,7 @@ use Rattle.hack_asm.specs.declared.lines.Dest.{Dest}
 use Rattle.hack_asm.specs.declared.lines.Dest.TheVariants as dests
 use Rattle.hack_asm.specs.Assembly as assembly
 use Rattle.hack_asm.specs.Assembly.{Said, Letter', Operator', letter_role, operator_role, role_said, adds, meets, sums, joins, is_not_zero, is_register}
-use Rattle.hack_asm.specs.Lines.{Line, label, address, compute, operation_tree, comp_tree, bare_tree, assigned_tree, lines_tree, line_tree, Spells}
+use Rattle.hack_asm.specs.Lines.{Line, label, address, compute, operation_tree, comp_tree, bare_tree, assigned_tree, lines_tree, line_tree}
 use Rattle.hack_asm.specs.Comps.{found}
 use Rattle.hack_asm.specs.Meaning.{HasRow, CompsHaveRows}
 

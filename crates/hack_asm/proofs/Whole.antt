@@ -1,6 +1,6 @@
 -- The lines of a text, one after another.
 use Rattle.std.proofs.Common.{◌≡◌, ◌<◌, ◌≤◌, ◌+◌, ◌-◌, ◌++◌, ℕ, Bool, true, false, List, [], ◌∷◌, length, drop, take, map, refl, sym, ap, subst, ◌∙◌, arith, append_assoc, length-append, length-drop}
-use Rattle.std.proofs.lemmas.List.{drop-drop, drop-map}
+use Rattle.std.proofs.lemmas.List.{drop-drop, drop-map, length-map}
 use Rattle.std.proofs.Math.Seq.{drop-append_seam}
 use Rattle.scan_text.specs.declared.Place.{Place}
 use Rattle.grammar.specs.declared.Fault.{Fault}
@@ -14,7 +14,7 @@ use Rattle.hack_asm.specs.Tokens.{Word, view}
 use Rattle.hack_asm.specs.declared.token.Token.{Token}
 use Rattle.hack_asm.specs.Assembly.{Said, assembly, line, whole}
 use Rattle.hack_asm.specs.Lines.{AsmTree, Line, line_tree, text_tree}
-use Rattle.hack_asm.proofs.Entered.{astray}
+use Rattle.grammar.proofs.Entered.{astray}
 use Rattle.hack_asm.proofs.Letters.{R, F}
 
 abbrev pub Lined : Place → List Word → List Line → List Word → Type 0
@@ -36,10 +36,6 @@ module _ (end : Place) (ts : List Word) (ls : List Line) where
   pub all_read : (cs : List Token) → length cs ≡ 0 → Lined end ts ls (map view cs) → R end whole ts (text_tree ls) []
   all_read [] none along = both (Along-ended (assembly end) line line_tree tt ts ls tt [] along refl) at_end
   all_read (c ∷ cs) none along = absurd (omega arith)
-
-length-view : (cs : List Token) → length (map view cs) ≡ length cs
-length-view [] = refl
-length-view (c ∷ cs) = let h = length-view cs in omega arith
 
 module _ (T S N V : Type 0) (g : Rules T S N V) where
   -- what is left behind a rule is a back part of the tokens
@@ -66,13 +62,13 @@ module _ (end : Place) (cs ds : List Token) (at : ℕ) (t : AsmTree) (p : R end 
   pub line_shorter : length ds < length (drop at cs)
   line_shorter =
       let h = shorter Word (Unit {0}) (Unit {0}) Said (assembly end) (λ n. refl) p refl in
-      omega (arith, h, length-view (drop at cs), length-view ds)
+      omega (arith, h, length-map (drop at cs) view, length-map ds view)
 
   -- what is left behind a line begins where the number of tokens that are left says
   pub line_next : at ≤ length cs → map view ds ≡ map view (drop (length cs - length ds) cs)
   line_next within =
       let tail = suffix Word (Unit {0}) (Unit {0}) Said (assembly end) p in
-      let n : at + (length (map view (drop at cs)) - length (map view ds)) ≡ length cs - length ds = omega (arith, line_shorter, within, length-view (drop at cs), length-view ds, length-drop at cs) in
+      let n : at + (length (map view (drop at cs)) - length (map view ds)) ≡ length cs - length ds = omega (arith, line_shorter, within, length-map (drop at cs) view, length-map ds view, length-drop at cs) in
       suffix_drop (map view (drop at cs)) tail.0 (map view ds) tail.1
       ∙ drop-map view (length (map view (drop at cs)) - length (map view ds)) (drop at cs)
       ∙ ap (map view) (drop-drop (length (map view (drop at cs)) - length (map view ds)) at cs ∙ ap (λ (k : ℕ). drop k cs) n)

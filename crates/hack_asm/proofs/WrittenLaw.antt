@@ -1,24 +1,25 @@
 -- Written assembly means the words of its instructions.
-use Rattle.std.proofs.Common.{◌≡◌, ℕ, suc, ◌*◌, ◌<◌, ◌≤◌, Bool, false, cond, List, [], ◌∷◌, ◌++◌, Option, Some, None, Ok, Err, map, length, refl, sym, ap, ◌∙◌, inl, arith, length-append, append_assoc, le-ltb}
+use Rattle.std.proofs.Common.{◌≡◌, ℕ, suc, ◌*◌, ◌<◌, ◌≤◌, Bool, false, List, [], ◌∷◌, ◌++◌, Option, Some, None, Ok, map, length, refl, sym, ap, ◌∙◌, inl, arith, length-append, append_assoc}
 use Rattle.std.specs.Prelude.{decimal}
 use Rattle.std.proofs.lemmas.Fmt.{length-decimal-le}
 use Rattle.scan_text.specs.declared.Place.{Place}
 use Rattle.scan_text.specs.Text.{start, step, walk}
-use Rattle.grammar.specs.declared.Fault.TheVariants.{Range}
+use Rattle.grammar.specs.Lines.{is_open}
 use Rattle.grammar.specs.Rules.{marked, worded, at_end, both, left, ended, again}
 use Rattle.hack_isa.specs.Table.{word_of}
 use Rattle.hack_isa.specs.declared.Instr.{Instr}
 use Rattle.hack_isa.specs.declared.Instr.TheVariants as instr
 use Rattle.hack_asm.specs.declared.token.Kind.TheVariants.{Sign, Number}
 use Rattle.hack_asm.specs.declared.lines.Compute.{Compute}
-use Rattle.hack_asm.specs.Tokens.{Word, made, is_open, tokens_of, finish}
+use Rattle.hack_asm.specs.Tokens.{Word, made, piece, line_end_token, ends, close, finish}
 use Rattle.hack_asm.specs.Assembly as assembly
 use Rattle.hack_asm.specs.Lines.{line_tree, lines_tree}
 use Rattle.hack_asm.specs.Comps.{comp_text, text_in}
 use Rattle.hack_asm.specs.Written.{IsSpelled, AreSpelled, WrittenMeans, destinations, jumps, instr_text, asm_text}
-use Rattle.hack_asm.proofs.Entered.{skip, entered}
+use Rattle.grammar.proofs.Entered.{skip, entered}
+use Rattle.grammar.proofs.LinePieces.{close_none, cut_within}
 use Rattle.hack_asm.proofs.Letters.{R}
-use Rattle.hack_asm.proofs.WrittenText.{the_cut, token_cut, line_end_token, line_end_cut, sign_token, number_cut}
+use Rattle.hack_asm.proofs.WrittenText.{the_cut, token_cut, line_end_cut, sign_token, number_cut}
 use Rattle.hack_asm.proofs.WrittenParts.{Computes, computes, Goes, goes, Jumps, jumps_by}
 use Rattle.hack_asm.proofs.WrittenProgram.{Direct, constant, computed, direct_item, direct_word, direct_lines, direct_program}
 
@@ -123,11 +124,11 @@ record AllLined (is : List Instr) (last : Option Word) (at : Place) : Type 0 whe
   words : map direct_word direct ≡ map word_of is
   many : length direct ≡ length is
 
-all_lined : (is : List Instr) (last : Option Word) (at : Place) → AreSpelled is → is_open last ≡ false → AllLined is last at
+all_lined : (is : List Instr) (last : Option Word) (at : Place) → AreSpelled is → is_open ends last ≡ false → AllLined is last at
 all_lined [] last at h shut = record {
   direct = [];
   tokens = [];
-  cut = ap (λ (b : Bool). Ok (cond b (line_end_token at ∷ []) [])) shut;
+  cut = ap Ok (close_none line_end_token ends last at shut);
   reads = λ end. ended refl;
   words = refl;
   many = refl;
@@ -151,10 +152,6 @@ text_length (i ∷ is) h =
     let short = one.short in
     omega (arith, short, text_length is h.1, length-append (instr_text i) (asm_text is))
 
-fits : (text : List ℕ) (ts : List Word) → length text ≤ 1048576 → the_cut None start text ≡ Ok ts → tokens_of text ≡ Ok ts
-fits text ts h e =
-    ap (λ (b : Bool). cond b (Err (Range (record { line = 0; column = 0 }) 1048577)) (the_cut None start text)) (le-ltb 1048576 (length text) h) ∙ e
-
 pub written_means : WrittenMeans
 written_means is h few =
     let all = all_lined is None start h refl in
@@ -162,6 +159,6 @@ written_means is h few =
     let size : length (asm_text is) ≤ 1048576 = omega (arith, text_length is h, few) in
     inl (
       direct_lines all.direct,
-      (all.tokens, tt, fits (asm_text is) all.tokens size all.cut, both (all.reads (finish (asm_text is))) at_end),
+      (all.tokens, tt, cut_within piece close (asm_text is) all.tokens size all.cut, both (all.reads (finish (asm_text is))) at_end),
       sym (direct_program all.direct (omega (arith, many, few)) ∙ ap (λ (ws : List ℕ). Ok ws) all.words),
     )

@@ -20,16 +20,16 @@ use Rattle.hack_asm.specs.declared.lines.Dest.TheVariants as dests
 use Rattle.hack_asm.specs.declared.words.Before.{Before}
 use Rattle.hack_asm.specs.declared.words.Before.TheVariants.{Sum, Join}
 use Rattle.hack_asm.specs.Roles.{role_of}
-use Rattle.hack_asm.specs.Tokens.{Word, made, word_of, piece}
+use Rattle.hack_asm.specs.Tokens.{Word, made, word_of, line_end_token, piece}
 use Rattle.hack_asm.specs.Assembly.{Said, Letter', is_sign, is_line_end, jump_role, role_said, is_register, is_not_zero, some_letter, maybe_operation, after_letter, unary, comp, operation, assigned, jump}
 use Rattle.hack_asm.specs.Lines.{comp_tree, unary_tree, assigned_tree, operation_tree, jump_tree}
 use Rattle.hack_asm.specs.Before.{letter_next, operator_next, operator_by, assigns_next, several_next, several_by, suits}
 use Rattle.hack_asm.specs.Comps.{Texts, computations, memory_computations, entry, or_nothing, text_in, comp_table, comp_text, meaning}
 use Rattle.hack_asm.specs.Program.{register_bit, dest_bits, jump_bits}
 use Rattle.hack_asm.specs.Written.{destinations, jumps}
-use Rattle.hack_asm.proofs.Entered.{skip}
+use Rattle.grammar.proofs.Entered.{skip}
 use Rattle.hack_asm.proofs.Letters.{R, with_letter, without_letter, operates, operator_enters, no_operator, to_register, operated_after, none_after, several_assigned, bare_assigned}
-use Rattle.hack_asm.proofs.WrittenText.{the_cut, token_cut, line_end_token, Apart, letter_byte, letter_token, letter_cut, sign_token, operator_byte, operator_cut, operator_apart}
+use Rattle.hack_asm.proofs.WrittenText.{the_cut, token_cut, Apart, letter_byte, letter_token, letter_cut, sign_token, operator_byte, operator_cut, operator_apart}
 
 -- a computation may begin with the next token, and no other line
 pub record Begins (ts : List Word) : Type 0 where

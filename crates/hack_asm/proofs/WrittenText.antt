@@ -7,21 +7,17 @@ use Rattle.scan_text.specs.Text.{step, walk, front, is_digit, digits, decimal, c
 use Rattle.grammar.specs.declared.Fault.{Fault}
 use Rattle.grammar.specs.declared.Fault.TheVariants.{Range}
 use Rattle.grammar.specs.Cutting.{Piece, Wrong, cut, cut_by, followed}
+use Rattle.grammar.proofs.LinePieces.{cut_past}
 use Rattle.hack_asm.specs.declared.token.Kind.{Kind}
-use Rattle.hack_asm.specs.declared.token.Kind.TheVariants.{Sign, Number, Symbol, LineEnd}
+use Rattle.hack_asm.specs.declared.token.Kind.TheVariants.{Sign, Number, Symbol}
 use Rattle.hack_asm.specs.declared.token.Letter.{Letter}
 use Rattle.hack_asm.specs.declared.token.Letter.TheVariants.{Zero, One, A, D, M}
 use Rattle.hack_asm.specs.declared.token.Operator.{Operator}
 use Rattle.hack_asm.specs.declared.token.Operator.TheVariants.{Plus, Minus, And, Or}
-use Rattle.hack_asm.specs.Tokens.{Word, made, word_of, piece, number_piece, close, is_symbol_byte}
+use Rattle.hack_asm.specs.Tokens.{Word, made, word_of, line_end_token, piece, number_piece, close, is_symbol_byte}
 
 abbrev pub the_cut : Option Word → Place → List ℕ → Result (List Word) Fault
 the_cut last at bs = cut piece close last 0 at bs
-
--- bytes that belong to a token that has begun
-past : (xs rest : List ℕ) (last : Option Word) (at : Place) → cut piece close last (length xs) at (xs ++ rest) ≡ the_cut last (walk at xs) rest
-past [] rest last at = refl
-past (x ∷ xs) rest last at = past xs rest last (step at x)
 
 take_own : (xs rest : List ℕ) → take (length xs) (xs ++ rest) ≡ xs
 take_own [] [] = refl
@@ -34,12 +30,9 @@ token_cut b xs rest kind last at ts e h =
     let text : take (suc (length xs)) (b ∷ (xs ++ rest)) ≡ b ∷ xs = ap (λ (l : List ℕ). b ∷ l) (take_own xs rest) in
     ap (λ (p : Piece Word). cut_by p last at (λ l n. cut piece close l n (step at b) (xs ++ rest))) e
     ∙ ap (λ (t : List ℕ). followed (made kind t at) (cut piece close (Some (made kind t at)) (length xs) (step at b) (xs ++ rest))) text
-    ∙ ap (followed (made kind (b ∷ xs) at)) (past xs rest (Some (made kind (b ∷ xs) at)) (step at b) ∙ h (Some (made kind (b ∷ xs) at)))
+    ∙ ap (followed (made kind (b ∷ xs) at)) (cut_past piece close xs rest (Some (made kind (b ∷ xs) at)) (step at b) ∙ h (Some (made kind (b ∷ xs) at)))
 
 -- Line ends
-
-abbrev pub line_end_token : Place → Word
-line_end_token at = made LineEnd [] at
 
 pub line_end_cut : (last : Option Word) (at : Place) (bs : List ℕ) (ts : List Word) → the_cut (Some (line_end_token at)) (step at 10) bs ≡ Ok ts → the_cut last at (10 ∷ bs) ≡ Ok (line_end_token at ∷ ts)
 line_end_cut last at bs ts e = ap (followed (line_end_token at)) e

@@ -1,6 +1,6 @@
 -- The grammar of `.hack` texts: a word or nothing on a line, a word as its sixteen binary digits, the highest first. (The book,
 -- chapter 6: the file that an assembler writes.)
-use Rattle.std.specs.Prelude.{◌≡◌, ℕ, ◌+◌, ◌<◌, ◌≤◌, Bool, true, false, List, [], ◌∷◌, Option, Some, None, Result, Ok, Err, ◌||◌, if◌then◌else◌, length, nat_lt, ◌⊎◌}
+use Rattle.std.specs.Prelude.{◌≡◌, ℕ, ◌+◌, ◌<◌, ◌≤◌, Bool, List, [], ◌∷◌, Option, Some, None, Result, Ok, Err, ◌||◌, if◌then◌else◌, length, nat_lt, ◌⊎◌}
 use Rattle.hack_isa.specs.Machine.{image_words}
 use Rattle.scan_text.specs.declared.Place.{Place}
 use Rattle.grammar.specs.declared.Fault.{Fault}
@@ -12,18 +12,11 @@ use Rattle.hack_asm.specs.declared.hack_tokens.Kind.{Kind}
 use Rattle.hack_asm.specs.declared.hack_tokens.Kind.TheVariants.{Digit, LineEnd}
 use Rattle.hack_asm.specs.declared.hack_tokens.Token.{Token}
 use Rattle.hack_asm.specs.Faults.{Wrong, TooLarge, wrong, wrong_of}
-use Rattle.hack_asm.specs.HackTokens.{is_digit, tokens_of, finish}
+use Rattle.hack_asm.specs.HackTokens.{is_digit, ends_line, tokens_of, finish}
 use Rattle.hack_asm.specs.Image.{image_text}
-
-abbrev pub is_line_end : Kind → Bool
-is_line_end (Digit b) = false
-is_line_end LineEnd = true
 
 abbrev pub has_digit : Token → Bool
 has_digit t = is_digit t.kind
-
-abbrev pub ends_line : Token → Bool
-ends_line t = is_line_end t.kind
 
 -- what a token says is its kind
 abbrev pub said : Token → Kind

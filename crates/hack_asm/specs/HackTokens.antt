@@ -1,11 +1,11 @@
 -- The tokens of a `.hack` text: the single digits 0 and 1, and line ends.
-use Rattle.std.specs.Prelude.{ℕ, ◌-◌, Bool, true, false, List, [], ◌∷◌, Option, Some, None, Result, Err, ◌==◌, if◌then◌else◌, length, nat_lt}
+use Rattle.std.specs.Prelude.{ℕ, Bool, true, false, List, Option, Some, None, Result, ◌==◌, if◌then◌else◌}
 use Rattle.scan_text.specs.declared.Place.{Place}
 use Rattle.scan_text.specs.Text.{start, walk, first}
-use Rattle.scan_text.specs.Blanks.{line_end}
 use Rattle.grammar.specs.declared.Fault.{Fault}
-use Rattle.grammar.specs.declared.Fault.TheVariants.{Grammar, Range}
-use Rattle.grammar.specs.Cutting.{Piece, Passed, Token, Wrong, cut}
+use Rattle.grammar.specs.Cutting.{Piece, Passed, Token, cut_text}
+use Rattle.grammar.specs.Lines.{line_end_piece}
+use Rattle.grammar.specs.Lines as lines
 use Rattle.hack_asm.specs.declared.hack_tokens.Kind.{Kind}
 use Rattle.hack_asm.specs.declared.hack_tokens.Kind.TheVariants.{Digit, LineEnd}
 use Rattle.hack_asm.specs.declared.hack_tokens.Token as declared
@@ -14,9 +14,16 @@ use Rattle.hack_asm.specs.declared.hack_tokens.Token as declared
 abbrev pub made : Kind → Place → declared.Token
 made kind at = record { kind = kind; place = at }
 
--- A line feed, or a return and a line feed, which are one line end. A return alone is no token.
-abbrev pub line_end_piece : List ℕ → Piece declared.Token
-line_end_piece bs = if nat_lt 0 (line_end bs) then Token (made LineEnd) (line_end bs - 1) else Wrong Grammar
+-- the tokens of the code are those of the definition
+abbrev pub Word : Type 0
+Word = declared.Token
+
+abbrev pub view : declared.Token → Word
+view t = t
+
+-- the line end at a place
+abbrev pub line_end_token : Place → declared.Token
+line_end_token = made LineEnd
 
 -- what begins at the first byte: each digit is a token of its own, and there are no blanks
 abbrev pub piece_at : Option ℕ → List ℕ → Piece declared.Token
@@ -24,7 +31,7 @@ piece_at None bs = Passed 0
 piece_at (Some b) bs =
     if b == 48 then Token (made (Digit false)) 0
     else (if b == 49 then Token (made (Digit true)) 0
-    else line_end_piece bs)
+    else line_end_piece line_end_token bs)
 
 abbrev pub piece : List ℕ → Piece declared.Token
 piece bs = piece_at (first bs) bs
@@ -33,18 +40,20 @@ abbrev pub is_digit : Kind → Bool
 is_digit (Digit b) = true
 is_digit LineEnd = false
 
--- the last line has begun and has no line end
-abbrev pub is_open : Option declared.Token → Bool
-is_open None = false
-is_open (Some t) = is_digit t.kind
+abbrev pub is_line_end : Kind → Bool
+is_line_end (Digit b) = false
+is_line_end LineEnd = true
+
+abbrev pub ends_line : declared.Token → Bool
+ends_line t = is_line_end t.kind
 
 -- the end of the text ends its last line too
 abbrev pub close : Option declared.Token → Place → List declared.Token
-close last at = if is_open last then made LineEnd at ∷ [] else []
+close = lines.close line_end_token ends_line
 
 -- the tokens of a text of at most 1,048,576 bytes
 abbrev pub tokens_of : List ℕ → Result (List declared.Token) Fault
-tokens_of text = if nat_lt 1048576 (length text) then Err (Range (record { line = 0; column = 0 }) 1048577) else cut piece close None 0 start text
+tokens_of = cut_text piece close
 
 -- the place where a text ends
 abbrev pub finish : List ℕ → Place

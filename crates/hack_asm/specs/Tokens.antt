@@ -1,13 +1,14 @@
 -- The tokens of an assembly text: signs, decimal numbers, symbols and line ends, with blanks, tabs and comments between them. (The
 -- book, chapter 6.)
-use Rattle.std.specs.Prelude.{ℕ, suc, ◌-◌, Bool, true, false, List, [], ◌∷◌, Option, Some, None, Result, Err, ◌==◌, ◌||◌, if◌then◌else◌, length, take, drop, nat_lt, min}
+use Rattle.std.specs.Prelude.{ℕ, suc, ◌-◌, Bool, true, false, List, [], Option, Some, None, Result, ◌==◌, ◌||◌, if◌then◌else◌, length, take, nat_lt, min}
 use Rattle.std.specs.Char.{is_ascii_alphabetic}
 use Rattle.scan_text.specs.declared.Place.{Place}
 use Rattle.scan_text.specs.Text.{start, walk, first, front, is_digit, digits, decimal, capped}
-use Rattle.scan_text.specs.Blanks.{starts, line, line_end}
 use Rattle.grammar.specs.declared.Fault.{Fault}
-use Rattle.grammar.specs.declared.Fault.TheVariants.{Grammar, Range}
-use Rattle.grammar.specs.Cutting.{Piece, Passed, Token, Wrong, cut}
+use Rattle.grammar.specs.declared.Fault.TheVariants.{Range}
+use Rattle.grammar.specs.Cutting.{Piece, Passed, Token, Wrong, cut_text}
+use Rattle.grammar.specs.Lines.{comment_piece, line_end_piece}
+use Rattle.grammar.specs.Lines as lines
 use Rattle.hack_asm.specs.declared.token.Kind.{Kind}
 use Rattle.hack_asm.specs.declared.token.Kind.TheVariants.{Sign, Number, Symbol, LineEnd}
 use Rattle.hack_asm.specs.declared.token.Role.{Role}
@@ -52,13 +53,9 @@ number_piece bs =
 abbrev pub symbol_piece : List ℕ → Piece Word
 symbol_piece bs = word_of Symbol (length (front is_symbol_byte bs) - 1) bs
 
--- two slashes and the rest of the line
-abbrev pub comment_piece : List ℕ → Piece Word
-comment_piece bs = if starts 47 (drop 1 bs) then Passed (length (line bs) - 1) else Wrong Grammar
-
--- A line feed, or a return and a line feed, which are one line end. A return alone is no token.
-abbrev pub line_end_piece : List ℕ → Piece Word
-line_end_piece bs = if nat_lt 0 (line_end bs) then Token (made LineEnd []) (line_end bs - 1) else Wrong Grammar
+-- the line end at a place
+abbrev pub line_end_token : Place → Word
+line_end_token = made LineEnd []
 
 -- what begins at the first byte
 abbrev pub piece_at : Option ℕ → List ℕ → Piece Word
@@ -69,7 +66,7 @@ piece_at (Some b) bs =
     else (if is_letter b then symbol_piece bs
     else (if is_sign b then word_of (Sign b) 0 bs
     else (if b == 47 then comment_piece bs
-    else line_end_piece bs))))
+    else line_end_piece line_end_token bs))))
 
 abbrev pub piece : List ℕ → Piece Word
 piece bs = piece_at (first bs) bs
@@ -78,18 +75,16 @@ abbrev pub ends_line : Kind → Bool
 ends_line LineEnd = true
 ends_line _ = false
 
--- the last line has begun and has no line end
-abbrev pub is_open : Option Word → Bool
-is_open None = false
-is_open (Some t) = if ends_line t.kind then false else true
+abbrev pub ends : Word → Bool
+ends t = ends_line t.kind
 
 -- the end of the text ends its last line too
 abbrev pub close : Option Word → Place → List Word
-close last at = if is_open last then made LineEnd [] at ∷ [] else []
+close = lines.close line_end_token ends
 
 -- the tokens of a text of at most 1,048,576 bytes
 abbrev pub tokens_of : List ℕ → Result (List Word) Fault
-tokens_of text = if nat_lt 1048576 (length text) then Err (Range (record { line = 0; column = 0 }) 1048577) else cut piece close None 0 start text
+tokens_of = cut_text piece close
 
 -- the place where a text ends
 abbrev pub finish : List ℕ → Place

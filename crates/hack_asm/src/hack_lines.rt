@@ -3,7 +3,8 @@
 ghost use Rattle.std.specs.Prelude.{◌≡◌, ◌<◌, length, IfOk};
 ghost use Rattle.grammar.specs.Reading.{Parses, Passes, Gives, word_at, mark_at, end_at, Ends, ParsesAll};
 ghost use Rattle.grammar.specs.Rules.{Pair, next};
-ghost use Rattle.hack_asm.specs.HackText.{has_digit, ends_line, begins_line, free, said, hack, digit, line_end, four, sixteen, line, lines, whole, digit_tree, four_tree, word_tree, line_tree, lines_tree, text_tree, IsLine, AreLines};
+ghost use Rattle.hack_asm.specs.HackTokens.{ends_line};
+ghost use Rattle.hack_asm.specs.HackText.{has_digit, begins_line, free, said, hack, digit, line_end, four, sixteen, line, lines, whole, digit_tree, four_tree, word_tree, line_tree, lines_tree, text_tree, IsLine, AreLines};
 
 use crate::hack_tokens::{Kind, Token};
 use grammar::{Fault, ReadError};

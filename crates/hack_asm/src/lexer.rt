@@ -1,17 +1,17 @@
 //! The tokens of an assembly text.
 
-ghost use Rattle.std.specs.Prelude.{◌≡◌, ◌<◌, ◌-◌, ◌^◌, ◌++◌, true, length, map, Some, None, Result, Ok, OnOk, IfOk};
-ghost use Rattle.scan_text.specs.Text.{first, start, is_digit};
+ghost use Rattle.std.specs.Prelude.{◌≡◌, true, map, Some, Result, IfOk};
+ghost use Rattle.scan_text.specs.Text.{first, is_digit};
 ghost use Rattle.scan_text.specs.View.{left};
-ghost use Rattle.grammar.specs.Cutting.{NextBy, cut, last_of};
+ghost use Rattle.grammar.specs.Cutting.{NextBy};
 ghost use Rattle.grammar.specs.Reading.{Gives};
 ghost use Rattle.hack_asm.specs.Roles.{role_of};
-ghost use Rattle.hack_asm.specs.Tokens.{view, tokens_of, finish, piece, close, is_open, is_letter, is_symbol_byte, is_sign, word_of, number_piece, symbol_piece, comment_piece, line_end_piece};
+ghost use Rattle.hack_asm.specs.Tokens.{view, tokens_of, finish, is_letter, is_symbol_byte, is_sign, word_of, number_piece, symbol_piece};
 
 use crate::token::{Kind, Letter, Operator, Role, Token};
-use grammar::{Fault, ReadError};
+use grammar::{Fault, LineCutter, LineToken, ReadError, comment, cut_lines, line_end};
 use scan_text::{Place, Scan};
-use std::alloc::{AllocError, Global};
+use std::alloc::Global;
 
 fn role_of(text: &[u8]) -> Role
     ensures { result ≡ role_of text.now }
@@ -126,85 +126,52 @@ fn sign<'a>(scan: &mut Scan<'a>, byte: u8) -> Result<Option<Token<'a>>, Fault>
     }))
 }
 
-fn comment<'a>(scan: &mut Scan<'a>) -> Result<Option<Token<'a>>, Fault>
-    requires { first (left scan.old) ≡ Some 47 }
-    ensures { NextBy view (comment_piece (left scan.old)) scan.old result scan.new }
-{
-    let mut ahead = *scan;
-    ahead.skip(1);
-    match ahead.peek() {
-        Some(b'/') => {
-            scan.line();
-            Ok(None)
+impl<'a> LineToken for Token<'a> {
+    ghost use Rattle.hack_asm.specs.Tokens.{Word, view, piece, line_end_token, ends};
+
+    ghost Word = { Word };
+
+    ghost view = { view };
+
+    ghost piece = { piece };
+
+    ghost line_end_token = { line_end_token };
+
+    ghost ends = { ends };
+
+    fn line_end(place: Place) -> Token<'a> {
+        Token {
+            kind: Kind::LineEnd,
+            role: Role::Plain,
+            text: &[],
+            place,
         }
-        _ => Err(Fault::Grammar(scan.place())),
+    }
+
+    fn ends_line(&self) -> bool {
+        matches!(self.kind, Kind::LineEnd)
     }
 }
 
-fn line_end<'a>(scan: &mut Scan<'a>) -> Result<Option<Token<'a>>, Fault>
-    ensures { NextBy view (line_end_piece (left scan.old)) scan.old result scan.new }
-{
-    let place = scan.place();
-    if scan.line_end() {
-        Ok(Some(Token {
-            kind: Kind::LineEnd,
-            role: Role::Plain,
-            text: &[],
-            place,
-        }))
-    } else {
-        Err(Fault::Grammar(place))
-    }
-}
-
-// What begins at the next byte.
-fn next<'a>(scan: &mut Scan<'a>, byte: u8) -> Result<Option<Token<'a>>, Fault>
-    requires { first (left scan.old) ≡ Some byte }
-    ensures { NextBy view (piece (left scan.old)) scan.old result scan.new }
-{
-    if byte == b' ' || byte == b'\t' {
-        scan.skip(1);
-        return Ok(None);
-    }
-    if byte.is_ascii_digit() {
-        return number(scan, byte);
-    }
-    if is_letter(byte) {
-        return symbol(scan, byte);
-    }
-    if is_sign(byte) {
-        return sign(scan, byte);
-    }
-    if byte == b'/' {
-        return comment(scan);
-    }
-    line_end(scan)
-}
-
-// What stands at the end of the text.
-fn close(tokens: &mut Vec<Token>, place: Place) -> Result<(), AllocError>
-    ensures { OnOk result (map view tokens.new.items ≡ map view tokens.old.items ++ close (last_of (map view tokens.old.items)) place) }
-{
-    if is_open(tokens) {
-        tokens.push(Token {
-            kind: Kind::LineEnd,
-            role: Role::Plain,
-            text: &[],
-            place,
-        })?;
-        Ok(())
-    } else {
-        Ok(())
-    }
-}
-
-// The last line has begun and has no line end.
-fn is_open(tokens: &[Token]) -> bool
-    ensures { result ≡ is_open (last_of (map view tokens.now)) }
-{
-    match tokens.last() {
-        Some(token) => !matches!(token.kind, Kind::LineEnd),
-        None => false,
+impl<'a> LineCutter<'a> for Token<'a> {
+    fn next(scan: &mut Scan<'a>, byte: u8) -> Result<Option<Token<'a>>, Fault> {
+        if byte == b' ' || byte == b'\t' {
+            scan.skip(1);
+            return Ok(None);
+        }
+        if byte.is_ascii_digit() {
+            return number(scan, byte);
+        }
+        if is_letter(byte) {
+            return symbol(scan, byte);
+        }
+        if is_sign(byte) {
+            return sign(scan, byte);
+        }
+        if byte == b'/' {
+            return comment(scan);
+        }
+        line_end(scan)
     }
 }
 
@@ -213,25 +180,5 @@ pub fn tokens<'a>(alloc: Global, text: &'a [u8]) -> Result<(Vec<Token<'a>>, Plac
     ensures tokens { Gives (λ x. map view x.0.items) result (tokens_of text.now) }
     ensures end { IfOk result (λ x. x.1 ≡ finish text.now) }
 {
-    if text.len() > 1_048_576 {
-        return Err(ReadError::Fault(Fault::Range(Place { line: 0, column: 0 }, 1_048_577)));
-    }
-    cut(alloc, text)
-}
-
-fn cut<'a>(alloc: Global, text: &'a [u8]) -> Result<(Vec<Token<'a>>, Place), ReadError>
-    requires { length text.now < 2 ^ 32 - 1 }
-    ensures tokens { Gives (λ x. map view x.0.items) result (cut piece close None 0 start text.now) }
-    ensures end { IfOk result (λ x. x.1 ≡ finish text.now) }
-{
-    let mut tokens = Vec::new(alloc);
-    let mut scan = Scan::new(text);
-    while let Some(byte) = scan.peek() {
-        if let Some(token) = next(&mut scan, byte)? {
-            tokens.push(token)?;
-        }
-    }
-    let end = scan.place();
-    close(&mut tokens, end)?;
-    Ok((tokens, end))
+    cut_lines(alloc, text)
 }

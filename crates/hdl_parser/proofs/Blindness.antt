@@ -6,7 +6,7 @@ use Rattle.scan_text.specs.declared.Place.{Place}
 use Rattle.scan_text.specs.Text.{start}
 use Rattle.grammar.specs.declared.Fault.{Fault}
 use Rattle.grammar.specs.declared.Fault.TheVariants.{Grammar}
-use Rattle.grammar.specs.Rules.{Tree, enters, here, Reads, marked, worded, at_end, both, left, right, passed, taken, ended, again, named, inside}
+use Rattle.grammar.specs.Rules.{Tree, Reads}
 use Rattle.hdl_tree.specs.declared.tree.Chip.{Chip}
 use Rattle.hdl_tree.specs.Writable.{chip_can}
 use Rattle.hdl_parser.specs.declared.token.Keyword.{Keyword}
@@ -17,7 +17,9 @@ use Rattle.hdl_parser.specs.Tokens.{Word, tokens_of, finish}
 use Rattle.hdl_parser.specs.Hdl.{hdl, Said, HdlRule, Fixed, Text, sign_is, keyword_is, dotted, names, counts, stands_for, value_of, too_large, symbol_of, keyword_of, dots, name, width, index, last_index, constant, row, width_rule, pin, last, range, indices, subscript, selection, source, connection, part, parts, listing, builtin, body, pins, chip, whole, check_width, check_index, check_last}
 use Rattle.hdl_parser.specs.Whole.{whole_tree, Spells}
 use Rattle.hdl_parser.specs.Printed.{chip_text, shown, set_off}
-use Rattle.hdl_parser.proofs.Alike as alike
+use Rattle.grammar.proofs.Alike as alike
+use Rattle.grammar.proofs.Alike.{seen_whole}
+use Rattle.grammar.proofs.Endings.{ends_anywhere}
 use Rattle.hdl_parser.proofs.Spaced.{told, told_by, AllGood, printed_good}
 use Rattle.hdl_parser.proofs.Derived.{chip_words, chip_read, chip_fine}
 use Rattle.hdl_parser.proofs.TokensTold.{tokens_read}
@@ -26,7 +28,7 @@ abbrev W : Type 0
 W = Kind × List ℕ
 
 abbrev Blind : Place → HdlRule → Type 0
-Blind at r = alike.Blind Word ℕ (Unit {0}) Said W (hdl at) told r
+Blind at r = alike.Blind Word ℕ (Unit {0}) Said W Said (hdl at) told (λ v. v) r
 
 by_kind : {X : Type 0} (f : Kind → X) (t u : Word) → told t ≡ told u → f t.kind ≡ f u.kind
 by_kind f t u e = ap (λ (x : W). f x.0) e
@@ -147,26 +149,6 @@ module _ (at : Place) where
   whole_blind : Blind at whole
   whole_blind = (chip_blind, tt)
 
--- the place where the text ends is looked at by no rule that is read
-module _ (p q : Place) where
-  here_same : (a : HdlRule) (ts : List Word) → enters (hdl p) a ts ≡ true → here (hdl p) ts ≡ here (hdl q) ts
-  here_same a [] e = absurd cc
-  here_same a (t ∷ ts) e = refl
-
-  ends_anywhere : {s s' : ℕ} {r : HdlRule} {ts us : List Word} {x : Tree Said} → Reads Word ℕ (Unit {0}) Said (hdl p) s r ts x s' us → Reads Word ℕ (Unit {0}) Said (hdl q) s r ts x s' us
-  ends_anywhere (marked e) = marked e
-  ends_anywhere (worded e c) = worded e c
-  ends_anywhere at_end = at_end
-  ends_anywhere (both h k) = both (ends_anywhere h) (ends_anywhere k)
-  ends_anywhere (left e h) = left e (ends_anywhere h)
-  ends_anywhere (right e f h) = right e f (ends_anywhere h)
-  ends_anywhere (passed e) = passed e
-  ends_anywhere (taken e h) = taken e (ends_anywhere h)
-  ends_anywhere (ended e) = ended e
-  ends_anywhere (again e h k) = again e (ends_anywhere h) (ends_anywhere k)
-  ends_anywhere (named h) = named (ends_anywhere h)
-  ends_anywhere (inside {s = s} {s1 = s1} {enter = enter} {a = a} {ts = ts} e c h) = inside e (ap (enter s) (sym (here_same a ts e)) ∙ c) (ends_anywhere h)
-
 none_left : (us : List Word) → map told [] ≡ map told us → us ≡ []
 none_left [] e = refl
 none_left (u ∷ us) e = absurd cc
@@ -177,10 +159,11 @@ read_again at c ts s' h good small =
     let same : flat_map set_off (map shown ts) ≡ chip_text c = ap (flat_map set_off) (tokens_read at c ts s' h) in
     let printed = printed_good ts good (subst (λ (l : List ℕ). length l ≤ 1048576) (sym same) small) in
     let us = printed.0 in
-    let m = alike.read_alike Word ℕ (Unit {0}) Said W (hdl at) told (λ n t u e. by_kind (sign_is 59) t u e) (λ n. symbol_blind at 59) (whole_blind at) h us (sym printed.2) in
+    let m = alike.read_alike Word ℕ (Unit {0}) Said W Said (hdl at) told (λ v. v) (λ n t u e. by_kind (sign_is 59) t u e) (λ n. symbol_blind at 59) (whole_blind at) h us (sym printed.2) in
     let all = subst (λ (l : List Word). Reads Word ℕ (Unit {0}) Said (hdl at) 0 whole us m.tree s' l) (none_left m.rest m.same_rest) m.reads in
-    let chip = subst (λ (x : Tree Said). Reads Word ℕ (Unit {0}) Said (hdl at) 0 whole us x s' []) (sym m.same_tree) all in
-    (us, s', ap tokens_of (sym same) ∙ printed.1, ends_anywhere at (finish (chip_text c)) chip)
+    let whole_again : whole_tree c ≡ m.tree = sym (seen_whole (whole_tree c)) ∙ m.same_tree ∙ seen_whole m.tree in
+    let chip = subst (λ (x : Tree Said). Reads Word ℕ (Unit {0}) Said (hdl at) 0 whole us x s' []) (sym whole_again) all in
+    (us, s', ap tokens_of (sym same) ∙ printed.1, ends_anywhere (hdl at) (finish (chip_text c)) chip)
 
 pub printed_spells : (c : Chip) → chip_can c ≡ true → length (chip_text c) ≤ 1048576 → Spells (chip_text c) c
 printed_spells c h small = read_again start c (chip_words c) 0 (chip_read c h) (chip_fine c h) small

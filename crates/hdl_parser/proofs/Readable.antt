@@ -23,7 +23,8 @@ use Rattle.hdl_parser.specs.Whole.{whole_tree, SpellsTree, Spells}
 use Rattle.hdl_parser.specs.Printed.{chip_text}
 use Rattle.hdl_parser.proofs.Apart.{apart}
 use Rattle.hdl_parser.proofs.Blindness.{printed_spells}
-use Rattle.hdl_parser.proofs.Spaced.{All, Named, Good, AllGood, good_tokens, is_one, reserved_is}
+use Rattle.grammar.proofs.Spaced.{All}
+use Rattle.hdl_parser.proofs.Spaced.{Named, Good, AllGood, good_tokens, is_one, reserved_is}
 
 both_hold : (a b : Bool) → a ≡ true → b ≡ true → (a && b) ≡ true
 both_hold a b e f = rw (e, f) refl

@@ -1,10 +1,9 @@
 -- The tokens of a chip are those of the text that spells it.
-use Rattle.std.proofs.Common.{◌≡◌, ℕ, true, List, [], ◌∷◌, ◌++◌, map, Ok, refl, ap, ◌∙◌, eqb-true}
+use Rattle.std.proofs.Common.{◌≡◌, ℕ, true, List, [], ◌∷◌, map, Ok, refl, ap, ◌∙◌, eqb-true}
 use Rattle.std.proofs.lemmas.List.{append-nil}
 use denote.Enum.Bare.{same_true}
 use Rattle.scan_text.specs.declared.Place.{Place}
-use Rattle.scan_text.specs.Text.{start}
-use Rattle.grammar.specs.Rules.{mark, word, seq, choice, option, repeat, name as named_rule, within, end, Tree, Skip, Node, Leaf, Pair, Left, Right, Absent, Present, NoMore, More, Reads}
+use Rattle.grammar.specs.Rules.{Reads}
 use Rattle.grammar.specs.Leaves.{leaves}
 use Rattle.grammar.proofs.LeavesRead as read
 use Rattle.hdl_tree.specs.declared.tree.Chip.{Chip}
@@ -17,75 +16,6 @@ use Rattle.hdl_parser.specs.Tokens.{Word, keyword_text, tokens_of, finish}
 use Rattle.hdl_parser.specs.Hdl.{hdl, Said, HdlRule, sign_is, keyword_is, dotted, names, counts, stands_for, symbol_of, keyword_of, dots, name, width, index, last_index, constant, row, width_rule, pin, last, range, subscript, selection, source, connection, part, parts, listing, builtin, body, pins, chip, whole}
 use Rattle.hdl_parser.specs.Whole.{whole_tree, Spells}
 use Rattle.hdl_parser.specs.Printed.{kind_text, shown, said_text, chip_tokens}
-
--- the tokens of a tree have nothing to do with the place where the text ends
-leaves_same : (p q : Place) (x : Tree Said) (r : HdlRule) → leaves (hdl p) x r ≡ leaves (hdl q) x r
-leaves_same p q Skip (mark v is) = refl
-leaves_same p q Skip (word is check value) = refl
-leaves_same p q Skip end = refl
-leaves_same p q Skip (seq a b) = refl
-leaves_same p q Skip (choice a b) = refl
-leaves_same p q Skip (option a) = refl
-leaves_same p q Skip (repeat a) = refl
-leaves_same p q Skip (named_rule n) = refl
-leaves_same p q Skip (within enter leave a) = refl
-leaves_same p q (Leaf v) r = refl
-leaves_same p q (Pair x y) (mark v is) = refl
-leaves_same p q (Pair x y) (word is check value) = refl
-leaves_same p q (Pair x y) end = refl
-leaves_same p q (Pair x y) (seq a b) = λ i. leaves_same p q x a i ++ leaves_same p q y b i
-leaves_same p q (Pair x y) (choice a b) = refl
-leaves_same p q (Pair x y) (option a) = refl
-leaves_same p q (Pair x y) (repeat a) = refl
-leaves_same p q (Pair x y) (named_rule n) = refl
-leaves_same p q (Pair x y) (within enter leave a) = refl
-leaves_same p q (Left x) (mark v is) = refl
-leaves_same p q (Left x) (word is check value) = refl
-leaves_same p q (Left x) end = refl
-leaves_same p q (Left x) (seq a b) = refl
-leaves_same p q (Left x) (choice a b) = leaves_same p q x a
-leaves_same p q (Left x) (option a) = refl
-leaves_same p q (Left x) (repeat a) = refl
-leaves_same p q (Left x) (named_rule n) = refl
-leaves_same p q (Left x) (within enter leave a) = refl
-leaves_same p q (Right x) (mark v is) = refl
-leaves_same p q (Right x) (word is check value) = refl
-leaves_same p q (Right x) end = refl
-leaves_same p q (Right x) (seq a b) = refl
-leaves_same p q (Right x) (choice a b) = leaves_same p q x b
-leaves_same p q (Right x) (option a) = refl
-leaves_same p q (Right x) (repeat a) = refl
-leaves_same p q (Right x) (named_rule n) = refl
-leaves_same p q (Right x) (within enter leave a) = refl
-leaves_same p q Absent r = refl
-leaves_same p q (Present x) (mark v is) = refl
-leaves_same p q (Present x) (word is check value) = refl
-leaves_same p q (Present x) end = refl
-leaves_same p q (Present x) (seq a b) = refl
-leaves_same p q (Present x) (choice a b) = refl
-leaves_same p q (Present x) (option a) = leaves_same p q x a
-leaves_same p q (Present x) (repeat a) = refl
-leaves_same p q (Present x) (named_rule n) = refl
-leaves_same p q (Present x) (within enter leave a) = refl
-leaves_same p q NoMore r = refl
-leaves_same p q (More x y) (mark v is) = refl
-leaves_same p q (More x y) (word is check value) = refl
-leaves_same p q (More x y) end = refl
-leaves_same p q (More x y) (seq a b) = refl
-leaves_same p q (More x y) (choice a b) = refl
-leaves_same p q (More x y) (option a) = refl
-leaves_same p q (More x y) (repeat a) = λ i. leaves_same p q x a i ++ leaves_same p q y (repeat a) i
-leaves_same p q (More x y) (named_rule n) = refl
-leaves_same p q (More x y) (within enter leave a) = refl
-leaves_same p q (Node x) (mark v is) = refl
-leaves_same p q (Node x) (word is check value) = refl
-leaves_same p q (Node x) end = refl
-leaves_same p q (Node x) (seq a b) = refl
-leaves_same p q (Node x) (choice a b) = refl
-leaves_same p q (Node x) (option a) = refl
-leaves_same p q (Node x) (repeat a) = refl
-leaves_same p q (Node x) (named_rule n) = leaves_same p q x (symbol_of 59)
-leaves_same p q (Node x) (within enter leave a) = leaves_same p q x a
 
 -- what a token says is what it is written as
 symbol_told : (b : ℕ) (k : Kind) (x : List ℕ) → sign_is b k ≡ true → kind_text k x ≡ kind_text (kind.Symbol b) []
@@ -217,7 +147,7 @@ same_tokens text ts us a b = cc
 pub tokens_read : (at : Place) (c : Chip) (ts : List Word) (s' : ℕ) → Reads Word ℕ (Unit {0}) Said (hdl at) 0 whole ts (whole_tree c) s' [] → map shown ts ≡ chip_tokens c
 tokens_read at c ts s' h =
     read.tokens_are Word ℕ (Unit {0}) Said (List ℕ) (hdl at) shown said_text (λ n. symbol_tells at 59) (whole_tells at) h
-    ∙ append-nil (map said_text (leaves (hdl at) (whole_tree c) whole)) ∙ ap (map said_text) (leaves_same at start (whole_tree c) whole)
+    ∙ append-nil (map said_text (leaves (hdl at) (whole_tree c) whole))
 
 pub tokens_told : (text : List ℕ) (c : Chip) (ts : List Word) → tokens_of text ≡ Ok ts → Spells text c → map shown ts ≡ chip_tokens c
 tokens_told text c ts cut s = ap (map shown) (same_tokens text ts s.0 cut s.2) ∙ tokens_read (finish text) c s.0 s.1 s.3

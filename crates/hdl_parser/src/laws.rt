@@ -1,7 +1,14 @@
 //! Laws of the grammar and of the printed form.
 
+ghost use Rattle.grammar.specs.Cutting.{LongestMatch};
+ghost use Rattle.hdl_parser.specs.Tokens.{piece};
 ghost use Rattle.hdl_parser.specs.Whole.{ReadingLaw, TreesLaw};
 ghost use Rattle.hdl_parser.specs.Printed.{PrintedLaw, TokensLaw};
+
+/// Each token is the longest that begins where it begins.
+pub fn longest_law()
+    ensures { LongestMatch piece }
+{}
 
 /// Two chips with the same tree are the same chip, and each tree that a text spells is that of a chip.
 pub fn trees_law()

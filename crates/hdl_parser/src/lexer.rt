@@ -1,15 +1,15 @@
 //! The tokens of an HDL text.
 
-ghost use Rattle.std.specs.Prelude.{◌≡◌, ◌<◌, ◌≤◌, ◌-◌, ◌^◌, true, length, map, Some, None, Result, Ok, IfOk};
-ghost use Rattle.scan_text.specs.Text.{first, front, start, is_digit};
+ghost use Rattle.std.specs.Prelude.{◌≡◌, ◌≤◌, true, map, Some, IfOk};
+ghost use Rattle.scan_text.specs.Text.{first, front, is_digit};
 ghost use Rattle.scan_text.specs.View.{left, place};
-ghost use Rattle.grammar.specs.Cutting.{TokenBy, cut, past_blanks};
+ghost use Rattle.grammar.specs.Cutting.{TokenBy};
 ghost use Rattle.grammar.specs.Reading.{Gives};
-ghost use Rattle.hdl_parser.specs.Tokens.{view, tokens_of, finish, piece, close, number_piece, word_piece, dots_piece, symbol_piece, begins_dots, is_sign, word_kind};
+ghost use Rattle.hdl_parser.specs.Tokens.{view, tokens_of, finish, number_piece, word_piece, dots_piece, symbol_piece, begins_dots, is_sign, word_kind};
 ghost use Rattle.hdl_tree.specs.Writable.{is_letter, is_name_byte};
 
 use crate::token::{Keyword, Kind, Token};
-use grammar::{Fault, ReadError};
+use grammar::{Cutter, Fault, ReadError, cut_between_blanks};
 use scan_text::{Place, Scan};
 use std::alloc::Global;
 
@@ -107,23 +107,6 @@ fn dots<'a>(scan: &mut Scan<'a>) -> Result<Token<'a>, Fault>
     }
 }
 
-// The token that begins at the next byte.
-fn token<'a>(scan: &mut Scan<'a>, byte: u8) -> Result<Token<'a>, Fault>
-    requires { first (left scan.old) ≡ Some byte }
-    ensures { TokenBy view (piece (left scan.old)) scan.old result scan.new }
-{
-    if is_letter(byte) {
-        return word(scan, byte);
-    }
-    if is_sign(byte) {
-        return symbol(scan, byte);
-    }
-    if byte.is_ascii_digit() {
-        return number(scan, byte);
-    }
-    dots(scan)
-}
-
 /// The tokens of an HDL text, and the place of its end.
 ///
 /// Grammar where a byte begins no token and where a comment is not closed, Range at 0:0 where the text has more than 1,048,576 bytes.
@@ -131,24 +114,32 @@ pub fn tokens<'a>(alloc: Global, text: &'a [u8]) -> Result<(Vec<Token<'a>>, Plac
     ensures tokens { Gives (λ x. map view x.0.items) result (tokens_of text.now) }
     ensures end { IfOk result (λ x. x.1 ≡ finish text.now) }
 {
-    if text.len() > 1_048_576 {
-        return Err(ReadError::Fault(Fault::Range(Place { line: 0, column: 0 }, 1_048_577)));
-    }
-    cut(alloc, text)
+    cut_between_blanks(alloc, &HdlTokens, text)
 }
 
-fn cut<'a>(alloc: Global, text: &'a [u8]) -> Result<(Vec<Token<'a>>, Place), ReadError>
-    requires { length text.now < 2 ^ 32 - 1 }
-    ensures tokens { Gives (λ x. map view x.0.items) result (cut (past_blanks piece) close None 0 start text.now) }
-    ensures end { IfOk result (λ x. x.1 ≡ finish text.now) }
-{
-    let mut tokens = Vec::new(alloc);
-    let mut scan = Scan::new(text);
-    grammar::skip_blank(&mut scan)?;
-    while let Some(byte) = scan.peek() {
-        let token = token(&mut scan, byte)?;
-        tokens.push(token)?;
-        grammar::skip_blank(&mut scan)?;
+struct HdlTokens;
+
+impl<'a> Cutter<'a> for HdlTokens {
+    ghost use Rattle.hdl_parser.specs.Tokens.{view, piece, Word};
+
+    type Token = Token<'a>;
+
+    ghost Word = { Word };
+
+    ghost view = { view };
+
+    ghost piece = { piece };
+
+    fn token(&self, scan: &mut Scan<'a>, byte: u8) -> Result<Token<'a>, Fault> {
+        if is_letter(byte) {
+            return word(scan, byte);
+        }
+        if is_sign(byte) {
+            return symbol(scan, byte);
+        }
+        if byte.is_ascii_digit() {
+            return number(scan, byte);
+        }
+        dots(scan)
     }
-    Ok((tokens, scan.place()))
 }

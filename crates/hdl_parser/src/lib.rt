@@ -9,6 +9,6 @@ mod rules;
 mod token;
 mod words;
 
-pub use laws::{printed_law, reading_law, tokens_law, trees_law};
+pub use laws::{longest_law, printed_law, reading_law, tokens_law, trees_law};
 pub use printing::print;
 pub use reading::{HdlFault, parse};

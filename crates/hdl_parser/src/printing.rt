@@ -318,7 +318,7 @@ fn put_chip<S: Sink>(one: &Chip, status: Put, out: &mut Pieces<'_, S>) -> Put
     put_symbol(b'}', made, out)
 }
 
-// The same with an empty buffer before, and after.
+// Puts a chip where nothing is pending, and all that is pending then.
 fn put_all<S: Sink>(chip: &Chip, out: &mut Pieces<'_, S>) -> Put
     requires { pending out.old ≡ [] }
     ensures same_sink { HaveSameSink out.old out.new }

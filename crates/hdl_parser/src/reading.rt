@@ -2,7 +2,7 @@
 
 ghost use Rattle.std.specs.Prelude.{◌≡◌, ◌≤◌, length, map, true, Ok, Err, IfOk, IfErr, ℕ, Result};
 ghost use Rattle.grammar.specs.declared.Fault.{Fault};
-ghost use Rattle.grammar.specs.Reading.{ParsesAllBy, Halt, Gives, end_at, Ends};
+ghost use Rattle.grammar.specs.Reading.{ParsesAllBy, Halt, Gives, Ends};
 ghost use Rattle.hdl_parser.specs.Tokens.{view};
 ghost use Rattle.hdl_tree.specs.declared.tree.Chip.{Chip};
 ghost use Rattle.hdl_tree.specs.Writable.{chip_can};
@@ -22,19 +22,14 @@ use std::alloc::Global;
 /// Why an HDL text is not read: memory ran out, or the text has a fault, which is Grammar or Range.
 pub type HdlFault = ReadError;
 
-fn at_end(tokens: &[Token], end: Place) -> Result<(), ReadError>
-    ensures { Gives (λ _. tt) result (end_at (hdl end) (map view tokens.now)) }
+#[tactic(auto, using(grammar::proofs::OneToken::one_token))]
+fn finish(tokens: &[Token], end: Place) -> Result<(), ReadError>
+    ensures { Ends (hdl end) 0 (map view tokens.now) result }
 {
     match tokens.split_first() {
         None => Ok(()),
         Some((token, _)) => Err(grammar_fault(token.place)),
     }
-}
-
-fn finish(tokens: &[Token], end: Place) -> Result<(), ReadError>
-    ensures { Ends (hdl end) 0 (map view tokens.now) result }
-{
-    at_end(tokens, end)
 }
 
 #[tactic(auto, using(crate::proofs::Exits::hdl_exits))]

@@ -1,7 +1,8 @@
 //! Readers of one token.
+#![tactic(auto, using(grammar::proofs::OneToken::one_token))]
 
 ghost use Rattle.std.specs.Prelude.{map, ◌≡◌, ◌<◌, ◌≤◌, ◌-◌, ◌+◌, ◌^◌, length, Some, None, Result, Ok, IfOk, [], ℕ, nat_lt};
-ghost use Rattle.grammar.specs.Reading.{ParsesBy, PassesBy, Gives, word_at, mark_at};
+ghost use Rattle.grammar.specs.Reading.{ParsesBy, PassesBy};
 ghost use Rattle.grammar.specs.Rules.{Leaf, next, here};
 ghost use Rattle.hdl_parser.specs.Tokens.{view};
 ghost use Rattle.hdl_parser.specs.Hdl.{hdl, Said, is_symbol, symbol_of, is_keyword, keyword_of, is_dots, dots, is_name, free, named, name, is_number, fixed, check_width, width, check_index, index, check_last, last_index, is_constant, constant, too_large};
@@ -30,12 +31,12 @@ fn too_large(place: Place, number: u32) -> ReadError
     ReadError::Fault(Fault::Range(place, number.min(1_000_000_000)))
 }
 
-fn symbol_at<'a>(
+pub fn symbol<'a>(
     tokens: &'a [Token<'a>],
     end: Place,
     sign: u8,
 ) -> Result<&'a [Token<'a>], ReadError>
-    ensures reads { Gives (λ x. map view x.now) result (mark_at (hdl end) (is_symbol sign) (map view tokens.now)) }
+    ensures reads { PassesBy view (hdl end) (symbol_of sign) 0 tokens.now result }
     ensures shorter { IfOk result (λ r. length r.now < length tokens.now) }
 {
     let Some((token, rest)) = tokens.split_first() else {
@@ -50,23 +51,12 @@ fn symbol_at<'a>(
     Ok(rest)
 }
 
-pub fn symbol<'a>(
-    tokens: &'a [Token<'a>],
-    end: Place,
-    sign: u8,
-) -> Result<&'a [Token<'a>], ReadError>
-    ensures reads { PassesBy view (hdl end) (symbol_of sign) 0 tokens.now result }
-    ensures shorter { IfOk result (λ r. length r.now < length tokens.now) }
-{
-    symbol_at(tokens, end, sign)
-}
-
-fn keyword_at<'a>(
+pub fn keyword<'a>(
     tokens: &'a [Token<'a>],
     end: Place,
     keyword: Keyword,
 ) -> Result<&'a [Token<'a>], ReadError>
-    ensures reads { Gives (λ x. map view x.now) result (mark_at (hdl end) (is_keyword keyword) (map view tokens.now)) }
+    ensures reads { PassesBy view (hdl end) (keyword_of keyword) 0 tokens.now result }
     ensures shorter { IfOk result (λ r. length r.now < length tokens.now) }
 {
     let Some((token, rest)) = tokens.split_first() else {
@@ -82,19 +72,13 @@ fn keyword_at<'a>(
     }
 }
 
-pub fn keyword<'a>(
+/// `..` behind the index `first`.
+pub fn dots<'a>(
     tokens: &'a [Token<'a>],
     end: Place,
-    keyword: Keyword,
+    first: u8,
 ) -> Result<&'a [Token<'a>], ReadError>
-    ensures reads { PassesBy view (hdl end) (keyword_of keyword) 0 tokens.now result }
-    ensures shorter { IfOk result (λ r. length r.now < length tokens.now) }
-{
-    keyword_at(tokens, end, keyword)
-}
-
-fn dots_at<'a>(tokens: &'a [Token<'a>], end: Place) -> Result<&'a [Token<'a>], ReadError>
-    ensures reads { Gives (λ x. map view x.now) result (mark_at (hdl end) is_dots (map view tokens.now)) }
+    ensures reads { PassesBy view (hdl end) dots first tokens.now result }
     ensures shorter { IfOk result (λ r. length r.now < length tokens.now) }
 {
     let Some((token, rest)) = tokens.split_first() else {
@@ -106,24 +90,12 @@ fn dots_at<'a>(tokens: &'a [Token<'a>], end: Place) -> Result<&'a [Token<'a>], R
     Ok(rest)
 }
 
-/// `..` behind the index `first`.
-pub fn dots<'a>(
-    tokens: &'a [Token<'a>],
-    end: Place,
-    first: u8,
-) -> Result<&'a [Token<'a>], ReadError>
-    ensures reads { PassesBy view (hdl end) dots first tokens.now result }
-    ensures shorter { IfOk result (λ r. length r.now < length tokens.now) }
-{
-    dots_at(tokens, end)
-}
-
-fn name_at<'a>(
+pub fn name<'a>(
     alloc: Global,
     tokens: &'a [Token<'a>],
     end: Place,
 ) -> Result<(Name, &'a [Token<'a>]), ReadError>
-    ensures reads { Gives (λ x. (name_said x.0, 0, map view x.1.now)) result (word_at (hdl end) is_name free named 0 (map view tokens.now)) }
+    ensures reads { ParsesBy view (hdl end) name (λ x. Leaf (name_said x)) (λ _. 0) 0 tokens.now result }
     ensures shorter { IfOk result (λ r. length r.1.now < length tokens.now) }
 {
     let Some((token, rest)) = tokens.split_first() else {
@@ -135,19 +107,9 @@ fn name_at<'a>(
     Ok((Name::from_bytes(alloc, token.text)?, rest))
 }
 
-pub fn name<'a>(
-    alloc: Global,
-    tokens: &'a [Token<'a>],
-    end: Place,
-) -> Result<(Name, &'a [Token<'a>]), ReadError>
-    ensures reads { ParsesBy view (hdl end) name (λ x. Leaf (name_said x)) (λ _. 0) 0 tokens.now result }
-    ensures shorter { IfOk result (λ r. length r.1.now < length tokens.now) }
-{
-    name_at(alloc, tokens, end)
-}
-
-fn width_at<'a>(tokens: &'a [Token<'a>], end: Place) -> Result<(u8, &'a [Token<'a>]), ReadError>
-    ensures reads { Gives (λ x. (number_said x.0, 0, map view x.1.now)) result (word_at (hdl end) is_number check_width fixed 0 (map view tokens.now)) }
+/// A width, at most 16.
+pub fn width<'a>(tokens: &'a [Token<'a>], end: Place) -> Result<(u8, &'a [Token<'a>]), ReadError>
+    ensures reads { ParsesBy view (hdl end) width (λ n. Leaf (number_said n)) (λ _. 0) 0 tokens.now result }
     ensures shorter { IfOk result (λ r. length r.1.now < length tokens.now) }
 {
     let Some((token, rest)) = tokens.split_first() else {
@@ -162,16 +124,9 @@ fn width_at<'a>(tokens: &'a [Token<'a>], end: Place) -> Result<(u8, &'a [Token<'
     Ok((n as u8, rest))
 }
 
-/// A width, at most 16.
-pub fn width<'a>(tokens: &'a [Token<'a>], end: Place) -> Result<(u8, &'a [Token<'a>]), ReadError>
-    ensures reads { ParsesBy view (hdl end) width (λ n. Leaf (number_said n)) (λ _. 0) 0 tokens.now result }
-    ensures shorter { IfOk result (λ r. length r.1.now < length tokens.now) }
-{
-    width_at(tokens, end)
-}
-
-fn index_at<'a>(tokens: &'a [Token<'a>], end: Place) -> Result<(u8, &'a [Token<'a>]), ReadError>
-    ensures reads { Gives (λ x. (number_said x.0, x.0, map view x.1.now)) result (word_at (hdl end) is_number check_index fixed 0 (map view tokens.now)) }
+/// An index, at most 15.
+pub fn index<'a>(tokens: &'a [Token<'a>], end: Place) -> Result<(u8, &'a [Token<'a>]), ReadError>
+    ensures reads { ParsesBy view (hdl end) index (λ n. Leaf (number_said n)) (λ n. n) 0 tokens.now result }
     ensures shorter { IfOk result (λ r. length r.1.now < length tokens.now) }
 {
     let Some((token, rest)) = tokens.split_first() else {
@@ -186,20 +141,13 @@ fn index_at<'a>(tokens: &'a [Token<'a>], end: Place) -> Result<(u8, &'a [Token<'
     Ok((n as u8, rest))
 }
 
-/// An index, at most 15.
-pub fn index<'a>(tokens: &'a [Token<'a>], end: Place) -> Result<(u8, &'a [Token<'a>]), ReadError>
-    ensures reads { ParsesBy view (hdl end) index (λ n. Leaf (number_said n)) (λ n. n) 0 tokens.now result }
-    ensures shorter { IfOk result (λ r. length r.1.now < length tokens.now) }
-{
-    index_at(tokens, end)
-}
-
-fn last_index_at<'a>(
+/// An index behind `..`, at most 15 and at least `first`.
+pub fn last_index<'a>(
     tokens: &'a [Token<'a>],
     end: Place,
     first: u8,
 ) -> Result<(u8, &'a [Token<'a>]), ReadError>
-    ensures reads { Gives (λ x. (number_said x.0, first, map view x.1.now)) result (word_at (hdl end) is_number check_last fixed first (map view tokens.now)) }
+    ensures reads { ParsesBy view (hdl end) last_index (λ n. Leaf (number_said n)) (λ _. first) first tokens.now result }
     ensures shorter { IfOk result (λ r. length r.1.now < length tokens.now) }
 {
     let Some((token, rest)) = tokens.split_first() else {
@@ -217,23 +165,12 @@ fn last_index_at<'a>(
     Ok((n as u8, rest))
 }
 
-/// An index behind `..`, at most 15 and at least `first`.
-pub fn last_index<'a>(
-    tokens: &'a [Token<'a>],
-    end: Place,
-    first: u8,
-) -> Result<(u8, &'a [Token<'a>]), ReadError>
-    ensures reads { ParsesBy view (hdl end) last_index (λ n. Leaf (number_said n)) (λ _. first) first tokens.now result }
-    ensures shorter { IfOk result (λ r. length r.1.now < length tokens.now) }
-{
-    last_index_at(tokens, end, first)
-}
-
-fn constant_at<'a>(
+/// `true` or `false`.
+pub fn constant<'a>(
     tokens: &'a [Token<'a>],
     end: Place,
 ) -> Result<(bool, &'a [Token<'a>]), ReadError>
-    ensures reads { Gives (λ x. (constant_said x.0, 0, map view x.1.now)) result (word_at (hdl end) is_constant free fixed 0 (map view tokens.now)) }
+    ensures reads { ParsesBy view (hdl end) constant (λ b. Leaf (constant_said b)) (λ _. 0) 0 tokens.now result }
     ensures shorter { IfOk result (λ r. length r.1.now < length tokens.now) }
 {
     let Some((token, rest)) = tokens.split_first() else {
@@ -244,17 +181,6 @@ fn constant_at<'a>(
         Kind::Keyword(Keyword::False) => Ok((false, rest)),
         _ => Err(grammar_fault(token.place)),
     }
-}
-
-/// `true` or `false`.
-pub fn constant<'a>(
-    tokens: &'a [Token<'a>],
-    end: Place,
-) -> Result<(bool, &'a [Token<'a>]), ReadError>
-    ensures reads { ParsesBy view (hdl end) constant (λ b. Leaf (constant_said b)) (λ _. 0) 0 tokens.now result }
-    ensures shorter { IfOk result (λ r. length r.1.now < length tokens.now) }
-{
-    constant_at(tokens, end)
 }
 
 /// A certain symbol comes next.

@@ -11,11 +11,12 @@ use Rattle.grammar.specs.declared.Fault.{Fault}
 use Rattle.grammar.specs.declared.Fault.TheVariants.{Grammar, Range}
 use Rattle.grammar.specs.declared.ReadError.{ReadError}
 use Rattle.grammar.specs.Reading.{Gives}
-use Rattle.grammar.specs.Cutting.{Piece, Passed, Token, Wrong, cut, cut_by, followed, past_blank, past_blanks}
+use Rattle.grammar.specs.Cutting.{Piece, Passed, Token, Wrong, cut, cut_by, past_blank, past_blanks}
+use Rattle.grammar.proofs.Cuts.{within_limit, followed_is, none_is}
 use Rattle.jack_tree.specs.declared.token.Kind.TheVariants.{Integer, Text}
 use Rattle.jack_tree.specs.declared.token.Token as declared
 use Rattle.jack_tree.specs.Tokens.{Word, view, StandIn}
-use Rattle.jack_lexer.specs.Cut.{piece, close, token_of, word_piece, symbol_piece, number_piece, text_piece, is_letter, is_sign, is_text_byte}
+use Rattle.jack_lexer.specs.Cut.{piece, close, tokens_of, token_of, word_piece, symbol_piece, number_piece, text_piece, is_letter, is_sign, is_text_byte}
 
 walk-append : (at : Place) (g h : List ℕ) → walk (walk at g) h ≡ walk at (g ++ h)
 walk-append at [] h = refl
@@ -58,13 +59,6 @@ tells_past bs (Over n) = tt
 tells_past bs Unclosed = tt
 tells_past bs Other = tells bs
 
-followed_is : (w : Word) (r : Result (List Word) Fault) (ts : List Word) → followed w r ≡ Ok ts → (us : List Word) × (r ≡ Ok us) × (w ∷ us ≡ ts)
-followed_is w (Ok us) ts e = (us, refl, cc)
-followed_is w (Err f) ts e = absurd cc
-
-none_is : (ts : List Word) (l : Result (List Word) Fault) → l ≡ Ok ts → l ≡ Ok [] → [] ≡ ts
-none_is ts l e f = cc
-
 taken : (at : Place) (b n : ℕ) (bs : List ℕ) (w : Word) (us : List Word) → (w.text ≡ take (suc n) (b ∷ bs)) × (w.place ≡ at) → StandIn (walk (step at b) (take n bs)) (drop n bs) us → StandIn at (b ∷ bs) (w ∷ us)
 taken at b n bs w us h rest = (
   [],
@@ -92,6 +86,6 @@ all_stand : (text : List ℕ) (ts : List Word) → cut (past_blanks piece) close
 all_stand [] ts e = stands None 0 start [] ts e
 all_stand (b ∷ bs) ts e = stands None 0 start (b ∷ bs) ts e
 
-pub tokens_stand : (text : List ℕ) (r : Result (Vec declared.Token Global × Place) ReadError) → Gives (λ x. map view x.0.items) r (cut (past_blanks piece) close None 0 start text) → IfOk r (λ x. StandIn start text (map view x.0.items))
-tokens_stand text (Ok x) h = all_stand text (map view x.0.items) h
+pub tokens_stand : (text : List ℕ) (r : Result (Vec declared.Token Global × Place) ReadError) → Gives (λ x. map view x.0.items) r (tokens_of text) → IfOk r (λ x. StandIn start text (map view x.0.items))
+tokens_stand text (Ok x) h = all_stand text (map view x.0.items) (within_limit (nat_lt 1048576 (length text)) _ _ _ h)
 tokens_stand text (Err e) h = tt

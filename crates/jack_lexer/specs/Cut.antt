@@ -1,12 +1,12 @@
 -- How a Jack text is cut into tokens (book, chapter 10). Blanks (space, tab, line feed, return) and comments are passed over.
-use Rattle.std.specs.Prelude.{ℕ, suc, ◌+◌, ◌-◌, Bool, true, false, List, [], Option, Some, None, Result, Err, ◌==◌, ◌||◌, ◌&&◌, if◌then◌else◌, length, drop, take, nat_le, nat_lt, min}
+use Rattle.std.specs.Prelude.{ℕ, suc, ◌+◌, ◌-◌, Bool, true, false, List, Option, Some, None, Result, ◌==◌, ◌||◌, ◌&&◌, if◌then◌else◌, length, drop, take, nat_le, nat_lt, min}
 use Rattle.std.specs.Char.{is_ascii_alphabetic}
 use Rattle.scan_text.specs.declared.Place.{Place}
 use Rattle.scan_text.specs.Text.{start, walk, first, front, is_digit, digits, decimal, capped}
 use Rattle.scan_text.specs.Blanks.{starts}
 use Rattle.grammar.specs.declared.Fault.{Fault}
 use Rattle.grammar.specs.declared.Fault.TheVariants.{Grammar, Range}
-use Rattle.grammar.specs.Cutting.{Piece, Passed, Token, Wrong, cut, past_blanks}
+use Rattle.grammar.specs.Cutting.{Piece, Passed, Token, Wrong, closes_with_nothing, tokens_between_blanks}
 use Rattle.jack_tree.specs.declared.token.Keyword.{Keyword}
 use Rattle.jack_tree.specs.declared.token.Kind.{Kind}
 use Rattle.jack_tree.specs.declared.token.Kind.TheVariants as kind
@@ -78,11 +78,10 @@ piece bs = piece_at (first bs) bs
 
 -- the end of the text adds no token
 abbrev pub close : Option Word → Place → List Word
-close last at = []
+close = closes_with_nothing
 
--- the tokens of a text of at most 1,048,576 bytes
 abbrev pub tokens_of : List ℕ → Result (List Word) Fault
-tokens_of text = if nat_lt 1048576 (length text) then Err (Range (record { line = 0; column = 0 }) 1048577) else cut (past_blanks piece) close None 0 start text
+tokens_of text = tokens_between_blanks piece text
 
 -- the place where a text ends
 abbrev pub finish : List ℕ → Place

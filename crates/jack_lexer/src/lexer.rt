@@ -1,14 +1,14 @@
 //! The tokens of a Jack text.
 
-ghost use Rattle.std.specs.Prelude.{◌≡◌, ◌<◌, ◌≤◌, ◌-◌, ◌^◌, true, length, map, Some, None, Result, Ok, IfOk};
+ghost use Rattle.std.specs.Prelude.{◌≡◌, ◌≤◌, true, length, map, Some, IfOk};
 ghost use Rattle.scan_text.specs.Text.{first, front, start, is_digit};
 ghost use Rattle.scan_text.specs.View.{left, place};
-ghost use Rattle.grammar.specs.Cutting.{TokenBy, cut, past_blanks};
+ghost use Rattle.grammar.specs.Cutting.{TokenBy};
 ghost use Rattle.grammar.specs.Reading.{Gives};
 ghost use Rattle.jack_tree.specs.Tokens.{view, StandIn};
-ghost use Rattle.jack_lexer.specs.Cut.{tokens_of, finish, piece, close, number_piece, word_piece, text_piece, symbol_piece, is_letter, is_name_byte, is_text_byte, is_sign, word_kind};
+ghost use Rattle.jack_lexer.specs.Cut.{tokens_of, finish, number_piece, word_piece, text_piece, symbol_piece, is_letter, is_name_byte, is_text_byte, is_sign, word_kind};
 
-use grammar::{Fault, ReadError};
+use grammar::{Cutter, Fault, ReadError, cut_between_blanks};
 use jack_tree::{Keyword, Kind, Token};
 use scan_text::{Place, Scan};
 use std::alloc::Global;
@@ -149,26 +149,6 @@ fn text_len(bytes: &[u8]) -> usize
     n
 }
 
-// The token that begins at the next byte.
-fn token<'a>(scan: &mut Scan<'a>, byte: u8) -> Result<Token<'a>, Fault>
-    requires { first (left scan.old) ≡ Some byte }
-    ensures { TokenBy view (piece (left scan.old)) scan.old result scan.new }
-{
-    if is_letter(byte) {
-        return word(scan, byte);
-    }
-    if is_sign(byte) {
-        return symbol(scan, byte);
-    }
-    if byte.is_ascii_digit() {
-        return number(scan, byte);
-    }
-    if byte == b'"' {
-        return quoted(scan);
-    }
-    Err(Fault::Grammar(scan.place()))
-}
-
 /// The tokens of a Jack text, and the place of its end.
 ///
 /// Grammar where a byte begins no token and where a string or a comment is not closed, Range at an integer over 32,767, and at 0:0
@@ -179,24 +159,36 @@ pub fn tokens<'a>(alloc: Global, text: &'a [u8]) -> Result<(Vec<Token<'a>>, Plac
     // Each token's text is a slice of the source, at the token's place, and they follow each other in order.
     ensures slices { IfOk result (λ x. StandIn start text.now (map view x.0.items)) }
 {
-    if text.len() > 1_048_576 {
-        return Err(ReadError::Fault(Fault::Range(Place { line: 0, column: 0 }, 1_048_577)));
-    }
-    cut(alloc, text)
+    cut_between_blanks(alloc, &JackTokens, text)
 }
 
-fn cut<'a>(alloc: Global, text: &'a [u8]) -> Result<(Vec<Token<'a>>, Place), ReadError>
-    requires { length text.now < 2 ^ 32 - 1 }
-    ensures tokens { Gives (λ x. map view x.0.items) result (cut (past_blanks piece) close None 0 start text.now) }
-    ensures end { IfOk result (λ x. x.1 ≡ finish text.now) }
-{
-    let mut tokens = Vec::new(alloc);
-    let mut scan = Scan::new(text);
-    grammar::skip_blank(&mut scan)?;
-    while let Some(byte) = scan.peek() {
-        let token = token(&mut scan, byte)?;
-        tokens.push(token)?;
-        grammar::skip_blank(&mut scan)?;
+struct JackTokens;
+
+impl<'a> Cutter<'a> for JackTokens {
+    ghost use Rattle.jack_tree.specs.Tokens.{view, Word};
+    ghost use Rattle.jack_lexer.specs.Cut.{piece};
+
+    type Token = Token<'a>;
+
+    ghost Word = { Word };
+
+    ghost view = { view };
+
+    ghost piece = { piece };
+
+    fn token(&self, scan: &mut Scan<'a>, byte: u8) -> Result<Token<'a>, Fault> {
+        if is_letter(byte) {
+            return word(scan, byte);
+        }
+        if is_sign(byte) {
+            return symbol(scan, byte);
+        }
+        if byte.is_ascii_digit() {
+            return number(scan, byte);
+        }
+        if byte == b'"' {
+            return quoted(scan);
+        }
+        Err(Fault::Grammar(scan.place()))
     }
-    Ok((tokens, scan.place()))
 }

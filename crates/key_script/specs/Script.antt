@@ -1,20 +1,16 @@
 -- The grammar of a key script: lines of a moment and a code, whose moments rise. A moment is a number of cycles, at most
 -- 1,000,000,000; a code is what the keyboard of the Hack platform reads (book, chapter 5), at most 65,535.
-use Rattle.std.specs.Prelude.{ℕ, ◌+◌, Bool, true, false, List, [], ◌∷◌, Result, Ok, Err, if◌then◌else◌, nat_lt, min}
+use Rattle.std.specs.Prelude.{ℕ, ◌+◌, Bool, List, [], ◌∷◌, Result, Ok, Err, if◌then◌else◌, nat_lt, min}
 use Rattle.scan_text.specs.declared.Place.{Place}
 use Rattle.grammar.specs.declared.Fault.{Fault}
 use Rattle.grammar.specs.declared.Fault.TheVariants.{Range, NotRising}
 use Rattle.grammar.specs.Rules.{Rule, mark, word, seq, repeat, end, Tree, Leaf, Pair, Skip, NoMore, Rules, listed}
 use Rattle.grammar.specs.Texts.{Spelled, Refused, OneReading}
-use Rattle.key_script.specs.Tokens.{is_number, tokens_of, finish}
+use Rattle.key_script.specs.Tokens.{is_number, ends_line, tokens_of, finish}
 use Rattle.key_script.specs.declared.token.Kind.{Kind}
 use Rattle.key_script.specs.declared.token.Kind.TheVariants.{Number, LineEnd}
 use Rattle.key_script.specs.declared.token.Token.{Token}
 use Rattle.key_script.specs.declared.lines.Line.{Line}
-
-abbrev pub is_line_end : Kind → Bool
-is_line_end (Number n) = false
-is_line_end LineEnd = true
 
 abbrev pub number : Kind → ℕ
 number (Number n) = n
@@ -22,9 +18,6 @@ number LineEnd = 0
 
 abbrev pub has_number : Token → Bool
 has_number t = is_number t.kind
-
-abbrev pub ends_line : Token → Bool
-ends_line t = is_line_end t.kind
 
 -- what a token says is its kind
 abbrev pub said : Token → Kind

@@ -1,11 +1,11 @@
 -- The tokens of a key script: decimal numbers and line ends, with blanks and tabs between them.
-use Rattle.std.specs.Prelude.{ℕ, ◌-◌, Bool, true, false, List, [], ◌∷◌, Option, Some, None, Result, Err, ◌==◌, ◌||◌, if◌then◌else◌, length, nat_lt}
+use Rattle.std.specs.Prelude.{ℕ, ◌-◌, Bool, true, false, List, Option, Some, None, Result, ◌==◌, ◌||◌, if◌then◌else◌, length}
 use Rattle.scan_text.specs.declared.Place.{Place}
 use Rattle.scan_text.specs.Text.{start, walk, first, is_digit, digits, decimal, capped}
-use Rattle.scan_text.specs.Blanks.{line_end}
 use Rattle.grammar.specs.declared.Fault.{Fault}
-use Rattle.grammar.specs.declared.Fault.TheVariants.{Grammar, Range}
-use Rattle.grammar.specs.Cutting.{Piece, Passed, Token, Wrong, cut}
+use Rattle.grammar.specs.Cutting.{Piece, Passed, Token, cut_text}
+use Rattle.grammar.specs.Lines.{line_end_piece}
+use Rattle.grammar.specs.Lines as lines
 use Rattle.key_script.specs.declared.token.Kind.{Kind}
 use Rattle.key_script.specs.declared.token.Kind.TheVariants.{Number, LineEnd}
 use Rattle.key_script.specs.declared.token.Token as declared
@@ -18,14 +18,21 @@ made kind at = record { kind = kind; place = at }
 abbrev pub number_piece : List ℕ → Piece declared.Token
 number_piece bs = Token (made (Number (capped (decimal 0 (digits bs))))) (length (digits bs) - 1)
 
--- A line feed, or a return and a line feed, which are one line end. A return alone is no token.
-abbrev pub line_end_piece : List ℕ → Piece declared.Token
-line_end_piece bs = if nat_lt 0 (line_end bs) then Token (made LineEnd) (line_end bs - 1) else Wrong Grammar
+-- the tokens of the code are those of the definition
+abbrev pub Word : Type 0
+Word = declared.Token
+
+abbrev pub view : declared.Token → Word
+view t = t
+
+-- the line end at a place
+abbrev pub line_end_token : Place → declared.Token
+line_end_token = made LineEnd
 
 -- what begins at the first byte: blanks and tabs are passed over
 abbrev pub piece_at : Option ℕ → List ℕ → Piece declared.Token
 piece_at None bs = Passed 0
-piece_at (Some b) bs = if b == 32 || b == 9 then Passed 0 else (if is_digit b then number_piece bs else line_end_piece bs)
+piece_at (Some b) bs = if b == 32 || b == 9 then Passed 0 else (if is_digit b then number_piece bs else line_end_piece line_end_token bs)
 
 abbrev pub piece : List ℕ → Piece declared.Token
 piece bs = piece_at (first bs) bs
@@ -34,18 +41,20 @@ abbrev pub is_number : Kind → Bool
 is_number (Number n) = true
 is_number LineEnd = false
 
--- the last line has begun and has no line end
-abbrev pub is_open : Option declared.Token → Bool
-is_open None = false
-is_open (Some t) = is_number t.kind
+abbrev pub is_line_end : Kind → Bool
+is_line_end (Number n) = false
+is_line_end LineEnd = true
+
+abbrev pub ends_line : declared.Token → Bool
+ends_line t = is_line_end t.kind
 
 -- the end of the text ends its last line too
 abbrev pub close : Option declared.Token → Place → List declared.Token
-close last at = if is_open last then made LineEnd at ∷ [] else []
+close = lines.close line_end_token ends_line
 
 -- the tokens of a text of at most 1,048,576 bytes
 abbrev pub tokens_of : List ℕ → Result (List declared.Token) Fault
-tokens_of text = if nat_lt 1048576 (length text) then Err (Range (record { line = 0; column = 0 }) 1048577) else cut piece close None 0 start text
+tokens_of = cut_text piece close
 
 -- the place where a text ends
 abbrev pub finish : List ℕ → Place

@@ -1,36 +1,21 @@
 //! The tokens of a key script.
 
-ghost use Rattle.std.specs.Prelude.{◌≡◌, ◌<◌, ◌-◌, ◌^◌, ◌++◌, true, length, Some, None, Result, Ok, OnOk, IfOk};
-ghost use Rattle.scan_text.specs.Text.{first, start, is_digit};
-ghost use Rattle.scan_text.specs.View.{left, place};
-ghost use Rattle.grammar.specs.Cutting.{Next, cut, last_of};
+ghost use Rattle.std.specs.Prelude.{◌≡◌, true, Some, Result, IfOk};
+ghost use Rattle.scan_text.specs.Text.{first, is_digit};
+ghost use Rattle.scan_text.specs.View.{left};
+ghost use Rattle.grammar.specs.Cutting.{NextBy};
 ghost use Rattle.grammar.specs.Reading.{Gives};
-ghost use Rattle.key_script.specs.Tokens.{tokens_of, finish, piece, close, is_open, number_piece, line_end_piece};
+ghost use Rattle.key_script.specs.Tokens.{view, tokens_of, finish, number_piece};
 
 use crate::token::{Kind, Token};
-use grammar::{Fault, ReadError};
+use grammar::{Fault, LineCutter, LineToken, ReadError, cut_lines, line_end};
 use scan_text::{Place, Scan};
-use std::alloc::{AllocError, Global};
-
-// What begins at the next byte.
-fn next(scan: &mut Scan, byte: u8) -> Result<Option<Token>, Fault>
-    requires { first (left scan.old) ≡ Some byte }
-    ensures { Next (piece (left scan.old)) scan.old result scan.new }
-{
-    match byte {
-        b' ' | b'\t' => {
-            scan.skip(1);
-            Ok(None)
-        }
-        b'0'..=b'9' => number(scan, byte),
-        _ => line_end(scan),
-    }
-}
+use std::alloc::Global;
 
 fn number(scan: &mut Scan, byte: u8) -> Result<Option<Token>, Fault>
     requires begun { first (left scan.old) ≡ Some byte }
     requires digit { is_digit byte ≡ true }
-    ensures { Next (number_piece (left scan.old)) scan.old result scan.new }
+    ensures { NextBy view (number_piece (left scan.old)) scan.old result scan.new }
 {
     let place = scan.place();
     match scan.number() {
@@ -42,47 +27,41 @@ fn number(scan: &mut Scan, byte: u8) -> Result<Option<Token>, Fault>
     }
 }
 
-fn line_end(scan: &mut Scan) -> Result<Option<Token>, Fault>
-    ensures { Next (line_end_piece (left scan.old)) scan.old result scan.new }
-{
-    let place = scan.place();
-    if scan.line_end() {
-        Ok(Some(Token {
+impl LineToken for Token {
+    ghost use Rattle.key_script.specs.Tokens.{Word, view, piece, line_end_token, ends_line};
+
+    ghost Word = { Word };
+
+    ghost view = { view };
+
+    ghost piece = { piece };
+
+    ghost line_end_token = { line_end_token };
+
+    ghost ends = { ends_line };
+
+    fn line_end(place: Place) -> Token {
+        Token {
             kind: Kind::LineEnd,
             place,
-        }))
-    } else {
-        Err(Fault::Grammar(place))
+        }
+    }
+
+    fn ends_line(&self) -> bool {
+        matches!(self.kind, Kind::LineEnd)
     }
 }
 
-// What stands at the end of the text.
-fn close(tokens: &mut Vec<Token>, place: Place) -> Result<(), AllocError>
-    ensures { OnOk result (tokens.new.items ≡ tokens.old.items ++ close (last_of tokens.old.items) place) }
-{
-    if is_open(tokens) {
-        tokens.push(Token {
-            kind: Kind::LineEnd,
-            place,
-        })?;
-        Ok(())
-    } else {
-        Ok(())
-    }
-}
-
-// The last line has begun and has no line end.
-fn is_open(tokens: &[Token]) -> bool
-    ensures { result ≡ is_open (last_of tokens.now) }
-{
-    match tokens.last() {
-        Some(
-            Token {
-                kind: Kind::Number(_),
-                place: _,
-            },
-        ) => true,
-        _ => false,
+impl<'a> LineCutter<'a> for Token {
+    fn next(scan: &mut Scan<'a>, byte: u8) -> Result<Option<Token>, Fault> {
+        match byte {
+            b' ' | b'\t' => {
+                scan.skip(1);
+                Ok(None)
+            }
+            b'0'..=b'9' => number(scan, byte),
+            _ => line_end(scan),
+        }
     }
 }
 
@@ -91,25 +70,5 @@ pub fn tokens(alloc: Global, text: &[u8]) -> Result<(Vec<Token>, Place), ReadErr
     ensures tokens { Gives (λ x. x.0.items) result (tokens_of text.now) }
     ensures end { IfOk result (λ x. x.1 ≡ finish text.now) }
 {
-    if text.len() > 1_048_576 {
-        return Err(ReadError::Fault(Fault::Range(Place { line: 0, column: 0 }, 1_048_577)));
-    }
-    cut(alloc, text)
-}
-
-fn cut(alloc: Global, text: &[u8]) -> Result<(Vec<Token>, Place), ReadError>
-    requires { length text.now < 2 ^ 32 - 1 }
-    ensures tokens { Gives (λ x. x.0.items) result (cut piece close None 0 start text.now) }
-    ensures end { IfOk result (λ x. x.1 ≡ finish text.now) }
-{
-    let mut tokens = Vec::new(alloc);
-    let mut scan = Scan::new(text);
-    while let Some(byte) = scan.peek() {
-        if let Some(token) = next(&mut scan, byte)? {
-            tokens.push(token)?;
-        }
-    }
-    let end = scan.place();
-    close(&mut tokens, end)?;
-    Ok((tokens, end))
+    cut_lines(alloc, text)
 }

@@ -5,7 +5,8 @@ ghost use Rattle.grammar.specs.Reading.{Parses, Passes, Halt, Gives, word_at, ma
 ghost use Rattle.grammar.specs.Rules.{Leaf, next};
 ghost use Rattle.grammar.specs.declared.Fault.{Fault};
 ghost use Rattle.key_script.specs.Codes.{are_rising};
-ghost use Rattle.key_script.specs.Script.{has_number, ends_line, check_moment, check_code, said, script, moment, code, line_end, line, line_tree, after_line, lines, lines_tree, after_lines, whole, script_tree};
+ghost use Rattle.key_script.specs.Tokens.{ends_line};
+ghost use Rattle.key_script.specs.Script.{has_number, check_moment, check_code, said, script, moment, code, line_end, line, line_tree, after_line, lines, lines_tree, after_lines, whole, script_tree};
 
 use crate::lexer::tokens;
 use crate::token::{Kind, Token};

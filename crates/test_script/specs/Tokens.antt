@@ -1,13 +1,13 @@
 -- The tokens of a test script (book, appendix 3): texts in double quotes, signs and words. Blanks (space, tab, line feed, return) and
 -- comments are passed over.
-use Rattle.std.specs.Prelude.{ℕ, suc, ◌+◌, Bool, true, false, List, [], ◌∷◌, Option, Some, None, Result, Err, ◌==◌, ◌||◌, ◌&&◌, if◌then◌else◌, length, take, drop, nat_lt, codes}
+use Rattle.std.specs.Prelude.{ℕ, suc, ◌+◌, Bool, true, false, List, [], ◌∷◌, Option, Some, None, Result, ◌==◌, ◌||◌, ◌&&◌, if◌then◌else◌, length, take, drop, codes}
 use Rattle.std.specs.Str.{bytes_eq}
 use Rattle.scan_text.specs.declared.Place.{Place}
 use Rattle.scan_text.specs.Text.{start, walk, first, front, behind}
 use Rattle.scan_text.specs.Blanks.{starts, is_blank}
 use Rattle.grammar.specs.declared.Fault.{Fault}
-use Rattle.grammar.specs.declared.Fault.TheVariants.{Grammar, Range}
-use Rattle.grammar.specs.Cutting.{Piece, Passed, Token, Wrong, cut, past_blanks}
+use Rattle.grammar.specs.declared.Fault.TheVariants.{Grammar}
+use Rattle.grammar.specs.Cutting.{Piece, Passed, Token, Wrong, tokens_between_blanks}
 use Rattle.test_script.specs.declared.token.Role.{Role}
 use Rattle.test_script.specs.declared.token.Role.TheVariants as role
 use Rattle.test_script.specs.declared.token.Kind.{Kind}
@@ -87,13 +87,8 @@ piece_at (Some b) bs = if b == 34 then text_piece bs else (if is_sign b then sig
 abbrev pub piece : List ℕ → Piece Word
 piece bs = piece_at (first bs) bs
 
--- the end of the text adds no token
-abbrev pub close : Option Word → Place → List Word
-close last at = []
-
--- the tokens of a text of at most 1,048,576 bytes
 abbrev pub tokens_of : List ℕ → Result (List Word) Fault
-tokens_of text = if nat_lt 1048576 (length text) then Err (Range (record { line = 0; column = 0 }) 1048577) else cut (past_blanks piece) close None 0 start text
+tokens_of text = tokens_between_blanks piece text
 
 -- the place where a text ends
 abbrev pub finish : List ℕ → Place

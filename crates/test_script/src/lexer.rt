@@ -1,15 +1,15 @@
 //! The tokens of a test script.
 
-ghost use Rattle.std.specs.Prelude.{◌≡◌, ◌+◌, ◌<◌, ◌≤◌, ◌-◌, ◌^◌, drop, length, map, Some, None, Result, Ok, IfOk};
+ghost use Rattle.std.specs.Prelude.{◌≡◌, ◌+◌, ◌≤◌, ◌^◌, drop, length, map, Some, IfOk};
 ghost use Rattle.scan_text.specs.Blanks.{is_blank};
-ghost use Rattle.scan_text.specs.Text.{first, start};
+ghost use Rattle.scan_text.specs.Text.{first};
 ghost use Rattle.scan_text.specs.View.{left, place};
-ghost use Rattle.grammar.specs.Cutting.{TokenBy, cut, past_blanks};
+ghost use Rattle.grammar.specs.Cutting.{TokenBy};
 ghost use Rattle.grammar.specs.Reading.{Gives};
-ghost use Rattle.test_script.specs.Tokens.{view, tokens_of, finish, piece, close, role_of, is_sign, is_text_byte, begins_comment, ends_word, word_front, sign_piece, word_piece, text_piece};
+ghost use Rattle.test_script.specs.Tokens.{view, tokens_of, finish, role_of, is_sign, is_text_byte, begins_comment, ends_word, word_front, sign_piece, word_piece, text_piece};
 
 use crate::token::{Kind, Role, Token};
-use grammar::{Fault, ReadError};
+use grammar::{Cutter, Fault, ReadError, cut_between_blanks};
 use scan_text::{Place, Scan};
 use std::alloc::Global;
 
@@ -159,20 +159,6 @@ fn quoted<'a>(scan: &mut Scan<'a>, byte: u8) -> Result<Token<'a>, Fault>
     })
 }
 
-// The token that begins at the next byte.
-fn token<'a>(scan: &mut Scan<'a>, byte: u8) -> Result<Token<'a>, Fault>
-    requires { first (left scan.old) ≡ Some byte }
-    ensures { TokenBy view (piece (left scan.old)) scan.old result scan.new }
-{
-    if byte == b'"' {
-        return quoted(scan, byte);
-    }
-    if is_sign(byte) {
-        return sign(scan, byte);
-    }
-    word(scan, byte)
-}
-
 /// The tokens of a test script, and the place of its end.
 ///
 /// Grammar where a text in quotes or a comment is not closed, Range at 0:0 where the script has more than 1,048,576 bytes.
@@ -180,24 +166,29 @@ pub fn tokens<'a>(alloc: Global, text: &'a [u8]) -> Result<(Vec<Token<'a>>, Plac
     ensures tokens { Gives (λ x. map view x.0.items) result (tokens_of text.now) }
     ensures end { IfOk result (λ x. x.1 ≡ finish text.now) }
 {
-    if text.len() > 1_048_576 {
-        return Err(ReadError::Fault(Fault::Range(Place { line: 0, column: 0 }, 1_048_577)));
-    }
-    cut(alloc, text)
+    cut_between_blanks(alloc, &ScriptTokens, text)
 }
 
-fn cut<'a>(alloc: Global, text: &'a [u8]) -> Result<(Vec<Token<'a>>, Place), ReadError>
-    requires { length text.now < 2 ^ 32 - 1 }
-    ensures tokens { Gives (λ x. map view x.0.items) result (cut (past_blanks piece) close None 0 start text.now) }
-    ensures end { IfOk result (λ x. x.1 ≡ finish text.now) }
-{
-    let mut tokens = Vec::new(alloc);
-    let mut scan = Scan::new(text);
-    grammar::skip_blank(&mut scan)?;
-    while let Some(byte) = scan.peek() {
-        let token = token(&mut scan, byte)?;
-        tokens.push(token)?;
-        grammar::skip_blank(&mut scan)?;
+struct ScriptTokens;
+
+impl<'a> Cutter<'a> for ScriptTokens {
+    ghost use Rattle.test_script.specs.Tokens.{view, piece, Word};
+
+    type Token = Token<'a>;
+
+    ghost Word = { Word };
+
+    ghost view = { view };
+
+    ghost piece = { piece };
+
+    fn token(&self, scan: &mut Scan<'a>, byte: u8) -> Result<Token<'a>, Fault> {
+        if byte == b'"' {
+            return quoted(scan, byte);
+        }
+        if is_sign(byte) {
+            return sign(scan, byte);
+        }
+        word(scan, byte)
     }
-    Ok((tokens, scan.place()))
 }

@@ -2,7 +2,7 @@
 
 ghost use Rattle.std.specs.Prelude.{◌≡◌, length, map, Ok, Err, IfOk, IfErr, ℕ, Result};
 ghost use Rattle.grammar.specs.declared.Fault.{Fault};
-ghost use Rattle.grammar.specs.Reading.{ParsesAllBy, Halt, Gives, end_at, Ends};
+ghost use Rattle.grammar.specs.Reading.{ParsesAllBy, Halt, Gives, Ends};
 ghost use Rattle.test_script.specs.Tokens.{view};
 ghost use Rattle.test_script.specs.Script.{script, outermost, whole};
 ghost use Rattle.test_script.specs.Trees.{Commands, Refuses, Spells, commands_of, whole_tree};
@@ -23,19 +23,14 @@ pub type Script = Vec<Command>;
 /// Why a script is not read: memory ran out, or the text has a fault, which is Grammar or Range.
 pub type ScriptFault = ReadError;
 
-fn at_end(tokens: &[Token], end: Place) -> Result<(), ReadError>
-    ensures { Gives (λ _. tt) result (end_at (script end) (map view tokens.now)) }
+#[tactic(auto, using(grammar::proofs::OneToken::one_token))]
+fn finish(tokens: &[Token], end: Place) -> Result<(), ReadError>
+    ensures { Ends (script end) outermost (map view tokens.now) result }
 {
     match tokens.split_first() {
         None => Ok(()),
         Some((token, _)) => Err(grammar_fault(token.place)),
     }
-}
-
-fn finish(tokens: &[Token], end: Place) -> Result<(), ReadError>
-    ensures { Ends (script end) outermost (map view tokens.now) result }
-{
-    at_end(tokens, end)
 }
 
 #[tactic(auto, using(crate::proofs::Exits::script_exits))]

@@ -1,7 +1,8 @@
 //! Readers of one token.
+#![tactic(auto, using(grammar::proofs::OneToken::one_token))]
 
 ghost use Rattle.std.specs.Prelude.{◌≡◌, ◌<◌, ◌≤◌, ◌-◌, ◌+◌, ◌*◌, ◌%◌, ◌^◌, length, map, Some, None, Result, Ok, IfOk, nat_lt};
-ghost use Rattle.grammar.specs.Reading.{ParsesBy, PassesBy, Gives, word_at, mark_at};
+ghost use Rattle.grammar.specs.Reading.{Gives, ParsesBy, PassesBy, word_at};
 ghost use Rattle.grammar.specs.Rules.{Leaf, next, here};
 ghost use Rattle.test_script.specs.Tokens.{view, is_text_byte};
 ghost use Rattle.test_script.specs.Numbers.{value_of};
@@ -145,24 +146,6 @@ fn item_laid(alloc: Global, token: &Token, layout: Layout) -> Result<Item, ReadE
     })
 }
 
-fn any_word_at<'a>(
-    alloc: Global,
-    tokens: &'a [Token<'a>],
-    end: Place,
-    nesting: Nesting,
-) -> Result<(Placed, &'a [Token<'a>]), ReadError>
-    ensures reads { Gives (λ x. (Word' x.0, nesting, map view x.1.now)) result (word_at (script end) is_word free placed nesting (map view tokens.now)) }
-    ensures shorter { IfOk result (λ r. length r.1.now < length tokens.now) }
-{
-    let Some((token, rest)) = tokens.split_first() else {
-        return Err(grammar_fault(end));
-    };
-    let Kind::Word(_) = token.kind else {
-        return Err(grammar_fault(token.place));
-    };
-    Ok((placed(alloc, token)?, rest))
-}
-
 /// A word.
 pub fn any_word<'a>(
     alloc: Global,
@@ -173,24 +156,12 @@ pub fn any_word<'a>(
     ensures reads { ParsesBy view (script end) any_word (λ x. Leaf (Word' x)) (λ _. nesting) nesting tokens.now result }
     ensures shorter { IfOk result (λ r. length r.1.now < length tokens.now) }
 {
-    any_word_at(alloc, tokens, end, nesting)
-}
-
-fn device_at<'a>(
-    alloc: Global,
-    tokens: &'a [Token<'a>],
-    end: Place,
-    nesting: Nesting,
-) -> Result<(Placed, &'a [Token<'a>]), ReadError>
-    ensures reads { Gives (λ x. (Word' x.0, nesting, map view x.1.now)) result (word_at (script end) is_device free placed nesting (map view tokens.now)) }
-    ensures shorter { IfOk result (λ r. length r.1.now < length tokens.now) }
-{
     let Some((token, rest)) = tokens.split_first() else {
         return Err(grammar_fault(end));
     };
-    if !is_device(token) {
+    let Kind::Word(_) = token.kind else {
         return Err(grammar_fault(token.place));
-    }
+    };
     Ok((placed(alloc, token)?, rest))
 }
 
@@ -204,22 +175,10 @@ pub fn device<'a>(
     ensures reads { ParsesBy view (script end) device (λ x. Leaf (Word' x)) (λ _. nesting) nesting tokens.now result }
     ensures shorter { IfOk result (λ r. length r.1.now < length tokens.now) }
 {
-    device_at(alloc, tokens, end, nesting)
-}
-
-fn program_at<'a>(
-    alloc: Global,
-    tokens: &'a [Token<'a>],
-    end: Place,
-    nesting: Nesting,
-) -> Result<(Placed, &'a [Token<'a>]), ReadError>
-    ensures reads { Gives (λ x. (Word' x.0, nesting, map view x.1.now)) result (word_at (script end) is_program free placed nesting (map view tokens.now)) }
-    ensures shorter { IfOk result (λ r. length r.1.now < length tokens.now) }
-{
     let Some((token, rest)) = tokens.split_first() else {
         return Err(grammar_fault(end));
     };
-    if !is_program(token) {
+    if !is_device(token) {
         return Err(grammar_fault(token.place));
     }
     Ok((placed(alloc, token)?, rest))
@@ -235,22 +194,10 @@ pub fn program<'a>(
     ensures reads { ParsesBy view (script end) program (λ x. Leaf (Word' x)) (λ _. nesting) nesting tokens.now result }
     ensures shorter { IfOk result (λ r. length r.1.now < length tokens.now) }
 {
-    program_at(alloc, tokens, end, nesting)
-}
-
-fn rom_at<'a>(
-    alloc: Global,
-    tokens: &'a [Token<'a>],
-    end: Place,
-    nesting: Nesting,
-) -> Result<(Placed, &'a [Token<'a>]), ReadError>
-    ensures reads { Gives (λ x. (Word' x.0, nesting, map view x.1.now)) result (word_at (script end) (is_role Role.Rom) free placed nesting (map view tokens.now)) }
-    ensures shorter { IfOk result (λ r. length r.1.now < length tokens.now) }
-{
     let Some((token, rest)) = tokens.split_first() else {
         return Err(grammar_fault(end));
     };
-    if role_in(token) != Role::Rom {
+    if !is_program(token) {
         return Err(grammar_fault(token.place));
     }
     Ok((placed(alloc, token)?, rest))
@@ -266,15 +213,22 @@ pub fn rom<'a>(
     ensures reads { ParsesBy view (script end) rom (λ x. Leaf (Word' x)) (λ _. nesting) nesting tokens.now result }
     ensures shorter { IfOk result (λ r. length r.1.now < length tokens.now) }
 {
-    rom_at(alloc, tokens, end, nesting)
+    let Some((token, rest)) = tokens.split_first() else {
+        return Err(grammar_fault(end));
+    };
+    if role_in(token) != Role::Rom {
+        return Err(grammar_fault(token.place));
+    }
+    Ok((placed(alloc, token)?, rest))
 }
 
-fn count_at<'a>(
+/// How often commands are repeated, and how many times they come to then.
+pub fn count<'a>(
     tokens: &'a [Token<'a>],
     end: Place,
     nesting: Nesting,
 ) -> Result<((u32, Nesting), &'a [Token<'a>]), ReadError>
-    ensures reads { Gives (λ x. (Count x.0.0, x.0.1, map view x.1.now)) result (word_at (script end) is_count check_count counted nesting (map view tokens.now)) }
+    ensures reads { ParsesBy view (script end) count (λ x. Leaf (Count x.0)) (λ x. x.1) nesting tokens.now result }
     ensures shorter { IfOk result (λ r. length r.1.now < length tokens.now) }
     ensures times { IfOk result (λ r. r.0.1 ≡ times_more nesting r.0.0) }
 {
@@ -298,25 +252,13 @@ fn count_at<'a>(
     Ok(((figure.value, inner), rest))
 }
 
-/// How often commands are repeated, and how many times they come to then.
-pub fn count<'a>(
-    tokens: &'a [Token<'a>],
-    end: Place,
-    nesting: Nesting,
-) -> Result<((u32, Nesting), &'a [Token<'a>]), ReadError>
-    ensures reads { ParsesBy view (script end) count (λ x. Leaf (Count x.0)) (λ x. x.1) nesting tokens.now result }
-    ensures shorter { IfOk result (λ r. length r.1.now < length tokens.now) }
-    ensures times { IfOk result (λ r. r.0.1 ≡ times_more nesting r.0.0) }
-{
-    count_at(tokens, end, nesting)
-}
-
-fn value_at<'a>(
+/// The number of a `set`, as the word that it is.
+pub fn value<'a>(
     tokens: &'a [Token<'a>],
     end: Place,
     nesting: Nesting,
 ) -> Result<(u16, &'a [Token<'a>]), ReadError>
-    ensures reads { Gives (λ x. (Value x.0, nesting, map view x.1.now)) result (word_at (script end) is_value check_value valued nesting (map view tokens.now)) }
+    ensures reads { ParsesBy view (script end) value (λ x. Leaf (Value x)) (λ _. nesting) nesting tokens.now result }
     ensures shorter { IfOk result (λ r. length r.1.now < length tokens.now) }
 {
     let Some((token, rest)) = tokens.split_first() else {
@@ -329,18 +271,6 @@ fn value_at<'a>(
         return Err(grammar_fault(token.place));
     };
     Ok((word_of(token, number)?, rest))
-}
-
-/// The number of a `set`, as the word that it is.
-pub fn value<'a>(
-    tokens: &'a [Token<'a>],
-    end: Place,
-    nesting: Nesting,
-) -> Result<(u16, &'a [Token<'a>]), ReadError>
-    ensures reads { ParsesBy view (script end) value (λ x. Leaf (Value x)) (λ _. nesting) nesting tokens.now result }
-    ensures shorter { IfOk result (λ r. length r.1.now < length tokens.now) }
-{
-    value_at(tokens, end, nesting)
 }
 
 fn item_at<'a>(
@@ -377,13 +307,14 @@ pub fn item<'a>(
     item_at(alloc, tokens, end, nesting)
 }
 
-fn text_at<'a>(
+/// A text in quotes.
+pub fn text<'a>(
     alloc: Global,
     tokens: &'a [Token<'a>],
     end: Place,
     nesting: Nesting,
 ) -> Result<(List<u8>, &'a [Token<'a>]), ReadError>
-    ensures reads { Gives (λ x. (Text' x.0, nesting, map view x.1.now)) result (word_at (script end) is_text free told nesting (map view tokens.now)) }
+    ensures reads { ParsesBy view (script end) text (λ x. Leaf (Text' x)) (λ _. nesting) nesting tokens.now result }
     ensures shorter { IfOk result (λ r. length r.1.now < length tokens.now) }
 {
     let Some((token, rest)) = tokens.split_first() else {
@@ -395,25 +326,13 @@ fn text_at<'a>(
     Ok((bytes_of(alloc, token.text)?, rest))
 }
 
-/// A text in quotes.
-pub fn text<'a>(
-    alloc: Global,
-    tokens: &'a [Token<'a>],
-    end: Place,
-    nesting: Nesting,
-) -> Result<(List<u8>, &'a [Token<'a>]), ReadError>
-    ensures reads { ParsesBy view (script end) text (λ x. Leaf (Text' x)) (λ _. nesting) nesting tokens.now result }
-    ensures shorter { IfOk result (λ r. length r.1.now < length tokens.now) }
-{
-    text_at(alloc, tokens, end, nesting)
-}
-
-fn step_at<'a>(
+/// A command of one word.
+pub fn step<'a>(
     tokens: &'a [Token<'a>],
     end: Place,
     nesting: Nesting,
 ) -> Result<(Step, &'a [Token<'a>]), ReadError>
-    ensures reads { Gives (λ x. (step_said x.0, nesting, map view x.1.now)) result (word_at (script end) (passes steps) free fixed nesting (map view tokens.now)) }
+    ensures reads { ParsesBy view (script end) step (λ x. Leaf (step_said x)) (λ _. nesting) nesting tokens.now result }
     ensures shorter { IfOk result (λ r. length r.1.now < length tokens.now) }
 {
     let Some((token, rest)) = tokens.split_first() else {
@@ -429,20 +348,14 @@ fn step_at<'a>(
     }
 }
 
-/// A command of one word.
-pub fn step<'a>(
+/// This sign.
+pub fn sign<'a>(
     tokens: &'a [Token<'a>],
     end: Place,
     nesting: Nesting,
-) -> Result<(Step, &'a [Token<'a>]), ReadError>
-    ensures reads { ParsesBy view (script end) step (λ x. Leaf (step_said x)) (λ _. nesting) nesting tokens.now result }
-    ensures shorter { IfOk result (λ r. length r.1.now < length tokens.now) }
-{
-    step_at(tokens, end, nesting)
-}
-
-fn sign_at<'a>(tokens: &'a [Token<'a>], end: Place, byte: u8) -> Result<&'a [Token<'a>], ReadError>
-    ensures reads { Gives (λ x. map view x.now) result (mark_at (script end) (is_sign byte) (map view tokens.now)) }
+    byte: u8,
+) -> Result<&'a [Token<'a>], ReadError>
+    ensures reads { PassesBy view (script end) (sign_of byte) nesting tokens.now result }
     ensures shorter { IfOk result (λ r. length r.now < length tokens.now) }
 {
     let Some((token, rest)) = tokens.split_first() else {
@@ -457,37 +370,6 @@ fn sign_at<'a>(tokens: &'a [Token<'a>], end: Place, byte: u8) -> Result<&'a [Tok
     Ok(rest)
 }
 
-/// This sign.
-pub fn sign<'a>(
-    tokens: &'a [Token<'a>],
-    end: Place,
-    nesting: Nesting,
-    byte: u8,
-) -> Result<&'a [Token<'a>], ReadError>
-    ensures reads { PassesBy view (script end) (sign_of byte) nesting tokens.now result }
-    ensures shorter { IfOk result (λ r. length r.now < length tokens.now) }
-{
-    sign_at(tokens, end, byte)
-}
-
-fn begin_at<'a>(
-    tokens: &'a [Token<'a>],
-    end: Place,
-    role: Role,
-) -> Result<&'a [Token<'a>], ReadError>
-    ensures reads { Gives (λ x. map view x.now) result (mark_at (script end) (is_role role) (map view tokens.now)) }
-    ensures shorter { IfOk result (λ r. length r.now < length tokens.now) }
-{
-    let Some((token, rest)) = tokens.split_first() else {
-        return Err(grammar_fault(end));
-    };
-    if role_in(token) == role {
-        Ok(rest)
-    } else {
-        Err(grammar_fault(token.place))
-    }
-}
-
 /// A word of this role.
 pub fn begin<'a>(
     tokens: &'a [Token<'a>],
@@ -498,17 +380,10 @@ pub fn begin<'a>(
     ensures reads { PassesBy view (script end) (begin role) nesting tokens.now result }
     ensures shorter { IfOk result (λ r. length r.now < length tokens.now) }
 {
-    begin_at(tokens, end, role)
-}
-
-fn ender_at<'a>(tokens: &'a [Token<'a>], end: Place) -> Result<&'a [Token<'a>], ReadError>
-    ensures reads { Gives (λ x. map view x.now) result (mark_at (script end) is_ender (map view tokens.now)) }
-    ensures shorter { IfOk result (λ r. length r.now < length tokens.now) }
-{
     let Some((token, rest)) = tokens.split_first() else {
         return Err(grammar_fault(end));
     };
-    if is_ender(token) {
+    if role_in(token) == role {
         Ok(rest)
     } else {
         Err(grammar_fault(token.place))
@@ -524,7 +399,14 @@ pub fn ender<'a>(
     ensures reads { PassesBy view (script end) ender nesting tokens.now result }
     ensures shorter { IfOk result (λ r. length r.now < length tokens.now) }
 {
-    ender_at(tokens, end)
+    let Some((token, rest)) = tokens.split_first() else {
+        return Err(grammar_fault(end));
+    };
+    if is_ender(token) {
+        Ok(rest)
+    } else {
+        Err(grammar_fault(token.place))
+    }
 }
 
 /// What the next token is at the begin of a command.

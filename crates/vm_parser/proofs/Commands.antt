@@ -14,7 +14,7 @@ use Rattle.vm_parser.specs.Tokens.{Word, ends_line}
 use Rattle.vm_parser.specs.Grammar.{Said, Part, vm, greatest, same_word, operation_role, operation, push, pop, label, goto, if_goto, call, returns, command, line}
 use Rattle.vm_parser.specs.Files.{VmTree}
 use Rattle.vm_parser.specs.Reading.{role_next, begins_command, begins_line}
-use Rattle.vm_parser.proofs.Entered.{skip, halt_skip}
+use Rattle.grammar.proofs.Entered.{skip, halt_skip}
 
 abbrev pub R : Place → Part → List Word → VmTree → List Word → Type 0
 R end r ts x us = Reads Word ℕ (Unit {0}) Said (vm end) greatest r ts x greatest us

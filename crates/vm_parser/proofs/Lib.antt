@@ -1,5 +1,4 @@
 pub mod Exits
-pub mod Entered
 pub mod Pieces
 pub mod Commands
 pub mod Lines

@@ -1,6 +1,7 @@
 -- Lines and functions that are read one after another.
 use Rattle.std.proofs.Common.{◌≡◌, ◌<◌, ℕ, zero, suc, subst, true, false, List, [], ◌∷◌, ◌++◌, Option, Some, None, length, map, refl, ap, arith}
 use Rattle.std.specs.Prelude.{Bool, Result, Ok, Err}
+use Rattle.std.proofs.lemmas.List.{length-map}
 use denote.Bor.{Bor}
 use Rattle.grammar.specs.declared.ReadError.{ReadError}
 use Rattle.grammar.specs.Reading.{Halt}
@@ -22,13 +23,9 @@ commands-push [] l = refl
 commands-push (None ∷ ls) l = commands-push ls l
 commands-push (Some c ∷ ls) l = ap (λ ms. read_line c ∷ ms) (commands-push ls l)
 
-length-view : (cs : List Token) → length (map view cs) ≡ length cs
-length-view [] = refl
-length-view (c ∷ cs) = let h = length-view cs in omega arith
-
 -- fewer tokens are left behind a rule that takes one
 pub fewer : {end : Place} {s s' : ℕ} {r : Part} {x : VmTree} (cs ds : List Token) → Reads Word ℕ (Unit {0}) Said (vm end) s r (map view cs) x s' (map view ds) → takes r ≡ true → length ds < length cs
-fewer {end = end} cs ds h t = let p = shorter Word ℕ (Unit {0}) Said (vm end) (λ n. refl) h t in omega (arith, p, length-view cs, length-view ds)
+fewer {end = end} cs ds h t = let p = shorter Word ℕ (Unit {0}) Said (vm end) (λ n. refl) h t in omega (arith, p, length-map cs view, length-map ds view)
 
 -- empty lines before others
 abbrev pub more_lines : ℕ → VmTree → VmTree

@@ -4,9 +4,11 @@ use Rattle.scan_text.specs.declared.Place.{Place}
 use Rattle.scan_text.specs.Text.{step, walk}
 use Rattle.grammar.specs.declared.Fault.{Fault}
 use Rattle.grammar.specs.Cutting.{Piece, Token, followed, cut_by, cut}
+use Rattle.grammar.specs.Lines.{is_open}
+use Rattle.grammar.proofs.LinePieces.{cut_past}
 use Rattle.grammar.proofs.Cuts.{with_front}
 use Rattle.vm_parser.specs.declared.token.Kind.TheVariants as kind
-use Rattle.vm_parser.specs.Tokens.{Word, made, piece, close, is_open}
+use Rattle.vm_parser.specs.Tokens.{Word, made, piece, ends, close}
 use Rattle.vm_parser.proofs.WordsCut.{Item, IsItem}
 
 abbrev pub C : Option Word → Place → List ℕ → Result (List Word) Fault
@@ -32,28 +34,23 @@ none_front : (r : Result (List Word) Fault) → r ≡ with_front [] r
 none_front (Ok ts) = refl
 none_front (Err f) = refl
 
-run_over : (last : Option Word) (at : Place) (w more : List ℕ) → cut piece close last (length w) at (w ++ more) ≡ C last (walk at w) more
-run_over last at [] [] = refl
-run_over last at [] (b ∷ more) = refl
-run_over last at (c ∷ w) more = run_over last (step at c) w more
-
 token_cut : (last : Option Word) (at : Place) (x more : List ℕ) (t : Place → Word) → 1 ≤ length x → piece (x ++ more) ≡ Token t (length x - 1) → C last at (x ++ more) ≡ followed (t at) (C (Some (t at)) (walk at x) more)
 token_cut last at [] more t some e = absurd (omega arith)
 token_cut last at (c ∷ w) more t some e =
     let n : length (c ∷ w) - 1 ≡ length w = omega arith in
     ap (λ (p : Piece Word). cut_by p last at (λ l n. cut piece close l n (step at c) (w ++ more))) (e ∙ ap (Token t) n)
-    ∙ ap (followed (t at)) (run_over (Some (t at)) (step at c) w more)
+    ∙ ap (followed (t at)) (cut_past piece close w more (Some (t at)) (step at c))
 
 -- These bytes, before others, are cut into these tokens, and a line is not open then.
 pub record Cut (x : List ℕ) (at : Place) (ts : List Word) (last : Option Word) (rest : List ℕ) : Type 0 where
   pub then_last : Option Word
-  pub closed : is_open then_last ≡ false
+  pub closed : is_open ends then_last ≡ false
   pub cuts : C last at (x ++ rest) ≡ with_front ts (C then_last (walk at x) rest)
 
-pub cut_none : (at : Place) (last : Option Word) (rest : List ℕ) → is_open last ≡ false → Cut [] at [] last rest
+pub cut_none : (at : Place) (last : Option Word) (rest : List ℕ) → is_open ends last ≡ false → Cut [] at [] last rest
 cut_none at last rest o = record { then_last = last; closed = o; cuts = none_front (C last at rest) }
 
-pub cut_both : (x y : List ℕ) (at : Place) (ts us : List Word) (last : Option Word) (rest : List ℕ) → is_open last ≡ false → ((l : Option Word) → is_open l ≡ false → (r : List ℕ) → Cut x at ts l r) → ((l : Option Word) → is_open l ≡ false → (r : List ℕ) → Cut y (walk at x) us l r) → Cut (x ++ y) at (ts ++ us) last rest
+pub cut_both : (x y : List ℕ) (at : Place) (ts us : List Word) (last : Option Word) (rest : List ℕ) → is_open ends last ≡ false → ((l : Option Word) → is_open ends l ≡ false → (r : List ℕ) → Cut x at ts l r) → ((l : Option Word) → is_open ends l ≡ false → (r : List ℕ) → Cut y (walk at x) us l r) → Cut (x ++ y) at (ts ++ us) last rest
 cut_both x y at ts us last rest o a b =
     let p = a last o (y ++ rest) in
     let q = b p.then_last p.closed rest in

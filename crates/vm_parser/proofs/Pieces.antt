@@ -1,20 +1,17 @@
 -- The pieces of a VM text that are runs of bytes.
-use Rattle.std.proofs.Common.{◌≡◌, ℕ, zero, suc, ◌-◌, ◌<◌, ◌≤◌, Bool, true, false, cond, List, [], ◌∷◌, length, take, drop, Some, None, Ok, refl, sym, ap, subst, ◌∙◌, arith, leb-true, eqb-true}
+use Rattle.std.proofs.Common.{◌≡◌, ℕ, zero, suc, ◌-◌, ◌<◌, ◌≤◌, Bool, true, false, cond, List, [], ◌∷◌, length, Some, Ok, refl, sym, ap, subst, ◌∙◌, arith, leb-true, eqb-true}
 use Rattle.std.specs.Prelude.{min, nat_lt, nat_le, ◌==◌, ◌||◌, IsUtf8, IsAscii}
 use Rattle.std.specs.Int.{is_in_range}
 use Rattle.std.proofs.lemmas.Str.{IsUtf8-from_ascii}
-use Rattle.vm_parser.proofs.WordsCut.{second_of}
-use Rattle.std.proofs.lemmas.Bool.{le-ltb}
+use Rattle.std.proofs.lemmas.Bool.{le-ltb, and_parts}
 use Rattle.scan_text.specs.declared.Scan.{Scan}
 use Rattle.scan_text.specs.Text.{first, front, behind, walk, is_digit, digits, decimal, capped, number_of}
-use Rattle.scan_text.specs.Blanks.{starts, line}
-use Rattle.scan_text.proofs.Gone.{take_line}
 use Rattle.scan_text.specs.View.{left, place}
-use Rattle.grammar.specs.declared.Fault.TheVariants.{Grammar, Range}
-use Rattle.grammar.specs.Cutting.{Piece, Passed, Token, Wrong, Next}
+use Rattle.grammar.specs.declared.Fault.TheVariants.{Range}
+use Rattle.grammar.specs.Cutting.{Piece, Token, Wrong, Next}
 use Rattle.grammar.proofs.Runs.{run_token, number_stands}
 use Rattle.vm_parser.specs.declared.token.Kind.TheVariants as kind
-use Rattle.vm_parser.specs.Tokens.{Word, made, named, number_piece, name_piece, comment_piece, begins_name, is_name_byte}
+use Rattle.vm_parser.specs.Tokens.{Word, made, named, number_piece, name_piece, begins_name, is_name_byte}
 
 pub number_taken : (old new : Scan) (b n : ℕ) (w : Word) → first (left old) ≡ Some b → is_digit b ≡ true → Some n ≡ number_of (left old) → n ≤ 32767 → left new ≡ behind is_digit (left old) → place new ≡ walk (place old) (front is_digit (left old)) → w ≡ made (kind.Number n) (place old) → Next (number_piece (left old)) old (Ok (Some w)) new
 number_taken old new b n w e d v small l p m =
@@ -31,33 +28,9 @@ name_begins b e = rw e refl
 pub name_taken : (old new : Scan) (b : ℕ) (w : Word) → first (left old) ≡ Some b → begins_name b ≡ true → left new ≡ behind is_name_byte (left old) → place new ≡ walk (place old) (front is_name_byte (left old)) → w ≡ named (front is_name_byte (left old)) (place old) → Next (name_piece (left old)) old (Ok (Some w)) new
 name_taken old new b w e d l p m = run_token is_name_byte (named (front is_name_byte (left old))) w old new b e (name_begins b d) l p m
 
-starts_by : (bs : List ℕ) → first bs ≡ Some 47 → starts 47 bs ≡ true
-starts_by [] e = absurd cc
-starts_by (b ∷ bs) e = let same : b ≡ 47 = cc in rw same refl
-
-line_stands : (bs : List ℕ) → first bs ≡ Some 47 → 1 ≤ length (line bs)
-line_stands [] e = absurd cc
-line_stands (b ∷ bs) e = let same : b ≡ 47 = cc in rw same (omega arith)
-
-line_passed : (bs : List ℕ) → first bs ≡ Some 47 → suc (length (line bs) - 1) ≡ length (line bs)
-line_passed bs e = let h = line_stands bs e in omega arith
-
--- a comment up to the end of the line
-pub comment_passed : (old new : Scan) → first (left old) ≡ Some 47 → first (drop 1 (left old)) ≡ Some 47 → left new ≡ drop (length (line (left old))) (left old) → place new ≡ walk (place old) (line (left old)) → Next (comment_piece (left old)) old (Ok None) new
-comment_passed old new e f l p =
-    let n = line_passed (left old) e in
-    subst (λ (q : Piece Word). Next q old (Ok None) new)
-    (ap (λ (x : Bool). cond x (Passed (length (line (left old)) - 1)) (Wrong Grammar)) (sym (starts_by (drop 1 (left old)) f))) (
-      refl,
-      record {
-        rest = l ∙ ap (λ (k : ℕ). drop k (left old)) (sym n);
-        at = p ∙ ap (walk (place old)) (sym (take_line (left old)) ∙ ap (λ (k : ℕ). take k (left old)) (sym n));
-      },
-    )
-
 -- the bytes of names are ASCII
 range_small : (lo hi b : ℕ) → hi < 128 → is_in_range lo hi b ≡ true → b < 128
-range_small lo hi b h e = let m = leb-true b hi (second_of (nat_le lo b) (nat_le b hi) e) in omega (arith, m, h)
+range_small lo hi b h e = let m = leb-true b hi (and_parts (nat_le lo b) (nat_le b hi) e).1 in omega (arith, m, h)
 
 equal_small : (b k : ℕ) → k < 128 → (b == k) ≡ true → b < 128
 equal_small b k h e = let m = eqb-true b k e in omega (arith, m, h)

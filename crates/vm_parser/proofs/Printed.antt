@@ -1,12 +1,14 @@
 -- The printed form of a file spells it.
 use Rattle.std.proofs.Common.{◌≡◌, ℕ, ◌≤◌, Bool, true, false, cond, List, [], ◌∷◌, ◌++◌, length, map, Option, Some, None, Ok, Err, refl, sym, ap, subst, ◌∙◌, arith, append_assoc, leb-true}
 use Rattle.std.specs.Prelude.{codes}
-use Rattle.std.proofs.lemmas.Bool.{le-ltb}
+use Rattle.std.proofs.lemmas.Bool.{le-ltb, and_parts}
 use Rattle.std.proofs.lemmas.List.{append-nil}
 use Rattle.scan_text.specs.declared.Place.{Place}
 use Rattle.scan_text.specs.Text.{start, walk}
 use Rattle.grammar.specs.declared.Fault.TheVariants.{Range}
 use Rattle.grammar.specs.Cutting.{cut}
+use Rattle.grammar.specs.Lines.{is_open}
+use Rattle.grammar.proofs.LinePieces.{close_none, cut_within}
 use Rattle.grammar.specs.Rules.{seq, enters, Skip, Leaf, Pair, Reads, marked, worded, both, left, at_end, ended, again}
 use Rattle.vm_tree.specs.Printed.{operation_text, segment_text, command_text, lines_text, with_number, function_text, functions_text, file_text, program_text}
 use Rattle.vm_tree.specs.declared.command.Operation.{Operation}
@@ -19,14 +21,14 @@ use Rattle.vm_tree.specs.declared.command.Line.{Line}
 use Rattle.vm_tree.specs.declared.program.Function.{Function}
 use Rattle.vm_tree.specs.declared.program.File.{File}
 use Rattle.vm_parser.specs.declared.token.Kind.TheVariants as kind
-use Rattle.vm_parser.specs.Tokens.{Word, made, named, piece, close, is_open, tokens_of, finish}
+use Rattle.vm_parser.specs.Tokens.{Word, made, named, piece, line_end_token, ends, close, finish}
 use Rattle.vm_parser.specs.Grammar as rules
 use Rattle.vm_parser.specs.Grammar.{Said, Number, vm, greatest, most_of, may_come, index, location, line_end, line, lines, opening, whole}
 use Rattle.vm_parser.specs.Files.{command_tree, line_tree, lines_tree, location_tree, commands, WrittenFunction, function_tree, functions_tree, function_of, Opening, opening_tree, opening_of, WrittenFile, file_of, Spells}
 use Rattle.vm_parser.specs.Printing.{all, is_text_of_name, can_be_written, line_can, function_can, opening_can, file_can, read_lines, read_function, read_file}
 use Rattle.vm_parser.proofs.Commands.{R, push_read, pop_read, label_read, goto_read, if_goto_read, call_read, return_read}
-use Rattle.vm_parser.proofs.Entered.{skip, entered}
-use Rattle.vm_parser.proofs.WordsCut.{Item, IsItem, word_item, if_goto_item, number_item, word_is, if_goto_is, number_is, first_of, second_of}
+use Rattle.grammar.proofs.Entered.{skip, entered}
+use Rattle.vm_parser.proofs.WordsCut.{Item, IsItem, word_item, if_goto_item, number_item, word_is, if_goto_is, number_is}
 use Rattle.vm_parser.proofs.LinesCut.{Cut, cut_none, cut_both, AreItems, line_text, line_tokens, line_cut}
 
 -- the words of a command
@@ -97,11 +99,11 @@ index_small g i h = omega (arith, h, most_small g)
 are_items : (c : Command) → can_be_written c ≡ true → IsItem (first_item c) × AreItems (rest_items c)
 are_items (command.Operate o) h = (word_is (operation_text o) (operation_named o), tt)
 are_items (command.Push g i) h = (word_is (codes "push") refl, (word_is (segment_text g) (segment_named g), (number_is i (index_small g i (leb-true i (most_of g) h)), tt)))
-are_items (command.Pop g i) h = (word_is (codes "pop") refl, (word_is (segment_text g) (segment_named g), (number_is i (index_small g i (leb-true i (most_of g) (second_of _ _ h))), tt)))
+are_items (command.Pop g i) h = (word_is (codes "pop") refl, (word_is (segment_text g) (segment_named g), (number_is i (index_small g i (leb-true i (most_of g) (and_parts _ _ h).1)), tt)))
 are_items (command.Label l) h = (word_is (codes "label") refl, (word_is l h, tt))
 are_items (command.Goto l) h = (word_is (codes "goto") refl, (word_is l h, tt))
 are_items (command.IfGoto l) h = (if_goto_is, (word_is l h, tt))
-are_items (command.Call f n) h = (word_is (codes "call") refl, (word_is f (first_of _ _ h), (number_is n (leb-true n 32767 (second_of _ _ h)), tt)))
+are_items (command.Call f n) h = (word_is (codes "call") refl, (word_is f (and_parts _ _ h).0, (number_is n (leb-true n 32767 (and_parts _ _ h).1), tt)))
 are_items command.Return h = (word_is (codes "return") refl, tt)
 
 abbrev command_tokens : Place → Command → List Word
@@ -145,7 +147,7 @@ module _ (end : Place) where
   command_read (command.Operate operation.Or) h at ts = both (left refl (worded refl refl)) (marked refl)
   command_read (command.Operate operation.Not) h at ts = both (left refl (worded refl refl)) (marked refl)
   command_read (command.Push g i) h at ts = both (push_read end _ refl (both (marked refl) (location_read true g i _ _ _ (may_all g) (leb-true i (most_of g) h)))) (marked refl)
-  command_read (command.Pop g i) h at ts = both (pop_read end _ refl (both (marked refl) (location_read false g i _ _ _ (first_of _ _ h) (leb-true i (most_of g) (second_of _ _ h))))) (marked refl)
+  command_read (command.Pop g i) h at ts = both (pop_read end _ refl (both (marked refl) (location_read false g i _ _ _ (and_parts _ _ h).0 (leb-true i (most_of g) (and_parts _ _ h).1)))) (marked refl)
   command_read (command.Label l) h at ts = both (label_read end _ refl (both (marked refl) (worded refl refl))) (marked refl)
   command_read (command.Goto l) h at ts = both (goto_read end _ refl (both (marked refl) (worded refl refl))) (marked refl)
   command_read (command.IfGoto l) h at ts = both (if_goto_read end _ refl (both (marked refl) (worded refl refl))) (marked refl)
@@ -170,12 +172,12 @@ abbrev lines_tokens : Place → List Line → List Word
 lines_tokens at [] = []
 lines_tokens at (l ∷ ls) = command_tokens at l.command ++ lines_tokens (walk at (command_text l.command)) ls
 
-lines_cut : (ls : List Line) → all line_can ls ≡ true → (at : Place) (last : Option Word) → is_open last ≡ false → (rest : List ℕ) → Cut (lines_text ls) at (lines_tokens at ls) last rest
+lines_cut : (ls : List Line) → all line_can ls ≡ true → (at : Place) (last : Option Word) → is_open ends last ≡ false → (rest : List ℕ) → Cut (lines_text ls) at (lines_tokens at ls) last rest
 lines_cut [] h at last o rest = cut_none at last rest o
 lines_cut (l ∷ ls) h at last o rest =
     cut_both (command_text l.command) (lines_text ls) at _ _ last rest o
-    (λ la oa r. command_cut l.command (first_of _ _ h) at la r)
-    (λ la oa r. lines_cut ls (second_of _ _ h) (walk at (command_text l.command)) la oa r)
+    (λ la oa r. command_cut l.command (and_parts _ _ h).0 at la r)
+    (λ la oa r. lines_cut ls (and_parts _ _ h).1 (walk at (command_text l.command)) la oa r)
 
 abbrev written_lines : List Line → List (Option Command)
 written_lines ls = map (λ (l : Line). Some l.command) ls
@@ -184,8 +186,8 @@ lines_read : (end : Place) (ls : List Line) → all line_can ls ≡ true → (at
 lines_read end [] h at ts e = ended e
 lines_read end (l ∷ ls) h at ts e =
     let us : List Word = lines_tokens (walk at (command_text l.command)) ls ++ ts in
-    let p = line_read end l.command (first_of _ _ h) at us in
-    let whole = again (entered Word ℕ (Unit {0}) Said (vm end) p refl) p (lines_read end ls (second_of _ _ h) (walk at (command_text l.command)) ts e) in
+    let p = line_read end l.command (and_parts _ _ h).0 at us in
+    let whole = again (entered Word ℕ (Unit {0}) Said (vm end) p refl) p (lines_read end ls (and_parts _ _ h).1 (walk at (command_text l.command)) ts e) in
     subst (λ vs. R end lines vs (lines_tree (written_lines (l ∷ ls))) ts) (sym (append_assoc (command_tokens at l.command) (lines_tokens (walk at (command_text l.command)) ls) ts)) whole
 
 commands_written : (ls : List Line) → commands (written_lines ls) ≡ read_lines ls
@@ -210,32 +212,32 @@ head_is f = refl
 
 head_cut : (f : Function) → function_can f ≡ true → (at : Place) (last : Option Word) (rest : List ℕ) → Cut (head_text f) at (head_tokens at f) last rest
 head_cut f h at last rest =
-    let locals = leb-true f.locals 32767 (first_of _ _ (second_of _ _ h)) in
-    subst (λ x. Cut x at (head_tokens at f) last rest) (sym (head_is f)) (line_cut (word_item (codes "function")) (head_items f) (word_is (codes "function") refl) (word_is f.name (first_of _ _ h), (number_is f.locals locals, tt)) at last rest)
+    let locals = leb-true f.locals 32767 (and_parts _ _ (and_parts _ _ h).1).0 in
+    subst (λ x. Cut x at (head_tokens at f) last rest) (sym (head_is f)) (line_cut (word_item (codes "function")) (head_items f) (word_is (codes "function") refl) (word_is f.name (and_parts _ _ h).0, (number_is f.locals locals, tt)) at last rest)
 
-function_cut : (f : Function) → function_can f ≡ true → (at : Place) (last : Option Word) → is_open last ≡ false → (rest : List ℕ) → Cut (function_text f) at (function_tokens at f) last rest
+function_cut : (f : Function) → function_can f ≡ true → (at : Place) (last : Option Word) → is_open ends last ≡ false → (rest : List ℕ) → Cut (function_text f) at (function_tokens at f) last rest
 function_cut f h at last o rest =
     cut_both (head_text f) (lines_text f.lines) at _ _ last rest o
     (λ la oa r. head_cut f h at la r)
-    (λ la oa r. lines_cut f.lines (second_of _ _ (second_of _ _ h)) (walk at (head_text f)) la oa r)
+    (λ la oa r. lines_cut f.lines (and_parts _ _ (and_parts _ _ h).1).1 (walk at (head_text f)) la oa r)
 
 abbrev written : Function → WrittenFunction
 written f = record { name = f.name; locals = f.locals; lines = written_lines f.lines }
 
 function_read : (end : Place) (f : Function) → function_can f ≡ true → (at : Place) (ts : List Word) → enters (vm end) line ts ≡ false → R end rules.function (function_tokens at f ++ ts) (function_tree (written f)) ts
 function_read end f h at ts e =
-    both (marked refl) (both (worded refl refl) (both (worded refl refl) (both (marked refl) (lines_read end f.lines (second_of _ _ (second_of _ _ h)) (walk at (head_text f)) ts e))))
+    both (marked refl) (both (worded refl refl) (both (worded refl refl) (both (marked refl) (lines_read end f.lines (and_parts _ _ (and_parts _ _ h).1).1 (walk at (head_text f)) ts e))))
 
 abbrev functions_tokens : Place → List Function → List Word
 functions_tokens at [] = []
 functions_tokens at (f ∷ fs) = function_tokens at f ++ functions_tokens (walk at (function_text f)) fs
 
-functions_cut : (fs : List Function) → all function_can fs ≡ true → (at : Place) (last : Option Word) → is_open last ≡ false → (rest : List ℕ) → Cut (functions_text fs) at (functions_tokens at fs) last rest
+functions_cut : (fs : List Function) → all function_can fs ≡ true → (at : Place) (last : Option Word) → is_open ends last ≡ false → (rest : List ℕ) → Cut (functions_text fs) at (functions_tokens at fs) last rest
 functions_cut [] h at last o rest = cut_none at last rest o
 functions_cut (f ∷ fs) h at last o rest =
     cut_both (function_text f) (functions_text fs) at _ _ last rest o
-    (λ la oa r. function_cut f (first_of _ _ h) at la oa r)
-    (λ la oa r. functions_cut fs (second_of _ _ h) (walk at (function_text f)) la oa r)
+    (λ la oa r. function_cut f (and_parts _ _ h).0 at la oa r)
+    (λ la oa r. functions_cut fs (and_parts _ _ h).1 (walk at (function_text f)) la oa r)
 
 no_line : (end : Place) (at : Place) (fs : List Function) → enters (vm end) line (functions_tokens at fs) ≡ false
 no_line end at [] = refl
@@ -245,7 +247,7 @@ functions_read : (end : Place) (fs : List Function) → all function_can fs ≡ 
 functions_read end [] h at = ended refl
 functions_read end (f ∷ fs) h at =
     let next = walk at (function_text f) in
-    again refl (function_read end f (first_of _ _ h) at (functions_tokens next fs) (no_line end next fs)) (functions_read end fs (second_of _ _ h) next)
+    again refl (function_read end f (and_parts _ _ h).0 at (functions_tokens next fs) (no_line end next fs)) (functions_read end fs (and_parts _ _ h).1 next)
 
 functions_written : (fs : List Function) → map function_of (map written fs) ≡ map read_function fs
 functions_written [] = refl
@@ -276,28 +278,22 @@ opening_written false [] h = refl
 opening_written false (l ∷ ls) h = absurd cc
 
 -- the whole file
-closed_none : (last : Option Word) (at : Place) → is_open last ≡ false → close last at ≡ []
-closed_none last at o = ap (λ t. cond t (made kind.LineEnd at ∷ []) []) o
-
 abbrev file_tokens : (f : File) → List Word
 file_tokens f = lines_tokens start f.opening ++ functions_tokens (walk start (lines_text f.opening)) f.functions
 
 file_cut : (bare : Bool) (f : File) → file_can bare f ≡ true → cut piece close None 0 start (program_text (f ∷ [])) ≡ Ok (file_tokens f)
 file_cut bare f h =
     let q = cut_both (lines_text f.opening) (functions_text f.functions) start (lines_tokens start f.opening) (functions_tokens (walk start (lines_text f.opening)) f.functions) None [] refl
-    (λ la oa r. lines_cut f.opening (opening_all bare f.opening (first_of _ _ h)) start la oa r)
-    (λ la oa r. functions_cut f.functions (second_of _ _ h) (walk start (lines_text f.opening)) la oa r) in
-    q.cuts ∙ ap (λ us. Ok (file_tokens f ++ us)) (closed_none q.then_last (walk start (file_text f)) q.closed) ∙ ap Ok (append-nil (file_tokens f))
-
-within : (text : List ℕ) (ts : List Word) → length text ≤ 1048576 → cut piece close None 0 start text ≡ Ok ts → tokens_of text ≡ Ok ts
-within text ts h e = ap (λ t. cond t (Err (Range (record { line = 0; column = 0 }) 1048577)) (cut piece close None 0 start text)) (le-ltb _ _ h) ∙ e
+    (λ la oa r. lines_cut f.opening (opening_all bare f.opening (and_parts _ _ h).0) start la oa r)
+    (λ la oa r. functions_cut f.functions (and_parts _ _ h).1 (walk start (lines_text f.opening)) la oa r) in
+    q.cuts ∙ ap (λ us. Ok (file_tokens f ++ us)) (close_none line_end_token ends q.then_last (walk start (file_text f)) q.closed) ∙ ap Ok (append-nil (file_tokens f))
 
 pub printed_spells : (bare : Bool) (f : File) → file_can bare f ≡ true → length (program_text (f ∷ [])) ≤ 1048576 → Spells bare f.name (program_text (f ∷ [])) (read_file f ∷ [])
 printed_spells bare f h small =
     let text = program_text (f ∷ []) in
     let end = finish text in
     let w : WrittenFile bare = record { opening = written_opening bare f.opening; functions = map written f.functions } in
-    let o = opening_written bare f.opening (first_of _ _ h) in
+    let o = opening_written bare f.opening (and_parts _ _ h).0 in
     let fs = functions_written f.functions in
     let same : read_file f ≡ file_of bare f.name w = λ i. record { name = f.name; opening = sym o i; functions = sym fs i } in (
       w,
@@ -305,7 +301,7 @@ printed_spells bare f h small =
       (
         file_tokens f,
         greatest,
-        within text (file_tokens f) small (file_cut bare f h),
-        both (opening_read end bare f.opening (first_of _ _ h) start (walk start (lines_text f.opening)) f.functions) (both (functions_read end f.functions (second_of _ _ h) (walk start (lines_text f.opening))) at_end),
+        cut_within piece close text (file_tokens f) small (file_cut bare f h),
+        both (opening_read end bare f.opening (and_parts _ _ h).0 start (walk start (lines_text f.opening)) f.functions) (both (functions_read end f.functions (and_parts _ _ h).1 (walk start (lines_text f.opening))) at_end),
       ),
     )

@@ -1,27 +1,24 @@
 -- What is read can be written.
 use Rattle.std.proofs.Common.{◌≡◌, ℕ, zero, suc, Bool, true, false, cond, List, [], ◌∷◌, length, Option, Some, None, Result, Ok, Err, refl, sym, ap, subst, ◌∙◌}
 use Rattle.std.specs.Prelude.{◌||◌, ◌&&◌, ◌==◌, nat_lt, nat_le}
-use Rattle.std.proofs.lemmas.Bool.{ltb-false, le-leb}
+use Rattle.std.proofs.lemmas.Bool.{ltb-false, le-leb, and_parts, and_from}
 use Rattle.scan_text.specs.declared.Place.{Place}
 use Rattle.scan_text.specs.Text.{start, step, front, is_digit, digits, decimal, capped}
 use Rattle.grammar.specs.declared.Fault.{Fault}
 use Rattle.grammar.specs.declared.Fault.TheVariants.{Grammar, Range}
 use Rattle.grammar.specs.Cutting.{Piece, Passed, Token, Wrong, followed, cut_by, cut}
+use Rattle.grammar.specs.Lines.{comment_piece, line_end_piece, is_open}
 use Rattle.grammar.specs.Rules.{Skip, Leaf, Pair, Left, Right, Reads, marked, worded, at_end, both, left, right, passed, taken, ended, again, named as named_rule, inside}
 use Rattle.vm_tree.specs.declared.program.File.{File}
 use Rattle.vm_parser.specs.declared.token.Kind.{Kind}
 use Rattle.vm_parser.specs.declared.token.Kind.TheVariants as kind
 use Rattle.vm_parser.specs.declared.token.Role.{Role}
 use Rattle.vm_parser.specs.declared.token.Role.TheVariants as role
-use Rattle.vm_parser.specs.Tokens.{Word, made, piece, close, is_open, tokens_of, finish, begins_name, is_name_byte, begins_if_goto, number_piece, name_piece, word_piece, if_goto_piece, comment_piece, line_end_piece}
+use Rattle.vm_parser.specs.Tokens.{Word, made, piece, line_end_token, ends, close, tokens_of, finish, begins_name, is_name_byte, begins_if_goto, number_piece, name_piece, word_piece, if_goto_piece}
 use Rattle.vm_parser.specs.Grammar.{Said, Number, Part, vm, greatest, may_come, most_of, most_by, name_kind, number_kind, number_of, operation_role, segment_role, role_said, push, pop, label, goto, if_goto, call, command, lines, functions, opening, whole}
 use Rattle.vm_parser.specs.Files.{VmTree, file_of, Spells}
 use Rattle.vm_parser.specs.Printing.{all, is_text_of_name, can_be_written, line_can, function_can, opening_can, file_can}
 use Rattle.vm_parser.proofs.Exactness.{command_in, lines_in, functions_in, opening_in, file_in, file_told}
-use Rattle.vm_parser.proofs.WordsCut.{first_of, second_of}
-
-both_hold : (a b : Bool) → a ≡ true → b ≡ true → (a && b) ≡ true
-both_hold a b e f = rw (e, f) refl
 
 -- Tokens: a name is a name, and a number is at most 32,767.
 abbrev kind_can : Kind → List ℕ → Bool
@@ -39,7 +36,7 @@ PieceCan (Token t n) = (at : Place) → word_can (t at) ≡ true
 PieceCan (Wrong f) = Unit {0}
 
 all_front_by : (b : ℕ) (l : List ℕ) (t : Bool) → is_name_byte b ≡ t → all is_name_byte l ≡ true → all is_name_byte (cond t (b ∷ l) []) ≡ true
-all_front_by b l true e h = both_hold (is_name_byte b) (all is_name_byte l) e h
+all_front_by b l true e h = and_from (is_name_byte b) (all is_name_byte l) e h
 all_front_by b l false e h = refl
 
 all_front : (bs : List ℕ) → all is_name_byte (front is_name_byte bs) ≡ true
@@ -52,7 +49,7 @@ name_begins b e = rw e refl
 name_can : (b : ℕ) (bs : List ℕ) → begins_name b ≡ true → is_text_of_name (front is_name_byte (b ∷ bs)) ≡ true
 name_can b bs e =
     ap (λ (t : Bool). is_text_of_name (cond t (b ∷ front is_name_byte bs) [])) (name_begins b e)
-    ∙ both_hold (begins_name b) (all is_name_byte (front is_name_byte bs)) e (all_front bs)
+    ∙ and_from (begins_name b) (all is_name_byte (front is_name_byte bs)) e (all_front bs)
 
 word_piece_can : (b : ℕ) (bs : List ℕ) (t : Bool) → begins_name b ≡ true → PieceCan (cond t if_goto_piece (name_piece (b ∷ bs)))
 word_piece_can b bs true e = λ at. refl
@@ -70,7 +67,7 @@ line_end_can : (k : ℕ) (t : Bool) → PieceCan (cond t (Token (made kind.LineE
 line_end_can k true = λ at. refl
 line_end_can k false = tt
 
-piece_can_by : (blank digit letter slash : Bool) (b : ℕ) (bs : List ℕ) → begins_name b ≡ letter → PieceCan (cond blank (Passed 0) (cond digit (number_piece (b ∷ bs)) (cond letter (word_piece (b ∷ bs)) (cond slash (comment_piece (b ∷ bs)) (line_end_piece (b ∷ bs))))))
+piece_can_by : (blank digit letter slash : Bool) (b : ℕ) (bs : List ℕ) → begins_name b ≡ letter → PieceCan (cond blank (Passed 0) (cond digit (number_piece (b ∷ bs)) (cond letter (word_piece (b ∷ bs)) (cond slash (comment_piece (b ∷ bs)) (line_end_piece line_end_token (b ∷ bs))))))
 piece_can_by true digit letter slash b bs e = tt
 piece_can_by false true letter slash b bs e = number_can (capped (decimal 0 (digits (b ∷ bs)))) _ _ _ refl
 piece_can_by false false true slash b bs e = word_piece_can b bs (begins_if_goto (b ∷ bs)) e
@@ -89,7 +86,7 @@ close_can at false = refl
 followed_can : (w : Word) (r : Result (List Word) Fault) (ts : List Word) → word_can w ≡ true → ((us : List Word) → r ≡ Ok us → all word_can us ≡ true) → followed w r ≡ Ok ts → all word_can ts ≡ true
 followed_can w (Ok us) ts h rest e =
     let same : w ∷ us ≡ ts = cc in
-    subst (λ (l : List Word). all word_can l ≡ true) same (both_hold (word_can w) (all word_can us) h (rest us refl))
+    subst (λ (l : List Word). all word_can l ≡ true) same (and_from (word_can w) (all word_can us) h (rest us refl))
 followed_can w (Err f) ts h rest e = absurd cc
 
 cut_by_can : (p : Piece Word) (last : Option Word) (at : Place) (go : Option Word → ℕ → Result (List Word) Fault) (ts : List Word) → PieceCan p → ((l : Option Word) (n : ℕ) (us : List Word) → go l n ≡ Ok us → all word_can us ≡ true) → cut_by p last at go ≡ Ok ts → all word_can ts ≡ true
@@ -100,7 +97,7 @@ cut_by_can (Wrong f) last at go ts h rest e = absurd cc
 tokens_can : (last : Option Word) (n : ℕ) (at : Place) (bs : List ℕ) (ts : List Word) → cut piece close last n at bs ≡ Ok ts → all word_can ts ≡ true
 tokens_can last n at [] ts e =
     let same : close last at ≡ ts = cc in
-    subst (λ (l : List Word). all word_can l ≡ true) same (close_can at (is_open last))
+    subst (λ (l : List Word). all word_can l ≡ true) same (close_can at (is_open ends last))
 tokens_can last zero at (b ∷ bs) ts e =
     cut_by_can (piece (b ∷ bs)) last at (λ l n. cut piece close l n (step at b) bs) ts (piece_can (b ∷ bs)) (λ l n us f. tokens_can l n (step at b) bs us f) e
 tokens_can last (suc n) at (b ∷ bs) ts e = tokens_can last n (step at b) bs ts e
@@ -157,7 +154,7 @@ pushed_can role.Return n e h = absurd cc
 pushed_can role.Plain n e h = absurd cc
 
 popped_can : (r : Role) (n : ℕ) → segment_role false r ≡ true → nat_le n (most_by r) ≡ true → can_be_written (command_in (Right (Right (Left (Pair Skip (Pair (Leaf (role_said r)) (Leaf (Number n)))))))) ≡ true
-popped_can (role.Segment g) n e h = both_hold (may_come false g) (nat_le n (most_of g)) e h
+popped_can (role.Segment g) n e h = and_from (may_come false g) (nat_le n (most_of g)) e h
 popped_can (role.Operation o) n e h = absurd cc
 popped_can role.Push n e h = absurd cc
 popped_can role.Pop n e h = absurd cc
@@ -183,8 +180,8 @@ module _ (end : Place) where
 
   -- what is left of such tokens
   left_can : {s s' : ℕ} {r : Part} {ts us : List Word} {x : VmTree} → Reads Word ℕ (Unit {0}) Said (vm end) s r ts x s' us → all word_can ts ≡ true → all word_can us ≡ true
-  left_can (marked {t = t} {ts = ts} e) h = second_of (word_can t) (all word_can ts) h
-  left_can (worded {t = t} {ts = ts} e c) h = second_of (word_can t) (all word_can ts) h
+  left_can (marked {t = t} {ts = ts} e) h = (and_parts (word_can t) (all word_can ts) h).1
+  left_can (worded {t = t} {ts = ts} e c) h = (and_parts (word_can t) (all word_can ts) h).1
   left_can at_end h = h
   left_can (both p q) h = left_can q (left_can p h)
   left_can (left e p) h = left_can p h
@@ -203,21 +200,21 @@ module _ (end : Place) where
   pop_can (both (marked k) (both (worded {s' = s1} {t = t} i c) (worded {s' = s2} {t = u} j d))) = popped_can t.role (number_of u.kind) i (index_can t.role u.kind u.place s1 s2 c d)
 
   label_can : {s s' : ℕ} {ts us : List Word} {x : VmTree} → Reads Word ℕ (Unit {0}) Said (vm end) s label ts x s' us → all word_can ts ≡ true → can_be_written (command_in (Right (Right (Right (Left x))))) ≡ true
-  label_can (both (marked {t = k} e) (worded {t = t} {ts = ts} i c)) h = name_said_can t.kind t.text i (first_of (word_can t) (all word_can ts) (second_of (word_can k) (all word_can (t ∷ ts)) h))
+  label_can (both (marked {t = k} e) (worded {t = t} {ts = ts} i c)) h = name_said_can t.kind t.text i (and_parts (word_can t) (all word_can ts) (and_parts (word_can k) (all word_can (t ∷ ts)) h).1).0
 
   goto_can : {s s' : ℕ} {ts us : List Word} {x : VmTree} → Reads Word ℕ (Unit {0}) Said (vm end) s goto ts x s' us → all word_can ts ≡ true → can_be_written (command_in (Right (Right (Right (Right (Left x)))))) ≡ true
-  goto_can (both (marked {t = k} e) (worded {t = t} {ts = ts} i c)) h = name_said_can t.kind t.text i (first_of (word_can t) (all word_can ts) (second_of (word_can k) (all word_can (t ∷ ts)) h))
+  goto_can (both (marked {t = k} e) (worded {t = t} {ts = ts} i c)) h = name_said_can t.kind t.text i (and_parts (word_can t) (all word_can ts) (and_parts (word_can k) (all word_can (t ∷ ts)) h).1).0
 
   if_goto_can : {s s' : ℕ} {ts us : List Word} {x : VmTree} → Reads Word ℕ (Unit {0}) Said (vm end) s if_goto ts x s' us → all word_can ts ≡ true → can_be_written (command_in (Right (Right (Right (Right (Right (Left x))))))) ≡ true
-  if_goto_can (both (marked {t = k} e) (worded {t = t} {ts = ts} i c)) h = name_said_can t.kind t.text i (first_of (word_can t) (all word_can ts) (second_of (word_can k) (all word_can (t ∷ ts)) h))
+  if_goto_can (both (marked {t = k} e) (worded {t = t} {ts = ts} i c)) h = name_said_can t.kind t.text i (and_parts (word_can t) (all word_can ts) (and_parts (word_can k) (all word_can (t ∷ ts)) h).1).0
 
   call_can : {s s' : ℕ} {ts us : List Word} {x : VmTree} → Reads Word ℕ (Unit {0}) Said (vm end) s call ts x s' us → all word_can ts ≡ true → can_be_written (command_in (Right (Right (Right (Right (Right (Right (Left x)))))))) ≡ true
   call_can (both (marked {t = k} e) (both (worded {t = t} i c) (worded {t = u} {ts = ts} j d))) h =
-      let names = second_of (word_can k) (all word_can (t ∷ u ∷ ts)) h in
-      let numbers = second_of (word_can t) (all word_can (u ∷ ts)) names in
-      both_hold (is_text_of_name t.text) (nat_le (number_of u.kind) greatest)
-      (name_said_can t.kind t.text i (first_of (word_can t) (all word_can (u ∷ ts)) names))
-      (number_said_can u.kind u.text j (first_of (word_can u) (all word_can ts) numbers))
+      let names = (and_parts (word_can k) (all word_can (t ∷ u ∷ ts)) h).1 in
+      let numbers = (and_parts (word_can t) (all word_can (u ∷ ts)) names).1 in
+      and_from (is_text_of_name t.text) (nat_le (number_of u.kind) greatest)
+      (name_said_can t.kind t.text i (and_parts (word_can t) (all word_can (u ∷ ts)) names).0)
+      (number_said_can u.kind u.text j (and_parts (word_can u) (all word_can ts) numbers).0)
 
   command_can : {s s' : ℕ} {ts us : List Word} {x : VmTree} → Reads Word ℕ (Unit {0}) Said (vm end) s command ts x s' us → all word_can ts ≡ true → can_be_written (command_in x) ≡ true
   command_can (left e (worded {t = t} i c)) h = operation_can t.role i
@@ -232,23 +229,23 @@ module _ (end : Place) where
   -- lines
   lines_can : {s s' : ℕ} {ts us : List Word} {x : VmTree} → Reads Word ℕ (Unit {0}) Said (vm end) s lines ts x s' us → all word_can ts ≡ true → all line_can (lines_in x) ≡ true
   lines_can (ended e) h = refl
-  lines_can (again e (left f (marked {t = k} {ts = vs} g)) q) h = lines_can q (second_of (word_can k) (all word_can vs) h)
+  lines_can (again e (left f (marked {t = k} {ts = vs} g)) q) h = lines_can q (and_parts (word_can k) (all word_can vs) h).1
   lines_can (again {y = y} e (right f g (both {x = x} p (marked {t = k} {ts = vs} i))) q) h =
-      both_hold (can_be_written (command_in x)) (all line_can (lines_in y)) (command_can p h)
-      (lines_can q (second_of (word_can k) (all word_can vs) (left_can p h)))
+      and_from (can_be_written (command_in x)) (all line_can (lines_in y)) (command_can p h)
+      (lines_can q (and_parts (word_can k) (all word_can vs) (left_can p h)).1)
 
   -- functions
   functions_can : {s s' : ℕ} {ts us : List Word} {x : VmTree} → Reads Word ℕ (Unit {0}) Said (vm end) s functions ts x s' us → all word_can ts ≡ true → all function_can (functions_in x) ≡ true
   functions_can (ended e) h = refl
   functions_can (again {y = y} e (both (marked {t = k} f) (both (worded {t = t} i c) (both (worded {t = u} j d) (both {y = body} (marked {t = l} {ts = vs} g) p)))) q) h =
-      let names = second_of (word_can k) (all word_can (t ∷ u ∷ l ∷ vs)) h in
-      let numbers = second_of (word_can t) (all word_can (u ∷ l ∷ vs)) names in
-      let bodies = second_of (word_can l) (all word_can vs) (second_of (word_can u) (all word_can (l ∷ vs)) numbers) in
-      let name = name_said_can t.kind t.text i (first_of (word_can t) (all word_can (u ∷ l ∷ vs)) names) in
-      let locals = number_said_can u.kind u.text j (first_of (word_can u) (all word_can (l ∷ vs)) numbers) in
-      let rest = both_hold (nat_le (number_of u.kind) greatest) (all line_can (lines_in body)) locals (lines_can p bodies) in
-      both_hold (is_text_of_name t.text && (nat_le (number_of u.kind) greatest && all line_can (lines_in body))) (all function_can (functions_in y))
-      (both_hold (is_text_of_name t.text) (nat_le (number_of u.kind) greatest && all line_can (lines_in body)) name rest)
+      let names = (and_parts (word_can k) (all word_can (t ∷ u ∷ l ∷ vs)) h).1 in
+      let numbers = (and_parts (word_can t) (all word_can (u ∷ l ∷ vs)) names).1 in
+      let bodies = (and_parts (word_can l) (all word_can vs) (and_parts (word_can u) (all word_can (l ∷ vs)) numbers).1).1 in
+      let name = name_said_can t.kind t.text i (and_parts (word_can t) (all word_can (u ∷ l ∷ vs)) names).0 in
+      let locals = number_said_can u.kind u.text j (and_parts (word_can u) (all word_can (l ∷ vs)) numbers).0 in
+      let rest = and_from (nat_le (number_of u.kind) greatest) (all line_can (lines_in body)) locals (lines_can p bodies) in
+      and_from (is_text_of_name t.text && (nat_le (number_of u.kind) greatest && all line_can (lines_in body))) (all function_can (functions_in y))
+      (and_from (is_text_of_name t.text) (nat_le (number_of u.kind) greatest && all line_can (lines_in body)) name rest)
       (functions_can q (left_can p bodies))
 
   -- what stands before them
@@ -258,7 +255,7 @@ module _ (end : Place) where
 
   file_read_can : (bare : Bool) (name : List ℕ) {s s' : ℕ} {ts us : List Word} {x : VmTree} → Reads Word ℕ (Unit {0}) Said (vm end) s (whole bare) ts x s' us → all word_can ts ≡ true → file_can bare (file_in bare name x) ≡ true
   file_read_can bare name (both {x = o} p (both {x = fs} q at_end)) h =
-      both_hold (opening_can bare (opening_in bare o)) (all function_can (functions_in fs)) (opening_read_can bare p h) (functions_can q (left_can p h))
+      and_from (opening_can bare (opening_in bare o)) (all function_can (functions_in fs)) (opening_read_can bare p h) (functions_can q (left_can p h))
 
 pub spelled_can : (bare : Bool) (name text : List ℕ) (p : List File) → Spells bare name text p → all (file_can bare) p ≡ true
 spelled_can bare name text p h =
@@ -267,4 +264,4 @@ spelled_can bare name text p h =
     let one : file_can bare (file_of bare name w) ≡ true =
     subst (λ (f : File). file_can bare f ≡ true) (file_told bare name w)
     (file_read_can (finish text) bare name read.3 (text_can text read.0 read.2)) in
-    subst (λ (q : List File). all (file_can bare) q ≡ true) (sym h.1) (both_hold (file_can bare (file_of bare name w)) true one refl)
+    subst (λ (q : List File). all (file_can bare) q ≡ true) (sym h.1) (and_from (file_can bare (file_of bare name w)) true one refl)

@@ -9,7 +9,7 @@ use Rattle.vm_tree.specs.declared.program.File.{File}
 use Rattle.vm_parser.specs.Files.{read_line, commands, WrittenFunction, function_of, Opening, opening_of, WrittenFile, file_of, Spells}
 use Rattle.vm_parser.specs.Printing.{all, file_can, read_lines, read_function, read_file}
 use Rattle.vm_parser.proofs.Readable.{spelled_can}
-use Rattle.vm_parser.proofs.WordsCut.{first_of}
+use Rattle.std.proofs.lemmas.Bool.{and_parts}
 use Rattle.vm_parser.proofs.Printed.{printed_spells}
 
 commands_same : (ls : List (Option Command)) → read_lines (commands ls) ≡ commands ls
@@ -33,7 +33,7 @@ spelled_again bare name text p h small =
     let f = file_of bare name h.0 in
     let can : all (file_can bare) (f ∷ []) ≡ true = subst (λ (q : List File). all (file_can bare) q ≡ true) h.1 (spelled_can bare name text p h) in
     let short : length (program_text (f ∷ [])) ≤ 1048576 = subst (λ (q : List File). length (program_text q) ≤ 1048576) h.1 small in
-    let one = subst (λ (g : File). Spells bare name (program_text (f ∷ [])) (g ∷ [])) (file_same bare name h.0) (printed_spells bare f (first_of (file_can bare f) true can) short) in
+    let one = subst (λ (g : File). Spells bare name (program_text (f ∷ [])) (g ∷ [])) (file_same bare name h.0) (printed_spells bare f (and_parts (file_can bare f) true can).0 short) in
     subst (λ (q : List File). Spells bare name (program_text q) q) (sym h.1) one
 
 -- of what a reader returned

@@ -1,27 +1,20 @@
 -- The words of a printed line are cut as they are written.
 use Rattle.std.proofs.Common.{◌≡◌, ℕ, zero, suc, ◌+◌, ◌-◌, ◌<◌, ◌≤◌, ◌^◌, Bool, true, false, cond, List, [], ◌∷◌, ◌++◌, length, take, refl, ap, subst, ◌∙◌, arith, eqb-true, leb-true}
-use Rattle.std.specs.Prelude.{◌||◌, ◌&&◌, ◌==◌, nat_lt, min, codes}
+use Rattle.std.specs.Prelude.{◌||◌, ◌&&◌, ◌==◌, nat_le, nat_lt, min, codes}
 use Rattle.std.specs.Fmt as fmt
 use Rattle.std.specs.Str.{bytes_eq, all_ascii_digits}
-use Rattle.std.proofs.lemmas.Bool.{le-ltb}
+use Rattle.std.proofs.lemmas.Bool.{le-ltb, and_parts}
 use Rattle.std.proofs.lemmas.Fmt.{digits_decimal, digits_value-decimal, decimal_is_IsNumeral}
 use Rattle.std.proofs.lemmas.Str.Parse.{IsNumeralModel, numerals_by_fold, tells_all_ascii_digits}
 use Rattle.scan_text.specs.declared.Place.{Place}
 use Rattle.scan_text.specs.Text.{front, is_digit, digits, decimal, capped}
 use Rattle.grammar.specs.declared.Fault.TheVariants.{Range}
 use Rattle.grammar.specs.Cutting.{Passed, Token, Wrong}
+use Rattle.grammar.specs.Lines.{comment_piece, line_end_piece}
 use Rattle.vm_parser.specs.declared.token.Kind.TheVariants as kind
 use Rattle.vm_parser.specs.declared.token.Role.TheVariants as role
-use Rattle.vm_parser.specs.Tokens.{Word, made, named, piece, begins_name, is_name_byte, begins_if_goto, number_piece, word_piece, name_piece, if_goto_piece, comment_piece, line_end_piece}
+use Rattle.vm_parser.specs.Tokens.{Word, made, named, line_end_token, piece, begins_name, is_name_byte, begins_if_goto, number_piece, word_piece, name_piece, if_goto_piece}
 use Rattle.vm_parser.specs.Printing.{all, is_text_of_name}
-
-pub first_of : (a b : Bool) → (a && b) ≡ true → a ≡ true
-first_of true b e = refl
-first_of false b e = absurd cc
-
-pub second_of : (a b : Bool) → (a && b) ≡ true → b ≡ true
-second_of true b e = e
-second_of false b e = absurd cc
 
 -- the bytes behind a word: a space or a line feed
 abbrev pub stops : ℕ → Bool
@@ -31,7 +24,7 @@ stops b = b == 32 || b == 10
 front_all : (test : ℕ → Bool) (w : List ℕ) (b : ℕ) (more : List ℕ) → all test w ≡ true → test b ≡ false → front test (w ++ b ∷ more) ≡ w
 front_all test [] b more h n = ap (λ t. cond t (b ∷ front test more) []) n
 front_all test (c ∷ w) b more h n =
-    ap (λ t. cond t (c ∷ front test (w ++ b ∷ more)) []) (first_of _ _ h) ∙ ap (λ l. c ∷ l) (front_all test w b more (second_of _ _ h) n)
+    ap (λ t. cond t (c ∷ front test (w ++ b ∷ more)) []) (and_parts _ _ h).0 ∙ ap (λ l. c ∷ l) (front_all test w b more (and_parts _ _ h).1 n)
 
 -- a test that holds of one byte and not of another tells them apart
 apart_by : (test : ℕ → Bool) (k c : ℕ) (t : Bool) → (c == k) ≡ t → test c ≡ true → test k ≡ false → (c == k) ≡ false
@@ -66,8 +59,9 @@ no_name (suc (suc (suc (suc (suc (suc (suc (suc (suc (suc k)))))))))) h = absurd
 
 no_digit_by : (c : ℕ) (t : Bool) → is_digit c ≡ t → begins_name c ≡ true → is_digit c ≡ false
 no_digit_by c true e h =
-    let low = leb-true 48 c (first_of _ _ e) in
-    let high = leb-true c 57 (second_of _ _ e) in
+    let both = and_parts (nat_le 48 c) (nat_le c 57) e in
+    let low = leb-true 48 c both.0 in
+    let high = leb-true c 57 both.1 in
     let k : c ≡ 48 + (c - 48) = omega (arith, low) in
     let no : begins_name c ≡ false = ap begins_name k ∙ no_name (c - 48) (omega (arith, low, high)) in
     absurd (cc (h, no))
@@ -81,7 +75,7 @@ bytes_equal : (xs ys : List ℕ) → bytes_eq xs ys ≡ true → xs ≡ ys
 bytes_equal [] [] e = refl
 bytes_equal [] (y ∷ ys) e = absurd cc
 bytes_equal (x ∷ xs) [] e = absurd cc
-bytes_equal (x ∷ xs) (y ∷ ys) e = let a = eqb-true x y (first_of _ _ e) in let b = bytes_equal xs ys (second_of _ _ e) in λ i. a i ∷ b i
+bytes_equal (x ∷ xs) (y ∷ ys) e = let a = eqb-true x y (and_parts _ _ e).0 in let b = bytes_equal xs ys (and_parts _ _ e).1 in λ i. a i ∷ b i
 
 no_dash : (c : ℕ) (cs : List ℕ) (b : ℕ) (more : List ℕ) → all is_name_byte cs ≡ true → stops b ≡ true → take 7 ((c ∷ cs) ++ b ∷ more) ≡ codes "if-goto" → ⊥
 no_dash c [] b more h s e =
@@ -92,7 +86,8 @@ no_dash c (d ∷ []) b more h s e =
     let no : stops 45 ≡ true = subst (λ k. stops k ≡ true) same s in absurd cc
 no_dash c (d ∷ x ∷ cs) b more h s e =
     let same : x ≡ 45 = cc in
-    let no : is_name_byte 45 ≡ true = subst (λ k. is_name_byte k ≡ true) same (first_of _ _ (second_of _ _ h)) in absurd cc
+    let behind = (and_parts (is_name_byte d) (all is_name_byte (x ∷ cs)) h).1 in
+    let no : is_name_byte 45 ≡ true = subst (λ k. is_name_byte k ≡ true) same (and_parts (is_name_byte x) (all is_name_byte cs) behind).0 in absurd cc
 
 no_if_goto_by : (c : ℕ) (cs : List ℕ) (b : ℕ) (more : List ℕ) (t : Bool) → begins_if_goto ((c ∷ cs) ++ b ∷ more) ≡ t → all is_name_byte cs ≡ true → stops b ≡ true → begins_if_goto ((c ∷ cs) ++ b ∷ more) ≡ false
 no_if_goto_by c cs b more true e h s = absurd (no_dash c cs b more h s (bytes_equal (take 7 ((c ∷ cs) ++ b ∷ more)) (codes "if-goto") e))
@@ -108,9 +103,9 @@ name_cuts c cs b more h a s =
     let blank : (c == 32 || c == 9) ≡ false = neither_of _ _ (apart begins_name 32 c h refl) (apart begins_name 9 c h refl) in
     let whole : all is_name_byte (c ∷ cs) ≡ true = rw (h, a) refl in
     let run : front is_name_byte bs ≡ c ∷ cs = front_all is_name_byte (c ∷ cs) b more whole (stop_by is_name_byte b s refl refl) in
-    ap (λ t. cond t (Passed 0) (cond (is_digit c) (number_piece bs) (cond (begins_name c) (word_piece bs) (cond (c == 47) (comment_piece bs) (line_end_piece bs))))) blank
-    ∙ ap (λ t. cond t (number_piece bs) (cond (begins_name c) (word_piece bs) (cond (c == 47) (comment_piece bs) (line_end_piece bs)))) (name_is_no_digit c h)
-    ∙ ap (λ t. cond t (word_piece bs) (cond (c == 47) (comment_piece bs) (line_end_piece bs))) h
+    ap (λ t. cond t (Passed 0) (cond (is_digit c) (number_piece bs) (cond (begins_name c) (word_piece bs) (cond (c == 47) (comment_piece bs) (line_end_piece line_end_token bs))))) blank
+    ∙ ap (λ t. cond t (number_piece bs) (cond (begins_name c) (word_piece bs) (cond (c == 47) (comment_piece bs) (line_end_piece line_end_token bs)))) (name_is_no_digit c h)
+    ∙ ap (λ t. cond t (word_piece bs) (cond (c == 47) (comment_piece bs) (line_end_piece line_end_token bs))) h
     ∙ ap (λ t. cond t if_goto_piece (name_piece bs)) (no_if_goto c cs b more a s)
     ∙ ap (λ l. Token (named l) (length l - 1)) run
 
@@ -122,8 +117,8 @@ number_cuts c cs b n more h a s v small =
     let run : digits bs ≡ c ∷ cs = front_all is_digit (c ∷ cs) b more whole (stop_by is_digit b s refl refl) in
     let value : capped (decimal 0 (digits bs)) ≡ n = ap (λ l. capped (decimal 0 l)) run ∙ ap capped v ∙ omega (arith, small) in
     let fits : nat_lt 32767 (capped (decimal 0 (digits bs))) ≡ false = le-ltb _ _ (omega (arith, value, small)) in
-    ap (λ t. cond t (Passed 0) (cond (is_digit c) (number_piece bs) (cond (begins_name c) (word_piece bs) (cond (c == 47) (comment_piece bs) (line_end_piece bs))))) blank
-    ∙ ap (λ t. cond t (number_piece bs) (cond (begins_name c) (word_piece bs) (cond (c == 47) (comment_piece bs) (line_end_piece bs)))) h
+    ap (λ t. cond t (Passed 0) (cond (is_digit c) (number_piece bs) (cond (begins_name c) (word_piece bs) (cond (c == 47) (comment_piece bs) (line_end_piece line_end_token bs))))) blank
+    ∙ ap (λ t. cond t (number_piece bs) (cond (begins_name c) (word_piece bs) (cond (c == 47) (comment_piece bs) (line_end_piece line_end_token bs)))) h
     ∙ ap (λ t. cond t (Wrong (λ at. Range at (min (capped (decimal 0 (digits bs))) 1000000000))) (Token (made (kind.Number (capped (decimal 0 (digits bs))))) (length (digits bs) - 1))) fits
     ∙ (λ i. Token (made (kind.Number (value i))) (length (run i) - 1))
 
@@ -147,7 +142,7 @@ number_item n = record { text = fmt.decimal n; token = made (kind.Number n) }
 
 pub word_is : (w : List ℕ) → is_text_of_name w ≡ true → IsItem (word_item w)
 word_is [] h = absurd cc
-word_is (c ∷ cs) h = record { some = omega arith; cuts = λ b more s. name_cuts c cs b more (first_of _ _ h) (second_of _ _ h) s }
+word_is (c ∷ cs) h = record { some = omega arith; cuts = λ b more s. name_cuts c cs b more (and_parts _ _ h).0 (and_parts _ _ h).1 s }
 
 pub if_goto_is : IsItem if_goto_item
 if_goto_is = record { some = omega arith; cuts = λ b more s. refl }
@@ -158,13 +153,13 @@ model = numerals_by_fold (λ ds. all_ascii_digits ds ≡ true) tells_all_ascii_d
 all_digits : (ds : List ℕ) → all_ascii_digits ds ≡ true → all is_digit ds ≡ true
 all_digits [] h = refl
 all_digits (c ∷ ds) h =
-    let a : is_digit c ≡ true = first_of (is_digit c) (all_ascii_digits ds) h in
-    let b : all is_digit ds ≡ true = all_digits ds (second_of (is_digit c) (all_ascii_digits ds) h) in
+    let a : is_digit c ≡ true = (and_parts (is_digit c) (all_ascii_digits ds) h).0 in
+    let b : all is_digit ds ≡ true = all_digits ds (and_parts (is_digit c) (all_ascii_digits ds) h).1 in
     (λ i. a i && all is_digit ds) ∙ b
 
 number_by : (ds : List ℕ) (n : ℕ) → 0 < length ds → all_ascii_digits ds ≡ true → decimal 0 ds ≡ n → n ≤ 32767 → IsItem (record { text = ds; token = made (kind.Number n) })
 number_by [] n some h v small = absurd (omega arith)
-number_by (c ∷ cs) n some h v small = record { some = omega arith; cuts = λ b more s. number_cuts c cs b n more (first_of _ _ h) (all_digits cs (second_of _ _ h)) s v small }
+number_by (c ∷ cs) n some h v small = record { some = omega arith; cuts = λ b more s. number_cuts c cs b n more (and_parts _ _ h).0 (all_digits cs (and_parts _ _ h).1) s v small }
 
 pub number_is : (n : ℕ) → n ≤ 32767 → IsItem (number_item n)
 number_is n small =

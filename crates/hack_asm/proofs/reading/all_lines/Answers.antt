@@ -9,7 +9,7 @@ use Rattle.std.proofs.lemmas.List.{map-append}
 use Rattle.grammar.specs.Reading.{memory}
 use Rattle.hack_asm.specs.Tokens.{Word}
 use Rattle.hack_asm.specs.Assembly.{Said}
-use Rattle.hack_asm.proofs.Entered.{entered}
+use Rattle.grammar.proofs.Entered.{entered}
 use Rattle.hack_asm.proofs.Whole.{line_stops, all_read}
 
 pub returns-in_err-line : goal.returns-in_err-line

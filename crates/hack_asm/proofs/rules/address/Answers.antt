@@ -2,7 +2,7 @@ use Rattle.std.proofs.Common.{sym, ◌∙◌, refl}
 use Rattle.std.proofs.lemmas.Result.{err_from_is_err_and}
 use Rattle.grammar.specs.Rules.{both, left}
 use Rattle.grammar.proofs.Exits.{halt_first, halt_second, halt_left}
-use Rattle.hack_asm.proofs.Entered.{skip, halt_skip}
+use Rattle.grammar.proofs.Entered.{skip, halt_skip}
 use Rattle.hack_asm.proofs.rules.address.Goals as goal
 
 pub returns-in_err-rest : goal.returns-in_err-rest

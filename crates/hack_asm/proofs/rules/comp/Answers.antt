@@ -7,7 +7,7 @@ use Rattle.hack_asm.proofs.Letters.{with_letter, with_letter_stops, without_lett
 use Rattle.hack_asm.specs.Assembly.{unary, maybe_operation}
 use Rattle.hack_asm.specs.Tokens.{Word}
 use Rattle.hack_asm.specs.Assembly.{Said}
-use Rattle.hack_asm.proofs.Entered.{entered}
+use Rattle.grammar.proofs.Entered.{entered}
 use Rattle.hack_asm.proofs.rules.comp.Goals as goal
 
 pub returns-in_err-prefix : goal.returns-in_err-prefix

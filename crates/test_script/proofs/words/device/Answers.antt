@@ -1,7 +1,0 @@
-use Rattle.grammar.proofs.Steps.{ParsesBy-word}
-use Rattle.test_script.specs.Tokens.{view}
-use Rattle.test_script.specs.Script.{script, is_device, free, placed, Word'}
-use Rattle.test_script.proofs.words.device.Goals as goal
-
-pub returns-clause-reads : goal.returns-clause-reads
-returns-clause-reads c = ParsesBy-word view (script c.args.end) is_device free placed Word' (λ _. c.args.nesting) c.args.nesting _ _ c.device_at.ensures.reads
