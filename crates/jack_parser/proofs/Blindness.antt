@@ -275,12 +275,11 @@ none_left : (us : List Word) → map told [] ≡ map told us → us ≡ []
 none_left [] e = refl
 none_left (u ∷ us) e = absurd cc
 
-abbrev SpellsAlike : List ℕ → Tree Said → Type 0
+abbrev pub SpellsAlike : List ℕ → Tree Said → Type 0
 SpellsAlike text x = (y : Tree Said) × Spells text y × (seen_by unplaced x ≡ seen_by unplaced y)
 
-read_again : (text out : List ℕ) (c : Class) (ts us : List Word) (s' : Counts) → Reads Word Counts Part Said (jack (finish text)) (fresh 0) whole ts (whole_tree c) s' [] → map told us ≡ map told ts → tokens_of out ≡ Ok us → SpellsAlike out (whole_tree c)
-read_again text out c ts us s' h same cut =
-    let at = finish text in
+pub read_again : (at : Place) (out : List ℕ) (x : Tree Said) (ts us : List Word) (s' : Counts) → Reads Word Counts Part Said (jack at) (fresh 0) whole ts x s' [] → map told us ≡ map told ts → tokens_of out ≡ Ok us → SpellsAlike out x
+read_again at out x ts us s' h same cut =
     let m = alike.read_alike Word Counts Part Said W Said (jack at) told unplaced opens_same (part_blind at) (whole_blind at) h us (sym same) in
     let all = subst (λ (l : List Word). Reads Word Counts Part Said (jack at) (fresh 0) whole us m.tree s' l) (none_left m.rest m.same_rest) m.reads in
     (m.tree, (us, s', cut, ends_anywhere at (finish out) all), m.same_tree)
@@ -291,4 +290,4 @@ printed_spells text c s small =
     let told_tokens = tokens_told text c ts s.2 s in
     let same = ap (flat_map set_off) told_tokens in
     let printed = printed_tokens text ts s.2 (subst (λ (l : List ℕ). length l ≤ 1048576) (sym same) small) in
-    read_again text (class_text c) c ts printed.0 s.1 s.3 printed.2 (ap tokens_of (sym same) ∙ printed.1)
+    read_again (finish text) (class_text c) (whole_tree c) ts printed.0 s.1 s.3 printed.2 (ap tokens_of (sym same) ∙ printed.1)

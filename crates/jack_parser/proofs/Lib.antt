@@ -11,3 +11,17 @@ pub mod Spaced
 pub mod Alike
 pub mod Blindness
 mod WholeTexts
+mod Saying
+mod SeenTokens
+pub mod PlainTrees
+mod Reaching
+mod Kept
+pub mod SameTrees
+pub mod Found
+mod Building
+mod BuiltExpressions
+mod BuiltStatements
+mod BuiltClasses
+pub mod SameClass
+pub mod Spelt
+mod Rewritten

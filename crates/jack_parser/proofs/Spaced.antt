@@ -47,7 +47,7 @@ length_taken zero (b ∷ w) = omega arith
 length_taken (suc n) [] = omega arith
 length_taken (suc n) (b ∷ w) = let h = length_taken n w in omega (arith, h)
 
-abbrev All : (ℕ → Bool) → List ℕ → Type 0
+abbrev pub All : (ℕ → Bool) → List ℕ → Type 0
 All is [] = Unit {0}
 All is (b ∷ bs) = (is b ≡ true) × All is bs
 
@@ -301,7 +301,7 @@ digits_cut n h (b ∷ w) d t rest =
     }
 
 -- strings
-abbrev quoted : List ℕ → List ℕ
+abbrev pub quoted : List ℕ → List ℕ
 quoted u = 34 ∷ (u ++ 34 ∷ [])
 
 string_cut : (u : List ℕ) → All is_text_byte u → (t : Bool) (rest : List ℕ) → Cut kind.Text (quoted u) t rest
@@ -323,7 +323,7 @@ string_cut u a t rest =
           ∙ token_is kind.Text kind.Text (length w) (length w) all (quoted u) refl refl (front_taken 34 w (gap t ∷ rest));
     }
 
-unquoted_quoted : (u : List ℕ) → unquoted (quoted u) ≡ u
+pub unquoted_quoted : (u : List ℕ) → unquoted (quoted u) ≡ u
 unquoted_quoted u =
     let size : length (quoted u) - 2 ≡ length u = omega (arith, length-append u (34 ∷ [])) in
     (λ i. take (size i) (drop_none (u ++ 34 ∷ []) i)) ∙ take_length u (34 ∷ [])
@@ -363,7 +363,7 @@ abbrev pub AllGood : List Word → Type 0
 AllGood [] = Unit {0}
 AllGood (w ∷ ws) = Good w.kind w.text × AllGood ws
 
-abbrev C : Option Word → Place → List ℕ → Result (List Word) Fault
+abbrev pub C : Option Word → Place → List ℕ → Result (List Word) Fault
 C last at bs = cut (past_blanks piece) close last 0 at bs
 
 token_cut : (k : Kind) (text : List ℕ) (t : Bool) (rest : List ℕ) (last : Option Word) (at : Place) → (c : Cut k text t rest)

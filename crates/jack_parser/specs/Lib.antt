@@ -5,4 +5,10 @@ pub mod StatementTrees
 pub mod ClassTrees
 pub mod Whole
 pub mod Printed
+pub mod Keywords
+pub mod Spelling
+pub mod Limits
+pub mod Spelled
+pub mod Rows
+pub mod PrintedClass
 pub mod Written

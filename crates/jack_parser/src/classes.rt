@@ -42,6 +42,7 @@ fn names<'a>(
         so_far = with_it;
         rest = after;
     }
+    more.shrink_to_fit();
     Ok(((Names { first, more }, so_far), rest))
 }
 
@@ -134,6 +135,7 @@ fn all_variables<'a>(
         so_far = with_it;
         rest = after;
     }
+    all.shrink_to_fit();
     Ok(((all, so_far), rest))
 }
 
@@ -182,6 +184,7 @@ fn all_locals<'a>(
         so_far = with_it;
         rest = after;
     }
+    all.shrink_to_fit();
     Ok(((all, so_far), rest))
 }
 
@@ -224,6 +227,7 @@ fn parameter_list<'a>(
         so_far = with_it;
         rest = after;
     }
+    parameters.shrink_to_fit();
     Ok(((parameters, so_far), rest))
 }
 
@@ -316,6 +320,7 @@ fn subroutines<'a>(
         all.push(one)?;
         rest = after;
     }
+    all.shrink_to_fit();
     Ok((all, rest))
 }
 

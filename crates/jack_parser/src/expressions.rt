@@ -42,6 +42,7 @@ pub fn expression<'a>(
         })?;
         rest = after;
     }
+    operations.shrink_to_fit();
     let expression = Expression {
         first,
         rest: operations,
@@ -184,6 +185,7 @@ fn arguments<'a>(
         so_far = with_it;
         rest = after;
     }
+    arguments.shrink_to_fit();
     Ok((arguments, rest))
 }
 

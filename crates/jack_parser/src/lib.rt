@@ -12,6 +12,9 @@ mod reading;
 mod statements;
 mod words;
 
-pub use laws::{lawful, printed_law, reading_law, tokens_law};
+pub use laws::{
+    class_law, keyword_law, lawful, printed_class_law, printed_law, reading_law, rows_law,
+    spelled_law, tokens_law,
+};
 pub use printing::print;
 pub use reading::parse_class;

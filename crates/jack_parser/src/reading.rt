@@ -5,8 +5,11 @@ ghost use Rattle.scan_text.specs.declared.Place.{Place};
 ghost use Rattle.grammar.specs.Rules.{Tree};
 ghost use Rattle.grammar.specs.declared.Fault.{Fault};
 ghost use Rattle.grammar.specs.Reading.{ParsesAllBy, Halt, Gives, end_at, Ends};
+ghost use Rattle.jack_tree.specs.Syntax as syntax;
+ghost use Rattle.jack_tree.specs.Seen.{the_class};
 ghost use Rattle.jack_tree.specs.Tokens.{view};
 ghost use Rattle.jack_parser.specs.Jack.{jack, Said, fresh, whole};
+ghost use Rattle.jack_parser.specs.Spelled.{SpellsClass};
 ghost use Rattle.jack_parser.specs.Whole.{whole_tree, Spells, Refuses};
 
 use crate::classes::class;
@@ -61,11 +64,14 @@ fn read(alloc: Global, file: &FileName, text: &[u8]) -> Result<Class, ReadError>
 
 /// The class that a text spells, with the name of its file.
 ///
-/// Grammar where a rule of the grammar stops, Range past a limit: an integer over 32,767, the 257th level of statements, `(`, `[` and
+/// Grammar where no token begins, at a string or a comment that is not closed, and where a rule of the grammar stops; Range past a limit: an integer over 32,767, the 257th level of statements, `(`, `[` and
 /// operators before a term, a string of more than 16,384 bytes, the 16,385th field or static of the class, parameter or local of a
 /// subroutine (at its name) and argument of a call (at its first token), a text of more than 1,048,576 (at 0:0).
 pub fn parse_class(alloc: Global, file: &FileName, text: &[u8]) -> Result<Class, ReadError>
-    // What is read is spelled so, and what is spelled is read, unless memory runs out.
+    // What is read is spelled so, and the class that is spelled is read, unless memory runs out.
+    ensures spelled { IfOk result (λ c. SpellsClass text.now (the_class c)) }
+    ensures read { (c : syntax.Class) → SpellsClass text.now c → Gives the_class result (Ok c) }
+    // The same, of trees of the grammar.
     ensures found { IfOk result (λ c. Spells text.now (whole_tree c)) }
     ensures only { (t : Tree Said) → Spells text.now t → Gives whole_tree result (Ok t) }
     // A fault is the text's first one, and each text with a fault gets it.

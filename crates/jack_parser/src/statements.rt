@@ -211,6 +211,7 @@ pub fn statements<'a>(
         statements.push(statement)?;
         rest = after;
     }
+    statements.shrink_to_fit();
     Ok((statements, rest))
 }
 

@@ -33,4 +33,4 @@ all-preserved c = rw c.in_ok-push-2.ensures.items record {
 }
 
 pub returns-clause-reads : goal.returns-clause-reads
-returns-clause-reads c = Along-ended (jack c.args.end) locals_rule locals_tree _ _ _ _ _ c.all.invariant.along (sym c.keyword_stands-in-all.ensures ∙ c.all-test.false)
+returns-clause-reads c = rw c.shrink_to_fit.ensures.items (Along-ended (jack c.args.end) locals_rule locals_tree _ _ _ _ _ c.all.invariant.along (sym c.keyword_stands-in-all.ensures ∙ c.all-test.false))

@@ -27,4 +27,4 @@ more-preserved c = rw c.in_ok-push.ensures.items record {
 }
 
 pub returns-clause-reads : goal.returns-clause-reads
-returns-clause-reads c = both c.in_ok-first.ensures.reads (Along-ended (jack c.args.end) (next_name c.args.counted) next_name_tree _ _ _ _ _ c.more.invariant.along (sym c.stands.ensures ∙ c.more-test.false))
+returns-clause-reads c = rw c.shrink_to_fit.ensures.items (both c.in_ok-first.ensures.reads (Along-ended (jack c.args.end) (next_name c.args.counted) next_name_tree _ _ _ _ _ c.more.invariant.along (sym c.stands.ensures ∙ c.more-test.false)))

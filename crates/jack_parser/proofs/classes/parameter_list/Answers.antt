@@ -31,4 +31,4 @@ more-preserved c = rw c.in_ok-push-2.ensures.items record {
 }
 
 pub returns-clause-reads : goal.returns-clause-reads
-returns-clause-reads c = done c.more.invariant.so_far (sym c.stands.ensures ∙ c.more-test.false)
+returns-clause-reads c = rw c.shrink_to_fit.ensures.items (done c.more.invariant.so_far (sym c.stands.ensures ∙ c.more-test.false))

@@ -36,7 +36,7 @@ expression-operators-preserved t c = rw c.in_ok-push.ensures.items record {
 }
 
 pub expression-returns-clause-reads : goal.expression-returns-clause-reads
-expression-returns-clause-reads t c = rw (made_expression _) (done c.operators.invariant.so_far (sym c.operates.ensures ∙ c.operators-test.false))
+expression-returns-clause-reads t c = rw (made_expression _, c.shrink_to_fit.ensures.items) (done c.operators.invariant.so_far (sym c.operates.ensures ∙ c.operators-test.false))
 
 pub negation-returns-clause-reads : goal.negation-returns-clause-reads
 negation-returns-clause-reads t c = rw c.in_ok-new.ensures.ok (negation_term c.requires.begun (both c.in_ok-sign.ensures.reads (inside_at (sym c.if-not-term_begins.ensures) c.here-2.ensures (sym c.in_ok-inner.ensures) c.in_ok-term.ensures.reads)))
@@ -138,7 +138,7 @@ arguments-more-preserved t c = rw c.in_ok-push-2.ensures.items record {
 }
 
 pub arguments-returns-clause-reads : goal.arguments-returns-clause-reads
-arguments-returns-clause-reads t c = rw (args_tree-some c.more.arguments.items c.more.invariant.some) (taken (sym c.if-not-term_begins.ensures) (inside (sym c.if-not-term_begins.ensures) c.more.invariant.so_far.1 (done c.more.invariant.so_far.2 (sym c.stands.ensures ∙ c.more-test.false))))
+arguments-returns-clause-reads t c = rw (c.shrink_to_fit.ensures.items, args_tree-some c.more.arguments.items c.more.invariant.some) (taken (sym c.if-not-term_begins.ensures) (inside (sym c.if-not-term_begins.ensures) c.more.invariant.so_far.1 (done c.more.invariant.so_far.2 (sym c.stands.ensures ∙ c.more-test.false))))
 
 pub variable-returns-then-call_begins-clause-reads : goal.variable-returns-then-call_begins-clause-reads
 variable-returns-then-call_begins-clause-reads t c =

@@ -3,7 +3,15 @@ use Rattle.grammar.proofs.Wholes.{one_tree, not_both, first_fault}
 use Rattle.jack_lexer.specs.Cut.{tokens_of, finish}
 use Rattle.jack_parser.specs.Jack.{jack, fresh, whole}
 use Rattle.jack_parser.specs.Whole.{whole_tree, Spells, Refuses}
+use Rattle.jack_parser.proofs.Found.{if_found}
+use Rattle.jack_parser.proofs.Spelt.{only_class}
 use Rattle.jack_parser.proofs.reading.parse_class.Goals as goal
+
+pub returns-clause-spelled : goal.returns-clause-spelled
+returns-clause-spelled c = if_found c.args.text.now c.read.result c.read.ensures.found
+
+pub returns-clause-read : goal.returns-clause-read
+returns-clause-read c k s = only_class c.args.text.now c.read.result c.read.ensures.found c.read.ensures.fault k s
 
 pub returns-clause-only : goal.returns-clause-only
 returns-clause-only c t =

@@ -51,7 +51,7 @@ statements-statements-preserved t c = rw c.in_ok-push-2.ensures.items record {
 }
 
 pub statements-returns-clause-reads : goal.statements-returns-clause-reads
-statements-returns-clause-reads t c = Along-ended (jack c.args.end) (name statement) statement_tree _ _ _ _ _ c.statements.invariant.along (sym c.statement_begins-in-statements.ensures ∙ c.statements-test.false)
+statements-returns-clause-reads t c = rw c.shrink_to_fit.ensures.items (Along-ended (jack c.args.end) (name statement) statement_tree _ _ _ _ _ c.statements.invariant.along (sym c.statement_begins-in-statements.ensures ∙ c.statements-test.false))
 
 pub statement-returns-then-not-statement_begins-clause-reads : goal.statement-returns-then-not-statement_begins-clause-reads
 statement-returns-then-not-statement_begins-clause-reads t c = rw c.here.ensures (fault (in_name (not_inside (sym c.if-not-statement_begins.ensures))))
