@@ -5,3 +5,16 @@ pub mod Rows
 pub mod Meanings
 pub mod Naming
 pub mod Declaring
+pub mod Finding
+pub mod Searched
+pub mod Searching
+pub mod Repeated
+pub mod Found
+pub mod Plainly
+pub mod Alike
+pub mod Resolving
+pub mod Wholly
+pub mod Telling
+pub mod Placed
+pub mod Meaningful
+pub mod MeantWholly

@@ -3,9 +3,27 @@ use Rattle.std.specs.Prelude.{◌≡◌, ℕ, Bool, Result, Ok, Err, List, [], �
 use Rattle.scan_text.specs.declared.Place.{Place}
 use Rattle.jack_names.specs.Tables.{first_of}
 use Rattle.jack_names.specs.declared.fault.NameKind.{NameKind}
+use Rattle.jack_names.specs.declared.fault.NameKind.TheVariants as kinds
 use Rattle.jack_names.specs.declared.fault.NameFault.{NameFault}
 use Rattle.jack_names.specs.declared.fault.NameError.{NameError}
 use Rattle.jack_names.specs.declared.fault.NameError.TheVariants as errors
+
+-- the kinds by number
+abbrev pub kind_number : NameKind → ℕ
+kind_number kinds.FileName = 1
+kind_number kinds.ClassTwice = 2
+kind_number kinds.MemberTwice = 3
+kind_number kinds.VariableTwice = 4
+kind_number kinds.UnknownVariable = 5
+kind_number kinds.UnknownClass = 6
+kind_number kinds.UnknownSubroutine = 7
+kind_number kinds.ArgumentCount = 8
+kind_number kinds.MethodByClass = 9
+kind_number kinds.FunctionByObject = 10
+kind_number kinds.ThisInFunction = 11
+kind_number kinds.FieldInFunction = 12
+kind_number kinds.OwnInFunction = 13
+kind_number kinds.NoMain = 14
 
 -- what is wrong, in which file, with which name, and where that stands
 pub record Told : Type 0 where

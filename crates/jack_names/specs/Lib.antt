@@ -7,6 +7,13 @@ pub mod Meant
 pub mod Twice
 pub mod Symbols
 pub mod Whole
+pub mod Using
+pub mod NameFaults
+pub mod FaultOrder
+pub mod Numbers
+pub mod Meaning
+pub mod Rows
+pub mod Laws
 pub mod Limits
 pub mod Resolved
 pub mod Messages

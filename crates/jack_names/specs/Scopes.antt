@@ -1,11 +1,11 @@
--- What names stand for in a subroutine, and what can be wrong with their uses.
+-- What names stand for in a subroutine, and the search for what is wrong with their uses: what it finds is said in NameFaults.
 use Rattle.std.specs.Prelude.{ℕ, Bool, true, false, not, List, [], ◌∷◌, Option, Some, None, if◌then◌else◌, ◌==◌, nat_lt, codes}
 use Rattle.scan_text.specs.declared.Place.{Place}
 use Rattle.jack_tree.specs.declared.tree.Name.{Name}
 use Rattle.jack_tree.specs.declared.tree.Form.{Form}
 use Rattle.jack_tree.specs.declared.tree.Form.TheVariants as form
 use Rattle.jack_names.specs.Tables.{first_of}
-use Rattle.jack_names.specs.Faults.{Told, Source, told_in, told_if, first_in}
+use Rattle.jack_names.specs.Faults.{Told, Source, kind_number, told_in, told_if, first_in}
 use Rattle.jack_names.specs.Uses.{Use, Variable, This, Calls, Makes, Text}
 use Rattle.jack_names.specs.declared.fault.NameKind.{NameKind}
 use Rattle.jack_names.specs.declared.fault.NameKind.TheVariants as kinds
@@ -117,22 +117,6 @@ made_name c f _ = f
 abbrev pub made_told : Source → List ℕ → List ℕ → Place → Option NameKind → Option Told
 made_told source c f at None = None
 made_told source c f at (Some k) = Some (told_in source (made_name c f k) at k)
-
-abbrev pub kind_number : NameKind → ℕ
-kind_number kinds.FileName = 1
-kind_number kinds.ClassTwice = 2
-kind_number kinds.MemberTwice = 3
-kind_number kinds.VariableTwice = 4
-kind_number kinds.UnknownVariable = 5
-kind_number kinds.UnknownClass = 6
-kind_number kinds.UnknownSubroutine = 7
-kind_number kinds.ArgumentCount = 8
-kind_number kinds.MethodByClass = 9
-kind_number kinds.FunctionByObject = 10
-kind_number kinds.ThisInFunction = 11
-kind_number kinds.FieldInFunction = 12
-kind_number kinds.OwnInFunction = 13
-kind_number kinds.NoMain = 14
 
 -- the second of two kinds is the lesser
 abbrev pub is_lesser : Option NameKind → Option NameKind → Bool

@@ -1,4 +1,4 @@
--- The faults of declared names: kinds 1 to 4.
+-- The search for faults of declared names: what it finds is said in NameFaults, kinds 1 to 4.
 use Rattle.std.specs.Prelude.{ℕ, Bool, List, [], ◌∷◌, ◌++◌, map, Option, Some, None, if◌then◌else◌, codes}
 use Rattle.std.specs.Str.{bytes_eq}
 use Rattle.jack_tree.specs.declared.tree.Name.{Name}

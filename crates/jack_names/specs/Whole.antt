@@ -1,4 +1,4 @@
--- The first name fault of a whole program, and the program that is meant where there is none. The classes of the folder come first, in order of
+-- The search for the first name fault of a whole program, which NameFaults and FaultOrder say, and the program that is meant where there is none. The classes of the folder come first, in order of
 -- file name, and those of the operating system after them (book, chapters 11 and 12).
 use Rattle.std.specs.Prelude.{◌≡◌, ℕ, ◌+◌, ◌-◌, max, Bool, true, false, List, [], ◌∷◌, ◌++◌, map, Option, Some, None, length, codes, if◌then◌else◌, nat_eq, ◌&&◌, slice_get}
 use Rattle.std.specs.Str.{bytes_eq}

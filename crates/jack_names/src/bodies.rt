@@ -157,7 +157,7 @@ pub(crate) fn statements_meant<'a>(
     ensures text { IfOk result (λ r. map the_statement r.0.items ≡ statements_meant (the_scope scope.now) first ss.now) }
     ensures next { IfOk result (λ r. r.1 ≡ first + sizes ss.now) }
 {
-    let mut texts = Vec::new(alloc);
+    let mut texts = Vec::with_capacity(alloc, ss.len())?;
     let mut number = first;
     for s in ss {
         let (text, next) = statement_meant(alloc, scope, number, s)?;

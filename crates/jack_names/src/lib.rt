@@ -6,6 +6,7 @@ mod checks;
 mod classes;
 mod fault;
 mod kinds;
+mod laws;
 mod meant;
 mod names;
 mod program;
@@ -16,6 +17,7 @@ mod twice;
 mod variables;
 
 pub use fault::{NameError, NameFault, NameKind};
+pub use laws::{meant_law, names_law};
 pub use program::resolve;
 // What the definitions of resolved names speak of.
 pub use scope::{Declared, Signature, Slot, Way};

@@ -300,8 +300,10 @@ pub(crate) fn expression_meant<'a>(
 ) -> Result<CoreExpression, AllocError>
     ensures { IfOk result (λ r. the_expression r ≡ exp_meant (the_scope scope.now) e.now) }
 {
-    let mut parts = Vec::new(alloc);
+    // A part for each term and each operator. Terms of more parts make room for them.
+    let mut parts = Vec::with_capacity(alloc, e.rest.len().saturating_mul(2).saturating_add(1))?;
     push_expression(&mut parts, scope, e)?;
+    parts.shrink_to_fit();
     Ok(CoreExpression { parts })
 }
 
@@ -312,8 +314,9 @@ pub(crate) fn call_meant<'a>(
 ) -> Result<CoreExpression, AllocError>
     ensures { IfOk result (λ r. the_expression r ≡ call_meant (the_scope scope.now) call.now) }
 {
-    let mut parts = Vec::new(alloc);
+    let mut parts = Vec::with_capacity(alloc, call.arguments.len().saturating_add(2))?;
     push_call(&mut parts, scope, call)?;
+    parts.shrink_to_fit();
     Ok(CoreExpression { parts })
 }
 
@@ -322,7 +325,7 @@ fn single(alloc: Global, part: Part) -> Result<CoreExpression, AllocError>
     requires { takes part ≡ 0 }
     ensures { IfOk result (λ r. the_expression r ≡ made part []) }
 {
-    let mut parts = Vec::new(alloc);
+    let mut parts = Vec::with_capacity(alloc, 1)?;
     push_value(&mut parts, part)?;
     Ok(CoreExpression { parts })
 }

@@ -8,7 +8,9 @@ ghost use Rattle.jack_names.specs.Symbols.{fields_of, statics_of};
 ghost use Rattle.jack_names.specs.Limits.{AreWithin, subroutine_count};
 ghost use Rattle.jack_names.specs.Whole.{declared_fault, is_plain, main_fault, all_statics, all_uses_fault, first_name_fault, all_subroutines_meant, start_subroutine, class_meant, program_meant, class_names, names_meant, all_names_meant};
 ghost use Rattle.jack_names.specs.Inner.Named.{with_all, the_symbols, marks};
-ghost use Rattle.jack_names.specs.Resolved.{Resolves, the_name, the_class_name};
+ghost use Rattle.jack_names.specs.Resolved.{Resolves, Tells, the_name, the_class_name};
+ghost use Rattle.jack_tree.specs.Seen.{the_file};
+ghost use Rattle.jack_names.specs.Meaning.{program_meaning};
 
 use crate::classes::{resolve_classes, resolve_system};
 use crate::fault::{File, NO_PLACE, NameError, NameKind, tell};
@@ -230,6 +232,8 @@ pub fn resolve<'a>(alloc: Global, own: &'a [Class], os: &'a [Class]) -> Result<C
     requires own { AreWithin own.now }
     requires os { AreWithin os.now }
     ensures checks { Resolves (first_name_fault own.now os.now) result }
+    ensures meaning { IfOk result (λ core. the_program core ≡ program_meaning (map the_file own.now) (map the_file os.now)) }
+    ensures tells { Tells (map the_file own.now) (map the_file os.now) result }
     ensures program { IfOk result (λ core. the_program core ≡ program_meant own.now os.now) }
     ensures names { IfOk result (λ core. names_of core ≡ all_names_meant own.now os.now) }
     ensures classes { IfOk result (λ core. class_names_of core ≡ class_names own.now ++ class_names os.now) }

@@ -71,6 +71,7 @@ fn body_meant<'a>(
         let value = literal(alloc, 0)?;
         body.push(CoreStatement::Return { number, value })?;
     }
+    body.shrink_to_fit();
     Ok(body)
 }
 

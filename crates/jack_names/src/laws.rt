@@ -1,0 +1,16 @@
+//! What holds of the names of every program.
+
+ghost use Rattle.jack_names.specs.Laws.{NamesLaw, MeantLaw};
+ghost use Rattle.jack_names.specs.Rows.{NameRows};
+
+/// The first fault of a program's names is the one that fails and behind which every other comes; and there is none exactly
+/// where none of the fourteen kinds fails. Small programs, with the first of their faults.
+pub fn names_law()
+    ensures law { NamesLaw }
+    ensures rows { NameRows }
+{}
+
+/// The program that classes mean is the one that their abstract syntax means.
+pub fn meant_law()
+    ensures { MeantLaw }
+{}
