@@ -1,2 +1,3 @@
-pub mod Joined
+pub mod Sketched
+pub mod Seen
 pub mod Spelling

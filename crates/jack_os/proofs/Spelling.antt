@@ -5,8 +5,10 @@ use Rattle.grammar.specs.declared.Fault.{Fault}
 use Rattle.grammar.specs.declared.ReadError.TheVariants as errors
 use Rattle.grammar.specs.Reading.{Halt, fault}
 use Rattle.jack_tree.specs.declared.tree.Class.{Class}
-use Rattle.jack_parser.specs.Whole.{Spells, Refuses, whole_tree}
-use Rattle.jack_os.specs.System.{Texts, SpellsClass, SpellClasses, HasFault, HasAdded, IsClassOf, AreClassesOf, added_to, system}
+use Rattle.jack_tree.specs.Seen.{the_class, the_file}
+use Rattle.jack_parser.specs.Spelled as spelling
+use Rattle.jack_parser.specs.Whole.{Refuses}
+use Rattle.jack_os.specs.System.{Texts, SpellsClass, SpellClasses, HasFault, IsClassOf, AreClassesOf, added_to, with_added, system}
 
 caused : (cause : Fault → Type 0) (f : Fault) → Halt cause (errors.Fault f) → cause f
 caused cause f (fault h) = h
@@ -49,10 +51,10 @@ module _ {S : Type 0} (sources : List S) (seen : S → List ℕ × List ℕ) (fi
       subst (λ (fs : Texts). take (i + 1) fs ≡ take i fs ++ here ∷ []) are parts
 
   module _ (cs : List Class) (before : AreClassesOf (take i files) cs) (name bytes : List ℕ) (named : name ≡ here.0) (text : bytes ≡ here.1) where
-    pub more : (read c : Class) (ds : List Class) → Spells bytes (whole_tree read) → read.file ≡ name → HasAdded (added_to read.file) read c → ds ≡ cs ++ c ∷ [] → AreClassesOf (take (i + 1) files) ds
+    pub more : (read c : Class) (ds : List Class) → spelling.SpellsClass bytes (the_class read) → read.file ≡ name → the_file c ≡ with_added (added_to read.file) (the_file read) → ds ≡ cs ++ c ∷ [] → AreClassesOf (take (i + 1) files) ds
     more read c ds h e added p =
-        let spells : SpellsClass here.0 here.1 read = (subst (λ (t : List ℕ). Spells t (whole_tree read)) text h, e ∙ named) in
-        let gets : HasAdded (added_to here.0) read c = subst (λ (f : List ℕ). HasAdded (added_to f) read c) (e ∙ named) added in
+        let spells : SpellsClass here.0 here.1 read = (subst (λ (t : List ℕ). spelling.SpellsClass t (the_class read)) text h, e ∙ named) in
+        let gets : the_file c ≡ with_added (added_to here.0) (the_file read) = added ∙ ap (λ (f : List ℕ). with_added (added_to f) (the_file read)) (e ∙ named) in
         let all = one_more (take i files) cs here.0 here.1 c before (read, spells, gets) in
         subst (AreClassesOf (take (i + 1) files)) (sym p) (subst (λ (fs : Texts). AreClassesOf fs (cs ++ c ∷ [])) (sym longer) all)
 

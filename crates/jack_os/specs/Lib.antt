@@ -1,3 +1,4 @@
+pub mod Inner
 pub mod Made
 pub mod Routines
 pub mod System

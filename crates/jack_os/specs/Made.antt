@@ -1,145 +1,90 @@
--- Trees of the grammar of Jack (book, chapter 10, figure 10.5) without a text: their names and keywords have no place.
-use Rattle.std.specs.Prelude.{ℕ, List, [], ◌∷◌, codes}
+-- Abstract syntax without a text: its names and keywords have no place (book, chapter 10, figure 10.5).
+use Rattle.std.specs.Prelude.{ℕ, List, [], ◌∷◌, Option, Some, None, codes}
 use Rattle.scan_text.specs.declared.Place.{Place}
-use Rattle.grammar.specs.Rules.{Tree, Leaf, Node, Pair, Skip, Left, Right, Absent, Present, NoMore, More}
-use Rattle.jack_tree.specs.declared.token.Keyword.{Keyword}
-use Rattle.jack_tree.specs.declared.token.Keyword.TheVariants as keyword
-use Rattle.jack_tree.specs.declared.token.Kind.TheVariants as kind
-use Rattle.jack_tree.specs.declared.tree.Operator.{Operator}
-use Rattle.jack_tree.specs.declared.tree.Operator.TheVariants as operator
-use Rattle.jack_tree.specs.declared.tree.Sign.{Sign}
-use Rattle.jack_parser.specs.Jack.{Said, Fixed, Placed}
-use Rattle.jack_parser.specs.Trees.{operator_said, sign_said}
-
-abbrev pub Jack : Type 0
-Jack = Tree Said
+use Rattle.jack_tree.specs.Syntax.{Name, Operator, Integer, Expression, Terms, NoOperation, Then, Term, Value, Variable, Element, Calls, NoExpression, More, Statement, Let, If, IfElse, While, Do, Return, Statements, End, Next, ValueType, Object, Locals, Parameter, Function, Subroutine}
 
 -- the place of what stands in no text
 abbrev pub nowhere : Place
 nowhere = record { line = 0; column = 0 }
 
-abbrev pub name_of : List ℕ → Jack
-name_of text = Leaf (Placed kind.Identifier text nowhere)
+abbrev pub name_of : List ℕ → Name
+name_of text = record { text = text; place = nowhere }
 
-abbrev pub word_of : Keyword → Jack
-word_of k = Leaf (Placed (kind.Keyword k) [] nowhere)
-
-abbrev pub fixed_word : Keyword → Jack
-fixed_word k = Leaf (Fixed (kind.Keyword k))
-
--- what stands between two symbols
-abbrev pub enclosed : Jack → Jack
-enclosed x = Pair Skip (Pair x Skip)
-
--- trees one after another
-abbrev pub row : List Jack → Jack
-row [] = NoMore
-row (x ∷ xs) = More x (row xs)
-
--- a row, and another behind it
-abbrev pub joined : Jack → Jack → Jack
-joined (More x xs) ys = More x (joined xs ys)
-joined _ ys = ys
-
--- trees behind commas
-abbrev pub more_of : List Jack → Jack
-more_of [] = NoMore
-more_of (x ∷ xs) = More (Pair Skip x) (more_of xs)
+-- statements one after another
+abbrev pub row : List Statement → Statements
+row [] = End
+row (s ∷ ss) = Next s (row ss)
 
 -- Terms.
 
-abbrev pub number : ℕ → Jack
-number n = Node (Left (Leaf (Fixed (kind.Integer n))))
+abbrev pub number : ℕ → Term
+number n = Value (Integer n)
 
-abbrev pub variable : List ℕ → Jack
-variable x = Node (Right (Left (Pair (name_of x) Absent)))
+abbrev pub variable : List ℕ → Term
+variable x = Variable (name_of x)
 
 -- `x[index]`
-abbrev pub element : List ℕ → Jack → Jack
-element x index = Node (Right (Left (Pair (name_of x) (Present (Left (enclosed (Node index)))))))
+abbrev pub element : List ℕ → Expression → Term
+element x index = Element (name_of x) index
 
--- `(inside)`
-abbrev pub group : Jack → Jack
-group inside = Node (Right (Right (Left (enclosed (Node inside)))))
+-- Expressions: a term alone, and two or three terms with operators between them, from left to right.
 
-abbrev pub signed : Sign → Jack → Jack
-signed s t = Node (Right (Right (Right (Pair (Leaf (sign_said s)) (Node t)))))
+abbrev pub alone : Term → Expression
+alone t = Terms t NoOperation
 
--- Expressions: a term alone, and one with an operator and a second term.
+abbrev pub pair_of : Term → Operator → Term → Expression
+pair_of a o b = Terms a (Then o nowhere b NoOperation)
 
-abbrev pub with_operator : Operator → Jack → Jack
-with_operator o t = Pair (Leaf (operator_said o nowhere)) t
-
-abbrev pub alone : Jack → Jack
-alone t = Node (Pair t NoMore)
-
-abbrev pub pair_of : Jack → Operator → Jack → Jack
-pair_of a o b = Node (Pair a (More (with_operator o b) NoMore))
-
--- `a - b < c`
-abbrev pub difference_below : Jack → Jack → Jack → Jack
-difference_below a b c = Node (Pair a (More (with_operator operator.Minus b) (More (with_operator operator.Less c) NoMore)))
+abbrev pub three_of : Term → Operator → Term → Operator → Term → Expression
+three_of a o b n c = Terms a (Then o nowhere b (Then n nowhere c NoOperation))
 
 -- Statements.
 
-abbrev pub let_variable : List ℕ → Jack → Jack
-let_variable x value = Node (Node (Left (Pair (word_of keyword.Let) (Pair (name_of x) (Pair Absent (Pair Skip (Pair value Skip)))))))
+abbrev pub let_variable : List ℕ → Expression → Statement
+let_variable x value = Let nowhere (name_of x) None value
 
 -- `let x[index] = value;`
-abbrev pub let_element : List ℕ → Jack → Jack → Jack
-let_element x index value =
-    Node (Node (Left (Pair (word_of keyword.Let) (Pair (name_of x) (Pair (Present (enclosed (Node index))) (Pair Skip (Pair value Skip)))))))
+abbrev pub let_element : List ℕ → Expression → Expression → Statement
+let_element x index value = Let nowhere (name_of x) (Some index) value
 
-abbrev pub if_else : Jack → Jack → Jack → Jack
-if_else condition body other = Node (Node (Right (Left (Pair (word_of keyword.If) (Pair (enclosed (Node condition)) (Pair (enclosed body) other))))))
+abbrev pub if_then : Expression → List Statement → Statement
+if_then condition body = If nowhere condition (row body)
 
-abbrev pub if_then : Jack → Jack → Jack
-if_then condition body = if_else condition body Absent
+abbrev pub if_else : Expression → List Statement → List Statement → Statement
+if_else condition body other = IfElse nowhere condition (row body) (row other)
 
-abbrev pub else_of : Jack → Jack
-else_of body = Present (Pair Skip (enclosed body))
-
-abbrev pub while_loop : Jack → Jack → Jack
-while_loop condition body = Node (Node (Right (Right (Left (Pair (word_of keyword.While) (Pair (enclosed (Node condition)) (enclosed body)))))))
+abbrev pub while_loop : Expression → List Statement → Statement
+while_loop condition body = While nowhere condition (row body)
 
 -- `do class.name(argument);`
-abbrev pub do_call : List ℕ → List ℕ → Jack → Jack
-do_call class name argument =
-    let arguments = Present (Node (Pair (Node argument) NoMore)) in
-    Node (Node (Right (Right (Right (Left (Pair (word_of keyword.Do) (Pair (name_of class) (Pair (Right (Pair Skip (Pair (name_of name) (enclosed arguments)))) Skip))))))))
+abbrev pub do_call : List ℕ → List ℕ → Expression → Statement
+do_call class name argument = Do nowhere (Calls (Some (name_of class)) (name_of name) (More argument NoExpression))
 
-abbrev pub return_of : Jack → Jack
-return_of value = Node (Node (Right (Right (Right (Right (Pair (word_of keyword.Return) (Pair value Skip)))))))
+abbrev pub return_value : Expression → Statement
+return_value e = Return nowhere (Some e)
 
-abbrev pub return_value : Jack → Jack
-return_value e = return_of (Present e)
+abbrev pub return_nothing : Statement
+return_nothing = Return nowhere None
 
-abbrev pub return_nothing : Jack
-return_nothing = return_of Absent
+-- Declarations.
 
--- Declarations. A type is a leaf.
-
-abbrev pub int_type : Jack
-int_type = fixed_word keyword.Int
-
-abbrev pub array_type : Jack
-array_type = name_of (codes "Array")
-
-abbrev pub no_type : Jack
-no_type = fixed_word keyword.Void
+abbrev pub array_type : ValueType
+array_type = Object (name_of (codes "Array"))
 
 -- `var kind first, ..;`
-abbrev pub locals_of : Jack → List ℕ → Jack → Jack
-locals_of kind first others = Pair Skip (Pair kind (Pair (Pair (name_of first) others) Skip))
+abbrev pub locals_of : ValueType → List ℕ → List Name → Locals
+locals_of kind first others = record { type = kind; names = record { first = name_of first; more = others } }
 
-abbrev pub parameter : Jack → List ℕ → Jack
-parameter kind x = Pair kind (name_of x)
+abbrev pub parameter : ValueType → List ℕ → Parameter
+parameter kind x = record { type = kind; name = name_of x }
 
--- one parameter or more
-abbrev pub parameters_of : Jack → Jack → Jack
-parameters_of first others = Present (Pair first others)
-
--- `function kind name(parameters) { locals statements }`
-abbrev pub function_of : Jack → List ℕ → Jack → Jack → Jack → Jack
-function_of kind name parameters locals statements =
-    Node (Pair (fixed_word keyword.Function) (Pair kind (Pair (name_of name) (Pair Skip (Pair parameters (Pair Skip (Pair Skip (Pair locals (Pair statements Skip)))))))))
+-- `function result name(parameters) { locals statements }`
+abbrev pub function_of : Option ValueType → List ℕ → List Parameter → List Locals → List Statement → Subroutine
+function_of result name parameters locals statements = record {
+  form = Function;
+  result = result;
+  name = name_of name;
+  parameters = parameters;
+  locals = locals;
+  statements = row statements;
+}

@@ -1,77 +1,74 @@
 -- The five subroutines of the operating system that are made without a text: multiplication, division and the heap (book, chapter 12). Each stands
--- here as its tree, below the text that it is the tree of.
-use Rattle.std.specs.Prelude.{ℕ, List, [], ◌∷◌, codes}
-use Rattle.grammar.specs.Rules.{Absent, NoMore}
-use Rattle.jack_tree.specs.declared.tree.Operator.{Operator}
-use Rattle.jack_tree.specs.declared.tree.Operator.TheVariants as operator
-use Rattle.jack_tree.specs.declared.tree.Sign.TheVariants as sign
-use Rattle.jack_os.specs.Made.{Jack, name_of, row, joined, more_of, number, variable, element, group, signed, alone, pair_of, difference_below, let_variable, let_element, if_else, if_then, else_of, while_loop, do_call, return_value, return_nothing, int_type, array_type, no_type, locals_of, parameter, parameters_of, function_of}
+-- here as its abstract syntax, below the text that spells it.
+use Rattle.std.specs.Prelude.{ℕ, List, [], ◌∷◌, Some, None, codes}
+use Rattle.jack_tree.specs.Syntax.{Operator, Plus, Minus, And, Less, Greater, Equal, Negate, Not, Expression, Term, Group, Unary, Statement, Int, Locals, Parameter, Subroutine}
+use Rattle.jack_os.specs.Made.{name_of, number, variable, element, alone, pair_of, three_of, let_variable, let_element, if_then, if_else, while_loop, do_call, return_value, return_nothing, array_type, locals_of, parameter, function_of}
 
 -- Parts that are used several times.
 
-abbrev pub named : List ℕ → Jack
+abbrev pub named : List ℕ → Expression
 named x = alone (variable x)
 
-abbrev pub numbered : ℕ → Jack
+abbrev pub numbered : ℕ → Expression
 numbered n = alone (number n)
 
 -- `~(e)`
-abbrev pub not_of : Jack → Jack
-not_of e = alone (signed sign.Not (group e))
+abbrev pub not_of : Expression → Expression
+not_of e = alone (Unary Not (Group e))
 
 -- `-x`
-abbrev pub minus_of : List ℕ → Jack
-minus_of x = alone (signed sign.Minus (variable x))
+abbrev pub minus_of : List ℕ → Expression
+minus_of x = alone (Unary Negate (variable x))
 
 -- two variables with an operator, and a variable and a number
-abbrev pub both : List ℕ → Operator → List ℕ → Jack
+abbrev pub both : List ℕ → Operator → List ℕ → Expression
 both x o y = pair_of (variable x) o (variable y)
 
-abbrev pub against : List ℕ → Operator → ℕ → Jack
+abbrev pub against : List ℕ → Operator → ℕ → Expression
 against x o n = pair_of (variable x) o (number n)
 
 -- `let x = y;`, `let x = n;`
-abbrev pub let_named : List ℕ → List ℕ → Jack
+abbrev pub let_named : List ℕ → List ℕ → Statement
 let_named x y = let_variable x (named y)
 
-abbrev pub let_number : List ℕ → ℕ → Jack
+abbrev pub let_number : List ℕ → ℕ → Statement
 let_number x n = let_variable x (numbered n)
 
 -- `let x[i] = n;`, `let x[i] = y;`
-abbrev pub let_word : List ℕ → ℕ → ℕ → Jack
+abbrev pub let_word : List ℕ → ℕ → ℕ → Statement
 let_word x i n = let_element x (numbered i) (numbered n)
 
-abbrev pub let_link : List ℕ → ℕ → List ℕ → Jack
+abbrev pub let_link : List ℕ → ℕ → List ℕ → Statement
 let_link x i y = let_element x (numbered i) (named y)
 
-abbrev pub return_number : ℕ → Jack
+abbrev pub return_number : ℕ → Statement
 return_number n = return_value (numbered n)
 
-abbrev pub return_named : List ℕ → Jack
+abbrev pub return_named : List ℕ → Statement
 return_named x = return_value (named x)
 
 -- `let x = x + x;`
-abbrev pub doubled : List ℕ → Jack
-doubled x = let_variable x (both x operator.Plus x)
+abbrev pub doubled : List ℕ → Statement
+doubled x = let_variable x (both x Plus x)
 
 -- `let x = x + 1;`
-abbrev pub one_more : List ℕ → Jack
-one_more x = let_variable x (against x operator.Plus 1)
+abbrev pub one_more : List ℕ → Statement
+one_more x = let_variable x (against x Plus 1)
 
 -- `~(i = 16)`
-abbrev pub before_sixteen : Jack
-before_sixteen = not_of (against (codes "i") operator.Equal 16)
+abbrev pub before_sixteen : Expression
+before_sixteen = not_of (against (codes "i") Equal 16)
 
 -- `do Sys.error(n);`
-abbrev pub error : ℕ → Jack
+abbrev pub error : ℕ → Statement
 error n = do_call (codes "Sys") (codes "error") (numbered n)
 
-abbrev pub refuse : Jack → ℕ → Jack
-refuse condition n = if_then condition (row (error n ∷ []))
+abbrev pub refuse : Expression → ℕ → Statement
+refuse condition n = if_then condition (error n ∷ [])
 
 -- the parameters (int x, int y)
-abbrev pub two_numbers : Jack
-two_numbers = parameters_of (parameter int_type (codes "x")) (more_of (parameter int_type (codes "y") ∷ []))
+abbrev pub two_numbers : List Parameter
+two_numbers = parameter Int (codes "x") ∷ parameter Int (codes "y") ∷ []
 
 -- function int multiply(int x, int y) {
 --     var int sum, shifted, bit, i;
@@ -86,37 +83,31 @@ two_numbers = parameters_of (parameter int_type (codes "x")) (more_of (parameter
 --     return sum;
 -- }
 
-abbrev pub multiply_bit : Jack
-multiply_bit =
-    if_then (not_of (pair_of (group (both (codes "y") operator.And (codes "bit"))) operator.Equal (number 0)))
-    (row (let_variable (codes "sum") (both (codes "sum") operator.Plus (codes "shifted")) ∷ []))
+-- `~((y & bit) = 0)`
+abbrev pub has_bit : Expression
+has_bit = not_of (pair_of (Group (both (codes "y") And (codes "bit"))) Equal (number 0))
 
-abbrev pub multiply_add : Jack
-multiply_add = row (multiply_bit ∷ doubled (codes "shifted") ∷ [])
+abbrev pub multiply_step : List Statement
+multiply_step =
+    if_then has_bit (let_variable (codes "sum") (both (codes "sum") Plus (codes "shifted")) ∷ [])
+    ∷ doubled (codes "shifted")
+    ∷ doubled (codes "bit")
+    ∷ one_more (codes "i")
+    ∷ []
 
-abbrev pub multiply_next : Jack
-multiply_next = row (doubled (codes "bit") ∷ one_more (codes "i") ∷ [])
+abbrev pub multiply_body : List Statement
+multiply_body =
+    let_named (codes "shifted") (codes "x")
+    ∷ let_number (codes "bit") 1
+    ∷ while_loop before_sixteen multiply_step
+    ∷ return_named (codes "sum")
+    ∷ []
 
-abbrev pub multiply_step : Jack
-multiply_step = joined multiply_add multiply_next
+abbrev pub multiply_locals : Locals
+multiply_locals = locals_of Int (codes "sum") (name_of (codes "shifted") ∷ name_of (codes "bit") ∷ name_of (codes "i") ∷ [])
 
-abbrev pub multiply_bits : Jack
-multiply_bits = while_loop before_sixteen multiply_step
-
-abbrev pub multiply_locals : Jack
-multiply_locals = row (locals_of int_type (codes "sum") (more_of (name_of (codes "shifted") ∷ name_of (codes "bit") ∷ name_of (codes "i") ∷ [])) ∷ [])
-
-abbrev pub multiply_start : Jack
-multiply_start = row (let_named (codes "shifted") (codes "x") ∷ let_number (codes "bit") 1 ∷ [])
-
-abbrev pub multiply_end : Jack
-multiply_end = row (multiply_bits ∷ return_named (codes "sum") ∷ [])
-
-abbrev pub multiply_body : Jack
-multiply_body = joined multiply_start multiply_end
-
-abbrev pub multiply : Jack
-multiply = function_of int_type (codes "multiply") two_numbers multiply_locals multiply_body
+abbrev pub multiply : Subroutine
+multiply = function_of (Some Int) (codes "multiply") two_numbers (multiply_locals ∷ []) multiply_body
 
 -- function int divide(int x, int y) {
 --     var int h, s, q, r, i;
@@ -136,65 +127,53 @@ multiply = function_of int_type (codes "multiply") two_numbers multiply_locals m
 --     return q;
 -- }
 
-abbrev pub let_half : Jack
-let_half = let_variable (codes "h") (alone (signed sign.Not (number 32767)))
+-- `let s = ~s;`
+abbrev pub other_sign : Statement
+other_sign = let_variable (codes "s") (alone (Unary Not (variable (codes "s"))))
 
-abbrev pub made_positive : List ℕ → Jack
-made_positive x =
-    if_then (against x operator.Less 0)
-    (row (let_variable x (minus_of x) ∷ let_variable (codes "s") (alone (signed sign.Not (variable (codes "s")))) ∷ []))
-
-abbrev pub next_bit : Jack
-next_bit = if_then (against (codes "x") operator.Less 0) (row (one_more (codes "r") ∷ []))
+-- `if (x < 0) { let x = -x; let s = ~s; }`
+abbrev pub made_positive : List ℕ → Statement
+made_positive x = if_then (against x Less 0) (let_variable x (minus_of x) ∷ other_sign ∷ [])
 
 -- `(x + h)`
-abbrev pub above_half : List ℕ → Jack
-above_half x = group (both x operator.Plus (codes "h"))
+abbrev pub above_half : List ℕ → Term
+above_half x = Group (both x Plus (codes "h"))
 
-abbrev pub divide_bit : Jack
-divide_bit =
-    if_then (not_of (pair_of (above_half (codes "r")) operator.Less (above_half (codes "y"))))
-    (row (let_variable (codes "r") (both (codes "r") operator.Minus (codes "y")) ∷ one_more (codes "q") ∷ []))
+-- `~((r + h) < (y + h))`
+abbrev pub is_enough : Expression
+is_enough = not_of (pair_of (above_half (codes "r")) Less (above_half (codes "y")))
 
-abbrev pub divide_shift : Jack
-divide_shift = row (doubled (codes "r") ∷ doubled (codes "q") ∷ next_bit ∷ [])
+-- `let r = r - y;`
+abbrev pub subtract : Statement
+subtract = let_variable (codes "r") (both (codes "r") Minus (codes "y"))
 
-abbrev pub divide_next : Jack
-divide_next = row (doubled (codes "x") ∷ divide_bit ∷ one_more (codes "i") ∷ [])
+abbrev pub divide_step : List Statement
+divide_step =
+    doubled (codes "r")
+    ∷ doubled (codes "q")
+    ∷ if_then (against (codes "x") Less 0) (one_more (codes "r") ∷ [])
+    ∷ doubled (codes "x")
+    ∷ if_then is_enough (subtract ∷ one_more (codes "q") ∷ [])
+    ∷ one_more (codes "i")
+    ∷ []
 
-abbrev pub divide_step : Jack
-divide_step = joined divide_shift divide_next
+abbrev pub divide_body : List Statement
+divide_body =
+    refuse (against (codes "y") Equal 0) 3
+    ∷ let_variable (codes "h") (alone (Unary Not (number 32767)))
+    ∷ made_positive (codes "x")
+    ∷ made_positive (codes "y")
+    ∷ while_loop before_sixteen divide_step
+    ∷ if_then (named (codes "s")) (return_value (minus_of (codes "q")) ∷ [])
+    ∷ return_named (codes "q")
+    ∷ []
 
-abbrev pub divide_bits : Jack
-divide_bits = while_loop before_sixteen divide_step
-
-abbrev pub return_negative : Jack
-return_negative = if_then (named (codes "s")) (row (return_value (minus_of (codes "q")) ∷ []))
-
-abbrev pub divide_locals : Jack
+abbrev pub divide_locals : Locals
 divide_locals =
-    row (locals_of int_type (codes "h") (more_of (name_of (codes "s") ∷ name_of (codes "q") ∷ name_of (codes "r") ∷ name_of (codes "i") ∷ [])) ∷ [])
+    locals_of Int (codes "h") (name_of (codes "s") ∷ name_of (codes "q") ∷ name_of (codes "r") ∷ name_of (codes "i") ∷ [])
 
-abbrev pub refuse_zero : Jack
-refuse_zero = refuse (against (codes "y") operator.Equal 0) 3
-
-abbrev pub divide_checks : Jack
-divide_checks = row (refuse_zero ∷ let_half ∷ [])
-
-abbrev pub divide_signs : Jack
-divide_signs = row (made_positive (codes "x") ∷ made_positive (codes "y") ∷ [])
-
-abbrev pub divide_start : Jack
-divide_start = joined divide_checks divide_signs
-
-abbrev pub divide_answer : Jack
-divide_answer = row (divide_bits ∷ return_negative ∷ return_named (codes "q") ∷ [])
-
-abbrev pub divide_body : Jack
-divide_body = joined divide_start divide_answer
-
-abbrev pub divide : Jack
-divide = function_of int_type (codes "divide") two_numbers divide_locals divide_body
+abbrev pub divide : Subroutine
+divide = function_of (Some Int) (codes "divide") two_numbers (divide_locals ∷ []) divide_body
 
 -- function void init() {
 --     var Array h;
@@ -205,20 +184,17 @@ divide = function_of int_type (codes "divide") two_numbers divide_locals divide_
 --     return;
 -- }
 
-abbrev pub init_locals : Jack
-init_locals = row (locals_of array_type (codes "h") NoMore ∷ [])
+abbrev pub init_body : List Statement
+init_body =
+    let_number (codes "free") 2048
+    ∷ let_named (codes "h") (codes "free")
+    ∷ let_word (codes "h") 0 14336
+    ∷ let_word (codes "h") 1 0
+    ∷ return_nothing
+    ∷ []
 
-abbrev pub init_start : Jack
-init_start = row (let_number (codes "free") 2048 ∷ let_named (codes "h") (codes "free") ∷ [])
-
-abbrev pub init_part : Jack
-init_part = row (let_word (codes "h") 0 14336 ∷ let_word (codes "h") 1 0 ∷ return_nothing ∷ [])
-
-abbrev pub init_body : Jack
-init_body = joined init_start init_part
-
-abbrev pub init : Jack
-init = function_of no_type (codes "init") Absent init_locals init_body
+abbrev pub init : Subroutine
+init = function_of None (codes "init") [] (locals_of array_type (codes "h") [] ∷ []) init_body
 
 -- function int alloc(int size) {
 --     var Array c, p;
@@ -246,92 +222,60 @@ init = function_of no_type (codes "init") Absent init_locals init_body
 -- }
 
 -- `c[0]`
-abbrev pub part_length : Jack
+abbrev pub part_length : Term
 part_length = element (codes "c") (numbered 0)
 
 -- `c[1]`
-abbrev pub next_part : Jack
+abbrev pub next_part : Expression
 next_part = alone (element (codes "c") (numbered 1))
 
-abbrev pub give_block : Jack
-give_block = return_value (against (codes "c") operator.Plus 1)
+-- `return c + 1;`
+abbrev pub give_block : Statement
+give_block = return_value (against (codes "c") Plus 1)
 
--- `let free = c[1];`
-abbrev pub unlink_first : Jack
-unlink_first = let_variable (codes "free") next_part
+-- `c[0] - n < 2`
+abbrev pub is_whole : Expression
+is_whole = three_of part_length Minus (variable (codes "n")) Less (number 2)
 
--- `let p[1] = c[1];`
-abbrev pub unlink_later : Jack
-unlink_later = let_element (codes "p") (numbered 1) next_part
+-- `if (p = 0) { let free = c[1]; } else { let p[1] = c[1]; }`
+abbrev pub unlink : Statement
+unlink =
+    if_else (against (codes "p") Equal 0)
+    (let_variable (codes "free") next_part ∷ [])
+    (let_element (codes "p") (numbered 1) next_part ∷ [])
 
-abbrev pub unlink : Jack
-unlink = if_else (against (codes "p") operator.Equal 0) (row (unlink_first ∷ [])) (else_of (row (unlink_later ∷ [])))
+-- `~(c[0] < n)`
+abbrev pub is_long : Expression
+is_long = not_of (pair_of part_length Less (variable (codes "n")))
 
-abbrev pub take_whole : Jack
-take_whole = if_then (difference_below part_length (variable (codes "n")) (number 2)) (row (unlink ∷ give_block ∷ []))
+abbrev pub take_end : List Statement
+take_end =
+    if_then is_whole (unlink ∷ give_block ∷ [])
+    ∷ let_element (codes "c") (numbered 0) (pair_of part_length Minus (variable (codes "n")))
+    ∷ let_variable (codes "c") (pair_of (variable (codes "c")) Plus part_length)
+    ∷ let_link (codes "c") 0 (codes "n")
+    ∷ give_block
+    ∷ []
 
-abbrev pub shorten : Jack
-shorten = let_element (codes "c") (numbered 0) (pair_of part_length operator.Minus (variable (codes "n")))
+abbrev pub search_step : List Statement
+search_step = if_then is_long take_end ∷ let_named (codes "p") (codes "c") ∷ let_variable (codes "c") next_part ∷ []
 
-abbrev pub go_to_end : Jack
-go_to_end = let_variable (codes "c") (pair_of (variable (codes "c")) operator.Plus part_length)
+abbrev pub alloc_body : List Statement
+alloc_body =
+    refuse (against (codes "size") Less 1) 5
+    ∷ refuse (against (codes "size") Greater 14335) 6
+    ∷ let_variable (codes "n") (against (codes "size") Plus 1)
+    ∷ let_named (codes "c") (codes "free")
+    ∷ while_loop (not_of (against (codes "c") Equal 0)) search_step
+    ∷ error 6
+    ∷ return_number 0
+    ∷ []
 
-abbrev pub long_enough : Jack
-long_enough = not_of (pair_of part_length operator.Less (variable (codes "n")))
+abbrev pub alloc_locals : List Locals
+alloc_locals = locals_of array_type (codes "c") (name_of (codes "p") ∷ []) ∷ locals_of Int (codes "n") [] ∷ []
 
-abbrev pub cut : Jack
-cut = row (take_whole ∷ shorten ∷ go_to_end ∷ [])
-
-abbrev pub hand_out : Jack
-hand_out = row (let_link (codes "c") 0 (codes "n") ∷ give_block ∷ [])
-
-abbrev pub take_block : Jack
-take_block = joined cut hand_out
-
-abbrev pub take_end : Jack
-take_end = if_then long_enough take_block
-
-abbrev pub let_next : Jack
-let_next = let_variable (codes "c") next_part
-
-abbrev pub before_end : Jack
-before_end = not_of (against (codes "c") operator.Equal 0)
-
-abbrev pub search_step : Jack
-search_step = row (take_end ∷ let_named (codes "p") (codes "c") ∷ let_next ∷ [])
-
-abbrev pub search_parts : Jack
-search_parts = while_loop before_end search_step
-
-abbrev pub alloc_locals : Jack
-alloc_locals = row (locals_of array_type (codes "c") (more_of (name_of (codes "p") ∷ [])) ∷ locals_of int_type (codes "n") NoMore ∷ [])
-
-abbrev pub refuse_small : Jack
-refuse_small = refuse (against (codes "size") operator.Less 1) 5
-
-abbrev pub refuse_large : Jack
-refuse_large = refuse (against (codes "size") operator.Greater 14335) 6
-
-abbrev pub let_length : Jack
-let_length = let_variable (codes "n") (against (codes "size") operator.Plus 1)
-
-abbrev pub refuse_sizes : Jack
-refuse_sizes = row (refuse_small ∷ refuse_large ∷ [])
-
-abbrev pub alloc_start : Jack
-alloc_start = row (let_length ∷ let_named (codes "c") (codes "free") ∷ [])
-
-abbrev pub alloc_front : Jack
-alloc_front = joined refuse_sizes alloc_start
-
-abbrev pub alloc_end : Jack
-alloc_end = row (search_parts ∷ error 6 ∷ return_number 0 ∷ [])
-
-abbrev pub alloc_body : Jack
-alloc_body = joined alloc_front alloc_end
-
-abbrev pub alloc : Jack
-alloc = function_of int_type (codes "alloc") (parameters_of (parameter int_type (codes "size")) NoMore) alloc_locals alloc_body
+abbrev pub alloc : Subroutine
+alloc = function_of (Some Int) (codes "alloc") (parameter Int (codes "size") ∷ []) alloc_locals alloc_body
 
 -- function void deAlloc(Array o) {
 --     let o = o - 1;
@@ -340,18 +284,13 @@ alloc = function_of int_type (codes "alloc") (parameters_of (parameter int_type 
 --     return;
 -- }
 
--- `let o = o - 1;`
-abbrev pub let_part : Jack
-let_part = let_variable (codes "o") (against (codes "o") operator.Minus 1)
+abbrev pub deAlloc_body : List Statement
+deAlloc_body =
+    let_variable (codes "o") (against (codes "o") Minus 1)
+    ∷ let_link (codes "o") 1 (codes "free")
+    ∷ let_named (codes "free") (codes "o")
+    ∷ return_nothing
+    ∷ []
 
-abbrev pub deAlloc_start : Jack
-deAlloc_start = row (let_part ∷ let_link (codes "o") 1 (codes "free") ∷ [])
-
-abbrev pub deAlloc_end : Jack
-deAlloc_end = row (let_named (codes "free") (codes "o") ∷ return_nothing ∷ [])
-
-abbrev pub deAlloc_body : Jack
-deAlloc_body = joined deAlloc_start deAlloc_end
-
-abbrev pub deAlloc : Jack
-deAlloc = function_of no_type (codes "deAlloc") (parameters_of (parameter array_type (codes "o")) NoMore) NoMore deAlloc_body
+abbrev pub deAlloc : Subroutine
+deAlloc = function_of None (codes "deAlloc") (parameter array_type (codes "o") ∷ []) [] deAlloc_body

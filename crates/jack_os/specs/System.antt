@@ -1,28 +1,28 @@
 -- The texts of the operating system, and its classes (book, chapter 12).
-use Rattle.std.specs.Prelude.{◌≡◌, ◌++◌, ℕ, List, [], ◌∷◌, Result, Ok, Err, Vec, codes, map, if◌then◌else◌}
+use Rattle.std.specs.Prelude.{◌≡◌, ◌++◌, ℕ, List, [], ◌∷◌, Result, Ok, Err, Vec, codes, if◌then◌else◌}
 use Rattle.std.specs.declared.alloc.Global.{Global}
 use Rattle.std.specs.Str.{bytes_eq}
 use Rattle.outer_world.specs.Refusals.{Message}
 use Rattle.grammar.specs.declared.Fault.{Fault}
 use Rattle.grammar.specs.Faults.{fault_told}
-use Rattle.jack_tree.specs.declared.tree.Subroutine.{Subroutine}
 use Rattle.jack_tree.specs.declared.tree.Class.{Class}
-use Rattle.jack_parser.specs.ClassTrees.{subroutine_tree}
-use Rattle.jack_parser.specs.Whole.{Spells, Refuses, whole_tree}
+use Rattle.jack_tree.specs.Syntax.{Subroutine, ClassFile}
+use Rattle.jack_tree.specs.Seen.{the_class, the_file}
+use Rattle.jack_parser.specs.Spelled as spelling
+use Rattle.jack_parser.specs.Whole.{Refuses}
 use Rattle.jack_os.specs.declared.shipped.TheConstants.{ARRAY, KEYBOARD, MATH, MEMORY, OUTPUT, SCREEN, STRING, SYS}
 use Rattle.jack_os.specs.declared.reading.SystemFault.{SystemFault}
 use Rattle.jack_os.specs.declared.reading.SystemError.{SystemError}
 use Rattle.jack_os.specs.declared.reading.SystemError.TheVariants as errors
-use Rattle.jack_os.specs.Made.{Jack}
 use Rattle.jack_os.specs.Routines.{multiply, divide, init, alloc, deAlloc}
 
 -- files, each by its name and its text
 abbrev pub Texts : Type 0
 Texts = List (List ℕ × List ℕ)
 
--- The text of the file spells the class.
+-- The text of the file spells the class (chapter 10).
 abbrev pub SpellsClass : List ℕ → List ℕ → Class → Type 0
-SpellsClass file text c = Spells text (whole_tree c) × (c.file ≡ file)
+SpellsClass file text c = spelling.SpellsClass text (the_class c) × (c.file ≡ file)
 
 -- The files spell these classes, in order.
 abbrev pub SpellClasses : Texts → List Class → Type 0
@@ -37,24 +37,19 @@ HasFault files file fault =
     (before : Texts) × (text : List ℕ) × (after : Texts) × (cs : List Class)
     × (files ≡ before ++ (file, text) ∷ after) × SpellClasses before cs × Refuses text fault
 
--- The class is the one that was read, with subroutines of these trees behind its own.
-pub record HasAdded (trees : List Jack) (read c : Class) : Type 0 where
-  pub file : c.file ≡ read.file
-  pub name : c.name ≡ read.name
-  pub variables : c.variables ≡ read.variables
-  pub added : List Subroutine
-  pub subroutines : c.subroutines.items ≡ read.subroutines.items ++ added
-  pub are : map subroutine_tree added ≡ trees
+-- a class with these subroutines behind its own
+abbrev pub with_added : List Subroutine → ClassFile → ClassFile
+with_added added c = record c { class = record c.class { subroutines = c.class.subroutines ++ added } }
 
--- the trees of the subroutines that the class of a file gets
-abbrev pub added_to : List ℕ → List Jack
+-- the subroutines that the class of a file gets
+abbrev pub added_to : List ℕ → List Subroutine
 added_to file =
     if bytes_eq file (codes "Math.jack") then multiply ∷ divide ∷ []
     else (if bytes_eq file (codes "Memory.jack") then init ∷ alloc ∷ deAlloc ∷ [] else [])
 
 -- the class that the text of the file spells, with what it gets
 abbrev pub IsClassOf : List ℕ → List ℕ → Class → Type 0
-IsClassOf file text c = (read : Class) × SpellsClass file text read × HasAdded (added_to file) read c
+IsClassOf file text c = (read : Class) × SpellsClass file text read × (the_file c ≡ with_added (added_to file) (the_file read))
 
 -- the classes of the files, in order
 abbrev pub AreClassesOf : Texts → List Class → Type 0

@@ -5,5 +5,6 @@ mod making;
 mod reading;
 mod routines;
 mod shipped;
+mod sketch;
 
 pub use reading::{SystemError, SystemFault, classes, texts};

@@ -1,14 +1,19 @@
-//! Trees that are made and not read, part by part. What stands in no text has the place 0:0.
+//! Trees that are made of sketches and not read. What stands in no text has the place 0:0.
 
-ghost use Rattle.std.specs.Prelude.{◌≡◌, IfOk, Some};
-ghost use Rattle.grammar.specs.Rules.{Leaf, Node, NoMore, Pair, listed};
+ghost use Rattle.std.specs.Prelude.{◌≡◌, IfOk, Some, map};
+ghost use Rattle.grammar.specs.Rules.{Leaf, Node, Pair};
 ghost use Rattle.jack_parser.specs.Trees.{name_leaf, name_said, term_tree, exp_tree, operation_tree, operations_tree, args_tree, call_said, invoked_tree, invoked_by};
-ghost use Rattle.jack_parser.specs.StatementTrees.{statement_tree, statements_tree};
-ghost use Rattle.jack_parser.specs.ClassTrees.{type_leaf_said, result_said, next_name_tree, locals_tree, parameter_tree, parameters_tree, subroutine_tree};
-ghost use Rattle.jack_os.specs.Made as made;
+ghost use Rattle.jack_parser.specs.StatementTrees.{statement_tree};
+ghost use Rattle.jack_parser.specs.ClassTrees.{type_leaf_said, result_said, locals_tree, parameter_tree, subroutine_tree};
+ghost use Rattle.jack_os.specs.Inner.Made as made;
+ghost use Rattle.jack_os.specs.Inner.Sketched as sketched;
 
+use crate::sketch::{
+    ExpressionSketch, LocalsSketch, ParameterSketch, Sketch, StatementSketch, TermSketch,
+    TypeSketch,
+};
 use jack_tree::{
-    Call, Constant, Expression, Form, Locals, Name, Names, Operation, Operator, Parameter, Sign,
+    Call, Constant, Expression, Form, Locals, Name, Names, Operation, Operator, Parameter,
     Statement, Subroutine, Term, Type,
 };
 use outer_world::Name as Text;
@@ -17,7 +22,7 @@ use std::alloc::{AllocError, Global};
 
 const NOWHERE: Place = Place { line: 0, column: 0 };
 
-pub fn name(alloc: Global, text: &str) -> Result<Name, AllocError>
+fn name(alloc: Global, text: &str) -> Result<Name, AllocError>
     ensures { IfOk result (λ n. name_leaf n ≡ made.name_of text.now) }
 {
     let text = Text::new(alloc, text)?;
@@ -27,47 +32,27 @@ pub fn name(alloc: Global, text: &str) -> Result<Name, AllocError>
     })
 }
 
-pub fn number(value: u16) -> Term
-    ensures { term_tree result ≡ made.number value }
+#[cycle(making)]
+fn term(alloc: Global, sketch: &TermSketch) -> Result<Term, AllocError>
+    ensures { IfOk result (λ t. term_tree t ≡ sketched.term sketch.now) }
 {
-    Term::Constant(Constant::Integer(value))
-}
-
-pub fn variable(alloc: Global, text: &str) -> Result<Term, AllocError>
-    ensures { IfOk result (λ t. term_tree t ≡ made.variable text.now) }
-{
-    Ok(Term::Variable(name(alloc, text)?))
-}
-
-/// `text[index]`
-pub fn element(alloc: Global, text: &str, index: Expression) -> Result<Term, AllocError>
-    ensures { IfOk result (λ t. term_tree t ≡ made.element text.now (exp_tree index)) }
-{
-    let name = name(alloc, text)?;
-    let index = Box::new(alloc, index)?;
-    Ok(Term::Element(name, index))
-}
-
-/// `(inside)`
-pub fn group(alloc: Global, inside: Expression) -> Result<Term, AllocError>
-    ensures { IfOk result (λ t. term_tree t ≡ made.group (exp_tree inside)) }
-{
-    let inside = Box::new(alloc, inside)?;
-    Ok(Term::Group(inside))
-}
-
-pub fn signed(alloc: Global, sign: Sign, term: Term) -> Result<Term, AllocError>
-    ensures { IfOk result (λ t. term_tree t ≡ made.signed sign (term_tree term)) }
-{
-    let term = Box::new(alloc, term)?;
-    Ok(Term::Unary(sign, term))
-}
-
-// A term, and operators with further terms.
-fn expression(first: Term, rest: Vec<Operation>) -> Expression
-    ensures { exp_tree result ≡ Node (Pair (term_tree first) (operations_tree rest.items)) }
-{
-    Expression { first, rest }
+    match sketch {
+        TermSketch::Number(value) => Ok(Term::Constant(Constant::Integer(*value))),
+        TermSketch::Variable(text) => Ok(Term::Variable(name(alloc, text)?)),
+        TermSketch::Element(text, index) => {
+            let name = name(alloc, text)?;
+            let index = expression(alloc, index)?;
+            Ok(Term::Element(name, Box::new(alloc, index)?))
+        }
+        TermSketch::Group(inside) => {
+            let inside = expression(alloc, inside)?;
+            Ok(Term::Group(Box::new(alloc, inside)?))
+        }
+        TermSketch::Unary(sign, behind) => {
+            let behind = term(alloc, behind)?;
+            Ok(Term::Unary(*sign, Box::new(alloc, behind)?))
+        }
+    }
 }
 
 fn operation(operator: Operator, term: Term) -> Operation
@@ -80,103 +65,37 @@ fn operation(operator: Operator, term: Term) -> Operation
     }
 }
 
-pub fn alone(alloc: Global, term: Term) -> Expression
-    ensures { exp_tree result ≡ made.alone (term_tree term) }
+// A term, and operators with further terms.
+fn chain(first: Term, rest: Vec<Operation>) -> Expression
+    ensures { exp_tree result ≡ Node (Pair (term_tree first) (operations_tree rest.items)) }
 {
-    expression(term, Vec::new(alloc))
+    Expression { first, rest }
 }
 
-/// `left operator right`
-pub fn pair(
-    alloc: Global,
-    left: Term,
-    operator: Operator,
-    right: Term,
-) -> Result<Expression, AllocError>
-    ensures { IfOk result (λ e. exp_tree e ≡ made.pair_of (term_tree left) operator (term_tree right)) }
+#[cycle(making)]
+fn expression(alloc: Global, sketch: &ExpressionSketch) -> Result<Expression, AllocError>
+    ensures { IfOk result (λ e. exp_tree e ≡ sketched.expression sketch.now) }
 {
-    let more = operation(operator, right);
-    let rest = vec![in alloc; more]?;
-    Ok(expression(left, rest))
-}
-
-/// `first - second < third`
-pub fn difference_below(
-    alloc: Global,
-    first: Term,
-    second: Term,
-    third: Term,
-) -> Result<Expression, AllocError>
-    ensures { IfOk result (λ e. exp_tree e ≡ made.difference_below (term_tree first) (term_tree second) (term_tree third)) }
-{
-    let less = operation(Operator::Minus, second);
-    let below = operation(Operator::Less, third);
-    let rest = vec![in alloc; less, below]?;
-    Ok(expression(first, rest))
-}
-
-/// `let text = value;`
-pub fn let_variable(alloc: Global, text: &str, value: Expression) -> Result<Statement, AllocError>
-    ensures { IfOk result (λ s. statement_tree s ≡ made.let_variable text.now (exp_tree value)) }
-{
-    let name = name(alloc, text)?;
-    Ok(Statement::Let(NOWHERE, name, None, value))
-}
-
-/// `let text[index] = value;`
-pub fn let_element(
-    alloc: Global,
-    text: &str,
-    index: Expression,
-    value: Expression,
-) -> Result<Statement, AllocError>
-    ensures { IfOk result (λ s. statement_tree s ≡ made.let_element text.now (exp_tree index) (exp_tree value)) }
-{
-    let name = name(alloc, text)?;
-    Ok(Statement::Let(NOWHERE, name, Some(index), value))
-}
-
-/// Statements in order.
-pub fn block<const N: usize>(
-    alloc: Global,
-    statements: [Statement; N],
-) -> Result<Vec<Statement>, AllocError>
-    ensures { IfOk result (λ v. statements_tree v.items ≡ statements_tree statements.entry) }
-{
-    let block = Vec::from_array(alloc, statements)?;
-    Ok(block)
-}
-
-/// Statements, and others behind them.
-#[tactic(auto, using(crate::proofs::Joined::joined_trees))]
-pub fn joined(front: Vec<Statement>, rear: Vec<Statement>) -> Result<Vec<Statement>, AllocError>
-    ensures { IfOk result (λ v. statements_tree v.items ≡ made.joined (statements_tree front.items) (statements_tree rear.items)) }
-{
-    let mut all = front;
-    let mut more = rear;
-    all.append(&mut more)?;
-    Ok(all)
-}
-
-/// `if (condition) { body }`
-pub fn if_then(condition: Expression, body: Vec<Statement>) -> Statement
-    ensures { statement_tree result ≡ made.if_then (exp_tree condition) (statements_tree body.items) }
-{
-    Statement::If(NOWHERE, condition, body, None)
-}
-
-/// `if (condition) { body } else { other }`
-pub fn if_else(condition: Expression, body: Vec<Statement>, other: Vec<Statement>) -> Statement
-    ensures { statement_tree result ≡ made.if_else (exp_tree condition) (statements_tree body.items) (made.else_of (statements_tree other.items)) }
-{
-    Statement::If(NOWHERE, condition, body, Some(other))
-}
-
-/// `while (condition) { body }`
-pub fn while_loop(condition: Expression, body: Vec<Statement>) -> Statement
-    ensures { statement_tree result ≡ made.while_loop (exp_tree condition) (statements_tree body.items) }
-{
-    Statement::While(NOWHERE, condition, body)
+    match sketch {
+        ExpressionSketch::One(only) => {
+            let only = term(alloc, only)?;
+            Ok(chain(only, Vec::new(alloc)))
+        }
+        ExpressionSketch::Two(left, operator, right) => {
+            let left = term(alloc, left)?;
+            let right = term(alloc, right)?;
+            let more = operation(*operator, right);
+            Ok(chain(left, vec![in alloc; more]?))
+        }
+        ExpressionSketch::Three(left, operator, middle, next_operator, right) => {
+            let left = term(alloc, left)?;
+            let middle = term(alloc, middle)?;
+            let right = term(alloc, right)?;
+            let more = operation(*operator, middle);
+            let last = operation(*next_operator, right);
+            Ok(chain(left, vec![in alloc; more, last]?))
+        }
+    }
 }
 
 // A call through a name.
@@ -191,99 +110,152 @@ fn call_through(object: Name, name: Name, arguments: Vec<Expression>) -> Call
     }
 }
 
-/// `do object.text(argument);`
-pub fn do_call(
+// `do class.text(argument);`
+fn do_call(
     alloc: Global,
-    object: &str,
+    class: &str,
     text: &str,
-    argument: Expression,
+    argument: &ExpressionSketch,
 ) -> Result<Statement, AllocError>
-    ensures { IfOk result (λ s. statement_tree s ≡ made.do_call object.now text.now (exp_tree argument)) }
+    ensures { IfOk result (λ s. statement_tree s ≡ made.do_call class.now text.now (sketched.expression argument.now)) }
 {
-    let front = name(alloc, object)?;
+    let front = name(alloc, class)?;
     let called = name(alloc, text)?;
+    let argument = expression(alloc, argument)?;
     let arguments = vec![in alloc; argument]?;
     let call = call_through(front, called, arguments);
     Ok(Statement::Do(NOWHERE, call))
 }
 
-/// `return value;`
-pub fn return_value(value: Expression) -> Statement
-    ensures { statement_tree result ≡ made.return_value (exp_tree value) }
+#[cycle(making_statements)]
+fn statement(alloc: Global, sketch: &StatementSketch) -> Result<Statement, AllocError>
+    ensures { IfOk result (λ s. statement_tree s ≡ sketched.statement sketch.now) }
 {
-    Statement::Return(NOWHERE, Some(value))
+    match sketch {
+        StatementSketch::Let(text, value) => {
+            let name = name(alloc, text)?;
+            let value = expression(alloc, value)?;
+            Ok(Statement::Let(NOWHERE, name, None, value))
+        }
+        StatementSketch::LetElement(text, index, value) => {
+            let name = name(alloc, text)?;
+            let index = expression(alloc, index)?;
+            let value = expression(alloc, value)?;
+            Ok(Statement::Let(NOWHERE, name, Some(index), value))
+        }
+        StatementSketch::If(condition, body) => {
+            let condition = expression(alloc, condition)?;
+            let body = statements(alloc, body)?;
+            Ok(Statement::If(NOWHERE, condition, body, None))
+        }
+        StatementSketch::IfElse(condition, body, other) => {
+            let condition = expression(alloc, condition)?;
+            let body = statements(alloc, body)?;
+            let other = statements(alloc, other)?;
+            Ok(Statement::If(NOWHERE, condition, body, Some(other)))
+        }
+        StatementSketch::While(condition, body) => {
+            let condition = expression(alloc, condition)?;
+            let body = statements(alloc, body)?;
+            Ok(Statement::While(NOWHERE, condition, body))
+        }
+        StatementSketch::Do(class, text, argument) => do_call(alloc, class, text, argument),
+        StatementSketch::Return(value) => {
+            let value = expression(alloc, value)?;
+            Ok(Statement::Return(NOWHERE, Some(value)))
+        }
+        StatementSketch::ReturnNothing => Ok(Statement::Return(NOWHERE, None)),
+    }
 }
 
-/// `return;`
-pub fn return_nothing() -> Statement
-    ensures { statement_tree result ≡ made.return_nothing }
+#[cycle(making_statements)]
+fn statements(alloc: Global, sketches: &[StatementSketch]) -> Result<Vec<Statement>, AllocError>
+    ensures { IfOk result (λ v. map statement_tree v.items ≡ map sketched.statement sketches.now) }
 {
-    Statement::Return(NOWHERE, None)
+    let mut all = Vec::new(alloc);
+    for one in sketches {
+        all.push(statement(alloc, one)?)?;
+    }
+    Ok(all)
 }
 
-/// The type `Array`.
-pub fn array_type(alloc: Global) -> Result<Type, AllocError>
-    ensures { IfOk result (λ t. Leaf (type_leaf_said t) ≡ made.array_type) }
+fn type_of(alloc: Global, sketch: TypeSketch) -> Result<Type, AllocError>
+    ensures { IfOk result (λ t. Leaf (type_leaf_said t) ≡ sketched.type_of sketch) }
 {
-    Ok(Type::Class(name(alloc, "Array")?))
+    match sketch {
+        TypeSketch::Int => Ok(Type::Int),
+        TypeSketch::Array => Ok(Type::Class(name(alloc, "Array")?)),
+    }
 }
 
-pub fn parameter(alloc: Global, kind: Type, text: &str) -> Result<Parameter, AllocError>
-    ensures { IfOk result (λ p. parameter_tree p ≡ made.parameter (Leaf (type_leaf_said kind)) text.now) }
+fn result_of(alloc: Global, sketch: Option<TypeSketch>) -> Result<Option<Type>, AllocError>
+    ensures { IfOk result (λ t. Leaf (result_said t) ≡ sketched.result_of sketch) }
 {
-    let name = name(alloc, text)?;
+    match sketch {
+        None => Ok(None),
+        Some(kind) => Ok(Some(type_of(alloc, kind)?)),
+    }
+}
+
+fn parameter(alloc: Global, sketch: &ParameterSketch) -> Result<Parameter, AllocError>
+    ensures { IfOk result (λ p. parameter_tree p ≡ sketched.parameter sketch.now) }
+{
+    let kind = type_of(alloc, sketch.0)?;
+    let name = name(alloc, sketch.1)?;
     Ok(Parameter { kind, name })
 }
 
-/// `var kind first, ..;`
-pub fn locals<const N: usize>(
-    alloc: Global,
-    kind: Type,
-    first: &str,
-    others: [Name; N],
-) -> Result<Locals, AllocError>
-    ensures { IfOk result (λ l. locals_tree l ≡ made.locals_of (Leaf (type_leaf_said kind)) first.now (listed next_name_tree others.entry NoMore)) }
+fn parameters(alloc: Global, sketches: &[ParameterSketch]) -> Result<Vec<Parameter>, AllocError>
+    ensures { IfOk result (λ v. map parameter_tree v.items ≡ map sketched.parameter sketches.now) }
 {
-    let first = name(alloc, first)?;
-    let more = Vec::from_array(alloc, others)?;
+    let mut all = Vec::new(alloc);
+    for one in sketches {
+        all.push(parameter(alloc, one)?)?;
+    }
+    Ok(all)
+}
+
+fn names(alloc: Global, texts: &[&str]) -> Result<Vec<Name>, AllocError>
+    ensures { IfOk result (λ v. map name_leaf v.items ≡ map (λ t. made.name_of t.now) texts.now) }
+{
+    let mut all = Vec::new(alloc);
+    for text in texts {
+        all.push(name(alloc, text)?)?;
+    }
+    Ok(all)
+}
+
+#[tactic(auto, using(crate::proofs::Sketched::names_are))]
+fn locals(alloc: Global, sketch: &LocalsSketch) -> Result<Locals, AllocError>
+    ensures { IfOk result (λ l. locals_tree l ≡ sketched.locals sketch.now) }
+{
+    let kind = type_of(alloc, sketch.0)?;
+    let first = name(alloc, sketch.1)?;
+    let more = names(alloc, sketch.2)?;
     let names = Names { first, more };
     Ok(Locals { kind, names })
 }
 
-/// Parameters in order.
-pub fn parameters<const N: usize>(
-    alloc: Global,
-    parameters: [Parameter; N],
-) -> Result<Vec<Parameter>, AllocError>
-    ensures { IfOk result (λ v. parameters_tree v.items ≡ parameters_tree parameters.entry) }
+fn all_locals(alloc: Global, sketches: &[LocalsSketch]) -> Result<Vec<Locals>, AllocError>
+    ensures { IfOk result (λ v. map locals_tree v.items ≡ map sketched.locals sketches.now) }
 {
-    let all = Vec::from_array(alloc, parameters)?;
+    let mut all = Vec::new(alloc);
+    for one in sketches {
+        all.push(locals(alloc, one)?)?;
+    }
     Ok(all)
 }
 
-/// Declarations of locals in order.
-pub fn all_locals<const N: usize>(
-    alloc: Global,
-    locals: [Locals; N],
-) -> Result<Vec<Locals>, AllocError>
-    ensures { IfOk result (λ v. listed locals_tree v.items NoMore ≡ listed locals_tree locals.entry NoMore) }
+/// The subroutine of a sketch.
+#[tactic(auto, using(crate::proofs::Sketched::row_is, crate::proofs::Sketched::parameters_are))]
+pub fn subroutine(alloc: Global, sketch: &Sketch) -> Result<Subroutine, AllocError>
+    ensures { IfOk result (λ s. subroutine_tree s ≡ sketched.subroutine sketch.now) }
 {
-    let all = Vec::from_array(alloc, locals)?;
-    Ok(all)
-}
-
-/// `function kind text(parameters) { locals statements }`
-pub fn function(
-    alloc: Global,
-    kind: Option<Type>,
-    text: &str,
-    parameters: Vec<Parameter>,
-    locals: Vec<Locals>,
-    statements: Vec<Statement>,
-) -> Result<Subroutine, AllocError>
-    ensures { IfOk result (λ s. subroutine_tree s ≡ made.function_of (Leaf (result_said kind)) text.now (parameters_tree parameters.items) (listed locals_tree locals.items NoMore) (statements_tree statements.items)) }
-{
-    let name = name(alloc, text)?;
+    let kind = result_of(alloc, sketch.result)?;
+    let name = name(alloc, sketch.name)?;
+    let parameters = parameters(alloc, sketch.parameters)?;
+    let locals = all_locals(alloc, sketch.locals)?;
+    let statements = statements(alloc, sketch.statements)?;
     Ok(Subroutine {
         form: Form::Function,
         result: kind,

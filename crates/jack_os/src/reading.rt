@@ -1,8 +1,8 @@
 //! The classes of the operating system.
 
 ghost use Rattle.std.specs.Prelude.{◌≡◌, IfOk, map};
-ghost use Rattle.jack_parser.specs.ClassTrees.{subroutine_tree};
-ghost use Rattle.jack_os.specs.System.{HasAdded, IsSystem, added_to, system, system_told};
+ghost use Rattle.jack_tree.specs.Seen.{the_file, the_subroutine};
+ghost use Rattle.jack_os.specs.System.{IsSystem, added_to, system, system_told, with_added};
 ghost use Rattle.jack_os.specs.declared.reading.SystemError.TheVariants.{Memory};
 
 use crate::routines::{alloc_block, de_alloc, divide, init, multiply};
@@ -76,7 +76,7 @@ impl<T: Drop> From<AllocFailed<T>> for SystemError {
 
 // The subroutines that the class of a file gets beside those of its text.
 fn added_to(alloc: Global, file: &[u8]) -> Result<Vec<Subroutine>, AllocError>
-    ensures { IfOk result (λ v. map subroutine_tree v.items ≡ added_to file.now) }
+    ensures { IfOk result (λ v. map the_subroutine v.items ≡ added_to file.now) }
 {
     if file == b"Math.jack".as_slice() {
         return Ok(vec![in alloc; multiply(alloc)?, divide(alloc)?]?);
@@ -89,7 +89,7 @@ fn added_to(alloc: Global, file: &[u8]) -> Result<Vec<Subroutine>, AllocError>
 
 // The class with the subroutines that it gets.
 fn completed(alloc: Global, class: Class) -> Result<Class, AllocError>
-    ensures { IfOk result (λ c. HasAdded (added_to class.file) class c) }
+    ensures { IfOk result (λ c. the_file c ≡ with_added (added_to class.file) (the_file class)) }
 {
     let mut added = added_to(alloc, class.file.as_str().as_bytes())?;
     let Class {

@@ -14,4 +14,4 @@ returns-in-Err-Fault c =
 pub loop-name-preserved : goal.loop-name-preserved
 loop-name-preserved c =
     more c.texts-name-items.result _ system c.texts-name-items.ensures c.loop-name.name-index _ (is_below c.texts-name-items.result _ c.loop-name.name-index c.texts-name-items.ensures c.loop-name-test.true) c.loop-name.classes.items c.loop-name.invariant
-    c.in_ok-file.file c.as_bytes.result.now c.in_ok-file.ensures c.as_bytes.ensures.value c.in-Ok.class c.in_ok-whole-in-Ok.whole c.push.new.self.items c.in-Ok.ensures.found c.in-Ok.ensures.file c.in_ok-whole-in-Ok.ensures c.in_ok-push-in-Ok.ensures.items
+    c.in_ok-file.file c.as_bytes.result.now c.in_ok-file.ensures c.as_bytes.ensures.value c.in-Ok.class c.in_ok-whole-in-Ok.whole c.push.new.self.items c.in-Ok.ensures.spelled c.in-Ok.ensures.file c.in_ok-whole-in-Ok.ensures c.in_ok-push-in-Ok.ensures.items
