@@ -2,7 +2,7 @@
 use Rattle.std.proofs.Common.{◌≡◌, ℕ, List, Some, refl, sym, ◌∙◌, ap}
 use Rattle.outer_world.specs.Files.{Files}
 use Rattle.hack_asm.specs.Image.{image_text}
-use Rattle.jack_parser.specs.Whole.{ReadingLaw as JackLaw}
+use Rattle.jack_parser.specs.Spelled.{ClassLaw}
 use Rattle.jack_core.specs.Texts.{names_of}
 use Rattle.map_text.specs.Text.{map_text}
 use Rattle.tower.specs.Mapped.{RunProgram}
@@ -12,7 +12,7 @@ use Rattle.nand_cli.specs.Commands.Map.{MapPrints}
 use Rattle.nand_cli.proofs.Exactly.{not_missing}
 use Rattle.nand_cli.proofs.RunExactly.{never_refused, never_unbuilt, one_build_line, one_computer, one_folder_line, one_meaning}
 
-module _ (law : JackLaw) (files : Files) (folder : List ℕ) where
+module _ (law : ClassLaw) (files : Files) (folder : List ℕ) where
   one_image : (out out' : List ℕ) → BuildPrints (Some files) folder out → BuildPrints (Some files) folder out' → out ≡ out'
   one_image out out' (core, p, builds, e) (core', q, builds', d) =
       let same = one_meaning law files folder core core' builds.0 builds'.0 in
@@ -37,7 +37,7 @@ module _ (law : JackLaw) (files : Files) (folder : List ℕ) where
   built_apart out line (core, p, builds, e) (unbuilt core' means' k) =
       never_unbuilt core core' (one_meaning law files folder core core' builds.0 means') p k.0 k.1 builds.1 k.2 k.3
 
-pub build_exact : JackLaw → BuildExactLaw
+pub build_exact : ClassLaw → BuildExactLaw
 build_exact law files folder = record {
   prints = λ one out err out' err' h k. (one_image law files folder out out' h.0 k.0, h.1 ∙ sym k.1);
   refuses = λ out before told out' before' told' h k. (h.0 ∙ sym k.0, one_line law files folder told told' h.1 k.1, h.2 ∙ sym k.2);
@@ -45,7 +45,7 @@ build_exact law files folder = record {
   lacking = λ there has gone out before told. absurd (not_missing there files folder has gone);
 }
 
-pub map_exact : JackLaw → MapExactLaw
+pub map_exact : ClassLaw → MapExactLaw
 map_exact law files folder = record {
   prints = λ one out err out' err' h k. (one_map law files folder out out' h.0 k.0, h.1 ∙ sym k.1);
   refuses = λ out before told out' before' told' h k. (h.0 ∙ sym k.0, one_line law files folder told told' h.1 k.1, h.2 ∙ sym k.2);

@@ -21,14 +21,13 @@ use Rattle.vm_link.proofs.Once.{linked_once}
 use Rattle.vm_translator.specs.Image.{IsTooLarge, image_of}
 use Rattle.vm_translator.specs.Told.{code_told}
 use Rattle.vm_translator.specs.declared.coded.CodeFault.TheVariants.{TooLarge}
-use Rattle.jack_tree.specs.declared.tree.Class.{Class}
+use Rattle.jack_tree.specs.Syntax.{Class}
 use Rattle.hdl_tree.specs.declared.tree.Chip.{Chip}
 use Rattle.hdl_tree.specs.declared.library.Entry.{Entry}
 use Rattle.hdl_parser.specs.Printed.{chip_text}
 use Rattle.hdl_parser.specs.Whole.{ReadingLaw as ChipLaw, Spells as SpellsChip}
-use Rattle.jack_parser.specs.Jack.{whole}
-use Rattle.jack_parser.specs.Printed.{text_of}
-use Rattle.jack_parser.specs.Whole.{ReadingLaw as JackLaw, Spells as SpellsTree, whole_tree}
+use Rattle.jack_parser.specs.PrintedClass.{printed}
+use Rattle.jack_parser.specs.Spelled.{ClassLaw, SpellsClass}
 use Rattle.command_line.specs.declared.request.SourceKind.TheVariants as kinds
 use Rattle.source_files.proofs.Once.{never_both, never_unread, one_fault, one_folder, one_refusal, one_source}
 use Rattle.source_files.specs.Sources.{IsFaulty, SpellsAt}
@@ -39,7 +38,7 @@ use Rattle.nand_cli.specs.Commands.Exec.{form_of}
 use Rattle.nand_cli.specs.Commands.Vm.{HasNoCode, HasProgram, VmPrints, VmRefuses, unread, without_code}
 use Rattle.nand_cli.specs.declared.languages.Form.{Form}
 use Rattle.nand_cli.specs.declared.languages.Form.TheVariants.{Assembly}
-use Rattle.nand_cli.proofs.ReadOnce.{chip_once, file_once, program_once, tree_once, words_once}
+use Rattle.nand_cli.proofs.ReadOnce.{chip_once, file_once, program_once, shown_once, words_once}
 
 -- ---- what is not there
 
@@ -98,13 +97,13 @@ exec_exact assembly image files path cycles from to =
 abbrev program_in : List ℕ → List ℕ → List File → Type 0
 program_in = λ name text program. SpellsProgram true [] text program
 
-abbrev tree_in : List ℕ → List ℕ → Class → Type 0
-tree_in = λ name text c. SpellsTree text (whole_tree c)
+abbrev class_in : List ℕ → List ℕ → Class → Type 0
+class_in = λ name text c. SpellsClass text c
 
 abbrev chip_in : List ℕ → List ℕ → Chip → Type 0
 chip_in = λ name text c. SpellsChip text c
 
-pub show_exact : VmLaw → JackLaw → ChipLaw → ShowExactLaw
+pub show_exact : VmLaw → ClassLaw → ChipLaw → ShowExactLaw
 show_exact vm_law jack_law chip_law files path kinds.Vm =
     let once = program_once vm_law in record {
       prints = λ one out err out' err' h k. (
@@ -120,18 +119,18 @@ show_exact vm_law jack_law chip_law files path kinds.Vm =
       lacking = λ there has gone out before told. (λ h. no_source (program_in []) files path h.0.0 gone h.0.1, λ k. none_refused (RefusesVm true) files path told gone k.1);
     }
 show_exact vm_law jack_law chip_law files path kinds.Jack =
-    let once = tree_once jack_law in record {
+    let once = shown_once jack_law in record {
       prints = λ one out err out' err' h k. (
-        h.0.2 ∙ ap (λ t. text_of t whole) (one_source tree_in RefusesClass whole_tree once files [] path h.0.0 k.0.0 h.0.1 k.0.1) ∙ sym k.0.2,
+        h.0.2 ∙ ap printed (one_source class_in RefusesClass (λ (c : Class). c) once files [] path h.0.0 k.0.0 h.0.1 k.0.1) ∙ sym k.0.2,
         h.1 ∙ sym k.1,
       );
       refuses = λ out before told out' before' told' h k. (
         h.0 ∙ sym k.0,
-        one_fault tree_in RefusesClass whole_tree once files path told told' h.1 k.1,
+        one_fault class_in RefusesClass (λ (c : Class). c) once files path told told' h.1 k.1,
         h.2 ∙ sym k.2,
       );
-      apart = λ out err out' before told h k. never_both tree_in RefusesClass whole_tree once files [] path h.0.0 told h.0.1 k.1;
-      lacking = λ there has gone out before told. (λ h. no_source (tree_in []) files path h.0.0 gone h.0.1, λ k. none_refused RefusesClass files path told gone k.1);
+      apart = λ out err out' before told h k. never_both class_in RefusesClass (λ (c : Class). c) once files [] path h.0.0 told h.0.1 k.1;
+      lacking = λ there has gone out before told. (λ h. no_source (class_in []) files path h.0.0 gone h.0.1, λ k. none_refused RefusesClass files path told gone k.1);
     }
 show_exact vm_law jack_law chip_law files path kinds.Hdl =
     let once = chip_once chip_law in record {

@@ -15,14 +15,16 @@ use Rattle.vm_tree.specs.declared.program.File.{File}
 use Rattle.vm_parser.specs.Files.{ReadingLaw as VmLaw, Spells as SpellsProgram, Refuses as RefusesProgram}
 use Rattle.hdl_tree.specs.declared.tree.Chip.{Chip}
 use Rattle.hdl_parser.specs.Whole.{ReadingLaw as ChipLaw, Refuses as RefusesChip, Spells as SpellsChip}
-use Rattle.jack_tree.specs.declared.tree.Class.{Class}
-use Rattle.jack_parser.specs.Whole.{ReadingLaw as JackLaw, Refuses as RefusesTree, Spells as SpellsTree, whole_tree}
+use Rattle.jack_tree.specs.Syntax.{Class}
+use Rattle.jack_tree.specs.Seen.{the_class, the_file}
+use Rattle.jack_parser.specs.Spelled as spelled
+use Rattle.jack_parser.specs.Spelled.{ClassLaw}
+use Rattle.jack_parser.specs.Whole.{Refuses as RefusesTree}
 use Rattle.jack_os.specs.System.{SpellsClass}
 use Rattle.key_script.specs.Script.{ReadingLaw as KeyLaw, Refuses as RefusesLines, Spells as SpellsLines}
 use Rattle.key_script.specs.declared.lines.Line.{Line}
 use Rattle.source_files.proofs.Once.{ReadsOnce}
 use Rattle.source_files.specs.Folder.{stem_of}
-use Rattle.nand_cli.proofs.SameClasses.{class_same, class_seen}
 use Rattle.nand_cli.specs.Languages.{IsTold, RefusesClass, RefusesHdl, RefusesKeys, RefusesVm, RefusesWords, SpellsVmFile, SpellsWords}
 use Rattle.nand_cli.specs.declared.languages.Form.{Form}
 use Rattle.nand_cli.specs.declared.languages.Form.TheVariants.{Assembly, Image}
@@ -108,18 +110,18 @@ file_once law bare = record {
 
 -- ---- classes
 
-pub tree_once : JackLaw → ReadsOnce (λ (name text : List ℕ) (c : Class). SpellsTree text (whole_tree c)) RefusesClass whole_tree
-tree_once law = record {
-  one = λ name text a b h k. (law text).one (whole_tree a) (whole_tree b) h k;
-  one_told = λ text s t h k. one_told (SpellsTree text) RefusesTree text s t (law text) h k;
-  not_both = λ name text a t h k. (law text).not_both (whole_tree a) k.0 h k.1;
+pub shown_once : ClassLaw → ReadsOnce (λ (name text : List ℕ) (c : Class). spelled.SpellsClass text c) RefusesClass (λ (c : Class). c)
+shown_once law = record {
+  one = λ name text a b h k. (law text).one a b h k;
+  one_told = λ text s t h k. one_told (spelled.SpellsClass text) RefusesTree text s t (law text) h k;
+  not_both = λ name text a t h k. (law text).not_both a k.0 h k.1;
 }
 
-pub class_once : JackLaw → ReadsOnce SpellsClass RefusesClass class_seen
+pub class_once : ClassLaw → ReadsOnce SpellsClass RefusesClass the_file
 class_once law = record {
-  one = λ name text a b h k. class_same a b ((law text).one (whole_tree a) (whole_tree b) h.0 k.0) (h.1 ∙ sym k.1);
-  one_told = λ text s t h k. one_told (SpellsTree text) RefusesTree text s t (law text) h k;
-  not_both = λ name text a t h k. (law text).not_both (whole_tree a) k.0 h.0 k.1;
+  one = λ name text a b h k. let class : the_class a ≡ the_class b = (law text).one (the_class a) (the_class b) h.0 k.0 in let file : a.file ≡ b.file = h.1 ∙ sym k.1 in λ i. record { file = file i; class = class i };
+  one_told = λ text s t h k. one_told (spelled.SpellsClass text) RefusesTree text s t (law text) h k;
+  not_both = λ name text a t h k. (law text).not_both (the_class a) k.0 h.0 k.1;
 }
 
 -- ---- chips

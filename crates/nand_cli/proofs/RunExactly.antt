@@ -1,5 +1,5 @@
 -- A line of `run` reports one thing or is refused for one thing, and not both.
-use Rattle.std.proofs.Common.{◌≡◌, ◌≤◌, ◌<◌, ◌+◌, ◌-◌, ◌++◌, ◌⊎◌, inl, inr, ℕ, zero, suc, Bool, true, false, List, [], ◌∷◌, Option, Some, None, Result, Ok, Err, codes, length, refl, sym, ◌∙◌, ap, subst, arith}
+use Rattle.std.proofs.Common.{◌≡◌, ◌≤◌, ◌<◌, ◌+◌, ◌-◌, ◌++◌, ◌⊎◌, inl, inr, ℕ, zero, suc, Bool, true, false, List, [], ◌∷◌, Option, Some, None, Result, Ok, Err, codes, length, map, refl, sym, ◌∙◌, ap, subst, arith}
 use Rattle.std.specs.Prelude.{nat_eq, nat_le, option_and_then}
 use Rattle.std.proofs.lemmas.Bool.Decides.{nat_tests}
 use Rattle.grammar.specs.declared.Fault.{Fault}
@@ -33,11 +33,16 @@ use Rattle.jack_core.specs.declared.program.Core.{Core}
 use Rattle.jack_core.specs.Texts.{class_names_of, names_of, the_program}
 use Rattle.jack_compiler.specs.Files.{files_of, program_files}
 use Rattle.jack_tree.specs.declared.tree.Class.{Class}
-use Rattle.jack_parser.specs.Whole.{ReadingLaw as JackLaw, Refuses as RefusesTree, whole_tree}
+use Rattle.jack_tree.specs.Syntax.{ClassFile}
+use Rattle.jack_tree.specs.Seen.{the_class, the_file}
+use Rattle.jack_parser.specs.Spelled.{ClassLaw}
+use Rattle.jack_parser.specs.Whole.{Refuses as RefusesTree}
 use Rattle.jack_names.specs.Faults.{Told, fault_told}
 use Rattle.jack_names.specs.Messages.{kind_word}
-use Rattle.jack_names.specs.Whole.{WellNamed}
-use Rattle.jack_os.specs.System.{AreClassesOf, HasFault, IsClassOf, SpellClasses, SpellsClass, Texts, added_to, system}
+use Rattle.jack_names.specs.NameFaults.{IsWellNamed}
+use Rattle.jack_names.specs.FaultOrder.{IsFirstFault}
+use Rattle.jack_names.proofs.Found.{finds_first}
+use Rattle.jack_os.specs.System.{AreClassesOf, HasFault, SpellClasses, SpellsClass, Texts, system}
 use Rattle.command_line.specs.Line.{asm, build, chip, compile, exec, map_line, run, show, test, vm}
 use Rattle.command_line.specs.declared.request.RunLevel.{RunLevel}
 use Rattle.command_line.specs.declared.request.RunLevel.TheVariants as levels
@@ -47,7 +52,9 @@ use Rattle.gate_computer.specs.Computer.{IsComputer}
 use Rattle.tower.specs.Built.{Builds, IsComputerOf, run_program}
 use Rattle.tower.specs.Mapped.{RunProgram}
 use Rattle.tower.specs.Headline.{run_word}
+use Rattle.tower.specs.OneProgram.{SameProgram}
 use Rattle.tower.specs.Program.{IsProgram, Means}
+use Rattle.tower.proofs.OneProgram.{one_program, one_system}
 use Rattle.tower.specs.Told.{build_told}
 use Rattle.tower.specs.declared.building.BuildError.{BuildError}
 use Rattle.tower.specs.declared.building.BuildError.TheVariants as building
@@ -64,30 +71,14 @@ use Rattle.nand_cli.specs.Commands.Run.{EndsAt, HasKeys, IsHackReport, IsReport,
 use Rattle.nand_cli.proofs.Exactly.{none_refused, no_source, not_linked, not_missing, one_link_fault, one_linked, one_size}
 use Rattle.nand_cli.proofs.ReadOnce.{class_once, keys_once}
 use Rattle.nand_cli.proofs.VmExactly.{one_vm_text}
-use Rattle.nand_cli.proofs.SameClasses.{SameClasses, added_class, all_class_names_same, all_names_same, class_seen, first_name_fault_same, program_meant_same}
 
 -- ---- the operating system
 
-module _ (law : JackLaw) where
-  one_class : (file text : List ℕ) (c d : Class) → IsClassOf file text c → IsClassOf file text d → class_seen c ≡ class_seen d
-  one_class file text c d (r, spelled, adds) (t, spelled', adds') =
-      added_class (added_to file) r t c d ((law text).one (whole_tree r) (whole_tree t) spelled.0 spelled'.0) (spelled.1 ∙ sym spelled'.1) adds adds'
-
-  pub one_system : (files : Texts) (cs ds : List Class) → AreClassesOf files cs → AreClassesOf files ds → SameClasses cs ds
-  one_system [] [] [] h k = refl
-  one_system [] [] (d ∷ ds) h k = absurd k
-  one_system [] (c ∷ cs) ds h k = absurd h
-  one_system (f ∷ fs) [] ds h k = absurd h
-  one_system (f ∷ fs) (c ∷ cs) [] h k = absurd k
-  one_system (f ∷ fs) (c ∷ cs) (d ∷ ds) h k =
-      let p = one_class f.0 f.1 c d h.0 k.0 in
-      let q = one_system fs cs ds h.1 k.1 in
-      λ i. p i ∷ q i
-
+module _ (law : ClassLaw) where
   -- a text of classes has no fault
   no_fault : (before : Texts) (file text : List ℕ) (after : Texts) (cs : List Class) (fault : Fault) → AreClassesOf (before ++ (file, text) ∷ after) cs → RefusesTree text fault → ⊥
   no_fault [] file text after [] fault h k = h
-  no_fault [] file text after (c ∷ cs) fault h k = (law text).not_both (whole_tree h.0.0) fault h.0.1.0 k
+  no_fault [] file text after (c ∷ cs) fault h k = (law text).not_both (the_class h.0.0) fault h.0.1.0 k
   no_fault (f ∷ before) file text after [] fault h k = h
   no_fault (f ∷ before) file text after (c ∷ cs) fault h k = no_fault before file text after cs fault h.1 k
 
@@ -96,7 +87,7 @@ module _ (law : JackLaw) where
 
   spelled_fault : (f : List ℕ × List ℕ) (file text : List ℕ) (c : Class) (fault : Fault) → (file, text) ≡ f → SpellsClass f.0 f.1 c → RefusesTree text fault → ⊥
   spelled_fault f file text c fault e h k =
-      (law text).not_both (whole_tree c) fault (subst (λ (t : List ℕ). SpellsClass f.0 t c) (sym (ap (λ (p : List ℕ × List ℕ). p.1) e)) h).0 k
+      (law text).not_both (the_class c) fault (subst (λ (t : List ℕ). SpellsClass f.0 t c) (sym (ap (λ (p : List ℕ × List ℕ). p.1) e)) h).0 k
 
   one_fault_of : (before before' : Texts) (file file' text text' : List ℕ) (after after' : Texts) (cs cs' : List Class) (fault fault' : Fault) → before ++ (file, text) ∷ after ≡ before' ++ (file', text') ∷ after'
       → SpellClasses before cs → SpellClasses before' cs' → RefusesTree text fault → RefusesTree text' fault' → (file ≡ file') × (fault ≡ fault')
@@ -121,26 +112,27 @@ module _ (law : JackLaw) where
 
 -- ---- the program of classes
 
--- what reports and the computer are told by
-pub record SameProgram (core core' : Core) : Type 0 where
-  pub program : the_program core ≡ the_program core'
-  pub names : names_of core ≡ names_of core'
-  pub classes : class_names_of core ≡ class_names_of core'
+-- with the same abstract syntax
+abbrev pub SameClasses : List Class → List Class → Type 0
+SameClasses cs ds = map the_file cs ≡ map the_file ds
+
+-- there is one first fault, and none where names are well
+one_first : (own own' os os' : List ClassFile) (t u : Told) → own ≡ own' → os ≡ os' → IsFirstFault own os t → IsFirstFault own' os' u → t ≡ u
+one_first own own' os os' t u p q f g =
+    let here : IsFirstFault own os u = subst (λ (x : List ClassFile). IsFirstFault own x u) (sym q) (subst (λ (x : List ClassFile). IsFirstFault x os' u) (sym p) g) in
+    let both = sym ((finds_first own os t).1 f) ∙ (finds_first own os u).1 here in
+    let same : t ≡ u = cc in same
+
+no_first : (own own' os os' : List ClassFile) (t : Told) → own ≡ own' → os ≡ os' → IsWellNamed own os → IsFirstFault own' os' t → ⊥
+no_first own own' os os' t p q well f =
+    let here : IsFirstFault own os t = subst (λ (x : List ClassFile). IsFirstFault own x t) (sym q) (subst (λ (x : List ClassFile). IsFirstFault x os' t) (sym p) f) in
+    well here.at t here.fails
 
 -- what is told of a name, in a folder
 abbrev name_line : List ℕ → Told → List ℕ
 name_line folder t = told_line (path_in (home_of folder t.shipped) t.file) (message t.place.line t.place.column (kind_word t.kind) t.name)
 
-module _ (law : JackLaw) (own own' : List Class) (same : SameClasses own own') where
-  pub one_program : (core core' : Core) → Means own (Ok core) → Means own' (Ok core') → SameProgram core core'
-  one_program core core' (os, are, well, p, n, k) (os', are', well', p', n', k') =
-      let theirs = one_system law system os os' are are' in
-      record {
-        program = p ∙ program_meant_same own own' os os' same theirs ∙ sym p';
-        names = n ∙ all_names_same own own' os os' same theirs ∙ sym n';
-        classes = k ∙ all_class_names_same own own' os os' same theirs ∙ sym k';
-      }
-
+module _ (law : ClassLaw) (own own' : List Class) (same : SameClasses own own') where
   one_wrong : (folder line line' : List ℕ) (error error' : ProgramError) → IsProgram own (Err error) → IsProgram own' (Err error') → IsWrongLine folder error line → IsWrongLine folder error' line' → line ≡ line'
   one_wrong folder line line' errors.Memory error' h k e d = absurd e
   one_wrong folder line line' (errors.System f) errors.Memory h k e d = absurd d
@@ -151,39 +143,37 @@ module _ (law : JackLaw) (own own' : List Class) (same : SameClasses own own') w
   one_wrong folder line line' (errors.Name f) errors.Memory h k e d = absurd d
   one_wrong folder line line' (errors.Name f) (errors.System g) h k e d = absurd (never_faulty law system h.0 g.file g.fault h.1 k)
   one_wrong folder line line' (errors.Name f) (errors.Name g) (os, are, first) (os', are', first') e d =
-      let theirs = one_system law system os os' are are' in
-      let both = sym first ∙ first_name_fault_same own own' os os' same theirs ∙ first' in
-      let told : fault_told f ≡ fault_told g = cc in
+      let theirs = one_system system os os' are are' in
+      let told : fault_told f ≡ fault_told g = one_first (map the_file own) (map the_file own') (map the_file os) (map the_file os') (fault_told f) (fault_told g) same theirs first first' in
       e ∙ ap (name_line folder) told ∙ sym d
 
-  pub never_well : (folder line : List ℕ) (os : List Class) (error : ProgramError) → AreClassesOf system os → WellNamed own os → IsProgram own' (Err error) → IsWrongLine folder error line → ⊥
+  pub never_well : (folder line : List ℕ) (os : List Class) (error : ProgramError) → AreClassesOf system os → IsWellNamed (map the_file own) (map the_file os) → IsProgram own' (Err error) → IsWrongLine folder error line → ⊥
   never_well folder line os errors.Memory are well k e = e
   never_well folder line os (errors.System f) are well k e = never_faulty law system os f.file f.fault are k
   never_well folder line os (errors.Name f) are well (os', are', first) e =
-      let theirs = one_system law system os os' are are' in
-      let both = sym well ∙ first_name_fault_same own own' os os' same theirs ∙ first in let no : ⊥ = cc in no
+      no_first (map the_file own) (map the_file own') (map the_file os) (map the_file os') (fault_told f) same (one_system system os os' are are') well first
 
   never_wrong : (folder line : List ℕ) (core : Core) (error : ProgramError) → Means own (Ok core) → IsProgram own' (Err error) → IsWrongLine folder error line → ⊥
-  never_wrong folder line core error (os, are, well, p, n, c) k e = never_well folder line os error are well k e
+  never_wrong folder line core error (os, are, p) k e = never_well folder line os error are p.well_named k e
 
 -- ---- the program of a folder
 
-module _ (law : JackLaw) (files : Files) (folder : List ℕ) where
+module _ (law : ClassLaw) (files : Files) (folder : List ℕ) where
   pub one_list_of_classes : (cs ds : List Class) → HasClasses (Some files) folder cs → HasClasses (Some files) folder ds → SameClasses cs ds
-  one_list_of_classes cs ds h k = one_folder SpellsClass RefusesClass class_seen (class_once law) files folder (codes ".jack") cs ds h k
+  one_list_of_classes cs ds h k = one_folder SpellsClass RefusesClass the_file (class_once law) files folder (codes ".jack") cs ds h k
 
   pub one_meaning : (core core' : Core) → FolderMeans (Some files) folder core → FolderMeans (Some files) folder core' → SameProgram core core'
-  one_meaning core core' (cs, has, means) (ds, has', means') = one_program law cs ds (one_list_of_classes cs ds has has') core core' means means'
+  one_meaning core core' (cs, has, means) (ds, has', means') = one_program cs ds core core' (one_list_of_classes cs ds has has') means means'
 
   pub one_folder_line : (line line' : List ℕ) → FolderIsRefused (Some files) folder line → FolderIsRefused (Some files) folder line' → line ≡ line'
-  one_folder_line line line' (unread h) (unread k) = one_refusal SpellsClass RefusesClass class_seen (class_once law) files folder (codes ".jack") line line' h k
-  one_folder_line line line' (unread h) (meaningless ds has k) = absurd (never_unread SpellsClass RefusesClass class_seen (class_once law) files folder (codes ".jack") ds line has h)
-  one_folder_line line line' (meaningless cs has h) (unread k) = absurd (never_unread SpellsClass RefusesClass class_seen (class_once law) files folder (codes ".jack") cs line' has k)
+  one_folder_line line line' (unread h) (unread k) = one_refusal SpellsClass RefusesClass the_file (class_once law) files folder (codes ".jack") line line' h k
+  one_folder_line line line' (unread h) (meaningless ds has k) = absurd (never_unread SpellsClass RefusesClass the_file (class_once law) files folder (codes ".jack") ds line has h)
+  one_folder_line line line' (meaningless cs has h) (unread k) = absurd (never_unread SpellsClass RefusesClass the_file (class_once law) files folder (codes ".jack") cs line' has k)
   one_folder_line line line' (meaningless cs has (error, h, e)) (meaningless ds has' (error', k, d)) =
       one_wrong law cs ds (one_list_of_classes cs ds has has') folder line line' error error' h k e d
 
   pub never_refused : (core : Core) (line : List ℕ) → FolderMeans (Some files) folder core → FolderIsRefused (Some files) folder line → ⊥
-  never_refused core line (cs, has, means) (unread k) = never_unread SpellsClass RefusesClass class_seen (class_once law) files folder (codes ".jack") cs line has k
+  never_refused core line (cs, has, means) (unread k) = never_unread SpellsClass RefusesClass the_file (class_once law) files folder (codes ".jack") cs line has k
   never_refused core line (cs, has, means) (meaningless ds has' (error, k, e)) = never_wrong law cs ds (one_list_of_classes cs ds has has') folder line core error means k e
 
 -- ---- its computer
@@ -383,7 +373,7 @@ one_report (levels.Gates Nets) core core' code n text text' one same h k = absur
 
 -- ---- the line
 
-module _ (jack_law : JackLaw) (key_law : KeyLaw) (files : Files) (folder : List ℕ) (level : RunLevel) (cycles : ℕ) (keys : Option (List ℕ)) where
+module _ (jack_law : ClassLaw) (key_law : KeyLaw) (files : Files) (folder : List ℕ) (level : RunLevel) (cycles : ℕ) (keys : Option (List ℕ)) where
   run_prints : ShowsOneText level → (out out' : List ℕ) → RunPrints (Some files) folder level cycles keys out → RunPrints (Some files) folder level cycles keys out' → out ≡ out'
   run_prints one out out' (core, ls, means, built, has, is) (core', ms, means', built', has', is') =
       let same = one_meaning jack_law files folder core core' means means' in
@@ -429,7 +419,7 @@ module _ (jack_law : JackLaw) (key_law : KeyLaw) (files : Files) (folder : List 
       never_unbuilt core core' (one_meaning jack_law files folder core core' means means') built.0 k.0 k.1 built.1 k.2 k.3
   never_run_refused there line has (inr (core, means, built, gone)) (without_script core' means' built' k) = no_script keys line gone k
 
-pub run_exact : JackLaw → KeyLaw → RunExactLaw
+pub run_exact : ClassLaw → KeyLaw → RunExactLaw
 run_exact jack_law key_law files folder level cycles keys = record {
   prints = λ one out err out' err' h k. (run_prints jack_law key_law files folder level cycles keys one out out' h.0 k.0, h.1 ∙ sym k.1);
   refuses = λ out before told out' before' told' h k. (h.0 ∙ sym k.0, run_refuses jack_law key_law files folder level cycles keys told told' h.1 k.1, h.2 ∙ sym k.2);

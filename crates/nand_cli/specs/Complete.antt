@@ -1,6 +1,6 @@
 -- Completeness: where nothing is wrong with what a line of `build`, `map` or `run` names, and no call of the outside fails, the line is done, but
 -- for want of memory. So is every line that is not refused. (The book, chapters 4 and 7 to 12.)
-use Rattle.std.specs.Prelude.{◌≡◌, ◌≤◌, ◌++◌, ◌⊎◌, ℕ, false, List, Option, Some, length}
+use Rattle.std.specs.Prelude.{◌≡◌, ◌≤◌, ◌++◌, ◌⊎◌, ℕ, false, List, Option, Some, length, map}
 use Rattle.hack_isa.specs.Machine.{image_words}
 use Rattle.outer_world.specs.Faults.{Rose}
 use Rattle.outer_world.specs.Files.{Files}
@@ -9,12 +9,16 @@ use Rattle.vm_link.specs.Faults.{words_before}
 use Rattle.vm_link.specs.Reached.{AreKept}
 use Rattle.vm_link.specs.Sections.{Section, sections}
 use Rattle.jack_tree.specs.declared.tree.Class.{Class}
+use Rattle.jack_tree.specs.Syntax.{ClassFile}
+use Rattle.jack_tree.specs.Seen.{the_file}
 use Rattle.jack_meaning.specs.Text.{Program}
-use Rattle.jack_names.specs.Whole.{WellNamed, all_names_meant, class_names, program_meant}
+use Rattle.jack_names.specs.NameFaults.{IsWellNamed}
+use Rattle.jack_names.specs.Meaning.{program_meaning, program_names}
 use Rattle.jack_os.specs.System.{AreClassesOf, system}
 use Rattle.jack_compiler.specs.Files.{program_files}
 use Rattle.key_script.specs.declared.lines.Line.{Line as KeyLine}
 use Rattle.tower.specs.Budget.{IsBudget}
+use Rattle.tower.specs.Program.{class_names}
 use Rattle.command_line.specs.Line.{Line, IsLine, build, map_line, run}
 use Rattle.nand_cli.specs.Answer.{Disagrees, Refuses}
 use Rattle.nand_cli.specs.Commands.Run.{HasKeys}
@@ -38,8 +42,8 @@ abbrev pub HasSmallBudget : Program → Type 0
 HasSmallBudget program = (words : ℕ) × IsBudget program words × (words ≤ image_words)
 
 -- the VM files of the program that the folder's classes mean with those of the operating system
-abbrev pub files_meant : List Class → List Class → List File
-files_meant own os = program_files (program_meant own os) (all_names_meant own os) (class_names own ++ class_names os)
+abbrev pub files_meant : List ClassFile → List ClassFile → List File
+files_meant own os = program_files (program_meaning own os) (program_names own os) (class_names own ++ class_names os)
 
 -- ---- a line with which nothing is wrong
 
@@ -50,9 +54,9 @@ pub record IsSoundFolder (files : Files) (folder : List ℕ) : Type 0 where
   pub spelled : HasClasses (Some files) folder own
   pub os : List Class
   pub shipped : AreClassesOf system os
-  pub named : WellNamed own os
-  pub statics : HasFewStatics (files_meant own os)
-  pub budget : HasSmallBudget (program_meant own os)
+  pub named : IsWellNamed (map the_file own) (map the_file os)
+  pub statics : HasFewStatics (files_meant (map the_file own) (map the_file os))
+  pub budget : HasSmallBudget (program_meaning (map the_file own) (map the_file os))
 
 -- The key script, where there is one, spells its lines, with moments that rise.
 abbrev pub IsSoundScript : Files → Option (List ℕ) → Type 0

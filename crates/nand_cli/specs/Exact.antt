@@ -2,12 +2,15 @@
 -- it reads is not there.
 use Rattle.std.specs.Prelude.{◌≡◌, ℕ, Bool, true, List, Option, Some}
 use Rattle.outer_world.specs.Files.{Files}
+use Rattle.jack_core.specs.declared.program.Core.{Core}
+use Rattle.tower.specs.OneProgram.{SameProgram}
 use Rattle.command_line.specs.Line.{Line, asm, build, chip, compile, exec, map_line, run, show, test, vm}
 use Rattle.command_line.specs.declared.request.RunLevel.{RunLevel}
 use Rattle.command_line.specs.declared.request.RunLevel.TheVariants.{Gates}
 use Rattle.command_line.specs.declared.request.Shown.TheVariants.{Nets}
 use Rattle.command_line.specs.declared.request.SourceKind.{SourceKind}
 use Rattle.nand_cli.specs.Answer.{Lacks, Prints, Refuses}
+use Rattle.nand_cli.specs.JackFolder.{FolderMeans}
 
 -- What is shown at the level is one text. The outputs of parts are told as those of some behaviour of the Computer; that it has no other is not
 -- claimed.
@@ -73,3 +76,7 @@ IsNoTest line = Unit {0}
 -- The law of exactness.
 abbrev pub ExactLaw : Type 0
 ExactLaw = (files : Files) (line : Line) → IsNoTest line → IsExact files line
+
+-- A folder whose files are told means at most one program.
+abbrev pub OneProgramLaw : Type 0
+OneProgramLaw = (files : Files) (folder : List ℕ) (core core' : Core) → FolderMeans (Some files) folder core → FolderMeans (Some files) folder core' → SameProgram core core'

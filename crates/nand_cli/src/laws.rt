@@ -1,7 +1,7 @@
 //! Laws of lines: over told files a line has at most one answer, and one with which nothing is wrong is not refused.
 ghost use Rattle.nand_cli.specs.Complete.{SoundLaw};
 ghost use Rattle.nand_cli.specs.CompleteRows.{CompleteRows};
-ghost use Rattle.nand_cli.specs.Exact.{AsmExactLaw, BuildExactLaw, ChipExactLaw, CompileExactLaw, ExactLaw, ExecExactLaw, MapExactLaw, RunExactLaw, ShowExactLaw, VmExactLaw};
+ghost use Rattle.nand_cli.specs.Exact.{AsmExactLaw, BuildExactLaw, ChipExactLaw, CompileExactLaw, ExactLaw, ExecExactLaw, MapExactLaw, OneProgramLaw, RunExactLaw, ShowExactLaw, VmExactLaw};
 
 /// Law: over told files a line of `asm` prints one text or is refused with one line, and not both.
 pub fn asm_exact_law()
@@ -24,7 +24,7 @@ pub fn show_exact_law()
     ensures { ShowExactLaw }
 {
     vm_parser::reading_law();
-    jack_parser::reading_law();
+    jack_parser::class_law();
     hdl_parser::reading_law();
 }
 
@@ -39,7 +39,7 @@ pub fn vm_exact_law()
 pub fn run_exact_law()
     ensures { RunExactLaw }
 {
-    jack_parser::reading_law();
+    jack_parser::class_law();
     key_script::reading_law();
 }
 
@@ -53,21 +53,21 @@ pub fn chip_exact_law()
 pub fn compile_exact_law()
     ensures { CompileExactLaw }
 {
-    jack_parser::reading_law();
+    jack_parser::class_law();
 }
 
 /// Law: so does a line of `build`.
 pub fn build_exact_law()
     ensures { BuildExactLaw }
 {
-    jack_parser::reading_law();
+    jack_parser::class_law();
 }
 
 /// Law: so does a line of `map`.
 pub fn map_exact_law()
     ensures { MapExactLaw }
 {
-    jack_parser::reading_law();
+    jack_parser::class_law();
 }
 
 /// Law: over told files each line has one answer: it prints one thing or is refused for one thing, and not both.
@@ -85,13 +85,20 @@ pub fn exact_law()
     map_exact_law();
 }
 
+/// Law: a folder whose files are told means at most one program.
+pub fn one_program_law()
+    ensures { OneProgramLaw }
+{
+    jack_parser::class_law();
+}
+
 /// Law: over told files a line of `build`, `map` or `run` with which nothing is wrong is not refused. The limits of static words
 /// and of the budget, by computation.
 pub fn sound_law()
     ensures sound { SoundLaw }
     ensures rows { CompleteRows }
 {
-    jack_parser::reading_law();
+    jack_parser::class_law();
     key_script::reading_law();
     tower::resolved_law();
     tower::budget_law();

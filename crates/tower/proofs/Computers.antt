@@ -1,6 +1,6 @@
 -- The computer with the image of a program follows the program's meaning, since its files are linked to the code of the program, and the image does
 -- what the code does.
-use Rattle.std.proofs.Common.{◌≡◌, ◌≤◌, ℕ, length, map, Bool, List, Result, Ok, Err, false, refl, sym, subst, ap}
+use Rattle.std.proofs.Common.{◌≡◌, ◌≤◌, ℕ, length, Bool, List, Result, Ok, Err, false, refl, sym, subst, ap}
 use Rattle.std.specs.Prelude.{IfOk, IfErr}
 use Rattle.hack_isa.specs.Table.{word_of}
 use Rattle.vm_tree.specs.declared.program.File.{File}
@@ -16,11 +16,10 @@ use Rattle.jack_meaning.specs.Gap.{gap}
 use Rattle.jack_core.specs.Texts.{the_program}
 use Rattle.jack_compiler.specs.Files.{files_of}
 use Rattle.jack_compiler.specs.Linked.{IsLinkedOf}
-use Rattle.jack_compiler.specs.Resolved.{IsResolvedCore}
 use Rattle.jack_compiler.proofs.Seam.{compiled}
 use Rattle.tower.specs.declared.building.BuildError.{BuildError}
 use Rattle.tower.specs.declared.building.BuildError.TheVariants as errors
-use Rattle.tower.specs.Built.{Builds, ComputerLaw, FollowsProgram, IsComputerOf, IsUnbuilt, map_for, run_program}
+use Rattle.tower.specs.Built.{Builds, ComputerLaw, FollowsProgram, IsUnbuilt, map_for, run_program}
 use Rattle.tower.specs.Mapped.{RunProgram}
 use Rattle.tower.proofs.Headline.{run_follows}
 

@@ -26,6 +26,7 @@ pub mod NamedProgram
 pub mod Spelled
 pub mod Completed
 pub mod Programs
+pub mod OneProgram
 pub mod BudgetWords
 pub mod Budgets
 pub mod BudgetRows

@@ -1,5 +1,5 @@
 -- A class that some text spells is within the limits.
-use Rattle.std.proofs.Common.{◌≤◌, List, [], ◌∷◌, length, arith}
+use Rattle.std.proofs.Common.{◌≤◌, ℕ, List, [], ◌∷◌, length, arith}
 use Rattle.scan_text.specs.declared.Place.{Place}
 use Rattle.grammar.specs.Rules.{NoMore, listed, repeat}
 use Rattle.jack_tree.specs.declared.tree.Subroutine.{Subroutine}
@@ -9,6 +9,8 @@ use Rattle.jack_lexer.specs.Cut.{finish}
 use Rattle.jack_parser.specs.declared.counts.Counts.{Counts}
 use Rattle.jack_parser.specs.Jack.{jack, Part, Said, fresh, subroutine, class_rule}
 use Rattle.jack_parser.specs.ClassTrees.{subroutine_tree, class_tree}
+use Rattle.jack_parser.specs.Whole.{Spells, whole_tree}
+use Rattle.jack_parser.proofs.Spelt.{read_so}
 use Rattle.jack_names.specs.Limits.{HasFew, AllHaveFew}
 use Rattle.tower.specs.Read.{IsReadClass}
 use Rattle.tower.specs.Spelled.{IsSpelled}
@@ -61,8 +63,15 @@ module _ (at : Place) where
         subroutines = subroutines_read c.subroutines.items t.1.1.1.1.0;
       }
 
-pub spelled_read : (c : Class) → IsSpelled c → IsReadClass c
-spelled_read c (text, h) =
+-- some text spells the tree of the class
+abbrev IsReadSo : Class → Type 0
+IsReadSo c = (text : List ℕ) × Spells text (whole_tree c)
+
+read_by : (c : Class) → IsSpelled c → IsReadSo c
+read_by c (text, h) = (text, read_so text c h)
+
+tree_read : (c : Class) → IsReadSo c → IsReadClass c
+tree_read c (text, h) =
     let told = words_read text h.0 h.2 in
     let at = finish text in
     let w = weighs Word Counts Part Said (jack at) h.3 in
@@ -70,10 +79,26 @@ spelled_read c (text, h) =
     let p = two_parts at (fresh 0) h.1 _ _ _ _ (h.0, [], h.3) in
     class_read at c p.0 (omega (arith, w, told.0)) t.0 p.1
 
--- a class that is spelled has room for some subroutines more
-pub spelled_few : (c : Class) → IsSpelled c → length c.subroutines.items ≤ 1048573
-spelled_few c (text, h) =
+pub spelled_read : (c : Class) → IsSpelled c → IsReadClass c
+spelled_read c h = tree_read c (read_by c h)
+
+tree_few : (c : Class) → IsReadSo c → length c.subroutines.items ≤ 1048573
+tree_few c (text, h) =
     let told = words_read text h.0 h.2 in
     let w = weighs Word Counts Part Said (jack (finish text)) h.3 in
     let n = thrice_within c.subroutines.items in
     omega (arith, w, told.0, n)
+
+-- a class that is spelled has room for some subroutines more
+pub spelled_few : (c : Class) → IsSpelled c → length c.subroutines.items ≤ 1048573
+spelled_few c h = tree_few c (read_by c h)
+
+subroutine_trees : (c : Class) → IsReadSo c → IsReadTree (listed subroutine_tree c.subroutines.items NoMore)
+subroutine_trees c (text, h) =
+    let told = words_read text h.0 h.2 in
+    let t = whole_read (finish text) told.1 h.3 in
+    t.0.1.1.1.1.0
+
+-- the names, integers and strings of its subroutines
+pub spelled_subroutines : (c : Class) → IsSpelled c → IsReadTree (listed subroutine_tree c.subroutines.items NoMore)
+spelled_subroutines c h = subroutine_trees c (read_by c h)

@@ -7,10 +7,10 @@ use Rattle.jack_tree.specs.declared.tree.Class.{Class}
 use Rattle.jack_meaning.specs.Text.{Class as AClass, Program}
 use Rattle.jack_core.specs.declared.program.Core.{Core}
 use Rattle.jack_core.specs.Texts.{class_names_of, names_of, the_class, the_program}
-use Rattle.jack_names.specs.Whole.{class_names}
+use Rattle.jack_tree.specs.Seen.{the_file}
 use Rattle.jack_compiler.specs.Files.{files_from, files_of}
 use Rattle.tower.specs.Compiled.{AreCompiled, AreNamed}
-use Rattle.tower.specs.Program.{Means}
+use Rattle.tower.specs.Program.{Means, class_names}
 
 abbrev file_names : List File → List (List ℕ)
 file_names files = map (λ f. f.name) files
@@ -33,17 +33,17 @@ files_named core =
 
 module _ (own : List Class) (core : Core) (means : Means own (Ok core)) where
   -- those of the folder's own classes come first
-  in_order : file_names (files_of core) ≡ class_names own ++ class_names means.0
-  in_order = files_named core ∙ means.5
+  in_order : file_names (files_of core) ≡ class_names (map the_file own) ++ class_names (map the_file means.0)
+  in_order = files_named core ∙ means.2.classes
 
-  as_many : length own ≡ length (class_names own)
-  as_many = sym (length-map own (λ c. c.name.text))
+  as_many : length own ≡ length (class_names (map the_file own))
+  as_many = sym (length-map own the_file) ∙ sym (length-map (map the_file own) (λ c. c.class.name.text))
 
   own_named : AreNamed own (files_of core)
   own_named = record {
-    all = omega (arith, as_many, ap length in_order, length-append (class_names own) (class_names means.0), length-map (files_of core) (λ f. f.name));
+    all = omega (arith, as_many, ap length in_order, length-append (class_names (map the_file own)) (class_names (map the_file means.0)), length-map (files_of core) (λ f. f.name));
     names = sym (take-map (λ f. f.name) (length own) (files_of core)) ∙ ap (take (length own)) in_order
-        ∙ ap (λ n. take n (class_names own ++ class_names means.0)) as_many ∙ take-append_seam (class_names own) (class_names means.0);
+        ∙ ap (λ n. take n (class_names (map the_file own) ++ class_names (map the_file means.0))) as_many ∙ take-append_seam (class_names (map the_file own)) (class_names (map the_file means.0));
   }
 
 pub named : (own : List Class) (files : List File) → AreCompiled own files → AreNamed own files

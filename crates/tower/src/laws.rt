@@ -4,6 +4,7 @@ ghost use Rattle.tower.specs.Budget.{BudgetLaw};
 ghost use Rattle.tower.specs.BudgetRows.{BudgetRows};
 ghost use Rattle.tower.specs.Built.{ComputerLaw};
 ghost use Rattle.tower.specs.Headline.{HeadlineLaw};
+ghost use Rattle.tower.specs.OneProgram.{OneProgramLaw};
 ghost use Rattle.tower.specs.Resolved.{ResolvedLaw};
 ghost use Rattle.tower.specs.Spelled.{ReadLaw};
 ghost use Rattle.tower.specs.VmRun.{DrivenLaw, VmLaw};
@@ -14,10 +15,15 @@ pub fn read_law()
     ensures { ReadLaw }
 {}
 
-/// A program of spelled classes that has no name fault is one whose names are resolved: each name in it is there, and the
+/// A well named program of spelled classes is one whose names are resolved: each name in it is there, and the
 /// names of its subroutines are apart.
 pub fn resolved_law()
     ensures { ResolvedLaw }
+{}
+
+/// Classes with the same abstract syntax mean one program, with the same names.
+pub fn one_program_law()
+    ensures { OneProgramLaw }
 {}
 
 /// The computer with the image of a program follows the program's meaning, cycle by cycle, under all keys.

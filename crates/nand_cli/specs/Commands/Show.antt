@@ -10,9 +10,9 @@ use Rattle.vm_parser.specs.Files.{Spells as SpellsProgram}
 use Rattle.hdl_tree.specs.declared.tree.Chip.{Chip}
 use Rattle.hdl_parser.specs.Printed.{chip_text}
 use Rattle.hdl_parser.specs.Whole.{Spells as SpellsChip}
-use Rattle.jack_tree.specs.declared.tree.Class.{Class}
-use Rattle.jack_parser.specs.Whole.{Spells as SpellsTree, whole_tree}
-use Rattle.jack_parser.specs.Printed.{class_text}
+use Rattle.jack_tree.specs.Syntax.{Class}
+use Rattle.jack_parser.specs.Spelled.{SpellsClass}
+use Rattle.jack_parser.specs.PrintedClass.{printed}
 use Rattle.command_line.specs.declared.request.SourceKind.{SourceKind}
 use Rattle.command_line.specs.declared.request.SourceKind.TheVariants as kinds
 use Rattle.nand_cli.specs.Languages.{RefusesClass, RefusesHdl, RefusesVm}
@@ -22,14 +22,10 @@ use Rattle.nand_cli.specs.Languages.{RefusesClass, RefusesHdl, RefusesVm}
 abbrev pub SpellsVm : List ℕ → List File → Type 0
 SpellsVm text program = SpellsProgram true [] text program
 
--- A Jack text spells a class. Its name is not held against that of the file.
-abbrev pub SpellsClass : List ℕ → Class → Type 0
-SpellsClass text c = SpellsTree text (whole_tree c)
-
--- The text at a path spells a source of its kind, and this is the printed form.
+-- The text at a path spells a source of its kind, and this is the printed form. (The name of a class is not held against that of the file.)
 abbrev pub ShowPrints : Option Files → List ℕ → SourceKind → List ℕ → Type 0
 ShowPrints files path kinds.Vm out = (program : List File) × SpellsAt SpellsVm files path program × (out ≡ program_text program)
-ShowPrints files path kinds.Jack out = (c : Class) × SpellsAt SpellsClass files path c × (out ≡ class_text c)
+ShowPrints files path kinds.Jack out = (c : Class) × SpellsAt SpellsClass files path c × (out ≡ printed c)
 ShowPrints files path kinds.Hdl out = (c : Chip) × SpellsAt SpellsChip files path c × (out ≡ chip_text c)
 
 -- a text of this kind is refused

@@ -6,6 +6,7 @@ ghost use Rattle.nand_cli.specs.Inner.Parts.{Counts, Does};
 use crate::failure::{Failure, finished};
 use crate::languages::{HdlText, JackText, VmText};
 use command_line::SourceKind;
+use jack_parser::printed_class_law;
 use outer_world::{List, Shelf, Sink};
 use source_files::load;
 use std::alloc::Global;
@@ -40,6 +41,7 @@ fn show_class<F: Shelf, O: Sink>(
     ensures kept { F.files shelf.new ≡ F.files shelf.old }
     ensures stays { F.there shelf.new ≡ F.there shelf.old }
 {
+    printed_class_law();
     let class = load(alloc, &JackText, path, "", shelf)?;
     finished(jack_parser::print(&class, out))
 }

@@ -4,8 +4,8 @@ use Rattle.nand_cli.proofs.laws.sound_law.Goals as goal
 
 pub returns-clause-sound : goal.returns-clause-sound
 returns-clause-sound c = sound_lines (record {
-  classes = c.reading_law.ensures;
-  scripts = c.reading_law-2.ensures;
+  classes = c.class_law.ensures;
+  scripts = c.reading_law.ensures;
   names = c.resolved_law.ensures;
   budgets = c.budget_law.ensures.budgets;
 })

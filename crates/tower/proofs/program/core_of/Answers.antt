@@ -15,7 +15,7 @@ pub resolve-requires-clause-os : goal.resolve-requires-clause-os
 resolve-requires-clause-os c = os_within spelled_read c.args.own.now c.args.os.now c.requires.few c.requires.spelled c.requires.os
 
 pub returns-in-Ok-clause-means : goal.returns-in-Ok-clause-means
-returns-in-Ok-clause-means c = core_means spelled_read c.args.own.now c.args.os.now c.requires.few c.requires.spelled c.requires.os c.in-Ok.core c.in-Ok.ensures.checks c.in-Ok.ensures.program c.in-Ok.ensures.names c.in-Ok.ensures.classes
+returns-in-Ok-clause-means c = core_means spelled_read c.args.own.now c.args.os.now c.requires.few c.requires.spelled c.requires.os c.in-Ok.core c.in-Ok.ensures.names c.in-Ok.ensures.tells c.in-Ok.ensures.meaning c.in-Ok.ensures.classes
 
 pub returns-in-Ok-clause-resolved : goal.returns-in-Ok-clause-resolved
-returns-in-Ok-clause-resolved c = core_resolved spelled_read c.args.own.now c.args.os.now c.requires.few c.requires.spelled c.requires.os c.in-Ok.core c.in-Ok.ensures.checks c.in-Ok.ensures.program c.in-Ok.ensures.names
+returns-in-Ok-clause-resolved c = core_resolved spelled_read c.args.own.now c.args.os.now c.requires.few c.requires.spelled c.requires.os c.in-Ok.core c.in-Ok.ensures.names c.in-Ok.ensures.checks c.in-Ok.ensures.program

@@ -3,6 +3,7 @@ use Rattle.std.proofs.lemmas.Result.{err_from_is_err_and}
 use Rattle.outer_world.specs.Files.{LacksFile}
 use Rattle.source_files.specs.Sources.{IsFaulty, SpellsAt}
 use Rattle.jack_tree.specs.declared.tree.Class.{Class}
+use Rattle.jack_tree.specs.Seen.{the_class}
 use Rattle.jack_os.specs.System.{SpellsClass}
 use Rattle.jack_parser.specs.Printed.{class_text}
 use Rattle.command_line.specs.Line.{show}
@@ -28,7 +29,7 @@ pub returns-clause-does : goal.returns-clause-does
 returns-clause-does g c = λ err.
     let source = c.in_ok-class.class in
     let loaded = c.in_ok-class.ensures.loads in
-    rw (c.finished.ensures) (done_by (g.F.Shelf.files c.args.shelf.now) (g.F.Shelf.there c.args.shelf.now) (g.F.Shelf.unfailing c.args.shelf.now) (show c.args.path.now kinds.Jack) (class_text source) _ _ err c.print.result ((source, (loaded.0, loaded.1, loaded.2.0), refl), refl) c.print.ensures.put tt)
+    rw (c.finished.ensures) (done_by (g.F.Shelf.files c.args.shelf.now) (g.F.Shelf.there c.args.shelf.now) (g.F.Shelf.unfailing c.args.shelf.now) (show c.args.path.now kinds.Jack) (class_text source) _ _ err c.print.result ((the_class source, (loaded.0, loaded.1, loaded.2.0), c.printed_class_law.ensures.form source), refl) c.print.ensures.put tt)
 
 pub returns-clause-counts : goal.returns-clause-counts
 returns-clause-counts g c = λ err.
