@@ -1,33 +1,10 @@
-use grammar::{Fault, ReadError};
+use grammar::ReadError;
 use hdl_parser::*;
 use hdl_tree::{Body, Chip, Source, Subscript};
 use outer_world::{MemorySink, Put};
-use scan_text::Place;
-use std::alloc::Global;
-use std::test::*;
-
-fn at(line: u32, column: u32) -> Place {
-    Place { line, column }
-}
-
-fn fault(alloc: Global, text: &[u8]) -> Option<Fault> {
-    match parse(alloc, text) {
-        Err(ReadError::Fault(fault)) => Some(fault),
-        _ => None,
-    }
-}
-
-fn grammar(line: u32, column: u32) -> Option<Fault> {
-    Some(Fault::Grammar(at(line, column)))
-}
-
-fn range(line: u32, column: u32, value: u32) -> Option<Fault> {
-    Some(Fault::Range(at(line, column), value))
-}
-
-fn is_chip(alloc: Global, text: &[u8]) -> bool {
-    parse(alloc, text).is_ok()
-}
+use std::alloc::{AllocError, Global};
+use std::process::Abort;
+use std::test::Fail;
 
 fn read(alloc: Global, text: &[u8]) -> Result<Chip, Fail> {
     match parse(alloc, text) {
@@ -86,7 +63,7 @@ fn tree(rt: HostRuntime) -> Result<(), Fail> {
     Ok(())
 }
 
-// A chip that is built in, with and without pins that are clocked.
+// A chip that is built in, with pins that are clocked.
 #[test]
 fn builtin(rt: HostRuntime) -> Result<(), Fail> {
     let chip = read(rt.alloc(), b"CHIP D { BUILTIN DFF; CLOCKED in, load; }")?;
@@ -97,90 +74,97 @@ fn builtin(rt: HostRuntime) -> Result<(), Fail> {
     };
     assert!(rt; name.as_bytes() == b"DFF".as_slice());
     assert_eq!(rt; clocked.as_slice().len(), 2);
-    assert!(rt; is_chip(rt.alloc(), b"CHIP D { OUT q; BUILTIN DFF; }"));
     Ok(())
 }
 
-// The printed form of the chip Not, of a chip with every form, and of chips without parts.
-#[test]
-fn print_form(rt: HostRuntime) -> Result<(), Fail> {
-    let alloc = rt.alloc();
-    assert_eq!(rt;
-        printed(
-            alloc,
-            b"CHIP Not{IN in;OUT out;PARTS:Nand(a=in,b=in,out=out);}"
-        )?
-        .as_str(),
-        "CHIP Not {\nIN in ;\nOUT out ;\nPARTS : Nand ( a = in , b = in , out = out ) ;\n}\n"
-    );
-    assert_eq!(rt;
-        printed(
-            alloc,
-            b"CHIP X // x\n { /* y */ IN a[016], b[1]; PARTS:\r\n\tY(a[0..015]=b[3..3], c[7]=true, d=false); Z(a=b); }"
-        )?
-        .as_str(),
-        "CHIP X {\nIN a [ 16 ] , b [ 1 ] ;\nPARTS : Y ( a [ 0 .. 15 ] = b [ 3 .. 3 ] , c [ 7 ] = true , d = false ) ;\nZ ( a = b ) ;\n}\n"
-    );
-    assert_eq!(rt;
-        printed(alloc, b"CHIP X { PARTS: }")?.as_str(),
-        "CHIP X {\nPARTS : }\n"
-    );
-    assert_eq!(rt;
-        printed(alloc, b"CHIP X { BUILTIN DFF; CLOCKED in,b; }")?.as_str(),
-        "CHIP X {\nBUILTIN DFF ;\nCLOCKED in , b ;\n}\n"
-    );
-    Ok(())
-}
+// The chip Not, a chip with every form, and chips without parts, and how they are printed.
+const PRINTED: &[(&str, &str)] = &[
+    (
+        "CHIP Not{IN in;OUT out;PARTS:Nand(a=in,b=in,out=out);}",
+        "CHIP Not {\nIN in ;\nOUT out ;\nPARTS : Nand ( a = in , b = in , out = out ) ;\n}\n",
+    ),
+    (
+        "CHIP X // x\n { /* y */ IN a[016], b[1]; PARTS:\r\n\tY(a[0..015]=b[3..3], c[7]=true, d=false); Z(a=b); }",
+        "CHIP X {\nIN a [ 16 ] , b [ 1 ] ;\nPARTS : Y ( a [ 0 .. 15 ] = b [ 3 .. 3 ] , c [ 7 ] = true , d = false ) ;\nZ ( a = b ) ;\n}\n",
+    ),
+    ("CHIP X { PARTS: }", "CHIP X {\nPARTS : }\n"),
+    (
+        "CHIP X { BUILTIN DFF; CLOCKED in,b; }",
+        "CHIP X {\nBUILTIN DFF ;\nCLOCKED in , b ;\n}\n",
+    ),
+];
 
-// Each kind of fault, at its place.
-#[test]
-fn faults(rt: HostRuntime) {
-    let alloc = rt.alloc();
-    assert!(rt; fault(alloc, b"") == grammar(1, 1));
-    assert!(rt; fault(alloc, b"CHIP") == grammar(1, 5));
-    assert!(rt; fault(alloc, b"chip X { PARTS: }") == grammar(1, 1));
-    assert!(rt; fault(alloc, b"CHIP IN { PARTS: }") == grammar(1, 6));
-    assert!(rt; fault(alloc, b"CHIP X { }") == grammar(1, 10));
-    assert!(rt; fault(alloc, b"CHIP X { IN ; PARTS: }") == grammar(1, 13));
-    assert!(rt; fault(alloc, b"CHIP X { OUT a; IN b; PARTS: }") == grammar(1, 17));
-    assert!(rt; fault(alloc, b"CHIP X { PARTS: A(); }") == grammar(1, 19));
-    assert!(rt; fault(alloc, b"CHIP X { PARTS: A(a=1); }") == grammar(1, 21));
-    assert!(rt; fault(alloc, b"CHIP X { PARTS: A(true=a); }") == grammar(1, 19));
-    assert!(rt; fault(alloc, b"CHIP X { PARTS: A(a=b) }") == grammar(1, 24));
-    assert!(rt; fault(alloc, b"CHIP X { PARTS: } CHIP") == grammar(1, 19));
-    assert!(rt; fault(alloc, b"CHIP X { BUILTIN Y; CLOCKED ; }") == grammar(1, 29));
-    assert!(rt; fault(alloc, b"CHIP X { PARTS: A(a=b[]); }") == grammar(1, 23));
-    assert!(rt; fault(alloc, b"CHIP X { PARTS: A(a=b[1,2]); }") == grammar(1, 24));
-    assert!(rt; fault(alloc, b"CHIP X { PARTS: A(a=b[1..]); }") == grammar(1, 26));
+// Texts, and what is told of them: each kind of fault, at its place, or that it is a chip.
+const TEXTS: &[(&str, &str)] = &[
+    ("", "1:1: Grammar"),
+    ("CHIP", "1:5: Grammar"),
+    ("chip X { PARTS: }", "1:1: Grammar"),
+    ("CHIP IN { PARTS: }", "1:6: Grammar"),
+    ("CHIP X { }", "1:10: Grammar"),
+    ("CHIP X { IN ; PARTS: }", "1:13: Grammar"),
+    ("CHIP X { OUT a; IN b; PARTS: }", "1:17: Grammar"),
+    ("CHIP X { PARTS: A(); }", "1:19: Grammar"),
+    ("CHIP X { PARTS: A(a=1); }", "1:21: Grammar"),
+    ("CHIP X { PARTS: A(true=a); }", "1:19: Grammar"),
+    ("CHIP X { PARTS: A(a=b) }", "1:24: Grammar"),
+    ("CHIP X { PARTS: } CHIP", "1:19: Grammar"),
+    ("CHIP X { BUILTIN Y; CLOCKED ; }", "1:29: Grammar"),
+    ("CHIP X { PARTS: A(a=b[]); }", "1:23: Grammar"),
+    ("CHIP X { PARTS: A(a=b[1,2]); }", "1:24: Grammar"),
+    ("CHIP X { PARTS: A(a=b[1..]); }", "1:26: Grammar"),
     // the first number of a subscript is at most the second
-    assert!(rt; fault(alloc, b"CHIP X { PARTS: A(a=b[3..2]); }") == grammar(1, 26));
-    assert!(rt; fault(alloc, b"CHIP X { PARTS: A(a[1..0]=b[5]); }") == grammar(1, 24));
+    ("CHIP X { PARTS: A(a=b[3..2]); }", "1:26: Grammar"),
+    ("CHIP X { PARTS: A(a[1..0]=b[5]); }", "1:24: Grammar"),
     // limits
-    assert!(rt; fault(alloc, b"CHIP X { IN a[17]; PARTS: }") == range(1, 15, 17));
-    assert!(rt; fault(alloc, b"CHIP X { IN a[99999999999]; PARTS: }") == range(1, 15, 1000000000));
-    assert!(rt; fault(alloc, b"CHIP X { PARTS: A(a=b[16]); }") == range(1, 23, 16));
-    assert!(rt; fault(alloc, b"CHIP X { PARTS: A(a=b[15..16]); }") == range(1, 27, 16));
-    assert!(rt; fault(alloc, b"CHIP X { PARTS: A(a=b[16..3]); }") == range(1, 23, 16));
+    ("CHIP X { IN a[17]; PARTS: }", "1:15: Range 17"),
+    (
+        "CHIP X { IN a[99999999999]; PARTS: }",
+        "1:15: Range 1000000000",
+    ),
+    ("CHIP X { PARTS: A(a=b[16]); }", "1:23: Range 16"),
+    ("CHIP X { PARTS: A(a=b[15..16]); }", "1:27: Range 16"),
+    ("CHIP X { PARTS: A(a=b[16..3]); }", "1:23: Range 16"),
+    (
+        "CHIP X { IN a[16], b[0]; OUT c[1]; PARTS: A(a[15]=b[0..15], c[15..15]=d[0]); }",
+        "a chip",
+    ),
     // a fault of a token comes before all of these
-    assert!(rt; fault(alloc, b"CHIP X { IN a[17]; PARTS: } -") == grammar(1, 29));
-    assert!(rt; fault(alloc, b"X\n ...") == grammar(2, 4));
-    assert!(rt; fault(alloc, b"X\n /* ") == grammar(2, 2));
+    ("CHIP X { IN a[17]; PARTS: } -", "1:29: Grammar"),
+    ("X\n ...", "2:4: Grammar"),
+    ("X\n /* ", "2:2: Grammar"),
+    // clocked pins may be left out
+    ("CHIP D { OUT q; BUILTIN DFF; }", "a chip"),
+];
+
+// What is told of a text.
+fn told_of(alloc: Global, text: &[u8]) -> Result<String, AllocError> {
+    match parse(alloc, text) {
+        Ok(_) => String::from_str(alloc, "a chip"),
+        Err(ReadError::Fault(fault)) => Ok(format!(in alloc; "{fault}")?),
+        Err(ReadError::Memory) => String::from_str(alloc, "memory"),
+    }
 }
 
-// What is just within the limits.
+fn is_told(rt: &impl Abort, alloc: Global, text: &[u8], told: &str) -> Result<(), Fail> {
+    let found = told_of(alloc, text)?;
+    assert_eq!(rt; found.as_str(), told);
+    Ok(())
+}
+
 #[test]
-fn limits(rt: HostRuntime) -> Result<(), Fail> {
+fn printed_forms_and_faults(rt: HostRuntime) -> Result<(), Fail> {
     let alloc = rt.alloc();
-    assert!(rt;
-        is_chip(
-            alloc,
-            b"CHIP X { IN a[16], b[0]; OUT c[1]; PARTS: A(a[15]=b[0..15], c[15..15]=d[0]); }"
-        )
-    );
+    for (text, form) in PRINTED {
+        let found = printed(alloc, text.as_bytes())?;
+        assert_eq!(rt; found.as_str(), *form);
+    }
+    for (text, told) in TEXTS {
+        let found = told_of(alloc, text.as_bytes())?;
+        assert_eq!(rt; found.as_str(), *told, "of {text}");
+    }
     // a text of blanks stops at its end
     let mut blanks = vec![in alloc; b' '; 1048576]?;
-    assert!(rt; fault(alloc, &blanks) == grammar(1, 1048577));
+    is_told(&rt, alloc, &blanks, "1:1048577: Grammar")?;
     blanks.push(b' ')?;
-    assert!(rt; fault(alloc, &blanks) == range(0, 0, 1048577));
-    Ok(())
+    is_told(&rt, alloc, &blanks, "0:0: Range 1048577")
 }

@@ -5,7 +5,8 @@ use hdl_parser::{parse, print};
 use hdl_tree::{Body, Chip, Entry, Library};
 use outer_world::{MemorySink, Put};
 use std::alloc::Global;
-use std::test::*;
+use std::process::Abort;
+use std::test::Fail;
 
 // The number of parts; a chip that is built in has none.
 fn parts_of(body: &Body) -> usize {
@@ -27,56 +28,54 @@ fn is_shipped(entry: &Entry, name: &[u8], parts: usize) -> bool {
         && parts_of(&entry.chip.body) == parts
 }
 
-// With memory the library has all shipped chips in order, of the parts that the tables of docs/CHIPS.md count.
-#[test]
-fn all_are_shipped(rt: HostRuntime) -> Result<(), Fail> {
-    let chips = [
-        (b"Nand".as_slice(), 0),
-        (b"Not".as_slice(), 1),
-        (b"And".as_slice(), 2),
-        (b"Or".as_slice(), 3),
-        (b"Xor".as_slice(), 4),
-        (b"Mux".as_slice(), 4),
-        (b"DMux".as_slice(), 3),
-        (b"Not16".as_slice(), 16),
-        (b"And16".as_slice(), 16),
-        (b"Or16".as_slice(), 16),
-        (b"Mux16".as_slice(), 16),
-        (b"Or8Way".as_slice(), 7),
-        (b"Mux4Way16".as_slice(), 3),
-        (b"Mux8Way16".as_slice(), 3),
-        (b"DMux4Way".as_slice(), 3),
-        (b"DMux8Way".as_slice(), 3),
-        (b"HalfAdder".as_slice(), 2),
-        (b"FullAdder".as_slice(), 3),
-        (b"Add16".as_slice(), 16),
-        (b"Inc16".as_slice(), 1),
-        (b"ALU".as_slice(), 15),
-        (b"DFF".as_slice(), 0),
-        (b"Bit".as_slice(), 2),
-        (b"Register".as_slice(), 16),
-        (b"ARegister".as_slice(), 16),
-        (b"DRegister".as_slice(), 16),
-        (b"PC".as_slice(), 5),
-        (b"RAM8".as_slice(), 10),
-        (b"RAM64".as_slice(), 10),
-        (b"RAM512".as_slice(), 10),
-        (b"RAM4K".as_slice(), 10),
-        (b"RAM16K".as_slice(), 6),
-        (b"Screen".as_slice(), 4),
-        (b"ROM32K".as_slice(), 0),
-        (b"Keyboard".as_slice(), 0),
-        (b"CPU".as_slice(), 18),
-        (b"Memory".as_slice(), 8),
-        (b"Computer".as_slice(), 3),
-    ];
-    let library = library(rt.alloc())?;
+// All shipped chips in order, of the parts that the tables of docs/CHIPS.md count.
+const CHIPS: &[(&str, usize)] = &[
+    ("Nand", 0),
+    ("Not", 1),
+    ("And", 2),
+    ("Or", 3),
+    ("Xor", 4),
+    ("Mux", 4),
+    ("DMux", 3),
+    ("Not16", 16),
+    ("And16", 16),
+    ("Or16", 16),
+    ("Mux16", 16),
+    ("Or8Way", 7),
+    ("Mux4Way16", 3),
+    ("Mux8Way16", 3),
+    ("DMux4Way", 3),
+    ("DMux8Way", 3),
+    ("HalfAdder", 2),
+    ("FullAdder", 3),
+    ("Add16", 16),
+    ("Inc16", 1),
+    ("ALU", 15),
+    ("DFF", 0),
+    ("Bit", 2),
+    ("Register", 16),
+    ("ARegister", 16),
+    ("DRegister", 16),
+    ("PC", 5),
+    ("RAM8", 10),
+    ("RAM64", 10),
+    ("RAM512", 10),
+    ("RAM4K", 10),
+    ("RAM16K", 6),
+    ("Screen", 4),
+    ("ROM32K", 0),
+    ("Keyboard", 0),
+    ("CPU", 18),
+    ("Memory", 8),
+    ("Computer", 3),
+];
+
+fn all_are_shipped(rt: &impl Abort, library: &Library) {
     let entries = library.entries.as_slice();
-    assert_eq!(rt; entries.len(), chips.len());
-    for (entry, (name, parts)) in entries.iter().zip(chips.iter()) {
-        assert!(rt; is_shipped(entry, name, *parts));
+    assert_eq!(rt; entries.len(), CHIPS.len());
+    for (entry, (name, parts)) in entries.iter().zip(CHIPS.iter()) {
+        assert!(rt; is_shipped(entry, name.as_bytes(), *parts), "{name}");
     }
-    Ok(())
 }
 
 fn printed(alloc: Global, chip: &Chip) -> Result<String, Fail> {
@@ -105,52 +104,53 @@ fn printed_again(alloc: Global, text: &str) -> Result<String, Fail> {
     }
 }
 
-// The printed forms of the four chips that are built in.
-#[test]
-fn built_in_chips(rt: HostRuntime) -> Result<(), Fail> {
-    let alloc = rt.alloc();
-    let library = library(alloc)?;
-    assert_eq!(rt;
-        printed_shipped(alloc, &library, b"Nand")?.as_str(),
-        "CHIP Nand {\nIN a , b ;\nOUT out ;\nBUILTIN Nand ;\n}\n"
-    );
-    assert_eq!(rt;
-        printed_shipped(alloc, &library, b"DFF")?.as_str(),
-        "CHIP DFF {\nIN in ;\nOUT out ;\nBUILTIN DFF ;\n}\n"
-    );
-    assert_eq!(rt;
-        printed_shipped(alloc, &library, b"ROM32K")?.as_str(),
-        "CHIP ROM32K {\nIN address [ 15 ] ;\nOUT out [ 16 ] ;\nBUILTIN ROM32K ;\n}\n"
-    );
-    assert_eq!(rt;
-        printed_shipped(alloc, &library, b"Keyboard")?.as_str(),
-        "CHIP Keyboard {\nOUT out [ 16 ] ;\nBUILTIN Keyboard ;\n}\n"
-    );
-    Ok(())
-}
+// The printed forms of the four chips that are built in, and of the Computer, whose parts are the CPU, the instruction memory and the
+// memory.
+const PRINTED: &[(&str, &str)] = &[
+    (
+        "Nand",
+        "CHIP Nand {\nIN a , b ;\nOUT out ;\nBUILTIN Nand ;\n}\n",
+    ),
+    ("DFF", "CHIP DFF {\nIN in ;\nOUT out ;\nBUILTIN DFF ;\n}\n"),
+    (
+        "ROM32K",
+        "CHIP ROM32K {\nIN address [ 15 ] ;\nOUT out [ 16 ] ;\nBUILTIN ROM32K ;\n}\n",
+    ),
+    (
+        "Keyboard",
+        "CHIP Keyboard {\nOUT out [ 16 ] ;\nBUILTIN Keyboard ;\n}\n",
+    ),
+    (
+        "Computer",
+        "CHIP Computer {\nIN reset ;\nPARTS : CPU ( inM = wordFromMemory , instruction = instruction , reset = reset , outM = wordToMemory , writeM = write , addressM = address , pc = pc ) ;\nROM32K ( address = pc , out = instruction ) ;\nMemory ( in = wordToMemory , load = write , address = address , out = wordFromMemory ) ;\n}\n",
+    ),
+];
 
-// The Computer, whose parts are the CPU, the instruction memory and the memory. No chip is called Nor.
-#[test]
-fn computer(rt: HostRuntime) -> Result<(), Fail> {
-    let alloc = rt.alloc();
-    let library = library(alloc)?;
-    assert_eq!(rt;
-        printed_shipped(alloc, &library, b"Computer")?.as_str(),
-        "CHIP Computer {\nIN reset ;\nPARTS : CPU ( inM = wordFromMemory , instruction = instruction , reset = reset , outM = wordToMemory , writeM = write , addressM = address , pc = pc ) ;\nROM32K ( address = pc , out = instruction ) ;\nMemory ( in = wordToMemory , load = write , address = address , out = wordFromMemory ) ;\n}\n"
-    );
-    assert!(rt; find_shipped(&library, b"Nor").is_none());
+fn each_is_printed(rt: &impl Abort, alloc: Global, library: &Library) -> Result<(), Fail> {
+    for (name, form) in PRINTED {
+        let text = printed_shipped(alloc, library, name.as_bytes())?;
+        assert_eq!(rt; text.as_str(), *form);
+    }
     Ok(())
 }
 
 // The printed form of each shipped chip is that of a chip.
-#[test]
-fn printed_forms_are_read(rt: HostRuntime) -> Result<(), Fail> {
-    let alloc = rt.alloc();
-    let library = library(alloc)?;
+fn printed_forms_are_read(rt: &impl Abort, alloc: Global, library: &Library) -> Result<(), Fail> {
     for entry in library.entries.as_slice() {
         let text = printed(alloc, &entry.chip)?;
         let again = printed_again(alloc, text.as_str())?;
         assert_eq!(rt; text.as_str(), again.as_str());
     }
+    Ok(())
+}
+
+#[test]
+fn shipped_chips(rt: HostRuntime) -> Result<(), Fail> {
+    let alloc = rt.alloc();
+    let library = library(alloc)?;
+    all_are_shipped(&rt, &library);
+    each_is_printed(&rt, alloc, &library)?;
+    printed_forms_are_read(&rt, alloc, &library)?;
+    assert!(rt; find_shipped(&library, b"Nor").is_none());
     Ok(())
 }

@@ -43,22 +43,24 @@ fn agree(one: &mut Bench, other: &mut Bench, cycles: u32) -> bool
     true
 }
 
+// Memories, and for how many cycles each is run.
+const MEMORIES: &[(&str, u32)] = &[
+    ("RAM8", 300),
+    ("RAM64", 300),
+    ("RAM512", 300),
+    ("RAM4K", 200),
+    ("RAM16K", 100),
+    ("Screen", 100),
+];
+
 #[test]
 fn gates_agree_with_blocks(rt: HostRuntime) -> Result<(), Fail> {
     let alloc = rt.alloc();
     let library = shipped_library(alloc)?;
-    let memories = [
-        (b"RAM8".as_slice(), 300),
-        (b"RAM64".as_slice(), 300),
-        (b"RAM512".as_slice(), 300),
-        (b"RAM4K".as_slice(), 200),
-        (b"RAM16K".as_slice(), 100),
-        (b"Screen".as_slice(), 100),
-    ];
-    for (name, cycles) in memories {
-        let mut gates = put_on_bench(alloc, &library, name, false)?;
-        let mut block = put_on_bench(alloc, &library, name, true)?;
-        assert!(rt; agree(&mut gates, &mut block, cycles));
+    for (name, cycles) in MEMORIES {
+        let mut gates = put_on_bench(alloc, &library, name.as_bytes(), false)?;
+        let mut block = put_on_bench(alloc, &library, name.as_bytes(), true)?;
+        assert!(rt; agree(&mut gates, &mut block, *cycles), "{name}");
     }
     Ok(())
 }

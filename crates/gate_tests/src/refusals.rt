@@ -40,60 +40,60 @@ fn why_not(alloc: Global, library: &Library, name: &[u8], blocks: bool) -> Resul
     }
 }
 
-// The chip F that texts spell, with memories as blocks, and what is told of it.
+// The parts of a chip F, with memories as blocks, and what is told of it.
+const FAULTS: &[(&str, &str)] = &[
+    // a fault of each kind
+    ("Foo(in=a, out=out);", "F: UnknownChip Foo"),
+    ("Nand(a=a, q=a, out=out);", "F: UnknownPin q"),
+    ("Nand(a=a, b=b, out=out);", "F: Width b"),
+    (
+        "Nand(a=a, b=a, out=out); Nand(a=a, b=a, out=out);",
+        "F: Driven out",
+    ),
+    ("Nand(a=a, b=n, out=out);", "F: Undriven n"),
+    ("F(a=a, out=out);", "F: Recursive F"),
+    // the first in the text, what stands in a part before its connections
+    ("Bad(in=b, out=out);", "Bad: UnknownChip Foo"),
+    ("Nand(a=a, b=n, out=n); Foo(in=a);", "F: UnknownChip Foo"),
+    // each side of a connection
+    ("Not16(in[0..15]=b, out[0]=out);", "F: Width b"),
+    ("Not16(in[0..1]=b[1..2], out[0]=out);", "F: Width b"),
+    ("Not(in[1]=a, out=out);", "F: Width in"),
+    (
+        "Not16(in=true, out=n); Not(in=n[0], out=out);",
+        "F: Width n",
+    ),
+    ("Nand(a=b[2], b=a, out=out);", "F: Width b"),
+    ("Not(in=a, out=n[0]);", "F: Width n"),
+    ("Not(in=a, out=a);", "F: Driven a"),
+    ("Not(in=a, out=true);", "F: Driven true"),
+    ("Not(in=a, in=a, out=out);", "F: Driven in"),
+    ("Not(in=a, out=out); Not(in=out, out=n);", "F: Driven out"),
+    // loops of bits within a cycle
+    ("Not(in=x, out=x);", "Loop x"),
+    ("Not(in=x, out=y); Not(in=y, out=x);", "Loop x y"),
+    ("Twice(in=x, out=x);", "Loop x m"),
+    ("DFF(in=x, out=x);", ""),
+    ("RAM8(in=true, load=a, address=x, out[0..2]=x);", "Loop x"),
+    ("RAM8(in[0..2]=x, load=a, address=true, out[0..2]=x);", ""),
+    ("Not16(in[0..1]=x, out[1..2]=x);", ""),
+    ("Not(in=a, out=out);", ""),
+];
+
+// The chips beside F.
+const BAD: &[u8] = b"CHIP Bad { IN in; OUT out; PARTS: Foo(in=in, out=out); }";
+
+const TWICE: &[u8] =
+    b"CHIP Twice { IN in; OUT out; PARTS: Not(in=in, out=m); Not(in=m, out=out); }";
+
 #[test]
 fn faults(rt: HostRuntime) -> Result<(), Fail> {
     let alloc = rt.alloc();
-    let rows = [
-        // a fault of each kind
-        ("Foo(in=a, out=out);", "F: UnknownChip Foo"),
-        ("Nand(a=a, q=a, out=out);", "F: UnknownPin q"),
-        ("Nand(a=a, b=b, out=out);", "F: Width b"),
-        (
-            "Nand(a=a, b=a, out=out); Nand(a=a, b=a, out=out);",
-            "F: Driven out",
-        ),
-        ("Nand(a=a, b=n, out=out);", "F: Undriven n"),
-        ("F(a=a, out=out);", "F: Recursive F"),
-        // the first in the text, what stands in a part before its connections
-        ("Bad(in=b, out=out);", "Bad: UnknownChip Foo"),
-        ("Nand(a=a, b=n, out=n); Foo(in=a);", "F: UnknownChip Foo"),
-        // each side of a connection
-        ("Not16(in[0..15]=b, out[0]=out);", "F: Width b"),
-        ("Not16(in[0..1]=b[1..2], out[0]=out);", "F: Width b"),
-        ("Not(in[1]=a, out=out);", "F: Width in"),
-        (
-            "Not16(in=true, out=n); Not(in=n[0], out=out);",
-            "F: Width n",
-        ),
-        ("Nand(a=b[2], b=a, out=out);", "F: Width b"),
-        ("Not(in=a, out=n[0]);", "F: Width n"),
-        ("Not(in=a, out=a);", "F: Driven a"),
-        ("Not(in=a, out=true);", "F: Driven true"),
-        ("Not(in=a, in=a, out=out);", "F: Driven in"),
-        ("Not(in=a, out=out); Not(in=out, out=n);", "F: Driven out"),
-        // loops of bits within a cycle
-        ("Not(in=x, out=x);", "Loop x"),
-        ("Not(in=x, out=y); Not(in=y, out=x);", "Loop x y"),
-        ("Twice(in=x, out=x);", "Loop x m"),
-        ("DFF(in=x, out=x);", ""),
-        ("RAM8(in=true, load=a, address=x, out[0..2]=x);", "Loop x"),
-        ("RAM8(in[0..2]=x, load=a, address=true, out[0..2]=x);", ""),
-        ("Not16(in[0..1]=x, out[1..2]=x);", ""),
-        ("Not(in=a, out=out);", ""),
-    ];
-    for (parts, told) in rows {
+    for (parts, told) in FAULTS {
         let text = format!(in alloc; "CHIP F {{ IN a, b[2]; OUT out; PARTS: {parts} }}")?;
-        let library = library_with(
-            alloc,
-            &[
-                text.as_bytes(),
-                b"CHIP Bad { IN in; OUT out; PARTS: Foo(in=in, out=out); }",
-                b"CHIP Twice { IN in; OUT out; PARTS: Not(in=in, out=m); Not(in=m, out=out); }",
-            ],
-        )?;
+        let library = library_with(alloc, &[text.as_bytes(), BAD, TWICE])?;
         let why = why_not(alloc, &library, b"F", true)?;
-        assert_eq!(rt; why.as_str(), told);
+        assert_eq!(rt; why.as_str(), *told, "of {parts}");
     }
     Ok(())
 }
@@ -114,18 +114,23 @@ fn chained(alloc: Global, first: &[u8]) -> Result<Library, Fail>
     Ok(library)
 }
 
+// The first of the forty chips, and what is told of the last.
+const CHAINS: &[(&str, &str)] = &[
+    (
+        "CHIP C0 { IN in; OUT out; PARTS: Nand(a=in, b=in, out=out); }",
+        "TooManyNodes 1000000000",
+    ),
+    ("CHIP C0 { IN in; OUT out; PARTS: }", "Memory"),
+];
+
 // They are told at once: no chip is expanded, and no directory begun.
 #[test]
 fn forty_chips(rt: HostRuntime) -> Result<(), Fail> {
     let alloc = rt.alloc();
-    let nands = chained(
-        alloc,
-        b"CHIP C0 { IN in; OUT out; PARTS: Nand(a=in, b=in, out=out); }",
-    )?;
-    let why = why_not(alloc, &nands, b"C40", false)?;
-    assert_eq!(rt; why.as_str(), "TooManyNodes 1000000000");
-    let nothing = chained(alloc, b"CHIP C0 { IN in; OUT out; PARTS: }")?;
-    let why = why_not(alloc, &nothing, b"C40", false)?;
-    assert_eq!(rt; why.as_str(), "Memory");
+    for (first, told) in CHAINS {
+        let library = chained(alloc, first.as_bytes())?;
+        let why = why_not(alloc, &library, b"C40", false)?;
+        assert_eq!(rt; why.as_str(), *told, "of {first}");
+    }
     Ok(())
 }

@@ -1,61 +1,90 @@
 use hack_isa::{Instr, alu, decode, encode};
 use std::test::*;
 
-// The program of chapter 4 that puts 2 + 3 into the word 0.
-#[test]
-fn words_of_add(rt: HostRuntime) {
-    let d_is_a = Instr::Compute {
-        memory: false,
-        comp: 0b110000,
-        dest: 0b010,
-        jump: 0,
-    };
-    let d_is_d_plus_a = Instr::Compute {
-        memory: false,
-        comp: 0b000010,
-        dest: 0b010,
-        jump: 0,
-    };
-    let m_is_d = Instr::Compute {
-        memory: false,
-        comp: 0b001100,
-        dest: 0b001,
-        jump: 0,
-    };
-    assert_eq!(rt; encode(&Instr::Address(2)), 2);
-    assert_eq!(rt; encode(&d_is_a), 60432);
-    assert_eq!(rt; encode(&d_is_d_plus_a), 57488);
-    assert_eq!(rt; encode(&m_is_d), 58120);
-    assert_eq!(rt; decode(3), Instr::Address(3));
-    assert_eq!(rt; decode(60432), d_is_a);
-    assert_eq!(rt; decode(57488), d_is_d_plus_a);
-    assert_eq!(rt; decode(58120), m_is_d);
-}
+// words, their instructions, and the words of these again, where bits 14 and 13 are set
+const WORDS: &[(u16, Instr, u16)] = &[
+    // the program of chapter 4 that puts 2 + 3 into the word 0: @2, D=A, @3, D=D+A, @0, M=D
+    (2, Instr::Address(2), 2),
+    (
+        60432,
+        Instr::Compute {
+            memory: false,
+            comp: 0b110000,
+            dest: 0b010,
+            jump: 0,
+        },
+        60432,
+    ),
+    (3, Instr::Address(3), 3),
+    (
+        57488,
+        Instr::Compute {
+            memory: false,
+            comp: 0b000010,
+            dest: 0b010,
+            jump: 0,
+        },
+        57488,
+    ),
+    (
+        58120,
+        Instr::Compute {
+            memory: false,
+            comp: 0b001100,
+            dest: 0b001,
+            jump: 0,
+        },
+        58120,
+    ),
+    // AM=M-1, whose bits 14 and 13 change nothing
+    (
+        0b1111_1100_1010_1000,
+        Instr::Compute {
+            memory: true,
+            comp: 0b110010,
+            dest: 0b101,
+            jump: 0,
+        },
+        0b1111_1100_1010_1000,
+    ),
+    (
+        0b1001_1100_1010_1000,
+        Instr::Compute {
+            memory: true,
+            comp: 0b110010,
+            dest: 0b101,
+            jump: 0,
+        },
+        0b1111_1100_1010_1000,
+    ),
+    // 0;JMP
+    (
+        60039,
+        Instr::Compute {
+            memory: false,
+            comp: 0b101010,
+            dest: 0,
+            jump: 0b111,
+        },
+        60039,
+    ),
+];
+
+// two values, the bits of an operation, and what it makes: the value, and whether it is zero and below zero
+const OPERATIONS: &[(u16, u16, u8, (u16, bool, bool))] = &[
+    (0, 1, 0b010011, (65535, false, true)),
+    (7, 7, 0b010011, (0, true, false)),
+    (12, 10, 0b010101, (14, false, false)),
+];
 
 #[test]
-fn other_bits_of_compute(rt: HostRuntime) {
-    // AM=M-1 and 0;JMP; bits 14 and 13 change nothing.
-    let pop = Instr::Compute {
-        memory: true,
-        comp: 0b110010,
-        dest: 0b101,
-        jump: 0,
-    };
-    assert_eq!(rt; decode(0b1111_1100_1010_1000), pop);
-    assert_eq!(rt; decode(0b1001_1100_1010_1000), pop);
-    assert_eq!(rt; encode(&pop), 0b1111_1100_1010_1000);
-    let go = Instr::Compute {
-        memory: false,
-        comp: 0b101010,
-        dest: 0,
-        jump: 0b111,
-    };
-    assert_eq!(rt; decode(60039), go);
-}
-
-#[test]
-fn difference_below_zero(rt: HostRuntime) {
-    assert_eq!(rt; alu(0, 1, 0b010011), (65535, false, true));
-    assert_eq!(rt; alu(7, 7, 0b010011), (0, true, false));
-    assert_eq!(rt; alu(12, 10, 0b010101), (14, false, false));
+fn instructions(rt: HostRuntime) {
+    for (word, instr, again) in WORDS {
+        let found = decode(*word);
+        assert_eq!(rt; found, *instr, "at {word}");
+        assert_eq!(rt; encode(&found), *again, "at {word}");
+    }
+    for (x, y, bits, wanted) in OPERATIONS {
+        assert_eq!(rt; alu(*x, *y, *bits), *wanted, "at {x} and {y}");
+    }
 }

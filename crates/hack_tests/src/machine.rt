@@ -1,61 +1,148 @@
 use hack_machine::Hack;
 use machine_io::{Level, Moved};
-use std::alloc::AllocError;
+use std::alloc::{AllocError, Global};
 use std::process::Abort;
 use std::test::*;
 
-// The program of chapter 4 that puts 2 + 3 into the word 0: @2, D=A, @3, D=D+A, @0, M=D.
-#[test]
-fn sum_of_two_and_three(rt: HostRuntime) -> Result<(), AllocError> {
-    let mut hack = Hack::new(rt.alloc(), &[2, 60432, 3, 57488, 0, 58120])?;
-    for _ in 0..5 {
-        assert!(rt; hack.moves() < 5);
-        hack.step(0);
+// So many steps under a key, and then: A, D and the program counter, words at their addresses, and what is seen under a key at an
+// address.
+struct Look<'a> {
+    steps: u16,
+    key: u16,
+    registers: (u16, u16, u16),
+    words: &'a [(u16, u16)],
+    seen: &'a [(u16, u16, u16)],
+}
+
+// An image, and what is put from outside: A, D and the program counter, and words at their addresses.
+struct Case<'a> {
+    image: &'a [u16],
+    registers: (u16, u16, u16),
+    words: &'a [(u16, u16)],
+    looks: &'a [Look<'a>],
+}
+
+const CASES: &[Case<'static>] = &[
+    // the program of chapter 4 that puts 2 + 3 into the word 0: @2, D=A, @3, D=D+A, @0, M=D
+    Case {
+        image: &[2, 60432, 3, 57488, 0, 58120],
+        registers: (0, 0, 0),
+        words: &[],
+        looks: &[
+            Look {
+                steps: 5,
+                key: 0,
+                registers: (0, 5, 5),
+                words: &[(0, 0)],
+                seen: &[],
+            },
+            Look {
+                steps: 1,
+                key: 0,
+                registers: (0, 5, 6),
+                words: &[(0, 5), (1, 0)],
+                seen: &[],
+            },
+        ],
+    },
+    // M=D stands at 1; what is put is there, and the instruction finds it
+    Case {
+        image: &[0, 58120],
+        registers: (5, 3, 1),
+        words: &[(5, 7)],
+        looks: &[
+            Look {
+                steps: 0,
+                key: 0,
+                registers: (5, 3, 1),
+                words: &[(5, 7)],
+                seen: &[],
+            },
+            Look {
+                steps: 1,
+                key: 0,
+                registers: (5, 3, 2),
+                words: &[(5, 3)],
+                seen: &[],
+            },
+        ],
+    },
+    // @24576, D=M, @1, M=D, @32767, 0;JMP: the key into the word 1, then to the last address, whose word is 0
+    Case {
+        image: &[24576, 64528, 1, 58120, 32767, 60039],
+        registers: (0, 0, 0),
+        words: &[],
+        looks: &[
+            Look {
+                steps: 6,
+                key: 65,
+                registers: (32767, 65, 32767),
+                words: &[(1, 65)],
+                seen: &[(66, 1, 65), (66, 24576, 66)],
+            },
+            Look {
+                steps: 1,
+                key: 0,
+                registers: (0, 65, 0),
+                words: &[],
+                seen: &[],
+            },
+        ],
+    },
+];
+
+// The machine of an image, with what is put from outside.
+fn machine(rt: &impl Abort, alloc: Global, case: &Case<'_>) -> Result<Hack, AllocError> {
+    assert!(rt; case.image.len() <= 32768);
+    let mut hack = Hack::new(alloc, case.image)?;
+    let (a, d, pc) = case.registers;
+    assert!(rt; pc < 32768);
+    hack.set_a(a);
+    hack.set_d(d);
+    hack.set_pc(pc);
+    for (address, word) in case.words {
+        assert!(rt; *address < 24576);
+        hack.set_ram(*address, *word);
     }
-    assert_eq!(rt; hack.ram(0), 0);
-    assert_eq!(rt; (hack.a(), hack.d(), hack.pc()), (0, 5, 5));
-    assert!(rt; hack.moves() < 6);
-    hack.step(0);
-    assert_eq!(rt; hack.ram(0), 5);
-    assert_eq!(rt; hack.ram(1), 0);
-    assert_eq!(rt; hack.moves(), 6);
-    Ok(())
+    Ok(hack)
 }
 
-// M=D stands at 1; what is put is there, and the instruction finds it.
-#[test]
-fn puts_from_outside(rt: HostRuntime) -> Result<(), AllocError> {
-    let mut hack = Hack::new(rt.alloc(), &[0, 58120])?;
-    hack.set_a(5);
-    hack.set_d(3);
-    hack.set_pc(1);
-    hack.set_ram(5, 7);
-    assert_eq!(rt; (hack.a(), hack.d(), hack.pc(), hack.ram(5)), (5, 3, 1, 7));
-    assert!(rt; hack.moves() < 1);
-    hack.step(0);
-    assert_eq!(rt; hack.ram(5), 3);
-    Ok(())
-}
-
-// @24576, D=M, @1, M=D, @32767, 0;JMP: the key into the word 1, then to the last address, whose word is 0.
-#[test]
-fn key_and_last_address(rt: HostRuntime) -> Result<(), AllocError> {
-    let mut hack = Hack::new(rt.alloc(), &[24576, 64528, 1, 58120, 32767, 60039])?;
-    for _ in 0..6 {
-        assert!(rt; hack.moves() < 6);
-        hack.step(65);
+fn step(rt: &impl Abort, hack: &mut Hack, steps: u16, key: u16) {
+    for _ in 0..steps {
+        assert!(rt; hack.moves() < 100000);
+        hack.step(key);
     }
-    assert_eq!(rt; hack.ram(1), 65);
-    assert_eq!(rt; hack.word_seen(66, 1), 65);
-    assert_eq!(rt; hack.word_seen(66, 24576), 66);
-    assert_eq!(rt; hack.pc(), 32767);
-    assert!(rt; hack.moves() < 7);
-    hack.step(0);
-    assert_eq!(rt; (hack.a(), hack.pc()), (0, 0));
+}
+
+fn stands(rt: &impl Abort, number: usize, hack: &Hack, look: &Look<'_>) {
+    let registers = (hack.a(), hack.d(), hack.pc());
+    assert_eq!(rt; registers, look.registers, "row {number}");
+    for (address, word) in look.words {
+        assert!(rt; *address < 24576);
+        assert_eq!(rt; hack.ram(*address), *word, "row {number}, at {address}");
+    }
+    for (key, address, word) in look.seen {
+        assert_eq!(rt;
+            hack.word_seen(*key, *address),
+            *word,
+            "row {number}, at {address}"
+        );
+    }
+}
+
+fn goes(rt: &impl Abort, alloc: Global, number: usize, case: &Case<'_>) -> Result<(), AllocError> {
+    let mut hack = machine(rt, alloc, case)?;
+    let mut moves = 0u64;
+    for look in case.looks {
+        step(rt, &mut hack, look.steps, look.key);
+        stands(rt, number, &hack, look);
+        moves = moves.wrapping_add(u64::from(look.steps));
+        assert_eq!(rt; hack.moves(), moves, "row {number}");
+    }
     Ok(())
 }
 
-fn two_moves<L: Level, R: Abort>(rt: &R, level: &mut L) -> Result<u16, AllocError> {
+fn two_moves<L: Level>(rt: &impl Abort, level: &mut L) -> Result<u16, AllocError> {
     for _ in 0..2 {
         assert!(rt; level.moves() < 2);
         let answer = level.step(0)?;
@@ -64,10 +151,14 @@ fn two_moves<L: Level, R: Abort>(rt: &R, level: &mut L) -> Result<u16, AllocErro
     Ok(level.word_at(2048))
 }
 
-// @2048, M=1.
 #[test]
-fn moves_as_a_level(rt: HostRuntime) -> Result<(), AllocError> {
-    let mut hack = Hack::new(rt.alloc(), &[2048, 61384])?;
+fn steps(rt: HostRuntime) -> Result<(), AllocError> {
+    let alloc = rt.alloc();
+    for (number, case) in CASES.iter().enumerate() {
+        goes(&rt, alloc, number, case)?;
+    }
+    // @2048, M=1, moved as a level
+    let mut hack = Hack::new(alloc, &[2048, 61384])?;
     assert_eq!(rt; two_moves(&rt, &mut hack)?, 1);
     assert_eq!(rt; (hack.steps(), hack.point()), (0, 2));
     Ok(())

@@ -1,59 +1,68 @@
-use grammar::{Fault, ReadError};
+use grammar::ReadError;
 use jack_lexer::*;
-use jack_tree::{Keyword, Kind};
+use jack_tree::{Keyword, Kind, Token};
 use scan_text::Place;
 use std::alloc::Global;
 use std::test::*;
 
-fn at(line: u32, column: u32) -> Place {
-    Place { line, column }
+// a text, and its tokens: kinds, slices and places
+const TEXT: &[u8] = b"let /* a */ x1=\"a /* \";// b\r\n32767/_";
+
+const TOKENS: &[(Kind, &[u8], (u32, u32))] = &[
+    (Kind::Keyword(Keyword::Let), b"let", (1, 1)),
+    (Kind::Identifier, b"x1", (1, 13)),
+    (Kind::Symbol(b'='), b"=", (1, 15)),
+    (Kind::Text, b"\"a /* \"", (1, 16)),
+    (Kind::Symbol(b';'), b";", (1, 23)),
+    (Kind::Integer(32767), b"32767", (2, 1)),
+    (Kind::Symbol(b'/'), b"/", (2, 6)),
+    (Kind::Identifier, b"_", (2, 7)),
+];
+
+// texts, and their faults, or nothing where they have none
+const FAULTS: &[(&[u8], &str)] = &[
+    (b"/* a", "1:1: Grammar"),
+    (b"x\n 32768", "2:2: Range 32768"),
+    (b"00032767", ""),
+    (b"99999999999", "1:1: Range 1000000000"),
+    (b"let \"a\n\"", "1:5: Grammar"),
+    (b"\"\xe4\"", "1:1: Grammar"),
+    (b"\"\t\"", ""),
+    (b"a #", "1:3: Grammar"),
+    (b"/* \xe4 **/ //\xe4", ""),
+];
+
+fn cut<'a>(alloc: Global, text: &'a [u8]) -> Result<(Vec<Token<'a>>, Place), ReadError> {
+    tokens(alloc, text)
 }
 
-#[test]
-fn kinds(rt: HostRuntime) -> Result<(), Fail> {
-    let text = b"let /* a */ x1=\"a /* \";// b\r\n32767/_";
-    let (tokens, end) = tokens(rt.alloc(), text).ok().ok_or("these are tokens")?;
-    assert_eq!(rt; tokens.len(), 8);
-    assert!(rt; tokens[0].kind == Kind::Keyword(Keyword::Let));
-    assert!(rt; tokens[1].kind == Kind::Identifier);
-    assert!(rt; tokens[1].text == b"x1".as_slice());
-    assert!(rt; tokens[1].place == at(1, 13));
-    assert!(rt; tokens[2].kind == Kind::Symbol(b'='));
-    assert!(rt; tokens[3].kind == Kind::Text);
-    assert!(rt; tokens[3].text == b"\"a /* \"".as_slice());
-    assert!(rt; tokens[5].kind == Kind::Integer(32767));
-    assert!(rt; tokens[5].place == at(2, 1));
-    assert!(rt; tokens[6].kind == Kind::Symbol(b'/'));
-    assert!(rt; tokens[7].text == b"_".as_slice());
-    assert!(rt; end == at(2, 8));
-    Ok(())
-}
-
-fn fault(alloc: Global, text: &[u8]) -> Option<Fault> {
-    match tokens(alloc, text) {
-        Err(ReadError::Fault(fault)) => Some(fault),
-        _ => None,
+// The fault of a text, or nothing.
+fn told(alloc: Global, text: &[u8]) -> Result<String, Fail> {
+    match cut(alloc, text) {
+        Ok(_) => Ok(String::new(alloc)),
+        Err(fault) => Ok(format!(in alloc; "{fault}")?),
     }
 }
 
 #[test]
-fn faults(rt: HostRuntime) {
+fn texts(rt: HostRuntime) -> Result<(), Fail> {
     let alloc = rt.alloc();
-    assert!(rt; fault(alloc, b"/* a") == Some(Fault::Grammar(at(1, 1))));
-    assert!(rt; fault(alloc, b"x\n 32768") == Some(Fault::Range(at(2, 2), 32768)));
-    assert!(rt; fault(alloc, b"00032767") == None);
-    assert!(rt; fault(alloc, b"99999999999") == Some(Fault::Range(at(1, 1), 1000000000)));
-    assert!(rt; fault(alloc, b"let \"a\n\"") == Some(Fault::Grammar(at(1, 5))));
-    assert!(rt; fault(alloc, b"\"\xe4\"") == Some(Fault::Grammar(at(1, 1))));
-    assert!(rt; fault(alloc, b"\"\t\"") == None);
-    assert!(rt; fault(alloc, b"a #") == Some(Fault::Grammar(at(1, 3))));
-    assert!(rt; fault(alloc, b"/* \xe4 **/ //\xe4") == None);
-}
-
-#[test]
-fn too_long(rt: HostRuntime) -> Result<(), Fail> {
-    let blanks = vec![in rt.alloc(); b' '; 1048577]?;
-    assert!(rt; fault(rt.alloc(), &blanks) == Some(Fault::Range(at(0, 0), 1048577)));
-    assert!(rt; fault(rt.alloc(), &blanks[1..]) == None);
+    let (tokens, end) = cut(alloc, TEXT)?;
+    assert_eq!(rt; tokens.len(), TOKENS.len());
+    assert_eq!(rt; (end.line, end.column), (2, 8));
+    for (number, token) in tokens.iter().enumerate() {
+        let found = (
+            token.kind,
+            token.text,
+            (token.place.line, token.place.column),
+        );
+        assert_eq!(rt; Some(found), TOKENS.get(number).copied(), "token {number}");
+    }
+    for (number, (text, wanted)) in FAULTS.iter().enumerate() {
+        assert_eq!(rt; told(alloc, text)?.as_str(), *wanted, "row {number}");
+    }
+    let blanks = vec![in alloc; b' '; 1048577]?;
+    assert_eq!(rt; told(alloc, &blanks)?.as_str(), "0:0: Range 1048577");
+    assert_eq!(rt; told(alloc, &blanks[1..])?.as_str(), "");
     Ok(())
 }

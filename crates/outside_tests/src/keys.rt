@@ -1,73 +1,89 @@
-use grammar::{Fault, ReadError};
-use key_script::*;
-use scan_text::Place;
-use std::alloc::Global;
-use std::test::*;
+//! Key scripts: the codes at moments, and the faults of texts that are none.
+use grammar::ReadError;
+use key_script::{Keys, read_keys};
+use std::alloc::{AllocError, Global};
+use std::process::Abort;
+use std::test::Fail;
 
-#[test]
-fn codes(rt: HostRuntime) -> Result<(), Fail> {
-    let keys = read_keys(rt.alloc(), b"500 65\n501 0")
-        .ok()
-        .ok_or("the text is a script")?;
-    assert_eq!(rt; keys.at(0), 0);
-    assert_eq!(rt; keys.at(499), 0);
-    assert_eq!(rt; keys.at(500), 65);
-    assert_eq!(rt; keys.at(501), 0);
-    assert_eq!(rt; keys.at(18446744073709551615), 0);
-    Ok(())
-}
+// Scripts, and the codes at some moments.
+const SCRIPTS: &[(&str, &[(u64, u16)])] = &[
+    (
+        "500 65\n501 0",
+        &[
+            (0, 0),
+            (499, 0),
+            (500, 65),
+            (501, 0),
+            (18_446_744_073_709_551_615, 0),
+        ],
+    ),
+    // leading zeros, blanks, tabs, CRLF, limits, and a code that is held until the next line
+    (
+        "\t00 65535\r\n 7\t130 \n1000000000 1 \r\n  ",
+        &[
+            (0, 65_535),
+            (6, 65_535),
+            (7, 130),
+            (999_999_999, 130),
+            (1_000_000_000, 1),
+        ],
+    ),
+    ("", &[(5, 0)]),
+];
 
-// Leading zeros, blanks, tabs, CRLF, limits, and a code that is held until the next line.
-#[test]
-fn forms(rt: HostRuntime) -> Result<(), Fail> {
-    let keys = read_keys(rt.alloc(), b"\t00 65535\r\n 7\t130 \n1000000000 1 \r\n  ")
-        .ok()
-        .ok_or("the text is a script")?;
-    assert_eq!(rt; keys.at(0), 65535);
-    assert_eq!(rt; keys.at(6), 65535);
-    assert_eq!(rt; keys.at(7), 130);
-    assert_eq!(rt; keys.at(999999999), 130);
-    assert_eq!(rt; keys.at(1000000000), 1);
-    let empty = read_keys(rt.alloc(), b"")
-        .ok()
-        .ok_or("an empty text is a script")?;
-    assert_eq!(rt; empty.at(5), 0);
-    assert_eq!(rt; Keys::none(rt.alloc()).at(5), 0);
-    Ok(())
-}
+// Texts that are no scripts, and their faults.
+const FAULTS: &[(&str, &str)] = &[
+    ("5 65\n5 66\n", "2:1: NotRising"),
+    ("0 65536", "1:3: Range 65536"),
+    ("0 9999999999", "1:3: Range 1000000000"),
+    ("1000000001 5", "1:1: Range 1000000000"),
+    ("x", "1:1: Grammar"),
+    ("\t5\n\n6 7", "1:3: Grammar"),
+    ("5 6\n \r\n", "2:2: Grammar"),
+    ("5 6\r7 8", "1:4: Grammar"),
+    ("5", "1:2: Grammar"),
+    ("5 6 7", "1:5: Grammar"),
+    // a token that isn't one comes before a moment that does not rise
+    ("5 6\n5 6\n#", "3:1: Grammar"),
+];
 
-fn fault(alloc: Global, text: &[u8]) -> Option<Fault> {
-    match read_keys(alloc, text) {
-        Err(ReadError::Fault(fault)) => Some(fault),
-        _ => None,
+// The fault of a text, or what there is in its place.
+fn fault_of(alloc: Global, read: &Result<Keys, ReadError>) -> Result<String, AllocError> {
+    match read {
+        Ok(_) => String::from_str(alloc, "a script"),
+        Err(ReadError::Fault(fault)) => Ok(format!(in alloc; "{fault}")?),
+        Err(ReadError::Memory) => String::from_str(alloc, "memory"),
     }
 }
 
-fn at(line: u32, column: u32) -> Place {
-    Place { line, column }
+fn has_codes(rt: &impl Abort, alloc: Global, text: &str, codes: &[(u64, u16)]) -> Result<(), Fail> {
+    let keys = read_keys(alloc, text.as_bytes())
+        .ok()
+        .ok_or("the text is a script")?;
+    for (moment, code) in codes {
+        assert_eq!(rt; keys.at(*moment), *code, "{moment} of {text}");
+    }
+    Ok(())
+}
+
+fn has_fault(rt: &impl Abort, alloc: Global, text: &[u8], fault: &str) -> Result<(), Fail> {
+    let told = fault_of(alloc, &read_keys(alloc, text))?;
+    assert_eq!(rt; told.as_str(), fault);
+    Ok(())
 }
 
 #[test]
-fn faults(rt: HostRuntime) {
+fn scripts_and_faults(rt: HostRuntime) -> Result<(), Fail> {
     let alloc = rt.alloc();
-    assert!(rt; fault(alloc, b"5 65\n5 66\n") == Some(Fault::NotRising(at(2, 1))));
-    assert!(rt; fault(alloc, b"0 65536") == Some(Fault::Range(at(1, 3), 65536)));
-    assert!(rt; fault(alloc, b"0 9999999999") == Some(Fault::Range(at(1, 3), 1000000000)));
-    assert!(rt; fault(alloc, b"1000000001 5") == Some(Fault::Range(at(1, 1), 1000000000)));
-    assert!(rt; fault(alloc, b"x") == Some(Fault::Grammar(at(1, 1))));
-    assert!(rt; fault(alloc, b"\t5\n\n6 7") == Some(Fault::Grammar(at(1, 3))));
-    assert!(rt; fault(alloc, b"5 6\n \r\n") == Some(Fault::Grammar(at(2, 2))));
-    assert!(rt; fault(alloc, b"5 6\r7 8") == Some(Fault::Grammar(at(1, 4))));
-    assert!(rt; fault(alloc, b"5") == Some(Fault::Grammar(at(1, 2))));
-    assert!(rt; fault(alloc, b"5 6 7") == Some(Fault::Grammar(at(1, 5))));
-    // a token that isn't one comes before a moment that does not rise
-    assert!(rt; fault(alloc, b"5 6\n5 6\n#") == Some(Fault::Grammar(at(3, 1))));
-}
-
-#[test]
-fn too_long(rt: HostRuntime) -> Result<(), Fail> {
-    let blanks = vec![in rt.alloc(); b' '; 1048577]?;
-    assert!(rt; fault(rt.alloc(), &blanks) == Some(Fault::Range(at(0, 0), 1048577)));
-    assert!(rt; fault(rt.alloc(), &blanks[1..]) == None);
+    for (text, codes) in SCRIPTS {
+        has_codes(&rt, alloc, text, codes)?;
+    }
+    for (text, fault) in FAULTS {
+        has_fault(&rt, alloc, text.as_bytes(), fault)?;
+    }
+    let blanks = vec![in alloc; b' '; 1_048_577]?;
+    has_fault(&rt, alloc, &blanks, "0:0: Range 1048577")?;
+    has_fault(&rt, alloc, &blanks[1..], "a script")?;
+    assert_eq!(rt; Keys::none(alloc).at(5), 0);
     Ok(())
 }

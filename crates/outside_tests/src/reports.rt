@@ -122,18 +122,10 @@ fn the_same_key_gets_the_same_answer(rt: HostRuntime) -> Result<(), Fail> {
 }
 
 #[test]
-fn drive_makes_the_moves(rt: HostRuntime) -> Result<(), Fail> {
-    let mut level = new_counter(100);
-    assert_eq!(rt; drive(&mut level, &Turning, 3)?, End::Bound);
-    assert_eq!(rt; (level.moves(), level.point()), (3, 6));
-    Ok(())
-}
-
-#[test]
 fn drive_goes_on_where_it_was(rt: HostRuntime) -> Result<(), Fail> {
     let mut level = new_counter(100);
     assert_eq!(rt; drive(&mut level, &Turning, 3)?, End::Bound);
-    assert_eq!(rt; level.moves(), 3);
+    assert_eq!(rt; (level.moves(), level.point()), (3, 6));
     assert_eq!(rt; drive(&mut level, &Turning, 30)?, End::Done);
     assert_eq!(rt; (level.moves(), level.point()), (5, 8));
     Ok(())
@@ -159,80 +151,84 @@ fn word_of(a: u16) -> u16 {
     }
 }
 
+// Words from an address to another, with or without those that are 0, and their lines.
+const WORDS: &[(u16, u16, bool, &str)] = &[
+    (16, 19, true, "16 3\n17 0\n18 -1\n19 -32768\n"),
+    (16, 18, false, "16 3\n18 -1\n"),
+    // from later to earlier there are none
+    (18, 16, true, ""),
+];
+
 #[test]
 fn words_have_their_lines(rt: HostRuntime) -> Result<(), Fail> {
-    let mut sink = MemorySink::new(rt.alloc(), 1000, Vec::new(rt.alloc()))?;
-    assert_eq!(rt; show_words(word_of, 16, 19, true, &mut sink), Put::Done);
-    assert_eq!(rt; sink.bytes(), b"16 3\n17 0\n18 -1\n19 -32768\n".as_slice());
-    Ok(())
-}
-
-#[test]
-fn zeros_are_left_out(rt: HostRuntime) -> Result<(), Fail> {
-    let mut sink = MemorySink::new(rt.alloc(), 1000, Vec::new(rt.alloc()))?;
-    assert_eq!(rt; show_words(word_of, 16, 18, false, &mut sink), Put::Done);
-    assert_eq!(rt; sink.bytes(), b"16 3\n18 -1\n".as_slice());
-    Ok(())
-}
-
-#[test]
-fn no_words_from_later_to_earlier(rt: HostRuntime) -> Result<(), Fail> {
-    let mut sink = MemorySink::new(rt.alloc(), 1000, Vec::new(rt.alloc()))?;
-    assert_eq!(rt; show_words(word_of, 18, 16, true, &mut sink), Put::Done);
-    assert_eq!(rt; sink.bytes().len(), 0);
+    for (from, to, with_zeros, text) in WORDS {
+        let mut sink = MemorySink::new(rt.alloc(), 1000, Vec::new(rt.alloc()))?;
+        assert_eq!(rt;
+            show_words(word_of, *from, *to, *with_zeros, &mut sink),
+            Put::Done
+        );
+        assert_eq!(rt; sink.bytes(), text.as_bytes());
+    }
     Ok(())
 }
 
 #[test]
 fn the_screen_has_its_pixels(rt: HostRuntime) -> Result<(), Fail> {
-    let mut sink = MemorySink::new(rt.alloc(), 200_000, Vec::new(rt.alloc()))?;
-    assert_eq!(rt; show_screen(word_of, &mut sink), Put::Done);
-    assert_eq!(rt; sink.bytes().len(), 256 * 513);
-    let black = sink.bytes().iter().filter(|b| **b == b'#').count();
-    assert_eq!(rt; black, 3);
-    for place in [0, 31, 255 * 513 + 497] {
-        assert_eq!(rt; sink.bytes().get(place).copied(), Some(b'#'), "at {place}");
+    // a sink that fails ends the screen
+    for (room, put, length) in [(5000, Put::Failed, 5000), (200_000, Put::Done, 256 * 513)] {
+        let mut sink = MemorySink::new(rt.alloc(), room, Vec::new(rt.alloc()))?;
+        assert_eq!(rt; show_screen(word_of, &mut sink), put);
+        let text = sink.bytes();
+        assert_eq!(rt; text.len(), length);
+        for (place, byte) in text.iter().enumerate() {
+            let expected = match place {
+                0 | 31 | 131_312 => b'#',
+                _ if place % 513 == 512 => b'\n',
+                _ => b'.',
+            };
+            assert_eq!(rt; *byte, expected, "at {place}");
+        }
     }
-    assert_eq!(rt; sink.bytes().get(512).copied(), Some(b'\n'));
     Ok(())
 }
 
-#[test]
-fn a_failing_sink_ends_the_screen(rt: HostRuntime) -> Result<(), Fail> {
-    let mut sink = MemorySink::new(rt.alloc(), 5000, Vec::new(rt.alloc()))?;
-    assert_eq!(rt; show_screen(word_of, &mut sink), Put::Failed);
-    assert_eq!(rt; sink.bytes().len(), 5000);
-    Ok(())
-}
+// What is shown, the end that is told, whether a sink of 1,000 bytes takes it all, and what it has then, or has at first.
+const REPORTS: &[(Show, End, Put, &str)] = &[
+    (
+        Show::Heap,
+        End::Stray(Stray::Address(40000)),
+        Put::Failed,
+        "level vm\nmoves 120\nsteps 7\npoint Main.main 2\nend stray 40000\n8191 1\n8192 1\n",
+    ),
+    (
+        Show::Nothing,
+        End::Full(2000),
+        Put::Done,
+        "level vm\nmoves 120\nsteps 7\npoint Main.main 2\nend full 2000\n",
+    ),
+];
 
 #[test]
 fn a_report_has_its_lines(rt: HostRuntime) -> Result<(), Fail> {
-    let mut head = Head {
-        level: LevelName::Vm,
-        moves: 120,
-        steps: 7,
-        subroutine: "Main.main",
-        statement: 2,
-        end: End::Stray(Stray::Address(40000)),
-    };
-    let mut sink = MemorySink::new(rt.alloc(), 1000, Vec::new(rt.alloc()))?;
-    assert_eq!(rt;
-        show_report(&head, Show::Heap, |a| a / 8191 % 2, &mut sink),
-        Put::Failed
-    );
-    let text =
-        b"level vm\nmoves 120\nsteps 7\npoint Main.main 2\nend stray 40000\n8191 1\n8192 1\n";
-    assert!(rt; sink.bytes().starts_with(text));
-    head.end = End::Full(2000);
-    let mut sink = MemorySink::new(rt.alloc(), 1000, Vec::new(rt.alloc()))?;
-    assert_eq!(rt;
-        show_report(&head, Show::Nothing, word_of, &mut sink),
-        Put::Done
-    );
-    assert_eq!(rt;
-        sink.bytes(),
-        b"level vm\nmoves 120\nsteps 7\npoint Main.main 2\nend full 2000\n".as_slice()
-    );
+    for (show, end, put, text) in REPORTS {
+        let head = Head {
+            level: LevelName::Vm,
+            moves: 120,
+            steps: 7,
+            subroutine: "Main.main",
+            statement: 2,
+            end: *end,
+        };
+        let word = |a| match show {
+            Show::Heap => a / 8191 % 2,
+            _ => word_of(a),
+        };
+        let mut sink = MemorySink::new(rt.alloc(), 1000, Vec::new(rt.alloc()))?;
+        assert_eq!(rt; show_report(&head, *show, word, &mut sink), *put);
+        assert!(rt; sink.bytes().starts_with(text.as_bytes()), "{text}");
+        let length = if *put == Put::Done { text.len() } else { 1000 };
+        assert_eq!(rt; sink.bytes().len(), length);
+    }
     Ok(())
 }
 

@@ -3,8 +3,10 @@ use outer_world::{
     Detail, FolderShelf, Listing, MemoryShelf, MemorySink, Name, Pieces, PlainSink, Put, Reading,
     Shelf, Sink, StdSink, Told,
 };
-use std::alloc::{AllocError, Global};
+use std::alloc::{AllocError, AllocGlobal, Global};
 use std::io::{ErrorKind, Write};
+use std::process::Abort;
+use std::rt::Files;
 use std::test::Fail;
 use std::{env, fs, io, process};
 
@@ -36,69 +38,61 @@ fn names_of(alloc: Global, listing: Listing) -> Result<String, AllocError> {
 
 fn shelf_of(
     alloc: Global,
-    files: &[(&str, &[u8])],
+    files: &[(&str, &str)],
     fails: &[u64],
 ) -> Result<MemoryShelf, AllocError> {
     let mut held = Vec::new(alloc);
-    for (path, bytes) in files {
-        held.push((Name::new(alloc, path)?, bytes.to_vec(alloc)?))?;
+    for (path, text) in files {
+        held.push((Name::new(alloc, path)?, text.as_bytes().to_vec(alloc)?))?;
     }
     Ok(MemoryShelf::new(held, fails.to_vec(alloc)?))
 }
 
+// What a shelf answers to a path: with a limit the bytes of the file, and with none the names in the folder.
+fn answer<S: Shelf>(
+    alloc: Global,
+    shelf: &mut S,
+    path: &str,
+    limit: Option<u32>,
+) -> Result<String, AllocError> {
+    match limit {
+        Some(limit) => shown(alloc, shelf.read(alloc, path, limit)),
+        None => names_of(alloc, shelf.list(alloc, path)),
+    }
+}
+
+const FILES: &[(&str, &str)] = &[
+    ("prog/Main.jack", "abc"),
+    ("prog/Ball.jack", ""),
+    ("prog/Main.jack", "later"),
+    ("prog/sub/Main.jack", "x"),
+    ("program", "y"),
+    ("Add.asm", "@2\n"),
+];
+
+// Calls one behind the other, each a path and a limit, and what they answer. The third and the tenth fail.
+const IN_MEMORY: &[(&str, Option<u32>, &str)] = &[
+    ("prog", None, "Ball.jack Main.jack "),
+    ("", None, "Add.asm program "),
+    ("prog", None, "failed"),
+    ("pro", None, ""),
+    ("prog/sub", None, "Main.jack "),
+    ("prog/Main.jack", Some(3), "[97, 98, 99]"),
+    ("prog/Main.jack", Some(2), "longer than 2"),
+    ("prog/Ball.jack", Some(0), "[]"),
+    ("Sub.asm", Some(9), "failed"),
+    ("Add.asm", Some(9), "failed"),
+    ("Add.asm", Some(9), "[64, 50, 10]"),
+];
+
 #[test]
 fn shelf_in_memory(rt: HostRuntime) -> Result<(), Fail> {
     let alloc = rt.alloc();
-    let files: [(&str, &[u8]); 6] = [
-        ("prog/Main.jack", b"abc"),
-        ("prog/Ball.jack", b""),
-        ("prog/Main.jack", b"later"),
-        ("prog/sub/Main.jack", b"x"),
-        ("program", b"y"),
-        ("Add.asm", b"@2\n"),
-    ];
-    let mut shelf = shelf_of(alloc, &files, &[3, 10])?;
-    assert_eq!(rt;
-        names_of(alloc, shelf.list(alloc, "prog"))?.as_str(),
-        "Ball.jack Main.jack "
-    );
-    assert_eq!(rt;
-        names_of(alloc, shelf.list(alloc, ""))?.as_str(),
-        "Add.asm program "
-    );
-    assert_eq!(rt;
-        names_of(alloc, shelf.list(alloc, "prog"))?.as_str(),
-        "failed"
-    );
-    assert_eq!(rt; names_of(alloc, shelf.list(alloc, "pro"))?.as_str(), "");
-    assert_eq!(rt;
-        names_of(alloc, shelf.list(alloc, "prog/sub"))?.as_str(),
-        "Main.jack "
-    );
-    assert_eq!(rt;
-        shown(alloc, shelf.read(alloc, "prog/Main.jack", 3))?.as_str(),
-        "[97, 98, 99]"
-    );
-    assert_eq!(rt;
-        shown(alloc, shelf.read(alloc, "prog/Main.jack", 2))?.as_str(),
-        "longer than 2"
-    );
-    assert_eq!(rt;
-        shown(alloc, shelf.read(alloc, "prog/Ball.jack", 0))?.as_str(),
-        "[]"
-    );
-    assert_eq!(rt;
-        shown(alloc, shelf.read(alloc, "Sub.asm", 9))?.as_str(),
-        "failed"
-    );
-    assert_eq!(rt;
-        shown(alloc, shelf.read(alloc, "Add.asm", 9))?.as_str(),
-        "failed"
-    );
-    assert_eq!(rt;
-        shown(alloc, shelf.read(alloc, "Add.asm", 9))?.as_str(),
-        "[64, 50, 10]"
-    );
+    let mut shelf = shelf_of(alloc, FILES, &[3, 10])?;
+    for (path, limit, expected) in IN_MEMORY {
+        let answered = answer(alloc, &mut shelf, path, *limit)?;
+        assert_eq!(rt; answered.as_str(), *expected, "at {path}");
+    }
     Ok(())
 }
 
@@ -153,6 +147,48 @@ fn buffer_of_pieces(rt: HostRuntime) -> Result<(), Fail> {
     Ok(())
 }
 
+// Makes a folder with two files and with a folder in it. One of the files has the 9,000 bytes of this text.
+fn put_files(
+    rt: &(impl Files + AllocGlobal + Abort),
+    alloc: Global,
+    folder: &str,
+) -> Result<String, Fail> {
+    let inner = format!(in alloc; "{folder}/sub")?;
+    let main = format!(in alloc; "{folder}/Main.jack")?;
+    let ball = format!(in alloc; "{folder}/Ball.jack")?;
+    fs::create_dir_all(rt, inner.as_str())?;
+    fs::write(rt, ball.as_str(), "")?;
+    let mut sink = StdSink::new(fs::create(rt, main.as_str())?);
+    assert_eq!(rt; put_many(&mut Pieces::new(&mut sink)), Put::Done);
+    let text = fs::read_to_string(rt, main.as_str())?;
+    assert_eq!(rt; text.len(), 9000);
+    assert!(rt; text.as_str().starts_with("012012"));
+    Ok(text)
+}
+
+// Paths from that folder on, and what a shelf answers to them.
+const IN_FOLDER: &[(&str, Option<u32>, &str)] = &[
+    ("", None, "Ball.jack Main.jack "),
+    ("/sub", None, ""),
+    ("/Main.jack", None, "failed"),
+    ("/Ball.jack", Some(0), "[]"),
+    ("/Main.jack", Some(8999), "longer than 8999"),
+    ("/sub", Some(9000), "failed"),
+];
+
+fn answers_in<S: Shelf>(
+    alloc: Global,
+    shelf: &mut S,
+    folder: &str,
+) -> Result<Vec<String>, AllocError> {
+    let mut answers = Vec::new(alloc);
+    for (path, limit, _) in IN_FOLDER {
+        let path = format!(in alloc; "{folder}{path}")?;
+        answers.push(answer(alloc, shelf, path.as_str(), *limit)?)?;
+    }
+    Ok(answers)
+}
+
 #[test]
 fn real_files(rt: HostRuntime) -> Result<(), Fail> {
     let alloc = rt.alloc();
@@ -161,35 +197,17 @@ fn real_files(rt: HostRuntime) -> Result<(), Fail> {
         env::temp_dir(&rt)?.as_str(),
         process::id(rt.process())
     )?;
-    let inner = format!(in alloc; "{folder}/sub")?;
-    let main = format!(in alloc; "{folder}/Main.jack")?;
-    let ball = format!(in alloc; "{folder}/Ball.jack")?;
-    fs::create_dir_all(&rt, inner.as_str())?;
-    fs::write(&rt, ball.as_str(), "")?;
-
-    let mut sink = StdSink::new(fs::create(&rt, main.as_str())?);
-    assert_eq!(rt; put_many(&mut Pieces::new(&mut sink)), Put::Done);
-    let text = fs::read_to_string(&rt, main.as_str())?;
-    assert_eq!(rt; text.len(), 9000);
-    assert!(rt; text.as_str().starts_with("012012"));
-
+    let text = put_files(&rt, alloc, folder.as_str())?;
     let mut shelf = FolderShelf::new(rt.clone()?);
-    let listed = names_of(alloc, shelf.list(alloc, folder.as_str()))?;
-    let listed_inner = names_of(alloc, shelf.list(alloc, inner.as_str()))?;
-    let listed_none = names_of(alloc, shelf.list(alloc, main.as_str()))?;
-    let whole = shown(alloc, shelf.read(alloc, ball.as_str(), 0))?;
-    let long = shown(alloc, shelf.read(alloc, main.as_str(), 8999))?;
-    let none = shown(alloc, shelf.read(alloc, inner.as_str(), 9000))?;
-    let read_back = shelf.read(alloc, main.as_str(), 9000);
+    let answers = answers_in(alloc, &mut shelf, folder.as_str())?;
+    let main = format!(in alloc; "{folder}/Main.jack")?;
+    let whole = shelf.read(alloc, main.as_str(), 9000);
     fs::remove_dir_all(&rt, folder.as_str())?;
 
-    assert_eq!(rt; listed.as_str(), "Ball.jack Main.jack ");
-    assert_eq!(rt; listed_inner.as_str(), "");
-    assert_eq!(rt; listed_none.as_str(), "failed");
-    assert_eq!(rt; whole.as_str(), "[]");
-    assert_eq!(rt; long.as_str(), "longer than 8999");
-    assert_eq!(rt; none.as_str(), "failed");
-    match read_back {
+    for ((path, _, expected), answered) in IN_FOLDER.iter().zip(answers.iter()) {
+        assert_eq!(rt; answered.as_str(), *expected, "at {path}");
+    }
+    match whole {
         Reading::Bytes(bytes) => assert_eq!(rt; bytes.as_slice(), text.as_bytes()),
         _ => panic!(rt; "the file was not read"),
     }

@@ -4,7 +4,7 @@
 #[cfg(test)]
 mod linking;
 #[cfg(test)]
-mod printing;
+mod programs;
 #[cfg(test)]
 mod reading;
 #[cfg(test)]

@@ -1,212 +1,256 @@
-use outer_world::{List, Name};
-use std::alloc::Global;
+use crate::programs::{FileRow, Written, linked, program, shown};
+use std::alloc::{AllocError, Global};
+use std::process::Abort;
 use std::test::*;
-use vm_link::*;
-use vm_tree::{Command, File, Function, Line, Program, Segment};
+use vm_link::{Linked, Step};
+use vm_tree::{Operation, Segment};
 
-fn name(alloc: Global, text: &str) -> Result<Name, Fail> {
-    Ok(Name::new(alloc, text).ok().ok_or("memory")?)
+// programs that are not linked, and what is told of them
+const REFUSED: &[(&[FileRow<'static>], &str)] = &[
+    (&[], "NoSysInit"),
+    // a function that is not there
+    (
+        &[(
+            "Sys",
+            &[],
+            &[("Sys.init", 0, &[Written::Call("A.f", 0)], &[])],
+        )],
+        "NoFunction A.f",
+    ),
+    // a label that is not there
+    (
+        &[("Sys", &[], &[("Sys.init", 0, &[Written::Goto("X")], &[])])],
+        "NoLabel X",
+    ),
+    // a label that stands twice
+    (
+        &[(
+            "Sys",
+            &[],
+            &[(
+                "Sys.init",
+                0,
+                &[Written::Label("X"), Written::Label("X")],
+                &[],
+            )],
+        )],
+        "LabelTwice X",
+    ),
+    // functions that are defined twice
+    (
+        &[(
+            "Sys",
+            &[],
+            &[("Sys.init", 0, &[], &[]), ("Sys.init", 0, &[], &[])],
+        )],
+        "TwiceDefined Sys.init",
+    ),
+    (
+        &[
+            ("A", &[], &[("A.f", 0, &[], &[]), ("A.f", 0, &[], &[])]),
+            ("Sys", &[], &[("Sys.init", 0, &[], &[])]),
+        ],
+        "TwiceDefined A.f",
+    ),
+    (
+        &[(
+            "Sys",
+            &[],
+            &[("Sys.init", 0, &[Written::Push(Segment::Static, 240)], &[])],
+        )],
+        "TooManyStatics 241",
+    ),
+];
+
+// A program, and what it is linked to: how many functions, the first to run, the static words of each file, and the steps of each
+// function in turn.
+struct Case<'a> {
+    files: &'a [FileRow<'a>],
+    bare: bool,
+    functions: usize,
+    start: Option<usize>,
+    statics: &'a [u32],
+    steps: &'a [Step],
 }
 
-fn add(lines: &mut List<Line>, command: Command) -> Result<(), Fail> {
-    let line = Line {
-        command,
-        statement: 0,
-        commit: false,
-    };
-    lines.push(line).ok().ok_or("memory")?;
-    Ok(())
-}
+// sets the first static word
+const SETTING: &[Written] = &[
+    Written::Push(Segment::Constant, 7),
+    Written::Pop(Segment::Static, 0),
+    Written::Call("A.f", 0),
+];
 
-fn function(alloc: Global, text: &str, lines: List<Line>) -> Result<Function, Fail> {
-    Ok(Function {
-        name: name(alloc, text)?,
-        locals: 0,
-        lines,
-    })
-}
+const LINKED: &[Case<'static>] = &[
+    Case {
+        files: &[],
+        bare: true,
+        functions: 0,
+        start: None,
+        statics: &[],
+        steps: &[],
+    },
+    // the last static word
+    Case {
+        files: &[(
+            "Sys",
+            &[],
+            &[(
+                "Sys.init",
+                0,
+                &[
+                    Written::Push(Segment::Static, 239),
+                    Written::Label("E"),
+                    Written::Goto("E"),
+                ],
+                &[],
+            )],
+        )],
+        bare: false,
+        functions: 1,
+        start: Some(0),
+        statics: &[240],
+        steps: &[
+            Step::Function(0),
+            Step::Push(Segment::Static, 239),
+            Step::Goto(2),
+        ],
+    },
+    // two files that each set `static 0` set two words
+    Case {
+        files: &[
+            ("A", &[], &[("A.f", 0, SETTING, &[])]),
+            ("Sys", &[], &[("Sys.init", 0, SETTING, &[])]),
+        ],
+        bare: false,
+        functions: 2,
+        start: Some(1),
+        statics: &[1, 1],
+        steps: &[
+            Step::Function(0),
+            Step::Push(Segment::Constant, 7),
+            Step::Pop(Segment::Static, 0),
+            Step::Call(0, 0),
+            Step::Function(0),
+            Step::Push(Segment::Constant, 7),
+            Step::Pop(Segment::Static, 1),
+            Step::Call(0, 0),
+        ],
+    },
+    // a function that is not reached is dropped, and its missing callee is no fault
+    Case {
+        files: &[(
+            "Sys",
+            &[],
+            &[
+                (
+                    "Sys.init",
+                    0,
+                    &[
+                        Written::Label("E"),
+                        Written::Push(Segment::Constant, 7),
+                        Written::Goto("E"),
+                    ],
+                    &[],
+                ),
+                ("Sys.other", 0, &[Written::Call("A.f", 0)], &[]),
+            ],
+        )],
+        bare: false,
+        functions: 1,
+        start: Some(0),
+        statics: &[0],
+        steps: &[
+            Step::Function(0),
+            Step::Push(Segment::Constant, 7),
+            Step::Goto(1),
+        ],
+    },
+];
 
-// A program of one file `Sys`, with Sys.init of these lines and another function.
-fn program(alloc: Global, lines: List<Line>, more: Option<Function>) -> Result<Program, Fail> {
-    let mut functions = List::new(alloc);
-    functions
-        .push(function(alloc, "Sys.init", lines)?)
-        .ok()
-        .ok_or("memory")?;
-    if let Some(function) = more {
-        functions.push(function).ok().ok_or("memory")?;
+// What is told of these files, which is nothing where they are linked.
+fn told(alloc: Global, files: &[FileRow<'_>]) -> Result<String, Fail> {
+    match linked(alloc, files, false) {
+        Ok(_) => Ok(String::new(alloc)),
+        Err(fault) => Ok(format!(in alloc; "{fault}")?),
     }
-    let mut files = List::new(alloc);
-    files
-        .push(File {
-            name: name(alloc, "Sys")?,
-            opening: List::new(alloc),
-            functions,
-        })
-        .ok()
-        .ok_or("memory")?;
-    Ok(files)
 }
+
+fn statics(alloc: Global, linked: &Linked) -> Result<Vec<u32>, AllocError> {
+    let mut statics = Vec::new(alloc);
+    for file in linked.files.as_slice() {
+        statics.push(file.statics)?;
+    }
+    Ok(statics)
+}
+
+fn steps(alloc: Global, linked: &Linked) -> Result<Vec<Step>, AllocError> {
+    let mut steps = Vec::new(alloc);
+    for function in linked.functions.as_slice() {
+        for line in function.code.as_slice() {
+            steps.push(line.step)?;
+        }
+    }
+    Ok(steps)
+}
+
+fn is_linked(rt: &impl Abort, alloc: Global, number: usize, case: &Case<'_>) -> Result<(), Fail> {
+    match linked(alloc, case.files, case.bare) {
+        Ok(linked) => {
+            let start = (linked.functions.as_slice().len(), linked.start);
+            assert_eq!(rt; start, (case.functions, case.start), "row {number}");
+            assert_eq!(rt;
+                statics(alloc, &linked)?.as_slice(),
+                case.statics,
+                "row {number}"
+            );
+            assert_eq!(rt;
+                steps(alloc, &linked)?.as_slice(),
+                case.steps,
+                "row {number}"
+            );
+            Ok(())
+        }
+        Err(fault) => Err(Fail::new(format!(in alloc; "row {number}: {fault}")?)),
+    }
+}
+
+// What is printed of a file with these lines.
+const PRINTED: &[FileRow<'static>] = &[(
+    "Sys",
+    &[Written::Push(Segment::Constant, 7)],
+    &[(
+        "Sys.init",
+        3,
+        &[
+            Written::Label("E"),
+            Written::Call("Sys.f", 2),
+            Written::Pop(Segment::Temp, 0),
+            Written::IfGoto("E"),
+            Written::Goto("E"),
+            Written::Operate(Operation::Neg),
+            Written::Return,
+        ],
+        &[],
+    )],
+)];
+
+const TEXT: &str =
+    "push constant 7\nfunction Sys.init 3\nlabel E\ncall Sys.f 2\npop temp 0\nif-goto E\ngoto E\nneg\nreturn\n";
 
 #[test]
-fn empty_program(rt: HostRuntime) {
-    assert!(rt;
-        matches!(
-            link(rt.alloc(), List::new(rt.alloc()), false),
-            Err(LinkFault::NoSysInit)
-        )
-    );
-    assert!(rt; matches!(link(rt.alloc(), List::new(rt.alloc()), true), Ok(_)));
-}
-
-#[test]
-fn function_that_is_not_there(rt: HostRuntime) -> Result<(), Fail> {
-    let mut lines = List::new(rt.alloc());
-    add(&mut lines, Command::Call(name(rt.alloc(), "A.f")?, 0))?;
-    let program = program(rt.alloc(), lines, None)?;
-    let Err(LinkFault::NoFunction(name)) = link(rt.alloc(), program, false) else {
-        return Err(Fail::from("another answer"));
-    };
-    assert_eq!(rt; name.as_str(), "A.f");
-    Ok(())
-}
-
-#[test]
-fn label_that_is_not_there(rt: HostRuntime) -> Result<(), Fail> {
-    let mut lines = List::new(rt.alloc());
-    add(&mut lines, Command::Goto(name(rt.alloc(), "X")?))?;
-    let program = program(rt.alloc(), lines, None)?;
-    let Err(LinkFault::NoLabel(label)) = link(rt.alloc(), program, false) else {
-        return Err(Fail::from("another answer"));
-    };
-    assert_eq!(rt; label.as_str(), "X");
-    Ok(())
-}
-
-#[test]
-fn label_that_stands_twice(rt: HostRuntime) -> Result<(), Fail> {
-    let mut lines = List::new(rt.alloc());
-    add(&mut lines, Command::Label(name(rt.alloc(), "X")?))?;
-    add(&mut lines, Command::Label(name(rt.alloc(), "X")?))?;
-    let program = program(rt.alloc(), lines, None)?;
-    let Err(LinkFault::LabelTwice(label)) = link(rt.alloc(), program, false) else {
-        return Err(Fail::from("another answer"));
-    };
-    assert_eq!(rt; label.as_str(), "X");
-    Ok(())
-}
-
-#[test]
-fn function_twice_defined(rt: HostRuntime) -> Result<(), Fail> {
-    let again = function(rt.alloc(), "Sys.init", List::new(rt.alloc()))?;
-    let program = program(rt.alloc(), List::new(rt.alloc()), Some(again))?;
-    let Err(LinkFault::TwiceDefined(name)) = link(rt.alloc(), program, false) else {
-        return Err(Fail::from("another answer"));
-    };
-    assert_eq!(rt; name.as_str(), "Sys.init");
-    Ok(())
-}
-
-#[test]
-fn statics(rt: HostRuntime) -> Result<(), Fail> {
-    let mut lines = List::new(rt.alloc());
-    add(&mut lines, Command::Push(Segment::Static, 239))?;
-    add(&mut lines, Command::Label(name(rt.alloc(), "E")?))?;
-    add(&mut lines, Command::Goto(name(rt.alloc(), "E")?))?;
-    let few = program(rt.alloc(), lines, None)?;
-    let linked = link(rt.alloc(), few, false).ok().ok_or("a fault")?;
-    let file = linked.files.as_slice().first().ok_or("no file")?;
-    assert_eq!(rt; file.statics, 240);
-    let mut more = List::new(rt.alloc());
-    add(&mut more, Command::Push(Segment::Static, 240))?;
-    let many = program(rt.alloc(), more, None)?;
-    assert!(rt;
-        matches!(
-            link(rt.alloc(), many, false),
-            Err(LinkFault::TooManyStatics(241))
-        )
-    );
-    Ok(())
-}
-
-// A file with one function, which sets the first static word.
-fn setting_file(alloc: Global, file: &str, function_name: &str) -> Result<File, Fail> {
-    let mut lines = List::new(alloc);
-    add(&mut lines, Command::Push(Segment::Constant, 7))?;
-    add(&mut lines, Command::Pop(Segment::Static, 0))?;
-    add(&mut lines, Command::Call(name(alloc, "A.f")?, 0))?;
-    let mut functions = List::new(alloc);
-    functions
-        .push(function(alloc, function_name, lines)?)
-        .ok()
-        .ok_or("memory")?;
-    Ok(File {
-        name: name(alloc, file)?,
-        opening: List::new(alloc),
-        functions,
-    })
-}
-
-// The step at a place of a linked function.
-fn step_at(functions: &[LinkedFunction], number: usize, place: usize) -> Option<Step> {
-    let function = functions.get(number)?;
-    let line = function.code.as_slice().get(place)?;
-    Some(line.step)
-}
-
-// Two files that each set `static 0` set two words.
-#[test]
-fn statics_of_two_files(rt: HostRuntime) -> Result<(), Fail> {
-    let mut files = List::new(rt.alloc());
-    files
-        .push(setting_file(rt.alloc(), "A", "A.f")?)
-        .ok()
-        .ok_or("memory")?;
-    files
-        .push(setting_file(rt.alloc(), "Sys", "Sys.init")?)
-        .ok()
-        .ok_or("memory")?;
-    let linked = link(rt.alloc(), files, false).ok().ok_or("a fault")?;
-    let functions = linked.functions.as_slice();
-    assert_eq!(rt; functions.len(), 2);
-    assert_eq!(rt;
-        step_at(functions, 0, 2),
-        Some(Step::Pop(Segment::Static, 0))
-    );
-    assert_eq!(rt;
-        step_at(functions, 1, 2),
-        Some(Step::Pop(Segment::Static, 1))
-    );
-    Ok(())
-}
-
-// A function that is not reached is dropped, and its missing callee is no fault.
-#[test]
-fn dropped_function(rt: HostRuntime) -> Result<(), Fail> {
-    let mut lines = List::new(rt.alloc());
-    add(&mut lines, Command::Label(name(rt.alloc(), "E")?))?;
-    add(&mut lines, Command::Push(Segment::Constant, 7))?;
-    add(&mut lines, Command::Goto(name(rt.alloc(), "E")?))?;
-    let mut calls = List::new(rt.alloc());
-    add(&mut calls, Command::Call(name(rt.alloc(), "A.f")?, 0))?;
-    let other = function(rt.alloc(), "Sys.other", calls)?;
-    let program = program(rt.alloc(), lines, Some(other))?;
-    let linked = link(rt.alloc(), program, false).ok().ok_or("a fault")?;
-    assert_eq!(rt; linked.functions.as_slice().len(), 1);
-    let code = linked.functions.as_slice()[0].code.as_slice();
-    assert_eq!(rt; code.len(), 3);
-    assert_eq!(rt; code[0].step, Step::Function(0));
-    assert_eq!(rt; code[2].step, Step::Goto(1));
-    assert_eq!(rt; linked.start, Some(0));
-    Ok(())
-}
-
-#[test]
-fn fault_texts(rt: HostRuntime) -> Result<(), Fail> {
-    let twice = LinkFault::TwiceDefined(name(rt.alloc(), "A.f")?);
-    let text = format!(in rt.alloc(); "{twice}")?;
-    assert_eq!(rt; text.as_str(), "TwiceDefined A.f");
-    let text = format!(in rt.alloc(); "{}", LinkFault::TooManyStatics(241))?;
-    assert_eq!(rt; text.as_str(), "TooManyStatics 241");
+fn trees(rt: HostRuntime) -> Result<(), Fail> {
+    let alloc = rt.alloc();
+    for (number, (files, wanted)) in REFUSED.iter().enumerate() {
+        assert_eq!(rt;
+            told(alloc, files)?.as_str(),
+            *wanted,
+            "refused row {number}"
+        );
+    }
+    for (number, case) in LINKED.iter().enumerate() {
+        is_linked(&rt, alloc, number, case)?;
+    }
+    let program = program(alloc, PRINTED)?;
+    assert_eq!(rt; shown(alloc, &program)?.as_str(), TEXT);
     Ok(())
 }
