@@ -14,6 +14,7 @@ pub mod Alike
 pub mod Endings
 pub mod Spaced
 pub mod Longest
+pub mod Shown
 pub mod Past
 pub mod LinePieces
 pub mod Entered

@@ -120,7 +120,7 @@ symbol_alone b t rest e =
 abbrev pub ten_digits : List ℕ
 ten_digits = 48 ∷ 49 ∷ 50 ∷ 51 ∷ 52 ∷ 53 ∷ 54 ∷ 55 ∷ 56 ∷ 57 ∷ []
 
-digit_by : (is : ℕ → Bool) (d : ℕ) → All is ten_digits → d < 10 → is (48 + d) ≡ true
+pub digit_by : (is : ℕ → Bool) (d : ℕ) → All is ten_digits → d < 10 → is (48 + d) ≡ true
 digit_by is zero a h = a.0
 digit_by is (suc zero) a h = a.1.0
 digit_by is (suc (suc zero)) a h = a.1.1.0

@@ -7,4 +7,3 @@ use Rattle.grammar.specs.declared.Fault.TheVariants as faults
 abbrev pub fault_told : Fault → Message
 fault_told (faults.Grammar at) = message at.line at.column (codes "Grammar") []
 fault_told (faults.Range at value) = message at.line at.column (codes "Range") (decimal value)
-fault_told (faults.NotRising at) = message at.line at.column (codes "NotRising") []

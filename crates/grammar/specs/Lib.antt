@@ -5,3 +5,4 @@ pub mod Texts
 pub mod Leaves
 pub mod Faults
 pub mod Lines
+pub mod Printed

@@ -13,8 +13,8 @@ use Rattle.hack_asm.specs.declared.lines.Dest.{Dest}
 use Rattle.hack_asm.specs.declared.lines.Dest.TheVariants as dest
 use Rattle.hack_asm.specs.declared.lines.Compute.{Compute}
 use Rattle.hack_asm.specs.Tokens.{tokens_of, finish}
-use Rattle.hack_asm.specs.Assembly.{Said, Letter', Operator', Several, Jump, Number, Name, LineEnd, assembly, whole}
-use Rattle.hack_asm.specs.Lines.{AsmTree, Symbol, Address, Item, Line, number, symbol, label, address, compute, branch, operation_tree, comp_tree, bare_tree, assigned_tree, jump_tree, compute_tree, address_tree, item_tree, line_tree, lines_tree, text_tree, Spells}
+use Rattle.hack_asm.specs.Grammar.{Said, Letter', Operator', Several, Jump, Number, Name, LineEnd, assembly, whole}
+use Rattle.hack_asm.specs.Trees.{AsmTree, Symbol, Address, Item, Line, number, symbol, label, address, compute, branch, operation_tree, comp_tree, bare_tree, assigned_tree, jump_tree, compute_tree, address_tree, item_tree, line_tree, lines_tree, text_tree, Spells}
 
 -- the parts of a tree
 

@@ -91,7 +91,6 @@ found text ts us (Err f) e d h w = tt
 refusal_by : (text : List ℕ) (f : Fault) → Refuses text f → IsRefusal text (asm_fault (errors.Fault f))
 refusal_by text (fault.Grammar at) c = inr (fault.Grammar at, c, refl)
 refusal_by text (fault.Range at v) c = inr (fault.Range at v, c, refl)
-refusal_by text (fault.NotRising at) c = inr (fault.NotRising at, c, refl)
 
 pub refusal : (text : List ℕ) (e : ReadError) → Halt (Refuses text) e → IsRefusal text (asm_fault e)
 refusal text _ memory = tt

@@ -14,8 +14,8 @@ use Rattle.hack_asm.specs.declared.token.Role.TheVariants as role
 use Rattle.hack_asm.specs.declared.words.Before.{Before}
 use Rattle.hack_asm.specs.declared.words.Before.TheVariants.{Sum, Join}
 use Rattle.hack_asm.specs.Tokens.{Word}
-use Rattle.hack_asm.specs.Assembly.{Said, Letter', Operator', Part, assembly, letter_role, role_said, operator_role, is_zero, is_one, is_a, is_d, is_m, by_letter, some_letter, operation, adds, meets, assigns, assignment, after_letter, comp, sign, unary, assigned, several_role, is_several, Several}
-use Rattle.hack_asm.specs.Lines.{AsmTree, branch, other, operation_tree}
+use Rattle.hack_asm.specs.Grammar.{Said, Letter', Operator', Part, assembly, letter_role, role_said, operator_role, is_zero, is_one, is_a, is_d, is_m, by_letter, some_letter, operation, adds, meets, assigns, assignment, after_letter, comp, sign, unary, assigned, several_role, is_several, Several}
+use Rattle.hack_asm.specs.Trees.{AsmTree, branch, other, operation_tree}
 use Rattle.hack_asm.specs.Before.{letter_by, letter_next, operator_by, operator_next, assigns_next, several_by, several_next, suits}
 use Rattle.grammar.proofs.Entered.{firm, entered, skip, skip_stops}
 

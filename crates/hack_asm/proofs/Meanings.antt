@@ -8,8 +8,8 @@ use Rattle.grammar.specs.Reading.{Halt, memory, fault as told}
 use Rattle.grammar.proofs.Wholes.{not_both, first_fault}
 use Rattle.hack_asm.specs.declared.fault.AsmFault.{AsmFault}
 use Rattle.hack_asm.specs.Tokens.{tokens_of, finish}
-use Rattle.hack_asm.specs.Assembly.{assembly, whole}
-use Rattle.hack_asm.specs.Lines.{Line, Spells, Refuses, text_tree}
+use Rattle.hack_asm.specs.Grammar.{assembly, whole}
+use Rattle.hack_asm.specs.Trees.{Line, Spells, Refuses, text_tree}
 use Rattle.hack_asm.specs.Faults.{Wrong, wrong, wrong_of, asm_fault, Told, Yields}
 use Rattle.hack_asm.specs.Program.{program}
 use Rattle.hack_asm.specs.Meaning.{Means, MeansWrong, IsRefusal, MeansOf}
@@ -25,7 +25,6 @@ one_meaning text r q (inr a) (inr b) = a.2 ∙ ap (λ (f : Fault). Err (wrong f)
 refusal_by : (text : List ℕ) (f : Fault) → Refuses text f → IsRefusal text (asm_fault (errors.Fault f))
 refusal_by text (fault.Grammar at) c = inr (fault.Grammar at, c, refl)
 refusal_by text (fault.Range at v) c = inr (fault.Range at v, c, refl)
-refusal_by text (fault.NotRising at) c = inr (fault.NotRising at, c, refl)
 
 pub refusal : (text : List ℕ) (e : ReadError) → Halt (Refuses text) e → IsRefusal text (asm_fault e)
 refusal text _ memory = tt

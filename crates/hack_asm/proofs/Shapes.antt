@@ -14,9 +14,9 @@ use Rattle.hack_asm.specs.declared.lines.Comp.{Comp}
 use Rattle.hack_asm.specs.declared.lines.Comp.TheVariants as comps
 use Rattle.hack_asm.specs.declared.lines.Dest.{Dest}
 use Rattle.hack_asm.specs.declared.lines.Dest.TheVariants as dests
-use Rattle.hack_asm.specs.Assembly as assembly
-use Rattle.hack_asm.specs.Assembly.{Said, Letter', Operator', letter_role, operator_role, role_said, adds, meets, sums, joins, is_not_zero, is_register}
-use Rattle.hack_asm.specs.Lines.{Line, label, address, compute, operation_tree, comp_tree, bare_tree, assigned_tree, lines_tree, line_tree}
+use Rattle.hack_asm.specs.Grammar as assembly
+use Rattle.hack_asm.specs.Grammar.{Said, Letter', Operator', letter_role, operator_role, role_said, adds, meets, sums, joins, is_not_zero, is_register}
+use Rattle.hack_asm.specs.Trees.{Line, label, address, compute, operation_tree, comp_tree, bare_tree, assigned_tree, lines_tree, line_tree}
 use Rattle.hack_asm.specs.Comps.{found}
 use Rattle.hack_asm.specs.Meaning.{HasRow, CompsHaveRows}
 

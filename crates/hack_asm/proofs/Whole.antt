@@ -12,8 +12,8 @@ use Rattle.grammar.proofs.Repeats.{Along, Along-ended, Along-stopped}
 use Rattle.grammar.proofs.Lengths.{shorter}
 use Rattle.hack_asm.specs.Tokens.{Word, view}
 use Rattle.hack_asm.specs.declared.token.Token.{Token}
-use Rattle.hack_asm.specs.Assembly.{Said, assembly, line, whole}
-use Rattle.hack_asm.specs.Lines.{AsmTree, Line, line_tree, text_tree}
+use Rattle.hack_asm.specs.Grammar.{Said, assembly, line, whole}
+use Rattle.hack_asm.specs.Trees.{AsmTree, Line, line_tree, text_tree}
 use Rattle.grammar.proofs.Entered.{astray}
 use Rattle.hack_asm.proofs.Letters.{R, F}
 

@@ -12,8 +12,8 @@ use Rattle.hack_isa.specs.declared.Instr.TheVariants as instr
 use Rattle.hack_asm.specs.declared.token.Kind.TheVariants.{Sign, Number}
 use Rattle.hack_asm.specs.declared.lines.Compute.{Compute}
 use Rattle.hack_asm.specs.Tokens.{Word, made, piece, line_end_token, ends, close, finish}
-use Rattle.hack_asm.specs.Assembly as assembly
-use Rattle.hack_asm.specs.Lines.{line_tree, lines_tree}
+use Rattle.hack_asm.specs.Grammar as assembly
+use Rattle.hack_asm.specs.Trees.{line_tree, lines_tree}
 use Rattle.hack_asm.specs.Comps.{comp_text, text_in}
 use Rattle.hack_asm.specs.Written.{IsSpelled, AreSpelled, WrittenMeans, destinations, jumps, instr_text, asm_text}
 use Rattle.grammar.proofs.Entered.{skip, entered}

@@ -21,8 +21,8 @@ use Rattle.hack_asm.specs.declared.words.Before.{Before}
 use Rattle.hack_asm.specs.declared.words.Before.TheVariants.{Sum, Join}
 use Rattle.hack_asm.specs.Roles.{role_of}
 use Rattle.hack_asm.specs.Tokens.{Word, made, word_of, line_end_token, piece}
-use Rattle.hack_asm.specs.Assembly.{Said, Letter', is_sign, is_line_end, jump_role, role_said, is_register, is_not_zero, some_letter, maybe_operation, after_letter, unary, comp, operation, assigned, jump}
-use Rattle.hack_asm.specs.Lines.{comp_tree, unary_tree, assigned_tree, operation_tree, jump_tree}
+use Rattle.hack_asm.specs.Grammar.{Said, Letter', is_sign, is_line_end, jump_role, role_said, is_register, is_not_zero, some_letter, maybe_operation, after_letter, unary, comp, operation, assigned, jump}
+use Rattle.hack_asm.specs.Trees.{comp_tree, unary_tree, assigned_tree, operation_tree, jump_tree}
 use Rattle.hack_asm.specs.Before.{letter_next, operator_next, operator_by, assigns_next, several_next, several_by, suits}
 use Rattle.hack_asm.specs.Comps.{Texts, computations, memory_computations, entry, or_nothing, text_in, comp_table, comp_text, meaning}
 use Rattle.hack_asm.specs.Program.{register_bit, dest_bits, jump_bits}

@@ -3,7 +3,7 @@ use Rattle.std.proofs.Common.{◌≡◌, ℕ, ◌+◌, ◌≤◌, Bool, List, []
 use Rattle.scan_text.specs.declared.Place.{Place}
 use Rattle.hack_asm.specs.declared.lines.Compute.{Compute}
 use Rattle.hack_asm.specs.Faults.{Wrong, TooLarge}
-use Rattle.hack_asm.specs.Lines.{Line, Item, number, address, compute}
+use Rattle.hack_asm.specs.Trees.{Line, Item, number, address, compute}
 use Rattle.hack_asm.specs.Program.{Table, compute_word, labels, labelled, size, first_past, if_near, variables, with_variables, words, program}
 
 -- an instruction that uses no symbol

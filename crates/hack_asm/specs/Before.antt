@@ -13,8 +13,8 @@ use Rattle.hack_asm.specs.declared.token.Token as declared
 use Rattle.hack_asm.specs.declared.words.Before.{Before}
 use Rattle.hack_asm.specs.declared.words.Before.TheVariants.{Sum, Join, Negation, Inversion}
 use Rattle.hack_asm.specs.Tokens.{Word, view}
-use Rattle.hack_asm.specs.Assembly.{Said, assembly, sums, joins, adds, meets, is_not_zero, is_register, operation, assigns}
-use Rattle.hack_asm.specs.Lines.{operation_tree}
+use Rattle.hack_asm.specs.Grammar.{Said, assembly, sums, joins, adds, meets, is_not_zero, is_register, operation, assigns}
+use Rattle.hack_asm.specs.Trees.{operation_tree}
 
 -- the letters that may come, by what stands before them
 abbrev pub suits : Before → Letter → Bool

@@ -24,17 +24,15 @@ wrong_of (asm.TooLarge w) = Some (TooLarge w)
 wrong_of (asm.TooManyVariables n) = Some (TooManyVariables n)
 wrong_of asm.Memory = None
 
--- a fault of the grammar's readers; no moments stand in assembly
+-- a fault of the grammar's readers
 abbrev pub wrong : Fault → Wrong
 wrong (fault.Grammar at) = Grammar at
 wrong (fault.Range at v) = Range at v
-wrong (fault.NotRising at) = Grammar at
 
 abbrev pub asm_fault : ReadError → AsmFault
 asm_fault errors.Memory = asm.Memory
 asm_fault (errors.Fault (fault.Grammar at)) = asm.Grammar at
 asm_fault (errors.Fault (fault.Range at v)) = asm.Range at v
-asm_fault (errors.Fault (fault.NotRising at)) = asm.Grammar at
 
 abbrev pub Told : {Y : Type 0} → Option Wrong → Result Y Wrong → Type 0
 Told None r = Unit {0}

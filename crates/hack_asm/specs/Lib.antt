@@ -1,7 +1,7 @@
 pub mod Roles
 pub mod Tokens
-pub mod Assembly
-pub mod Lines
+pub mod Grammar
+pub mod Trees
 pub mod Before
 pub mod Faults
 pub mod Comps
@@ -15,3 +15,5 @@ pub mod Written
 pub mod Inner
 pub mod Told
 pub mod Computed
+pub mod OneToken
+pub mod OneHackToken

@@ -4,7 +4,7 @@ use Rattle.std.specs.List.{AllByRecursion}
 use Rattle.grammar.specs.declared.Fault.{Fault}
 use Rattle.hack_asm.specs.declared.fault.AsmFault.{AsmFault}
 use Rattle.hack_asm.specs.Comps.{found}
-use Rattle.hack_asm.specs.Lines.{Line, compute, Spells, Refuses}
+use Rattle.hack_asm.specs.Trees.{Line, compute, Spells, Refuses}
 use Rattle.hack_asm.specs.Faults.{Wrong, wrong, wrong_of}
 use Rattle.hack_asm.specs.Program.{program}
 

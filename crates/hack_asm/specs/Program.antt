@@ -14,7 +14,7 @@ use Rattle.hack_asm.specs.declared.lines.Dest.TheVariants as dest
 use Rattle.hack_asm.specs.declared.lines.Compute.{Compute}
 use Rattle.hack_asm.specs.Comps.{meaning}
 use Rattle.hack_asm.specs.Faults.{Wrong, Range, LabelTwice, TooLarge, TooManyVariables}
-use Rattle.hack_asm.specs.Lines.{Line, Symbol, number, symbol, label, address, compute}
+use Rattle.hack_asm.specs.Trees.{Line, Symbol, number, symbol, label, address, compute}
 
 -- The word of a computation: its row of the table of comp, where it goes, and its jump (chapter 4)
 

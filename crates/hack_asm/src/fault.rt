@@ -77,7 +77,6 @@ impl From<ReadError> for AsmFault {
             ReadError::Memory => AsmFault::Memory,
             ReadError::Fault(Fault::Grammar(at)) => AsmFault::Grammar(at),
             ReadError::Fault(Fault::Range(at, v)) => AsmFault::Range(at, v),
-            ReadError::Fault(Fault::NotRising(at)) => AsmFault::Grammar(at),
         }
     }
 }

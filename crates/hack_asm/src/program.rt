@@ -6,7 +6,7 @@ ghost use Rattle.hack_asm.specs.Faults.{Yields};
 ghost use Rattle.hack_asm.specs.Entered.{table_of};
 ghost use Rattle.hack_asm.specs.Comps.{meaning};
 ghost use Rattle.hack_asm.specs.Inner.Rows.{alone_row, under_row, both_row, sum_row, difference_row, pair_row};
-ghost use Rattle.hack_asm.specs.Lines.{line_of, symbol_of};
+ghost use Rattle.hack_asm.specs.Trees.{line_of, symbol_of};
 ghost use Rattle.hack_asm.specs.Inner.Steps.{enter_line, variable_line};
 ghost use Rattle.hack_asm.specs.Program.{register_bit, dest_bits, jump_bits, compute_word, size, first_past, is_past, address_word, labels, is_instruction, used, variables, word_in, words, program};
 

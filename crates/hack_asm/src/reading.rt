@@ -3,9 +3,9 @@
 ghost use Rattle.std.specs.Prelude.{◌≡◌, ◌<◌, ◌≤◌, map, length, IfOk};
 ghost use Rattle.grammar.specs.Reading.{ParsesAllBy};
 ghost use Rattle.hack_asm.specs.Tokens.{view};
-ghost use Rattle.hack_asm.specs.Assembly.{assembly, whole};
+ghost use Rattle.hack_asm.specs.Grammar.{assembly, whole};
 ghost use Rattle.hack_asm.specs.Inner.Rest.{ReadsLine};
-ghost use Rattle.hack_asm.specs.Lines.{line_of, text_tree};
+ghost use Rattle.hack_asm.specs.Trees.{line_of, text_tree};
 
 use crate::lines::Item;
 use crate::rules::line;

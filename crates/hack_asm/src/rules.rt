@@ -3,11 +3,11 @@
 ghost use Rattle.std.specs.Prelude.{◌≡◌, map};
 ghost use Rattle.grammar.specs.Reading.{ParsesBy};
 ghost use Rattle.hack_asm.specs.Tokens.{view};
-ghost use Rattle.hack_asm.specs.Assembly.{assembly, unary, comp, by_letter, after_letter, assigned, compute, label, address, content, line};
-ghost use Rattle.hack_asm.specs.Lines.{unary_tree, comp_tree, bare_tree, assigned_tree, compute_tree, symbol_of, address_of, address_tree, item_of, item_tree, line_of, line_tree};
+ghost use Rattle.hack_asm.specs.Grammar.{assembly, unary, comp, by_letter, after_letter, assigned, compute, label, address, content, line};
+ghost use Rattle.hack_asm.specs.Trees.{unary_tree, comp_tree, bare_tree, assigned_tree, compute_tree, symbol_of, address_of, address_tree, item_of, item_tree, line_of, line_tree};
 ghost use Rattle.hack_asm.specs.Before.{Operates};
 ghost use Rattle.grammar.specs.Rules.{Leaf, Pair, Skip};
-ghost use Rattle.hack_asm.specs.Assembly.{Name};
+ghost use Rattle.hack_asm.specs.Grammar.{Name};
 
 use crate::lines::{Address, Comp, Compute, Dest, Item, Prefix, Symbol};
 use crate::token::{Letter, Operator, Token};

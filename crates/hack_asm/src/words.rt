@@ -4,7 +4,7 @@ ghost use Rattle.std.specs.Prelude.{◌≡◌, map, option_map};
 ghost use Rattle.grammar.specs.Reading.{ParsesBy, PassesBy, Gives, word_at, mark_at};
 ghost use Rattle.grammar.specs.Rules.{Leaf, next, word};
 ghost use Rattle.hack_asm.specs.Tokens.{view};
-ghost use Rattle.hack_asm.specs.Assembly.{assembly, Letter', Jump, Number, Name, is_sign, sign, is_line_end, line_end, is_symbol, symbol, name, is_number, number, is_jump, is_letter, some_letter, free, meant, is_register, adds, meets};
+ghost use Rattle.hack_asm.specs.Grammar.{assembly, Letter', Jump, Number, Name, is_sign, sign, is_line_end, line_end, is_symbol, symbol, name, is_number, number, is_jump, is_letter, some_letter, free, meant, is_register, adds, meets};
 ghost use Rattle.hack_asm.specs.Before.{suits, letter_next, several_next, operator_next, assigns_next};
 
 use crate::lines::Symbol;

@@ -12,9 +12,9 @@ use Rattle.hdl_tree.specs.declared.tree.Part.{Part}
 use Rattle.hdl_tree.specs.declared.tree.Body.{Body}
 use Rattle.hdl_tree.specs.declared.tree.Body.TheVariants as made_of
 use Rattle.hdl_tree.specs.declared.tree.Chip.{Chip}
-use Rattle.hdl_parser.specs.Hdl.{Said}
+use Rattle.hdl_parser.specs.Grammar.{Said}
 use Rattle.hdl_parser.specs.Trees.{name_leaf, number_said, next_tree, row_with, listing_tree, width_tree, pin_tree, last_tree, range_tree, subscript_tree, selection_tree, source_tree, connection_tree, part_tree, body_tree, chip_tree}
-use Rattle.hdl_parser.specs.Whole.{whole_tree}
+use Rattle.hdl_parser.specs.Spells.{whole_tree}
 
 abbrev T : Type 0
 T = Tree Said

@@ -14,9 +14,10 @@ use Rattle.hdl_parser.specs.declared.token.Keyword.TheVariants as keyword
 use Rattle.hdl_parser.specs.declared.token.Kind.{Kind}
 use Rattle.hdl_parser.specs.declared.token.Kind.TheVariants as kind
 use Rattle.hdl_parser.specs.Tokens.{Word, tokens_of, finish}
-use Rattle.hdl_parser.specs.Hdl.{hdl, Said, HdlRule, Fixed, Text, sign_is, keyword_is, dotted, names, counts, stands_for, value_of, too_large, symbol_of, keyword_of, dots, name, width, index, last_index, constant, row, width_rule, pin, last, range, indices, subscript, selection, source, connection, part, parts, listing, builtin, body, pins, chip, whole, check_width, check_index, check_last}
-use Rattle.hdl_parser.specs.Whole.{whole_tree, Spells}
-use Rattle.hdl_parser.specs.Printed.{chip_text, shown, set_off}
+use Rattle.hdl_parser.specs.Grammar.{hdl, Said, HdlRule, Fixed, Text, sign_is, keyword_is, dotted, names, counts, stands_for, value_of, too_large, symbol_of, keyword_of, dots, name, width, index, last_index, constant, row, width_rule, pin, last, range, indices, subscript, selection, source, connection, part, parts, listing, builtin, body, pins, chip, whole, check_width, check_index, check_last}
+use Rattle.hdl_parser.specs.Spells.{whole_tree, Spells}
+use Rattle.grammar.specs.Printed.{set_off}
+use Rattle.hdl_parser.specs.Printed.{chip_text, shown}
 use Rattle.grammar.proofs.Alike as alike
 use Rattle.grammar.proofs.Alike.{seen_whole}
 use Rattle.grammar.proofs.Endings.{ends_anywhere}

@@ -21,9 +21,9 @@ use Rattle.hdl_parser.specs.declared.token.Keyword.TheVariants as keyword
 use Rattle.hdl_parser.specs.declared.token.Kind.{Kind}
 use Rattle.hdl_parser.specs.declared.token.Kind.TheVariants as kind
 use Rattle.hdl_parser.specs.Tokens.{Word}
-use Rattle.hdl_parser.specs.Hdl.{hdl, Said, HdlRule, is_symbol, is_keyword, keyword_is, is_name, too_large, check_width, check_index, check_last, name, row, next_of, listing, width_rule, pin, subscript, selection, source, connection, part, body, whole}
+use Rattle.hdl_parser.specs.Grammar.{hdl, Said, HdlRule, is_symbol, is_keyword, keyword_is, is_name, too_large, check_width, check_index, check_last, name, row, next_of, listing, width_rule, pin, subscript, selection, source, connection, part, body, whole}
 use Rattle.hdl_parser.specs.Trees.{name_leaf, next_tree, row_with, listing_tree, width_tree, pin_tree, subscript_tree, selection_tree, source_tree, connection_tree, part_tree, body_tree, truth}
-use Rattle.hdl_parser.specs.Whole.{whole_tree}
+use Rattle.hdl_parser.specs.Spells.{whole_tree}
 use Rattle.hdl_tree.specs.Writable.{all, all_of_some, name_can, width_can, pin_can, subscript_can, selection_can, source_can, connection_can, part_can, body_can, chip_can}
 use Rattle.hdl_parser.proofs.Spaced.{AllGood, name_good, first_of, second_of}
 

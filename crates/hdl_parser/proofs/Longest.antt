@@ -1,46 +1,72 @@
--- No longer front of what is left is a token.
-use Rattle.std.proofs.Common.{◌≡◌, ℕ, zero, suc, ◌-◌, ◌≤◌, Bool, true, false, cond, List, [], ◌∷◌, length, take, refl, sym, ap, ◌∙◌, arith, subst}
-use Rattle.std.specs.Prelude.{codes, ◌&&◌, ◌==◌}
+-- Each token of an HDL text is the longest that begins where it begins.
+use Rattle.std.proofs.Common.{◌≡◌, ℕ, true, cond, List, [], ◌∷◌, ◌++◌, length, refl, sym, ap, subst, arith, inl}
+use Rattle.std.specs.Prelude.{codes}
 use Rattle.std.specs.Str.{bytes_eq}
-use Rattle.scan_text.specs.Text.{front, is_digit, digits}
+use Rattle.std.proofs.lemmas.List.Elements.{All-cons, All-head}
+use Rattle.std.proofs.lemmas.Bool.Decides.{nat_tests}
+use Rattle.scan_text.specs.Text.{is_digit, digits}
 use Rattle.grammar.specs.declared.Fault.TheVariants.{Grammar}
-use Rattle.grammar.specs.Cutting.{Piece, Wrong, LongestMatch}
-use Rattle.grammar.proofs.Longest.{sized, shorter_run, takes_longest}
+use Rattle.grammar.specs.Cutting.{Piece, Wrong, CutsLongest, MissesNone}
 use Rattle.grammar.proofs.Spaced.{take_none}
+use Rattle.grammar.proofs.Longest as longest
+use Rattle.grammar.proofs.Longest.{IsCut, Reaches, cut_if, reaches_if, front_run, run_is_cut, byte_is_cut, run_reached, no_digit, front_is}
 use Rattle.hdl_tree.specs.Writable.{is_letter, is_name_byte}
 use Rattle.hdl_parser.specs.declared.token.Kind.TheVariants as kind
 use Rattle.hdl_parser.specs.Tokens.{Word, piece, token_of, word_piece, symbol_piece, number_piece, dots_piece, begins_dots, is_sign}
+use Rattle.hdl_parser.specs.OneToken.{IsOne, AWord, ANumber, ASymbol, TwoDots}
 
-abbrev chosen : ℕ → List ℕ → Bool → Bool → Bool → Piece Word
-chosen b all letter sign digit = cond letter (word_piece all) (cond sign (symbol_piece b all) (cond digit (number_piece all) (dots_piece all)))
+-- the pieces that are left when the tests before them fail
+abbrev number_or : ℕ → List ℕ → Piece Word
+number_or b all = cond (is_digit b) (number_piece all) (dots_piece all)
 
--- two dots that a front begins with
-dots_by : (x y : Bool) (xs ys : List ℕ) → (x ≡ true → y ≡ true) → sized (cond x (token_of kind.Dots 1 xs) (Wrong Grammar)) ≤ sized (cond y (token_of kind.Dots 1 ys) (Wrong Grammar))
-dots_by true true xs ys h = omega arith
-dots_by true false xs ys h = absurd (let bad : false ≡ true = h refl in let none : ⊥ = cc in none)
-dots_by false y xs ys h = omega arith
+abbrev symbol_or : ℕ → List ℕ → Piece Word
+symbol_or b all = cond (is_sign b) (symbol_piece b all) (number_or b all)
 
-one_dot : (x : Bool) → (x && false) ≡ true → false ≡ true
-one_dot true e = e
-one_dot false e = e
+letter_in_name : (b : ℕ) → is_letter b ≡ true → is_name_byte b ≡ true
+letter_in_name b e = rw e refl
 
-dots_in : (n b : ℕ) (bs : List ℕ) → begins_dots (b ∷ take n bs) ≡ true → begins_dots (b ∷ bs) ≡ true
-dots_in zero b [] e = e
-dots_in (suc n) b [] e = e
-dots_in zero b (c ∷ bs) e = absurd (let bad : false ≡ true = one_dot (b == 46) e in let none : ⊥ = cc in none)
-dots_in (suc n) b (c ∷ bs) e = ap (λ (l : List ℕ). bytes_eq (b ∷ c ∷ l) (codes "..")) (take_none bs ∙ sym (take_none (take n bs))) ∙ e
+sign_is_no_letter : (b : ℕ) → is_sign b ≡ true → is_letter b ≡ true → ⊥
+sign_is_no_letter b s l = grind (arith, nat_tests, s, l)
 
-no_longer_by : (n b : ℕ) (bs : List ℕ) (letter sign digit : Bool) → sized (chosen b (b ∷ take n bs) letter sign digit) ≤ sized (chosen b (b ∷ bs) letter sign digit)
-no_longer_by n b bs true sign digit = let run = shorter_run is_name_byte (suc n) (b ∷ bs) in omega (arith, run)
-no_longer_by n b bs false true digit = omega arith
-no_longer_by n b bs false false true = let run = shorter_run is_digit (suc n) (b ∷ bs) in omega (arith, run)
-no_longer_by n b bs false false false = dots_by (begins_dots (b ∷ take n bs)) (begins_dots (b ∷ bs)) (b ∷ take n bs) (b ∷ bs) (dots_in n b bs)
+dots_cut : (bs : List ℕ) → IsCut IsOne (λ l. ⊥) bs (dots_piece bs)
+dots_cut bs =
+    cut_if IsOne (λ l. ⊥) bs (begins_dots bs) (token_of kind.Dots 1 bs) (Wrong Grammar)
+    (λ e. let h = front_is (codes "..") bs e in (h.0, subst IsOne (sym h.1) TwoDots)) (λ e. inl refl)
 
-no_longer : (n : ℕ) (bs : List ℕ) → sized (piece (take n bs)) ≤ sized (piece bs)
-no_longer zero [] = omega arith
-no_longer zero (b ∷ bs) = omega arith
-no_longer (suc n) [] = omega arith
-no_longer (suc n) (b ∷ bs) = no_longer_by n b bs (is_letter b) (is_sign b) (is_digit b)
+cut : (bs : List ℕ) → IsCut IsOne (λ l. ⊥) bs (piece bs)
+cut [] = tt
+cut (b ∷ bs) =
+    let all = b ∷ bs in
+    cut_if IsOne (λ l. ⊥) all (is_letter b) (word_piece all) (symbol_or b all) (λ l. run_is_cut IsOne is_name_byte b bs (letter_in_name b l) (AWord l (front_run is_name_byte bs)))
+    (λ l. cut_if IsOne (λ l. ⊥) all (is_sign b) (symbol_piece b all) (number_or b all) (λ s. byte_is_cut IsOne b bs (ASymbol s))
+    (λ s. cut_if IsOne (λ l. ⊥) all (is_digit b) (number_piece all) (dots_piece all)
+    (λ d. run_is_cut IsOne is_digit b bs d (ANumber (All-cons (λ c. is_digit c ≡ true) b (digits bs) d (front_run is_digit bs))))
+    (λ d. dots_cut all)))
 
-pub longest : LongestMatch piece
-longest = takes_longest piece no_longer
+reaches : (xs rest : List ℕ) → IsOne xs → Reaches (length xs) (piece (xs ++ rest))
+reaches xs rest (AWord {b} {bs} l a) =
+    let all = b ∷ (bs ++ rest) in
+    reaches_if (length (b ∷ bs)) (is_letter b) (word_piece all) (symbol_or b all)
+    (λ e. run_reached is_name_byte b bs rest (All-cons (λ c. is_name_byte c ≡ true) b bs (letter_in_name b l) a)) (λ e. absurd (cc (l, e)))
+reaches xs rest (ANumber {d} {ds} a) =
+    let all = d ∷ (ds ++ rest) in
+    let digit : is_digit d ≡ true = All-head (λ c. is_digit c ≡ true) d ds a in
+    let letter = no_digit is_letter refl d digit in
+    let sign = no_digit is_sign refl d digit in
+    reaches_if (length (d ∷ ds)) (is_letter d) (word_piece all) (symbol_or d all) (λ e. absurd (cc (letter, e)))
+    (λ l. reaches_if (length (d ∷ ds)) (is_sign d) (symbol_piece d all) (number_or d all) (λ e. absurd (cc (sign, e)))
+    (λ s. reaches_if (length (d ∷ ds)) (is_digit d) (number_piece all) (dots_piece all) (λ e. run_reached is_digit d ds rest a) (λ e. absurd (cc (digit, e)))))
+reaches xs rest (ASymbol {b} s) =
+    let all = b ∷ rest in
+    reaches_if 1 (is_letter b) (word_piece all) (symbol_or b all) (λ e. absurd (sign_is_no_letter b s e))
+    (λ l. reaches_if 1 (is_sign b) (symbol_piece b all) (number_or b all) (λ e. omega arith) (λ e. absurd (cc (s, e))))
+reaches xs rest TwoDots =
+    let all = 46 ∷ 46 ∷ rest in
+    let here : begins_dots all ≡ true = ap (λ (l : List ℕ). bytes_eq (46 ∷ 46 ∷ l) (codes "..")) (take_none rest) in
+    reaches_if 2 (begins_dots all) (token_of kind.Dots 1 all) (Wrong Grammar) (λ e. omega arith) (λ e. absurd (cc (here, e)))
+
+pub cuts_longest : CutsLongest IsOne piece
+cuts_longest = longest.cuts_longest IsOne (λ l. ⊥) piece cut reaches
+
+pub misses_none : MissesNone IsOne (λ l. ⊥) piece
+misses_none = longest.misses_none IsOne (λ l. ⊥) piece cut reaches

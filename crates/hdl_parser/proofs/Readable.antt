@@ -17,9 +17,9 @@ use Rattle.hdl_parser.specs.declared.token.Keyword.TheVariants as keyword
 use Rattle.hdl_parser.specs.declared.token.Kind.{Kind}
 use Rattle.hdl_parser.specs.declared.token.Kind.TheVariants as kind
 use Rattle.hdl_parser.specs.Tokens.{Word, keyword_of, kind_of}
-use Rattle.hdl_parser.specs.Hdl.{hdl, Said, Fixed, HdlRule, names, counts, stands_for, value_of, too_large, name, row, next_of, listing, width_rule, pin, range, subscript, selection, source, connection, part, body, chip, whole}
+use Rattle.hdl_parser.specs.Grammar.{hdl, Said, Fixed, HdlRule, names, counts, stands_for, value_of, too_large, name, row, next_of, listing, width_rule, pin, range, subscript, selection, source, connection, part, body, chip, whole}
 use Rattle.hdl_parser.specs.Trees.{name_leaf, number_said, constant_said, next_tree, row_with, listing_tree, width_tree, pin_tree, range_tree, subscript_tree, selection_tree, source_tree, connection_tree, part_tree, body_tree, chip_tree}
-use Rattle.hdl_parser.specs.Whole.{whole_tree, SpellsTree, Spells}
+use Rattle.hdl_parser.specs.Spells.{whole_tree, SpellsTree, Spells}
 use Rattle.hdl_parser.specs.Printed.{chip_text}
 use Rattle.hdl_parser.proofs.Apart.{apart}
 use Rattle.hdl_parser.proofs.Blindness.{printed_spells}

@@ -5,8 +5,8 @@ use Rattle.grammar.specs.Texts.{OneReading}
 use Rattle.grammar.proofs.Wholes.{one_tree, not_both, first_fault}
 use Rattle.hdl_tree.specs.declared.tree.Chip.{Chip}
 use Rattle.hdl_parser.specs.Tokens.{tokens_of, finish}
-use Rattle.hdl_parser.specs.Hdl.{hdl, whole}
-use Rattle.hdl_parser.specs.Whole.{whole_tree, Spells, Refuses}
+use Rattle.hdl_parser.specs.Grammar.{hdl, whole}
+use Rattle.hdl_parser.specs.Spells.{whole_tree, Spells, Refuses}
 use Rattle.hdl_parser.proofs.Apart.{apart}
 
 module _ (text : List ℕ) where

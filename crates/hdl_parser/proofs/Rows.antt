@@ -2,7 +2,7 @@
 use Rattle.std.proofs.Common.{◌≡◌, ◌≤◌, List, [], ◌∷◌, ◌++◌, length, refl, ap, arith}
 use Rattle.grammar.specs.Rules.{Tree, Skip, Pair, Present, NoMore, More}
 use Rattle.grammar.proofs.Repeats.{listed-push}
-use Rattle.hdl_parser.specs.Hdl.{Said}
+use Rattle.hdl_parser.specs.Grammar.{Said}
 use Rattle.hdl_parser.specs.Trees.{next_tree, row_with, listing_tree}
 
 module _ {X : Type 0} (tree : X → Tree Said) where

@@ -21,7 +21,8 @@ use Rattle.hdl_parser.specs.declared.token.Keyword.TheVariants as keyword
 use Rattle.hdl_parser.specs.declared.token.Kind.{Kind}
 use Rattle.hdl_parser.specs.declared.token.Kind.TheVariants as kind
 use Rattle.hdl_parser.specs.Tokens.{Word, keyword_text, keyword_of, keywords, spelled, piece, tokens_of, token_of, number_piece, word_piece, symbol_piece, dots_piece, begins_dots, is_sign, kind_of, word_kind}
-use Rattle.hdl_parser.specs.Printed.{shown, set_off}
+use Rattle.grammar.specs.Printed.{set_off}
+use Rattle.hdl_parser.specs.Printed.{shown}
 
 -- a token of these bytes
 abbrev made : Kind → List ℕ → Place → Word

@@ -13,8 +13,8 @@ use Rattle.hdl_parser.specs.declared.token.Keyword.TheVariants as keyword
 use Rattle.hdl_parser.specs.declared.token.Kind.{Kind}
 use Rattle.hdl_parser.specs.declared.token.Kind.TheVariants as kind
 use Rattle.hdl_parser.specs.Tokens.{Word, keyword_text, tokens_of, finish}
-use Rattle.hdl_parser.specs.Hdl.{hdl, Said, HdlRule, sign_is, keyword_is, dotted, names, counts, stands_for, symbol_of, keyword_of, dots, name, width, index, last_index, constant, row, width_rule, pin, last, range, subscript, selection, source, connection, part, parts, listing, builtin, body, pins, chip, whole}
-use Rattle.hdl_parser.specs.Whole.{whole_tree, Spells}
+use Rattle.hdl_parser.specs.Grammar.{hdl, Said, HdlRule, sign_is, keyword_is, dotted, names, counts, stands_for, symbol_of, keyword_of, dots, name, width, index, last_index, constant, row, width_rule, pin, last, range, subscript, selection, source, connection, part, parts, listing, builtin, body, pins, chip, whole}
+use Rattle.hdl_parser.specs.Spells.{whole_tree, Spells}
 use Rattle.hdl_parser.specs.Printed.{kind_text, shown, said_text, chip_tokens}
 
 -- what a token says is what it is written as

@@ -7,8 +7,8 @@ use Rattle.grammar.specs.Reading.{Halt, ParsesAll}
 use Rattle.grammar.proofs.Wholes.{all_spelled, all_refused}
 use Rattle.hdl_tree.specs.declared.tree.Chip.{Chip}
 use Rattle.hdl_parser.specs.Tokens.{Word, tokens_of, finish}
-use Rattle.hdl_parser.specs.Hdl.{hdl, whole}
-use Rattle.hdl_parser.specs.Whole.{whole_tree, Spells, Refuses}
+use Rattle.hdl_parser.specs.Grammar.{hdl, whole}
+use Rattle.hdl_parser.specs.Spells.{whole_tree, Spells, Refuses}
 
 -- the tokens of the text, and the place where it ends
 module _ (text : List ℕ) (ts us : List Word) (at : Place) (cut : tokens_of text ≡ Ok us) (same : ts ≡ us) (ends : at ≡ finish text) (r : Result Chip ReadError) (h : ParsesAll (hdl at) whole whole_tree (λ _. 0) 0 ts r) where

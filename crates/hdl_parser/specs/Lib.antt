@@ -1,6 +1,7 @@
 pub mod Tokens
-pub mod Hdl
+pub mod Grammar
 pub mod Trees
-pub mod Whole
+pub mod Spells
 pub mod Printed
-pub mod Written
+pub mod OneToken
+pub mod Inner

@@ -1,18 +1,17 @@
 -- The printed form of a chip (book, appendix 2): its tokens with one space between them, and a line feed in its place behind `{`, `}`
 -- and `;`. The book lays down no layout; this one is the project's own.
-use Rattle.std.specs.Prelude.{◌≡◌, ℕ, ◌≤◌, ◌++◌, true, List, [], ◌∷◌, Ok, map, length, decimal, if◌then◌else◌, ◌||◌, codes}
+use Rattle.std.specs.Prelude.{◌≡◌, ℕ, ◌≤◌, true, List, [], ◌∷◌, Ok, map, length, decimal, codes}
 use Rattle.std.specs.List.{flat_map}
-use Rattle.std.specs.Str.{bytes_eq}
 use Rattle.scan_text.specs.Text.{start}
-use Rattle.grammar.specs.Rules.{Tree}
 use Rattle.grammar.specs.Leaves.{leaves}
+use Rattle.grammar.specs.Printed.{set_off}
 use Rattle.hdl_tree.specs.declared.tree.Chip.{Chip}
 use Rattle.hdl_tree.specs.Writable.{chip_can}
 use Rattle.hdl_parser.specs.declared.token.Kind.{Kind}
 use Rattle.hdl_parser.specs.declared.token.Kind.TheVariants as kind
 use Rattle.hdl_parser.specs.Tokens.{Word, keyword_text, tokens_of}
-use Rattle.hdl_parser.specs.Hdl.{hdl, HdlRule, Said, Fixed, Text, whole}
-use Rattle.hdl_parser.specs.Whole.{whole_tree, Spells}
+use Rattle.hdl_parser.specs.Grammar.{hdl, Said, Fixed, Text, whole}
+use Rattle.hdl_parser.specs.Spells.{whole_tree, Spells}
 
 -- what a token is written as: a number without leading zeros
 abbrev pub kind_text : Kind → List ℕ → List ℕ
@@ -32,14 +31,6 @@ said_text (Text text) = text
 -- the tokens of a chip
 abbrev pub chip_tokens : Chip → List (List ℕ)
 chip_tokens c = map said_text (leaves (hdl start) (whole_tree c) whole)
-
--- a token with what is behind it
-abbrev pub set_off : List ℕ → List ℕ
-set_off w = w ++ (if bytes_eq w (codes "{") || (bytes_eq w (codes "}") || bytes_eq w (codes ";")) then 10 else 32) ∷ []
-
--- the printed form of a tree, by the rule that it is of
-abbrev pub text_of : Tree Said → HdlRule → List ℕ
-text_of x rule = flat_map set_off (map said_text (leaves (hdl start) x rule))
 
 -- the printed form of a chip
 abbrev pub chip_text : Chip → List ℕ

@@ -15,7 +15,7 @@ use Rattle.hdl_tree.specs.declared.tree.Chip.{Chip}
 use Rattle.hdl_parser.specs.declared.token.Keyword.{Keyword}
 use Rattle.hdl_parser.specs.declared.token.Keyword.TheVariants as keyword
 use Rattle.hdl_parser.specs.declared.token.Kind.TheVariants as kind
-use Rattle.hdl_parser.specs.Hdl.{Said, Fixed, Text}
+use Rattle.hdl_parser.specs.Grammar.{Said, Fixed, Text}
 
 abbrev pub name_said : List ℕ → Said
 name_said n = Text n

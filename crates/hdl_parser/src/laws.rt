@@ -1,13 +1,15 @@
 //! Laws of the grammar and of the printed form.
 
-ghost use Rattle.grammar.specs.Cutting.{LongestMatch};
+ghost use Rattle.grammar.specs.Cutting.{CutsLongest, MissesNone};
+ghost use Rattle.hdl_parser.specs.OneToken.{IsOne};
 ghost use Rattle.hdl_parser.specs.Tokens.{piece};
-ghost use Rattle.hdl_parser.specs.Whole.{ReadingLaw, TreesLaw};
+ghost use Rattle.hdl_parser.specs.Spells.{ReadingLaw, TreesLaw};
 ghost use Rattle.hdl_parser.specs.Printed.{PrintedLaw, TokensLaw};
 
-/// Each token is the longest that begins where it begins.
+/// What is cut off is one token, the longest that begins where it begins, and none is missed.
 pub fn longest_law()
-    ensures { LongestMatch piece }
+    ensures longest { CutsLongest IsOne piece }
+    ensures all { MissesNone IsOne (λ bs. ⊥) piece }
 {}
 
 /// Two chips with the same tree are the same chip, and each tree that a text spells is that of a chip.

@@ -1,71 +1,36 @@
 //! The printed form of chips.
 
-ghost use Rattle.std.specs.Prelude.{◌≡◌, ◌∷◌, ◌||◌, [], codes};
-ghost use Rattle.std.specs.Str.{bytes_eq};
+ghost use Rattle.std.specs.Prelude.{◌≡◌, []};
+ghost use Rattle.grammar.specs.Printed.{Writes, set_off};
 ghost use Rattle.grammar.specs.Rules.{NoMore, option, repeat, listed};
 ghost use Rattle.outer_world.specs.Held.{HaveSameSink, pending, sink_of};
 ghost use Rattle.outer_world.specs.Written.{CountsPut, Puts};
 ghost use Rattle.hdl_parser.specs.Tokens.{keyword_text};
-ghost use Rattle.hdl_parser.specs.Hdl.{body, builtin, chip, connection, indices, last, listing, name, next_of, part, parts, pin, pins, row, source, subscript, width_rule, selection};
-ghost use Rattle.hdl_parser.specs.Trees.{body_tree, builtin_tree, chip_tree, connection_tree, connections_tree, constant_said, indices_tree, last_tree, name_leaf, names_tree, next_tree, number_said, part_tree, parts_tree, pin_tree, pins_tree, row_with, source_tree, subscript_tree, truth, width_tree, selection_tree};
-ghost use Rattle.hdl_parser.specs.Printed.{chip_text, said_text, set_off};
-ghost use Rattle.hdl_parser.specs.Written.{Shows, Writes};
+ghost use Rattle.hdl_parser.specs.Grammar.{body, builtin, chip, connection, indices, last, listing, name, next_of, part, parts, pin, pins, row, source, subscript, width_rule, selection};
+ghost use Rattle.hdl_parser.specs.Trees.{body_tree, builtin_tree, chip_tree, connection_tree, connections_tree, indices_tree, name_leaf, names_tree, next_tree, number_said, part_tree, parts_tree, pin_tree, pins_tree, source_tree, subscript_tree, truth, width_tree, selection_tree};
+ghost use Rattle.hdl_parser.specs.Printed.{chip_text, said_text};
+ghost use Rattle.hdl_parser.specs.Inner.Written.{Shows};
 
 use crate::token::Keyword;
+use grammar::{put_rest, put_symbol, put_token};
 use hdl_tree::{Body, Chip, Connection, Name, Part, Pin, Selection, Source, Subscript};
 use itoa::Buffer;
 use outer_world::{Pieces, Put, Sink};
 
-// A line feed stands behind the token.
-fn ends_line(token: &[u8]) -> bool
-    ensures { result ≡ (bytes_eq token.now (codes "{") || (bytes_eq token.now (codes "}") || bytes_eq token.now (codes ";"))) }
-{
-    if token == b"{".as_slice() {
-        return true;
-    }
-    if token == b"}".as_slice() {
-        return true;
-    }
-    token == b";".as_slice()
-}
-
-fn put_token<S: Sink>(token: &[u8], status: Put, out: &mut Pieces<'_, S>) -> Put
-    ensures same_sink { HaveSameSink out.old out.new }
-    ensures writes { Writes (set_off token.now) status (S.written (sink_of out.old)) (pending out.old) (S.faults (sink_of out.old)) result (S.written (sink_of out.new)) (pending out.new) (S.faults (sink_of out.new)) }
-{
-    if status == Put::Failed {
-        return Put::Failed;
-    }
-    if ends_line(token) {
-        return out.put_all(&[token, b"\n"]);
-    }
-    out.put_all(&[token, b" "])
-}
-
-fn put_symbol<S: Sink>(byte: u8, status: Put, out: &mut Pieces<'_, S>) -> Put
-    ensures same_sink { HaveSameSink out.old out.new }
-    ensures writes { Writes (set_off (byte ∷ [])) status (S.written (sink_of out.old)) (pending out.old) (S.faults (sink_of out.old)) result (S.written (sink_of out.new)) (pending out.new) (S.faults (sink_of out.new)) }
-{
-    put_token(&[byte], status, out)
-}
-
 fn put_keyword<S: Sink>(keyword: Keyword, status: Put, out: &mut Pieces<'_, S>) -> Put
-    ensures same_sink { HaveSameSink out.old out.new }
-    ensures writes { Writes (set_off (keyword_text keyword)) status (S.written (sink_of out.old)) (pending out.old) (S.faults (sink_of out.old)) result (S.written (sink_of out.new)) (pending out.new) (S.faults (sink_of out.new)) }
+    ensures { Writes (set_off (keyword_text keyword)) status out.old result out.new }
 {
     put_token(keyword.text().as_bytes(), status, out)
 }
 
 fn put_name<S: Sink>(name: &Name, status: Put, out: &mut Pieces<'_, S>) -> Put
-    ensures same_sink { HaveSameSink out.old out.new }
-    ensures writes { Writes (set_off name.now) status (S.written (sink_of out.old)) (pending out.old) (S.faults (sink_of out.old)) result (S.written (sink_of out.new)) (pending out.new) (S.faults (sink_of out.new)) }
+    ensures { Writes (set_off name.now) status out.old result out.new }
 {
     put_token(name.as_bytes(), status, out)
 }
 
 fn put_number<S: Sink>(number: u8, status: Put, out: &mut Pieces<'_, S>) -> Put
-    ensures same_sink { HaveSameSink out.old out.new }
-    ensures writes { Writes (set_off (said_text (number_said number))) status (S.written (sink_of out.old)) (pending out.old) (S.faults (sink_of out.old)) result (S.written (sink_of out.new)) (pending out.new) (S.faults (sink_of out.new)) }
+    ensures { Writes (set_off (said_text (number_said number))) status out.old result out.new }
 {
     let mut digits = Buffer::new();
     put_token(digits.format(number).as_bytes(), status, out)
@@ -73,8 +38,7 @@ fn put_number<S: Sink>(number: u8, status: Put, out: &mut Pieces<'_, S>) -> Put
 
 // The width of a pin, where one is written.
 fn put_width<S: Sink>(width: &Option<u8>, status: Put, out: &mut Pieces<'_, S>) -> Put
-    ensures same_sink { HaveSameSink out.old out.new }
-    ensures shows { Shows (width_tree width.now) (option width_rule) status (S.written (sink_of out.old)) (pending out.old) (S.faults (sink_of out.old)) result (S.written (sink_of out.new)) (pending out.new) (S.faults (sink_of out.new)) }
+    ensures { Shows (width_tree width.now) (option width_rule) status out.old result out.new }
 {
     match width {
         None => status,
@@ -87,24 +51,21 @@ fn put_width<S: Sink>(width: &Option<u8>, status: Put, out: &mut Pieces<'_, S>) 
 }
 
 fn put_pin<S: Sink>(one: &Pin, status: Put, out: &mut Pieces<'_, S>) -> Put
-    ensures same_sink { HaveSameSink out.old out.new }
-    ensures shows { Shows (pin_tree one.now) pin status (S.written (sink_of out.old)) (pending out.old) (S.faults (sink_of out.old)) result (S.written (sink_of out.new)) (pending out.new) (S.faults (sink_of out.new)) }
+    ensures { Shows (pin_tree one.now) pin status out.old result out.new }
 {
     let named = put_name(&one.name, status, out);
     put_width(&one.width, named, out)
 }
 
 fn put_next_pin<S: Sink>(one: &Pin, status: Put, out: &mut Pieces<'_, S>) -> Put
-    ensures same_sink { HaveSameSink out.old out.new }
-    ensures shows { Shows (next_tree pin_tree one.now) (next_of pin) status (S.written (sink_of out.old)) (pending out.old) (S.faults (sink_of out.old)) result (S.written (sink_of out.new)) (pending out.new) (S.faults (sink_of out.new)) }
+    ensures { Shows (next_tree pin_tree one.now) (next_of pin) status out.old result out.new }
 {
     let separated = put_symbol(b',', status, out);
     put_pin(one, separated, out)
 }
 
 fn put_more_pins<S: Sink>(all: &[Pin], status: Put, out: &mut Pieces<'_, S>) -> Put
-    ensures same_sink { HaveSameSink out.old out.new }
-    ensures shows { Shows (listed (next_tree pin_tree) all.now NoMore) (repeat (next_of pin)) status (S.written (sink_of out.old)) (pending out.old) (S.faults (sink_of out.old)) result (S.written (sink_of out.new)) (pending out.new) (S.faults (sink_of out.new)) }
+    ensures { Shows (listed (next_tree pin_tree) all.now NoMore) (repeat (next_of pin)) status out.old result out.new }
 {
     let mut status = status;
     for one in all {
@@ -115,8 +76,7 @@ fn put_more_pins<S: Sink>(all: &[Pin], status: Put, out: &mut Pieces<'_, S>) -> 
 
 // The pins behind a keyword, where there are some.
 fn put_pins<S: Sink>(word: Keyword, all: &[Pin], status: Put, out: &mut Pieces<'_, S>) -> Put
-    ensures same_sink { HaveSameSink out.old out.new }
-    ensures shows { Shows (pins_tree all.now) (pins word) status (S.written (sink_of out.old)) (pending out.old) (S.faults (sink_of out.old)) result (S.written (sink_of out.new)) (pending out.new) (S.faults (sink_of out.new)) }
+    ensures { Shows (pins_tree all.now) (pins word) status out.old result out.new }
 {
     let Some((first, more)) = all.split_first() else {
         return status;
@@ -128,16 +88,14 @@ fn put_pins<S: Sink>(word: Keyword, all: &[Pin], status: Put, out: &mut Pieces<'
 }
 
 fn put_next_name<S: Sink>(one: &Name, status: Put, out: &mut Pieces<'_, S>) -> Put
-    ensures same_sink { HaveSameSink out.old out.new }
-    ensures shows { Shows (next_tree name_leaf one.now) (next_of name) status (S.written (sink_of out.old)) (pending out.old) (S.faults (sink_of out.old)) result (S.written (sink_of out.new)) (pending out.new) (S.faults (sink_of out.new)) }
+    ensures { Shows (next_tree name_leaf one.now) (next_of name) status out.old result out.new }
 {
     let separated = put_symbol(b',', status, out);
     put_name(one, separated, out)
 }
 
 fn put_more_names<S: Sink>(all: &[Name], status: Put, out: &mut Pieces<'_, S>) -> Put
-    ensures same_sink { HaveSameSink out.old out.new }
-    ensures shows { Shows (listed (next_tree name_leaf) all.now NoMore) (repeat (next_of name)) status (S.written (sink_of out.old)) (pending out.old) (S.faults (sink_of out.old)) result (S.written (sink_of out.new)) (pending out.new) (S.faults (sink_of out.new)) }
+    ensures { Shows (listed (next_tree name_leaf) all.now NoMore) (repeat (next_of name)) status out.old result out.new }
 {
     let mut status = status;
     for one in all {
@@ -148,8 +106,7 @@ fn put_more_names<S: Sink>(all: &[Name], status: Put, out: &mut Pieces<'_, S>) -
 
 // The names behind `CLOCKED`, where there are some.
 fn put_clocked<S: Sink>(all: &[Name], status: Put, out: &mut Pieces<'_, S>) -> Put
-    ensures same_sink { HaveSameSink out.old out.new }
-    ensures shows { Shows (names_tree all.now) (option (listing Keyword.Clocked name)) status (S.written (sink_of out.old)) (pending out.old) (S.faults (sink_of out.old)) result (S.written (sink_of out.new)) (pending out.new) (S.faults (sink_of out.new)) }
+    ensures { Shows (names_tree all.now) (option (listing Keyword.Clocked name)) status out.old result out.new }
 {
     let Some((first, more)) = all.split_first() else {
         return status;
@@ -161,8 +118,7 @@ fn put_clocked<S: Sink>(all: &[Name], status: Put, out: &mut Pieces<'_, S>) -> P
 }
 
 fn put_indices<S: Sink>(bits: Subscript, status: Put, out: &mut Pieces<'_, S>) -> Put
-    ensures same_sink { HaveSameSink out.old out.new }
-    ensures shows { Shows (indices_tree bits) indices status (S.written (sink_of out.old)) (pending out.old) (S.faults (sink_of out.old)) result (S.written (sink_of out.new)) (pending out.new) (S.faults (sink_of out.new)) }
+    ensures { Shows (indices_tree bits) indices status out.old result out.new }
 {
     match bits {
         Subscript::Bit(index) => put_number(index, status, out),
@@ -176,8 +132,7 @@ fn put_indices<S: Sink>(bits: Subscript, status: Put, out: &mut Pieces<'_, S>) -
 
 // The bits in brackets, where some are written.
 fn put_subscript<S: Sink>(bits: &Option<Subscript>, status: Put, out: &mut Pieces<'_, S>) -> Put
-    ensures same_sink { HaveSameSink out.old out.new }
-    ensures shows { Shows (subscript_tree bits.now) (option subscript) status (S.written (sink_of out.old)) (pending out.old) (S.faults (sink_of out.old)) result (S.written (sink_of out.new)) (pending out.new) (S.faults (sink_of out.new)) }
+    ensures { Shows (subscript_tree bits.now) (option subscript) status out.old result out.new }
 {
     match bits {
         None => status,
@@ -190,8 +145,7 @@ fn put_subscript<S: Sink>(bits: &Option<Subscript>, status: Put, out: &mut Piece
 }
 
 fn put_selection<S: Sink>(one: &Selection, status: Put, out: &mut Pieces<'_, S>) -> Put
-    ensures same_sink { HaveSameSink out.old out.new }
-    ensures shows { Shows (selection_tree one.now) selection status (S.written (sink_of out.old)) (pending out.old) (S.faults (sink_of out.old)) result (S.written (sink_of out.new)) (pending out.new) (S.faults (sink_of out.new)) }
+    ensures { Shows (selection_tree one.now) selection status out.old result out.new }
 {
     let named = put_name(&one.name, status, out);
     put_subscript(&one.subscript, named, out)
@@ -204,8 +158,7 @@ fn truth(value: bool) -> Keyword
 }
 
 fn put_source<S: Sink>(one: &Source, status: Put, out: &mut Pieces<'_, S>) -> Put
-    ensures same_sink { HaveSameSink out.old out.new }
-    ensures shows { Shows (source_tree one.now) source status (S.written (sink_of out.old)) (pending out.old) (S.faults (sink_of out.old)) result (S.written (sink_of out.new)) (pending out.new) (S.faults (sink_of out.new)) }
+    ensures { Shows (source_tree one.now) source status out.old result out.new }
 {
     match one {
         Source::Net(selection) => put_selection(selection, status, out),
@@ -214,8 +167,7 @@ fn put_source<S: Sink>(one: &Source, status: Put, out: &mut Pieces<'_, S>) -> Pu
 }
 
 fn put_connection<S: Sink>(one: &Connection, status: Put, out: &mut Pieces<'_, S>) -> Put
-    ensures same_sink { HaveSameSink out.old out.new }
-    ensures shows { Shows (connection_tree one.now) connection status (S.written (sink_of out.old)) (pending out.old) (S.faults (sink_of out.old)) result (S.written (sink_of out.new)) (pending out.new) (S.faults (sink_of out.new)) }
+    ensures { Shows (connection_tree one.now) connection status out.old result out.new }
 {
     let named = put_selection(&one.pin, status, out);
     let joined = put_symbol(b'=', named, out);
@@ -223,16 +175,14 @@ fn put_connection<S: Sink>(one: &Connection, status: Put, out: &mut Pieces<'_, S
 }
 
 fn put_next_connection<S: Sink>(one: &Connection, status: Put, out: &mut Pieces<'_, S>) -> Put
-    ensures same_sink { HaveSameSink out.old out.new }
-    ensures shows { Shows (next_tree connection_tree one.now) (next_of connection) status (S.written (sink_of out.old)) (pending out.old) (S.faults (sink_of out.old)) result (S.written (sink_of out.new)) (pending out.new) (S.faults (sink_of out.new)) }
+    ensures { Shows (next_tree connection_tree one.now) (next_of connection) status out.old result out.new }
 {
     let separated = put_symbol(b',', status, out);
     put_connection(one, separated, out)
 }
 
 fn put_more_connections<S: Sink>(all: &[Connection], status: Put, out: &mut Pieces<'_, S>) -> Put
-    ensures same_sink { HaveSameSink out.old out.new }
-    ensures shows { Shows (listed (next_tree connection_tree) all.now NoMore) (repeat (next_of connection)) status (S.written (sink_of out.old)) (pending out.old) (S.faults (sink_of out.old)) result (S.written (sink_of out.new)) (pending out.new) (S.faults (sink_of out.new)) }
+    ensures { Shows (listed (next_tree connection_tree) all.now NoMore) (repeat (next_of connection)) status out.old result out.new }
 {
     let mut status = status;
     for one in all {
@@ -242,8 +192,7 @@ fn put_more_connections<S: Sink>(all: &[Connection], status: Put, out: &mut Piec
 }
 
 fn put_connections<S: Sink>(all: &[Connection], status: Put, out: &mut Pieces<'_, S>) -> Put
-    ensures same_sink { HaveSameSink out.old out.new }
-    ensures shows { Shows (connections_tree all.now) (row connection) status (S.written (sink_of out.old)) (pending out.old) (S.faults (sink_of out.old)) result (S.written (sink_of out.new)) (pending out.new) (S.faults (sink_of out.new)) }
+    ensures { Shows (connections_tree all.now) (row connection) status out.old result out.new }
 {
     let Some((first, more)) = all.split_first() else {
         return status;
@@ -253,8 +202,7 @@ fn put_connections<S: Sink>(all: &[Connection], status: Put, out: &mut Pieces<'_
 }
 
 fn put_part<S: Sink>(one: &Part, status: Put, out: &mut Pieces<'_, S>) -> Put
-    ensures same_sink { HaveSameSink out.old out.new }
-    ensures shows { Shows (part_tree one.now) part status (S.written (sink_of out.old)) (pending out.old) (S.faults (sink_of out.old)) result (S.written (sink_of out.new)) (pending out.new) (S.faults (sink_of out.new)) }
+    ensures { Shows (part_tree one.now) part status out.old result out.new }
 {
     let named = put_name(&one.chip, status, out);
     let opened = put_symbol(b'(', named, out);
@@ -264,8 +212,7 @@ fn put_part<S: Sink>(one: &Part, status: Put, out: &mut Pieces<'_, S>) -> Put
 }
 
 fn put_all_parts<S: Sink>(all: &[Part], status: Put, out: &mut Pieces<'_, S>) -> Put
-    ensures same_sink { HaveSameSink out.old out.new }
-    ensures shows { Shows (listed part_tree all.now NoMore) (repeat part) status (S.written (sink_of out.old)) (pending out.old) (S.faults (sink_of out.old)) result (S.written (sink_of out.new)) (pending out.new) (S.faults (sink_of out.new)) }
+    ensures { Shows (listed part_tree all.now NoMore) (repeat part) status out.old result out.new }
 {
     let mut status = status;
     for one in all {
@@ -276,8 +223,7 @@ fn put_all_parts<S: Sink>(all: &[Part], status: Put, out: &mut Pieces<'_, S>) ->
 
 // `PARTS`, a colon and the parts.
 fn put_parts<S: Sink>(all: &[Part], status: Put, out: &mut Pieces<'_, S>) -> Put
-    ensures same_sink { HaveSameSink out.old out.new }
-    ensures shows { Shows (parts_tree all.now) parts status (S.written (sink_of out.old)) (pending out.old) (S.faults (sink_of out.old)) result (S.written (sink_of out.new)) (pending out.new) (S.faults (sink_of out.new)) }
+    ensures { Shows (parts_tree all.now) parts status out.old result out.new }
 {
     let begun = put_keyword(Keyword::Parts, status, out);
     let opened = put_symbol(b':', begun, out);
@@ -286,8 +232,7 @@ fn put_parts<S: Sink>(all: &[Part], status: Put, out: &mut Pieces<'_, S>) -> Put
 
 // `BUILTIN`, a name and the names that are clocked.
 fn put_builtin<S: Sink>(chip: &Name, clocked: &[Name], status: Put, out: &mut Pieces<'_, S>) -> Put
-    ensures same_sink { HaveSameSink out.old out.new }
-    ensures shows { Shows (builtin_tree chip.now clocked.now) builtin status (S.written (sink_of out.old)) (pending out.old) (S.faults (sink_of out.old)) result (S.written (sink_of out.new)) (pending out.new) (S.faults (sink_of out.new)) }
+    ensures { Shows (builtin_tree chip.now clocked.now) builtin status out.old result out.new }
 {
     let begun = put_keyword(Keyword::Builtin, status, out);
     let named = put_name(chip, begun, out);
@@ -296,8 +241,7 @@ fn put_builtin<S: Sink>(chip: &Name, clocked: &[Name], status: Put, out: &mut Pi
 }
 
 fn put_body<S: Sink>(one: &Body, status: Put, out: &mut Pieces<'_, S>) -> Put
-    ensures same_sink { HaveSameSink out.old out.new }
-    ensures shows { Shows (body_tree one.now) body status (S.written (sink_of out.old)) (pending out.old) (S.faults (sink_of out.old)) result (S.written (sink_of out.new)) (pending out.new) (S.faults (sink_of out.new)) }
+    ensures { Shows (body_tree one.now) body status out.old result out.new }
 {
     match one {
         Body::Parts(all) => put_parts(all.as_slice(), status, out),
@@ -306,8 +250,7 @@ fn put_body<S: Sink>(one: &Body, status: Put, out: &mut Pieces<'_, S>) -> Put
 }
 
 fn put_chip<S: Sink>(one: &Chip, status: Put, out: &mut Pieces<'_, S>) -> Put
-    ensures same_sink { HaveSameSink out.old out.new }
-    ensures shows { Shows (chip_tree one.now) chip status (S.written (sink_of out.old)) (pending out.old) (S.faults (sink_of out.old)) result (S.written (sink_of out.new)) (pending out.new) (S.faults (sink_of out.new)) }
+    ensures { Shows (chip_tree one.now) chip status out.old result out.new }
 {
     let begun = put_keyword(Keyword::Chip, status, out);
     let named = put_name(&one.name, begun, out);
@@ -325,10 +268,8 @@ fn put_all<S: Sink>(chip: &Chip, out: &mut Pieces<'_, S>) -> Put
     ensures put { Puts (S.written (sink_of out.old)) (S.written (sink_of out.new)) (chip_text chip.now) result }
     ensures counts { CountsPut (S.faults (sink_of out.old)) (S.faults (sink_of out.new)) result }
 {
-    match put_chip(chip, Put::Done, out) {
-        Put::Done => out.finish(),
-        Put::Failed => Put::Failed,
-    }
+    let status = put_chip(chip, Put::Done, out);
+    put_rest(status, out)
 }
 
 /// Prints a chip: its tokens with one space between them, and a line feed in its place behind `{`, `}` and `;`. It takes no memory.

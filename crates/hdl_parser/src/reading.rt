@@ -6,8 +6,8 @@ ghost use Rattle.grammar.specs.Reading.{ParsesAllBy, Halt, Gives, Ends};
 ghost use Rattle.hdl_parser.specs.Tokens.{view};
 ghost use Rattle.hdl_tree.specs.declared.tree.Chip.{Chip};
 ghost use Rattle.hdl_tree.specs.Writable.{chip_can};
-ghost use Rattle.hdl_parser.specs.Hdl.{hdl, whole};
-ghost use Rattle.hdl_parser.specs.Whole.{whole_tree, Spells, Refuses};
+ghost use Rattle.hdl_parser.specs.Grammar.{hdl, whole};
+ghost use Rattle.hdl_parser.specs.Spells.{whole_tree, Spells, Refuses};
 ghost use Rattle.hdl_parser.specs.Printed.{chip_text};
 
 use crate::lexer::tokens;

@@ -4,7 +4,7 @@ ghost use Rattle.std.specs.Prelude.{◌≡◌, ◌<◌, ◌≤◌, ◌-◌, ◌+
 ghost use Rattle.grammar.specs.Reading.{ParsesBy, PassesBy, Halt};
 ghost use Rattle.grammar.specs.Rules.{option, repeat, listed, NoMore, Leaf};
 ghost use Rattle.hdl_parser.specs.Tokens.{view};
-ghost use Rattle.hdl_parser.specs.Hdl.{hdl, row, width_rule, pin, pins, name, listing, last, range, indices, subscript, selection, source, connection, part, parts, builtin, body, chip};
+ghost use Rattle.hdl_parser.specs.Grammar.{hdl, row, width_rule, pin, pins, name, listing, last, range, indices, subscript, selection, source, connection, part, parts, builtin, body, chip};
 ghost use Rattle.hdl_parser.specs.Trees.{width_tree, pin_tree, pins_tree, row_with, name_leaf, names_tree, last_tree, range_tree, first_bit, indices_tree, subscript_tree, selection_tree, source_tree, connection_tree, connections_tree, part_tree, parts_tree, builtin_tree, body_tree, chip_tree};
 
 use crate::token::{Keyword, Token};

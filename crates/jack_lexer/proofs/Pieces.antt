@@ -11,7 +11,7 @@ use Rattle.grammar.proofs.Runs.{run_text, run_moved}
 use Rattle.jack_tree.specs.declared.token.Kind.{Kind}
 use Rattle.jack_tree.specs.declared.token.Kind.TheVariants.{Integer}
 use Rattle.jack_tree.specs.Tokens.{Word}
-use Rattle.jack_lexer.specs.Cut.{token_of, number_piece, word_piece, word_kind, is_letter, is_name_byte}
+use Rattle.jack_lexer.specs.Tokens.{token_of, number_piece, word_piece, word_kind, is_letter, is_name_byte}
 
 -- a token of a whole run
 run_taken : (test : ℕ → Bool) (kind : Kind) (old new : Scan) (b : ℕ) (w : Word) → first (left old) ≡ Some b → test b ≡ true → left new ≡ behind test (left old) → place new ≡ walk (place old) (front test (left old)) → w.kind ≡ kind → w.text ≡ front test (left old) → w.place ≡ place old → Next (token_of kind (length (front test (left old)) - 1) (left old)) old (Ok (Some w)) new

@@ -6,7 +6,7 @@ ghost use Rattle.scan_text.specs.View.{left, place};
 ghost use Rattle.grammar.specs.Cutting.{TokenBy};
 ghost use Rattle.grammar.specs.Reading.{Gives};
 ghost use Rattle.jack_tree.specs.Tokens.{view, StandIn};
-ghost use Rattle.jack_lexer.specs.Cut.{tokens_of, finish, number_piece, word_piece, text_piece, symbol_piece, is_letter, is_name_byte, is_text_byte, is_sign, word_kind};
+ghost use Rattle.jack_lexer.specs.Tokens.{tokens_of, finish, number_piece, word_piece, text_piece, symbol_piece, is_letter, is_name_byte, is_text_byte, is_sign, word_kind};
 
 use grammar::{Cutter, Fault, ReadError, cut_between_blanks};
 use jack_tree::{Keyword, Kind, Token};
@@ -166,7 +166,7 @@ struct JackTokens;
 
 impl<'a> Cutter<'a> for JackTokens {
     ghost use Rattle.jack_tree.specs.Tokens.{view, Word};
-    ghost use Rattle.jack_lexer.specs.Cut.{piece};
+    ghost use Rattle.jack_lexer.specs.Tokens.{piece};
 
     type Token = Token<'a>;
 

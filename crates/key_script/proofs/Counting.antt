@@ -2,7 +2,7 @@
 use Rattle.std.proofs.Common.{◌≡◌, ℕ, ◌+◌, ◌≤◌, true, List, [], ◌∷◌, ◌++◌, refl, le-leb}
 use Rattle.std.proofs.lemmas.Bool.{and_parts, and_from}
 use Rattle.key_script.specs.declared.lines.Line.{Line}
-use Rattle.key_script.specs.Script.{after_line, after_lines}
+use Rattle.key_script.specs.Grammar.{after_line, after_lines}
 use Rattle.key_script.specs.Codes.{are_rising}
 
 pub after_lines-push : (least : ℕ) (ls : List Line) (l : Line) → after_lines least (ls ++ l ∷ []) ≡ l.moment + 1

@@ -5,7 +5,7 @@ use Rattle.grammar.proofs.Wholes.{one_tree}
 use Rattle.key_script.specs.declared.lines.Line.{Line}
 use Rattle.key_script.specs.declared.token.Kind.TheVariants.{Number}
 use Rattle.key_script.specs.Tokens.{tokens_of, finish}
-use Rattle.key_script.specs.Script.{KeyTree, script, whole, line_tree, lines_tree, script_tree, Spells}
+use Rattle.key_script.specs.Grammar.{KeyTree, script, whole, line_tree, lines_tree, script_tree, Spells}
 
 same_line : (l m : Line) → l.moment ≡ m.moment → l.code ≡ m.code → l ≡ m
 same_line l m a b = λ i. record { moment = a i; code = b i }

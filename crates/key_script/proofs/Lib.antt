@@ -1,4 +1,6 @@
 pub mod Counting
+pub mod Longest
 pub mod Search
 pub mod Exactness
 pub mod Exits
+pub mod Faulty

@@ -1,3 +1,5 @@
 pub mod Tokens
-pub mod Script
+pub mod Faults
+pub mod Grammar
 pub mod Codes
+pub mod OneToken

@@ -4,8 +4,11 @@ ghost use Rattle.std.specs.Prelude.{◌≡◌, ◌<◌, ◌^◌, true, List, [],
 ghost use Rattle.grammar.specs.declared.Fault.{Fault};
 ghost use Rattle.grammar.specs.Reading.{Gives, Halt};
 ghost use Rattle.key_script.specs.Codes.{are_rising, code_at};
-ghost use Rattle.key_script.specs.Script.{Spells, Refuses};
+ghost use Rattle.key_script.specs.Faults.{Because, Gives as GivesKeys};
+ghost use Rattle.key_script.specs.Grammar.{Spells, Stopped, Refuses};
+ghost use Rattle.key_script.specs.declared.fault.KeyFault.{KeyFault};
 
+use crate::fault::KeyError;
 use crate::lexer::tokens;
 use crate::lines::{Line, all_lines};
 use grammar::ReadError;
@@ -55,19 +58,19 @@ impl Keys {
 
 fn read(alloc: Global, text: &[u8]) -> Result<Vec<Line>, ReadError>
     ensures found { IfOk result (λ v. Spells text.now v.items) }
-    ensures fault { IfErr result (Halt (Refuses text.now)) }
+    ensures fault { IfErr result (Halt (Stopped text.now)) }
     ensures rising { IfOk result (λ v. are_rising 0 v.items ≡ true) }
 {
     let (tokens, end) = tokens(alloc, text)?;
     all_lines(alloc, &tokens, end)
 }
 
-// The lines of a text, or its first fault.
+// The lines of a text, or its first fault by the grammar.
 fn read_lines(alloc: Global, text: &[u8]) -> Result<Vec<Line>, ReadError>
     ensures found { IfOk result (λ v. Spells text.now v.items) }
     ensures only { (ls : List Line) → Spells text.now ls → Gives (λ v. v.items) result (Ok ls) }
-    ensures fault { IfErr result (Halt (Refuses text.now)) }
-    ensures exact { (f : Fault) → Refuses text.now f → Gives (λ v. v.items) result (Err f) }
+    ensures fault { IfErr result (Halt (Stopped text.now)) }
+    ensures exact { (f : Fault) → Stopped text.now f → Gives (λ v. v.items) result (Err f) }
     ensures rising { IfOk result (λ v. are_rising 0 v.items ≡ true) }
 {
     read(alloc, text)
@@ -76,13 +79,13 @@ fn read_lines(alloc: Global, text: &[u8]) -> Result<Vec<Line>, ReadError>
 /// The keys of a key script.
 ///
 /// Grammar where a line is not two numbers, Range past a limit, NotRising where a moment is not above the one before.
-pub fn read_keys(alloc: Global, text: &[u8]) -> Result<Keys, ReadError>
+pub fn read_keys(alloc: Global, text: &[u8]) -> Result<Keys, KeyError>
     // What is read is spelled so, and all that is spelled is read, unless memory runs out.
     ensures found { IfOk result (λ k. Spells text.now k) }
-    ensures only { (ls : List Line) → Spells text.now ls → Gives (λ k. k) result (Ok ls) }
+    ensures only { (ls : List Line) → Spells text.now ls → GivesKeys result (Ok ls) }
     // A fault is the text's first one, and each text with a fault gets it.
-    ensures fault { IfErr result (Halt (Refuses text.now)) }
-    ensures exact { (f : Fault) → Refuses text.now f → Gives (λ k. k) result (Err f) }
+    ensures fault { IfErr result (Because (Refuses text.now)) }
+    ensures exact { (f : KeyFault) → Refuses text.now f → GivesKeys result (Err f) }
 {
     let lines = read_lines(alloc, text)?;
     Ok(Keys { lines })

@@ -11,7 +11,7 @@ use Rattle.hdl_tree.specs.declared.tree.Body.TheVariants as body
 use Rattle.hdl_tree.specs.declared.library.Entry.{Entry}
 use Rattle.hdl_tree.specs.declared.library.Library.{Library}
 use Rattle.hdl_tree.specs.Chips.{find_entry}
-use Rattle.hdl_parser.specs.Whole.{Spells}
+use Rattle.hdl_parser.specs.Spells.{Spells}
 use Rattle.source_files.specs.Loads.{Loads, line_of}
 use Rattle.source_files.specs.Sources.{IsFaulty, SpellsAt}
 use Rattle.source_files.specs.declared.error.LoadError.{LoadError}

@@ -6,13 +6,13 @@ use Rattle.scan_text.specs.declared.Place.{Place}
 use Rattle.grammar.specs.Reading.{Halt, memory, fault}
 use Rattle.grammar.specs.declared.ReadError.{ReadError}
 use Rattle.hack_asm.specs.Faults.{Wrong, TooLarge, TooManyVariables}
-use Rattle.hack_asm.specs.Lines.{Line, number, symbol, label, address, compute}
+use Rattle.hack_asm.specs.Trees.{Line, number, symbol, label, address, compute}
 use Rattle.hack_asm.specs.Meaning.{Means, IsRefusal}
 use Rattle.hack_asm.specs.declared.fault.AsmFault.{AsmFault}
 use Rattle.hack_asm.specs.Program.{Table, first_past, if_near, labelled, labels, size, variables, words}
 use Rattle.hack_asm.specs.HackText.{Holds, IsRefusal as IsNoImage, words_of}
 use Rattle.hack_asm.specs.Told.{asm_told}
-use Rattle.hdl_parser.specs.Whole.{Refuses}
+use Rattle.hdl_parser.specs.Spells.{Refuses}
 use Rattle.source_files.specs.Loads.{IsWhy, text_error}
 use Rattle.source_files.specs.declared.error.TextError.{TextError}
 use Rattle.source_files.proofs.Told.{why_told}

@@ -12,7 +12,7 @@ use Rattle.hdl_tree.specs.declared.library.Entry.{Entry}
 use Rattle.hdl_tree.specs.declared.library.Library.{Library}
 use Rattle.hdl_tree.specs.Chips.{find_entry, pin_width}
 use Rattle.hdl_tree.specs.Writable.{all, body_can, chip_can, name_can, pin_can, width_can}
-use Rattle.hdl_parser.specs.Whole.{Spells}
+use Rattle.hdl_parser.specs.Spells.{Spells}
 use Rattle.hdl_parser.proofs.Readable.{spelled_can}
 use Rattle.hack_cpu.specs.Library.{shipped_chips}
 use Rattle.hack_cpu.proofs.Printed.{found_printed}

@@ -10,7 +10,7 @@ use Rattle.hdl_tree.specs.declared.tree.Body.{Body}
 use Rattle.hdl_tree.specs.declared.tree.Body.TheVariants as body
 use Rattle.hdl_tree.specs.declared.library.Entry.{Entry}
 use Rattle.hdl_tree.specs.Chips.{end_of, find_entry, parts_of_body, parts_unless}
-use Rattle.hdl_parser.specs.Whole.{Spells, Refuses}
+use Rattle.hdl_parser.specs.Spells.{Spells, Refuses}
 
 -- where chips are found: the shipped ones, whether the memories are blocks, the files, the folder and the names in it
 pub record Sources : Type 0 where

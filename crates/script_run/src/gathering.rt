@@ -11,7 +11,7 @@ ghost use Rattle.script_run.specs.Inner.Languages.{RefusesHdl};
 ghost use Rattle.script_run.specs.Inner.Sound.{IsSound};
 ghost use Rattle.script_run.specs.Loading.{HasFailed, HasGathered};
 ghost use Rattle.script_run.specs.Setting.{folder_of, setting_of};
-ghost use Rattle.hdl_parser.specs.Whole.{Spells};
+ghost use Rattle.hdl_parser.specs.Spells.{Spells};
 
 use crate::copying::copy_entry;
 use crate::directories::entry_named;

@@ -1,5 +1,5 @@
 //! The languages of the files that a script loads.
-ghost use Rattle.hdl_parser.specs.Whole.{Spells};
+ghost use Rattle.hdl_parser.specs.Spells.{Spells};
 ghost use Rattle.script_run.specs.Inner.Languages.{ReadsWords, RefusesHdl, RefusesWords, SpellsWords, TellsText};
 ghost use Rattle.script_run.specs.Inner.Limits.{hdl_limited, words_limited};
 

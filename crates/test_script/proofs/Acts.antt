@@ -9,7 +9,7 @@ use Rattle.test_script.specs.declared.nesting.Nesting.{Nesting}
 use Rattle.test_script.specs.declared.token.Role.{Role}
 use Rattle.test_script.specs.declared.token.Role.TheVariants as role
 use Rattle.test_script.specs.Tokens.{Word}
-use Rattle.test_script.specs.Script.{script, Part, Said, ScriptRule, next_role, role_is, passes, steps, load_or, file_or, compare_or, list_or, set_or, echo_or, act, load, output_file, compare_to, output_list, setting, echo, load_rom}
+use Rattle.test_script.specs.Grammar.{script, Part, Said, ScriptRule, next_role, role_is, passes, steps, load_or, file_or, compare_or, list_or, set_or, echo_or, act, load, output_file, compare_to, output_list, setting, echo, load_rom}
 
 abbrev R : Place → Nesting → ScriptRule → List Word → Tree Said → Nesting → List Word → Type 0
 R end s r ts x s' us = Reads Word Nesting Part Said (script end) s r ts x s' us

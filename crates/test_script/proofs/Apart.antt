@@ -13,7 +13,7 @@ use Rattle.test_script.specs.declared.token.Role.{Role}
 use Rattle.test_script.specs.declared.token.Role.TheVariants as role
 use Rattle.test_script.specs.declared.token.Kind.{Kind}
 use Rattle.test_script.specs.declared.token.Kind.TheVariants as kind
-use Rattle.test_script.specs.Script.{Said, Fixed, Word', Count, Value, Shown, Text'}
+use Rattle.test_script.specs.Grammar.{Said, Fixed, Word', Count, Value, Shown, Text'}
 use Rattle.test_script.specs.Trees.{Commands, End, Then, Repeat, item_leaf, items_with, act_tree, commands_tree, whole_tree}
 
 -- what stands at a place of a tree, and something where nothing does

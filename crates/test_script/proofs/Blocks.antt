@@ -5,7 +5,7 @@ use Rattle.grammar.specs.Rules.{Tree, Pair, More}
 use Rattle.grammar.proofs.Repeats.{listed-push}
 use Rattle.test_script.specs.declared.tree.Item.{Item}
 use Rattle.test_script.specs.declared.tree.Command as commands
-use Rattle.test_script.specs.Script.{Said}
+use Rattle.test_script.specs.Grammar.{Said}
 use Rattle.test_script.specs.Trees.{Commands, Repeat, with_command, row_commands, commands_of, commands_tree, command_tree, list_tree, repeat_tree, item_leaf, items_with}
 
 with_is : (c : commands.Command) (rest : Commands) → commands_tree (with_command c rest) ≡ More (command_tree c) (commands_tree rest)

@@ -5,3 +5,4 @@ pub mod Blocks
 pub mod Apart
 pub mod WholeTexts
 pub mod RowsTold
+pub mod Longest

@@ -9,7 +9,7 @@ use Rattle.grammar.specs.Reading.{Halt, ParsesAll}
 use Rattle.grammar.proofs.Wholes.{all_spelled, all_refused, one_tree, not_both, first_fault}
 use Rattle.test_script.specs.declared.tree.Command.{Command}
 use Rattle.test_script.specs.Tokens.{Word, tokens_of, finish}
-use Rattle.test_script.specs.Script.{script, whole, outermost}
+use Rattle.test_script.specs.Grammar.{script, whole, outermost}
 use Rattle.test_script.specs.Trees.{Commands, commands_of, whole_tree, Spells, Refuses}
 use Rattle.test_script.proofs.Apart.{apart}
 

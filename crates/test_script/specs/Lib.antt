@@ -1,6 +1,7 @@
 pub mod Tokens
 pub mod Numbers
-pub mod Script
+pub mod Grammar
 pub mod Trees
 pub mod Inner
 pub mod Rows
+pub mod OneToken

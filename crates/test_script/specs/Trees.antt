@@ -14,7 +14,7 @@ use Rattle.test_script.specs.declared.token.Role.{Role}
 use Rattle.test_script.specs.declared.token.Role.TheVariants as role
 use Rattle.test_script.specs.declared.token.Kind.TheVariants as kind
 use Rattle.test_script.specs.Tokens.{tokens_of, finish}
-use Rattle.test_script.specs.Script.{Said, Fixed, Word', Count, Value, Shown, Text', script, whole, outermost}
+use Rattle.test_script.specs.Grammar.{Said, Fixed, Word', Count, Value, Shown, Text', script, whole, outermost}
 
 -- The commands of a script in order: an act, or commands that are repeated, and what follows.
 pub data Commands : Type 0 where

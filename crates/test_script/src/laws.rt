@@ -1,12 +1,18 @@
-//! Laws of the grammar, and small scripts.
+//! Laws of the tokens and of the grammar, and small scripts.
 
 ghost use Rattle.scan_text.specs.declared.Place.{Place};
 ghost use Rattle.grammar.specs.Rules.{IsLawful};
 ghost use Rattle.test_script.specs.declared.nesting.Nesting.{Nesting};
+ghost use Rattle.test_script.specs.OneToken.{CutsLongest};
 ghost use Rattle.test_script.specs.Tokens.{Word};
-ghost use Rattle.test_script.specs.Script.{Part, Said, script};
+ghost use Rattle.test_script.specs.Grammar.{Part, Said, script};
 ghost use Rattle.test_script.specs.Trees.{ReadingLaw};
 ghost use Rattle.test_script.specs.Rows.{RowsLaw};
+
+/// What is cut off is one token, the longest that begins where it begins, and none is missed.
+pub fn longest_law()
+    ensures { CutsLongest }
+{}
 
 /// The table of first tokens is that of the rules, and each named rule takes a token.
 pub fn first_tokens_law()

@@ -11,6 +11,6 @@ mod token;
 mod tree;
 mod words;
 
-pub use laws::{first_tokens_law, reading_law, rows_law};
+pub use laws::{first_tokens_law, longest_law, reading_law, rows_law};
 pub use reading::{Script, ScriptFault, parse_script};
 pub use tree::{Act, Command, Format, Item, Placed, Step};

@@ -1,7 +1,7 @@
 //! What a reader counts from left to right.
 
 ghost use Rattle.std.specs.Prelude.{◌≡◌};
-ghost use Rattle.test_script.specs.Script.{deeper, outermost};
+ghost use Rattle.test_script.specs.Grammar.{deeper, outermost};
 
 use grammar::Fault;
 use scan_text::Place;

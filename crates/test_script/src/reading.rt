@@ -4,7 +4,7 @@ ghost use Rattle.std.specs.Prelude.{◌≡◌, length, map, Ok, Err, IfOk, IfErr
 ghost use Rattle.grammar.specs.declared.Fault.{Fault};
 ghost use Rattle.grammar.specs.Reading.{ParsesAllBy, Halt, Gives, Ends};
 ghost use Rattle.test_script.specs.Tokens.{view};
-ghost use Rattle.test_script.specs.Script.{script, outermost, whole};
+ghost use Rattle.test_script.specs.Grammar.{script, outermost, whole};
 ghost use Rattle.test_script.specs.Trees.{Commands, Refuses, Spells, commands_of, whole_tree};
 
 use crate::lexer::tokens;

@@ -4,7 +4,7 @@ ghost use Rattle.std.specs.Prelude.{◌≡◌, ◌<◌, ◌≤◌, ◌-◌, ◌+
 ghost use Rattle.grammar.specs.Reading.{ParsesBy, PassesBy, Halt};
 ghost use Rattle.grammar.specs.Rules.{name, NoMore};
 ghost use Rattle.test_script.specs.Tokens.{view};
-ghost use Rattle.test_script.specs.Script.{script, act, block, command, commands, compare_to, echo, items, load, load_rom, output_file, output_list, repetition, repetition_parts, setting, times_more};
+ghost use Rattle.test_script.specs.Grammar.{script, act, block, command, commands, compare_to, echo, items, load, load_rom, output_file, output_list, repetition, repetition_parts, setting, times_more};
 ghost use Rattle.test_script.specs.Trees.{act_tree, braced, command_tree, echo_tree, items_with, list_tree, listing_tree, named_tree, parts_tree, rom_tree, setting_tree};
 
 use crate::nesting::{Nesting, deeper};

@@ -6,7 +6,7 @@ ghost use Rattle.grammar.specs.Reading.{Gives, ParsesBy, PassesBy, word_at};
 ghost use Rattle.grammar.specs.Rules.{Leaf, next, here};
 ghost use Rattle.test_script.specs.Tokens.{view, is_text_byte};
 ghost use Rattle.test_script.specs.Numbers.{value_of};
-ghost use Rattle.test_script.specs.Script.{script, Word', Count, Value, Shown, Text', placed_of, fixed, placed, told, counted, valued, shown, free, check_count, check_value, check_item, is_sign, sign_of, is_ender, ender, is_role, begin, is_word, any_word, is_device, device, is_program, program, is_count, count, is_value, value, is_item, item, is_text, text, passes, steps, step, rom, place_in, too_large, times_more, item_laid, number_fault, layout_fault, role_in, next_role, acts, commands_begin};
+ghost use Rattle.test_script.specs.Grammar.{script, Word', Count, Value, Shown, Text', placed_of, fixed, placed, told, counted, valued, shown, free, check_count, check_value, check_item, is_sign, sign_of, is_ender, ender, is_role, begin, is_word, any_word, is_device, device, is_program, program, is_count, count, is_value, value, is_item, item, is_text, text, passes, steps, step, rom, place_in, too_large, times_more, item_laid, number_fault, layout_fault, role_in, next_role, acts, commands_begin};
 ghost use Rattle.test_script.specs.Trees.{step_said};
 ghost use Rattle.test_script.specs.Inner.Fits.{Within};
 

@@ -11,7 +11,7 @@ use Rattle.vm_tree.specs.declared.program.Function.{Function}
 use Rattle.vm_tree.specs.declared.program.File.{File}
 use Rattle.vm_parser.specs.Tokens.{tokens_of, finish}
 use Rattle.vm_parser.specs.Grammar.{Operation', Segment', Name', Number, vm, whole, greatest}
-use Rattle.vm_parser.specs.Files.{VmTree, command_tree, lines_tree, read_line, commands, WrittenFunction, functions_tree, function_of, Opening, opening_tree, opening_of, WrittenFile, file_tree, file_of, Spells, Refuses}
+use Rattle.vm_parser.specs.Trees.{VmTree, command_tree, lines_tree, read_line, commands, WrittenFunction, functions_tree, function_of, Opening, opening_tree, opening_of, WrittenFile, file_tree, file_of, Spells, Refuses}
 
 -- the command of a tree
 abbrev pub command_in : VmTree → Command

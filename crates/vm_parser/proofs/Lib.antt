@@ -9,3 +9,4 @@ pub mod LinesCut
 pub mod Printed
 pub mod Readable
 pub mod Reread
+pub mod Longest

@@ -16,7 +16,7 @@ use Rattle.vm_tree.specs.declared.command.Command.{Command}
 use Rattle.vm_parser.specs.declared.token.Token.{Token}
 use Rattle.vm_parser.specs.Tokens.{Word, view}
 use Rattle.vm_parser.specs.Grammar.{Said, Part, vm, line_end, lines, opening, greatest}
-use Rattle.vm_parser.specs.Files.{VmTree, commands, read_line, empty_lines, lines_tree, opening_tree, opening_of}
+use Rattle.vm_parser.specs.Trees.{VmTree, commands, read_line, empty_lines, lines_tree, opening_tree, opening_of}
 
 pub commands-push : (ls : List (Option Command)) (l : Option Command) → commands (ls ++ l ∷ []) ≡ commands ls ++ commands (l ∷ [])
 commands-push [] l = refl

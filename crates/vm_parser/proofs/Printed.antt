@@ -24,8 +24,8 @@ use Rattle.vm_parser.specs.declared.token.Kind.TheVariants as kind
 use Rattle.vm_parser.specs.Tokens.{Word, made, named, piece, line_end_token, ends, close, finish}
 use Rattle.vm_parser.specs.Grammar as rules
 use Rattle.vm_parser.specs.Grammar.{Said, Number, vm, greatest, most_of, may_come, index, location, line_end, line, lines, opening, whole}
-use Rattle.vm_parser.specs.Files.{command_tree, line_tree, lines_tree, location_tree, commands, WrittenFunction, function_tree, functions_tree, function_of, Opening, opening_tree, opening_of, WrittenFile, file_of, Spells}
-use Rattle.vm_parser.specs.Printing.{all, is_text_of_name, can_be_written, line_can, function_can, opening_can, file_can, read_lines, read_function, read_file}
+use Rattle.vm_parser.specs.Trees.{command_tree, line_tree, lines_tree, location_tree, commands, WrittenFunction, function_tree, functions_tree, function_of, Opening, opening_tree, opening_of, WrittenFile, file_of, Spells}
+use Rattle.vm_parser.specs.Printed.{all, is_text_of_name, can_be_written, line_can, function_can, opening_can, file_can, read_lines, read_function, read_file}
 use Rattle.vm_parser.proofs.Commands.{R, push_read, pop_read, label_read, goto_read, if_goto_read, call_read, return_read}
 use Rattle.grammar.proofs.Entered.{skip, entered}
 use Rattle.vm_parser.proofs.WordsCut.{Item, IsItem, word_item, if_goto_item, number_item, word_is, if_goto_is, number_is}

@@ -16,8 +16,8 @@ use Rattle.vm_parser.specs.declared.token.Role.{Role}
 use Rattle.vm_parser.specs.declared.token.Role.TheVariants as role
 use Rattle.vm_parser.specs.Tokens.{Word, made, piece, line_end_token, ends, close, tokens_of, finish, begins_name, is_name_byte, begins_if_goto, number_piece, name_piece, word_piece, if_goto_piece}
 use Rattle.vm_parser.specs.Grammar.{Said, Number, Part, vm, greatest, may_come, most_of, most_by, name_kind, number_kind, number_of, operation_role, segment_role, role_said, push, pop, label, goto, if_goto, call, command, lines, functions, opening, whole}
-use Rattle.vm_parser.specs.Files.{VmTree, file_of, Spells}
-use Rattle.vm_parser.specs.Printing.{all, is_text_of_name, can_be_written, line_can, function_can, opening_can, file_can}
+use Rattle.vm_parser.specs.Trees.{VmTree, file_of, Spells}
+use Rattle.vm_parser.specs.Printed.{all, is_text_of_name, can_be_written, line_can, function_can, opening_can, file_can}
 use Rattle.vm_parser.proofs.Exactness.{command_in, lines_in, functions_in, opening_in, file_in, file_told}
 
 -- Tokens: a name is a name, and a number is at most 32,767.

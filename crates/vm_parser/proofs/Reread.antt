@@ -6,8 +6,8 @@ use Rattle.vm_tree.specs.Printed.{program_text}
 use Rattle.vm_tree.specs.declared.command.Command.{Command}
 use Rattle.vm_tree.specs.declared.command.Line.{Line}
 use Rattle.vm_tree.specs.declared.program.File.{File}
-use Rattle.vm_parser.specs.Files.{read_line, commands, WrittenFunction, function_of, Opening, opening_of, WrittenFile, file_of, Spells}
-use Rattle.vm_parser.specs.Printing.{all, file_can, read_lines, read_function, read_file}
+use Rattle.vm_parser.specs.Trees.{read_line, commands, WrittenFunction, function_of, Opening, opening_of, WrittenFile, file_of, Spells}
+use Rattle.vm_parser.specs.Printed.{all, file_can, read_lines, read_function, read_file}
 use Rattle.vm_parser.proofs.Readable.{spelled_can}
 use Rattle.std.proofs.lemmas.Bool.{and_parts}
 use Rattle.vm_parser.proofs.Printed.{printed_spells}

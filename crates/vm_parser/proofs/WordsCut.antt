@@ -14,7 +14,7 @@ use Rattle.grammar.specs.Lines.{comment_piece, line_end_piece}
 use Rattle.vm_parser.specs.declared.token.Kind.TheVariants as kind
 use Rattle.vm_parser.specs.declared.token.Role.TheVariants as role
 use Rattle.vm_parser.specs.Tokens.{Word, made, named, line_end_token, piece, begins_name, is_name_byte, begins_if_goto, number_piece, word_piece, name_piece, if_goto_piece}
-use Rattle.vm_parser.specs.Printing.{all, is_text_of_name}
+use Rattle.vm_parser.specs.Printed.{all, is_text_of_name}
 
 -- the bytes behind a word: a space or a line feed
 abbrev pub stops : ℕ → Bool

@@ -1,6 +1,7 @@
 pub mod Roles
 pub mod Tokens
 pub mod Grammar
-pub mod Files
+pub mod Trees
 pub mod Reading
-pub mod Printing
+pub mod Printed
+pub mod OneToken

@@ -10,7 +10,7 @@ use Rattle.vm_parser.specs.declared.token.Role.TheVariants as role
 use Rattle.vm_parser.specs.declared.token.Token as declared
 use Rattle.vm_parser.specs.Tokens.{Word, view, ends_line}
 use Rattle.vm_parser.specs.Grammar.{Said, Part, vm, greatest}
-use Rattle.vm_parser.specs.Files.{VmTree}
+use Rattle.vm_parser.specs.Trees.{VmTree}
 
 -- what the next word can be in a command
 abbrev pub role_next : List Word → Role

@@ -8,5 +8,5 @@ mod rules;
 mod token;
 mod words;
 
-pub use laws::{printed_law, reading_law};
+pub use laws::{longest_law, printed_law, reading_law};
 pub use reading::{VmFault, parse, parse_file};

@@ -1,7 +1,7 @@
 -- One line of each pass.
 use Rattle.std.specs.Prelude.{ℕ, ◌+◌, Option, Some, None, Result, Ok, Err, if◌then◌else◌, is_some}
 use Rattle.hack_asm.specs.Faults.{Wrong, LabelTwice}
-use Rattle.hack_asm.specs.Lines.{Line, label, address, compute, Symbol}
+use Rattle.hack_asm.specs.Trees.{Line, label, address, compute, Symbol}
 use Rattle.hack_asm.specs.Program.{Table, address_in, with_entry, used}
 
 abbrev pub enter_line : Line → ℕ → Table → Result (ℕ × Table) Wrong

@@ -7,7 +7,7 @@ use Rattle.grammar.specs.Faults.{fault_told}
 use Rattle.hdl_tree.specs.declared.tree.Chip.{Chip}
 use Rattle.hdl_tree.specs.declared.library.Entry.{Entry}
 use Rattle.hdl_tree.specs.Chips.{find_entry}
-use Rattle.hdl_parser.specs.Whole.{Refuses}
+use Rattle.hdl_parser.specs.Spells.{Refuses}
 use Rattle.script_run.specs.declared.gathering.Places.{Places}
 use Rattle.script_run.specs.declared.gathering.Origin.{Origin}
 use Rattle.script_run.specs.declared.gathering.Origin.TheVariants.{File, Shipped}

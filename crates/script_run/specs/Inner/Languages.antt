@@ -13,7 +13,7 @@ use Rattle.hack_asm.specs.Meaning.{Means, IsRefusal as IsNoAssembly}
 use Rattle.hack_asm.specs.HackText.{Holds, IsRefusal as IsNoImage}
 use Rattle.hack_asm.specs.Told.{asm_told}
 use Rattle.hack_asm.specs.declared.fault.AsmFault.{AsmFault}
-use Rattle.hdl_parser.specs.Whole.{Refuses as RefusesChip}
+use Rattle.hdl_parser.specs.Spells.{Refuses as RefusesChip}
 use Rattle.script_run.specs.declared.languages.Form.{Form}
 use Rattle.script_run.specs.declared.languages.Form.TheVariants.{Assembly, Image}
 

@@ -6,7 +6,7 @@ use Rattle.grammar.specs.Reading.{Halt}
 use Rattle.grammar.proofs.Wholes.{not_cut, not_read}
 use Rattle.hack_asm.specs.declared.token.Token.{Token}
 use Rattle.hack_asm.specs.Tokens.{Word, view, tokens_of, finish}
-use Rattle.hack_asm.specs.Assembly.{Said, assembly, whole}
+use Rattle.hack_asm.specs.Grammar.{Said, assembly, whole}
 use Rattle.hack_asm.proofs.Meanings.{refusal}
 use Rattle.hack_asm.proofs.assembling.assemble_text.Goals as goal
 

@@ -1,5 +1,5 @@
 use Rattle.std.proofs.Common.{◌≡◌, ◌+◌, ◌≤◌, drop, map}
-use Rattle.hack_asm.specs.Lines.{line_of}
+use Rattle.hack_asm.specs.Trees.{line_of}
 use Rattle.hack_asm.specs.Program.{size}
 use Rattle.hack_asm.proofs.program.size.Given as goal
 

@@ -1,5 +1,5 @@
 use Rattle.std.proofs.Common.{◌≡◌, ◌≤◌, ◌+◌, drop, map}
-use Rattle.hack_asm.specs.Lines.{line_of}
+use Rattle.hack_asm.specs.Trees.{line_of}
 use Rattle.hack_asm.specs.Program.{variables}
 use Rattle.hack_asm.specs.Entered.{table_of}
 use Rattle.hack_asm.proofs.program.variables.Given as goal

@@ -2,13 +2,13 @@ use Rattle.std.proofs.Common.{◌≡◌, ◌<◌, length, refl, map, arith, drop
 use Rattle.std.proofs.lemmas.Result.{err_from_is_err_and}
 use Rattle.grammar.proofs.Repeats.{Along-more}
 use Rattle.hack_asm.specs.Tokens.{view}
-use Rattle.hack_asm.specs.Assembly.{assembly, line}
-use Rattle.hack_asm.specs.Lines.{line_of, line_tree}
+use Rattle.hack_asm.specs.Grammar.{assembly, line}
+use Rattle.hack_asm.specs.Trees.{line_of, line_tree}
 use Rattle.hack_asm.proofs.reading.all_lines.Goals as goal
 use Rattle.std.proofs.lemmas.List.{map-append}
 use Rattle.grammar.specs.Reading.{memory}
 use Rattle.hack_asm.specs.Tokens.{Word}
-use Rattle.hack_asm.specs.Assembly.{Said}
+use Rattle.hack_asm.specs.Grammar.{Said}
 use Rattle.grammar.proofs.Entered.{entered}
 use Rattle.hack_asm.proofs.Whole.{line_stops, all_read}
 

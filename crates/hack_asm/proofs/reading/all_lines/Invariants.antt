@@ -1,8 +1,8 @@
 use Rattle.std.proofs.Common.{◌≤◌, ◌-◌, length, map, drop}
 use Rattle.grammar.proofs.Repeats.{Along}
 use Rattle.hack_asm.specs.Tokens.{Word, view}
-use Rattle.hack_asm.specs.Assembly.{Said, assembly, line}
-use Rattle.hack_asm.specs.Lines.{Line, line_of, line_tree}
+use Rattle.hack_asm.specs.Grammar.{Said, assembly, line}
+use Rattle.hack_asm.specs.Trees.{Line, line_of, line_tree}
 use Rattle.hack_asm.proofs.reading.all_lines.Given as goal
 
 abbrev pub invariant-lines : goal.invariant-lines

@@ -1,8 +1,8 @@
 use Rattle.std.proofs.Common.{List, subst, drop, map, arith, length-drop}
 use Rattle.hack_asm.specs.declared.token.Token.{Token}
 use Rattle.hack_asm.specs.Tokens.{Word, view}
-use Rattle.hack_asm.specs.Assembly.{line}
-use Rattle.hack_asm.specs.Lines.{line_of, line_tree}
+use Rattle.hack_asm.specs.Grammar.{line}
+use Rattle.hack_asm.specs.Trees.{line_of, line_tree}
 use Rattle.hack_asm.proofs.Letters.{R}
 use Rattle.hack_asm.proofs.Whole.{line_shorter, line_next, from_on}
 use Rattle.hack_asm.proofs.reading.line_at.Goals as goal

@@ -2,7 +2,7 @@ use Rattle.std.proofs.Common.{sym, refl}
 use Rattle.std.proofs.lemmas.Result.{err_from_is_err_and}
 use Rattle.grammar.proofs.Steps.{halt}
 use Rattle.hack_asm.proofs.Letters.{with_letter, with_letter_stops, without_letter, without_letter_stops, to_register, to_register_stops, operated_after, operated_after_stops, none_after}
-use Rattle.hack_asm.specs.Assembly.{unary, after_letter}
+use Rattle.hack_asm.specs.Grammar.{unary, after_letter}
 use Rattle.hack_asm.proofs.rules.bare.Goals as goal
 
 pub returns-in_err-prefix : goal.returns-in_err-prefix

@@ -2,11 +2,11 @@ use Rattle.std.proofs.Common.{sym, refl}
 use Rattle.std.proofs.lemmas.Result.{err_from_is_err_and}
 use Rattle.grammar.specs.Rules.{passed, taken, in_option}
 use Rattle.grammar.proofs.Steps.{halt}
-use Rattle.hack_asm.specs.Assembly.{assembly}
+use Rattle.hack_asm.specs.Grammar.{assembly}
 use Rattle.hack_asm.proofs.Letters.{with_letter, with_letter_stops, without_letter, without_letter_stops}
-use Rattle.hack_asm.specs.Assembly.{unary, maybe_operation}
+use Rattle.hack_asm.specs.Grammar.{unary, maybe_operation}
 use Rattle.hack_asm.specs.Tokens.{Word}
-use Rattle.hack_asm.specs.Assembly.{Said}
+use Rattle.hack_asm.specs.Grammar.{Said}
 use Rattle.grammar.proofs.Entered.{entered}
 use Rattle.hack_asm.proofs.rules.comp.Goals as goal
 

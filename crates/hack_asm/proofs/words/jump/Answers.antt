@@ -1,6 +1,6 @@
 use Rattle.grammar.proofs.Steps.{ParsesBy-word}
 use Rattle.hack_asm.specs.Tokens.{view}
-use Rattle.hack_asm.specs.Assembly.{assembly, Jump, is_jump, free, meant}
+use Rattle.hack_asm.specs.Grammar.{assembly, Jump, is_jump, free, meant}
 use Rattle.hack_asm.proofs.words.jump.Goals as goal
 
 pub returns : goal.returns

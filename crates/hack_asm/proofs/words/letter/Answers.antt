@@ -1,6 +1,6 @@
 use Rattle.grammar.proofs.Steps.{ParsesBy-word}
 use Rattle.hack_asm.specs.Tokens.{view}
-use Rattle.hack_asm.specs.Assembly.{assembly, Letter', is_letter, free, meant}
+use Rattle.hack_asm.specs.Grammar.{assembly, Letter', is_letter, free, meant}
 use Rattle.hack_asm.specs.Before.{suits}
 use Rattle.hack_asm.proofs.words.letter.Goals as goal
 

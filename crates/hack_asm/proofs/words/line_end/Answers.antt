@@ -1,6 +1,6 @@
 use Rattle.grammar.proofs.Steps.{PassesBy-mark}
 use Rattle.hack_asm.specs.Tokens.{view}
-use Rattle.hack_asm.specs.Assembly.{assembly, LineEnd, is_line_end}
+use Rattle.hack_asm.specs.Grammar.{assembly, LineEnd, is_line_end}
 use Rattle.hack_asm.proofs.words.line_end.Goals as goal
 
 pub returns : goal.returns

@@ -1,6 +1,6 @@
 use Rattle.grammar.proofs.Steps.{ParsesBy-word}
 use Rattle.hack_asm.specs.Tokens.{view}
-use Rattle.hack_asm.specs.Assembly.{assembly, Number, is_number, free, number}
+use Rattle.hack_asm.specs.Grammar.{assembly, Number, is_number, free, number}
 use Rattle.hack_asm.proofs.words.number.Goals as goal
 
 pub returns : goal.returns

@@ -1,6 +1,6 @@
 use Rattle.grammar.proofs.Steps.{PassesBy-mark}
 use Rattle.hack_asm.specs.Tokens.{view}
-use Rattle.hack_asm.specs.Assembly.{assembly, Sign, is_sign}
+use Rattle.hack_asm.specs.Grammar.{assembly, Sign, is_sign}
 use Rattle.hack_asm.proofs.words.sign.Goals as goal
 
 pub returns : goal.returns

@@ -1,6 +1,6 @@
 use Rattle.grammar.proofs.Steps.{ParsesBy-word}
 use Rattle.hack_asm.specs.Tokens.{view}
-use Rattle.hack_asm.specs.Assembly.{assembly, Name, is_symbol, free, name}
+use Rattle.hack_asm.specs.Grammar.{assembly, Name, is_symbol, free, name}
 use Rattle.hack_asm.specs.declared.lines.Symbol.{Symbol}
 use Rattle.hack_asm.proofs.words.symbol.Goals as goal
 

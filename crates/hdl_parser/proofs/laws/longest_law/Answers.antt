@@ -1,5 +1,8 @@
-use Rattle.hdl_parser.proofs.Longest.{longest}
+use Rattle.hdl_parser.proofs.Longest.{cuts_longest, misses_none}
 use Rattle.hdl_parser.proofs.laws.longest_law.Goals as goal
 
-pub returns : goal.returns
-returns c = longest
+pub returns-clause-longest : goal.returns-clause-longest
+returns-clause-longest c = cuts_longest
+
+pub returns-clause-all : goal.returns-clause-all
+returns-clause-all c = misses_none

@@ -1,5 +1,5 @@
-use Rattle.hdl_parser.proofs.Shown.{shows_both, shows_mark, shows_word}
+use Rattle.grammar.proofs.Shown.{shows_both, shows_mark, shows_word}
 use Rattle.hdl_parser.proofs.printing.put_builtin.Goals as goal
 
-pub returns-clause-shows : goal.returns-clause-shows
-returns-clause-shows g c = shows_both (shows_mark c.put_keyword-begun.ensures.writes) (shows_both (shows_word c.put_name-named.ensures.writes) (shows_both (shows_mark c.put_symbol-closed.ensures.writes) c.put_clocked.ensures.shows))
+pub returns : goal.returns
+returns g c = shows_both (shows_mark c.put_keyword-begun.ensures) (shows_both (shows_word c.put_name-named.ensures) (shows_both (shows_mark c.put_symbol-closed.ensures) c.put_clocked.ensures))

@@ -1,5 +1,5 @@
-use Rattle.hdl_parser.proofs.Shown.{shows_both, shows_word}
+use Rattle.grammar.proofs.Shown.{shows_both, shows_word}
 use Rattle.hdl_parser.proofs.printing.put_pin.Goals as goal
 
-pub returns-clause-shows : goal.returns-clause-shows
-returns-clause-shows g c = shows_both (shows_word c.put_name-named.ensures.writes) c.put_width.ensures.shows
+pub returns : goal.returns
+returns g c = shows_both (shows_word c.put_name-named.ensures) c.put_width.ensures

@@ -1,5 +1,5 @@
 use Rattle.grammar.proofs.Exact.{only, exact}
-use Rattle.hdl_parser.specs.Whole.{Spells, Refuses}
+use Rattle.hdl_parser.specs.Spells.{Spells, Refuses}
 use Rattle.hdl_parser.proofs.Readable.{read_can, read_again}
 use Rattle.hdl_parser.proofs.Readings.{one_chip, no_fault, one_fault}
 use Rattle.hdl_parser.proofs.reading.parse.Goals as goal

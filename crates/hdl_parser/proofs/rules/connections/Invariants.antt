@@ -2,7 +2,7 @@ use Rattle.std.proofs.Common.{◌<◌, ◌≤◌, ℕ, length, map}
 use Rattle.grammar.specs.Rules.{repeat}
 use Rattle.grammar.proofs.Continues.{Continues}
 use Rattle.hdl_parser.specs.Tokens.{Word, view}
-use Rattle.hdl_parser.specs.Hdl.{hdl, Said, row, next_of, connection}
+use Rattle.hdl_parser.specs.Grammar.{hdl, Said, row, next_of, connection}
 use Rattle.hdl_parser.specs.Trees.{row_with, connection_tree}
 use Rattle.hdl_parser.proofs.rules.connections.Given as goal
 

@@ -3,7 +3,7 @@ use Rattle.std.proofs.lemmas.Result.{err_from_is_err_and}
 use Rattle.grammar.specs.Rules.{ended}
 use Rattle.grammar.proofs.Repeats.{Along-start, Along-more, Along-ended, Along-halts}
 use Rattle.grammar.proofs.Exits.{halt_repeat}
-use Rattle.hdl_parser.specs.Hdl.{hdl, part}
+use Rattle.hdl_parser.specs.Grammar.{hdl, part}
 use Rattle.hdl_parser.specs.Trees.{part_tree}
 use Rattle.hdl_parser.proofs.rules.part_list.Goals as goal
 

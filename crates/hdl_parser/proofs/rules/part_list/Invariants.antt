@@ -2,7 +2,7 @@ use Rattle.std.proofs.Common.{◌≤◌, ℕ, length, map}
 use Rattle.grammar.proofs.Repeats.{Along}
 use Rattle.hdl_tree.specs.declared.tree.Part.{Part}
 use Rattle.hdl_parser.specs.Tokens.{Word, view}
-use Rattle.hdl_parser.specs.Hdl.{hdl, Said, part}
+use Rattle.hdl_parser.specs.Grammar.{hdl, Said, part}
 use Rattle.hdl_parser.specs.Trees.{part_tree}
 use Rattle.hdl_parser.proofs.rules.part_list.Given as goal
 

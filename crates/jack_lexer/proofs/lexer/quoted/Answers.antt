@@ -2,7 +2,7 @@ use Rattle.std.proofs.Common.{◌≡◌, ℕ, ◌+◌, ◌-◌, ◌<◌, List, l
 use Rattle.std.specs.Prelude.{slice_index}
 use Rattle.scan_text.specs.Text.{front}
 use Rattle.scan_text.specs.View.{left}
-use Rattle.jack_lexer.specs.Cut.{is_text_byte}
+use Rattle.jack_lexer.specs.Tokens.{is_text_byte}
 use Rattle.jack_lexer.proofs.Ascii.{quoted_ascii}
 use Rattle.jack_lexer.proofs.lexer.quoted.Goals as goal
 

@@ -1,6 +1,6 @@
 use Rattle.std.proofs.Common.{◌≡◌, ◌+◌, length}
 use Rattle.scan_text.specs.Text.{front}
-use Rattle.jack_lexer.specs.Cut.{is_text_byte}
+use Rattle.jack_lexer.specs.Tokens.{is_text_byte}
 use Rattle.jack_lexer.proofs.lexer.text_len.Given as goal
 
 abbrev pub invariant-loop-byte : goal.invariant-loop-byte

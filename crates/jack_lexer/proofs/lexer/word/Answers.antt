@@ -1,6 +1,6 @@
 use Rattle.scan_text.specs.View.{left}
 use Rattle.std.proofs.Common.{rules, ap, ◌∙◌}
-use Rattle.jack_lexer.specs.Cut.{is_name_byte, word_kind}
+use Rattle.jack_lexer.specs.Tokens.{is_name_byte, word_kind}
 use Rattle.jack_lexer.proofs.Pieces.{word_taken}
 use Rattle.jack_lexer.proofs.Ascii.{name_ascii}
 use Rattle.jack_lexer.proofs.lexer.word.Goals as goal

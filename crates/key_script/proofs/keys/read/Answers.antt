@@ -5,7 +5,7 @@ use Rattle.grammar.specs.Reading.{ParsesAll}
 use Rattle.scan_text.specs.declared.Place.{Place}
 use Rattle.key_script.specs.declared.lines.Line.{Line}
 use Rattle.key_script.specs.Tokens.{tokens_of, finish}
-use Rattle.key_script.specs.Script.{script, whole, script_tree, after_lines}
+use Rattle.key_script.specs.Grammar.{script, whole, script_tree, after_lines}
 use Rattle.key_script.proofs.keys.read.Goals as goal
 
 pub returns-in_err-tokens-clause-fault : goal.returns-in_err-tokens-clause-fault

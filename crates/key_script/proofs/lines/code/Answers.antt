@@ -1,6 +1,6 @@
 use Rattle.grammar.proofs.Steps.{Parses-read}
 use Rattle.key_script.specs.declared.token.Kind.TheVariants.{Number}
-use Rattle.key_script.specs.Script.{script, has_number, check_code, said}
+use Rattle.key_script.specs.Grammar.{script, has_number, check_code, said}
 use Rattle.key_script.proofs.lines.code.Goals as goal
 
 pub returns : goal.returns

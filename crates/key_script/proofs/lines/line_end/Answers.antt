@@ -1,7 +1,7 @@
 use Rattle.grammar.proofs.Steps.{Passes-mark}
 use Rattle.key_script.specs.declared.token.Kind.TheVariants.{LineEnd}
 use Rattle.key_script.specs.Tokens.{ends_line}
-use Rattle.key_script.specs.Script.{script}
+use Rattle.key_script.specs.Grammar.{script}
 use Rattle.key_script.proofs.lines.line_end.Goals as goal
 
 pub returns : goal.returns

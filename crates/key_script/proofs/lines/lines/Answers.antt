@@ -2,7 +2,7 @@ use Rattle.std.proofs.Common.{◌≤◌, sym, ◌∙◌, refl, arith}
 use Rattle.std.proofs.lemmas.Result.{err_from_is_err_and}
 use Rattle.grammar.proofs.Repeats.{Along-more, Along-ended, Along-halts}
 use Rattle.grammar.proofs.Lengths.{shorter}
-use Rattle.key_script.specs.Script.{script, line, line_tree, after_lines}
+use Rattle.key_script.specs.Grammar.{script, line, line_tree, after_lines}
 use Rattle.key_script.proofs.Counting.{after_lines-push, are_rising-push}
 use Rattle.key_script.proofs.lines.lines.Goals as goal
 

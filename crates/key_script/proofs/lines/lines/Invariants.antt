@@ -4,7 +4,7 @@ use Rattle.key_script.specs.declared.token.Token.{Token}
 use Rattle.key_script.specs.declared.lines.Line.{Line}
 use Rattle.key_script.specs.declared.token.Kind.{Kind}
 use Rattle.key_script.specs.Codes.{are_rising}
-use Rattle.key_script.specs.Script.{script, line, line_tree, after_lines}
+use Rattle.key_script.specs.Grammar.{script, line, line_tree, after_lines}
 use Rattle.key_script.proofs.lines.lines.Given as goal
 
 abbrev pub invariant-lines : goal.invariant-lines

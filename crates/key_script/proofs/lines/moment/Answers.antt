@@ -1,7 +1,7 @@
 use Rattle.std.proofs.Common.{◌+◌}
 use Rattle.grammar.proofs.Steps.{Parses-read}
 use Rattle.key_script.specs.declared.token.Kind.TheVariants.{Number}
-use Rattle.key_script.specs.Script.{script, has_number, check_moment, said}
+use Rattle.key_script.specs.Grammar.{script, has_number, check_moment, said}
 use Rattle.key_script.proofs.lines.moment.Goals as goal
 
 pub returns-clause-reads : goal.returns-clause-reads

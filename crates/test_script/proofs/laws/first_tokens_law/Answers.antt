@@ -1,7 +1,7 @@
 use Rattle.std.proofs.Common.{◌≡◌, false, refl}
 use Rattle.grammar.specs.Rules.{begins, is_empty}
 use Rattle.test_script.specs.Tokens.{Word}
-use Rattle.test_script.specs.Script.{Part, command, rule_of, opens}
+use Rattle.test_script.specs.Grammar.{Part, command, rule_of, opens}
 use Rattle.test_script.proofs.laws.first_tokens_law.Goals as goal
 
 firsts : (n : Part) (t : Word) → opens n t ≡ begins opens (rule_of n) t

@@ -6,7 +6,7 @@ use Rattle.grammar.proofs.Repeats.{Along-start, Along-more, Along-ended, Along-h
 use Rattle.grammar.proofs.Exits.{halt_first, halt_second, halt_repeat, halt_name, halt_left, halt_right, halt_within_at, halt_too_far, inside_at}
 use Rattle.test_script.specs.declared.nesting.Nesting.{Nesting}
 use Rattle.test_script.specs.Tokens.{Word, view}
-use Rattle.test_script.specs.Script.{script, Part, Said, command, repetition_parts}
+use Rattle.test_script.specs.Grammar.{script, Part, Said, command, repetition_parts}
 use Rattle.test_script.specs.Trees.{command_tree, list_tree, parts_tree}
 use Rattle.test_script.proofs.Blocks.{repeat_is}
 use Rattle.test_script.proofs.rules.+commands.Goals as goal

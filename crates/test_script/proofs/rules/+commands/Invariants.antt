@@ -4,7 +4,7 @@ use Rattle.grammar.proofs.Repeats.{Along}
 use Rattle.test_script.specs.declared.tree.Command.{Command}
 use Rattle.test_script.specs.declared.nesting.Nesting.{Nesting}
 use Rattle.test_script.specs.Tokens.{Word, view}
-use Rattle.test_script.specs.Script.{script, Part, Said, command}
+use Rattle.test_script.specs.Grammar.{script, Part, Said, command}
 use Rattle.test_script.specs.Trees.{command_tree}
 use Rattle.test_script.proofs.rules.+commands.Given as goal
 

@@ -4,7 +4,7 @@ use Rattle.grammar.specs.Rules.{left, neither}
 use Rattle.grammar.specs.Reading.{fault}
 use Rattle.grammar.proofs.Exits.{halt_left}
 use Rattle.test_script.specs.Tokens.{view}
-use Rattle.test_script.specs.Script.{steps, load_or}
+use Rattle.test_script.specs.Grammar.{steps, load_or}
 use Rattle.test_script.proofs.Acts.{by_role, role_next, no_act}
 use Rattle.test_script.proofs.rules.act.Goals as goal
 

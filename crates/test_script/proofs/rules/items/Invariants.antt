@@ -3,7 +3,7 @@ use Rattle.grammar.specs.Rules.{repeat}
 use Rattle.grammar.proofs.Continues.{Continues}
 use Rattle.test_script.specs.declared.nesting.Nesting.{Nesting}
 use Rattle.test_script.specs.Tokens.{Word, view}
-use Rattle.test_script.specs.Script.{script, Part, Said, items, item}
+use Rattle.test_script.specs.Grammar.{script, Part, Said, items, item}
 use Rattle.test_script.specs.Trees.{items_with}
 use Rattle.test_script.proofs.rules.items.Given as goal
 

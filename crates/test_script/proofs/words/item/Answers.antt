@@ -1,6 +1,6 @@
 use Rattle.grammar.proofs.Steps.{ParsesBy-word}
 use Rattle.test_script.specs.Tokens.{view}
-use Rattle.test_script.specs.Script.{script, is_item, check_item, shown, Shown}
+use Rattle.test_script.specs.Grammar.{script, is_item, check_item, shown, Shown}
 use Rattle.test_script.proofs.words.item.Goals as goal
 
 pub returns-clause-reads : goal.returns-clause-reads

@@ -2,7 +2,7 @@ use Rattle.grammar.proofs.Exact.{only, exact}
 use Rattle.grammar.proofs.Wholes.{first_fault}
 use Rattle.vm_parser.specs.Tokens.{tokens_of, finish}
 use Rattle.vm_parser.specs.Grammar.{vm, whole, greatest}
-use Rattle.vm_parser.specs.Files.{Spells, Refuses}
+use Rattle.vm_parser.specs.Trees.{Spells, Refuses}
 use Rattle.vm_parser.proofs.Exactness.{spelled_once, not_both}
 use Rattle.vm_parser.proofs.Reread.{read_can, read_again}
 use Rattle.vm_parser.proofs.reading.parse.Goals as goal

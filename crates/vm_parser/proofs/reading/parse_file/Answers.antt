@@ -3,7 +3,7 @@ use Rattle.std.proofs.lemmas.Result.{err_from_is_err_and}
 use Rattle.std.specs.Prelude.{IfOk}
 use Rattle.grammar.proofs.Wholes.{not_cut}
 use Rattle.vm_parser.specs.Tokens.{view}
-use Rattle.vm_parser.specs.Files.{Spells}
+use Rattle.vm_parser.specs.Trees.{Spells}
 use Rattle.vm_parser.proofs.Wholes.{fault_in, found_in}
 use Rattle.vm_parser.proofs.reading.parse_file.Goals as goal
 

@@ -5,7 +5,7 @@ use Rattle.grammar.specs.Rules.{ended}
 use Rattle.grammar.proofs.Repeats.{Along-start, Along-more, Along-ended, Along-halts}
 use Rattle.grammar.proofs.Exits.{halt_repeat}
 use Rattle.vm_parser.specs.Grammar.{vm, function, greatest}
-use Rattle.vm_parser.specs.Files.{function_tree, function_of}
+use Rattle.vm_parser.specs.Trees.{function_tree, function_of}
 use Rattle.vm_parser.proofs.Lines.{fewer}
 use Rattle.vm_parser.proofs.rules.functions.Goals as goal
 

@@ -2,7 +2,7 @@ use Rattle.std.proofs.Common.{◌≡◌, length, ℕ, map, List}
 use Rattle.grammar.proofs.Repeats.{Along}
 use Rattle.vm_parser.specs.Tokens.{Word, view}
 use Rattle.vm_parser.specs.Grammar.{Said, vm, function, greatest}
-use Rattle.vm_parser.specs.Files.{WrittenFunction, function_tree, function_of}
+use Rattle.vm_parser.specs.Trees.{WrittenFunction, function_tree, function_of}
 use Rattle.vm_parser.proofs.rules.functions.Given as goal
 
 abbrev pub invariant-functions : goal.invariant-functions

@@ -5,7 +5,7 @@ use Rattle.grammar.specs.Reading.{memory}
 use Rattle.grammar.proofs.Repeats.{Along-start, Along-more, Along-ended, Along-halts}
 use Rattle.grammar.proofs.Exits.{halt_repeat}
 use Rattle.vm_parser.specs.Grammar.{vm, line, greatest}
-use Rattle.vm_parser.specs.Files.{line_tree, commands}
+use Rattle.vm_parser.specs.Trees.{line_tree, commands}
 use Rattle.vm_parser.proofs.Commands.{line_enters}
 use Rattle.vm_parser.proofs.Lines.{commands-push, fewer}
 use Rattle.vm_parser.proofs.rules.lines.Goals as goal

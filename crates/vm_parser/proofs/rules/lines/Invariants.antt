@@ -4,7 +4,7 @@ use Rattle.grammar.proofs.Repeats.{Along}
 use Rattle.vm_tree.specs.declared.command.Command.{Command}
 use Rattle.vm_parser.specs.Tokens.{Word, view}
 use Rattle.vm_parser.specs.Grammar.{Said, vm, line, greatest}
-use Rattle.vm_parser.specs.Files.{line_tree, commands}
+use Rattle.vm_parser.specs.Trees.{line_tree, commands}
 use Rattle.vm_parser.proofs.rules.lines.Given as goal
 
 abbrev pub invariant-lines : goal.invariant-lines

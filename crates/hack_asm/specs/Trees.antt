@@ -5,7 +5,7 @@ use Rattle.grammar.specs.declared.Fault.{Fault}
 use Rattle.grammar.specs.Rules.{Tree, Skip, Leaf, Pair, Left, Right, Absent, Present, NoMore, listed}
 use Rattle.grammar.specs.Texts.{Spelled, Refused}
 use Rattle.hack_asm.specs.Tokens.{tokens_of, finish}
-use Rattle.hack_asm.specs.Assembly.{Said, Letter', Operator', Several, Jump, Number, Name, assembly, whole}
+use Rattle.hack_asm.specs.Grammar.{Said, Letter', Operator', Several, Jump, Number, Name, assembly, whole}
 use Rattle.hack_asm.specs.declared.token.Letter.{Letter}
 use Rattle.hack_asm.specs.declared.token.Letter.TheVariants.{Zero, One, A, D, M}
 use Rattle.hack_asm.specs.declared.token.Operator.{Operator}

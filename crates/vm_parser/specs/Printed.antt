@@ -7,7 +7,7 @@ use Rattle.vm_tree.specs.declared.program.Function.{Function}
 use Rattle.vm_tree.specs.declared.program.File.{File}
 use Rattle.vm_parser.specs.Tokens.{begins_name, is_name_byte}
 use Rattle.vm_parser.specs.Grammar.{may_come, most_of, greatest}
-use Rattle.vm_parser.specs.Files.{read_line}
+use Rattle.vm_parser.specs.Trees.{read_line}
 
 abbrev pub all : {A : Type 0} → (A → Bool) → List A → Bool
 all test [] = true

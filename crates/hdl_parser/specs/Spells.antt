@@ -5,7 +5,7 @@ use Rattle.grammar.specs.Rules.{Tree, Pair, Skip}
 use Rattle.grammar.specs.Texts.{Spelled, Refused, OneReading}
 use Rattle.hdl_tree.specs.declared.tree.Chip.{Chip}
 use Rattle.hdl_parser.specs.Tokens.{tokens_of, finish}
-use Rattle.hdl_parser.specs.Hdl.{hdl, Said, whole}
+use Rattle.hdl_parser.specs.Grammar.{hdl, Said, whole}
 use Rattle.hdl_parser.specs.Trees.{chip_tree}
 
 -- the tree of a whole text
