@@ -6,7 +6,7 @@ use Rattle.jack_tree.specs.declared.tree.Term.{Term}
 use Rattle.jack_tree.specs.declared.tree.Operation.{Operation}
 use Rattle.jack_tree.specs.declared.tree.Call.{Call, Call', Call-F, out-Call, roll-Call, out-roll-Call, outs-Call', Row_of-Expression, end_of-Expression, more_of-Expression, items-the_row-Expression, items_shown-the_row-Expression-0}
 use Rattle.jack_tree.specs.declared.tree.Expression.{Expression, Expression', Expression-F, out-Expression, roll-Expression, out-roll-Expression, outs-Expression', Row_of-Operation, end_of-Operation, more_of-Operation, items-the_row-Operation, items_shown-the_row-Operation-1}
-use Rattle.jack_parser.specs.Jack.{Said}
+use Rattle.jack_parser.specs.Grammar.{Said}
 use Rattle.jack_parser.specs.Trees.{exp_tree, term_tree, rest_of, operator_said, operation_tree, operations_tree, args_of, more_of, argument_tree, next_tree, list_with, args_tree, call_said, front_said, invoked_by, invoked_tree}
 
 pub list_with-push : (es : List Expression) (e : Expression) (x : Tree Said) → 1 ≤ length es → list_with (es ++ e ∷ []) x ≡ list_with es (More (next_tree e) x)

@@ -5,10 +5,11 @@ use Rattle.scan_text.specs.declared.Place.{Place}
 use Rattle.scan_text.specs.Text.{start}
 use Rattle.grammar.specs.declared.Fault.{Fault}
 use Rattle.grammar.specs.declared.Fault.TheVariants.{Range}
-use Rattle.grammar.specs.Rules.{name, Tree, enters, here, Reads, marked, worded, at_end, both, left, right, passed, taken, ended, again, named, inside}
+use Rattle.grammar.specs.Rules.{name, Tree, Reads}
 use Rattle.grammar.specs.Leaves.{seen_by}
 use Rattle.jack_parser.specs.declared.counts.Counts.{Counts}
-use Rattle.jack_parser.proofs.Alike as alike
+use Rattle.grammar.proofs.Alike as alike
+use Rattle.grammar.proofs.Endings.{ends_anywhere}
 use Rattle.jack_tree.specs.declared.token.Keyword.{Keyword}
 use Rattle.jack_tree.specs.declared.token.Keyword.TheVariants as keyword
 use Rattle.jack_tree.specs.declared.token.Kind.{Kind}
@@ -17,12 +18,13 @@ use Rattle.jack_tree.specs.declared.tree.Class.{Class}
 use Rattle.jack_tree.specs.Tokens.{Word}
 use Rattle.jack_parser.specs.declared.counts.Counted.{Counted}
 use Rattle.jack_parser.specs.declared.counts.Counted.TheVariants as counted
-use Rattle.jack_lexer.specs.Cut.{tokens_of, finish}
-use Rattle.jack_parser.specs.Jack as grammar
-use Rattle.jack_parser.specs.Jack.{jack, Part, Said, JackRule, Fixed, Placed, expression, term, statement, rule_of, opens, whole, sign_is, keyword_is, names, stands_for, any_sign, any_keyword, is_value, keyword_said, constant_by, type_by, is_symbol, is_keyword, symbol_of, keyword_of, key, identifier, constant, operator, unary, type_rule, result_rule, form_rule, counted_name, declaration, subscript, group, argument_list, invoked, variable, negation, block, let_rule, else_rule, if_rule, while_rule, do_rule, return_rule, any_statement, names_rule, class_variables, locals_rule, parameter, parameter_list, subroutine, class_rule, is_operator, is_unary, types, returns, forms, string_size, deeper, count, so_many, one_more, fresh, check_constant, unquoted}
-use Rattle.jack_parser.specs.Whole.{whole_tree, Spells}
-use Rattle.jack_parser.specs.Printed.{class_text, unplaced, set_off}
-use Rattle.jack_parser.proofs.Spaced.{told, told_by, printed_tokens}
+use Rattle.jack_lexer.specs.Tokens.{tokens_of, finish}
+use Rattle.jack_parser.specs.Grammar as grammar
+use Rattle.jack_parser.specs.Grammar.{jack, Part, Said, JackRule, Fixed, Placed, expression, term, statement, rule_of, opens, whole, sign_is, keyword_is, names, stands_for, any_sign, any_keyword, is_value, keyword_said, constant_by, type_by, is_symbol, is_keyword, symbol_of, keyword_of, key, identifier, constant, operator, unary, type_rule, result_rule, form_rule, counted_name, declaration, subscript, group, argument_list, invoked, variable, negation, block, let_rule, else_rule, if_rule, while_rule, do_rule, return_rule, any_statement, names_rule, class_variables, locals_rule, parameter, parameter_list, subroutine, class_rule, is_operator, is_unary, types, returns, forms, string_size, deeper, count, so_many, one_more, fresh, check_constant, unquoted}
+use Rattle.jack_parser.specs.Spells.{whole_tree, Spells}
+use Rattle.grammar.specs.Printed.{set_off}
+use Rattle.jack_parser.specs.Printed.{class_text, unplaced}
+use Rattle.jack_parser.proofs.Spaced.{told, told_by, good_tokens, printed_good}
 use Rattle.jack_parser.proofs.TokensTold.{tokens_told}
 use Rattle.std.specs.List.{flat_map}
 
@@ -251,26 +253,6 @@ opens_same expression t u e = by_kind term_kind t u e
 opens_same term t u e = by_kind term_kind t u e
 opens_same statement t u e = by_kind statement_kind t u e
 
--- the place where the text ends is looked at by no rule that is read
-module _ (p q : Place) where
-  here_same : (a : JackRule) (ts : List Word) → enters (jack p) a ts ≡ true → here (jack p) ts ≡ here (jack q) ts
-  here_same a [] e = absurd cc
-  here_same a (t ∷ ts) e = refl
-
-  ends_anywhere : {s s' : Counts} {r : JackRule} {ts us : List Word} {x : Tree Said} → Reads Word Counts Part Said (jack p) s r ts x s' us → Reads Word Counts Part Said (jack q) s r ts x s' us
-  ends_anywhere (marked e) = marked e
-  ends_anywhere (worded e c) = worded e c
-  ends_anywhere at_end = at_end
-  ends_anywhere (both h k) = both (ends_anywhere h) (ends_anywhere k)
-  ends_anywhere (left e h) = left e (ends_anywhere h)
-  ends_anywhere (right e f h) = right e f (ends_anywhere h)
-  ends_anywhere (passed e) = passed e
-  ends_anywhere (taken e h) = taken e (ends_anywhere h)
-  ends_anywhere (ended e) = ended e
-  ends_anywhere (again e h k) = again e (ends_anywhere h) (ends_anywhere k)
-  ends_anywhere (named h) = named (ends_anywhere h)
-  ends_anywhere (inside {s = s} {s1 = s1} {enter = enter} {a = a} {ts = ts} e c h) = inside e (ap (enter s) (sym (here_same a ts e)) ∙ c) (ends_anywhere h)
-
 none_left : (us : List Word) → map told [] ≡ map told us → us ≡ []
 none_left [] e = refl
 none_left (u ∷ us) e = absurd cc
@@ -282,12 +264,12 @@ pub read_again : (at : Place) (out : List ℕ) (x : Tree Said) (ts us : List Wor
 read_again at out x ts us s' h same cut =
     let m = alike.read_alike Word Counts Part Said W Said (jack at) told unplaced opens_same (part_blind at) (whole_blind at) h us (sym same) in
     let all = subst (λ (l : List Word). Reads Word Counts Part Said (jack at) (fresh 0) whole us m.tree s' l) (none_left m.rest m.same_rest) m.reads in
-    (m.tree, (us, s', cut, ends_anywhere at (finish out) all), m.same_tree)
+    (m.tree, (us, s', cut, ends_anywhere (jack at) (finish out) all), m.same_tree)
 
 pub printed_spells : (text : List ℕ) (c : Class) → Spells text (whole_tree c) → length (class_text c) ≤ 1048576 → SpellsAlike (class_text c) (whole_tree c)
 printed_spells text c s small =
     let ts = s.0 in
     let told_tokens = tokens_told text c ts s.2 s in
     let same = ap (flat_map set_off) told_tokens in
-    let printed = printed_tokens text ts s.2 (subst (λ (l : List ℕ). length l ≤ 1048576) (sym same) small) in
+    let printed = printed_good ts (good_tokens text ts s.2) (subst (λ (l : List ℕ). length l ≤ 1048576) (sym same) small) in
     read_again (finish text) (class_text c) (whole_tree c) ts printed.0 s.1 s.3 printed.2 (ap tokens_of (sym same) ∙ printed.1)

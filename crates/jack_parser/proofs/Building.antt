@@ -11,7 +11,7 @@ use Rattle.jack_tree.specs.Tokens.{Word}
 use Rattle.jack_tree.specs.Syntax.{Name}
 use Rattle.jack_parser.specs.declared.counts.Counted.{Counted}
 use Rattle.jack_parser.specs.declared.counts.Counts.{Counts}
-use Rattle.jack_parser.specs.Jack.{jack, Part, Said, Fixed, Placed, JackRule, free, named, sign_is, is_symbol, symbol_of, so_many, one_more, count, deeper, fresh, nested}
+use Rattle.jack_parser.specs.Grammar.{jack, Part, Said, Fixed, Placed, JackRule, free, named, sign_is, is_symbol, symbol_of, so_many, one_more, count, deeper, fresh, nested}
 use Rattle.jack_parser.specs.Spelling.{Tokens, Says, text_by}
 use Rattle.jack_parser.proofs.Saying.{SayFront}
 use Rattle.jack_parser.proofs.PlainTrees.{name_said}

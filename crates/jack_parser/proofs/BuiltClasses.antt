@@ -12,8 +12,8 @@ use Rattle.jack_tree.specs.Syntax.{Name, ValueType, Int, Char, Boolean, Object, 
 use Rattle.jack_parser.specs.declared.counts.Counted.{Counted}
 use Rattle.jack_parser.specs.declared.counts.Counted.TheVariants as counted
 use Rattle.jack_parser.specs.declared.counts.Counts.{Counts}
-use Rattle.jack_parser.specs.Jack as grammar
-use Rattle.jack_parser.specs.Jack.{Said, Fixed, Placed, JackRule, statement, opens, fixed, free, is_keyword, is_symbol, is_identifier, is_type, is_result, is_form, is_scope, type_by, type_said, so_many, one_more, fresh, count, statement_opens}
+use Rattle.jack_parser.specs.Grammar as grammar
+use Rattle.jack_parser.specs.Grammar.{Said, Fixed, Placed, JackRule, statement, opens, fixed, free, is_keyword, is_symbol, is_identifier, is_type, is_result, is_form, is_scope, type_by, type_said, so_many, one_more, fresh, count, statement_opens}
 use Rattle.jack_parser.specs.Spelling.{Tokens, Says, type_tokens, result_tokens, names_tokens, scope_tokens, variables_tokens, locals_tokens, parameter_tokens, parameters_tokens, form_tokens, statements_tokens, subroutine_tokens, class_tokens}
 use Rattle.jack_parser.specs.Limits.{total, names_of, statics_by, fields_by, statics_in, fields_in, StatementsKeepIn, SubroutineKeeps, SubroutinesKeep, KeepsLimits}
 use Rattle.jack_parser.proofs.PlainTrees as trees

@@ -9,8 +9,8 @@ use Rattle.jack_tree.specs.declared.token.Kind.TheVariants as kind
 use Rattle.jack_tree.specs.Tokens.{Word}
 use Rattle.jack_tree.specs.Syntax.{Name, Expression, Call, Calls, Statement, Let, If, IfElse, While, Do, Return, Statements, End, Next}
 use Rattle.jack_parser.specs.declared.counts.Counts.{Counts}
-use Rattle.jack_parser.specs.Jack as grammar
-use Rattle.jack_parser.specs.Jack.{jack, Said, Fixed, Placed, JackRule, expression, statement, rule_of, opens, placed, is_keyword, is_symbol, fresh, statement_opens, term_opens}
+use Rattle.jack_parser.specs.Grammar as grammar
+use Rattle.jack_parser.specs.Grammar.{jack, Said, Fixed, Placed, JackRule, expression, statement, rule_of, opens, placed, is_keyword, is_symbol, fresh, statement_opens, term_opens}
 use Rattle.jack_parser.specs.Spelling.{Tokens, expression_tokens, arguments_tokens, call_tokens, index_tokens, value_tokens, condition_tokens, braced, statement_tokens, statements_tokens}
 use Rattle.jack_parser.specs.Limits.{CallKeepsIn, IndexKeepsIn, ValueKeepsIn, PartsKeepIn, StatementsKeepIn}
 use Rattle.jack_parser.proofs.PlainTrees.{name_said, enclosed, front_said, invoked_tree, index_tree, value_tree, statement_tree, statements_tree}

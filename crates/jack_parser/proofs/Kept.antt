@@ -16,8 +16,8 @@ use Rattle.jack_tree.specs.Syntax.{Name, Constant, Integer, String, True, False,
 use Rattle.jack_parser.specs.declared.counts.Counted.{Counted}
 use Rattle.jack_parser.specs.declared.counts.Counted.TheVariants as counted
 use Rattle.jack_parser.specs.declared.counts.Counts.{Counts}
-use Rattle.jack_parser.specs.Jack as grammar
-use Rattle.jack_parser.specs.Jack.{jack, Part, Said, Fixed, Placed, JackRule, expression, term, statement, rule_of, so_many, one_more, fresh, free, own, nested, symbol_of, counted_name, next_name, names_rule, declaration, type_rule, class_variables, locals_rule, parameters, keyword_said, constant_by, string_size, unquoted, check_constant}
+use Rattle.jack_parser.specs.Grammar as grammar
+use Rattle.jack_parser.specs.Grammar.{jack, Part, Said, Fixed, Placed, JackRule, expression, term, statement, rule_of, so_many, one_more, fresh, free, own, nested, symbol_of, counted_name, next_name, names_rule, declaration, type_rule, class_variables, locals_rule, parameters, keyword_said, constant_by, string_size, unquoted, check_constant}
 use Rattle.jack_parser.specs.Limits.{IsShort, count_of, KeepsIn, OperationsKeepIn, TermKeepsIn, CallKeepsIn, ArgumentsKeepIn, ExpressionsKeepIn, IndexKeepsIn, ValueKeepsIn, PartsKeepIn, StatementsKeepIn, total, names_of, statics_by, fields_by, statics_in, fields_in, SubroutineKeeps, SubroutinesKeep, KeepsLimits}
 use Rattle.jack_parser.proofs.PlainTrees.{constant_said, enclosed, expression_tree, operations_tree, term_tree, arguments_tree, further_tree, invoked_tree, index_tree, value_tree, statement_tree, statements_tree, next_name_tree, declared_tree, scoped, variables_tree, locals_tree, parameter_tree, next_parameter_tree, parameters_tree, subroutine_tree, whole_tree}
 use Rattle.jack_parser.proofs.Reaching.{Reaches, Parts, IsCounted, parts}

@@ -8,7 +8,6 @@ pub mod TokensTold
 pub mod Shown
 pub mod Parts
 pub mod Spaced
-pub mod Alike
 pub mod Blindness
 mod WholeTexts
 mod Saying

@@ -3,7 +3,7 @@ use Rattle.std.proofs.Common.{◌≡◌, ◌≤◌, List, [], ◌∷◌, ◌++�
 use Rattle.grammar.specs.Rules.{Tree, Pair, Present, NoMore, More}
 use Rattle.grammar.proofs.Repeats.{listed-push}
 use Rattle.jack_tree.specs.declared.tree.Parameter.{Parameter}
-use Rattle.jack_parser.specs.Jack.{Said}
+use Rattle.jack_parser.specs.Grammar.{Said}
 use Rattle.jack_parser.specs.ClassTrees.{parameter_tree, next_parameter_tree, parameters_with, parameters_tree}
 
 pub parameters_with-push : (ps : List Parameter) (p : Parameter) (x : Tree Said) → 1 ≤ length ps → parameters_with (ps ++ p ∷ []) x ≡ parameters_with ps (More (next_parameter_tree p) x)

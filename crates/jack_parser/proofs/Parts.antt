@@ -5,7 +5,7 @@ use Rattle.grammar.specs.Rules.{Tree, Skip, Node, Leaf, Pair, Left, Right, Absen
 use Rattle.jack_tree.specs.declared.token.Keyword.TheVariants as keyword
 use Rattle.jack_tree.specs.declared.tree.Expression.{Expression}
 use Rattle.jack_tree.specs.declared.tree.Statement as statements
-use Rattle.jack_parser.specs.Jack.{Said}
+use Rattle.jack_parser.specs.Grammar.{Said}
 use Rattle.jack_parser.specs.Trees.{group_tree}
 use Rattle.jack_parser.specs.StatementTrees.{key_leaf, any_tree, statement_tree, statements_tree, block_tree, else_tree}
 use Rattle.jack_parser.proofs.Blocks.{while_is, if_is}

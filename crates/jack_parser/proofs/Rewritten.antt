@@ -1,23 +1,22 @@
 -- The printed form of a class that keeps the limits is read again.
-use Rattle.std.proofs.Common.{◌≡◌, ◌≤◌, ℕ, Bool, true, false, cond, List, [], ◌∷◌, map, length, Ok, Err, None, refl, sym, ap, subst, ◌∙◌}
-use Rattle.std.specs.Prelude.{nat_lt}
+use Rattle.std.proofs.Common.{◌≡◌, ◌≤◌, ℕ, Bool, true, List, [], ◌∷◌, map, length, Ok, refl, sym, ap, subst, ◌∙◌}
 use Rattle.std.specs.List.{flat_map}
 use Rattle.std.specs.List as lists
-use Rattle.std.proofs.lemmas.Bool.{le-ltb}
 use Rattle.std.proofs.lemmas.List.Elements.{All-head, All-tail}
 use Rattle.scan_text.specs.Text.{start}
-use Rattle.grammar.specs.declared.Fault.TheVariants.{Range}
 use Rattle.jack_tree.specs.declared.token.Kind.{Kind}
 use Rattle.jack_tree.specs.declared.token.Kind.TheVariants as kind
 use Rattle.jack_tree.specs.Tokens.{Word}
 use Rattle.jack_tree.specs.Syntax.{Class}
-use Rattle.jack_lexer.specs.Cut.{tokens_of, finish, kind_of, is_text_byte, is_name_byte}
-use Rattle.jack_parser.specs.Jack.{jack, Said, Fixed, Placed, fresh, whole}
+use Rattle.jack_lexer.specs.Tokens.{tokens_of, finish, kind_of, is_text_byte, is_name_byte}
+use Rattle.jack_parser.specs.Grammar.{jack, Said, Fixed, Placed, fresh, whole}
 use Rattle.jack_parser.specs.Spelling.{Tokens, Says, Say, text_by, class_tokens}
 use Rattle.jack_parser.specs.Limits.{KeepsLimits}
-use Rattle.jack_parser.specs.Printed.{kind_text, content, shown, said_text, set_off}
+use Rattle.grammar.specs.Printed.{set_off}
+use Rattle.jack_parser.specs.Printed.{kind_text, content, shown, said_text}
 use Rattle.jack_parser.specs.PrintedClass.{printed, CanBe, CanSay, CanAllSay, Tells, Tell, HasTokens, PrintedClassLaw}
-use Rattle.jack_parser.proofs.Spaced.{All, Good, AllGood, told, recut, quoted, unquoted_quoted, C}
+use Rattle.grammar.proofs.Spaced.{All}
+use Rattle.jack_parser.proofs.Spaced.{Good, AllGood, told, printed_good, quoted, unquoted_quoted}
 use Rattle.jack_parser.proofs.Blindness.{read_again}
 use Rattle.jack_parser.proofs.PlainTrees.{whole_tree}
 use Rattle.jack_parser.proofs.SeenTokens.{class_seen}
@@ -105,15 +104,14 @@ again c k h small =
     let ws = map word_for vs in
     let out = printed c in
     let same : flat_map set_off (map shown ws) ≡ out = ap (flat_map set_off) (words_shown vs) in
-    let cut = recut ws (words_good vs h) None start in
-    let fits : nat_lt 1048576 (length out) ≡ false = le-ltb _ _ small in
-    let tokens : tokens_of out ≡ Ok cut.tokens = ap (λ (t : Bool). cond t (Err (Range (record { line = 0; column = 0 }) 1048577)) (C None start out)) fits ∙ ap (C None start) (sym same) ∙ cut.cut in
+    let cut = printed_good ws (words_good vs h) (subst (λ (l : List ℕ). length l ≤ 1048576) (sym same) small) in
+    let tokens : tokens_of out ≡ Ok cut.0 = ap tokens_of (sym same) ∙ cut.1 in
     let read = class_reads start c ws k (record { told = say_front ws vs (words_say vs h) }) in
-    let spelled = read_again start out (whole_tree c) ws cut.tokens read.0 read.1 cut.same tokens in
+    let spelled = read_again start out (whole_tree c) ws cut.0 read.0 read.1 cut.2 tokens in
     record {
-      tokens = cut.tokens;
+      tokens = cut.0;
       cut = tokens;
-      tell = tell_by cut.tokens vs h cut.same;
+      tell = tell_by cut.0 vs h cut.2;
       tree = spelled.0;
       spells = spelled.1;
     }

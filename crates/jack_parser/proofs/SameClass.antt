@@ -6,7 +6,7 @@ use Rattle.grammar.specs.Rules.{Tree, NoMore, listed}
 use Rattle.jack_tree.specs.declared.token.Keyword.TheVariants as keyword
 use Rattle.jack_tree.specs.declared.token.Kind.TheVariants as kind
 use Rattle.jack_tree.specs.Syntax.{Name, Operator, Plus, Minus, Times, Divide, And, Or, Less, Greater, Equal, Sign, Negate, Not, Constant, Integer, String, True, False, Null, This, Expression, Terms, Operations, NoOperation, Then, Term, Value, Variable, Element, Called, Group, Unary, Call, Calls, Expressions, NoExpression, More, Statement, Let, If, IfElse, While, Do, Return, Statements, End, Next, ValueType, Int, Char, Boolean, Object, Names, Scope, Static, Field, ClassVariables, Locals, Parameter, Form, Constructor, Function, Method, Subroutine, Class}
-use Rattle.jack_parser.specs.Jack.{Said, Fixed, Placed}
+use Rattle.jack_parser.specs.Grammar.{Said, Fixed, Placed}
 use Rattle.jack_parser.proofs.PlainTrees.{name_said, operator_byte, operator_said, sign_byte, sign_said, constant_said, expression_tree, operations_tree, term_tree, front_said, invoked_tree, arguments_tree, further_tree, index_tree, value_tree, statement_tree, statements_tree, type_said, result_said, form_said, next_name_tree, names_tree, declared_tree, scoped, variables_tree, locals_tree, parameter_tree, next_parameter_tree, parameters_tree, subroutine_tree, whole_tree}
 
 -- ---- what a token says tells it

@@ -1,5 +1,7 @@
 -- A tree of the code and its abstract syntax are the same tree of the grammar.
 use Rattle.std.proofs.Common.{◌≡◌, List, [], ◌∷◌, map, Option, Some, None, refl, ap}
+use Rattle.std.specs.Prelude.{Box}
+use Rattle.std.specs.Global.{Global}
 use Rattle.scan_text.specs.declared.Place.{Place}
 use Rattle.grammar.specs.Rules as rules
 use Rattle.grammar.specs.Rules.{Tree, Leaf, Node, Pair, Skip, Left, Right, Absent, Present, NoMore, listed}
@@ -27,12 +29,12 @@ use Rattle.jack_tree.specs.declared.tree.Parameter.{Parameter}
 use Rattle.jack_tree.specs.declared.tree.Subroutine.{Subroutine}
 use Rattle.jack_tree.specs.declared.tree.Class.{Class}
 use Rattle.jack_tree.specs.Syntax.{Statements}
-use Rattle.jack_tree.specs.Seen.{the_name, the_operator, the_sign, the_constant, the_expression, the_operations, the_term, the_call, the_arguments, the_value, the_statement, the_row, the_choice, the_statements, the_type, the_result, the_names, the_variables, the_locals, the_parameter, the_form, the_subroutine, the_class}
-use Rattle.jack_parser.specs.Jack.{Said}
+use Rattle.jack_tree.specs.Seen.{the_name, the_operator, the_sign, the_constant, the_expression, the_operations, the_term, the_call, the_arguments, the_value, unboxed, the_statement, the_row, the_choice, the_statements, the_type, the_result, the_names, the_variables, the_locals, the_parameter, the_form, the_subroutine, the_class}
+use Rattle.jack_parser.specs.Grammar.{Said}
 use Rattle.jack_parser.specs.Trees as code
 use Rattle.jack_parser.specs.StatementTrees as code_statements
 use Rattle.jack_parser.specs.ClassTrees as code_classes
-use Rattle.jack_parser.specs.Whole as code_whole
+use Rattle.jack_parser.specs.Spells as code_whole
 use Rattle.jack_parser.proofs.PlainTrees.{name_said, operator_said, sign_said, constant_said, enclosed, expression_tree, operations_tree, term_tree, arguments_tree, further_tree, front_said, invoked_tree, key_leaf, index_tree, value_tree, statement_tree, statements_tree, type_said, result_said, form_said, next_name_tree, declared_tree, variables_tree, locals_tree, parameter_tree, next_parameter_tree, parameters_tree, subroutine_tree, whole_tree}
 
 operator_same : (o : Operator) (at : Place) → code.operator_said o at ≡ operator_said (the_operator o) at
@@ -106,9 +108,9 @@ invoked_same : (c : Call) → code.invoked_tree c ≡ invoked_tree (the_call c)
 invoked_same (Call' None f q es) = ap (λ (t : Tree Said). Left (enclosed t)) (arguments_same _ es)
 invoked_same (Call' (Some o) f q es) = ap (λ (t : Tree Said). Right (Pair Skip (Pair (Leaf (name_said (the_name f))) (enclosed t)))) (arguments_same _ es)
 
-index_same : (v : Option Expression) → code_statements.index_tree v ≡ index_tree (the_value v)
+index_same : (v : Option (Box Expression Global)) → code_statements.index_tree v ≡ index_tree (the_value (unboxed v))
 index_same None = refl
-index_same (Some e) = ap (λ (t : Tree Said). Present (enclosed (Node t))) (expression_same e)
+index_same (Some e) = ap (λ (t : Tree Said). Present (enclosed (Node t))) (expression_same e.value)
 
 value_same : (v : Option Expression) → code_statements.value_tree v ≡ value_tree (the_value v)
 value_same None = refl

@@ -1,5 +1,5 @@
--- The tokens of what was read say what its leaves say.
-use Rattle.std.proofs.Common.{◌≡◌, ℕ, Bool, true, false, List, [], ◌∷◌, ◌++◌, refl, sym, ap, subst, eqb-true}
+-- The tokens of what was read say what its leaves say, and are printed as what those say.
+use Rattle.std.proofs.Common.{◌≡◌, ℕ, Bool, true, false, List, [], ◌∷◌, ◌++◌, map, refl, sym, ap, subst, ◌∙◌, eqb-true}
 use denote.Enum.Bare.{same_true}
 use Rattle.scan_text.specs.declared.Place.{Place}
 use Rattle.grammar.specs.Rules.{mark, word, seq, choice, option, repeat, name, within, end, Tree, Reads, marked, worded, at_end, both, left, right, passed, taken, ended, again, named, inside}
@@ -13,8 +13,9 @@ use Rattle.jack_tree.specs.Tokens.{Word}
 use Rattle.jack_parser.specs.declared.counts.Counted.{Counted}
 use Rattle.jack_parser.specs.declared.counts.Counted.TheVariants as counted
 use Rattle.jack_parser.specs.declared.counts.Counts.{Counts}
-use Rattle.jack_parser.specs.Jack.{jack, Part, Said, Fixed, Placed, JackRule, expression, term, statement, rule_of, whole, sign_is, keyword_is, names, stands_for, any_sign, keyword_said, constant_by, type_by, symbol_of, keyword_of, key, identifier, constant, operator, unary, type_rule, result_rule, form_rule, counted_name, declaration, subscript, group, argument_list, invoked, variable, negation, block, let_rule, else_rule, if_rule, while_rule, do_rule, return_rule, any_statement, names_rule, class_variables, locals_rule, parameter, parameter_list, subroutine, class_rule, is_operator}
+use Rattle.jack_parser.specs.Grammar.{jack, Part, Said, Fixed, Placed, JackRule, expression, term, statement, rule_of, whole, sign_is, keyword_is, names, stands_for, any_sign, keyword_said, constant_by, type_by, symbol_of, keyword_of, key, identifier, constant, operator, unary, type_rule, result_rule, form_rule, counted_name, declaration, subscript, group, argument_list, invoked, variable, negation, block, let_rule, else_rule, if_rule, while_rule, do_rule, return_rule, any_statement, names_rule, class_variables, locals_rule, parameter, parameter_list, subroutine, class_rule, is_operator, is_unary, types, returns, forms, any_keyword}
 use Rattle.jack_parser.specs.Spelling.{Tokens, Says, Say, text_by}
+use Rattle.jack_parser.specs.Printed.{kind_text, content, shown, said_text}
 
 abbrev R : Place → Counts → JackRule → List Word → Tree Said → Counts → List Word → Type 0
 R at s r ts x s' us = Reads Word Counts Part Said (jack at) s r ts x s' us
@@ -26,22 +27,58 @@ SayFront [] ts us = ts ≡ us
 SayFront (v ∷ vs) [] us = ⊥
 SayFront (v ∷ vs) (t ∷ ts) us = Says t v × SayFront vs ts us
 
-pub front_two : (a b : Tokens) (ts us vs : List Word) → SayFront a ts us → SayFront b us vs → SayFront (a ++ b) ts vs
-front_two [] b ts us vs h k = subst (λ (l : List Word). SayFront b l vs) (sym h) k
-front_two (v ∷ a) b [] us vs h k = absurd h
-front_two (v ∷ a) b (t ∷ ts) us vs h k = (h.0, front_two a b ts us vs h.1 k)
-
 pub say_all : (a : Tokens) (ts : List Word) → SayFront a ts [] → Say ts a
 say_all [] [] h = tt
 say_all [] (t ∷ ts) h = absurd cc
 say_all (v ∷ a) [] h = absurd h
 say_all (v ∷ a) (t ∷ ts) h = (h.0, say_all a ts h.1)
 
+-- ---- A front of some tokens says this, of which nothing else is printed.
+
+abbrev Plain : Said → Type 0
+Plain (Fixed k) = (text : List ℕ) → kind_text k text ≡ kind_text k []
+Plain (Placed k text at) = Unit {0}
+
+abbrev Told : Word → Said → Type 0
+Told t v = Says t v × Plain v
+
+abbrev pub ToldFront : Tokens → List Word → List Word → Type 0
+ToldFront [] ts us = ts ≡ us
+ToldFront (v ∷ vs) [] us = ⊥
+ToldFront (v ∷ vs) (t ∷ ts) us = Told t v × ToldFront vs ts us
+
+told_two : (a b : Tokens) (ts us vs : List Word) → ToldFront a ts us → ToldFront b us vs → ToldFront (a ++ b) ts vs
+told_two [] b ts us vs h k = subst (λ (l : List Word). ToldFront b l vs) (sym h) k
+told_two (v ∷ a) b [] us vs h k = absurd h
+told_two (v ∷ a) b (t ∷ ts) us vs h k = (h.0, told_two a b ts us vs h.1 k)
+
+pub told_says : (vs : Tokens) (ts us : List Word) → ToldFront vs ts us → SayFront vs ts us
+told_says [] ts us h = h
+told_says (v ∷ vs) [] us h = h
+told_says (v ∷ vs) (t ∷ ts) us h = (h.0.0, told_says vs ts us h.1)
+
+shown_by : (k : Kind) (x : List ℕ) → kind_text k (content k x) ≡ kind_text k (text_by k x)
+shown_by (kind.Keyword j) x = refl
+shown_by (kind.Symbol c) x = refl
+shown_by (kind.Integer n) x = refl
+shown_by kind.Text x = refl
+shown_by kind.Identifier x = refl
+
+shown_as : (t : Word) (v : Said) → Told t v → shown t ≡ said_text v
+shown_as t (Fixed k) h = ap (λ (j : Kind). kind_text j (content t.kind t.text)) h.0 ∙ h.1 (content t.kind t.text)
+shown_as t (Placed k text at) h = shown_by t.kind t.text ∙ (λ i. kind_text (h.0.0 i) (h.0.1 i))
+
+pub told_shown : (vs : Tokens) (ts : List Word) → ToldFront vs ts [] → map shown ts ≡ map said_text vs
+told_shown [] [] h = refl
+told_shown [] (t ∷ ts) h = absurd cc
+told_shown (v ∷ vs) [] h = absurd h
+told_shown (v ∷ vs) (t ∷ ts) h = λ i. shown_as t v h.0 i ∷ told_shown vs ts h.1 i
+
 -- ---- What each rule says
 
 abbrev Tells : JackRule → Type 0
-Tells (mark v is) = (t : Word) → is t ≡ true → Says t v
-Tells (word is check value) = (t : Word) → is t ≡ true → Says t (value t)
+Tells (mark v is) = (t : Word) → is t ≡ true → Told t v
+Tells (word is check value) = (t : Word) → is t ≡ true → Told t (value t)
 Tells end = Unit {0}
 Tells (seq a b) = Tells a × Tells b
 Tells (choice a b) = Tells a × Tells b
@@ -49,14 +86,6 @@ Tells (option a) = Tells a
 Tells (repeat a) = Tells a
 Tells (name n) = Unit {0}
 Tells (within enter leave a) = Tells a
-
--- a kind whose text is not kept
-keeps_none : (k : Kind) (x : List ℕ) → names k ≡ false → stands_for k ≡ false → text_by k x ≡ []
-keeps_none (kind.Keyword j) x e f = refl
-keeps_none (kind.Symbol c) x e f = refl
-keeps_none (kind.Integer n) x e f = refl
-keeps_none kind.Text x e f = absurd cc
-keeps_none kind.Identifier x e f = absurd cc
 
 symbol_told : (b : ℕ) (k : Kind) → sign_is b k ≡ true → k ≡ kind.Symbol b
 symbol_told b (kind.Keyword j) e = absurd cc
@@ -86,92 +115,99 @@ name_told (kind.Integer n) x e = absurd cc
 name_told kind.Text x e = absurd cc
 name_told kind.Identifier x e = (refl, refl)
 
-sign_told : (is : ℕ → Bool) (k : Kind) (x : List ℕ) → any_sign is k ≡ true → text_by k x ≡ []
+sign_told : (is : ℕ → Bool) (k : Kind) (x : List ℕ) → any_sign is k ≡ true → (text_by k x ≡ []) × Plain (Fixed k)
 sign_told is (kind.Keyword j) x e = absurd cc
-sign_told is (kind.Symbol c) x e = refl
+sign_told is (kind.Symbol c) x e = (refl, λ y. refl)
 sign_told is (kind.Integer n) x e = absurd cc
 sign_told is kind.Text x e = absurd cc
 sign_told is kind.Identifier x e = absurd cc
 
+form_told : (k : Kind) → any_keyword forms false k ≡ true → Plain (Fixed k)
+form_told (kind.Keyword j) e = λ y. refl
+form_told (kind.Symbol c) e = absurd cc
+form_told (kind.Integer n) e = absurd cc
+form_told kind.Text e = absurd cc
+form_told kind.Identifier e = absurd cc
+
 -- a kind with a text and a place says what is told of it
-abbrev SaysBy : Kind → List ℕ → Place → Said → Type 0
-SaysBy k x at (Fixed j) = k ≡ j
-SaysBy k x at (Placed j y p) = (k ≡ j) × (text_by k x ≡ y) × (at ≡ p)
+abbrev ToldBy : Kind → List ℕ → Place → Said → Type 0
+ToldBy k x at (Fixed j) = (k ≡ j) × Plain (Fixed j)
+ToldBy k x at (Placed j y p) = (k ≡ j) × (text_by k x ≡ y) × (at ≡ p)
 
-type_told : (k : Kind) (x : List ℕ) (at : Place) → SaysBy k x at (type_by k x at)
-type_told (kind.Keyword j) x at = refl
-type_told (kind.Symbol c) x at = refl
-type_told (kind.Integer n) x at = refl
-type_told kind.Text x at = refl
-type_told kind.Identifier x at = (refl, refl, refl)
+type_told : (is : Keyword → Bool) (k : Kind) (x : List ℕ) (at : Place) → any_keyword is true k ≡ true → ToldBy k x at (type_by k x at)
+type_told is (kind.Keyword j) x at e = (refl, λ y. refl)
+type_told is (kind.Symbol c) x at e = absurd cc
+type_told is (kind.Integer n) x at e = absurd cc
+type_told is kind.Text x at e = absurd cc
+type_told is kind.Identifier x at e = (refl, refl, refl)
 
-value_told : (k : Keyword) (x : List ℕ) (at : Place) → SaysBy (kind.Keyword k) x at (keyword_said k at)
+value_told : (k : Keyword) (x : List ℕ) (at : Place) → ToldBy (kind.Keyword k) x at (keyword_said k at)
 value_told keyword.This x at = (refl, refl, refl)
-value_told keyword.Class x at = refl
-value_told keyword.Constructor x at = refl
-value_told keyword.Function x at = refl
-value_told keyword.Method x at = refl
-value_told keyword.Field x at = refl
-value_told keyword.Static x at = refl
-value_told keyword.Var x at = refl
-value_told keyword.Int x at = refl
-value_told keyword.Char x at = refl
-value_told keyword.Boolean x at = refl
-value_told keyword.Void x at = refl
-value_told keyword.True x at = refl
-value_told keyword.False x at = refl
-value_told keyword.Null x at = refl
-value_told keyword.Let x at = refl
-value_told keyword.Do x at = refl
-value_told keyword.If x at = refl
-value_told keyword.Else x at = refl
-value_told keyword.While x at = refl
-value_told keyword.Return x at = refl
+value_told keyword.Class x at = (refl, λ y. refl)
+value_told keyword.Constructor x at = (refl, λ y. refl)
+value_told keyword.Function x at = (refl, λ y. refl)
+value_told keyword.Method x at = (refl, λ y. refl)
+value_told keyword.Field x at = (refl, λ y. refl)
+value_told keyword.Static x at = (refl, λ y. refl)
+value_told keyword.Var x at = (refl, λ y. refl)
+value_told keyword.Int x at = (refl, λ y. refl)
+value_told keyword.Char x at = (refl, λ y. refl)
+value_told keyword.Boolean x at = (refl, λ y. refl)
+value_told keyword.Void x at = (refl, λ y. refl)
+value_told keyword.True x at = (refl, λ y. refl)
+value_told keyword.False x at = (refl, λ y. refl)
+value_told keyword.Null x at = (refl, λ y. refl)
+value_told keyword.Let x at = (refl, λ y. refl)
+value_told keyword.Do x at = (refl, λ y. refl)
+value_told keyword.If x at = (refl, λ y. refl)
+value_told keyword.Else x at = (refl, λ y. refl)
+value_told keyword.While x at = (refl, λ y. refl)
+value_told keyword.Return x at = (refl, λ y. refl)
 
-constant_told : (k : Kind) (x : List ℕ) (at : Place) → SaysBy k x at (constant_by k x at)
-constant_told (kind.Keyword j) x at = value_told j x at
-constant_told (kind.Symbol c) x at = refl
-constant_told (kind.Integer n) x at = refl
-constant_told kind.Text x at = (refl, refl, refl)
-constant_told kind.Identifier x at = (refl, refl, refl)
+constant_told : (k : Kind) (x : List ℕ) (at : Place) → stands_for k ≡ true → ToldBy k x at (constant_by k x at)
+constant_told (kind.Keyword j) x at e = value_told j x at
+constant_told (kind.Symbol c) x at e = absurd cc
+constant_told (kind.Integer n) x at e = (refl, λ y. refl)
+constant_told kind.Text x at e = (refl, refl, refl)
+constant_told kind.Identifier x at e = absurd cc
 
-says_by : (t : Word) (v : Said) → SaysBy t.kind t.text t.place v → Says t v
-says_by t (Fixed k) h = h
-says_by t (Placed k x at) h = h
+told_by : (t : Word) (v : Said) → ToldBy t.kind t.text t.place v → Told t v
+told_by t (Fixed k) h = h
+told_by t (Placed k x at) h = (h, tt)
 
 -- each rule says its tokens
 symbol_tells : (b : ℕ) → Tells (symbol_of b)
-symbol_tells b t e = symbol_told b t.kind e
+symbol_tells b t e = (symbol_told b t.kind e, λ y. refl)
 
 keyword_tells : (k : Keyword) → Tells (keyword_of k)
-keyword_tells k t e = keyword_told k t.kind e
+keyword_tells k t e = (keyword_told k t.kind e, λ y. refl)
 
 key_tells : (k : Keyword) → Tells (key k)
-key_tells k t e = (refl, key_told k t.kind t.text e, refl)
+key_tells k t e = ((refl, key_told k t.kind t.text e, refl), tt)
 
 name_tells : Tells identifier
-name_tells t e = let h = name_told t.kind t.text e in (h.0, h.1, refl)
+name_tells t e = let h = name_told t.kind t.text e in ((h.0, h.1, refl), tt)
 
 counted_tells : (x : Counted) → Tells (counted_name x)
 counted_tells x t e = name_tells t e
 
 constant_tells : Tells constant
-constant_tells t e = says_by t (constant_by t.kind t.text t.place) (constant_told t.kind t.text t.place)
+constant_tells t e = told_by t (constant_by t.kind t.text t.place) (constant_told t.kind t.text t.place e)
 
 operator_tells : Tells operator
-operator_tells t e = (refl, sign_told is_operator t.kind t.text e, refl)
+operator_tells t e = ((refl, (sign_told is_operator t.kind t.text e).0, refl), tt)
 
 unary_tells : Tells unary
-unary_tells t e = refl
+unary_tells t e = (refl, (sign_told is_unary t.kind t.text e).1)
 
 type_tells : Tells type_rule
-type_tells t e = says_by t (type_by t.kind t.text t.place) (type_told t.kind t.text t.place)
+type_tells t e = told_by t (type_by t.kind t.text t.place) (type_told types t.kind t.text t.place e)
 
 result_tells : Tells result_rule
-result_tells t e = says_by t (type_by t.kind t.text t.place) (type_told t.kind t.text t.place)
+result_tells t e = told_by t (type_by t.kind t.text t.place) (type_told returns t.kind t.text t.place e)
 
 form_tells : Tells form_rule
-form_tells t e = refl
+form_tells t e = (refl, form_told t.kind e)
 
 subscript_tells : Tells subscript
 subscript_tells = (symbol_tells 91, (tt, symbol_tells 93))
@@ -249,16 +285,16 @@ part_tells statement = any_statement_tells
 
 -- ---- What was read
 
-pub says_leaves : {at : Place} {s s' : Counts} {r : JackRule} {ts us : List Word} {x : Tree Said} → Tells r → R at s r ts x s' us → SayFront (leaves (jack at) x r) ts us
-says_leaves h (marked {t = t} e) = (h t e, refl)
-says_leaves h (worded {t = t} e c) = (h t e, refl)
-says_leaves h at_end = refl
-says_leaves {at} h (both {a = a} {b = b} {x = x} {y = y} {ts = ts} {us = us} {vs = vs} p q) = front_two (leaves (jack at) x a) (leaves (jack at) y b) ts us vs (says_leaves h.0 p) (says_leaves h.1 q)
-says_leaves h (left e p) = says_leaves h.0 p
-says_leaves h (right e f p) = says_leaves h.1 p
-says_leaves h (passed e) = refl
-says_leaves h (taken e p) = says_leaves h p
-says_leaves h (ended e) = refl
-says_leaves {at} h (again {a = a} {x = x} {y = y} {ts = ts} {us = us} {vs = vs} e p q) = front_two (leaves (jack at) x a) (leaves (jack at) y (repeat a)) ts us vs (says_leaves h p) (says_leaves {r = repeat a} h q)
-says_leaves h (named {n = n} p) = says_leaves (part_tells n) p
-says_leaves h (inside e c p) = says_leaves h p
+pub told_leaves : {at : Place} {s s' : Counts} {r : JackRule} {ts us : List Word} {x : Tree Said} → Tells r → R at s r ts x s' us → ToldFront (leaves (jack at) x r) ts us
+told_leaves h (marked {t = t} e) = (h t e, refl)
+told_leaves h (worded {t = t} e c) = (h t e, refl)
+told_leaves h at_end = refl
+told_leaves {at} h (both {a = a} {b = b} {x = x} {y = y} {ts = ts} {us = us} {vs = vs} p q) = told_two (leaves (jack at) x a) (leaves (jack at) y b) ts us vs (told_leaves h.0 p) (told_leaves h.1 q)
+told_leaves h (left e p) = told_leaves h.0 p
+told_leaves h (right e f p) = told_leaves h.1 p
+told_leaves h (passed e) = refl
+told_leaves h (taken e p) = told_leaves h p
+told_leaves h (ended e) = refl
+told_leaves {at} h (again {a = a} {x = x} {y = y} {ts = ts} {us = us} {vs = vs} e p q) = told_two (leaves (jack at) x a) (leaves (jack at) y (repeat a)) ts us vs (told_leaves h p) (told_leaves {r = repeat a} h q)
+told_leaves h (named {n = n} p) = told_leaves (part_tells n) p
+told_leaves h (inside e c p) = told_leaves h p

@@ -1,5 +1,7 @@
 -- The leaves of a tree of the code are the tokens of its abstract syntax.
 use Rattle.std.proofs.Common.{◌≡◌, ℕ, List, [], ◌∷◌, ◌++◌, map, Option, Some, None, refl, ap, ◌∙◌}
+use Rattle.std.specs.Prelude.{Box}
+use Rattle.std.specs.Global.{Global}
 use Rattle.std.proofs.lemmas.List.{append-nil}
 use Rattle.std.specs.List.{flat_map}
 use Rattle.scan_text.specs.declared.Place.{Place}
@@ -31,15 +33,15 @@ use Rattle.jack_tree.specs.declared.tree.Parameter.{Parameter}
 use Rattle.jack_tree.specs.declared.tree.Subroutine.{Subroutine}
 use Rattle.jack_tree.specs.declared.tree.Class.{Class}
 use Rattle.jack_tree.specs.Syntax.{Statements}
-use Rattle.jack_tree.specs.Seen.{the_name, the_operator, the_sign, the_constant, the_expression, the_operations, the_term, the_call, the_arguments, the_value, the_statement, the_row, the_choice, the_statements, the_type, the_result, the_names, the_scope, the_variables, the_locals, the_parameter, the_form, the_subroutine, the_class}
+use Rattle.jack_tree.specs.Seen.{the_name, the_operator, the_sign, the_constant, the_expression, the_operations, the_term, the_call, the_arguments, the_value, unboxed, the_statement, the_row, the_choice, the_statements, the_type, the_result, the_names, the_scope, the_variables, the_locals, the_parameter, the_form, the_subroutine, the_class}
 use Rattle.jack_parser.specs.declared.counts.Counted.{Counted}
 use Rattle.jack_parser.specs.declared.counts.Counted.TheVariants as counted
-use Rattle.jack_parser.specs.Jack as grammar
-use Rattle.jack_parser.specs.Jack.{jack, JackRule, Said, Fixed, Placed, expression, term, statement, whole}
+use Rattle.jack_parser.specs.Grammar as grammar
+use Rattle.jack_parser.specs.Grammar.{jack, JackRule, Said, Fixed, Placed, expression, term, statement, whole}
 use Rattle.jack_parser.specs.Trees.{name_said, operator_said, sign_said, constant_leaf_said, call_said, term_tree, invoked_tree, exp_tree, rest_of, args_of, more_of, group_tree}
 use Rattle.jack_parser.specs.StatementTrees.{index_tree, value_tree, any_tree, row_tree, other_tree, statements_tree}
 use Rattle.jack_parser.specs.ClassTrees.{type_leaf_said, result_said, form_said, next_name_tree, names_tree, variables_tree, locals_tree, parameter_tree, next_parameter_tree, parameters_tree, subroutine_tree}
-use Rattle.jack_parser.specs.Whole.{whole_tree}
+use Rattle.jack_parser.specs.Spells.{whole_tree}
 use Rattle.jack_parser.specs.Spelling as spelling
 use Rattle.jack_parser.specs.Spelling.{Tokens, operator_tokens, sign_tokens, constant_tokens, expression_tokens, operations_tokens, term_tokens, call_tokens, arguments_tokens, further_tokens, index_tokens, value_tokens, condition_tokens, statement_tokens, statements_tokens, type_tokens, result_tokens, names_tokens, scope_tokens, variables_tokens, locals_tokens, parameter_tokens, parameters_tokens, form_tokens, subroutine_tokens, class_tokens}
 
@@ -117,9 +119,9 @@ module _ (end : Place) where
     more_seen n end_of-Expression = refl
     more_seen n (more_of-Expression e es) = λ i. sign_of 44 ∷ (exp_seen e i ++ more_seen _ es i)
 
-  index_seen : (v : Option Expression) → leaves (jack end) (index_tree v) (option grammar.subscript) ≡ index_tokens (the_value v)
+  index_seen : (v : Option (Box Expression Global)) → leaves (jack end) (index_tree v) (option grammar.subscript) ≡ index_tokens (the_value (unboxed v))
   index_seen None = refl
-  index_seen (Some e) = ap (in_signs 91 93) (exp_seen e)
+  index_seen (Some e) = ap (in_signs 91 93) (exp_seen e.value)
 
   value_seen : (v : Option Expression) → leaves (jack end) (value_tree v) (option (name expression)) ≡ value_tokens (the_value v)
   value_seen None = refl

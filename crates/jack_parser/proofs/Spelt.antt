@@ -13,12 +13,12 @@ use Rattle.jack_tree.specs.declared.tree.Class as code
 use Rattle.jack_tree.specs.Syntax.{Class}
 use Rattle.jack_tree.specs.Seen.{the_class}
 use Rattle.jack_tree.specs.Tokens.{Word}
-use Rattle.jack_lexer.specs.Cut.{tokens_of, finish}
-use Rattle.jack_parser.specs.Jack.{jack, Said, fresh, whole}
+use Rattle.jack_lexer.specs.Tokens.{tokens_of, finish}
+use Rattle.jack_parser.specs.Grammar.{jack, Said, fresh, whole}
 use Rattle.jack_parser.specs.Spelling.{Tokens, Say, class_tokens}
 use Rattle.jack_parser.specs.Spelled.{SpellsClass}
-use Rattle.jack_parser.specs.Whole as code_whole
-use Rattle.jack_parser.specs.Whole.{Spells, Refuses}
+use Rattle.jack_parser.specs.Spells as code_whole
+use Rattle.jack_parser.specs.Spells.{Spells, Refuses}
 use Rattle.jack_parser.proofs.Saying.{SayFront}
 use Rattle.jack_parser.proofs.PlainTrees.{whole_tree}
 use Rattle.jack_parser.proofs.SameTrees as seen

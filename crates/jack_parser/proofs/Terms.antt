@@ -1,11 +1,11 @@
 -- The kind of a term, by its first token, says which rule is entered.
 use Rattle.std.proofs.Common.{◌≡◌, ℕ, Bool, true, false, cond, List, [], ◌∷◌, refl, subst}
-use Rattle.std.specs.Prelude.{◌||◌, ◌==◌}
+use Rattle.std.specs.Prelude.{◌==◌}
 use Rattle.scan_text.specs.declared.Place.{Place}
 use Rattle.grammar.specs.declared.Fault.{Fault}
 use Rattle.grammar.specs.declared.Fault.TheVariants.{Grammar}
-use Rattle.grammar.specs.Rules.{name, Tree, Node, Left, Right, next, here, Reads, left, right, named, Stops, in_left, in_right, neither, in_name}
-use Rattle.grammar.proofs.Steps.{next_left, next_right}
+use Rattle.grammar.specs.Rules.{name, Tree, Node, Left, Right, next, here, Reads, left, named, Stops, in_left, neither, in_name}
+use Rattle.grammar.proofs.Entered.{skip, skip_stops}
 use Rattle.jack_tree.specs.declared.token.Keyword as keywords
 use Rattle.jack_tree.specs.declared.token.Kind.{Kind}
 use Rattle.jack_tree.specs.declared.token.Kind.TheVariants.{Keyword, Symbol, Integer, Text, Identifier}
@@ -13,7 +13,7 @@ use Rattle.jack_tree.specs.Tokens.{Word}
 use Rattle.jack_parser.specs.declared.counts.Counts.{Counts}
 use Rattle.jack_parser.specs.declared.words.Start.{Start}
 use Rattle.jack_parser.specs.declared.words.Start.TheVariants as starts
-use Rattle.jack_parser.specs.Jack.{jack, Part, Said, term, constant, variable, group, negation, stands_for, is_value, names, sign_is, any_sign, is_unary, is_constant, is_identifier, is_symbol, negates, term_opens, JackRule}
+use Rattle.jack_parser.specs.Grammar.{jack, Part, Said, term, constant, variable, group, negation, stands_for, is_value, names, sign_is, any_sign, is_unary, is_constant, is_identifier, is_symbol, negates, JackRule}
 use Rattle.jack_parser.specs.Starts.{start_by, start_of}
 
 -- what a start says of the tests
@@ -54,7 +54,7 @@ told_by starts.Group t ts h = h
 told_by starts.Negation t ts h = h
 told_by starts.Other t ts h = h
 
-pub told : (ts : List Word) → Told (start_of ts) ts
+told : (ts : List Word) → Told (start_of ts) ts
 told [] = (refl, refl, refl, refl)
 told (t ∷ ts) = told_by (start_by t.kind) t ts (kind_says t.kind)
 
@@ -67,13 +67,6 @@ R end s r ts x s' us = Reads Word Counts Part Said (jack end) s r ts x s' us
 abbrev F : Place → Counts → JackRule → List Word → Fault → Type 0
 F end s r ts f = Stops Word Counts Part Said (jack end) s r ts f
 
--- which of the four tests hold, and so which alternative is entered
-abbrev two : Word → Bool
-two t = is_symbol 40 t || negates t
-
-abbrev three : Word → Bool
-three t = is_identifier t || two t
-
 -- the rules of a term, as the start names them
 module _ {end : Place} {s : Counts} {ts : List Word} where
   pub constant_term : {s' : Counts} {us : List Word} {x : Tree Said} → start_of ts ≡ starts.Constant → R end s constant ts x s' us → R end s (name term) ts (Node (Left x)) s' us
@@ -83,53 +76,22 @@ module _ {end : Place} {s : Counts} {ts : List Word} where
   constant_stops e p = in_name (in_left (told_as starts.Constant ts e) p)
 
   pub variable_term : {s' : Counts} {us : List Word} {x : Tree Said} → start_of ts ≡ starts.Name → R end s variable ts x s' us → R end s (name term) ts (Node (Right (Left x))) s' us
-  variable_term e p =
-      let h = told_as starts.Name ts e in
-      named (right h.0 (next_left is_identifier two ts h.1) (left h.1 p))
+  variable_term e p = let h = told_as starts.Name ts e in named (skip h.0 refl (left h.1 p))
 
   pub variable_stops : {f : Fault} → start_of ts ≡ starts.Name → F end s variable ts f → F end s (name term) ts f
-  variable_stops e p =
-      let h = told_as starts.Name ts e in
-      in_name (in_right h.0 (next_left is_identifier two ts h.1) (in_left h.1 p))
+  variable_stops e p = let h = told_as starts.Name ts e in in_name (skip_stops h.0 refl (in_left h.1 p))
 
   pub group_term : {s' : Counts} {us : List Word} {x : Tree Said} → start_of ts ≡ starts.Group → R end s group ts x s' us → R end s (name term) ts (Node (Right (Right (Left x)))) s' us
-  group_term e p =
-      let h = told_as starts.Group ts e in
-      let b = next_left (is_symbol 40) negates ts h.2 in
-      named (right h.0 (next_right is_identifier two ts true h.1 b) (right h.1 b (left h.2 p)))
+  group_term e p = let h = told_as starts.Group ts e in named (skip h.0 refl (skip h.1 refl (left h.2 p)))
 
   pub group_stops : {f : Fault} → start_of ts ≡ starts.Group → F end s group ts f → F end s (name term) ts f
-  group_stops e p =
-      let h = told_as starts.Group ts e in
-      let b = next_left (is_symbol 40) negates ts h.2 in
-      in_name (in_right h.0 (next_right is_identifier two ts true h.1 b) (in_right h.1 b (in_left h.2 p)))
+  group_stops e p = let h = told_as starts.Group ts e in in_name (skip_stops h.0 refl (skip_stops h.1 refl (in_left h.2 p)))
 
   pub negation_term : {s' : Counts} {us : List Word} {x : Tree Said} → start_of ts ≡ starts.Negation → R end s negation ts x s' us → R end s (name term) ts (Node (Right (Right (Right x)))) s' us
-  negation_term e p =
-      let h = told_as starts.Negation ts e in
-      let b = next_right (is_symbol 40) negates ts true h.2 h.3 in
-      named (right h.0 (next_right is_identifier two ts true h.1 b) (right h.1 b (right h.2 h.3 p)))
+  negation_term e p = let h = told_as starts.Negation ts e in named (skip h.0 refl (skip h.1 refl (skip h.2 refl p)))
 
   pub negation_stops : {f : Fault} → start_of ts ≡ starts.Negation → F end s negation ts f → F end s (name term) ts f
-  negation_stops e p =
-      let h = told_as starts.Negation ts e in
-      let b = next_right (is_symbol 40) negates ts true h.2 h.3 in
-      in_name (in_right h.0 (next_right is_identifier two ts true h.1 b) (in_right h.1 b (in_right h.2 h.3 p)))
+  negation_stops e p = let h = told_as starts.Negation ts e in in_name (skip_stops h.0 refl (skip_stops h.1 refl (skip_stops h.2 refl p)))
 
   pub no_term : start_of ts ≡ starts.Other → F end s (name term) ts (Grammar (here (jack end) ts))
-  no_term e =
-      let h = told_as starts.Other ts e in
-      let b = next_right (is_symbol 40) negates ts false h.2 h.3 in
-      in_name (neither h.0 (next_right is_identifier two ts false h.1 b))
-
-module _ (ts : List Word) where
-  -- a term can begin exactly where the start is none of the others
-  pub term_begins : (k : Start) → start_of ts ≡ k → (k ≡ starts.Other → ⊥) → next term_opens ts ≡ true
-  term_begins starts.Constant e n = next_left is_constant three ts (told_as starts.Constant ts e)
-  term_begins starts.Name e n = let h = told_as starts.Name ts e in next_right is_constant three ts true h.0 (next_left is_identifier two ts h.1)
-  term_begins starts.Group e n = let h = told_as starts.Group ts e in next_right is_constant three ts true h.0 (next_right is_identifier two ts true h.1 (next_left (is_symbol 40) negates ts h.2))
-  term_begins starts.Negation e n = let h = told_as starts.Negation ts e in next_right is_constant three ts true h.0 (next_right is_identifier two ts true h.1 (next_right (is_symbol 40) negates ts true h.2 h.3))
-  term_begins starts.Other e n = absurd (n refl)
-
-  pub no_term_begins : start_of ts ≡ starts.Other → next term_opens ts ≡ false
-  no_term_begins e = let h = told_as starts.Other ts e in next_right is_constant three ts false h.0 (next_right is_identifier two ts false h.1 (next_right (is_symbol 40) negates ts false h.2 h.3))
+  no_term e = let h = told_as starts.Other ts e in in_name (skip_stops h.0 refl (skip_stops h.1 refl (neither h.2 h.3)))

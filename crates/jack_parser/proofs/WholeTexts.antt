@@ -6,10 +6,10 @@ use Rattle.grammar.specs.Rules.{Tree, Reads, Stops}
 use Rattle.grammar.specs.Reading.{Halt}
 use Rattle.grammar.proofs.Wholes.{not_read}
 use Rattle.jack_tree.specs.Tokens.{Word}
-use Rattle.jack_lexer.specs.Cut.{tokens_of, finish}
+use Rattle.jack_lexer.specs.Tokens.{tokens_of, finish}
 use Rattle.jack_parser.specs.declared.counts.Counts.{Counts}
-use Rattle.jack_parser.specs.Jack.{jack, Part, Said, fresh, whole}
-use Rattle.jack_parser.specs.Whole.{Spells, Refuses}
+use Rattle.jack_parser.specs.Grammar.{jack, Part, Said, fresh, whole}
+use Rattle.jack_parser.specs.Spells.{Spells, Refuses}
 
 -- the tokens of the text, and the place where it ends
 module _ (text : List ℕ) (ts us : List Word) (at : Place) (cut : tokens_of text ≡ Ok us) (same : ts ≡ us) (ends : at ≡ finish text) where

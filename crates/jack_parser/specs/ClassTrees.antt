@@ -16,7 +16,7 @@ use Rattle.jack_tree.specs.declared.tree.Locals.{Locals}
 use Rattle.jack_tree.specs.declared.tree.Parameter.{Parameter}
 use Rattle.jack_tree.specs.declared.tree.Subroutine.{Subroutine}
 use Rattle.jack_tree.specs.declared.tree.Class.{Class}
-use Rattle.jack_parser.specs.Jack.{Said, Fixed}
+use Rattle.jack_parser.specs.Grammar.{Said, Fixed}
 use Rattle.jack_parser.specs.Trees.{name_said, name_leaf}
 use Rattle.jack_parser.specs.StatementTrees.{statements_tree}
 

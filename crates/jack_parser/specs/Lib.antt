@@ -1,9 +1,9 @@
-pub mod Jack
+pub mod Grammar
 pub mod Starts
 pub mod Trees
 pub mod StatementTrees
 pub mod ClassTrees
-pub mod Whole
+pub mod Spells
 pub mod Printed
 pub mod Keywords
 pub mod Spelling
@@ -11,4 +11,4 @@ pub mod Limits
 pub mod Spelled
 pub mod Rows
 pub mod PrintedClass
-pub mod Written
+pub mod Inner

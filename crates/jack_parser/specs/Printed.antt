@@ -1,17 +1,17 @@
 -- The printed form of a class: its tokens with one space between them, and a line feed in its place behind `{`, `}` and `;`.
-use Rattle.std.specs.Prelude.{◌≡◌, ℕ, ◌++◌, List, [], ◌∷◌, Ok, map, decimal, if◌then◌else◌, ◌||◌, codes, length, ◌≤◌}
+use Rattle.std.specs.Prelude.{◌≡◌, ℕ, ◌++◌, List, [], ◌∷◌, Ok, map, decimal, length, ◌≤◌}
 use Rattle.std.specs.List.{flat_map}
-use Rattle.std.specs.Str.{bytes_eq}
 use Rattle.scan_text.specs.Text.{start}
+use Rattle.grammar.specs.Rules.{Tree}
 use Rattle.grammar.specs.Leaves.{leaves, seen_by}
+use Rattle.grammar.specs.Printed.{set_off}
 use Rattle.jack_tree.specs.declared.token.Kind.{Kind}
 use Rattle.jack_tree.specs.declared.token.Kind.TheVariants as kind
 use Rattle.jack_tree.specs.declared.tree.Class.{Class}
 use Rattle.jack_tree.specs.Tokens.{Word, keyword_text}
-use Rattle.jack_lexer.specs.Cut.{tokens_of}
-use Rattle.grammar.specs.Rules.{Tree}
-use Rattle.jack_parser.specs.Jack.{jack, JackRule, Said, Fixed, Placed, whole, unquoted}
-use Rattle.jack_parser.specs.Whole.{whole_tree, Spells}
+use Rattle.jack_lexer.specs.Tokens.{tokens_of}
+use Rattle.jack_parser.specs.Grammar.{jack, Said, Fixed, Placed, whole, unquoted}
+use Rattle.jack_parser.specs.Spells.{whole_tree, Spells}
 
 -- what a token is written as: a number without leading zeros, a string in its quotes
 abbrev pub kind_text : Kind → List ℕ → List ℕ
@@ -36,14 +36,6 @@ said_text (Placed k text at) = kind_text k text
 -- the tokens of a class
 abbrev pub class_tokens : Class → List (List ℕ)
 class_tokens c = map said_text (leaves (jack start) (whole_tree c) whole)
-
--- a token with what is behind it
-abbrev pub set_off : List ℕ → List ℕ
-set_off w = w ++ (if bytes_eq w (codes "{") || (bytes_eq w (codes "}") || bytes_eq w (codes ";")) then 10 else 32) ∷ []
-
--- the printed form of a tree, by the rule that it is of
-abbrev pub text_of : Tree Said → JackRule → List ℕ
-text_of x rule = flat_map set_off (map said_text (leaves (jack start) x rule))
 
 -- the printed form of a class
 abbrev pub class_text : Class → List ℕ

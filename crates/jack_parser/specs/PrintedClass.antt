@@ -8,12 +8,13 @@ use Rattle.jack_tree.specs.declared.tree.Class as code
 use Rattle.jack_tree.specs.Tokens.{Word, keyword_of}
 use Rattle.jack_tree.specs.Syntax.{Class}
 use Rattle.jack_tree.specs.Seen.{the_class}
-use Rattle.jack_lexer.specs.Cut.{tokens_of, is_letter, is_name_byte, is_text_byte, is_sign}
-use Rattle.jack_parser.specs.Jack.{Said, Fixed, Placed}
+use Rattle.jack_lexer.specs.Tokens.{tokens_of, is_letter, is_name_byte, is_text_byte, is_sign}
+use Rattle.jack_parser.specs.Grammar.{Said, Fixed, Placed}
 use Rattle.jack_parser.specs.Spelling.{Tokens, text_by, class_tokens}
 use Rattle.jack_parser.specs.Limits.{KeepsLimits}
-use Rattle.jack_parser.specs.Printed.{said_text, set_off, class_text}
-use Rattle.jack_parser.specs.Whole.{Spells}
+use Rattle.grammar.specs.Printed.{set_off}
+use Rattle.jack_parser.specs.Printed.{said_text, class_text}
+use Rattle.jack_parser.specs.Spells.{Spells}
 
 -- its tokens, each set off
 abbrev pub printed : Class → List ℕ

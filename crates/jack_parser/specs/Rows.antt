@@ -1,10 +1,10 @@
--- A class and its text, by computation.
+-- Two classes and their texts, by computation.
 use Rattle.std.specs.Prelude.{◌≡◌, ℕ, ◌++◌, List, [], ◌∷◌, Some, None, codes}
 use Rattle.scan_text.specs.declared.Place.{Place}
 use Rattle.jack_tree.specs.declared.token.Keyword.TheVariants as keyword
 use Rattle.jack_tree.specs.declared.token.Kind.TheVariants as kind
-use Rattle.jack_tree.specs.Syntax.{Name, Times, Negate, Not, Integer, String, This, Terms, NoOperation, Then, Value, Variable, Unary, Calls, NoExpression, More, Let, IfElse, Do, Return, End, Next, Int, Char, Object, Static, Constructor, Class}
-use Rattle.jack_parser.specs.Jack.{Fixed, Placed}
+use Rattle.jack_tree.specs.Syntax.{Name, Plus, Minus, Times, Divide, And, Or, Less, Greater, Equal, Negate, Not, Integer, String, True, False, Null, This, Terms, NoOperation, Then, Value, Variable, Element, Called, Group, Unary, Calls, NoExpression, More, Let, If, IfElse, While, Do, Return, End, Next, Int, Char, Boolean, Object, Static, Field, Constructor, Function, Method, Class}
+use Rattle.jack_parser.specs.Grammar.{Fixed, Placed}
 use Rattle.jack_parser.specs.Spelling.{Tokens, ◌·◌, key, key_at, symbol, class_tokens}
 use Rattle.jack_parser.specs.Spelled.{SpellsClass}
 
@@ -56,6 +56,48 @@ small_tokens =
     · symbol (codes "}") · key keyword.Else · symbol (codes "{") · key_at keyword.Let (at 119) · word (codes "n") 123 · symbol (codes "=")
     · symbol (codes "-") · (Fixed (kind.Integer 1) ∷ []) · symbol (codes ";") · symbol (codes "}") · symbol (codes "}") · symbol (codes "}")
 
+-- a text with what the first one lacks: all operators in order, fields, locals, the other kinds of subroutines, types, statements and terms
+abbrev pub large_text : List ℕ
+large_text = codes "class B { field Array f , g ; static boolean s ; method void m ( int i , Array a ) { var char d , e ; var boolean q ; let a [ i ] = a [ 0 ] + i - 2 * 3 / 4 & 5 | i < 6 > 7 = 8 ; while ( true ) { if ( ( false ) ) { do m ( ) ; } do n ( null , i ) ; } return ; } function boolean n ( ) { return q . r ( s ) ; } }"
+
+-- its class
+abbrev pub large : Class
+large = record {
+  name = named (codes "B") 7;
+  variables =
+      record { scope = Field; type = Object (named (codes "Array") 17); names = record { first = named (codes "f") 23; more = named (codes "g") 27 ∷ [] } }
+      ∷ record { scope = Static; type = Boolean; names = record { first = named (codes "s") 46; more = [] } } ∷ [];
+  subroutines = record {
+    form = Method;
+    result = None;
+    name = named (codes "m") 62;
+    parameters =
+        record { type = Int; name = named (codes "i") 70 }
+        ∷ record { type = Object (named (codes "Array") 74); name = named (codes "a") 80 } ∷ [];
+    locals =
+        record { type = Char; names = record { first = named (codes "d") 95; more = named (codes "e") 99 ∷ [] } }
+        ∷ record { type = Boolean; names = record { first = named (codes "q") 115; more = [] } } ∷ [];
+    statements =
+        (Next (Let (at 119) (named (codes "a") 123) (Some (Terms (Variable (named (codes "i") 127)) NoOperation)) (Terms (Element (named (codes "a") 133) (Terms (Value (Integer 0)) NoOperation)) (Then Plus (at 141) (Variable (named (codes "i") 143)) (Then Minus (at 145) (Value (Integer 2)) (Then Times (at 149) (Value (Integer 3)) (Then Divide (at 153) (Value (Integer 4)) (Then And (at 157) (Value (Integer 5)) (Then Or (at 161) (Variable (named (codes "i") 163)) (Then Less (at 165) (Value (Integer 6)) (Then Greater (at 169) (Value (Integer 7)) (Then Equal (at 173) (Value (Integer 8)) NoOperation)))))))))))
+        (Next (While (at 179) (Terms (Value True) NoOperation) (Next (If (at 196) (Terms (Group (Terms (Value False) NoOperation)) NoOperation) (Next (Do (at 215) (Calls None (named (codes "m") 218) NoExpression))
+        End))
+        (Next (Do (at 228) (Calls None (named (codes "n") 231) (More (Terms (Value Null) NoOperation) (More (Terms (Variable (named (codes "i") 242)) NoOperation) NoExpression))))
+        End)))
+        (Next (Return (at 250) None)
+        End)));
+  } ∷ record {
+    form = Function;
+    result = Some (Boolean);
+    name = named (codes "n") 278;
+    parameters = [];
+    locals = [];
+    statements =
+        (Next (Return (at 286) (Some (Terms (Called (Calls (Some (named (codes "q") 293)) (named (codes "r") 297) (More (Terms (Variable (named (codes "s") 301)) NoOperation) NoExpression))) NoOperation)))
+        End);
+  } ∷ [];
+}
+
 pub record RowsLaw : Type 0 where
   pub tokens : class_tokens small ≡ small_tokens
   pub spelled : SpellsClass small_text small
+  pub large_spelled : SpellsClass large_text large

@@ -5,10 +5,10 @@ use Rattle.jack_tree.specs.declared.tree.Class as code
 use Rattle.jack_tree.specs.Tokens.{Word}
 use Rattle.jack_tree.specs.Syntax.{Class}
 use Rattle.jack_tree.specs.Seen.{the_class}
-use Rattle.jack_lexer.specs.Cut.{tokens_of}
+use Rattle.jack_lexer.specs.Tokens.{tokens_of}
 use Rattle.jack_parser.specs.Spelling.{Say, class_tokens}
 use Rattle.jack_parser.specs.Limits.{KeepsLimits}
-use Rattle.jack_parser.specs.Whole.{Spells, Refuses, whole_tree}
+use Rattle.jack_parser.specs.Spells.{Spells, Refuses, whole_tree}
 
 pub record SpellsClass (text : List ℕ) (c : Class) : Type 0 where
   pub tokens : List Word

@@ -5,7 +5,7 @@ use Rattle.jack_tree.specs.declared.token.Kind.TheVariants as kind
 use Rattle.jack_tree.specs.Tokens.{Word}
 use Rattle.grammar.specs.Rules.{next}
 use Rattle.jack_tree.specs.declared.token.Keyword.TheVariants as keyword
-use Rattle.jack_parser.specs.Jack.{is_value, is_keyword}
+use Rattle.jack_parser.specs.Grammar.{is_value, is_keyword}
 use Rattle.jack_parser.specs.declared.words.Start.{Start}
 use Rattle.jack_parser.specs.declared.words.Start.TheVariants as starts
 

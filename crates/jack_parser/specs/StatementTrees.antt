@@ -1,5 +1,5 @@
 -- The trees of statements as trees of the grammar.
-use Rattle.std.specs.Prelude.{List, [], Option, Some, None, Vec}
+use Rattle.std.specs.Prelude.{List, [], Option, Some, None, Vec, Box}
 use Rattle.std.specs.Global.{Global}
 use Rattle.scan_text.specs.declared.Place.{Place}
 use Rattle.grammar.specs.Rules.{Tree, Leaf, Node, Pair, Skip, Left, Right, Absent, Present, NoMore, More, listed}
@@ -8,16 +8,16 @@ use Rattle.jack_tree.specs.declared.token.Keyword.TheVariants as keyword
 use Rattle.jack_tree.specs.declared.token.Kind.TheVariants as kind
 use Rattle.jack_tree.specs.declared.tree.Expression.{Expression}
 use Rattle.jack_tree.specs.declared.tree.Statement as statements
-use Rattle.jack_parser.specs.Jack.{Said, Placed}
+use Rattle.jack_parser.specs.Grammar.{Said, Placed}
 use Rattle.jack_parser.specs.Trees.{name_leaf, exp_tree, group_tree, call_said, invoked_tree}
 
 abbrev pub key_leaf : Keyword → Place → Tree Said
 key_leaf k at = Leaf (Placed (kind.Keyword k) [] at)
 
 -- ['[' exp ']']
-abbrev pub index_tree : Option Expression → Tree Said
+abbrev pub index_tree : Option (Box Expression Global) → Tree Said
 index_tree None = Absent
-index_tree (Some e) = Present (group_tree e)
+index_tree (Some e) = Present (group_tree e.value)
 
 -- [exp]
 abbrev pub value_tree : Option Expression → Tree Said

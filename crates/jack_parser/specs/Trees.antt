@@ -18,7 +18,7 @@ use Rattle.jack_tree.specs.declared.tree.Call.{Call, Call', Row_of-Expression, e
 use Rattle.jack_tree.specs.declared.tree.Term as terms
 use Rattle.jack_tree.specs.declared.tree.Operation.{Operation}
 use Rattle.jack_tree.specs.declared.tree.Expression.{Expression, Expression', Row_of-Operation, end_of-Operation, more_of-Operation}
-use Rattle.jack_parser.specs.Jack.{Said, Fixed, Placed, unquoted}
+use Rattle.jack_parser.specs.Grammar.{Said, Fixed, Placed, unquoted}
 
 abbrev pub name_said : Name → Said
 name_said n = Placed kind.Identifier n.text n.place

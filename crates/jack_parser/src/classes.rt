@@ -4,7 +4,7 @@ ghost use Rattle.std.specs.Prelude.{◌≡◌, ◌<◌, ◌≤◌, ◌-◌, ◌+
 ghost use Rattle.grammar.specs.Reading.{ParsesBy, PassesBy, Halt};
 ghost use Rattle.grammar.specs.Rules.{name, repeat, listed, NoMore};
 ghost use Rattle.jack_tree.specs.Tokens.{view};
-ghost use Rattle.jack_parser.specs.Jack.{jack, names_rule, declaration, class_variables, locals_rule, parameter, parameter_list, parameters, subroutine, subroutine_parts, class_rule};
+ghost use Rattle.jack_parser.specs.Grammar.{jack, names_rule, declaration, class_variables, locals_rule, parameter, parameter_list, parameters, subroutine, subroutine_parts, class_rule};
 ghost use Rattle.jack_parser.specs.ClassTrees.{names_tree, declared_tree, variables_tree, locals_tree, parameter_tree, parameters_with, parameters_tree, parts_tree, subroutine_tree, class_tree};
 
 use crate::counts::{Counted, Counts, fresh};

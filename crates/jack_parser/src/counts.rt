@@ -1,7 +1,7 @@
 //! What a reader counts from left to right.
 
 ghost use Rattle.std.specs.Prelude.{◌≡◌, ◌<◌};
-ghost use Rattle.jack_parser.specs.Jack.{count, deeper, fresh, one_more, so_many};
+ghost use Rattle.jack_parser.specs.Grammar.{count, deeper, fresh, one_more, so_many};
 
 use grammar::Fault;
 use scan_text::Place;

@@ -1,10 +1,11 @@
 //! Readers of one token of a declaration.
+#![tactic(auto, using(grammar::proofs::OneToken::one_token))]
 
 ghost use Rattle.jack_tree.specs.Tokens.{view};
 ghost use Rattle.std.specs.Prelude.{map, ◌≡◌, ◌<◌, ◌≤◌, ◌-◌, ◌+◌, ◌^◌, length, Some, None, Result, Ok, List, IfOk, ℕ};
-ghost use Rattle.grammar.specs.Reading.{ParsesBy, PassesBy, Gives, word_at, mark_at};
+ghost use Rattle.grammar.specs.Reading.{ParsesBy};
 ghost use Rattle.grammar.specs.Rules.{Leaf, next, here};
-ghost use Rattle.jack_parser.specs.Jack.{jack, free, fixed, type_said, is_type, is_result, is_scope, is_form, type_rule, result_rule, form_rule};
+ghost use Rattle.jack_parser.specs.Grammar.{jack, free, fixed, type_said, is_type, is_result, is_scope, is_form, type_rule, result_rule, form_rule};
 ghost use Rattle.jack_parser.specs.ClassTrees.{type_leaf_said, result_said, form_said};
 
 use crate::counts::Counts;
@@ -15,12 +16,13 @@ use jack_tree::{Form, Keyword, Kind, Token, Type};
 use scan_text::Place;
 use std::alloc::Global;
 
-fn type_name_at<'a>(
+pub fn type_name<'a>(
     alloc: Global,
     tokens: &'a [Token<'a>],
     end: Place,
+    counts: Counts,
 ) -> Result<(Type, &'a [Token<'a>]), ReadError>
-    ensures reads { (counts : Counts) → Gives (λ x. (type_leaf_said x.0, counts, map view x.1.now)) result (word_at (jack end) is_type free type_said counts (map view tokens.now)) }
+    ensures reads { ParsesBy view (jack end) type_rule (λ x. Leaf (type_leaf_said x)) (λ _. counts) counts tokens.now result }
     ensures shorter { IfOk result (λ r. length r.1.now < length tokens.now) }
 {
     let Some((token, rest)) = tokens.split_first() else {
@@ -35,24 +37,13 @@ fn type_name_at<'a>(
     }
 }
 
-pub fn type_name<'a>(
+pub fn result_type<'a>(
     alloc: Global,
     tokens: &'a [Token<'a>],
     end: Place,
     counts: Counts,
-) -> Result<(Type, &'a [Token<'a>]), ReadError>
-    ensures reads { ParsesBy view (jack end) type_rule (λ x. Leaf (type_leaf_said x)) (λ _. counts) counts tokens.now result }
-    ensures shorter { IfOk result (λ r. length r.1.now < length tokens.now) }
-{
-    type_name_at(alloc, tokens, end)
-}
-
-fn result_type_at<'a>(
-    alloc: Global,
-    tokens: &'a [Token<'a>],
-    end: Place,
 ) -> Result<(Option<Type>, &'a [Token<'a>]), ReadError>
-    ensures reads { (counts : Counts) → Gives (λ x. (result_said x.0, counts, map view x.1.now)) result (word_at (jack end) is_result free type_said counts (map view tokens.now)) }
+    ensures reads { ParsesBy view (jack end) result_rule (λ x. Leaf (result_said x)) (λ _. counts) counts tokens.now result }
     ensures shorter { IfOk result (λ r. length r.1.now < length tokens.now) }
 {
     let Some((token, rest)) = tokens.split_first() else {
@@ -68,20 +59,12 @@ fn result_type_at<'a>(
     }
 }
 
-pub fn result_type<'a>(
-    alloc: Global,
+pub fn form<'a>(
     tokens: &'a [Token<'a>],
     end: Place,
     counts: Counts,
-) -> Result<(Option<Type>, &'a [Token<'a>]), ReadError>
-    ensures reads { ParsesBy view (jack end) result_rule (λ x. Leaf (result_said x)) (λ _. counts) counts tokens.now result }
-    ensures shorter { IfOk result (λ r. length r.1.now < length tokens.now) }
-{
-    result_type_at(alloc, tokens, end)
-}
-
-fn form_at<'a>(tokens: &'a [Token<'a>], end: Place) -> Result<(Form, &'a [Token<'a>]), ReadError>
-    ensures reads { (counts : Counts) → Gives (λ x. (form_said x.0, counts, map view x.1.now)) result (word_at (jack end) is_form free fixed counts (map view tokens.now)) }
+) -> Result<(Form, &'a [Token<'a>]), ReadError>
+    ensures reads { ParsesBy view (jack end) form_rule (λ x. Leaf (form_said x)) (λ _. counts) counts tokens.now result }
     ensures shorter { IfOk result (λ r. length r.1.now < length tokens.now) }
 {
     let Some((token, rest)) = tokens.split_first() else {
@@ -93,17 +76,6 @@ fn form_at<'a>(tokens: &'a [Token<'a>], end: Place) -> Result<(Form, &'a [Token<
         Kind::Keyword(Keyword::Method) => Ok((Form::Method, rest)),
         _ => Err(grammar_fault(token.place)),
     }
-}
-
-pub fn form<'a>(
-    tokens: &'a [Token<'a>],
-    end: Place,
-    counts: Counts,
-) -> Result<(Form, &'a [Token<'a>]), ReadError>
-    ensures reads { ParsesBy view (jack end) form_rule (λ x. Leaf (form_said x)) (λ _. counts) counts tokens.now result }
-    ensures shorter { IfOk result (λ r. length r.1.now < length tokens.now) }
-{
-    form_at(tokens, end)
 }
 
 /// A type comes next.

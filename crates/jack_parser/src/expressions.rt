@@ -4,7 +4,7 @@ ghost use Rattle.std.specs.Prelude.{◌≡◌, ◌<◌, ◌≤◌, ◌-◌, ◌+
 ghost use Rattle.grammar.specs.Reading.{ParsesBy, PassesBy, Halt};
 ghost use Rattle.grammar.specs.Rules.{name, Node};
 ghost use Rattle.jack_tree.specs.Tokens.{view};
-ghost use Rattle.jack_parser.specs.Jack.{jack, expression, term, nested, arguments, argument, group, call, invoked};
+ghost use Rattle.jack_parser.specs.Grammar.{jack, expression, term, nested, arguments, argument, group, call, invoked};
 ghost use Rattle.jack_parser.specs.Starts.{start_of};
 ghost use Rattle.jack_parser.specs.Trees.{term_tree, exp_tree, args_tree, argument_tree, called_tree, invoked_tree, group_tree, call_said, name_said};
 

@@ -1,19 +1,20 @@
 //! The printed form of classes.
 
-ghost use Rattle.std.specs.Prelude.{◌≡◌, ◌++◌, ◌∷◌, ◌||◌, [], codes};
-ghost use Rattle.std.specs.Str.{bytes_eq};
+ghost use Rattle.std.specs.Prelude.{◌≡◌, ◌++◌, ◌∷◌, []};
+ghost use Rattle.grammar.specs.Printed.{Writes, set_off};
 ghost use Rattle.grammar.specs.Rules.{name, NoMore, option, repeat, listed};
 ghost use Rattle.outer_world.specs.Held.{HaveSameSink, pending, sink_of};
 ghost use Rattle.outer_world.specs.Written.{CountsPut, Puts};
 ghost use Rattle.jack_tree.specs.Tokens.{keyword_text};
 ghost use Rattle.jack_parser.specs.declared.counts.Counted.{Counted};
-ghost use Rattle.jack_parser.specs.Jack.{arguments, class_rule, class_variables, declaration, expression, group, invoked, locals_rule, names_rule, next_name, next_parameter, operation, parameter, parameters, statement, subroutine, subscript, term};
+ghost use Rattle.jack_parser.specs.Grammar.{arguments, class_rule, class_variables, declaration, expression, group, invoked, locals_rule, names_rule, next_name, next_parameter, operation, parameter, parameters, statement, subroutine, subscript, term};
 ghost use Rattle.jack_parser.specs.Trees.{args_tree, call_said, constant_leaf_said, exp_tree, group_tree, invoked_tree, operations_tree, operator_byte, sign_byte, term_tree};
 ghost use Rattle.jack_parser.specs.StatementTrees.{index_tree, statement_tree, statements_tree, value_tree};
 ghost use Rattle.jack_parser.specs.ClassTrees.{class_tree, declared_tree, form_said, locals_tree, names_tree, next_name_tree, next_parameter_tree, parameter_tree, parameters_tree, result_said, subroutine_tree, type_leaf_said, variables_tree};
-ghost use Rattle.jack_parser.specs.Printed.{class_text, said_text, set_off};
-ghost use Rattle.jack_parser.specs.Written.{Shows, Writes};
+ghost use Rattle.jack_parser.specs.Printed.{class_text, said_text};
+ghost use Rattle.jack_parser.specs.Inner.Written.{Shows};
 
+use grammar::{put_rest, put_symbol, put_token};
 use itoa::Buffer;
 use jack_tree::{
     Call, Class, ClassVariables, Constant, Expression, Form, Keyword, Locals, Name, Names,
@@ -21,36 +22,9 @@ use jack_tree::{
 };
 use outer_world::{Pieces, Put, Sink};
 
-// A line feed stands behind the token.
-fn ends_line(token: &[u8]) -> bool
-    ensures { result ≡ (bytes_eq token.now (codes "{") || (bytes_eq token.now (codes "}") || bytes_eq token.now (codes ";"))) }
-{
-    if token == b"{".as_slice() {
-        return true;
-    }
-    if token == b"}".as_slice() {
-        return true;
-    }
-    token == b";".as_slice()
-}
-
-fn put_token<S: Sink>(token: &[u8], status: Put, out: &mut Pieces<'_, S>) -> Put
-    ensures same_sink { HaveSameSink out.old out.new }
-    ensures writes { Writes (set_off token.now) status (S.written (sink_of out.old)) (pending out.old) (S.faults (sink_of out.old)) result (S.written (sink_of out.new)) (pending out.new) (S.faults (sink_of out.new)) }
-{
-    if status == Put::Failed {
-        return Put::Failed;
-    }
-    if ends_line(token) {
-        return out.put_all(&[token, b"\n"]);
-    }
-    out.put_all(&[token, b" "])
-}
-
 // A string in its quotes.
 fn put_string<S: Sink>(text: &[u8], status: Put, out: &mut Pieces<'_, S>) -> Put
-    ensures same_sink { HaveSameSink out.old out.new }
-    ensures writes { Writes (set_off (34 ∷ (text.now ++ 34 ∷ []))) status (S.written (sink_of out.old)) (pending out.old) (S.faults (sink_of out.old)) result (S.written (sink_of out.new)) (pending out.new) (S.faults (sink_of out.new)) }
+    ensures { Writes (set_off (34 ∷ (text.now ++ 34 ∷ []))) status out.old result out.new }
 {
     if status == Put::Failed {
         return Put::Failed;
@@ -58,30 +32,20 @@ fn put_string<S: Sink>(text: &[u8], status: Put, out: &mut Pieces<'_, S>) -> Put
     out.put_all(&[b"\"", text, b"\" "])
 }
 
-fn put_symbol<S: Sink>(byte: u8, status: Put, out: &mut Pieces<'_, S>) -> Put
-    ensures same_sink { HaveSameSink out.old out.new }
-    ensures writes { Writes (set_off (byte ∷ [])) status (S.written (sink_of out.old)) (pending out.old) (S.faults (sink_of out.old)) result (S.written (sink_of out.new)) (pending out.new) (S.faults (sink_of out.new)) }
-{
-    put_token(&[byte], status, out)
-}
-
 fn put_keyword<S: Sink>(keyword: Keyword, status: Put, out: &mut Pieces<'_, S>) -> Put
-    ensures same_sink { HaveSameSink out.old out.new }
-    ensures writes { Writes (set_off (keyword_text keyword)) status (S.written (sink_of out.old)) (pending out.old) (S.faults (sink_of out.old)) result (S.written (sink_of out.new)) (pending out.new) (S.faults (sink_of out.new)) }
+    ensures { Writes (set_off (keyword_text keyword)) status out.old result out.new }
 {
     put_token(keyword.text().as_bytes(), status, out)
 }
 
 fn put_name<S: Sink>(name: &Name, status: Put, out: &mut Pieces<'_, S>) -> Put
-    ensures same_sink { HaveSameSink out.old out.new }
-    ensures writes { Writes (set_off name.now.text) status (S.written (sink_of out.old)) (pending out.old) (S.faults (sink_of out.old)) result (S.written (sink_of out.new)) (pending out.new) (S.faults (sink_of out.new)) }
+    ensures { Writes (set_off name.now.text) status out.old result out.new }
 {
     put_token(name.text.as_bytes(), status, out)
 }
 
 fn put_constant<S: Sink>(constant: &Constant, status: Put, out: &mut Pieces<'_, S>) -> Put
-    ensures same_sink { HaveSameSink out.old out.new }
-    ensures writes { Writes (set_off (said_text (constant_leaf_said constant.now))) status (S.written (sink_of out.old)) (pending out.old) (S.faults (sink_of out.old)) result (S.written (sink_of out.new)) (pending out.new) (S.faults (sink_of out.new)) }
+    ensures { Writes (set_off (said_text (constant_leaf_said constant.now))) status out.old result out.new }
 {
     match constant {
         Constant::Integer(number) => {
@@ -123,8 +87,7 @@ fn sign_byte(sign: Sign) -> u8
 
 #[cycle(printing)]
 fn put_expression<S: Sink>(value: &Expression, status: Put, out: &mut Pieces<'_, S>) -> Put
-    ensures same_sink { HaveSameSink out.old out.new }
-    ensures shows { Shows (exp_tree value.now) (name expression) status (S.written (sink_of out.old)) (pending out.old) (S.faults (sink_of out.old)) result (S.written (sink_of out.new)) (pending out.new) (S.faults (sink_of out.new)) }
+    ensures { Shows (exp_tree value.now) (name expression) status out.old result out.new }
 {
     let begun = put_term(&value.first, status, out);
     put_operations(&value.rest, begun, out)
@@ -133,8 +96,7 @@ fn put_expression<S: Sink>(value: &Expression, status: Put, out: &mut Pieces<'_,
 // Operators with the terms that follow them.
 #[cycle(printing)]
 fn put_operations<S: Sink>(operations: &[Operation], status: Put, out: &mut Pieces<'_, S>) -> Put
-    ensures same_sink { HaveSameSink out.old out.new }
-    ensures shows { Shows (operations_tree operations.now) (repeat operation) status (S.written (sink_of out.old)) (pending out.old) (S.faults (sink_of out.old)) result (S.written (sink_of out.new)) (pending out.new) (S.faults (sink_of out.new)) }
+    ensures { Shows (operations_tree operations.now) (repeat operation) status out.old result out.new }
 {
     let mut status = status;
     for one in operations {
@@ -146,8 +108,7 @@ fn put_operations<S: Sink>(operations: &[Operation], status: Put, out: &mut Piec
 
 #[cycle(printing)]
 fn put_term<S: Sink>(one: &Term, status: Put, out: &mut Pieces<'_, S>) -> Put
-    ensures same_sink { HaveSameSink out.old out.new }
-    ensures shows { Shows (term_tree one.now) (name term) status (S.written (sink_of out.old)) (pending out.old) (S.faults (sink_of out.old)) result (S.written (sink_of out.new)) (pending out.new) (S.faults (sink_of out.new)) }
+    ensures { Shows (term_tree one.now) (name term) status out.old result out.new }
 {
     match one {
         Term::Constant(constant) => put_constant(constant, status, out),
@@ -176,8 +137,7 @@ fn put_term<S: Sink>(one: &Term, status: Put, out: &mut Pieces<'_, S>) -> Put
 
 // The name at the front of a call.
 fn put_front<S: Sink>(call: &Call, status: Put, out: &mut Pieces<'_, S>) -> Put
-    ensures same_sink { HaveSameSink out.old out.new }
-    ensures writes { Writes (set_off (said_text (call_said call.now))) status (S.written (sink_of out.old)) (pending out.old) (S.faults (sink_of out.old)) result (S.written (sink_of out.new)) (pending out.new) (S.faults (sink_of out.new)) }
+    ensures { Writes (set_off (said_text (call_said call.now))) status out.old result out.new }
 {
     match &call.object {
         None => put_name(&call.name, status, out),
@@ -188,8 +148,7 @@ fn put_front<S: Sink>(call: &Call, status: Put, out: &mut Pieces<'_, S>) -> Put
 // What follows that name.
 #[cycle(printing)]
 fn put_invoked<S: Sink>(call: &Call, status: Put, out: &mut Pieces<'_, S>) -> Put
-    ensures same_sink { HaveSameSink out.old out.new }
-    ensures shows { Shows (invoked_tree call.now) invoked status (S.written (sink_of out.old)) (pending out.old) (S.faults (sink_of out.old)) result (S.written (sink_of out.new)) (pending out.new) (S.faults (sink_of out.new)) }
+    ensures { Shows (invoked_tree call.now) invoked status out.old result out.new }
 {
     match &call.object {
         None => {
@@ -209,8 +168,7 @@ fn put_invoked<S: Sink>(call: &Call, status: Put, out: &mut Pieces<'_, S>) -> Pu
 
 #[cycle(printing)]
 fn put_arguments<S: Sink>(values: &[Expression], status: Put, out: &mut Pieces<'_, S>) -> Put
-    ensures same_sink { HaveSameSink out.old out.new }
-    ensures shows { Shows (args_tree values.now) arguments status (S.written (sink_of out.old)) (pending out.old) (S.faults (sink_of out.old)) result (S.written (sink_of out.new)) (pending out.new) (S.faults (sink_of out.new)) }
+    ensures { Shows (args_tree values.now) arguments status out.old result out.new }
 {
     let Some((first, rest)) = values.split_first() else {
         return status;
@@ -225,8 +183,7 @@ fn put_arguments<S: Sink>(values: &[Expression], status: Put, out: &mut Pieces<'
 
 // '(' expression ')'
 fn put_group<S: Sink>(value: &Expression, status: Put, out: &mut Pieces<'_, S>) -> Put
-    ensures same_sink { HaveSameSink out.old out.new }
-    ensures shows { Shows (group_tree value.now) group status (S.written (sink_of out.old)) (pending out.old) (S.faults (sink_of out.old)) result (S.written (sink_of out.new)) (pending out.new) (S.faults (sink_of out.new)) }
+    ensures { Shows (group_tree value.now) group status out.old result out.new }
 {
     let opened = put_symbol(b'(', status, out);
     let inside = put_expression(value, opened, out);
@@ -235,8 +192,7 @@ fn put_group<S: Sink>(value: &Expression, status: Put, out: &mut Pieces<'_, S>) 
 
 // '[' expression ']'
 fn put_subscript<S: Sink>(value: &Expression, status: Put, out: &mut Pieces<'_, S>) -> Put
-    ensures same_sink { HaveSameSink out.old out.new }
-    ensures shows { Shows (group_tree value.now) subscript status (S.written (sink_of out.old)) (pending out.old) (S.faults (sink_of out.old)) result (S.written (sink_of out.new)) (pending out.new) (S.faults (sink_of out.new)) }
+    ensures { Shows (group_tree value.now) subscript status out.old result out.new }
 {
     let opened = put_symbol(b'[', status, out);
     let inside = put_expression(value, opened, out);
@@ -244,9 +200,8 @@ fn put_subscript<S: Sink>(value: &Expression, status: Put, out: &mut Pieces<'_, 
 }
 
 // The index of an element, where one is written.
-fn put_index<S: Sink>(index: &Option<Expression>, status: Put, out: &mut Pieces<'_, S>) -> Put
-    ensures same_sink { HaveSameSink out.old out.new }
-    ensures shows { Shows (index_tree index.now) (option subscript) status (S.written (sink_of out.old)) (pending out.old) (S.faults (sink_of out.old)) result (S.written (sink_of out.new)) (pending out.new) (S.faults (sink_of out.new)) }
+fn put_index<S: Sink>(index: &Option<Box<Expression>>, status: Put, out: &mut Pieces<'_, S>) -> Put
+    ensures { Shows (index_tree index.now) (option subscript) status out.old result out.new }
 {
     match index {
         None => status,
@@ -256,8 +211,7 @@ fn put_index<S: Sink>(index: &Option<Expression>, status: Put, out: &mut Pieces<
 
 // The value that is returned, where one is written.
 fn put_value<S: Sink>(value: &Option<Expression>, status: Put, out: &mut Pieces<'_, S>) -> Put
-    ensures same_sink { HaveSameSink out.old out.new }
-    ensures shows { Shows (value_tree value.now) (option (name expression)) status (S.written (sink_of out.old)) (pending out.old) (S.faults (sink_of out.old)) result (S.written (sink_of out.new)) (pending out.new) (S.faults (sink_of out.new)) }
+    ensures { Shows (value_tree value.now) (option (name expression)) status out.old result out.new }
 {
     match value {
         None => status,
@@ -267,8 +221,7 @@ fn put_value<S: Sink>(value: &Option<Expression>, status: Put, out: &mut Pieces<
 
 #[cycle(printing_statements)]
 fn put_statement<S: Sink>(one: &Statement, status: Put, out: &mut Pieces<'_, S>) -> Put
-    ensures same_sink { HaveSameSink out.old out.new }
-    ensures shows { Shows (statement_tree one.now) (name statement) status (S.written (sink_of out.old)) (pending out.old) (S.faults (sink_of out.old)) result (S.written (sink_of out.new)) (pending out.new) (S.faults (sink_of out.new)) }
+    ensures { Shows (statement_tree one.now) (name statement) status out.old result out.new }
 {
     match one {
         Statement::Let(_, name, index, value) => {
@@ -318,8 +271,7 @@ fn put_statement<S: Sink>(one: &Statement, status: Put, out: &mut Pieces<'_, S>)
 
 #[cycle(printing_statements)]
 fn put_statements<S: Sink>(statements: &[Statement], status: Put, out: &mut Pieces<'_, S>) -> Put
-    ensures same_sink { HaveSameSink out.old out.new }
-    ensures shows { Shows (statements_tree statements.now) (repeat (name statement)) status (S.written (sink_of out.old)) (pending out.old) (S.faults (sink_of out.old)) result (S.written (sink_of out.new)) (pending out.new) (S.faults (sink_of out.new)) }
+    ensures { Shows (statements_tree statements.now) (repeat (name statement)) status out.old result out.new }
 {
     let mut status = status;
     for one in statements {
@@ -329,8 +281,7 @@ fn put_statements<S: Sink>(statements: &[Statement], status: Put, out: &mut Piec
 }
 
 fn put_type<S: Sink>(kind: &Type, status: Put, out: &mut Pieces<'_, S>) -> Put
-    ensures same_sink { HaveSameSink out.old out.new }
-    ensures writes { Writes (set_off (said_text (type_leaf_said kind.now))) status (S.written (sink_of out.old)) (pending out.old) (S.faults (sink_of out.old)) result (S.written (sink_of out.new)) (pending out.new) (S.faults (sink_of out.new)) }
+    ensures { Writes (set_off (said_text (type_leaf_said kind.now))) status out.old result out.new }
 {
     match kind {
         Type::Int => put_keyword(Keyword::Int, status, out),
@@ -341,8 +292,7 @@ fn put_type<S: Sink>(kind: &Type, status: Put, out: &mut Pieces<'_, S>) -> Put
 }
 
 fn put_result<S: Sink>(of: &Option<Type>, status: Put, out: &mut Pieces<'_, S>) -> Put
-    ensures same_sink { HaveSameSink out.old out.new }
-    ensures writes { Writes (set_off (said_text (result_said of.now))) status (S.written (sink_of out.old)) (pending out.old) (S.faults (sink_of out.old)) result (S.written (sink_of out.new)) (pending out.new) (S.faults (sink_of out.new)) }
+    ensures { Writes (set_off (said_text (result_said of.now))) status out.old result out.new }
 {
     match of {
         None => put_keyword(Keyword::Void, status, out),
@@ -351,8 +301,7 @@ fn put_result<S: Sink>(of: &Option<Type>, status: Put, out: &mut Pieces<'_, S>) 
 }
 
 fn put_form<S: Sink>(form: Form, status: Put, out: &mut Pieces<'_, S>) -> Put
-    ensures same_sink { HaveSameSink out.old out.new }
-    ensures writes { Writes (set_off (said_text (form_said form))) status (S.written (sink_of out.old)) (pending out.old) (S.faults (sink_of out.old)) result (S.written (sink_of out.new)) (pending out.new) (S.faults (sink_of out.new)) }
+    ensures { Writes (set_off (said_text (form_said form))) status out.old result out.new }
 {
     match form {
         Form::Constructor => put_keyword(Keyword::Constructor, status, out),
@@ -363,16 +312,14 @@ fn put_form<S: Sink>(form: Form, status: Put, out: &mut Pieces<'_, S>) -> Put
 
 // , name
 fn put_next_name<S: Sink>(name: &Name, status: Put, out: &mut Pieces<'_, S>) -> Put
-    ensures same_sink { HaveSameSink out.old out.new }
-    ensures shows { (x : Counted) → Shows (next_name_tree name.now) (next_name x) status (S.written (sink_of out.old)) (pending out.old) (S.faults (sink_of out.old)) result (S.written (sink_of out.new)) (pending out.new) (S.faults (sink_of out.new)) }
+    ensures { (x : Counted) → Shows (next_name_tree name.now) (next_name x) status out.old result out.new }
 {
     let separated = put_symbol(b',', status, out);
     put_name(name, separated, out)
 }
 
 fn put_more_names<S: Sink>(names: &[Name], status: Put, out: &mut Pieces<'_, S>) -> Put
-    ensures same_sink { HaveSameSink out.old out.new }
-    ensures shows { (x : Counted) → Shows (listed next_name_tree names.now NoMore) (repeat (next_name x)) status (S.written (sink_of out.old)) (pending out.old) (S.faults (sink_of out.old)) result (S.written (sink_of out.new)) (pending out.new) (S.faults (sink_of out.new)) }
+    ensures { (x : Counted) → Shows (listed next_name_tree names.now NoMore) (repeat (next_name x)) status out.old result out.new }
 {
     let mut status = status;
     for one in names {
@@ -382,8 +329,7 @@ fn put_more_names<S: Sink>(names: &[Name], status: Put, out: &mut Pieces<'_, S>)
 }
 
 fn put_names<S: Sink>(names: &Names, status: Put, out: &mut Pieces<'_, S>) -> Put
-    ensures same_sink { HaveSameSink out.old out.new }
-    ensures shows { (x : Counted) → Shows (names_tree names.now) (names_rule x) status (S.written (sink_of out.old)) (pending out.old) (S.faults (sink_of out.old)) result (S.written (sink_of out.new)) (pending out.new) (S.faults (sink_of out.new)) }
+    ensures { (x : Counted) → Shows (names_tree names.now) (names_rule x) status out.old result out.new }
 {
     let begun = put_name(&names.first, status, out);
     put_more_names(&names.more, begun, out)
@@ -397,8 +343,7 @@ fn put_declaration<S: Sink>(
     status: Put,
     out: &mut Pieces<'_, S>,
 ) -> Put
-    ensures same_sink { HaveSameSink out.old out.new }
-    ensures shows { (x : Counted) → Shows (declared_tree kind.now names.now) (declaration word x) status (S.written (sink_of out.old)) (pending out.old) (S.faults (sink_of out.old)) result (S.written (sink_of out.new)) (pending out.new) (S.faults (sink_of out.new)) }
+    ensures { (x : Counted) → Shows (declared_tree kind.now names.now) (declaration word x) status out.old result out.new }
 {
     let begun = put_keyword(word, status, out);
     let typed = put_type(kind, begun, out);
@@ -407,8 +352,7 @@ fn put_declaration<S: Sink>(
 }
 
 fn put_variables<S: Sink>(variables: &ClassVariables, status: Put, out: &mut Pieces<'_, S>) -> Put
-    ensures same_sink { HaveSameSink out.old out.new }
-    ensures shows { Shows (variables_tree variables.now) class_variables status (S.written (sink_of out.old)) (pending out.old) (S.faults (sink_of out.old)) result (S.written (sink_of out.new)) (pending out.new) (S.faults (sink_of out.new)) }
+    ensures { Shows (variables_tree variables.now) class_variables status out.old result out.new }
 {
     let (kind, names) = (&variables.kind, &variables.names);
     match variables.scope {
@@ -418,8 +362,7 @@ fn put_variables<S: Sink>(variables: &ClassVariables, status: Put, out: &mut Pie
 }
 
 fn put_all_variables<S: Sink>(all: &[ClassVariables], status: Put, out: &mut Pieces<'_, S>) -> Put
-    ensures same_sink { HaveSameSink out.old out.new }
-    ensures shows { Shows (listed variables_tree all.now NoMore) (repeat class_variables) status (S.written (sink_of out.old)) (pending out.old) (S.faults (sink_of out.old)) result (S.written (sink_of out.new)) (pending out.new) (S.faults (sink_of out.new)) }
+    ensures { Shows (listed variables_tree all.now NoMore) (repeat class_variables) status out.old result out.new }
 {
     let mut status = status;
     for one in all {
@@ -429,15 +372,13 @@ fn put_all_variables<S: Sink>(all: &[ClassVariables], status: Put, out: &mut Pie
 }
 
 fn put_locals<S: Sink>(locals: &Locals, status: Put, out: &mut Pieces<'_, S>) -> Put
-    ensures same_sink { HaveSameSink out.old out.new }
-    ensures shows { Shows (locals_tree locals.now) locals_rule status (S.written (sink_of out.old)) (pending out.old) (S.faults (sink_of out.old)) result (S.written (sink_of out.new)) (pending out.new) (S.faults (sink_of out.new)) }
+    ensures { Shows (locals_tree locals.now) locals_rule status out.old result out.new }
 {
     put_declaration(Keyword::Var, &locals.kind, &locals.names, status, out)
 }
 
 fn put_all_locals<S: Sink>(all: &[Locals], status: Put, out: &mut Pieces<'_, S>) -> Put
-    ensures same_sink { HaveSameSink out.old out.new }
-    ensures shows { Shows (listed locals_tree all.now NoMore) (repeat locals_rule) status (S.written (sink_of out.old)) (pending out.old) (S.faults (sink_of out.old)) result (S.written (sink_of out.new)) (pending out.new) (S.faults (sink_of out.new)) }
+    ensures { Shows (listed locals_tree all.now NoMore) (repeat locals_rule) status out.old result out.new }
 {
     let mut status = status;
     for one in all {
@@ -447,8 +388,7 @@ fn put_all_locals<S: Sink>(all: &[Locals], status: Put, out: &mut Pieces<'_, S>)
 }
 
 fn put_parameter<S: Sink>(one: &Parameter, status: Put, out: &mut Pieces<'_, S>) -> Put
-    ensures same_sink { HaveSameSink out.old out.new }
-    ensures shows { Shows (parameter_tree one.now) parameter status (S.written (sink_of out.old)) (pending out.old) (S.faults (sink_of out.old)) result (S.written (sink_of out.new)) (pending out.new) (S.faults (sink_of out.new)) }
+    ensures { Shows (parameter_tree one.now) parameter status out.old result out.new }
 {
     let typed = put_type(&one.kind, status, out);
     put_name(&one.name, typed, out)
@@ -456,16 +396,14 @@ fn put_parameter<S: Sink>(one: &Parameter, status: Put, out: &mut Pieces<'_, S>)
 
 // , type name
 fn put_next_parameter<S: Sink>(one: &Parameter, status: Put, out: &mut Pieces<'_, S>) -> Put
-    ensures same_sink { HaveSameSink out.old out.new }
-    ensures shows { Shows (next_parameter_tree one.now) next_parameter status (S.written (sink_of out.old)) (pending out.old) (S.faults (sink_of out.old)) result (S.written (sink_of out.new)) (pending out.new) (S.faults (sink_of out.new)) }
+    ensures { Shows (next_parameter_tree one.now) next_parameter status out.old result out.new }
 {
     let separated = put_symbol(b',', status, out);
     put_parameter(one, separated, out)
 }
 
 fn put_more_parameters<S: Sink>(all: &[Parameter], status: Put, out: &mut Pieces<'_, S>) -> Put
-    ensures same_sink { HaveSameSink out.old out.new }
-    ensures shows { Shows (listed next_parameter_tree all.now NoMore) (repeat next_parameter) status (S.written (sink_of out.old)) (pending out.old) (S.faults (sink_of out.old)) result (S.written (sink_of out.new)) (pending out.new) (S.faults (sink_of out.new)) }
+    ensures { Shows (listed next_parameter_tree all.now NoMore) (repeat next_parameter) status out.old result out.new }
 {
     let mut status = status;
     for one in all {
@@ -475,8 +413,7 @@ fn put_more_parameters<S: Sink>(all: &[Parameter], status: Put, out: &mut Pieces
 }
 
 fn put_parameters<S: Sink>(all: &[Parameter], status: Put, out: &mut Pieces<'_, S>) -> Put
-    ensures same_sink { HaveSameSink out.old out.new }
-    ensures shows { Shows (parameters_tree all.now) parameters status (S.written (sink_of out.old)) (pending out.old) (S.faults (sink_of out.old)) result (S.written (sink_of out.new)) (pending out.new) (S.faults (sink_of out.new)) }
+    ensures { Shows (parameters_tree all.now) parameters status out.old result out.new }
 {
     let Some((first, more)) = all.split_first() else {
         return status;
@@ -486,8 +423,7 @@ fn put_parameters<S: Sink>(all: &[Parameter], status: Put, out: &mut Pieces<'_, 
 }
 
 fn put_subroutine<S: Sink>(one: &Subroutine, status: Put, out: &mut Pieces<'_, S>) -> Put
-    ensures same_sink { HaveSameSink out.old out.new }
-    ensures shows { Shows (subroutine_tree one.now) subroutine status (S.written (sink_of out.old)) (pending out.old) (S.faults (sink_of out.old)) result (S.written (sink_of out.new)) (pending out.new) (S.faults (sink_of out.new)) }
+    ensures { Shows (subroutine_tree one.now) subroutine status out.old result out.new }
 {
     let formed = put_form(one.form, status, out);
     let typed = put_result(&one.result, formed, out);
@@ -502,8 +438,7 @@ fn put_subroutine<S: Sink>(one: &Subroutine, status: Put, out: &mut Pieces<'_, S
 }
 
 fn put_subroutines<S: Sink>(all: &[Subroutine], status: Put, out: &mut Pieces<'_, S>) -> Put
-    ensures same_sink { HaveSameSink out.old out.new }
-    ensures shows { Shows (listed subroutine_tree all.now NoMore) (repeat subroutine) status (S.written (sink_of out.old)) (pending out.old) (S.faults (sink_of out.old)) result (S.written (sink_of out.new)) (pending out.new) (S.faults (sink_of out.new)) }
+    ensures { Shows (listed subroutine_tree all.now NoMore) (repeat subroutine) status out.old result out.new }
 {
     let mut status = status;
     for one in all {
@@ -513,8 +448,7 @@ fn put_subroutines<S: Sink>(all: &[Subroutine], status: Put, out: &mut Pieces<'_
 }
 
 fn put_class<S: Sink>(class: &Class, status: Put, out: &mut Pieces<'_, S>) -> Put
-    ensures same_sink { HaveSameSink out.old out.new }
-    ensures shows { Shows (class_tree class.now) class_rule status (S.written (sink_of out.old)) (pending out.old) (S.faults (sink_of out.old)) result (S.written (sink_of out.new)) (pending out.new) (S.faults (sink_of out.new)) }
+    ensures { Shows (class_tree class.now) class_rule status out.old result out.new }
 {
     let begun = put_keyword(Keyword::Class, status, out);
     let named = put_name(&class.name, begun, out);
@@ -531,10 +465,8 @@ fn put_all<S: Sink>(class: &Class, out: &mut Pieces<'_, S>) -> Put
     ensures put { Puts (S.written (sink_of out.old)) (S.written (sink_of out.new)) (class_text class.now) result }
     ensures counts { CountsPut (S.faults (sink_of out.old)) (S.faults (sink_of out.new)) result }
 {
-    match put_class(class, Put::Done, out) {
-        Put::Done => out.finish(),
-        Put::Failed => Put::Failed,
-    }
+    let status = put_class(class, Put::Done, out);
+    put_rest(status, out)
 }
 
 /// Prints a class: its tokens with one space between them, and a line feed in its place behind `{`, `}` and `;`. It takes no memory.

@@ -8,9 +8,9 @@ ghost use Rattle.grammar.specs.Reading.{ParsesAllBy, Halt, Gives, end_at, Ends};
 ghost use Rattle.jack_tree.specs.Syntax as syntax;
 ghost use Rattle.jack_tree.specs.Seen.{the_class};
 ghost use Rattle.jack_tree.specs.Tokens.{view};
-ghost use Rattle.jack_parser.specs.Jack.{jack, Said, fresh, whole};
+ghost use Rattle.jack_parser.specs.Grammar.{jack, Said, fresh, whole};
 ghost use Rattle.jack_parser.specs.Spelled.{SpellsClass};
-ghost use Rattle.jack_parser.specs.Whole.{whole_tree, Spells, Refuses};
+ghost use Rattle.jack_parser.specs.Spells.{whole_tree, Spells, Refuses};
 
 use crate::classes::class;
 use crate::counts::{Counts, fresh};

@@ -4,7 +4,7 @@ ghost use Rattle.std.specs.Prelude.{◌≡◌, ◌<◌, ◌≤◌, ◌-◌, ◌+
 ghost use Rattle.grammar.specs.Reading.{ParsesBy, PassesBy, Halt};
 ghost use Rattle.grammar.specs.Rules.{name, option, repeat};
 ghost use Rattle.jack_tree.specs.Tokens.{view};
-ghost use Rattle.jack_parser.specs.Jack.{jack, expression, statement, subscript, block, any_statement, else_rule};
+ghost use Rattle.jack_parser.specs.Grammar.{jack, expression, statement, subscript, block, any_statement, else_rule};
 ghost use Rattle.jack_parser.specs.Starts.{Lets, Ifs, Whiles, Does, Returns};
 ghost use Rattle.jack_parser.specs.StatementTrees.{index_tree, value_tree, any_tree, statement_tree, statements_tree, block_tree, else_tree};
 
@@ -26,7 +26,7 @@ fn index<'a>(
     tokens: &'a [Token<'a>],
     end: Place,
     counts: Counts,
-) -> Result<(Option<Expression>, &'a [Token<'a>]), ReadError>
+) -> Result<(Option<Box<Expression>>, &'a [Token<'a>]), ReadError>
     ensures reads { ParsesBy view (jack end) (option subscript) index_tree (λ _. counts) counts tokens.now result }
     ensures no_longer { IfOk result (λ r. length r.1.now ≤ length tokens.now) }
 {
@@ -36,7 +36,7 @@ fn index<'a>(
     let rest = symbol(tokens, end, counts, b'[')?;
     let (index, rest) = nested(alloc, rest, end, counts)?;
     let rest = symbol(rest, end, counts, b']')?;
-    Ok((Some(index), rest))
+    Ok((Some(Box::new(alloc, index)?), rest))
 }
 
 #[tactic(auto, using(crate::proofs::Exits::statement_exits))]

@@ -1,11 +1,12 @@
 //! Readers of one token.
+#![tactic(auto, using(grammar::proofs::OneToken::one_token))]
 
 ghost use Rattle.jack_tree.specs.Tokens.{view};
 ghost use Rattle.std.specs.Prelude.{map, ◌≡◌, ◌<◌, ◌≤◌, ◌-◌, ◌+◌, ◌^◌, take, drop, length, Some, None, Result, Ok, List, IfOk, ℕ, IfSome, is_some, [], ◌||◌};
 ghost use Rattle.std.specs.Str.{IsAscii};
-ghost use Rattle.grammar.specs.Reading.{ParsesBy, PassesBy, Gives, word_at, mark_at};
+ghost use Rattle.grammar.specs.Reading.{ParsesBy, PassesBy};
 ghost use Rattle.grammar.specs.Rules.{Leaf, next, here};
-ghost use Rattle.jack_parser.specs.Jack.{jack, is_symbol, is_keyword, is_identifier, is_constant, free, check_constant, named, placed, fixed, constant_said, identifier, constant, operator, unary, key, operates, negates, term_opens, statement_opens, count, counted_name, Said, symbol_of, keyword_of, is_operator, is_unary, unquoted};
+ghost use Rattle.jack_parser.specs.Grammar.{jack, is_symbol, is_keyword, is_identifier, is_constant, free, check_constant, named, placed, fixed, constant_said, identifier, constant, operator, unary, key, operates, negates, term_opens, statement_opens, count, counted_name, Said, symbol_of, keyword_of, is_operator, is_unary, unquoted};
 ghost use Rattle.jack_parser.specs.Starts.{start_of};
 ghost use Rattle.jack_parser.specs.Trees.{name_said, operator_said, operator_byte, sign_said, sign_byte, constant_leaf_said, IsString};
 
@@ -22,12 +23,13 @@ pub fn grammar_fault(place: Place) -> ReadError
     ReadError::Fault(Fault::Grammar(place))
 }
 
-fn symbol_at<'a>(
+pub fn symbol<'a>(
     tokens: &'a [Token<'a>],
     end: Place,
+    counts: Counts,
     sign: u8,
 ) -> Result<&'a [Token<'a>], ReadError>
-    ensures reads { Gives (λ x. map view x.now) result (mark_at (jack end) (is_symbol sign) (map view tokens.now)) }
+    ensures reads { PassesBy view (jack end) (symbol_of sign) counts tokens.now result }
     ensures shorter { IfOk result (λ r. length r.now < length tokens.now) }
 {
     let Some((token, rest)) = tokens.split_first() else {
@@ -42,24 +44,13 @@ fn symbol_at<'a>(
     Ok(rest)
 }
 
-pub fn symbol<'a>(
+pub fn keyword<'a>(
     tokens: &'a [Token<'a>],
     end: Place,
     counts: Counts,
-    sign: u8,
-) -> Result<&'a [Token<'a>], ReadError>
-    ensures reads { PassesBy view (jack end) (symbol_of sign) counts tokens.now result }
-    ensures shorter { IfOk result (λ r. length r.now < length tokens.now) }
-{
-    symbol_at(tokens, end, sign)
-}
-
-fn keyword_at<'a>(
-    tokens: &'a [Token<'a>],
-    end: Place,
     keyword: Keyword,
 ) -> Result<&'a [Token<'a>], ReadError>
-    ensures reads { Gives (λ x. map view x.now) result (mark_at (jack end) (is_keyword keyword) (map view tokens.now)) }
+    ensures reads { PassesBy view (jack end) (keyword_of keyword) counts tokens.now result }
     ensures shorter { IfOk result (λ r. length r.now < length tokens.now) }
 {
     let Some((token, rest)) = tokens.split_first() else {
@@ -75,24 +66,14 @@ fn keyword_at<'a>(
     }
 }
 
-pub fn keyword<'a>(
+/// A keyword, whose place is told.
+pub fn key<'a>(
     tokens: &'a [Token<'a>],
     end: Place,
     counts: Counts,
     keyword: Keyword,
-) -> Result<&'a [Token<'a>], ReadError>
-    ensures reads { PassesBy view (jack end) (keyword_of keyword) counts tokens.now result }
-    ensures shorter { IfOk result (λ r. length r.now < length tokens.now) }
-{
-    keyword_at(tokens, end, keyword)
-}
-
-fn key_at<'a>(
-    tokens: &'a [Token<'a>],
-    end: Place,
-    keyword: Keyword,
 ) -> Result<(Place, &'a [Token<'a>]), ReadError>
-    ensures reads { (counts : Counts) → Gives (λ x. (Said.Placed (Kind.Keyword keyword) [] x.0, counts, map view x.1.now)) result (word_at (jack end) (is_keyword keyword) free placed counts (map view tokens.now)) }
+    ensures reads { ParsesBy view (jack end) (key keyword) (λ at. Leaf (Said.Placed (Kind.Keyword keyword) [] at)) (λ _. counts) counts tokens.now result }
     ensures shorter { IfOk result (λ r. length r.1.now < length tokens.now) }
 {
     let Some((token, rest)) = tokens.split_first() else {
@@ -108,36 +89,6 @@ fn key_at<'a>(
     }
 }
 
-/// A keyword, whose place is told.
-pub fn key<'a>(
-    tokens: &'a [Token<'a>],
-    end: Place,
-    counts: Counts,
-    keyword: Keyword,
-) -> Result<(Place, &'a [Token<'a>]), ReadError>
-    ensures reads { ParsesBy view (jack end) (key keyword) (λ at. Leaf (Said.Placed (Kind.Keyword keyword) [] at)) (λ _. counts) counts tokens.now result }
-    ensures shorter { IfOk result (λ r. length r.1.now < length tokens.now) }
-{
-    key_at(tokens, end, keyword)
-}
-
-fn identifier_at<'a>(
-    alloc: Global,
-    tokens: &'a [Token<'a>],
-    end: Place,
-) -> Result<(Name, &'a [Token<'a>]), ReadError>
-    ensures reads { (counts : Counts) → Gives (λ x. (name_said x.0, counts, map view x.1.now)) result (word_at (jack end) is_identifier free named counts (map view tokens.now)) }
-    ensures shorter { IfOk result (λ r. length r.1.now < length tokens.now) }
-{
-    let Some((token, rest)) = tokens.split_first() else {
-        return Err(grammar_fault(end));
-    };
-    let Kind::Identifier = token.kind else {
-        return Err(grammar_fault(token.place));
-    };
-    Ok((name_of(alloc, token)?, rest))
-}
-
 pub fn identifier<'a>(
     alloc: Global,
     tokens: &'a [Token<'a>],
@@ -147,27 +98,13 @@ pub fn identifier<'a>(
     ensures reads { ParsesBy view (jack end) identifier (λ x. Leaf (name_said x)) (λ _. counts) counts tokens.now result }
     ensures shorter { IfOk result (λ r. length r.1.now < length tokens.now) }
 {
-    identifier_at(alloc, tokens, end)
-}
-
-fn counted_name_at<'a>(
-    alloc: Global,
-    tokens: &'a [Token<'a>],
-    end: Place,
-    counts: Counts,
-    counted: Counted,
-) -> Result<((Name, Counts), &'a [Token<'a>]), ReadError>
-    ensures reads { Gives (λ x. (name_said x.0.0, x.0.1, map view x.1.now)) result (word_at (jack end) is_identifier (λ s t. count counted s t.place) named counts (map view tokens.now)) }
-    ensures shorter { IfOk result (λ r. length r.1.now < length tokens.now) }
-{
     let Some((token, rest)) = tokens.split_first() else {
         return Err(grammar_fault(end));
     };
     let Kind::Identifier = token.kind else {
         return Err(grammar_fault(token.place));
     };
-    let counts = count(counted, counts, token.place)?;
-    Ok(((name_of(alloc, token)?, counts), rest))
+    Ok((name_of(alloc, token)?, rest))
 }
 
 /// A name that is one more of what is counted.
@@ -181,7 +118,14 @@ pub fn counted_name<'a>(
     ensures reads { ParsesBy view (jack end) (counted_name counted) (λ x. Leaf (name_said x.0)) (λ x. x.1) counts tokens.now result }
     ensures shorter { IfOk result (λ r. length r.1.now < length tokens.now) }
 {
-    counted_name_at(alloc, tokens, end, counts, counted)
+    let Some((token, rest)) = tokens.split_first() else {
+        return Err(grammar_fault(end));
+    };
+    let Kind::Identifier = token.kind else {
+        return Err(grammar_fault(token.place));
+    };
+    let counts = count(counted, counts, token.place)?;
+    Ok(((name_of(alloc, token)?, counts), rest))
 }
 
 fn operator_of(byte: u8) -> Option<Operator>
@@ -213,11 +157,13 @@ fn sign_of(byte: u8) -> Option<Sign>
     }
 }
 
-fn operator_at<'a>(
+/// An operator and its place.
+pub fn operator<'a>(
     tokens: &'a [Token<'a>],
     end: Place,
+    counts: Counts,
 ) -> Result<((Operator, Place), &'a [Token<'a>]), ReadError>
-    ensures reads { (counts : Counts) → Gives (λ x. (operator_said x.0.0 x.0.1, counts, map view x.1.now)) result (word_at (jack end) operates free placed counts (map view tokens.now)) }
+    ensures reads { ParsesBy view (jack end) operator (λ x. Leaf (operator_said x.0 x.1)) (λ _. counts) counts tokens.now result }
     ensures shorter { IfOk result (λ r. length r.1.now < length tokens.now) }
 {
     let Some((token, rest)) = tokens.split_first() else {
@@ -232,20 +178,12 @@ fn operator_at<'a>(
     Ok(((operator, token.place), rest))
 }
 
-/// An operator and its place.
-pub fn operator<'a>(
+pub fn unary<'a>(
     tokens: &'a [Token<'a>],
     end: Place,
     counts: Counts,
-) -> Result<((Operator, Place), &'a [Token<'a>]), ReadError>
-    ensures reads { ParsesBy view (jack end) operator (λ x. Leaf (operator_said x.0 x.1)) (λ _. counts) counts tokens.now result }
-    ensures shorter { IfOk result (λ r. length r.1.now < length tokens.now) }
-{
-    operator_at(tokens, end)
-}
-
-fn unary_at<'a>(tokens: &'a [Token<'a>], end: Place) -> Result<(Sign, &'a [Token<'a>]), ReadError>
-    ensures reads { (counts : Counts) → Gives (λ x. (sign_said x.0, counts, map view x.1.now)) result (word_at (jack end) negates free fixed counts (map view tokens.now)) }
+) -> Result<(Sign, &'a [Token<'a>]), ReadError>
+    ensures reads { ParsesBy view (jack end) unary (λ x. Leaf (sign_said x)) (λ _. counts) counts tokens.now result }
     ensures shorter { IfOk result (λ r. length r.1.now < length tokens.now) }
 {
     let Some((token, rest)) = tokens.split_first() else {
@@ -258,17 +196,6 @@ fn unary_at<'a>(tokens: &'a [Token<'a>], end: Place) -> Result<(Sign, &'a [Token
         return Err(grammar_fault(token.place));
     };
     Ok((sign, rest))
-}
-
-pub fn unary<'a>(
-    tokens: &'a [Token<'a>],
-    end: Place,
-    counts: Counts,
-) -> Result<(Sign, &'a [Token<'a>]), ReadError>
-    ensures reads { ParsesBy view (jack end) unary (λ x. Leaf (sign_said x)) (λ _. counts) counts tokens.now result }
-    ensures shorter { IfOk result (λ r. length r.1.now < length tokens.now) }
-{
-    unary_at(tokens, end)
 }
 
 fn unquoted(text: &[u8]) -> &[u8]
@@ -294,12 +221,13 @@ fn string(alloc: Global, text: &[u8], place: Place) -> Result<Constant, ReadErro
     }))
 }
 
-fn constant_at<'a>(
+pub fn constant<'a>(
     alloc: Global,
     tokens: &'a [Token<'a>],
     end: Place,
+    counts: Counts,
 ) -> Result<(Constant, &'a [Token<'a>]), ReadError>
-    ensures reads { (counts : Counts) → Gives (λ x. (constant_leaf_said x.0, counts, map view x.1.now)) result (word_at (jack end) is_constant check_constant constant_said counts (map view tokens.now)) }
+    ensures reads { ParsesBy view (jack end) constant (λ x. Leaf (constant_leaf_said x)) (λ _. counts) counts tokens.now result }
     ensures shorter { IfOk result (λ r. length r.1.now < length tokens.now) }
 {
     let Some((token, rest)) = tokens.split_first() else {
@@ -314,18 +242,6 @@ fn constant_at<'a>(
         Kind::Keyword(Keyword::This) => Ok((Constant::This(token.place), rest)),
         _ => Err(grammar_fault(token.place)),
     }
-}
-
-pub fn constant<'a>(
-    alloc: Global,
-    tokens: &'a [Token<'a>],
-    end: Place,
-    counts: Counts,
-) -> Result<(Constant, &'a [Token<'a>]), ReadError>
-    ensures reads { ParsesBy view (jack end) constant (λ x. Leaf (constant_leaf_said x)) (λ _. counts) counts tokens.now result }
-    ensures shorter { IfOk result (λ r. length r.1.now < length tokens.now) }
-{
-    constant_at(alloc, tokens, end)
 }
 
 /// An operator comes next.

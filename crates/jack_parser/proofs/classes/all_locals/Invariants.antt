@@ -3,7 +3,7 @@ use Rattle.grammar.proofs.Repeats.{Along}
 use Rattle.jack_tree.specs.declared.tree.Locals.{Locals}
 use Rattle.jack_tree.specs.Tokens.{Word, view}
 use Rattle.jack_parser.specs.declared.counts.Counts.{Counts}
-use Rattle.jack_parser.specs.Jack.{jack, Part, Said, locals_rule}
+use Rattle.jack_parser.specs.Grammar.{jack, Part, Said, locals_rule}
 use Rattle.jack_parser.specs.ClassTrees.{locals_tree}
 use Rattle.jack_parser.proofs.classes.all_locals.Given as goal
 

@@ -3,7 +3,7 @@ use Rattle.grammar.proofs.Repeats.{Along}
 use Rattle.jack_tree.specs.declared.tree.ClassVariables.{ClassVariables}
 use Rattle.jack_tree.specs.Tokens.{Word, view}
 use Rattle.jack_parser.specs.declared.counts.Counts.{Counts}
-use Rattle.jack_parser.specs.Jack.{jack, Part, Said, class_variables}
+use Rattle.jack_parser.specs.Grammar.{jack, Part, Said, class_variables}
 use Rattle.jack_parser.specs.ClassTrees.{variables_tree}
 use Rattle.jack_parser.proofs.classes.all_variables.Given as goal
 

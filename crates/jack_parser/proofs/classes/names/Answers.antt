@@ -3,7 +3,7 @@ use Rattle.std.proofs.lemmas.Result.{err_from_is_err_and}
 use Rattle.grammar.specs.Rules.{both}
 use Rattle.grammar.proofs.Repeats.{Along-start, Along-more, Along-ended, Along-halts}
 use Rattle.grammar.proofs.Exits.{halt_first, halt_second}
-use Rattle.jack_parser.specs.Jack.{jack, next_name}
+use Rattle.jack_parser.specs.Grammar.{jack, next_name}
 use Rattle.jack_parser.specs.ClassTrees.{next_name_tree}
 use Rattle.jack_parser.proofs.classes.names.Goals as goal
 

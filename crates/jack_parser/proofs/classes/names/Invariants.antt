@@ -3,7 +3,7 @@ use Rattle.grammar.proofs.Repeats.{Along}
 use Rattle.jack_tree.specs.declared.tree.Name.{Name}
 use Rattle.jack_tree.specs.Tokens.{Word, view}
 use Rattle.jack_parser.specs.declared.counts.Counts.{Counts}
-use Rattle.jack_parser.specs.Jack.{jack, Part, Said, next_name}
+use Rattle.jack_parser.specs.Grammar.{jack, Part, Said, next_name}
 use Rattle.jack_parser.specs.ClassTrees.{next_name_tree}
 use Rattle.jack_parser.proofs.classes.names.Given as goal
 

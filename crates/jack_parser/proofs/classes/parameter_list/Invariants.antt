@@ -3,7 +3,7 @@ use Rattle.grammar.specs.Rules.{repeat}
 use Rattle.grammar.proofs.Continues.{Continues}
 use Rattle.jack_tree.specs.Tokens.{Word, view}
 use Rattle.jack_parser.specs.declared.counts.Counts.{Counts}
-use Rattle.jack_parser.specs.Jack.{jack, Part, Said, parameter_list, next_parameter}
+use Rattle.jack_parser.specs.Grammar.{jack, Part, Said, parameter_list, next_parameter}
 use Rattle.jack_parser.specs.ClassTrees.{parameters_with}
 use Rattle.jack_parser.proofs.classes.parameter_list.Given as goal
 

@@ -3,7 +3,7 @@ use Rattle.std.proofs.lemmas.Result.{err_from_is_err_and}
 use Rattle.grammar.specs.Rules.{ended}
 use Rattle.grammar.proofs.Repeats.{Along-start, Along-more, Along-ended, Along-halts}
 use Rattle.grammar.proofs.Exits.{halt_repeat}
-use Rattle.jack_parser.specs.Jack.{jack, subroutine}
+use Rattle.jack_parser.specs.Grammar.{jack, subroutine}
 use Rattle.jack_parser.specs.ClassTrees.{subroutine_tree}
 use Rattle.jack_parser.proofs.classes.subroutines.Goals as goal
 

@@ -7,7 +7,7 @@ use Rattle.grammar.proofs.Steps.{next_left, next_right}
 use Rattle.grammar.proofs.Continues.{begun_seq, begun_name, go_on_as, done, halt_more}
 use Rattle.grammar.proofs.Exits.{halt_first, halt_second, halt_left, halt_right, halt_option, halt_within, halt_within_at, halt_too_far, inside_at}
 use Rattle.jack_tree.specs.Tokens.{view}
-use Rattle.jack_parser.specs.Jack.{deeper, is_symbol}
+use Rattle.jack_parser.specs.Grammar.{deeper, is_symbol}
 use Rattle.jack_parser.proofs.Arguments.{list_with-push, args_tree-some, grown, made_expression, made_invoked}
 use Rattle.jack_parser.proofs.Exits.{halt_variable}
 use Rattle.jack_parser.proofs.Terms.{variable_term, negation_term, no_term}

@@ -3,7 +3,7 @@ use Rattle.grammar.specs.Rules.{name, repeat, here, Node, Pair, listed}
 use Rattle.grammar.proofs.Continues.{Continues}
 use Rattle.jack_tree.specs.Tokens.{Word, view}
 use Rattle.jack_parser.specs.declared.counts.Counts.{Counts}
-use Rattle.jack_parser.specs.Jack.{jack, Part, Said, deeper, expression, operation, argument_list, next_argument}
+use Rattle.jack_parser.specs.Grammar.{jack, Part, Said, deeper, expression, operation, argument_list, next_argument}
 use Rattle.jack_parser.specs.Trees.{term_tree, operation_tree, list_with}
 use Rattle.jack_parser.proofs.expressions.+reading.Given as goal
 

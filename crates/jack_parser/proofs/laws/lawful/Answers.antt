@@ -1,7 +1,7 @@
 use Rattle.std.proofs.Common.{◌≡◌, false, refl}
 use Rattle.grammar.specs.Rules.{begins, is_empty}
 use Rattle.jack_tree.specs.Tokens.{Word}
-use Rattle.jack_parser.specs.Jack.{Part, expression, term, statement, rule_of, opens}
+use Rattle.jack_parser.specs.Grammar.{Part, expression, term, statement, rule_of, opens}
 use Rattle.jack_parser.proofs.laws.lawful.Goals as goal
 
 firsts : (n : Part) (t : Word) → opens n t ≡ begins opens (rule_of n) t

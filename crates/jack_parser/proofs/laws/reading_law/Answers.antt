@@ -1,6 +1,6 @@
 use Rattle.grammar.proofs.Wholes.{one_reading}
-use Rattle.jack_lexer.specs.Cut.{tokens_of, finish}
-use Rattle.jack_parser.specs.Jack.{jack, whole, fresh}
+use Rattle.jack_lexer.specs.Tokens.{tokens_of, finish}
+use Rattle.jack_parser.specs.Grammar.{jack, whole, fresh}
 use Rattle.jack_parser.proofs.laws.reading_law.Goals as goal
 
 pub returns : goal.returns

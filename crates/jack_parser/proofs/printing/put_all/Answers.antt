@@ -1,26 +1,16 @@
-use Rattle.std.proofs.Common.{List, ℕ, take, subst}
-use Rattle.outer_world.specs.Written.{Passes}
-use Rattle.outer_world.specs.declared.sink.Put.TheVariants as put
-use Rattle.outer_world.specs.Written.{CountsPut}
-use Rattle.outer_world.proofs.Passing.{Puts-finished, Puts-failed}
-use Rattle.jack_parser.specs.Printed.{class_text}
-use Rattle.jack_parser.proofs.Shown.{text_class, writes_is}
+use Rattle.std.proofs.Common.{sym, ◌∙◌}
+use Rattle.scan_text.specs.Text.{start}
+use Rattle.grammar.proofs.Shown.{writes_is, put_whole, text_whole}
+use Rattle.jack_parser.specs.Grammar.{jack, class_rule}
+use Rattle.jack_parser.specs.ClassTrees.{class_tree}
+use Rattle.jack_parser.specs.Printed.{said_text}
 use Rattle.jack_parser.proofs.printing.put_all.Goals as goal
 
-pub returns-in-Done-clause-put : goal.returns-in-Done-clause-put
-returns-in-Done-clause-put g c =
-    let P : List ℕ → Type 0 = λ p. Passes (g.S.Sink.written c.args.out.now.sink.now) p (g.S.Sink.written c.put_class.new.out.sink.now) (take c.put_class.new.out.len c.put_class.new.out.buffer) (class_text c.args.class.now) put.Done in
-    let h = writes_is (text_class c.args.class.now) c.in-Done.ensures.shows.writes in
-    Puts-finished _ _ _ _ _ _ (subst P c.requires h.told.0) c.finish.ensures.put
+pub returns-clause-same_sink : goal.returns-clause-same_sink
+returns-clause-same_sink g c = c.put_rest.ensures.same_sink ∙ c.put_class-status.ensures.writes.same_sink
 
-pub returns-in-Done-clause-counts : goal.returns-in-Done-clause-counts
-returns-in-Done-clause-counts g c = subst (λ (n : ℕ). CountsPut n (g.S.Sink.faults c.finish.new.self.sink.now) c.finish.result) c.in-Done.ensures.shows.writes.told.1 c.finish.ensures.counts
+pub returns-clause-put : goal.returns-clause-put
+returns-clause-put g c = (put_whole c.requires (writes_is (sym (text_whole (jack start) said_text (class_tree c.args.class.now) class_rule)) c.put_class-status.ensures.writes) c.put_rest.ensures).0
 
-pub returns-in-Failed-clause-put : goal.returns-in-Failed-clause-put
-returns-in-Failed-clause-put g c =
-    let P : List ℕ → Type 0 = λ p. Passes (g.S.Sink.written c.args.out.now.sink.now) p (g.S.Sink.written c.put_class.new.out.sink.now) (take c.put_class.new.out.len c.put_class.new.out.buffer) (class_text c.args.class.now) put.Failed in
-    let h = writes_is (text_class c.args.class.now) c.in-Failed.ensures.shows.writes in
-    Puts-failed _ _ _ _ (subst P c.requires h.told.0)
-
-pub returns-in-Failed-clause-counts : goal.returns-in-Failed-clause-counts
-returns-in-Failed-clause-counts g c = c.in-Failed.ensures.shows.writes.told.1
+pub returns-clause-counts : goal.returns-clause-counts
+returns-clause-counts g c = (put_whole c.requires c.put_class-status.ensures.writes c.put_rest.ensures).1

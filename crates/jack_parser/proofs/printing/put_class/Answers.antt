@@ -1,5 +1,5 @@
-use Rattle.jack_parser.proofs.Shown.{shows_both, shows_mark, shows_word}
+use Rattle.grammar.proofs.Shown.{shows_both, shows_mark, shows_word}
 use Rattle.jack_parser.proofs.printing.put_class.Goals as goal
 
-pub returns-clause-shows : goal.returns-clause-shows
-returns-clause-shows g c = shows_both (shows_mark c.put_keyword-begun.ensures.writes) (shows_both (shows_word c.put_name-named.ensures.writes) (shows_both (shows_mark c.put_symbol-opened.ensures.writes) (shows_both (rw c.deref.ensures.value at c.put_all_variables-declared.ensures.shows) (shows_both (rw c.deref-2.ensures.value at c.put_subroutines-defined.ensures.shows) (shows_mark c.put_symbol.ensures.writes)))))
+pub returns : goal.returns
+returns g c = shows_both (shows_mark c.put_keyword-begun.ensures) (shows_both (shows_word c.put_name-named.ensures) (shows_both (shows_mark c.put_symbol-opened.ensures) (shows_both (rw c.deref.ensures.value at c.put_all_variables-declared.ensures) (shows_both (rw c.deref-2.ensures.value at c.put_subroutines-defined.ensures) (shows_mark c.put_symbol.ensures)))))

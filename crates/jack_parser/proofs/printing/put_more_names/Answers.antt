@@ -1,15 +1,11 @@
-use Rattle.std.proofs.Common.{◌∙◌, refl}
-use Rattle.jack_parser.proofs.Shown.{each_start, each_next, each_done}
+use Rattle.grammar.proofs.Shown.{each_start, each_next, each_done}
 use Rattle.jack_parser.proofs.printing.put_more_names.Goals as goal
 
 pub loop-one-init : goal.loop-one-init
-loop-one-init g c = (refl, λ x. each_start c.args.names.now)
+loop-one-init g c = λ x. each_start c.args.names.now
 
 pub loop-one-preserved : goal.loop-one-preserved
-loop-one-preserved g c = (c.put_next_name-status.ensures.same_sink ∙ c.loop-one.invariant.0, λ x. each_next c.args.names.now c.loop-one.one-index c.one-item.result c.loop-one-test.true c.one-item.is (c.loop-one.invariant.1 x) (c.put_next_name-status.ensures.shows x))
+loop-one-preserved g c = λ x. each_next c.args.names.now c.loop-one.one-index c.one-item.result c.loop-one-test.true c.one-item.is (c.loop-one.invariant x) (c.put_next_name-status.ensures x)
 
-pub returns-clause-same_sink : goal.returns-clause-same_sink
-returns-clause-same_sink g c = c.loop-one.invariant.0
-
-pub returns-clause-shows : goal.returns-clause-shows
-returns-clause-shows g c = λ x. each_done c.args.names.now c.loop-one-test.false (c.loop-one.invariant.1 x)
+pub returns : goal.returns
+returns g c = λ x. each_done c.args.names.now c.loop-one-test.false (c.loop-one.invariant x)

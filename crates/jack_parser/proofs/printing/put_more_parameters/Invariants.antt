@@ -1,10 +1,10 @@
-use Rattle.std.proofs.Common.{◌≡◌, [], take}
-use Rattle.jack_parser.specs.Jack.{next_parameter}
+use Rattle.std.proofs.Common.{[], take}
+use Rattle.scan_text.specs.Text.{start}
+use Rattle.jack_parser.specs.Grammar.{jack, next_parameter}
 use Rattle.jack_parser.specs.ClassTrees.{next_parameter_tree}
-use Rattle.jack_parser.proofs.Shown.{ShowsEach}
+use Rattle.jack_parser.specs.Printed.{said_text}
+use Rattle.grammar.proofs.Shown.{ShowsEach}
 use Rattle.jack_parser.proofs.printing.put_more_parameters.Given as goal
 
 abbrev pub invariant-loop-one : goal.invariant-loop-one
-invariant-loop-one g l = (l.out.sink.ghost_name ≡ l.fn.out.sink.ghost_name)
-    × ShowsEach [] next_parameter_tree next_parameter (take l.one-index l.all) l.fn.status (g.S.Sink.written l.fn.out.sink.now) (take l.fn.out.len l.fn.out.buffer) (g.S.Sink.faults l.fn.out.sink.now)
-    l.status (g.S.Sink.written l.out.sink.now) (take l.out.len l.out.buffer) (g.S.Sink.faults l.out.sink.now)
+invariant-loop-one g l = ShowsEach (jack start) said_text [] next_parameter_tree next_parameter (take l.one-index l.all) l.fn.status l.fn.out l.status l.out

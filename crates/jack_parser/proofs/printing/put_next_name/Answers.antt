@@ -1,5 +1,5 @@
-use Rattle.jack_parser.proofs.Shown.{shows_both, shows_mark, shows_word}
+use Rattle.grammar.proofs.Shown.{shows_both, shows_mark, shows_word}
 use Rattle.jack_parser.proofs.printing.put_next_name.Goals as goal
 
-pub returns-clause-shows : goal.returns-clause-shows
-returns-clause-shows g c = λ x. shows_both (shows_mark c.put_symbol-separated.ensures.writes) (shows_word c.put_name.ensures.writes)
+pub returns : goal.returns
+returns g c = λ x. shows_both (shows_mark c.put_symbol-separated.ensures) (shows_word c.put_name.ensures)

@@ -1,5 +1,5 @@
-use Rattle.jack_parser.proofs.Shown.{shows_both, shows_word}
+use Rattle.grammar.proofs.Shown.{shows_both, shows_word}
 use Rattle.jack_parser.proofs.printing.put_parameter.Goals as goal
 
-pub returns-clause-shows : goal.returns-clause-shows
-returns-clause-shows g c = shows_both (shows_word c.put_type-typed.ensures.writes) (shows_word c.put_name.ensures.writes)
+pub returns : goal.returns
+returns g c = shows_both (shows_word c.put_type-typed.ensures) (shows_word c.put_name.ensures)

@@ -1,5 +1,5 @@
 use Rattle.grammar.proofs.Steps.{Ends-end}
-use Rattle.jack_parser.specs.Jack.{jack}
+use Rattle.jack_parser.specs.Grammar.{jack}
 use Rattle.jack_parser.proofs.reading.finish.Goals as goal
 
 pub returns : goal.returns

@@ -1,8 +1,8 @@
 use Rattle.grammar.proofs.Exact.{only, exact}
 use Rattle.grammar.proofs.Wholes.{one_tree, not_both, first_fault}
-use Rattle.jack_lexer.specs.Cut.{tokens_of, finish}
-use Rattle.jack_parser.specs.Jack.{jack, fresh, whole}
-use Rattle.jack_parser.specs.Whole.{whole_tree, Spells, Refuses}
+use Rattle.jack_lexer.specs.Tokens.{tokens_of, finish}
+use Rattle.jack_parser.specs.Grammar.{jack, fresh, whole}
+use Rattle.jack_parser.specs.Spells.{whole_tree, Spells, Refuses}
 use Rattle.jack_parser.proofs.Found.{if_found}
 use Rattle.jack_parser.proofs.Spelt.{only_class}
 use Rattle.jack_parser.proofs.reading.parse_class.Goals as goal

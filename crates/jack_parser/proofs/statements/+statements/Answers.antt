@@ -8,7 +8,7 @@ use Rattle.grammar.proofs.Repeats.{Along-start, Along-more, Along-ended, Along-h
 use Rattle.grammar.proofs.Exits.{halt_second, halt_option, halt_repeat, halt_name, halt_within_at, halt_too_far, inside_at}
 use Rattle.jack_tree.specs.declared.token.Keyword.TheVariants as keyword
 use Rattle.jack_tree.specs.Tokens.{view}
-use Rattle.jack_parser.specs.Jack.{jack, statement, is_keyword}
+use Rattle.jack_parser.specs.Grammar.{jack, statement, is_keyword}
 use Rattle.jack_parser.specs.StatementTrees.{statement_tree}
 use Rattle.jack_parser.proofs.Blocks.{while_is, if_is}
 use Rattle.jack_parser.proofs.StatementRules.{while_read, if_read}

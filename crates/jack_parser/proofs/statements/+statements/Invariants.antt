@@ -4,7 +4,7 @@ use Rattle.grammar.proofs.Repeats.{Along}
 use Rattle.jack_tree.specs.declared.tree.Statement.{Statement}
 use Rattle.jack_tree.specs.Tokens.{Word, view}
 use Rattle.jack_parser.specs.declared.counts.Counts.{Counts}
-use Rattle.jack_parser.specs.Jack.{jack, Part, Said, statement}
+use Rattle.jack_parser.specs.Grammar.{jack, Part, Said, statement}
 use Rattle.jack_parser.specs.StatementTrees.{statement_tree}
 use Rattle.jack_parser.proofs.statements.+statements.Given as goal
 

@@ -18,4 +18,4 @@ returns-in_err-rest-2-clause-reads c =
     rw (p.1, p.2) (halt_option (sym c.if-not-stands.ensures) (halt_second c.in_ok-rest.ensures.reads (halt_second c.in_ok-index.ensures.reads c.in_err-rest-2.ensures.reads)))
 
 pub returns-clause-reads : goal.returns-clause-reads
-returns-clause-reads c = taken (sym c.if-not-stands.ensures) (both c.in_ok-rest.ensures.reads (both c.in_ok-index.ensures.reads c.in_ok-rest-2.ensures.reads))
+returns-clause-reads c = rw c.in_ok-new.ensures.ok (taken (sym c.if-not-stands.ensures) (both c.in_ok-rest.ensures.reads (both c.in_ok-index.ensures.reads c.in_ok-rest-2.ensures.reads)))

@@ -4,8 +4,8 @@ use Rattle.grammar.specs.declared.Fault.{Fault}
 use Rattle.grammar.specs.Rules.{Tree, Pair, Skip}
 use Rattle.grammar.specs.Texts.{Spelled, Refused, OneReading}
 use Rattle.jack_tree.specs.declared.tree.Class.{Class}
-use Rattle.jack_lexer.specs.Cut.{tokens_of, finish}
-use Rattle.jack_parser.specs.Jack.{jack, Said, whole, fresh}
+use Rattle.jack_lexer.specs.Tokens.{tokens_of, finish}
+use Rattle.jack_parser.specs.Grammar.{jack, Said, whole, fresh}
 use Rattle.jack_parser.specs.ClassTrees.{class_tree}
 
 abbrev pub whole_tree : Class → Tree Said
