@@ -6,13 +6,15 @@ use Rattle.jack_core.specs.declared.tree.Part.TheVariants as part
 -- how many operands a part has
 abbrev pub takes : Part → ℕ
 takes (part.Literal n) = 0
-takes (part.Name x) = 0
+takes (part.Argument k) = 0
+takes (part.Local k) = 0
+takes (part.Static k) = 0
 takes part.This = 0
 takes (part.Field k) = 0
 takes (part.Unary o) = 1
 takes (part.Binary o) = 2
 takes part.Load = 2
-takes (part.Call g n) = n
+takes (part.Call n g) = n
 
 -- How many expressions there are after these parts, over so many before them: each part makes one of its operands. None where a part has too
 -- few of them.

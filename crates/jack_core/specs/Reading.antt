@@ -40,13 +40,15 @@ operand k es = get_or es k (Value 0)
 -- the expression that a part makes of its operands, the first one first
 abbrev pub made : Part → List AnExpression → AnExpression
 made (part.Literal n) es = Literal n
-made (part.Name x) es = Name (the_variable x)
+made (part.Argument k) es = Name (Argument k)
+made (part.Local k) es = Name (Local k)
+made (part.Static k) es = Name (Static k)
 made part.This es = This
 made (part.Field k) es = Field k
 made (part.Unary o) es = Unary (the_sign o) (operand 0 es)
 made (part.Binary o) es = Binary (the_operator o) (operand 0 es) (operand 1 es)
 made part.Load es = Load (operand 0 es) (operand 1 es)
-made (part.Call g n) es = Call g (arguments_of es)
+made (part.Call n g) es = Call g (arguments_of es)
 
 -- a part on expressions, the last of which comes first: that of its operands is in their place
 abbrev pub put : Part → List AnExpression → List AnExpression

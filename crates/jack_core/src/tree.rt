@@ -35,7 +35,12 @@ pub enum Operator {
 #[derive(Clone, Copy, PartialEq, Eq, Debug)]
 pub enum Part {
     Literal(u16),
-    Name(Variable),
+    /// An argument, by its number.
+    Argument(u32),
+    /// A local, by its number.
+    Local(u32),
+    /// A static, by its number.
+    Static(u32),
     This,
     /// A field of `this`, by its number.
     Field(u16),
@@ -46,8 +51,11 @@ pub enum Part {
     /// The word at base plus index, the two values that precede it.
     Load,
     /// A call of the subroutine of this number with so many arguments, which precede it.
-    Call(u32, usize),
+    Call { arguments: u16, number: u32 },
 }
+
+// A program has more parts than anything else.
+const _: () = prove!(size_of::<Part>() == 8);
 
 /// An expression in postfix order, as `x 1 +` for `x + 1`: its parts in the order in which they become values. So it is as
 /// flat as it is long, however it is nested in the text.

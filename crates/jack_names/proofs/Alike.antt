@@ -13,8 +13,8 @@ use Rattle.jack_tree.specs.declared.tree.Subroutine.{Subroutine}
 use Rattle.jack_tree.specs.declared.tree.Class.{Class}
 use Rattle.jack_names.specs.Tables.{first_of}
 use Rattle.jack_names.specs.Faults.{Told, Source}
-use Rattle.jack_names.specs.Twice.{told_name, twice_fault, texts_of, first_twice, names_of, members_twice, parameter_names, locals_twice, variables_fault, subroutines_fault, source_of, declaration_fault, declarations_fault}
-use Rattle.jack_names.specs.Whole.{class_names, declared_fault}
+use Rattle.jack_names.specs.Inner.Twice.{told_name, twice_fault, texts_of, first_twice, names_of, members_twice, parameter_names, locals_twice, variables_fault, subroutines_fault, source_of, declaration_fault, declarations_fault}
+use Rattle.jack_names.specs.Inner.Whole.{class_names, declared_fault}
 use Rattle.jack_names.specs.Using.{Variable, variable, all_names, is_field, members, parameters, locals, inner}
 use Rattle.jack_names.specs.NameFaults.{names}
 use Rattle.jack_names.specs.declared.fault.NameKind.{NameKind}

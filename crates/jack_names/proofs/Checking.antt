@@ -2,8 +2,8 @@
 use Rattle.std.proofs.Common.{◌≡◌, ℕ, zero, suc, ◌+◌, ◌<◌, List, [], ◌∷◌, ◌++◌, length, take, get_or, Option, Some, None, Result, Ok, Err, refl, sym, ap, subst, ◌∙◌, arith}
 use Rattle.jack_names.specs.Tables.{first_of}
 use Rattle.jack_names.specs.Faults.{Told, Checks}
-use Rattle.jack_names.specs.Uses.{Use, all_uses}
-use Rattle.jack_names.specs.Scopes.{Scope, use_fault, first_fault}
+use Rattle.jack_names.specs.Inner.Uses.{Use, all_uses}
+use Rattle.jack_names.specs.Inner.Scopes.{Scope, use_fault, first_fault}
 use Rattle.jack_names.specs.declared.fault.NameError.{NameError}
 use Rattle.jack_names.specs.declared.fault.NameError.TheVariants as errors
 

@@ -3,8 +3,8 @@ use Rattle.std.proofs.Common.{◌≡◌, ℕ, Bool, true, false, cond, List, [],
 use Rattle.std.specs.Str.{bytes_eq}
 use Rattle.jack_tree.specs.declared.tree.Class.{Class}
 use Rattle.jack_names.specs.Tables.{first_of, is_among, names_in}
-use Rattle.jack_names.specs.Twice.{told_name, source_of, file_fault, members_fault, declarations_fault}
-use Rattle.jack_names.specs.Whole.{class_names}
+use Rattle.jack_names.specs.Inner.Twice.{told_name, source_of, file_fault, members_fault, declarations_fault}
+use Rattle.jack_names.specs.Inner.Whole.{class_names}
 use Rattle.jack_names.specs.Inner.Named.{with_all, marks}
 use Rattle.jack_names.specs.declared.fault.NameKind.TheVariants as kinds
 use Rattle.jack_names.proofs.Entries.{found_among}

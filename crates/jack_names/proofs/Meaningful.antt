@@ -3,7 +3,7 @@ use Rattle.std.proofs.Common.{◌≡◌, ℕ, ◌+◌, ◌-◌, true, false, Lis
 use Rattle.scan_text.specs.declared.Place.{Place}
 use Rattle.jack_meaning.specs.Text as meaning
 use Rattle.jack_tree.specs.Syntax as tree
-use Rattle.jack_tree.specs.Seen.{the_name, the_operator, the_sign, the_constant, the_object, the_expression, the_operations, the_term, the_call, the_arguments, the_value, the_statement, the_row, the_choice, the_statements}
+use Rattle.jack_tree.specs.Seen.{the_name, the_operator, the_sign, the_constant, the_object, the_expression, the_operations, the_term, the_call, the_arguments, the_value, unboxed, the_statement, the_row, the_choice, the_statements}
 use Rattle.jack_tree.specs.declared.tree.Name.{Name}
 use Rattle.jack_tree.specs.declared.tree.Operator.{Operator}
 use Rattle.jack_tree.specs.declared.tree.Operator.TheVariants as operator
@@ -15,10 +15,11 @@ use Rattle.jack_tree.specs.declared.tree.Call.{Call, Call', Row_of-Expression, e
 use Rattle.jack_tree.specs.declared.tree.Term as terms
 use Rattle.jack_tree.specs.declared.tree.Expression.{Expression, Expression', Row_of-Operation, end_of-Operation, more_of-Operation}
 use Rattle.jack_tree.specs.declared.tree.Statement as statements
-use Rattle.jack_names.specs.Scopes.{Scope, through, callee_by, callee}
+use Rattle.jack_names.specs.Inner.Scopes.{Scope, through, callee_by, callee}
 use Rattle.jack_names.specs.Sizes as sized
-use Rattle.jack_names.specs.Meant as meant
-use Rattle.jack_names.specs.Whole as whole
+use Rattle.jack_names.specs.Inner.Meant as meant
+use Rattle.jack_names.specs.Made as shared
+use Rattle.jack_names.specs.Inner.Whole as whole
 use Rattle.jack_names.specs.Numbers.{Standing, in_class}
 use Rattle.jack_names.specs.Meaning as plain
 use Rattle.jack_names.specs.declared.scope.Way.{Way}
@@ -55,7 +56,7 @@ invoked_same s o f es es' e = λ i. meaning.Call (called_same s f.text o i) ((ob
 
 string_same : (s : Scope) (text : List ℕ) → meant.string_meant s text ≡ plain.string_meaning (the_standing s) text
 string_same s text =
-    λ i. meant.filled (made_same s (codes "String") (codes "appendChar") i) (meaning.Call (made_same s (codes "String") (codes "new") i) (meant.one (meaning.Literal (meant.length_word text)))) text
+    λ i. shared.filled (made_same s (codes "String") (codes "appendChar") i) (meaning.Call (made_same s (codes "String") (codes "new") i) (shared.one (meaning.Literal (shared.length_word text)))) text
 
 constant_same : (s : Scope) (c : Constant) → meant.constant_meant s c ≡ plain.constant_meaning (the_standing s) (the_constant c)
 constant_same s (constant.Integer n) = refl
@@ -72,8 +73,8 @@ sign_same sign.Not = refl
 binary_same : (s : Scope) (o : Operator) (a b : meaning.Expression) → meant.binary_meant s o a b ≡ plain.binary_meaning (the_standing s) (the_operator o) a b
 binary_same s operator.Plus a b = refl
 binary_same s operator.Minus a b = refl
-binary_same s operator.Times a b = ap (λ (k : ℕ). meaning.Call k (meant.two a b)) (made_same s (codes "Math") (codes "multiply"))
-binary_same s operator.Divide a b = ap (λ (k : ℕ). meaning.Call k (meant.two a b)) (made_same s (codes "Math") (codes "divide"))
+binary_same s operator.Times a b = ap (λ (k : ℕ). meaning.Call k (shared.two a b)) (made_same s (codes "Math") (codes "multiply"))
+binary_same s operator.Divide a b = ap (λ (k : ℕ). meaning.Call k (shared.two a b)) (made_same s (codes "Math") (codes "divide"))
 binary_same s operator.And a b = refl
 binary_same s operator.Or a b = refl
 binary_same s operator.Less a b = refl
@@ -111,7 +112,7 @@ value_same s None = refl
 value_same s (Some e) = expression_same s e
 
 let_same : (s : Scope) (n : ℕ) (x : Name) (i : Option Expression) (e : Expression) → meant.let_meant s n x i e ≡ plain.let_meaning (the_standing s) n (the_name x) (the_value i) (the_expression e)
-let_same s n x None e = ap (λ (z : meaning.Expression). meant.let_by (s.variable x.text) n z) (expression_same s e)
+let_same s n x None e = ap (λ (z : meaning.Expression). shared.let_by (s.variable x.text) n z) (expression_same s e)
 let_same s n x (Some k) e = λ i. meaning.Store n (meant.variable_meant s x) (expression_same s k i) (expression_same s e i)
 
 mutual
@@ -132,7 +133,7 @@ mutual
 
 mutual
   statement_same : (s : Scope) (n : ℕ) (t : statements.Statement) → meant.statement_meant s n t ≡ plain.statement_meaning (the_standing s) n (the_statement t)
-  statement_same s n (statements.Let at x i e) = let_same s n x i e
+  statement_same s n (statements.Let at x i e) = let_same s n x (unboxed i) e
   statement_same s n (statements.If' at e m a b) =
       choice_same s n at e (sized.row_size a) (the_row a) (row_size_same a) (meant.block_meant s (n + 1) a) (block_same s (n + 1) a) b
   statement_same s n (statements.While' at e m a) = λ i. meaning.While n (expression_same s e i) (block_same s (n + 1) a i)

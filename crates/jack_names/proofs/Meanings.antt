@@ -8,9 +8,10 @@ use Rattle.jack_tree.specs.declared.tree.Operation.{Operation}
 use Rattle.jack_tree.specs.declared.tree.Call.{Call, Call', out-Call, outs-Call', Row_of-Expression, end_of-Expression, more_of-Expression, items-the_row-Expression, items_shown-the_row-Expression-0}
 use Rattle.jack_tree.specs.declared.tree.Expression.{Expression, Expression', out-Expression, outs-Expression', Row_of-Operation, end_of-Operation, more_of-Operation, items-the_row-Operation, items_shown-the_row-Operation-1}
 use Rattle.jack_tree.specs.declared.tree.Statement as statements
-use Rattle.jack_names.specs.Scopes.{Scope}
+use Rattle.jack_names.specs.Inner.Scopes.{Scope}
 use Rattle.jack_names.specs.Sizes.{size, row_size, sizes, else_size}
-use Rattle.jack_names.specs.Meant.{binary_meant, term_meant, exp_meant, rest_meant, row_meant, operation_meant, grouped, arguments_meant, filled, two, invoked, call_meant, statement_meant, block_meant, statements_meant, else_meant}
+use Rattle.jack_names.specs.Made.{filled, two}
+use Rattle.jack_names.specs.Inner.Meant.{binary_meant, term_meant, exp_meant, rest_meant, row_meant, operation_meant, grouped, arguments_meant, invoked, call_meant, statement_meant, block_meant, statements_meant, else_meant}
 use Rattle.jack_names.proofs.Rows.{OneCall, OneExpression, first_row, second_row}
 
 row_means : (s : Scope) (n : _) (row : Row_of-Expression n) → row_meant s row ≡ arguments_meant s (items-the_row-Expression n row)

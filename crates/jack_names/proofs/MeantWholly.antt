@@ -18,12 +18,13 @@ use Rattle.jack_tree.specs.declared.tree.Parameter.{Parameter}
 use Rattle.jack_tree.specs.declared.tree.Subroutine.{Subroutine}
 use Rattle.jack_tree.specs.declared.tree.Class.{Class}
 use Rattle.jack_names.specs.Tables.{found, first_of}
-use Rattle.jack_names.specs.Scopes.{Scope}
+use Rattle.jack_names.specs.Inner.Scopes.{Scope}
 use Rattle.jack_names.specs.Sizes.{sizes}
-use Rattle.jack_names.specs.Twice.{names_of}
+use Rattle.jack_names.specs.Inner.Twice.{names_of}
 use Rattle.jack_names.specs.Symbols as symbol
-use Rattle.jack_names.specs.Meant as meant
-use Rattle.jack_names.specs.Whole as whole
+use Rattle.jack_names.specs.Inner.Meant as meant
+use Rattle.jack_names.specs.Made as shared
+use Rattle.jack_names.specs.Inner.Whole as whole
 use Rattle.jack_names.specs.Numbers as numbers
 use Rattle.jack_names.specs.Meaning as plain
 use Rattle.jack_names.specs.declared.scope.Slot.{Slot}
@@ -144,7 +145,7 @@ rest_same s t =
     ∙ (λ i. meaning.joined (plain.block_meaning (the_standing s) 1 (the_statements ts)) (plain.return_added (returns_same ts i) (1 + sizes_same ts i)))
 
 body_by : (s : Scope) (fields : ℕ) (f : Form) (xs ys : List meaning.Statement) (rest : meaning.Text) → meaning.text_of (xs ++ ys) ≡ rest → meaning.text_of (whole.begun s f fields ++ xs ++ ys) ≡ plain.begun (the_standing s) (the_form f) fields rest
-body_by s fields form.Constructor xs ys rest e = λ i. meaning.Next (meaning.LetThis 0 (meaning.Call (made_same s (codes "Memory") (codes "alloc") i) (meant.one (meaning.Literal (max 1 fields))))) (e i)
+body_by s fields form.Constructor xs ys rest e = λ i. meaning.Next (meaning.LetThis 0 (meaning.Call (made_same s (codes "Memory") (codes "alloc") i) (shared.one (meaning.Literal (max 1 fields))))) (e i)
 body_by s fields form.Function xs ys rest e = e
 body_by s fields form.Method xs ys rest e = e
 

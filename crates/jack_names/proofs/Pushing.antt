@@ -10,8 +10,9 @@ use Rattle.jack_core.specs.Heights.{takes, height}
 use Rattle.jack_core.specs.Reading.{made, put, built, operand, arguments_of, the_expression}
 use Rattle.jack_core.proofs.Postfix.{built_more, height_more, height_first, put_length, spells}
 use Rattle.jack_tree.specs.declared.tree.Name.{Name}
-use Rattle.jack_names.specs.Scopes.{Scope, callee}
-use Rattle.jack_names.specs.Meant.{called_number, with_variable, with_object, invoked, listed, one}
+use Rattle.jack_names.specs.Inner.Scopes.{Scope, callee}
+use Rattle.jack_names.specs.Made.{with_variable, one}
+use Rattle.jack_names.specs.Inner.Meant.{called_number, with_object, invoked, listed}
 use Rattle.jack_names.specs.Inner.Pushed.{Leaves, Adds, AddsAll, Turns, Joins, Puts, object_by, object_meant}
 use Rattle.jack_names.specs.declared.scope.Declared.{Declared}
 
@@ -34,7 +35,7 @@ pub means : (e : meaning.Expression) (ps : List Part) → Leaves (e ∷ []) ps �
 means e ps s = ap (operand 0) s.built_is
 
 -- a call of one argument
-pub called_one : (a : Expression) (g : ℕ) (new : List Part) → Puts (part.Call g 1) a.parts.items new → Leaves (meaning.Call g (one (the_expression a)) ∷ []) new
+pub called_one : (a : Expression) (g : ℕ) (new : List Part) → Puts (part.Call 1 g) a.parts.items new → Leaves (meaning.Call g (one (the_expression a)) ∷ []) new
 called_one a g new p = p (the_expression a ∷ []) (omega arith) (record { built_is = spells [] a; height_is = a.one })
 
 -- one turn after another, and another way to say a turn
@@ -74,9 +75,9 @@ added_more all e more old middle new is first next es s =
     subst (λ xs. Leaves xs new) (sym (ap (λ xs. reverse xs ++ es) is ∙ reverse_more all e es)) (next (reverse all ++ es) (first es s))
 
 -- a call takes all its arguments
-put_call : (g n : ℕ) (all es : List meaning.Expression) → n ≡ length (reverse all) → put (part.Call g n) (reverse all ++ es) ≡ meaning.Call g (arguments_of all) ∷ es
+put_call : (g n : ℕ) (all es : List meaning.Expression) → n ≡ length (reverse all) → put (part.Call n g) (reverse all ++ es) ≡ meaning.Call g (arguments_of all) ∷ es
 put_call g n all es is =
-    ap (λ k. put (part.Call g k) (reverse all ++ es)) is
+    ap (λ k. put (part.Call k g) (reverse all ++ es)) is
     ∙ ap (λ xs. meaning.Call g (arguments_of (reverse xs)) ∷ drop (length (reverse all)) (reverse all ++ es)) (take-append_seam (reverse all) es)
     ∙ ap (λ xs. meaning.Call g (arguments_of (reverse (reverse all))) ∷ xs) (drop-append_seam (reverse all) es)
     ∙ ap (λ xs. meaning.Call g (arguments_of xs) ∷ es) (reverse-reverse all)
@@ -102,7 +103,7 @@ in_order first next es = sym (append_assoc (reverse next) (reverse first) es) �
 -- the object of a call, its arguments, and the call
 pub called : (s : Scope) (o : Option Name) (f : Name) (args : List meaning.Expression) (g n : ℕ) (old middle full new : List Part)
     → AddsAll (object_meant s o) old middle → AddsAll args middle full → g ≡ called_number s f.text (callee s o) → n ≡ length (object_meant s o) + length args
-    → Puts (part.Call g n) full new → Adds (invoked s o f (listed args meaning.NoMore)) old new
+    → Puts (part.Call n g) full new → Adds (invoked s o f (listed args meaning.NoMore)) old new
 called s o f args g n old middle full new first next number count last es h =
     let all = object_meant s o ++ args in
     let many : n ≡ length (reverse all) = count ∙ sym (length-append (object_meant s o) args) ∙ sym (length-reverse all) in

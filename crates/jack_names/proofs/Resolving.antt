@@ -18,11 +18,11 @@ use Rattle.jack_tree.specs.declared.tree.Subroutine.{Subroutine}
 use Rattle.jack_tree.specs.declared.tree.Class.{Class}
 use Rattle.jack_names.specs.Tables.{found, first_of}
 use Rattle.jack_names.specs.Faults.{Told, Source, told_in, told_if, first_in}
-use Rattle.jack_names.specs.Uses as code
+use Rattle.jack_names.specs.Inner.Uses as code
 use Rattle.jack_names.specs.Using as plain
-use Rattle.jack_names.specs.Scopes as scoped
+use Rattle.jack_names.specs.Inner.Scopes as scoped
 use Rattle.jack_names.specs.Symbols as symbol
-use Rattle.jack_names.specs.Twice.{names_of}
+use Rattle.jack_names.specs.Inner.Twice.{names_of}
 use Rattle.jack_names.specs.NameFaults.{Target, told_at, class_of, type_class, variable_of, target, front_target, through}
 use Rattle.jack_names.specs.declared.fault.NameKind.{NameKind}
 use Rattle.jack_names.specs.declared.fault.NameKind.TheVariants as kinds

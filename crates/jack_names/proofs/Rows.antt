@@ -7,7 +7,7 @@ use Rattle.jack_tree.specs.declared.tree.Operation.{Operation}
 use Rattle.jack_tree.specs.declared.tree.Call.{Call, Call', Call-F, out-Call, outs-Call', Row_of-Expression, end_of-Expression, more_of-Expression, items-the_row-Expression, items_shown-the_row-Expression-0}
 use Rattle.jack_tree.specs.declared.tree.Expression.{Expression, Expression', Expression-F, out-Expression, outs-Expression', Row_of-Operation, end_of-Operation, more_of-Operation, items-the_row-Operation, items_shown-the_row-Operation-1}
 use Rattle.jack_tree.specs.declared.tree.Statement as statements
-use Rattle.jack_names.specs.Uses.{Use, Calls, row_length, operator_uses, term_uses, exp_uses, rest_uses, row_uses, operations_uses, arguments_uses, call_uses, statement_uses, block_uses, statements_uses}
+use Rattle.jack_names.specs.Inner.Uses.{Use, Calls, row_length, operator_uses, term_uses, exp_uses, rest_uses, row_uses, operations_uses, arguments_uses, call_uses, statement_uses, block_uses, statements_uses}
 
 length_is : (n : _) (row : Row_of-Expression n) → row_length row ≡ length (items-the_row-Expression n row)
 length_is n end_of-Expression = refl

@@ -5,7 +5,7 @@ use Rattle.scan_text.specs.declared.Place.{Place}
 use Rattle.jack_tree.specs.Syntax as tree
 use Rattle.jack_names.specs.Tables.{first_of, is_among}
 use Rattle.jack_names.specs.Faults.{Told, Source, first_in}
-use Rattle.jack_names.specs.Scopes.{is_lesser}
+use Rattle.jack_names.specs.Inner.Scopes.{is_lesser}
 use Rattle.jack_names.specs.Using.{named, Variable, members, inner, Made, by_class, filled, Use, OfVariable, OfFront, OfCall, OfThis, OfString, OfMade, Body, File, source, system_files, file}
 use Rattle.jack_names.specs.NameFaults.{names, told_at, no_main, made_name, class_of, variable_of, target, through, Target, subroutine_of}
 use Rattle.jack_names.specs.declared.fault.NameKind.{NameKind}

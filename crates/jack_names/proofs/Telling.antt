@@ -4,7 +4,7 @@ use Rattle.jack_core.specs.declared.program.Core.{Core}
 use Rattle.jack_tree.specs.declared.tree.Class.{Class}
 use Rattle.jack_tree.specs.Seen.{the_file}
 use Rattle.jack_names.specs.Faults.{fault_told}
-use Rattle.jack_names.specs.Whole.{first_name_fault}
+use Rattle.jack_names.specs.Inner.Whole.{first_name_fault}
 use Rattle.jack_names.specs.Resolved.{Resolves, Tells}
 use Rattle.jack_names.specs.declared.fault.NameError.{NameError}
 use Rattle.jack_names.specs.declared.fault.NameError.TheVariants as errors
@@ -12,7 +12,7 @@ use Rattle.jack_names.proofs.Found.{finds_first, finds_none}
 use Rattle.jack_names.proofs.Wholly.{search_same}
 use Rattle.jack_names.proofs.MeantWholly.{program_same}
 use Rattle.jack_core.specs.Texts.{the_program}
-use Rattle.jack_names.specs.Whole.{program_meant}
+use Rattle.jack_names.specs.Inner.Whole.{program_meant}
 use Rattle.jack_names.specs.Meaning.{program_meaning}
 use Rattle.std.proofs.Common.{◌≡◌, IfOk}
 

@@ -9,9 +9,9 @@ use Rattle.jack_tree.specs.declared.tree.Class.{Class}
 use Rattle.jack_names.specs.Tables.{found, first_of}
 use Rattle.jack_names.specs.Faults.{Told, first_in}
 use Rattle.jack_names.specs.Using as plain
-use Rattle.jack_names.specs.Scopes as scoped
+use Rattle.jack_names.specs.Inner.Scopes as scoped
 use Rattle.jack_names.specs.Symbols as symbol
-use Rattle.jack_names.specs.Whole as whole
+use Rattle.jack_names.specs.Inner.Whole as whole
 use Rattle.jack_names.specs.NameFaults.{no_main, class_of}
 use Rattle.jack_names.specs.declared.scope.Signature.{Signature}
 use Rattle.jack_names.proofs.Naming.{first_none}

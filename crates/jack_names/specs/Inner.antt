@@ -3,3 +3,8 @@ pub mod Filed
 pub mod Named
 pub mod Pushed
 pub mod Scoped
+pub mod Twice
+pub mod Scopes
+pub mod Uses
+pub mod Meant
+pub mod Whole

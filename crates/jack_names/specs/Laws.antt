@@ -3,7 +3,7 @@ use Rattle.std.specs.Prelude.{◌≡◌, ◌↔◌, List, Some, None, map}
 use Rattle.jack_tree.specs.declared.tree.Class.{Class}
 use Rattle.jack_tree.specs.Seen.{the_file}
 use Rattle.jack_names.specs.Faults.{Told}
-use Rattle.jack_names.specs.Whole.{first_name_fault, program_meant, all_names_meant}
+use Rattle.jack_names.specs.Inner.Whole.{first_name_fault, program_meant, all_names_meant}
 use Rattle.jack_names.specs.Meaning.{program_meaning, program_names}
 use Rattle.jack_tree.specs.Syntax.{ClassFile}
 use Rattle.jack_names.specs.NameFaults.{IsWellNamed}

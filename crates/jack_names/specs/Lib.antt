@@ -1,12 +1,7 @@
 pub mod Tables
 pub mod Faults
-pub mod Uses
-pub mod Scopes
 pub mod Sizes
-pub mod Meant
-pub mod Twice
 pub mod Symbols
-pub mod Whole
 pub mod Using
 pub mod NameFaults
 pub mod FaultOrder
@@ -17,4 +12,5 @@ pub mod Laws
 pub mod Limits
 pub mod Resolved
 pub mod Messages
+pub mod Made
 pub mod Inner

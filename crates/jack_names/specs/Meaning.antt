@@ -5,7 +5,7 @@
 use Rattle.std.specs.Prelude.{ℕ, ◌+◌, max, Bool, true, false, List, [], ◌∷◌, ◌++◌, map, Option, Some, None, length, codes}
 use Rattle.jack_meaning.specs.Text as meaning
 use Rattle.jack_tree.specs.Syntax as tree
-use Rattle.jack_names.specs.Meant.{declared_meant, with_variable, one, two, filled, length_word, let_by}
+use Rattle.jack_names.specs.Made.{declared_meant, with_variable, one, two, filled, length_word, let_by}
 use Rattle.jack_names.specs.Numbers.{Standing, standing, in_class, class_number, subroutine_number, field_count, static_count, local_count, object_count}
 use Rattle.jack_names.specs.declared.scope.Declared.{Declared}
 

@@ -12,9 +12,9 @@ use Rattle.jack_tree.specs.declared.tree.Form.{Form}
 use Rattle.jack_tree.specs.declared.tree.Subroutine.{Subroutine}
 use Rattle.jack_tree.specs.declared.tree.Class.{Class}
 use Rattle.jack_names.specs.Tables.{found, first_of}
-use Rattle.jack_names.specs.Twice.{names_of, source_of}
+use Rattle.jack_names.specs.Inner.Twice.{names_of, source_of}
 use Rattle.jack_names.specs.Faults.{Source}
-use Rattle.jack_names.specs.Scopes.{Scope, is_method}
+use Rattle.jack_names.specs.Inner.Scopes.{Scope, is_method}
 use Rattle.jack_names.specs.declared.scope.Slot.{Slot}
 use Rattle.jack_names.specs.declared.scope.Slot.TheVariants as slot
 use Rattle.jack_names.specs.declared.scope.Declared.{Declared}

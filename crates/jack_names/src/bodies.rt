@@ -1,10 +1,12 @@
 //! The statements that trees mean.
 
 ghost use Rattle.std.specs.Prelude.{◌≡◌, ◌+◌, ◌≤◌, ◌^◌, map, IfOk};
+ghost use Rattle.jack_tree.specs.Seen.{unboxed};
 ghost use Rattle.jack_core.specs.Texts.{the_statement, the_block};
 ghost use Rattle.jack_core.specs.Reading.{the_expression};
 ghost use Rattle.jack_names.specs.Sizes.{size, sizes, else_size};
-ghost use Rattle.jack_names.specs.Meant.{assigned, let_by, let_meant, statement_meant, statements_meant, else_meant};
+ghost use Rattle.jack_names.specs.Made.{assigned, let_by};
+ghost use Rattle.jack_names.specs.Inner.Meant.{let_meant, statement_meant, statements_meant, else_meant};
 ghost use Rattle.jack_names.specs.Inner.Scoped.{the_scope};
 
 use crate::meant::{call_meant, expression_meant, value_meant, variable_meant};
@@ -53,10 +55,10 @@ fn let_meant<'a>(
     scope: &Scope<'a, '_>,
     number: u32,
     name: &'a Name,
-    index: &'a Option<Expression>,
+    index: &'a Option<Box<Expression>>,
     value: &'a Expression,
 ) -> Result<CoreStatement, AllocError>
-    ensures { IfOk result (λ r. the_statement r ≡ let_meant (the_scope scope.now) number name.now index.now value.now) }
+    ensures { IfOk result (λ r. the_statement r ≡ let_meant (the_scope scope.now) number name.now (unboxed index.now) value.now) }
 {
     match index {
         None => {

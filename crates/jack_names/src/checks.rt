@@ -1,10 +1,11 @@
 //! The first fault in the uses of names.
 
 ghost use Rattle.std.specs.Prelude.{◌≡◌, Some, [], ◌∷◌, length};
+ghost use Rattle.jack_tree.specs.Seen.{unboxed};
 ghost use Rattle.jack_names.specs.Faults.{Checks, told_if};
-ghost use Rattle.jack_names.specs.Uses.{Variable, This, Calls, Makes, Text, Use, constant_uses, operator_uses, term_uses, operation_uses, operations_uses, exp_uses, arguments_uses, call_uses, optional_uses, statement_uses, statements_uses, form_uses, subroutine_uses};
-ghost use Rattle.jack_names.specs.Scopes.{made_told, front_fault, call_fault, string_fault, first_fault, use_fault};
-ghost use Rattle.jack_names.specs.Scopes.{callee as callee_of};
+ghost use Rattle.jack_names.specs.Inner.Uses.{Variable, This, Calls, Makes, Text, Use, constant_uses, operator_uses, term_uses, operation_uses, operations_uses, exp_uses, arguments_uses, call_uses, optional_uses, statement_uses, statements_uses, form_uses, subroutine_uses};
+ghost use Rattle.jack_names.specs.Inner.Scopes.{made_told, front_fault, call_fault, string_fault, first_fault, use_fault};
+ghost use Rattle.jack_names.specs.Inner.Scopes.{callee as callee_of};
 ghost use Rattle.jack_names.specs.Inner.Scoped.{the_scope};
 
 use crate::fault::{NameError, NameKind, tell};
@@ -266,6 +267,20 @@ fn check_optional<'a>(
     }
 }
 
+// The index of an element, where one is written.
+fn check_index<'a>(
+    alloc: Global,
+    scope: &Scope<'a, '_>,
+    index: &'a Option<Box<Expression>>,
+) -> Result<(), NameError>
+    ensures { Checks (first_fault (the_scope scope.now) (optional_uses (unboxed index.now))) result }
+{
+    match index {
+        None => Ok(()),
+        Some(index) => check_expression(alloc, scope, index),
+    }
+}
+
 #[cycle(statements)]
 fn check_statement<'a>(
     alloc: Global,
@@ -277,7 +292,7 @@ fn check_statement<'a>(
     match s {
         Statement::Let(_, name, index, value) => {
             check_variable(alloc, scope, name)?;
-            check_optional(alloc, scope, index)?;
+            check_index(alloc, scope, index)?;
             check_expression(alloc, scope, value)
         }
         Statement::If(_, condition, holds, fails) => {

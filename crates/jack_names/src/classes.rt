@@ -4,13 +4,13 @@ ghost use Rattle.std.specs.Prelude.{◌≡◌, ◌+◌, ◌≤◌, ◌^◌, ◌+
 ghost use Rattle.jack_core.specs.Texts.{the_subroutine};
 ghost use Rattle.jack_names.specs.Faults.{Checks};
 ghost use Rattle.jack_names.specs.Inner.Filed.{the_file};
-ghost use Rattle.jack_names.specs.Uses.{subroutine_uses};
-ghost use Rattle.jack_names.specs.Scopes.{first_fault};
+ghost use Rattle.jack_names.specs.Inner.Uses.{subroutine_uses};
+ghost use Rattle.jack_names.specs.Inner.Scopes.{first_fault};
 ghost use Rattle.jack_names.specs.Inner.Entered.{Finds};
 ghost use Rattle.jack_names.specs.Inner.Scoped.{the_scope};
 ghost use Rattle.jack_names.specs.Symbols.{member_entries, variable_entries, class_scope, scope_in, fields_of, statics_of};
 ghost use Rattle.jack_names.specs.Limits.{HasFew, AllHaveFew, IsWithin, AreWithin};
-ghost use Rattle.jack_names.specs.Whole.{class_fault, uses_fault, system_file, start_fault, os_fault, all_statics, subroutine_meant, class_subroutines, subroutines_meant, subroutine_name, names_meant};
+ghost use Rattle.jack_names.specs.Inner.Whole.{class_fault, uses_fault, system_file, start_fault, os_fault, all_statics, subroutine_meant, class_subroutines, subroutines_meant, subroutine_name, names_meant};
 ghost use Rattle.jack_names.specs.Inner.Named.{the_symbols, the_class_scope};
 ghost use Rattle.jack_names.specs.Resolved.{the_name};
 

@@ -2,7 +2,7 @@
 
 ghost use Rattle.std.specs.Prelude.{◌≡◌};
 ghost use Rattle.jack_names.specs.Faults.{kind_number};
-ghost use Rattle.jack_names.specs.Scopes.{is_function, is_method, is_field, kind_if, field_kind, variable_kind, this_kind, through, callee_by, callee, front_by, count_kind, way_kind, own_kind, signature_kind, called_kind, made_kind, is_lesser, new_kind, append_kind};
+ghost use Rattle.jack_names.specs.Inner.Scopes.{is_function, is_method, is_field, kind_if, field_kind, variable_kind, this_kind, through, callee_by, callee, front_by, count_kind, way_kind, own_kind, signature_kind, called_kind, made_kind, is_lesser, new_kind, append_kind};
 ghost use Rattle.jack_names.specs.Inner.Scoped.{the_scope};
 ghost use Rattle.std.specs.Prelude.{codes};
 

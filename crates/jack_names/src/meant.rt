@@ -4,15 +4,14 @@ ghost use Rattle.std.specs.Prelude.{◌≡◌, ◌≤◌, ◌∷◌, [], length,
 ghost use Rattle.jack_meaning.specs.Text.{Expression as AnExpression, Call as CallOf, Literal as LiteralOf};
 ghost use Rattle.jack_core.specs.Heights.{takes};
 ghost use Rattle.jack_core.specs.Reading.{made, the_expression, the_sign};
-ghost use Rattle.jack_names.specs.Meant.{slot_meant, declared_meant, variable_meant, number_by, called_number, made_number, one, filled, length_word, string_meant, constant_meant, sign_meant, binary_meant, term_meant, exp_meant, operation_meant, grouped, call_meant, value_meant};
+ghost use Rattle.jack_names.specs.Made.{slot_meant, declared_meant, one, filled, length_word};
+ghost use Rattle.jack_names.specs.Inner.Meant.{variable_meant, number_by, called_number, made_number, string_meant, constant_meant, sign_meant, binary_meant, term_meant, exp_meant, operation_meant, grouped, call_meant, value_meant};
 ghost use Rattle.jack_names.specs.Inner.Pushed.{Adds, AddsAll, Turns, Joins, Puts, object_meant};
 ghost use Rattle.jack_names.specs.Inner.Scoped.{the_scope};
 
 use crate::kinds::callee;
 use crate::scope::{Callee, Declared, Scope, Signature, Slot};
-use jack_core::{
-    Expression as CoreExpression, Operator as CoreOperator, Part, Sign as CoreSign, Variable,
-};
+use jack_core::{Expression as CoreExpression, Operator as CoreOperator, Part, Sign as CoreSign};
 use jack_tree::{Call, Constant, Expression, Name, Operation, Operator, Sign, Term};
 use std::alloc::{AllocError, Global};
 
@@ -21,10 +20,10 @@ fn slot_part(slot: Slot) -> Part
     ensures made { made result [] ≡ slot_meant slot }
 {
     match slot {
-        Slot::Argument(k) => Part::Name(Variable::Argument(k)),
-        Slot::Local(k) => Part::Name(Variable::Local(k)),
+        Slot::Argument(k) => Part::Argument(k),
+        Slot::Local(k) => Part::Local(k),
         Slot::Field(k) => Part::Field(k),
-        Slot::Static(k) => Part::Name(Variable::Static(k)),
+        Slot::Static(k) => Part::Static(k),
     }
 }
 
@@ -116,7 +115,13 @@ fn push_bytes(parts: &mut Vec<Part>, append: u32, text: &[u8]) -> Result<(), All
 {
     for byte in text {
         push_value(parts, Part::Literal(*byte as u16))?;
-        push_part(parts, Part::Call(append, 2))?;
+        push_part(
+            parts,
+            Part::Call {
+                arguments: 2,
+                number: append,
+            },
+        )?;
     }
     Ok(())
 }
@@ -134,7 +139,13 @@ fn push_string(parts: &mut Vec<Part>, scope: &Scope, text: &[u8]) -> Result<(), 
     let new = made_number(scope, class, b"new".as_slice());
     let append = made_number(scope, class, b"appendChar".as_slice());
     push_value(parts, Part::Literal(length_word(text)))?;
-    push_part(parts, Part::Call(new, 1))?;
+    push_part(
+        parts,
+        Part::Call {
+            arguments: 1,
+            number: new,
+        },
+    )?;
     push_bytes(parts, append, text)
 }
 
@@ -170,18 +181,14 @@ fn operator_part(scope: &Scope, operator: Operator) -> Part
     match operator {
         Operator::Plus => Part::Binary(CoreOperator::Plus),
         Operator::Minus => Part::Binary(CoreOperator::Subtract),
-        Operator::Times => {
-            Part::Call(
-                made_number(scope, b"Math".as_slice(), b"multiply".as_slice()),
-                2,
-            )
-        }
-        Operator::Divide => {
-            Part::Call(
-                made_number(scope, b"Math".as_slice(), b"divide".as_slice()),
-                2,
-            )
-        }
+        Operator::Times => Part::Call {
+            arguments: 2,
+            number: made_number(scope, b"Math".as_slice(), b"multiply".as_slice()),
+        },
+        Operator::Divide => Part::Call {
+            arguments: 2,
+            number: made_number(scope, b"Math".as_slice(), b"divide".as_slice()),
+        },
         Operator::And => Part::Binary(CoreOperator::And),
         Operator::Or => Part::Binary(CoreOperator::Or),
         Operator::Less => Part::Binary(CoreOperator::Less),
@@ -222,6 +229,17 @@ fn push_term<'a>(
     }
 }
 
+// How many arguments a call passes. A call without faults passes what its subroutine takes, which is never more than 16 bits
+// can count.
+fn passed(arguments: usize) -> Result<u16, AllocError>
+    ensures { IfOk result (λ n. n ≡ arguments) }
+{
+    if arguments > 65_535 {
+        return Err(AllocError);
+    }
+    Ok(arguments as u16)
+}
+
 #[cycle(meant)]
 fn push_call<'a>(
     parts: &mut Vec<Part>,
@@ -237,7 +255,8 @@ fn push_call<'a>(
         call.name.text.as_bytes(),
         callee(scope, &call.object),
     );
-    push_part(parts, Part::Call(number, objects + call.arguments.len()))
+    let arguments = passed(objects + call.arguments.len())?;
+    push_part(parts, Part::Call { arguments, number })
 }
 
 #[cycle(meant)]
@@ -351,7 +370,13 @@ pub(crate) fn call_one(number: u32, argument: CoreExpression) -> Result<CoreExpr
     ensures { IfOk result (λ r. the_expression r ≡ CallOf number (one (the_expression argument))) }
 {
     let mut parts = argument.parts;
-    push_part(&mut parts, Part::Call(number, 1))?;
+    push_part(
+        &mut parts,
+        Part::Call {
+            arguments: 1,
+            number,
+        },
+    )?;
     Ok(CoreExpression { parts })
 }
 

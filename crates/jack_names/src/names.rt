@@ -4,7 +4,7 @@ ghost use Rattle.std.specs.Prelude.{◌≡◌, ◌+◌, ◌≤◌, ◌<◌, ◌^
 ghost use Rattle.jack_names.specs.Inner.Entered.{table_of};
 ghost use Rattle.jack_names.specs.Symbols.{class_numbers, signatures, all_signatures, symbols_of};
 ghost use Rattle.jack_names.specs.Limits.{subroutine_count};
-ghost use Rattle.jack_names.specs.Whole.{found_subroutine};
+ghost use Rattle.jack_names.specs.Inner.Whole.{found_subroutine};
 ghost use Rattle.jack_names.specs.Inner.Named.{with_all, the_symbols};
 
 use crate::scope::{Names, Signature};

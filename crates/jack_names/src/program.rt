@@ -6,7 +6,7 @@ ghost use Rattle.jack_names.specs.Faults.{Checks};
 ghost use Rattle.jack_names.specs.Inner.Entered.{table_of};
 ghost use Rattle.jack_names.specs.Symbols.{fields_of, statics_of};
 ghost use Rattle.jack_names.specs.Limits.{AreWithin, subroutine_count};
-ghost use Rattle.jack_names.specs.Whole.{declared_fault, is_plain, main_fault, all_statics, all_uses_fault, first_name_fault, all_subroutines_meant, start_subroutine, class_meant, program_meant, class_names, names_meant, all_names_meant};
+ghost use Rattle.jack_names.specs.Inner.Whole.{declared_fault, is_plain, main_fault, all_statics, all_uses_fault, first_name_fault, all_subroutines_meant, start_subroutine, class_meant, program_meant, class_names, names_meant, all_names_meant};
 ghost use Rattle.jack_names.specs.Inner.Named.{with_all, the_symbols, marks};
 ghost use Rattle.jack_names.specs.Resolved.{Resolves, Tells, the_name, the_class_name};
 ghost use Rattle.jack_tree.specs.Seen.{the_file};

@@ -6,7 +6,7 @@ ghost use Rattle.jack_names.specs.Tables.{names_in};
 ghost use Rattle.jack_names.specs.Faults.{Checks};
 ghost use Rattle.jack_names.specs.Inner.Filed.{the_file};
 ghost use Rattle.jack_names.specs.Inner.Entered.{table_of};
-ghost use Rattle.jack_names.specs.Twice.{twice_fault, first_twice, texts_of, names_of, members_twice, parameter_names, locals_twice, variables_fault, subroutines_fault, members_fault, file_fault, declaration_fault, declarations_fault};
+ghost use Rattle.jack_names.specs.Inner.Twice.{twice_fault, first_twice, texts_of, names_of, members_twice, parameter_names, locals_twice, variables_fault, subroutines_fault, members_fault, file_fault, declaration_fault, declarations_fault};
 
 use crate::fault::{File, NameError, NameKind, tell};
 use crate::table::Table;

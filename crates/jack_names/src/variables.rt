@@ -2,7 +2,7 @@
 
 ghost use Rattle.std.specs.Prelude.{◌≡◌, ◌+◌, ◌≤◌, ◌<◌, ◌^◌, length, IfOk, OnOk, SomeIff, ◌-◌};
 ghost use Rattle.jack_names.specs.Inner.Entered.{table_of, Finds};
-ghost use Rattle.jack_names.specs.Twice.{names_of};
+ghost use Rattle.jack_names.specs.Inner.Twice.{names_of};
 ghost use Rattle.jack_names.specs.Symbols.{type_class, line_entries, member_line, member_entries, parameter_entries, local_entries, variable_entries, fields_in, statics_in, fields_of, statics_of, locals_of};
 ghost use Rattle.jack_names.specs.Inner.Named.{with_all, the_symbols, slot_at, most};
 

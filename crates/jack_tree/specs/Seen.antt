@@ -1,5 +1,6 @@
 -- The trees of the code as abstract syntax.
-use Rattle.std.specs.Prelude.{List, [], ◌∷◌, Option, Some, None, map}
+use Rattle.std.specs.Prelude.{List, [], ◌∷◌, Option, Some, None, Box, map}
+use Rattle.std.specs.Global.{Global}
 use Rattle.scan_text.specs.declared.Place.{Place}
 use Rattle.jack_tree.specs.declared.tree.Name as names
 use Rattle.jack_tree.specs.declared.tree.Operator as operators
@@ -84,9 +85,14 @@ abbrev pub the_value : Option expressions.Expression → Option Expression
 the_value None = None
 the_value (Some e) = Some (the_expression e)
 
+-- what is in a box, where there is one
+abbrev pub unboxed : {A : Type 0} → Option (Box A Global) → Option A
+unboxed None = None
+unboxed (Some b) = Some b.value
+
 abbrev mutual
   pub the_statement : statements.Statement → Statement
-  the_statement (statements.Let at n i e) = Let at (the_name n) (the_value i) (the_expression e)
+  the_statement (statements.Let at n i e) = Let at (the_name n) (the_value (unboxed i)) (the_expression e)
   the_statement (statements.If' at e n body other) = the_choice at (the_expression e) (the_row body) other
   the_statement (statements.While' at e n body) = While at (the_expression e) (the_row body)
   the_statement (statements.Do at c) = Do at (the_call c)

@@ -5,8 +5,8 @@ use Rattle.jack_core.specs.declared.tree.Part.{Part}
 use Rattle.jack_core.specs.Heights.{takes, height}
 use Rattle.jack_core.specs.Reading.{put, built}
 use Rattle.jack_tree.specs.declared.tree.Name.{Name}
-use Rattle.jack_names.specs.Scopes.{Scope}
-use Rattle.jack_names.specs.Meant.{slot_meant}
+use Rattle.jack_names.specs.Inner.Scopes.{Scope}
+use Rattle.jack_names.specs.Made.{slot_meant}
 use Rattle.jack_names.specs.declared.scope.Declared.{Declared}
 
 -- These parts leave these expressions, the last of which comes first, and each part finds its operands.

@@ -3,7 +3,7 @@ use Rattle.std.specs.Prelude.{ℕ, List, Option, Some, None, slice_get}
 use Rattle.jack_names.specs.Tables.{found, first_of}
 use Rattle.jack_names.specs.Inner.Entered.{table_of}
 use Rattle.jack_names.specs.Inner.Filed.{the_file}
-use Rattle.jack_names.specs.Scopes.{Scope as AScope}
+use Rattle.jack_names.specs.Inner.Scopes.{Scope as AScope}
 use Rattle.jack_names.specs.declared.table.Table.{Table}
 use Rattle.jack_names.specs.declared.scope.Signature.{Signature}
 use Rattle.jack_names.specs.declared.scope.Scope.{Scope}

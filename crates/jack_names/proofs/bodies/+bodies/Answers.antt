@@ -6,7 +6,7 @@ use Rattle.jack_core.specs.Reading.{the_expression}
 use Rattle.jack_core.specs.Texts.{the_statement, the_block}
 use Rattle.jack_core.proofs.Blocks.{if_reads, while_reads}
 use Rattle.jack_names.specs.Sizes.{size, sizes, else_size}
-use Rattle.jack_names.specs.Meant.{exp_meant, statement_meant, statements_meant, else_meant}
+use Rattle.jack_names.specs.Inner.Meant.{exp_meant, statement_meant, statements_meant, else_meant}
 use Rattle.jack_names.specs.Inner.Scoped.{the_scope}
 use Rattle.jack_names.proofs.Meanings.{if_means, if_counts, while_means, while_counts, statements_meant-push, sizes-push, sizes_from}
 use Rattle.jack_names.proofs.bodies.+bodies.Goals as goal

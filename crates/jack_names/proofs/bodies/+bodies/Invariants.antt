@@ -1,7 +1,7 @@
 use Rattle.std.proofs.Common.{◌≡◌, ◌+◌, ◌*◌, map, take}
 use Rattle.jack_core.specs.Texts.{the_statement}
 use Rattle.jack_names.specs.Sizes.{size, sizes, else_size}
-use Rattle.jack_names.specs.Meant.{statements_meant}
+use Rattle.jack_names.specs.Inner.Meant.{statements_meant}
 use Rattle.jack_names.specs.Inner.Scoped.{the_scope}
 use Rattle.jack_names.proofs.bodies.+bodies.Given as goal
 

@@ -2,8 +2,8 @@ use Rattle.std.proofs.Common.{◌++◌, ◌∷◌, sym, ap, ◌∙◌, Err}
 use Rattle.std.proofs.lemmas.Result.{err_from_is_err_and}
 use Rattle.jack_tree.specs.declared.tree.Call.{out-Call}
 use Rattle.jack_tree.specs.declared.tree.Expression.{out-Expression}
-use Rattle.jack_names.specs.Uses.{Calls, term_uses, exp_uses, operation_uses, operations_uses, arguments_uses}
-use Rattle.jack_names.specs.Scopes.{use_fault, first_fault}
+use Rattle.jack_names.specs.Inner.Uses.{Calls, term_uses, exp_uses, operation_uses, operations_uses, arguments_uses}
+use Rattle.jack_names.specs.Inner.Scopes.{use_fault, first_fault}
 use Rattle.jack_names.specs.Inner.Scoped.{the_scope}
 use Rattle.jack_names.proofs.Checking.{as_uses, in_first, in_second, uses_first, uses_second, in_each, one_clear}
 use Rattle.jack_names.proofs.Rows.{call_is, exp_is}

@@ -1,6 +1,6 @@
 use Rattle.std.proofs.Common.{◌≡◌, None, take}
-use Rattle.jack_names.specs.Uses.{arguments_uses, operations_uses}
-use Rattle.jack_names.specs.Scopes.{first_fault}
+use Rattle.jack_names.specs.Inner.Uses.{arguments_uses, operations_uses}
+use Rattle.jack_names.specs.Inner.Scopes.{first_fault}
 use Rattle.jack_names.specs.Inner.Scoped.{the_scope}
 use Rattle.jack_names.proofs.checks.+expressions.Given as goal
 

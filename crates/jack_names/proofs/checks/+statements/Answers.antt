@@ -1,26 +1,27 @@
 use Rattle.std.proofs.Common.{◌++◌, sym, ap, ◌∙◌, Ok, Err}
 use Rattle.std.proofs.lemmas.Result.{err_from_is_err_and}
-use Rattle.jack_names.specs.Uses.{Variable, exp_uses, optional_uses, statement_uses, statements_uses}
-use Rattle.jack_names.specs.Scopes.{use_fault, first_fault}
+use Rattle.jack_tree.specs.Seen.{unboxed}
+use Rattle.jack_names.specs.Inner.Uses.{Variable, exp_uses, optional_uses, statement_uses, statements_uses}
+use Rattle.jack_names.specs.Inner.Scopes.{use_fault, first_fault}
 use Rattle.jack_names.specs.Inner.Scoped.{the_scope}
 use Rattle.jack_names.proofs.Checking.{as_uses, in_second, uses_first, uses_second, in_each, one_clear}
 use Rattle.jack_names.proofs.Rows.{if_uses, while_uses, else_uses}
 use Rattle.jack_names.proofs.checks.+statements.Goals as goal
 
-pub check_statement-returns-in_err-check_optional-in-Let : goal.check_statement-returns-in_err-check_optional-in-Let
-check_statement-returns-in_err-check_optional-in-Let t c =
+pub check_statement-returns-in_err-check_index-in-Let : goal.check_statement-returns-in_err-check_index-in-Let
+check_statement-returns-in_err-check_index-in-Let t c =
     let s = the_scope c.args.scope.now in
-    let p = err_from_is_err_and c.from_residual-in_err-check_optional-in-Let.result c.from_residual-in_err-check_optional-in-Let.ensures.1 in
-    rw (p.1, p.2) (as_uses s _ _ (Err c.in_err-check_optional-in-Let.field-0.0) (ap statement_uses c.in-Let.is)
-    (in_second (use_fault s (Variable c.in-Let.name)) (first_fault s (optional_uses c.in-Let.index ++ exp_uses c.in-Let.value)) (Err c.in_err-check_optional-in-Let.field-0.0) c.in_ok-check_variable-in-Let.ensures
-    (uses_first s (optional_uses c.in-Let.index) (exp_uses c.in-Let.value) _ c.in_err-check_optional-in-Let.ensures)))
+    let p = err_from_is_err_and c.from_residual-in_err-check_index-in-Let.result c.from_residual-in_err-check_index-in-Let.ensures.1 in
+    rw (p.1, p.2) (as_uses s _ _ (Err c.in_err-check_index-in-Let.field-0.0) (ap statement_uses c.in-Let.is)
+    (in_second (use_fault s (Variable c.in-Let.name)) (first_fault s (optional_uses (unboxed c.in-Let.index) ++ exp_uses c.in-Let.value)) (Err c.in_err-check_index-in-Let.field-0.0) c.in_ok-check_variable-in-Let.ensures
+    (uses_first s (optional_uses (unboxed c.in-Let.index)) (exp_uses c.in-Let.value) _ c.in_err-check_index-in-Let.ensures)))
 
-pub check_statement-returns-in_ok-check_optional-in-Let : goal.check_statement-returns-in_ok-check_optional-in-Let
-check_statement-returns-in_ok-check_optional-in-Let t c =
+pub check_statement-returns-in_ok-check_index-in-Let : goal.check_statement-returns-in_ok-check_index-in-Let
+check_statement-returns-in_ok-check_index-in-Let t c =
     let s = the_scope c.args.scope.now in
     as_uses s _ _ _ (ap statement_uses c.in-Let.is)
-    (in_second (use_fault s (Variable c.in-Let.name)) (first_fault s (optional_uses c.in-Let.index ++ exp_uses c.in-Let.value)) _ c.in_ok-check_variable-in-Let.ensures
-    (uses_second s (optional_uses c.in-Let.index) (exp_uses c.in-Let.value) _ c.in_ok-check_optional-in-Let.ensures c.check_expression.ensures))
+    (in_second (use_fault s (Variable c.in-Let.name)) (first_fault s (optional_uses (unboxed c.in-Let.index) ++ exp_uses c.in-Let.value)) _ c.in_ok-check_variable-in-Let.ensures
+    (uses_second s (optional_uses (unboxed c.in-Let.index)) (exp_uses c.in-Let.value) _ c.in_ok-check_index-in-Let.ensures c.check_expression.ensures))
 
 pub check_statement-returns-in_err-check_expression-in-If : goal.check_statement-returns-in_err-check_expression-in-If
 check_statement-returns-in_err-check_expression-in-If t c =

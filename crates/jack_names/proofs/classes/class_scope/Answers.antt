@@ -1,5 +1,5 @@
 use Rattle.jack_names.specs.Inner.Named.{the_symbols}
-use Rattle.jack_names.specs.Twice.{source_of}
+use Rattle.jack_names.specs.Inner.Twice.{source_of}
 use Rattle.jack_names.proofs.classes.class_scope.Goals as goal
 
 pub returns : goal.returns

@@ -1,7 +1,7 @@
 use Rattle.std.proofs.Common.{◌≡◌, ◌++◌, map, subst, ap, ◌∙◌, OnOk}
 use Rattle.jack_core.specs.Texts.{the_subroutine}
 use Rattle.jack_names.specs.Symbols.{class_scope, fields_of}
-use Rattle.jack_names.specs.Whole.{class_fault, class_subroutines}
+use Rattle.jack_names.specs.Inner.Whole.{class_fault, class_subroutines}
 use Rattle.jack_names.specs.Inner.Named.{the_symbols, the_class_scope}
 use Rattle.jack_names.proofs.Checking.{as_fault}
 use Rattle.jack_names.proofs.classes.resolve_class.Goals as goal

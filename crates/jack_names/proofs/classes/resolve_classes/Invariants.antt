@@ -1,7 +1,7 @@
 use Rattle.std.proofs.Common.{◌≡◌, ◌+◌, ◌++◌, length, map}
 use Rattle.jack_core.specs.Texts.{the_subroutine}
 use Rattle.jack_names.specs.Limits.{AreWithin}
-use Rattle.jack_names.specs.Whole.{uses_fault, all_statics, subroutines_meant, names_meant}
+use Rattle.jack_names.specs.Inner.Whole.{uses_fault, all_statics, subroutines_meant, names_meant}
 use Rattle.jack_names.specs.Resolved.{the_name}
 use Rattle.jack_names.specs.Inner.Named.{the_symbols}
 use Rattle.jack_names.proofs.classes.resolve_classes.Given as goal

@@ -1,7 +1,7 @@
 use Rattle.std.proofs.Common.{Err, ap}
 use Rattle.std.proofs.lemmas.Result.{err_from_is_err_and}
-use Rattle.jack_names.specs.Uses.{subroutine_uses}
-use Rattle.jack_names.specs.Scopes.{first_fault}
+use Rattle.jack_names.specs.Inner.Uses.{subroutine_uses}
+use Rattle.jack_names.specs.Inner.Scopes.{first_fault}
 use Rattle.jack_names.specs.Inner.Scoped.{the_scope}
 use Rattle.jack_names.specs.Symbols.{scope_in}
 use Rattle.jack_names.specs.Inner.Named.{the_class_scope}

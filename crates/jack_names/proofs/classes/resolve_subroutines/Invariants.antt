@@ -1,7 +1,7 @@
 use Rattle.std.proofs.Common.{◌≡◌, ◌++◌, length, map}
 use Rattle.jack_core.specs.Texts.{the_subroutine}
 use Rattle.jack_names.specs.Limits.{AllHaveFew}
-use Rattle.jack_names.specs.Whole.{class_fault, class_subroutines, subroutine_name}
+use Rattle.jack_names.specs.Inner.Whole.{class_fault, class_subroutines, subroutine_name}
 use Rattle.jack_names.specs.Resolved.{the_name}
 use Rattle.jack_names.specs.Inner.Named.{the_class_scope}
 use Rattle.jack_names.proofs.classes.resolve_subroutines.Given as goal

@@ -7,8 +7,8 @@ use Rattle.jack_tree.specs.declared.tree.Call.{out-Call}
 use Rattle.jack_tree.specs.declared.tree.Expression.{out-Expression}
 use Rattle.jack_core.specs.Reading.{made, the_sign}
 use Rattle.jack_core.specs.declared.tree.Part.TheVariants as part
-use Rattle.jack_names.specs.Scopes.{callee}
-use Rattle.jack_names.specs.Meant.{exp_meant, term_meant, binary_meant, operation_meant, called_number, variable_meant, sign_meant, invoked, grouped, arguments_meant, call_meant}
+use Rattle.jack_names.specs.Inner.Scopes.{callee}
+use Rattle.jack_names.specs.Inner.Meant.{exp_meant, term_meant, binary_meant, operation_meant, called_number, variable_meant, sign_meant, invoked, grouped, arguments_meant, call_meant}
 use Rattle.jack_names.specs.Inner.Scoped.{the_scope}
 use Rattle.jack_names.specs.Inner.Pushed.{object_meant}
 use Rattle.jack_names.proofs.Meanings.{call_means, exp_means, grouped_more}
@@ -58,11 +58,11 @@ push_call-returns t c =
     let new = c.push_part.new.parts.items in
     let args = map (exp_meant s) c.deref.result.now in
     let number : c.called_number-number.result ≡ called_number s k.name.text (callee s k.object) = cc in
-    let count : c.in_ok-objects.objects + c.len.result ≡ length (object_meant s k.object) + length args = omega (arith, c.in_ok-objects.ensures.count, c.len.ensures, c.deref.ensures.len, length-map c.deref.result.now (exp_meant s), ap length c.deref.ensures.value) in
+    let count : c.in_ok-arguments.arguments ≡ length (object_meant s k.object) + length args = omega (arith, c.in_ok-arguments.ensures, c.in_ok-objects.ensures.count, c.len.ensures, c.deref.ensures.len, length-map c.deref.result.now (exp_meant s), ap length c.deref.ensures.value) in
     let same : invoked s k.object k.name (arguments_meant s c.deref.result.now) ≡ call_meant s c.args.call.now = ap (λ es. invoked s k.object k.name (arguments_meant s es)) c.deref.ensures.value ∙ sym (call_means s c.args.call.now) in
     on_ok_weaker c.push_part.result
     (λ last. added_as (invoked s k.object k.name (arguments_meant s c.deref.result.now)) (call_meant s c.args.call.now) old new same
-    (called s k.object k.name args c.called_number-number.result (c.in_ok-objects.objects + c.len.result) old c.push_object.new.parts.items c.push_arguments.new.parts.items new c.in_ok-objects.ensures.parts c.in_ok-push_arguments.ensures number count last))
+    (called s k.object k.name args c.called_number-number.result c.in_ok-arguments.arguments old c.push_object.new.parts.items c.push_arguments.new.parts.items new c.in_ok-objects.ensures.parts c.in_ok-push_arguments.ensures number count last))
     c.push_part.ensures
 
 pub push_term-returns-in_ok-push_expression-in-Element : goal.push_term-returns-in_ok-push_expression-in-Element

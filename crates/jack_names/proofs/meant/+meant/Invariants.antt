@@ -1,6 +1,6 @@
 -- The arguments so far are added, and the last expression is continued by the operations so far.
 use Rattle.std.proofs.Common.{map, take}
-use Rattle.jack_names.specs.Meant.{exp_meant, grouped}
+use Rattle.jack_names.specs.Inner.Meant.{exp_meant, grouped}
 use Rattle.jack_names.specs.Inner.Scoped.{the_scope}
 use Rattle.jack_names.specs.Inner.Pushed.{AddsAll, Turns}
 use Rattle.jack_names.proofs.meant.+meant.Given as goal

@@ -2,7 +2,7 @@
 use Rattle.std.proofs.Common.{ap, ◌∙◌, []}
 use Rattle.jack_core.specs.Heights.{height}
 use Rattle.jack_core.specs.Reading.{built, operand}
-use Rattle.jack_names.specs.Meant.{call_meant}
+use Rattle.jack_names.specs.Inner.Meant.{call_meant}
 use Rattle.jack_names.specs.Inner.Scoped.{the_scope}
 use Rattle.jack_names.proofs.Pushing.{alone, means}
 use Rattle.jack_names.proofs.meant.call_meant.Goals as goal

@@ -1,7 +1,7 @@
 -- The parts of the argument, and the call.
 use Rattle.jack_meaning.specs.Text as meaning
 use Rattle.jack_core.specs.Reading.{the_expression}
-use Rattle.jack_names.specs.Meant.{one}
+use Rattle.jack_names.specs.Made.{one}
 use Rattle.jack_names.proofs.Pushing.{called_one, means}
 use Rattle.jack_names.proofs.meant.call_one.Goals as goal
 

@@ -2,7 +2,7 @@
 use Rattle.std.proofs.Common.{◌+◌, ◌∷◌, take, get_or, sym, ap, arith}
 use Rattle.std.proofs.lemmas.List.{take_all}
 use Rattle.jack_meaning.specs.Text as meaning
-use Rattle.jack_names.specs.Meant.{filled, two}
+use Rattle.jack_names.specs.Made.{filled, two}
 use Rattle.jack_names.proofs.Meanings.{filled_more}
 use Rattle.jack_names.proofs.Pushing.{turned, turned_as}
 use Rattle.jack_names.proofs.meant.push_bytes.Goals as goal

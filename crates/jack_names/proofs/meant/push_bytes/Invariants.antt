@@ -1,6 +1,6 @@
 -- The last expression is filled with the bytes so far.
 use Rattle.std.proofs.Common.{take}
-use Rattle.jack_names.specs.Meant.{filled}
+use Rattle.jack_names.specs.Made.{filled}
 use Rattle.jack_names.specs.Inner.Pushed.{Turns}
 use Rattle.jack_names.proofs.meant.push_bytes.Given as goal
 

@@ -1,6 +1,6 @@
 -- The operator's part has two operands.
 use Rattle.std.proofs.lemmas.Result.{on_ok_weaker}
-use Rattle.jack_names.specs.Meant.{binary_meant}
+use Rattle.jack_names.specs.Inner.Meant.{binary_meant}
 use Rattle.jack_names.specs.Inner.Scoped.{the_scope}
 use Rattle.jack_names.proofs.Pushing.{joins}
 use Rattle.jack_names.proofs.meant.push_operator.Goals as goal

@@ -2,8 +2,8 @@ use Rattle.std.proofs.Common.{◌≡◌, ℕ, List, [], false, true, Err, sym, a
 use Rattle.std.proofs.lemmas.Result.{err_from_is_err_and}
 use Rattle.jack_names.specs.Tables.{is_among, names_in}
 use Rattle.jack_names.specs.Inner.Entered.{table_of}
-use Rattle.jack_names.specs.Twice.{declarations_fault}
-use Rattle.jack_names.specs.Whole.{class_names}
+use Rattle.jack_names.specs.Inner.Twice.{declarations_fault}
+use Rattle.jack_names.specs.Inner.Whole.{class_names}
 use Rattle.jack_names.specs.Inner.Named.{with_all, marks}
 use Rattle.jack_names.proofs.Checking.{as_fault, in_first, in_second}
 use Rattle.jack_names.proofs.Declaring.{declared_same, marks_are}

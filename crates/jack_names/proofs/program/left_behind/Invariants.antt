@@ -1,5 +1,5 @@
 use Rattle.std.proofs.Common.{◌≡◌, ◌+◌, length}
-use Rattle.jack_names.specs.Whole.{all_statics}
+use Rattle.jack_names.specs.Inner.Whole.{all_statics}
 use Rattle.jack_names.proofs.program.left_behind.Given as goal
 
 abbrev pub invariant-loop-class : goal.invariant-loop-class

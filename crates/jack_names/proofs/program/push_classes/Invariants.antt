@@ -1,7 +1,7 @@
 use Rattle.std.proofs.Common.{◌≡◌, ◌++◌, ◌≤◌, length, map}
 use Rattle.jack_core.specs.Texts.{the_class}
 use Rattle.jack_names.specs.Limits.{AreWithin}
-use Rattle.jack_names.specs.Whole.{all_statics, class_meant, class_names}
+use Rattle.jack_names.specs.Inner.Whole.{all_statics, class_meant, class_names}
 use Rattle.jack_names.specs.Resolved.{the_class_name}
 use Rattle.jack_names.proofs.program.push_classes.Given as goal
 

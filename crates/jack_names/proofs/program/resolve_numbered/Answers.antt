@@ -3,8 +3,8 @@ use Rattle.std.proofs.lemmas.Result.{err_from_is_err_and}
 use Rattle.jack_core.specs.Texts.{the_subroutine}
 use Rattle.jack_names.specs.Tables.{first_of}
 use Rattle.jack_names.specs.Symbols.{symbols_of}
-use Rattle.jack_names.specs.Meant.{number_by}
-use Rattle.jack_names.specs.Whole.{declared_fault, found_subroutine, main_fault, all_uses_fault, all_subroutines_meant, start_subroutine}
+use Rattle.jack_names.specs.Inner.Meant.{number_by}
+use Rattle.jack_names.specs.Inner.Whole.{declared_fault, found_subroutine, main_fault, all_uses_fault, all_subroutines_meant, start_subroutine}
 use Rattle.jack_names.specs.Inner.Named.{the_symbols}
 use Rattle.jack_names.proofs.Checking.{as_fault, in_first, in_second}
 use Rattle.jack_names.proofs.program.resolve_numbered.Goals as goal

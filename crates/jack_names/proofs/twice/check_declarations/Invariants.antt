@@ -1,7 +1,7 @@
 use Rattle.std.proofs.Common.{◌≡◌, length}
 use Rattle.jack_names.specs.Tables.{names_in}
 use Rattle.jack_names.specs.Inner.Entered.{table_of}
-use Rattle.jack_names.specs.Twice.{declarations_fault}
+use Rattle.jack_names.specs.Inner.Twice.{declarations_fault}
 use Rattle.jack_names.proofs.twice.check_declarations.Given as goal
 
 abbrev pub invariant-loop-class : goal.invariant-loop-class

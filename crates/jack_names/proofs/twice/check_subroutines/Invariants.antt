@@ -2,7 +2,7 @@ use Rattle.std.proofs.Common.{◌≡◌, length}
 use Rattle.jack_names.specs.Tables.{names_in}
 use Rattle.jack_names.specs.Inner.Entered.{table_of}
 use Rattle.jack_names.specs.Inner.Filed.{the_file}
-use Rattle.jack_names.specs.Twice.{subroutines_fault}
+use Rattle.jack_names.specs.Inner.Twice.{subroutines_fault}
 use Rattle.jack_names.proofs.twice.check_subroutines.Given as goal
 
 abbrev pub invariant-loop-s : goal.invariant-loop-s

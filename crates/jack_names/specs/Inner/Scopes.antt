@@ -6,7 +6,7 @@ use Rattle.jack_tree.specs.declared.tree.Form.{Form}
 use Rattle.jack_tree.specs.declared.tree.Form.TheVariants as form
 use Rattle.jack_names.specs.Tables.{first_of}
 use Rattle.jack_names.specs.Faults.{Told, Source, kind_number, told_in, told_if, first_in}
-use Rattle.jack_names.specs.Uses.{Use, Variable, This, Calls, Makes, Text}
+use Rattle.jack_names.specs.Inner.Uses.{Use, Variable, This, Calls, Makes, Text}
 use Rattle.jack_names.specs.declared.fault.NameKind.{NameKind}
 use Rattle.jack_names.specs.declared.fault.NameKind.TheVariants as kinds
 use Rattle.jack_names.specs.declared.scope.Slot.{Slot}

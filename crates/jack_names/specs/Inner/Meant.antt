@@ -3,6 +3,7 @@
 -- number in the order of the text, and a body whose last statement is no `return` gets one. A constructor first takes the memory of its object.
 use Rattle.std.specs.Prelude.{ℕ, ◌+◌, ◌%◌, Bool, true, false, List, [], ◌∷◌, map, Option, Some, None, length, codes, Vec}
 use Rattle.std.specs.Global.{Global}
+use Rattle.jack_tree.specs.Seen.{unboxed}
 use Rattle.jack_meaning.specs.Text as meaning
 use Rattle.jack_tree.specs.declared.tree.Name.{Name}
 use Rattle.jack_tree.specs.declared.tree.Operator.{Operator}
@@ -16,25 +17,14 @@ use Rattle.jack_tree.specs.declared.tree.Term as terms
 use Rattle.jack_tree.specs.declared.tree.Operation.{Operation}
 use Rattle.jack_tree.specs.declared.tree.Expression.{Expression, Expression', Row_of-Operation, end_of-Operation, more_of-Operation}
 use Rattle.jack_tree.specs.declared.tree.Statement as statements
+use Rattle.jack_names.specs.Made.{slot_meant, declared_meant, with_variable, one, two, filled, length_word, assigned, let_by}
 use Rattle.jack_names.specs.Sizes.{size, row_size}
-use Rattle.jack_names.specs.Scopes.{Scope, callee}
+use Rattle.jack_names.specs.Inner.Scopes.{Scope, callee}
 use Rattle.jack_names.specs.declared.scope.Slot.{Slot}
 use Rattle.jack_names.specs.declared.scope.Slot.TheVariants as slot
 use Rattle.jack_names.specs.declared.scope.Declared.{Declared}
 use Rattle.jack_names.specs.declared.scope.Signature.{Signature}
 use Rattle.jack_names.specs.declared.scope.Callee.{Callee}
-
--- a variable, by where it is
-abbrev pub slot_meant : Slot → meaning.Expression
-slot_meant (slot.Argument k) = meaning.Name (meaning.Argument k)
-slot_meant (slot.Local k) = meaning.Name (meaning.Local k)
-slot_meant (slot.Field k) = meaning.Field k
-slot_meant (slot.Static k) = meaning.Name (meaning.Static k)
-
--- Here and below, where nothing is declared, any number will do: there is a fault then.
-abbrev pub declared_meant : Option Declared → meaning.Expression
-declared_meant None = meaning.Literal 0
-declared_meant (Some v) = slot_meant v.slot
 
 abbrev pub variable_meant : Scope → Name → meaning.Expression
 variable_meant s x = declared_meant (s.variable x.text)
@@ -56,33 +46,12 @@ made_by s f (Some k) = number_by (s.subroutine k f)
 abbrev pub made_number : Scope → List ℕ → List ℕ → ℕ
 made_number s c f = made_by s f (s.class c)
 
--- A call's object comes first: a variable, or `this` where nothing stands before the name; a class is no object.
-abbrev pub with_variable : Option Declared → meaning.Expressions → meaning.Expressions
-with_variable None es = es
-with_variable (Some v) es = meaning.More (slot_meant v.slot) es
-
 abbrev pub with_object : Scope → Option Name → meaning.Expressions → meaning.Expressions
 with_object s None es = meaning.More meaning.This es
 with_object s (Some x) es = with_variable (s.variable x.text) es
 
 abbrev pub invoked : Scope → Option Name → Name → meaning.Expressions → meaning.Expression
 invoked s o f es = meaning.Call (called_number s f.text (callee s o)) (with_object s o es)
-
--- one argument and two
-abbrev pub one : meaning.Expression → meaning.Expressions
-one e = meaning.More e meaning.NoMore
-
-abbrev pub two : meaning.Expression → meaning.Expression → meaning.Expressions
-two a b = meaning.More a (one b)
-
--- a string is filled byte by byte
-abbrev pub filled : ℕ → meaning.Expression → List ℕ → meaning.Expression
-filled append e [] = e
-filled append e (b ∷ bs) = filled append (meaning.Call append (two e (meaning.Literal b))) bs
-
--- the length of a string, as a word
-abbrev pub length_word : List ℕ → ℕ
-length_word text = length text % 65536
 
 abbrev pub string_meant : Scope → List ℕ → meaning.Expression
 string_meant s text =
@@ -152,16 +121,6 @@ listed (e ∷ es) more = meaning.More e (listed es more)
 abbrev pub arguments_meant : Scope → List Expression → meaning.Expressions
 arguments_meant s es = listed (map (exp_meant s) es) meaning.NoMore
 
-abbrev pub assigned : Slot → ℕ → meaning.Expression → meaning.Statement
-assigned (slot.Argument k) n e = meaning.Let n (meaning.Argument k) e
-assigned (slot.Local k) n e = meaning.Let n (meaning.Local k) e
-assigned (slot.Field k) n e = meaning.LetField n k e
-assigned (slot.Static k) n e = meaning.Let n (meaning.Static k) e
-
-abbrev pub let_by : Option Declared → ℕ → meaning.Expression → meaning.Statement
-let_by None n e = meaning.Let n (meaning.Local 0) e
-let_by (Some v) n e = assigned v.slot n e
-
 abbrev pub let_meant : Scope → ℕ → Name → Option Expression → Expression → meaning.Statement
 let_meant s n x None e = let_by (s.variable x.text) n (exp_meant s e)
 let_meant s n x (Some i) e = meaning.Store n (variable_meant s x) (exp_meant s i) (exp_meant s e)
@@ -179,7 +138,7 @@ is_else (statements.Some' m a) = true
 -- a statement whose number is n; those in it follow
 abbrev mutual
   pub statement_meant : Scope → ℕ → statements.Statement → meaning.Statement
-  statement_meant s n (statements.Let at x i e) = let_meant s n x i e
+  statement_meant s n (statements.Let at x i e) = let_meant s n x (unboxed i) e
   statement_meant s n (statements.If' at e m a b) = meaning.If n (is_else b) (exp_meant s e) (block_meant s (n + 1) a) (other_meant s (n + 1 + row_size a) b)
   statement_meant s n (statements.While' at e m a) = meaning.While n (exp_meant s e) (block_meant s (n + 1) a)
   statement_meant s n (statements.Do at c) = meaning.Do n (call_meant s c)

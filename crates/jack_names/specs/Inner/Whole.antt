@@ -11,12 +11,13 @@ use Rattle.jack_tree.specs.declared.tree.Subroutine.{Subroutine}
 use Rattle.jack_tree.specs.declared.tree.Class.{Class}
 use Rattle.jack_names.specs.Tables.{first_of}
 use Rattle.jack_names.specs.Faults.{Told, Source, first_in}
-use Rattle.jack_names.specs.Uses.{Makes, subroutine_uses}
+use Rattle.jack_names.specs.Inner.Uses.{Makes, subroutine_uses}
 use Rattle.jack_names.specs.Sizes.{sizes}
-use Rattle.jack_names.specs.Scopes.{Scope, is_function, use_fault, first_fault}
+use Rattle.jack_names.specs.Inner.Scopes.{Scope, is_function, use_fault, first_fault}
 use Rattle.jack_names.specs.Symbols.{Symbols, ClassScope, symbols_of, class_scope, scope_in, fields_of, statics_of, locals_of, objects}
-use Rattle.jack_names.specs.Twice.{declarations_fault}
-use Rattle.jack_names.specs.Meant.{made_number, number_by, one, statements_meant}
+use Rattle.jack_names.specs.Inner.Twice.{declarations_fault}
+use Rattle.jack_names.specs.Made.{one}
+use Rattle.jack_names.specs.Inner.Meant.{made_number, number_by, statements_meant}
 use Rattle.jack_names.specs.declared.fault.NameKind.TheVariants as kinds
 use Rattle.jack_names.specs.declared.scope.Signature.{Signature}
 
