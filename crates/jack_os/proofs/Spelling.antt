@@ -7,7 +7,7 @@ use Rattle.grammar.specs.Reading.{Halt, fault}
 use Rattle.jack_tree.specs.declared.tree.Class.{Class}
 use Rattle.jack_tree.specs.Seen.{the_class, the_file}
 use Rattle.jack_parser.specs.Spelled as spelling
-use Rattle.jack_parser.specs.Whole.{Refuses}
+use Rattle.jack_parser.specs.Spells.{Refuses}
 use Rattle.jack_os.specs.System.{Texts, SpellsClass, SpellClasses, HasFault, IsClassOf, AreClassesOf, added_to, with_added, system}
 
 caused : (cause : Fault → Type 0) (f : Fault) → Halt cause (errors.Fault f) → cause f

@@ -2,3 +2,4 @@ pub mod Inner
 pub mod Made
 pub mod Routines
 pub mod System
+pub mod RoutineTexts

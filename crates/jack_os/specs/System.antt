@@ -9,7 +9,7 @@ use Rattle.jack_tree.specs.declared.tree.Class.{Class}
 use Rattle.jack_tree.specs.Syntax.{Subroutine, ClassFile}
 use Rattle.jack_tree.specs.Seen.{the_class, the_file}
 use Rattle.jack_parser.specs.Spelled as spelling
-use Rattle.jack_parser.specs.Whole.{Refuses}
+use Rattle.jack_parser.specs.Spells.{Refuses}
 use Rattle.jack_os.specs.declared.shipped.TheConstants.{ARRAY, KEYBOARD, MATH, MEMORY, OUTPUT, SCREEN, STRING, SYS}
 use Rattle.jack_os.specs.declared.reading.SystemFault.{SystemFault}
 use Rattle.jack_os.specs.declared.reading.SystemError.{SystemError}

@@ -141,7 +141,7 @@ fn statement(alloc: Global, sketch: &StatementSketch) -> Result<Statement, Alloc
             let name = name(alloc, text)?;
             let index = expression(alloc, index)?;
             let value = expression(alloc, value)?;
-            Ok(Statement::Let(NOWHERE, name, Some(index), value))
+            Ok(Statement::Let(NOWHERE, name, Some(Box::new(alloc, index)?), value))
         }
         StatementSketch::If(condition, body) => {
             let condition = expression(alloc, condition)?;

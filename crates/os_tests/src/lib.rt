@@ -6,8 +6,6 @@ mod calls;
 #[cfg(test)]
 mod drawing;
 #[cfg(test)]
-mod given;
-#[cfg(test)]
 mod programs;
 #[cfg(test)]
 mod screen;

@@ -1,6 +1,8 @@
 //! Programs of one class over the operating system.
 ghost use Rattle.std.specs.Prelude.{◌≡◌, IfOk, length};
+ghost use Rattle.jack_core.specs.Texts.{the_program};
 ghost use Rattle.jack_compiler.specs.Resolved.{IsResolvedCore};
+ghost use Rattle.jack_machine.specs.Calls.{CallsAreThere};
 ghost use Rattle.tower.specs.Spelled.{AreSpelled};
 
 use jack_core::Core;
@@ -25,7 +27,8 @@ pub fn only(alloc: Global, file: &str, text: &[u8]) -> Result<Vec<Class>, Fail>
 
 /// The program of this class Main alone.
 pub fn program_of(alloc: Global, text: &[u8]) -> Result<Core, Fail>
-    ensures { IfOk result IsResolvedCore }
+    ensures resolved { IfOk result IsResolvedCore }
+    ensures there { IfOk result (λ core. CallsAreThere (the_program core)) }
 {
     let own = only(alloc, "Main.jack", text)?;
     match program_of_classes(alloc, &own) {

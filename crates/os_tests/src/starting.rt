@@ -1,4 +1,7 @@
 //! How the operating system starts.
+ghost use Rattle.jack_core.specs.Texts.{the_program};
+ghost use Rattle.jack_machine.specs.Calls.{CallsAreThere};
+
 use crate::programs::{only, program_of};
 use jack_core::Core;
 use jack_machine::Jack;
@@ -37,7 +40,9 @@ fn comes_to(
     moves: u32,
     name: &str,
     number: u32,
-) -> Result<(), Fail> {
+) -> Result<(), Fail>
+    requires { CallsAreThere (the_program core.now) }
+{
     let keys = no_keys(alloc)?;
     let mut jack = Jack::new(alloc, core)?;
     drive(&mut jack, &keys, u64::from(moves))?;

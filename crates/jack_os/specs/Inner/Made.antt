@@ -7,7 +7,7 @@ use Rattle.jack_tree.specs.declared.token.Keyword.TheVariants as keyword
 use Rattle.jack_tree.specs.declared.token.Kind.TheVariants as kind
 use Rattle.jack_tree.specs.declared.tree.Operator.{Operator}
 use Rattle.jack_tree.specs.declared.tree.Sign.{Sign}
-use Rattle.jack_parser.specs.Jack.{Said, Fixed, Placed}
+use Rattle.jack_parser.specs.Grammar.{Said, Fixed, Placed}
 use Rattle.jack_parser.specs.Trees.{operator_said, sign_said}
 
 abbrev pub Jack : Type 0
