@@ -15,7 +15,7 @@ use Rattle.vm_link.specs.Faults.{words_of_lines, static_words, words_at}
 use Rattle.jack_meaning.specs.Text.{Variable, Argument, Local, Static, Expression, Literal, Value, Name, This, Field, Unary, Binary, Load, Call, Open, Expressions, NoMore, More, Statement, Let, LetField, LetThis, Store, Do, If, While, Return, Text, End, Next, Kind, Constructor, Function, Method, Subroutine}
 use Rattle.jack_compiler.specs.Templates.{Numbers, count, first_number, no_else}
 use Rattle.jack_compiler.specs.Fits.{Scope, without_object, IsThere, IsWhole, AreWhole, IsFresh, IsFreshText, IsBody}
-use Rattle.jack_compiler.specs.Lines.{Around, short, quiet, commit, if_true, if_false, if_end, into_if, into_else, into_while, out_of_while, push_variable, pop_variable, sign_command, operator_command, literal_lines, load_lines, store_lines, expression_lines, arguments_lines, statement_lines, text_lines, object_lines, subroutine_lines, ifs_of, ifs_in, whiles_of, whiles_in}
+use Rattle.jack_compiler.specs.Lines.{Around, quiet, commit, if_true, if_false, if_end, into_if, into_else, into_while, out_of_while, push_variable, pop_variable, sign_command, operator_command, literal_lines, load_lines, store_lines, expression_lines, arguments_lines, statement_lines, text_lines, object_lines, subroutine_lines, ifs_of, ifs_in, whiles_of, whiles_in}
 
 -- the static that a command names
 abbrev pub static_in : Segment → ℕ → Option ℕ
@@ -124,7 +124,7 @@ module _ (K : List ℕ → Type 0) (H : ℕ → Type 0) where
 -- What a text names by the checks of names, and what linking has kept of that.
 pub record Keeps (first numbers : Numbers) (around : Around) (K : List ℕ → Type 0) (H : ℕ → Type 0) : Type 0 where
   pub calls : (g : ℕ) → first.keeps g ≡ true → K (around.name g) → numbers.keeps g ≡ true
-  pub statics : (k : ℕ) → first.holds k ≡ true → H (short (k - around.before)) → numbers.holds k ≡ true
+  pub statics : (k : ℕ) → first.holds k ≡ true → H (k - around.before) → numbers.holds k ≡ true
 
 module _ (subs : List Subroutine) (first numbers : Numbers) (around : Around) (K : List ℕ → Type 0) (H : ℕ → Type 0) (keeps : Keeps first numbers around K H) where
   abbrev Each : List Line → Type 0
@@ -134,12 +134,12 @@ module _ (subs : List Subroutine) (first numbers : Numbers) (around : Around) (K
     push_there : (x : Variable) → IsThere subs first scope x → Named K H (push_variable around x) → IsThere subs numbers scope x
     push_there (Argument k) h n = h
     push_there (Local k) h n = h
-    push_there (Static k) h n = keeps.statics k h (n.statics (short (k - around.before)) refl)
+    push_there (Static k) h n = keeps.statics k h (n.statics (k - around.before) refl)
 
     pop_there : (x : Variable) → IsThere subs first scope x → Named K H (pop_variable around x) → IsThere subs numbers scope x
     pop_there (Argument k) h n = h
     pop_there (Local k) h n = h
-    pop_there (Static k) h n = keeps.statics k h (n.statics (short (k - around.before)) refl)
+    pop_there (Static k) h n = keeps.statics k h (n.statics (k - around.before) refl)
 
     mutual
       pub whole_kept : (n : ℕ) (e : Expression) → IsWhole subs first scope e → Each (expression_lines around n e) → IsWhole subs numbers scope e
@@ -162,8 +162,8 @@ module _ (subs : List Subroutine) (first numbers : Numbers) (around : Around) (K
         whole_kept n j h.1 (front K H (expression_lines around n j) (load_lines n) (back K H (expression_lines around n a) (expression_lines around n j ++ load_lines n) p)),
       )
       whole_kept n (Call g es) h p = (
-        (keeps.calls g h.0.0 ((head K H (back K H (arguments_lines around n es) (commit n (command.Call (around.name g) (short (count es))) ∷ []) p)).calls (around.name g) refl), h.0.1),
-        are_kept n es h.1 (front K H (arguments_lines around n es) (commit n (command.Call (around.name g) (short (count es))) ∷ []) p),
+        (keeps.calls g h.0.0 ((head K H (back K H (arguments_lines around n es) (commit n (command.Call (around.name g) (count es)) ∷ []) p)).calls (around.name g) refl), h.0.1),
+        are_kept n es h.1 (front K H (arguments_lines around n es) (commit n (command.Call (around.name g) (count es)) ∷ []) p),
       )
 
       pub are_kept : (n : ℕ) (es : Expressions) → AreWhole subs first scope es → Each (arguments_lines around n es) → AreWhole subs numbers scope es

@@ -1,5 +1,5 @@
 -- The linked code of a subroutine's lines is what the templates say.
-use Rattle.std.proofs.Common.{◌≡◌, ◌+◌, ◌-◌, ◌<◌, ◌++◌, ℕ, suc, Bool, true, false, nat_eq, List, [], ◌∷◌, Some, length, refl, sym, ap, subst, ◌∙◌, arith, append_assoc, length-append, if◌then◌else◌}
+use Rattle.std.proofs.Common.{◌≡◌, ◌+◌, ◌-◌, ◌++◌, ℕ, suc, Bool, true, false, nat_eq, List, [], ◌∷◌, Some, length, refl, sym, ap, subst, ◌∙◌, arith, append_assoc, length-append, if◌then◌else◌}
 use Rattle.std.specs.List.{filter_map}
 use Rattle.std.proofs.lemmas.List.{append-nil}
 use Rattle.std.proofs.lemmas.List.Elements.{filter_map-append}
@@ -13,20 +13,15 @@ use Rattle.vm_link.specs.Sections.{Section, label}
 use Rattle.vm_link.specs.Faults.{words_before}
 use Rattle.vm_link.specs.Resolved.{code_of, number_in, place_in}
 use Rattle.jack_meaning.specs.Text.{Variable, Argument, Local, Static, Sign, Minus, Complement, Operator, Plus, Subtract, And, Or, Less, Greater, Equal, Expression, Literal, Value, Name, This, Field, Unary, Binary, Load, Call, Open, Expressions, NoMore, More, Statement, Let, LetField, LetThis, Store, Do, If, While, Return, Text, End, Next, Subroutine}
-use Rattle.jack_meaning.specs.Meaning.{subroutine_at}
 use Rattle.jack_compiler.specs.Templates.{Numbers, quiet, commit, count, literal_code, push_variable, pop_variable, sign_step, operator_step, load_code, store_code, expression_code, arguments_code, statement_code, text_code, first_number, no_else}
 use Rattle.jack_compiler.specs.Fits.{Scope, IsThere, IsWhole, AreWhole, IsFresh, IsFreshText}
 use Rattle.jack_compiler.specs.Lines as lines
-use Rattle.jack_compiler.specs.Lines.{Around, short, if_true, if_false, if_end, while_exp, while_do, while_end, into_if, into_else, into_while, out_of_while, literal_lines, sign_command, operator_command, expression_lines, arguments_lines, statement_lines, text_lines, object_lines, ifs_of, ifs_in, whiles_of, whiles_in}
-
-pub short_is : (k : ℕ) → k < 65536 → short k ≡ k
-short_is k h = omega arith
+use Rattle.jack_compiler.specs.Lines.{Around, if_true, if_false, if_end, while_exp, while_do, while_end, into_if, into_else, into_while, out_of_while, literal_lines, sign_command, operator_command, expression_lines, arguments_lines, statement_lines, text_lines, object_lines, ifs_of, ifs_in, whiles_of, whiles_in}
 
 -- What linking gives for what a subroutine names.
 pub record Gives (subs : List Subroutine) (first numbers : Numbers) (around : Around) (ks : List Section) (s : Section) : Type 0 where
   pub calls : (g : ℕ) → first.keeps g ≡ true → number_in ks (around.name g) ≡ numbers.function g
-  pub few : (g : ℕ) → first.keeps g ≡ true → (subroutine_at subs g).arguments < 65536
-  pub statics : (k : ℕ) → first.holds k ≡ true → words_before ks s.file + short (k - around.before) ≡ numbers.static k
+  pub statics : (k : ℕ) → first.holds k ≡ true → words_before ks s.file + (k - around.before) ≡ numbers.static k
 
 -- These lines stand in the section, and the first of them is at this place.
 pub record Stands (ks : List Section) (s : Section) (p : ℕ) (xs : List Line) : Type 0 where
@@ -159,8 +154,7 @@ pub record Codes (ks : List Section) (s : Section) (xs : List Line) (cs : List C
 pub join : {ks : List Section} {s : Section} {xs ys : List Line} {a b : List Code} → Codes ks s xs a → Codes ks s ys b → Codes ks s (xs ++ ys) (a ++ b)
 join {ks} {s} {xs} {ys} {a} {b} e f = record { is = both ks s xs ys a b e.is f.is }
 
-module _ (subs : List Subroutine) (first numbers : Numbers) (around : Around) (ks : List Section) (s : Section) (scope : Scope) (gives : Gives subs first numbers around ks s)
-    (few_arguments : scope.arguments < 65536) (few_locals : scope.locals < 65536) where
+module _ (subs : List Subroutine) (first numbers : Numbers) (around : Around) (ks : List Section) (s : Section) (scope : Scope) (gives : Gives subs first numbers around ks s) where
   abbrev Are : List Line → List Code → Type 0
   Are xs cs = Codes ks s xs cs
 
@@ -186,21 +180,18 @@ module _ (subs : List Subroutine) (first numbers : Numbers) (around : Around) (k
   operator_codes n Equal = record { is = refl }
 
   push_codes : (n : ℕ) (x : Variable) → IsThere subs first scope x → Are (lines.commit n (lines.push_variable around x) ∷ []) (commit n (push_variable numbers x) ∷ [])
-  push_codes n (Argument k) h = record { is = ap (λ (z : ℕ). commit n (command.Push segment.Argument z) ∷ []) (short_is k (omega arith)) }
-  push_codes n (Local k) h = record { is = ap (λ (z : ℕ). commit n (command.Push segment.Local z) ∷ []) (short_is k (omega arith)) }
+  push_codes n (Argument k) h = record { is = refl }
+  push_codes n (Local k) h = record { is = refl }
   push_codes n (Static k) h = record { is = ap (λ (z : ℕ). commit n (command.Push segment.Static z) ∷ []) (gives.statics k h) }
 
   pop_codes : (n : ℕ) (x : Variable) → IsThere subs first scope x → Are (lines.commit n (lines.pop_variable around x) ∷ []) (commit n (pop_variable numbers x) ∷ [])
-  pop_codes n (Argument k) h = record { is = ap (λ (z : ℕ). commit n (command.Pop segment.Argument z) ∷ []) (short_is k (omega arith)) }
-  pop_codes n (Local k) h = record { is = ap (λ (z : ℕ). commit n (command.Pop segment.Local z) ∷ []) (short_is k (omega arith)) }
+  pop_codes n (Argument k) h = record { is = refl }
+  pop_codes n (Local k) h = record { is = refl }
   pop_codes n (Static k) h = record { is = ap (λ (z : ℕ). commit n (command.Pop segment.Static z) ∷ []) (gives.statics k h) }
 
-  called : (n g : ℕ) (es : Expressions) → first.keeps g ≡ true → count es ≡ (subroutine_at subs g).arguments
-      → Are (lines.commit n (line_command.Call (around.name g) (short (count es))) ∷ []) (commit n (command.Call (numbers.function g) (count es)) ∷ [])
-  called n g es k e =
-      let few = gives.few g k in
-      let few_here : count es < 65536 = omega arith in
-      record { is = ap (λ (z : ℕ). commit n (command.Call z (short (count es))) ∷ []) (gives.calls g k) ∙ ap (λ (z : ℕ). commit n (command.Call (numbers.function g) z) ∷ []) (short_is (count es) few_here) }
+  called : (n g : ℕ) (es : Expressions) → first.keeps g ≡ true
+      → Are (lines.commit n (line_command.Call (around.name g) (count es)) ∷ []) (commit n (command.Call (numbers.function g) (count es)) ∷ [])
+  called n g es k = record { is = ap (λ (z : ℕ). commit n (command.Call z (count es)) ∷ []) (gives.calls g k) }
 
   load_codes : (n : ℕ) → Are (lines.load_lines n) (load_code n)
   load_codes n = record { is = refl }
@@ -219,7 +210,7 @@ module _ (subs : List Subroutine) (first numbers : Numbers) (around : Around) (k
     expression_codes n (Unary o a) h = join (expression_codes n a h) (sign_codes n o)
     expression_codes n (Binary o a b) h = join (expression_codes n a h.0) (join (expression_codes n b h.1) (operator_codes n o))
     expression_codes n (Load a j) h = join (expression_codes n a h.0) (join (expression_codes n j h.1) (load_codes n))
-    expression_codes n (Call g es) h = join (arguments_codes n es h.1) (called n g es h.0.0 h.0.1)
+    expression_codes n (Call g es) h = join (arguments_codes n es h.1) (called n g es h.0.0)
 
     pub arguments_codes : (n : ℕ) (es : Expressions) → AreWhole subs first scope es → Are (arguments_lines around n es) (arguments_code numbers n es)
     arguments_codes n NoMore h = record { is = refl }

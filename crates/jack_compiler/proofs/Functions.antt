@@ -1,5 +1,5 @@
 -- Functions and statics, class by class.
-use Rattle.std.proofs.Common.{◌≡◌, ◌+◌, ◌++◌, ◌<◌, ℕ, zero, suc, Bool, true, false, List, [], ◌∷◌, length, drop, take, get_or, set, map, slice_index, ◌⊎◌, inl, inr, ◌≤◌, add-one, refl, sym, ap, subst, ◌∙◌, arith, if◌then◌else◌}
+use Rattle.std.proofs.Common.{◌≡◌, ◌+◌, ◌++◌, ◌<◌, ℕ, zero, suc, Bool, true, false, List, [], ◌∷◌, length, drop, take, get_or, set, map, slice_index, Option, None, ◌⊎◌, inl, inr, add-one, refl, sym, ap, subst, ◌∙◌, arith, if◌then◌else◌}
 use Rattle.std.specs.Prelude.{◌==◌}
 use Rattle.std.proofs.lemmas.Bool.{cases_eq, eq-eqb, ne_eqb}
 use Rattle.std.proofs.lemmas.List.{append-nil, take_more, map-append, length-map}
@@ -12,8 +12,10 @@ use Rattle.jack_core.specs.declared.program.Core.{Core}
 use Rattle.jack_core.specs.declared.program.Subroutine.{Subroutine as TheSubroutine}
 use Rattle.jack_core.specs.Texts.{the_class, the_subroutine, the_program, names_of, class_names_of}
 use Rattle.jack_compiler.specs.Lines.{Around}
-use Rattle.jack_compiler.specs.Files.{statics_before, function_of, functions_of, file_of, class_file, files_from, files_of, around_class, name_at}
+use Rattle.jack_compiler.specs.Files.{statics_before, function_of, functions_of, file_of, class_file, files_from, program_files, files_of, around_class, name_at}
 use Rattle.jack_compiler.specs.Added.{no_file, with_more, AddsFunction, AreFiles}
+use Rattle.jack_compiler.specs.Inner.Hollow.{is_wanted, whole_if, whole_where}
+use Rattle.jack_compiler.proofs.Hollow.{whole_none, class_same, length_whole, whole_last, whole_rest}
 
 pub statics_before-none : (cs : List AClass) → statics_before cs 0 ≡ 0
 statics_before-none [] = refl
@@ -27,15 +29,18 @@ statics_before-more (d ∷ cs) (suc i) c h e = rw add-one (let ih = statics_befo
 pub statics_step : (cs : List Class) (i : ℕ) (c : Class) (n m : ℕ) → i < length cs → c ≡ get_or cs i c → n ≡ m + c.statics → m ≡ statics_before (map the_class cs) i → n ≡ statics_before (map the_class cs) (i + 1)
 statics_step cs i c n m h is e f = let x = statics_before-more cs i c h is in omega arith
 
+any_default : (xs : List ℕ) (k d e : ℕ) → k < length xs → get_or xs k d ≡ get_or xs k e
+any_default [] k d e h = absurd (omega arith)
+any_default (x ∷ xs) zero d e h = refl
+any_default (x ∷ xs) (suc k) d e h = any_default xs k d e (omega arith)
+
 -- what the code looks up
-pub before_is : (cs ds : List Class) (bs us : List ℕ) (k r : ℕ) → ds ≡ cs → us ≡ bs
-    → (length bs ≡ length ds) × ((j : ℕ) → j < length ds → slice_index bs j ≡ statics_before (map the_class ds) j) → (k < length us → r ≡ slice_index us k)
-    → k < length cs → r ≡ statics_before (map the_class cs) k
-before_is cs ds bs us k r e f h g b =
+pub before_is : (cs ds : List Class) (bs : List ℕ) (k r : ℕ) → ds ≡ cs → (length bs ≡ length ds) × ((j : ℕ) → j < length ds → slice_index bs j ≡ statics_before (map the_class ds) j)
+    → r ≡ get_or bs k r → k < length cs → r ≡ statics_before (map the_class cs) k
+before_is cs ds bs k r e h g b =
     let l = ap length e in
-    let m = ap length f in
     let n = h.0 in
-    g (omega arith) ∙ ap (λ z. slice_index z k) f ∙ h.1 k (omega arith) ∙ ap (λ z. statics_before (map the_class z) k) e
+    g ∙ any_default bs k r 0 (omega arith) ∙ h.1 k (omega arith) ∙ ap (λ z. statics_before (map the_class z) k) e
 
 -- one more subroutine
 pub functions_of-push : (around : Around) (k g : ℕ) (subs : List Subroutine) (sub : Subroutine)
@@ -74,17 +79,27 @@ map_rest : (xs : List TheSubroutine) → map the_subroutine (drop 1 xs) ≡ drop
 map_rest [] = refl
 map_rest (x ∷ xs) = refl
 
-pub files_made : (core : Core) (others : List TheSubroutine) (fs : List File) → others ≡ drop 1 core.subroutines.items
-    → AreFiles (map the_class core.classes.items) (names_of core) (class_names_of core) (map the_subroutine others) fs → fs ≡ files_of core
-files_made core others fs e h =
-    files_from_is (the_program core) (names_of core) (class_names_of core) 0 (map the_class core.classes.items) fs h.count
+pub files_made : (marks : Option (List Bool)) (core : Core) (others : List TheSubroutine) (fs : List File) → others ≡ drop 1 core.subroutines.items
+    → AreFiles (map the_class core.classes.items) (names_of core) (class_names_of core) (whole_where marks 1 (map the_subroutine others)) fs
+    → fs ≡ program_files (record (the_program core) { subroutines = whole_where marks 0 (map the_subroutine core.subroutines.items) }) (names_of core) (class_names_of core)
+files_made marks core others fs e h =
+    let program : Program = record (the_program core) { subroutines = whole_where marks 0 (map the_subroutine core.subroutines.items) } in
+    files_from_is program (names_of core) (class_names_of core) 0 (map the_class core.classes.items) fs h.count
     (λ j b.
     h.each j b
-    ∙ ap (λ z. file_of (get_or (class_names_of core) j []) (functions_of (around_class (map the_class core.classes.items) (names_of core) j) j 1 z)) (ap (map the_subroutine) e ∙ map_rest core.subroutines.items)
-    ∙ ap (class_file (the_program core) (names_of core) (class_names_of core)) (zero_plus j))
+    ∙ ap (λ z. file_of (get_or (class_names_of core) j []) (functions_of (around_class (map the_class core.classes.items) (names_of core) j) j 1 z))
+    (ap (λ z. whole_where marks 1 (map the_subroutine z)) e ∙ ap (whole_where marks 1) (map_rest core.subroutines.items) ∙ sym (whole_rest marks (map the_subroutine core.subroutines.items)))
+    ∙ ap (class_file program (names_of core) (class_names_of core)) (zero_plus j))
   where
     zero_plus : (j : ℕ) → j ≡ 0 + j
     zero_plus j = omega arith
+
+-- without marks it is the whole program
+pub all_made : (core : Core) (others : List TheSubroutine) (fs : List File) → others ≡ drop 1 core.subroutines.items
+    → AreFiles (map the_class core.classes.items) (names_of core) (class_names_of core) (whole_where None 1 (map the_subroutine others)) fs → fs ≡ files_of core
+all_made core others fs e h =
+    files_made None core others fs e h
+    ∙ ap (λ z. program_files (record (the_program core) { subroutines = z }) (names_of core) (class_names_of core)) (whole_none 0 (map the_subroutine core.subroutines.items))
 
 length_taken : {A : Type 0} (xs : List A) (i : ℕ) → i < length xs → length (take i xs) ≡ i
 length_taken [] i h = absurd (omega arith)
@@ -121,12 +136,6 @@ adds_here around number sub old h = record {
         (rw (eq-eqb sub.class sub.class refl) (get_set no_file old sub.class (with_more (get_or old sub.class no_file) (function_of around number sub ∷ [])) h))
     by_cases k (inr f) = rw (ne_eqb sub.class k f) (get_other no_file old sub.class k _ f ∙ sym (no_more (get_or old k no_file)))
 
-pub adds_nowhere : (around : Around) (number : ℕ) (sub : Subroutine) (old : List File) → length old ≤ sub.class → AddsFunction around number sub old old
-adds_nowhere around number sub old h = record {
-  count = refl;
-  each = λ k b. let other : sub.class ≡ k → ⊥ = λ e. omega arith in rw (ne_eqb sub.class k other) (sym (no_more (get_or old k no_file)));
-}
-
 length_classes : (cs : List Class) → length (map the_class cs) ≡ length cs
 length_classes [] = refl
 length_classes (c ∷ cs) = let ih = length_classes cs in omega arith
@@ -146,7 +155,7 @@ files_none cs names fs e = record {
 
 functions_more : (classes : List AClass) (names class_names : List (List ℕ)) (subs : List Subroutine) (sub : Subroutine) (around : Around) (number : ℕ) (old new : List File)
     → AreFiles classes names class_names subs old → AddsFunction around number sub old new → number ≡ 1 + length subs → around.name ≡ name_at names
-    → (sub.class < length classes → around.before ≡ statics_before classes sub.class) → AreFiles classes names class_names (subs ++ sub ∷ []) new
+    → around.before ≡ statics_before classes sub.class → AreFiles classes names class_names (subs ++ sub ∷ []) new
 functions_more classes names class_names subs sub around number old new h a e same before = record {
   count = a.count ∙ h.count;
   each = λ k b.
@@ -158,17 +167,25 @@ functions_more classes names class_names subs sub around number old new h a e sa
     by_cases : (k : ℕ) → k < length classes → (sub.class ≡ k) ⊎ (sub.class ≡ k → ⊥)
         → (if sub.class == k then function_of around number sub ∷ [] else []) ≡ (if sub.class == k then function_of (around_class classes names k) (1 + length subs) sub ∷ [] else [])
     by_cases k b (inl f) =
-        let here : around.before ≡ statics_before classes k = before (omega arith) ∙ ap (statics_before classes) f in
+        let here : around.before ≡ statics_before classes k = before ∙ ap (statics_before classes) f in
         λ i. if sub.class == k then function_of (record { name = same i; before = here i }) (e i) sub ∷ [] else []
     by_cases k b (inr f) = rw (ne_eqb sub.class k f) refl
 
-pub functions_next : (cs : List Class) (names class_names : List (List ℕ)) (others : List TheSubroutine) (i : ℕ) (s : TheSubroutine) (around : Around) (old new : List File)
-    → i < length others → s ≡ get_or others i s → AreFiles (map the_class cs) names class_names (map the_subroutine (take i others)) old → AddsFunction around (i + 1) (the_subroutine s) old new
-    → around.name ≡ name_at names → (s.class < length cs → around.before ≡ statics_before (map the_class cs) s.class)
-    → AreFiles (map the_class cs) names class_names (map the_subroutine (take (i + 1) others)) new
-functions_next cs names class_names others i s around old new h e a adds same before =
+pub functions_next : (marks : Option (List Bool)) (cs : List Class) (names class_names : List (List ℕ)) (others : List TheSubroutine) (i : ℕ) (s : TheSubroutine) (around : Around) (wanted : Bool) (old new : List File)
+    → i < length others → s ≡ get_or others i s → AreFiles (map the_class cs) names class_names (whole_where marks 1 (map the_subroutine (take i others))) old
+    → wanted ≡ is_wanted marks (i + 1) → AddsFunction around (i + 1) (whole_if wanted (the_subroutine s)) old new
+    → around.name ≡ name_at names → around.before ≡ statics_before (map the_class cs) s.class
+    → AreFiles (map the_class cs) names class_names (whole_where marks 1 (map the_subroutine (take (i + 1) others))) new
+functions_next marks cs names class_names others i s around wanted old new h e a w adds same before =
     let more : take (i + 1) others ≡ take i others ++ s ∷ [] = take_more others i s h ∙ ap (λ x. take i others ++ x ∷ []) (sym e) in
     let l : length (map the_subroutine (take i others)) ≡ i = length-map (take i others) the_subroutine ∙ length_taken others i h in
-    subst (λ z. AreFiles (map the_class cs) names class_names z new) (sym (ap (map the_subroutine) more ∙ map-append the_subroutine (take i others) (s ∷ [])))
-    (functions_more (map the_class cs) names class_names (map the_subroutine (take i others)) (the_subroutine s) around (i + 1) old new a adds (omega arith) same
-    (λ b. before (let n = length_classes cs in omega arith)))
+    let n = length_whole marks 1 (map the_subroutine (take i others)) in
+    let subs = whole_where marks 1 (map the_subroutine (take i others)) in
+    let at : i + 1 ≡ 1 + length (map the_subroutine (take i others)) = omega arith in
+    let last : whole_where marks 1 (map the_subroutine (take (i + 1) others)) ≡ whole_where marks 1 (map the_subroutine (take i others)) ++ whole_if wanted (the_subroutine s) ∷ [] =
+    ap (λ z. whole_where marks 1 z) (ap (map the_subroutine) more ∙ map-append the_subroutine (take i others) (s ∷ []))
+    ∙ whole_last marks 1 (map the_subroutine (take i others)) (the_subroutine s)
+    ∙ ap (λ z. subs ++ whole_if z (the_subroutine s) ∷ []) (sym (w ∙ ap (is_wanted marks) at)) in
+    subst (λ z. AreFiles (map the_class cs) names class_names z new) (sym last)
+    (functions_more (map the_class cs) names class_names subs (whole_if wanted (the_subroutine s)) around (i + 1) old new a adds (omega arith) same
+    (before ∙ ap (statics_before (map the_class cs)) (sym (class_same wanted (the_subroutine s)))))

@@ -26,5 +26,11 @@ pub mod Keeping
 pub mod Resolving
 pub mod Reaching
 pub mod Numbering
+pub mod Named
+pub mod NamesThere
 pub mod Seam
 pub mod Small
+pub mod Calls
+pub mod Searching
+pub mod Hollow
+pub mod HollowLinks

@@ -7,14 +7,13 @@ use Rattle.std.proofs.lemmas.Bool.Decides.{nat_tests}
 use Rattle.std.proofs.lemmas.List.Sums.{sum_by-cons}
 use Rattle.vm_tree.specs.declared.program.File.{File}
 use Rattle.vm_link.specs.Sections.{Section, is_named, sections}
-use Rattle.vm_link.specs.Faults.{words_before, file_words, words_of_lines, kept_fault}
+use Rattle.vm_link.specs.Faults.{words_before, file_words, kept_fault}
 use Rattle.vm_link.specs.Reached.{AreKept}
 use Rattle.vm_link.specs.Resolved.{number_in}
 use Rattle.vm_link.proofs.LinkLemmas.{room_at}
 use Rattle.jack_meaning.specs.Text.{Class, Program}
 use Rattle.jack_meaning.specs.Meaning.{statics_of}
 use Rattle.jack_compiler.specs.Templates.{Numbers}
-use Rattle.jack_compiler.specs.Lines.{short}
 use Rattle.jack_compiler.specs.Files.{name_at, statics_before}
 use Rattle.jack_compiler.specs.Resolved.{is_own}
 use Rattle.jack_compiler.proofs.Called.{names_static, static_within}
@@ -54,7 +53,7 @@ own_upper cs c k h = ltb-true k (statics_before cs (suc c)) (and_second (nat_le 
 
 -- a section has a static
 abbrev pub has_static : List Class → ℕ → Section → Bool
-has_static cs k s = is_own cs s.file k && names_static (short (k - statics_before cs s.file)) s.lines
+has_static cs k s = is_own cs s.file k && names_static (k - statics_before cs s.file) s.lines
 
 abbrev pub numbers_of : Program → List (List ℕ) → List Section → Numbers
 numbers_of program names ks = record {
@@ -73,20 +72,18 @@ pub record Held (program : Program) (ks : List Section) (k word : ℕ) : Type 0 
   pub within : k - statics_before program.classes class < file_words ks class
   pub few : word < 240
 
-pub held : (program : Program) (names : List (List ℕ)) (files : List File) (ks : List Section) → ((k : ℕ) → statics_before program.classes (suc k) ≤ statics_before program.classes k + 65535)
+pub held : (program : Program) (names : List (List ℕ)) (files : List File) (ks : List Section)
     → AreKept false (sections false files) ks → kept_fault (length files) (sections false files) ks ≡ None
     → (k : ℕ) → (numbers_of program names ks).holds k ≡ true → Held program ks k ((numbers_of program names ks).static k)
-held program names files ks few kept none k h =
+held program names files ks kept none k h =
     let f = found (has_static program.classes k) ks h in
     let s = f.item in
-    let own = and_first (is_own program.classes f.item.file k) (names_static (short (k - statics_before program.classes f.item.file)) f.item.lines) f.passes in
-    let named = and_second (is_own program.classes f.item.file k) (names_static (short (k - statics_before program.classes f.item.file)) f.item.lines) f.passes in
+    let own = and_first (is_own program.classes f.item.file k) (names_static (k - statics_before program.classes f.item.file) f.item.lines) f.passes in
+    let named = and_second (is_own program.classes f.item.file k) (names_static (k - statics_before program.classes f.item.file) f.item.lines) f.passes in
     let lower = own_lower program.classes f.item.file k own in
     let upper = own_upper program.classes f.item.file k own in
     let class = class_is program.classes f.item.file k lower upper in
-    let bound = few f.item.file in
-    let index : k - statics_before program.classes f.item.file < words_of_lines f.item.lines =
-    (let i = static_within (short (k - statics_before program.classes f.item.file)) f.item.lines named in omega arith) in
+    let index = static_within (k - statics_before program.classes f.item.file) f.item.lines named in
     let room = room_at false files ks kept none f.at f.item f.there in
     let own_words = words_within ks f.at f.item f.there in
     let word_is : words_before ks (class_of program.classes k) + (k - statics_before program.classes (class_of program.classes k)) ≡ words_before ks f.item.file + (k - statics_before program.classes f.item.file) =

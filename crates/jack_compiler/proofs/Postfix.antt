@@ -11,14 +11,14 @@ use Rattle.jack_core.specs.Heights.{takes, height}
 use Rattle.jack_core.specs.Reading.{the_expression, arguments_of, put, built}
 use Rattle.jack_core.proofs.Postfix.{enough, behind, put_length, spells}
 use Rattle.jack_compiler.specs.Templates.{count}
-use Rattle.jack_compiler.specs.Lines.{Around, commit, short, expression_lines, arguments_lines}
+use Rattle.jack_compiler.specs.Lines.{Around, commit, expression_lines, arguments_lines}
 use Rattle.jack_compiler.specs.Postfix.{part_lines, parts_lines}
 
-count_is : (es : List AnExpression) → count (arguments_of es) ≡ length es
+pub count_is : (es : List AnExpression) → count (arguments_of es) ≡ length es
 count_is [] = refl
 count_is (e ∷ es) = let ih = count_is es in omega arith
 
-few : (k : ℕ) (es : List AnExpression) → k ≤ length es → length (reverse (take k es)) ≡ k
+pub few : (k : ℕ) (es : List AnExpression) → k ≤ length es → length (reverse (take k es)) ≡ k
 few k es le = length-reverse (take k es) ∙ length-take-le k es le
 
 module _ (around : Around) (n : ℕ) where
@@ -46,10 +46,10 @@ module _ (around : Around) (n : ℕ) where
       ∙ ap (λ z. arguments_lines around n (arguments_of (reverse es)) ++ z) (append-nil (expression_lines around n e))
       ∙ ap (λ z. z ++ expression_lines around n e) (in_order es)
 
-  call_lines : (g k : ℕ) (es : List AnExpression) → k ≤ length es → stack_lines (put (part.Call g k) es) ≡ stack_lines es ++ part_lines around n (part.Call g k)
+  call_lines : (g k : ℕ) (es : List AnExpression) → k ≤ length es → stack_lines (put (part.Call k g) es) ≡ stack_lines es ++ part_lines around n (part.Call k g)
   call_lines g k es le =
-      let last = commit n (command.Call (around.name g) (short k)) ∷ [] in
-      ap (λ (z : ℕ). stack_lines (drop k es) ++ (arguments_lines around n (arguments_of (reverse (take k es))) ++ commit n (command.Call (around.name g) (short z)) ∷ []))
+      let last = commit n (command.Call (around.name g) k) ∷ [] in
+      ap (λ (z : ℕ). stack_lines (drop k es) ++ (arguments_lines around n (arguments_of (reverse (take k es))) ++ commit n (command.Call (around.name g) z) ∷ []))
       (count_is (reverse (take k es)) ∙ few k es le)
       ∙ ap (λ z. stack_lines (drop k es) ++ (z ++ last)) (in_order (take k es))
       ∙ sym (append_assoc (stack_lines (drop k es)) (stack_lines (take k es)) last)
@@ -62,7 +62,9 @@ module _ (around : Around) (n : ℕ) where
   -- a part that finds its operands adds its lines behind theirs
   put_lines : (p : Part) (es : List AnExpression) → takes p ≤ length es → stack_lines (put p es) ≡ stack_lines es ++ part_lines around n p
   put_lines (part.Literal w) es le = refl
-  put_lines (part.Name x) es le = refl
+  put_lines (part.Argument k) es le = refl
+  put_lines (part.Local k) es le = refl
+  put_lines (part.Static k) es le = refl
   put_lines part.This es le = refl
   put_lines (part.Field k) es le = refl
   put_lines (part.Unary o) [] le = absurd (omega arith)
@@ -73,7 +75,7 @@ module _ (around : Around) (n : ℕ) where
   put_lines part.Load [] le = absurd (omega arith)
   put_lines part.Load (i ∷ []) le = absurd (omega arith)
   put_lines part.Load (i ∷ a ∷ es) le = behind_two es a i (part_lines around n part.Load)
-  put_lines (part.Call g k) es le = call_lines g k es le
+  put_lines (part.Call k g) es le = call_lines g k es le
 
   built_lines : (k : ℕ) (es : List AnExpression) (ps : List Part) → height (length es) ps ≡ Some k → stack_lines (built es ps) ≡ stack_lines es ++ parts_lines around n ps
   built_lines k es [] e = sym (append-nil (stack_lines es))

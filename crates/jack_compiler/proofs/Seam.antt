@@ -30,11 +30,11 @@ use Rattle.jack_meaning.specs.Gap.{nest_in, IsMost, depth_of, locals_of}
 use Rattle.jack_compiler.specs.Templates.{Numbers, quiet, first_number, object_code, text_code, statement_code, subroutine_code}
 use Rattle.jack_compiler.specs.Fits.{Scope, scope_of, without_object, IsBody, IsFitSubroutine, IsFit}
 use Rattle.jack_compiler.specs.Match.{IsCodeOf}
-use Rattle.jack_compiler.specs.Lines.{Around, short, statement_lines, text_lines, object_lines, subroutine_lines}
+use Rattle.jack_compiler.specs.Lines.{Around, statement_lines, text_lines, object_lines, subroutine_lines}
 use Rattle.jack_compiler.specs.Files.{files_of, name_at, statics_before, around_class, program_files}
 use Rattle.jack_compiler.specs.Resolved.{IsResolvedCore, is_own, named_in, IsResolved}
 use Rattle.jack_compiler.specs.Linked.{CompiledLaw, IsLinkedProgram, IsLinkedOf, IsOnlyFault}
-use Rattle.jack_compiler.proofs.Coded.{Gives, Stands, Places, Codes, join, back, short_is, expression_codes, last_codes, text_codes}
+use Rattle.jack_compiler.proofs.Coded.{Gives, Stands, Places, Codes, join, back, expression_codes, last_codes, text_codes}
 use Rattle.jack_compiler.proofs.Placed.{places_are, subroutine_marks, subroutine_first}
 use Rattle.jack_compiler.proofs.Sectioned.{section_of, sections_are}
 use Rattle.jack_compiler.proofs.Called as called_by
@@ -89,17 +89,17 @@ object_codes ks s Function n = record { is = refl }
 object_codes ks s Constructor n = record { is = refl }
 
 module _ (subs : List Subroutine) (first numbers : Numbers) (around : Around) (ks : List Section) (s : Section) (scope : Scope) (gives : Gives subs first numbers around ks s)
-    (few_arguments : scope.arguments < 65536) (few_locals : scope.locals < 65536) (places : Places ks s) where
+    (places : Places ks s) where
   body_codes : (k : Kind) (p : ℕ) (t : Text) → IsBody subs first scope k t → Stands ks s p (text_lines around 0 0 0 t) → Codes ks s (text_lines around 0 0 0 t) (text_code numbers 0 p t)
-  body_codes Function p t h st = text_codes subs first numbers around ks s scope gives few_arguments few_locals places 0 p 0 0 t h st
-  body_codes Method p t h st = text_codes subs first numbers around ks s scope gives few_arguments few_locals places 0 p 0 0 t h st
+  body_codes Function p t h st = text_codes subs first numbers around ks s scope gives places 0 p 0 0 t h st
+  body_codes Method p t h st = text_codes subs first numbers around ks s scope gives places 0 p 0 0 t h st
   body_codes Constructor p End h st = absurd h
   body_codes Constructor p (Next (LetThis n e) rest) h st =
       let here : Codes ks s (statement_lines around (first_number 0 rest) 0 0 (LetThis n e)) (statement_code numbers (first_number 0 rest) p (LetThis n e)) =
-      join (expression_codes subs first numbers around ks s (without_object scope) gives few_arguments few_locals n e h.0)
-      (last_codes subs first numbers around ks s (without_object scope) gives few_arguments few_locals n (line_command.Pop segment.Pointer 0) (command.Pop segment.Pointer 0) refl) in
+      join (expression_codes subs first numbers around ks s (without_object scope) gives n e h.0)
+      (last_codes subs first numbers around ks s (without_object scope) gives n (line_command.Pop segment.Pointer 0) (command.Pop segment.Pointer 0) refl) in
       join here
-      (text_codes subs first numbers around ks s scope gives few_arguments few_locals places 0 (p + length (statement_code numbers (first_number 0 rest) p (LetThis n e))) (0 + 0) (0 + 0) rest h.1
+      (text_codes subs first numbers around ks s scope gives places 0 (p + length (statement_code numbers (first_number 0 rest) p (LetThis n e))) (0 + 0) (0 + 0) rest h.1
       (back ks s p (p + length (statement_code numbers (first_number 0 rest) p (LetThis n e))) (statement_lines around (first_number 0 rest) 0 0 (LetThis n e)) (text_lines around 0 (0 + 0) (0 + 0) rest) st
       (ap (λ z. p + length z) (sym here.is))))
   body_codes Constructor p (Next (Let n x e) rest) h st = absurd h
@@ -197,13 +197,10 @@ module _ (program : Program) (names class_names : List (List ℕ)) (resolved : I
     gives : (g : ℕ) → Gives program.subroutines (named_in program (sub_at g).class) (numbers) (around_of g) ks (section_of program names g (sub_at g))
     gives g = record {
       calls = λ f h. refl;
-      few = λ f h. let b = keeps_there program names resolved (sub_at g).class f h in (resolved.each f b.0 b.1).arguments;
       statics = λ k h.
           let lower = own_lower program.classes (sub_at g).class k h in
           let upper = own_upper program.classes (sub_at g).class k h in
-          let few = resolved.statics (sub_at g).class in
-          ap (λ z. words_before ks (sub_at g).class + z) (short_is (k - statics_before program.classes (sub_at g).class) (omega arith))
-          ∙ sym (ap (λ (z : ℕ). words_before ks z + (k - statics_before program.classes z)) (class_is program.classes (sub_at g).class k lower upper));
+          sym (ap (λ (z : ℕ). words_before ks z + (k - statics_before program.classes z)) (class_is program.classes (sub_at g).class k lower upper));
     }
 
     code_is : (g : ℕ) → 0 < g → g < length program.subroutines → (function_of ks (section_of program names g (sub_at g))).code ≡ subroutine_code (numbers) (sub_at g)
@@ -217,14 +214,13 @@ module _ (program : Program) (names class_names : List (List ℕ)) (resolved : I
         let object = object_codes ks (section_of program names g (sub_at g)) (sub_at g).kind (first_number 0 (sub_at g).body) in
         let stands : Stands ks (section_of program names g (sub_at g)) 1 (object_lines (sub_at g).kind (first_number 0 (sub_at g).body) ++ text_lines (around_of g) 0 0 0 (sub_at g).body) =
         record { before = []; after = []; whole = sym (append-nil (subroutine_lines (around_of g) (sub_at g))); at = refl } in
-        let body = body_codes program.subroutines (named_in program (sub_at g).class) (numbers) (around_of g) ks (section_of program names g (sub_at g)) (scope_of (sub_at g)) (gives g) r.arguments r.locals places
+        let body = body_codes program.subroutines (named_in program (sub_at g).class) (numbers) (around_of g) ks (section_of program names g (sub_at g)) (scope_of (sub_at g)) (gives g) places
         (sub_at g).kind (1 + length (object_code (sub_at g).kind (first_number 0 (sub_at g).body))) (sub_at g).body r.body
         (back ks (section_of program names g (sub_at g)) 1 (1 + length (object_code (sub_at g).kind (first_number 0 (sub_at g).body))) (object_lines (sub_at g).kind (first_number 0 (sub_at g).body)) (text_lines (around_of g) 0 0 0 (sub_at g).body) stands
         (ap (λ z. 1 + length z) (sym object.is))) in
         let both = join object body in
-        let locals = short_is (sub_at g).locals r.locals in
         let start = subroutine_first (around_of g) (sub_at g) in
-        λ i. quiet (start i) (command.Function (locals i)) ∷ both.is i
+        λ i. quiet (start i) (command.Function (sub_at g).locals) ∷ both.is i
 
     marked : list_any (λ s. list_any (λ x. x.commit) s.lines) ks ≡ true
     marked =
@@ -260,8 +256,8 @@ module _ (program : Program) (names class_names : List (List ℕ)) (resolved : I
             let k = kept_of program.init (init_kept) in
             subst (λ n. position_from (is_named n) 0 ks ≡ Some k.at) (init_name) k.position ∙ ap (λ o. Some (unwrap_or o 0)) (sym k.position);
         marked = marked;
-        room = λ k h. (held program names (files) ks resolved.statics kept none k h).few;
-        apart = λ j k a b e. held_apart program ks j k _ _ (held program names (files) ks resolved.statics kept none j a) (held program names (files) ks resolved.statics kept none k b) e;
+        room = λ k h. (held program names (files) ks kept none k h).few;
+        apart = λ j k a b e. held_apart program ks j k _ _ (held program names (files) ks kept none j a) (held program names (files) ks kept none k b) e;
       }
 
       fit_subroutine : (g : ℕ) → (numbers).keeps g ≡ true
@@ -284,7 +280,7 @@ module _ (program : Program) (names class_names : List (List ℕ)) (resolved : I
                 (and_both (nat_lt f (length program.subroutines)) (list_any (is_named (name_at names f)) ks) (and_second (nat_lt 0 f) (nat_lt f (length program.subroutines)) e) n);
             statics = λ j e n. any_at (has_static program.classes j) ks k.at k.item k.there
                 (subst (λ (z : Section). has_static program.classes j z ≡ true) (sym k.is)
-                (and_both (is_own program.classes (sub_at g).class j) (names_static (short (j - statics_before program.classes (sub_at g).class)) (subroutine_lines (around_of g) (sub_at g))) e n));
+                (and_both (is_own program.classes (sub_at g).class j) (names_static (j - statics_before program.classes (sub_at g).class) (subroutine_lines (around_of g) (sub_at g))) e n));
           } in
           let function = function_is g k in
           let number = number_is g k in
@@ -304,7 +300,7 @@ module _ (program : Program) (names class_names : List (List ℕ)) (resolved : I
         each = fit_subroutine;
         init = init_kept;
         init_arguments = resolved.init_arguments;
-        statics = λ k h. held_below program ks k _ (held program names (files) ks resolved.statics kept none k h);
+        statics = λ k h. held_below program ks k _ (held program names (files) ks kept none k h);
       }
 
       -- one of them has most
@@ -358,6 +354,3 @@ linked_code core (Err f) h resolved = tt
 pub linked_fault : (core : Core) (r : Result Linked LinkFault) → Links false (files_of core) r → IsResolvedCore core → IfErr r IsOnlyFault
 linked_fault core (Ok l) h resolved = tt
 linked_fault core (Err f) h resolved = compiled.faults core f resolved h
-
-pub links_of : (core : Core) (fs : List File) (r : Result Linked LinkFault) → fs ≡ files_of core → Links false fs r → Links false (files_of core) r
-links_of core fs r e h = subst (λ z. Links false z r) e h

@@ -5,7 +5,7 @@ use Rattle.std.proofs.lemmas.Bool.{cases_eq, eq-eqb, ne_eqb}
 use Rattle.std.proofs.lemmas.List.{append-nil}
 use Rattle.vm_link.specs.Sections.{Section, function_section, functions_from, sections_from, sections}
 use Rattle.jack_meaning.specs.Text.{Subroutine, Class, Program}
-use Rattle.jack_compiler.specs.Lines.{Around, short, subroutine_lines}
+use Rattle.jack_compiler.specs.Lines.{Around, subroutine_lines}
 use Rattle.jack_compiler.specs.Files.{name_at, around_class, function_of, functions_of, files_from, program_files}
 use Rattle.jack_compiler.specs.Resolved.{AreInOrder}
 
@@ -14,7 +14,7 @@ section_of program names g sub = record {
   file = sub.class;
   number = g;
   name = Some (name_at names g);
-  locals = short sub.locals;
+  locals = sub.locals;
   lines = subroutine_lines (around_class program.classes names sub.class) sub;
 }
 

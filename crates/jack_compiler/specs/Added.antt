@@ -37,7 +37,7 @@ no_file = record { name = []; opening = []; functions = [] }
 abbrev pub with_more : File → List Function → File
 with_more file functions = record file { functions = file.functions ++ functions }
 
--- The function of a subroutine comes to the file of its class, where that is there.
+-- The function of a subroutine comes to the file of its class.
 pub record AddsFunction (around : Around) (number : ℕ) (sub : Subroutine) (old new : List File) : Type 0 where
   pub count : length new ≡ length old
   pub each : (k : ℕ) → k < length old → get_or new k no_file ≡ with_more (get_or old k no_file) (if sub.class == k then function_of around number sub ∷ [] else [])

@@ -5,9 +5,9 @@ use Rattle.vm_tree.specs.declared.program.File.{File}
 use Rattle.jack_meaning.specs.Text.{Subroutine, Class, Program}
 use Rattle.jack_core.specs.declared.program.Core.{Core}
 use Rattle.jack_core.specs.Texts.{the_program, names_of, class_names_of}
-use Rattle.jack_compiler.specs.Lines.{Around, short, subroutine_lines}
+use Rattle.jack_compiler.specs.Lines.{Around, subroutine_lines}
 
--- the name of a subroutine, as `Main.main`, by its number
+-- the name of a subroutine, as `Main.main`, by its number, which is that of one that is there
 abbrev pub name_at : List (List ℕ) → ℕ → List ℕ
 name_at names g = get_or names g []
 
@@ -21,7 +21,7 @@ abbrev pub around_class : List Class → List (List ℕ) → ℕ → Around
 around_class classes names k = record { name = name_at names; before = statics_before classes k }
 
 abbrev pub function_of : Around → ℕ → Subroutine → Function
-function_of around g sub = record { name = around.name g; locals = short sub.locals; lines = subroutine_lines around sub }
+function_of around g sub = record { name = around.name g; locals = sub.locals; lines = subroutine_lines around sub }
 
 -- the functions of the class of number k among subroutines that are numbered from g
 abbrev pub functions_of : Around → ℕ → ℕ → List Subroutine → List Function

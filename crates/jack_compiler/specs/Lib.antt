@@ -14,3 +14,4 @@ pub mod Resolved
 pub mod Linked
 pub mod Small
 pub mod Postfix
+pub mod Inner

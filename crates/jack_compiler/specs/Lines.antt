@@ -1,7 +1,11 @@
 -- The commands of a program's text in the VM language: the templates of chapters 7 to 11 with names of functions and labels. Each line has the
 -- number of its statement, and those that end a step of the meaning are commits. The labels of a subroutine are numbered from 0 in the order of
 -- the text, those of `if` and those of `while` apart.
-use Rattle.std.specs.Prelude.{ℕ, suc, ◌+◌, ◌-◌, true, false, nat_eq, min, if◌then◌else◌, List, [], ◌∷◌, ◌++◌, codes, decimal}
+--
+-- Of the two texts of the templates this one is the definition: it is the VM code that the book shows, and what `compile` writes. Templates
+-- has the same commands as linked code, with numbers for names and places for labels; that linking makes just that of these lines is proved,
+-- by `compiled_law`.
+use Rattle.std.specs.Prelude.{ℕ, suc, ◌+◌, ◌-◌, true, false, nat_eq, if◌then◌else◌, List, [], ◌∷◌, ◌++◌, codes, decimal}
 use Rattle.vm_tree.specs.declared.command.Operation.TheVariants as operation
 use Rattle.vm_tree.specs.declared.command.Segment.TheVariants as segment
 use Rattle.vm_tree.specs.declared.command.Command.{Command}
@@ -22,10 +26,6 @@ quiet n c = record { command = c; statement = n; commit = false }
 
 abbrev pub commit : ℕ → Command → Line
 commit n c = record { command = c; statement = n; commit = true }
-
--- the VM language has 16 bits for a number
-abbrev pub short : ℕ → ℕ
-short k = min k 65535
 
 -- the labels of the k-th `if` and of the k-th `while` of a subroutine
 abbrev pub if_true : ℕ → List ℕ
@@ -116,14 +116,14 @@ out_of_while n k = quiet n (command.Goto (while_exp k)) ∷ quiet n (command.Lab
 
 module _ (around : Around) where
   abbrev pub push_variable : Variable → Command
-  push_variable (Argument k) = command.Push segment.Argument (short k)
-  push_variable (Local k) = command.Push segment.Local (short k)
-  push_variable (Static k) = command.Push segment.Static (short (k - around.before))
+  push_variable (Argument k) = command.Push segment.Argument k
+  push_variable (Local k) = command.Push segment.Local k
+  push_variable (Static k) = command.Push segment.Static (k - around.before)
 
   abbrev pub pop_variable : Variable → Command
-  pop_variable (Argument k) = command.Pop segment.Argument (short k)
-  pop_variable (Local k) = command.Pop segment.Local (short k)
-  pop_variable (Static k) = command.Pop segment.Static (short (k - around.before))
+  pop_variable (Argument k) = command.Pop segment.Argument k
+  pop_variable (Local k) = command.Pop segment.Local k
+  pop_variable (Static k) = command.Pop segment.Static (k - around.before)
 
   -- What is left to do of an expression of statement n: all of it, where no part is a value.
   abbrev mutual
@@ -136,7 +136,7 @@ module _ (around : Around) where
     expression_lines n (Unary o a) = expression_lines n a ++ commit n (sign_command o) ∷ []
     expression_lines n (Binary o a b) = expression_lines n a ++ (expression_lines n b ++ commit n (operator_command o) ∷ [])
     expression_lines n (Load a i) = expression_lines n a ++ (expression_lines n i ++ load_lines n)
-    expression_lines n (Call g es) = arguments_lines n es ++ commit n (command.Call (around.name g) (short (count es))) ∷ []
+    expression_lines n (Call g es) = arguments_lines n es ++ commit n (command.Call (around.name g) (count es)) ∷ []
     expression_lines n Open = []
 
     pub arguments_lines : ℕ → Expressions → List Line

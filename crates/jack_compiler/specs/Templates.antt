@@ -4,6 +4,10 @@
 -- In the VM language the same templates have labels: `label WHILE_EXP` stands where a loop begins, `label WHILE_END` behind it;
 -- `label IF_TRUE`, `label IF_FALSE`, `label IF_END` where the first branch begins, where the second one begins, and where it ends. A label is no step, so
 -- the place of a label is the number of commands before it: just the places that stand here.
+--
+-- Of the two texts of the templates the one with names, Lines, is the definition: it is the VM code that the book shows, and what `compile`
+-- writes. What stands here is the form that the laws of a run are about; that the linked code of each compiled program has this form is
+-- proved, by `compiled_law`.
 use Rattle.std.specs.Prelude.{ℕ, ◌+◌, Bool, true, false, not, nat_eq, if◌then◌else◌, List, [], ◌∷◌, ◌++◌, length}
 use Rattle.vm_tree.specs.declared.command.Operation.TheVariants as operation
 use Rattle.vm_tree.specs.declared.command.Segment.TheVariants as segment

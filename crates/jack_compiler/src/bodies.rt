@@ -5,9 +5,10 @@ ghost use Rattle.jack_core.specs.Texts.{the_statement, the_block};
 ghost use Rattle.jack_meaning.specs.Text.{Store, If, While};
 ghost use Rattle.vm_tree.specs.declared.command.Command.TheVariants as command;
 ghost use Rattle.jack_compiler.specs.Templates.{first_number, no_else};
-ghost use Rattle.jack_compiler.specs.Lines.{into_if, into_else, into_while, out_of_while, store_lines, expression_lines, statement_lines, text_lines, ifs_of, ifs_in, whiles_of, whiles_in, short};
+ghost use Rattle.jack_compiler.specs.Lines.{into_if, into_else, into_while, out_of_while, store_lines, expression_lines, statement_lines, text_lines, ifs_of, ifs_in, whiles_of, whiles_in};
 ghost use Rattle.jack_compiler.specs.Lines.{quiet as quiet_line, commit as commit_line};
 ghost use Rattle.jack_compiler.specs.Surroundings.{the_around};
+ghost use Rattle.jack_compiler.specs.Inner.Named.{Names, NamesIn, NamesText};
 ghost use Rattle.jack_compiler.specs.Added.{last_command, Adds, AddsText};
 
 use crate::expressions::{Around, add_expression, pop_variable};
@@ -78,6 +79,7 @@ fn add_value(
     value: &Expression,
     last: Command,
 ) -> Result<(), AllocError>
+    requires { Names around.now (the_expression value.now) }
     ensures { OnOk result (lines.new ≡ lines.old ++ (expression_lines (the_around around.now) n (the_expression value.now) ++ commit_line n last ∷ [])) }
 {
     add_expression(lines, around, n, value)?;
@@ -86,6 +88,7 @@ fn add_value(
 
 // The command that takes a statement's value. (A choice and a loop end in a label: any will do.)
 fn last_command(around: &Around<'_>, s: &Statement) -> Command
+    requires { NamesIn around.now (the_statement s.now) }
     ensures { result ≡ last_command (the_around around.now) (the_statement s.now) }
 {
     match s {
@@ -109,6 +112,9 @@ fn add_element(
     index: &Expression,
     value: &Expression,
 ) -> Result<(), AllocError>
+    requires base { Names around.now (the_expression base.now) }
+    requires index { Names around.now (the_expression index.now) }
+    requires value { Names around.now (the_expression value.now) }
     ensures { OnOk result ((next i w : ℕ) → lines.new ≡ lines.old ++ statement_lines (the_around around.now) next i w (Store n (the_expression base.now) (the_expression index.now) (the_expression value.now))) }
 {
     add_expression(lines, around, n, base)?;
@@ -179,6 +185,9 @@ fn add_if(
     condition: &Expression,
     branches: &Branches<'_>,
 ) -> Result<(), AllocError>
+    requires condition { Names around.now (the_expression condition.now) }
+    requires holds { NamesText around.now (the_block branches.now.holds.now) }
+    requires fails { NamesText around.now (the_block branches.now.fails.now) }
     ensures { OnOk result (Adds (the_around around.now) next (If n branches.now.has_else (the_expression condition.now) (the_block branches.now.holds.now) (the_block branches.now.fails.now)) body.old body.new) }
 {
     let k = body.ifs;
@@ -209,6 +218,8 @@ fn add_while(
     condition: &Expression,
     turn: &[Statement],
 ) -> Result<(), AllocError>
+    requires condition { Names around.now (the_expression condition.now) }
+    requires turn { NamesText around.now (the_block turn.now) }
     ensures { OnOk result (Adds (the_around around.now) next (While n (the_expression condition.now) (the_block turn.now)) body.old body.new) }
 {
     let k = body.whiles;
@@ -228,6 +239,7 @@ fn add_statement(
     next: u32,
     s: &Statement,
 ) -> Result<(), AllocError>
+    requires { NamesIn around.now (the_statement s.now) }
     ensures { OnOk result (Adds (the_around around.now) next (the_statement s.now) body.old body.new) }
 {
     match s {
@@ -278,6 +290,7 @@ pub(crate) fn add_statements(
     next: u32,
     ss: &[Statement],
 ) -> Result<(), AllocError>
+    requires { NamesText around.now (the_block ss.now) }
     ensures { OnOk result (AddsText (the_around around.now) next (the_block ss.now) body.old body.new) }
 {
     for (index, s) in ss.iter().enumerate() {

@@ -1,13 +1,13 @@
 //! The commands of expressions.
-ghost use Rattle.std.specs.Prelude.{◌≡◌, ◌+◌, ◌++◌, ◌∷◌, [], OnOk, IfOk, min, map};
+ghost use Rattle.std.specs.Prelude.{◌≡◌, ◌+◌, ◌++◌, ◌∷◌, [], OnOk, IfOk, ◌<◌, length, map};
 ghost use Rattle.jack_core.specs.Reading.{the_variable, the_sign, the_operator, the_expression};
 ghost use Rattle.jack_compiler.specs.Lines.{sign_command, operator_command, push_variable, pop_variable, literal_lines, load_lines, expression_lines};
-ghost use Rattle.jack_compiler.specs.Lines.{short as short_number};
 ghost use Rattle.jack_compiler.specs.Postfix.{part_lines};
 ghost use Rattle.jack_compiler.specs.Files.{name_at};
 ghost use Rattle.jack_compiler.specs.Surroundings.{the_around};
+ghost use Rattle.jack_compiler.specs.Inner.Named.{Names, NamesPart, NamesVariable};
 
-use crate::lines::{commit, quiet, short};
+use crate::lines::{commit, quiet};
 use jack_core::{Expression, Operator, Part, Sign, Subroutine, Variable};
 use outer_world::{List, Name};
 use std::alloc::{AllocError, Global};
@@ -24,12 +24,10 @@ pub struct Around<'a> {
 
 /// The name of a subroutine.
 pub(crate) fn name_at(around: &Around<'_>, number: usize) -> Result<Name, AllocError>
+    requires { number < length around.now.subroutines.now }
     ensures { IfOk result (λ name. name ≡ (the_around around.now).name number) }
 {
-    match around.subroutines.get(number) {
-        Some(sub) => sub.name.clone(),
-        None => Name::new(around.alloc, ""),
-    }
+    around.subroutines[number].name.clone()
 }
 
 fn sign_command(sign: Sign) -> Command
@@ -56,29 +54,25 @@ fn operator_command(operator: Operator) -> Command
 }
 
 fn push_variable(around: &Around<'_>, variable: Variable) -> Command
+    requires { NamesVariable around.now (the_variable variable) }
     ensures { result ≡ push_variable (the_around around.now) (the_variable variable) }
 {
     match variable {
-        Variable::Argument(k) => Command::Push(Segment::Argument, short(k)),
-        Variable::Local(k) => Command::Push(Segment::Local, short(k)),
-        Variable::Static(k) => Command::Push(
-            Segment::Static,
-            short(k.saturating_sub(around.before)),
-        ),
+        Variable::Argument(k) => Command::Push(Segment::Argument, k as u16),
+        Variable::Local(k) => Command::Push(Segment::Local, k as u16),
+        Variable::Static(k) => Command::Push(Segment::Static, (k - around.before) as u16),
     }
 }
 
 /// The command that a variable gets its value by.
 pub(crate) fn pop_variable(around: &Around<'_>, variable: Variable) -> Command
+    requires { NamesVariable around.now (the_variable variable) }
     ensures { result ≡ pop_variable (the_around around.now) (the_variable variable) }
 {
     match variable {
-        Variable::Argument(k) => Command::Pop(Segment::Argument, short(k)),
-        Variable::Local(k) => Command::Pop(Segment::Local, short(k)),
-        Variable::Static(k) => Command::Pop(
-            Segment::Static,
-            short(k.saturating_sub(around.before)),
-        ),
+        Variable::Argument(k) => Command::Pop(Segment::Argument, k as u16),
+        Variable::Local(k) => Command::Pop(Segment::Local, k as u16),
+        Variable::Static(k) => Command::Pop(Segment::Static, (k - around.before) as u16),
     }
 }
 
@@ -103,13 +97,6 @@ fn add_load(lines: &mut List<Line>, statement: u32) -> Result<(), AllocError>
     commit(lines, statement, Command::Push(Segment::That, 0))
 }
 
-// A number of arguments, as far as 16 bits go.
-fn count(arguments: usize) -> u16
-    ensures { result ≡ short_number arguments }
-{
-    arguments.min(65_535) as u16
-}
-
 // What a part adds behind the commands of its operands.
 fn add_part(
     lines: &mut List<Line>,
@@ -117,19 +104,26 @@ fn add_part(
     statement: u32,
     part: Part,
 ) -> Result<(), AllocError>
+    requires { NamesPart around.now part }
     ensures { OnOk result (lines.new ≡ lines.old ++ part_lines (the_around around.now) statement part) }
 {
     match part {
         Part::Literal(word) => add_literal(lines, statement, word),
-        Part::Name(variable) => commit(lines, statement, push_variable(around, variable)),
+        Part::Argument(k) => commit(
+            lines,
+            statement,
+            push_variable(around, Variable::Argument(k)),
+        ),
+        Part::Local(k) => commit(lines, statement, push_variable(around, Variable::Local(k))),
+        Part::Static(k) => commit(lines, statement, push_variable(around, Variable::Static(k))),
         Part::This => commit(lines, statement, Command::Push(Segment::Pointer, 0)),
         Part::Field(k) => commit(lines, statement, Command::Push(Segment::This, k)),
         Part::Unary(sign) => commit(lines, statement, sign_command(sign)),
         Part::Binary(operator) => commit(lines, statement, operator_command(operator)),
         Part::Load => add_load(lines, statement),
-        Part::Call(g, arguments) => {
-            let name = name_at(around, g as usize)?;
-            commit(lines, statement, Command::Call(name, count(arguments)))
+        Part::Call { arguments, number } => {
+            let name = name_at(around, number as usize)?;
+            commit(lines, statement, Command::Call(name, arguments))
         }
     }
 }
@@ -141,6 +135,7 @@ pub(crate) fn add_expression(
     statement: u32,
     e: &Expression,
 ) -> Result<(), AllocError>
+    requires { Names around.now (the_expression e.now) }
     ensures { OnOk result (lines.new ≡ lines.old ++ expression_lines (the_around around.now) statement (the_expression e.now)) }
 {
     for part in &e.parts {

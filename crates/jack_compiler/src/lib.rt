@@ -4,8 +4,9 @@
 //! `compile` makes the program; what it is stands in `specs/`: `Lines` (the templates, with names) and `Files`. The other
 //! definitions are `Postfix` (the lines of each part of an expression), `Templates` (the code that linking makes of the templates),
 //! `Fits` (what a program with resolved names meets as far as it is linked), `Resolved` (what the checks of names see to), `Places` and
-//! `Match` (which states of the meaning and of the virtual machine match), `Astray`, `Runs`, `Linked`, `Laws`, `Rows` and `Small`. The
-//! functions that are laws do nothing; their contracts say what holds of the definitions.
+//! `Match` (which states of the meaning and of the virtual machine match), `Astray`, `Runs`, `Linked`, `Laws`, `Rows` and `Small`. `link_core`
+//! compiles only what `reached` finds (`Inner`: `Searched`, `Hollow`). The functions that are laws do nothing; their contracts say what holds
+//! of the definitions.
 #![tactic(auto)]
 
 ghost use Rattle.jack_compiler.specs.Laws.{SimulationLaw};
@@ -19,6 +20,7 @@ mod expressions;
 mod lines;
 mod linking;
 mod program;
+mod reached;
 
 pub use linking::link_core;
 pub use program::compile;

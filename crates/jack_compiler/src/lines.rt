@@ -1,7 +1,6 @@
 //! Lines and labels.
-ghost use Rattle.std.specs.Prelude.{◌≡◌, ◌++◌, ◌∷◌, [], OnOk, IfOk, min, codes, decimal};
+ghost use Rattle.std.specs.Prelude.{◌≡◌, ◌++◌, ◌∷◌, [], OnOk, IfOk, codes, decimal};
 ghost use Rattle.vm_tree.specs.declared.command.Command.TheVariants as command;
-ghost use Rattle.jack_compiler.specs.Lines.{short};
 ghost use Rattle.jack_compiler.specs.Lines.{quiet as quiet_line, commit as commit_line};
 
 use outer_world::{List, Name};
@@ -95,11 +94,4 @@ pub(crate) fn add_if_goto(
 {
     let label = label(alloc, word, number)?;
     commit(lines, statement, Command::IfGoto(label))
-}
-
-/// A number, as far as 16 bits go.
-pub(crate) fn short(number: u32) -> u16
-    ensures { result ≡ short number }
-{
-    number.min(65_535) as u16
 }

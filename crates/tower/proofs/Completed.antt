@@ -18,12 +18,12 @@ use Rattle.jack_tree.specs.declared.tree.Class.{Class}
 use Rattle.jack_tree.specs.Syntax.{Subroutine, ClassFile}
 use Rattle.jack_tree.specs.Seen.{the_name, the_scope, the_variables, the_locals, the_parameter, the_subroutine, the_file}
 use Rattle.jack_compiler.proofs.Resolving.{and_first, and_second}
-use Rattle.jack_lexer.specs.Cut.{is_name_byte}
-use Rattle.jack_parser.specs.Jack.{Said, Fixed, Placed}
+use Rattle.jack_lexer.specs.Tokens.{is_name_byte}
+use Rattle.jack_parser.specs.Grammar.{Said, Fixed, Placed}
 use Rattle.jack_parser.specs.ClassTrees.{subroutine_tree as code_tree}
 use Rattle.jack_parser.proofs.PlainTrees.{subroutine_tree}
 use Rattle.jack_parser.proofs.SameTrees.{subroutine_same}
-use Rattle.jack_names.specs.Twice.{names_of}
+use Rattle.jack_names.specs.Inner.Twice.{names_of}
 use Rattle.jack_names.specs.Symbols.{locals_of, fields_of, statics_of, fields_in as code_fields, statics_in as code_statics}
 use Rattle.jack_names.specs.Numbers.{local_count, field_count, static_count, fields_in, statics_in}
 use Rattle.jack_names.specs.Meaning.{sizes}

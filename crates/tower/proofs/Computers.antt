@@ -23,7 +23,7 @@ use Rattle.tower.specs.Built.{Builds, ComputerLaw, FollowsProgram, IsUnbuilt, ma
 use Rattle.tower.specs.Mapped.{RunProgram}
 use Rattle.tower.proofs.Headline.{run_follows}
 
-linked_bare : (bare : Bool) (files : List File) (l : Linked) → Links bare files (Ok l) → l.bare ≡ bare
+pub linked_bare : (bare : Bool) (files : List File) (l : Linked) → Links bare files (Ok l) → l.bare ≡ bare
 linked_bare bare files l (whole ks text k fault e) = ap (λ (x : Linked). x.bare) e
 
 code_follows : (core : Core) (linked : Linked) → IsLinkedOf core linked → (p : RunProgram) → IsTranslated linked p.image (map_for p) 51 → FollowsProgram (the_program core) p

@@ -19,9 +19,9 @@ use Rattle.jack_tree.specs.Tokens.{Word}
 use Rattle.jack_parser.specs.declared.counts.Counted.{Counted}
 use Rattle.jack_parser.specs.declared.counts.Counted.TheVariants as counted
 use Rattle.jack_parser.specs.declared.counts.Counts.{Counts}
-use Rattle.jack_parser.specs.Jack.{jack, Part, Said, JackRule, so_many, one_more, fresh, free, own, counted_name, next_name, names_rule, declaration, type_rule, symbol_of, class_variables, locals_rule, parameters}
+use Rattle.jack_parser.specs.Grammar.{jack, Part, Said, JackRule, so_many, one_more, fresh, free, own, counted_name, next_name, names_rule, declaration, type_rule, symbol_of, class_variables, locals_rule, parameters}
 use Rattle.jack_parser.specs.ClassTrees.{next_name_tree, names_tree, declared_tree, scoped, variables_tree, locals_tree, parameter_tree, next_parameter_tree, parameters_tree}
-use Rattle.jack_names.specs.Twice.{names_of}
+use Rattle.jack_names.specs.Inner.Twice.{names_of}
 use Rattle.jack_names.specs.Symbols.{fields_in, fields_of, statics_in, statics_of, locals_of}
 use Rattle.tower.proofs.Reaching.{Reaches, Parts, IsCounted, parts}
 

@@ -5,11 +5,11 @@ use Rattle.grammar.specs.Rules.{NoMore, listed, repeat}
 use Rattle.jack_tree.specs.declared.tree.Subroutine.{Subroutine}
 use Rattle.jack_tree.specs.declared.tree.Class.{Class}
 use Rattle.jack_tree.specs.Tokens.{Word}
-use Rattle.jack_lexer.specs.Cut.{finish}
+use Rattle.jack_lexer.specs.Tokens.{finish}
 use Rattle.jack_parser.specs.declared.counts.Counts.{Counts}
-use Rattle.jack_parser.specs.Jack.{jack, Part, Said, fresh, subroutine, class_rule}
+use Rattle.jack_parser.specs.Grammar.{jack, Part, Said, fresh, subroutine, class_rule}
 use Rattle.jack_parser.specs.ClassTrees.{subroutine_tree, class_tree}
-use Rattle.jack_parser.specs.Whole.{Spells, whole_tree}
+use Rattle.jack_parser.specs.Spells.{Spells, whole_tree}
 use Rattle.jack_parser.proofs.Spelt.{read_so}
 use Rattle.jack_names.specs.Limits.{HasFew, AllHaveFew}
 use Rattle.tower.specs.Read.{IsReadClass}

@@ -1,5 +1,7 @@
 -- The names, integers and strings of a class whose tree is read.
 use Rattle.std.proofs.Common.{List, [], ◌∷◌, Option, Some, None}
+use Rattle.std.specs.Prelude.{Box}
+use Rattle.std.specs.Global.{Global}
 use Rattle.grammar.specs.Rules.{NoMore, listed}
 use Rattle.jack_tree.specs.declared.tree.Constant.{Constant}
 use Rattle.jack_tree.specs.declared.tree.Constant.TheVariants as constant
@@ -9,6 +11,7 @@ use Rattle.jack_tree.specs.declared.tree.Expression.{Expression, Expression', Ro
 use Rattle.jack_tree.specs.declared.tree.Statement as statements
 use Rattle.jack_tree.specs.declared.tree.Subroutine.{Subroutine}
 use Rattle.jack_parser.specs.Trees.{constant_leaf, term_tree, invoked_tree, exp_tree, rest_of, args_of, more_of}
+use Rattle.jack_tree.specs.Seen.{unboxed}
 use Rattle.jack_parser.specs.StatementTrees.{index_tree, value_tree, any_tree, row_tree, other_tree, statements_tree}
 use Rattle.jack_parser.specs.ClassTrees.{subroutine_tree}
 use Rattle.tower.specs.Read.{IsReadConstant, IsReadTerm, IsReadCall, IsRead, AreReadOperations, AreRead, IsReadIfThere, IsReadStatement, IsReadBlock, IsReadElse, AreReadStatements, AreReadSubroutines}
@@ -50,9 +53,9 @@ mutual
   others_read end_of-Expression h = tt
   others_read (more_of-Expression e es) h = (expression_read e h.0.1, others_read es h.1)
 
-index_read : (i : Option Expression) → IsReadTree (index_tree i) → IsReadIfThere i
+index_read : (i : Option (Box Expression Global)) → IsReadTree (index_tree i) → IsReadIfThere (unboxed i)
 index_read None h = tt
-index_read (Some e) h = expression_read e h.1.0
+index_read (Some e) h = expression_read e.value h.1.0
 
 value_read : (v : Option Expression) → IsReadTree (value_tree v) → IsReadIfThere v
 value_read None h = tt

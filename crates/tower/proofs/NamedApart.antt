@@ -7,8 +7,8 @@ use Rattle.jack_tree.specs.declared.tree.Subroutine.{Subroutine}
 use Rattle.jack_tree.specs.declared.tree.Class.{Class}
 use Rattle.jack_names.specs.Tables.{is_among}
 use Rattle.jack_names.specs.Faults.{Source}
-use Rattle.jack_names.specs.Twice.{told_name, twice_fault, members_twice, variables_fault, subroutines_fault, members_fault, source_of, file_fault, declaration_fault, declarations_fault}
-use Rattle.jack_names.specs.Whole.{class_names}
+use Rattle.jack_names.specs.Inner.Twice.{told_name, twice_fault, members_twice, variables_fault, subroutines_fault, members_fault, source_of, file_fault, declaration_fault, declarations_fault}
+use Rattle.jack_names.specs.Inner.Whole.{class_names}
 use Rattle.jack_names.specs.declared.fault.NameKind.{NameKind}
 use Rattle.jack_names.specs.declared.fault.NameKind.TheVariants as kinds
 use Rattle.jack_tree.specs.declared.tree.Name.{Name}

@@ -10,14 +10,15 @@ use Rattle.jack_tree.specs.declared.tree.Form.{Form}
 use Rattle.jack_tree.specs.declared.tree.Form.TheVariants as form
 use Rattle.jack_tree.specs.declared.tree.Statement as statements
 use Rattle.jack_tree.specs.declared.tree.Subroutine.{Subroutine}
-use Rattle.jack_names.specs.Uses.{form_uses, statements_uses, subroutine_uses}
+use Rattle.jack_names.specs.Inner.Uses.{form_uses, statements_uses, subroutine_uses}
 use Rattle.jack_names.specs.Sizes.{size, sizes}
-use Rattle.jack_names.specs.Scopes.{is_function, first_fault}
-use Rattle.jack_names.specs.Scopes.{Scope as Names}
+use Rattle.jack_names.specs.Inner.Scopes.{is_function, first_fault}
+use Rattle.jack_names.specs.Inner.Scopes.{Scope as Names}
 use Rattle.jack_names.specs.Symbols.{objects}
 use Rattle.jack_names.specs.Limits.{HasFew}
-use Rattle.jack_names.specs.Meant.{made_number, one, statement_meant, statements_meant}
-use Rattle.jack_names.specs.Whole.{begun, is_return, last_returns, returns, added_return, body_meant, kind_meant, subroutine_meant}
+use Rattle.jack_names.specs.Made.{one}
+use Rattle.jack_names.specs.Inner.Meant.{made_number, statement_meant, statements_meant}
+use Rattle.jack_names.specs.Inner.Whole.{begun, is_return, last_returns, returns, added_return, body_meant, kind_meant, subroutine_meant}
 use Rattle.tower.specs.Read.{AreReadStatements}
 use Rattle.tower.proofs.NamedFaults.{none_both, uses_both}
 use Rattle.tower.proofs.NamedSound.{IsSound}

@@ -13,11 +13,11 @@ use Rattle.jack_tree.specs.declared.tree.Subroutine.{Subroutine}
 use Rattle.jack_tree.specs.declared.tree.Class.{Class}
 use Rattle.jack_names.specs.Tables.{first_of}
 use Rattle.jack_names.specs.Faults.{Told}
-use Rattle.jack_names.specs.Uses.{subroutine_uses}
-use Rattle.jack_names.specs.Scopes.{first_fault}
+use Rattle.jack_names.specs.Inner.Uses.{subroutine_uses}
+use Rattle.jack_names.specs.Inner.Scopes.{first_fault}
 use Rattle.jack_names.specs.Symbols.{Symbols, ClassScope, class_scope, scope_in, variable_entries, member_entries, fields_of, statics_of, objects}
 use Rattle.jack_names.specs.Limits.{AllHaveFew, AreWithin}
-use Rattle.jack_names.specs.Whole.{class_fault, uses_fault, start_fault, os_fault, class_subroutines, subroutine_meant, subroutines_meant, class_meant}
+use Rattle.jack_names.specs.Inner.Whole.{class_fault, uses_fault, start_fault, os_fault, class_subroutines, subroutine_meant, subroutines_meant, class_meant}
 use Rattle.jack_names.specs.declared.scope.Signature.{Signature}
 use Rattle.tower.specs.Read.{AreReadSubroutines, AreReadClasses}
 use Rattle.tower.proofs.NamedFaults.{none_both}

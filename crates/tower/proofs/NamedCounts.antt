@@ -4,8 +4,9 @@ use Rattle.jack_meaning.specs.Text as meaning
 use Rattle.jack_compiler.specs.Lines.{ifs_of, ifs_in, whiles_of, whiles_in}
 use Rattle.jack_tree.specs.declared.tree.Statement as statements
 use Rattle.jack_names.specs.Sizes.{size, row_size, other_size, sizes}
-use Rattle.jack_names.specs.Scopes.{Scope}
-use Rattle.jack_names.specs.Meant.{exp_meant, assigned, let_by, statement_meant, block_meant, other_meant, statements_meant}
+use Rattle.jack_names.specs.Inner.Scopes.{Scope}
+use Rattle.jack_names.specs.Made.{assigned, let_by}
+use Rattle.jack_names.specs.Inner.Meant.{exp_meant, statement_meant, block_meant, other_meant, statements_meant}
 use Rattle.jack_names.specs.declared.scope.Slot.{Slot}
 use Rattle.jack_names.specs.declared.scope.Slot.TheVariants as slot
 use Rattle.jack_names.specs.declared.scope.Declared.{Declared}

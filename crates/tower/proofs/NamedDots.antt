@@ -5,12 +5,12 @@ use Rattle.std.proofs.lemmas.Bool.{false≢true}
 use Rattle.std.proofs.lemmas.List.{append_cancel_left}
 use Rattle.std.proofs.lemmas.List.Elements.{All-head, All-tail}
 use Rattle.std.proofs.lemmas.Slice.Eq.{bytes_eq-Decides}
-use Rattle.jack_lexer.specs.Cut.{is_name_byte}
+use Rattle.jack_lexer.specs.Tokens.{is_name_byte}
 use Rattle.jack_tree.specs.declared.tree.Subroutine.{Subroutine}
 use Rattle.jack_tree.specs.declared.tree.Class.{Class}
 use Rattle.jack_names.specs.Tables.{is_among}
-use Rattle.jack_names.specs.Twice.{declarations_fault}
-use Rattle.jack_names.specs.Whole.{class_names, subroutine_name, names_meant, declared_fault}
+use Rattle.jack_names.specs.Inner.Twice.{declarations_fault}
+use Rattle.jack_names.specs.Inner.Whole.{class_names, subroutine_name, names_meant, declared_fault}
 use Rattle.tower.specs.Read.{IsName, AreReadClasses}
 use Rattle.tower.proofs.NamedFaults.{none_both}
 use Rattle.tower.proofs.NamedApart.{IsNew, AreApart, AreNew, new_both, apart_both, texts, Declared, later_classes, all_declared}

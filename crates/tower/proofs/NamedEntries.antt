@@ -11,7 +11,7 @@ use Rattle.jack_tree.specs.declared.tree.ClassVariables.{ClassVariables}
 use Rattle.jack_tree.specs.declared.tree.Locals.{Locals}
 use Rattle.jack_tree.specs.declared.tree.Parameter.{Parameter}
 use Rattle.jack_names.specs.Tables.{found, first_of}
-use Rattle.jack_names.specs.Twice.{names_of}
+use Rattle.jack_names.specs.Inner.Twice.{names_of}
 use Rattle.jack_names.specs.Symbols.{Symbols, type_class, line_entries, member_line, fields_in, statics_in, fields_of, statics_of, member_entries, parameter_entries, local_entries, locals_of}
 use Rattle.jack_names.specs.declared.scope.Slot.{Slot}
 use Rattle.jack_names.specs.declared.scope.Slot.TheVariants as slot

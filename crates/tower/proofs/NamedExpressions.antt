@@ -16,10 +16,11 @@ use Rattle.jack_tree.specs.declared.tree.Term as terms
 use Rattle.jack_tree.specs.declared.tree.Expression.{Expression, Expression', Row_of-Operation, end_of-Operation, more_of-Operation}
 use Rattle.jack_names.specs.Tables.{first_of}
 use Rattle.jack_names.specs.Faults.{Told, Source, told_if}
-use Rattle.jack_names.specs.Uses.{Variable, Calls, operator_uses, constant_uses, row_length, term_uses, call_uses, exp_uses, rest_uses, row_uses}
-use Rattle.jack_names.specs.Scopes.{is_function, is_field, own_kind, way_kind, count_kind, field_kind, variable_kind, this_kind, through, callee_by, callee, front_by, front_fault, signature_kind, called_kind, made_kind, made_told, is_lesser, new_kind, append_kind, string_fault, call_fault, use_fault, first_fault}
-use Rattle.jack_names.specs.Scopes.{Scope as Names}
-use Rattle.jack_names.specs.Meant.{slot_meant, declared_meant, variable_meant, called_number, made_by, made_number, with_variable, invoked, filled, length_word, string_meant, constant_meant, binary_meant, term_meant, call_meant, exp_meant, rest_meant, row_meant}
+use Rattle.jack_names.specs.Inner.Uses.{Variable, Calls, operator_uses, constant_uses, row_length, term_uses, call_uses, exp_uses, rest_uses, row_uses}
+use Rattle.jack_names.specs.Inner.Scopes.{is_function, is_field, own_kind, way_kind, count_kind, field_kind, variable_kind, this_kind, through, callee_by, callee, front_by, front_fault, signature_kind, called_kind, made_kind, made_told, is_lesser, new_kind, append_kind, string_fault, call_fault, use_fault, first_fault}
+use Rattle.jack_names.specs.Inner.Scopes.{Scope as Names}
+use Rattle.jack_names.specs.Made.{slot_meant, declared_meant, with_variable, filled, length_word}
+use Rattle.jack_names.specs.Inner.Meant.{variable_meant, called_number, made_by, made_number, invoked, string_meant, constant_meant, binary_meant, term_meant, call_meant, exp_meant, rest_meant, row_meant}
 use Rattle.jack_names.specs.declared.fault.NameKind.{NameKind}
 use Rattle.jack_names.specs.declared.fault.NameKind.TheVariants as kinds
 use Rattle.jack_names.specs.declared.scope.Slot.{Slot}

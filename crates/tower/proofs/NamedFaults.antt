@@ -3,8 +3,8 @@ use Rattle.std.proofs.Common.{◌≡◌, ℕ, Bool, true, false, List, [], ◌�
 use Rattle.scan_text.specs.declared.Place.{Place}
 use Rattle.jack_names.specs.Tables.{first_of}
 use Rattle.jack_names.specs.Faults.{Told, Source, told_if}
-use Rattle.jack_names.specs.Uses.{Use}
-use Rattle.jack_names.specs.Scopes.{Scope, use_fault, first_fault, kind_if}
+use Rattle.jack_names.specs.Inner.Uses.{Use}
+use Rattle.jack_names.specs.Inner.Scopes.{Scope, use_fault, first_fault, kind_if}
 use Rattle.jack_names.specs.declared.fault.NameKind.{NameKind}
 
 pub none_both : {A : Type 0} (a b : Option A) → first_of a b ≡ None → (a ≡ None) × (b ≡ None)

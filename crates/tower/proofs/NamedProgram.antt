@@ -15,11 +15,11 @@ use Rattle.jack_compiler.specs.Resolved.{named_in, AreInOrder, IsResolvedSubrout
 use Rattle.jack_tree.specs.declared.tree.Class.{Class}
 use Rattle.jack_names.specs.Tables.{first_of}
 use Rattle.jack_tree.specs.declared.tree.Form.TheVariants as form
-use Rattle.jack_names.specs.Scopes.{signature_kind, made_kind}
+use Rattle.jack_names.specs.Inner.Scopes.{signature_kind, made_kind}
 use Rattle.jack_names.specs.Symbols.{Symbols, symbols_of, objects}
 use Rattle.jack_names.specs.Limits.{AreWithin}
-use Rattle.jack_names.specs.Meant.{number_by}
-use Rattle.jack_names.specs.Whole.{declared_fault, main_fault, uses_fault, os_fault, start_scope, start_fault, system_file, no_place, all_statics, all_uses_fault, WellNamed, start_subroutine, subroutines_meant, all_subroutines_meant, class_meant, found_by, program_meant, names_meant, all_names_meant}
+use Rattle.jack_names.specs.Inner.Meant.{number_by}
+use Rattle.jack_names.specs.Inner.Whole.{declared_fault, main_fault, uses_fault, os_fault, start_scope, start_fault, system_file, no_place, all_statics, all_uses_fault, WellNamed, start_subroutine, subroutines_meant, all_subroutines_meant, class_meant, found_by, program_meant, names_meant, all_names_meant}
 use Rattle.jack_names.specs.declared.scope.Way.TheVariants as way
 use Rattle.jack_names.specs.declared.scope.Signature.{Signature}
 use Rattle.tower.specs.Read.{AreReadClasses}

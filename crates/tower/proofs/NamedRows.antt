@@ -8,7 +8,7 @@ use Rattle.jack_compiler.specs.Resolved.{AreInOrder}
 use Rattle.jack_tree.specs.declared.tree.Subroutine.{Subroutine}
 use Rattle.jack_tree.specs.declared.tree.Class.{Class}
 use Rattle.jack_names.specs.Symbols.{Symbols, ClassScope, class_scope, fields_of, statics_of, objects}
-use Rattle.jack_names.specs.Whole.{all_statics, class_subroutines, subroutines_meant, class_meant, subroutine_name, names_meant}
+use Rattle.jack_names.specs.Inner.Whole.{all_statics, class_subroutines, subroutines_meant, class_meant, subroutine_name, names_meant}
 use Rattle.tower.specs.Read.{AreReadClasses}
 use Rattle.tower.proofs.NamedFlat.{Owned, owned, flat}
 

@@ -8,10 +8,10 @@ use Rattle.jack_compiler.specs.Fits.{Scope}
 use Rattle.jack_tree.specs.declared.tree.Form.{Form}
 use Rattle.jack_tree.specs.declared.tree.Form.TheVariants as form
 use Rattle.jack_names.specs.Tables.{first_of}
-use Rattle.jack_names.specs.Scopes.{is_function, kind_if, count_kind, way_kind, own_kind, signature_kind}
-use Rattle.jack_names.specs.Scopes.{Scope as Names}
+use Rattle.jack_names.specs.Inner.Scopes.{is_function, kind_if, count_kind, way_kind, own_kind, signature_kind}
+use Rattle.jack_names.specs.Inner.Scopes.{Scope as Names}
 use Rattle.jack_names.specs.Symbols.{objects}
-use Rattle.jack_names.specs.Meant.{number_by}
+use Rattle.jack_names.specs.Inner.Meant.{number_by}
 use Rattle.jack_names.specs.declared.fault.NameKind.{NameKind}
 use Rattle.jack_names.specs.declared.fault.NameKind.TheVariants as kinds
 use Rattle.jack_names.specs.declared.scope.Slot.{Slot}

@@ -5,11 +5,12 @@ use Rattle.jack_compiler.specs.Templates.{Numbers}
 use Rattle.jack_compiler.specs.Fits.{Scope, IsFresh, IsFreshText}
 use Rattle.jack_tree.specs.declared.tree.Expression.{Expression}
 use Rattle.jack_tree.specs.declared.tree.Statement as statements
-use Rattle.jack_names.specs.Uses.{Variable, exp_uses, optional_uses, statement_uses, block_uses, other_uses, statements_uses}
+use Rattle.jack_names.specs.Inner.Uses.{Variable, exp_uses, optional_uses, statement_uses, block_uses, other_uses, statements_uses}
 use Rattle.jack_names.specs.Sizes.{size, row_size}
-use Rattle.jack_names.specs.Scopes.{is_function, is_field, variable_kind, first_fault}
-use Rattle.jack_names.specs.Scopes.{Scope as Names}
-use Rattle.jack_names.specs.Meant.{exp_meant, assigned, let_by, value_meant, statement_meant, block_meant, other_meant, statements_meant}
+use Rattle.jack_names.specs.Inner.Scopes.{is_function, is_field, variable_kind, first_fault}
+use Rattle.jack_names.specs.Inner.Scopes.{Scope as Names}
+use Rattle.jack_names.specs.Made.{assigned, let_by}
+use Rattle.jack_names.specs.Inner.Meant.{exp_meant, value_meant, statement_meant, block_meant, other_meant, statements_meant}
 use Rattle.jack_names.specs.declared.fault.NameKind.TheVariants as kinds
 use Rattle.jack_names.specs.declared.scope.Slot.{Slot}
 use Rattle.jack_names.specs.declared.scope.Slot.TheVariants as slot
@@ -47,9 +48,9 @@ module _ (subs : List meaning.Subroutine) (numbers : Numbers) (scope : Scope) (s
         let_fresh x.text (s.variable x.text) n (exp_meant s e) refl
         (told_none s.source x.text x.place (variable_kind s.form (s.variable x.text)) a.0) (exp_whole subs numbers scope s sound e a.1 r.1)
     statement_fresh n (statements.Let at x (Some i) e) h r =
-        let a = first_use s (Variable x) (exp_uses i ++ exp_uses e) h in
-        let b = uses_both s (exp_uses i) (exp_uses e) a.1 in
-        (variable_whole subs numbers scope s sound x a.0, exp_whole subs numbers scope s sound i b.0 r.0, exp_whole subs numbers scope s sound e b.1 r.1)
+        let a = first_use s (Variable x) (exp_uses i.value ++ exp_uses e) h in
+        let b = uses_both s (exp_uses i.value) (exp_uses e) a.1 in
+        (variable_whole subs numbers scope s sound x a.0, exp_whole subs numbers scope s sound i.value b.0 r.0, exp_whole subs numbers scope s sound e b.1 r.1)
     statement_fresh n (statements.If' at e m a b) h r =
         let p = uses_both s (exp_uses e) (block_uses a ++ other_uses b) h in
         let q = uses_both s (block_uses a) (other_uses b) p.1 in

@@ -8,8 +8,8 @@ use Rattle.jack_core.specs.declared.program.Core.{Core}
 use Rattle.jack_names.specs.Limits.{AreWithin, subroutine_count}
 use Rattle.jack_names.specs.NameFaults.{IsWellNamed}
 use Rattle.jack_names.specs.Meaning.{program_meaning}
-use Rattle.jack_names.specs.Whole.{WellNamed, program_meant, all_names_meant}
-use Rattle.jack_names.specs.Whole as whole
+use Rattle.jack_names.specs.Inner.Whole.{WellNamed, program_meant, all_names_meant}
+use Rattle.jack_names.specs.Inner.Whole as whole
 use Rattle.jack_names.proofs.Found.{finds_none}
 use Rattle.jack_names.proofs.Wholly.{search_same}
 use Rattle.jack_names.proofs.MeantWholly.{program_same, names_are}

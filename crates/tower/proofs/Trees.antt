@@ -11,11 +11,11 @@ use Rattle.jack_tree.specs.declared.token.Keyword.TheVariants as keyword
 use Rattle.jack_tree.specs.declared.token.Kind.{Kind}
 use Rattle.jack_tree.specs.declared.token.Kind.TheVariants as kind
 use Rattle.jack_tree.specs.Tokens.{Word}
-use Rattle.jack_lexer.specs.Cut.{is_name_byte}
+use Rattle.jack_lexer.specs.Tokens.{is_name_byte}
 use Rattle.jack_parser.specs.declared.counts.Counted.{Counted}
 use Rattle.jack_parser.specs.declared.counts.Counted.TheVariants as counted
 use Rattle.jack_parser.specs.declared.counts.Counts.{Counts}
-use Rattle.jack_parser.specs.Jack.{jack, Part, Said, Fixed, Placed, JackRule, expression, term, statement, rule_of, whole, names, keyword_said, constant_by, type_by, string_size, key, identifier, constant, operator, unary, type_rule, result_rule, form_rule, counted_name, declaration, group, argument_list, invoked, variable, negation, block, let_rule, if_rule, while_rule, do_rule, return_rule, any_statement, names_rule, class_variables, locals_rule, parameter, parameter_list, subroutine, class_rule}
+use Rattle.jack_parser.specs.Grammar.{jack, Part, Said, Fixed, Placed, JackRule, expression, term, statement, rule_of, whole, names, keyword_said, constant_by, type_by, string_size, key, identifier, constant, operator, unary, type_rule, result_rule, form_rule, counted_name, declaration, group, argument_list, invoked, variable, negation, block, let_rule, if_rule, while_rule, do_rule, return_rule, any_statement, names_rule, class_variables, locals_rule, parameter, parameter_list, subroutine, class_rule}
 use Rattle.tower.specs.Read.{IsName, IsString}
 use Rattle.tower.proofs.Words.{IsReadText, IsReadWord, AreReadWords}
 

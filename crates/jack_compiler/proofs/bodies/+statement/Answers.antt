@@ -8,17 +8,19 @@ use Rattle.jack_compiler.specs.declared.bodies.Body.{Body}
 use Rattle.std.proofs.lemmas.Result.{on_ok_weaker}
 use Rattle.jack_core.specs.Texts.{the_statement, the_block}
 use Rattle.jack_core.proofs.Blocks.{if_reads, while_reads}
+use Rattle.jack_compiler.specs.Inner.Named.{NamesIn, NamesText}
+use Rattle.jack_compiler.proofs.Named.{statement_named}
 use Rattle.jack_compiler.proofs.Adding.{weight_of, weight_in, adds_long, adds_loop, adds_plain, weight_item}
 use Rattle.jack_compiler.proofs.bodies.+statement.Goals as goal
 
 pub add_if-add_statements-requires : goal.add_if-add_statements-requires
-add_if-add_statements-requires t c = (omega (arith, c.decreases), tt)
+add_if-add_statements-requires t c = (omega (arith, c.decreases), c.requires.holds)
 
 pub add_if-add_statements-requires-2 : goal.add_if-add_statements-requires-2
-add_if-add_statements-requires-2 t c = (omega (arith, c.decreases), tt)
+add_if-add_statements-requires-2 t c = (omega (arith, c.decreases), c.requires.fails)
 
 pub add_while-add_statements-requires : goal.add_while-add_statements-requires
-add_while-add_statements-requires t c = (omega (arith, c.decreases), tt)
+add_while-add_statements-requires t c = (omega (arith, c.decreases), c.requires.turn)
 
 pub add_statement-add_if-requires : goal.add_statement-add_if-requires
 add_statement-add_if-requires t c =
@@ -26,19 +28,33 @@ add_statement-add_if-requires t c =
     ap (λ z. weight_of (the_statement z)) c.in-If.is ∙ ap weight_of (if_reads c.in-If.number c.in-If.has_else c.in-If.condition c.in-If.holds c.in-If.fails) in
     let holds : weight_in (the_block c.deref.result.now) ≡ weight_in (the_block c.in-If.holds.items) = ap (λ z. weight_in (the_block z)) c.deref.ensures.value in
     let fails : weight_in (the_block c.deref-in-If.result.now) ≡ weight_in (the_block c.in-If.fails.items) = ap (λ z. weight_in (the_block z)) c.deref-in-If.ensures.value in
-    (omega (arith, c.decreases, size_is, holds, fails), tt)
+    let reads = ap the_statement c.in-If.is ∙ if_reads c.in-If.number c.in-If.has_else c.in-If.condition c.in-If.holds c.in-If.fails in
+    let named = subst (NamesIn c.args.around.now) reads c.requires in (
+      omega (arith, c.decreases, size_is, holds, fails),
+      (
+        named.0,
+        (
+          subst (λ z. NamesText c.args.around.now (the_block z)) (sym c.deref.ensures.value) named.1,
+          subst (λ z. NamesText c.args.around.now (the_block z)) (sym c.deref-in-If.ensures.value) named.2,
+        ),
+      ),
+    )
 
 pub add_statement-add_while-requires : goal.add_statement-add_while-requires
 add_statement-add_while-requires t c =
     let size_is : weight_of (the_statement c.args.s.now) ≡ suc (suc (weight_in (the_block c.in-While.turn.items))) =
     ap (λ z. weight_of (the_statement z)) c.in-While.is ∙ ap weight_of (while_reads c.in-While.number c.in-While.condition c.in-While.turn) in
     let turn : weight_in (the_block c.deref-in-While.result.now) ≡ weight_in (the_block c.in-While.turn.items) = ap (λ z. weight_in (the_block z)) c.deref-in-While.ensures.value in
-    (omega (arith, c.decreases, size_is, turn), tt)
+    let reads = ap the_statement c.in-While.is ∙ while_reads c.in-While.number c.in-While.condition c.in-While.turn in
+    let named = subst (NamesIn c.args.around.now) reads c.requires in (
+      omega (arith, c.decreases, size_is, turn),
+      (named.0, subst (λ z. NamesText c.args.around.now (the_block z)) (sym c.deref-in-While.ensures.value) named.1),
+    )
 
 pub add_statements-add_statement-requires : goal.add_statements-add_statement-requires
 add_statements-add_statement-requires t c =
     let less = weight_item c.args.ss.now c.loop-index.index c.index-ss-index.result c.loop-index-test.true c.index-ss-index.is in
-    (omega (arith, c.decreases, less), tt)
+    (omega (arith, c.decreases, less), statement_named c.args.around.now c.args.ss.now c.loop-index.index c.index-ss-index.result c.loop-index-test.true c.index-ss-index.is c.requires)
 
 pub add_statement-returns-in-Store : goal.add_statement-returns-in-Store
 add_statement-returns-in-Store t c =

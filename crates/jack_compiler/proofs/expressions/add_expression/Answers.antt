@@ -2,8 +2,14 @@ use Rattle.std.proofs.Common.{◌≤◌, ◌++◌, length, sym, ap, ◌∙◌, a
 use Rattle.std.proofs.lemmas.List.{append-nil, drop_all}
 use Rattle.jack_compiler.specs.Surroundings.{the_around}
 use Rattle.jack_compiler.specs.Postfix.{parts_lines}
+use Rattle.jack_compiler.proofs.Named.{parts_named, part_named}
 use Rattle.jack_compiler.proofs.Postfix.{spelled_lines}
 use Rattle.jack_compiler.proofs.expressions.add_expression.Goals as goal
+
+pub add_part-requires : goal.add_part-requires
+add_part-requires c =
+    part_named c.args.around.now c.deref-part-items.result.now c.args.e.now.parts.items c.loop-part.part-index _ c.deref-part-items.ensures.value c.loop-part-test.true
+    (parts_named c.args.around.now c.args.e.now c.requires)
 
 pub returns : goal.returns
 returns c =
