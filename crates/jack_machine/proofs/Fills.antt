@@ -31,13 +31,15 @@ module _ (w : ℕ) where
 
   made_filled : (p : Part) (es : List Expression) → filled w (made p es) ≡ made p (all es)
   made_filled (part.Literal n) es = refl
-  made_filled (part.Name x) es = refl
+  made_filled (part.Argument k) es = refl
+  made_filled (part.Local k) es = refl
+  made_filled (part.Static k) es = refl
   made_filled part.This es = refl
   made_filled (part.Field k) es = refl
   made_filled (part.Unary o) es = ap (Unary (the_sign o)) (operand_filled 0 es)
   made_filled (part.Binary o) es = ap (λ a. Binary (the_operator o) a (filled w (operand 1 es))) (operand_filled 0 es) ∙ ap (Binary (the_operator o) (operand 0 (all es))) (operand_filled 1 es)
   made_filled part.Load es = ap (λ a. Load a (filled w (operand 1 es))) (operand_filled 0 es) ∙ ap (Load (operand 0 (all es))) (operand_filled 1 es)
-  made_filled (part.Call g n) es = ap (Call g) (arguments_filled es)
+  made_filled (part.Call n g) es = ap (Call g) (arguments_filled es)
 
   put_filled : (p : Part) (es : List Expression) → all (put p es) ≡ put p (all es)
   put_filled p es =

@@ -8,7 +8,8 @@ use Rattle.machine_io.specs.declared.machine.Stray.TheVariants as Why
 use Rattle.jack_meaning.specs.Text.{Subroutine}
 use Rattle.jack_meaning.specs.Meaning.{Frame, State, start}
 use Rattle.jack_core.specs.Texts.{the_subroutines, the_program, the_class}
-use Rattle.jack_machine.specs.Whole.{jack_state, JackStep, IsTurn, Leads, Stands, start_frame}
+use Rattle.jack_machine.specs.Whole.{jack_state, JackStep, IsTurn, Leads, Stands}
+use Rattle.jack_machine.specs.Machine.{start_frame}
 use Rattle.jack_machine.specs.Frames.{the_frame, the_state}
 use Rattle.jack_machine.specs.declared.frames.Frame.{Frame as FrameTree}
 use Rattle.jack_machine.specs.declared.looking.Memory.{Memory}

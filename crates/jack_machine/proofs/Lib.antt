@@ -9,3 +9,4 @@ pub mod Tops
 pub mod Stacks
 pub mod Histories
 pub mod Replies
+pub mod Reaching

@@ -56,7 +56,9 @@ module _ (c : Expression → Expression) (place : IsPlace c) where
   -- Values stand before it, and any expressions behind it, and a part is made of them all.
   made_of : (p : Part) (ys : List ℕ) (fs : List Expression) → takes p ≡ length ys + suc (length fs) → IsPlace (λ x. made p (map Value ys ++ c x ∷ fs))
   made_of (part.Literal n) ys fs e = absurd (omega (arith, e))
-  made_of (part.Name x) ys fs e = absurd (omega (arith, e))
+  made_of (part.Argument k) ys fs e = absurd (omega (arith, e))
+  made_of (part.Local k) ys fs e = absurd (omega (arith, e))
+  made_of (part.Static k) ys fs e = absurd (omega (arith, e))
   made_of part.This ys fs e = absurd (omega (arith, e))
   made_of (part.Field k) ys fs e = absurd (omega (arith, e))
   made_of (part.Unary o) [] [] e = inner (Unary (the_sign o)) (λ v x. Rewrites false (Value (sign_of (the_sign o) (value_of x)))) (λ v x. refl)
@@ -77,7 +79,7 @@ module _ (c : Expression → Expression) (place : IsPlace c) where
   made_of part.Load (y ∷ []) [] e = inner (Load (Value y)) (λ v x. loaded v (word_add y (value_of x))) (λ v x. refl)
   made_of part.Load (y ∷ []) (f ∷ fs) e = absurd (omega (arith, e))
   made_of part.Load (y ∷ z ∷ ys) fs e = absurd (omega (arith, e))
-  made_of (part.Call g n) ys fs e = record {
+  made_of (part.Call n g) ys fs e = record {
     moves = λ v x h.
         ap (λ m. within m (Call g) (Calls g (values_of (arguments_of (map Value ys ++ c x ∷ fs))) Open)) (among ys fs v x h)
         ∙ within_twice (rewrite v x) (λ z. arguments_of (map Value ys ++ c z ∷ fs)) (Call g) (Calls g (values_of (arguments_of (map Value ys ++ c x ∷ fs))) Open) h;

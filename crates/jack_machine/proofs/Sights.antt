@@ -23,9 +23,9 @@ same_values : (xs : List ℕ) → values_of (arguments_of (map Value xs)) ≡ xs
 same_values [] = refl
 same_values (x ∷ xs) = ap (λ l. x ∷ l) (same_values xs)
 
-pub sees_call : (v : View) (g n : ℕ) (ws : List ℕ) → Sees v (part.Call g n) ws (Sight.Calls g)
+pub sees_call : (v : View) (g n : ℕ) (ws : List ℕ) → Sees v (part.Call n g) ws (Sight.Calls g)
 sees_call v g n ws =
-    let xs : List ℕ = passed (part.Call g n) ws in
+    let xs : List ℕ = passed (part.Call n g) ws in
     ap (λ m. within m (Call g) (Calls g (values_of (arguments_of (map Value xs))) Open)) (values_stand v xs) ∙ ap (λ l. Calls g l Open) (same_values xs)
 
 pub no_call : (p : Part) (sight : Sight) → is_of_load sight ≡ true → IsOfCall p sight

@@ -78,7 +78,7 @@ opened p f =
 
 -- the state after a call: its arguments are in a new frame
 abbrev pub called : List Subroutine → FrameTree → Memory → List Frame → ℕ → ℕ → State
-called subs f m below g n = with_top (the_state f m below) (opened (part.Call g n) f ∷ below) (new_frame subs g (passed (part.Call g n) f.text.front.values.items))
+called subs f m below g n = with_top (the_state f m below) (opened (part.Call n g) f ∷ below) (new_frame subs g (passed (part.Call n g) f.text.front.values.items))
 
 -- the part that is next is this one
 abbrev pub IsNext : Part → FrameTree → Type 0
@@ -88,7 +88,7 @@ IsNext p f = slice_get (parts_of f.text.front.first) f.text.front.done ≡ Some 
 abbrev pub TopStep : List Subroutine → List Frame → ℕ → FrameTree → Memory → Act → FrameTree → Memory → Type 0
 TopStep subs below key f m Act.Acted f' m' = step subs key (the_state f m below) ≡ Acts false (the_state f' m' below)
 TopStep subs below key f m Act.Heard f' m' = step subs key (the_state f m below) ≡ Acts true (the_state f' m' below)
-TopStep subs below key f m (Act.Calls g n) f' m' = (step subs key (the_state f m below) ≡ Acts false (called subs f m below g n)) × IsNext (part.Call g n) f × IsLeft f m f' m'
+TopStep subs below key f m (Act.Calls g n) f' m' = (step subs key (the_state f m below) ≡ Acts false (called subs f m below g n)) × IsNext (part.Call n g) f × IsLeft f m f' m'
 TopStep subs below key f m (Act.Returns w) f' m' = (step subs key (the_state f m below) ≡ returned (the_state f m below) below w) × IsLeft f m f' m'
 TopStep subs below key f m (Act.Strays a) f' m' = (step subs key (the_state f m below) ≡ Stray a) × IsLeft f m f' m'
 TopStep subs below key f m Act.Done f' m' = (step subs key (the_state f m below) ≡ Done) × IsLeft f m f' m'

@@ -6,3 +6,5 @@ pub mod Effects
 pub mod Frames
 pub mod Machine
 pub mod Whole
+pub mod Calls
+pub mod Inner

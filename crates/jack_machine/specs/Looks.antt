@@ -35,7 +35,7 @@ Sees v p ws sight = rewrite v (made p (map Value (passed p ws))) ≡ move_of v.k
 
 -- a call is seen where the part is one
 abbrev pub IsOfCall : Part → Sight → Type 0
-IsOfCall p (Sight.Calls g) = p ≡ part.Call g (takes p)
+IsOfCall p (Sight.Calls g) = p ≡ part.Call (takes p) g
 IsOfCall p _ = Unit {0}
 
 -- a look at an address calls nothing

@@ -1,7 +1,7 @@
 -- What the whole machine stands for.
 use Rattle.std.specs.Prelude.{◌≡◌, ℕ, Bool, true, false, List, [], ◌∷◌, map, reverse, replicate}
 use Rattle.jack_meaning.specs.Text.{Subroutine}
-use Rattle.jack_meaning.specs.Meaning.{Frame, this_of, filled_text}
+use Rattle.jack_meaning.specs.Meaning.{Frame, this_of, filled_text, start_text}
 use Rattle.jack_core.specs.declared.tree.Part.{Part}
 use Rattle.jack_machine.specs.Frames.{the_frame, the_waiting_frame, opened}
 use Rattle.jack_machine.specs.declared.frames.Frame.{Frame as FrameTree}
@@ -30,3 +30,7 @@ abbrev pub IsReturned : ℕ → FrameTree → List FrameTree → Bool → FrameT
 IsReturned w top below true top' below' =
     (f : Frame) × (the_stack below ≡ f ∷ the_stack below') × (the_frame top' ≡ record f { text = filled_text w f.text })
 IsReturned w top below false top' below' = (the_stack below ≡ []) × (the_stack below' ≡ []) × (top' ≡ top)
+
+-- the first frame, `start`
+abbrev pub start_frame : ℕ → Frame
+start_frame init = record { subroutine = 0; arguments = []; locals = []; this = 0; text = start_text init }

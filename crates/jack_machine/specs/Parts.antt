@@ -23,7 +23,7 @@ wanted_in _ = 1
 
 -- `do Sys.init();` has one part, the call
 abbrev pub parts_of : First → List Part
-parts_of (First.Start init) = part.Call init 0 ∷ []
+parts_of (First.Start init) = part.Call 0 init ∷ []
 parts_of (First.Statement s) = parts_in s.now
 parts_of First.Nothing = []
 

@@ -6,7 +6,7 @@ use Rattle.machine_io.specs.declared.machine.Moved.{Moved}
 use Rattle.machine_io.specs.declared.machine.Stray.TheVariants as Why
 use Rattle.outer_world.specs.declared.point.Point.{Point}
 use Rattle.jack_meaning.specs.Text.{Subroutine}
-use Rattle.jack_meaning.specs.Meaning.{Frame, State, Outcome, Acts, Stray, Done, step, start, start_text, point_of}
+use Rattle.jack_meaning.specs.Meaning.{State, Outcome, Acts, Stray, Done, step, start, point_of}
 use Rattle.jack_core.specs.Texts.{the_subroutines, the_program}
 use Rattle.jack_machine.specs.Frames.{the_state, called}
 use Rattle.jack_machine.specs.Machine.{the_stack}
@@ -66,7 +66,3 @@ Stands j turns = Leads (the_subroutines j.core.now) (start (the_program j.core.n
 -- the word at an address of heap or screen
 abbrev pub jack_word : Jack → ℕ → ℕ
 jack_word j a = slice_index j.memory.words.items (a - heap)
-
--- the first frame, `start`
-abbrev pub start_frame : ℕ → Frame
-start_frame init = record { subroutine = 0; arguments = []; locals = []; this = 0; text = start_text init }

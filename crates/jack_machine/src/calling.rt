@@ -1,6 +1,6 @@
 //! Calls and returns. All memory is taken before a frame changes.
 
-ghost use Rattle.std.specs.Prelude.{◌≡◌, ◌-◌, ◌≤◌, IfOk, OnOk, OnErr, drop, length, map};
+ghost use Rattle.std.specs.Prelude.{◌≡◌, ◌-◌, ◌<◌, ◌≤◌, IfOk, OnOk, OnErr, drop, length, map};
 ghost use Rattle.jack_meaning.specs.Meaning.{new_frame, this_of};
 ghost use Rattle.jack_core.specs.Texts.{the_kind, the_subroutine};
 ghost use Rattle.jack_machine.specs.Frames.{the_frame, IsNext};
@@ -62,23 +62,10 @@ pub(crate) fn enter(
     g: u32,
     arguments: Vec<u16>,
 ) -> Result<Frame, AllocError>
+    requires { g < length subroutines.now }
     ensures { IfOk result (λ f. the_frame f ≡ new_frame (map the_subroutine subroutines.now) g arguments.items) }
 {
-    match subroutines.get(g as usize) {
-        Some(subroutine) => enter_subroutine(alloc, g, subroutine, arguments),
-        None => {
-            let text = text_of_block(alloc, &[])?;
-            Ok(Frame {
-                subroutine: g,
-                variables: Variables {
-                    arguments,
-                    locals: Vec::new(alloc),
-                    this: 0,
-                },
-                text,
-            })
-        }
-    }
+    enter_subroutine(alloc, g, &subroutines[g as usize], arguments)
 }
 
 /// A new frame goes on top, for the call that is next in the old one, which keeps a place for its value. Where memory is

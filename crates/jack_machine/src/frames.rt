@@ -31,7 +31,7 @@ pub(crate) struct Frame<'a> {
 pub(crate) enum Act {
     Acted,
     Heard,
-    Calls(u32, usize),
+    Calls(u32, u16),
     Returns(u16),
     Strays(u16),
     Done,

@@ -1,12 +1,11 @@
 //! The machine.
 
-ghost use Rattle.std.specs.Prelude.{◌≡◌, ◌+◌, ◌-◌, ◌<◌, ◌^◌, [], IfOk, OnOk, OnErr, false, replicate, sum_by};
-ghost use Rattle.machine_io.specs.History.{moves_in};
-ghost use Rattle.jack_meaning.specs.Meaning.{start};
-ghost use Rattle.jack_core.specs.declared.tree.Part.TheVariants as part;
+ghost use Rattle.std.specs.Prelude.{◌≡◌, ◌∷◌, IfOk, replicate, sum_by};
 ghost use Rattle.jack_core.specs.Texts.{the_program};
-ghost use Rattle.jack_machine.specs.Frames.{the_frame, IsNext};
-ghost use Rattle.jack_machine.specs.Whole.{IsCalled, IsSame, JackStep, Stands, jack_state, jack_point, jack_word, jack_reply, start_frame};
+ghost use Rattle.jack_machine.specs.Calls.{CallsAreThere};
+ghost use Rattle.jack_machine.specs.Frames.{the_frame};
+ghost use Rattle.jack_machine.specs.Inner.Reached.{AreReached};
+ghost use Rattle.jack_machine.specs.Machine.{start_frame, the_stack};
 
 use crate::calling::{call, enter, last_values, leave};
 use crate::frames::{Act, Frame, step_top};
@@ -28,19 +27,9 @@ pub struct Jack<'a> {
     memory: Memory,
     moves: u64,
     alloc: Global,
-}
-
-// A new frame for the call that is next in the top frame, with so many arguments.
-fn make_call(jack: &mut Jack, g: u32, n: usize) -> Result<(), AllocError>
-    requires { IsNext (part.Call g n) jack.old.top }
-    ensures done { OnOk result (IsCalled g n jack.old jack.new) }
-    ensures refused { OnErr result (IsSame jack.old jack.new) }
-    ensures core { jack.new.core ≡ jack.old.core }
-    ensures moves { jack.new.moves ≡ jack.old.moves }
-{
-    let arguments = last_values(jack.alloc, &jack.top.text.front.values, n)?;
-    let entered = enter(jack.alloc, &jack.core.subroutines, g, arguments)?;
-    call(&mut jack.top, &mut jack.below, Part::Call(g, n), entered)
+    // Each subroutine that the program can come to is there, and what is left to do calls no others.
+    ghost there: { CallsAreThere (the_program core.now) },
+    ghost reached: { ∥ AreReached (the_program core.now) (the_frame top ∷ the_stack below.items) ∥₁ },
 }
 
 // The words of all statics, 0.
@@ -72,8 +61,18 @@ fn first_frame<'a>(alloc: Global, init: u32) -> Frame<'a>
 }
 
 impl<'a> Jack<'a> {
-    /// The machine at the start of a program: `do Sys.init();`, and all words 0.
+    ghost use Rattle.std.specs.Prelude.{◌+◌, ◌<◌, ◌^◌, [], OnOk, OnErr};
+    ghost use Rattle.machine_io.specs.History.{moves_in};
+    ghost use Rattle.jack_meaning.specs.Meaning.{start};
+    ghost use Rattle.jack_core.specs.declared.tree.Part.TheVariants as part;
+    ghost use Rattle.jack_core.specs.Texts.{the_subroutines};
+    ghost use Rattle.jack_machine.specs.Frames.{called, IsNext};
+    ghost use Rattle.jack_machine.specs.Whole.{IsCalled, IsSame, JackStep, Stands, jack_state};
+
+    /// The machine at the start of a program, where each subroutine is there that the program can come to: `do Sys.init();`, and
+    /// all words 0.
     pub fn new(alloc: Global, core: &'a Core) -> Result<Self, AllocError>
+        requires there { CallsAreThere (the_program core.now) }
         ensures start { IfOk result (λ j. jack_state j ≡ start (the_program core.now)) }
         ensures core { IfOk result (λ j. j.core.now ≡ core.now) }
         ensures moves { IfOk result (λ j. j.moves ≡ 0) }
@@ -89,6 +88,24 @@ impl<'a> Jack<'a> {
             moves: 0,
             alloc,
         })
+    }
+
+    // A new frame for the call that is next in the top frame, with so many arguments.
+    fn make_call(&mut self, g: u32, n: u16) -> Result<(), AllocError>
+        requires next { IsNext (part.Call n g) self.old.top }
+        requires reached { ∥ AreReached (the_program self.old.core.now) (called (the_subroutines self.old.core.now) self.old.top self.old.memory (the_stack self.old.below.items) g n).frames ∥₁ }
+        ensures done { OnOk result (IsCalled g n self.old self.new) }
+        ensures refused { OnErr result (IsSame self.old self.new) }
+        ensures core { self.new.core ≡ self.old.core }
+        ensures moves { self.new.moves ≡ self.old.moves }
+    {
+        let arguments = last_values(self.alloc, &self.top.text.front.values, n as usize)?;
+        let entered = enter(self.alloc, &self.core.subroutines, g, arguments)?;
+        let part = Part::Call {
+            arguments: n,
+            number: g,
+        };
+        call(&mut self.top, &mut self.below, part, entered)
     }
 
     /// One step of the meaning under a key. Where memory is wanted, and after any answer but `Acted`, the machine
@@ -111,7 +128,7 @@ impl<'a> Jack<'a> {
                 Ok(Moved::Acted)
             }
             Act::Calls(g, n) => {
-                make_call(self, g, n)?;
+                self.make_call(g, n)?;
                 self.moves += 1;
                 Ok(Moved::Acted)
             }
@@ -129,7 +146,9 @@ impl<'a> Jack<'a> {
 }
 
 impl<'a> Level for Jack<'a> {
+    ghost use Rattle.std.specs.Prelude.{false};
     ghost use Rattle.jack_core.specs.declared.program.Core.{Core};
+    ghost use Rattle.jack_machine.specs.Whole.{Stands, jack_point, jack_reply, jack_word};
 
     type Point = Point;
 

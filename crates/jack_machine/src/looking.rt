@@ -1,13 +1,12 @@
 //! What a part makes of its operands. Nothing is changed here.
 
 ghost use Rattle.std.specs.Prelude.{◌≡◌, ◌-◌, ◌≤◌, ◌<◌, ℕ, length, slice_index};
-ghost use Rattle.jack_meaning.specs.Expressions.{variable_of, View};
+ghost use Rattle.jack_meaning.specs.Expressions.{View};
 ghost use Rattle.jack_core.specs.Heights.{takes};
-ghost use Rattle.jack_core.specs.Reading.{the_variable};
 ghost use Rattle.jack_machine.specs.Looks.{the_view, Sees, IsOfCall, Loads};
 
 use crate::words::{operate, sign};
-use jack_core::{Part, Variable};
+use jack_core::Part;
 use word16::{HEAP, KEYBOARD};
 
 /// A frame's arguments and locals, and its `this`.
@@ -51,16 +50,6 @@ pub(crate) fn from_end(values: &[u16], k: usize) -> u16
     values[values.len() - k]
 }
 
-fn variable(variables: &Variables, memory: &Memory, x: Variable) -> u16
-    ensures { (key : ℕ) → result ≡ variable_of (the_view variables.now memory.now key) (the_variable x) }
-{
-    match x {
-        Variable::Argument(k) => word_in(&variables.arguments, k as usize),
-        Variable::Local(k) => word_in(&variables.locals, k as usize),
-        Variable::Static(k) => word_in(&memory.statics, k as usize),
-    }
-}
-
 // The word at an address of heap or screen, or the key.
 fn load(memory: &Memory, address: u16) -> Sight
     ensures { (v : View) → v.words ≡ memory.now.words.items → Loads v address result }
@@ -82,7 +71,9 @@ pub(crate) fn look_at(variables: &Variables, memory: &Memory, values: &[u16], pa
 {
     match part {
         Part::Literal(n) => Sight::Puts(n),
-        Part::Name(x) => Sight::Puts(variable(variables, memory, x)),
+        Part::Argument(k) => Sight::Puts(word_in(&variables.arguments, k as usize)),
+        Part::Local(k) => Sight::Puts(word_in(&variables.locals, k as usize)),
+        Part::Static(k) => Sight::Puts(word_in(&memory.statics, k as usize)),
         Part::This => Sight::Puts(variables.this),
         Part::Field(k) => load(memory, word16::add(variables.this, k)),
         Part::Unary(o) => Sight::Puts(sign(o, from_end(values, 1))),
@@ -92,6 +83,6 @@ pub(crate) fn look_at(variables: &Variables, memory: &Memory, values: &[u16], pa
             let index = from_end(values, 1);
             load(memory, word16::add(base, index))
         }
-        Part::Call(g, _) => Sight::Calls(g),
+        Part::Call { number, .. } => Sight::Calls(number),
     }
 }

@@ -10,18 +10,20 @@ use jack_core::{Expression, Part, Statement};
 use std::alloc::AllocError;
 
 /// How many operands a part has.
-pub(crate) fn operands(part: Part) -> usize
+pub(crate) fn operands(part: Part) -> u16
     ensures { result ≡ takes part }
 {
     match part {
         Part::Literal(_) => 0,
-        Part::Name(_) => 0,
+        Part::Argument(_) => 0,
+        Part::Local(_) => 0,
+        Part::Static(_) => 0,
         Part::This => 0,
         Part::Field(_) => 0,
         Part::Unary(_) => 1,
         Part::Binary(_) => 2,
         Part::Load => 2,
-        Part::Call(_, n) => n,
+        Part::Call { arguments, .. } => arguments,
     }
 }
 
@@ -77,7 +79,10 @@ pub(crate) fn next_part(front: &Front) -> Option<Part>
     match front.first {
         First::Start(init) => {
             if front.done == 0 {
-                Some(Part::Call(init, 0))
+                Some(Part::Call {
+                    arguments: 0,
+                    number: init,
+                })
             } else {
                 None
             }
@@ -97,7 +102,7 @@ pub(crate) fn put(front: &mut Front, part: Part, w: u16) -> Result<(), AllocErro
     // No memory holds more parts than can be counted.
     let done = front.done.checked_add(1).ok_or(AllocError)?;
     front.values.reserve(1)?;
-    let kept = front.values.len() - operands(part);
+    let kept = front.values.len() - operands(part) as usize;
     front.values.truncate(kept);
     front.values.push_reserved(w);
     front.done = done;

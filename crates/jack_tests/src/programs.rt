@@ -1,7 +1,12 @@
 //! Programs as rows of tables.
 
-ghost use Rattle.std.specs.Prelude.{◌≡◌, IfOk, Some};
+ghost use Rattle.std.specs.Prelude.{◌≡◌, ◌+◌, ℕ, IfOk, OnOk, Some, true};
 ghost use Rattle.jack_core.specs.Heights.{height, takes};
+ghost use Rattle.jack_core.specs.Reading.{the_expression};
+ghost use Rattle.jack_core.specs.Texts.{the_block, the_program, the_statement};
+ghost use Rattle.jack_meaning.specs.Linked.{calls, statement_calls, text_calls};
+ghost use Rattle.jack_machine.specs.Calls.{CallsAreThere};
+ghost use Rattle.jack_tests.specs.Inner.Called.{AreOfFour, AreSo, IsOfFour, OfFour};
 
 use jack_core::{Class, Core, Expression, Kind, Operator, Part, Statement, Subroutine, Variable};
 use outer_world::Name;
@@ -20,7 +25,7 @@ pub(super) enum Written<'a> {
 }
 
 /// The function Main.main: its number of locals, its first statements, its loops behind them, and the number of its last statement,
-/// which is `return;`. A method Main.get of two arguments returns a value, where it has one.
+/// which is `return;`. A method Main.get of two arguments returns a value.
 #[derive(Clone, Copy)]
 pub(super) struct Main<'a> {
     pub(super) locals: u32,
@@ -35,29 +40,51 @@ fn taken(part: Part) -> usize
     ensures { result ≡ takes part }
 {
     match part {
-        Part::Literal(_) | Part::Name(_) | Part::This | Part::Field(_) => 0,
+        Part::Literal(_)
+        | Part::Argument(_)
+        | Part::Local(_)
+        | Part::Static(_)
+        | Part::This
+        | Part::Field(_) => 0,
         Part::Unary(_) => 1,
         Part::Binary(_) | Part::Load => 2,
-        Part::Call(_, arguments) => arguments,
+        Part::Call { arguments, .. } => arguments as usize,
+    }
+}
+
+// Whether a part calls none but the four subroutines.
+fn is_of_four(part: Part) -> bool
+    ensures { result ≡ true → IsOfFour part }
+{
+    match part {
+        Part::Call { number, .. } => number < 4,
+        _ => true,
     }
 }
 
 // A part behind parts that leave so many values, and how many are left then.
-#[tactic(auto, using(crate::proofs::Heights::height_put))]
+#[tactic(auto, using(crate::proofs::Heights::height_put, crate::proofs::Calls::push_four))]
 fn add_part(all: &mut Vec<Part>, values: usize, part: Part) -> Result<usize, Fail>
-    requires { height 0 all.old.items ≡ Some values }
-    ensures { IfOk result (λ left. height 0 all.new.items ≡ Some left) }
+    requires values { height 0 all.old.items ≡ Some values }
+    requires calls { AreOfFour all.old.items }
+    ensures values { IfOk result (λ left. height 0 all.new.items ≡ Some left) }
+    ensures calls { OnOk result (AreOfFour all.new.items) }
 {
     let taken = taken(part);
     if taken > values || values == usize::MAX {
         return Err(Fail::from("a part without its values"));
+    }
+    if !is_of_four(part) {
+        return Err(Fail::from("a call of a fifth subroutine"));
     }
     all.push(part)?;
     Ok(values - taken + 1)
 }
 
 // The expression of these parts, in the order in which they become values, where each part finds its own and one value is left.
-fn expression(alloc: Global, parts: &[Part]) -> Result<Expression, Fail> {
+fn expression(alloc: Global, parts: &[Part]) -> Result<Expression, Fail>
+    ensures { IfOk result (λ e. OfFour (calls (the_expression e))) }
+{
     let mut all = Vec::new(alloc);
     let mut values = 0usize;
     for part in parts {
@@ -69,7 +96,9 @@ fn expression(alloc: Global, parts: &[Part]) -> Result<Expression, Fail> {
     Ok(Expression { parts: all })
 }
 
-fn statement(alloc: Global, written: Written<'_>) -> Result<Statement, Fail> {
+fn statement(alloc: Global, written: Written<'_>) -> Result<Statement, Fail>
+    ensures { IfOk result (λ s. OfFour (statement_calls (the_statement s))) }
+{
     match written {
         Written::Let(number, k, value) => Ok(Statement::Let {
             number,
@@ -93,7 +122,10 @@ fn statement(alloc: Global, written: Written<'_>) -> Result<Statement, Fail> {
     }
 }
 
-fn statements(alloc: Global, written: &[Written<'_>]) -> Result<Vec<Statement>, Fail> {
+#[tactic(auto, using(crate::proofs::Calls::none_four))]
+fn statements(alloc: Global, written: &[Written<'_>]) -> Result<Vec<Statement>, Fail>
+    ensures { IfOk result (λ ss. OfFour (text_calls (the_block ss.items))) }
+{
     let mut all = Vec::new(alloc);
     for row in written {
         let statement = statement(alloc, *row)?;
@@ -104,7 +136,9 @@ fn statements(alloc: Global, written: &[Written<'_>]) -> Result<Vec<Statement>, 
     Ok(all)
 }
 
-fn main_body(alloc: Global, main: &Main<'_>) -> Result<Vec<Statement>, Fail> {
+fn main_body(alloc: Global, main: &Main<'_>) -> Result<Vec<Statement>, Fail>
+    ensures { IfOk result (λ ss. OfFour (text_calls (the_block ss.items))) }
+{
     let mut all = statements(alloc, main.body)?;
     for (number, condition, body) in main.turns {
         let turn = Statement::While {
@@ -123,14 +157,20 @@ fn main_body(alloc: Global, main: &Main<'_>) -> Result<Vec<Statement>, Fail> {
     Ok(all)
 }
 
+// One more subroutine, with so many arguments and locals.
+#[tactic(auto, using(crate::proofs::Calls::so_more))]
 fn add_subroutine(
     alloc: Global,
     all: &mut Vec<Subroutine>,
     name: &str,
     kind: Kind,
-    (arguments, locals): (u32, u32),
+    counts: (u32, u32),
     body: Vec<Statement>,
-) -> Result<(), AllocError> {
+) -> Result<(), AllocError>
+    requires { OfFour (text_calls (the_block body.items)) }
+    ensures { (n : ℕ) → AreSo n all.old.items → OnOk result (AreSo (n + 1) all.new.items) }
+{
+    let (arguments, locals) = counts;
     all.push(Subroutine {
         name: Name::new(alloc, name)?,
         kind,
@@ -144,12 +184,20 @@ fn add_subroutine(
 
 // `do Main.main(); return;`
 const INIT: &[Written<'static>] = &[
-    Written::Do(1, &[Part::Call(2, 0)]),
+    Written::Do(
+        1,
+        &[Part::Call {
+            arguments: 0,
+            number: 2,
+        }],
+    ),
     Written::Return(2, &[Part::Literal(0)]),
 ];
 
 // The subroutines, each at its number.
-fn subroutines(alloc: Global, main: &Main<'_>) -> Result<Vec<Subroutine>, Fail> {
+fn subroutines(alloc: Global, main: &Main<'_>) -> Result<Vec<Subroutine>, Fail>
+    ensures { IfOk result (λ subs. AreSo 4 subs.items) }
+{
     let mut all = Vec::new(alloc);
     add_subroutine(
         alloc,
@@ -170,10 +218,8 @@ fn subroutines(alloc: Global, main: &Main<'_>) -> Result<Vec<Subroutine>, Fail> 
         (0, main.locals),
         body,
     )?;
-    if !main.method.is_empty() {
-        let get = statements(alloc, &[Written::Return(1, main.method)])?;
-        add_subroutine(alloc, &mut all, "Main.get", Kind::Method, (2, 0), get)?;
-    }
+    let get = statements(alloc, &[Written::Return(1, main.method)])?;
+    add_subroutine(alloc, &mut all, "Main.get", Kind::Method, (2, 0), get)?;
     Ok(all)
 }
 
@@ -190,7 +236,9 @@ fn classes(alloc: Global) -> Result<Vec<Class>, AllocError> {
 }
 
 /// The program of `Main`, and of `Sys.init`, which calls it.
-pub(super) fn core(alloc: Global, main: &Main<'_>) -> Result<Core, Fail> {
+pub(super) fn core(alloc: Global, main: &Main<'_>) -> Result<Core, Fail>
+    ensures { IfOk result (λ core. CallsAreThere (the_program core)) }
+{
     Ok(Core {
         classes: classes(alloc)?,
         subroutines: subroutines(alloc, main)?,

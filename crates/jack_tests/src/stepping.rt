@@ -3,7 +3,7 @@
 ghost use Rattle.std.specs.Prelude.{◌≡◌, ◌+◌, ◌%◌, ℕ};
 
 use crate::programs::{Main, Written, core, left_nested, right_nested};
-use jack_core::{Operator, Part, Sign, Variable};
+use jack_core::{Operator, Part, Sign};
 use jack_machine::Jack;
 use machine_io::{End, Keyboard, Level, Stray, drive};
 use outer_world::Point;
@@ -38,13 +38,16 @@ struct Case<'a> {
     looks: &'a [Look<'a>],
 }
 
-// s and i
-const S: &[Part] = &[Part::Name(Variable::Local(0))];
+// a method that returns 0
+const ZERO: &[Part] = &[Part::Literal(0)];
 
-const I: &[Part] = &[Part::Name(Variable::Local(1))];
+// s and i
+const S: &[Part] = &[Part::Local(0)];
+
+const I: &[Part] = &[Part::Local(1)];
 
 // i[0]
-const FIRST_OF_I: &[Part] = &[Part::Name(Variable::Local(1)), Part::Literal(0), Part::Load];
+const FIRST_OF_I: &[Part] = &[Part::Local(1), Part::Literal(0), Part::Load];
 
 const CASES: &[Case<'static>] = &[
     // let s = 16384; let s[0] = 1; return;
@@ -57,7 +60,7 @@ const CASES: &[Case<'static>] = &[
             ],
             turns: &[],
             last: 3,
-            method: &[],
+            method: ZERO,
         },
         looks: &[
             Look {
@@ -93,7 +96,7 @@ const CASES: &[Case<'static>] = &[
             ],
             turns: &[],
             last: 3,
-            method: &[],
+            method: ZERO,
         },
         looks: &[
             Look {
@@ -124,20 +127,12 @@ const CASES: &[Case<'static>] = &[
                 3,
                 I,
                 &[
-                    Written::Store(
-                        4,
-                        S,
-                        I,
-                        &[
-                            Part::Name(Variable::Local(1)),
-                            Part::Unary(Sign::Complement),
-                        ],
-                    ),
+                    Written::Store(4, S, I, &[Part::Local(1), Part::Unary(Sign::Complement)]),
                     Written::Let(
                         5,
                         1,
                         &[
-                            Part::Name(Variable::Local(1)),
+                            Part::Local(1),
                             Part::Literal(1),
                             Part::Binary(Operator::Subtract),
                         ],
@@ -145,7 +140,7 @@ const CASES: &[Case<'static>] = &[
                 ],
             )],
             last: 6,
-            method: &[],
+            method: ZERO,
         },
         looks: &[Look {
             bound: 100,
@@ -167,7 +162,7 @@ const CASES: &[Case<'static>] = &[
             ],
             turns: &[],
             last: 5,
-            method: &[],
+            method: ZERO,
         },
         looks: &[Look {
             bound: 100,
@@ -191,7 +186,10 @@ const CASES: &[Case<'static>] = &[
                         Part::Literal(1),
                         Part::Literal(100),
                         Part::Literal(58),
-                        Part::Call(3, 2),
+                        Part::Call {
+                            arguments: 2,
+                            number: 3,
+                        },
                         Part::Binary(Operator::Subtract),
                     ],
                 ),
@@ -200,7 +198,7 @@ const CASES: &[Case<'static>] = &[
             last: 3,
             method: &[
                 Part::This,
-                Part::Name(Variable::Argument(1)),
+                Part::Argument(1),
                 Part::Binary(Operator::Subtract),
             ],
         },
@@ -262,7 +260,7 @@ fn is_deep(
         body: &body,
         turns: &[],
         last: 3,
-        method: &[],
+        method: ZERO,
     };
     let look = Look {
         bound: 200_000,

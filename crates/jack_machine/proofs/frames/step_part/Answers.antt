@@ -29,10 +29,10 @@ pub returns-in-Calls-clause-done : goal.returns-in-Calls-clause-done
 returns-in-Calls-clause-done c subs below =
     let f = c.args.top.now in
     let m = c.args.memory.now in
-    let is = (rw c.in-Calls.is at c.look.ensures.call) ∙ ap (part.Call c.in-Calls.g) (sym c.operands.ensures) in
+    let is = (rw c.in-Calls.is at c.look.ensures.call) ∙ ap (λ n. part.Call n c.in-Calls.g) (sym c.operands.ensures) in
     let next = subst (λ p. IsNext p f) is c.requires in
     let sees = subst (λ p. Sees (the_view f.variables m c.args.key) p f.text.front.values.items (Sight.Calls c.in-Calls.g)) is (rw c.in-Calls.is at (c.look.ensures.sees c.args.key)) in
-    (top_moves subs below c.args.key f m (part.Call c.in-Calls.g c.operands.result) (Sight.Calls c.in-Calls.g) next sees, next, (refl, refl))
+    (top_moves subs below c.args.key f m (part.Call c.operands.result c.in-Calls.g) (Sight.Calls c.in-Calls.g) next sees, next, (refl, refl))
 
 pub returns-in-Strays-clause-done : goal.returns-in-Strays-clause-done
 returns-in-Strays-clause-done c subs below =

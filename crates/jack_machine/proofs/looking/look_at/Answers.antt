@@ -18,7 +18,7 @@ returns-in-Load-clause-sees c key =
     rw c.in-Load.is (sees_load (the_view c.args.variables.now c.args.memory.now key) c.args.values.now _ c.load-in-Load.result two a (c.load-in-Load.ensures (the_view c.args.variables.now c.args.memory.now key) refl))
 
 pub returns-in-Call-clause-sees : goal.returns-in-Call-clause-sees
-returns-in-Call-clause-sees c key = rw c.in-Call.is (sees_call (the_view c.args.variables.now c.args.memory.now key) c.in-Call.g c.in-Call.field-1 c.args.values.now)
+returns-in-Call-clause-sees c key = rw c.in-Call.is (sees_call (the_view c.args.variables.now c.args.memory.now key) c.in-Call.number c.in-Call.arguments c.args.values.now)
 
 pub returns-in-Field-clause-call : goal.returns-in-Field-clause-call
 returns-in-Field-clause-call c = no_call c.args.part c.load.result (c.load.ensures (the_view c.args.variables.now c.args.memory.now 0) refl).moves
