@@ -4,7 +4,7 @@ use Rattle.std.specs.Prelude.{nat_lt, IfOk, IfErr}
 use Rattle.std.proofs.lemmas.Bool.Decides.{nat_tests}
 use Rattle.scan_text.specs.declared.Place.{Place}
 use Rattle.hack_asm.specs.Faults.{Wrong, TooLarge, TooManyVariables}
-use Rattle.hack_asm.specs.Lines.{Line, number, symbol, label, address, compute}
+use Rattle.hack_asm.specs.Trees.{Line, number, symbol, label, address, compute}
 use Rattle.hack_asm.specs.Meaning.{Means, IsRefusal}
 use Rattle.hack_asm.specs.declared.fault.AsmFault.{AsmFault}
 use Rattle.hack_asm.specs.Program.{Table, first_past, if_near, labelled, labels, size, variables, words}

@@ -3,7 +3,7 @@ use Rattle.std.proofs.Common.{◌≡◌, ◌⊎◌, ◌++◌, inl, inr, ℕ, fal
 use Rattle.outer_world.specs.Faults.{Rose}
 use Rattle.outer_world.specs.Files.{Files}
 use Rattle.outer_world.specs.Refusals.{Message}
-use Rattle.key_script.specs.Script.{ReadingLaw as KeyLaw}
+use Rattle.key_script.specs.Grammar.{ReadingLaw as KeyLaw}
 use Rattle.vm_tree.specs.declared.program.File.{File}
 use Rattle.vm_link.specs.Links.{Links}
 use Rattle.vm_link.specs.declared.fault.LinkFault.TheVariants.{TooManyStatics}

@@ -11,7 +11,7 @@ use Rattle.hack_asm.specs.HackText.{ReadingLaw as ImageLaw}
 use Rattle.machine_io.specs.Words.{words_text}
 use Rattle.vm_tree.specs.Printed.{program_text}
 use Rattle.vm_tree.specs.declared.program.File.{File}
-use Rattle.vm_parser.specs.Files.{ReadingLaw as VmLaw, Spells as SpellsProgram}
+use Rattle.vm_parser.specs.Trees.{ReadingLaw as VmLaw, Spells as SpellsProgram}
 use Rattle.vm_link.specs.Links.{Links}
 use Rattle.vm_link.specs.Told.{link_told}
 use Rattle.vm_link.specs.declared.fault.LinkFault.{LinkFault}
@@ -25,7 +25,7 @@ use Rattle.jack_tree.specs.Syntax.{Class}
 use Rattle.hdl_tree.specs.declared.tree.Chip.{Chip}
 use Rattle.hdl_tree.specs.declared.library.Entry.{Entry}
 use Rattle.hdl_parser.specs.Printed.{chip_text}
-use Rattle.hdl_parser.specs.Whole.{ReadingLaw as ChipLaw, Spells as SpellsChip}
+use Rattle.hdl_parser.specs.Spells.{ReadingLaw as ChipLaw, Spells as SpellsChip}
 use Rattle.jack_parser.specs.PrintedClass.{printed}
 use Rattle.jack_parser.specs.Spelled.{ClassLaw, SpellsClass}
 use Rattle.command_line.specs.declared.request.SourceKind.TheVariants as kinds

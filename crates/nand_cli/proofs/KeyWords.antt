@@ -9,7 +9,7 @@ use Rattle.key_script.specs.declared.lines.Line.{Line}
 use Rattle.key_script.specs.declared.token.Kind.{Kind}
 use Rattle.key_script.specs.declared.token.Token.{Token}
 use Rattle.key_script.specs.Codes.{code_at, code_of, has_come}
-use Rattle.key_script.specs.Script.{KeyTree, Part, Spells, check_code, lines, lines_tree, number, script}
+use Rattle.key_script.specs.Grammar.{KeyTree, Part, Spells, check_code, lines, lines_tree, number, script}
 use Rattle.key_script.specs.Tokens.{finish}
 use Rattle.layers.specs.System.{IsKey}
 use Rattle.outer_world.specs.Files.{Files}

@@ -12,16 +12,17 @@ use Rattle.hack_asm.specs.Told.{asm_told}
 use Rattle.hack_asm.specs.declared.fault.AsmFault.{AsmFault}
 use Rattle.hack_asm.specs.declared.fault.AsmFault.TheVariants as asm
 use Rattle.vm_tree.specs.declared.program.File.{File}
-use Rattle.vm_parser.specs.Files.{ReadingLaw as VmLaw, Spells as SpellsProgram, Refuses as RefusesProgram}
+use Rattle.vm_parser.specs.Trees.{ReadingLaw as VmLaw, Spells as SpellsProgram, Refuses as RefusesProgram}
 use Rattle.hdl_tree.specs.declared.tree.Chip.{Chip}
-use Rattle.hdl_parser.specs.Whole.{ReadingLaw as ChipLaw, Refuses as RefusesChip, Spells as SpellsChip}
+use Rattle.hdl_parser.specs.Spells.{ReadingLaw as ChipLaw, Refuses as RefusesChip, Spells as SpellsChip}
 use Rattle.jack_tree.specs.Syntax.{Class}
 use Rattle.jack_tree.specs.Seen.{the_class, the_file}
 use Rattle.jack_parser.specs.Spelled as spelled
 use Rattle.jack_parser.specs.Spelled.{ClassLaw}
-use Rattle.jack_parser.specs.Whole.{Refuses as RefusesTree}
+use Rattle.jack_parser.specs.Spells.{Refuses as RefusesTree}
 use Rattle.jack_os.specs.System.{SpellsClass}
-use Rattle.key_script.specs.Script.{ReadingLaw as KeyLaw, Refuses as RefusesLines, Spells as SpellsLines}
+use Rattle.key_script.specs.Faults.{key_told}
+use Rattle.key_script.specs.Grammar.{ReadingLaw as KeyLaw, Spells as SpellsLines}
 use Rattle.key_script.specs.declared.lines.Line.{Line}
 use Rattle.source_files.proofs.Once.{ReadsOnce}
 use Rattle.source_files.specs.Folder.{stem_of}
@@ -138,6 +139,6 @@ chip_once law = record {
 pub keys_once : KeyLaw → ReadsOnce (λ (name text : List ℕ) (keys : List Line). SpellsLines text keys) RefusesKeys (λ (keys : List Line). keys)
 keys_once law = record {
   one = λ name text a b h k. (law text).one a b h k;
-  one_told = λ text s t h k. one_told (SpellsLines text) RefusesLines text s t (law text) h k;
+  one_told = λ text s t h k. h.2 ∙ ap key_told ((law text).one_fault h.0 k.0 h.1 k.1) ∙ sym k.2;
   not_both = λ name text a t h k. (law text).not_both a k.0 h k.1;
 }

@@ -8,7 +8,7 @@ use Rattle.outer_world.specs.Files.{Files, path_in}
 use Rattle.outer_world.specs.Refusals.{Message, message, told_line}
 use Rattle.outer_world.specs.declared.point.Point.{Point}
 use Rattle.key_script.specs.Codes.{code_at}
-use Rattle.key_script.specs.Script.{ReadingLaw as KeyLaw, Spells as SpellsLines}
+use Rattle.key_script.specs.Grammar.{ReadingLaw as KeyLaw, Spells as SpellsLines}
 use Rattle.key_script.specs.declared.lines.Line.{Line}
 use Rattle.layers.specs.System.{System}
 use Rattle.layers.specs.Trace.{point_at, steps}
@@ -36,7 +36,7 @@ use Rattle.jack_tree.specs.declared.tree.Class.{Class}
 use Rattle.jack_tree.specs.Syntax.{ClassFile}
 use Rattle.jack_tree.specs.Seen.{the_class, the_file}
 use Rattle.jack_parser.specs.Spelled.{ClassLaw}
-use Rattle.jack_parser.specs.Whole.{Refuses as RefusesTree}
+use Rattle.jack_parser.specs.Spells.{Refuses as RefusesTree}
 use Rattle.jack_names.specs.Faults.{Told, fault_told}
 use Rattle.jack_names.specs.Messages.{kind_word}
 use Rattle.jack_names.specs.NameFaults.{IsWellNamed}

@@ -8,11 +8,13 @@ use Rattle.hack_asm.specs.Meaning.{Means, IsRefusal as IsNoAssembly}
 use Rattle.hack_asm.specs.HackText.{Holds, IsRefusal as IsNoImage}
 use Rattle.hack_asm.specs.Told.{asm_told}
 use Rattle.hack_asm.specs.declared.fault.AsmFault.{AsmFault}
-use Rattle.key_script.specs.Script.{Refuses as RefusesLines}
-use Rattle.hdl_parser.specs.Whole.{Refuses as RefusesChip}
-use Rattle.jack_parser.specs.Whole.{Refuses as RefusesTree}
+use Rattle.key_script.specs.Faults.{key_told}
+use Rattle.key_script.specs.Grammar.{Refuses as RefusesLines}
+use Rattle.key_script.specs.declared.fault.KeyFault.{KeyFault}
+use Rattle.hdl_parser.specs.Spells.{Refuses as RefusesChip}
+use Rattle.jack_parser.specs.Spells.{Refuses as RefusesTree}
 use Rattle.vm_tree.specs.declared.program.File.{File}
-use Rattle.vm_parser.specs.Files.{Spells as SpellsProgram, Refuses as RefusesProgram}
+use Rattle.vm_parser.specs.Trees.{Spells as SpellsProgram, Refuses as RefusesProgram}
 use Rattle.nand_cli.specs.declared.languages.Form.{Form}
 use Rattle.nand_cli.specs.declared.languages.Form.TheVariants.{Assembly, Image}
 
@@ -57,4 +59,4 @@ RefusesHdl text told = IsTold RefusesChip text told
 -- ---- key scripts
 
 abbrev pub RefusesKeys : List ℕ → Message → Type 0
-RefusesKeys text told = IsTold RefusesLines text told
+RefusesKeys text told = (fault : KeyFault) × RefusesLines text fault × (told ≡ key_told fault)

@@ -3,9 +3,9 @@ ghost use Rattle.std.specs.Prelude.{◌≡◌, ℕ, List};
 ghost use Rattle.nand_cli.specs.Inner.Parts.{ReadsWords, TellsText};
 ghost use Rattle.nand_cli.specs.Languages.{RefusesClass, RefusesHdl, RefusesKeys, RefusesVm, RefusesWords, SpellsVmFile, SpellsWords};
 ghost use Rattle.nand_cli.specs.Inner.Limits.{class_limited, hdl_limited, keys_limited, vm_limited, words_limited};
-ghost use Rattle.hdl_parser.specs.Whole.{Spells as SpellsChip};
+ghost use Rattle.hdl_parser.specs.Spells.{Spells as SpellsChip};
 ghost use Rattle.jack_os.specs.System.{SpellsClass};
-ghost use Rattle.key_script.specs.Script.{Spells as SpellsLines};
+ghost use Rattle.key_script.specs.Grammar.{Spells as SpellsLines};
 
 use grammar::ReadError;
 use hack_asm::{AsmFault, assemble, read_hack};
@@ -13,7 +13,7 @@ use hdl_parser::parse;
 use hdl_tree::Chip;
 use jack_parser::parse_class;
 use jack_tree::Class;
-use key_script::{Keys, read_keys};
+use key_script::{KeyError, Keys, read_keys};
 use outer_world::Name;
 use source_files::{Language, TextError, stem};
 use std::alloc::Global;
@@ -111,7 +111,8 @@ impl Language for KeyText {
     fn read(&self, alloc: Global, _name: &str, text: &[u8]) -> Result<Keys, TextError> {
         match read_keys(alloc, text) {
             Ok(keys) => Ok(keys),
-            Err(error) => Err(not_read(error)),
+            Err(KeyError::Fault(fault)) => Err(TextError::Refused(fault.told())),
+            Err(KeyError::Memory) => Err(TextError::Memory),
         }
     }
 

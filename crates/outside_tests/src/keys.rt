@@ -1,6 +1,5 @@
 //! Key scripts: the codes at moments, and the faults of texts that are none.
-use grammar::ReadError;
-use key_script::{Keys, read_keys};
+use key_script::{KeyError, Keys, read_keys};
 use std::alloc::{AllocError, Global};
 use std::process::Abort;
 use std::test::Fail;
@@ -48,11 +47,11 @@ const FAULTS: &[(&str, &str)] = &[
 ];
 
 // The fault of a text, or what there is in its place.
-fn fault_of(alloc: Global, read: &Result<Keys, ReadError>) -> Result<String, AllocError> {
+fn fault_of(alloc: Global, read: &Result<Keys, KeyError>) -> Result<String, AllocError> {
     match read {
         Ok(_) => String::from_str(alloc, "a script"),
-        Err(ReadError::Fault(fault)) => Ok(format!(in alloc; "{fault}")?),
-        Err(ReadError::Memory) => String::from_str(alloc, "memory"),
+        Err(KeyError::Fault(fault)) => Ok(format!(in alloc; "{fault}")?),
+        Err(KeyError::Memory) => String::from_str(alloc, "memory"),
     }
 }
 

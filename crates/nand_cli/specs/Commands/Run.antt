@@ -3,7 +3,7 @@ use Rattle.std.specs.Prelude.{◌≡◌, ◌<◌, ◌+◌, ℕ, zero, suc, List,
 use Rattle.outer_world.specs.Files.{Files, LacksFile}
 use Rattle.source_files.specs.Sources.{IsFaulty, SpellsAt}
 use Rattle.key_script.specs.Codes.{code_at}
-use Rattle.key_script.specs.Script.{Spells}
+use Rattle.key_script.specs.Grammar.{Spells}
 use Rattle.key_script.specs.declared.lines.Line.{Line}
 use Rattle.layers.specs.Headline.{Agrees}
 use Rattle.layers.specs.System.{System, Tame}

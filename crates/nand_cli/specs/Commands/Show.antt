@@ -6,10 +6,10 @@ use Rattle.outer_world.specs.Refusals.{Message}
 use Rattle.source_files.specs.Sources.{IsFaulty, SpellsAt}
 use Rattle.vm_tree.specs.Printed.{program_text}
 use Rattle.vm_tree.specs.declared.program.File.{File}
-use Rattle.vm_parser.specs.Files.{Spells as SpellsProgram}
+use Rattle.vm_parser.specs.Trees.{Spells as SpellsProgram}
 use Rattle.hdl_tree.specs.declared.tree.Chip.{Chip}
 use Rattle.hdl_parser.specs.Printed.{chip_text}
-use Rattle.hdl_parser.specs.Whole.{Spells as SpellsChip}
+use Rattle.hdl_parser.specs.Spells.{Spells as SpellsChip}
 use Rattle.jack_tree.specs.Syntax.{Class}
 use Rattle.jack_parser.specs.Spelled.{SpellsClass}
 use Rattle.jack_parser.specs.PrintedClass.{printed}

@@ -9,6 +9,7 @@ use Rattle.hack_asm.specs.Faults.{Range}
 use Rattle.hack_asm.specs.Meaning.{Means}
 use Rattle.hack_asm.specs.HackText.{Holds}
 use Rattle.hack_asm.specs.declared.fault.AsmFault.TheVariants as asm
+use Rattle.key_script.specs.declared.fault.KeyFault.TheVariants as keys
 use Rattle.source_files.specs.Sources.{past_limit}
 use Rattle.nand_cli.specs.Languages.{RefusesClass, RefusesHdl, RefusesKeys, RefusesVm, RefusesWords}
 use Rattle.nand_cli.specs.declared.languages.Form.{Form}
@@ -31,7 +32,7 @@ pub hdl_limited : (text : List ℕ) → 1048576 < length text → RefusesHdl tex
 hdl_limited text long = (fault.Range nowhere 1048577, inl (cut_long text (fault.Range nowhere 1048577) _ long), refl)
 
 pub keys_limited : (text : List ℕ) → 1048576 < length text → RefusesKeys text past_limit
-keys_limited text long = (fault.Range nowhere 1048577, inl (cut_long text (fault.Range nowhere 1048577) _ long), refl)
+keys_limited text long = (keys.Range nowhere 1048577, (fault.Range nowhere 1048577, inl (cut_long text (fault.Range nowhere 1048577) _ long), refl), refl)
 
 words_wrong : (text : List ℕ) → 1048576 < length text → Means text (Err (Range nowhere 1048577))
 words_wrong text long = inr (fault.Range nowhere 1048577, inl (cut_long text (fault.Range nowhere 1048577) _ long), refl)

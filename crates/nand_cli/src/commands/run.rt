@@ -50,6 +50,7 @@ fn report_jack<O: Sink>(
     show: Show,
     out: &mut O,
 ) -> Result<(), Failure>
+    requires { IsResolvedCore core.now }
     ensures reports { Reports (IsReport (RunLevel.Jack show) core.now (code_at keys.now) cycles) (O.written out.old) (O.written out.new) result }
     ensures counts { CountsReport (O.faults out.old) (O.faults out.new) result }
 {

@@ -1,5 +1,6 @@
 use Rattle.std.proofs.Common.{◌≡◌, sym, subst, ◌∙◌}
 use Rattle.jack_core.specs.Texts.{names_of}
+use Rattle.jack_compiler.proofs.Calls.{calls_are_there}
 use Rattle.jack_machine.specs.Whole.{Stands}
 use Rattle.key_script.specs.Codes.{code_at}
 use Rattle.machine_io.specs.Driven.{IsDriven}
@@ -10,6 +11,9 @@ use Rattle.nand_cli.specs.Inner.Reports.{jack_text}
 use Rattle.nand_cli.proofs.Reporting.{reported, reported_as}
 use Rattle.nand_cli.proofs.Stepping.{ran}
 use Rattle.nand_cli.proofs.commands.run.report_jack.Goals as goal
+
+pub new-requires : goal.new-requires
+new-requires g c = record { there = calls_are_there c.args.core.now c.requires }
 
 pub returns-clause-reports : goal.returns-clause-reports
 returns-clause-reports g c =

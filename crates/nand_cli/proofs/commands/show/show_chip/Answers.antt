@@ -3,7 +3,7 @@ use Rattle.std.proofs.lemmas.Result.{err_from_is_err_and}
 use Rattle.outer_world.specs.Files.{LacksFile}
 use Rattle.source_files.specs.Sources.{IsFaulty, SpellsAt}
 use Rattle.hdl_tree.specs.declared.tree.Chip.{Chip}
-use Rattle.hdl_parser.specs.Whole.{Spells as SpellsChip}
+use Rattle.hdl_parser.specs.Spells.{Spells as SpellsChip}
 use Rattle.hdl_parser.specs.Printed.{chip_text}
 use Rattle.command_line.specs.Line.{show}
 use Rattle.command_line.specs.declared.request.SourceKind.TheVariants as kinds

@@ -1,4 +1,4 @@
-use Rattle.hdl_parser.specs.Whole.{Refuses}
+use Rattle.hdl_parser.specs.Spells.{Refuses}
 use Rattle.nand_cli.proofs.Reading.{why}
 use Rattle.nand_cli.proofs.languages.HdlTextLanguage.read.Goals as goal
 

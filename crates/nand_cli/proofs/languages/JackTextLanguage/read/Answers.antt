@@ -1,5 +1,5 @@
 use Rattle.std.proofs.Common.{◌∙◌}
-use Rattle.jack_parser.specs.Whole.{Refuses}
+use Rattle.jack_parser.specs.Spells.{Refuses}
 use Rattle.nand_cli.proofs.Reading.{why}
 use Rattle.nand_cli.proofs.languages.JackTextLanguage.read.Goals as goal
 

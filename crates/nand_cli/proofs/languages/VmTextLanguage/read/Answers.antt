@@ -1,5 +1,5 @@
 use Rattle.std.proofs.Common.{◌∷◌, [], ◌∙◌, List, ℕ, subst}
-use Rattle.vm_parser.specs.Files.{Refuses, Spells}
+use Rattle.vm_parser.specs.Trees.{Refuses, Spells}
 use Rattle.nand_cli.proofs.Reading.{why}
 use Rattle.nand_cli.proofs.languages.VmTextLanguage.read.Goals as goal
 
