@@ -14,6 +14,9 @@ pub mod Alike
 pub mod Endings
 pub mod Spaced
 pub mod Longest
+pub mod Bytes
+pub mod InLine
+pub mod Blanks
 pub mod Shown
 pub mod Past
 pub mod LinePieces

@@ -5,4 +5,6 @@ pub mod Texts
 pub mod Leaves
 pub mod Faults
 pub mod Lines
+pub mod Between
+pub mod Longest
 pub mod Printed

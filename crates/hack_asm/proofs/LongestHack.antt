@@ -1,36 +1,37 @@
--- Each token of a `.hack` text is the longest that begins where it begins.
+-- Each token of a `.hack` text is the longest that begins where it begins, and nothing is passed over.
 use Rattle.std.proofs.Common.{◌≡◌, ℕ, true, cond, List, [], ◌∷◌, ◌++◌, length, sym, subst, arith, eqb-true}
 use Rattle.std.specs.Prelude.{◌==◌, false}
-use Rattle.grammar.specs.Cutting.{Piece, Token, CutsLongest, MissesNone}
+use Rattle.grammar.specs.Cutting.{Piece, Token}
 use Rattle.grammar.specs.Lines.{line_end_piece}
+use Rattle.grammar.specs.Longest.{IsLongestMatch, HasNoLimit}
 use Rattle.grammar.proofs.Longest as longest
 use Rattle.grammar.proofs.Longest.{IsCut, Reaches, cut_if, byte_is_cut, end_is_cut}
 use Rattle.hack_asm.specs.declared.hack_tokens.Kind.TheVariants.{Digit}
 use Rattle.hack_asm.specs.HackTokens.{Word, made, line_end_token, piece}
-use Rattle.hack_asm.specs.OneHackToken.{IsOneHack, Zero, One, ALineFeed, AReturnAndLineFeed}
+use Rattle.hack_asm.specs.OneHackToken.{IsOneHack, Zero, One, ALineFeed, AReturnAndLineFeed, HasNoneBetween}
 
 abbrev one_or : ℕ → List ℕ → Piece Word
 one_or b all = cond (b == 49) (Token (made (Digit true)) 0) (line_end_piece line_end_token all)
 
-byte_cut : (b c : ℕ) (bs : List ℕ) → (b == c) ≡ true → IsOneHack (c ∷ []) → IsCut IsOneHack (λ l. ⊥) (b ∷ bs) (Token (made (Digit true)) 0)
-byte_cut b c bs e one = byte_is_cut IsOneHack b bs (subst (λ (k : ℕ). IsOneHack (k ∷ [])) (sym (eqb-true b c e)) one)
+abbrev IsCutHere : List ℕ → Piece Word → Type 0
+IsCutHere = IsCut IsOneHack HasNoneBetween HasNoLimit
 
-cut : (bs : List ℕ) → IsCut IsOneHack (λ l. ⊥) bs (piece bs)
+byte_cut : (b c : ℕ) (bs : List ℕ) → (b == c) ≡ true → IsOneHack (c ∷ []) bs → IsCutHere (b ∷ bs) (Token (made (Digit true)) 0)
+byte_cut b c bs e one = byte_is_cut IsOneHack b bs (subst (λ (k : ℕ). IsOneHack (k ∷ []) bs) (sym (eqb-true b c e)) one)
+
+cut : (bs : List ℕ) → IsCutHere bs (piece bs)
 cut [] = tt
 cut (b ∷ bs) =
     let all = b ∷ bs in
-    cut_if IsOneHack (λ l. ⊥) all (b == 48) (Token (made (Digit false)) 0) (one_or b all) (λ e. byte_cut b 48 bs e Zero)
-    (λ e. cut_if IsOneHack (λ l. ⊥) all (b == 49) (Token (made (Digit true)) 0) (line_end_piece line_end_token all) (λ e. byte_cut b 49 bs e One)
-    (λ e. end_is_cut Word IsOneHack (λ l. ⊥) line_end_token ALineFeed AReturnAndLineFeed all))
+    cut_if IsOneHack HasNoneBetween HasNoLimit all (b == 48) (Token (made (Digit false)) 0) (one_or b all) (λ e. byte_cut b 48 bs e Zero)
+    (λ e. cut_if IsOneHack HasNoneBetween HasNoLimit all (b == 49) (Token (made (Digit true)) 0) (line_end_piece line_end_token all) (λ e. byte_cut b 49 bs e One)
+    (λ e. end_is_cut Word IsOneHack HasNoneBetween HasNoLimit line_end_token (λ behind. ALineFeed) (λ behind. AReturnAndLineFeed) all))
 
-reaches : (xs rest : List ℕ) → IsOneHack xs → Reaches (length xs) (piece (xs ++ rest))
+reaches : (xs rest : List ℕ) → IsOneHack xs rest → Reaches (length xs) (piece (xs ++ rest))
 reaches xs rest Zero = omega arith
 reaches xs rest One = omega arith
 reaches xs rest ALineFeed = omega arith
 reaches xs rest AReturnAndLineFeed = omega arith
 
-pub cuts_longest : CutsLongest IsOneHack piece
-cuts_longest = longest.cuts_longest IsOneHack (λ l. ⊥) piece cut reaches
-
-pub misses_none : MissesNone IsOneHack (λ l. ⊥) piece
-misses_none = longest.misses_none IsOneHack (λ l. ⊥) piece cut reaches
+pub longest_match : IsLongestMatch IsOneHack HasNoneBetween HasNoLimit piece
+longest_match = longest.longest_match IsOneHack HasNoneBetween HasNoLimit piece cut reaches (λ b bs behind none. absurd none) (λ bs f none. absurd none)

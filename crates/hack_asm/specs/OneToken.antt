@@ -1,12 +1,15 @@
 -- What one token of an assembly text is, without cutting (book, chapter 6): a symbol, a number, a sign, or a line end.
-use Rattle.std.specs.Prelude.{◌≡◌, ℕ, true, List, [], ◌∷◌}
-use Rattle.std.specs.List.{All}
-use Rattle.scan_text.specs.Text.{is_digit}
-use Rattle.hack_asm.specs.Tokens.{is_letter, is_symbol_byte, is_sign}
+use Rattle.std.specs.Prelude.{◌≡◌, ℕ, true, List, [], ◌∷◌, codes, ◌⊎◌}
+use Rattle.std.specs.List.{All, Contains}
+use Rattle.std.specs.Char.{is_ascii_alphabetic, is_ascii_digit}
 
-pub data IsOne : List ℕ → Type 0 where
-  ASymbol : {b : ℕ} {bs : List ℕ} → is_letter b ≡ true → All (λ c. is_symbol_byte c ≡ true) bs → IsOne (b ∷ bs)
-  ANumber : {d : ℕ} {ds : List ℕ} → All (λ c. is_digit c ≡ true) (d ∷ ds) → IsOne (d ∷ ds)
-  ASign : {b : ℕ} → is_sign b ≡ true → IsOne (b ∷ [])
-  ALineFeed : IsOne (10 ∷ [])
-  AReturnAndLineFeed : IsOne (13 ∷ 10 ∷ [])
+-- a letter, or one of these signs
+abbrev pub IsSymbolStart : ℕ → Type 0
+IsSymbolStart b = (is_ascii_alphabetic b ≡ true) ⊎ Contains (codes "_.$:") b
+
+pub data IsOne : List ℕ → List ℕ → Type 0 where
+  ASymbol : {b : ℕ} {bs behind : List ℕ} → IsSymbolStart b → All (λ c. IsSymbolStart c ⊎ (is_ascii_digit c ≡ true)) bs → IsOne (b ∷ bs) behind
+  ANumber : {d : ℕ} {ds behind : List ℕ} → All (λ c. is_ascii_digit c ≡ true) (d ∷ ds) → IsOne (d ∷ ds) behind
+  ASign : {b : ℕ} {behind : List ℕ} → Contains (codes "@()=;+-!&|") b → IsOne (b ∷ []) behind
+  ALineFeed : {behind : List ℕ} → IsOne (10 ∷ []) behind
+  AReturnAndLineFeed : {behind : List ℕ} → IsOne (13 ∷ 10 ∷ []) behind

@@ -1,16 +1,15 @@
 //! The law of the tokens.
 
-ghost use Rattle.grammar.specs.Cutting.{CutsLongest, MissesNone, IsOver};
+ghost use Rattle.grammar.specs.Between.{IsBetweenInLine};
+ghost use Rattle.grammar.specs.Longest.{IsLongestMatch, IsOver, HasNoLimit};
 ghost use Rattle.hack_asm.specs.HackTokens as hack_tokens;
-ghost use Rattle.hack_asm.specs.OneHackToken.{IsOneHack};
+ghost use Rattle.hack_asm.specs.OneHackToken.{IsOneHack, HasNoneBetween};
 ghost use Rattle.hack_asm.specs.OneToken.{IsOne};
 ghost use Rattle.hack_asm.specs.Tokens.{piece};
 
-/// What is cut off of an assembly text is one token, the longest that begins where it begins, and none is missed. So it is of a
-/// `.hack` text.
+/// What is cut off of an assembly text is one token, the longest that begins where it begins, and what is passed over is what may stand
+/// between tokens: no more and no less. None is missed. So it is of a `.hack` text, where nothing may stand between.
 pub fn longest_law()
-    ensures longest { CutsLongest IsOne piece }
-    ensures all { MissesNone IsOne (IsOver 32767) piece }
-    ensures hack { CutsLongest IsOneHack hack_tokens.piece }
-    ensures all_hack { MissesNone IsOneHack (λ bs. ⊥) hack_tokens.piece }
+    ensures asm { IsLongestMatch IsOne IsBetweenInLine (IsOver 32767) piece }
+    ensures hack { IsLongestMatch IsOneHack HasNoneBetween HasNoLimit hack_tokens.piece }
 {}

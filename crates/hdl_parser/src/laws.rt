@@ -1,15 +1,17 @@
 //! Laws of the grammar and of the printed form.
 
-ghost use Rattle.grammar.specs.Cutting.{CutsLongest, MissesNone};
+ghost use Rattle.grammar.specs.Between.{IsBetween};
+ghost use Rattle.grammar.specs.Cutting.{past_blanks};
+ghost use Rattle.grammar.specs.Longest.{IsLongestMatch, HasNoLimit};
 ghost use Rattle.hdl_parser.specs.OneToken.{IsOne};
 ghost use Rattle.hdl_parser.specs.Tokens.{piece};
 ghost use Rattle.hdl_parser.specs.Spells.{ReadingLaw, TreesLaw};
 ghost use Rattle.hdl_parser.specs.Printed.{PrintedLaw, TokensLaw};
 
-/// What is cut off is one token, the longest that begins where it begins, and none is missed.
+/// What is cut off is one token, the longest that begins where it begins, and what is passed over is what may stand between tokens: no more
+/// and no less. None is missed.
 pub fn longest_law()
-    ensures longest { CutsLongest IsOne piece }
-    ensures all { MissesNone IsOne (λ bs. ⊥) piece }
+    ensures { IsLongestMatch IsOne IsBetween HasNoLimit (past_blanks piece) }
 {}
 
 /// Two chips with the same tree are the same chip, and each tree that a text spells is that of a chip.

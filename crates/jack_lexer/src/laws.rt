@@ -1,11 +1,13 @@
 //! The law of the tokens.
 
-ghost use Rattle.grammar.specs.Cutting.{CutsLongest, MissesNone, IsOver};
+ghost use Rattle.grammar.specs.Between.{IsBetween};
+ghost use Rattle.grammar.specs.Cutting.{past_blanks};
+ghost use Rattle.grammar.specs.Longest.{IsLongestMatch, IsOver};
 ghost use Rattle.jack_lexer.specs.Tokens.{piece};
 ghost use Rattle.jack_lexer.specs.OneToken.{IsOne};
 
-/// What is cut off is one token, the longest that begins where it begins, and none is missed.
+/// What is cut off is one token, the longest that begins where it begins, and what is passed over is what may stand between tokens: no more
+/// and no less. None is missed.
 pub fn longest_law()
-    ensures longest { CutsLongest IsOne piece }
-    ensures all { MissesNone IsOne (IsOver 32767) piece }
+    ensures { IsLongestMatch IsOne IsBetween (IsOver 32767) (past_blanks piece) }
 {}

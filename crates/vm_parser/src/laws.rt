@@ -3,16 +3,17 @@
 ghost use Rattle.std.specs.Prelude.{◌≡◌, ◌∷◌, [], ◌≤◌, Bool, true, length};
 ghost use Rattle.vm_tree.specs.declared.program.File.{File};
 ghost use Rattle.vm_tree.specs.Printed.{program_text};
-ghost use Rattle.grammar.specs.Cutting.{CutsLongest, MissesNone, IsOver};
+ghost use Rattle.grammar.specs.Between.{IsBetweenInLine};
+ghost use Rattle.grammar.specs.Longest.{IsLongestMatch, IsOver};
 ghost use Rattle.vm_parser.specs.OneToken.{IsOne};
 ghost use Rattle.vm_parser.specs.Tokens.{piece};
 ghost use Rattle.vm_parser.specs.Trees.{Spells, ReadingLaw};
 ghost use Rattle.vm_parser.specs.Printed.{file_can, read_file};
 
-/// Law: what is cut off is one token, the longest that begins where it begins, and none is missed.
+/// Law: what is cut off is one token, the longest that begins where it begins, and what is passed over is what may stand between tokens: no more
+/// and no less. None is missed.
 pub fn longest_law()
-    ensures longest { CutsLongest IsOne piece }
-    ensures all { MissesNone IsOne (IsOver 32767) piece }
+    ensures { IsLongestMatch IsOne IsBetweenInLine (IsOver 32767) piece }
 {}
 
 /// Law: a text spells at most one program, has at most one first fault, and not both.

@@ -1,8 +1,5 @@
-use Rattle.key_script.proofs.Longest.{cuts_longest, misses_none}
+use Rattle.key_script.proofs.Longest.{longest_match}
 use Rattle.key_script.proofs.laws.longest_law.Goals as goal
 
-pub returns-clause-longest : goal.returns-clause-longest
-returns-clause-longest c = cuts_longest
-
-pub returns-clause-all : goal.returns-clause-all
-returns-clause-all c = misses_none
+pub returns : goal.returns
+returns c = longest_match
