@@ -1,20 +1,25 @@
 -- How many nodes a chip needs, by a table: where the count of each chip of a library is told by those of its parts, so is that of a whole tree.
-use Rattle.std.proofs.Common.{◌≡◌, ◌+◌, ℕ, suc, Bool, true, false, List, [], ◌∷◌, ◌++◌, Some, refl, ap, ◌∙◌, arith}
-use Rattle.std.specs.Prelude.{unwrap_or, nat_eq, codes, if◌then◌else◌}
-use Rattle.std.proofs.lemmas.Bool.Decides.{Decides-eqb}
+use Rattle.std.proofs.Common.{◌≡◌, ◌+◌, ◌≤◌, ℕ, suc, Bool, true, false, List, [], ◌∷◌, ◌++◌, Some, refl, ap, ◌∙◌, arith}
+use Rattle.std.specs.Prelude.{unwrap_or, nat_eq, nat_lt, codes, slice_get, if◌then◌else◌}
+use Rattle.std.proofs.lemmas.Bool.Decides.{Decides-eqb, Decides-ltb}
 use Rattle.hdl_tree.specs.declared.tree.Part.{Part}
 use Rattle.hdl_tree.specs.declared.library.Entry.{Entry}
 use Rattle.hdl_tree.specs.Chips.{Chips, find_chip, parts_of}
 use Rattle.hdl_tree.specs.Writable.{all}
 use Rattle.hdl_elab.specs.Whole.{chips_in}
 use Rattle.hdl_elab.specs.Tables.{found}
-use Rattle.hdl_flat.specs.Trees.{PartIn, within, AreListed, none, next, chip_nodes, part_nodes, node_count}
+use Rattle.hdl_elab.proofs.Order.{not_both}
+use Rattle.hdl_flat.specs.Trees.{PartIn, within, AreListed, none, next, IsTree, bit_count, chip_nodes, part_nodes, node_count}
+use Rattle.hdl_elaborate.specs.declared.fault.ElaborationFault.{ElaborationFault}
+use Rattle.hdl_elaborate.specs.declared.fault.ElaborationFault.TheVariants as faults
+use Rattle.hdl_elaborate.specs.Faults.{IsFaultOf, IsFine}
 use Rattle.gate_computer.specs.Computer.{computer}
-use Rattle.gate_computer.specs.Nodes.{NodesLaw}
+use Rattle.gate_computer.specs.Nodes.{NodesLaw, computer_nodes}
 use Rattle.hack_cpu.specs.Library.{shipped_chips}
 use Rattle.hdl_shown.proofs.Clean.{find_in}
 use Rattle.hdl_shown.proofs.Levels.{all_at}
 use Rattle.hack_cpu.proofs.Opened.{opened}
+use Rattle.hack_cpu.proofs.Shown.{no_fault, no_loop}
 
 nodes-append : (chips : Chips) (a b : List PartIn) → part_nodes chips (a ++ b) ≡ part_nodes chips a + part_nodes chips b
 nodes-append chips [] b = omega arith
@@ -37,10 +42,13 @@ module _ (chips : Chips) (table : List (List ℕ × ℕ)) where
   is_told chip = nat_eq (told_of chip.name) (chip_nodes chips chip + told_in (parts_of chips chip))
 
   module _ (told : all is_told chips.entries ≡ true) where
+    told_at : (i : ℕ) (chip : Entry) → slice_get chips.entries i ≡ Some chip → told_of chip.name ≡ chip_nodes chips chip + told_in (parts_of chips chip)
+    told_at i chip there = (Decides-eqb (told_of chip.name) (chip_nodes chips chip + told_in (parts_of chips chip))).0 (all_at is_told chips.entries told i chip there)
+
     told_found : (name : List ℕ) (chip : Entry) → find_chip chips name ≡ Some chip → told_of name ≡ chip_nodes chips chip + told_in (parts_of chips chip)
     told_found name chip found_it =
         let r = find_in chips.entries name chip found_it in
-        ap told_of r.named ∙ (Decides-eqb (told_of chip.name) (chip_nodes chips chip + told_in (parts_of chips chip))).0 (all_at is_told chips.entries told r.place chip r.there)
+        ap told_of r.named ∙ told_at r.place chip r.there
 
     nodes_in : (i : ℕ) (parts : List Part) (tree : List PartIn) → AreListed chips i parts tree → part_nodes chips tree ≡ told_in parts
     nodes_in i parts tree none = refl
@@ -51,6 +59,13 @@ module _ (chips : Chips) (table : List (List ℕ × ℕ)) where
         let b = nodes_in (suc i) behind others after in
         let c = told_found part.chip chip found_it in
         omega (arith, whole, same, a, b, c)
+
+    -- the nodes of a chip of the library, with its inputs and the constants
+    count_at : (i : ℕ) (chip : Entry) (tree : List PartIn) → slice_get chips.entries i ≡ Some chip → IsTree chips chip tree → node_count chips chip tree ≡ (bit_count chip.chip.inputs + told_of chip.name) + 2
+    count_at i chip tree there is =
+        let a = told_at i chip there in
+        let b = nodes_in 0 (parts_of chips chip) tree is in
+        omega (arith, a, b)
 
 -- ---- the shipped chips
 
@@ -79,6 +94,52 @@ count_by : (blocks : Bool) (tree : List PartIn) (n : ℕ) → part_nodes (chips_
 unfolding opened
 count_by blocks tree n e = omega (arith, e)
 
-pub computer_nodes : NodesLaw
-computer_nodes true tree is = count_by true tree 1758 (nodes_in (chips_in shipped_chips true) (table_of true) (all_told true) 0 _ tree is ∙ computer_told true)
-computer_nodes false tree is = count_by false tree 3663412 (nodes_in (chips_in shipped_chips false) (table_of false) (all_told false) 0 _ tree is ∙ computer_told false)
+computer_count : (blocks : Bool) (tree : List PartIn) → IsTree (chips_in shipped_chips blocks) computer tree → node_count (chips_in shipped_chips blocks) computer tree ≡ computer_nodes blocks
+computer_count true tree is = count_by true tree 1758 (nodes_in (chips_in shipped_chips true) (table_of true) (all_told true) 0 _ tree is ∙ computer_told true)
+computer_count false tree is = count_by false tree 3663412 (nodes_in (chips_in shipped_chips false) (table_of false) (all_told false) 0 _ tree is ∙ computer_told false)
+
+-- ---- no shipped chip needs more
+
+abbrev count_of : Bool → Entry → ℕ
+count_of blocks chip = (bit_count chip.chip.inputs + told_of (chips_in shipped_chips blocks) (table_of blocks) chip.name) + 2
+
+abbrev is_small : Bool → Entry → Bool
+is_small blocks chip = nat_lt (count_of blocks chip) (computer_nodes blocks + 1)
+
+all_small : (blocks : Bool) → all (is_small blocks) shipped_chips ≡ true
+unfolding opened
+all_small true = refl
+all_small false = refl
+
+most : (blocks : Bool) (i : ℕ) (entry : Entry) (tree : List PartIn) → slice_get shipped_chips i ≡ Some entry → IsTree (chips_in shipped_chips blocks) entry tree → node_count (chips_in shipped_chips blocks) entry tree ≤ computer_nodes blocks
+most blocks i entry tree there is =
+    let n = count_at (chips_in shipped_chips blocks) (table_of blocks) (all_told blocks) i entry tree there is in
+    let small = (Decides-ltb (count_of blocks entry) (computer_nodes blocks + 1)).0 (all_at (is_small blocks) shipped_chips (all_small blocks) i entry there) in
+    omega (arith, n, small)
+
+-- ---- nothing is wrong with any
+
+few_nodes : (blocks : Bool) (n : ℕ) → n ≤ computer_nodes blocks → n ≤ 16777216
+few_nodes true n le = omega (arith, le)
+few_nodes false n le = omega (arith, le)
+
+fine : (blocks : Bool) (i : ℕ) (entry : Entry) → slice_get shipped_chips i ≡ Some entry → IsFine (chips_in shipped_chips blocks) entry
+fine blocks i entry there = record {
+  no_fault = no_fault blocks i entry there;
+  no_loop = (no_loop blocks i entry there).no_loop;
+  few = λ tree is. few_nodes blocks (node_count (chips_in shipped_chips blocks) entry tree) (most blocks i entry tree there is);
+}
+
+only_memory : (chips : Chips) (entry : Entry) (f : ElaborationFault) → IsFine chips entry → IsFaultOf chips entry f → f ≡ faults.Memory
+only_memory chips entry faults.Memory is h = refl
+only_memory chips entry (faults.Named f) is h = absurd (not_both chips (entry.name ∷ []) entry f h is.no_fault)
+only_memory chips entry (faults.Loop nets) is h = absurd (is.no_loop nets h.1)
+only_memory chips entry (faults.TooManyNodes n) is h = let le = is.few h.2.tree h.2.listed in let lt = h.2.many in absurd (omega (arith, le, lt))
+
+pub nodes : NodesLaw
+nodes = record {
+  count = computer_count;
+  most = most;
+  fine = fine;
+  no_fault = λ blocks i entry f there h. only_memory (chips_in shipped_chips blocks) entry f (fine blocks i entry there) h;
+}

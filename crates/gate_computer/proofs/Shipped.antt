@@ -1,6 +1,6 @@
 -- What elaboration asks of the Computer among the shipped chips.
-use Rattle.std.proofs.Common.{◌≡◌, ◌≤◌, ℕ, Bool, true, false, List, Some, IsSome, refl, ap, sym, subst, ◌∙◌, arith}
-use Rattle.std.specs.Prelude.{codes, if◌then◌else◌}
+use Rattle.std.proofs.Common.{◌≡◌, ℕ, Bool, true, List, IsSome, refl, ap, sym, subst, ◌∙◌}
+use Rattle.std.specs.Prelude.{codes}
 use Rattle.hdl_tree.specs.declared.library.Entry.{Entry}
 use Rattle.hdl_tree.specs.declared.ends.End.{End}
 use Rattle.hdl_tree.specs.declared.ends.End.TheVariants as ends
@@ -8,7 +8,6 @@ use Rattle.hdl_elab.specs.Whole.{chips_in}
 use Rattle.hdl_shown.proofs.Clean.{find_in}
 use Rattle.hdl_flat.specs.Ends.{EndsHavePins, HasPins, end_inputs, end_outputs}
 use Rattle.hdl_flat.specs.Flat.{NeedsFew}
-use Rattle.hdl_flat.specs.Trees.{IsTree, node_count}
 use Rattle.hdl_elaborate.specs.declared.put.Elab.{Elab}
 use Rattle.hdl_elaborate.specs.Elaborated.{IsElaborated, TopIsElaborated}
 use Rattle.hack_cpu.specs.Library.{shipped_chips}
@@ -18,7 +17,7 @@ use Rattle.hack_cpu.proofs.HasAll.{has_all}
 use Rattle.hack_cpu.proofs.Shown.{no_fault, no_loop}
 use Rattle.gate_computer.specs.Computer.{chips, computer}
 use Rattle.gate_computer.specs.Elaborated.{BuildableLaw, CanBeNet}
-use Rattle.gate_computer.proofs.Counting.{computer_nodes}
+use Rattle.gate_computer.proofs.Counting.{nodes}
 
 -- ---- the pins of ends
 
@@ -47,17 +46,8 @@ ends_have_pins blocks name chip e found is = has_pins chip e (faces.end_pins blo
 
 -- ---- how many nodes
 
-few_nodes : (blocks : Bool) (n : ℕ) → n ≡ (if blocks then 1761 else 3663415) → n ≤ 16777216
-few_nodes true n e = omega (arith, e)
-few_nodes false n e = omega (arith, e)
-
 few : (blocks : Bool) → NeedsFew (chips_in shipped_chips blocks) (codes "Computer")
-few blocks chip tree found is =
-    let both : Some chip ≡ Some computer = sym found ∙ (has_all blocks).computer in
-    let same : chip ≡ computer = cc in
-    few_nodes blocks (node_count (chips_in shipped_chips blocks) chip tree)
-    (ap (λ (e : Entry). node_count (chips_in shipped_chips blocks) e tree) same
-    ∙ computer_nodes blocks tree (subst (λ (e : Entry). IsTree (chips_in shipped_chips blocks) e tree) same is))
+few blocks chip tree found is = let r = find_in shipped_chips (codes "Computer") chip found in (nodes.fine blocks r.place chip r.there).few tree is
 
 -- ---- all
 

@@ -1,12 +1,23 @@
--- How many nodes the Computer needs. (The book, chapters 1 to 5.)
-use Rattle.std.specs.Prelude.{◌≡◌, Bool, List, if◌then◌else◌}
+-- How many nodes the Computer needs. No shipped chip needs more, so none has a fault. (The book, chapters 1 to 5, and appendix 2.)
+use Rattle.std.specs.Prelude.{◌≡◌, ℕ, ◌≤◌, Bool, List, Some, slice_get, if◌then◌else◌}
+use Rattle.hdl_tree.specs.declared.library.Entry.{Entry}
 use Rattle.hdl_elab.specs.Whole.{chips_in}
 use Rattle.hdl_flat.specs.Trees.{PartIn, IsTree, node_count}
+use Rattle.hdl_elaborate.specs.declared.fault.ElaborationFault.{ElaborationFault}
+use Rattle.hdl_elaborate.specs.declared.fault.ElaborationFault.TheVariants as faults
+use Rattle.hdl_elaborate.specs.Faults.{IsFaultOf, IsFine}
 use Rattle.hack_cpu.specs.Library.{shipped_chips}
 use Rattle.gate_computer.specs.Computer.{computer}
 
 -- The bit of its input, the output bits of the ends in it and the two constants are 1,761 where the memories are blocks, and 3,663,415 where they are
 -- made of gates.
-abbrev pub NodesLaw : Type 0
-NodesLaw =
-    (blocks : Bool) (tree : List PartIn) → IsTree (chips_in shipped_chips blocks) computer tree → node_count (chips_in shipped_chips blocks) computer tree ≡ (if blocks then 1761 else 3663415)
+abbrev pub computer_nodes : Bool → ℕ
+computer_nodes blocks = if blocks then 1761 else 3663415
+
+-- With blocks and with memories of gates: the Computer needs so many nodes, no shipped chip needs more, and so nothing is wrong with any, neither a
+-- fault of the texts nor a loop nor too many nodes. Want of memory is left.
+pub record NodesLaw : Type 0 where
+  pub count : (blocks : Bool) (tree : List PartIn) → IsTree (chips_in shipped_chips blocks) computer tree → node_count (chips_in shipped_chips blocks) computer tree ≡ computer_nodes blocks
+  pub most : (blocks : Bool) (i : ℕ) (entry : Entry) (tree : List PartIn) → slice_get shipped_chips i ≡ Some entry → IsTree (chips_in shipped_chips blocks) entry tree → node_count (chips_in shipped_chips blocks) entry tree ≤ computer_nodes blocks
+  pub fine : (blocks : Bool) (i : ℕ) (entry : Entry) → slice_get shipped_chips i ≡ Some entry → IsFine (chips_in shipped_chips blocks) entry
+  pub no_fault : (blocks : Bool) (i : ℕ) (entry : Entry) (f : ElaborationFault) → slice_get shipped_chips i ≡ Some entry → IsFaultOf (chips_in shipped_chips blocks) entry f → f ≡ faults.Memory

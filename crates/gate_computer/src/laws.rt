@@ -15,7 +15,8 @@ pub fn gates_law<S>()
     ensures { GatesLaw S }
 {}
 
-/// How many nodes the Computer needs, with its memories as blocks and with memories of gates.
+/// How many nodes the Computer needs, with its memories as blocks and with memories of gates. No shipped chip needs more, and none has a
+/// fault of its texts, a loop or too many nodes.
 pub fn nodes_law()
     ensures { NodesLaw }
 {}

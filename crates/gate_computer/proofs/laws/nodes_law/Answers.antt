@@ -1,5 +1,5 @@
-use Rattle.gate_computer.proofs.Counting.{computer_nodes}
+use Rattle.gate_computer.proofs.Counting.{nodes}
 use Rattle.gate_computer.proofs.laws.nodes_law.Goals as goal
 
 pub returns : goal.returns
-returns c = computer_nodes
+returns c = nodes
