@@ -125,36 +125,39 @@ fn bare<'a>(alloc: Global) -> Command<'a>
         .subcommand_required(true)
 }
 
+// Adds a command with a path alone.
+fn with_path<'a>(alloc: Global, top: Command<'a>, name: &'a str) -> Result<Command<'a>, AllocError>
+    ensures { IfOk result (λ c. app_of c ≡ with_subcommand (app_of top.entry) (path_command name.now)) }
+{
+    top.subcommand(path_only(alloc, name)?)
+}
+
 // Adds `asm` and `exec`.
 fn with_machine<'a>(alloc: Global, top: Command<'a>) -> Result<Command<'a>, AllocError>
     ensures { IfOk result (λ c. app_of c ≡ with_subcommand (with_subcommand (app_of top.entry) asm_command) exec_command) }
 {
-    top.subcommand(path_only(alloc, "asm")?)?
-        .subcommand(exec(alloc)?)
+    with_path(alloc, top, "asm")?.subcommand(exec(alloc)?)
 }
 
 // Adds `vm` and `show`.
 fn with_sources<'a>(alloc: Global, top: Command<'a>) -> Result<Command<'a>, AllocError>
     ensures { IfOk result (λ c. app_of c ≡ with_subcommand (with_subcommand (app_of top.entry) vm_command) show_command) }
 {
-    top.subcommand(vm(alloc)?)?
-        .subcommand(path_only(alloc, "show")?)
+    with_path(alloc, top.subcommand(vm(alloc)?)?, "show")
 }
 
 // Adds `compile` and `build`.
 fn with_compilers<'a>(alloc: Global, top: Command<'a>) -> Result<Command<'a>, AllocError>
     ensures { IfOk result (λ c. app_of c ≡ with_subcommand (with_subcommand (app_of top.entry) compile_command) build_command) }
 {
-    top.subcommand(path_only(alloc, "compile")?)?
-        .subcommand(path_only(alloc, "build")?)
+    with_path(alloc, with_path(alloc, top, "compile")?, "build")
 }
 
 // Adds `map` and `chip`.
 fn with_printers<'a>(alloc: Global, top: Command<'a>) -> Result<Command<'a>, AllocError>
     ensures { IfOk result (λ c. app_of c ≡ with_subcommand (with_subcommand (app_of top.entry) map_command) chip_command) }
 {
-    top.subcommand(path_only(alloc, "map")?)?
-        .subcommand(word_only(alloc, "chip", "name")?)
+    with_path(alloc, top, "map")?.subcommand(word_only(alloc, "chip", "name")?)
 }
 
 // Adds `test`.

@@ -299,6 +299,26 @@ fn list_pins<'a>(
     Ok(())
 }
 
+/// The directory of all pins of the chip of this plan, whose nodes begin at base.
+fn directory<'a>(
+    alloc: Global,
+    plan: &Plan<'a>,
+    base: usize,
+    inputs: &[u32],
+) -> Result<Vec<PinAt>, AllocError>
+    requires base { base ≤ 16777216 }
+    requires within { AreWithin (length inputs.now) 16777216 (wires_of plan.now.wires) }
+    ensures { IfOk result (λ v. v.items ≡ map (Listed.pin_at (own_nodes (wires_of plan.now.wires) base inputs.now)) plan.now.entry.now.chip.inputs ++ map (Listed.pin_at (own_nodes (wires_of plan.now.wires) base inputs.now)) plan.now.entry.now.chip.outputs) }
+{
+    let chip = &plan.entry.chip;
+    let mut listed = Vec::new(alloc);
+    let pins = chip.inputs.as_slice();
+    list_pins(alloc, &plan.wires, base, inputs, pins, &mut listed)?;
+    let pins = chip.outputs.as_slice();
+    list_pins(alloc, &plan.wires, base, inputs, pins, &mut listed)?;
+    Ok(listed)
+}
+
 /// The nodes of n pins behind the constants.
 fn input_nodes(alloc: Global, n: usize) -> Result<Vec<u32>, AllocError>
     requires { n ≤ 16777216 }
@@ -320,6 +340,36 @@ fn begin(nodes: &mut Vec<Node>, n: usize) -> Result<(), AllocError>
     put_pins(nodes, n)
 }
 
+/// The constants, a pin for each input bit, and nothing behind them.
+fn begun(alloc: Global, n: usize) -> Result<Growing, AllocError>
+    ensures nodes { IfOk result (λ flat. flat.nodes.items ≡ constants ++ pins n) }
+    ensures blocks { IfOk result (λ flat. flat.blocks.items ≡ []) }
+    ensures parts { IfOk result (λ flat. flat.parts.items ≡ []) }
+{
+    let mut nodes = Vec::new(alloc);
+    begin(&mut nodes, n)?;
+    Ok(Growing {
+        nodes,
+        blocks: Vec::new(alloc),
+        parts: Vec::new(alloc),
+    })
+}
+
+/// The chip that has grown, with its directory of pins.
+fn with_pins(grown: Growing, listed: Vec<PinAt>) -> Flat
+    ensures nodes { result.nodes ≡ grown.nodes.items }
+    ensures blocks { result.blocks ≡ grown.blocks.items }
+    ensures pins { result.pins ≡ listed.items }
+    ensures parts { result.parts ≡ grown.parts.items }
+{
+    Flat {
+        nodes: List::of(grown.nodes),
+        blocks: List::of(grown.blocks),
+        pins: List::of(listed),
+        parts: List::of(grown.parts),
+    }
+}
+
 /// The nodes and blocks of a chip without faults, in the order of the text.
 pub fn flatten(
     alloc: Global,
@@ -338,37 +388,10 @@ pub fn flatten(
     let nest = nest_of(alloc, &catalog, top.as_bytes())?;
     let plans = plans_of(alloc, &catalog, &nest.chips)?;
     let plan = &plans[nest.top];
-    let mut flat = Growing {
-        nodes: Vec::new(alloc),
-        blocks: Vec::new(alloc),
-        parts: Vec::new(alloc),
-    };
     let inputs = input_nodes(alloc, plan.inputs.len())?;
-    begin(&mut flat.nodes, inputs.len())?;
+    let mut flat = begun(alloc, inputs.len())?;
     let base = flat.nodes.len();
     put(alloc, &catalog, &plans, nest.top, &inputs, &mut flat)?;
-    let mut pins = Vec::new(alloc);
-    let entry = plan.entry;
-    list_pins(
-        alloc,
-        &plan.wires,
-        base,
-        &inputs,
-        entry.chip.inputs.as_slice(),
-        &mut pins,
-    )?;
-    list_pins(
-        alloc,
-        &plan.wires,
-        base,
-        &inputs,
-        entry.chip.outputs.as_slice(),
-        &mut pins,
-    )?;
-    Ok(Flat {
-        nodes: List::of(flat.nodes),
-        blocks: List::of(flat.blocks),
-        pins: List::of(pins),
-        parts: List::of(flat.parts),
-    })
+    let pins = directory(alloc, plan, base, &inputs)?;
+    Ok(with_pins(flat, pins))
 }

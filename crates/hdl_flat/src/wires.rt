@@ -10,14 +10,14 @@ use indexmap::IndexMap;
 use std::alloc::{AllocError, Global};
 
 /// A bit of a pin or net.
-#[derive(Clone, Copy, Debug, PartialEq, Eq, Hash)]
+#[derive(Clone, Copy, PartialEq, Eq, Hash)]
 pub(crate) struct Bit<'a> {
     pub name: &'a [u8],
     pub bit: u32,
 }
 
 /// What feeds a bit: 0, 1, an input bit of the chip by its number, or a node, counted from the chip's first.
-#[derive(Clone, Copy, Debug)]
+#[derive(Clone, Copy)]
 pub(crate) enum Origin {
     Low,
     High,

@@ -25,8 +25,7 @@ fn circle_at<'a>(
 ) -> Result<Option<Circle<'a>>, AllocError>
     ensures { IfOk result (λ r. MatchOption r (Way (HasHop hops.now) (bit at.entry) (bit at.entry) → ⊥) (IsRound hops.now)) }
 {
-    let order = graph.reach(alloc, &at)?;
-    let tree = Tree::from(alloc, hops, order.as_slice(), at)?;
+    let tree = Tree::of(alloc, hops, graph, at)?;
     match tree.way_to(alloc, hops, &at)? {
         None => Ok(None),
         Some(way) => Ok(Some(Circle { at, way })),

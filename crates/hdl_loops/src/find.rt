@@ -7,11 +7,13 @@ ghost use Rattle.hdl_tree.specs.Chips.{end_of, find_chip, find_entry};
 ghost use Rattle.hdl_tree.specs.Chips.{parts_of as parts_in};
 ghost use Rattle.hdl_elab.specs.Whole.{chips_in, TopIsFaultless};
 ghost use Rattle.hdl_law.specs.Loops.{IsLoop};
+ghost use Rattle.hdl_loops.specs.Inner.Hops.{NoRound};
 ghost use Rattle.hdl_loops.specs.Inner.Looked.{LooksRight, PartTells, TellsLoop};
-ghost use Rattle.hdl_loops.specs.Inner.Knowing.{place_of, AreKnown, IsKnown, IsDone, Notes, Nests, PartDone, PartNests, PartsDone, StaysKnown, KnowNothing, NestsAt, PartsNest};
+ghost use Rattle.hdl_loops.specs.Inner.Knowing.{place_of, AreHops, AreKnown, IsKnown, IsDone, Notes, Nests, PartDone, PartNests, PartsDone, StaysKnown, KnowNothing, NestsAt, PartsNest};
 
 use crate::circle::circle_in;
 use crate::graph::graph_of;
+use crate::hops::Hop;
 use crate::known::{Known, trees_of};
 use crate::names::nets_of;
 use crate::search::Numbered;
@@ -51,6 +53,31 @@ pub(crate) enum Look<'a> {
     Loop(Vec<Name>),
 }
 
+/// The nets of a circle in the own graph of a chip, if it has one.
+fn loop_in<'a>(
+    alloc: Global,
+    entries: &'a [Entry],
+    blocks: bool,
+    known: &[Option<Known<'a>>],
+    entry: &'a Entry,
+    hops: &[Hop<'a>],
+    graph: &Numbered<'a>,
+    depth: usize,
+) -> Result<Option<Vec<Name>>, AllocError>
+    requires known { AreKnown (chips_in entries.now blocks) known.now }
+    requires hops { AreHops (chips_in entries.now blocks) known.now entry.now hops.now }
+    requires nests { Nests depth (chips_in entries.now blocks) entry.now }
+    ensures { IfOk result (λ r. MatchOption r (NoRound hops.now) (λ nets. IsLoop (chips_in entries.now blocks) entry.now nets.items)) }
+{
+    match circle_in(alloc, hops, graph)? {
+        None => Ok(None),
+        Some(circle) => {
+            let nets = nets_of(alloc, entries, blocks, known, entry, &circle, depth)?;
+            Ok(Some(nets))
+        }
+    }
+}
+
 /// Looks at a chip that is no end, behind those of its parts.
 fn look_at<'a>(
     alloc: Global,
@@ -69,11 +96,8 @@ fn look_at<'a>(
     let hops = graph_of(alloc, entries, blocks, known, parts_of(blocks, entry))?;
     let list = hops.as_slice();
     let graph = Numbered::new(alloc, list)?;
-    match circle_in(alloc, list, &graph)? {
-        Some(circle) => {
-            let nets = nets_of(alloc, entries, blocks, known, entry, &circle, depth)?;
-            Ok(Look::Loop(nets))
-        }
+    match loop_in(alloc, entries, blocks, known, entry, list, &graph, depth)? {
+        Some(nets) => Ok(Look::Loop(nets)),
         None => {
             let trees = trees_of(alloc, entry, list, &graph)?;
             Ok(Look::Fine(Known { hops, trees }))

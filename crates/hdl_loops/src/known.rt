@@ -116,8 +116,7 @@ fn add_tree<'a>(
     ensures kept { OnOk result (KeepsTrees trees.old.entries trees.new.entries) }
     ensures has { OnOk result (HasTree trees.new.entries (bit input.entry)) }
 {
-    let order = graph.reach(alloc, &input)?;
-    let tree = Tree::from(alloc, hops, order.as_slice(), input)?;
+    let tree = Tree::of(alloc, hops, graph, input)?;
     match trees.insert(input, tree) {
         Err(_) => Err(AllocError),
         Ok(_) => Ok(()),

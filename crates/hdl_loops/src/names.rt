@@ -1,12 +1,12 @@
 //! The nets of a circle: those of the chip, and between them those of the ways through its parts, each once.
 
-ghost use Rattle.std.specs.Prelude.{◌≡◌, ◌<◌, true, OnOk, IfOk, length, slice_get, Some};
+ghost use Rattle.std.specs.Prelude.{◌≡◌, ◌<◌, [], true, OnOk, IfOk, length, slice_get, Some};
 ghost use Rattle.hdl_tree.specs.declared.library.Entry.{Entry};
 ghost use Rattle.hdl_elab.specs.Whole.{chips_in};
 ghost use Rattle.hdl_law.specs.Loops.{IsLoop};
 ghost use Rattle.hdl_loops.specs.Inner.Hops.{input_of, output_of, AreJoined, WayRound};
 ghost use Rattle.hdl_loops.specs.Inner.Knowing.{crosses, HasTrees, AreKnown, AreHops, IsHop, NestsAt, Nests, leads_in, IsWayIn};
-ghost use Rattle.hdl_loops.specs.Inner.Told.{AreTold, Tells, ToldTo, TellsThrough};
+ghost use Rattle.hdl_loops.specs.Inner.Told.{names_of, AreTold, Tells, ToldTo, TellsThrough};
 
 use crate::circle::Circle;
 use crate::hops::{BitOf, Dependency, Hop};
@@ -138,6 +138,30 @@ fn follow<'a>(
     Ok(())
 }
 
+/// Tells the nets of a circle in the own graph of a chip, where none is told.
+fn tell<'a>(
+    alloc: Global,
+    entries: &'a [Entry],
+    blocks: bool,
+    known: &[Option<Known<'a>>],
+    entry: &'a Entry,
+    circle: &Circle<'a>,
+    depth: usize,
+    told: &mut Told<'a>,
+) -> Result<(), AllocError>
+    requires known { AreKnown (chips_in entries.now blocks) known.now }
+    requires hops { AreHops (chips_in entries.now blocks) known.now entry.now circle.now.way.items }
+    requires round { WayRound circle.now }
+    requires nests { Nests depth (chips_in entries.now blocks) entry.now }
+    requires names { names_of told.old ≡ [] }
+    requires passed { told.old.passed.keys ≡ [] }
+    ensures { OnOk result (IsLoop (chips_in entries.now blocks) entry.now (names_of told.new)) }
+{
+    told.add(circle.at.name)?;
+    let way = circle.way.as_slice();
+    follow(alloc, entries, blocks, known, entry, way, depth, told)
+}
+
 /// The nets of a circle in the own graph of a chip.
 pub(crate) fn nets_of<'a>(
     alloc: Global,
@@ -154,9 +178,9 @@ pub(crate) fn nets_of<'a>(
     requires nests { Nests depth (chips_in entries.now blocks) entry.now }
     ensures { IfOk result (λ nets. IsLoop (chips_in entries.now blocks) entry.now nets.items) }
 {
-    let way = circle.way.as_slice();
     let mut told = Told::new(alloc);
-    told.add(circle.at.name)?;
-    follow(alloc, entries, blocks, known, entry, way, depth, &mut told)?;
-    Ok(told.copied(alloc)?)
+    tell(
+        alloc, entries, blocks, known, entry, circle, depth, &mut told,
+    )?;
+    told.copied(alloc)
 }

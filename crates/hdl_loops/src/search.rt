@@ -21,7 +21,7 @@ pub(crate) struct Proposal<'a> {
     pub circle: Option<BitOf<'a>>,
 }
 
-#[derive(Clone, Copy, Debug, PartialEq, Eq)]
+#[derive(Clone, Copy, PartialEq, Eq)]
 enum Stage {
     New,
     Open,
@@ -29,7 +29,7 @@ enum Stage {
 }
 
 /// A bit on the path of a search, and how many of the hops that leave it are looked at.
-#[derive(Clone, Copy, Debug)]
+#[derive(Clone, Copy)]
 struct Visit {
     bit: usize,
     looked: usize,

@@ -7,6 +7,7 @@ ghost use Rattle.hdl_loops.specs.Inner.Hops.{bit, IsWay};
 ghost use Rattle.hdl_loops.specs.Inner.Trees.{is_marked, IsReached, Comes, IsTree, KeepsMarks, Grows, IsClosed, IsGrown, Adds};
 
 use crate::hops::{BitOf, Hop};
+use crate::search::Numbered;
 use indexmap::IndexMap;
 use std::alloc::{AllocError, Global};
 
@@ -142,7 +143,7 @@ impl<'a> Tree<'a> {
     }
 
     /// All that hops reach from a bit. The order in which they are tried first is of no matter for what is reached.
-    pub(crate) fn from(
+    fn from(
         alloc: Global,
         hops: &[Hop<'a>],
         order: &[usize],
@@ -154,6 +155,19 @@ impl<'a> Tree<'a> {
         tree.follow_order(hops, order)?;
         tree.close(hops)?;
         Ok(tree)
+    }
+
+    /// All that hops reach from a bit. A search of their graph proposes the order in which they are tried first.
+    pub(crate) fn of(
+        alloc: Global,
+        hops: &[Hop<'a>],
+        graph: &Numbered<'a>,
+        root: BitOf<'a>,
+    ) -> Result<Tree<'a>, AllocError>
+        ensures { IfOk result (λ tree. IsGrown hops.now tree (bit root.entry)) }
+    {
+        let order = graph.reach(alloc, &root)?;
+        Tree::from(alloc, hops, order.as_slice(), root)
     }
 
     /// The hops back from the one in this place to the root.

@@ -6,6 +6,7 @@ ghost use Rattle.grammar.specs.Rules.{name, repeat, listed, NoMore};
 ghost use Rattle.jack_tree.specs.Tokens.{view};
 ghost use Rattle.jack_parser.specs.Grammar.{jack, names_rule, declaration, class_variables, locals_rule, parameter, parameter_list, parameters, subroutine, subroutine_parts, class_rule};
 ghost use Rattle.jack_parser.specs.ClassTrees.{names_tree, declared_tree, variables_tree, locals_tree, parameter_tree, parameters_with, parameters_tree, parts_tree, subroutine_tree, class_tree};
+ghost use Rattle.jack_parser.specs.Inner.Bodies.{subroutine_body, subroutine_body_tree};
 
 use crate::counts::{Counted, Counts, fresh};
 use crate::declared::{form, form_begins, result_type, scope_begins, type_begins, type_name};
@@ -13,7 +14,8 @@ use crate::statements::statements;
 use crate::words::{counted_name, here, identifier, keyword, keyword_stands, stands, symbol};
 use grammar::{Fault, ReadError};
 use jack_tree::{
-    Class, ClassVariables, Keyword, Locals, Names, Parameter, Scope, Subroutine, Token, Type,
+    Class, ClassVariables, Keyword, Locals, Names, Parameter, Scope, Statement, Subroutine, Token,
+    Type,
 };
 use outer_world::Name as FileName;
 use scan_text::Place;
@@ -248,6 +250,24 @@ fn parameters<'a>(
     Ok(((parameters, so_far), rest))
 }
 
+// Locals and statements in their braces, and the counts with the locals.
+#[tactic(auto, using(crate::proofs::Exits::part_exits))]
+fn body<'a>(
+    alloc: Global,
+    tokens: &'a [Token<'a>],
+    end: Place,
+    counts: Counts,
+) -> Result<((Vec<Locals>, Vec<Statement>, Counts), &'a [Token<'a>]), ReadError>
+    ensures reads { ParsesBy view (jack end) subroutine_body (λ x. subroutine_body_tree x.0.items x.1.items) (λ x. x.2) counts tokens.now result }
+    ensures shorter { IfOk result (λ r. length r.1.now < length tokens.now) }
+{
+    let rest = symbol(tokens, end, counts, b'{')?;
+    let ((locals, so_far), rest) = all_locals(alloc, rest, end, counts)?;
+    let (statements, rest) = statements(alloc, rest, end, so_far)?;
+    let rest = symbol(rest, end, so_far, b'}')?;
+    Ok(((locals, statements, so_far), rest))
+}
+
 // A subroutine, and the counts with its parameters and locals.
 #[tactic(auto, using(crate::proofs::Exits::part_exits))]
 fn parts<'a>(
@@ -265,10 +285,7 @@ fn parts<'a>(
     let rest = symbol(rest, end, counts, b'(')?;
     let ((parameters, so_far), rest) = parameters(alloc, rest, end, counts)?;
     let rest = symbol(rest, end, so_far, b')')?;
-    let rest = symbol(rest, end, so_far, b'{')?;
-    let ((locals, in_all), rest) = all_locals(alloc, rest, end, so_far)?;
-    let (statements, rest) = statements(alloc, rest, end, in_all)?;
-    let rest = symbol(rest, end, in_all, b'}')?;
+    let ((locals, statements, in_all), rest) = body(alloc, rest, end, so_far)?;
     let subroutine = Subroutine {
         form,
         result,

@@ -14,6 +14,12 @@ wires_in-requires-clause-plans c =
     let chips = chips_of c.args.catalog.now in
     subst (λ (rs : List ℕ). AreAtHand chips c.args.plans.now rs) (sym c.deref.ensures.value) (at_hand chips c.args.nest.now c.args.plans.now c.args.nested.now c.requires.nested c.requires.planned)
 
+pub wires_in-requires-clause-inputs : goal.wires_in-requires-clause-inputs
+wires_in-requires-clause-inputs c = ap (λ (bs : List Bit). map bit_of bs) c.deref-2.ensures.value ∙ c.in_ok-inputs.ensures ∙ ap all_bits c.as_slice.ensures
+
+pub wires_in-requires-clause-outputs : goal.wires_in-requires-clause-outputs
+wires_in-requires-clause-outputs c = ap (λ (bs : List Bit). map bit_of bs) c.deref-3.ensures.value ∙ c.in_ok-outputs.ensures ∙ ap all_bits c.as_slice-2.ensures
+
 pub wires_in-requires-clause-few : goal.wires_in-requires-clause-few
 wires_in-requires-clause-few c =
     let chips = chips_of c.args.catalog.now in

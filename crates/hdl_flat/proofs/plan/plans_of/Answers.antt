@@ -3,12 +3,24 @@ use Rattle.std.specs.Prelude.{slice_get}
 use Rattle.std.proofs.lemmas.Option.{slice_get_read}
 use Rattle.hdl_elab.specs.Inner.Progress.{chips_of}
 use Rattle.hdl_flat.specs.declared.plan.Plan.{Plan}
+use Rattle.hdl_flat.specs.Inner.Nests.{IsNested}
 use Rattle.hdl_flat.specs.Inner.Plans.{IsPlanned, ArePlans, FollowNest}
 use Rattle.hdl_flat.proofs.Planning.{plans_more, follow_more}
 use Rattle.hdl_flat.proofs.plan.plans_of.Goals as goal
 
 pub plan_chip-requires-clause-planned : goal.plan_chip-requires-clause-planned
 plan_chip-requires-clause-planned c = subst (λ (ps : List Plan). ArePlans (chips_of c.args.catalog.now) ps) (sym c.deref.ensures.value) c.loop-nested.invariant.planned
+
+pub plan_chip-requires-clause-nested : goal.plan_chip-requires-clause-nested
+plan_chip-requires-clause-nested c =
+    let nest = c.args.nest.now in
+    let nested = c.nested-item.result in
+    let here : slice_get nest c.loop-nested.nested-index ≡ Some nested = slice_get_read nest (length nest) c.loop-nested.nested-index nested refl c.loop-nested-test.true c.nested-item.is in
+    let long : length c.deref.result.now ≡ c.loop-nested.nested-index = ap length c.deref.ensures.value ∙ c.loop-nested.invariant.long in
+    subst (λ (n : ℕ). IsNested (chips_of c.args.catalog.now) nest n nested) (sym long) (c.requires.nest _ _ here)
+
+pub plan_chip-requires-clause-plans : goal.plan_chip-requires-clause-plans
+plan_chip-requires-clause-plans c = subst (λ (ps : List Plan). FollowNest c.args.nest.now ps) (sym c.deref.ensures.value) c.loop-nested.invariant.follow
 
 pub loop-nested-preserved : goal.loop-nested-preserved
 loop-nested-preserved c =

@@ -1,14 +1,27 @@
-use Rattle.std.proofs.Common.{◌≡◌, ◌+◌, ℕ, List, ap, subst, ◌∙◌}
+use Rattle.std.proofs.Common.{◌≡◌, ◌+◌, ℕ, List, sym, ap, subst, ◌∙◌}
 use Rattle.hdl_tree.specs.Chips.{Chips, find_chip}
 use Rattle.hdl_elab.specs.Inner.Progress.{chips_of}
-use Rattle.hdl_elab.specs.Whole.{chips_in}
+use Rattle.hdl_elab.specs.Whole.{chips_in, TopIsFaultless}
 use Rattle.hdl_elab.proofs.Tops.{same_chips}
 use Rattle.hdl_flat.specs.declared.nest.Nested.{Nested}
+use Rattle.hdl_flat.specs.Ends.{EndsHavePins}
 use Rattle.hdl_flat.specs.Trees.{HasSize, told, bit_count}
 use Rattle.hdl_flat.specs.Inner.Nests.{IsNestOf}
 use Rattle.hdl_flat.specs.Inner.Sizes.{AreSizes}
 use Rattle.hdl_flat.proofs.Sizing.{counted}
 use Rattle.hdl_flat.proofs.size.count.Goals as goal
+
+pub nest_of-requires-clause-fine : goal.nest_of-requires-clause-fine
+nest_of-requires-clause-fine c =
+    let seen = chips_of c.in_ok-catalog.catalog in
+    let same : seen ≡ chips_in c.args.library.now.entries c.args.blocks = same_chips c.in_ok-catalog.catalog.entries.now c.args.library.now.entries c.in_ok-catalog.catalog.blocks c.args.blocks c.in_ok-catalog.ensures.entries c.in_ok-catalog.ensures.blocks in
+    subst (λ (name : List ℕ). TopIsFaultless seen name) (sym c.as_bytes.ensures) (subst (λ (x : Chips). TopIsFaultless x c.args.top.now) (sym same) c.requires.fine)
+
+pub nest_of-requires-clause-ends : goal.nest_of-requires-clause-ends
+nest_of-requires-clause-ends c =
+    let seen = chips_of c.in_ok-catalog.catalog in
+    let same : seen ≡ chips_in c.args.library.now.entries c.args.blocks = same_chips c.in_ok-catalog.catalog.entries.now c.args.library.now.entries c.in_ok-catalog.catalog.blocks c.args.blocks c.in_ok-catalog.ensures.entries c.in_ok-catalog.ensures.blocks in
+    subst EndsHavePins (sym same) c.requires.ends
 
 pub returns : goal.returns
 returns c = λ chip found.

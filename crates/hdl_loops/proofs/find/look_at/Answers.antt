@@ -1,12 +1,14 @@
-use Rattle.std.proofs.Common.{◌≡◌, List, Option, sym, ap, subst, ◌∙◌}
-use Rattle.std.specs.Prelude.{MatchOption, slice_get}
+use Rattle.std.proofs.Common.{◌≡◌, ℕ, List, Option, sym, ap, subst, ◌∙◌}
+use Rattle.std.specs.Prelude.{MatchOption}
+use Rattle.std.specs.declared.vec.Vec.{Vec}
+use Rattle.std.specs.declared.alloc.Global.{Global}
 use Rattle.hdl_tree.specs.declared.tree.Part.{Part}
 use Rattle.hdl_elab.specs.Whole.{chips_in}
-use Rattle.hdl_loops.specs.Inner.Hops.{NoRound, IsRound}
+use Rattle.hdl_law.specs.Loops.{IsLoop}
+use Rattle.hdl_loops.specs.Inner.Hops.{NoRound}
 use Rattle.hdl_loops.specs.Inner.Ties.{gather}
 use Rattle.hdl_loops.specs.Inner.Trees.{AreTrees}
-use Rattle.hdl_loops.specs.Inner.Knowing.{part_leaps, IsGraph}
-use Rattle.hdl_loops.specs.declared.circle.Circle.{Circle}
+use Rattle.hdl_loops.specs.Inner.Knowing.{part_leaps, AreHops, IsGraph}
 use Rattle.hdl_loops.specs.declared.hops.Hop.{Hop}
 use Rattle.hdl_loops.proofs.Hopping.{graph_hops}
 use Rattle.hdl_loops.proofs.Seen.{seen_right}
@@ -20,18 +22,14 @@ returns c =
     let list = c.as_slice-list.result.now in
     let same : list ≡ hs = c.as_slice-list.ensures.value in
     let is : IsGraph chips c.args.known.now c.args.entry.now hs = c.in_ok-hops.ensures ∙ ap (λ (ps : List Part). gather (part_leaps chips c.args.known.now) ps) (c.parts_of.ensures es) in
-    let none : NoRound hs = subst NoRound same (subst (λ (r : Option Circle). MatchOption r (NoRound list) (IsRound list)) c.in-None.is c.in_ok-circle.ensures) in
+    let none : NoRound hs = subst NoRound same (subst (λ (r : Option (Vec (List ℕ) Global)). MatchOption r (NoRound list) (λ nets. IsLoop chips c.args.entry.now nets.items)) c.in-None.is c.in_ok-nets.ensures) in
     let trees : AreTrees hs c.in_ok-trees-in-None.trees.entries = subst (λ (v : List Hop). AreTrees v c.in_ok-trees-in-None.trees.entries) same c.in_ok-trees-in-None.ensures.right in
     seen_right chips c.args.known.now c.args.entry.now (record { hops = c.in_ok-hops.hops; trees = c.in_ok-trees-in-None.trees }) c.requires.no_end is c.requires.right c.requires.done none trees c.in_ok-trees-in-None.ensures.has
 
-pub nets_of-requires-clause-hops : goal.nets_of-requires-clause-hops
-nets_of-requires-clause-hops c = λ p h e.
+pub loop_in-requires-clause-hops : goal.loop_in-requires-clause-hops
+loop_in-requires-clause-hops c =
     let es = c.args.entries.now in
     let chips = chips_in es c.args.blocks in
     let hs = c.in_ok-hops.hops.items in
-    let list = c.as_slice-list.result.now in
-    let same : list ≡ hs = c.as_slice-list.ensures.value in
     let is : IsGraph chips c.args.known.now c.args.entry.now hs = c.in_ok-hops.ensures ∙ ap (λ (ps : List Part). gather (part_leaps chips c.args.known.now) ps) (c.parts_of.ensures es) in
-    let round : IsRound list c.in-Some.circle = subst (λ (r : Option Circle). MatchOption r (NoRound list) (IsRound list)) c.in-Some.is c.in_ok-circle.ensures in
-    let q = round.inside p h e in
-    graph_hops chips c.args.known.now c.args.entry.now hs is q.0 h (ap (λ (v : List Hop). slice_get v q.0) (sym same) ∙ q.1)
+    subst (AreHops chips c.args.known.now c.args.entry.now) (sym c.as_slice-list.ensures.value) (graph_hops chips c.args.known.now c.args.entry.now hs is)

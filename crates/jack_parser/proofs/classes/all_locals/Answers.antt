@@ -5,7 +5,18 @@ use Rattle.grammar.proofs.Repeats.{Along-start, Along-more, Along-ended, Along-h
 use Rattle.grammar.proofs.Exits.{halt_repeat}
 use Rattle.jack_parser.specs.Grammar.{jack, locals_rule}
 use Rattle.jack_parser.specs.ClassTrees.{locals_tree}
+use Rattle.grammar.specs.Reading.{memory}
 use Rattle.jack_parser.proofs.classes.all_locals.Goals as goal
+
+pub returns-in_err-push-clause-reads : goal.returns-in_err-push-clause-reads
+returns-in_err-push-clause-reads c =
+    let p = err_from_is_err_and c.from_residual-in_err-push.result c.from_residual-in_err-push.ensures.1 in
+    rw (p.1, p.2) (memory)
+
+pub returns-in_err-push-2-clause-reads : goal.returns-in_err-push-2-clause-reads
+returns-in_err-push-2-clause-reads c =
+    let p = err_from_is_err_and c.from_residual-in_err-push-2.result c.from_residual-in_err-push-2.ensures.1 in
+    rw (p.1, p.2) (memory)
 
 pub returns-then-not-keyword_stands-clause-reads : goal.returns-then-not-keyword_stands-clause-reads
 returns-then-not-keyword_stands-clause-reads c = rw c.new-all.ensures.items (ended (sym c.if-not-keyword_stands.ensures))

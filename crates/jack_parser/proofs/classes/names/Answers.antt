@@ -5,7 +5,18 @@ use Rattle.grammar.proofs.Repeats.{Along-start, Along-more, Along-ended, Along-h
 use Rattle.grammar.proofs.Exits.{halt_first, halt_second}
 use Rattle.jack_parser.specs.Grammar.{jack, next_name}
 use Rattle.jack_parser.specs.ClassTrees.{next_name_tree}
+use Rattle.grammar.specs.Reading.{memory}
 use Rattle.jack_parser.proofs.classes.names.Goals as goal
+
+pub returns-in_err-first-clause-reads : goal.returns-in_err-first-clause-reads
+returns-in_err-first-clause-reads c =
+    let p = err_from_is_err_and c.from_residual.result c.from_residual.ensures.1 in
+    rw (p.1, p.2) (halt_first c.in_err-first.ensures.reads)
+
+pub returns-in_err-push-clause-reads : goal.returns-in_err-push-clause-reads
+returns-in_err-push-clause-reads c =
+    let p = err_from_is_err_and c.from_residual-in_err-push.result c.from_residual-in_err-push.ensures.1 in
+    rw (p.1, p.2) (memory)
 
 pub more-init : goal.more-init
 more-init c = record { along = Along-start (jack c.args.end) (next_name c.args.counted) next_name_tree _ _ _ c.new-more.ensures.items; no_longer = omega arith }

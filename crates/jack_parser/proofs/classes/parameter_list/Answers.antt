@@ -4,7 +4,23 @@ use Rattle.grammar.specs.Rules.{both}
 use Rattle.grammar.proofs.Continues.{begun_seq, go_on_as, done, halt_more}
 use Rattle.grammar.proofs.Exits.{halt_first, halt_second}
 use Rattle.jack_parser.proofs.Parameters.{parameters_with-push}
+use Rattle.grammar.specs.Reading.{memory}
 use Rattle.jack_parser.proofs.classes.parameter_list.Goals as goal
+
+pub returns-in_err-first-clause-reads : goal.returns-in_err-first-clause-reads
+returns-in_err-first-clause-reads c =
+    let p = err_from_is_err_and c.from_residual.result c.from_residual.ensures.1 in
+    rw (p.1, p.2) (halt_first c.in_err-first.ensures.reads)
+
+pub returns-in_err-push-clause-reads : goal.returns-in_err-push-clause-reads
+returns-in_err-push-clause-reads c =
+    let p = err_from_is_err_and c.from_residual-in_err-push.result c.from_residual-in_err-push.ensures.1 in
+    rw (p.1, p.2) (memory)
+
+pub returns-in_err-push-2-clause-reads : goal.returns-in_err-push-2-clause-reads
+returns-in_err-push-2-clause-reads c =
+    let p = err_from_is_err_and c.from_residual-in_err-push-2.result c.from_residual-in_err-push-2.ensures.1 in
+    rw (p.1, p.2) (memory)
 
 pub more-init : goal.more-init
 more-init c = rw (c.in_ok-push.ensures.items, c.new-parameters.ensures.items) record {

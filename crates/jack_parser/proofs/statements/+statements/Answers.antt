@@ -1,18 +1,20 @@
-use Rattle.std.proofs.Common.{◌∙◌, sym, arith, map, false, [], refl}
-use Rattle.std.specs.Prelude.{◌||◌}
+use Rattle.std.proofs.Common.{◌∙◌, sym, arith, [], refl}
 use Rattle.std.proofs.lemmas.Result.{err_from_is_err_and}
 use Rattle.grammar.specs.Rules.{name, both, named, in_name, passed, taken, ended, neither, not_inside}
-use Rattle.grammar.specs.Reading.{fault}
-use Rattle.grammar.proofs.Steps.{next_right}
+use Rattle.grammar.specs.Reading.{fault, memory}
+use Rattle.grammar.proofs.Entered.{skip_stops}
 use Rattle.grammar.proofs.Repeats.{Along-start, Along-more, Along-ended, Along-halts}
-use Rattle.grammar.proofs.Exits.{halt_second, halt_option, halt_repeat, halt_name, halt_within_at, halt_too_far, inside_at}
-use Rattle.jack_tree.specs.declared.token.Keyword.TheVariants as keyword
-use Rattle.jack_tree.specs.Tokens.{view}
-use Rattle.jack_parser.specs.Grammar.{jack, statement, is_keyword}
+use Rattle.grammar.proofs.Exits.{halt_second, halt_option, halt_repeat, halt_name, halt_within_at, halt_too_far, inside_at, halt_first}
+use Rattle.jack_parser.specs.Grammar.{jack, statement}
 use Rattle.jack_parser.specs.StatementTrees.{statement_tree}
 use Rattle.jack_parser.proofs.Blocks.{while_is, if_is}
-use Rattle.jack_parser.proofs.StatementRules.{while_read, if_read}
+use Rattle.jack_parser.proofs.StatementRules.{while_read, if_read, while_halts, if_halts}
 use Rattle.jack_parser.proofs.statements.+statements.Goals as goal
+
+pub else_block-returns-in_err-rest-clause-reads : goal.else_block-returns-in_err-rest-clause-reads
+else_block-returns-in_err-rest-clause-reads t c =
+    let p = err_from_is_err_and c.from_residual.result c.from_residual.ensures.1 in
+    rw (p.1, p.2) (halt_option (sym c.if-not-keyword_stands.ensures) (halt_first c.in_err-rest.ensures.reads))
 
 pub else_block-returns-then-not-keyword_stands-clause-reads : goal.else_block-returns-then-not-keyword_stands-clause-reads
 else_block-returns-then-not-keyword_stands-clause-reads t c = passed (sym c.if-not-keyword_stands.ensures)
@@ -24,6 +26,16 @@ else_block-returns-in_err-body-clause-reads t c =
 
 pub else_block-returns-clause-reads : goal.else_block-returns-clause-reads
 else_block-returns-clause-reads t c = taken (sym c.if-not-keyword_stands.ensures) (both c.in_ok-rest.ensures.reads c.in_ok-body.ensures.reads)
+
+pub statements-returns-in_err-push-clause-reads : goal.statements-returns-in_err-push-clause-reads
+statements-returns-in_err-push-clause-reads t c =
+    let p = err_from_is_err_and c.from_residual-in_err-push.result c.from_residual-in_err-push.ensures.1 in
+    rw (p.1, p.2) (memory)
+
+pub statements-returns-in_err-push-2-clause-reads : goal.statements-returns-in_err-push-2-clause-reads
+statements-returns-in_err-push-2-clause-reads t c =
+    let p = err_from_is_err_and c.from_residual-in_err-push-2.result c.from_residual-in_err-push-2.ensures.1 in
+    rw (p.1, p.2) (memory)
 
 pub statements-returns-then-not-statement_begins-clause-reads : goal.statements-returns-then-not-statement_begins-clause-reads
 statements-returns-then-not-statement_begins-clause-reads t c = rw c.new-statements.ensures.items (ended (sym c.if-not-statement_begins.ensures))
@@ -70,10 +82,63 @@ pub statement-returns-clause-reads : goal.statement-returns-clause-reads
 statement-returns-clause-reads t c = named (inside_at (sym c.if-not-statement_begins.ensures) c.here-2.ensures (sym c.in_ok-inner.ensures) c.in_ok-statement.ensures.reads)
 
 pub any_statement-returns-clause-reads : goal.any_statement-returns-clause-reads
-any_statement-returns-clause-reads t c = rw c.here.ensures (fault (neither (sym c.if-keyword_stands.ensures) (next_right (is_keyword keyword.If) (λ t. is_keyword keyword.While t || (is_keyword keyword.Do t || is_keyword keyword.Return t)) (map view c.args.tokens.now) false (sym c.if-keyword_stands-2.ensures) (next_right (is_keyword keyword.While) (λ t. is_keyword keyword.Do t || is_keyword keyword.Return t) (map view c.args.tokens.now) false (sym c.if-keyword_stands-3.ensures) (next_right (is_keyword keyword.Do) (λ t. is_keyword keyword.Return t) (map view c.args.tokens.now) false (sym c.if-keyword_stands-4.ensures) (sym c.if-keyword_stands-5.ensures))))))
+any_statement-returns-clause-reads t c = rw c.here.ensures (fault (skip_stops (sym c.if-keyword_stands.ensures) refl (skip_stops (sym c.if-keyword_stands-2.ensures) refl (skip_stops (sym c.if-keyword_stands-3.ensures) refl (neither (sym c.if-keyword_stands-4.ensures) (sym c.if-keyword_stands-5.ensures))))))
+
+pub while_statement-returns-in_err-place-clause-reads : goal.while_statement-returns-in_err-place-clause-reads
+while_statement-returns-in_err-place-clause-reads t c =
+    let p = err_from_is_err_and c.from_residual.result c.from_residual.ensures.1 in
+    rw (p.1, p.2) (while_halts c.requires.begun (halt_first c.in_err-place.ensures.reads))
+
+pub while_statement-returns-in_err-condition-clause-reads : goal.while_statement-returns-in_err-condition-clause-reads
+while_statement-returns-in_err-condition-clause-reads t c =
+    let p = err_from_is_err_and c.from_residual-in_err-condition.result c.from_residual-in_err-condition.ensures.1 in
+    rw (p.1, p.2) (while_halts c.requires.begun (halt_second c.in_ok-place.ensures.reads (halt_first c.in_err-condition.ensures.reads)))
+
+pub while_statement-returns-in_err-body-clause-reads : goal.while_statement-returns-in_err-body-clause-reads
+while_statement-returns-in_err-body-clause-reads t c =
+    let p = err_from_is_err_and c.from_residual-in_err-body.result c.from_residual-in_err-body.ensures.1 in
+    rw (p.1, p.2) (while_halts c.requires.begun (halt_second c.in_ok-place.ensures.reads (halt_second c.in_ok-condition.ensures.reads c.in_err-body.ensures.reads)))
 
 pub while_statement-returns-clause-reads : goal.while_statement-returns-clause-reads
 while_statement-returns-clause-reads t c = rw (while_is c.in_ok-place.place c.in_ok-condition.condition c.in_ok-body.body) (while_read c.requires.begun (both c.in_ok-place.ensures.reads (both c.in_ok-condition.ensures.reads c.in_ok-body.ensures.reads)))
 
+pub if_statement-returns-in_err-place-clause-reads : goal.if_statement-returns-in_err-place-clause-reads
+if_statement-returns-in_err-place-clause-reads t c =
+    let p = err_from_is_err_and c.from_residual.result c.from_residual.ensures.1 in
+    rw (p.1, p.2) (if_halts c.requires.begun (halt_first c.in_err-place.ensures.reads))
+
+pub if_statement-returns-in_err-condition-clause-reads : goal.if_statement-returns-in_err-condition-clause-reads
+if_statement-returns-in_err-condition-clause-reads t c =
+    let p = err_from_is_err_and c.from_residual-in_err-condition.result c.from_residual-in_err-condition.ensures.1 in
+    rw (p.1, p.2) (if_halts c.requires.begun (halt_second c.in_ok-place.ensures.reads (halt_first c.in_err-condition.ensures.reads)))
+
+pub if_statement-returns-in_err-body-clause-reads : goal.if_statement-returns-in_err-body-clause-reads
+if_statement-returns-in_err-body-clause-reads t c =
+    let p = err_from_is_err_and c.from_residual-in_err-body.result c.from_residual-in_err-body.ensures.1 in
+    rw (p.1, p.2) (if_halts c.requires.begun (halt_second c.in_ok-place.ensures.reads (halt_second c.in_ok-condition.ensures.reads (halt_first c.in_err-body.ensures.reads))))
+
+pub if_statement-returns-in_err-other-clause-reads : goal.if_statement-returns-in_err-other-clause-reads
+if_statement-returns-in_err-other-clause-reads t c =
+    let p = err_from_is_err_and c.from_residual-in_err-other.result c.from_residual-in_err-other.ensures.1 in
+    rw (p.1, p.2) (if_halts c.requires.begun (halt_second c.in_ok-place.ensures.reads (halt_second c.in_ok-condition.ensures.reads (halt_second c.in_ok-body.ensures.reads c.in_err-other.ensures.reads))))
+
 pub if_statement-returns-clause-reads : goal.if_statement-returns-clause-reads
 if_statement-returns-clause-reads t c = rw (if_is c.in_ok-place.place c.in_ok-condition.condition c.in_ok-body.body c.in_ok-other.other) (if_read c.requires.begun (both c.in_ok-place.ensures.reads (both c.in_ok-condition.ensures.reads (both c.in_ok-body.ensures.reads c.in_ok-other.ensures.reads))))
+
+pub block-returns-in_err-rest-clause-reads : goal.block-returns-in_err-rest-clause-reads
+block-returns-in_err-rest-clause-reads t c =
+    let p = err_from_is_err_and c.from_residual.result c.from_residual.ensures.1 in
+    rw (p.1, p.2) (halt_first c.in_err-rest.ensures.reads)
+
+pub block-returns-in_err-statements-clause-reads : goal.block-returns-in_err-statements-clause-reads
+block-returns-in_err-statements-clause-reads t c =
+    let p = err_from_is_err_and c.from_residual-in_err-statements.result c.from_residual-in_err-statements.ensures.1 in
+    rw (p.1, p.2) (halt_second c.in_ok-rest.ensures.reads (halt_first c.in_err-statements.ensures.reads))
+
+pub block-returns-in_err-rest-2-clause-reads : goal.block-returns-in_err-rest-2-clause-reads
+block-returns-in_err-rest-2-clause-reads t c =
+    let p = err_from_is_err_and c.from_residual-in_err-rest-2.result c.from_residual-in_err-rest-2.ensures.1 in
+    rw (p.1, p.2) (halt_second c.in_ok-rest.ensures.reads (halt_second c.in_ok-statements.ensures.reads c.in_err-rest-2.ensures.reads))
+
+pub block-returns-clause-reads : goal.block-returns-clause-reads
+block-returns-clause-reads t c = both c.in_ok-rest.ensures.reads (both c.in_ok-statements.ensures.reads c.in_ok-rest-2.ensures.reads)

@@ -1,12 +1,15 @@
-use Rattle.std.proofs.Common.{◌<◌, [], ◌∷◌, length, List, sym, subst}
+use Rattle.std.proofs.Common.{◌<◌, [], ◌∷◌, length, List, refl, sym, subst}
+use Rattle.std.proofs.lemmas.Result.{on_ok_weaker}
 use Rattle.hdl_elab.specs.Whole.{chips_in}
+use Rattle.hdl_law.specs.Loops.{IsLoop}
 use Rattle.hdl_loops.specs.Inner.Hops.{bit, AreJoined}
 use Rattle.hdl_loops.specs.Inner.Knowing.{AreHops}
+use Rattle.hdl_loops.specs.Inner.Told.{names_of, ToldTo}
 use Rattle.hdl_loops.specs.declared.hops.Hop.{Hop}
 use Rattle.hdl_loops.proofs.Passing.{start_told, still_told}
 use Rattle.hdl_loops.proofs.Outward.{circle_told}
 use Rattle.hdl_loops.proofs.Leaping.{linked_joined, told_along}
-use Rattle.hdl_loops.proofs.names.nets_of.Goals as goal
+use Rattle.hdl_loops.proofs.names.tell.Goals as goal
 
 pub follow-requires-clause-hops : goal.follow-requires-clause-hops
 follow-requires-clause-hops c = subst (AreHops (chips_in c.args.entries.now c.args.blocks) c.args.known.now c.args.entry.now) (sym c.as_slice-way.ensures.value) c.requires.hops
@@ -22,12 +25,15 @@ follow-requires-clause-joined c =
 pub follow-requires-clause-right : goal.follow-requires-clause-right
 follow-requires-clause-right c =
     let chips = chips_in c.args.entries.now c.args.blocks in
-    still_told chips c.new-told.result c.add.new.self (c.args.circle.now.at.name.now ∷ []) (start_told chips c.new-told.result c.new-told.ensures.passed) c.in_ok-add.ensures.passed c.in_ok-add.ensures.names
+    still_told chips c.args.told.now c.add.new.self (c.args.circle.now.at.name.now ∷ []) (start_told chips c.args.told.now c.requires.passed) c.in_ok-add.ensures.passed c.in_ok-add.ensures.names
 
 pub returns : goal.returns
 returns c =
     let chips = chips_in c.args.entries.now c.args.blocks in
+    let chip = c.args.entry.now in
     let x = bit c.args.circle.now.at in
-    circle_told chips c.args.entry.now c.args.circle.now.at c.new-told.result c.add.new.self c.follow.new.told _ c.new-told.ensures.names c.in_ok-add.ensures.names
-    (told_along chips c.args.entry.now c.as_slice-way.result.now c.args.circle.now.way.items x x c.add.new.self c.follow.new.told c.as_slice-way.ensures.value c.requires.round.0 c.requires.round.1 c.in_ok-follow.ensures.told)
-    c.in_ok-copied.ensures
+    let way = c.as_slice-way.result.now in
+    let told = c.follow.new.told in
+    on_ok_weaker {P = ToldTo chips chip way (length way) c.add.new.self told} {Q = IsLoop chips chip (names_of told)} c.follow.result (λ t. circle_told chips chip c.args.circle.now.at c.args.told.now c.add.new.self told _ c.requires.names c.in_ok-add.ensures.names
+    (told_along chips chip way c.args.circle.now.way.items x x c.add.new.self told c.as_slice-way.ensures.value c.requires.round.0 c.requires.round.1 t)
+    refl) c.follow.ensures.told

@@ -1,0 +1,12 @@
+use Rattle.std.proofs.Common.{Option, subst}
+use Rattle.std.specs.Prelude.{MatchOption}
+use Rattle.hdl_loops.specs.Inner.Hops.{NoRound, IsRound}
+use Rattle.hdl_loops.specs.declared.circle.Circle.{Circle}
+use Rattle.hdl_loops.proofs.find.loop_in.Goals as goal
+
+pub nets_of-requires-clause-hops : goal.nets_of-requires-clause-hops
+nets_of-requires-clause-hops c = λ p h e.
+    let hops = c.args.hops.now in
+    let round : IsRound hops c.in-Some.circle = subst (λ (r : Option Circle). MatchOption r (NoRound hops) (IsRound hops)) c.in-Some.is c.in_ok-circle_in.ensures in
+    let q = round.inside p h e in
+    c.requires.hops q.0 h q.1

@@ -1,0 +1,23 @@
+use Rattle.std.proofs.lemmas.Result.{err_from_is_err_and}
+use Rattle.grammar.specs.Rules.{both}
+use Rattle.grammar.proofs.Exits.{halt_first, halt_second}
+use Rattle.jack_parser.proofs.StatementRules.{return_read, return_halts}
+use Rattle.jack_parser.proofs.statements.return_statement.Goals as goal
+
+pub returns-in_err-place-clause-reads : goal.returns-in_err-place-clause-reads
+returns-in_err-place-clause-reads c =
+    let p = err_from_is_err_and c.from_residual.result c.from_residual.ensures.1 in
+    rw (p.1, p.2) (return_halts c.requires.begun (halt_first c.in_err-place.ensures.reads))
+
+pub returns-in_err-value-clause-reads : goal.returns-in_err-value-clause-reads
+returns-in_err-value-clause-reads c =
+    let p = err_from_is_err_and c.from_residual-in_err-value.result c.from_residual-in_err-value.ensures.1 in
+    rw (p.1, p.2) (return_halts c.requires.begun (halt_second c.in_ok-place.ensures.reads (halt_first c.in_err-value.ensures.reads)))
+
+pub returns-in_err-rest-clause-reads : goal.returns-in_err-rest-clause-reads
+returns-in_err-rest-clause-reads c =
+    let p = err_from_is_err_and c.from_residual-in_err-rest.result c.from_residual-in_err-rest.ensures.1 in
+    rw (p.1, p.2) (return_halts c.requires.begun (halt_second c.in_ok-place.ensures.reads (halt_second c.in_ok-value.ensures.reads c.in_err-rest.ensures.reads)))
+
+pub returns-clause-reads : goal.returns-clause-reads
+returns-clause-reads c = return_read c.requires.begun (both c.in_ok-place.ensures.reads (both c.in_ok-value.ensures.reads c.in_ok-rest.ensures.reads))
