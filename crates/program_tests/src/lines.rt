@@ -18,27 +18,30 @@ const USAGE: &str = "usage: nand COMMAND ARGUMENTS\n";
 
 const READ_FAULT: &str = "nand: read fault\n";
 
-/// One file on the shelf, or two, and the calls that fail.
-#[derive(Drop)]
+/// Files on the shelf, lines of words that each end alike over them, and how: the status, and what is put.
+#[derive(Clone, Copy)]
 struct Case<'a> {
-    path: &'a str,
-    text: &'a [u8],
-    other: Option<(&'a str, &'a [u8])>,
-    shelf_fails: &'a [u64],
-    out_fails: &'a [(u64, u32)],
-    err_fails: &'a [(u64, u32)],
+    files: &'a [(&'a str, &'a str)],
+    lines: &'a [&'a str],
+    fails: Failures<'a>,
+    status: Status,
+    out: &'a str,
+    err: &'a str,
 }
 
-fn one_file<'a>(path: &'a str, text: &'a [u8]) -> Case<'a> {
-    Case {
-        path,
-        text,
-        other: None,
-        shelf_fails: &[],
-        out_fails: &[],
-        err_fails: &[],
-    }
+/// The calls of the shelf that fail, and the puts of out and err, with how many bytes they still take.
+#[derive(Clone, Copy)]
+struct Failures<'a> {
+    shelf: &'a [u64],
+    out: &'a [(u64, u32)],
+    err: &'a [(u64, u32)],
 }
+
+const NONE: Failures<'static> = Failures {
+    shelf: &[],
+    out: &[],
+    err: &[],
+};
 
 #[derive(Drop)]
 struct Outcome {
@@ -47,119 +50,189 @@ struct Outcome {
     err: MemorySink,
 }
 
-// What a call with these words does over a shelf.
-fn outcome_on(
-    alloc: Global,
-    shelf: MemoryShelf,
-    out: MemorySink,
-    err: MemorySink,
-    words: &[&str],
-) -> Result<Outcome, AllocError> {
-    let mut strings = Vec::new(alloc);
-    for word in words {
-        strings.push(String::from_str(alloc, word)?)?;
+fn files_of(alloc: Global, files: &[(&str, &str)]) -> Result<Vec<(Name, Vec<u8>)>, AllocError> {
+    let mut all = Vec::new(alloc);
+    for (path, text) in files {
+        let text = text.as_bytes().to_vec(alloc)?;
+        all.push((Name::new(alloc, path)?, text))?;
     }
-    let mut shelf = shelf;
-    let mut out = out;
-    let mut err = err;
-    let status = run(alloc, &strings, &mut shelf, &mut out, &mut err);
-    Ok(Outcome { status, out, err })
+    Ok(all)
 }
 
-fn outcome_of(alloc: Global, case: &Case<'_>, words: &[&str]) -> Result<Outcome, AllocError> {
-    let mut files = Vec::new(alloc);
-    files.push((Name::new(alloc, case.path)?, case.text.to_vec(alloc)?))?;
-    if let Some((path, text)) = case.other {
-        files.push((Name::new(alloc, path)?, text.to_vec(alloc)?))?;
-    }
-    let shelf = MemoryShelf::new(files, case.shelf_fails.to_vec(alloc)?);
-    let out = MemorySink::new(alloc, 200_000, case.out_fails.to_vec(alloc)?)?;
-    let err = MemorySink::new(alloc, 1_000, case.err_fails.to_vec(alloc)?)?;
-    outcome_on(alloc, shelf, out, err, words)
-}
-
-// The same over these files, where no call fails.
-fn outcome_over(
-    alloc: Global,
-    files: Vec<(Name, Vec<u8>)>,
-    words: &[&str],
-) -> Result<Outcome, AllocError> {
-    let shelf = MemoryShelf::new(files, Vec::new(alloc));
-    let out = MemorySink::new(alloc, 200_000, Vec::new(alloc))?;
-    let err = MemorySink::new(alloc, 1_000, Vec::new(alloc))?;
-    outcome_on(alloc, shelf, out, err, words)
-}
-
-fn expect(
-    rt: &impl Abort,
-    alloc: Global,
-    case: &Case<'_>,
-    words: &[&str],
-    status: Status,
-    out: &str,
-    err: &str,
-) -> Result<(), Fail> {
-    let outcome = outcome_of(alloc, case, words)?;
-    assert_eq!(rt; outcome.status, status);
-    assert_eq!(rt; outcome.out.bytes(), out.as_bytes());
-    assert_eq!(rt; outcome.err.bytes(), err.as_bytes());
-    Ok(())
-}
-
-// The words of a text, which stand apart by single spaces.
-fn words_in(alloc: Global, text: &str) -> Result<Vec<&str>, AllocError> {
+// The words of a line, which stand apart by single spaces.
+fn words_in(alloc: Global, line: &str) -> Result<Vec<String>, AllocError> {
     let mut words = Vec::new(alloc);
-    for word in text.split(' ') {
-        words.push(word)?;
+    for word in line.split(' ') {
+        words.push(String::from_str(alloc, word)?)?;
     }
     Ok(words)
 }
 
-// A line of words is done, and this is what it puts.
+// What a call with these words does over these files.
+fn called(
+    alloc: Global,
+    files: Vec<(Name, Vec<u8>)>,
+    words: &[String],
+    fails: Failures<'_>,
+) -> Result<Outcome, AllocError> {
+    let mut shelf = MemoryShelf::new(files, fails.shelf.to_vec(alloc)?);
+    let mut out = MemorySink::new(alloc, 200_000, fails.out.to_vec(alloc)?)?;
+    let mut err = MemorySink::new(alloc, 1_000, fails.err.to_vec(alloc)?)?;
+    let status = run(alloc, words, &mut shelf, &mut out, &mut err);
+    Ok(Outcome { status, out, err })
+}
+
+// The same of a line.
+fn outcome_of(
+    alloc: Global,
+    files: Vec<(Name, Vec<u8>)>,
+    line: &str,
+    fails: Failures<'_>,
+) -> Result<Outcome, AllocError> {
+    called(alloc, files, &words_in(alloc, line)?, fails)
+}
+
+// A row's line ended so: by this status, with this on out and on err.
+fn ended(
+    rt: &impl Abort,
+    row: usize,
+    line: &str,
+    outcome: &Outcome,
+    status: Status,
+    out: &str,
+    err: &str,
+) {
+    assert_eq!(rt; outcome.err.bytes(), err.as_bytes(), "row {row}, {line}");
+    assert_eq!(rt; outcome.out.bytes(), out.as_bytes(), "row {row}, {line}");
+    assert_eq!(rt; outcome.status, status, "row {row}, {line}");
+}
+
+// Each line of a row's case ends as it says.
+fn ends(rt: &impl Abort, alloc: Global, row: usize, case: &Case<'_>) -> Result<(), Fail> {
+    for line in case.lines {
+        let files = files_of(alloc, case.files)?;
+        let outcome = outcome_of(alloc, files, line, case.fails)?;
+        ended(rt, row, line, &outcome, case.status, case.out, case.err);
+    }
+    Ok(())
+}
+
+fn each_ends(rt: &impl Abort, alloc: Global, cases: &[Case<'_>]) -> Result<(), Fail> {
+    for (row, case) in cases.iter().enumerate() {
+        ends(rt, alloc, row, case)?;
+    }
+    Ok(())
+}
+
+// A row's file stands alone, and this line is done and puts this.
 fn done(
     rt: &impl Abort,
     alloc: Global,
-    case: &Case<'_>,
+    row: usize,
+    file: (&str, &str),
     line: &str,
     out: &str,
 ) -> Result<(), Fail> {
-    let words = words_in(alloc, line)?;
-    expect(rt, alloc, case, &words, Status::Done, out, "")
+    let files = files_of(alloc, &[file])?;
+    let outcome = outcome_of(alloc, files, line, NONE)?;
+    ended(rt, row, line, &outcome, Status::Done, out, "");
+    Ok(())
 }
 
-// A line of words is refused by this line.
+fn each_is_done(
+    rt: &impl Abort,
+    alloc: Global,
+    rows: &[(&str, &str, &str, &str)],
+) -> Result<(), Fail> {
+    for (row, (path, text, line, out)) in rows.iter().enumerate() {
+        done(rt, alloc, row, (*path, *text), line, out)?;
+    }
+    Ok(())
+}
+
+// A row's file stands alone, and each of these lines is refused so.
 fn refused(
     rt: &impl Abort,
     alloc: Global,
-    case: &Case<'_>,
-    line: &str,
+    row: usize,
+    file: (&str, &str),
+    lines: &[&str],
     err: &str,
 ) -> Result<(), Fail> {
-    let words = words_in(alloc, line)?;
-    expect(rt, alloc, case, &words, Status::Refused, "", err)
+    for line in lines {
+        let files = files_of(alloc, &[file])?;
+        let outcome = outcome_of(alloc, files, line, NONE)?;
+        ended(rt, row, line, &outcome, Status::Refused, "", err);
+    }
+    Ok(())
 }
 
-// A class Main with these statements.
-fn class_of(alloc: Global, body: &str) -> Result<Vec<u8>, AllocError> {
-    let mut text = Vec::new(alloc);
-    text.extend_from_slice(b"class Main { function void main() { ")?;
-    text.extend_from_slice(body.as_bytes())?;
-    text.extend_from_slice(b" } }")?;
+fn each_is_refused(
+    rt: &impl Abort,
+    alloc: Global,
+    rows: &[(&str, &str, &str, &str)],
+) -> Result<(), Fail> {
+    for (row, (path, text, line, err)) in rows.iter().enumerate() {
+        let lines = [*line];
+        refused(rt, alloc, row, (*path, *text), &lines, err)?;
+    }
+    Ok(())
+}
+
+/// A text with a long middle: so many times the same piece between two others, with its number and a further piece behind it where
+/// there is one.
+#[derive(Clone, Copy)]
+struct Long<'a> {
+    front: &'a str,
+    piece: &'a str,
+    behind_number: Option<&'a str>,
+    times: u32,
+    back: &'a str,
+}
+
+fn text_of(alloc: Global, long: &Long<'_>) -> Result<Vec<u8>, Fail> {
+    let mut text = long.front.as_bytes().to_vec(alloc)?;
+    for number in 0..long.times {
+        text.extend_from_slice(long.piece.as_bytes())?;
+        if let Some(behind) = long.behind_number {
+            let more = format!(in alloc; "{number}{behind}")?;
+            text.extend_from_slice(more.as_bytes())?;
+        }
+    }
+    text.extend_from_slice(long.back.as_bytes())?;
     Ok(text)
 }
 
-// What `run prog --level ..` with these further words reports of a class Main with these statements.
-fn reports(
+// Each line of a case ends as it says, where a file with a long text stands beside the others.
+fn each_long_ends(
     rt: &impl Abort,
     alloc: Global,
-    body: &str,
-    level: &str,
-    report: &str,
+    rows: &[(&str, Long<'_>, Case<'_>)],
 ) -> Result<(), Fail> {
-    let text = class_of(alloc, body)?;
-    let line = format!(in alloc; "run prog --level {level}")?;
-    let case = one_file("prog/Main.jack", &text);
-    done(rt, alloc, &case, &line, report)
+    for (row, (path, long, case)) in rows.iter().enumerate() {
+        for line in case.lines {
+            let mut files = files_of(alloc, case.files)?;
+            files.push((Name::new(alloc, path)?, text_of(alloc, long)?))?;
+            let outcome = outcome_of(alloc, files, line, case.fails)?;
+            ended(rt, row, line, &outcome, case.status, case.out, case.err);
+        }
+    }
+    Ok(())
+}
+
+// A class Main with these statements.
+fn class_of(alloc: Global, body: &str) -> Result<String, Fail> {
+    Ok(format!(in alloc; "class Main {{ function void main() {{ {body} }} }}")?)
+}
+
+// What `run prog --level ..` with these further words reports of a class Main with these statements.
+fn each_reports(rt: &impl Abort, alloc: Global, rows: &[(&str, &str, &str)]) -> Result<(), Fail> {
+    for (row, (body, level, report)) in rows.iter().enumerate() {
+        let text = class_of(alloc, body)?;
+        let line = format!(in alloc; "run prog --level {level}")?;
+        done(rt, alloc, row, ("prog/Main.jack", &text), &line, report)?;
+    }
+    Ok(())
 }
 
 // A screen whose black pixels are in these columns of the first row.
@@ -175,30 +248,49 @@ fn screen_of(alloc: Global, columns: &[usize]) -> Result<String, AllocError> {
     Ok(text)
 }
 
-// A line of words is done, and ends with such a screen.
+// A row's run is done at this level, and ends with such a screen.
 fn shows(
     rt: &impl Abort,
     alloc: Global,
-    case: &Case<'_>,
-    line: &str,
+    row: usize,
+    files: Vec<(Name, Vec<u8>)>,
+    level: &str,
     columns: &[usize],
 ) -> Result<(), Fail> {
-    let outcome = outcome_of(alloc, case, &words_in(alloc, line)?)?;
+    let line = format!(in alloc; "run prog --level {level} --show screen")?;
+    let outcome = outcome_of(alloc, files, &line, NONE)?;
     let screen = screen_of(alloc, columns)?;
-    assert_eq!(rt; outcome.status, Status::Done);
-    assert!(rt; outcome.out.bytes().ends_with(screen.as_bytes()));
+    assert_eq!(rt; outcome.status, Status::Done, "row {row}, {line}");
+    assert!(rt;
+        outcome.out.bytes().ends_with(screen.as_bytes()),
+        "row {row}, {line}"
+    );
     Ok(())
 }
 
-// At each level a class Main with these statements makes this screen.
-fn screens(rt: &impl Abort, alloc: Global, body: &str, columns: &[usize]) -> Result<(), Fail> {
-    let text = class_of(alloc, body)?;
-    let case = one_file("prog/Main.jack", &text);
-    for level in ["jack", "vm", "hack", "gates"] {
-        let line = format!(in alloc; "run prog --level {level} --cycles 100000 --show screen")?;
-        shows(rt, alloc, &case, &line, columns)?;
-    }
+// A line whose second put takes ten bytes alone has put so many bytes, which are the first of what it puts else.
+fn is_cut(
+    rt: &impl Abort,
+    alloc: Global,
+    files: &[(&str, &str)],
+    line: &str,
+    length: usize,
+) -> Result<(), Fail> {
+    let whole = outcome_of(alloc, files_of(alloc, files)?, line, NONE)?;
+    let fails = Failures {
+        out: &[(2, 10)],
+        ..NONE
+    };
+    let cut = outcome_of(alloc, files_of(alloc, files)?, line, fails)?;
+    assert_eq!(rt; cut.status, Status::WriteFault);
+    assert_eq!(rt; cut.out.bytes().len(), length);
+    assert_eq!(rt; cut.err.bytes().len(), 0);
+    assert!(rt; whole.out.bytes().starts_with(cut.out.bytes()));
     Ok(())
 }
 
+// It sets the first word of the screen to 1.
 const STORE: &str = "var Array s; let s = 16384; let s[0] = 1; return;";
+
+const STORE_CLASS: &str =
+    "class Main { function void main() { var Array s; let s = 16384; let s[0] = 1; return; } }";

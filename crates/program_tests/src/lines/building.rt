@@ -1,104 +1,106 @@
 //! Lines of `compile`, `build`, `map` and `chip`.
-use super::{Case, READ_FAULT, done, expect, one_file, outcome_of, refused};
+use super::{
+    Case, Failures, NONE, READ_FAULT, each_ends, each_is_done, each_is_refused, files_of, is_cut,
+    outcome_of,
+};
 use nand_cli::Status;
 use std::test::Fail;
 
-const MAIN: &[u8] = b"class Main { function void main() { } }";
+const MAIN: &str = "class Main { function void main() { } }";
 
-// The class Main beside another.
-fn folder<'a>() -> Case<'a> {
-    Case {
-        other: Some(("prog/A.jack", b"class A { }")),
-        ..one_file("prog/Main.jack", MAIN)
-    }
-}
+// the class Main beside another
+const FOLDER: &[(&str, &str)] = &[("prog/Main.jack", MAIN), ("prog/A.jack", "class A { }")];
 
-// The classes stand in order of file name, each behind its name, also one without subroutines.
-#[test]
-fn a_folder_is_compiled(rt: HostRuntime) -> Result<(), Fail> {
-    let main = "// file Main.vm\nfunction Main.main 0\npush constant 0\nreturn\n";
-    let alone = one_file("prog/Main.jack", MAIN);
-    done(&rt, rt.alloc(), &alone, "compile prog", main)?;
-    let both = format!(in rt.alloc(); "// file A.vm\n{main}")?;
-    done(&rt, rt.alloc(), &folder(), "compile prog", &both)?;
+const DONE: &[(&str, &str, &str, &str)] = &[
+    (
+        "prog/Main.jack",
+        MAIN,
+        "compile prog",
+        "// file Main.vm\nfunction Main.main 0\npush constant 0\nreturn\n",
+    ),
     // a subroutine that nothing calls is there too
-    let text = b"class Main { function void main() { } function int f(int n) { return -n; } }";
-    let further = "function Main.f 0\npush argument 0\nneg\nreturn\n";
-    let more = format!(in rt.alloc(); "{main}{further}")?;
-    let case = one_file("prog/Main.jack", text);
-    done(&rt, rt.alloc(), &case, "compile prog", &more)
-}
+    (
+        "prog/Main.jack",
+        "class Main { function void main() { } function int f(int n) { return -n; } }",
+        "compile prog",
+        "// file Main.vm\nfunction Main.main 0\npush constant 0\nreturn\nfunction Main.f 0\npush argument 0\nneg\nreturn\n",
+    ),
+    (
+        "a",
+        "",
+        "chip Not",
+        "CHIP Not {\nIN in ;\nOUT out ;\nPARTS : Nand ( a = in , b = in , out = out ) ;\n}\n",
+    ),
+    (
+        "a",
+        "",
+        "chip Nand",
+        "CHIP Nand {\nIN a , b ;\nOUT out ;\nBUILTIN Nand ;\n}\n",
+    ),
+];
+
+const REFUSED: &[(&str, &str, &str, &str)] = &[
+    ("a", "", "chip Nor", "Nor:0:0: UnknownChip Nor\n"),
+    ("a", "", "chip not", "not:0:0: UnknownChip not\n"),
+    ("a", "", "chip a.hdl", "a.hdl:0:0: UnknownChip a.hdl\n"),
+];
+
+const CASES: &[Case<'static>] = &[
+    // the classes stand in order of file name, each behind its name, also one without subroutines
+    Case {
+        files: FOLDER,
+        lines: &["compile prog"],
+        fails: NONE,
+        status: Status::Done,
+        out: "// file A.vm\n// file Main.vm\nfunction Main.main 0\npush constant 0\nreturn\n",
+        err: "",
+    },
+    Case {
+        files: &[
+            ("prog/Main.jack", MAIN),
+            ("prog/Math.jack", "class Math { }"),
+        ],
+        lines: &["compile prog", "build prog", "map prog"],
+        fails: NONE,
+        status: Status::Refused,
+        out: "",
+        err: "prog/Math.jack:1:7: ClassTwice Math\n",
+    },
+    // the calls of the shelf are the listing, A and Main
+    Case {
+        files: FOLDER,
+        lines: &["build prog"],
+        fails: Failures {
+            shelf: &[3],
+            out: &[],
+            err: &[],
+        },
+        status: Status::ReadFault,
+        out: "",
+        err: READ_FAULT,
+    },
+];
 
 // The words of the image stand one a line, and the map begins with the points of the start code.
 #[test]
 fn a_program_is_built(rt: HostRuntime) -> Result<(), Fail> {
-    let outcome = outcome_of(rt.alloc(), &folder(), &["build", "prog"])?;
-    assert_eq!(rt; outcome.status, Status::Done);
-    assert_eq!(rt; outcome.out.bytes().len(), 8_890 * 17);
-    let begun = b"0000000100000000\n1110110000010000\n0000000000000000\n1110001100001000\n";
-    assert!(rt; outcome.out.bytes().starts_with(begun.as_slice()));
-    let outcome = outcome_of(rt.alloc(), &folder(), &["map", "prog"])?;
-    assert_eq!(rt; outcome.status, Status::Done);
-    let begun = b"map 1\npoint 0 51 start 1\npoint 51 53 start 2\n";
-    assert!(rt; outcome.out.bytes().starts_with(begun.as_slice()));
-    Ok(())
-}
-
-#[test]
-fn a_folder_is_not_built(rt: HostRuntime) -> Result<(), Fail> {
-    let twice = Case {
-        other: Some(("prog/Math.jack", b"class Math { }")),
-        ..one_file("prog/Main.jack", MAIN)
-    };
-    let told = "prog/Math.jack:1:7: ClassTwice Math\n";
-    refused(&rt, rt.alloc(), &twice, "compile prog", told)?;
-    refused(&rt, rt.alloc(), &twice, "build prog", told)?;
-    refused(&rt, rt.alloc(), &twice, "map prog", told)
-}
-
-// The calls of the shelf are the listing, A and Main; the second piece of the image stops after ten bytes.
-#[test]
-fn build_tells_of_faults_outside(rt: HostRuntime) -> Result<(), Fail> {
     let alloc = rt.alloc();
-    let words = ["build", "prog"];
-    let unread = Case {
-        shelf_fails: &[3],
-        ..folder()
-    };
-    let fault = Status::ReadFault;
-    expect(&rt, alloc, &unread, &words, fault, "", READ_FAULT)?;
-    let unwritten = Case {
-        out_fails: &[(2, 10)],
-        ..folder()
-    };
-    let whole = outcome_of(alloc, &folder(), &words)?;
-    let outcome = outcome_of(alloc, &unwritten, &words)?;
-    assert_eq!(rt; outcome.status, Status::WriteFault);
-    assert_eq!(rt; outcome.out.bytes().len(), 4_106);
-    assert!(rt; whole.out.bytes().starts_with(outcome.out.bytes()));
-    Ok(())
+    let image = outcome_of(alloc, files_of(alloc, FOLDER)?, "build prog", NONE)?;
+    assert_eq!(rt; image.status, Status::Done);
+    assert_eq!(rt; image.out.bytes().len(), 8_890 * 17);
+    let begun = b"0000000100000000\n1110110000010000\n0000000000000000\n1110001100001000\n";
+    assert!(rt; image.out.bytes().starts_with(begun.as_slice()));
+    let map = outcome_of(alloc, files_of(alloc, FOLDER)?, "map prog", NONE)?;
+    assert_eq!(rt; map.status, Status::Done);
+    let begun = b"map 1\npoint 0 51 start 1\npoint 51 53 start 2\n";
+    assert!(rt; map.out.bytes().starts_with(begun.as_slice()));
+    is_cut(&rt, alloc, FOLDER, "build prog", 4_106)
 }
 
 #[test]
-fn chips_are_printed(rt: HostRuntime) -> Result<(), Fail> {
-    let chips = [
-        (
-            "chip Not",
-            "CHIP Not {\nIN in ;\nOUT out ;\nPARTS : Nand ( a = in , b = in , out = out ) ;\n}\n",
-        ),
-        (
-            "chip Nand",
-            "CHIP Nand {\nIN a , b ;\nOUT out ;\nBUILTIN Nand ;\n}\n",
-        ),
-    ];
-    let nothing = one_file("a", b"");
-    for (line, printed) in chips {
-        done(&rt, rt.alloc(), &nothing, line, printed)?;
-    }
-    for name in ["Nor", "not", "a.hdl"] {
-        let line = format!(in rt.alloc(); "chip {name}")?;
-        let told = format!(in rt.alloc(); "{name}:0:0: UnknownChip {name}\n")?;
-        refused(&rt, rt.alloc(), &nothing, &line, &told)?;
-    }
-    Ok(())
+fn lines_of_folders_and_chips(rt: HostRuntime) -> Result<(), Fail> {
+    let alloc = rt.alloc();
+    each_is_done(&rt, alloc, DONE)?;
+    each_is_refused(&rt, alloc, REFUSED)?;
+    each_ends(&rt, alloc, CASES)
 }

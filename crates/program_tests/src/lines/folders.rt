@@ -1,62 +1,12 @@
 //! Lines of `run` over folders of several classes.
-use super::{outcome_over, screen_of, words_in};
+use super::{
+    Case, Long, NONE, each_long_ends, ends, files_of, outcome_of, refused, shows, text_of,
+};
 use nand_cli::Status;
 use outer_world::Name;
-use std::alloc::{AllocError, Global};
+use std::alloc::Global;
 use std::process::Abort;
 use std::test::Fail;
-
-// Files of the folder `prog`, each by its name and its text.
-fn files_of(alloc: Global, files: &[(&str, &str)]) -> Result<Vec<(Name, Vec<u8>)>, Fail> {
-    let mut all = Vec::new(alloc);
-    for (name, text) in files {
-        let path = format!(in alloc; "prog/{name}")?;
-        let text = text.as_bytes().to_vec(alloc)?;
-        all.push((Name::new(alloc, path.as_str())?, text))?;
-    }
-    Ok(all)
-}
-
-// What `run prog --level jack` with these further words answers over these files.
-fn answers(
-    rt: &impl Abort,
-    alloc: Global,
-    files: &[(&str, &str)],
-    more: &str,
-    status: Status,
-    out: &str,
-    err: &str,
-) -> Result<(), Fail> {
-    let line = format!(in alloc; "run prog --level jack {more}")?;
-    let words = words_in(alloc, &line)?;
-    let outcome = outcome_over(alloc, files_of(alloc, files)?, &words)?;
-    assert_eq!(rt; outcome.err.bytes(), err.as_bytes());
-    assert_eq!(rt; outcome.out.bytes(), out.as_bytes());
-    assert_eq!(rt; outcome.status, status);
-    Ok(())
-}
-
-fn refused(rt: &impl Abort, alloc: Global, files: &[(&str, &str)], line: &str) -> Result<(), Fail> {
-    answers(rt, alloc, files, "--cycles 100", Status::Refused, "", line)
-}
-
-// At these levels these files are run with the screen shown, which has black pixels in these columns of its first row.
-fn screens(
-    rt: &impl Abort,
-    alloc: Global,
-    files: &[(&str, &str)],
-    levels: &[&str],
-    columns: &[usize],
-) -> Result<(), Fail> {
-    let screen = screen_of(alloc, columns)?;
-    for level in levels {
-        let line = format!(in alloc; "run prog --level {level} --cycles 300000 --show screen")?;
-        let outcome = outcome_over(alloc, files_of(alloc, files)?, &words_in(alloc, &line)?)?;
-        assert_eq!(rt; outcome.status, Status::Done);
-        assert!(rt; outcome.out.bytes().ends_with(screen.as_bytes()));
-    }
-    Ok(())
-}
 
 const LEVELS: &[&str] = &["jack", "vm", "hack"];
 
@@ -91,380 +41,540 @@ const BITS: &[usize] = &[
     170, 171, 172, 173, 174, 175,
 ];
 
+// the order of the files is that of their names, whatever that of the shelf is; other files are not looked at
+const FOLDER: &[(&str, &str)] = &[
+    ("prog/readme.txt", "class"),
+    ("prog/Point.jack", POINT),
+    ("prog/Main.jack", MAIN),
+];
+
+// texts of Main.jack, the levels at which they are run, and the screen
+const LONG_SCREENS: &[(Long<'static>, &[&str], &[usize])] = &[
+    // the bits of 2,000
+    (
+        Long {
+            front: "class Main { function void main() { var Array a; let a = 16384; let a[0] = 0",
+            piece: " + 1",
+            behind_number: None,
+            times: 2_000,
+            back: "; } }",
+        },
+        LEVELS,
+        &[4, 6, 7, 8, 9, 10],
+    ),
+    // each product is a call in the first argument of the next
+    (
+        Long {
+            front: "class Main { function void main() { var Array a; let a = 16384; let a[0] = 3",
+            piece: " * 1",
+            behind_number: None,
+            times: 400,
+            back: "; } }",
+        },
+        &["jack"],
+        &[0, 1],
+    ),
+];
+
+// the computer has 240 static words, of which the system takes 5, and 32,768 words of code
+const FITTING: &[(&str, Long<'static>, Case<'static>)] = &[
+    (
+        "prog/Main.jack",
+        Long {
+            front: "class Main { ",
+            piece: "static int s",
+            behind_number: Some("; "),
+            times: 235,
+            back: "function void main() { let s234 = 1; } }",
+        },
+        Case {
+            files: &[],
+            lines: &["run prog --level jack --cycles 0"],
+            fails: NONE,
+            status: Status::Done,
+            out: "level jack\nmoves 0\nsteps 0\npoint start 1\nend bound\n",
+            err: "",
+        },
+    ),
+    (
+        "prog/Main.jack",
+        Long {
+            front: "class Main { ",
+            piece: "static int s",
+            behind_number: Some("; "),
+            times: 235,
+            back: "function void main() { let s234 = 1; } }",
+        },
+        Case {
+            files: &[],
+            lines: &["run prog --level vm --cycles 0"],
+            fails: NONE,
+            status: Status::Done,
+            out: "level vm\nmoves 0\nsteps 0\npoint start 1\nend bound\n",
+            err: "",
+        },
+    ),
+    (
+        "prog/Main.jack",
+        Long {
+            front: "class Main { ",
+            piece: "static int s",
+            behind_number: Some("; "),
+            times: 235,
+            back: "function void main() { let s234 = 1; } }",
+        },
+        Case {
+            files: &[],
+            lines: &["run prog --level hack --cycles 0"],
+            fails: NONE,
+            status: Status::Done,
+            out: "level hack\nmoves 0\nsteps 0\npoint start 1\nend bound\n",
+            err: "",
+        },
+    ),
+    // a store takes at most 28 words beside those of its parts, and a load 18
+    (
+        "prog/Main.jack",
+        Long {
+            front: "class Main { function void main() { var Array a; var int i, j; ",
+            piece: "let a[i] = j; ",
+            behind_number: None,
+            times: 400,
+            back: "} }",
+        },
+        Case {
+            files: &[],
+            lines: &["run prog --level hack --cycles 0"],
+            fails: NONE,
+            status: Status::Done,
+            out: "level hack\nmoves 0\nsteps 0\npoint start 1\nend bound\n",
+            err: "",
+        },
+    ),
+    (
+        "prog/Main.jack",
+        Long {
+            front: "class Main { function void main() { var Array a; var int i, j; ",
+            piece: "let i = a[j]; ",
+            behind_number: None,
+            times: 480,
+            back: "} }",
+        },
+        Case {
+            files: &[],
+            lines: &["run prog --level hack --cycles 0"],
+            fails: NONE,
+            status: Status::Done,
+            out: "level hack\nmoves 0\nsteps 0\npoint start 1\nend bound\n",
+            err: "",
+        },
+    ),
+];
+
+// what has no computer is run at no level; of the key script, whose moments do not rise or which is not there, nothing is told
+const UNBUILT: &[&str] = &[
+    "run prog --level jack --keys prog/k.txt --cycles 0",
+    "run prog --level vm --keys k.txt --cycles 0",
+    "run prog --level hack --keys k.txt --cycles 0",
+];
+
+const SCRIPT: &[(&str, &str)] = &[("prog/k.txt", "5 65\n5 66\n")];
+
+const TOO_LARGE: &[(&str, Long<'static>, Case<'static>)] = &[
+    (
+        "prog/Main.jack",
+        Long {
+            front: "class Main { ",
+            piece: "static int s",
+            behind_number: Some("; "),
+            times: 236,
+            back: "function void main() { let s235 = 1; } }",
+        },
+        Case {
+            files: SCRIPT,
+            lines: UNBUILT,
+            fails: NONE,
+            status: Status::Refused,
+            out: "",
+            err: "prog:0:0: TooManyStatics 241\n",
+        },
+    ),
+    // 46 words for each store
+    (
+        "prog/Main.jack",
+        Long {
+            front: "class Main { function void main() { var Array a; let a = 2048; ",
+            piece: "let a[0] = 1; ",
+            behind_number: None,
+            times: 3000,
+            back: "} }",
+        },
+        Case {
+            files: SCRIPT,
+            lines: UNBUILT,
+            fails: NONE,
+            status: Status::Refused,
+            out: "",
+            err: "prog:0:0: TooLarge 146906\n",
+        },
+    ),
+    // however many operators stand in a row, they are read, resolved and counted: 11 words for each sum, 48 for each product
+    (
+        "prog/Main.jack",
+        Long {
+            front: "class Main { function void main() { var Array a; let a = 16384; let a[0] = 0",
+            piece: " + 1",
+            behind_number: None,
+            times: 100_000,
+            back: "; } }",
+        },
+        Case {
+            files: SCRIPT,
+            lines: UNBUILT,
+            fails: NONE,
+            status: Status::Refused,
+            out: "",
+            err: "prog:0:0: TooLarge 1108952\n",
+        },
+    ),
+    (
+        "prog/Main.jack",
+        Long {
+            front: "class Main { function void main() { var Array a; let a = 16384; let a[0] = 3",
+            piece: " * 1",
+            behind_number: None,
+            times: 20_000,
+            back: "; } }",
+        },
+        Case {
+            files: SCRIPT,
+            lines: UNBUILT,
+            fails: NONE,
+            status: Status::Refused,
+            out: "",
+            err: "prog:0:0: TooLarge 969326\n",
+        },
+    ),
+];
+
+// texts of Main.jack, and their first fault in their names
+const REFUSED: &[(&str, &str)] = &[
+    ("class A { }", "1:7: FileName A"),
+    ("\nclass  main { }", "2:8: FileName main"),
+    (
+        "class Main { static int a; field int a; }",
+        "1:38: MemberTwice a",
+    ),
+    (
+        "class Main { function void main() { } method int main(int x) { } }",
+        "1:50: MemberTwice main",
+    ),
+    (
+        "class Main { function void f(int x, char x) { } }",
+        "1:42: VariableTwice x",
+    ),
+    (
+        "class Main { function void f(int a) { var int b, a; let c = 1; } }",
+        "1:50: VariableTwice a",
+    ),
+    ("class Main { }", "0:0: NoMain Main.main"),
+    (
+        "class Main { function void main(int a) { let b = 1; } }",
+        "0:0: NoMain Main.main",
+    ),
+    (
+        "class Main { method void main() { } }",
+        "0:0: NoMain Main.main",
+    ),
+    (
+        "class Main { function void main() { let a = 1; } }",
+        "1:41: UnknownVariable a",
+    ),
+    (
+        "class Main { function void main() { var Array a; let a[b] = 1; } }",
+        "1:56: UnknownVariable b",
+    ),
+    (
+        "class Main { function void main() { var int x; do x.f(); } }",
+        "1:51: UnknownClass x",
+    ),
+    (
+        "class Main { function void main() { do f(); } }",
+        "1:40: UnknownSubroutine f",
+    ),
+    (
+        "class Main { function void main() { return Main.g(1); } }",
+        "1:49: UnknownSubroutine g",
+    ),
+    (
+        "class Main {\n  function void main() {\n  do Main.f();\n  }\n  function void f(int a) { } }",
+        "3:11: ArgumentCount f",
+    ),
+    (
+        "class Main { function void main() { var Main m; do m.f(1); } method void f() { } }",
+        "1:54: ArgumentCount f",
+    ),
+    (
+        "class Main { function void main() { do Main.f(); } method void f() { } }",
+        "1:45: MethodByClass f",
+    ),
+    (
+        "class Main { method int f() { return 1; } function void main() { return 1 + Main.f(); } }",
+        "1:82: MethodByClass f",
+    ),
+    (
+        "class Main { function void main() { do f(); } function void f() { } }",
+        "1:40: FunctionByObject f",
+    ),
+    (
+        "class Main { function void main() { var Main m; do m.f(); } function void f() { } }",
+        "1:54: FunctionByObject f",
+    ),
+    (
+        "class Main { method void g() { do f(); } function void f() { } function void main() { } }",
+        "1:35: FunctionByObject f",
+    ),
+    (
+        "class Main { function void main() { return this; } }",
+        "1:44: ThisInFunction this",
+    ),
+    (
+        "class Main { function void main() { do Main.f(this); } function void f(Main m) { } }",
+        "1:47: ThisInFunction this",
+    ),
+    (
+        "class Main { field int x; function void main() { let x = 1; } }",
+        "1:54: FieldInFunction x",
+    ),
+    (
+        "class Main { field Main m; function void main() { do m.f(); } method void f() { } }",
+        "1:54: FieldInFunction m",
+    ),
+    (
+        "class Main { function void main() { do f(); } method void f() { } }",
+        "1:40: OwnInFunction f",
+    ),
+    (
+        "class Main { function int f() { return g(0); } method int g(int a) { } function void main() { } }",
+        "1:40: OwnInFunction g",
+    ),
+    // at one place the least kind
+    (
+        "class Main { function void main() { do f(1); } method void f() { } }",
+        "1:40: ArgumentCount f",
+    ),
+    // what is declared, then Main.main, then what is used, each in the order of the text
+    ("class A { static int a, a; }", "1:7: FileName A"),
+    (
+        "class Main { function void main(int a) { return this; } static int b; }",
+        "1:57: Grammar",
+    ),
+    (
+        "class Main { function void main() { return this; } function void f() { var int a, a; } }",
+        "1:83: VariableTwice a",
+    ),
+    (
+        "class Main { function void main() { if (a) { let b = 1; } } }",
+        "1:41: UnknownVariable a",
+    ),
+    (
+        "class Main { function void main() { let a[this] = b; } }",
+        "1:41: UnknownVariable a",
+    ),
+    (
+        "class Main { function void main() { do Main.f(this, 1); } function void f(int a) { } }",
+        "1:45: ArgumentCount f",
+    ),
+];
+
+const EMPTY_MAIN: &str = "class Main { function void main() { } }";
+
+// another file, its text, the text of Main.jack, and the first fault
+const SECOND_REFUSED: &[(&str, &str, &str, &str)] = &[
+    (
+        "Sys.jack",
+        "class Sys { }",
+        EMPTY_MAIN,
+        "Sys.jack:1:7: ClassTwice Sys",
+    ),
+    (
+        "Sys.jack",
+        "// s\nclass  Sys { field int a, a; }",
+        EMPTY_MAIN,
+        "Sys.jack:2:8: ClassTwice Sys",
+    ),
+    (
+        "A.jack",
+        "class B { }",
+        EMPTY_MAIN,
+        "A.jack:1:7: FileName B",
+    ),
+    // what is declared in a later class comes before what is used in an earlier one
+    (
+        "Z.jack",
+        "class Z { field int a, a; }",
+        "class Main { function void main() { return this; } }",
+        "Z.jack:1:24: MemberTwice a",
+    ),
+    (
+        "Z.jack",
+        "class Z { function void f() { let a = 1; } }",
+        "class Main { }",
+        "Main.jack:0:0: NoMain Main.main",
+    ),
+    // the classes in order of file name
+    (
+        "A.jack",
+        "class A { function void f() { let a = 1; } }",
+        "class Main { function void main() { return this; } }",
+        "A.jack:1:35: UnknownVariable a",
+    ),
+    (
+        "Z.jack",
+        "class Z { function void f() { let a = 1; } }",
+        "class Main { function void main() { return this; } }",
+        "Main.jack:1:44: ThisInFunction this",
+    ),
+    (
+        "A.jack",
+        "class A { method void f() { } }",
+        "class Main { function void main() { do A.f(); } }",
+        "Main.jack:1:42: MethodByClass f",
+    ),
+    (
+        "A.jack",
+        "class A { function void f() { } }",
+        "class Main { function void main() { var A a; do a.f(); } }",
+        "Main.jack:1:51: FunctionByObject f",
+    ),
+    // a text that is no class comes before all names
+    (
+        "Z.jack",
+        "class Z { ",
+        "class A { }",
+        "Z.jack:1:11: Grammar",
+    ),
+    (
+        "A.jack",
+        "class A { function int f() { return 32768; } }",
+        "class Main { function void main() { let ; } }",
+        "A.jack:1:37: Range 32768",
+    ),
+    (
+        "Math.jack",
+        "class Math { function int multiply(int a) { return a; } }",
+        "class Main { function int main() { return 2 * 3; } }",
+        "Math.jack:1:7: ClassTwice Math",
+    ),
+    (
+        "String.jack",
+        "class String { function String new(int n) { return n; } }",
+        "class Main { function void main() { var int x; let x = \"a\"; } }",
+        "String.jack:1:7: ClassTwice String",
+    ),
+];
+
+const NO_MAIN: &[&[(&str, &str)]] = &[&[], &[("prog/A.jack", "class A { }")]];
+
+const LINE: &str = "run prog --level jack --cycles 100";
+
+fn each_class_is_refused(
+    rt: &impl Abort,
+    alloc: Global,
+    rows: &[(&str, &str)],
+) -> Result<(), Fail> {
+    for (row, (text, told)) in rows.iter().enumerate() {
+        let err = format!(in alloc; "prog/Main.jack:{told}\n")?;
+        refused(rt, alloc, row, ("prog/Main.jack", *text), &[LINE], &err)?;
+    }
+    Ok(())
+}
+
+// A row's folder is refused so.
+fn folder_is_refused(
+    rt: &impl Abort,
+    alloc: Global,
+    row: usize,
+    files: &[(&str, &str)],
+    told: &str,
+) -> Result<(), Fail> {
+    let err = format!(in alloc; "prog/{told}\n")?;
+    let case = Case {
+        files,
+        lines: &[LINE],
+        fails: NONE,
+        status: Status::Refused,
+        out: "",
+        err: &err,
+    };
+    ends(rt, alloc, row, &case)
+}
+
+fn each_second_is_refused(
+    rt: &impl Abort,
+    alloc: Global,
+    rows: &[(&str, &str, &str, &str)],
+) -> Result<(), Fail> {
+    for (row, (name, text, main, told)) in rows.iter().enumerate() {
+        let path = format!(in alloc; "prog/{name}")?;
+        let files = [(path.as_str(), *text), ("prog/Main.jack", *main)];
+        folder_is_refused(rt, alloc, row, &files, told)?;
+    }
+    Ok(())
+}
+
+fn each_long_shows(
+    rt: &impl Abort,
+    alloc: Global,
+    rows: &[(Long<'_>, &[&str], &[usize])],
+) -> Result<(), Fail> {
+    for (row, (long, levels, columns)) in rows.iter().enumerate() {
+        for level in *levels {
+            let mut files = Vec::new(alloc);
+            files.push((Name::new(alloc, "prog/Main.jack")?, text_of(alloc, long)?))?;
+            let words = format!(in alloc; "{level} --cycles 300000")?;
+            shows(rt, alloc, row, files, &words, columns)?;
+        }
+    }
+    Ok(())
+}
+
 #[test]
 fn a_folder_of_classes_runs(rt: HostRuntime) -> Result<(), Fail> {
-    // the order of the files is that of their names, whatever that of the shelf is; other files are not looked at
-    let files = [
-        ("readme.txt", "class"),
-        ("Point.jack", POINT),
-        ("Main.jack", MAIN),
-    ];
-    screens(&rt, rt.alloc(), &files, LEVELS, BITS)
-}
-
-// A class Main with so many statics, of which `main` sets the last.
-fn with_statics(alloc: Global, statics: u32) -> Result<String, Fail> {
-    let mut text = String::from_str(alloc, "class Main { ")?;
-    for k in 0..statics {
-        text.push_str(format!(in alloc; "static int s{k}; ")?.as_str())?;
+    let alloc = rt.alloc();
+    for level in LEVELS {
+        let words = format!(in alloc; "{level} --cycles 300000")?;
+        shows(&rt, alloc, 0, files_of(alloc, FOLDER)?, &words, BITS)?;
     }
-    let last = statics.saturating_sub(1);
-    text.push_str(format!(in alloc; "function void main() {{ let s{last} = 1; }} }}")?.as_str())?;
-    Ok(text)
-}
-
-// A class Main whose `main` sets a word so many times.
-fn with_stores(alloc: Global, stores: u32) -> Result<String, Fail> {
-    let mut text = String::from_str(
-        alloc,
-        "class Main { function void main() { var Array a; let a = 2048; ",
-    )?;
-    for _ in 0..stores {
-        text.push_str("let a[0] = 1; ")?;
-    }
-    text.push_str("} }")?;
-    Ok(text)
-}
-
-// A class Main whose `main` stores this value, to which the same is done so many times.
-fn with_chain(alloc: Global, first: &str, operation: &str, times: u32) -> Result<String, Fail> {
-    let mut text = String::from_str(
-        alloc,
-        "class Main { function void main() { var Array a; let a = 16384; let a[0] = ",
-    )?;
-    text.push_str(first)?;
-    for _ in 0..times {
-        text.push_str(operation)?;
-    }
-    text.push_str("; } }")?;
-    Ok(text)
+    Ok(())
 }
 
 #[test]
 fn a_long_expression_runs(rt: HostRuntime) -> Result<(), Fail> {
+    each_long_shows(&rt, rt.alloc(), LONG_SCREENS)
+}
+
+#[test]
+fn programs_fit_the_computer(rt: HostRuntime) -> Result<(), Fail> {
+    each_long_ends(&rt, rt.alloc(), FITTING)
+}
+
+#[test]
+fn the_computer_has_limits(rt: HostRuntime) -> Result<(), Fail> {
+    each_long_ends(&rt, rt.alloc(), TOO_LARGE)
+}
+
+#[test]
+fn names_are_refused(rt: HostRuntime) -> Result<(), Fail> {
+    each_class_is_refused(&rt, rt.alloc(), REFUSED)
+}
+
+#[test]
+fn a_second_class_is_refused(rt: HostRuntime) -> Result<(), Fail> {
     let alloc = rt.alloc();
-    // the bits of 2,000
-    let text = with_chain(alloc, "0", " + 1", 2_000)?;
-    let files = [("Main.jack", text.as_str())];
-    screens(&rt, alloc, &files, LEVELS, &[4, 6, 7, 8, 9, 10])?;
-    // each product is a call in the first argument of the next
-    let text = with_chain(alloc, "3", " * 1", 400)?;
-    let files = [("Main.jack", text.as_str())];
-    screens(&rt, alloc, &files, &["jack"], &[0, 1])
-}
-
-// At each level these files cannot be built, as this line tells. The key script, whose moments do not rise or which is not there, is not
-// told.
-fn unbuilt(rt: &impl Abort, alloc: Global, main: &str, line: &str) -> Result<(), Fail> {
-    let script = "5 65\n5 66\n";
-    let files = [("Main.jack", main), ("k.txt", script)];
-    for level in [
-        "jack --keys prog/k.txt",
-        "vm --keys k.txt",
-        "hack --keys k.txt",
-    ] {
-        let words = format!(in alloc; "run prog --level {level} --cycles 0")?;
-        let words = words_in(alloc, &words)?;
-        let outcome = outcome_over(alloc, files_of(alloc, &files)?, &words)?;
-        assert_eq!(rt; outcome.err.bytes(), line.as_bytes());
-        assert_eq!(rt; outcome.out.bytes().len(), 0);
-        assert_eq!(rt; outcome.status, Status::Refused);
+    each_second_is_refused(&rt, alloc, SECOND_REFUSED)?;
+    for (row, files) in NO_MAIN.iter().enumerate() {
+        folder_is_refused(&rt, alloc, row, files, "Main.jack:0:0: NoMain Main.main")?;
     }
     Ok(())
-}
-
-// The computer has 240 static words, of which the system takes 5, and 32,768 words of code; what has none does not run by its meaning either.
-#[test]
-fn the_computer_has_limits(rt: HostRuntime) -> Result<(), Fail> {
-    let alloc = rt.alloc();
-    let text = with_statics(alloc, 235)?;
-    let files = [("Main.jack", text.as_str())];
-    for level in ["jack", "vm", "hack"] {
-        let line = format!(in alloc; "run prog --level {level} --cycles 0")?;
-        let outcome = outcome_over(alloc, files_of(alloc, &files)?, &words_in(alloc, &line)?)?;
-        let begun = format!(in alloc;
-            "level {level}\nmoves 0\nsteps 0\npoint start 1\nend bound\n"
-        )?;
-        assert_eq!(rt; outcome.out.bytes(), begun.as_bytes());
-    }
-    let text = with_statics(alloc, 236)?;
-    unbuilt(&rt, alloc, &text, "prog:0:0: TooManyStatics 241\n")?;
-    // 46 words for each store
-    let text = with_stores(alloc, 3000)?;
-    unbuilt(&rt, alloc, &text, "prog:0:0: TooLarge 146906\n")?;
-    // However many operators stand in a row, they are read, resolved and counted: 11 words for each sum, 48 for each product.
-    let text = with_chain(alloc, "0", " + 1", 100_000)?;
-    unbuilt(&rt, alloc, &text, "prog:0:0: TooLarge 1108952\n")?;
-    let text = with_chain(alloc, "3", " * 1", 20_000)?;
-    unbuilt(&rt, alloc, &text, "prog:0:0: TooLarge 969326\n")
-}
-
-// A class Main whose `main` makes this statement of an array and two numbers so many times.
-fn with_statements(alloc: Global, statement: &str, times: u32) -> Result<String, Fail> {
-    let mut text = String::from_str(
-        alloc,
-        "class Main { function void main() { var Array a; var int i, j; ",
-    )?;
-    for _ in 0..times {
-        text.push_str(statement)?;
-    }
-    text.push_str("} }")?;
-    Ok(text)
-}
-
-// A store takes at most 28 words beside those of its parts, and a load 18: so these programs have a computer.
-#[test]
-fn arrays_fit_the_computer(rt: HostRuntime) -> Result<(), Fail> {
-    let alloc = rt.alloc();
-    for (statement, times) in [("let a[i] = j; ", 400), ("let i = a[j]; ", 480)] {
-        let text = with_statements(alloc, statement, times)?;
-        let files = [("Main.jack", text.as_str())];
-        let words = words_in(alloc, "run prog --level hack --cycles 0")?;
-        let outcome = outcome_over(alloc, files_of(alloc, &files)?, &words)?;
-        let begun = b"level hack\nmoves 0\nsteps 0\npoint start 1\nend bound\n";
-        assert_eq!(rt; outcome.out.bytes(), begun.as_slice());
-        assert_eq!(rt; outcome.status, Status::Done);
-    }
-    Ok(())
-}
-
-// The first fault in the names of a folder with this class Main alone.
-#[test]
-fn names_are_refused(rt: HostRuntime) -> Result<(), Fail> {
-    let refusals: [(&str, &str); 34] = [
-        ("class A { }", "1:7: FileName A"),
-        ("\nclass  main { }", "2:8: FileName main"),
-        (
-            "class Main { static int a; field int a; }",
-            "1:38: MemberTwice a",
-        ),
-        (
-            "class Main { function void main() { } method int main(int x) { } }",
-            "1:50: MemberTwice main",
-        ),
-        (
-            "class Main { function void f(int x, char x) { } }",
-            "1:42: VariableTwice x",
-        ),
-        (
-            "class Main { function void f(int a) { var int b, a; let c = 1; } }",
-            "1:50: VariableTwice a",
-        ),
-        ("class Main { }", "0:0: NoMain Main.main"),
-        (
-            "class Main { function void main(int a) { let b = 1; } }",
-            "0:0: NoMain Main.main",
-        ),
-        (
-            "class Main { method void main() { } }",
-            "0:0: NoMain Main.main",
-        ),
-        (
-            "class Main { function void main() { let a = 1; } }",
-            "1:41: UnknownVariable a",
-        ),
-        (
-            "class Main { function void main() { var Array a; let a[b] = 1; } }",
-            "1:56: UnknownVariable b",
-        ),
-        (
-            "class Main { function void main() { var int x; do x.f(); } }",
-            "1:51: UnknownClass x",
-        ),
-        (
-            "class Main { function void main() { do f(); } }",
-            "1:40: UnknownSubroutine f",
-        ),
-        (
-            "class Main { function void main() { return Main.g(1); } }",
-            "1:49: UnknownSubroutine g",
-        ),
-        (
-            "class Main {\n  function void main() {\n  do Main.f();\n  }\n  function void f(int a) { } }",
-            "3:11: ArgumentCount f",
-        ),
-        (
-            "class Main { function void main() { var Main m; do m.f(1); } method void f() { } }",
-            "1:54: ArgumentCount f",
-        ),
-        (
-            "class Main { function void main() { do Main.f(); } method void f() { } }",
-            "1:45: MethodByClass f",
-        ),
-        (
-            "class Main { method int f() { return 1; } function void main() { return 1 + Main.f(); } }",
-            "1:82: MethodByClass f",
-        ),
-        (
-            "class Main { function void main() { do f(); } function void f() { } }",
-            "1:40: FunctionByObject f",
-        ),
-        (
-            "class Main { function void main() { var Main m; do m.f(); } function void f() { } }",
-            "1:54: FunctionByObject f",
-        ),
-        (
-            "class Main { method void g() { do f(); } function void f() { } function void main() { } }",
-            "1:35: FunctionByObject f",
-        ),
-        (
-            "class Main { function void main() { return this; } }",
-            "1:44: ThisInFunction this",
-        ),
-        (
-            "class Main { function void main() { do Main.f(this); } function void f(Main m) { } }",
-            "1:47: ThisInFunction this",
-        ),
-        (
-            "class Main { field int x; function void main() { let x = 1; } }",
-            "1:54: FieldInFunction x",
-        ),
-        (
-            "class Main { field Main m; function void main() { do m.f(); } method void f() { } }",
-            "1:54: FieldInFunction m",
-        ),
-        (
-            "class Main { function void main() { do f(); } method void f() { } }",
-            "1:40: OwnInFunction f",
-        ),
-        (
-            "class Main { function int f() { return g(0); } method int g(int a) { } function void main() { } }",
-            "1:40: OwnInFunction g",
-        ),
-        // at one place the least kind
-        (
-            "class Main { function void main() { do f(1); } method void f() { } }",
-            "1:40: ArgumentCount f",
-        ),
-        // what is declared, then Main.main, then what is used, each in the order of the text
-        ("class A { static int a, a; }", "1:7: FileName A"),
-        (
-            "class Main { function void main(int a) { return this; } static int b; }",
-            "1:57: Grammar",
-        ),
-        (
-            "class Main { function void main() { return this; } function void f() { var int a, a; } }",
-            "1:83: VariableTwice a",
-        ),
-        (
-            "class Main { function void main() { if (a) { let b = 1; } } }",
-            "1:41: UnknownVariable a",
-        ),
-        (
-            "class Main { function void main() { let a[this] = b; } }",
-            "1:41: UnknownVariable a",
-        ),
-        (
-            "class Main { function void main() { do Main.f(this, 1); } function void f(int a) { } }",
-            "1:45: ArgumentCount f",
-        ),
-    ];
-    for (text, told) in refusals {
-        let line = format!(in rt.alloc(); "prog/Main.jack:{told}\n")?;
-        refused(&rt, rt.alloc(), &[("Main.jack", text)], &line)?;
-    }
-    Ok(())
-}
-
-const EMPTY_MAIN: &str = "class Main { function void main() { } }";
-
-// The first fault of a folder with these two classes.
-#[test]
-fn a_second_class_is_refused(rt: HostRuntime) -> Result<(), Fail> {
-    let refusals: [(&str, &str, &str, &str); 13] = [
-        (
-            "Sys.jack",
-            "class Sys { }",
-            EMPTY_MAIN,
-            "Sys.jack:1:7: ClassTwice Sys",
-        ),
-        (
-            "Sys.jack",
-            "// s\nclass  Sys { field int a, a; }",
-            EMPTY_MAIN,
-            "Sys.jack:2:8: ClassTwice Sys",
-        ),
-        (
-            "A.jack",
-            "class B { }",
-            EMPTY_MAIN,
-            "A.jack:1:7: FileName B",
-        ),
-        // what is declared in a later class comes before what is used in an earlier one
-        (
-            "Z.jack",
-            "class Z { field int a, a; }",
-            "class Main { function void main() { return this; } }",
-            "Z.jack:1:24: MemberTwice a",
-        ),
-        (
-            "Z.jack",
-            "class Z { function void f() { let a = 1; } }",
-            "class Main { }",
-            "Main.jack:0:0: NoMain Main.main",
-        ),
-        // the classes in order of file name
-        (
-            "A.jack",
-            "class A { function void f() { let a = 1; } }",
-            "class Main { function void main() { return this; } }",
-            "A.jack:1:35: UnknownVariable a",
-        ),
-        (
-            "Z.jack",
-            "class Z { function void f() { let a = 1; } }",
-            "class Main { function void main() { return this; } }",
-            "Main.jack:1:44: ThisInFunction this",
-        ),
-        (
-            "A.jack",
-            "class A { method void f() { } }",
-            "class Main { function void main() { do A.f(); } }",
-            "Main.jack:1:42: MethodByClass f",
-        ),
-        (
-            "A.jack",
-            "class A { function void f() { } }",
-            "class Main { function void main() { var A a; do a.f(); } }",
-            "Main.jack:1:51: FunctionByObject f",
-        ),
-        // a text that is no class comes before all names
-        (
-            "Z.jack",
-            "class Z { ",
-            "class A { }",
-            "Z.jack:1:11: Grammar",
-        ),
-        (
-            "A.jack",
-            "class A { function int f() { return 32768; } }",
-            "class Main { function void main() { let ; } }",
-            "A.jack:1:37: Range 32768",
-        ),
-        (
-            "Math.jack",
-            "class Math { function int multiply(int a) { return a; } }",
-            "class Main { function int main() { return 2 * 3; } }",
-            "Math.jack:1:7: ClassTwice Math",
-        ),
-        (
-            "String.jack",
-            "class String { function String new(int n) { return n; } }",
-            "class Main { function void main() { var int x; let x = \"a\"; } }",
-            "String.jack:1:7: ClassTwice String",
-        ),
-    ];
-    for (name, text, main, told) in refusals {
-        let line = format!(in rt.alloc(); "prog/{told}\n")?;
-        let files = [(name, text), ("Main.jack", main)];
-        refused(&rt, rt.alloc(), &files, &line)?;
-    }
-    Ok(())
-}
-
-#[test]
-fn a_folder_without_classes_has_no_main(rt: HostRuntime) -> Result<(), Fail> {
-    let line = "prog/Main.jack:0:0: NoMain Main.main\n";
-    refused(&rt, rt.alloc(), &[], line)?;
-    refused(&rt, rt.alloc(), &[("A.jack", "class A { }")], line)
 }

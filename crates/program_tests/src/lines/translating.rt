@@ -1,177 +1,259 @@
 //! Lines of `vm`.
-use super::{Case, READ_FAULT, done, expect, one_file, outcome_of, outcome_over, refused};
+use super::{
+    Case, Failures, Long, NONE, READ_FAULT, each_ends, each_is_done, each_is_refused,
+    each_long_ends, files_of, outcome_of,
+};
 use nand_cli::Status;
 use outer_world::Name;
 use std::alloc::Global;
 use std::process::Abort;
 use std::test::Fail;
 
-// The program that `vm` makes of a folder with this text of Sys.vm puts these words from 0 on into memory.
-fn makes(rt: &impl Abort, alloc: Global, text: &str, to: &str, out: &str) -> Result<(), Fail> {
-    let case = one_file("v/Sys.vm", text.as_bytes());
-    let outcome = outcome_of(alloc, &case, &["vm", "v"])?;
-    assert_eq!(rt; outcome.status, Status::Done);
-    assert_eq!(rt; outcome.err.bytes().len(), 0);
-    let assembly = one_file("a.asm", outcome.out.bytes());
-    let words = [
-        "exec", "a.asm", "--cycles", "2000", "--from", "0", "--to", to,
-    ];
-    expect(rt, alloc, &assembly, &words, Status::Done, out, "")
-}
-
-#[test]
-fn vm_makes_a_program(rt: HostRuntime) -> Result<(), Fail> {
-    // `call Sys.init 0` leaves SP at 261; 20,000 is not below -20,000, and -20,000 is below 20,000
-    let text =
-        "function Sys.init 0\npush constant 20000\npush constant 20000\nneg\nlt\npop temp 0\npush constant 20000\nneg\npush constant 20000\nlt\npop temp 1\nlabel END\ngoto END\n";
-    let out = "0 261\n1 261\n2 256\n3 0\n4 0\n5 0\n6 -1\n";
-    makes(&rt, rt.alloc(), text, "6", out)?;
-    let text =
-        "function Sys.init 0\ncall Sys.seven 0\npop temp 0\nlabel END\ngoto END\nfunction Sys.seven 0\npush constant 7\nreturn\n";
-    let out = "0 261\n1 261\n2 256\n3 0\n4 0\n5 7\n";
-    makes(&rt, rt.alloc(), text, "5", out)?;
-    // the last of the 240 static words
-    let text = "function Sys.init 0\npush static 239\npop temp 2\nlabel END\ngoto END\n";
-    let out = "0 261\n1 261\n";
-    makes(&rt, rt.alloc(), text, "1", out)
-}
-
-// Every command of a text.
+// every command of a text
 const EACH: &str =
     "function Sys.init 0\npush constant 2048\npop pointer 1\npush constant 7\npush constant 5\nadd\npop that 0\npush constant 7\npush constant 5\nsub\npop that 1\npush constant 7\nneg\npop that 2\npush constant 5\npush constant 5\neq\npop that 3\npush constant 7\npush constant 5\ngt\npop that 4\npush constant 7\npush constant 5\nlt\npop that 5\npush constant 12\npush constant 10\nand\npop that 6\npush constant 12\npush constant 10\nor\npop that 7\npush constant 12\nnot\npop that 8\npush constant 3\npop temp 6\npush temp 6\npop that 9\npush constant 4\npop static 2\npush static 2\npop that 10\npush constant 2060\npop pointer 0\npush pointer 0\npop that 11\npush constant 9\npop this 1\npush this 1\npop that 12\npush constant 20\npush constant 22\ncall Sys.sum 2\npop that 14\npush constant 0\nif-goto PASSED\npush constant 1\npop that 15\nlabel PASSED\npush constant 2\nif-goto TAKEN\npush constant 1\npop that 16\nlabel TAKEN\nlabel END\ngoto END\nfunction Sys.sum 1\npush argument 0\npush argument 1\nadd\npop local 0\npush local 0\npop argument 1\npush argument 1\nreturn\n";
 
 const EACH_WORDS: &str =
     "2048 12\n2049 2\n2050 -7\n2051 -1\n2052 -1\n2053 0\n2054 8\n2055 14\n2056 -13\n2057 3\n2058 4\n2059 2060\n2060 9\n2061 9\n2062 42\n2063 1\n2064 0\n";
 
-#[test]
-fn vm_makes_each_command(rt: HostRuntime) -> Result<(), Fail> {
-    let case = one_file("v/Sys.vm", EACH.as_bytes());
-    let outcome = outcome_of(rt.alloc(), &case, &["vm", "v"])?;
-    assert_eq!(rt; outcome.status, Status::Done);
-    let assembly = one_file("a.asm", outcome.out.bytes());
-    let line = "exec a.asm --cycles 3000 --from 2048 --to 2064";
-    done(&rt, rt.alloc(), &assembly, line, EACH_WORDS)
-}
-
 const SUM: &str =
     "@7\nD=A\n@0\nAM=M+1\nA=A-1\nM=D\n@8\nD=A\n@0\nAM=M+1\nA=A-1\nM=D\n@0\nAM=M-1\nD=M\nA=A-1\nM=D+M\n";
+
+// the same with the stack at 256
+const SUM_AT_256: &str =
+    "@256\nD=A\n@SP\nM=D\n@7\nD=A\n@0\nAM=M+1\nA=A-1\nM=D\n@8\nD=A\n@0\nAM=M+1\nA=A-1\nM=D\n@0\nAM=M-1\nD=M\nA=A-1\nM=D+M\n";
 
 const SUM_WORDS: &str =
     "0000000000000111\n1110110000010000\n0000000000000000\n1111110111101000\n1110110010100000\n1110001100001000\n0000000000001000\n1110110000010000\n0000000000000000\n1111110111101000\n1110110010100000\n1110001100001000\n0000000000000000\n1111110010101000\n1111110000010000\n1110110010100000\n1111000010001000\n";
 
-#[test]
-fn vm_takes_bare_commands(rt: HostRuntime) -> Result<(), Fail> {
-    let alloc = rt.alloc();
-    let sum = one_file("v/Sum.vm", b"push constant 7\npush constant 8\nadd\n");
-    done(&rt, alloc, &sum, "vm v --bare", SUM)?;
-    // the text is one of assembly, an instruction on each line
-    let assembly = one_file("Sum.asm", SUM.as_bytes());
-    done(&rt, alloc, &assembly, "asm Sum.asm", SUM_WORDS)?;
-    // with the stack at 256
-    let text = format!(in alloc; "@256\nD=A\n@SP\nM=D\n{SUM}")?;
-    let assembly = one_file("Sum.asm", text.as_bytes());
-    let line = "exec Sum.asm --cycles 21 --from 256 --to 256";
-    done(&rt, alloc, &assembly, line, "256 15\n")?;
-    let empty = one_file("v/Sys.vm", b"");
-    done(&rt, alloc, &empty, "vm v --bare", "")?;
-    done(&rt, alloc, &empty, "vm w --bare", "")
-}
+// each of two files has its own word for `static 0`: the first file by name has the word 16
+const STATICS: &[(&str, &str)] = &[
+    (
+        "v/Sys.vm",
+        "function Sys.init 0\npush constant 5\npop static 0\ncall A.set 0\npop temp 0\npush static 0\npop temp 1\nlabel END\ngoto END\n",
+    ),
+    (
+        "v/A.vm",
+        "function A.set 0\npush constant 3\npop static 0\npush static 0\nreturn\n",
+    ),
+];
 
-#[test]
-fn vm_refuses_a_program(rt: HostRuntime) -> Result<(), Fail> {
-    let refusals: [(&str, &str, &str); 10] = [
-        ("vm v", "", "v:0:0: NoSysInit\n"),
-        (
-            "vm v",
-            "function Sys.init 0\npush static 240\nlabel E\ngoto E\n",
-            "v:0:0: TooManyStatics 241\n",
-        ),
-        (
-            "vm v",
-            "function Sys.init 0\ncall A.f 0\n",
-            "v:0:0: NoFunction A.f\n",
-        ),
-        (
-            "vm v",
-            "function Sys.init 0\ngoto X\n",
-            "v:0:0: NoLabel X\n",
-        ),
-        (
-            "vm v",
-            "function Sys.init 0\nlabel X\nlabel X\n",
-            "v:0:0: LabelTwice X\n",
-        ),
-        (
-            "vm v",
-            "function Sys.init 0\nfunction Sys.init 0\n",
-            "v:0:0: TwiceDefined Sys.init\n",
-        ),
-        ("vm v", "pop constant 1\n", "v/Sys.vm:1:1: Grammar\n"),
-        ("vm v --bare", "pop constant 1\n", "v/Sys.vm:1:5: Grammar\n"),
-        (
-            "vm v --bare",
-            "push pointer 2\n",
-            "v/Sys.vm:1:14: Range 2\n",
-        ),
-        ("vm --bare v", "goto X\n", "v:0:0: NoLabel X\n"),
-    ];
-    for (line, text, err) in refusals {
-        let case = one_file("v/Sys.vm", text.as_bytes());
-        refused(&rt, rt.alloc(), &case, line, err)?;
-    }
-    Ok(())
-}
-
-#[test]
-fn vm_takes_files_in_order_of_name(rt: HostRuntime) -> Result<(), Fail> {
-    let case = Case {
-        other: Some(("v/A-B.vm", b"push constant 32768")),
-        ..one_file("v/A.vm", b"pop constant 1")
-    };
-    let line = "v/A-B.vm:1:15: Range 32768\n";
-    refused(&rt, rt.alloc(), &case, "vm v --bare", line)?;
-    // a file with another ending
-    let case = Case {
-        other: Some(("v/A.jack", b"function")),
-        ..one_file("v/B.vm", b"pop constant 1")
-    };
-    let line = "v/B.vm:1:5: Grammar\n";
-    refused(&rt, rt.alloc(), &case, "vm v --bare", line)
-}
-
-// Each of two files has its own word for `static 0`: the first file by name has the word 16.
-#[test]
-fn vm_keeps_the_statics_of_files_apart(rt: HostRuntime) -> Result<(), Fail> {
-    let alloc = rt.alloc();
-    let case = Case {
-        other: Some((
-            "v/A.vm",
-            b"function A.set 0\npush constant 3\npop static 0\npush static 0\nreturn\n",
-        )),
-        ..one_file(
+// files of the folder v, a line that runs the program that `vm v` makes of them, and what it puts
+const PROGRAMS: &[(&[(&str, &str)], &str, &str)] = &[
+    // `call Sys.init 0` leaves SP at 261; 20,000 is not below -20,000, and -20,000 is below 20,000
+    (
+        &[(
             "v/Sys.vm",
-            b"function Sys.init 0\npush constant 5\npop static 0\ncall A.set 0\npop temp 0\npush static 0\npop temp 1\nlabel END\ngoto END\n",
-        )
-    };
-    let outcome = outcome_of(alloc, &case, &["vm", "v"])?;
-    assert_eq!(rt; outcome.status, Status::Done);
-    let assembly = one_file("a.asm", outcome.out.bytes());
-    let line = "exec a.asm --cycles 2000 --from 16 --to 17";
-    done(&rt, alloc, &assembly, line, "16 3\n17 5\n")?;
-    let line = "exec a.asm --cycles 2000 --from 5 --to 6";
-    done(&rt, alloc, &assembly, line, "5 3\n6 5\n")
-}
+            "function Sys.init 0\npush constant 20000\npush constant 20000\nneg\nlt\npop temp 0\npush constant 20000\nneg\npush constant 20000\nlt\npop temp 1\nlabel END\ngoto END\n",
+        )],
+        "exec a.asm --cycles 2000 --from 0 --to 6",
+        "0 261\n1 261\n2 256\n3 0\n4 0\n5 0\n6 -1\n",
+    ),
+    (
+        &[(
+            "v/Sys.vm",
+            "function Sys.init 0\ncall Sys.seven 0\npop temp 0\nlabel END\ngoto END\nfunction Sys.seven 0\npush constant 7\nreturn\n",
+        )],
+        "exec a.asm --cycles 2000 --from 0 --to 5",
+        "0 261\n1 261\n2 256\n3 0\n4 0\n5 7\n",
+    ),
+    // the last of the 240 static words
+    (
+        &[(
+            "v/Sys.vm",
+            "function Sys.init 0\npush static 239\npop temp 2\nlabel END\ngoto END\n",
+        )],
+        "exec a.asm --cycles 2000 --from 0 --to 1",
+        "0 261\n1 261\n",
+    ),
+    (
+        &[("v/Sys.vm", EACH)],
+        "exec a.asm --cycles 3000 --from 2048 --to 2064",
+        EACH_WORDS,
+    ),
+    (
+        STATICS,
+        "exec a.asm --cycles 2000 --from 16 --to 17",
+        "16 3\n17 5\n",
+    ),
+    (
+        STATICS,
+        "exec a.asm --cycles 2000 --from 5 --to 6",
+        "5 3\n6 5\n",
+    ),
+];
 
-#[test]
-fn vm_refuses_code_past_its_limit(rt: HostRuntime) -> Result<(), Fail> {
-    let mut text = String::from_str(rt.alloc(), "function Sys.init 0\n")?;
-    for _ in 0..6000 {
-        text.push_str("push constant 7\n")?;
-    }
-    text.push_str("label END\ngoto END\n")?;
-    // 6 words for each push, and 56 more
-    let case = one_file("v/Sys.vm", text.as_bytes());
-    refused(&rt, rt.alloc(), &case, "vm v", "v:0:0: TooLarge 36056\n")
+const DONE: &[(&str, &str, &str, &str)] = &[
+    (
+        "v/Sum.vm",
+        "push constant 7\npush constant 8\nadd\n",
+        "vm v --bare",
+        SUM,
+    ),
+    // the text is one of assembly, an instruction on each line
+    ("Sum.asm", SUM, "asm Sum.asm", SUM_WORDS),
+    (
+        "Sum.asm",
+        SUM_AT_256,
+        "exec Sum.asm --cycles 21 --from 256 --to 256",
+        "256 15\n",
+    ),
+    ("v/Sys.vm", "", "vm v --bare", ""),
+    ("v/Sys.vm", "", "vm w --bare", ""),
+];
+
+const REFUSED: &[(&str, &str, &str, &str)] = &[
+    ("v/Sys.vm", "", "vm v", "v:0:0: NoSysInit\n"),
+    (
+        "v/Sys.vm",
+        "function Sys.init 0\npush static 240\nlabel E\ngoto E\n",
+        "vm v",
+        "v:0:0: TooManyStatics 241\n",
+    ),
+    (
+        "v/Sys.vm",
+        "function Sys.init 0\ncall A.f 0\n",
+        "vm v",
+        "v:0:0: NoFunction A.f\n",
+    ),
+    (
+        "v/Sys.vm",
+        "function Sys.init 0\ngoto X\n",
+        "vm v",
+        "v:0:0: NoLabel X\n",
+    ),
+    (
+        "v/Sys.vm",
+        "function Sys.init 0\nlabel X\nlabel X\n",
+        "vm v",
+        "v:0:0: LabelTwice X\n",
+    ),
+    (
+        "v/Sys.vm",
+        "function Sys.init 0\nfunction Sys.init 0\n",
+        "vm v",
+        "v:0:0: TwiceDefined Sys.init\n",
+    ),
+    (
+        "v/Sys.vm",
+        "pop constant 1\n",
+        "vm v",
+        "v/Sys.vm:1:1: Grammar\n",
+    ),
+    (
+        "v/Sys.vm",
+        "pop constant 1\n",
+        "vm v --bare",
+        "v/Sys.vm:1:5: Grammar\n",
+    ),
+    (
+        "v/Sys.vm",
+        "push pointer 2\n",
+        "vm v --bare",
+        "v/Sys.vm:1:14: Range 2\n",
+    ),
+    ("v/Sys.vm", "goto X\n", "vm --bare v", "v:0:0: NoLabel X\n"),
+];
+
+const CASES: &[Case<'static>] = &[
+    // the files are taken in order of name
+    Case {
+        files: &[
+            ("v/A.vm", "pop constant 1"),
+            ("v/A-B.vm", "push constant 32768"),
+        ],
+        lines: &["vm v --bare"],
+        fails: NONE,
+        status: Status::Refused,
+        out: "",
+        err: "v/A-B.vm:1:15: Range 32768\n",
+    },
+    // a file with another ending
+    Case {
+        files: &[("v/B.vm", "pop constant 1"), ("v/A.jack", "function")],
+        lines: &["vm v --bare"],
+        fails: NONE,
+        status: Status::Refused,
+        out: "",
+        err: "v/B.vm:1:5: Grammar\n",
+    },
+    // the listing, and the text
+    Case {
+        files: &[("v/Sys.vm", "")],
+        lines: &["vm v --bare"],
+        fails: Failures {
+            shelf: &[1],
+            out: &[],
+            err: &[],
+        },
+        status: Status::ReadFault,
+        out: "",
+        err: READ_FAULT,
+    },
+    Case {
+        files: &[("v/Sys.vm", "")],
+        lines: &["vm v --bare"],
+        fails: Failures {
+            shelf: &[2],
+            out: &[],
+            err: &[],
+        },
+        status: Status::ReadFault,
+        out: "",
+        err: READ_FAULT,
+    },
+    Case {
+        files: &[("v/Sum.vm", "push constant 7")],
+        lines: &["vm v --bare"],
+        fails: Failures {
+            shelf: &[],
+            out: &[(1, 4)],
+            err: &[],
+        },
+        status: Status::WriteFault,
+        out: "@7\nD",
+        err: "",
+    },
+];
+
+// 6 words for each push, and 56 more, are past the limit
+const LONG: &[(&str, Long<'static>, Case<'static>)] = &[(
+    "v/Sys.vm",
+    Long {
+        front: "function Sys.init 0\n",
+        piece: "push constant 7\n",
+        behind_number: None,
+        times: 6000,
+        back: "label END\ngoto END\n",
+    },
+    Case {
+        files: &[],
+        lines: &["vm v"],
+        fails: NONE,
+        status: Status::Refused,
+        out: "",
+        err: "v:0:0: TooLarge 36056\n",
+    },
+)];
+
+// The program that `vm` makes of files puts these words of its memory.
+fn makes(
+    rt: &impl Abort,
+    alloc: Global,
+    files: &[(&str, &str)],
+    line: &str,
+    out: &str,
+) -> Result<(), Fail> {
+    let made = outcome_of(alloc, files_of(alloc, files)?, "vm v", NONE)?;
+    assert_eq!(rt; made.status, Status::Done, "{line}: {out}");
+    assert_eq!(rt; made.err.bytes().len(), 0, "{line}: {out}");
+    let mut files = Vec::new(alloc);
+    files.push((Name::new(alloc, "a.asm")?, made.out.bytes().to_vec(alloc)?))?;
+    let shown = outcome_of(alloc, files, line, NONE)?;
+    assert_eq!(rt; shown.out.bytes(), out.as_bytes(), "{line}: {out}");
+    assert_eq!(rt; shown.status, Status::Done, "{line}: {out}");
+    assert_eq!(rt; shown.err.bytes().len(), 0, "{line}: {out}");
+    Ok(())
 }
 
 // So many empty files in the folder v.
@@ -184,50 +266,35 @@ fn empty_files(alloc: Global, count: u32) -> Result<Vec<(Name, Vec<u8>)>, Fail> 
     Ok(files)
 }
 
-#[test]
-fn vm_refuses_a_folder_past_its_limit(rt: HostRuntime) -> Result<(), Fail> {
-    let alloc = rt.alloc();
-    let words = ["vm", "v", "--bare"];
-    let outcome = outcome_over(alloc, empty_files(alloc, 256)?, &words)?;
-    assert_eq!(rt; outcome.status, Status::Done);
-    assert_eq!(rt; outcome.out.bytes().len(), 0);
-    let outcome = outcome_over(alloc, empty_files(alloc, 257)?, &words)?;
-    assert_eq!(rt; outcome.status, Status::Refused);
-    assert_eq!(rt; outcome.err.bytes(), b"v:0:0: Range 257\n".as_slice());
+// A folder has at most 256 files.
+fn folder_has_a_limit(rt: &impl Abort, alloc: Global) -> Result<(), Fail> {
+    let rows = [
+        (256, Status::Done, ""),
+        (257, Status::Refused, "v:0:0: Range 257\n"),
+    ];
+    for (count, status, err) in rows {
+        let outcome = outcome_of(alloc, empty_files(alloc, count)?, "vm v --bare", NONE)?;
+        assert_eq!(rt; outcome.status, status, "of {count}");
+        assert_eq!(rt; outcome.out.bytes().len(), 0, "of {count}");
+        assert_eq!(rt; outcome.err.bytes(), err.as_bytes(), "of {count}");
+    }
     Ok(())
 }
 
 #[test]
-fn vm_tells_of_faults_outside(rt: HostRuntime) -> Result<(), Fail> {
-    let words = ["vm", "v", "--bare"];
-    // the listing, and the text
-    let fails: [&[u64]; 2] = [&[1], &[2]];
-    for calls in fails {
-        let case = Case {
-            shelf_fails: calls,
-            ..one_file("v/Sys.vm", b"")
-        };
-        expect(
-            &rt,
-            rt.alloc(),
-            &case,
-            &words,
-            Status::ReadFault,
-            "",
-            READ_FAULT,
-        )?;
+fn programs_are_made(rt: HostRuntime) -> Result<(), Fail> {
+    let alloc = rt.alloc();
+    for (files, line, out) in PROGRAMS {
+        makes(&rt, alloc, files, line, out)?;
     }
-    let case = Case {
-        out_fails: &[(1, 4)],
-        ..one_file("v/Sum.vm", b"push constant 7")
-    };
-    expect(
-        &rt,
-        rt.alloc(),
-        &case,
-        &words,
-        Status::WriteFault,
-        "@7\nD",
-        "",
-    )
+    each_is_done(&rt, alloc, DONE)
+}
+
+#[test]
+fn folders_are_not_translated(rt: HostRuntime) -> Result<(), Fail> {
+    let alloc = rt.alloc();
+    each_is_refused(&rt, alloc, REFUSED)?;
+    each_ends(&rt, alloc, CASES)?;
+    each_long_ends(&rt, alloc, LONG)?;
+    folder_has_a_limit(&rt, alloc)
 }
