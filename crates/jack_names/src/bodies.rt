@@ -1,12 +1,13 @@
 //! The statements that trees mean.
 
-ghost use Rattle.std.specs.Prelude.{◌≡◌, ◌+◌, ◌≤◌, ◌^◌, map, IfOk};
+ghost use Rattle.std.specs.Prelude.{◌≡◌, ◌+◌, ◌≤◌, ◌^◌, map, is_some, IfOk};
+ghost use Rattle.jack_meaning.specs.Text.{text_of, If as IfOf, While as WhileOf};
 ghost use Rattle.jack_tree.specs.Seen.{unboxed};
 ghost use Rattle.jack_core.specs.Texts.{the_statement, the_block};
 ghost use Rattle.jack_core.specs.Reading.{the_expression};
 ghost use Rattle.jack_names.specs.Sizes.{size, sizes, else_size};
 ghost use Rattle.jack_names.specs.Made.{assigned, let_by};
-ghost use Rattle.jack_names.specs.Inner.Meant.{let_meant, statement_meant, statements_meant, else_meant};
+ghost use Rattle.jack_names.specs.Inner.Meant.{exp_meant, let_meant, statement_meant, statements_meant, else_meant};
 ghost use Rattle.jack_names.specs.Inner.Scoped.{the_scope};
 
 use crate::meant::{call_meant, expression_meant, value_meant, variable_meant};
@@ -96,28 +97,10 @@ fn statement_meant<'a>(
             Ok((text, number + 1))
         }
         Statement::If(_, condition, holds, fails) => {
-            let condition = expression_meant(alloc, scope, condition)?;
-            let (holds, middle) = statements_meant(alloc, scope, number + 1, holds)?;
-            let has_else = fails.is_some();
-            let (fails, next) = else_meant(alloc, scope, middle, fails)?;
-            let text = CoreStatement::If {
-                number,
-                has_else,
-                condition,
-                holds,
-                fails,
-            };
-            Ok((text, next))
+            if_meant(alloc, scope, number, condition, holds, fails)
         }
         Statement::While(_, condition, body) => {
-            let condition = expression_meant(alloc, scope, condition)?;
-            let (body, next) = statements_meant(alloc, scope, number + 1, body)?;
-            let text = CoreStatement::While {
-                number,
-                condition,
-                body,
-            };
-            Ok((text, next))
+            while_meant(alloc, scope, number, condition, body)
         }
         Statement::Do(_, call) => {
             let call = call_meant(alloc, scope, call)?;
@@ -128,6 +111,57 @@ fn statement_meant<'a>(
             Ok((CoreStatement::Return { number, value }, number + 1))
         }
     }
+}
+
+// An `if`, and the number after all statements in it.
+#[cycle(bodies)]
+fn if_meant<'a>(
+    alloc: Global,
+    scope: &Scope<'a, '_>,
+    number: u32,
+    condition: &'a Expression,
+    holds: &'a [Statement],
+    fails: &'a Option<Vec<Statement>>,
+) -> Result<(CoreStatement, u32), AllocError>
+    requires { number + 1 + sizes holds.now + else_size fails.now ≤ 2 ^ 31 }
+    ensures text { IfOk result (λ r. the_statement r.0 ≡ IfOf number (is_some fails.now) (exp_meant (the_scope scope.now) condition.now) (text_of (statements_meant (the_scope scope.now) (number + 1) holds.now)) (else_meant (the_scope scope.now) (number + 1 + sizes holds.now) fails.now)) }
+    ensures next { IfOk result (λ r. r.1 ≡ number + 1 + sizes holds.now + else_size fails.now) }
+{
+    let condition = expression_meant(alloc, scope, condition)?;
+    let (holds, middle) = statements_meant(alloc, scope, number + 1, holds)?;
+    let has_else = fails.is_some();
+    let (fails, next) = else_meant(alloc, scope, middle, fails)?;
+    let text = CoreStatement::If {
+        number,
+        has_else,
+        condition,
+        holds,
+        fails,
+    };
+    Ok((text, next))
+}
+
+// A `while`, and the number after all statements in it.
+#[cycle(bodies)]
+fn while_meant<'a>(
+    alloc: Global,
+    scope: &Scope<'a, '_>,
+    number: u32,
+    condition: &'a Expression,
+    body: &'a [Statement],
+) -> Result<(CoreStatement, u32), AllocError>
+    requires { number + 1 + sizes body.now ≤ 2 ^ 31 }
+    ensures text { IfOk result (λ r. the_statement r.0 ≡ WhileOf number (exp_meant (the_scope scope.now) condition.now) (text_of (statements_meant (the_scope scope.now) (number + 1) body.now))) }
+    ensures next { IfOk result (λ r. r.1 ≡ number + 1 + sizes body.now) }
+{
+    let condition = expression_meant(alloc, scope, condition)?;
+    let (body, next) = statements_meant(alloc, scope, number + 1, body)?;
+    let text = CoreStatement::While {
+        number,
+        condition,
+        body,
+    };
+    Ok((text, next))
 }
 
 #[cycle(bodies)]

@@ -61,6 +61,24 @@ fn push_meant<'a>(
     Ok(())
 }
 
+// The same, where no use of a name in it has a fault.
+fn push_resolved<'a>(
+    alloc: Global,
+    scope: &Scope<'a, '_>,
+    owner: Owner<'_>,
+    s: &'a Subroutine,
+    subroutines: &mut Vec<CoreSubroutine>,
+) -> Result<(), NameError>
+    requires { HasFew s.now }
+    ensures checks { Checks (first_fault (the_scope scope.now) (subroutine_uses s.now)) result }
+    ensures program { OnOk result (map the_subroutine subroutines.new.items ≡ map the_subroutine subroutines.old.items ++ subroutine_meant (the_scope scope.now) owner.entry.fields s.now ∷ []) }
+    ensures names { OnOk result (map the_name subroutines.new.items ≡ map the_name subroutines.old.items ++ subroutine_name owner.entry.name.now s.now ∷ []) }
+{
+    check_subroutine(alloc, scope, s)?;
+    push_meant(alloc, scope, owner, s, subroutines)?;
+    Ok(())
+}
+
 fn resolve_subroutine<'a>(
     alloc: Global,
     class: ClassScope<'a, '_>,
@@ -75,9 +93,7 @@ fn resolve_subroutine<'a>(
 {
     let locals = variables_of(alloc, class.names, s)?;
     let scope = scope_in(class, &locals, s);
-    check_subroutine(alloc, &scope, s)?;
-    push_meant(alloc, &scope, owner, s, subroutines)?;
-    Ok(())
+    push_resolved(alloc, &scope, owner, s, subroutines)
 }
 
 fn resolve_subroutines<'a>(

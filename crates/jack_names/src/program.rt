@@ -4,7 +4,8 @@ ghost use Rattle.std.specs.Prelude.{◌≡◌, ◌+◌, ◌≤◌, ◌<◌, ◌^
 ghost use Rattle.jack_core.specs.Texts.{the_subroutine, the_class, the_program, names_of, class_names_of};
 ghost use Rattle.jack_names.specs.Faults.{Checks};
 ghost use Rattle.jack_names.specs.Inner.Entered.{table_of};
-ghost use Rattle.jack_names.specs.Symbols.{fields_of, statics_of};
+ghost use Rattle.jack_names.specs.Symbols.{fields_of, statics_of, symbols_of};
+ghost use Rattle.jack_names.specs.Tables.{first_of};
 ghost use Rattle.jack_names.specs.Limits.{AreWithin, subroutine_count};
 ghost use Rattle.jack_names.specs.Inner.Whole.{declared_fault, is_plain, main_fault, all_statics, all_uses_fault, first_name_fault, all_subroutines_meant, start_subroutine, class_meant, program_meant, class_names, names_meant, all_names_meant};
 ghost use Rattle.jack_names.specs.Inner.Named.{with_all, the_symbols, marks};
@@ -199,6 +200,33 @@ fn all_classes(alloc: Global, own: &[Class], os: &[Class]) -> Result<Vec<CoreCla
     Ok(classes)
 }
 
+// The program of these names or the first fault, behind those of declarations.
+fn resolve_named<'a>(
+    alloc: Global,
+    names: &Names<'a>,
+    own: &'a [Class],
+    os: &'a [Class],
+) -> Result<Core, NameError>
+    requires names { the_symbols names.now ≡ symbols_of (own.now ++ os.now) }
+    requires classes { length own.now + length os.now < 2 ^ 31 }
+    requires statics { all_statics own.now + all_statics os.now < 2 ^ 31 }
+    requires own { AreWithin own.now }
+    requires os { AreWithin os.now }
+    ensures checks { Resolves (first_of (main_fault (symbols_of (own.now ++ os.now))) (all_uses_fault (symbols_of (own.now ++ os.now)) own.now os.now)) result }
+    ensures program { IfOk result (λ core. the_program core ≡ program_meant own.now os.now) }
+    ensures names { IfOk result (λ core. names_of core ≡ all_names_meant own.now os.now) }
+    ensures classes { IfOk result (λ core. class_names_of core ≡ class_names own.now ++ class_names os.now) }
+{
+    check_main(alloc, names)?;
+    let mut subroutines = started(alloc)?;
+    resolve_all(alloc, names, own, os, &mut subroutines)?;
+    Ok(Core {
+        classes: all_classes(alloc, own, os)?,
+        subroutines,
+        init: number_by(names.find(b"Sys".as_slice(), b"init".as_slice())),
+    })
+}
+
 // The program or the first fault, where the statics have numbers.
 fn resolve_numbered<'a>(alloc: Global, own: &'a [Class], os: &'a [Class]) -> Result<Core, NameError>
     requires classes { length own.now + length os.now < 2 ^ 31 }
@@ -213,14 +241,7 @@ fn resolve_numbered<'a>(alloc: Global, own: &'a [Class], os: &'a [Class]) -> Res
 {
     check_declared(alloc, own, os)?;
     let names = names_of(alloc, own, os)?;
-    check_main(alloc, &names)?;
-    let mut subroutines = started(alloc)?;
-    resolve_all(alloc, &names, own, os, &mut subroutines)?;
-    Ok(Core {
-        classes: all_classes(alloc, own, os)?,
-        subroutines,
-        init: number_by(names.find(b"Sys".as_slice(), b"init".as_slice())),
-    })
+    resolve_named(alloc, &names, own, os)
 }
 
 /// The program that the classes of a folder and those of the operating system mean, or the first fault in their names:

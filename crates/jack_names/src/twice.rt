@@ -67,14 +67,14 @@ fn check_names<'a>(
 fn check_lines<'a>(
     alloc: Global,
     file: File,
-    mut seen: Table<'a, ()>,
+    seen: &mut Table<'a, ()>,
     variables: &'a [ClassVariables],
 ) -> Result<(), NameError>
-    ensures { Checks (members_twice (the_file file.entry) (names_in (table_of seen.entry)) variables.now) result }
+    ensures { Checks (members_twice (the_file file.entry) (names_in (table_of seen.old)) variables.now) result }
 {
     let mut rest = variables;
     while let Some((line, others)) = rest.split_first() {
-        check_names(alloc, file, NameKind::MemberTwice, &mut seen, &line.names)?;
+        check_names(alloc, file, NameKind::MemberTwice, seen, &line.names)?;
         rest = others;
     }
     Ok(())
@@ -100,14 +100,14 @@ fn check_parameters<'a>(
 fn check_locals<'a>(
     alloc: Global,
     file: File,
-    mut seen: Table<'a, ()>,
+    seen: &mut Table<'a, ()>,
     locals: &'a [Locals],
 ) -> Result<(), NameError>
-    ensures { Checks (locals_twice (the_file file.entry) (names_in (table_of seen.entry)) locals.now) result }
+    ensures { Checks (locals_twice (the_file file.entry) (names_in (table_of seen.old)) locals.now) result }
 {
     let mut rest = locals;
     while let Some((line, others)) = rest.split_first() {
-        check_names(alloc, file, NameKind::VariableTwice, &mut seen, &line.names)?;
+        check_names(alloc, file, NameKind::VariableTwice, seen, &line.names)?;
         rest = others;
     }
     Ok(())
@@ -118,20 +118,20 @@ fn check_variables(alloc: Global, file: File, s: &Subroutine) -> Result<(), Name
 {
     let mut seen = Table::new(alloc);
     check_parameters(alloc, file, &mut seen, &s.parameters)?;
-    check_locals(alloc, file, seen, &s.locals)
+    check_locals(alloc, file, &mut seen, &s.locals)
 }
 
 fn check_subroutines<'a>(
     alloc: Global,
     file: File,
-    mut seen: Table<'a, ()>,
+    seen: &mut Table<'a, ()>,
     subroutines: &'a [Subroutine],
 ) -> Result<(), NameError>
-    ensures { Checks (subroutines_fault (the_file file.entry) (names_in (table_of seen.entry)) subroutines.now) result }
+    ensures { Checks (subroutines_fault (the_file file.entry) (names_in (table_of seen.old)) subroutines.now) result }
 {
     let mut rest = subroutines;
     while let Some((s, others)) = rest.split_first() {
-        check_new(alloc, file, NameKind::MemberTwice, &mut seen, &s.name)?;
+        check_new(alloc, file, NameKind::MemberTwice, seen, &s.name)?;
         check_variables(alloc, file, s)?;
         rest = others;
     }
@@ -141,10 +141,10 @@ fn check_subroutines<'a>(
 fn check_members(alloc: Global, file: File, class: &Class) -> Result<(), NameError>
     ensures { Checks (members_fault (the_file file.entry) class.now) result }
 {
-    let variables = Table::new(alloc);
-    check_lines(alloc, file, variables, &class.variables)?;
-    let subroutines = Table::new(alloc);
-    check_subroutines(alloc, file, subroutines, &class.subroutines)
+    let mut variables = Table::new(alloc);
+    check_lines(alloc, file, &mut variables, &class.variables)?;
+    let mut subroutines = Table::new(alloc);
+    check_subroutines(alloc, file, &mut subroutines, &class.subroutines)
 }
 
 // A class is named as its file, without the ending.

@@ -11,12 +11,18 @@ invariant-statements_meant-loop-s l = record {
   number : l.number ≡ l.first + sizes (take l.s-index l.ss);
 }
 
--- an `else`, its statements, and the first of them
+-- an `if`, its `else`, its statements, and the first of them
+abbrev pub decreases-if_meant : goal.decreases-if_meant
+decreases-if_meant l = 4 * (sizes l.holds.now + else_size l.fails.now) + 3
+
+abbrev pub decreases-while_meant : goal.decreases-while_meant
+decreases-while_meant l = 4 * sizes l.body.now + 3
+
 abbrev pub decreases-else_meant : goal.decreases-else_meant
-decreases-else_meant l = 3 * else_size l.fails.now + 2
+decreases-else_meant l = 4 * else_size l.fails.now + 2
 
 abbrev pub decreases-statements_meant : goal.decreases-statements_meant
-decreases-statements_meant l = 3 * sizes l.ss.now + 1
+decreases-statements_meant l = 4 * sizes l.ss.now + 1
 
 abbrev pub decreases-statement_meant : goal.decreases-statement_meant
-decreases-statement_meant l = 3 * size l.s.now
+decreases-statement_meant l = 4 * size l.s.now

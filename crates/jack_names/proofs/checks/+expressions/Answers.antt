@@ -1,4 +1,4 @@
-use Rattle.std.proofs.Common.{◌++◌, ◌∷◌, sym, ap, ◌∙◌, Err}
+use Rattle.std.proofs.Common.{◌++◌, ◌∷◌, sym, ap, ◌∙◌, Err, arith}
 use Rattle.std.proofs.lemmas.Result.{err_from_is_err_and}
 use Rattle.jack_tree.specs.declared.tree.Call.{out-Call}
 use Rattle.jack_tree.specs.declared.tree.Expression.{out-Expression}
@@ -7,6 +7,7 @@ use Rattle.jack_names.specs.Inner.Scopes.{use_fault, first_fault}
 use Rattle.jack_names.specs.Inner.Scoped.{the_scope}
 use Rattle.jack_names.proofs.Checking.{as_uses, in_first, in_second, uses_first, uses_second, in_each, one_clear}
 use Rattle.jack_names.proofs.Rows.{call_is, exp_is}
+use Rattle.std.proofs.lemmas.Grind.{common_steps}
 use Rattle.jack_names.proofs.checks.+expressions.Goals as goal
 
 pub check_arguments-returns-in_err-check_expression : goal.check_arguments-returns-in_err-check_expression
@@ -59,3 +60,21 @@ check_whole_call-returns t c =
     let k = out-Call c.args.call.now in
     as_uses s _ _ _ (call_is c.args.call.now ∙ ap (λ n. Calls k.object k.name n ∷ arguments_uses k.arguments.items) (sym (c.len.ensures ∙ k.arguments.ok.0)) ∙ ap (λ es. Calls k.object k.name c.len.result ∷ arguments_uses es) (sym c.deref.ensures.value))
     (in_second (use_fault s (Calls k.object k.name c.len.result)) (first_fault s (arguments_uses c.deref.result.now)) _ c.in_ok-check_call.ensures c.check_arguments.ensures)
+
+pub check_term-returns-in-Call : goal.check_term-returns-in-Call
+check_term-returns-in-Call t c = grind (arith, common_steps)
+
+pub check_term-returns-in-Group : goal.check_term-returns-in-Group
+check_term-returns-in-Group t c = grind (arith, common_steps)
+
+pub check_term-returns-in-Unary : goal.check_term-returns-in-Unary
+check_term-returns-in-Unary t c = grind (arith, common_steps)
+
+pub check_term-returns-in_ok-check_variable-in-Element : goal.check_term-returns-in_ok-check_variable-in-Element
+check_term-returns-in_ok-check_variable-in-Element t c = grind (arith, common_steps)
+
+pub check_term-returns-in_err-check_variable-in-Element : goal.check_term-returns-in_err-check_variable-in-Element
+check_term-returns-in_err-check_variable-in-Element t c = grind (arith, common_steps)
+
+pub check_operation-returns : goal.check_operation-returns
+check_operation-returns t c = grind (arith, common_steps)

@@ -1,4 +1,4 @@
-use Rattle.std.proofs.Common.{◌++◌, sym, ap, ◌∙◌, Ok, Err}
+use Rattle.std.proofs.Common.{◌++◌, sym, ap, ◌∙◌, Ok, Err, arith}
 use Rattle.std.proofs.lemmas.Result.{err_from_is_err_and}
 use Rattle.jack_tree.specs.Seen.{unboxed}
 use Rattle.jack_names.specs.Inner.Uses.{Variable, exp_uses, optional_uses, statement_uses, statements_uses}
@@ -6,6 +6,7 @@ use Rattle.jack_names.specs.Inner.Scopes.{use_fault, first_fault}
 use Rattle.jack_names.specs.Inner.Scoped.{the_scope}
 use Rattle.jack_names.proofs.Checking.{as_uses, in_second, uses_first, uses_second, in_each, one_clear}
 use Rattle.jack_names.proofs.Rows.{if_uses, while_uses, else_uses}
+use Rattle.std.proofs.lemmas.Grind.{common_steps}
 use Rattle.jack_names.proofs.checks.+statements.Goals as goal
 
 pub check_statement-returns-in_err-check_index-in-Let : goal.check_statement-returns-in_err-check_index-in-Let
@@ -74,3 +75,9 @@ pub check_statements-loop-s-preserved : goal.check_statements-loop-s-preserved
 check_statements-loop-s-preserved t c =
     let s = the_scope c.args.scope.now in
     one_clear s statement_uses c.args.ss.now c.loop-s.s-index _ c.loop-s-test.true c.s-item.is c.loop-s.invariant c.in_ok-check_statement.ensures
+
+pub check_statement-returns-in-Do : goal.check_statement-returns-in-Do
+check_statement-returns-in-Do t c = grind (arith, common_steps)
+
+pub check_statement-returns-in-Return : goal.check_statement-returns-in-Return
+check_statement-returns-in-Return t c = grind (arith, common_steps)

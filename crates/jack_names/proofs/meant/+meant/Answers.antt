@@ -2,6 +2,7 @@
 use Rattle.std.proofs.Common.{◌≡◌, ◌+◌, [], length, map, take, sym, ap, ◌∙◌, refl, arith}
 use Rattle.std.proofs.lemmas.List.{take_all, length-map}
 use Rattle.std.proofs.lemmas.Result.{on_ok_weaker}
+use Rattle.std.proofs.lemmas.Grind.{common_steps}
 use Rattle.jack_meaning.specs.Text as meaning
 use Rattle.jack_tree.specs.declared.tree.Call.{out-Call}
 use Rattle.jack_tree.specs.declared.tree.Expression.{out-Expression}
@@ -96,3 +97,15 @@ push_term-returns-in_ok-push_term-in-Unary t c =
     (λ last. added_as (meaning.Unary o value) (term_meant s c.args.term.now) old new same
     (added_turned value (meaning.Unary o) old middle new c.in_ok-push_term-in-Unary.ensures (turns (part.Unary c.sign_meant.result) (meaning.Unary o) middle new refl (λ e. refl) last)))
     c.push_part-in-Unary.ensures
+
+pub push_arguments-loop-e-preserved : goal.push_arguments-loop-e-preserved
+push_arguments-loop-e-preserved t c = grind (arith, common_steps)
+
+pub push_arguments-returns : goal.push_arguments-returns
+push_arguments-returns t c = grind (arith, common_steps)
+
+pub push_term-returns-in-Call : goal.push_term-returns-in-Call
+push_term-returns-in-Call t c = grind (arith, common_steps)
+
+pub push_term-returns-in-Group : goal.push_term-returns-in-Group
+push_term-returns-in-Group t c = grind (arith, common_steps)

@@ -1,0 +1,12 @@
+use Rattle.std.proofs.Common.{arith}
+use Rattle.std.proofs.lemmas.Grind.{common_steps}
+use Rattle.jack_names.proofs.program.resolve_all.Goals as goal
+
+pub returns-clause-program : goal.returns-clause-program
+returns-clause-program c = grind (arith, common_steps)
+
+pub returns-clause-names : goal.returns-clause-names
+returns-clause-names c = grind (arith, common_steps)
+
+pub returns-clause-checks : goal.returns-clause-checks
+returns-clause-checks c = grind (arith, common_steps)
