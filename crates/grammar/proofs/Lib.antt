@@ -21,3 +21,5 @@ pub mod Shown
 pub mod Past
 pub mod LinePieces
 pub mod Entered
+pub mod Totals
+pub mod Reader

@@ -24,3 +24,9 @@ mod BuiltClasses
 pub mod SameClass
 pub mod Spelt
 mod Rewritten
+pub mod LawfulRules
+pub mod ReadClasses
+pub mod PlainTokens
+mod SpellingTests
+mod TreeClasses
+pub mod Decided
