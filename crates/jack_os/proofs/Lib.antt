@@ -1,3 +1,4 @@
 pub mod Sketched
 pub mod Seen
+pub mod SystemTexts
 pub mod Spelling

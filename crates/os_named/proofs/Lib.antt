@@ -1,0 +1,4 @@
+pub mod Own
+pub mod Fine
+pub mod Laws
+pub mod Rows
