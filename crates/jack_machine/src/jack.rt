@@ -61,7 +61,7 @@ fn first_frame<'a>(alloc: Global, init: u32) -> Frame<'a>
 }
 
 impl<'a> Jack<'a> {
-    ghost use Rattle.std.specs.Prelude.{◌+◌, ◌<◌, ◌^◌, [], OnOk, OnErr};
+    ghost use Rattle.std.specs.Prelude.{◌+◌, ◌<◌, ◌≤◌, ◌^◌, [], OnOk, OnErr, length};
     ghost use Rattle.machine_io.specs.History.{moves_in};
     ghost use Rattle.jack_meaning.specs.Meaning.{start};
     ghost use Rattle.jack_core.specs.declared.tree.Part.TheVariants as part;
@@ -90,6 +90,14 @@ impl<'a> Jack<'a> {
         })
     }
 
+    /// The number of frames: the top one, and those that wait for it.
+    pub fn frames(&self) -> usize
+        ensures frames { result ≡ length (jack_state self.now).frames }
+        ensures few { result ≤ 2 ^ 63 }
+    {
+        self.below.len() + 1
+    }
+
     // A new frame for the call that is next in the top frame, with so many arguments.
     fn make_call(&mut self, g: u32, n: u16) -> Result<(), AllocError>
         requires next { IsNext (part.Call n g) self.old.top }
@@ -110,7 +118,7 @@ impl<'a> Jack<'a> {
 
     /// One step of the meaning under a key. Where memory is wanted, and after any answer but `Acted`, the machine
     /// stands for the same state as before.
-    fn make_step(&mut self, key: u16) -> Result<Moved, AllocError>
+    pub fn make_step(&mut self, key: u16) -> Result<Moved, AllocError>
         requires { self.old.moves < 2 ^ 63 }
         ensures step { IfOk result (λ answer. JackStep key self.old answer self.new) }
         ensures refused { OnErr result (IsSame self.old self.new) }

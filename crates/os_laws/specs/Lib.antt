@@ -1,0 +1,15 @@
+pub mod Calls
+pub mod Numbers
+pub mod Heap
+pub mod HeapCalls
+pub mod HeapRun
+pub mod KernelCalls
+pub mod Names
+pub mod Machine
+pub mod Kernel
+pub mod Laws
+pub mod NameLaws
+pub mod Rows
+pub mod StepRows
+pub mod RunRows
+pub mod Inner
