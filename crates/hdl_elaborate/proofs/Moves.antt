@@ -58,6 +58,7 @@ node_reads k n blocks nodes.Pin lt h = tt
 node_reads k n blocks (nodes.Nand i j) lt h = let a = h.0 in let b = h.1 in (omega (arith, a), omega (arith, b))
 node_reads k n blocks (nodes.Flip i) lt h = h
 node_reads k n blocks (nodes.Word b bit) lt h = word_reads k n b bit blocks (slice_get blocks b) refl h.0 h.1
+node_reads k n blocks nodes.Zero lt h = tt
 
 -- ---- the nodes of the ends
 

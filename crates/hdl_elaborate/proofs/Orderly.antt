@@ -33,6 +33,7 @@ reads_there n blocks nodes.Pin h = tt
 reads_there n blocks (nodes.Nand i j) h = h
 reads_there n blocks (nodes.Flip i) h = h
 reads_there n blocks (nodes.Word b bit) h = (h.1, h.0)
+reads_there n blocks nodes.Zero h = tt
 
 -- a bit that is one of these
 record StandsIn (bits : List BitOf) (name : List ℕ) (bit : ℕ) : Type 0 where
@@ -81,6 +82,7 @@ pin_or_not nodes.Pin = inl refl
 pin_or_not (nodes.Nand i j) = inr (λ e. absurd cc)
 pin_or_not (nodes.Flip i) = inr (λ e. absurd cc)
 pin_or_not (nodes.Word b bit) = inr (λ e. absurd cc)
+pin_or_not nodes.Zero = inr (λ e. absurd cc)
 
 module _ (chips : Chips) (name : List ℕ) (top : Entry) (flat : Flat) (pins : EndsHavePins chips) (found : find_chip chips name ≡ Some top) (is : IsFlat chips top flat) where
   output_of : (k : ℕ) → IsEndBit chips top is.at k → IsOutput chips top is.at k

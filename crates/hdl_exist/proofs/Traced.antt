@@ -263,12 +263,15 @@ module _ (net : Net) (circle : List ℕ) (c : IsCircle net.nodes net.blocks circ
   no_flip : (k i : ℕ) → slice_get net.nodes k ≡ Some (nodes.Flip i) → OnCircle k → ⊥
   no_flip k i e o = none_read (read_of k (nodes.Flip i) e o)
 
-  no_high : (low high : ℕ) → slice_get net.nodes low ≡ Some (nodes.Flip low) → slice_get net.nodes high ≡ Some (nodes.Nand low low) → OnCircle high → ⊥
+  no_zero : (k : ℕ) → slice_get net.nodes k ≡ Some nodes.Zero → OnCircle k → ⊥
+  no_zero k e o = none_read (read_of k nodes.Zero e o)
+
+  no_high : (low high : ℕ) → slice_get net.nodes low ≡ Some nodes.Zero → slice_get net.nodes high ≡ Some (nodes.Nand low low) → OnCircle high → ⊥
   no_high low high e f o = let r = read_of high (nodes.Nand low low) f o in by r.on (one_of_two low low r.at r.other r.is)
     where
       by : {x : ℕ} → OnCircle x → (low ≡ x) ⊎ (low ≡ x) → ⊥
-      by on (inl s) = no_flip low low e (subst OnCircle (sym s) on)
-      by on (inr s) = no_flip low low e (subst OnCircle (sym s) on)
+      by on (inl s) = no_zero low e (subst OnCircle (sym s) on)
+      by on (inr s) = no_zero low e (subst OnCircle (sym s) on)
 
   there_by : (k : ℕ) (o : Option Node) → slice_get net.nodes k ≡ o → OnCircle k → (node : Node) × (slice_get net.nodes k ≡ Some node)
   there_by k None e o = let n = next k o in let f : slice_get [] n.reads.at ≡ Some n.other = sym (ap (λ (x : Option Node). slice_get (reads_by net.blocks x) n.reads.at) e) ∙ n.reads.there in absurd cc
@@ -325,7 +328,7 @@ module _ (chips : Chips) (top_name : List ℕ) (top : Entry) (has_ends : HasEnds
   fine path chip there = fine_at chips (top.name ∷ []) top_name top path chip top_found faultless there
 
   no_low : On low → ⊥
-  no_low on = no_flip net circle c low low numbering.low_stands on
+  no_low on = no_zero net circle c low numbering.low_stands on
 
   not_high : On high → ⊥
   not_high on = no_high net circle c low high numbering.low_stands numbering.high_stands on

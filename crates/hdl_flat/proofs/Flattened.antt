@@ -222,7 +222,7 @@ first_nodes n = constants ++ pins n
 first_long : (n : ℕ) → length (first_nodes n) ≡ n + 2
 first_long n = let long = length_pins n in omega (arith, length-append constants (pins n), long)
 
-first_low : (n : ℕ) → slice_get (first_nodes n) 0 ≡ Some (nodes.Flip 0)
+first_low : (n : ℕ) → slice_get (first_nodes n) 0 ≡ Some nodes.Zero
 first_low n = refl
 
 first_high : (n : ℕ) → slice_get (first_nodes n) 1 ≡ Some (nodes.Nand 0 0)
@@ -232,7 +232,7 @@ first_pin : (n k : ℕ) → k < n → slice_get (first_nodes n) (k + 2) ≡ Some
 first_pin n k lt = let at : k + 2 ≡ suc (suc k) = omega arith in ap (slice_get (constants ++ pins n)) at ∙ pins_at n k lt
 
 first_read : (n m b : ℕ) → 0 < m → All (Reads m b) (first_nodes n)
-first_read n m b lt = All-append (Reads m b) constants (pins n) (All-append (Reads m b) (nodes.Flip 0 ∷ []) (nodes.Nand 0 0 ∷ []) (all_one (Reads m b) (nodes.Flip 0) lt) (all_one (Reads m b) (nodes.Nand 0 0) (lt, lt))) (pins_read m b n)
+first_read n m b lt = All-append (Reads m b) constants (pins n) (All-append (Reads m b) (nodes.Zero ∷ []) (nodes.Nand 0 0 ∷ []) (all_one (Reads m b) nodes.Zero tt) (all_one (Reads m b) (nodes.Nand 0 0) (lt, lt))) (pins_read m b n)
 
 -- all are so, one by one
 each : {X : Type 0} (P : X → Type 0) (xs : List X) → All P xs → (k : ℕ) (x : X) → slice_get xs k ≡ Some x → P x
@@ -498,7 +498,7 @@ module _ (chips : Chips) (name : List ℕ) (plans : List Plan) (place : ℕ) (pl
   block_used b lt =
       let w = words_are.used b lt in
       let here : slice_get new.nodes.items w.k ≡ Some (nodes.Word b 0) = w.there in
-      let no_low : w.k ≡ 0 → ⊥ = λ e. let both : Some (nodes.Flip 0) ≡ Some (nodes.Word b 0) = sym (stands 0 (nodes.Flip 0) (first_low (length inputs))) ∙ ap (slice_get new.nodes.items) (sym e) ∙ here in absurd cc in
+      let no_low : w.k ≡ 0 → ⊥ = λ e. let both : Some nodes.Zero ≡ Some (nodes.Word b 0) = sym (stands 0 nodes.Zero (first_low (length inputs))) ∙ ap (slice_get new.nodes.items) (sym e) ∙ here in absurd cc in
       let no_high : w.k ≡ 1 → ⊥ = λ e. let both : Some (nodes.Nand 0 0) ≡ Some (nodes.Word b 0) = sym (stands 1 (nodes.Nand 0 0) (first_high (length inputs))) ∙ ap (slice_get new.nodes.items) (sym e) ∙ here in absurd cc in
       let x = end_bits w.k (nodes.Word b 0) here (λ e. absurd cc) no_low no_high in
       let stand = end_stands x.path x.chip x.e x.there x.is_end in
@@ -544,7 +544,7 @@ module _ (chips : Chips) (name : List ℕ) (plans : List Plan) (place : ℕ) (pl
         at = put.at;
         block = put.block;
         numbering = record {
-          low_stands = stands 0 (nodes.Flip 0) (first_low (length inputs));
+          low_stands = stands 0 nodes.Zero (first_low (length inputs));
           high_stands = stands 1 (nodes.Nand 0 0) (first_high (length inputs));
           wired = placed.wired;
         };

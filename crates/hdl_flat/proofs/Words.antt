@@ -73,6 +73,11 @@ unfolding no_words
 flip_none i zero b bit e = absurd cc
 flip_none i (suc k) b bit e = absurd cc
 
+zero_none : no_words (nodes.Zero ∷ [])
+unfolding no_words
+zero_none zero b bit e = absurd cc
+zero_none (suc k) b bit e = absurd cc
+
 pins_none : (n : ℕ) → no_words (pins n)
 unfolding no_words
 pins_none zero k b bit e = absurd cc
@@ -117,4 +122,4 @@ nothing : HasWords [] 0
 nothing = record { few = omega arith; below = λ k b bit e. absurd cc; used = λ b lt. absurd (omega (arith, lt)); once = λ i j b bit e f. absurd cc }
 
 pub first_words : (n : ℕ) → HasWords (constants ++ pins n) 0
-first_words n = beside constants (pins n) 0 (beside (nodes.Flip 0 ∷ []) (nodes.Nand 0 0 ∷ []) 0 (beside [] (nodes.Flip 0 ∷ []) 0 nothing (flip_none 0)) (nand_none 0 0)) (pins_none n)
+first_words n = beside constants (pins n) 0 (beside (nodes.Zero ∷ []) (nodes.Nand 0 0 ∷ []) 0 (beside [] (nodes.Zero ∷ []) 0 nothing zero_none) (nand_none 0 0)) (pins_none n)

@@ -26,6 +26,7 @@ Reads n m nodes.Pin = Unit {0}
 Reads n m (nodes.Nand i j) = (i < n) × (j < n)
 Reads n m (nodes.Flip i) = i < n
 Reads n m (nodes.Word b bit) = (b < m) × (bit < 16)
+Reads n m nodes.Zero = Unit {0}
 
 pub record ReadWhatIsThere (ns : List Node) (blocks : List Block) : Type 0 where
   pub node : (k : ℕ) (node : Node) → slice_get ns k ≡ Some node → Reads (length ns) (length blocks) node

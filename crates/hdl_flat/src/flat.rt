@@ -335,7 +335,7 @@ fn input_nodes(alloc: Global, n: usize) -> Result<Vec<u32>, AllocError>
 fn begin(nodes: &mut Vec<Node>, n: usize) -> Result<(), AllocError>
     ensures { OnOk result (nodes.new.items ≡ nodes.old.items ++ (constants ++ pins n)) }
 {
-    push_node(nodes, Node::Flip(LOW))?;
+    push_node(nodes, Node::Zero)?;
     push_node(nodes, Node::Nand(LOW, LOW))?;
     put_pins(nodes, n)
 }

@@ -9,7 +9,7 @@ use Rattle.hdl_tree.specs.declared.library.Entry.{Entry}
 use Rattle.hdl_tree.specs.declared.ends.End.{End}
 use Rattle.hdl_tree.specs.Chips.{Chips, end_of, parts_of_body}
 use Rattle.hdl_tree.specs.Behaviour.{Wires, World, chip_at, Each, Joins, source_value, PartsWired, ChipWired, EndWorks, IsBehaviour}
-use Rattle.netlist.specs.declared.node.Node.TheVariants.{Nand, Flip}
+use Rattle.netlist.specs.declared.node.Node.TheVariants.{Nand, Zero}
 use Rattle.netlist.specs.Net.{Net}
 use Rattle.netlist.specs.Value.{Inputs, AreValues}
 use Rattle.hdl_numbering.specs.Numbering.{IsNumbering, Hears, EndStands}
@@ -37,8 +37,7 @@ module _ {X Y : Type 0} (f : X → Y) (low high : X) (low' high' : Y) (l : f low
 
 module _ (world : World) (net : Net) (inputs : Inputs) (n : ℕ) (v : ℕ → ℕ → Bool) (low high : ℕ) (chips : Chips) (top : Entry) (block : List ℕ → ℕ) (at : List ℕ → Wires ℕ) (numbering : IsNumbering net low high chips top block at) (hears : Hears world inputs n chips top block at) (are : AreValues net inputs n v) where
   low_is : (c : ℕ) → c < n → v low c ≡ false
-  low_is zero lt = are zero low (Flip low) lt numbering.low_stands
-  low_is (suc c) lt = are (suc c) low (Flip low) lt numbering.low_stands ∙ low_is c (omega (arith, lt))
+  low_is c lt = are c low Zero lt numbering.low_stands
 
   high_is : (c : ℕ) → c < n → v high c ≡ true
   high_is c lt = are c high (Nand low low) lt numbering.high_stands ∙ ap (λ (b : Bool). not (b && b)) (low_is c lt)

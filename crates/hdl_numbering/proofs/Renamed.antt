@@ -9,7 +9,7 @@ use Rattle.hdl_tree.specs.declared.ends.End.{End}
 use Rattle.hdl_tree.specs.declared.ends.End.TheVariants as ends
 use Rattle.hdl_tree.specs.Chips.{Chips, end_of, parts_of_body}
 use Rattle.hdl_tree.specs.Behaviour.{Wires, ChipWired}
-use Rattle.netlist.specs.declared.node.Node.TheVariants.{Pin, Nand, Flip, Word}
+use Rattle.netlist.specs.declared.node.Node.TheVariants.{Pin, Nand, Flip, Word, Zero}
 use Rattle.netlist.specs.declared.node.Block.{Block}
 use Rattle.netlist.specs.Net.{Net}
 use Rattle.netlist.specs.Renamed.{renamed_block, IsRenamed}
@@ -58,7 +58,7 @@ module _ (old new : Net) (places : List ℕ) (is : IsRenamed old new places) whe
 
 pub renamed_numbering : RenamingLaw
 renamed_numbering old new places low high chips top block at is numbering = record {
-  low_stands = is.nodes low (Flip low) numbering.low_stands;
+  low_stands = is.nodes low Zero numbering.low_stands;
   high_stands = is.nodes high (Nand low low) numbering.high_stands;
   wired = λ path inner there. here old new places is low high chips inner (end_of chips.blocks inner) (block path) (at path) (λ i. at (path ++ i ∷ [])) (numbering.wired path inner there);
 }

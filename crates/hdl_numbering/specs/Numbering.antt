@@ -7,7 +7,7 @@ use Rattle.hdl_tree.specs.declared.ends.End.TheVariants as ends
 use Rattle.hdl_tree.specs.Memory.{number}
 use Rattle.hdl_tree.specs.Chips.{Chips, end_of}
 use Rattle.hdl_tree.specs.Behaviour.{Wires, World, chip_at, Wired, IsBehaviour}
-use Rattle.netlist.specs.declared.node.Node.TheVariants.{Pin, Nand, Flip, Word}
+use Rattle.netlist.specs.declared.node.Node.TheVariants.{Pin, Nand, Flip, Word, Zero}
 use Rattle.netlist.specs.declared.node.Block.{Block}
 use Rattle.netlist.specs.Net.{Net}
 use Rattle.netlist.specs.Value.{Inputs, AreValues}
@@ -42,9 +42,9 @@ EndStands net low b (ends.Block bits) at = BlockStands net b (memory_block bits 
 -- ---- numberings
 
 -- A numbering of the chip: `at` gives the node of each bit of each pin and net, by path, and `block` the block of the end at a path. What
--- is joined is one node; low is a node that is always 0, and high one that is always 1.
+-- is joined is one node; low is the node Zero, which is always 0, and high a Nand of it, which is always 1.
 pub record IsNumbering (net : Net) (low high : ℕ) (chips : Chips) (top : Entry) (block : List ℕ → ℕ) (at : List ℕ → Wires ℕ) : Type 0 where
-  pub low_stands : slice_get net.nodes low ≡ Some (Flip low)
+  pub low_stands : slice_get net.nodes low ≡ Some Zero
   pub high_stands : slice_get net.nodes high ≡ Some (Nand low low)
   pub wired : Wired low high chips top (λ path e. EndStands net low (block path) e (at path)) at
 

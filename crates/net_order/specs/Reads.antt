@@ -1,7 +1,7 @@
 -- What nodes read within a cycle, and circles of such reads. (The book, chapter 3.)
 use Rattle.std.specs.Prelude.{◌≡◌, ℕ, suc, ◌<◌, List, [], ◌∷◌, length, Option, Some, None, slice_get, nat_eq, if◌then◌else◌}
 use Rattle.netlist.specs.declared.node.Node.{Node}
-use Rattle.netlist.specs.declared.node.Node.TheVariants.{Pin, Nand, Flip, Word}
+use Rattle.netlist.specs.declared.node.Node.TheVariants.{Pin, Nand, Flip, Word, Zero}
 use Rattle.netlist.specs.declared.node.Block.{Block}
 use Rattle.netlist.specs.Order.{HasInputs}
 
@@ -13,6 +13,7 @@ HasReads n blocks Pin = Unit {0}
 HasReads n blocks (Nand i j) = (i < n) × (j < n)
 HasReads n blocks (Flip i) = i < n
 HasReads n blocks (Word block bit) = (bit < 16) × (block < length blocks)
+HasReads n blocks Zero = Unit {0}
 
 -- each node and each block reads what is there
 pub record AreClosed (nodes : List Node) (blocks : List Block) : Type 0 where
@@ -25,12 +26,13 @@ abbrev pub address_in : Option Block → List ℕ
 address_in None = []
 address_in (Some block) = block.address
 
--- what a node reads within the cycle: a Nand its inputs, a bit of a block's word the block's address, and a pin or a flip-flop nothing
+-- what a node reads within the cycle: a Nand its inputs, a bit of a block's word the block's address, and a pin, a flip-flop or Zero nothing
 abbrev pub reads_of : List Block → Node → List ℕ
 reads_of blocks Pin = []
 reads_of blocks (Nand i j) = i ∷ j ∷ []
 reads_of blocks (Flip i) = []
 reads_of blocks (Word block bit) = address_in (slice_get blocks block)
+reads_of blocks Zero = []
 
 abbrev pub reads_by : List Block → Option Node → List ℕ
 reads_by blocks None = []

@@ -42,7 +42,7 @@ own_nodes es base inputs name bit = node_of base inputs (origin_at es name bit)
 
 -- the constants are the first nodes, and n pins behind them the next
 abbrev pub constants : List Node
-constants = nodes.Flip 0 ∷ nodes.Nand 0 0 ∷ []
+constants = nodes.Zero ∷ nodes.Nand 0 0 ∷ []
 
 abbrev pub from_two : ℕ → List ℕ
 from_two zero = []
