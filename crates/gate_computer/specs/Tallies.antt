@@ -1,10 +1,14 @@
 -- What the map of an image counts of a run: the steps of the program's meaning, and the control point.
-use Rattle.std.specs.Prelude.{◌≡◌, ℕ, false, List, Some, unwrap_or}
+use Rattle.std.specs.Prelude.{◌≡◌, ℕ, ◌<◌, false, List, Some, unwrap_or}
 use Rattle.outer_world.specs.declared.point.Point.{Point}
 use Rattle.layers.specs.Trace.{Trace, steps, point_at}
 use Rattle.hack_blocks.specs.Computer.{Map}
 use Rattle.vm_translator.specs.declared.coded.PointRange.{PointRange}
-use Rattle.vm_translator.specs.Mapping.{map_of, point_in}
+use Rattle.vm_translator.specs.Mapping.{map_of, point_in, Covers}
+
+-- The ranges have the addresses from 0 up to and without another, each once: those of an image before the part that commands share.
+abbrev pub CoverSome : List PointRange → Type 0
+CoverSome ranges = (to : ℕ) × (0 < to) × Covers 0 ranges to
 
 -- the commits and the ranges of points of the map, the address that the run is at, the number of steps before it, and the control point
 pub record Tallied : Type 0 where

@@ -5,10 +5,10 @@ ghost use Rattle.word16.specs.Memory.{keyboard};
 ghost use Rattle.hack_isa.specs.Machine.{image_words};
 ghost use Rattle.machine_io.specs.History.{Turn, turn};
 ghost use Rattle.machine_io.specs.declared.machine.Moved.TheVariants.{Acted};
-ghost use Rattle.vm_translator.specs.Mapping.{Covers};
 ghost use Rattle.gate_computer.specs.Wiring.{IsWired};
 ghost use Rattle.outer_world.specs.Written.{CountsPut};
 ghost use Rattle.layers.specs.System.{IsKey};
+ghost use Rattle.gate_computer.specs.Tallies.{CoverSome};
 ghost use Rattle.gate_computer.specs.Turns.{HoldsKeys};
 ghost use Rattle.gate_computer.specs.Followed.{HasFollowed, PutsParts, program_in, word_in};
 
@@ -64,9 +64,8 @@ impl GateComputer {
         points: List<PointRange>,
     ) -> Result<GateComputer, AllocError>
         requires wired { IsWired wired.net wired.wiring }
-        requires some { 0 < length image.now }
         requires room { length image.now ≤ image_words }
-        requires covers { Covers 0 points (length image.now) }
+        requires covers { CoverSome points }
         ensures program { IfOk result (λ g. program_in g ≡ record { image = image.now; commits = commits; ranges = points }) }
         ensures moves { IfOk result (λ g. g.moves ≡ 0) }
         ensures stands { IfOk result (λ g. HasFollowed g []) }
@@ -74,14 +73,13 @@ impl GateComputer {
         let WiredComputer { net, wiring } = wired;
         // They are in order.
         let _ = net.nodes();
-        let words = image.len() as u32;
         let mut sim = Sim::new(alloc, net)?;
         sim.load_block(wiring.rom, 0, image);
         Ok(GateComputer {
             sim,
             wiring,
             image: Vec::from_slice(alloc, image)?,
-            tally: Tally::new(alloc, words, commits, points)?,
+            tally: Tally::new(alloc, commits, points)?,
             key: 0,
             moves: 0,
             heard: 0,

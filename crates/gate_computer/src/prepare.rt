@@ -1,9 +1,9 @@
 //! The Computer made of gates at its start.
 
-ghost use Rattle.std.specs.Prelude.{◌≡◌, ◌<◌, ◌≤◌, [], IfOk, length};
+ghost use Rattle.std.specs.Prelude.{◌≡◌, ◌≤◌, [], IfOk, length};
 ghost use Rattle.hack_isa.specs.Machine.{image_words};
-ghost use Rattle.vm_translator.specs.Mapping.{Covers};
 ghost use Rattle.gate_computer.specs.Followed.{HasFollowed, program_in};
+ghost use Rattle.gate_computer.specs.Tallies.{CoverSome};
 
 use crate::computer::GateComputer;
 use crate::wire::build_computer;
@@ -18,9 +18,8 @@ pub fn prepare_gates(
     commits: List<u16>,
     points: List<PointRange>,
 ) -> Result<GateComputer, AllocError>
-    requires some { 0 < length image.now }
     requires room { length image.now ≤ image_words }
-    requires covers { Covers 0 points (length image.now) }
+    requires covers { CoverSome points }
     ensures program { IfOk result (λ g. program_in g ≡ record { image = image.now; commits = commits; ranges = points }) }
     ensures moves { IfOk result (λ g. g.moves ≡ 0) }
     ensures stands { IfOk result (λ g. HasFollowed g []) }

@@ -3,7 +3,7 @@
 ghost use Rattle.std.specs.Prelude.{◌≡◌, ◌<◌, ◌≤◌, ◌+◌, ◌^◌, ℕ, suc, false, nat_eq, nat_lt, if◌then◌else◌, length, slice_index_or, IfOk};
 ghost use Rattle.std.specs.List.{list_any};
 ghost use Rattle.vm_translator.specs.Mapping.{point_in, Covers};
-ghost use Rattle.gate_computer.specs.Tallies.{HasTallied, point_seen};
+ghost use Rattle.gate_computer.specs.Tallies.{CoverSome, HasTallied, point_seen};
 
 use outer_world::{List, Point};
 use std::alloc::{AllocError, Global};
@@ -72,6 +72,17 @@ fn point_in(points: &[PointRange], at: u16) -> Option<Point>
     None
 }
 
+// How many addresses have a point, where these ranges have them all from 0 on.
+fn mapped(points: &[PointRange]) -> u32
+    ensures { (to : ℕ) → Covers 0 points.now to → result ≡ to }
+{
+    let mut mapped = 0;
+    for range in points {
+        mapped = range.to;
+    }
+    mapped
+}
+
 fn counted(commit: bool, steps: u64) -> u64
     requires { steps < 2 ^ 63 }
     ensures { result ≡ (if commit then suc steps else steps) }
@@ -87,25 +98,24 @@ fn last_seen(mapped: u32, now: u16, seen: u16) -> u16
 }
 
 impl Tally {
-    /// A run at its start, at address 0 of an image of so many words, with the commits and the points of its map.
+    /// A run at its start, at address 0 of an image, with the commits and the points of its map.
     pub fn new(
         alloc: Global,
-        words: u32,
         commits: List<u16>,
         points: List<PointRange>,
     ) -> Result<Tally, AllocError>
-        requires some { 0 < words }
-        requires covers { Covers 0 points words }
+        requires { CoverSome points }
         ensures commits { IfOk result (λ t. t.commits ≡ commits) }
         ensures points { IfOk result (λ t. t.ranges ≡ points) }
         ensures count { IfOk result (λ t. t.count ≡ 0) }
         ensures tallied { IfOk result (λ t. (pc : ℕ → ℕ) → pc 0 ≡ 0 → HasTallied t pc 0) }
     {
+        let mapped = mapped(points.as_slice());
         Ok(Tally {
             marks: marks(alloc, commits.as_slice())?,
             commits,
             points,
-            mapped: words,
+            mapped,
             at: 0,
             steps: 0,
             seen: 0,

@@ -1,5 +1,5 @@
 -- What each computation of the instruction table computes, on words.
-use Rattle.std.proofs.Common.{◌≡◌, ℕ, ◌+◌, ◌-◌, ◌<◌, ◌%◌, Bool, true, false, refl, ap, sym, subst, arith}
+use Rattle.std.proofs.Common.{◌≡◌, ℕ, ◌+◌, ◌-◌, ◌<◌, ◌%◌, Bool, true, false, refl, sym, subst, arith}
 use Rattle.word16.specs.Words.{has_bit}
 use Rattle.std.specs.Int.Bits.{and_lt}
 use Rattle.std.specs.Prelude.{nat_eq, bit_and, bit_or, if◌then◌else◌}

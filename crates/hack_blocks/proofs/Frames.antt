@@ -2,6 +2,7 @@
 use Rattle.std.proofs.Common.{◌≡◌, ◌≢◌, ◌⊎◌, inl, inr, ℕ, zero, suc, ◌+◌, ◌-◌, ◌*◌, ◌<◌, ◌≤◌, length, refl, sym, ap, ◌∙◌, arith}
 use Rattle.std.specs.Prelude.{nat_eq, if◌then◌else◌}
 use Rattle.std.proofs.lemmas.Bool.Decides.{nat_tests}
+use Rattle.word16.specs.Words.{word_sub}
 use Rattle.hack_blocks.specs.Templates.{push_zero, function_code, set_pointers, save_return, put_result, restore}
 use Rattle.hack_blocks.specs.Effects.{IsKept, Pushed, PushedAll, Called, Returned}
 use Rattle.hack_blocks.proofs.Block.{Data, do_block, Safe, safe_append}
@@ -9,7 +10,7 @@ use Rattle.hack_blocks.proofs.Block.{Data, do_block, Safe, safe_append}
 -- LCL and ARG are set for a call with n arguments
 pub record Entered (m after : ℕ → ℕ) (n : ℕ) : Type 0 where
   pub lcl : after 1 ≡ m 0
-  pub arg : after 2 ≡ m 0 - (5 + n)
+  pub arg : after 2 ≡ word_sub (m 0) (5 + n)
   pub same : (k : ℕ) → k ≢ 1 → k ≢ 2 → after k ≡ m k
 
 -- one word that the word 13 points above goes to a register
@@ -34,8 +35,8 @@ module _ (x : Data) where
   pub push_zero_does : 256 ≤ x.m 0 → x.m 0 < 2048 → Pushed x.m (do_block push_zero x).m 0 × Safe push_zero x
   push_zero_does low high = (record { sp = grind (arith, nat_tests); top = grind (arith, nat_tests); same = λ k h e. grind (arith, nat_tests) }, search arith)
 
-  pub set_pointers_does : (n : ℕ) → 5 + n ≤ x.m 0 → x.m 0 ≤ 2048 → Entered x.m (do_block (set_pointers n) x).m n × Safe (set_pointers n) x
-  set_pointers_does n low high = (record { lcl = grind (arith, nat_tests); arg = grind (arith, nat_tests); same = λ k h e. grind (arith, nat_tests) }, search arith)
+  pub set_pointers_does : (n : ℕ) → n < 32768 → x.m 14 ≡ 5 + n → x.m 0 ≤ 2048 → Entered x.m (do_block set_pointers x).m n × Safe set_pointers x
+  set_pointers_does n few some high = (record { lcl = grind (arith, nat_tests); arg = grind (arith, nat_tests); same = λ k h e. grind (arith, nat_tests) }, search arith)
 
   pub restore_does : (r : ℕ) → 257 ≤ x.m 13 → x.m 13 ≤ 2048 → 1 ≤ r → r < 13 → Restored x.m (do_block (restore r) x).m r × Safe (restore r) x
   restore_does r low high one small = (record { below = grind (arith, nat_tests); there = grind (arith, nat_tests); same = λ k h e. grind (arith, nat_tests) }, search arith)
@@ -104,7 +105,7 @@ function_length (suc n) = let r = function_length n in omega arith
 abbrev pub frame_word : (ℕ → ℕ) → ℕ → ℕ → ℕ
 frame_word m back k = if nat_eq k 0 then back else m k
 
-pub called : (m m5 m6 : ℕ → ℕ) (back n : ℕ) → 256 ≤ m 0 → n ≤ m 0 → PushedAll m m5 5 (frame_word m back) → Entered m5 m6 n → Called m m6 back n
+pub called : (m m5 m6 : ℕ → ℕ) (back n : ℕ) → 256 ≤ m 0 → n < 32768 → PushedAll m m5 5 (frame_word m back) → Entered m5 m6 n → Called m m6 back n
 called m m5 m6 back n low few p q =
     let sp = p.sp in
     let up : (k : ℕ) → k < 5 → m6 (m 0 + k) ≡ frame_word m back k = λ k h. q.same (m 0 + k) (omega arith) (omega arith) ∙ p.words k h in

@@ -1,6 +1,7 @@
 -- Where instructions stand.
-use Rattle.std.proofs.Common.{◌≡◌, ℕ, zero, suc, ◌+◌, ◌<◌, ◌≤◌, List, [], ◌∷◌, ◌++◌, length, take, drop, true, false, Some, refl, ap, ◌∙◌, subst, arith}
+use Rattle.std.proofs.Common.{◌≡◌, ℕ, zero, suc, ◌+◌, ◌<◌, ◌≤◌, inl, inr, List, [], ◌∷◌, ◌++◌, length, take, drop, true, false, Some, refl, ap, ◌∙◌, subst, arith}
 use Rattle.std.specs.Prelude.{slice_index, slice_get, map, All}
+use Rattle.std.proofs.lemmas.Bool.{cases_lt, le-ltb, lt-ltb}
 use Rattle.std.proofs.lemmas.Option.{get_or_from_slice_get, slice_get_within}
 use Rattle.hack_isa.specs.Table.{WellFormed, word_of, instr_of}
 use Rattle.hack_isa.specs.declared.Instr.{Instr}
@@ -8,10 +9,13 @@ use Rattle.hack_isa.specs.declared.Instr.TheVariants.{Address, Compute}
 use Rattle.hack_isa.proofs.RoundTrip.{encoded}
 use Rattle.hack_blocks.specs.declared.shape.Shape.{Shape}
 use Rattle.hack_blocks.specs.declared.shape.Shape.TheVariants.{PushConstant, PushAt, PushFirst, PushWord, PopAt, PopFirst, PopWord, Add, Sub, And, Or, Neg, Not, Eq, Gt, Lt, Goto, IfGoto, Call, Function, Return}
-use Rattle.hack_blocks.specs.Templates.{compare, template, size, function_code, set_stack, endless, start_code}
+use Rattle.hack_blocks.specs.declared.routines.Routine.{Routine}
+use Rattle.hack_blocks.specs.declared.routines.Routine.TheVariants as routine
+use Rattle.hack_blocks.specs.declared.routines.Routines.{Routines}
+use Rattle.hack_blocks.specs.Templates.{compare_routine, load, template, size, routine_code, routine_size, routine_of, function_code, set_stack, endless, start_code}
 use Rattle.hack_blocks.specs.Computer.{Stands}
 use Rattle.hack_blocks.specs.Commands.{IsShape}
-use Rattle.hack_blocks.specs.Laws.{TemplatesFit, InstructionsStand, Starts}
+use Rattle.hack_blocks.specs.Laws.{IsFound, TemplatesFit, InstructionsStand, Starts}
 use Rattle.hack_blocks.proofs.Block.{Data, AreWords, from_place, up_to}
 use Rattle.hack_blocks.proofs.Frames.{function_length}
 use Rattle.hack_blocks.proofs.Calls.{set_stack_goes}
@@ -66,28 +70,28 @@ all_words [] fit k = omega arith
 all_words (i ∷ is) fit zero = word_small i (fit 0 i (omega arith))
 all_words (i ∷ is) fit (suc k) = all_words is (λ j d l. fit (suc j) d (omega arith)) k
 
-pub size_is : (here : ℕ) (c : Shape) → length (template here c) ≡ size c
-size_is here (PushConstant n) = refl
-size_is here (PushAt base index) = refl
-size_is here (PushFirst base) = refl
-size_is here (PushWord address) = refl
-size_is here (PopAt base index) = refl
-size_is here (PopFirst base) = refl
-size_is here (PopWord address) = refl
-size_is here Add = refl
-size_is here Sub = refl
-size_is here And = refl
-size_is here Or = refl
-size_is here Neg = refl
-size_is here Not = refl
-size_is here Eq = refl
-size_is here Gt = refl
-size_is here Lt = refl
-size_is here (Goto target) = refl
-size_is here (IfGoto target) = refl
-size_is here (Call target arguments) = refl
-size_is here (Function locals) = function_length locals ∙ omega arith
-size_is here Return = refl
+pub size_is : (at : Routines) (here : ℕ) (c : Shape) → length (template at here c) ≡ size c
+size_is at here (PushConstant n) = refl
+size_is at here (PushAt base index) = refl
+size_is at here (PushFirst base) = refl
+size_is at here (PushWord address) = refl
+size_is at here (PopAt base index) = refl
+size_is at here (PopFirst base) = refl
+size_is at here (PopWord address) = refl
+size_is at here Add = refl
+size_is at here Sub = refl
+size_is at here And = refl
+size_is at here Or = refl
+size_is at here Neg = refl
+size_is at here Not = refl
+size_is at here Eq = refl
+size_is at here Gt = refl
+size_is at here Lt = refl
+size_is at here (Goto target) = refl
+size_is at here (IfGoto target) = refl
+size_is at here (Call target arguments) = refl
+size_is at here (Function locals) = function_length locals ∙ omega arith
+size_is at here Return = refl
 
 pub size_some : (c : Shape) → 1 ≤ size c
 size_some c = grind arith
@@ -100,57 +104,84 @@ fit_both : (a b : List Instr) → Fit a → Fit b → Fit (a ++ b)
 fit_both [] b h k = k
 fit_both (i ∷ a) b h k = (h.0, fit_both a b h.1 k)
 
-compare_fits : (j here : ℕ) → here + 38 ≤ 32768 → j < 8 → Fit (compare (Compute false 12 0 j) here)
+load_fits : (n : ℕ) → n < 65536 → Fit (load n)
+load_fits n small =
+    elim (cases_lt n 32768) [
+      | inl l ↦ rw (lt-ltb n 32768 l) (search (arith, l))
+      | inr l ↦ rw (le-ltb n 32768 l) (search (arith, l))
+    ]
+
+compare_fits : (j here : ℕ) → here + 43 ≤ 32768 → j < 8 → Fit (compare_routine (Compute false 12 0 j) here)
 compare_fits j here h small =
-    let code = compare (Compute false 12 0 j) here in
-    fit_both (take 13 code) (drop 13 code) (search arith) (fit_both (take 13 (drop 13 code)) (drop 26 code) (search arith) (search arith))
+    let code = compare_routine (Compute false 12 0 j) here in
+    fit_both (take 15 code) (drop 15 code) (search arith) (fit_both (take 13 (drop 15 code)) (drop 28 code) (search arith) (search arith))
 
-fits : (here : ℕ) (c : Shape) → IsShape c → here + size c ≤ 32768 → Fit (template here c)
-fits here (PushConstant n) l h = search arith
-fits here (PushAt base index) l h = search arith
-fits here (PushFirst base) l h = search arith
-fits here (PushWord address) l h = search arith
-fits here (PopAt base index) l h = search arith
-fits here (PopFirst base) l h = search arith
-fits here (PopWord address) l h = search arith
-fits here Add l h = search arith
-fits here Sub l h = search arith
-fits here And l h = search arith
-fits here Or l h = search arith
-fits here Neg l h = search arith
-fits here Not l h = search arith
-fits here Eq l h = compare_fits 2 here h (omega arith)
-fits here Gt l h = compare_fits 1 here h (omega arith)
-fits here Lt l h = compare_fits 4 here h (omega arith)
-fits here (Goto target) l h = search arith
-fits here (IfGoto target) l h = search arith
-fits here (Call target arguments) l h = search arith
-fits here (Function locals) l h = function_fits locals
-fits here Return l h = search arith
+fits : (at : Routines) (here : ℕ) (c : Shape) → IsShape c → IsFound at (routine_of c) → here + size c ≤ 32768 → Fit (template at here c)
+fits at here (PushConstant n) l f h = search arith
+fits at here (PushAt base index) l f h = search arith
+fits at here (PushFirst base) l f h = search arith
+fits at here (PushWord address) l f h = search arith
+fits at here (PopAt base index) l f h = search arith
+fits at here (PopFirst base) l f h = search arith
+fits at here (PopWord address) l f h = search arith
+fits at here Add l f h = search arith
+fits at here Sub l f h = search arith
+fits at here And l f h = search arith
+fits at here Or l f h = search arith
+fits at here Neg l f h = search arith
+fits at here Not l f h = search arith
+fits at here Eq l f h = search arith
+fits at here Gt l f h = search arith
+fits at here Lt l f h = search arith
+fits at here (Goto target) l f h = search arith
+fits at here (IfGoto target) l f h = search arith
+fits at here (Call target arguments) l f h =
+    let code = template at here (Call target arguments) in
+    fit_both (take 4 code) (drop 4 code) (search arith) (fit_both (load (5 + arguments)) (drop 6 code) (load_fits (5 + arguments) (omega (arith, l.1))) (search arith))
+fits at here (Function locals) l f h = function_fits locals
+fits at here Return l f h = search arith
 
-start_fit : (entry : ℕ) → entry < 32768 → Fit (start_code entry)
-start_fit entry h =
-    fit_both set_stack (template 4 (Call entry 0) ++ (template 46 (PopWord 5) ++ endless 51)) (search arith) (fit_both (template 4 (Call entry 0)) (template 46 (PopWord 5) ++ endless 51) (fits 4 (Call entry 0) (omega arith, omega arith) (omega arith)) (fit_both (template 46 (PopWord 5)) (endless 51) (search arith) (search arith)))
+start_fit : (at : Routines) (entry : ℕ) → entry < 32768 → at.call < 32768 → Fit (start_code at entry)
+start_fit at entry h c =
+    fit_both set_stack (template at 4 (Call entry 0) ++ (template at 16 (PopWord 5) ++ endless 21)) (search arith) (fit_both (template at 4 (Call entry 0)) (template at 16 (PopWord 5) ++ endless 21) (fits at 4 (Call entry 0) (omega arith, omega arith) c (omega arith)) (fit_both (template at 16 (PopWord 5)) (endless 21) (search arith) (search arith)))
 
-pub template_fits : (here : ℕ) (c : Shape) → IsShape c → here + size c ≤ 32768 → All WellFormed (template here c)
-template_fits here c l h = all_of (template here c) (fits here c l h)
+pub template_fits : (at : Routines) (here : ℕ) (c : Shape) → IsShape c → IsFound at (routine_of c) → here + size c ≤ 32768 → All WellFormed (template at here c)
+template_fits at here c l f h = all_of (template at here c) (fits at here c l f h)
 
-start_fits : (entry : ℕ) → entry < 32768 → All WellFormed (start_code entry)
-start_fits entry h = all_of (start_code entry) (start_fit entry h)
+start_fits : (at : Routines) (entry : ℕ) → entry < 32768 → at.call < 32768 → All WellFormed (start_code at entry)
+start_fits at entry h c = all_of (start_code at entry) (start_fit at entry h c)
+
+-- the routines
+pub routine_length : (r : Routine) (at : ℕ) → length (routine_code r at) ≡ routine_size r
+routine_length routine.Call at = refl
+routine_length routine.Back at = refl
+routine_length routine.Equal at = refl
+routine_length routine.Greater at = refl
+routine_length routine.Less at = refl
+
+routine_fit : (r : Routine) (at : ℕ) → at + routine_size r ≤ 32768 → Fit (routine_code r at)
+routine_fit routine.Call at h = search arith
+routine_fit routine.Back at h = search arith
+routine_fit routine.Equal at h = compare_fits 2 at h (omega arith)
+routine_fit routine.Greater at h = compare_fits 1 at h (omega arith)
+routine_fit routine.Less at h = compare_fits 4 at h (omega arith)
+
+pub routine_fits : (r : Routine) (at : ℕ) → at + routine_size r ≤ 32768 → All WellFormed (routine_code r at)
+routine_fits r at h = all_of (routine_code r at) (routine_fit r at h)
 
 pub templates_fit : TemplatesFit
-templates_fit = record { number = size_is; some = size_some; well_formed = template_fits; start_number = λ entry. refl; start_well_formed = start_fits }
+templates_fit = record { number = size_is; some = size_some; well_formed = template_fits; routine_number = routine_length; routine_well_formed = routine_fits; start_number = λ at entry. refl; start_well_formed = start_fits }
 
 pub instructions_stand : InstructionsStand
 instructions_stand = record { all = all_stand; words = all_words; parts = λ image here a b h. (stands_front image here a b h, stands_back image here a b h) }
 
 pub starts : Starts
 starts = record {
-  sets = λ image entry st.
+  sets = λ image at entry st.
       let x : Data = record { a = 0; d = 0; m = λ k. 0 } in
       let w : AreWords x = record { a_word = omega arith; d_word = omega arith; m_words = λ k. omega arith } in
-      set_stack_goes image (λ k. k < 4) 0 (omega arith) (λ k a b. b) x w (up_to image 0 4 (start_code entry) st)
+      set_stack_goes image (λ k. k < 4) 0 (omega arith) (λ k a b. b) x w (up_to image 0 4 (start_code at entry) st)
       (λ y wy sp same. record { pc = refl; sp = sp; zeros = same; words = record { a_word = wy.a_word; d_word = wy.d_word; memory_words = wy.m_words } });
-  stands = λ image entry st.
-      (up_to image 4 42 (drop 4 (start_code entry)) (from_place image 0 4 (start_code entry) st), up_to image 46 5 (drop 46 (start_code entry)) (from_place image 0 46 (start_code entry) st), from_place image 0 51 (start_code entry) st);
+  stands = λ image at entry st.
+      (up_to image 4 12 (drop 4 (start_code at entry)) (from_place image 0 4 (start_code at entry) st), up_to image 16 5 (drop 16 (start_code at entry)) (from_place image 0 16 (start_code at entry) st), from_place image 0 21 (start_code at entry) st);
 }

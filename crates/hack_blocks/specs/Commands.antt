@@ -1,12 +1,14 @@
 -- What the instructions of each command do: from where, to where, and what they change.
-use Rattle.std.specs.Prelude.{◌≡◌, ◌≢◌, ℕ, ◌+◌, ◌-◌, ◌<◌, ◌≤◌, ◌%◌, if◌then◌else◌, nat_eq, bit_and, bit_or, List}
+use Rattle.std.specs.Prelude.{◌≡◌, ◌≢◌, ◌⊎◌, ℕ, ◌+◌, ◌-◌, ◌<◌, ◌≤◌, ◌%◌, if◌then◌else◌, nat_eq, bit_and, bit_or, List, Option, None, Some}
 use Rattle.word16.specs.Memory.{heap, keyboard}
 use Rattle.word16.specs.Words.{word_add, word_sub, word_neg, word_not}
 use Rattle.hack_isa.specs.Machine.{Machine, image_words}
 use Rattle.layers.specs.System.{IsData}
 use Rattle.hack_blocks.specs.declared.shape.Shape.{Shape}
 use Rattle.hack_blocks.specs.declared.shape.Shape.TheVariants.{PushConstant, PushAt, PushFirst, PushWord, PopAt, PopFirst, PopWord, Add, Sub, And, Or, Neg, Not, Eq, Gt, Lt, Goto, IfGoto, Call, Function, Return}
-use Rattle.hack_blocks.specs.Templates.{template, size}
+use Rattle.hack_blocks.specs.declared.routines.Routine.{Routine}
+use Rattle.hack_blocks.specs.declared.routines.Routines.{Routines}
+use Rattle.hack_blocks.specs.Templates.{template, size, routine_code, routine_size, routine_at, routine_of}
 use Rattle.hack_blocks.specs.Computer.{Stands}
 use Rattle.hack_blocks.specs.Going.{Does, DoesHearing}
 use Rattle.hack_blocks.specs.Effects.{Pushed, Joined, Turned, Stored, Dropped, Called, PushedAll, Returned, HasWords}
@@ -23,7 +25,7 @@ IsShape (PopFirst base) = (1 ≤ base) × (base ≤ 4)
 IsShape (PopWord address) = (3 ≤ address) × (address < 256)
 IsShape (Goto target) = target < 32768
 IsShape (IfGoto target) = target < 32768
-IsShape (Call target arguments) = (target < 32768) × (arguments < 32763)
+IsShape (Call target arguments) = (target < 32768) × (arguments < 32768)
 IsShape c = Unit {0}
 
 -- so many values can be taken from the stack, 256 to 2047
@@ -57,7 +59,7 @@ Ready Neg m = HasValues 1 m
 Ready Not m = HasValues 1 m
 Ready (Goto target) m = Unit {0}
 Ready (IfGoto target) m = HasValues 1 m
-Ready (Call target arguments) m = HasRoom 5 m × (arguments ≤ m 0)
+Ready (Call target arguments) m = HasRoom 5 m
 Ready (Function locals) m = HasRoom locals m
 Ready Return m = HasValues 1 m × (256 ≤ m 2) × (m 2 + 5 ≤ m 1) × (m 1 ≤ heap) × (m (m 1 - 5) < 32768)
 Ready c m = HasValues 2 m
@@ -100,7 +102,7 @@ Effect Gt here m after = Joined m after (greater (second m) (topmost m))
 Effect Lt here m after = Joined m after (less (second m) (topmost m))
 Effect (Goto target) here m after = (k : ℕ) → after k ≡ m k
 Effect (IfGoto target) here m after = Dropped m after
-Effect (Call target arguments) here m after = Called m after ((here + 42) % 32768) arguments
+Effect (Call target arguments) here m after = Called m after ((here + 12) % 32768) arguments
 Effect (Function locals) here m after = PushedAll m after locals (λ k. 0)
 Effect Return here m after = Returned m after
 
@@ -112,16 +114,46 @@ next (Call target arguments) here m = target
 next Return here m = m (m 1 - 5)
 next c here m = (here + size c) % 32768
 
--- the command stands at the machine's program counter
-pub record IsAt (image : List ℕ) (c : Shape) (s : Machine) : Type 0 where
+-- the routine stands in the image
+abbrev pub HasRoutine : List ℕ → Routines → Option Routine → Type 0
+HasRoutine image at None = Unit {0}
+HasRoutine image at (Some r) = (routine_at at r + routine_size r ≤ image_words) × Stands image (routine_at at r) (routine_code r (routine_at at r))
+
+-- the command stands at the machine's program counter, and its routine where it goes
+pub record IsAt (image : List ℕ) (at : Routines) (c : Shape) (s : Machine) : Type 0 where
   pub words : HasWords s
   pub shape : IsShape c
   pub low : s.pc + size c ≤ image_words
-  pub stands : Stands image s.pc (template s.pc c)
+  pub stands : Stands image s.pc (template at s.pc c)
+  pub shared : HasRoutine image at (routine_of c)
 
--- Its instructions are gone through from there, each at most once, and the last one leads to the goal.
-abbrev pub Goes : List ℕ → Shape → Type 0 → (Machine → Type 0) → Machine → Type 0
-Goes image c may_write goal s = Does image (λ k. (s.pc ≤ k) × (k + 1 < s.pc + size c)) (s.pc + size c - 1) may_write goal (size c - 1) s
+-- the addresses of a command of this size and of its routine but the last
+abbrev pub IsAmong : Routines → ℕ → ℕ → Option Routine → ℕ → Type 0
+IsAmong at here n None k = (here ≤ k) × (k + 1 < here + n)
+IsAmong at here n (Some r) k = ((here ≤ k) × (k < here + n)) ⊎ ((routine_at at r ≤ k) × (k + 1 < routine_at at r + routine_size r))
+
+abbrev pub IsInside : Routines → ℕ → Shape → ℕ → Type 0
+IsInside at here c = IsAmong at here (size c) (routine_of c)
+
+-- the last: with a routine it is the routine's
+abbrev pub last_among : Routines → ℕ → ℕ → Option Routine → ℕ
+last_among at here n None = here + n - 1
+last_among at here n (Some r) = routine_at at r + routine_size r - 1
+
+abbrev pub last_of : Routines → ℕ → Shape → ℕ
+last_of at here c = last_among at here (size c) (routine_of c)
+
+-- how many instructions a command goes through at most: its own and those of its routine, each once
+abbrev pub cycles_of : ℕ → Option Routine → ℕ
+cycles_of n None = n
+cycles_of n (Some r) = n + routine_size r
+
+abbrev pub cycles : Shape → ℕ
+cycles c = cycles_of (size c) (routine_of c)
+
+-- Its instructions are gone through from there, and those of its routine, each at most once, and the last one leads to the goal.
+abbrev pub Goes : List ℕ → Routines → Shape → Type 0 → (Machine → Type 0) → Machine → Type 0
+Goes image at c may_write goal s = Does image (IsInside at s.pc c) (last_of at s.pc c) may_write goal (cycles c - 1) s
 
 -- what holds after a command with this effect
 pub record After (c : Shape) (effect : (ℕ → ℕ) → (ℕ → ℕ) → Type 0) (s t : Machine) : Type 0 where
@@ -132,13 +164,13 @@ pub record After (c : Shape) (effect : (ℕ → ℕ) → (ℕ → ℕ) → Type 
 -- The instructions of each command do what the command does, in any image and at any place.
 pub record CommandsGo : Type 0 where
   -- from where it is ready, the command has its effect
-  pub goes : (image : List ℕ) (c : Shape) (s : Machine) → IsAt image c s → Ready c s.memory → Goes image c (MayStore c s.memory) (After c (Effect c s.pc) s) s
+  pub goes : (image : List ℕ) (at : Routines) (c : Shape) (s : Machine) → IsAt image at c s → Ready c s.memory → Goes image at c (MayStore c s.memory) (After c (Effect c s.pc) s) s
   -- A push of the word at 24,576 reads the key once, in the fifth step before its end, and pushes it.
-  pub hears : (image : List ℕ) (c : Shape) (s : Machine) → IsAt image c s → HasRoom 1 s.memory → PushesFrom c s.memory keyboard
-      → DoesHearing image (λ k. (s.pc ≤ k) × (k + 1 < s.pc + size c)) (s.pc + size c - 1) ⊥ (λ key. After c (λ m after. Pushed m after key) s) (size c - 5) 3 s
+  pub hears : (image : List ℕ) (at : Routines) (c : Shape) (s : Machine) → IsAt image at c s → HasRoom 1 s.memory → PushesFrom c s.memory keyboard
+      → DoesHearing image (IsInside at s.pc c) (last_of at s.pc c) ⊥ (λ key. After c (λ m after. Pushed m after key) s) (size c - 5) 3 s
   -- A push of any other word has the effect of some word: no key is read.
-  pub strays : (image : List ℕ) (c : Shape) (s : Machine) (address : ℕ) → IsAt image c s → HasRoom 1 s.memory → PushesFrom c s.memory address → address ≢ keyboard
-      → Goes image c ⊥ (λ t. (v : ℕ) × After c (λ m after. Pushed m after v) s t) s
+  pub strays : (image : List ℕ) (at : Routines) (c : Shape) (s : Machine) (address : ℕ) → IsAt image at c s → HasRoom 1 s.memory → PushesFrom c s.memory address → address ≢ keyboard
+      → Goes image at c ⊥ (λ t. (v : ℕ) × After c (λ m after. Pushed m after v) s t) s
   -- It comes to its last instruction also where the stack is full, and so does a pop to any address: nothing is said of what that writes.
-  pub push_ends : (image : List ℕ) (c : Shape) (s : Machine) (address : ℕ) → IsAt image c s → PushesFrom c s.memory address → address ≢ keyboard → Goes image c (Unit {0}) (λ t. Unit {0}) s
-  pub pop_ends : (image : List ℕ) (c : Shape) (s : Machine) (address : ℕ) → IsAt image c s → HasValues 1 s.memory → PopsTo c s.memory address → Goes image c (Unit {0}) (λ t. Unit {0}) s
+  pub push_ends : (image : List ℕ) (at : Routines) (c : Shape) (s : Machine) (address : ℕ) → IsAt image at c s → PushesFrom c s.memory address → address ≢ keyboard → Goes image at c (Unit {0}) (λ t. Unit {0}) s
+  pub pop_ends : (image : List ℕ) (at : Routines) (c : Shape) (s : Machine) (address : ℕ) → IsAt image at c s → HasValues 1 s.memory → PopsTo c s.memory address → Goes image at c (Unit {0}) (λ t. Unit {0}) s

@@ -1,5 +1,6 @@
 -- What the instructions of a command change in memory, and that they change nothing else but SP and the words 13 to 15.
 use Rattle.std.specs.Prelude.{◌≡◌, ◌≢◌, ◌⊎◌, ℕ, ◌+◌, ◌-◌, ◌<◌, ◌≤◌}
+use Rattle.word16.specs.Words.{word_sub}
 use Rattle.hack_isa.specs.Machine.{Machine}
 
 -- neither SP nor one of the words 13 to 15
@@ -38,7 +39,7 @@ pub record Dropped (m after : ℕ → ℕ) : Type 0 where
 pub record Called (m after : ℕ → ℕ) (back arguments : ℕ) : Type 0 where
   pub sp : after 0 ≡ m 0 + 5
   pub lcl : after 1 ≡ m 0 + 5
-  pub arg : after 2 ≡ m 0 - arguments
+  pub arg : after 2 ≡ word_sub (m 0) arguments
   pub return_address : after (m 0) ≡ back
   pub saved_lcl : after (m 0 + 1) ≡ m 1
   pub saved_arg : after (m 0 + 2) ≡ m 2

@@ -1,11 +1,15 @@
 -- The instructions of each command, by its shape. (The book, chapters 7 and 8: the mapping of the stack machine onto Hack.)
 -- The words 0 to 4 are SP, LCL, ARG, THIS and THAT; SP is the address above the topmost value. The words 13 and 14 are free for use within a command.
-use Rattle.std.specs.Prelude.{ℕ, zero, suc, ◌+◌, ◌*◌, ◌%◌, List, [], ◌∷◌, ◌++◌}
+use Rattle.std.specs.Prelude.{ℕ, zero, suc, ◌+◌, ◌*◌, ◌%◌, nat_lt, if◌then◌else◌, List, [], ◌∷◌, ◌++◌, Option, None, Some}
+use Rattle.word16.specs.Words.{word_not}
 use Rattle.hack_isa.specs.declared.Instr.{Instr}
 use Rattle.hack_isa.specs.declared.Instr.TheVariants.{Address}
 use Rattle.hack_blocks.specs.declared.shape.Shape.{Shape}
 use Rattle.hack_blocks.specs.declared.shape.Shape.TheVariants.{PushConstant, PushAt, PushFirst, PushWord, PopAt, PopFirst, PopWord, Add, Sub, And, Or, Neg, Not, Eq, Gt, Lt, Goto, IfGoto, Call, Function, Return}
-use Rattle.hack_blocks.specs.declared.instructions.TheConstants.{D_IS_A, D_IS_M, A_IS_M, M_IS_D, M_IS_0, D_IS_0, D_IS_1, D_IS_MINUS_1, AM_IS_M_MINUS_1, AM_IS_M_PLUS_1, A_IS_A_MINUS_1, A_IS_M_MINUS_1, D_IS_M_PLUS_1, A_IS_D_PLUS_M, D_IS_D_PLUS_M, D_IS_D_MINUS_M, D_IS_D_MINUS_A, A_IS_D_MINUS_A, M_IS_D_PLUS_M, M_IS_M_MINUS_D, M_IS_D_AND_M, M_IS_D_OR_M, M_IS_MINUS_M, M_IS_NOT_M, JUMP, IF_D_LESS, IF_D_GREATER, IF_D_EQUAL, IF_D_NOT_LESS, IF_D_NOT_EQUAL}
+use Rattle.hack_blocks.specs.declared.routines.Routine.{Routine}
+use Rattle.hack_blocks.specs.declared.routines.Routine.TheVariants as routine
+use Rattle.hack_blocks.specs.declared.routines.Routines.{Routines}
+use Rattle.hack_blocks.specs.declared.instructions.TheConstants.{D_IS_A, D_IS_NOT_A, D_IS_M, A_IS_M, M_IS_D, M_IS_0, D_IS_0, D_IS_1, D_IS_MINUS_1, AM_IS_M_MINUS_1, AM_IS_M_PLUS_1, A_IS_A_MINUS_1, A_IS_M_MINUS_1, D_IS_M_PLUS_1, A_IS_D_PLUS_M, D_IS_D_PLUS_M, D_IS_D_MINUS_M, A_IS_D_MINUS_A, M_IS_D_PLUS_M, M_IS_M_MINUS_D, M_IS_D_AND_M, M_IS_D_OR_M, M_IS_MINUS_M, M_IS_NOT_M, JUMP, IF_D_LESS, IF_D_GREATER, IF_D_EQUAL, IF_D_NOT_LESS, IF_D_NOT_EQUAL}
 
 -- D goes on the stack
 abbrev pub push_d : List Instr
@@ -73,15 +77,32 @@ go_to target = Address target ∷ JUMP ∷ []
 abbrev pub if_go_to : ℕ → List Instr
 if_go_to target = pop_d ++ Address target ∷ IF_D_NOT_EQUAL ∷ []
 
--- ARG is below the arguments and the five saved words, LCL is SP
-abbrev pub set_pointers : ℕ → List Instr
-set_pointers arguments =
-    Address 0 ∷ D_IS_M ∷ Address (5 + arguments) ∷ D_IS_D_MINUS_A ∷ Address 2 ∷ M_IS_D ∷ Address 0 ∷ D_IS_M ∷ Address 1 ∷ M_IS_D ∷ []
+-- How a comparison goes through its routine: the address to come back to is in D.
+abbrev pub compare_by : ℕ → ℕ → List Instr
+compare_by routine back = Address back ∷ D_IS_A ∷ go_to routine
+
+-- A number goes to D. An instruction names the numbers below 32,768; of a greater one it names the word with the other bits.
+abbrev pub load : ℕ → List Instr
+load n = Address (if nat_lt n 32768 then n else word_not n) ∷ (if nat_lt n 32768 then D_IS_A else D_IS_NOT_A) ∷ []
+
+-- How a call goes through its routine: the function's address is in the word 13, the number of the arguments and of the five words that are
+-- saved in the word 14, and the return address in D.
+abbrev pub call_by : ℕ → ℕ → ℕ → ℕ → List Instr
+call_by routine back target arguments =
+    Address target ∷ D_IS_A ∷ Address 13 ∷ M_IS_D ∷ (load (5 + arguments) ++ Address 14 ∷ M_IS_D ∷ Address back ∷ D_IS_A ∷ go_to routine)
+
+-- ARG is so far below SP as the word 14 tells, LCL is SP
+abbrev pub set_pointers : List Instr
+set_pointers =
+    Address 0 ∷ D_IS_M ∷ Address 14 ∷ D_IS_D_MINUS_M ∷ Address 2 ∷ M_IS_D ∷ Address 0 ∷ D_IS_M ∷ Address 1 ∷ M_IS_D ∷ []
+
+-- on to the address that is in the word 13
+abbrev pub go_on : List Instr
+go_on = Address 13 ∷ A_IS_M ∷ JUMP ∷ []
 
 -- the return address and the four registers go on the stack, and then the function is entered
-abbrev pub call_code : ℕ → ℕ → ℕ → List Instr
-call_code back target arguments =
-    push_constant back ++ (push_word 1 ++ (push_word 2 ++ (push_word 3 ++ (push_word 4 ++ (set_pointers arguments ++ go_to target)))))
+abbrev pub call_routine : List Instr
+call_routine = push_d ++ (push_word 1 ++ (push_word 2 ++ (push_word 3 ++ (push_word 4 ++ (set_pointers ++ go_on)))))
 
 -- one local of 0
 abbrev pub push_zero : List Instr
@@ -112,29 +133,66 @@ go_back = Address 14 ∷ A_IS_M ∷ JUMP ∷ []
 abbrev pub return_code : List Instr
 return_code = save_return ++ (put_result ++ (restore 4 ++ (restore 3 ++ (restore 2 ++ (restore 1 ++ go_back)))))
 
--- The instructions of a command at an address. The address after the last word of the longest image, 32,768, is 0.
-abbrev pub template : ℕ → Shape → List Instr
-template here (PushConstant n) = push_constant n
-template here (PushAt base index) = push_at base index
-template here (PushFirst base) = push_first base
-template here (PushWord address) = push_word address
-template here (PopAt base index) = pop_at base index
-template here (PopFirst base) = pop_first base
-template here (PopWord address) = pop_word address
-template here Add = join M_IS_D_PLUS_M
-template here Sub = join M_IS_M_MINUS_D
-template here And = join M_IS_D_AND_M
-template here Or = join M_IS_D_OR_M
-template here Neg = turn M_IS_MINUS_M
-template here Not = turn M_IS_NOT_M
-template here Eq = compare IF_D_EQUAL here
-template here Gt = compare IF_D_GREATER here
-template here Lt = compare IF_D_LESS here
-template here (Goto target) = go_to target
-template here (IfGoto target) = if_go_to target
-template here (Call target arguments) = call_code ((here + 42) % 32768) target arguments
-template here (Function locals) = function_code locals
-template here Return = return_code
+-- A comparison as a routine: the address to come back to waits in the word 14.
+abbrev pub compare_routine : Instr → ℕ → List Instr
+compare_routine jump at = Address 14 ∷ M_IS_D ∷ (compare jump (at + 2) ++ go_back)
+
+-- the instructions of a routine at an address
+abbrev pub routine_code : Routine → ℕ → List Instr
+routine_code routine.Call at = call_routine
+routine_code routine.Back at = return_code
+routine_code routine.Equal at = compare_routine IF_D_EQUAL at
+routine_code routine.Greater at = compare_routine IF_D_GREATER at
+routine_code routine.Less at = compare_routine IF_D_LESS at
+
+-- the number of these instructions
+abbrev pub routine_size : Routine → ℕ
+routine_size routine.Call = 41
+routine_size routine.Back = 42
+routine_size routine.Equal = 43
+routine_size routine.Greater = 43
+routine_size routine.Less = 43
+
+-- where a routine stands
+abbrev pub routine_at : Routines → Routine → ℕ
+routine_at at routine.Call = at.call
+routine_at at routine.Back = at.back
+routine_at at routine.Equal = at.equal
+routine_at at routine.Greater = at.greater
+routine_at at routine.Less = at.less
+
+-- the routine that a command goes through
+abbrev pub routine_of : Shape → Option Routine
+routine_of Eq = Some routine.Equal
+routine_of Gt = Some routine.Greater
+routine_of Lt = Some routine.Less
+routine_of (Call target arguments) = Some routine.Call
+routine_of Return = Some routine.Back
+routine_of c = None
+
+-- The instructions of a command at an address, where the routines have theirs. The address after the last word of the longest image, 32,768, is 0.
+abbrev pub template : Routines → ℕ → Shape → List Instr
+template at here (PushConstant n) = push_constant n
+template at here (PushAt base index) = push_at base index
+template at here (PushFirst base) = push_first base
+template at here (PushWord address) = push_word address
+template at here (PopAt base index) = pop_at base index
+template at here (PopFirst base) = pop_first base
+template at here (PopWord address) = pop_word address
+template at here Add = join M_IS_D_PLUS_M
+template at here Sub = join M_IS_M_MINUS_D
+template at here And = join M_IS_D_AND_M
+template at here Or = join M_IS_D_OR_M
+template at here Neg = turn M_IS_MINUS_M
+template at here Not = turn M_IS_NOT_M
+template at here Eq = compare_by at.equal ((here + 4) % 32768)
+template at here Gt = compare_by at.greater ((here + 4) % 32768)
+template at here Lt = compare_by at.less ((here + 4) % 32768)
+template at here (Goto target) = go_to target
+template at here (IfGoto target) = if_go_to target
+template at here (Call target arguments) = call_by at.call ((here + 12) % 32768) target arguments
+template at here (Function locals) = function_code locals
+template at here Return = go_to at.back
 
 -- the number of these instructions
 abbrev pub size : Shape → ℕ
@@ -151,14 +209,14 @@ size And = 5
 size Or = 5
 size Neg = 3
 size Not = 3
-size Eq = 38
-size Gt = 38
-size Lt = 38
+size Eq = 4
+size Gt = 4
+size Lt = 4
 size (Goto target) = 2
 size (IfGoto target) = 5
-size (Call target arguments) = 42
+size (Call target arguments) = 12
 size (Function locals) = 4 * locals + 1
-size Return = 42
+size Return = 2
 
 -- SP is 256
 abbrev pub set_stack : List Instr
@@ -170,11 +228,11 @@ endless here = Address here ∷ JUMP ∷ []
 
 -- where the start's endless loop stands, and how many instructions the start has
 abbrev pub endless_loop : ℕ
-endless_loop = 51
+endless_loop = 21
 
 abbrev pub start_size : ℕ
-start_size = 53
+start_size = 23
 
 -- The start, at address 0: the stack, `call Sys.init 0`, `pop temp 0`, and the endless loop. (The book, chapter 8.)
-abbrev pub start_code : ℕ → List Instr
-start_code sys_init = set_stack ++ (template 4 (Call sys_init 0) ++ (template 46 (PopWord 5) ++ endless endless_loop))
+abbrev pub start_code : Routines → ℕ → List Instr
+start_code at sys_init = set_stack ++ (template at 4 (Call sys_init 0) ++ (template at 16 (PopWord 5) ++ endless endless_loop))

@@ -10,6 +10,14 @@ pub const D_IS_A: Instr = Instr::Compute {
     jump: 0,
 };
 
+/// `D=!A`
+pub const D_IS_NOT_A: Instr = Instr::Compute {
+    memory: false,
+    comp: 0b110001,
+    dest: 2,
+    jump: 0,
+};
+
 /// `D=M`
 pub const D_IS_M: Instr = Instr::Compute {
     memory: true,
@@ -125,14 +133,6 @@ pub const D_IS_D_PLUS_M: Instr = Instr::Compute {
 /// `D=D-M`
 pub const D_IS_D_MINUS_M: Instr = Instr::Compute {
     memory: true,
-    comp: 0b010011,
-    dest: 2,
-    jump: 0,
-};
-
-/// `D=D-A`
-pub const D_IS_D_MINUS_A: Instr = Instr::Compute {
-    memory: false,
     comp: 0b010011,
     dest: 2,
     jump: 0,

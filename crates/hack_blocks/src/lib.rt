@@ -3,21 +3,23 @@
 
 pub mod instructions;
 mod laws;
+pub mod routines;
 pub mod shape;
 
 pub use laws::{budgets_law, commands_law, start_law, templates_law, ways_law};
+pub use routines::{Routine, Routines};
 pub use shape::Shape;
 
 /// The address of the start code's endless loop.
-pub const ENDLESS_LOOP: u16 = 51;
+pub const ENDLESS_LOOP: u16 = 21;
 
 /// How many instructions the start code has.
-pub const START_SIZE: u16 = 53;
+pub const START_SIZE: u16 = 23;
 
 #[cfg(test)]
 mod tests {
     use crate::instructions::{
-        AM_IS_M_MINUS_1, D_IS_D_MINUS_A, D_IS_M, IF_D_NOT_EQUAL, IF_D_NOT_LESS, JUMP, M_IS_D_OR_M,
+        AM_IS_M_MINUS_1, D_IS_M, D_IS_NOT_A, IF_D_NOT_EQUAL, IF_D_NOT_LESS, JUMP, M_IS_D_OR_M,
         M_IS_M_MINUS_D, M_IS_NOT_M,
     };
     use hack_isa::encode;
@@ -27,7 +29,7 @@ mod tests {
     fn words_of_names(rt: HostRuntime) {
         assert_eq!(rt; encode(&D_IS_M), 0b1111_1100_0001_0000);
         assert_eq!(rt; encode(&AM_IS_M_MINUS_1), 0b1111_1100_1010_1000);
-        assert_eq!(rt; encode(&D_IS_D_MINUS_A), 0b1110_0100_1101_0000);
+        assert_eq!(rt; encode(&D_IS_NOT_A), 0b1110_1100_0101_0000);
         assert_eq!(rt; encode(&M_IS_M_MINUS_D), 0b1111_0001_1100_1000);
         assert_eq!(rt; encode(&M_IS_D_OR_M), 0b1111_0101_0100_1000);
         assert_eq!(rt; encode(&M_IS_NOT_M), 0b1111_1100_0100_1000);

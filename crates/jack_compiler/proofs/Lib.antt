@@ -34,3 +34,6 @@ pub mod Calls
 pub mod Searching
 pub mod Hollow
 pub mod HollowLinks
+pub mod Uniform
+pub mod Heads
+pub mod Seen

@@ -1,5 +1,6 @@
 -- What holds of the linked code of each compiled program.
 use Rattle.std.specs.Prelude.{◌≡◌, ◌⊎◌, ℕ, true, false, Some, Ok, Err, slice_get}
+use Rattle.vm_link.specs.Uniform.{IsUniform}
 use Rattle.vm_link.specs.declared.fault.LinkFault.{LinkFault}
 use Rattle.vm_link.specs.declared.fault.LinkFault.TheVariants.{Memory, TooManyStatics}
 use Rattle.vm_link.specs.declared.linked.Linked.{Linked}
@@ -14,6 +15,7 @@ use Rattle.jack_compiler.specs.Templates.{Numbers}
 use Rattle.jack_compiler.specs.Fits.{IsFit}
 use Rattle.jack_compiler.specs.Match.{IsCodeOf}
 use Rattle.jack_compiler.specs.Files.{files_of}
+use Rattle.jack_compiler.specs.Statics.{has_word, static_word}
 use Rattle.jack_compiler.specs.Resolved.{IsResolvedCore}
 
 -- This is the code of the program: it has just the subroutines that the program can come to, each once. The program fits, as deep as the deepest of these
@@ -29,6 +31,9 @@ pub record IsLinkedProgram (program : Program) (linked : Linked) : Type 0 where
   pub deepest : IsMost program (depth_of program) depth
   pub most : IsMost program (locals_of program) most_locals
   pub fits : IsFit program numbers depth most_locals
+  -- which statics have a word, and which one
+  pub holds : (k : ℕ) → numbers.holds k ≡ has_word program linked k
+  pub static : (k : ℕ) → numbers.static k ≡ static_word program linked k
 
 abbrev pub IsLinkedOf : Core → Linked → Type 0
 IsLinkedOf core linked = IsLinkedProgram (the_program core) linked
@@ -42,3 +47,7 @@ pub record CompiledLaw : Type 0 where
   pub linked : (core : Core) (linked : Linked) → IsResolvedCore core → Links false (files_of core) (Ok linked) → IsLinkedOf core linked
   -- the only fault that linking finds is that there are too many static words
   pub faults : (core : Core) (fault : LinkFault) → IsResolvedCore core → Links false (files_of core) (Err fault) → IsOnlyFault fault
+
+-- Its calls, returns and comparisons are commits, all of them.
+abbrev pub CodeIsUniform : Type 0
+CodeIsUniform = (program : Program) (linked : Linked) → IsLinkedProgram program linked → IsUniform linked

@@ -10,9 +10,10 @@
 #![tactic(auto)]
 
 ghost use Rattle.jack_compiler.specs.Laws.{SimulationLaw};
-ghost use Rattle.jack_compiler.specs.Linked.{CompiledLaw};
+ghost use Rattle.jack_compiler.specs.Linked.{CodeIsUniform, CompiledLaw};
 ghost use Rattle.jack_compiler.specs.Rows.{RowsLaw};
 ghost use Rattle.jack_compiler.specs.Runs.{VmRunLaw};
+ghost use Rattle.jack_compiler.specs.Seen.{SeenLaw};
 ghost use Rattle.jack_compiler.specs.Small.{SmallLaw};
 
 mod bodies;
@@ -30,6 +31,11 @@ pub use program::compile;
 /// Matching states have one point; the machine has no more words on the stack than the meaning, and about as many.
 pub fn simulation_law()
     ensures { SimulationLaw }
+{}
+
+/// Matching states show the same: the point, the variables and statics, and where the callers go on.
+pub fn seen_law()
+    ensures { SeenLaw }
 {}
 
 /// After any number of moves of the virtual machine over a program's code, heap and screen and the point are those of the
@@ -55,4 +61,9 @@ pub fn rows_law()
 /// `compiled_law` wants.
 pub fn small_law()
     ensures { SmallLaw }
+{}
+
+/// In the linked code of each program the calls, the returns and the comparisons end steps of the meaning, all of them.
+pub fn uniform_law()
+    ensures { CodeIsUniform }
 {}

@@ -1,4 +1,4 @@
--- The text of the map of an image: the control points of its addresses, and its commits. (The book, chapters 8 and 11: where the code of a program
+-- The text of the map of an image: the control points of its addresses, its commits, and where the routines stand that commands share. (The book, chapters 8 and 11: where the code of a program
 -- stands.)
 use Rattle.std.specs.Prelude.{ℕ, List, [], ◌∷◌, ◌++◌, codes, decimal, get_or}
 use Rattle.std.specs.List.{flat_map}
@@ -15,6 +15,11 @@ point_line names r = point_text (get_or names r.point.sub []) r
 abbrev pub commit_line : ℕ → List ℕ
 commit_line address = codes "commit " ++ (decimal address ++ 10 ∷ [])
 
--- The number of the form, then the lines of the points, then those of the commits.
-abbrev pub map_text : List (List ℕ) → List PointRange → List ℕ → List ℕ
-map_text names ranges commits = (codes "map 1" ++ 10 ∷ []) ++ (flat_map (point_line names) ranges ++ flat_map commit_line commits)
+-- the addresses of a routine that commands share, from one up to and without another
+abbrev pub shared_line : ℕ × ℕ → List ℕ
+shared_line r = codes "shared " ++ (decimal r.0 ++ 32 ∷ (decimal r.1 ++ 10 ∷ []))
+
+-- The number of the form, then the lines of the points, then those of the commits, then those of the shared routines.
+abbrev pub map_text : List (List ℕ) → List PointRange → List ℕ → List (ℕ × ℕ) → List ℕ
+map_text names ranges commits shared =
+    (codes "map 1" ++ 10 ∷ []) ++ (flat_map (point_line names) ranges ++ (flat_map commit_line commits ++ flat_map shared_line shared))

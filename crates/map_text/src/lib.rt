@@ -1,4 +1,4 @@
-//! The text of the map of an image: the control points of its addresses, and its commits.
+//! The text of the map of an image: the control points of its addresses, its commits, and the routines that commands share.
 #![tactic(auto)]
 
 mod printing;

@@ -3,7 +3,7 @@ ghost use Rattle.std.specs.Prelude.{◌≡◌, [], map, get_or};
 ghost use Rattle.std.specs.List.{flat_map};
 ghost use Rattle.outer_world.specs.Held.{HaveSameSink, pending, sink_of};
 ghost use Rattle.outer_world.specs.Written.{CountsPut, Passes, Puts};
-ghost use Rattle.map_text.specs.Text.{commit_line, map_text, point_line, point_text};
+ghost use Rattle.map_text.specs.Text.{commit_line, map_text, point_line, point_text, shared_line};
 
 use itoa::Buffer;
 use outer_world::{Pieces, Put, Sink};
@@ -81,15 +81,48 @@ fn put_commits<S: Sink>(commits: &[u16], out: &mut Pieces<'_, S>) -> Put
     Put::Done
 }
 
+// The line of a routine.
+fn put_range<S: Sink>(range: (u32, u32), out: &mut Pieces<'_, S>) -> Put
+    ensures same_sink { HaveSameSink out.old out.new }
+    ensures passes { Passes (S.written (sink_of out.old)) (pending out.old) (S.written (sink_of out.new)) (pending out.new) (shared_line range) result }
+    ensures counts { CountsPut (S.faults (sink_of out.old)) (S.faults (sink_of out.new)) result }
+{
+    let mut from = Buffer::new();
+    let mut to = Buffer::new();
+    out.put_all(&[
+        b"shared ",
+        from.format(range.0).as_bytes(),
+        b" ",
+        to.format(range.1).as_bytes(),
+        b"\n",
+    ])
+}
+
+// The lines of the routines.
+fn put_shared<S: Sink>(shared: &[(u32, u32)], out: &mut Pieces<'_, S>) -> Put
+    ensures same_sink { HaveSameSink out.old out.new }
+    ensures passes { Passes (S.written (sink_of out.old)) (pending out.old) (S.written (sink_of out.new)) (pending out.new) (flat_map shared_line shared.now) result }
+    ensures counts { CountsPut (S.faults (sink_of out.old)) (S.faults (sink_of out.new)) result }
+{
+    for range in shared {
+        match put_range(*range, out) {
+            Put::Done => {}
+            Put::Failed => return Put::Failed,
+        }
+    }
+    Put::Done
+}
+
 // All lines.
 fn put_lines<S: Sink>(
     names: &[&str],
     points: &[PointRange],
     commits: &[u16],
+    shared: &[(u32, u32)],
     out: &mut Pieces<'_, S>,
 ) -> Put
     ensures same_sink { HaveSameSink out.old out.new }
-    ensures passes { Passes (S.written (sink_of out.old)) (pending out.old) (S.written (sink_of out.new)) (pending out.new) (map_text (map (λ n. n.now) names.now) points.now commits.now) result }
+    ensures passes { Passes (S.written (sink_of out.old)) (pending out.old) (S.written (sink_of out.new)) (pending out.new) (map_text (map (λ n. n.now) names.now) points.now commits.now shared.now) result }
     ensures counts { CountsPut (S.faults (sink_of out.old)) (S.faults (sink_of out.new)) result }
 {
     match out.put(b"map 1\n") {
@@ -97,7 +130,11 @@ fn put_lines<S: Sink>(
         Put::Failed => return Put::Failed,
     }
     match put_points(names, points, out) {
-        Put::Done => put_commits(commits, out),
+        Put::Done => {}
+        Put::Failed => return Put::Failed,
+    }
+    match put_commits(commits, out) {
+        Put::Done => put_shared(shared, out),
         Put::Failed => Put::Failed,
     }
 }
@@ -107,24 +144,32 @@ fn put_map<S: Sink>(
     names: &[&str],
     points: &[PointRange],
     commits: &[u16],
+    shared: &[(u32, u32)],
     out: &mut Pieces<'_, S>,
 ) -> Put
     requires { pending out.old ≡ [] }
     ensures same_sink { HaveSameSink out.old out.new }
-    ensures put { Puts (S.written (sink_of out.old)) (S.written (sink_of out.new)) (map_text (map (λ n. n.now) names.now) points.now commits.now) result }
+    ensures put { Puts (S.written (sink_of out.old)) (S.written (sink_of out.new)) (map_text (map (λ n. n.now) names.now) points.now commits.now shared.now) result }
     ensures counts { CountsPut (S.faults (sink_of out.old)) (S.faults (sink_of out.new)) result }
 {
-    match put_lines(names, points, commits, out) {
+    match put_lines(names, points, commits, shared, out) {
         Put::Done => out.finish(),
         Put::Failed => Put::Failed,
     }
 }
 
-/// Puts the map of an image: a line for each range of points, with the name of its subroutine, and a line for each commit.
-pub fn show_map<S: Sink>(names: &[&str], points: &[PointRange], commits: &[u16], out: &mut S) -> Put
-    ensures put { Puts (S.written out.old) (S.written out.new) (map_text (map (λ n. n.now) names.now) points.now commits.now) result }
+/// Puts the map of an image: a line for each range of points, with the name of its subroutine, one for each commit, and one for each routine that
+/// commands share.
+pub fn show_map<S: Sink>(
+    names: &[&str],
+    points: &[PointRange],
+    commits: &[u16],
+    shared: &[(u32, u32)],
+    out: &mut S,
+) -> Put
+    ensures put { Puts (S.written out.old) (S.written out.new) (map_text (map (λ n. n.now) names.now) points.now commits.now shared.now) result }
     ensures counts { CountsPut (S.faults out.old) (S.faults out.new) result }
 {
     let mut pieces = Pieces::new(out);
-    put_map(names, points, commits, &mut pieces)
+    put_map(names, points, commits, shared, &mut pieces)
 }

@@ -17,7 +17,7 @@ no_calls : (n : ℕ) (s : Statement) → statement_calls s ≡ [] → text_calls
 no_calls zero s e = refl
 no_calls (suc n) s e = ap (λ cs. cs ++ text_calls (text n s)) e ∙ no_calls n s e
 
-words : (n : ℕ) (s : Statement) → text_words (text n s) ≡ n * statement_words s + 75
+words : (n : ℕ) (s : Statement) → text_words (text n s) ≡ n * statement_words s + 17
 words zero s = omega arith
 words (suc n) s = let e = words n s in omega (arith, e)
 
@@ -51,7 +51,7 @@ module _ (n : ℕ) (s : Statement) (none : statement_calls s ≡ []) where
   apart (suc i) (suc zero) d before near = absurd (omega arith)
   apart (suc i) (suc (suc j)) d before near = absurd (omega arith)
 
-  pub budget : (w : ℕ) → w ≡ 511 + n * statement_words s → IsBudget (repeated n s) w
+  pub budget : (w : ℕ) → w ≡ 347 + n * statement_words s → IsBudget (repeated n s) w
   budget w e = record {
     linked = 1 ∷ 2 ∷ [];
     all = λ g l. all l;
@@ -62,7 +62,7 @@ module _ (n : ℕ) (s : Statement) (none : statement_calls s ≡ []) where
 
 pub rows : BudgetRows
 rows = record {
-  stores = budget 560 (Store 0 (local 0) (local 1) (local 2)) refl 31311 refl;
-  loads = budget 668 (Let 0 (Local 1) (Load (local 0) (local 2))) refl 32575 refl;
-  others = budget 1 nested refl 822 refl;
+  stores = budget 560 (Store 0 (local 0) (local 1) (local 2)) refl 31147 refl;
+  loads = budget 668 (Let 0 (Local 1) (Load (local 0) (local 2))) refl 32411 refl;
+  others = budget 1 nested refl 526 refl;
 }

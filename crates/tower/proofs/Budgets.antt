@@ -9,9 +9,11 @@ use Rattle.std.proofs.lemmas.List.Sums.{sum_by-cons, sum_by-remove}
 use Rattle.std.proofs.lemmas.Option.{slice_get_within}
 use Rattle.vm_link.specs.declared.linked.Linked.{Linked}
 use Rattle.vm_link.specs.declared.linked.LinkedFunction.{LinkedFunction}
-use Rattle.vm_translator.specs.Image.{image_of, names_end}
+use Rattle.vm_translator.specs.Image.{closing_of, image_of}
+use Rattle.hack_blocks.specs.Templates.{start_size}
 use Rattle.vm_translator.specs.Places.{words_in, words_of}
-use Rattle.vm_translator.proofs.Sizes.{length_image}
+use Rattle.vm_translator.proofs.Routines.{used_few}
+use Rattle.vm_translator.proofs.Sizes.{closing_few, length_image}
 use Rattle.jack_meaning.specs.Text.{Program}
 use Rattle.jack_meaning.specs.Meaning.{subroutine_at}
 use Rattle.jack_meaning.specs.Linked.{IsLinked}
@@ -110,13 +112,9 @@ module _ (program : Program) (linked : Linked) (code : IsLinkedProgram program l
   pub budget : (words : ℕ) × IsBudget program words
   budget = (256 + sum_by (words_at program) numbers, record { linked = numbers; all = all; only = only; once = apart; sum = refl })
 
-  base_low : (b : Bool) → (if b then 0 else 53) ≤ 53
+  base_low : (b : Bool) → (if b then 0 else start_size) ≤ start_size
   base_low true = omega arith
   base_low false = omega arith
-
-  end_low : (b : Bool) → (if b then 1 else 0) ≤ 1
-  end_low true = omega arith
-  end_low false = omega arith
 
   pub code_within : (words : ℕ) → IsBudget program words → length (image_of linked) ≤ words
   code_within words is =
@@ -124,7 +122,8 @@ module _ (program : Program) (linked : Linked) (code : IsLinkedProgram program l
         arith,
         length_image linked,
         base_low linked.bare,
-        end_low (names_end linked),
+        closing_few (closing_of linked),
+        used_few linked,
         functions_within (words_at program) linked.functions words_each,
         sum_within (words_at program) numbers is.linked apart (λ x here. is.all x (only x here)),
         is.sum,

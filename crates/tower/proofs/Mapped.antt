@@ -1,11 +1,12 @@
 -- The computer with its map, one move further.
 use Rattle.std.proofs.Common.{◌≡◌, ◌<◌, ◌≤◌, ◌+◌, ◌⊎◌, ℕ, suc, Bool, true, false, List, [], ◌∷◌, ◌++◌, Option, Some, None, length, refl, inl, inr, ap, ◌∙◌, sym, subst, arith, add-one, length-append, get_or, set, take, get_or-set_same, get_or-set_other, ◌||◌}
-use Rattle.std.specs.Prelude.{if◌then◌else◌, nat_eq, nat_lt, unwrap_or}
+use Rattle.std.specs.Prelude.{◌-◌, if◌then◌else◌, nat_eq, nat_lt, slice_get, unwrap_or}
 use Rattle.std.specs.List.{list_any}
 use Rattle.std.specs.Option.{option_or}
 use Rattle.std.proofs.lemmas.Bool.{cases_lt, le-leb, lt-ltb, le-ltb, eq-eqb, eqb-true}
 use Rattle.std.proofs.lemmas.List.Elements.{All-push}
 use Rattle.std.proofs.lemmas.List.Folds.{list_any_more}
+use Rattle.std.proofs.lemmas.Option.{slice_get-get_or}
 use Rattle.outer_world.specs.declared.point.Point.{Point}
 use Rattle.machine_io.specs.History.{Turn, turn}
 use Rattle.machine_io.specs.declared.machine.Moved.TheVariants.{Acted}
@@ -50,6 +51,20 @@ no_point (r ∷ rs) at to k c h =
     let up = covers_up rs r.to to c.2 in
     let from : r.from ≤ k = let e = c.0 in let some = c.1 in omega (arith, e) in
     past_first r rs k from (omega arith) ∙ no_point rs r.to to k c.2 h
+
+-- the address behind the last range
+pub mapped_to : (rs : List PointRange) (at end : ℕ) (r : PointRange) → Some r ≡ slice_get rs (length rs - 1) → Covers at rs end → r.to ≡ end
+mapped_to [] at end r e c = absurd (cc e)
+mapped_to (x ∷ []) at end r e c = let same : r ≡ x = cc e in ap (λ (z : PointRange). z.to) same ∙ c.2
+mapped_to (x ∷ y ∷ rs) at end r e c =
+    let place : length (x ∷ y ∷ rs) - 1 ≡ suc (length (y ∷ rs) - 1) = omega arith in
+    mapped_to (y ∷ rs) x.to end r (e ∙ ap (slice_get (x ∷ y ∷ rs)) place) c.2
+
+pub mapped_none : (rs : List PointRange) (end : ℕ) → None ≡ slice_get rs (length rs - 1) → Covers 0 rs end → 0 ≡ end
+mapped_none [] end e c = c
+mapped_none (x ∷ rs) end e c =
+    let there = slice_get-get_or (x ∷ rs) (length (x ∷ rs) - 1) x (omega arith) in
+    absurd (let no : ⊥ = cc (e, there) in no)
 
 seen_is : (rs : List PointRange) (k : ℕ) (p : Point) → point_in rs k ≡ Some p → Some (point_seen rs k) ≡ Some p
 seen_is rs k p e = ap (λ o. Some (unwrap_or o (record { sub = 0; number = 0 }))) e

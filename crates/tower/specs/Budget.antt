@@ -14,15 +14,15 @@ use Rattle.jack_compiler.specs.Resolved.{IsResolvedCore}
 use Rattle.tower.specs.Built.{IsNotBuilt, LargeImage}
 use Rattle.tower.specs.VmRun.{IsVmCodeOf}
 
--- a comparison looks at the signs first
+-- A comparison, a call and a return go through routines that are written once.
 abbrev pub operator_words : Operator → ℕ
 operator_words Plus = 5
 operator_words Subtract = 5
 operator_words And = 5
 operator_words Or = 5
-operator_words Less = 48
-operator_words Greater = 48
-operator_words Equal = 48
+operator_words Less = 4
+operator_words Greater = 4
+operator_words Equal = 4
 
 -- an expression: its parts, and so many words for what is done with them
 abbrev mutual
@@ -34,7 +34,7 @@ abbrev mutual
   expression_words (Unary o a) = expression_words a + 3
   expression_words (Binary o a b) = expression_words a + expression_words b + operator_words o
   expression_words (Load a i) = expression_words a + expression_words i + 18
-  expression_words (Call g es) = arguments_words es + 60
+  expression_words (Call g es) = arguments_words es + 12
   -- no program's text has a value or an open call
   expression_words (Value w) = 0
   expression_words Open = 0
@@ -52,7 +52,7 @@ abbrev mutual
   statement_words (Do n e) = expression_words e + 5
   statement_words (If n o c a b) = expression_words c + text_words a + text_words b + 9
   statement_words (While n c s) = expression_words c + text_words s + 9
-  statement_words (Return n e) = expression_words e + 66
+  statement_words (Return n e) = expression_words e + 8
 
   pub text_words : Text → ℕ
   text_words End = 0

@@ -25,8 +25,8 @@ nested = While 1 (local 0) (text_of (If 2 true each_operator (text_of (LetField 
 
 pub record BudgetRows : Type 0 where
   -- let a[i] = j;
-  pub stores : IsBudget (repeated 560 (Store 0 (local 0) (local 1) (local 2))) 31311
+  pub stores : IsBudget (repeated 560 (Store 0 (local 0) (local 1) (local 2))) 31147
   -- let i = a[j];
-  pub loads : IsBudget (repeated 668 (Let 0 (Local 1) (Load (local 0) (local 2)))) 32575
+  pub loads : IsBudget (repeated 668 (Let 0 (Local 1) (Load (local 0) (local 2)))) 32411
   -- what those have not: each operator, a field, this, and the other statements
-  pub others : IsBudget (repeated 1 nested) 822
+  pub others : IsBudget (repeated 1 nested) 526

@@ -1,20 +1,23 @@
 -- What the computer with the image of a program does: it follows the program's meaning, cycle by cycle.
-use Rattle.std.specs.Prelude.{ℕ, List}
+use Rattle.std.specs.Prelude.{◌≡◌, ℕ, suc, true, List, Some}
 use Rattle.hack_blocks.specs.Templates.{endless_loop}
 use Rattle.hack_isa.specs.Machine.{machine_at}
-use Rattle.layers.specs.System.{IsKey}
-use Rattle.layers.specs.Trace.{Trace, trace_of}
+use Rattle.layers.specs.System.{IsKey, Listening, run_of, Tame}
+use Rattle.layers.specs.Trace.{Trace, steps, heard, trace_of}
 use Rattle.layers.specs.Headline.{Follows}
 use Rattle.hack_blocks.specs.Computer.{Map, hack_system}
 use Rattle.vm_link.specs.declared.linked.Linked.{Linked}
+use Rattle.vm_machine.specs.State.{State as VmState}
+use Rattle.vm_translator.specs.Mapping.{location}
+use Rattle.vm_translator.specs.Related.{StandsFor}
 use Rattle.vm_translator.specs.Translated.{IsTranslated}
 use Rattle.jack_meaning.specs.Text.{Program}
-use Rattle.jack_meaning.specs.Meaning.{start}
+use Rattle.jack_meaning.specs.Meaning.{State, start}
 use Rattle.jack_meaning.specs.Level.{meaning_of}
 use Rattle.jack_compiler.specs.Templates.{Numbers}
 use Rattle.jack_meaning.specs.Gap.{gap, IsGap}
 use Rattle.jack_compiler.specs.Fits.{IsFit}
-use Rattle.jack_compiler.specs.Match.{IsCodeOf}
+use Rattle.jack_compiler.specs.Match.{IsCodeOf, Match}
 
 -- What is counted of the computer's run with this image and map, from its start, under these keys.
 abbrev pub run_trace : List ℕ → Map → (ℕ → ℕ) → Trace
@@ -40,3 +43,20 @@ abbrev pub HeadlineLaw : Type 0
 HeadlineLaw = (program : Program) (numbers : Numbers) (linked : Linked) (depth most_locals : ℕ) (image : List ℕ) (map : Map)
     → IsFit program numbers depth most_locals → IsCodeOf program numbers linked → IsTranslated linked image map endless_loop
     → (keys : ℕ → ℕ) → ((c : ℕ) → IsKey (keys c)) → (n : ℕ) → FollowsWithin program (gap depth most_locals) image map keys n
+
+-- At cycle n the meaning has come, over the keys heard, to a state that the computer holds: by way of a state of the virtual machine.
+pub record StandsBehind (program : Program) (numbers : Numbers) (linked : Linked) (depth : ℕ) (image : List ℕ) (map : Map) (keys : ℕ → ℕ) (n : ℕ) : Type 0 where
+  pub after : Listening State
+  pub run : run_of (meaning_of program.subroutines) (start program) (heard (run_trace image map keys) n) (steps (run_trace image map keys) n) ≡ Some after
+  pub fits : (meaning_of program.subroutines).fits after.state ≡ true
+  pub between : VmState
+  pub matches : Match program numbers linked depth after.state between
+  pub stands : StandsFor (location linked) linked between (machine_at image keys n)
+
+-- So it is just after each commit, as long as the meaning is tame up to there.
+abbrev pub BehindLaw : Type 0
+BehindLaw = (program : Program) (numbers : Numbers) (linked : Linked) (depth most_locals : ℕ) (image : List ℕ) (map : Map)
+    → IsFit program numbers depth most_locals → IsCodeOf program numbers linked → IsTranslated linked image map endless_loop
+    → (keys : ℕ → ℕ) → ((c : ℕ) → IsKey (keys c)) → (n : ℕ) → (run_trace image map keys).commits n ≡ true
+    → Tame (meaning_of program.subroutines) (start program) (heard (run_trace image map keys) (suc n)) (steps (run_trace image map keys) (suc n))
+    → StandsBehind program numbers linked depth image map keys (suc n)

@@ -9,6 +9,7 @@ use Rattle.hack_machine.specs.Loaded.{LoadedMachine, machine_of}
 use Rattle.layers.specs.Trace.{steps, point_at}
 use Rattle.hack_blocks.specs.Computer.{Map}
 use Rattle.vm_translator.specs.declared.coded.PointRange.{PointRange}
+use Rattle.vm_translator.specs.declared.coded.StaticWord.{StaticWord}
 use Rattle.vm_translator.specs.Mapping.{map_of, point_in, Covers}
 use Rattle.tower.specs.Headline.{run_trace}
 
@@ -36,11 +37,27 @@ pub record RunProgram : Type 0 where
 abbrev pub program_in : MappedMachine → RunProgram
 program_in h = record { image = h.hack.image; commits = h.commits; ranges = h.ranges }
 
--- The image is one that the computer has room for, and each address of it has a point.
+-- what is built: the image and its map, the addresses of the routines that commands share, and those of the instructions by which functions are
+-- entered, each from the first up to and without the address after the last, and the static words of its files
+pub record BuiltImage : Type 0 where
+  pub image : List ℕ
+  pub commits : List ℕ
+  pub ranges : List PointRange
+  pub shared : List (ℕ × ℕ)
+  pub entries : List (ℕ × ℕ)
+  pub statics : List StaticWord
+
+abbrev pub program_built : BuiltImage → RunProgram
+program_built b = record { image = b.image; commits = b.commits; ranges = b.ranges }
+
+-- The image is one that the computer has room for, and each address of its first part has a point, the first address among them. Behind this part are
+-- the routines that commands share.
 pub record IsMapped (image : List ℕ) (ranges : List PointRange) : Type 0 where
-  pub some : 0 < length image
+  pub mapped : ℕ
+  pub some : 0 < mapped
+  pub within : mapped ≤ length image
   pub room : length image ≤ image_words
-  pub covers : Covers 0 ranges (length image)
+  pub covers : Covers 0 ranges mapped
 
 -- the point of an address that has one
 abbrev pub point_seen : List PointRange → ℕ → Point

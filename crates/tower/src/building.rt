@@ -1,15 +1,15 @@
 //! From linked code to the image that the computer runs.
-ghost use Rattle.std.specs.Prelude.{◌≡◌, ◌<◌, ◌≤◌, All, IfOk, IfErr, false, length, map};
+ghost use Rattle.std.specs.Prelude.{◌≡◌, ◌≤◌, All, IfOk, IfErr, false, length, map};
 ghost use Rattle.hack_isa.specs.Machine.{image_words};
 ghost use Rattle.hack_blocks.specs.Templates.{endless_loop};
 ghost use Rattle.hack_isa.specs.Table.{word_of};
 ghost use Rattle.vm_link.specs.Sound.{IsSound};
-ghost use Rattle.vm_translator.specs.Mapping.{Covers};
+ghost use Rattle.vm_link.specs.Uniform.{IsUniform};
 ghost use Rattle.vm_translator.specs.Plain.{IsPlain};
 ghost use Rattle.vm_translator.specs.Translated.{IsTranslated};
 ghost use Rattle.tower.specs.declared.building.BuildError.TheVariants.{Memory};
-ghost use Rattle.tower.specs.Built.{IsUnbuilt, map_for, run_program};
-ghost use Rattle.tower.specs.Mapped.{IsMapped};
+ghost use Rattle.tower.specs.Built.{IsUnbuilt, built_image, map_for};
+ghost use Rattle.tower.specs.Mapped.{IsMapped, program_built};
 ghost use Rattle.tower.specs.Told.{build_told};
 
 use hack_isa::{Instr, encode};
@@ -18,7 +18,7 @@ use std::alloc::{AllocError, Global};
 use std::marker::Model;
 use thiserror::Error;
 use vm_link::Linked;
-use vm_translator::{CodeFault, Coded, PointRange, translate};
+use vm_translator::{CodeFault, Coded, PointRange, StaticWord, translate};
 
 /// Why a program has no computer: memory ran out, its files have so many static words, which are more than 240, or its image
 /// would have so many words, which are more than 32,768.
@@ -61,14 +61,17 @@ pub struct Built {
     pub(crate) image: Vec<u16>,
     pub(crate) commits: List<u16>,
     pub(crate) points: List<PointRange>,
+    pub(crate) shared: List<(u32, u32)>,
+    pub(crate) entries: List<(u32, u32)>,
+    pub(crate) statics: List<StaticWord>,
 }
 
 impl Model for Built {
-    ghost use Rattle.tower.specs.Mapped.{IsMapped, RunProgram};
+    ghost use Rattle.tower.specs.Mapped.{BuiltImage, IsMapped};
 
-    ghost Value = { RunProgram };
+    ghost Value = { BuiltImage };
 
-    ghost view = { λ b. record { image = b.image.items; commits = b.commits; ranges = b.points } };
+    ghost view = { λ b. record { image = b.image.items; commits = b.commits; ranges = b.points; shared = b.shared; entries = b.entries; statics = b.statics } };
 
     ghost invariant = { λ b. IsMapped b.image.items b.points };
 }
@@ -88,11 +91,34 @@ impl Built {
         self.commits.as_slice()
     }
 
-    /// The control points of the addresses of the image, in ranges, rising.
+    /// The control points of the addresses before the routines, in ranges, rising.
     pub fn points(&self) -> &[PointRange]
         ensures { result.now ≡ self.now.ranges }
     {
         self.points.as_slice()
+    }
+
+    /// The addresses of the routines that commands share, each from its first up to and without the address after its last,
+    /// rising.
+    pub fn shared(&self) -> &[(u32, u32)]
+        ensures { result.now ≡ self.now.shared }
+    {
+        self.shared.as_slice()
+    }
+
+    /// The addresses of the instructions by which each function is entered, from the first up to and without the address
+    /// after the last, rising.
+    pub fn entries(&self) -> &[(u32, u32)]
+        ensures { result.now ≡ self.now.entries }
+    {
+        self.entries.as_slice()
+    }
+
+    /// The static words of the program's files, rising.
+    pub fn statics(&self) -> &[StaticWord]
+        ensures { result.now ≡ self.now.statics }
+    {
+        self.statics.as_slice()
     }
 
     /// The image, the addresses of its commits, and the ranges of its points.
@@ -120,26 +146,28 @@ fn words(alloc: Global, instrs: &[Instr]) -> Result<Vec<u16>, AllocError>
 
 // The image of translated code with its map.
 fn built_of(alloc: Global, coded: Coded) -> Result<Built, AllocError>
-    requires some { 0 < length coded.instrs }
-    requires room { length coded.instrs ≤ image_words }
     requires plain { All IsPlain coded.instrs }
-    requires covers { Covers 0 coded.points (length coded.instrs) }
-    ensures { IfOk result (λ b. b ≡ record { image = map word_of coded.instrs; commits = coded.commits; ranges = coded.points }) }
+    requires mapped { IsMapped (map word_of coded.instrs) coded.points }
+    ensures { IfOk result (λ b. b ≡ record { image = map word_of coded.instrs; commits = coded.commits; ranges = coded.points; shared = coded.shared; entries = coded.entries; statics = coded.statics }) }
 {
     let image = words(alloc, coded.instrs.as_slice())?;
     Ok(Built {
         image,
         commits: coded.commits,
         points: coded.points,
+        shared: coded.shared,
+        entries: coded.entries,
+        statics: coded.statics,
     })
 }
 
 /// The image of linked code and its map.
 pub(crate) fn build_linked(alloc: Global, linked: &Linked) -> Result<Built, BuildError>
     requires sound { IsSound linked.now }
+    requires uniform { IsUniform linked.now }
     requires starts { linked.now.bare ≡ false }
-    ensures program { IfOk result (λ b. b ≡ run_program linked.now) }
-    ensures translated { IfOk result (λ b. IsTranslated linked.now b.image (map_for b) endless_loop) }
+    ensures built { IfOk result (λ b. b ≡ built_image linked.now) }
+    ensures translated { IfOk result (λ b. IsTranslated linked.now b.image (map_for (program_built b)) endless_loop) }
     ensures fits { IfOk result (λ b. length b.image ≤ image_words) }
     ensures unbuilt { IfErr result (IsUnbuilt linked.now) }
 {

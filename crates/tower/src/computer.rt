@@ -2,7 +2,7 @@
 ghost use Rattle.std.specs.Prelude.{◌≡◌, [], IfOk};
 ghost use Rattle.jack_compiler.specs.Resolved.{IsResolvedCore};
 ghost use Rattle.tower.specs.Built.{Builds};
-ghost use Rattle.tower.specs.Mapped.{HasFollowed, program_in};
+ghost use Rattle.tower.specs.Mapped.{HasFollowed, program_built, program_in};
 
 use crate::building::{BuildError, Built, build_linked};
 use crate::hack_level::HackLevel;
@@ -30,7 +30,7 @@ pub fn build(alloc: Global, core: &Core) -> Result<Built, BuildError>
 
 /// The computer at its start with the image of a program. It has all its memory from here on.
 pub fn prepare_hack(alloc: Global, built: Built) -> Result<HackLevel, AllocError>
-    ensures program { IfOk result (λ h. program_in h ≡ built) }
+    ensures program { IfOk result (λ h. program_in h ≡ program_built built) }
     ensures moves { IfOk result (λ h. h.hack.moves ≡ 0) }
     ensures stands { IfOk result (λ h. HasFollowed h []) }
 {
@@ -38,6 +38,7 @@ pub fn prepare_hack(alloc: Global, built: Built) -> Result<HackLevel, AllocError
         image,
         commits,
         points,
+        ..
     } = built;
     HackLevel::new(alloc, &image, commits, points)
 }

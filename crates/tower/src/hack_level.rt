@@ -1,13 +1,13 @@
 //! The computer as a level of the tower: the Hack machine with the map of its image. It counts the steps of the
 //! program's meaning and knows its control point.
-ghost use Rattle.std.specs.Prelude.{◌≡◌, ◌+◌, ◌<◌, ◌≤◌, ◌^◌, ◌++◌, [], ◌∷◌, ℕ, List, suc, true, false, nat_eq, nat_lt, if◌then◌else◌, length, slice_index_or, IfOk};
+ghost use Rattle.std.specs.Prelude.{◌≡◌, ◌+◌, ◌<◌, ◌^◌, ◌++◌, [], ◌∷◌, ℕ, List, suc, true, false, nat_eq, nat_lt, if◌then◌else◌, length, slice_index_or, IfOk};
 ghost use Rattle.std.specs.List.{list_any};
-ghost use Rattle.hack_isa.specs.Machine.{step, image_words};
+ghost use Rattle.hack_isa.specs.Machine.{step};
 ghost use Rattle.hack_machine.specs.Loaded.{machine_of};
 ghost use Rattle.machine_io.specs.History.{Turn, turn};
 ghost use Rattle.machine_io.specs.declared.machine.Moved.TheVariants.{Acted};
 ghost use Rattle.vm_translator.specs.Mapping.{point_in, Covers};
-ghost use Rattle.tower.specs.Mapped.{MappedMachine, StandsAt, HasFollowed, IsKeptWell, point_seen, program_in};
+ghost use Rattle.tower.specs.Mapped.{MappedMachine, StandsAt, HasFollowed, IsKeptWell, IsMapped, point_seen, program_in};
 
 use hack_machine::Hack;
 use machine_io::{Level, Moved};
@@ -74,6 +74,16 @@ fn point_in(points: &[PointRange], at: u16) -> Option<Point>
     None
 }
 
+// How many addresses have a point.
+fn mapped(points: &[PointRange]) -> u32
+    ensures { (end : ℕ) → Covers 0 points.now end → result ≡ end }
+{
+    match points.last() {
+        Some(range) => range.to,
+        None => 0,
+    }
+}
+
 fn counted(commit: bool, steps: u64) -> u64
     requires { steps < 2 ^ 63 }
     ensures { result ≡ (if commit then suc steps else steps) }
@@ -96,19 +106,18 @@ impl HackLevel {
         commits: List<u16>,
         points: List<PointRange>,
     ) -> Result<HackLevel, AllocError>
-        requires some { 0 < length image.now }
-        requires room { length image.now ≤ image_words }
-        requires covers { Covers 0 points (length image.now) }
+        requires { IsMapped image.now points }
         ensures program { IfOk result (λ h. program_in h ≡ record { image = image.now; commits = commits; ranges = points }) }
         ensures moves { IfOk result (λ h. h.hack.moves ≡ 0) }
         ensures stands { IfOk result (λ h. HasFollowed h []) }
     {
+        let mapped = mapped(points.as_slice());
         Ok(HackLevel {
             hack: Hack::new(alloc, image)?,
             marks: marks(alloc, commits.as_slice())?,
             commits,
             points,
-            mapped: image.len() as u32,
+            mapped,
             steps: 0,
             seen: 0,
         })

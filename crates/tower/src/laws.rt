@@ -3,7 +3,7 @@
 ghost use Rattle.tower.specs.Budget.{BudgetLaw};
 ghost use Rattle.tower.specs.BudgetRows.{BudgetRows};
 ghost use Rattle.tower.specs.Built.{ComputerLaw};
-ghost use Rattle.tower.specs.Headline.{HeadlineLaw};
+ghost use Rattle.tower.specs.Headline.{BehindLaw, HeadlineLaw};
 ghost use Rattle.tower.specs.OneProgram.{OneProgramLaw};
 ghost use Rattle.tower.specs.Resolved.{ResolvedLaw};
 ghost use Rattle.tower.specs.Spelled.{ReadLaw};
@@ -53,4 +53,10 @@ pub fn vm_run_law()
 pub fn budget_law()
     ensures budgets { BudgetLaw }
     ensures rows { BudgetRows }
+{}
+
+/// Law: just after a commit, as long as the meaning is tame, the computer holds a state of the virtual machine that matches
+/// the meaning's.
+pub fn behind_law()
+    ensures { BehindLaw }
 {}

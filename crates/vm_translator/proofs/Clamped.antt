@@ -1,5 +1,5 @@
 -- Where the numbers of a step are such that an instruction can name them, its shape has these numbers.
-use Rattle.std.proofs.Common.{◌≡◌, ℕ, zero, suc, ◌+◌, ◌<◌, ◌≤◌, ◌%◌, min, refl, ap, ◌∙◌, sym, subst, arith}
+use Rattle.std.proofs.Common.{◌≡◌, ℕ, zero, suc, ◌+◌, ◌<◌, ◌≤◌, ◌%◌, refl, ap, ◌∙◌, sym, subst, arith}
 use Rattle.vm_tree.specs.declared.command.Segment.{Segment}
 use Rattle.vm_tree.specs.declared.command.Segment.TheVariants as segment
 use Rattle.vm_link.specs.declared.linked.Step.{Step}
@@ -90,7 +90,7 @@ plain_same to (step.Pop g i) h = pop_same g i h
 plain_same to (step.Goto p) h = refl
 plain_same to (step.IfGoto p) h = refl
 plain_same to (step.Function n) h = refl
-plain_same to (step.Call f n) h = let e : min n 32762 ≡ n = (let k = h.1 in omega arith) in ap (shape.Call to) e
+plain_same to (step.Call f n) h = ap (shape.Call to) (named_is n h.1)
 plain_same to step.Return h = refl
 
 -- where a push and a pop lead: after as many instructions as their shapes have in the table

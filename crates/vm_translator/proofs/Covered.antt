@@ -1,18 +1,23 @@
 -- The ranges of points cover the image, and each address has the point of its step.
-use Rattle.std.proofs.Common.{◌≡◌, ◌+◌, ◌<◌, ◌≤◌, ◌++◌, ◌⊎◌, ◌&&◌, ◌||◌, ℕ, Bool, true, false, List, [], ◌∷◌, Some, nat_eq, refl, sym, ap, subst, ◌∙◌, arith, inl, inr, length, if◌then◌else◌}
-use Rattle.std.specs.Prelude.{nat_le, nat_lt, map, not}
+use Rattle.std.proofs.Common.{◌≡◌, ◌+◌, ◌<◌, ◌≤◌, ◌++◌, ◌⊎◌, ◌&&◌, ◌||◌, ℕ, Bool, true, false, List, [], ◌∷◌, Some, None, nat_eq, refl, sym, ap, subst, ◌∙◌, arith, inl, inr, if◌then◌else◌}
+use Rattle.std.specs.Prelude.{nat_le, nat_lt, map, not, length, filter}
 use Rattle.std.specs.List.{list_any}
 use Rattle.std.proofs.lemmas.Bool.{cases_Bool, cases_lt, le-leb, lt-leb, lt-ltb, le-ltb, and_parts, eqb-true}
 use Rattle.outer_world.specs.declared.point.Point.{Point}
+use Rattle.hack_blocks.specs.declared.routines.Routine.{Routine}
+use Rattle.hack_blocks.specs.declared.routines.Routine.TheVariants as routine
+use Rattle.vm_link.specs.declared.linked.Code.{Code}
 use Rattle.vm_link.specs.declared.linked.Linked.{Linked}
+use Rattle.vm_link.specs.declared.linked.LinkedFunction.{LinkedFunction}
 use Rattle.vm_translator.specs.declared.coded.PointRange.{PointRange}
 use Rattle.vm_translator.specs.declared.layout.Placed.{Placed}
 use Rattle.vm_translator.specs.Shapes.{step_size}
-use Rattle.vm_translator.specs.Places.{base_of, end_of, program, words_in}
-use Rattle.vm_translator.specs.Image.{join, merged, stretched, same_point, range_of, start_ranges, points_of, entry_of, names, names_end, image_of}
+use Rattle.vm_translator.specs.Places.{base_of, end_of, program, words_in, words_of}
+use Rattle.vm_translator.specs.Shared.{all_routines, is_routine, routine_for, same_routine, used, uses}
+use Rattle.vm_translator.specs.declared.ends.Closing.TheVariants as closes
+use Rattle.vm_translator.specs.Image.{closing_size, join, merged, stretched, same_point, range_of, start_ranges, points_of, entry_of, names, names_end, shared_at}
 use Rattle.vm_translator.specs.Mapping.{point_in, Covers}
 use Rattle.vm_translator.proofs.Sums.{size_some}
-use Rattle.vm_translator.proofs.Sizes.{length_image}
 use Rattle.vm_translator.proofs.Chained.{Chain, chain_from, chain_up}
 
 ⊎_by : {A B C : Type 0} → A ⊎ B → (A → C) → (B → C) → C
@@ -82,23 +87,24 @@ covers_up : (at to : ℕ) (rs : List PointRange) → Covers at rs to → at ≤ 
 covers_up at to [] h = omega arith
 covers_up at to (r ∷ rs) h = let u = covers_up r.to to rs h.2 in let m = h.1 in omega arith
 
-stretched_covers : (at to : ℕ) (rs : List PointRange) → at < to → Covers at rs to → Covers at (stretched (to + 1) rs) (to + 1)
-stretched_covers at to [] l h = absurd (omega arith)
-stretched_covers at to (r ∷ []) l h = (h.0, omega arith, refl)
-stretched_covers at to (r ∷ s ∷ rs) l h =
+-- ranges that are stretched, where there are some
+stretched_covers : (at to up : ℕ) (rs : List PointRange) → (at ≡ to → up ≡ to) → to ≤ up → Covers at rs to → Covers at (stretched up rs) up
+stretched_covers at to up [] l m h = let e = l h in omega arith
+stretched_covers at to up (r ∷ []) l m h = let e = h.2 in let some = h.1 in (h.0, omega arith, refl)
+stretched_covers at to up (r ∷ s ∷ rs) l m h =
     let t = h.2 in
-    let m = t.1 in
+    let some = t.1 in
     let u = covers_up s.to to rs t.2 in
-    (h.0, h.1, stretched_covers r.to to (s ∷ rs) (omega arith) t)
+    (h.0, h.1, stretched_covers r.to to up (s ∷ rs) (λ e. absurd (omega arith)) m t)
 
-stretched_same : (at to : ℕ) (rs : List PointRange) → Covers at rs to → (k : ℕ) → k < to → point_in (stretched (to + 1) rs) k ≡ point_in rs k
-stretched_same at to [] h k l = refl
-stretched_same at to (r ∷ []) h k l =
+stretched_same : (at to up : ℕ) (rs : List PointRange) → to ≤ up → Covers at rs to → (k : ℕ) → k < to → point_in (stretched up rs) k ≡ point_in rs k
+stretched_same at to up [] m h k l = refl
+stretched_same at to up (r ∷ []) m h k l =
     let e = h.2 in
     ⊎_by (cases_lt k r.from)
-    (λ b. below_range (record { from = r.from; to = to + 1; point = r.point }) [] k b ∙ sym (below_range r [] k b))
-    (λ b. in_range (record { from = r.from; to = to + 1; point = r.point }) [] k b (omega arith) ∙ sym (in_range r [] k b (omega arith)))
-stretched_same at to (r ∷ s ∷ rs) h k l = over r (stretched (to + 1) (s ∷ rs)) (s ∷ rs) k (stretched_same r.to to (s ∷ rs) h.2 k l)
+    (λ b. below_range (record { from = r.from; to = up; point = r.point }) [] k b ∙ sym (below_range r [] k b))
+    (λ b. in_range (record { from = r.from; to = up; point = r.point }) [] k b (omega arith) ∙ sym (in_range r [] k b (omega arith)))
+stretched_same at to up (r ∷ s ∷ rs) m h k l = over r (stretched up (s ∷ rs)) (s ∷ rs) k (stretched_same r.to to up (s ∷ rs) m h.2 k l)
 
 covers_both : (at mid to : ℕ) (rs ss : List PointRange) → Covers at rs mid → Covers mid ss to → Covers at (rs ++ ss) to
 covers_both at mid to [] ss h k = subst (λ a. Covers a ss to) (sym h) k
@@ -120,7 +126,7 @@ chain_covers at to (x ∷ xs) h =
 pub start_covers : (l : Linked) → Covers 0 (start_ranges l) (base_of l)
 start_covers l = by_bare l.bare
   where
-    by_bare : (b : Bool) → Covers 0 (if b then [] else record { from = 0; to = 51; point = record { sub = 0; number = 1 } } ∷ record { from = 51; to = 53; point = record { sub = 0; number = 2 } } ∷ []) (if b then 0 else 53)
+    by_bare : (b : Bool) → Covers 0 (if b then [] else record { from = 0; to = 21; point = record { sub = 0; number = 1 } } ∷ record { from = 21; to = 23; point = record { sub = 0; number = 2 } } ∷ []) (if b then 0 else 23)
     by_bare true = refl
     by_bare false = (refl, omega arith, (refl, omega arith, refl))
 
@@ -132,38 +138,71 @@ ranges_cover l = covers_both 0 (base_of l) (end_of l) (start_ranges l) (map rang
 
 -- the point of an address of the code is that of the ranges before they are merged
 pub points_are : (l : Linked) (k : ℕ) → k < end_of l → point_in (points_of l) k ≡ point_in (start_ranges l ++ map range_of (program l)) k
-points_are l k h = by_end (names_end l)
+points_are l k h = stretched_same 0 (end_of l) (shared_at l) (merged (start_ranges l ++ map range_of (program l))) (omega arith) m.0 k h ∙ m.1 k
   where
     m : (Covers 0 (merged (start_ranges l ++ map range_of (program l))) (end_of l)) × ((k : ℕ) → point_in (merged (start_ranges l ++ map range_of (program l))) k ≡ point_in (start_ranges l ++ map range_of (program l)) k)
     m = merged_same 0 (end_of l) (start_ranges l ++ map range_of (program l)) (ranges_cover l)
 
-    by_end : (b : Bool) → point_in (if b then stretched (end_of l + 1) (merged (start_ranges l ++ map range_of (program l))) else merged (start_ranges l ++ map range_of (program l))) k ≡ point_in (start_ranges l ++ map range_of (program l)) k
-    by_end true = stretched_same 0 (end_of l) (merged (start_ranges l ++ map range_of (program l))) m.0 k h ∙ m.1 k
-    by_end false = m.1 k
-
--- The ranges cover the image.
-pub points_cover : (l : Linked) → (names_end l ≡ true → 0 < end_of l) → Covers 0 (points_of l) (length (image_of l))
-points_cover l some = by_end (names_end l) refl
+-- The ranges cover the image up to the routines.
+pub points_cover : (l : Linked) → (0 ≡ end_of l → shared_at l ≡ end_of l) → Covers 0 (points_of l) (shared_at l)
+points_cover l none = stretched_covers 0 (end_of l) (shared_at l) (merged (start_ranges l ++ map range_of (program l))) none (omega arith) m
   where
     m : Covers 0 (merged (start_ranges l ++ map range_of (program l))) (end_of l)
     m = (merged_same 0 (end_of l) (start_ranges l ++ map range_of (program l)) (ranges_cover l)).0
-
-    by_end : (b : Bool) → names_end l ≡ b → Covers 0 (if names_end l then stretched (end_of l + 1) (merged (start_ranges l ++ map range_of (program l))) else merged (start_ranges l ++ map range_of (program l))) (length (image_of l))
-    by_end true e =
-        let n : length (image_of l) ≡ end_of l + 1 = length_image l ∙ ap (λ b. base_of l + (words_in l.functions + (if b then 1 else 0))) e ∙ omega arith in
-        rw (n, e) (stretched_covers 0 (end_of l) (merged (start_ranges l ++ map range_of (program l))) (some e) m)
-    by_end false e =
-        let n : length (image_of l) ≡ end_of l = length_image l ∙ ap (λ b. base_of l + (words_in l.functions + (if b then 1 else 0))) e ∙ omega arith in
-        rw (n, e) m
 
 -- An image whose end is named has code.
 some_code : (at to : ℕ) (f : Placed → Bool) (xs : List Placed) → Chain at xs to → list_any f xs ≡ true → 0 < to
 some_code at to f [] h e = absurd (cc e)
 some_code at to f (x ∷ xs) h e = let s = size_some x.code.step in let up = chain_up (at + step_size x.code.step) to xs h.1 in omega arith
 
-pub covers : (l : Linked) → Covers 0 (points_of l) (length (image_of l))
-covers l = points_cover l (some l.bare (nat_eq (end_of l) (entry_of l)) (list_any (names (base_of l) l.functions (end_of l)) (program l)) refl (some_code (base_of l) (end_of l) (names (base_of l) l.functions (end_of l)) (program l) (chain_from 0 (base_of l) l.functions)))
+named_code : (l : Linked) → names_end l ≡ true → 0 < end_of l
+named_code l = some l.bare (nat_eq (end_of l) (entry_of l)) (list_any (names (base_of l) l.functions (end_of l)) (program l)) refl (some_code (base_of l) (end_of l) (names (base_of l) l.functions (end_of l)) (program l) (chain_from 0 (base_of l) l.functions))
   where
     some : (b x y : Bool) → l.bare ≡ b → (y ≡ true → 0 < end_of l) → ((not b && x) || y) ≡ true → 0 < end_of l
     some true x y e h t = h t
-    some false x y e h t = let z : base_of l ≡ 53 = ap (λ b. if b then 0 else 53) e in omega arith
+    some false x y e h t = let z : base_of l ≡ 23 = ap (λ b. if b then 0 else 23) e in omega arith
+
+-- A program has code where some step goes through a routine.
+some_step : (f : Code → Bool) (cs : List Code) → list_any f cs ≡ true → 0 < words_of cs
+some_step f [] e = absurd (cc e)
+some_step f (c ∷ cs) e = let s = size_some c.step in omega arith
+
+some_function : (f : Code → Bool) (fs : List LinkedFunction) → list_any (λ (g : LinkedFunction). list_any f g.code) fs ≡ true → 0 < words_in fs
+some_function f [] e = absurd (cc e)
+some_function f (g ∷ fs) e = ⊎_by (cases_Bool (list_any f g.code))
+    (λ t. let s = some_step f g.code t in omega arith)
+    (λ t. let s = some_function f fs (sym (ap (λ b. b || list_any (λ (g : LinkedFunction). list_any f g.code) fs) t) ∙ e) in omega arith)
+
+used_code : (l : Linked) (rs : List Routine) → l.bare ≡ true → nat_eq (length (filter (uses l) rs)) 0 ≡ false → 0 < end_of l
+used_code l [] bare e = absurd (cc e)
+used_code l (r ∷ rs) bare e = ⊎_by (cases_Bool (uses l r)) some
+    (λ t. used_code l rs bare (sym (ap (λ b. nat_eq (length (if b then r ∷ filter (uses l) rs else filter (uses l) rs)) 0) t) ∙ e))
+  where
+    functions_use : Bool
+    functions_use = list_any (λ (f : LinkedFunction). list_any (λ (c : Code). is_routine r (routine_for c.step)) f.code) l.functions
+
+    some : uses l r ≡ true → 0 < end_of l
+    some t =
+        let own : functions_use ≡ true = sym (ap (λ b. (not b && same_routine r routine.Call) || functions_use) bare) ∙ t in
+        let s = some_function (λ c. is_routine r (routine_for c.step)) l.functions own in
+        omega arith
+
+-- nothing closes a program without code
+pub covers : (l : Linked) → Covers 0 (points_of l) (shared_at l)
+covers l = points_cover l (none l.bare (nat_eq (length (used l)) 0) (names_end l) (λ b e. used_code l all_routines b e) (named_code l) refl)
+  where
+    none : (b u n : Bool) → (l.bare ≡ true → u ≡ false → 0 < end_of l) → (n ≡ true → 0 < end_of l) → l.bare ≡ b → 0 ≡ end_of l
+        → end_of l + closing_size (if b && not u then closes.Loop else if n then closes.Word else closes.Nothing) ≡ end_of l
+    none true false n f g e z = let s = f e refl in absurd (omega arith)
+    none true true true f g e z = let s = g refl in absurd (omega arith)
+    none true true false f g e z = omega arith
+    none false u true f g e z = let s = g refl in absurd (omega arith)
+    none false u false f g e z = omega arith
+
+-- past all ranges there is no point
+pub past_all : (at to : ℕ) (rs : List PointRange) → Covers at rs to → (k : ℕ) → to ≤ k → point_in rs k ≡ None
+past_all at to [] h k l = refl
+past_all at to (r ∷ rs) h k l = let u = covers_up r.to to rs h.2 in above_range r rs k (omega arith) ∙ past_all r.to to rs h.2 k l
+
+pub no_point : (l : Linked) (k : ℕ) → shared_at l ≤ k → point_in (points_of l) k ≡ None
+no_point l k h = past_all 0 (shared_at l) (points_of l) (covers l) k h

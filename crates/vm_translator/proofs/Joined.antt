@@ -1,13 +1,13 @@
 -- One more range at the end.
-use Rattle.std.proofs.Common.{◌≡◌, ◌+◌, ◌<◌, ◌≤◌, ◌++◌, ◌⊎◌, ℕ, zero, suc, Bool, true, false, List, [], ◌∷◌, length, get_or, set, refl, sym, ap, subst, ◌∙◌, arith, inl, inr, if◌then◌else◌, append_assoc, take, map}
+use Rattle.std.proofs.Common.{◌≡◌, ◌+◌, ◌<◌, ◌≤◌, ◌++◌, ◌⊎◌, ℕ, zero, suc, true, false, List, [], ◌∷◌, length, get_or, set, refl, sym, ap, subst, ◌∙◌, arith, inl, inr, append_assoc, take, map}
 use Rattle.std.proofs.lemmas.Bool.{and_parts, eqb-true, cases_Bool}
 use Rattle.outer_world.specs.declared.point.Point.{Point}
 use Rattle.vm_translator.specs.declared.coded.PointRange.{PointRange}
 use Rattle.vm_link.specs.declared.linked.Linked.{Linked}
 use Rattle.vm_translator.specs.declared.layout.Placed.{Placed}
 use Rattle.vm_translator.specs.declared.layout.Layout.{Layout}
-use Rattle.vm_translator.specs.Places.{base_of, end_of, program}
-use Rattle.vm_translator.specs.Image.{join, merged, names_end, points_of, range_of, same_point, start_ranges, stretched}
+use Rattle.vm_translator.specs.Places.{base_of, program}
+use Rattle.vm_translator.specs.Image.{join, merged, points_of, range_of, same_point, shared_at, start_ranges, stretched}
 use Rattle.vm_translator.specs.Tables.{IsLayout, added}
 use Rattle.std.proofs.lemmas.List.{take_all, take_more, map-append}
 
@@ -80,11 +80,9 @@ points_more start xs i d r ps qs h e p q =
     q ∙ ap (λ zs. added zs r) p ∙ sym (merged_added (start ++ map range_of (take i xs)) r) ∙ ap merged (append_assoc start (map range_of (take i xs)) (r ∷ []))
     ∙ ap (λ zs. merged (start ++ zs)) (sym t)
 
-pub points_done : (l : Linked) (layout : Layout) (ends : Bool) (i : ℕ) (ps qs : List PointRange) → IsLayout (base_of l) l.functions layout → length layout.placed.items ≤ i
-    → ps ≡ merged (start_ranges l ++ map range_of (take i layout.placed.items)) → ends ≡ names_end l
-    → qs ≡ (if ends then stretched (layout.end + 1) ps else ps) → qs ≡ points_of l
-points_done l layout ends i ps qs lay h p n q =
+pub points_done : (l : Linked) (layout : Layout) (from i : ℕ) (ps qs : List PointRange) → IsLayout (base_of l) l.functions layout → length layout.placed.items ≤ i
+    → ps ≡ merged (start_ranges l ++ map range_of (take i layout.placed.items)) → from ≡ shared_at l → qs ≡ stretched from ps → qs ≡ points_of l
+points_done l layout from i ps qs lay h p n q =
     let all : ps ≡ merged (start_ranges l ++ map range_of (program l))
     = p ∙ ap (λ xs. merged (start_ranges l ++ map range_of xs)) (take_all i layout.placed.items h ∙ lay.placed) in
-    q ∙ ap (λ b. if b then stretched (layout.end + 1) ps else ps) n ∙ ap (λ k. if names_end l then stretched (k + 1) ps else ps) lay.ends
-    ∙ ap (λ zs. if names_end l then stretched (end_of l + 1) zs else zs) all
+    q ∙ ap (λ k. stretched k ps) n ∙ ap (stretched (shared_at l)) all

@@ -2,6 +2,8 @@ pub mod Sums
 pub mod EndLemmas
 pub mod Emitted
 pub mod Laid
+pub mod Routines
+pub mod StaticWords
 pub mod Sizes
 pub mod Joined
 pub mod PlainLemmas
@@ -26,3 +28,4 @@ pub mod Outcomes
 pub mod Simulating
 pub mod Instructed
 pub mod PieceSizes
+pub mod Seen

@@ -4,7 +4,7 @@ use Rattle.vm_link.specs.declared.linked.Step.{Step}
 use Rattle.vm_link.specs.declared.linked.Step.TheVariants as step
 use Rattle.hack_blocks.specs.Budgets.{most_words}
 use Rattle.vm_translator.specs.Pieces.{words, PiecesFit}
-use Rattle.vm_translator.proofs.Sums.{size_few}
+use Rattle.vm_translator.proofs.Sums.{cycles_quick, routine_to, shared_is, size_few}
 
 one : (c : Step) → words (c ∷ []) ≤ most_words c
 one c = let few = size_few 0 c in omega arith
@@ -12,6 +12,9 @@ one c = let few = size_few 0 c in omega arith
 pub pieces_fit : PiecesFit
 pieces_fit = record {
   each = size_few;
+  quick = cycles_quick;
+  shared = shared_is;
+  routine = routine_to;
   literal = λ n. omega arith;
   all_ones = omega arith;
   name = λ g i. one (step.Push g i);

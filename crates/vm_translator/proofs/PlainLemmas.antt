@@ -1,30 +1,39 @@
 -- Each instruction of an image that fits is plain.
-use Rattle.std.proofs.Common.{◌≡◌, ◌+◌, ◌%◌, ◌<◌, ◌≤◌, ◌++◌, ◌⊎◌, ◌&&◌, ℕ, zero, suc, Bool, true, false, List, [], ◌∷◌, length, drop, nat_eq, nat_lt, unwrap_or, refl, sym, ap, ◌∙◌, arith, inl, inr, if◌then◌else◌}
+use Rattle.std.proofs.Common.{◌≡◌, ⊎_elim, ◌+◌, ◌%◌, ◌<◌, ◌≤◌, ◌++◌, ◌⊎◌, ◌&&◌, ℕ, zero, suc, Bool, true, false, List, [], ◌∷◌, length, drop, nat_eq, nat_lt, unwrap_or, Option, Some, None, refl, sym, subst, ◌∙◌, arith, inl, inr, if◌then◌else◌}
 use Rattle.std.specs.Prelude.{All, not}
 use Rattle.std.specs.List.{flat_map, list_any, list_all}
-use Rattle.std.proofs.lemmas.Bool.{and_parts, or_parts, ltb-true, cases_Bool, cases_eq, eqb-false}
+use Rattle.std.proofs.lemmas.Bool.{and_parts, or_parts, ltb-true, lt-ltb, le-ltb, cases_Bool, cases_eq, cases_lt, eqb-false}
 use Rattle.hack_isa.specs.declared.Instr.{Instr}
 use Rattle.hack_isa.specs.declared.Instr.TheVariants.{Address, Compute}
 use Rattle.hack_blocks.specs.declared.shape.Shape.{Shape}
 use Rattle.hack_blocks.specs.declared.shape.Shape.TheVariants as shape
-use Rattle.hack_blocks.specs.declared.instructions.TheConstants.{D_IS_A, D_IS_M, A_IS_M, M_IS_D, D_IS_0, D_IS_1, D_IS_MINUS_1, AM_IS_M_MINUS_1, A_IS_M_MINUS_1, A_IS_D_PLUS_M, D_IS_D_PLUS_M, D_IS_D_MINUS_M, D_IS_D_MINUS_A, M_IS_D_PLUS_M, M_IS_M_MINUS_D, M_IS_D_AND_M, M_IS_D_OR_M, M_IS_MINUS_M, M_IS_NOT_M, JUMP, IF_D_LESS, IF_D_GREATER, IF_D_EQUAL, IF_D_NOT_LESS, IF_D_NOT_EQUAL}
-use Rattle.hack_blocks.specs.Templates.{call_code, compare, function_code, go_to, join, pop_d, push_constant, push_d, push_word, push_zero, return_code, set_pointers, set_stack, endless, size, start_code, template, turn}
+use Rattle.hack_blocks.specs.declared.instructions.TheConstants.{D_IS_A, D_IS_NOT_A, D_IS_M, A_IS_M, M_IS_D, D_IS_0, D_IS_1, D_IS_MINUS_1, AM_IS_M_MINUS_1, A_IS_M_MINUS_1, A_IS_D_PLUS_M, D_IS_D_PLUS_M, D_IS_D_MINUS_M, M_IS_D_PLUS_M, M_IS_M_MINUS_D, M_IS_D_AND_M, M_IS_D_OR_M, M_IS_MINUS_M, M_IS_NOT_M, JUMP, IF_D_LESS, IF_D_GREATER, IF_D_EQUAL, IF_D_NOT_LESS, IF_D_NOT_EQUAL}
+use Rattle.hack_blocks.specs.declared.routines.Routine.{Routine}
+use Rattle.hack_blocks.specs.declared.routines.Routine.TheVariants as routine
+use Rattle.hack_blocks.specs.declared.routines.Routines.{Routines}
+use Rattle.hack_blocks.specs.Laws.{IsFound}
+use Rattle.hack_blocks.specs.Templates.{call_by, call_routine, compare, compare_by, compare_routine, function_code, go_back, join, load, pop_d, push_constant, push_d, push_word, push_zero, return_code, routine_at, routine_code, routine_of, routine_size, set_stack, endless, size, start_code, template, turn}
 use Rattle.vm_tree.specs.declared.command.Operation.{Operation}
 use Rattle.vm_tree.specs.declared.command.Operation.TheVariants as operation
 use Rattle.vm_tree.specs.declared.command.Segment.{Segment}
 use Rattle.vm_tree.specs.declared.command.Segment.TheVariants as segment
+use Rattle.vm_link.specs.declared.linked.Code.{Code}
 use Rattle.vm_link.specs.declared.linked.Step.{Step}
 use Rattle.vm_link.specs.declared.linked.Step.TheVariants as step
 use Rattle.vm_link.specs.declared.linked.Linked.{Linked}
 use Rattle.vm_link.specs.declared.linked.LinkedFunction.{LinkedFunction}
 use Rattle.vm_translator.specs.declared.layout.Placed.{Placed}
+use Rattle.vm_translator.specs.declared.ends.Closing.{Closing}
+use Rattle.vm_translator.specs.declared.ends.Closing.TheVariants as closes
 use Rattle.vm_translator.specs.Shapes.{push_from, pop_to, operated, pushed, popped, shape_of, step_size}
-use Rattle.vm_translator.specs.Places.{address, base_of, code_at, end_of, named, program, target_of, words_in}
-use Rattle.vm_translator.specs.Image.{closing, entry_of, image_of, names, names_end, opening, piece}
+use Rattle.vm_translator.specs.Places.{address, base_of, code_at, end_of, named, placed_code, placed_from, program, target_of, words_in, words_of}
+use Rattle.vm_translator.specs.Image.{closing, closing_code, closing_of, closing_size, entry_of, image_of, names, names_end, opening, piece, routines, shared_at}
+use Rattle.vm_translator.specs.Shared.{routine_for, shared_from, used, uses, words_shared}
+use Rattle.vm_translator.proofs.Routines.{Contained, ContainedIn, contained_uses, routine_some, routine_within, start_uses}
 use Rattle.vm_translator.specs.Plain.{IsPlain, is_spelled}
 use Rattle.vm_translator.specs.Tables.{IsReady}
-use Rattle.vm_translator.proofs.Sums.{size_to, words_parts, words_in_parts}
-use Rattle.vm_translator.proofs.Sizes.{length_image}
+use Rattle.vm_translator.proofs.Sums.{routine_to, size_to, words_parts, words_in_parts}
+use Rattle.vm_translator.proofs.Sizes.{closing_some, length_image, length_with}
 use Rattle.vm_translator.proofs.Laid.{Each, each_all, each_both, each_of}
 
 ⊎_by : {A B C : Type 0} → A ⊎ B → (A → C) → (B → C) → C
@@ -59,7 +68,7 @@ IsNumbered (shape.PopFirst b) = b < 32768
 IsNumbered (shape.PopWord a) = a < 32768
 IsNumbered (shape.Goto t) = t < 32768
 IsNumbered (shape.IfGoto t) = t < 32768
-IsNumbered (shape.Call t n) = (t < 32768) × (n ≤ 32762)
+IsNumbered (shape.Call t n) = (t < 32768) × (n < 32768)
 IsNumbered _ = Unit {0}
 
 plain_constant : (n : ℕ) → n < 32768 → Each IsPlain (push_constant n)
@@ -70,17 +79,23 @@ plain_word : (a : ℕ) → a < 32768 → Each IsPlain (push_word a)
 unfolding Each
 plain_word a h = (h, plain_all (D_IS_M ∷ push_d) refl)
 
-plain_call : (back t n : ℕ) → back < 32768 → t < 32768 → n ≤ 32762 → Each IsPlain (call_code back t n)
+plain_load : (n : ℕ) → n < 65536 → Each IsPlain (load n)
 unfolding Each
-plain_call back t n b h l =
-    each_both IsPlain (push_constant back) (push_word 1 ++ (push_word 2 ++ (push_word 3 ++ (push_word 4 ++ (set_pointers n ++ go_to t))))) (plain_constant back b)
-    (each_both IsPlain (push_word 1) (push_word 2 ++ (push_word 3 ++ (push_word 4 ++ (set_pointers n ++ go_to t)))) (plain_all (push_word 1) refl)
-    (each_both IsPlain (push_word 2) (push_word 3 ++ (push_word 4 ++ (set_pointers n ++ go_to t))) (plain_all (push_word 2) refl)
-    (each_both IsPlain (push_word 3) (push_word 4 ++ (set_pointers n ++ go_to t)) (plain_all (push_word 3) refl)
-    (each_both IsPlain (push_word 4) (set_pointers n ++ go_to t) (plain_all (push_word 4) refl)
-    (each_both IsPlain (set_pointers n) (go_to t)
-    (plain (Address 0) refl, (plain D_IS_M refl, (omega arith, plain_all (D_IS_D_MINUS_A ∷ Address 2 ∷ M_IS_D ∷ Address 0 ∷ D_IS_M ∷ Address 1 ∷ M_IS_D ∷ []) refl)))
-    (h, plain_all (JUMP ∷ []) refl))))))
+plain_load n small =
+    ⊎_elim
+    (λ l. rw (lt-ltb n 32768 l) (l, (plain D_IS_A refl, tt)))
+    (λ l. rw (le-ltb n 32768 l) (omega (arith, l), (plain D_IS_NOT_A refl, tt)))
+    (cases_lt n 32768)
+
+plain_call : (there back t n : ℕ) → there < 32768 → back < 32768 → t < 32768 → n < 32768 → Each IsPlain (call_by there back t n)
+unfolding Each
+plain_call there back t n r b h l =
+    let d = plain_load (5 + n) (omega (arith, l)) in
+    (h, (plain D_IS_A refl, (plain (Address 13) refl, (plain M_IS_D refl, (d.0, (d.1.0, (plain (Address 14) refl, (plain M_IS_D refl, (b, (plain D_IS_A refl, (r, plain_all (JUMP ∷ []) refl)))))))))))
+
+plain_compare_by : (there back : ℕ) → there < 32768 → back < 32768 → Each IsPlain (compare_by there back)
+unfolding Each
+plain_compare_by there back r b = (b, (plain D_IS_A refl, (r, plain_all (JUMP ∷ []) refl)))
 
 plain_compare : (jump : Instr) (here : ℕ) → is_plain jump ≡ true → here + 38 ≤ 32768 → Each IsPlain (compare jump here)
 unfolding Each
@@ -163,30 +178,46 @@ plain_function : (n : ℕ) → Each IsPlain (function_code n)
 plain_function zero = plain_all (Address 0 ∷ []) refl
 plain_function (suc n) = each_both IsPlain push_zero (function_code n) (plain_all push_zero refl) (plain_function n)
 
-plain_template : (here : ℕ) (s : Shape) → here + size s ≤ 32768 → IsNumbered s → Each IsPlain (template here s)
+plain_compare_routine : (jump : Instr) (at : ℕ) → is_plain jump ≡ true → at + 43 ≤ 32768 → Each IsPlain (compare_routine jump at)
 unfolding Each
-plain_template here (shape.PushConstant n) h w = plain_constant n w
-plain_template here (shape.PushAt b i) h w = (w.1, (plain D_IS_A refl, (w.0, plain_all (A_IS_D_PLUS_M ∷ D_IS_M ∷ push_d) refl)))
-plain_template here (shape.PushFirst b) h w = (w, plain_all (A_IS_M ∷ D_IS_M ∷ push_d) refl)
-plain_template here (shape.PushWord a) h w = plain_word a w
-plain_template here (shape.PopAt b i) h w =
+plain_compare_routine jump at j h = (plain (Address 14) refl, (plain M_IS_D refl, each_both IsPlain (compare jump (at + 2)) go_back (plain_compare jump (at + 2) j (omega arith)) (plain_all go_back refl)))
+
+pub plain_routine : (r : Routine) (at : ℕ) → at + routine_size r ≤ 32768 → Each IsPlain (routine_code r at)
+plain_routine routine.Call at h = plain_all call_routine refl
+plain_routine routine.Back at h = plain_all return_code refl
+plain_routine routine.Equal at h = plain_compare_routine IF_D_EQUAL at refl h
+plain_routine routine.Greater at h = plain_compare_routine IF_D_GREATER at refl h
+plain_routine routine.Less at h = plain_compare_routine IF_D_LESS at refl h
+
+plain_shared : (at : ℕ) (rs : List Routine) → at + words_shared rs ≤ 32768 → Each IsPlain (shared_from at rs)
+unfolding Each
+plain_shared at [] h = tt
+plain_shared at (r ∷ rs) h = each_both IsPlain (routine_code r at) (shared_from (at + routine_size r) rs) (plain_routine r at (omega arith)) (plain_shared (at + routine_size r) rs (omega arith))
+
+plain_template : (rs : Routines) (here : ℕ) (s : Shape) → here + size s ≤ 32768 → IsFound rs (routine_of s) → IsNumbered s → Each IsPlain (template rs here s)
+unfolding Each
+plain_template rs here (shape.PushConstant n) h f w = plain_constant n w
+plain_template rs here (shape.PushAt b i) h f w = (w.1, (plain D_IS_A refl, (w.0, plain_all (A_IS_D_PLUS_M ∷ D_IS_M ∷ push_d) refl)))
+plain_template rs here (shape.PushFirst b) h f w = (w, plain_all (A_IS_M ∷ D_IS_M ∷ push_d) refl)
+plain_template rs here (shape.PushWord a) h f w = plain_word a w
+plain_template rs here (shape.PopAt b i) h f w =
     (w.1, (plain D_IS_A refl, (w.0, plain_all (D_IS_D_PLUS_M ∷ Address 13 ∷ M_IS_D ∷ (pop_d ++ Address 13 ∷ A_IS_M ∷ M_IS_D ∷ [])) refl)))
-plain_template here (shape.PopFirst b) h w = each_both IsPlain pop_d (Address b ∷ A_IS_M ∷ M_IS_D ∷ []) (plain_all pop_d refl) (w, plain_all (A_IS_M ∷ M_IS_D ∷ []) refl)
-plain_template here (shape.PopWord a) h w = each_both IsPlain pop_d (Address a ∷ M_IS_D ∷ []) (plain_all pop_d refl) (w, plain_all (M_IS_D ∷ []) refl)
-plain_template here shape.Add h w = plain_all (join M_IS_D_PLUS_M) refl
-plain_template here shape.Sub h w = plain_all (join M_IS_M_MINUS_D) refl
-plain_template here shape.And h w = plain_all (join M_IS_D_AND_M) refl
-plain_template here shape.Or h w = plain_all (join M_IS_D_OR_M) refl
-plain_template here shape.Neg h w = plain_all (turn M_IS_MINUS_M) refl
-plain_template here shape.Not h w = plain_all (turn M_IS_NOT_M) refl
-plain_template here shape.Eq h w = plain_compare IF_D_EQUAL here refl h
-plain_template here shape.Gt h w = plain_compare IF_D_GREATER here refl h
-plain_template here shape.Lt h w = plain_compare IF_D_LESS here refl h
-plain_template here (shape.Goto t) h w = (w, plain_all (JUMP ∷ []) refl)
-plain_template here (shape.IfGoto t) h w = each_both IsPlain pop_d (Address t ∷ IF_D_NOT_EQUAL ∷ []) (plain_all pop_d refl) (w, plain_all (IF_D_NOT_EQUAL ∷ []) refl)
-plain_template here (shape.Call t n) h w = plain_call ((here + 42) % 32768) t n (omega arith) w.0 w.1
-plain_template here (shape.Function n) h w = plain_function n
-plain_template here shape.Return h w = plain_all return_code refl
+plain_template rs here (shape.PopFirst b) h f w = each_both IsPlain pop_d (Address b ∷ A_IS_M ∷ M_IS_D ∷ []) (plain_all pop_d refl) (w, plain_all (A_IS_M ∷ M_IS_D ∷ []) refl)
+plain_template rs here (shape.PopWord a) h f w = each_both IsPlain pop_d (Address a ∷ M_IS_D ∷ []) (plain_all pop_d refl) (w, plain_all (M_IS_D ∷ []) refl)
+plain_template rs here shape.Add h f w = plain_all (join M_IS_D_PLUS_M) refl
+plain_template rs here shape.Sub h f w = plain_all (join M_IS_M_MINUS_D) refl
+plain_template rs here shape.And h f w = plain_all (join M_IS_D_AND_M) refl
+plain_template rs here shape.Or h f w = plain_all (join M_IS_D_OR_M) refl
+plain_template rs here shape.Neg h f w = plain_all (turn M_IS_MINUS_M) refl
+plain_template rs here shape.Not h f w = plain_all (turn M_IS_NOT_M) refl
+plain_template rs here shape.Eq h f w = plain_compare_by rs.equal ((here + 4) % 32768) f (omega arith)
+plain_template rs here shape.Gt h f w = plain_compare_by rs.greater ((here + 4) % 32768) f (omega arith)
+plain_template rs here shape.Lt h f w = plain_compare_by rs.less ((here + 4) % 32768) f (omega arith)
+plain_template rs here (shape.Goto t) h f w = (w, plain_all (JUMP ∷ []) refl)
+plain_template rs here (shape.IfGoto t) h f w = each_both IsPlain pop_d (Address t ∷ IF_D_NOT_EQUAL ∷ []) (plain_all pop_d refl) (w, plain_all (IF_D_NOT_EQUAL ∷ []) refl)
+plain_template rs here (shape.Call t n) h f w = plain_call rs.call ((here + 12) % 32768) t n f (omega arith) w.0 w.1
+plain_template rs here (shape.Function n) h f w = plain_function n
+plain_template rs here shape.Return h f w = (f, plain_all (JUMP ∷ []) refl)
 
 numbered_operation : (o : Operation) → IsNumbered (operated o)
 numbered_operation operation.Add = tt
@@ -237,10 +268,11 @@ numbered to (step.Function n) h = tt
 numbered to (step.Call f n) h = (h, omega arith)
 numbered to step.Return h = tt
 
-plain_piece : (base : ℕ) (fs : List LinkedFunction) (c : Placed) → c.at + step_size c.code.step ≤ 32768 → target_of base fs c.function c.code.step < 32768 → Each IsPlain (piece base fs c)
-plain_piece base fs c h t =
+plain_piece : (rs : Routines) (base : ℕ) (fs : List LinkedFunction) (c : Placed) → c.at + step_size c.code.step ≤ 32768 → IsFound rs (routine_for c.code.step) → target_of base fs c.function c.code.step < 32768 → Each IsPlain (piece rs base fs c)
+plain_piece rs base fs c h f t =
     let s = size_to (target_of base fs c.function c.code.step) c.code.step in
-    plain_template c.at (shape_of (target_of base fs c.function c.code.step) c.code.step) (omega arith) (numbered (target_of base fs c.function c.code.step) c.code.step t)
+    plain_template rs c.at (shape_of (target_of base fs c.function c.code.step) c.code.step) (omega arith)
+    (subst (IsFound rs) (sym (routine_to (target_of base fs c.function c.code.step) c.code.step)) f) (numbered (target_of base fs c.function c.code.step) c.code.step t)
 
 each_flat : {A B : Type 0} (P : B → Type 0) (f : A → List B) (xs : List A) → Each (λ x. Each P (f x)) xs → Each P (flat_map f xs)
 unfolding Each
@@ -302,7 +334,8 @@ leads l fits = ⊎_by (cases_Bool (names_end l)) some none
   where
     some : names_end l ≡ true → Leads l
     some e =
-        let n = length_image l ∙ ap (λ b. base_of l + (words_in l.functions + (if b then 1 else 0))) e in
+        let n = length_image l in
+        let some = closing_some l e in
         let low : base_of l + words_in l.functions < 32768 = omega arith in
         record {
           entry = λ b. let w = address_within (base_of l) l.functions (unwrap_or l.start 0) 0 in omega arith;
@@ -311,7 +344,7 @@ leads l fits = ⊎_by (cases_Bool (names_end l)) some none
 
     none : names_end l ≡ false → Leads l
     none e =
-        let n = length_image l ∙ ap (λ b. base_of l + (words_in l.functions + (if b then 1 else 0))) e in
+        let n = length_image l in
         let low : base_of l + words_in l.functions ≤ 32768 = omega arith in
         let parts = or_parts (not l.bare && nat_eq (end_of l) (entry_of l)) (list_any (names (base_of l) l.functions (end_of l)) (program l)) e in
         record {
@@ -322,35 +355,63 @@ leads l fits = ⊎_by (cases_Bool (names_end l)) some none
               (none_each (names (base_of l) l.functions (end_of l)) (program l) parts.1) (every (λ c. Unit {0}) (program l) (λ c. tt));
         }
 
-plain_start : (entry : ℕ) → entry < 32768 → Each IsPlain (start_code entry)
-plain_start entry h =
-    each_both IsPlain set_stack (template 4 (shape.Call entry 0) ++ (template 46 (shape.PopWord 5) ++ endless 51)) (plain_all set_stack refl)
-    (each_both IsPlain (template 4 (shape.Call entry 0)) (template 46 (shape.PopWord 5) ++ endless 51) (plain_call 46 entry 0 (omega arith) h (omega arith))
-    (plain_all (template 46 (shape.PopWord 5) ++ endless 51) refl))
+plain_start : (rs : Routines) (entry : ℕ) → entry < 32768 → rs.call < 32768 → Each IsPlain (start_code rs entry)
+plain_start rs entry h r =
+    each_both IsPlain set_stack (template rs 4 (shape.Call entry 0) ++ (template rs 16 (shape.PopWord 5) ++ endless 21)) (plain_all set_stack refl)
+    (each_both IsPlain (template rs 4 (shape.Call entry 0)) (template rs 16 (shape.PopWord 5) ++ endless 21) (plain_call rs.call 16 entry 0 r (omega arith) h (omega arith))
+    (plain_all (template rs 16 (shape.PopWord 5) ++ endless 21) refl))
+
+plain_closing : (at : ℕ) (c : Closing) → at + closing_size c ≤ 32768 → Each IsPlain (closing_code at c)
+unfolding Each
+plain_closing at closes.Nothing h = tt
+plain_closing at closes.Word h = (omega arith, tt)
+plain_closing at closes.Loop h = (omega arith, (plain JUMP refl, tt))
+
+-- all routines that steps go through have an address
+pub found : (l : Linked) → length (image_of l) ≤ 32768 → (r : Routine) → uses l r ≡ true → routine_at (routines l) r < 32768
+found l fits r u =
+    let p = routine_within l r u in
+    let some = routine_some r in
+    let n = length_with l in
+    omega arith
+
+step_found : (l : Linked) → length (image_of l) ≤ 32768 → (o : Option Routine) → ((r : Routine) → o ≡ Some r → uses l r ≡ true) → IsFound (routines l) o
+step_found l fits None u = tt
+step_found l fits (Some r) u = found l fits r (u r refl)
+
+code_found : (l : Linked) → length (image_of l) ≤ 32768 → (k sub at : ℕ) (cs : List Code) → ((c : Code) (r : Routine) → Contained c cs → routine_for c.step ≡ Some r → uses l r ≡ true) → Each (λ c. IsFound (routines l) (routine_for c.code.step)) (placed_code k sub at cs)
+unfolding Each
+code_found l fits k sub at [] u = tt
+code_found l fits k sub at (c ∷ cs) u = (step_found l fits (routine_for c.step) (λ r e. u c r (inl refl) e), code_found l fits k sub (at + step_size c.step) cs (λ d r i e. u d r (inr i) e))
+
+from_found : (l : Linked) → length (image_of l) ≤ 32768 → (k at : ℕ) (fs : List LinkedFunction) → ((f : LinkedFunction) (c : Code) (r : Routine) → ContainedIn f fs → Contained c f.code → routine_for c.step ≡ Some r → uses l r ≡ true) → Each (λ c. IsFound (routines l) (routine_for c.code.step)) (placed_from k at fs)
+unfolding Each
+from_found l fits k at [] u = tt
+from_found l fits k at (f ∷ fs) u = each_both (λ c. IsFound (routines l) (routine_for c.code.step)) (placed_code k f.number at f.code) (placed_from (k + 1) (at + words_of f.code) fs) (code_found l fits k f.number at f.code (λ c r i e. u f c r (inl refl) i e)) (from_found l fits (k + 1) (at + words_of f.code) fs (λ g c r j i e. u g c r (inr j) i e))
 
 pub plain_image : (l : Linked) → length (image_of l) ≤ 32768 → All (IsReady l.functions) (program l) → All IsPlain (image_of l)
 unfolding Each
 plain_image l fits ready =
     let t = leads l fits in
+    let n = length_with l in
     let r = each_of (IsReady l.functions) (program l) ready in
+    let shared = from_found l fits 0 (base_of l) l.functions (λ f c r j i e. contained_uses l r f c j i e) in
+    let code = flat_map (piece (routines l) (base_of l) l.functions) (program l) in
+    let routines_code = shared_from (shared_at l) (used l) in
     each_all IsPlain (image_of l)
-    (each_both IsPlain (opening l) (flat_map (piece (base_of l) l.functions) (program l) ++ closing l) (front t.entry)
-    (each_both IsPlain (flat_map (piece (base_of l) l.functions) (program l)) (closing l)
-    (each_flat IsPlain (piece (base_of l) l.functions) (program l)
-    (each_map (IsReady l.functions) (λ c. target_of (base_of l) l.functions c.function c.code.step < 32768) (λ c. Each IsPlain (piece (base_of l) l.functions c)) (program l)
-    (λ c a b. plain_piece (base_of l) l.functions c a.fits b) r t.targets))
-    back))
+    (each_both IsPlain (opening l) (code ++ (closing l ++ routines_code)) (front t.entry (λ b. found l fits routine.Call (start_uses l b)))
+    (each_both IsPlain code (closing l ++ routines_code)
+    (each_flat IsPlain (piece (routines l) (base_of l) l.functions) (program l)
+    (each_map (λ c. IsReady l.functions c × IsFound (routines l) (routine_for c.code.step)) (λ c. target_of (base_of l) l.functions c.function c.code.step < 32768) (λ c. Each IsPlain (piece (routines l) (base_of l) l.functions c)) (program l)
+    (λ c a b. plain_piece (routines l) (base_of l) l.functions c (a.0).fits a.1 b) (each_map (IsReady l.functions) (λ c. IsFound (routines l) (routine_for c.code.step)) (λ c. IsReady l.functions c × IsFound (routines l) (routine_for c.code.step)) (program l) (λ c a b. (a, b)) r shared) t.targets))
+    (each_both IsPlain (closing l) routines_code back (plain_shared (shared_at l) (used l) (omega arith)))))
   where
-    front : (l.bare ≡ false → entry_of l < 32768) → Each IsPlain (opening l)
-    front h = by_bare l.bare (entry_of l) h
+    front : (l.bare ≡ false → entry_of l < 32768) → (l.bare ≡ false → (routines l).call < 32768) → Each IsPlain (opening l)
+    front h r = by_bare l.bare (routines l) (entry_of l) h r
       where
-        by_bare : (b : Bool) (e : ℕ) → (b ≡ false → e < 32768) → Each IsPlain (if b then [] else start_code e)
-        by_bare true e h = tt
-        by_bare false e h = plain_start e (h refl)
+        by_bare : (b : Bool) (rs : Routines) (e : ℕ) → (b ≡ false → e < 32768) → (b ≡ false → rs.call < 32768) → Each IsPlain (if b then [] else start_code rs e)
+        by_bare true rs e h r = tt
+        by_bare false rs e h r = plain_start rs e (h refl) (r refl)
 
     back : Each IsPlain (closing l)
-    back = by_end (names_end l)
-      where
-        by_end : (b : Bool) → Each IsPlain (if b then Address 0 ∷ [] else [])
-        by_end true = (omega arith, tt)
-        by_end false = tt
+    back = let n = length_with l in plain_closing (end_of l) (closing_of l) (omega arith)

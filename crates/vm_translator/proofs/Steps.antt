@@ -86,8 +86,8 @@ module _ (address : Option ℕ → ℕ → ℕ) (l : Linked) (v : State) (f : Fr
       let size_is = called_use g n p.0 in
       subst (Carries address (shape.Call to n) here m) a.0 (record {
         shape = (omega arith, omega (arith, p.0, u, r));
-        ready = ((omega arith, omega (arith, sp, size_is, a.2)), omega (arith, p.0, u, sp));
-        leads = λ t c. called_same address v m t s.memory f below g (f.place + 1) n ((here + 42) % 32768) s.frames p.0 (omega (arith, size_is, a.2)) s.after c;
+        ready = (omega arith, omega (arith, sp, size_is, a.2));
+        leads = λ t c. called_same address v m t s.memory f below g (f.place + 1) n ((here + 12) % 32768) s.frames p.0 (omega (arith, size_is, a.2)) s.after c;
         to = target;
       })
     where

@@ -1,5 +1,5 @@
 -- Sums of words, over code and functions and their parts.
-use Rattle.std.proofs.Common.{◌≡◌, ◌+◌, ◌<◌, ◌≤◌, ℕ, zero, suc, List, [], ◌∷◌, length, take, drop, refl, ap, arith, add-one}
+use Rattle.std.proofs.Common.{◌≡◌, ◌+◌, ◌<◌, ◌≤◌, ℕ, zero, suc, List, [], ◌∷◌, length, take, drop, Option, Some, None, refl, ap, sym, subst, arith, add-one}
 use Rattle.vm_tree.specs.declared.command.Operation.{Operation}
 use Rattle.vm_tree.specs.declared.command.Operation.TheVariants as operation
 use Rattle.vm_tree.specs.declared.command.Segment.{Segment}
@@ -8,9 +8,13 @@ use Rattle.vm_link.specs.declared.linked.Step.{Step}
 use Rattle.vm_link.specs.declared.linked.Step.TheVariants as step
 use Rattle.vm_link.specs.declared.linked.Code.{Code}
 use Rattle.vm_link.specs.declared.linked.LinkedFunction.{LinkedFunction}
-use Rattle.hack_blocks.specs.Templates.{size}
-use Rattle.hack_blocks.specs.Budgets.{operation_words, most_words, most_steps}
-use Rattle.hack_blocks.proofs.Budgets.{takes_steps_as_words}
+use Rattle.vm_link.specs.Uniform.{is_comparison, is_shared}
+use Rattle.hack_blocks.specs.declared.routines.Routine.{Routine}
+use Rattle.hack_blocks.specs.declared.shape.Shape.{Shape}
+use Rattle.hack_blocks.specs.Templates.{size, routine_of}
+use Rattle.hack_blocks.specs.Commands.{cycles, cycles_of}
+use Rattle.hack_blocks.specs.Budgets.{operation_words, operation_steps, most_words, most_steps}
+use Rattle.vm_translator.specs.Shared.{compared_by, routine_for, has_routine}
 use Rattle.vm_translator.specs.Shapes.{push_from, pop_to, operated, pushed, popped, shape_of, step_size}
 use Rattle.vm_translator.specs.Places.{words_of, words_in, code_at, address}
 use Rattle.vm_translator.specs.Image.{budget_in, budget_from}
@@ -90,8 +94,115 @@ size_one to s = let b = size_some s in let e = size_to to s in omega arith
 pub size_few : (to : ℕ) (s : Step) → size (shape_of to s) ≤ most_words s
 size_few to s = let b = step_between s in let w = b.within in let e = size_to to s in omega arith
 
+-- the routine of a step's shape, wherever the step leads
+pub routine_to : (to : ℕ) (s : Step) → routine_of (shape_of to s) ≡ routine_for s
+routine_to to (step.Operate o) = compared o
+  where
+    compared : (o : Operation) → routine_of (operated o) ≡ compared_by o
+    compared operation.Add = refl
+    compared operation.Sub = refl
+    compared operation.Neg = refl
+    compared operation.Eq = refl
+    compared operation.Gt = refl
+    compared operation.Lt = refl
+    compared operation.And = refl
+    compared operation.Or = refl
+    compared operation.Not = refl
+routine_to to (step.Push g i) = pushed_none g i
+  where
+    from_none : (base i : ℕ) → routine_of (push_from base i) ≡ None
+    from_none base zero = refl
+    from_none base (suc i) = refl
+
+    pushed_none : (g : Segment) (i : ℕ) → routine_of (pushed g i) ≡ None
+    pushed_none segment.Argument i = from_none 2 i
+    pushed_none segment.Local i = from_none 1 i
+    pushed_none segment.Static i = refl
+    pushed_none segment.Constant i = refl
+    pushed_none segment.This i = from_none 3 i
+    pushed_none segment.That i = from_none 4 i
+    pushed_none segment.Pointer i = refl
+    pushed_none segment.Temp i = refl
+routine_to to (step.Pop g i) = popped_none g i
+  where
+    to_none : (base i : ℕ) → routine_of (pop_to base i) ≡ None
+    to_none base zero = refl
+    to_none base (suc i) = refl
+
+    popped_none : (g : Segment) (i : ℕ) → routine_of (popped g i) ≡ None
+    popped_none segment.Argument i = to_none 2 i
+    popped_none segment.Local i = to_none 1 i
+    popped_none segment.Static i = refl
+    popped_none segment.Constant i = refl
+    popped_none segment.This i = to_none 3 i
+    popped_none segment.That i = to_none 4 i
+    popped_none segment.Pointer i = refl
+    popped_none segment.Temp i = refl
+routine_to to (step.Goto p) = refl
+routine_to to (step.IfGoto p) = refl
+routine_to to (step.Function n) = refl
+routine_to to (step.Call f n) = refl
+routine_to to step.Return = refl
+
+-- a step goes through a routine where it is a call, a return or a comparison
+pub shared_is : (s : Step) → is_shared s ≡ has_routine (routine_for s)
+shared_is (step.Operate o) = compared o
+  where
+    compared : (o : Operation) → is_comparison o ≡ has_routine (compared_by o)
+    compared operation.Add = refl
+    compared operation.Sub = refl
+    compared operation.Neg = refl
+    compared operation.Eq = refl
+    compared operation.Gt = refl
+    compared operation.Lt = refl
+    compared operation.And = refl
+    compared operation.Or = refl
+    compared operation.Not = refl
+shared_is (step.Push g i) = refl
+shared_is (step.Pop g i) = refl
+shared_is (step.Goto p) = refl
+shared_is (step.IfGoto p) = refl
+shared_is (step.Function n) = refl
+shared_is (step.Call f n) = refl
+shared_is step.Return = refl
+
+-- the steps of the computer that a step may take
+operation_cycles : (o : Operation) → cycles_of (size (operated o)) (compared_by o) ≤ operation_steps o
+operation_cycles operation.Add = omega arith
+operation_cycles operation.Sub = omega arith
+operation_cycles operation.Neg = omega arith
+operation_cycles operation.Eq = omega arith
+operation_cycles operation.Gt = omega arith
+operation_cycles operation.Lt = omega arith
+operation_cycles operation.And = omega arith
+operation_cycles operation.Or = omega arith
+operation_cycles operation.Not = omega arith
+
+cycles_for : (to : ℕ) (s : Step) → cycles_of (size (shape_of to s)) (routine_for s) ≤ most_steps s
+cycles_for to (step.Operate o) = operation_cycles o
+cycles_for to (step.Push g i) = size_few to (step.Push g i)
+cycles_for to (step.Pop g i) = size_few to (step.Pop g i)
+cycles_for to (step.Goto p) = omega arith
+cycles_for to (step.IfGoto p) = omega arith
+cycles_for to (step.Function n) = omega arith
+cycles_for to (step.Call f n) = omega arith
+cycles_for to step.Return = omega arith
+
+pub cycles_quick : (to : ℕ) (s : Step) → cycles (shape_of to s) ≤ most_steps s
+cycles_quick to s = subst (λ o. cycles_of (size (shape_of to s)) o ≤ most_steps s) (sym (routine_to to s)) (cycles_for to s)
+
+size_within : (n : ℕ) (o : Option Routine) → n ≤ cycles_of n o
+size_within n None = omega arith
+size_within n (Some r) = omega arith
+
+pub size_cycles : (c : Shape) → size c ≤ cycles c
+size_cycles c = size_within (size c) (routine_of c)
+
 pub size_quick : (to : ℕ) (s : Step) → size (shape_of to s) ≤ most_steps s
-size_quick to s = let w = size_few to s in let e = takes_steps_as_words s in omega arith
+size_quick to s = let a = size_within (size (shape_of to s)) (routine_of (shape_of to s)) in let b = cycles_quick to s in omega arith
+
+pub cycles_some : (to : ℕ) (s : Step) → 1 ≤ cycles (shape_of to s)
+cycles_some to s = let a = size_within (size (shape_of to s)) (routine_of (shape_of to s)) in let b = size_one to s in omega arith
 
 pub words_within : (cs : List Code) → words_of cs ≤ budget_in cs
 words_within [] = omega arith

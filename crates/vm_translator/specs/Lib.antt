@@ -1,6 +1,8 @@
 pub mod Shapes
 pub mod Pieces
 pub mod Places
+pub mod Shared
+pub mod Statics
 pub mod Image
 pub mod Plain
 pub mod Tables
@@ -11,3 +13,4 @@ pub mod Related
 pub mod Mapping
 pub mod Translated
 pub mod Told
+pub mod Seen

@@ -56,8 +56,7 @@ popped segment.That i = pop_to 4 i
 popped segment.Pointer i = shape.PopWord (named (3 + i))
 popped segment.Temp i = shape.PopWord (named (5 + i))
 
--- The shape of a step that leads to this address, where it leads anywhere. A call of more arguments than the stack has words never finds
--- them; its code has as many as an instruction can name.
+-- The shape of a step that leads to this address, where it leads anywhere.
 abbrev pub shape_of : ℕ → Step → Shape
 shape_of to (step.Operate o) = operated o
 shape_of to (step.Push g i) = pushed g i
@@ -65,7 +64,7 @@ shape_of to (step.Pop g i) = popped g i
 shape_of to (step.Goto p) = shape.Goto to
 shape_of to (step.IfGoto p) = shape.IfGoto to
 shape_of to (step.Function n) = shape.Function n
-shape_of to (step.Call f n) = shape.Call to (min n 32762)
+shape_of to (step.Call f n) = shape.Call to (named n)
 shape_of to step.Return = shape.Return
 
 -- how many instructions a step has; where it leads makes no difference

@@ -35,9 +35,9 @@ LeadsWithin fs k (step.Pop g i) = Unit {0}
 LeadsWithin fs k (step.Function n) = Unit {0}
 LeadsWithin fs k step.Return = Unit {0}
 
--- A call can name the words between its arguments and SP.
+-- The number of a call's arguments is one that a text can have.
 abbrev pub IsInLimit : Shape → Type 0
-IsInLimit (shape.Call target arguments) = arguments ≤ 32762
+IsInLimit (shape.Call target arguments) = arguments ≤ 32767
 IsInLimit _ = Unit {0}
 
 -- A placed step can be written.

@@ -1,17 +1,17 @@
 //! The instructions of a step, by its shape.
 ghost use Rattle.std.specs.Prelude.{◌≡◌, ◌≤◌, ◌<◌, ◌+◌, ◌++◌, OnOk, take};
 ghost use Rattle.hack_isa.specs.declared.Instr.{Instr};
-ghost use Rattle.hack_blocks.specs.Templates.{call_code, compare, function_code, go_back, go_to, if_go_to, join, pop_at, pop_d, pop_first, pop_word, push_at, push_constant, push_d, push_first, push_word, put_result, restore, return_code, save_return, set_pointers, size, start_code, template, turn};
+ghost use Rattle.hack_blocks.specs.Templates.{call_by, call_routine, compare, compare_by, compare_routine, endless, function_code, go_back, go_to, if_go_to, join, load, pop_at, pop_d, pop_first, pop_word, push_at, push_constant, push_d, push_first, push_word, put_result, restore, return_code, routine_code, routine_size, save_return, set_pointers, size, start_code, template, turn};
 ghost use Rattle.vm_translator.specs.Tables.{IsInLimit};
 
 use hack_blocks::instructions::{
     A_IS_A_MINUS_1, A_IS_D_MINUS_A, A_IS_D_PLUS_M, A_IS_M, A_IS_M_MINUS_1, AM_IS_M_MINUS_1,
-    AM_IS_M_PLUS_1, D_IS_0, D_IS_1, D_IS_A, D_IS_D_MINUS_A, D_IS_D_MINUS_M, D_IS_D_PLUS_M, D_IS_M,
-    D_IS_M_PLUS_1, D_IS_MINUS_1, IF_D_EQUAL, IF_D_GREATER, IF_D_LESS, IF_D_NOT_EQUAL,
-    IF_D_NOT_LESS, JUMP, M_IS_0, M_IS_D, M_IS_D_AND_M, M_IS_D_OR_M, M_IS_D_PLUS_M, M_IS_M_MINUS_D,
-    M_IS_MINUS_M, M_IS_NOT_M,
+    AM_IS_M_PLUS_1, D_IS_0, D_IS_1, D_IS_A, D_IS_D_MINUS_M, D_IS_D_PLUS_M, D_IS_M, D_IS_M_PLUS_1,
+    D_IS_MINUS_1, D_IS_NOT_A, IF_D_EQUAL, IF_D_GREATER, IF_D_LESS, IF_D_NOT_EQUAL, IF_D_NOT_LESS,
+    JUMP, M_IS_0, M_IS_D, M_IS_D_AND_M, M_IS_D_OR_M, M_IS_D_PLUS_M, M_IS_M_MINUS_D, M_IS_MINUS_M,
+    M_IS_NOT_M,
 };
-use hack_blocks::{ENDLESS_LOOP, Shape};
+use hack_blocks::{ENDLESS_LOOP, Routine, Routines, Shape};
 use hack_isa::Instr;
 use std::alloc::AllocError;
 
@@ -194,17 +194,58 @@ fn if_go_to(out: &mut Vec<Instr>, target: u16) -> Result<(), AllocError>
     put(out, &[Instr::Address(target), IF_D_NOT_EQUAL])
 }
 
-fn set_pointers(out: &mut Vec<Instr>, arguments: u16) -> Result<(), AllocError>
-    requires { arguments ≤ 32762 }
-    ensures { OnOk result (out.new.items ≡ out.old.items ++ set_pointers arguments) }
+// A number goes to D: an instruction names it, or the word with the other bits.
+fn load(out: &mut Vec<Instr>, number: u16) -> Result<(), AllocError>
+    ensures { OnOk result (out.new.items ≡ out.old.items ++ load number) }
+{
+    if number < 32768 {
+        put(out, &[Instr::Address(number), D_IS_A])
+    } else {
+        put(out, &[Instr::Address(!number), D_IS_NOT_A])
+    }
+}
+
+// The call's own instructions, before those of its routine.
+fn call_by(
+    out: &mut Vec<Instr>,
+    routine: u16,
+    back: u16,
+    target: u16,
+    arguments: u16,
+) -> Result<(), AllocError>
+    requires { arguments ≤ 32767 }
+    ensures { OnOk result (out.new.items ≡ out.old.items ++ call_by routine back target arguments) }
+{
+    put(
+        out,
+        &[Instr::Address(target), D_IS_A, Instr::Address(13), M_IS_D],
+    )?;
+    load(out, 5 + arguments)?;
+    put(
+        out,
+        &[Instr::Address(14), M_IS_D, Instr::Address(back), D_IS_A],
+    )?;
+    go_to(out, routine)
+}
+
+// The comparison's own instructions, before those of its routine.
+fn compare_by(out: &mut Vec<Instr>, routine: u16, back: u16) -> Result<(), AllocError>
+    ensures { OnOk result (out.new.items ≡ out.old.items ++ compare_by routine back) }
+{
+    put(out, &[Instr::Address(back), D_IS_A])?;
+    go_to(out, routine)
+}
+
+fn set_pointers(out: &mut Vec<Instr>) -> Result<(), AllocError>
+    ensures { OnOk result (out.new.items ≡ out.old.items ++ set_pointers) }
 {
     put(
         out,
         &[
             Instr::Address(0),
             D_IS_M,
-            Instr::Address(5 + arguments),
-            D_IS_D_MINUS_A,
+            Instr::Address(14),
+            D_IS_D_MINUS_M,
             Instr::Address(2),
             M_IS_D,
             Instr::Address(0),
@@ -215,17 +256,16 @@ fn set_pointers(out: &mut Vec<Instr>, arguments: u16) -> Result<(), AllocError>
     )
 }
 
-fn call_code(out: &mut Vec<Instr>, back: u16, target: u16, arguments: u16) -> Result<(), AllocError>
-    requires { arguments ≤ 32762 }
-    ensures { OnOk result (out.new.items ≡ out.old.items ++ call_code back target arguments) }
+fn call_routine(out: &mut Vec<Instr>) -> Result<(), AllocError>
+    ensures { OnOk result (out.new.items ≡ out.old.items ++ call_routine) }
 {
-    push_constant(out, back)?;
+    push_d(out)?;
     push_word(out, 1)?;
     push_word(out, 2)?;
     push_word(out, 3)?;
     push_word(out, 4)?;
-    set_pointers(out, arguments)?;
-    go_to(out, target)
+    set_pointers(out)?;
+    put(out, &[Instr::Address(13), A_IS_M, JUMP])
 }
 
 fn function_code(out: &mut Vec<Instr>, locals: u16) -> Result<(), AllocError>
@@ -304,11 +344,40 @@ fn return_code(out: &mut Vec<Instr>) -> Result<(), AllocError>
     put(out, &[Instr::Address(14), A_IS_M, JUMP])
 }
 
+// A comparison as a routine: the address to come back to waits in the word 14.
+fn compare_routine(out: &mut Vec<Instr>, jump: Instr, at: u16) -> Result<(), AllocError>
+    requires { at + 43 ≤ 32768 }
+    ensures { OnOk result (out.new.items ≡ out.old.items ++ compare_routine jump at) }
+{
+    put(out, &[Instr::Address(14), M_IS_D])?;
+    compare(out, jump, at + 2)?;
+    put(out, &[Instr::Address(14), A_IS_M, JUMP])
+}
+
+/// Adds the instructions of a routine that stands at this address.
+pub fn routine_code(out: &mut Vec<Instr>, routine: Routine, at: u16) -> Result<(), AllocError>
+    requires { at + routine_size routine ≤ 32768 }
+    ensures { OnOk result (out.new.items ≡ out.old.items ++ routine_code routine at) }
+{
+    match routine {
+        Routine::Call => call_routine(out),
+        Routine::Back => return_code(out),
+        Routine::Equal => compare_routine(out, IF_D_EQUAL, at),
+        Routine::Greater => compare_routine(out, IF_D_GREATER, at),
+        Routine::Less => compare_routine(out, IF_D_LESS, at),
+    }
+}
+
 /// Adds the instructions of a step that stands at this address.
-pub fn template(out: &mut Vec<Instr>, here: u16, shape: Shape) -> Result<(), AllocError>
+pub fn template(
+    out: &mut Vec<Instr>,
+    at: Routines,
+    here: u16,
+    shape: Shape,
+) -> Result<(), AllocError>
     requires room { here + size shape ≤ 32768 }
     requires limit { IsInLimit shape }
-    ensures { OnOk result (out.new.items ≡ out.old.items ++ template here shape) }
+    ensures { OnOk result (out.new.items ≡ out.old.items ++ template at here shape) }
 {
     match shape {
         Shape::PushConstant(number) => push_constant(out, number),
@@ -324,26 +393,35 @@ pub fn template(out: &mut Vec<Instr>, here: u16, shape: Shape) -> Result<(), All
         Shape::Or => join(out, M_IS_D_OR_M),
         Shape::Neg => turn(out, M_IS_MINUS_M),
         Shape::Not => turn(out, M_IS_NOT_M),
-        Shape::Eq => compare(out, IF_D_EQUAL, here),
-        Shape::Gt => compare(out, IF_D_GREATER, here),
-        Shape::Lt => compare(out, IF_D_LESS, here),
+        Shape::Eq => compare_by(out, at.equal, (here + 4) % 32768),
+        Shape::Gt => compare_by(out, at.greater, (here + 4) % 32768),
+        Shape::Lt => compare_by(out, at.less, (here + 4) % 32768),
         Shape::Goto(target) => go_to(out, target),
         Shape::IfGoto(target) => if_go_to(out, target),
-        Shape::Call { target, arguments } => call_code(out, (here + 42) % 32768, target, arguments),
+        Shape::Call { target, arguments } => {
+            call_by(out, at.call, (here + 12) % 32768, target, arguments)
+        }
         Shape::Function { locals } => function_code(out, locals),
-        Shape::Return => return_code(out),
+        Shape::Return => go_to(out, at.back),
     }
 }
 
+/// Adds the endless loop at this address.
+pub fn endless(out: &mut Vec<Instr>, here: u16) -> Result<(), AllocError>
+    ensures { OnOk result (out.new.items ≡ out.old.items ++ endless here) }
+{
+    put(out, &[Instr::Address(here), JUMP])
+}
+
 /// Adds the start code, which calls the function at this address.
-pub fn start_code(out: &mut Vec<Instr>, entry: u16) -> Result<(), AllocError>
-    ensures { OnOk result (out.new.items ≡ out.old.items ++ start_code entry) }
+pub fn start_code(out: &mut Vec<Instr>, at: Routines, entry: u16) -> Result<(), AllocError>
+    ensures { OnOk result (out.new.items ≡ out.old.items ++ start_code at entry) }
 {
     put(
         out,
         &[Instr::Address(256), D_IS_A, Instr::Address(0), M_IS_D],
     )?;
-    call_code(out, 46, entry, 0)?;
+    call_by(out, at.call, 16, entry, 0)?;
     pop_word(out, 5)?;
-    put(out, &[Instr::Address(ENDLESS_LOOP), JUMP])
+    endless(out, ENDLESS_LOOP)
 }

@@ -18,16 +18,31 @@ pub struct PointRange {
     pub point: Point,
 }
 
+/// A static word of a file, by its index there.
+#[derive(Clone, Copy, Debug, PartialEq, Eq)]
+pub struct StaticWord {
+    /// The number of the file, from 0.
+    pub file: usize,
+    pub index: u32,
+    pub address: u16,
+}
+
 /// A program's instructions, from address 0 on, with its map.
 #[derive(Drop)]
 pub struct Coded {
     pub instrs: List<Instr>,
     /// The addresses of the instructions that end a step of the program's meaning, rising.
     pub commits: List<u16>,
-    /// The control points of all addresses, rising.
+    /// The control points of the addresses before the routines, rising.
     pub points: List<PointRange>,
-    /// The addresses of routines that commands share, each from its first up to and without its last. There are none.
+    /// The addresses of routines that commands share, each from its first up to and without the address after its last, rising. They come after those
+    /// that have control points, and have none.
     pub shared: List<(u32, u32)>,
+    /// The addresses of the instructions by which each function is entered, each from the first up to and without the
+    /// address after the last, rising.
+    pub entries: List<(u32, u32)>,
+    /// The static words of all files, rising.
+    pub statics: List<StaticWord>,
 }
 
 /// Why a program has no code.

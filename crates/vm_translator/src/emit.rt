@@ -3,77 +3,104 @@ ghost use Rattle.std.specs.Prelude.{◌≡◌, ◌≤◌, ◌+◌, ◌++◌, ℕ
 ghost use Rattle.std.specs.List.{flat_map};
 ghost use Rattle.vm_link.specs.declared.linked.LinkedFunction.{LinkedFunction};
 ghost use Rattle.vm_link.specs.Sound.{IsSound};
-ghost use Rattle.vm_translator.specs.Image.{closing, image_of, names_end, opening, piece};
+ghost use Rattle.vm_translator.specs.Image.{closing, closing_code, closing_of, image_of, opening, piece, routines, shared_at};
 ghost use Rattle.vm_translator.specs.Places.{base_of, end_of};
 ghost use Rattle.vm_translator.specs.Shapes.{step_size};
+ghost use Rattle.vm_translator.specs.Shared.{used, words_shared};
 ghost use Rattle.vm_translator.specs.Tables.{IsLayout, IsReady};
 
-use crate::blocks::{put, start_code, template};
-use crate::ends::start_of;
+use crate::blocks::{endless, put, start_code, template};
+use crate::ends::{Closing, start_of};
 use crate::layout::{Layout, Placed};
 use crate::shapes::shape_of;
+use crate::shared::{add_shared, routines};
+use hack_blocks::{Routine, Routines};
 use hack_isa::Instr;
 use std::alloc::{AllocError, Global};
 use vm_link::Linked;
 
-fn add_step(out: &mut Vec<Instr>, layout: &Layout, placed: &Placed) -> Result<(), AllocError>
+fn add_step(
+    out: &mut Vec<Instr>,
+    at: Routines,
+    layout: &Layout,
+    placed: &Placed,
+) -> Result<(), AllocError>
     requires { placed.now.at + step_size placed.now.code.step ≤ 32768 }
-    ensures { OnOk result ((base : ℕ) (fs : List LinkedFunction) → IsLayout base fs layout.now → IsReady fs placed.now → out.new.items ≡ out.old.items ++ piece base fs placed.now) }
+    ensures { OnOk result ((base : ℕ) (fs : List LinkedFunction) → IsLayout base fs layout.now → IsReady fs placed.now → out.new.items ≡ out.old.items ++ piece at base fs placed.now) }
 {
     let to = layout.target(placed.function, placed.code.step);
     let shape = shape_of(to, placed.code.step);
-    template(out, placed.at, shape)
+    template(out, at, placed.at, shape)
 }
 
-fn add_steps(out: &mut Vec<Instr>, linked: &Linked, layout: &Layout) -> Result<(), AllocError>
+fn add_steps(
+    out: &mut Vec<Instr>,
+    at: Routines,
+    linked: &Linked,
+    layout: &Layout,
+) -> Result<(), AllocError>
     requires layout { IsLayout (base_of linked.now) linked.now.functions layout.now }
     requires ready { All (IsReady linked.now.functions) layout.now.placed.items }
-    ensures { OnOk result (out.new.items ≡ out.old.items ++ flat_map (piece (base_of linked.now) linked.now.functions) layout.now.placed.items) }
+    ensures { OnOk result (out.new.items ≡ out.old.items ++ flat_map (piece at (base_of linked.now) linked.now.functions) layout.now.placed.items) }
 {
     for placed in &layout.placed {
-        add_step(out, layout, placed)?;
+        add_step(out, at, layout, placed)?;
     }
     Ok(())
 }
 
-fn add_opening(out: &mut Vec<Instr>, linked: &Linked, layout: &Layout) -> Result<(), AllocError>
+fn add_opening(
+    out: &mut Vec<Instr>,
+    at: Routines,
+    linked: &Linked,
+    layout: &Layout,
+) -> Result<(), AllocError>
     requires layout { IsLayout (base_of linked.now) linked.now.functions layout.now }
     requires sound { IsSound linked.now }
+    requires at { at ≡ routines linked.now }
     ensures { OnOk result (out.new.items ≡ out.old.items ++ opening linked.now) }
 {
     if linked.bare {
         return Ok(());
     }
     let entry = layout.address(start_of(linked), 0);
-    start_code(out, entry)
+    start_code(out, at, entry)
 }
 
-fn add_closing(out: &mut Vec<Instr>, linked: &Linked, ends: bool) -> Result<(), AllocError>
-    requires { ends ≡ names_end linked.now }
-    ensures { OnOk result (out.new.items ≡ out.old.items ++ closing linked.now) }
+// What closes the code, at the address behind it.
+fn add_closing(out: &mut Vec<Instr>, closing: Closing, end: u16) -> Result<(), AllocError>
+    ensures { OnOk result (out.new.items ≡ out.old.items ++ closing_code end closing) }
 {
-    if ends {
-        return put(out, &[Instr::Address(0)]);
+    match closing {
+        Closing::Nothing => Ok(()),
+        Closing::Word => put(out, &[Instr::Address(0)]),
+        Closing::Loop => endless(out, end),
     }
-    Ok(())
 }
 
-/// The instructions of a program, and a word more where the end of the code is named.
+/// The instructions of a program, what closes them, and the routines.
 pub fn instrs(
     alloc: Global,
     linked: &Linked,
     layout: &Layout,
-    ends: bool,
+    closing: Closing,
+    shared: &[Routine],
+    from: u16,
 ) -> Result<Vec<Instr>, AllocError>
     requires layout { IsLayout (base_of linked.now) linked.now.functions layout.now }
     requires sound { IsSound linked.now }
     requires ready { All (IsReady linked.now.functions) layout.now.placed.items }
-    requires ends { ends ≡ names_end linked.now }
+    requires closing { closing ≡ closing_of linked.now }
+    requires used { shared.now ≡ used linked.now }
+    requires from { from ≡ shared_at linked.now }
+    requires fits { from + words_shared shared.now ≤ 32768 }
     ensures { IfOk result (λ v. v.items ≡ image_of linked.now) }
 {
+    let at = routines(shared, from);
     let mut out = Vec::new(alloc);
-    add_opening(&mut out, linked, layout)?;
-    add_steps(&mut out, linked, layout)?;
-    add_closing(&mut out, linked, ends)?;
+    add_opening(&mut out, at, linked, layout)?;
+    add_steps(&mut out, at, linked, layout)?;
+    add_closing(&mut out, closing, layout.end)?;
+    add_shared(&mut out, shared, from)?;
     Ok(out)
 }

@@ -1,13 +1,37 @@
-//! What names the end of a program's code, and how many words the program has.
+//! What names the end of a program's code, what closes the code, and how many words the program has.
 ghost use Rattle.std.specs.Prelude.{◌≡◌, ◌≤◌, ◌+◌, ◌-◌, ◌^◌, ◌<◌, ◌&&◌, not, nat_eq, length, min, unwrap_or, if◌then◌else◌};
 ghost use Rattle.hack_blocks.specs.Templates.{start_size};
 ghost use Rattle.vm_translator.specs.Places.{words_in, words_of};
+ghost use Rattle.vm_translator.specs.Shared.{used, words_shared};
 ghost use Rattle.vm_translator.specs.Tables.{IsFilled, code_names_end, functions_name_end, is_end, step_names_end};
-ghost use Rattle.vm_translator.specs.Image.{image_of, names_end};
+ghost use Rattle.vm_translator.specs.Image.{closing_of, closing_size, image_of, names_end, shared_at};
 
 use crate::shapes::step_size;
-use hack_blocks::START_SIZE;
+use hack_blocks::{Routine, START_SIZE};
 use vm_link::{Code, Linked, LinkedFunction, Step};
+
+/// What stands behind the functions of a program, before the routines.
+#[derive(Clone, Copy, Debug, PartialEq, Eq)]
+pub enum Closing {
+    Nothing,
+    /// One word 0.
+    Word,
+    /// An endless loop.
+    Loop,
+}
+
+impl Closing {
+    /// How many words it has.
+    pub fn size(self) -> u16
+        ensures { result ≡ closing_size self }
+    {
+        match self {
+            Closing::Nothing => 0,
+            Closing::Word => 1,
+            Closing::Loop => 2,
+        }
+    }
+}
 
 // The number of functions that are filled after one more, whose number this is.
 fn filled_with(filled: usize, number: usize, function: &LinkedFunction) -> usize
@@ -109,9 +133,9 @@ fn start_names_end(linked: &Linked, filled: usize) -> bool
     !linked.bare && is_end(linked.functions.as_slice(), filled, start_of(linked), 0)
 }
 
-/// Whether some step, or the start code, names the address of the end of the code.
+// Whether some step, or the start code, names the address of the end of the code.
 #[tactic(auto, using(crate::proofs::EndLemmas::names_by))]
-pub fn names_end(linked: &Linked) -> bool
+fn names_end(linked: &Linked) -> bool
     ensures { result ≡ names_end linked.now }
 {
     let functions = linked.functions.as_slice();
@@ -119,6 +143,20 @@ pub fn names_end(linked: &Linked) -> bool
     let starts = start_names_end(linked, filled);
     let steps = functions_name_end(functions, filled);
     starts || steps
+}
+
+/// What closes the code of a program that goes through these routines.
+pub fn closing_of(linked: &Linked, shared: &[Routine]) -> Closing
+    requires { shared.now ≡ used linked.now }
+    ensures { result ≡ closing_of linked.now }
+{
+    if linked.bare && !shared.is_empty() {
+        Closing::Loop
+    } else if names_end(linked) {
+        Closing::Word
+    } else {
+        Closing::Nothing
+    }
 }
 
 fn add_words(total: u64, code: &[Code]) -> u64
@@ -149,12 +187,20 @@ pub fn base_of(bare: bool) -> u16
     if bare { 0 } else { START_SIZE }
 }
 
-/// The words of a program, or 2^64 - 1 where they are more.
-#[tactic(auto, using(crate::proofs::Sizes::length_image))]
-pub fn words(linked: &Linked, ends: bool) -> u64
-    requires { ends ≡ names_end linked.now }
-    ensures { result ≡ min (length (image_of linked.now)) (2 ^ 64 - 1) }
+// The words of a program up to the routines, or 2^64 - 1 where they are more.
+fn code_words(linked: &Linked, closing: Closing) -> u64
+    requires { closing ≡ closing_of linked.now }
+    ensures { result ≡ min (shared_at linked.now) (2 ^ 64 - 1) }
 {
     let words = count(linked.functions.as_slice(), base_of(linked.bare) as u64);
-    if ends { words.saturating_add(1) } else { words }
+    words.saturating_add(closing.size() as u64)
+}
+
+/// The words of a program, or 2^64 - 1 where they are more.
+pub fn words(linked: &Linked, closing: Closing, shared: u16) -> u64
+    requires closing { closing ≡ closing_of linked.now }
+    requires shared { shared ≡ words_shared (used linked.now) }
+    ensures { result ≡ min (length (image_of linked.now)) (2 ^ 64 - 1) }
+{
+    code_words(linked, closing).saturating_add(shared as u64)
 }

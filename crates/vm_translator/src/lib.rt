@@ -9,8 +9,10 @@ mod laws;
 mod layout;
 mod map;
 mod shapes;
+mod shared;
+mod statics;
 mod translating;
 
-pub use coded::{CodeFault, Coded, PointRange};
-pub use laws::{pieces_law, steps_carry_law, translated_law};
+pub use coded::{CodeFault, Coded, PointRange, StaticWord};
+pub use laws::{pieces_law, seen_law, steps_carry_law, translated_law};
 pub use translating::{size_law, translate};

@@ -2,36 +2,74 @@
 ghost use Rattle.std.specs.Prelude.{◌≡◌, ◌≤◌, ◌+◌, ◌++◌, [], ◌∷◌, All, IfOk, OnOk, if◌then◌else◌};
 ghost use Rattle.std.specs.List.{filter_map};
 ghost use Rattle.hack_blocks.specs.Templates.{endless_loop, start_size};
-ghost use Rattle.vm_translator.specs.Image.{commit_of, commits_of, names_end, points_of, range_of, same_point, start_commits, start_ranges, stretched, merged};
+ghost use Rattle.vm_translator.specs.Image.{commit_of, commits_of, entries_of, entry_range, points_of, range_of, same_point, shared_at, shared_commits, start_commits, start_ranges, stretched, merged};
 ghost use Rattle.vm_translator.specs.Places.{base_of, program};
 ghost use Rattle.vm_translator.specs.Shapes.{step_size};
+ghost use Rattle.vm_translator.specs.Shared.{used, words_shared};
 ghost use Rattle.vm_translator.specs.Tables.{IsLayout, IsReady, added};
 
 use crate::PointRange;
 use crate::layout::{Layout, Placed};
-use crate::shapes::step_size;
-use hack_blocks::{ENDLESS_LOOP, START_SIZE};
+use crate::shapes::{is_shared, step_size};
+use crate::shared::add_lasts;
+use hack_blocks::{ENDLESS_LOOP, Routine, START_SIZE};
 use outer_world::Point;
 use std::alloc::{AllocError, Global};
-use vm_link::Linked;
+use vm_link::{Linked, Step};
 
-// The last addresses of the start code's call and of its `pop temp 0`, which are commits where the program has some.
+// The last address of the start code's `pop temp 0`, which is a commit where the program has some.
 fn start_commits(alloc: Global, linked: &Linked) -> Result<Vec<u16>, AllocError>
     ensures { IfOk result (λ v. v.items ≡ start_commits linked.now) }
 {
     let mut commits = Vec::new(alloc);
     if !linked.bare && linked.marked {
-        commits.push(45)?;
-        commits.push(50)?;
+        commits.push(20)?;
     }
     Ok(commits)
 }
 
 /// The addresses of commits, rising.
-pub fn commits(alloc: Global, linked: &Linked, layout: &Layout) -> Result<Vec<u16>, AllocError>
+pub fn commits(
+    alloc: Global,
+    linked: &Linked,
+    layout: &Layout,
+    shared: &[Routine],
+    from: u16,
+) -> Result<Vec<u16>, AllocError>
     requires placed { layout.now.placed.items ≡ program linked.now }
     requires ready { All (IsReady linked.now.functions) layout.now.placed.items }
+    requires used { shared.now ≡ used linked.now }
+    requires from { from ≡ shared_at linked.now }
+    requires fits { from + words_shared shared.now ≤ 32768 }
     ensures { IfOk result (λ v. v.items ≡ commits_of linked.now) }
+{
+    let mut commits = own_commits(alloc, linked, layout)?;
+    add_shared_commits(&mut commits, linked, shared, from)?;
+    Ok(commits)
+}
+
+// The commits of the routines, in a program that has commits.
+fn add_shared_commits(
+    commits: &mut Vec<u16>,
+    linked: &Linked,
+    shared: &[Routine],
+    from: u16,
+) -> Result<(), AllocError>
+    requires used { shared.now ≡ used linked.now }
+    requires from { from ≡ shared_at linked.now }
+    requires fits { from + words_shared shared.now ≤ 32768 }
+    ensures { OnOk result (commits.new.items ≡ commits.old.items ++ shared_commits linked.now) }
+{
+    if linked.marked {
+        return add_lasts(commits, shared, from);
+    }
+    Ok(())
+}
+
+// Those of the start code and of the steps' own instructions.
+fn own_commits(alloc: Global, linked: &Linked, layout: &Layout) -> Result<Vec<u16>, AllocError>
+    requires { All (IsReady linked.now.functions) layout.now.placed.items }
+    ensures { IfOk result (λ v. v.items ≡ start_commits linked.now ++ filter_map commit_of layout.now.placed.items) }
 {
     let mut commits = start_commits(alloc, linked)?;
     for placed in &layout.placed {
@@ -42,12 +80,12 @@ pub fn commits(alloc: Global, linked: &Linked, layout: &Layout) -> Result<Vec<u1
     Ok(commits)
 }
 
-// The last address of a step that is a commit.
+// The last address of a step that is a commit, where the step goes through no routine.
 fn commit_of(placed: &Placed) -> Option<u16>
     requires { placed.now.at + step_size placed.now.code.step ≤ 32768 }
     ensures { result ≡ commit_of placed.now }
 {
-    if placed.code.commit {
+    if placed.code.commit && !is_shared(placed.code.step) {
         Some(placed.at + (step_size(placed.code.step) - 1) as u16)
     } else {
         None
@@ -125,31 +163,55 @@ fn stretch(points: &mut Vec<PointRange>, to: u32)
     }
 }
 
-// A word that is added is in the last range.
-fn close(points: &mut Vec<PointRange>, ends: bool, end: u16)
-    ensures { points.new.items ≡ (if ends then stretched (end + 1) points.old.items else points.old.items) }
-{
-    if ends {
-        stretch(points, end as u32 + 1);
-    }
-}
-
-/// The control points of all addresses, rising.
+/// The control points of all addresses before the routines, which stand from an address on, rising.
 pub fn points(
     alloc: Global,
     linked: &Linked,
     layout: &Layout,
-    ends: bool,
+    from: u16,
 ) -> Result<Vec<PointRange>, AllocError>
     requires layout { IsLayout (base_of linked.now) linked.now.functions layout.now }
     requires ready { All (IsReady linked.now.functions) layout.now.placed.items }
-    requires ends { ends ≡ names_end linked.now }
+    requires from { from ≡ shared_at linked.now }
     ensures { IfOk result (λ v. v.items ≡ points_of linked.now) }
 {
     let mut points = start_points(alloc, linked.bare)?;
     for placed in &layout.placed {
         add_range(&mut points, range_of(placed))?;
     }
-    close(&mut points, ends, layout.end);
+    stretch(&mut points, from as u32);
     Ok(points)
+}
+
+// The addresses of a step by which a function is entered.
+fn entry_range(placed: &Placed) -> Option<(u32, u32)>
+    requires { placed.now.at + step_size placed.now.code.step ≤ 32768 }
+    ensures { result ≡ entry_range placed.now }
+{
+    match placed.code.step {
+        Step::Function(_) => {
+            let from = placed.at as u32;
+            Some((from, from + step_size(placed.code.step)))
+        }
+        _ => None,
+    }
+}
+
+/// The addresses by which functions are entered, rising.
+pub fn entries(
+    alloc: Global,
+    linked: &Linked,
+    layout: &Layout,
+) -> Result<Vec<(u32, u32)>, AllocError>
+    requires placed { layout.now.placed.items ≡ program linked.now }
+    requires ready { All (IsReady linked.now.functions) layout.now.placed.items }
+    ensures { IfOk result (λ v. v.items ≡ entries_of linked.now) }
+{
+    let mut entries = Vec::new(alloc);
+    for placed in &layout.placed {
+        if let Some(range) = entry_range(placed) {
+            entries.push(range)?;
+        }
+    }
+    Ok(entries)
 }

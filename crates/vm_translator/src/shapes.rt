@@ -1,9 +1,11 @@
 //! The shapes of steps, and their sizes.
 ghost use Rattle.std.specs.Prelude.{◌≡◌, ◌<◌, ◌≤◌};
 ghost use Rattle.hack_blocks.specs.Templates.{size};
+ghost use Rattle.vm_link.specs.Uniform.{is_shared};
+ghost use Rattle.vm_translator.specs.Shared.{compared_by, routine_for};
 ghost use Rattle.vm_translator.specs.Shapes.{named, operated, push_from, pop_to, pushed, popped, shape_of, step_size};
 
-use hack_blocks::Shape;
+use hack_blocks::{Routine, Shape};
 use vm_link::Step;
 use vm_tree::{Operation, Segment};
 
@@ -101,9 +103,44 @@ pub fn shape_of(to: u16, step: Step) -> Shape
         Step::Function(locals) => Shape::Function { locals },
         Step::Call(_, arguments) => Shape::Call {
             target: to,
-            arguments: arguments.min(32762),
+            arguments: named(arguments),
         },
         Step::Return => Shape::Return,
+    }
+}
+
+// The routine that an operation goes through.
+fn compared_by(operation: Operation) -> Option<Routine>
+    ensures { result ≡ compared_by operation }
+{
+    match operation {
+        Operation::Eq => Some(Routine::Equal),
+        Operation::Gt => Some(Routine::Greater),
+        Operation::Lt => Some(Routine::Less),
+        _ => None,
+    }
+}
+
+/// The routine that a step goes through.
+pub fn routine_for(step: Step) -> Option<Routine>
+    ensures { result ≡ routine_for step }
+{
+    match step {
+        Step::Operate(operation) => compared_by(operation),
+        Step::Call(_, _) => Some(Routine::Call),
+        Step::Return => Some(Routine::Back),
+        _ => None,
+    }
+}
+
+/// Whether a step is a call, a return or a comparison.
+pub fn is_shared(step: Step) -> bool
+    ensures { result ≡ is_shared step }
+{
+    match step {
+        Step::Operate(Operation::Eq | Operation::Gt | Operation::Lt) => true,
+        Step::Call(_, _) | Step::Return => true,
+        _ => false,
     }
 }
 
@@ -143,13 +180,14 @@ pub fn step_size(step: Step) -> u32
 {
     match step {
         Step::Operate(Operation::Neg | Operation::Not) => 3,
-        Step::Operate(Operation::Eq | Operation::Gt | Operation::Lt) => 38,
+        Step::Operate(Operation::Eq | Operation::Gt | Operation::Lt) => 4,
         Step::Operate(_) => 5,
         Step::Push(segment, index) => push_size(segment, index),
         Step::Pop(segment, index) => pop_size(segment, index),
         Step::Goto(_) => 2,
         Step::IfGoto(_) => 5,
         Step::Function(locals) => 4 * locals as u32 + 1,
-        Step::Call(_, _) | Step::Return => 42,
+        Step::Call(_, _) => 12,
+        Step::Return => 2,
     }
 }

@@ -8,4 +8,4 @@ build_linked-requires-clause-starts c = linked_bare false (files_of c.args.core.
 
 pub returns-in-Ok : goal.returns-in-Ok
 returns-in-Ok c =
-    built c.args.core.now c.in-Ok.linked c.in-Ok.ensures.links c.build_linked.result c.build_linked.ensures.program c.build_linked.ensures.fits c.build_linked.ensures.unbuilt
+    built c.args.core.now c.in-Ok.linked c.in-Ok.ensures.links c.build_linked.result c.build_linked.ensures.built c.build_linked.ensures.fits c.build_linked.ensures.unbuilt

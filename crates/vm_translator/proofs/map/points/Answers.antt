@@ -9,5 +9,5 @@ loop-placed-preserved c =
 
 pub returns : goal.returns
 returns c =
-    points_done c.args.linked.now c.args.layout.now c.args.ends c.loop-placed.placed-index c.loop-placed.points.items c.close.new.points.items
-    c.requires.layout (rw c.deref-placed-items.ensures.value at c.loop-placed-test.false) c.loop-placed.invariant c.requires.ends c.close.ensures
+    points_done c.args.linked.now c.args.layout.now c.args.from c.loop-placed.placed-index c.loop-placed.points.items c.stretch.new.points.items
+    c.requires.layout (rw c.deref-placed-items.ensures.value at c.loop-placed-test.false) c.loop-placed.invariant c.requires.from c.stretch.ensures

@@ -7,5 +7,5 @@ pub returns-clause-tallied : goal.returns-clause-tallied
 returns-clause-tallied c = λ pc zero_is. record {
   here = sym zero_is;
   counted = refl;
-  seen = ap (point_in c.args.points) zero_is ∙ place_first c.args.points c.args.words c.requires.covers c.requires.some;
+  seen = ap (point_in c.args.points) zero_is ∙ place_first c.args.points c.requires.0 c.requires.2 c.requires.1;
 }
