@@ -1,0 +1,11 @@
+-- The lines of the variables so far have been handed to the buffer.
+use Rattle.std.proofs.Common.{◌≡◌, drop, take}
+use Rattle.std.specs.List.{flat_map}
+use Rattle.jack_debug.proofs.Prints.{Prints}
+use Rattle.jack_debug.specs.Text.{variable_line}
+use Rattle.jack_debug.proofs.printing.put_variables.Given as goal
+
+abbrev pub invariant-loop-variable : goal.invariant-loop-variable
+invariant-loop-variable g l = (l.out.sink.ghost_name ≡ l.fn.out.sink.ghost_name)
+    × Prints (flat_map (variable_line l.what) l.variables) (flat_map (variable_line l.what) (drop l.variable-index l.variables)) (g.S.Sink.written l.fn.out.sink.now) (take l.fn.out.len l.fn.out.buffer)
+    (g.S.Sink.written l.out.sink.now) (take l.out.len l.out.buffer) (g.S.Sink.faults l.fn.out.sink.now) (g.S.Sink.faults l.out.sink.now)

@@ -1,0 +1,93 @@
+//! Where the parts of a program's image are, and the names of its variables.
+ghost use Rattle.std.specs.Prelude.{◌≡◌, ℕ, List, MatchOption, Some, None, slice_get, get_or, codes};
+ghost use Rattle.jack_debug.specs.Walk.{is_in, point_in, sub_at, name_of};
+
+use jack_tree::Form;
+use outer_world::{List, Name, Point};
+
+/// The addresses from one up to and without another, and the control point that they have.
+#[derive(Clone, Copy, Debug, PartialEq, Eq)]
+pub struct PlacedRange {
+    pub from: u32,
+    pub to: u32,
+    pub point: Point,
+}
+
+impl PlacedRange {
+    /// Whether an address is one of these.
+    pub fn contains(&self, a: u16) -> bool
+        ensures { result ≡ is_in self.now.from self.now.to a }
+    {
+        self.from <= a as u32 && (a as u32) < self.to
+    }
+}
+
+/// A subroutine: its name, its class among the classes, the names of its arguments, without a method's object, and of its
+/// locals. Its entry code, which makes the locals, has the addresses from one up to and without another.
+#[derive(Drop)]
+pub struct SubPlaces {
+    pub name: Name,
+    pub form: Form,
+    pub class: u32,
+    pub arguments: List<Name>,
+    pub locals: List<Name>,
+    pub from: u32,
+    pub to: u32,
+}
+
+/// A static, and the address of its word, where it has one.
+#[derive(Drop)]
+pub struct PlacedStatic {
+    pub name: Name,
+    pub address: Option<u16>,
+}
+
+/// A class: its name and its statics, in order of declaration.
+#[derive(Drop)]
+pub struct ClassPlaces {
+    pub name: Name,
+    pub statics: List<PlacedStatic>,
+}
+
+/// The places of a program: the ranges of its image in order of address, its subroutines and its classes. A point's
+/// subroutine is 0 for `start`, and k + 1 for the one of index k here. A subroutine's class is told by its index.
+#[derive(Drop)]
+pub struct Places {
+    pub ranges: List<PlacedRange>,
+    pub subs: List<SubPlaces>,
+    pub classes: List<ClassPlaces>,
+}
+
+impl Places {
+    /// The control point of an address, where it has one.
+    pub fn point(&self, a: u16) -> Option<Point>
+        ensures { result ≡ point_in self.now.ranges a }
+    {
+        for range in self.ranges.as_slice() {
+            if range.contains(a) {
+                return Some(range.point);
+            }
+        }
+        None
+    }
+
+    /// The subroutine of a number, where it has variables: `start`, which is 0, has none.
+    pub fn sub(&self, number: u32) -> Option<&SubPlaces>
+        ensures { MatchOption result (sub_at self.now number ≡ None) (λ s. sub_at self.now number ≡ Some s.now) }
+    {
+        if number == 0 {
+            return None;
+        }
+        self.subs.as_slice().get(number as usize - 1)
+    }
+
+    /// The name of a subroutine.
+    pub fn name(&self, number: u32) -> &str
+        ensures { result.now ≡ name_of (sub_at self.now number) number }
+    {
+        match self.sub(number) {
+            Some(sub) => sub.name.as_str(),
+            None => if number == 0 { "start" } else { "" },
+        }
+    }
+}

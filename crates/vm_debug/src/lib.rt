@@ -1,0 +1,36 @@
+//! What the debugger knows of a program: the places of its image, with the names of its text; and laws of what it shows of a computer
+//! whose memory holds a state of the virtual machine, and of the state of the program's meaning that it matches.
+#![tactic(auto)]
+
+ghost use Rattle.vm_debug.specs.Debugged.{DebuggedLaw, DebuggedProgramLaw};
+ghost use Rattle.vm_debug.specs.Program.{PlacesLaw};
+ghost use Rattle.vm_debug.specs.Laws.{ViewOfLaw, WalkOfLaw};
+
+mod places;
+
+pub use places::places_of;
+
+/// Law: where the memory holds a state, and the places are those of the image, the walk of the memory's words is the view of the
+/// state.
+pub fn walk_of_law()
+    ensures { WalkOfLaw }
+{}
+
+/// Law: where the memory holds a state that matches one of the program's meaning, the walk of the memory's words is the view of the
+/// meaning's state.
+pub fn view_of_law()
+    ensures { ViewOfLaw }
+{}
+
+/// Law: the places of a program's classes, of its linked code and of its image are those of the program, and name its variables.
+pub fn places_law()
+    ensures { PlacesLaw }
+{}
+
+/// Law: just after a commit, as long as the meaning is tame, the debugger's walk of the computer's words is the view of the
+/// meaning's state: its point, `this`, arguments, locals, statics and callers. So it is with any places of the image, and with
+/// the places of the program.
+pub fn debugged_law()
+    ensures image { DebuggedLaw }
+    ensures program { DebuggedProgramLaw }
+{}
