@@ -1,0 +1,4 @@
+pub mod Closure
+pub mod Statics
+pub mod Budgets
+pub mod EachFolder
