@@ -1,20 +1,22 @@
 -- A program of the instruction machine has at most 32,768 words; and what its readers say.
 use Rattle.std.proofs.Common.{◌≡◌, ◌≤◌, ◌-◌, ℕ, Bool, true, false, List, [], ◌∷◌, Option, Some, None, Result, Ok, Err, length, refl, sym, ◌∙◌, ap, inl, inr, arith, if◌then◌else◌, Vec, Global}
-use Rattle.std.specs.Prelude.{nat_lt, IfOk, IfErr}
+use Rattle.std.specs.Prelude.{nat_lt, option_map, IfOk, IfErr}
 use Rattle.std.proofs.lemmas.Bool.Decides.{nat_tests}
 use Rattle.scan_text.specs.declared.Place.{Place}
-use Rattle.hack_asm.specs.Faults.{Wrong, TooLarge, TooManyVariables}
+use Rattle.hack_asm.specs.Faults.{Wrong, TooLarge, TooManyVariables, wrong_of}
 use Rattle.hack_asm.specs.Trees.{Line, number, symbol, label, address, compute}
-use Rattle.hack_asm.specs.Meaning.{Means, IsRefusal}
+use Rattle.hack_asm.specs.Meaning.{Means, MeansWrong, IsRefusal}
 use Rattle.hack_asm.specs.declared.fault.AsmFault.{AsmFault}
+use Rattle.hack_asm.specs.declared.fault.AsmFault.TheVariants as asm
+use Rattle.outer_world.specs.Refusals.{Message}
 use Rattle.hack_asm.specs.Program.{Table, first_past, if_near, labelled, labels, size, variables, words}
-use Rattle.hack_asm.specs.HackText.{Holds, IsRefusal as IsNoImage, words_of}
+use Rattle.hack_asm.specs.HackText.{Holds, HoldsWrong, IsRefusal as IsNoImage, words_of}
 use Rattle.source_files.specs.Loads.{IsWhy, text_error}
 use Rattle.source_files.specs.declared.error.TextError.{TextError}
 use Rattle.source_files.proofs.Told.{why_told}
 use Rattle.hack_asm.specs.Told.{asm_told}
-use Rattle.nand_cli.specs.Languages.{IsRefused, RefusesWords, SpellsWords}
-use Rattle.nand_cli.specs.Inner.Parts.{ReadsWords}
+use Rattle.nand_cli.specs.Languages.{RefusesWords, SpellsWords, wrong_told}
+use Rattle.nand_cli.specs.Inner.Parts.{IsRefused, ReadsWords}
 use Rattle.nand_cli.specs.declared.languages.Form.{Form}
 use Rattle.nand_cli.specs.declared.languages.Form.TheVariants.{Assembly, Image}
 
@@ -78,6 +80,27 @@ pub read_image : (text : List ℕ) (r : Result (Vec ℕ Global) AsmFault) → If
 read_image text (Ok v) h k = h
 read_image text (Err e) h k = k
 
+-- what is told of a fault of the code
+told_by : (fault : AsmFault) → asm_told fault ≡ option_map wrong_told (wrong_of fault)
+told_by (asm.Grammar at) = refl
+told_by (asm.Range at value) = refl
+told_by (asm.LabelTwice name at) = refl
+told_by (asm.TooLarge words) = refl
+told_by (asm.TooManyVariables count) = refl
+told_by asm.Memory = refl
+
+assembly_refused : (text : List ℕ) (o : Option Wrong) (told : Message) → MeansWrong text o → option_map wrong_told o ≡ Some told → RefusesWords Assembly text told
+assembly_refused text None told h e = absurd (let no : ⊥ = cc in no)
+assembly_refused text (Some w) told h e = (w, h, (let same : told ≡ wrong_told w = cc in same))
+
+image_refused : (text : List ℕ) (o : Option Wrong) (told : Message) → HoldsWrong text o → option_map wrong_told o ≡ Some told → RefusesWords Image text told
+image_refused text None told h e = absurd (let no : ⊥ = cc in no)
+image_refused text (Some w) told h e = (w, h, (let same : told ≡ wrong_told w = cc in same))
+
+refused_as : (form : Form) (text : List ℕ) (fault : AsmFault) (told : Message) → IsRefused form text fault → asm_told fault ≡ Some told → RefusesWords form text told
+refused_as Assembly text fault told h e = assembly_refused text (wrong_of fault) told h (sym (told_by fault) ∙ e)
+refused_as Image text fault told h e = image_refused text (wrong_of fault) told h (sym (told_by fault) ∙ e)
+
 -- what is told of a text that is not that of a program
 pub told_why : (form : Form) (text : List ℕ) (fault : AsmFault) (e : TextError) → IsRefused form text fault → e ≡ text_error (asm_told fault) → IsWhy (RefusesWords form text) e
-told_why form text fault e h k = why_told (RefusesWords form text) (asm_told fault) e (λ t same. (fault, h, same)) k
+told_why form text fault e h k = why_told (RefusesWords form text) (asm_told fault) e (λ t same. refused_as form text fault t h same) k

@@ -5,25 +5,26 @@ use Rattle.hack_asm.specs.Image.{image_text}
 use Rattle.jack_parser.specs.Spelled.{ClassLaw}
 use Rattle.jack_core.specs.Texts.{names_of}
 use Rattle.map_text.specs.Text.{map_text}
-use Rattle.tower.specs.Mapped.{RunProgram}
+use Rattle.tower.specs.Mapped.{BuiltImage, program_built}
+use Rattle.tower.proofs.Computers.{computer_built}
 use Rattle.nand_cli.specs.Exact.{BuildExactLaw, MapExactLaw}
 use Rattle.nand_cli.specs.Commands.Build.{BuildPrints, BuildRefuses, unbuilt, without_program}
 use Rattle.nand_cli.specs.Commands.Map.{MapPrints}
 use Rattle.nand_cli.proofs.Exactly.{not_missing}
-use Rattle.nand_cli.proofs.RunExactly.{never_refused, never_unbuilt, one_build_line, one_computer, one_folder_line, one_meaning}
+use Rattle.nand_cli.proofs.RunExactly.{never_refused, never_unbuilt, one_build_line, one_built, one_folder_line, one_meaning}
 
 module _ (law : ClassLaw) (files : Files) (folder : List ℕ) where
   one_image : (out out' : List ℕ) → BuildPrints (Some files) folder out → BuildPrints (Some files) folder out' → out ≡ out'
   one_image out out' (core, p, builds, e) (core', q, builds', d) =
       let same = one_meaning law files folder core core' builds.0 builds'.0 in
-      e ∙ ap (λ (x : RunProgram). image_text x.image) (one_computer core core' same p q builds.1 builds'.1) ∙ sym d
+      e ∙ ap (λ (x : BuiltImage). image_text x.image) (one_built core core' same p q builds.1 builds'.1) ∙ sym d
 
   one_map : (out out' : List ℕ) → MapPrints (Some files) folder out → MapPrints (Some files) folder out' → out ≡ out'
   one_map out out' (core, p, builds, cover, rise, e) (core', q, builds', cover', rise', d) =
       let same = one_meaning law files folder core core' builds.0 builds'.0 in
       e
-      ∙ ap (λ (x : RunProgram). map_text (names_of core) x.ranges x.commits) (one_computer core core' same p q builds.1 builds'.1)
-      ∙ ap (λ (ns : List (List ℕ)). map_text ns q.ranges q.commits) same.names
+      ∙ ap (λ (x : BuiltImage). map_text (names_of core) x.ranges x.commits x.shared) (one_built core core' same p q builds.1 builds'.1)
+      ∙ ap (λ (ns : List (List ℕ)). map_text ns q.ranges q.commits q.shared) same.names
       ∙ sym d
 
   one_line : (line line' : List ℕ) → BuildRefuses (Some files) folder line → BuildRefuses (Some files) folder line' → line ≡ line'
@@ -35,7 +36,7 @@ module _ (law : ClassLaw) (files : Files) (folder : List ℕ) where
   built_apart : (out line : List ℕ) → BuildPrints (Some files) folder out → BuildRefuses (Some files) folder line → ⊥
   built_apart out line (core, p, builds, e) (without_program k) = never_refused law files folder core line builds.0 k
   built_apart out line (core, p, builds, e) (unbuilt core' means' k) =
-      never_unbuilt core core' (one_meaning law files folder core core' builds.0 means') p k.0 k.1 builds.1 k.2 k.3
+      never_unbuilt core core' (one_meaning law files folder core core' builds.0 means') (program_built p) k.0 k.1 (computer_built core p builds.1) k.2 k.3
 
 pub build_exact : ClassLaw → BuildExactLaw
 build_exact law files folder = record {

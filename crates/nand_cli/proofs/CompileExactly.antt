@@ -1,31 +1,25 @@
 -- A line of `compile` prints one thing or is refused for one thing, and not both.
-use Rattle.std.proofs.Common.{◌≡◌, ℕ, List, Some, length, sym, ◌∙◌, ap}
-use Rattle.std.specs.Prelude.{take}
-use Rattle.std.proofs.lemmas.List.{length-map}
+use Rattle.std.proofs.Common.{◌≡◌, ℕ, List, Some, length, take, sym, ◌∙◌}
 use Rattle.outer_world.specs.Files.{Files}
 use Rattle.vm_tree.specs.Printed.{files_text}
-use Rattle.jack_tree.specs.declared.tree.Class.{Class}
-use Rattle.jack_tree.specs.Seen.{the_file}
+use Rattle.jack_os.specs.System.{system}
+use Rattle.jack_os.proofs.SystemTexts.{one_list}
 use Rattle.jack_parser.specs.Spelled.{ClassLaw}
 use Rattle.nand_cli.specs.Exact.{CompileExactLaw}
+use Rattle.nand_cli.specs.JackFolder.{files_meant}
 use Rattle.nand_cli.specs.Commands.Compile.{CompilePrints, CompileRefuses}
 use Rattle.nand_cli.proofs.Exactly.{not_missing}
-use Rattle.tower.proofs.OneProgram.{one_program}
-use Rattle.nand_cli.proofs.RunExactly.{SameClasses, never_refused, one_folder_line, one_list_of_classes, one_list_of_files}
-
-as_many : (cs ds : List Class) → SameClasses cs ds → length cs ≡ length ds
-as_many cs ds same = sym (length-map cs the_file) ∙ ap length same ∙ length-map ds the_file
+use Rattle.nand_cli.proofs.RunExactly.{never_meaningless, one_folder_line, one_list_of_classes}
 
 module _ (law : ClassLaw) (files : Files) (folder : List ℕ) where
   one_text : (out out' : List ℕ) → CompilePrints (Some files) folder out → CompilePrints (Some files) folder out' → out ≡ out'
-  one_text out out' (cs, compiled, has, (core, means, are), e) (ds, compiled', has', (core', means', are'), d) =
-      let same = one_list_of_classes law files folder cs ds has has' in
-      let count = as_many cs ds same in
-      let both = are ∙ one_list_of_files core core' (one_program cs ds core core' same means means') ∙ sym are' in
-      e ∙ (λ i. files_text (take (count i) (both i))) ∙ sym d
+  one_text out out' (own, os, has, are, well, e) (own', os', has', are', well', d) =
+      let mine = one_list_of_classes law files folder own own' has has' in
+      let theirs = one_list system os os' are are' in
+      e ∙ (λ i. files_text (take (length (mine i)) (files_meant (mine i) (theirs i)))) ∙ sym d
 
   text_apart : (out line : List ℕ) → CompilePrints (Some files) folder out → CompileRefuses (Some files) folder line → ⊥
-  text_apart out line (cs, compiled, has, (core, means, are), e) k = never_refused law files folder core line (cs, has, means) k
+  text_apart out line (own, os, has, are, well, e) k = never_meaningless law files folder own os line has are well k
 
 pub compile_exact : ClassLaw → CompileExactLaw
 compile_exact law files folder = record {

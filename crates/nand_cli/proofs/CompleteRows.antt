@@ -57,6 +57,6 @@ rows = record {
   statics = (_, (are_kept 100).1, refl);
   few = (240, (_, (are_kept 100).1, refl), omega arith);
   one_more = (_, (are_kept 101).1, refl);
-  budget = budget 1 (filling 313) refl 32768 refl;
-  small = (32768, budget 1 (filling 313) refl 32768 refl, omega arith);
+  budget = budget 1 (filling 324) refl 32768 refl;
+  small = (32768, budget 1 (filling 324) refl 32768 refl, omega arith);
 }

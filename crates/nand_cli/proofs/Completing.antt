@@ -1,5 +1,5 @@
 -- A line with which nothing is wrong is not refused, and a call in which nothing failed completes.
-use Rattle.std.proofs.Common.{◌≡◌, ◌⊎◌, ◌++◌, inl, inr, ℕ, false, List, Option, Some, Err, codes, map, refl, sym, ◌∙◌, subst, arith}
+use Rattle.std.proofs.Common.{◌≡◌, ◌⊎◌, ◌++◌, inl, inr, ℕ, false, List, Option, Some, Err, map, refl, sym, ◌∙◌, subst, arith}
 use Rattle.outer_world.specs.Faults.{Rose}
 use Rattle.outer_world.specs.Files.{Files}
 use Rattle.outer_world.specs.Refusals.{Message}
@@ -13,15 +13,15 @@ use Rattle.jack_meaning.specs.Text.{Program}
 use Rattle.jack_core.specs.declared.program.Core.{Core}
 use Rattle.jack_core.specs.Texts.{the_program}
 use Rattle.jack_names.specs.Meaning.{program_meaning, program_names}
-use Rattle.jack_os.specs.System.{SpellsClass, system}
+use Rattle.jack_os.specs.System.{system}
+use Rattle.jack_os.proofs.SystemTexts.{one_list, seen_files}
+use Rattle.os_named.specs.Laws.{SystemNamedLaw}
 use Rattle.jack_compiler.specs.Files.{files_of, program_files}
-use Rattle.jack_compiler.specs.Resolved.{IsResolved, IsResolvedCore}
-use Rattle.source_files.proofs.Once.{never_unread}
+use Rattle.jack_compiler.specs.Resolved.{IsResolvedCore}
 use Rattle.tower.specs.Budget.{BudgetLaw, IsBudget}
 use Rattle.tower.specs.Built.{Builds}
 use Rattle.tower.specs.Program.{class_names}
 use Rattle.tower.specs.Resolved.{ResolvedLaw}
-use Rattle.tower.proofs.OneProgram.{one_system}
 use Rattle.tower.specs.Told.{build_told}
 use Rattle.tower.specs.declared.building.BuildError.{BuildError}
 use Rattle.tower.specs.declared.building.BuildError.TheVariants as building
@@ -30,15 +30,13 @@ use Rattle.command_line.proofs.Lines.{one_line}
 use Rattle.nand_cli.specs.Answer.{Disagrees, Ends, Promises, Refuses, WordsEnd}
 use Rattle.nand_cli.specs.Commands.Build.{BuildRefuses, unbuilt, without_program}
 use Rattle.nand_cli.specs.Commands.Run.{RunRefuses, unbuilt as run_unbuilt, without_program as run_without_program, without_script}
-use Rattle.nand_cli.specs.Complete.{Completes, IsDoneOrWanting, IsSoundFolder, IsSoundScript, IsUnrefused, NoneFailed, SoundLaw, files_meant}
-use Rattle.nand_cli.specs.JackFolder.{BuildIsRefused, FolderIsRefused, FolderMeans, meaningless, unread}
-use Rattle.nand_cli.specs.Languages.{RefusesClass}
+use Rattle.nand_cli.specs.Complete.{Completes, IsDoneOrWanting, IsSoundFolder, IsSoundScript, IsUnrefused, NoneFailed, SoundLaw}
+use Rattle.nand_cli.specs.JackFolder.{BuildIsRefused, FolderIsRefused, FolderMeans, files_meant}
 use Rattle.nand_cli.specs.Outside.{Outside}
 use Rattle.nand_cli.specs.declared.command.Status.{Status}
 use Rattle.nand_cli.specs.declared.command.Status.TheVariants as status
-use Rattle.nand_cli.proofs.ReadOnce.{class_once}
-use Rattle.nand_cli.proofs.RunExactly.{never_scripted, never_well, one_list_of_classes}
-use Rattle.nand_cli.proofs.Spelling.{spelled_classes}
+use Rattle.nand_cli.proofs.RunExactly.{never_meaningless, never_scripted, one_list_of_classes}
+use Rattle.nand_cli.proofs.FolderResolved.{folder_resolved}
 use Rattle.nand_cli.proofs.Statics.{statics_over}
 
 -- ---- a folder with which nothing is wrong
@@ -49,35 +47,32 @@ pub record Laws : Type 0 where
   pub scripts : KeyLaw
   pub names : ResolvedLaw
   pub budgets : BudgetLaw
+  pub system : SystemNamedLaw
 
 module _ (laws : Laws) (files : Files) (folder : List ℕ) (sound : IsSoundFolder files folder) where
   abbrev law : ClassLaw
   law = laws.classes
 
   never_refused : (line : List ℕ) → FolderIsRefused (Some files) folder line → ⊥
-  never_refused line (unread k) = never_unread SpellsClass RefusesClass the_file (class_once law) files folder (codes ".jack") sound.own line sound.spelled k
-  never_refused line (meaningless ds has (error, k, e)) =
-      never_well law sound.own ds (one_list_of_classes law files folder sound.own ds sound.spelled has) folder line sound.os error sound.shipped sound.named k e
+  never_refused line k = never_meaningless law files folder sound.own sound.os line sound.spelled sound.shipped (laws.system.well sound.own sound.os sound.shipped sound.named) k
 
   -- what the folder means is the program that is sound
   record IsMeant (core : Core) : Type 0 where
-    program : the_program core ≡ program_meaning (map the_file sound.own) (map the_file sound.os)
-    compiled : files_of core ≡ files_meant (map the_file sound.own) (map the_file sound.os)
+    program : the_program core ≡ program_meaning sound.own sound.os
+    compiled : files_of core ≡ files_meant sound.own sound.os
     resolved : IsResolvedCore core
 
   meant : (core : Core) → FolderMeans (Some files) folder core → IsMeant core
   meant core (ds, has, (os, are, is)) =
-      let mine = one_list_of_classes law files folder ds sound.own has sound.spelled in
-      let theirs = one_system system os sound.os are sound.shipped in
+      let mine = one_list_of_classes law files folder (map the_file ds) sound.own has sound.spelled in
+      let theirs = one_list system (map the_file os) sound.os (seen_files system os are) sound.shipped in
       let p = is.program ∙ (λ i. program_meaning (mine i) (theirs i)) in
       let n = is.names ∙ (λ i. program_names (mine i) (theirs i)) in
       let k = is.classes ∙ (λ i. class_names (mine i) ++ class_names (theirs i)) in
       record {
         program = p;
         compiled = λ i. program_files (p i) (n i) (k i);
-        resolved =
-            subst (λ (ns : List (List ℕ)). IsResolved (the_program core) ns) (sym is.names)
-            (subst (λ (q : Program). IsResolved q (program_names (map the_file ds) (map the_file os))) (sym is.program) (laws.names ds os system is.well_named (spelled_classes (Some files) folder ds has) are));
+        resolved = folder_resolved laws.names (Some files) folder core (ds, has, (os, are, is));
       }
 
   -- it has a computer
@@ -85,7 +80,7 @@ module _ (laws : Laws) (files : Files) (folder : List ℕ) (sound : IsSoundFolde
   built core building.Memory told is h e = let no : ⊥ = cc in no
   built core (building.TooManyStatics w) told is h e =
       let (words, has, few) = sound.statics in
-      let over = statics_over (files_meant (map the_file sound.own) (map the_file sound.os)) w words (subst (λ (fs : List File). Links false fs (Err (TooManyStatics w))) is.compiled h) has in
+      let over = statics_over (files_meant sound.own sound.os) w words (subst (λ (fs : List File). Links false fs (Err (TooManyStatics w))) is.compiled h) has in
       omega (arith, over, few)
   built core (building.TooLarge w) told is h e =
       let (words, budget, few) = sound.budget in

@@ -1,16 +1,21 @@
--- The points of a program's computer cover each address of its image.
-use Rattle.std.proofs.Common.{ℕ, length, sym, subst}
+-- The points of a built program and its routines have each address of its image.
+use Rattle.std.proofs.Common.{refl, sym, subst}
 use Rattle.hack_isa.specs.Table.{word_of}
 use Rattle.jack_core.specs.declared.program.Core.{Core}
 use Rattle.vm_link.proofs.Marking.{length_mapped}
-use Rattle.vm_translator.specs.Image.{image_of, points_of}
-use Rattle.vm_translator.specs.Mapping.{Covers}
+use Rattle.vm_translator.specs.Image.{image_of, shared_at, shared_ranges}
+use Rattle.vm_translator.specs.Mapping.{CoversShared}
 use Rattle.vm_translator.proofs.Covered.{covers}
-use Rattle.tower.specs.Built.{IsComputerOf}
-use Rattle.tower.specs.Mapped.{RunProgram}
+use Rattle.vm_translator.proofs.Instructed.{shared_covers_as}
+use Rattle.tower.specs.Built.{IsBuiltOf}
+use Rattle.tower.specs.Mapped.{BuiltImage}
+use Rattle.nand_cli.specs.Commands.Map.{HasEachAddress}
 
-pub covered : (core : Core) (p : RunProgram) → IsComputerOf core p → Covers 0 p.ranges (length p.image)
-covered core p is =
+pub covered : (core : Core) (b : BuiltImage) → IsBuiltOf core b → HasEachAddress b
+covered core b is =
     let l = is.linked in
-    subst (λ (q : RunProgram). Covers 0 q.ranges (length q.image)) (sym is.is_image)
-    (subst (λ (n : ℕ). Covers 0 (points_of l) n) (sym (length_mapped word_of (image_of l))) (covers l))
+    subst HasEachAddress (sym is.is_image) (record {
+      mapped = shared_at l;
+      points = covers l;
+      shared = subst (CoversShared (shared_at l) (shared_ranges l)) (sym (length_mapped word_of (image_of l))) (shared_covers_as l (image_of l) (shared_ranges l) refl refl);
+    })

@@ -165,7 +165,7 @@ chip_exact files name = record {
 
 -- ---- `vm`
 
-same_list : {A : Type 0} (xs : List A) → map (λ (x : A). x) xs ≡ xs
+pub same_list : {A : Type 0} (xs : List A) → map (λ (x : A). x) xs ≡ xs
 same_list [] = refl
 same_list (x ∷ xs) = ap (λ ys. x ∷ ys) (same_list xs)
 

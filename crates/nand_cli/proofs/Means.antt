@@ -1,50 +1,64 @@
 -- The program of a folder's classes, or why there is none; and why it has no computer.
-use Rattle.std.proofs.Common.{◌≡◌, List, ℕ, Bool, Vec, Global, Option, Result, Ok, Err, codes, refl}
-use Rattle.grammar.specs.Faults.{fault_told}
+use Rattle.std.proofs.Common.{◌≡◌, List, ℕ, Bool, Vec, Global, Option, Result, Ok, Err, codes, map, refl}
+use Rattle.jack_names.specs.Faults.{fault_told}
 use Rattle.jack_names.specs.Messages.{name_told}
+use Rattle.jack_names.specs.declared.fault.NameFault.{NameFault}
 use Rattle.outer_world.specs.Files.{Files, LacksFolder, path_in}
+use Rattle.outer_world.specs.Refusals.{told_line}
 use Rattle.source_files.specs.Loads.{CountsLoad, Loads, TellsOf}
 use Rattle.source_files.specs.Sources.{IsUnread}
 use Rattle.source_files.specs.declared.error.LoadError.{LoadError}
 use Rattle.source_files.specs.declared.error.LoadError.TheVariants as errors
 use Rattle.source_files.proofs.Told.{told, told_of, without}
 use Rattle.jack_tree.specs.declared.tree.Class.{Class}
-use Rattle.jack_os.specs.System.{SpellsClass}
+use Rattle.jack_tree.specs.Seen.{the_file}
+use Rattle.jack_places.specs.Rising.{FirstLaw}
+use Rattle.jack_os.specs.System.{SpellsClass, system}
+use Rattle.jack_os.proofs.SystemTexts.{seen_files}
 use Rattle.jack_core.specs.declared.program.Core.{Core}
-use Rattle.tower.specs.Built.{Builds, IsComputerOf}
+use Rattle.tower.specs.Built.{Builds, IsBuiltOf}
 use Rattle.tower.specs.Program.{IsProgram, Means}
+use Rattle.tower.specs.Spelled.{AreSpelled}
 use Rattle.tower.specs.Told.{build_told}
 use Rattle.tower.specs.declared.building.BuildError.{BuildError}
 use Rattle.tower.specs.declared.program.ProgramError.{ProgramError}
 use Rattle.tower.specs.declared.program.ProgramError.TheVariants as programs
 use Rattle.nand_cli.specs.Inner.Parts.{TellsWrong}
-use Rattle.nand_cli.specs.JackFolder.{BuildIsRefused, FolderIsRefused, FolderMeans, HasClasses, IsMeaningless, home_of, meaningless, unread}
+use Rattle.nand_cli.specs.JackFolder.{BuildIsRefused, FolderIsRefused, FolderMeans, IsMeaningless, home_of, meaningless, unread}
 use Rattle.nand_cli.specs.Languages.{RefusesClass}
 use Rattle.nand_cli.specs.Commands.Build.{BuildRefuses, FolderBuilds, unbuilt, without_program}
 use Rattle.nand_cli.specs.declared.jack.BuiltProgram.{BuiltProgram}
+use Rattle.nand_cli.proofs.Spelling.{HasTrees, placed, seen_classes, seen_unread}
 
-pub not_meant : (folder : List ℕ) (classes : List Class) (error : ProgramError) (e : LoadError) → IsProgram classes (Err error) → TellsWrong folder error e → Loads (λ (core : Core). Means classes (Ok core)) (IsMeaningless folder classes) ⊥ (Err e)
-not_meant folder classes programs.Memory e h tells = rw tells tt
-not_meant folder classes (programs.System f) e h tells = told (λ (core : Core). Means classes (Ok core)) (IsMeaningless folder classes) ⊥ (path_in (codes "os") f.file) (fault_told f.fault) e (programs.System f, h, refl) tells
-not_meant folder classes (programs.Name f) e h tells = told (λ (core : Core). Means classes (Ok core)) (IsMeaningless folder classes) ⊥ (path_in (home_of folder f.shipped) f.file) (name_told f) e (programs.Name f, h, refl) tells
+-- the first fault of names is the first by its place
+pub first_told : FirstLaw → (folder : List ℕ) (classes : List Class) (f : NameFault) → AreSpelled classes → Means classes (Err (fault_told f))
+    → IsMeaningless folder (map the_file classes) (told_line (path_in (home_of folder f.shipped) f.file) (name_told f))
+first_told law folder classes f spelled (os, are, first) =
+    (map the_file os, fault_told f, seen_files system os are, law (map the_file classes) (map the_file os) (fault_told f) (placed classes spelled) first, refl)
+
+pub not_meant : FirstLaw → (folder : List ℕ) (classes : List Class) (error : ProgramError) (e : LoadError) → AreSpelled classes → IsProgram classes (Err error) → TellsWrong folder error e
+    → Loads (λ (core : Core). Means classes (Ok core)) (IsMeaningless folder (map the_file classes)) ⊥ (Err e)
+not_meant law folder classes programs.Memory e spelled h tells = rw tells tt
+not_meant law folder classes (programs.Name f) e spelled h tells =
+    told (λ (core : Core). Means classes (Ok core)) (IsMeaningless folder (map the_file classes)) ⊥ (path_in (home_of folder f.shipped) f.file) (name_told f) e (first_told law folder classes f spelled h) tells
 
 module _ (files : Option Files) (folder : List ℕ) (there : List ℕ → Bool) (steady : Type 0) where
   -- what the folder's program says of loading it
   abbrev pub LoadsJack : Result Core LoadError → Type 0
   LoadsJack r = Loads (FolderMeans files folder) (FolderIsRefused files folder) (steady → LacksFolder files there folder) r
 
-  pub without_classes : (e : LoadError) → Loads (λ (classes : Vec Class Global). HasClasses files folder classes.items) (IsUnread SpellsClass RefusesClass (codes ".jack") files folder) (steady → LacksFolder files there folder) (Err e) → LoadsJack (Err e)
+  pub without_classes : (e : LoadError) → Loads (λ (classes : Vec Class Global). HasTrees files folder classes.items) (IsUnread SpellsClass RefusesClass (codes ".jack") files folder) (steady → LacksFolder files there folder) (Err e) → LoadsJack (Err e)
   without_classes e h =
-      without (λ (classes : Vec Class Global). HasClasses files folder classes.items) (IsUnread SpellsClass RefusesClass (codes ".jack") files folder) (steady → LacksFolder files there folder)
-      (FolderMeans files folder) (FolderIsRefused files folder) (steady → LacksFolder files there folder) e (λ line k. unread k) (λ k. k) h
+      without (λ (classes : Vec Class Global). HasTrees files folder classes.items) (IsUnread SpellsClass RefusesClass (codes ".jack") files folder) (steady → LacksFolder files there folder)
+      (FolderMeans files folder) (FolderIsRefused files folder) (steady → LacksFolder files there folder) e (λ line k. unread (seen_unread files folder line k)) (λ k. k) h
 
-  pub meant : (classes : List Class) (r : Result Core LoadError) → HasClasses files folder classes → Loads (λ (core : Core). Means classes (Ok core)) (IsMeaningless folder classes) ⊥ r → LoadsJack r
-  meant classes (Ok core) has h = (classes, has, h)
-  meant classes (Err (errors.Refused r)) has h = meaningless classes has h
+  pub meant : (classes : List Class) (r : Result Core LoadError) → HasTrees files folder classes → Loads (λ (core : Core). Means classes (Ok core)) (IsMeaningless folder (map the_file classes)) ⊥ r → LoadsJack r
+  meant classes (Ok core) has h = (classes, seen_classes files folder classes has, h)
+  meant classes (Err (errors.Refused r)) has h = meaningless (map the_file classes) (seen_classes files folder classes has) h
   meant classes (Err errors.Failed) has h = absurd h
   meant classes (Err errors.Memory) has h = tt
 
-pub program_counts : (folder : List ℕ) (classes : List Class) (r : Result Core LoadError) (shelf shelf' : ℕ) → Loads (λ (core : Core). Means classes (Ok core)) (IsMeaningless folder classes) ⊥ r → shelf' ≡ shelf → CountsLoad shelf shelf' r
+pub program_counts : (folder : List ℕ) (classes : List Class) (r : Result Core LoadError) (shelf shelf' : ℕ) → Loads (λ (core : Core). Means classes (Ok core)) (IsMeaningless folder (map the_file classes)) ⊥ r → shelf' ≡ shelf → CountsLoad shelf shelf' r
 program_counts folder classes (Ok core) shelf shelf' h same = same
 program_counts folder classes (Err (errors.Refused r)) shelf shelf' h same = same
 program_counts folder classes (Err errors.Failed) shelf shelf' h same = absurd h
@@ -52,8 +66,8 @@ program_counts folder classes (Err errors.Memory) shelf shelf' h same = same
 
 -- ---- the computer
 
-pub unbuilt_told : (folder : List ℕ) (core : Core) (error : BuildError) (e : LoadError) → Builds core (Err error) → TellsOf folder (build_told error) e → Loads (IsComputerOf core) (BuildIsRefused core folder) ⊥ (Err e)
-unbuilt_told folder core error e h tells = told_of (IsComputerOf core) (BuildIsRefused core folder) ⊥ folder (build_told error) e (λ t same. (error, t, h, same, refl)) tells
+pub unbuilt_told : (folder : List ℕ) (core : Core) (error : BuildError) (e : LoadError) → Builds core (Err error) → TellsOf folder (build_told error) e → Loads (IsBuiltOf core) (BuildIsRefused core folder) ⊥ (Err e)
+unbuilt_told folder core error e h tells = told_of (IsBuiltOf core) (BuildIsRefused core folder) ⊥ folder (build_told error) e (λ t same. (error, t, h, same, refl)) tells
 
 -- ---- a program with its computer
 
@@ -67,12 +81,12 @@ module _ (files : Option Files) (folder : List ℕ) (there : List ℕ → Bool) 
       without (FolderMeans files folder) (FolderIsRefused files folder) (steady → LacksFolder files there folder)
       (λ (p : BuiltProgram). FolderBuilds files folder p.core p.built) (BuildRefuses files folder) (steady → LacksFolder files there folder) e (λ line k. without_program k) (λ k. k) h
 
-  pub without_computer : (core : Core) (e : LoadError) → FolderMeans files folder core → Loads (IsComputerOf core) (BuildIsRefused core folder) ⊥ (Err e) → LoadsBuilt (Err e)
+  pub without_computer : (core : Core) (e : LoadError) → FolderMeans files folder core → Loads (IsBuiltOf core) (BuildIsRefused core folder) ⊥ (Err e) → LoadsBuilt (Err e)
   without_computer core e means h =
-      without (IsComputerOf core) (BuildIsRefused core folder) ⊥
+      without (IsBuiltOf core) (BuildIsRefused core folder) ⊥
       (λ (p : BuiltProgram). FolderBuilds files folder p.core p.built) (BuildRefuses files folder) (steady → LacksFolder files there folder) e (λ line k. unbuilt core means k) (λ k. absurd k) h
 
-pub unbuilt_counts : (core : Core) (folder : List ℕ) (e : LoadError) (shelf shelf' : ℕ) → Loads (IsComputerOf core) (BuildIsRefused core folder) ⊥ (Err e) → shelf' ≡ shelf → CountsLoad {A = BuiltProgram} shelf shelf' (Err e)
+pub unbuilt_counts : (core : Core) (folder : List ℕ) (e : LoadError) (shelf shelf' : ℕ) → Loads (IsBuiltOf core) (BuildIsRefused core folder) ⊥ (Err e) → shelf' ≡ shelf → CountsLoad {A = BuiltProgram} shelf shelf' (Err e)
 unbuilt_counts core folder (errors.Refused r) shelf shelf' h same = same
 unbuilt_counts core folder errors.Failed shelf shelf' h same = absurd h
 unbuilt_counts core folder errors.Memory shelf shelf' h same = same

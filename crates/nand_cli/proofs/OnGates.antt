@@ -142,7 +142,7 @@ both : {A B : Type 0} (P : A → B → Type 0) (a a' : A) (b b' : B) → a ≡ a
 both P a a' b b' e f p = subst (λ z. P z b') e (subst (P a) f p)
 
 -- what agrees agrees by what is seen alike
-agrees_too : {S : Type 0} (meaning : System S) (first : S) (t t' : Trace) (word word' : ℕ → ℕ → ℕ) (n : ℕ) → SameCounts t t' n → ((a : ℕ) → a < keyboard → word n a ≡ word' n a)
+pub agrees_too : {S : Type 0} (meaning : System S) (first : S) (t t' : Trace) (word word' : ℕ → ℕ → ℕ) (n : ℕ) → SameCounts t t' n → ((a : ℕ) → a < keyboard → word n a ≡ word' n a)
     → (Tame meaning first (heard t' n) (steps t' n) → Agrees meaning first t' word' n) → Tame meaning first (heard t n) (steps t n) → Agrees meaning first t word n
 agrees_too {S} meaning first t t' word word' n same words f tame =
     let r = f (both (λ ks m. Tame meaning first ks m) _ _ _ _ same.heard_are same.steps_are tame) in

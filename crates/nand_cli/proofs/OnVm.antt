@@ -23,7 +23,7 @@ abbrev pub vm_text : LoadedVm → List (List ℕ) → End → Show → List ℕ
 vm_text vm subs end show = machine_text names.Vm subs vm.moves vm.steps (point_of vm.linked vm.state.frames) end show (λ a. slice_index vm.state.words (a - 2048))
 
 -- each state of the run has a point
-seen_at : (linked : Linked) (code : ℕ → ℕ) (m : ℕ) → point_at (vm_trace linked code) m ≡ Some (point_of linked (vm_at linked code m).frames)
+pub seen_at : (linked : Linked) (code : ℕ → ℕ) (m : ℕ) → point_at (vm_trace linked code) m ≡ Some (point_of linked (vm_at linked code m).frames)
 seen_at linked code zero = refl
 seen_at linked code (suc m) = refl
 

@@ -1,11 +1,9 @@
 -- A line of `run` reports one thing or is refused for one thing, and not both.
-use Rattle.std.proofs.Common.{◌≡◌, ◌≤◌, ◌<◌, ◌+◌, ◌-◌, ◌++◌, ◌⊎◌, inl, inr, ℕ, zero, suc, Bool, true, false, List, [], ◌∷◌, Option, Some, None, Result, Ok, Err, codes, length, map, refl, sym, ◌∙◌, ap, subst, arith}
+use Rattle.std.proofs.Common.{◌≡◌, ◌≤◌, ◌<◌, ◌+◌, ◌-◌, ◌++◌, ◌⊎◌, inl, inr, ℕ, zero, suc, Bool, true, false, List, [], Option, Some, None, Result, Ok, Err, codes, length, map, refl, sym, ◌∙◌, ap, subst, arith}
 use Rattle.std.specs.Prelude.{nat_eq, nat_le, option_and_then}
 use Rattle.std.proofs.lemmas.Bool.Decides.{nat_tests}
-use Rattle.grammar.specs.declared.Fault.{Fault}
-use Rattle.grammar.specs.Faults.{fault_told as text_told}
-use Rattle.outer_world.specs.Files.{Files, path_in}
-use Rattle.outer_world.specs.Refusals.{Message, message, told_line}
+use Rattle.outer_world.specs.Files.{Files}
+use Rattle.outer_world.specs.Refusals.{Message, told_line}
 use Rattle.outer_world.specs.declared.point.Point.{Point}
 use Rattle.key_script.specs.Codes.{code_at}
 use Rattle.key_script.specs.Grammar.{ReadingLaw as KeyLaw, Spells as SpellsLines}
@@ -34,147 +32,74 @@ use Rattle.jack_core.specs.Texts.{class_names_of, names_of, the_program}
 use Rattle.jack_compiler.specs.Files.{files_of, program_files}
 use Rattle.jack_tree.specs.declared.tree.Class.{Class}
 use Rattle.jack_tree.specs.Syntax.{ClassFile}
-use Rattle.jack_tree.specs.Seen.{the_class, the_file}
+use Rattle.jack_tree.specs.Seen.{the_file}
 use Rattle.jack_parser.specs.Spelled.{ClassLaw}
-use Rattle.jack_parser.specs.Spells.{Refuses as RefusesTree}
-use Rattle.jack_names.specs.Faults.{Told, fault_told}
-use Rattle.jack_names.specs.Messages.{kind_word}
 use Rattle.jack_names.specs.NameFaults.{IsWellNamed}
-use Rattle.jack_names.specs.FaultOrder.{IsFirstFault}
-use Rattle.jack_names.proofs.Found.{finds_first}
-use Rattle.jack_os.specs.System.{AreClassesOf, HasFault, SpellClasses, SpellsClass, Texts, system}
+use Rattle.jack_os.specs.System.{AreFilesOf, system}
+use Rattle.jack_os.proofs.SystemTexts.{one_list, seen_files}
 use Rattle.command_line.specs.Line.{asm, build, chip, compile, exec, map_line, run, show, test, vm}
 use Rattle.command_line.specs.declared.request.RunLevel.{RunLevel}
 use Rattle.command_line.specs.declared.request.RunLevel.TheVariants as levels
 use Rattle.command_line.specs.declared.request.Shown.TheVariants.{Nets, Words}
 use Rattle.hack_cpu.specs.Computer.{word_at}
 use Rattle.gate_computer.specs.Computer.{IsComputer}
-use Rattle.tower.specs.Built.{Builds, IsComputerOf, run_program}
-use Rattle.tower.specs.Mapped.{RunProgram}
+use Rattle.tower.specs.Built.{Builds, IsBuiltOf, IsComputerOf, built_image, run_program}
+use Rattle.tower.specs.Mapped.{BuiltImage, RunProgram}
 use Rattle.tower.specs.Headline.{run_word}
 use Rattle.tower.specs.OneProgram.{SameProgram}
-use Rattle.tower.specs.Program.{IsProgram, Means}
-use Rattle.tower.proofs.OneProgram.{one_program, one_system}
+use Rattle.tower.proofs.OneProgram.{one_program}
 use Rattle.tower.specs.Told.{build_told}
 use Rattle.tower.specs.declared.building.BuildError.{BuildError}
 use Rattle.tower.specs.declared.building.BuildError.TheVariants as building
-use Rattle.tower.specs.declared.program.ProgramError.{ProgramError}
-use Rattle.tower.specs.declared.program.ProgramError.TheVariants as errors
+use Rattle.source_files.specs.Sources.{IsUnread}
 use Rattle.source_files.proofs.Once.{never_both, never_unread, one_fault, one_folder, one_refusal, one_source}
 use Rattle.nand_cli.specs.Answer.{Lacks}
 use Rattle.nand_cli.specs.Exact.{AsmExactLaw, BuildExactLaw, ChipExactLaw, CompileExactLaw, ExactLaw, ExecExactLaw, MapExactLaw, RunExactLaw, ShowExactLaw, ShowsOneText, VmExactLaw}
-use Rattle.nand_cli.specs.Languages.{RefusesClass, RefusesKeys}
-use Rattle.nand_cli.specs.JackFolder.{BuildIsRefused, FolderIsRefused, FolderMeans, HasClasses, IsWrongLine, home_of, meaningless, unread}
+use Rattle.nand_cli.specs.Languages.{RefusesClass, RefusesKeys, SpellsFile}
+use Rattle.nand_cli.specs.JackFolder.{BuildIsRefused, FolderIsRefused, FolderMeans, HasClasses, IsMeaningless, meaningless, name_line, unread}
 use Rattle.nand_cli.specs.Commands.Gates.{IsGatesReport, gates_trace}
 use Rattle.nand_cli.specs.Commands.RunVm.{IsVmReport}
 use Rattle.nand_cli.specs.Commands.Run.{EndsAt, HasKeys, IsHackReport, IsReport, LacksKeys, RunPrints, RunRefuses, ScriptIsRefused, name_of, state_after, trace_in, unbuilt, without_program, without_script}
-use Rattle.nand_cli.proofs.Exactly.{none_refused, no_source, not_linked, not_missing, one_link_fault, one_linked, one_size}
+use Rattle.nand_cli.proofs.Exactly.{none_refused, no_source, not_linked, not_missing, one_link_fault, one_linked, one_size, same_list}
+use Rattle.nand_cli.proofs.FirstPlace.{none_by_place, one_by_place}
 use Rattle.nand_cli.proofs.ReadOnce.{class_once, keys_once}
 use Rattle.nand_cli.proofs.VmExactly.{one_vm_text}
 
--- ---- the operating system
-
-module _ (law : ClassLaw) where
-  -- a text of classes has no fault
-  no_fault : (before : Texts) (file text : List ℕ) (after : Texts) (cs : List Class) (fault : Fault) → AreClassesOf (before ++ (file, text) ∷ after) cs → RefusesTree text fault → ⊥
-  no_fault [] file text after [] fault h k = h
-  no_fault [] file text after (c ∷ cs) fault h k = (law text).not_both (the_class h.0.0) fault h.0.1.0 k
-  no_fault (f ∷ before) file text after [] fault h k = h
-  no_fault (f ∷ before) file text after (c ∷ cs) fault h k = no_fault before file text after cs fault h.1 k
-
-  never_faulty : (files : Texts) (cs : List Class) (file : List ℕ) (fault : Fault) → AreClassesOf files cs → HasFault files file fault → ⊥
-  never_faulty files cs file fault are (before, text, after, ds, e, spelled, k) = no_fault before file text after cs fault (subst (λ (fs : Texts). AreClassesOf fs cs) e are) k
-
-  spelled_fault : (f : List ℕ × List ℕ) (file text : List ℕ) (c : Class) (fault : Fault) → (file, text) ≡ f → SpellsClass f.0 f.1 c → RefusesTree text fault → ⊥
-  spelled_fault f file text c fault e h k =
-      (law text).not_both (the_class c) fault (subst (λ (t : List ℕ). SpellsClass f.0 t c) (sym (ap (λ (p : List ℕ × List ℕ). p.1) e)) h).0 k
-
-  one_fault_of : (before before' : Texts) (file file' text text' : List ℕ) (after after' : Texts) (cs cs' : List Class) (fault fault' : Fault) → before ++ (file, text) ∷ after ≡ before' ++ (file', text') ∷ after'
-      → SpellClasses before cs → SpellClasses before' cs' → RefusesTree text fault → RefusesTree text' fault' → (file ≡ file') × (fault ≡ fault')
-  one_fault_of [] [] file file' text text' after after' cs cs' fault fault' e h h' k k' =
-      let p : (file, text) ≡ (file', text') = cc in (
-        ap (λ (x : List ℕ × List ℕ). x.0) p,
-        (law text).one_fault fault fault' k (subst (λ (t : List ℕ). RefusesTree t fault') (sym (ap (λ (x : List ℕ × List ℕ). x.1) p)) k'),
-      )
-  one_fault_of [] (f ∷ before') file file' text text' after after' cs [] fault fault' e h h' k k' = absurd h'
-  one_fault_of [] (f ∷ before') file file' text text' after after' cs (c ∷ cs') fault fault' e h h' k k' = let p : (file, text) ≡ f = cc in absurd (spelled_fault f file text c fault p h'.0 k)
-  one_fault_of (f ∷ before) [] file file' text text' after after' [] cs' fault fault' e h h' k k' = absurd h
-  one_fault_of (f ∷ before) [] file file' text text' after after' (c ∷ cs) cs' fault fault' e h h' k k' = let p : (file', text') ≡ f = cc in absurd (spelled_fault f file' text' c fault' p h.0 k')
-  one_fault_of (f ∷ before) (g ∷ before') file file' text text' after after' [] cs' fault fault' e h h' k k' = absurd h
-  one_fault_of (f ∷ before) (g ∷ before') file file' text text' after after' (c ∷ cs) [] fault fault' e h h' k k' = absurd h'
-  one_fault_of (f ∷ before) (g ∷ before') file file' text text' after after' (c ∷ cs) (d ∷ cs') fault fault' e h h' k k' =
-      let rest : before ++ (file, text) ∷ after ≡ before' ++ (file', text') ∷ after' = cc in
-      one_fault_of before before' file file' text text' after after' cs cs' fault fault' rest h.1 h'.1 k k'
-
-  one_system_fault : (files : Texts) (file file' : List ℕ) (fault fault' : Fault) → HasFault files file fault → HasFault files file' fault' → (file ≡ file') × (fault ≡ fault')
-  one_system_fault files file file' fault fault' (before, text, after, cs, e, h, k) (before', text', after', cs', e', h', k') =
-      one_fault_of before before' file file' text text' after after' cs cs' fault fault' (sym e ∙ e') h h' k k'
-
 -- ---- the program of classes
 
--- with the same abstract syntax
-abbrev pub SameClasses : List Class → List Class → Type 0
-SameClasses cs ds = map the_file cs ≡ map the_file ds
+module _ (own own' : List ClassFile) (same : own ≡ own') where
+  one_wrong : (folder line line' : List ℕ) → IsMeaningless folder own line → IsMeaningless folder own' line' → line ≡ line'
+  one_wrong folder line line' (os, t, are, first, e) (os', u, are', first', d) =
+      e ∙ ap (name_line folder) (one_by_place own own' os os' u same (one_list system os os' are are') first' t first) ∙ sym d
 
--- there is one first fault, and none where names are well
-one_first : (own own' os os' : List ClassFile) (t u : Told) → own ≡ own' → os ≡ os' → IsFirstFault own os t → IsFirstFault own' os' u → t ≡ u
-one_first own own' os os' t u p q f g =
-    let here : IsFirstFault own os u = subst (λ (x : List ClassFile). IsFirstFault own x u) (sym q) (subst (λ (x : List ClassFile). IsFirstFault x os' u) (sym p) g) in
-    let both = sym ((finds_first own os t).1 f) ∙ (finds_first own os u).1 here in
-    let same : t ≡ u = cc in same
-
-no_first : (own own' os os' : List ClassFile) (t : Told) → own ≡ own' → os ≡ os' → IsWellNamed own os → IsFirstFault own' os' t → ⊥
-no_first own own' os os' t p q well f =
-    let here : IsFirstFault own os t = subst (λ (x : List ClassFile). IsFirstFault own x t) (sym q) (subst (λ (x : List ClassFile). IsFirstFault x os' t) (sym p) f) in
-    well here.at t here.fails
-
--- what is told of a name, in a folder
-abbrev name_line : List ℕ → Told → List ℕ
-name_line folder t = told_line (path_in (home_of folder t.shipped) t.file) (message t.place.line t.place.column (kind_word t.kind) t.name)
-
-module _ (law : ClassLaw) (own own' : List Class) (same : SameClasses own own') where
-  one_wrong : (folder line line' : List ℕ) (error error' : ProgramError) → IsProgram own (Err error) → IsProgram own' (Err error') → IsWrongLine folder error line → IsWrongLine folder error' line' → line ≡ line'
-  one_wrong folder line line' errors.Memory error' h k e d = absurd e
-  one_wrong folder line line' (errors.System f) errors.Memory h k e d = absurd d
-  one_wrong folder line line' (errors.System f) (errors.System g) h k e d =
-      let p = one_system_fault law system f.file g.file f.fault g.fault h k in
-      e ∙ (λ i. told_line (path_in (codes "os") (p.0 i)) (text_told (p.1 i))) ∙ sym d
-  one_wrong folder line line' (errors.System f) (errors.Name g) h k e d = absurd (never_faulty law system k.0 f.file f.fault k.1 h)
-  one_wrong folder line line' (errors.Name f) errors.Memory h k e d = absurd d
-  one_wrong folder line line' (errors.Name f) (errors.System g) h k e d = absurd (never_faulty law system h.0 g.file g.fault h.1 k)
-  one_wrong folder line line' (errors.Name f) (errors.Name g) (os, are, first) (os', are', first') e d =
-      let theirs = one_system system os os' are are' in
-      let told : fault_told f ≡ fault_told g = one_first (map the_file own) (map the_file own') (map the_file os) (map the_file os') (fault_told f) (fault_told g) same theirs first first' in
-      e ∙ ap (name_line folder) told ∙ sym d
-
-  pub never_well : (folder line : List ℕ) (os : List Class) (error : ProgramError) → AreClassesOf system os → IsWellNamed (map the_file own) (map the_file os) → IsProgram own' (Err error) → IsWrongLine folder error line → ⊥
-  never_well folder line os errors.Memory are well k e = e
-  never_well folder line os (errors.System f) are well k e = never_faulty law system os f.file f.fault are k
-  never_well folder line os (errors.Name f) are well (os', are', first) e =
-      no_first (map the_file own) (map the_file own') (map the_file os) (map the_file os') (fault_told f) same (one_system system os os' are are') well first
-
-  never_wrong : (folder line : List ℕ) (core : Core) (error : ProgramError) → Means own (Ok core) → IsProgram own' (Err error) → IsWrongLine folder error line → ⊥
-  never_wrong folder line core error (os, are, p) k e = never_well folder line os error are p.well_named k e
+  pub never_wrong : (folder line : List ℕ) (os : List ClassFile) → AreFilesOf system os → IsWellNamed own os → IsMeaningless folder own' line → ⊥
+  never_wrong folder line os are well (os', t, are', first, e) = none_by_place own own' os os' t same (one_list system os os' are are') first well
 
 -- ---- the program of a folder
 
 module _ (law : ClassLaw) (files : Files) (folder : List ℕ) where
-  pub one_list_of_classes : (cs ds : List Class) → HasClasses (Some files) folder cs → HasClasses (Some files) folder ds → SameClasses cs ds
-  one_list_of_classes cs ds h k = one_folder SpellsClass RefusesClass the_file (class_once law) files folder (codes ".jack") cs ds h k
+  pub one_list_of_classes : (own own' : List ClassFile) → HasClasses (Some files) folder own → HasClasses (Some files) folder own' → own ≡ own'
+  one_list_of_classes own own' h k =
+      sym (same_list own) ∙ one_folder SpellsFile RefusesClass (λ (c : ClassFile). c) (class_once law) files folder (codes ".jack") own own' h k ∙ same_list own'
+
+  pub never_unread_classes : (own : List ClassFile) (line : List ℕ) → HasClasses (Some files) folder own → IsUnread SpellsFile RefusesClass (codes ".jack") (Some files) folder line → ⊥
+  never_unread_classes own line has h = never_unread SpellsFile RefusesClass (λ (c : ClassFile). c) (class_once law) files folder (codes ".jack") own line has h
 
   pub one_meaning : (core core' : Core) → FolderMeans (Some files) folder core → FolderMeans (Some files) folder core' → SameProgram core core'
-  one_meaning core core' (cs, has, means) (ds, has', means') = one_program cs ds core core' (one_list_of_classes cs ds has has') means means'
+  one_meaning core core' (cs, has, means) (ds, has', means') = one_program cs ds core core' (one_list_of_classes (map the_file cs) (map the_file ds) has has') means means'
 
   pub one_folder_line : (line line' : List ℕ) → FolderIsRefused (Some files) folder line → FolderIsRefused (Some files) folder line' → line ≡ line'
-  one_folder_line line line' (unread h) (unread k) = one_refusal SpellsClass RefusesClass the_file (class_once law) files folder (codes ".jack") line line' h k
-  one_folder_line line line' (unread h) (meaningless ds has k) = absurd (never_unread SpellsClass RefusesClass the_file (class_once law) files folder (codes ".jack") ds line has h)
-  one_folder_line line line' (meaningless cs has h) (unread k) = absurd (never_unread SpellsClass RefusesClass the_file (class_once law) files folder (codes ".jack") cs line' has k)
-  one_folder_line line line' (meaningless cs has (error, h, e)) (meaningless ds has' (error', k, d)) =
-      one_wrong law cs ds (one_list_of_classes cs ds has has') folder line line' error error' h k e d
+  one_folder_line line line' (unread h) (unread k) = one_refusal SpellsFile RefusesClass (λ (c : ClassFile). c) (class_once law) files folder (codes ".jack") line line' h k
+  one_folder_line line line' (unread h) (meaningless own has k) = absurd (never_unread_classes own line has h)
+  one_folder_line line line' (meaningless own has h) (unread k) = absurd (never_unread_classes own line' has k)
+  one_folder_line line line' (meaningless own has h) (meaningless own' has' k) = one_wrong own own' (one_list_of_classes own own' has has') folder line line' h k
+
+  pub never_meaningless : (own os : List ClassFile) (line : List ℕ) → HasClasses (Some files) folder own → AreFilesOf system os → IsWellNamed own os → FolderIsRefused (Some files) folder line → ⊥
+  never_meaningless own os line has are well (unread k) = never_unread_classes own line has k
+  never_meaningless own os line has are well (meaningless own' has' k) = never_wrong own own' (one_list_of_classes own own' has has') folder line os are well k
 
   pub never_refused : (core : Core) (line : List ℕ) → FolderMeans (Some files) folder core → FolderIsRefused (Some files) folder line → ⊥
-  never_refused core line (cs, has, means) (unread k) = never_unread SpellsClass RefusesClass the_file (class_once law) files folder (codes ".jack") cs line has k
-  never_refused core line (cs, has, means) (meaningless ds has' (error, k, e)) = never_wrong law cs ds (one_list_of_classes cs ds has has') folder line core error means k e
+  never_refused core line (cs, has, (os, are, is)) k = never_meaningless (map the_file cs) (map the_file os) line has (seen_files system os are) is.well_named k
 
 -- ---- its computer
 
@@ -188,6 +113,10 @@ module _ (core core' : Core) (same : SameProgram core core') where
   pub one_computer : (p q : RunProgram) → IsComputerOf core p → IsComputerOf core' q → p ≡ q
   one_computer p q h k =
       h.is_image ∙ ap run_program (one_linked false (files_of core) h.linked k.linked h.links (linked_here (Ok k.linked) k.links)) ∙ sym k.is_image
+
+  pub one_built : (b d : BuiltImage) → IsBuiltOf core b → IsBuiltOf core' d → b ≡ d
+  one_built b d h k =
+      h.is_image ∙ ap built_image (one_linked false (files_of core) h.linked k.linked h.links (linked_here (Ok k.linked) k.links)) ∙ sym k.is_image
 
   one_large : (l m : Linked) (v w : ℕ) → Links false (files_of core) (Ok l) → Links false (files_of core') (Ok m) → IsTooLarge l v → IsTooLarge m w → v ≡ w
   one_large l m v w h k large large' = one_size l m v w (one_linked false (files_of core) l m h (linked_here (Ok m) k)) large large'

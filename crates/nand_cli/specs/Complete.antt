@@ -1,6 +1,6 @@
 -- Completeness: where nothing is wrong with what a line of `build`, `map` or `run` names, and no call of the outside fails, the line is done, but
 -- for want of memory. So is every line that is not refused. (The book, chapters 4 and 7 to 12.)
-use Rattle.std.specs.Prelude.{◌≡◌, ◌≤◌, ◌++◌, ◌⊎◌, ℕ, false, List, Option, Some, length, map}
+use Rattle.std.specs.Prelude.{◌≡◌, ◌≤◌, ◌⊎◌, ℕ, false, List, Option, Some, length}
 use Rattle.hack_isa.specs.Machine.{image_words}
 use Rattle.outer_world.specs.Faults.{Rose}
 use Rattle.outer_world.specs.Files.{Files}
@@ -8,21 +8,18 @@ use Rattle.vm_tree.specs.declared.program.File.{File}
 use Rattle.vm_link.specs.Faults.{words_before}
 use Rattle.vm_link.specs.Reached.{AreKept}
 use Rattle.vm_link.specs.Sections.{Section, sections}
-use Rattle.jack_tree.specs.declared.tree.Class.{Class}
 use Rattle.jack_tree.specs.Syntax.{ClassFile}
-use Rattle.jack_tree.specs.Seen.{the_file}
 use Rattle.jack_meaning.specs.Text.{Program}
-use Rattle.jack_names.specs.NameFaults.{IsWellNamed}
-use Rattle.jack_names.specs.Meaning.{program_meaning, program_names}
-use Rattle.jack_os.specs.System.{AreClassesOf, system}
-use Rattle.jack_compiler.specs.Files.{program_files}
+use Rattle.jack_names.specs.Faults.{Told}
+use Rattle.jack_names.specs.NameFaults.{Spot, Fails}
+use Rattle.jack_names.specs.Meaning.{program_meaning}
+use Rattle.jack_os.specs.System.{AreFilesOf, system}
 use Rattle.key_script.specs.declared.lines.Line.{Line as KeyLine}
 use Rattle.tower.specs.Budget.{IsBudget}
-use Rattle.tower.specs.Program.{class_names}
 use Rattle.command_line.specs.Line.{Line, IsLine, build, map_line, run}
 use Rattle.nand_cli.specs.Answer.{Disagrees, Refuses}
 use Rattle.nand_cli.specs.Commands.Run.{HasKeys}
-use Rattle.nand_cli.specs.JackFolder.{HasClasses}
+use Rattle.nand_cli.specs.JackFolder.{HasClasses, files_meant}
 use Rattle.nand_cli.specs.Outside.{Outside}
 use Rattle.nand_cli.specs.declared.command.Status.{Status}
 use Rattle.nand_cli.specs.declared.command.Status.TheVariants as status
@@ -41,22 +38,23 @@ HasFewStatics files = (words : ℕ) × HasStatics files words × (words ≤ 240)
 abbrev pub HasSmallBudget : Program → Type 0
 HasSmallBudget program = (words : ℕ) × IsBudget program words × (words ≤ image_words)
 
--- the VM files of the program that the folder's classes mean with those of the operating system
-abbrev pub files_meant : List ClassFile → List ClassFile → List File
-files_meant own os = program_files (program_meaning own os) (program_names own os) (class_names own ++ class_names os)
-
 -- ---- a line with which nothing is wrong
 
--- The folder has at most 256 Jack files, each of which spells a class within the limits of the language, as do the texts of the operating system.
--- Their names are well, their program has at most 240 static words, and its budget is at most 32,768.
+-- no name fault is told of the folder
+abbrev pub HasNoNameFault : List ClassFile → List ClassFile → Type 0
+HasNoNameFault own os = (at : Spot) (told : Told) → told.shipped ≡ false → Fails own os at told → ⊥
+
+-- The folder has at most 256 Jack files, each of which spells a class within the limits of the language. With those of the
+-- operating system, which there are by its law, no fault of its names is told, their program has at most 240 static words, and its budget is at
+-- most 32,768.
 pub record IsSoundFolder (files : Files) (folder : List ℕ) : Type 0 where
-  pub own : List Class
+  pub own : List ClassFile
   pub spelled : HasClasses (Some files) folder own
-  pub os : List Class
-  pub shipped : AreClassesOf system os
-  pub named : IsWellNamed (map the_file own) (map the_file os)
-  pub statics : HasFewStatics (files_meant (map the_file own) (map the_file os))
-  pub budget : HasSmallBudget (program_meaning (map the_file own) (map the_file os))
+  pub os : List ClassFile
+  pub shipped : AreFilesOf system os
+  pub named : HasNoNameFault own os
+  pub statics : HasFewStatics (files_meant own os)
+  pub budget : HasSmallBudget (program_meaning own os)
 
 -- The key script, where there is one, spells its lines, with moments that rise.
 abbrev pub IsSoundScript : Files → Option (List ℕ) → Type 0

@@ -41,9 +41,9 @@ plus_a e = Binary Plus (local 0) e
 abbrev pub minus : Expression → Expression
 minus e = Unary Minus e
 
--- while (a) { .. }, where `let i = ----(a + (a + (a + (a + (a + a)))));` stands so many times
+-- while (-a) { .. }, where `let i = ---(a + (a + (a + (a + (a + a)))));` stands so many times
 abbrev pub filling : ℕ → Statement
-filling n = While 1 (local 0) (text_of (replicate n (Let 2 (Local 1) (minus (minus (minus (minus (plus_a (plus_a (plus_a (plus_a (plus_a (local 0)))))))))))))
+filling n = While 1 (minus (local 0)) (text_of (replicate n (Let 2 (Local 1) (minus (minus (minus (plus_a (plus_a (plus_a (plus_a (plus_a (local 0))))))))))))
 
 pub record CompleteRows : Type 0 where
   -- 139 words of Main.vm and 101 of Sys.vm are as many as there are,
@@ -52,5 +52,5 @@ pub record CompleteRows : Type 0 where
   -- and these are one more
   pub one_more : HasStatics (two_files 101) 241
   -- 32,768 words of budget are within the room
-  pub budget : IsBudget (repeated 1 (filling 313)) 32768
-  pub small : HasSmallBudget (repeated 1 (filling 313))
+  pub budget : IsBudget (repeated 1 (filling 324)) 32768
+  pub small : HasSmallBudget (repeated 1 (filling 324))

@@ -1,49 +1,56 @@
 -- The program of a folder's Jack files and its image, or why the folder is refused (the book, chapters 9 to 12).
-use Rattle.std.specs.Prelude.{◌≡◌, ℕ, List, Bool, Option, Some, Ok, Err, codes, if◌then◌else◌}
-use Rattle.grammar.specs.Faults.{fault_told}
+use Rattle.std.specs.Prelude.{◌≡◌, ◌++◌, ℕ, List, Bool, Option, Some, Ok, Err, codes, map, if◌then◌else◌}
 use Rattle.outer_world.specs.Files.{Files, path_in}
-use Rattle.outer_world.specs.Refusals.{Message, told_line}
+use Rattle.outer_world.specs.Refusals.{Message, message, told_line}
 use Rattle.source_files.specs.Sources.{FolderSpells, IsUnread}
+use Rattle.vm_tree.specs.declared.program.File.{File}
 use Rattle.jack_tree.specs.declared.tree.Class.{Class}
-use Rattle.jack_names.specs.Messages.{name_told}
-use Rattle.jack_os.specs.System.{SpellsClass}
+use Rattle.jack_tree.specs.Seen.{the_file}
+use Rattle.jack_tree.specs.Syntax.{ClassFile}
+use Rattle.jack_names.specs.Faults.{Told}
+use Rattle.jack_names.specs.FaultOrder.{IsFirstByPlace}
+use Rattle.jack_names.specs.Messages.{kind_word}
+use Rattle.jack_names.specs.Meaning.{program_meaning, program_names}
+use Rattle.jack_os.specs.System.{AreFilesOf, system}
 use Rattle.jack_core.specs.declared.program.Core.{Core}
+use Rattle.jack_compiler.specs.Files.{program_files}
 use Rattle.tower.specs.Built.{Builds, IsComputerOf}
 use Rattle.tower.specs.Mapped.{RunProgram}
-use Rattle.tower.specs.Program.{IsProgram, Means}
+use Rattle.tower.specs.Program.{Means, class_names}
 use Rattle.tower.specs.Told.{build_told}
 use Rattle.tower.specs.declared.building.BuildError.{BuildError}
-use Rattle.tower.specs.declared.program.ProgramError.{ProgramError}
-use Rattle.tower.specs.declared.program.ProgramError.TheVariants as errors
-use Rattle.nand_cli.specs.Languages.{RefusesClass}
+use Rattle.nand_cli.specs.Languages.{RefusesClass, SpellsFile}
 
 -- The Jack files of the folder spell these classes.
-abbrev pub HasClasses : Option Files → List ℕ → List Class → Type 0
-HasClasses files folder classes = FolderSpells SpellsClass (codes ".jack") files folder classes
+abbrev pub HasClasses : Option Files → List ℕ → List ClassFile → Type 0
+HasClasses files folder own = FolderSpells SpellsFile (codes ".jack") files folder own
 
 -- The folder means this program.
 abbrev pub FolderMeans : Option Files → List ℕ → Core → Type 0
-FolderMeans files folder core = (classes : List Class) × HasClasses files folder classes × Means classes (Ok core)
+FolderMeans files folder core = (classes : List Class) × HasClasses files folder (map the_file classes) × Means classes (Ok core)
+
+-- the VM files of the program that the folder's classes mean with those of the operating system: a file for each class, the folder's first
+abbrev pub files_meant : List ClassFile → List ClassFile → List File
+files_meant own os = program_files (program_meaning own os) (program_names own os) (class_names own ++ class_names os)
 
 -- The folder in which a file is told: a file of the operating system stands in `os`.
 abbrev pub home_of : List ℕ → Bool → List ℕ
 home_of folder shipped = if shipped then codes "os" else folder
 
--- This line tells why the classes of a folder mean no program: a text of the operating system has a fault, or a name has one. Want of memory
--- has no line.
-abbrev pub IsWrongLine : List ℕ → ProgramError → List ℕ → Type 0
-IsWrongLine folder (errors.System f) line = line ≡ told_line (path_in (codes "os") f.file) (fault_told f.fault)
-IsWrongLine folder (errors.Name f) line = line ≡ told_line (path_in (home_of folder f.shipped) f.file) (name_told f)
-IsWrongLine folder errors.Memory line = ⊥
+-- the line that tells a fault of a name: its file, its place, the word of its kind and the name
+abbrev pub name_line : List ℕ → Told → List ℕ
+name_line folder told =
+    told_line (path_in (home_of folder told.shipped) told.file) (message told.place.line told.place.column (kind_word told.kind) told.name)
 
--- The classes mean no program, and this line tells why.
-abbrev pub IsMeaningless : List ℕ → List Class → List ℕ → Type 0
-IsMeaningless folder classes line = (error : ProgramError) × IsProgram classes (Err error) × IsWrongLine folder error line
+-- The classes mean no program, and this line tells why: it tells the first fault of their names, by stage, file, place and kind.
+abbrev pub IsMeaningless : List ℕ → List ClassFile → List ℕ → Type 0
+IsMeaningless folder own line =
+    (os : List ClassFile) × (told : Told) × AreFilesOf system os × IsFirstByPlace own os told × (line ≡ name_line folder told)
 
 -- The folder means no program, and this line tells why: its files are not read, or their classes mean none.
 pub data FolderIsRefused (files : Option Files) (folder line : List ℕ) : Type 0 where
-  unread : IsUnread SpellsClass RefusesClass (codes ".jack") files folder line → FolderIsRefused files folder line
-  meaningless : (classes : List Class) → HasClasses files folder classes → IsMeaningless folder classes line → FolderIsRefused files folder line
+  unread : IsUnread SpellsFile RefusesClass (codes ".jack") files folder line → FolderIsRefused files folder line
+  meaningless : (own : List ClassFile) → HasClasses files folder own → IsMeaningless folder own line → FolderIsRefused files folder line
 
 -- The program has no computer, and this line tells why.
 abbrev pub BuildIsRefused : Core → List ℕ → List ℕ → Type 0

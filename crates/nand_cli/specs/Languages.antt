@@ -1,17 +1,18 @@
 -- The languages of the files that commands read: what a text spells, and what is told where it is refused.
-use Rattle.std.specs.Prelude.{◌≡◌, ℕ, Bool, List, [], ◌∷◌, Some, Ok, codes}
+use Rattle.std.specs.Prelude.{◌≡◌, ℕ, Bool, List, [], ◌∷◌, Result, Ok, Err, codes, decimal}
 use Rattle.grammar.specs.declared.Fault.{Fault}
 use Rattle.grammar.specs.Faults.{fault_told}
-use Rattle.outer_world.specs.Refusals.{Message}
+use Rattle.outer_world.specs.Refusals.{Message, message}
 use Rattle.source_files.specs.Folder.{stem_of}
-use Rattle.hack_asm.specs.Meaning.{Means, IsRefusal as IsNoAssembly}
-use Rattle.hack_asm.specs.HackText.{Holds, IsRefusal as IsNoImage}
-use Rattle.hack_asm.specs.Told.{asm_told}
-use Rattle.hack_asm.specs.declared.fault.AsmFault.{AsmFault}
+use Rattle.hack_asm.specs.Faults.{Wrong, Grammar, Range, LabelTwice, TooLarge, TooManyVariables}
+use Rattle.hack_asm.specs.Meaning.{Means}
+use Rattle.hack_asm.specs.HackText.{Holds}
 use Rattle.key_script.specs.Faults.{key_told}
 use Rattle.key_script.specs.Grammar.{Refuses as RefusesLines}
 use Rattle.key_script.specs.declared.fault.KeyFault.{KeyFault}
 use Rattle.hdl_parser.specs.Spells.{Refuses as RefusesChip}
+use Rattle.jack_tree.specs.Syntax.{ClassFile}
+use Rattle.jack_parser.specs.Spelled.{SpellsClass}
 use Rattle.jack_parser.specs.Spells.{Refuses as RefusesTree}
 use Rattle.vm_tree.specs.declared.program.File.{File}
 use Rattle.vm_parser.specs.Trees.{Spells as SpellsProgram, Refuses as RefusesProgram}
@@ -24,18 +25,24 @@ IsTold refuses text told = (fault : Fault) × refuses text fault × (told ≡ fa
 
 -- ---- programs of the instruction machine: assembly, and the text of an image (the book, chapters 4 and 6)
 
--- these are the words of such a text
-abbrev pub SpellsWords : Form → List ℕ → List ℕ → Type 0
-SpellsWords Assembly text words = Means text (Ok words)
-SpellsWords Image text words = Holds text (Ok words)
+-- what a text of this form means: words, `Ok words`, or what is wrong with it, `Err wrong`
+abbrev pub MeansAs : Form → List ℕ → Result (List ℕ) Wrong → Type 0
+MeansAs Assembly text r = Means text r
+MeansAs Image text r = Holds text r
 
--- such a text is refused for this fault
-abbrev pub IsRefused : Form → List ℕ → AsmFault → Type 0
-IsRefused Assembly text fault = IsNoAssembly text fault
-IsRefused Image text fault = IsNoImage text fault
+-- what is told of what is wrong
+abbrev pub wrong_told : Wrong → Message
+wrong_told (Grammar at) = message at.line at.column (codes "Grammar") []
+wrong_told (Range at value) = message at.line at.column (codes "Range") (decimal value)
+wrong_told (LabelTwice name at) = message at.line at.column (codes "LabelTwice") name
+wrong_told (TooLarge words) = message 0 0 (codes "TooLarge") (decimal words)
+wrong_told (TooManyVariables count) = message 0 0 (codes "TooManyVariables") (decimal count)
+
+abbrev pub SpellsWords : Form → List ℕ → List ℕ → Type 0
+SpellsWords form text words = MeansAs form text (Ok words)
 
 abbrev pub RefusesWords : Form → List ℕ → Message → Type 0
-RefusesWords form text told = (fault : AsmFault) × IsRefused form text fault × (asm_told fault ≡ Some told)
+RefusesWords form text told = (wrong : Wrong) × MeansAs form text (Err wrong) × (told ≡ wrong_told wrong)
 
 -- ---- VM texts (the book, chapters 7 and 8)
 
@@ -47,6 +54,10 @@ abbrev pub RefusesVm : Bool → List ℕ → Message → Type 0
 RefusesVm bare text told = IsTold (RefusesProgram bare) text told
 
 -- ---- classes (the book, chapters 9 and 10)
+
+-- The text of the file of this name spells the class.
+abbrev pub SpellsFile : List ℕ → List ℕ → ClassFile → Type 0
+SpellsFile name text c = SpellsClass text c.class × (c.file ≡ name)
 
 abbrev pub RefusesClass : List ℕ → Message → Type 0
 RefusesClass text told = IsTold RefusesTree text told

@@ -4,6 +4,7 @@ ghost use Rattle.jack_compiler.specs.Resolved.{IsResolvedCore};
 ghost use Rattle.key_script.specs.Codes.{code_at};
 ghost use Rattle.layers.specs.System.{IsKey};
 ghost use Rattle.tower.specs.Built.{IsComputerOf};
+ghost use Rattle.tower.specs.Mapped.{program_built};
 ghost use Rattle.nand_cli.specs.Commands.Gates.{IsGatesReport};
 ghost use Rattle.nand_cli.specs.Inner.Reports.{CountsReport, IsAtStart, IsPut, Reports};
 
@@ -20,7 +21,7 @@ use tower::Built;
 
 // The computer made of gates at its start, with the image of a program.
 fn computer_of(alloc: Global, core: &Core, built: Built) -> Result<GateComputer, AllocError>
-    requires { IsComputerOf core.now built }
+    requires { IsComputerOf core.now (program_built built) }
     ensures { IfOk result (IsAtStart core.now) }
 {
     let (image, commits, points) = built.into_parts();
@@ -86,7 +87,7 @@ pub fn report_gates<O: Sink>(
     out: &mut O,
 ) -> Result<(), Failure>
     requires resolved { IsResolvedCore core.now }
-    requires computer { IsComputerOf core.now built }
+    requires computer { IsComputerOf core.now (program_built built) }
     requires words { (c : ℕ) → IsKey (code_at keys.now c) }
     ensures reports { Reports (IsGatesReport core.now (code_at keys.now) cycles shown) (O.written out.old) (O.written out.new) result }
     ensures counts { CountsReport (O.faults out.old) (O.faults out.new) result }

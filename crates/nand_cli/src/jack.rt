@@ -1,11 +1,11 @@
 //! The program that a folder's Jack files mean, its image, and why there is none.
-ghost use Rattle.std.specs.Prelude.{◌≡◌, ◌≤◌, IfOk, Ok, codes, length};
+ghost use Rattle.std.specs.Prelude.{◌≡◌, ◌≤◌, IfOk, Ok, length, map};
 ghost use Rattle.jack_compiler.specs.Resolved.{IsResolvedCore};
 ghost use Rattle.jack_core.specs.declared.program.Core.{Core};
-ghost use Rattle.tower.specs.Built.{IsComputerOf};
+ghost use Rattle.jack_tree.specs.Seen.{the_file};
+ghost use Rattle.tower.specs.Built.{IsBuiltOf};
 ghost use Rattle.tower.specs.Program.{Means};
 ghost use Rattle.tower.specs.Spelled.{AreSpelled};
-ghost use Rattle.grammar.specs.Faults.{fault_told};
 ghost use Rattle.jack_names.specs.Messages.{name_told};
 ghost use Rattle.outer_world.specs.Files.{LacksFolder, path_in};
 ghost use Rattle.source_files.specs.Loads.{CountsLoad, Loads, Refused};
@@ -17,9 +17,9 @@ ghost use Rattle.nand_cli.specs.JackFolder.{BuildIsRefused, FolderIsRefused, Fol
 use crate::languages::JackText;
 use jack_core::Core;
 use jack_names::NameFault;
-use jack_os::SystemFault;
+use jack_places::first_law;
 use jack_tree::Class;
-use outer_world::{Shelf, Told};
+use outer_world::Shelf;
 use source_files::{LoadError, load_folder, path_in};
 use std::alloc::Global;
 use tower::{Built, ProgramError, build, program_of_classes};
@@ -44,24 +44,6 @@ fn home(folder: &str, shipped: bool) -> &str
     if shipped { SYSTEM } else { folder }
 }
 
-// The refusal of a file in a folder.
-fn refused_in(alloc: Global, folder: &str, file: &str, told: Told) -> LoadError
-    ensures { Refused (path_in folder.now file.now) told result }
-{
-    match path_in(alloc, folder, file) {
-        Ok(path) => LoadError::refused(alloc, path.as_str(), told),
-        Err(_) => LoadError::Memory,
-    }
-}
-
-// The refusal of a text of the operating system.
-fn system_refused(alloc: Global, fault: SystemFault) -> LoadError
-    ensures { Refused (path_in (codes "os") fault.file) (fault_told fault.fault) result }
-{
-    let SystemFault { file, fault } = fault;
-    refused_in(alloc, SYSTEM, file.as_str(), fault.told())
-}
-
 // The refusal of a name.
 fn name_refused(alloc: Global, folder: &str, fault: NameFault) -> LoadError
     ensures { Refused (path_in (home_of folder.now fault.shipped) fault.file) (name_told fault) result }
@@ -78,7 +60,6 @@ pub fn not_meant(alloc: Global, folder: &str, error: ProgramError) -> LoadError
 {
     match error {
         ProgramError::Memory => LoadError::Memory,
-        ProgramError::System(fault) => system_refused(alloc, fault),
         ProgramError::Name(fault) => name_refused(alloc, folder, fault),
     }
 }
@@ -87,9 +68,11 @@ pub fn not_meant(alloc: Global, folder: &str, error: ProgramError) -> LoadError
 fn program_of(alloc: Global, folder: &str, classes: &[Class]) -> Result<Core, LoadError>
     requires few { length classes.now ≤ 256 }
     requires spelled { AreSpelled classes.now }
-    ensures makes { Loads (λ (core : Core). Means classes.now (Ok core)) (IsMeaningless folder.now classes.now) ⊥ result }
+    ensures makes { Loads (λ (core : Core). Means classes.now (Ok core)) (IsMeaningless folder.now (map the_file classes.now)) ⊥ result }
     ensures resolved { IfOk result IsResolvedCore }
 {
+    // The first fault of names is the first by its place.
+    first_law();
     match program_of_classes(alloc, classes) {
         Ok(core) => Ok(core),
         Err(error) => Err(not_meant(alloc, folder, error)),
@@ -98,8 +81,7 @@ fn program_of(alloc: Global, folder: &str, classes: &[Class]) -> Result<Core, Lo
 
 /// The program that the Jack files of a folder mean.
 ///
-/// Otherwise the refusal of the files as they are read, else of the first fault in the operating system's texts, else of the
-/// first name fault.
+/// Otherwise the refusal of the files as they are read, else of the first name fault.
 pub fn load_jack<F: Shelf>(alloc: Global, folder: &str, shelf: &mut F) -> Result<Core, LoadError>
     ensures loads { Loads (FolderMeans (F.files shelf.old) folder.now) (FolderIsRefused (F.files shelf.old) folder.now) (F.unfailing shelf.old → LacksFolder (F.files shelf.old) (F.there shelf.old) folder.now) result }
     ensures resolved { IfOk result IsResolvedCore }
@@ -115,7 +97,7 @@ pub fn load_jack<F: Shelf>(alloc: Global, folder: &str, shelf: &mut F) -> Result
 /// The image of a folder's program, or why there is none.
 pub fn image_of(alloc: Global, folder: &str, core: &Core) -> Result<Built, LoadError>
     requires { IsResolvedCore core.now }
-    ensures { Loads (IsComputerOf core.now) (BuildIsRefused core.now folder.now) ⊥ result }
+    ensures { Loads (IsBuiltOf core.now) (BuildIsRefused core.now folder.now) ⊥ result }
 {
     match build(alloc, core) {
         Ok(built) => Ok(built),

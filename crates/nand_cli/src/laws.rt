@@ -1,4 +1,7 @@
-//! Laws of lines: over told files a line has at most one answer, and one with which nothing is wrong is not refused.
+//! Laws of lines: over told files a line has at most one answer, one that wants no image has one, and one with which nothing is wrong is
+//! not refused.
+ghost use Rattle.nand_cli.specs.Answered.{AnsweredLaw, AsmAnsweredLaw, ChipAnsweredLaw, CompileAnsweredLaw, ExecAnsweredLaw, FolderAnsweredLaw, ProgramAnsweredLaw, ShowAnsweredLaw, VmAnsweredLaw};
+ghost use Rattle.nand_cli.specs.Commands.Vm.{VmDoesLaw};
 ghost use Rattle.nand_cli.specs.Complete.{SoundLaw};
 ghost use Rattle.nand_cli.specs.CompleteRows.{CompleteRows};
 ghost use Rattle.nand_cli.specs.Exact.{AsmExactLaw, BuildExactLaw, ChipExactLaw, CompileExactLaw, ExactLaw, ExecExactLaw, MapExactLaw, OneProgramLaw, RunExactLaw, ShowExactLaw, VmExactLaw};
@@ -34,6 +37,11 @@ pub fn vm_exact_law()
 {
     vm_parser::reading_law();
 }
+
+/// Law: the image of the program of a folder's VM files does what the program does.
+pub fn vm_does_law()
+    ensures { VmDoesLaw }
+{}
 
 /// Law: so does a line of `run`, at each level.
 pub fn run_exact_law()
@@ -85,6 +93,83 @@ pub fn exact_law()
     map_exact_law();
 }
 
+/// Law: over told files a line of `asm` prints a text or is refused, or its file is not there.
+pub fn asm_answered_law()
+    ensures { AsmAnsweredLaw }
+{
+    hack_asm::assembly_total_law();
+    hack_asm::hack_total_law();
+}
+
+/// Law: so it is with a line of `exec`.
+pub fn exec_answered_law()
+    ensures { ExecAnsweredLaw }
+{
+    hack_asm::assembly_total_law();
+    hack_asm::hack_total_law();
+}
+
+/// Law: so it is with a line of `show`.
+pub fn show_answered_law()
+    ensures { ShowAnsweredLaw }
+{
+    vm_parser::total_law();
+    jack_parser::total_law();
+    hdl_parser::total_law();
+}
+
+/// Law: over told files a line of `vm` prints a text or is refused.
+pub fn vm_answered_law()
+    ensures { VmAnsweredLaw }
+{
+    vm_parser::total_law();
+    vm_translator::size_law();
+}
+
+/// Law: a line of `chip` prints a chip or is refused.
+pub fn chip_answered_law()
+    ensures { ChipAnsweredLaw }
+{}
+
+/// Law: a folder whose files are told has classes that are well named, or is refused.
+pub fn folder_answered_law()
+    ensures { FolderAnsweredLaw }
+{
+    jack_parser::total_law();
+    jack_places::first_law();
+    jack_os::system_law();
+}
+
+/// Law: over told files a line of `compile` prints a text or is refused.
+pub fn compile_answered_law()
+    ensures { CompileAnsweredLaw }
+{
+    folder_answered_law();
+}
+
+/// Law: over told files each line that wants no image, and is no test script, has an answer.
+pub fn answered_law()
+    ensures { AnsweredLaw }
+{
+    asm_answered_law();
+    exec_answered_law();
+    vm_answered_law();
+    show_answered_law();
+    chip_answered_law();
+    compile_answered_law();
+}
+
+/// Law: where the folder of a line that wants an image means a program, the line has an answer.
+pub fn program_answered_law()
+    ensures { ProgramAnsweredLaw }
+{
+    tower::resolved_law();
+    jack_compiler::compiled_law();
+    vm_translator::size_law();
+    key_script::total_law();
+    hack_cpu::runs_law();
+}
+
 /// Law: a folder whose files are told means at most one program.
 pub fn one_program_law()
     ensures { OneProgramLaw }
@@ -102,4 +187,5 @@ pub fn sound_law()
     key_script::reading_law();
     tower::resolved_law();
     tower::budget_law();
+    os_named::system_named_law();
 }

@@ -3,16 +3,16 @@ use Rattle.std.specs.Prelude.{◌≡◌, ℕ, List, Option}
 use Rattle.outer_world.specs.Files.{Files}
 use Rattle.hack_asm.specs.Image.{image_text}
 use Rattle.jack_core.specs.declared.program.Core.{Core}
-use Rattle.tower.specs.Built.{IsComputerOf}
-use Rattle.tower.specs.Mapped.{RunProgram}
+use Rattle.tower.specs.Built.{IsBuiltOf}
+use Rattle.tower.specs.Mapped.{BuiltImage}
 use Rattle.nand_cli.specs.JackFolder.{BuildIsRefused, FolderIsRefused, FolderMeans}
 
 -- The folder means a program, and this is its image with its map.
-abbrev pub FolderBuilds : Option Files → List ℕ → Core → RunProgram → Type 0
-FolderBuilds files folder core computer = FolderMeans files folder core × IsComputerOf core computer
+abbrev pub FolderBuilds : Option Files → List ℕ → Core → BuiltImage → Type 0
+FolderBuilds files folder core built = FolderMeans files folder core × IsBuiltOf core built
 
 abbrev pub BuildPrints : Option Files → List ℕ → List ℕ → Type 0
-BuildPrints files folder out = (core : Core) × (computer : RunProgram) × FolderBuilds files folder core computer × (out ≡ image_text computer.image)
+BuildPrints files folder out = (core : Core) × (built : BuiltImage) × FolderBuilds files folder core built × (out ≡ image_text built.image)
 
 -- The folder has no image, and this line tells why: it means no program, or its program has no computer.
 pub data BuildRefuses (files : Option Files) (folder line : List ℕ) : Type 0 where

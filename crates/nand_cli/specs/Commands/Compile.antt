@@ -1,17 +1,17 @@
 -- The command `compile`: the VM text of a folder's classes, or why the folder is refused. (The book, chapters 10 and 11.)
-use Rattle.std.specs.Prelude.{◌≡◌, ℕ, List, Option}
+use Rattle.std.specs.Prelude.{◌≡◌, ℕ, List, Option, length, take}
 use Rattle.outer_world.specs.Files.{Files}
 use Rattle.vm_tree.specs.Printed.{files_text}
-use Rattle.vm_tree.specs.declared.program.File.{File}
-use Rattle.jack_tree.specs.declared.tree.Class.{Class}
-use Rattle.tower.specs.Compiled.{AreCompiled, own_files}
-use Rattle.nand_cli.specs.JackFolder.{FolderIsRefused, HasClasses}
+use Rattle.jack_tree.specs.Syntax.{ClassFile}
+use Rattle.jack_names.specs.NameFaults.{IsWellNamed}
+use Rattle.jack_os.specs.System.{AreFilesOf, system}
+use Rattle.nand_cli.specs.JackFolder.{FolderIsRefused, HasClasses, files_meant}
 
 -- The folder means a program with the operating system, and this is the text of the VM files of the folder's own classes, in order of file name, each
 -- behind a line with its name. Every subroutine of them is there, called or not.
 abbrev pub CompilePrints : Option Files → List ℕ → List ℕ → Type 0
 CompilePrints files folder out =
-    (classes : List Class) × (compiled : List File) × HasClasses files folder classes × AreCompiled classes compiled × (out ≡ files_text (own_files classes compiled))
+    (own os : List ClassFile) × HasClasses files folder own × AreFilesOf system os × IsWellNamed own os × (out ≡ files_text (take (length own) (files_meant own os)))
 
 -- The folder means no program, and this line tells why. (What is not linked may have too many statics or be too large.)
 abbrev pub CompileRefuses : Option Files → List ℕ → List ℕ → Type 0

@@ -8,7 +8,6 @@ use Rattle.grammar.specs.declared.Fault.TheVariants as fault
 use Rattle.hack_asm.specs.Faults.{Range}
 use Rattle.hack_asm.specs.Meaning.{Means}
 use Rattle.hack_asm.specs.HackText.{Holds}
-use Rattle.hack_asm.specs.declared.fault.AsmFault.TheVariants as asm
 use Rattle.key_script.specs.declared.fault.KeyFault.TheVariants as keys
 use Rattle.source_files.specs.Sources.{past_limit}
 use Rattle.nand_cli.specs.Languages.{RefusesClass, RefusesHdl, RefusesKeys, RefusesVm, RefusesWords}
@@ -41,5 +40,5 @@ image_wrong : (text : List ℕ) → 1048576 < length text → Holds text (Err (R
 image_wrong text long = inr (fault.Range nowhere 1048577, inl (cut_long text (fault.Range nowhere 1048577) _ long), refl)
 
 pub words_limited : (form : Form) (text : List ℕ) → 1048576 < length text → RefusesWords form text past_limit
-words_limited Assembly text long = (asm.Range nowhere 1048577, words_wrong text long, refl)
-words_limited Image text long = (asm.Range nowhere 1048577, image_wrong text long, refl)
+words_limited Assembly text long = (Range nowhere 1048577, words_wrong text long, refl)
+words_limited Image text long = (Range nowhere 1048577, image_wrong text long, refl)

@@ -1,5 +1,5 @@
 -- What the parts of a call say; the call's own contract needs none of it.
-use Rattle.std.specs.Prelude.{◌≡◌, ◌⊎◌, ℕ, Bool, List, Option, Result, Ok, Err, Vec, codes}
+use Rattle.std.specs.Prelude.{◌≡◌, ◌⊎◌, ℕ, Bool, List, Option, Result, Ok, Err, Vec}
 use Rattle.std.specs.declared.alloc.Global.{Global}
 use Rattle.command_line.specs.Line.{Line}
 use Rattle.command_line.specs.declared.reader.LineError.{LineError}
@@ -7,6 +7,8 @@ use Rattle.command_line.specs.declared.reader.LineError.TheVariants as no_line
 use Rattle.grammar.specs.Faults.{fault_told}
 use Rattle.grammar.specs.declared.ReadError.{ReadError}
 use Rattle.grammar.specs.declared.ReadError.TheVariants as reads
+use Rattle.hack_asm.specs.HackText.{IsRefusal as IsNoImage}
+use Rattle.hack_asm.specs.Meaning.{IsRefusal as IsNoAssembly}
 use Rattle.hack_asm.specs.declared.fault.AsmFault.{AsmFault}
 use Rattle.outer_world.specs.Faults.{Rose}
 use Rattle.outer_world.specs.Files.{Files, path_in}
@@ -29,10 +31,11 @@ use Rattle.script_run.specs.declared.script.ScriptError.{ScriptError}
 use Rattle.script_run.specs.declared.script.ScriptError.TheVariants as scripts
 use Rattle.nand_cli.specs.Answer.{CutsEcho, CutsOut, Disagrees, Misses, Prints, Refuses, Starves}
 use Rattle.nand_cli.specs.JackFolder.{home_of}
-use Rattle.nand_cli.specs.Languages.{IsRefused, SpellsWords}
+use Rattle.nand_cli.specs.Languages.{SpellsWords}
 use Rattle.nand_cli.specs.declared.command.Status.{Status}
 use Rattle.nand_cli.specs.declared.command.Status.TheVariants as status
 use Rattle.nand_cli.specs.declared.languages.Form.{Form}
+use Rattle.nand_cli.specs.declared.languages.Form.TheVariants.{Assembly, Image}
 use Rattle.nand_cli.specs.declared.failure.Failure.{Failure}
 use Rattle.nand_cli.specs.declared.failure.Failure.TheVariants as failure
 
@@ -79,6 +82,11 @@ abbrev pub TellsText : ReadError → TextError → Type 0
 TellsText (reads.Fault fault) e = e ≡ texts.Refused (fault_told fault)
 TellsText reads.Memory e = e ≡ texts.Memory
 
+-- a text of this form is refused for this fault of the code, unless memory is wanting
+abbrev pub IsRefused : Form → List ℕ → AsmFault → Type 0
+IsRefused Assembly text fault = IsNoAssembly text fault
+IsRefused Image text fault = IsNoImage text fault
+
 -- What reading the words of a text in a form says: the words, or for which fault it is refused, unless memory is wanting.
 abbrev pub ReadsWords : Form → List ℕ → Result (Vec ℕ Global) AsmFault → Type 0
 ReadsWords form text (Ok words) = SpellsWords form text words.items
@@ -86,7 +94,6 @@ ReadsWords form text (Err fault) = IsRefused form text fault
 
 -- Why classes mean no program is told, unless memory is wanting.
 abbrev pub TellsWrong : List ℕ → ProgramError → LoadError → Type 0
-TellsWrong folder (programs.System f) e = Refused (path_in (codes "os") f.file) (fault_told f.fault) e
 TellsWrong folder (programs.Name f) e = Refused (path_in (home_of folder f.shipped) f.file) (name_told f) e
 TellsWrong folder programs.Memory e = e ≡ errors.Memory
 

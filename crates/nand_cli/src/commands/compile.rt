@@ -1,6 +1,7 @@
 //! The command `compile`: the VM text of a folder's classes.
-ghost use Rattle.std.specs.Prelude.{◌≡◌, ◌≤◌, IfOk, List, ℕ, Option, length};
+ghost use Rattle.std.specs.Prelude.{◌≡◌, ◌≤◌, IfOk, List, ℕ, Option, length, map};
 ghost use Rattle.command_line.specs.Line.{compile};
+ghost use Rattle.jack_tree.specs.Seen.{the_file};
 ghost use Rattle.tower.specs.Compiled.{AreCompiled, AreNamed};
 ghost use Rattle.tower.specs.Spelled.{AreSpelled};
 ghost use Rattle.vm_tree.specs.declared.program.File.{File};
@@ -11,6 +12,7 @@ ghost use Rattle.nand_cli.specs.Inner.Parts.{Counts, Does};
 use crate::failure::{Failure, finished};
 use crate::jack::{ENDING, not_meant};
 use crate::languages::JackText;
+use jack_places::first_law;
 use jack_tree::Class;
 use outer_world::{Shelf, Sink};
 use source_files::{LoadError, load_folder};
@@ -22,9 +24,11 @@ use vm_tree::{Program, print_files};
 fn compiled(alloc: Global, folder: &str, classes: &[Class]) -> Result<Program, LoadError>
     requires few { length classes.now ≤ 256 }
     requires spelled { AreSpelled classes.now }
-    ensures makes { Loads (λ (files : List File). AreCompiled classes.now files) (IsMeaningless folder.now classes.now) ⊥ result }
+    ensures makes { Loads (λ (files : List File). AreCompiled classes.now files) (IsMeaningless folder.now (map the_file classes.now)) ⊥ result }
     ensures named { IfOk result (AreNamed classes.now) }
 {
+    // The first fault of names is the first by its place.
+    first_law();
     match compile_classes(alloc, classes) {
         Ok(files) => Ok(files),
         Err(error) => Err(not_meant(alloc, folder, error)),

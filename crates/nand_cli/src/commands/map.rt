@@ -35,5 +35,6 @@ pub fn answer_map<F: Shelf, O: Sink>(
 {
     let program = load_built(alloc, folder, shelf)?;
     let names = names(alloc, &program.core.subroutines)?;
-    finished(show_map(&names, program.built.points(), program.built.commits(), out))
+    let built = &program.built;
+    finished(show_map(&names, built.points(), built.commits(), built.shared(), out))
 }

@@ -8,6 +8,7 @@ ghost use Rattle.layers.specs.System.{IsKey};
 ghost use Rattle.outer_world.specs.Files.{LacksFile};
 ghost use Rattle.source_files.specs.Loads.{CountsLoad, Loads};
 ghost use Rattle.tower.specs.Built.{IsComputerOf};
+ghost use Rattle.tower.specs.Mapped.{program_built};
 ghost use Rattle.nand_cli.specs.Commands.Run.{HasKeys, IsReport, LacksKeys, ScriptIsRefused};
 ghost use Rattle.nand_cli.specs.Inner.Parts.{Counts, Does};
 ghost use Rattle.nand_cli.specs.Inner.Reports.{CountsReport, IsHackAtStart, IsPut, Reports};
@@ -88,7 +89,7 @@ fn report_hack<O: Sink>(
     out: &mut O,
 ) -> Result<(), Failure>
     requires resolved { IsResolvedCore core.now }
-    requires computer { IsComputerOf core.now built }
+    requires computer { IsComputerOf core.now (program_built built) }
     requires words { (c : ℕ) → IsKey (code_at keys.now c) }
     ensures reports { Reports (IsReport (RunLevel.Hack show) core.now (code_at keys.now) cycles) (O.written out.old) (O.written out.new) result }
     ensures counts { CountsReport (O.faults out.old) (O.faults out.new) result }

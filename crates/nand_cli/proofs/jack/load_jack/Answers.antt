@@ -1,13 +1,14 @@
-use Rattle.std.proofs.Common.{List, ◌≤◌, Ok, length, sym, subst}
+use Rattle.std.proofs.Common.{List, ◌≤◌, Ok, length, map, sym, subst}
 use Rattle.std.proofs.lemmas.Result.{err_from_is_err_and}
 use Rattle.jack_core.specs.declared.program.Core.{Core}
 use Rattle.jack_tree.specs.declared.tree.Class.{Class}
+use Rattle.jack_tree.specs.Seen.{the_file}
 use Rattle.source_files.specs.Loads.{Loads}
 use Rattle.tower.specs.Program.{Means}
 use Rattle.tower.specs.Spelled.{AreSpelled}
 use Rattle.nand_cli.specs.JackFolder.{IsMeaningless}
 use Rattle.nand_cli.proofs.Means.{meant, program_counts, without_classes}
-use Rattle.nand_cli.proofs.Spelling.{few_classes, spelled_classes}
+use Rattle.nand_cli.proofs.Spelling.{few_classes, seen_classes, spelled_classes}
 use Rattle.nand_cli.proofs.jack.load_jack.Goals as goal
 
 pub returns-in_err-classes-clause-loads : goal.returns-in_err-classes-clause-loads
@@ -20,11 +21,11 @@ program_of-requires-clause-few g c =
     subst (λ (classes : List Class). length classes ≤ 256) (sym c.deref.ensures.value) (few_classes _ _ c.in_ok-classes.classes.items c.in_ok-classes.ensures.loads)
 
 pub program_of-requires-clause-spelled : goal.program_of-requires-clause-spelled
-program_of-requires-clause-spelled g c = subst AreSpelled (sym c.deref.ensures.value) (spelled_classes _ _ c.in_ok-classes.classes.items c.in_ok-classes.ensures.loads)
+program_of-requires-clause-spelled g c = subst AreSpelled (sym c.deref.ensures.value) (spelled_classes _ _ c.in_ok-classes.classes.items (seen_classes _ _ c.in_ok-classes.classes.items c.in_ok-classes.ensures.loads))
 
 pub returns-clause-loads : goal.returns-clause-loads
 returns-clause-loads g c =
-    let P : List Class → Type 0 = λ classes. Loads (λ (core : Core). Means classes (Ok core)) (IsMeaningless c.args.folder.now classes) ⊥ c.program_of.result in
+    let P : List Class → Type 0 = λ classes. Loads (λ (core : Core). Means classes (Ok core)) (IsMeaningless c.args.folder.now (map the_file classes)) ⊥ c.program_of.result in
     meant _ _ (g.F.Shelf.there c.args.shelf.now) (g.F.Shelf.unfailing c.args.shelf.now) c.in_ok-classes.classes.items c.program_of.result c.in_ok-classes.ensures.loads (subst P c.deref.ensures.value c.program_of.ensures.makes)
 
 pub returns-clause-counts : goal.returns-clause-counts

@@ -2,4 +2,4 @@ use Rattle.nand_cli.proofs.Compiling.{not_compiled}
 use Rattle.nand_cli.proofs.commands.compile.compiled.Goals as goal
 
 pub returns-in-Err-clause-makes : goal.returns-in-Err-clause-makes
-returns-in-Err-clause-makes c = not_compiled c.args.folder.now c.args.classes.now c.in-Err.error c.not_meant.result c.in-Err.ensures.fault c.not_meant.ensures
+returns-in-Err-clause-makes c = not_compiled c.first_law.ensures c.args.folder.now c.args.classes.now c.in-Err.error c.not_meant.result c.requires.spelled c.in-Err.ensures.fault c.not_meant.ensures

@@ -35,18 +35,19 @@ returns-clause-does g c = λ err.
     let out' = g.O.Sink.written c.show_map.new.out in
     let program = c.in_ok-program.program in
     let core = program.core in
-    let computer = program.built in
+    let built = program.built in
     let r = c.show_map.result in
     let names = map (λ n. n.now) c.deref-2.result.now in
     let ranges = c.points.result.now in
     let commits = c.commits.result.now in
-    let P : List (List ℕ) → Type 0 = λ ns. Puts out out' (map_text ns computer.ranges computer.commits) r in
-    let Q : List PointRange → Type 0 = λ rs. Puts out out' (map_text names rs computer.commits) r in
-    let R : List ℕ → Type 0 = λ cs. Puts out out' (map_text names ranges cs) r in
-    let put = subst R c.commits.ensures c.show_map.ensures.put in
+    let P : List (List ℕ) → Type 0 = λ ns. Puts out out' (map_text ns built.ranges built.commits built.shared) r in
+    let Q : List PointRange → Type 0 = λ rs. Puts out out' (map_text names rs built.commits built.shared) r in
+    let R : List ℕ → Type 0 = λ cs. Puts out out' (map_text names ranges cs built.shared) r in
+    let T : List (ℕ × ℕ) → Type 0 = λ rs. Puts out out' (map_text names ranges commits rs) r in
+    let put = subst R c.commits.ensures (subst T c.shared.ensures c.show_map.ensures.put) in
     let named = ap (map (λ n. n.now)) c.deref-2.ensures.value ∙ c.in_ok-names.ensures ∙ ap (map (λ s. s.name)) c.deref.ensures.value in
-    rw (c.finished.ensures) (done_by (g.F.Shelf.files c.args.shelf.now) (g.F.Shelf.there c.args.shelf.now) (g.F.Shelf.unfailing c.args.shelf.now) (map_line c.args.folder.now) (map_text (names_of core) computer.ranges computer.commits) _ _ err r
-    ((core, computer, c.in_ok-program.ensures.loads, covered core computer c.in_ok-program.ensures.loads.1, rising core computer c.in_ok-program.ensures.loads.1, refl), refl) (subst P named (subst Q c.points.ensures put)) tt)
+    rw (c.finished.ensures) (done_by (g.F.Shelf.files c.args.shelf.now) (g.F.Shelf.there c.args.shelf.now) (g.F.Shelf.unfailing c.args.shelf.now) (map_line c.args.folder.now) (map_text (names_of core) built.ranges built.commits built.shared) _ _ err r
+    ((core, built, c.in_ok-program.ensures.loads, covered core built c.in_ok-program.ensures.loads.1, rising core built c.in_ok-program.ensures.loads.1, refl), refl) (subst P named (subst Q c.points.ensures put)) tt)
 
 pub returns-clause-counts : goal.returns-clause-counts
 returns-clause-counts g c = λ err.
