@@ -3,7 +3,7 @@
 ghost use Rattle.std.specs.Prelude.{◌≤◌, IfOk, length};
 ghost use Rattle.vm_link.specs.Sound.{IsSound};
 
-use crate::programs::{EVERY_COMMAND, EVERY_COMMAND_WORDS, FunctionRow, Written, sound};
+use crate::programs::{EVERY_COMMAND, EVERY_COMMAND_WORDS, FunctionRow, Written, linked, sound};
 use hack_isa::{Instr, encode};
 use hack_machine::Hack;
 use std::alloc::{AllocError, Global};
@@ -60,17 +60,22 @@ fn image(alloc: Global, coded: &Coded) -> Result<Vec<u16>, Fail>
     Ok(words)
 }
 
-// The machine with an image, after so many steps.
-fn machine(alloc: Global, words: &[u16], steps: u16) -> Result<Hack, Fail>
-    requires { length words.now ≤ 32768 }
-{
-    let mut machine = Hack::new(alloc, words)?;
+fn go_on(machine: &mut Hack, steps: u16) -> Result<(), Fail> {
     for _ in 0..steps {
         if machine.moves() > 100000 {
             return Err(Fail::from("too many moves"));
         }
         machine.step(0);
     }
+    Ok(())
+}
+
+// The machine with an image, after so many steps.
+fn machine(alloc: Global, words: &[u16], steps: u16) -> Result<Hack, Fail>
+    requires { length words.now ≤ 32768 }
+{
+    let mut machine = Hack::new(alloc, words)?;
+    go_on(&mut machine, steps)?;
     Ok(machine)
 }
 
@@ -174,8 +179,42 @@ fn runs(rt: &impl Abort, alloc: Global, number: usize, case: &Case<'_>) -> Resul
     Ok(())
 }
 
-// Sys.init with so many commands `neg` and then so many `add` has 54 + 3 * negs + 5 * adds words; what is told of them.
-const IMAGES: [(u16, u16, &str); 2] = [(10903, 1, "32768 words"), (10905, 0, "TooLarge 32769")];
+// Commands of a program without start code.
+const COMPARISON: &[Written] = &[
+    Written::Push(Segment::Constant, 17),
+    Written::Push(Segment::Constant, 17),
+    Written::Operate(Operation::Eq),
+];
+
+fn comparison(alloc: Global) -> Result<Linked, Fail>
+    ensures { IfOk result IsSound }
+{
+    match linked(alloc, &[("Eq", COMPARISON, &[])], true) {
+        Ok(linked) => Ok(linked),
+        Err(fault) => Err(Fail::new(format!(in alloc; "{fault}")?)),
+    }
+}
+
+// Its stack stays as it is behind its last command, also long after that.
+fn comparison_stays(rt: &impl Abort, alloc: Global) -> Result<(), Fail> {
+    let linked = comparison(alloc)?;
+    let Ok(coded) = coded(alloc, &linked) else {
+        return Err(Fail::from("no code"));
+    };
+    let words = image(alloc, &coded)?;
+    for steps in [60, 1000] {
+        let mut machine = Hack::new(alloc, &words)?;
+        machine.set_ram(0, 256);
+        go_on(&mut machine, steps)?;
+        assert_eq!(rt; machine.ram(0), 257, "after {steps}");
+        assert_eq!(rt; machine.ram(256), 65535, "after {steps}");
+    }
+    Ok(())
+}
+
+// Sys.init with so many commands `neg` and then so many `add` has 65 + 3 * negs + 5 * adds words, 23 of them of the start and 41 of the
+// routine of calls; what is told of them.
+const IMAGES: [(u16, u16, &str); 2] = [(10901, 0, "32768 words"), (10898, 2, "TooLarge 32769")];
 
 fn operations(alloc: Global, negs: u16, adds: u16) -> Result<Vec<Written>, AllocError> {
     let mut lines = Vec::new(alloc);
@@ -206,6 +245,7 @@ fn images(rt: HostRuntime) -> Result<(), Fail> {
     for (number, case) in CASES.iter().enumerate() {
         runs(&rt, alloc, number, case)?;
     }
+    comparison_stays(&rt, alloc)?;
     for (negs, adds, wanted) in IMAGES {
         assert_eq!(rt;
             told(alloc, negs, adds)?.as_str(),

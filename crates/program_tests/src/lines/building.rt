@@ -81,19 +81,25 @@ const CASES: &[Case<'static>] = &[
     },
 ];
 
-// The words of the image stand one a line, and the map begins with the points of the start code.
+// the routines stand at the end of the image: call, return, and the comparisons by = > <
+const ROUTINES: &[u8] =
+    b"shared 5922 5963\nshared 5963 6005\nshared 6005 6048\nshared 6048 6091\nshared 6091 6134\n";
+
+// The words of the image stand one a line. The map begins with the points of the start code, and ends with the routines; no point is in
+// them.
 #[test]
 fn a_program_is_built(rt: HostRuntime) -> Result<(), Fail> {
     let alloc = rt.alloc();
     let image = outcome_of(alloc, files_of(alloc, FOLDER)?, "build prog", NONE)?;
     assert_eq!(rt; image.status, Status::Done);
-    assert_eq!(rt; image.out.bytes().len(), 8_890 * 17);
+    assert_eq!(rt; image.out.bytes().len(), 6_134 * 17);
     let begun = b"0000000100000000\n1110110000010000\n0000000000000000\n1110001100001000\n";
     assert!(rt; image.out.bytes().starts_with(begun.as_slice()));
     let map = outcome_of(alloc, files_of(alloc, FOLDER)?, "map prog", NONE)?;
     assert_eq!(rt; map.status, Status::Done);
-    let begun = b"map 1\npoint 0 51 start 1\npoint 51 53 start 2\n";
+    let begun = b"map 1\npoint 0 21 start 1\npoint 21 23 start 2\npoint 23 ";
     assert!(rt; map.out.bytes().starts_with(begun.as_slice()));
+    assert!(rt; map.out.bytes().ends_with(ROUTINES));
     is_cut(&rt, alloc, FOLDER, "build prog", 4_106)
 }
 

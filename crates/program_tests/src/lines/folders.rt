@@ -169,6 +169,25 @@ const FITTING: &[(&str, Long<'static>, Case<'static>)] = &[
             err: "",
         },
     ),
+    // each character of a string has 18 words
+    (
+        "prog/Main.jack",
+        Long {
+            front: "class Main { function void main() { do Output.printString(\"",
+            piece: "a",
+            behind_number: None,
+            times: 1_000,
+            back: "\"); } }",
+        },
+        Case {
+            files: &[],
+            lines: &["run prog --level hack --cycles 0"],
+            fails: NONE,
+            status: Status::Done,
+            out: "level hack\nmoves 0\nsteps 0\npoint start 1\nend bound\n",
+            err: "",
+        },
+    ),
 ];
 
 // what has no computer is run at no level; of the key script, whose moments do not rise or which is not there, nothing is told
@@ -215,10 +234,10 @@ const TOO_LARGE: &[(&str, Long<'static>, Case<'static>)] = &[
             fails: NONE,
             status: Status::Refused,
             out: "",
-            err: "prog:0:0: TooLarge 146906\n",
+            err: "prog:0:0: TooLarge 144150\n",
         },
     ),
-    // however many operators stand in a row, they are read, resolved and counted: 11 words for each sum, 48 for each product
+    // however many operators stand in a row, they are read, resolved and counted: 11 words for each sum, 18 for each product
     (
         "prog/Main.jack",
         Long {
@@ -234,7 +253,7 @@ const TOO_LARGE: &[(&str, Long<'static>, Case<'static>)] = &[
             fails: NONE,
             status: Status::Refused,
             out: "",
-            err: "prog:0:0: TooLarge 1108952\n",
+            err: "prog:0:0: TooLarge 1106196\n",
         },
     ),
     (
@@ -252,7 +271,7 @@ const TOO_LARGE: &[(&str, Long<'static>, Case<'static>)] = &[
             fails: NONE,
             status: Status::Refused,
             out: "",
-            err: "prog:0:0: TooLarge 969326\n",
+            err: "prog:0:0: TooLarge 366462\n",
         },
     ),
 ];

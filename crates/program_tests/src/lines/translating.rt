@@ -1,7 +1,7 @@
 //! Lines of `vm`.
 use super::{
     Case, Failures, Long, NONE, READ_FAULT, each_ends, each_is_done, each_is_refused,
-    each_long_ends, files_of, outcome_of,
+    each_long_ends, files_of, outcome_of, text_of,
 };
 use nand_cli::Status;
 use outer_world::Name;
@@ -216,7 +216,7 @@ const CASES: &[Case<'static>] = &[
     },
 ];
 
-// 6 words for each push, and 56 more, are past the limit
+// 6 words for each push, and 67 more, are past the limit
 const LONG: &[(&str, Long<'static>, Case<'static>)] = &[(
     "v/Sys.vm",
     Long {
@@ -232,9 +232,40 @@ const LONG: &[(&str, Long<'static>, Case<'static>)] = &[(
         fails: NONE,
         status: Status::Refused,
         out: "",
-        err: "v:0:0: TooLarge 36056\n",
+        err: "v:0:0: TooLarge 36067\n",
     },
 )];
+
+// A comparison has 4 words of its own beside the 17 of its two pushes and its pop.
+const COMPARISONS: Long<'static> = Long {
+    front: "function Sys.init 0\n",
+    piece: "push constant 1\npush constant 2\nlt\npop temp 0\n",
+    behind_number: None,
+    times: 950,
+    back: "label E\ngoto E\n",
+};
+
+// Besides there are 23 words of the start, 1 of the function and 2 of the jump, and the routines of calls and of `lt` with 41 and 43.
+const COMPARISONS_LINES: usize = 950 * 21 + 110;
+
+fn lines_in(text: &[u8]) -> usize {
+    let mut lines = 0usize;
+    for byte in text {
+        if *byte == b'\n' {
+            lines = lines.saturating_add(1);
+        }
+    }
+    lines
+}
+
+fn comparisons_are_short(rt: &impl Abort, alloc: Global) -> Result<(), Fail> {
+    let mut files = Vec::new(alloc);
+    files.push((Name::new(alloc, "v/Sys.vm")?, text_of(alloc, &COMPARISONS)?))?;
+    let made = outcome_of(alloc, files, "vm v", NONE)?;
+    assert_eq!(rt; made.status, Status::Done);
+    assert_eq!(rt; lines_in(made.out.bytes()), COMPARISONS_LINES);
+    Ok(())
+}
 
 // The program that `vm` makes of files puts these words of its memory.
 fn makes(
@@ -287,6 +318,7 @@ fn programs_are_made(rt: HostRuntime) -> Result<(), Fail> {
     for (files, line, out) in PROGRAMS {
         makes(&rt, alloc, files, line, out)?;
     }
+    comparisons_are_short(&rt, alloc)?;
     each_is_done(&rt, alloc, DONE)
 }
 
