@@ -8,4 +8,6 @@ set in 4321, set load 0, tick, output; tock, output;
 set load 1, tick, output; tock, output;
 set in -1, set load 0, tick, output; tock, output;
 set load 1, tick, output; tock, output;
-set in 0, tick, output; tock, output;
+set in 0, set load 0, tick, output; tock, output;
+set load 1, tick, output; tock, output;
+set in -1, set load 0, tick, output; tock, output;

@@ -17,3 +17,11 @@ set in -1, set load 1, tick, output; tock, output;
 set load 0, tick, output; tock, output;
 tick, output; tock, output;
 set reset 1, tick, output; tock, output;
+
+// reset alone, and with load alone
+set in 21845, set reset 0, set load 1, tick, output; tock, output;
+set reset 1, set load 0, set inc 0, tick, output; tock, output;
+set in -21846, set reset 0, set load 1, tick, output; tock, output;
+set reset 1, tick, output; tock, output;
+set reset 0, set load 0, tick, output; tock, output;
+set inc 1, tick, output; tock, output;

@@ -12,6 +12,17 @@ set in -32123, set load 1, tick, output; tock, output;
 set load 0, tick, output; tock, output;
 set in 12345, set load 1, tick, output; tock, output;
 set in 0, set load 0, tick, output; tock, output;
-set in %B0101010101010101, set load 1, tick, output; tock, output;
-set in %B1010101010101010, tick, output; tock, output;
-set in -1, tick, output; tock, output;
+
+// each bit as 0 and as 1, with the other one at the input
+set in %B1010101010101010, set load 1, tick, output; tock, output;
+set in %B0101010101010101, set load 0, tick, output; tock, output;
+set in %B1100110011001100, set load 1, tick, output; tock, output;
+set in %B0011001100110011, set load 0, tick, output; tock, output;
+set in %B1111000011110000, set load 1, tick, output; tock, output;
+set in %B0000111100001111, set load 0, tick, output; tock, output;
+set in %B1111111100000000, set load 1, tick, output; tock, output;
+set in %B0000000011111111, set load 0, tick, output; tock, output;
+set in %B1111111111111111, set load 1, tick, output; tock, output;
+set in %B0000000000000000, set load 0, tick, output; tock, output;
+set in %B0000000000000000, set load 1, tick, output; tock, output;
+set in %B1111111111111111, set load 0, tick, output; tock, output;

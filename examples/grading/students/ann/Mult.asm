@@ -1,0 +1,19 @@
+// RAM[2] becomes the product of RAM[0] and RAM[1], which counts down.
+    @R2
+    M=0
+(LOOP)
+    @R1
+    D=M
+    @END
+    D;JEQ
+    @R0
+    D=M
+    @R2
+    M=D+M
+    @R1
+    M=M-1
+    @LOOP
+    0;JMP
+(END)
+    @END
+    0;JMP
