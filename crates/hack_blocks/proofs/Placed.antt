@@ -12,7 +12,7 @@ use Rattle.hack_blocks.specs.declared.shape.Shape.TheVariants.{PushConstant, Pus
 use Rattle.hack_blocks.specs.declared.routines.Routine.{Routine}
 use Rattle.hack_blocks.specs.declared.routines.Routine.TheVariants as routine
 use Rattle.hack_blocks.specs.declared.routines.Routines.{Routines}
-use Rattle.hack_blocks.specs.Templates.{compare_routine, load, template, size, routine_code, routine_size, routine_of, function_code, set_stack, endless, start_code}
+use Rattle.hack_blocks.specs.Templates.{order_routine, load, template, size, routine_code, routine_size, routine_of, function_code, set_stack, endless, start_code}
 use Rattle.hack_blocks.specs.Computer.{Stands}
 use Rattle.hack_blocks.specs.Commands.{IsShape}
 use Rattle.hack_blocks.specs.Laws.{IsFound, TemplatesFit, InstructionsStand, Starts}
@@ -111,10 +111,10 @@ load_fits n small =
       | inr l ↦ rw (le-ltb n 32768 l) (search (arith, l))
     ]
 
-compare_fits : (j here : ℕ) → here + 43 ≤ 32768 → j < 8 → Fit (compare_routine (Compute false 12 0 j) here)
-compare_fits j here h small =
-    let code = compare_routine (Compute false 12 0 j) here in
-    fit_both (take 15 code) (drop 15 code) (search arith) (fit_both (take 13 (drop 15 code)) (drop 28 code) (search arith) (search arith))
+order_fits : (j t here : ℕ) → here + 38 ≤ 32768 → j < 8 → t < 8 → Fit (order_routine (Compute false 12 0 j) (Compute false 12 0 t) here)
+order_fits j t here h small low =
+    let code = order_routine (Compute false 12 0 j) (Compute false 12 0 t) here in
+    fit_both (take 13 code) (drop 13 code) (search arith) (fit_both (take 13 (drop 13 code)) (drop 26 code) (search arith) (search arith))
 
 fits : (at : Routines) (here : ℕ) (c : Shape) → IsShape c → IsFound at (routine_of c) → here + size c ≤ 32768 → Fit (template at here c)
 fits at here (PushConstant n) l f h = search arith
@@ -162,9 +162,9 @@ routine_length routine.Less at = refl
 routine_fit : (r : Routine) (at : ℕ) → at + routine_size r ≤ 32768 → Fit (routine_code r at)
 routine_fit routine.Call at h = search arith
 routine_fit routine.Back at h = search arith
-routine_fit routine.Equal at h = compare_fits 2 at h (omega arith)
-routine_fit routine.Greater at h = compare_fits 1 at h (omega arith)
-routine_fit routine.Less at h = compare_fits 4 at h (omega arith)
+routine_fit routine.Equal at h = search arith
+routine_fit routine.Greater at h = order_fits 1 3 at h (omega arith) (omega arith)
+routine_fit routine.Less at h = order_fits 4 4 at h (omega arith) (omega arith)
 
 pub routine_fits : (r : Routine) (at : ℕ) → at + routine_size r ≤ 32768 → All WellFormed (routine_code r at)
 routine_fits r at h = all_of (routine_code r at) (routine_fit r at h)

@@ -254,26 +254,25 @@ module _ (image : List ℕ) (rs : Routines) (s : Machine) where
   goes_by Eq here ready =
       let inside : ℕ → Type 0 = IsInside rs s.pc Eq in
       let back : ℕ = (s.pc + 4) % 32768 in
-      let last : rs.equal + 42 ≡ rs.equal + 43 - 1 = omega arith in
-      subst (λ l. Does image inside l ⊥ (After Eq (Effect Eq s.pc) s) 46 s) last
-      (within 35 46 s (omega arith)
-      (eq_goes image inside s.pc rs.equal (λ k a b. inl (a, b)) (λ k a b. inr (a, omega arith)) here.low here.shared.0 (data_of s) (data_words s here.words) back (omega arith) here.stands here.shared.1 ready.0 ready.1
-      (λ y wy p. after image rs inside s 0 (λ k a b. absurd (omega arith)) Eq (Effect Eq s.pc) back y wy refl p)))
+      let last : rs.equal + 15 ≡ rs.equal + 16 - 1 = omega arith in
+      subst (λ l. Does image inside l ⊥ (After Eq (Effect Eq s.pc) s) 19 s) last
+      (eq_goes image inside s.pc rs.equal (λ k a b. inl (a, b)) here.low (data_of s) (data_words s here.words) back (omega arith) here.shared.0 (λ k a b. inr (a, omega arith)) here.stands here.shared.1 ready.0 ready.1
+      (λ y wy p. after image rs inside s 0 (λ k a b. absurd (omega arith)) Eq (Effect Eq s.pc) back y wy refl p))
   goes_by Gt here ready =
       let inside : ℕ → Type 0 = IsInside rs s.pc Gt in
       let back : ℕ = (s.pc + 4) % 32768 in
-      let last : rs.greater + 42 ≡ rs.greater + 43 - 1 = omega arith in
-      subst (λ l. Does image inside l ⊥ (After Gt (Effect Gt s.pc) s) 46 s) last
-      (within 35 46 s (omega arith)
-      (gt_goes image inside s.pc rs.greater (λ k a b. inl (a, b)) (λ k a b. inr (a, omega arith)) here.low here.shared.0 (data_of s) (data_words s here.words) back (omega arith) here.stands here.shared.1 ready.0 ready.1
+      let last : rs.greater + 37 ≡ rs.greater + 38 - 1 = omega arith in
+      subst (λ l. Does image inside l ⊥ (After Gt (Effect Gt s.pc) s) 41 s) last
+      (within 33 41 s (omega arith)
+      (gt_goes image inside s.pc rs.greater (λ k a b. inl (a, b)) here.low (data_of s) (data_words s here.words) back (omega arith) here.shared.0 (λ k a b. inr (a, omega arith)) here.stands here.shared.1 ready.0 ready.1
       (λ y wy p. after image rs inside s 0 (λ k a b. absurd (omega arith)) Gt (Effect Gt s.pc) back y wy refl p)))
   goes_by Lt here ready =
       let inside : ℕ → Type 0 = IsInside rs s.pc Lt in
       let back : ℕ = (s.pc + 4) % 32768 in
-      let last : rs.less + 42 ≡ rs.less + 43 - 1 = omega arith in
-      subst (λ l. Does image inside l ⊥ (After Lt (Effect Lt s.pc) s) 46 s) last
-      (within 35 46 s (omega arith)
-      (lt_goes image inside s.pc rs.less (λ k a b. inl (a, b)) (λ k a b. inr (a, omega arith)) here.low here.shared.0 (data_of s) (data_words s here.words) back (omega arith) here.stands here.shared.1 ready.0 ready.1
+      let last : rs.less + 37 ≡ rs.less + 38 - 1 = omega arith in
+      subst (λ l. Does image inside l ⊥ (After Lt (Effect Lt s.pc) s) 41 s) last
+      (within 33 41 s (omega arith)
+      (lt_goes image inside s.pc rs.less (λ k a b. inl (a, b)) here.low (data_of s) (data_words s here.words) back (omega arith) here.shared.0 (λ k a b. inr (a, omega arith)) here.stands here.shared.1 ready.0 ready.1
       (λ y wy p. after image rs inside s 0 (λ k a b. absurd (omega arith)) Lt (Effect Lt s.pc) back y wy refl p)))
   goes_by (Goto target) here ready = alone (Goto target) refl here ready
   goes_by (IfGoto target) here ready = alone (IfGoto target) refl here ready
@@ -281,16 +280,16 @@ module _ (image : List ℕ) (rs : Routines) (s : Machine) where
       let c = Call target n in
       let inside : ℕ → Type 0 = IsInside rs s.pc (Call target n) in
       let back : ℕ = (s.pc + 12) % 32768 in
-      let last : rs.call + 40 ≡ rs.call + 41 - 1 = omega arith in
-      subst (λ l. Does image inside l ⊥ (After c (Effect c s.pc) s) 52 s) last
+      let last : rs.call + 33 ≡ rs.call + 34 - 1 = omega arith in
+      subst (λ l. Does image inside l ⊥ (After c (Effect c s.pc) s) 45 s) last
       (call_goes image inside s.pc rs.call (λ k a b. inl (a, b)) (λ k a b. inr (a, omega arith)) here.low here.shared.0 (data_of s) (data_words s here.words) back target n (omega arith) here.shape.0 here.shape.1 here.stands here.shared.1
       ready.0 ready.1
       (λ y wy p. after image rs inside s 0 (λ k a b. absurd (omega arith)) c (Effect c s.pc) target y wy refl p))
   goes_by (Function n) here ready = alone (Function n) refl here ready
   goes_by Return here ready =
       let inside : ℕ → Type 0 = IsInside rs s.pc Return in
-      let last : rs.back + 41 ≡ rs.back + 42 - 1 = omega arith in
-      subst (λ l. Does image inside l ⊥ (After Return (Effect Return s.pc) s) 43 s) last
+      let last : rs.back + 39 ≡ rs.back + 40 - 1 = omega arith in
+      subst (λ l. Does image inside l ⊥ (After Return (Effect Return s.pc) s) 41 s) last
       (return_goes image inside s.pc rs.back (λ k a b. inl (a, b)) (λ k a b. inr (a, omega arith)) here.low here.shared.0 (data_of s) (data_words s here.words) here.stands here.shared.1
       (ready.0).0 (ready.0).1 ready.1 ready.2 ready.3 ready.4
       (λ y wy p. after image rs inside s 0 (λ k a b. absurd (omega arith)) Return (Effect Return s.pc) (s.memory (s.memory 1 - 5)) y wy refl p))

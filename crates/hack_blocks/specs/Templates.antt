@@ -9,7 +9,7 @@ use Rattle.hack_blocks.specs.declared.shape.Shape.TheVariants.{PushConstant, Pus
 use Rattle.hack_blocks.specs.declared.routines.Routine.{Routine}
 use Rattle.hack_blocks.specs.declared.routines.Routine.TheVariants as routine
 use Rattle.hack_blocks.specs.declared.routines.Routines.{Routines}
-use Rattle.hack_blocks.specs.declared.instructions.TheConstants.{D_IS_A, D_IS_NOT_A, D_IS_M, A_IS_M, M_IS_D, M_IS_0, D_IS_0, D_IS_1, D_IS_MINUS_1, AM_IS_M_MINUS_1, AM_IS_M_PLUS_1, A_IS_A_MINUS_1, A_IS_M_MINUS_1, D_IS_M_PLUS_1, A_IS_D_PLUS_M, D_IS_D_PLUS_M, D_IS_D_MINUS_M, A_IS_D_MINUS_A, M_IS_D_PLUS_M, M_IS_M_MINUS_D, M_IS_D_AND_M, M_IS_D_OR_M, M_IS_MINUS_M, M_IS_NOT_M, JUMP, IF_D_LESS, IF_D_GREATER, IF_D_EQUAL, IF_D_NOT_LESS, IF_D_NOT_EQUAL}
+use Rattle.hack_blocks.specs.declared.instructions.TheConstants.{D_IS_A, D_IS_NOT_A, D_IS_M, A_IS_M, M_IS_D, M_IS_0, M_IS_MINUS_1, AM_IS_M_MINUS_1, AM_IS_M_PLUS_1, A_IS_A_MINUS_1, A_IS_M_MINUS_1, D_IS_M_PLUS_1, MD_IS_M_PLUS_1, A_IS_D_PLUS_M, D_IS_D_PLUS_M, D_IS_D_AND_M, D_IS_D_OR_M, D_IS_D_MINUS_M, D_IS_M_MINUS_D, A_IS_D_MINUS_A, M_IS_D_PLUS_M, M_IS_M_MINUS_D, M_IS_D_AND_M, M_IS_D_OR_M, M_IS_MINUS_M, M_IS_NOT_M, JUMP, IF_D_LESS, IF_D_GREATER, IF_D_EQUAL, IF_D_NOT_LESS, IF_D_NOT_EQUAL}
 
 -- D goes on the stack
 abbrev pub push_d : List Instr
@@ -56,19 +56,6 @@ join operation = pop_d ++ A_IS_A_MINUS_1 ∷ operation ∷ []
 abbrev pub turn : Instr → List Instr
 turn operation = Address 0 ∷ A_IS_M_MINUS_1 ∷ operation ∷ []
 
--- The two topmost values, x and above it y, give way to -1 where x compares to y as the jump compares D to 0, else to 0. Where the signs
--- differ D is 1 or -1, else x - y: there the difference does not overflow.
-abbrev pub compare : Instr → ℕ → List Instr
-compare jump here =
-    Address 0 ∷ AM_IS_M_MINUS_1 ∷ D_IS_M ∷ Address 13 ∷ M_IS_D ∷
-    Address 0 ∷ A_IS_M_MINUS_1 ∷ D_IS_M ∷ Address (here + 17) ∷ IF_D_LESS ∷
-    Address 13 ∷ D_IS_M ∷ Address (here + 24) ∷ IF_D_NOT_LESS ∷ D_IS_1 ∷ Address (here + 29) ∷ JUMP ∷
-    Address 13 ∷ D_IS_M ∷ Address (here + 24) ∷ IF_D_LESS ∷ D_IS_MINUS_1 ∷ Address (here + 29) ∷ JUMP ∷
-    Address 0 ∷ A_IS_M_MINUS_1 ∷ D_IS_M ∷ Address 13 ∷ D_IS_D_MINUS_M ∷
-    Address (here + 34) ∷ jump ∷ D_IS_0 ∷ Address (here + 35) ∷ JUMP ∷
-    D_IS_MINUS_1 ∷
-    Address 0 ∷ A_IS_M_MINUS_1 ∷ M_IS_D ∷ []
-
 -- on to an address
 abbrev pub go_to : ℕ → List Instr
 go_to target = Address target ∷ JUMP ∷ []
@@ -91,18 +78,25 @@ abbrev pub call_by : ℕ → ℕ → ℕ → ℕ → List Instr
 call_by routine back target arguments =
     Address target ∷ D_IS_A ∷ Address 13 ∷ M_IS_D ∷ (load (5 + arguments) ++ Address 14 ∷ M_IS_D ∷ Address back ∷ D_IS_A ∷ go_to routine)
 
--- ARG is so far below SP as the word 14 tells, LCL is SP
+-- D goes where SP points
+abbrev pub put_d : List Instr
+put_d = Address 0 ∷ A_IS_M ∷ M_IS_D ∷ []
+
+-- the word of a register goes above the one that SP points to, and SP points to it
+abbrev pub save : ℕ → List Instr
+save register = Address register ∷ D_IS_M ∷ Address 0 ∷ AM_IS_M_PLUS_1 ∷ M_IS_D ∷ []
+
+-- SP is above the topmost word again, LCL is SP, and ARG is so far below as the word 14 tells
 abbrev pub set_pointers : List Instr
-set_pointers =
-    Address 0 ∷ D_IS_M ∷ Address 14 ∷ D_IS_D_MINUS_M ∷ Address 2 ∷ M_IS_D ∷ Address 0 ∷ D_IS_M ∷ Address 1 ∷ M_IS_D ∷ []
+set_pointers = Address 0 ∷ MD_IS_M_PLUS_1 ∷ Address 1 ∷ M_IS_D ∷ Address 14 ∷ D_IS_D_MINUS_M ∷ Address 2 ∷ M_IS_D ∷ []
 
 -- on to the address that is in the word 13
 abbrev pub go_on : List Instr
 go_on = Address 13 ∷ A_IS_M ∷ JUMP ∷ []
 
--- the return address and the four registers go on the stack, and then the function is entered
+-- The return address and the four registers go on the stack, and then the function is entered. SP points to the topmost of them until all are there.
 abbrev pub call_routine : List Instr
-call_routine = push_d ++ (push_word 1 ++ (push_word 2 ++ (push_word 3 ++ (push_word 4 ++ (set_pointers ++ go_on)))))
+call_routine = put_d ++ (save 1 ++ (save 2 ++ (save 3 ++ (save 4 ++ (set_pointers ++ go_on)))))
 
 -- one local of 0
 abbrev pub push_zero : List Instr
@@ -113,45 +107,77 @@ abbrev pub function_code : ℕ → List Instr
 function_code zero = Address 0 ∷ []
 function_code (suc n) = push_zero ++ function_code n
 
--- LCL goes to the word 13 and the return address to the word 14, before the result is put, which may stand where the return address stood
+-- the return address goes to the word 14, before the result is put, which may stand where the return address stood
 abbrev pub save_return : List Instr
-save_return =
-    Address 1 ∷ D_IS_M ∷ Address 13 ∷ M_IS_D ∷ Address 5 ∷ A_IS_D_MINUS_A ∷ D_IS_M ∷ Address 14 ∷ M_IS_D ∷ []
+save_return = Address 1 ∷ D_IS_M ∷ Address 5 ∷ A_IS_D_MINUS_A ∷ D_IS_M ∷ Address 14 ∷ M_IS_D ∷ []
 
 -- the topmost value goes to where ARG points, and SP is above it
 abbrev pub put_result : List Instr
 put_result = pop_d ++ Address 2 ∷ A_IS_M ∷ M_IS_D ∷ Address 2 ∷ D_IS_M_PLUS_1 ∷ Address 0 ∷ M_IS_D ∷ []
 
--- the next word below the one that the word 13 points to goes to a register
+-- LCL goes down the saved words: the next one goes to a register
 abbrev pub restore : ℕ → List Instr
-restore register = Address 13 ∷ AM_IS_M_MINUS_1 ∷ D_IS_M ∷ Address register ∷ M_IS_D ∷ []
+restore register = Address 1 ∷ AM_IS_M_MINUS_1 ∷ D_IS_M ∷ Address register ∷ M_IS_D ∷ []
+
+-- and the last one to LCL
+abbrev pub restore_lcl : List Instr
+restore_lcl = Address 1 ∷ A_IS_M_MINUS_1 ∷ D_IS_M ∷ Address 1 ∷ M_IS_D ∷ []
 
 -- back to the return address, which is in the word 14
 abbrev pub go_back : List Instr
 go_back = Address 14 ∷ A_IS_M ∷ JUMP ∷ []
 
 abbrev pub return_code : List Instr
-return_code = save_return ++ (put_result ++ (restore 4 ++ (restore 3 ++ (restore 2 ++ (restore 1 ++ go_back)))))
+return_code = save_return ++ (put_result ++ (restore 4 ++ (restore 3 ++ (restore 2 ++ (restore_lcl ++ go_back)))))
 
--- A comparison as a routine: the address to come back to waits in the word 14.
-abbrev pub compare_routine : Instr → ℕ → List Instr
-compare_routine jump at = Address 14 ∷ M_IS_D ∷ (compare jump (at + 2) ++ go_back)
+-- How the routine of a comparison of x and, above it, y begins: the address to come back to, which is in D, waits in the word 14. y is taken away
+-- and goes to D; it still stands where it stood, above SP. A is the address of x.
+abbrev pub begin_compare : List Instr
+begin_compare = Address 14 ∷ M_IS_D ∷ Address 0 ∷ AM_IS_M_MINUS_1 ∷ D_IS_M ∷ A_IS_A_MINUS_1 ∷ []
+
+-- 0 over the topmost word
+abbrev pub put_false : List Instr
+put_false = Address 0 ∷ A_IS_M_MINUS_1 ∷ M_IS_0 ∷ []
+
+-- How it ends: the -1 that is the topmost word stays there if the jump is taken, else 0 goes over it. Then back.
+abbrev pub decide : Instr → ℕ → List Instr
+decide jump here = Address (here + 5) ∷ jump ∷ (put_false ++ go_back)
+
+-- x, to which A points, gives way to -1 where x - y compares to 0 as the jump does, else to 0; y is in D
+abbrev pub by_difference : Instr → ℕ → List Instr
+by_difference jump here = D_IS_M_MINUS_D ∷ M_IS_MINUS_1 ∷ decide jump (here + 2)
+
+-- `eq`: two values are equal where their difference is 0, also where it overflows.
+abbrev pub equal_routine : ℕ → List Instr
+equal_routine at = begin_compare ++ by_difference IF_D_EQUAL (at + 6)
+
+-- y, which stands above SP, goes to D again, and A is the address of x
+abbrev pub load_again : List Instr
+load_again = Address 0 ∷ A_IS_M ∷ D_IS_M ∷ A_IS_A_MINUS_1 ∷ []
+
+-- `gt` and `lt`: where both values are negative, or neither is, their difference does not overflow, and tells it. Where the signs differ, the
+-- jump `by_sign` tells it by x alone.
+abbrev pub order_routine : Instr → Instr → ℕ → List Instr
+order_routine jump by_sign at =
+    begin_compare ++ (D_IS_D_OR_M ∷ Address (at + 24) ∷ IF_D_NOT_LESS ∷ (load_again ++ (D_IS_D_AND_M ∷ Address (at + 24) ∷ IF_D_LESS ∷
+    Address 0 ∷ A_IS_M_MINUS_1 ∷ D_IS_M ∷ M_IS_MINUS_1 ∷ Address (at + 35) ∷ by_sign ∷ Address (at + 32) ∷ JUMP ∷
+    (load_again ++ by_difference jump (at + 28)))))
 
 -- the instructions of a routine at an address
 abbrev pub routine_code : Routine → ℕ → List Instr
 routine_code routine.Call at = call_routine
 routine_code routine.Back at = return_code
-routine_code routine.Equal at = compare_routine IF_D_EQUAL at
-routine_code routine.Greater at = compare_routine IF_D_GREATER at
-routine_code routine.Less at = compare_routine IF_D_LESS at
+routine_code routine.Equal at = equal_routine at
+routine_code routine.Greater at = order_routine IF_D_GREATER IF_D_NOT_LESS at
+routine_code routine.Less at = order_routine IF_D_LESS IF_D_LESS at
 
 -- the number of these instructions
 abbrev pub routine_size : Routine → ℕ
-routine_size routine.Call = 41
-routine_size routine.Back = 42
-routine_size routine.Equal = 43
-routine_size routine.Greater = 43
-routine_size routine.Less = 43
+routine_size routine.Call = 34
+routine_size routine.Back = 40
+routine_size routine.Equal = 16
+routine_size routine.Greater = 38
+routine_size routine.Less = 38
 
 -- where a routine stands
 abbrev pub routine_at : Routines → Routine → ℕ

@@ -50,27 +50,11 @@ pub const M_IS_0: Instr = Instr::Compute {
     jump: 0,
 };
 
-/// `D=0`
-pub const D_IS_0: Instr = Instr::Compute {
-    memory: false,
-    comp: 0b101010,
-    dest: 2,
-    jump: 0,
-};
-
-/// `D=1`
-pub const D_IS_1: Instr = Instr::Compute {
-    memory: false,
-    comp: 0b111111,
-    dest: 2,
-    jump: 0,
-};
-
-/// `D=-1`
-pub const D_IS_MINUS_1: Instr = Instr::Compute {
+/// `M=-1`
+pub const M_IS_MINUS_1: Instr = Instr::Compute {
     memory: false,
     comp: 0b111010,
-    dest: 2,
+    dest: 1,
     jump: 0,
 };
 
@@ -114,6 +98,14 @@ pub const D_IS_M_PLUS_1: Instr = Instr::Compute {
     jump: 0,
 };
 
+/// `MD=M+1`
+pub const MD_IS_M_PLUS_1: Instr = Instr::Compute {
+    memory: true,
+    comp: 0b110111,
+    dest: 3,
+    jump: 0,
+};
+
 /// `A=D+M`
 pub const A_IS_D_PLUS_M: Instr = Instr::Compute {
     memory: true,
@@ -134,6 +126,14 @@ pub const D_IS_D_PLUS_M: Instr = Instr::Compute {
 pub const D_IS_D_MINUS_M: Instr = Instr::Compute {
     memory: true,
     comp: 0b010011,
+    dest: 2,
+    jump: 0,
+};
+
+/// `D=M-D`
+pub const D_IS_M_MINUS_D: Instr = Instr::Compute {
+    memory: true,
+    comp: 0b000111,
     dest: 2,
     jump: 0,
 };
@@ -159,6 +159,22 @@ pub const M_IS_M_MINUS_D: Instr = Instr::Compute {
     memory: true,
     comp: 0b000111,
     dest: 1,
+    jump: 0,
+};
+
+/// `D=D&M`
+pub const D_IS_D_AND_M: Instr = Instr::Compute {
+    memory: true,
+    comp: 0b000000,
+    dest: 2,
+    jump: 0,
+};
+
+/// `D=D|M`
+pub const D_IS_D_OR_M: Instr = Instr::Compute {
+    memory: true,
+    comp: 0b010101,
+    dest: 2,
     jump: 0,
 };
 

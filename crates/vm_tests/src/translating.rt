@@ -212,9 +212,9 @@ fn comparison_stays(rt: &impl Abort, alloc: Global) -> Result<(), Fail> {
     Ok(())
 }
 
-// Sys.init with so many commands `neg` and then so many `add` has 65 + 3 * negs + 5 * adds words, 23 of them of the start and 41 of the
+// Sys.init with so many commands `neg` and then so many `add` has 58 + 3 * negs + 5 * adds words, 23 of them of the start and 34 of the
 // routine of calls; what is told of them.
-const IMAGES: [(u16, u16, &str); 2] = [(10901, 0, "32768 words"), (10898, 2, "TooLarge 32769")];
+const IMAGES: [(u16, u16, &str); 2] = [(10900, 2, "32768 words"), (10902, 1, "TooLarge 32769")];
 
 fn operations(alloc: Global, negs: u16, adds: u16) -> Result<Vec<Written>, AllocError> {
     let mut lines = Vec::new(alloc);

@@ -7,12 +7,12 @@ use Rattle.hack_isa.specs.declared.Instr.{Instr}
 use Rattle.hack_isa.specs.declared.Instr.TheVariants.{Address, Compute}
 use Rattle.hack_blocks.specs.declared.shape.Shape.{Shape}
 use Rattle.hack_blocks.specs.declared.shape.Shape.TheVariants as shape
-use Rattle.hack_blocks.specs.declared.instructions.TheConstants.{D_IS_A, D_IS_NOT_A, D_IS_M, A_IS_M, M_IS_D, D_IS_0, D_IS_1, D_IS_MINUS_1, AM_IS_M_MINUS_1, A_IS_M_MINUS_1, A_IS_D_PLUS_M, D_IS_D_PLUS_M, D_IS_D_MINUS_M, M_IS_D_PLUS_M, M_IS_M_MINUS_D, M_IS_D_AND_M, M_IS_D_OR_M, M_IS_MINUS_M, M_IS_NOT_M, JUMP, IF_D_LESS, IF_D_GREATER, IF_D_EQUAL, IF_D_NOT_LESS, IF_D_NOT_EQUAL}
+use Rattle.hack_blocks.specs.declared.instructions.TheConstants.{D_IS_A, D_IS_NOT_A, D_IS_M, A_IS_M, M_IS_D, M_IS_MINUS_1, A_IS_M_MINUS_1, A_IS_D_PLUS_M, D_IS_D_PLUS_M, D_IS_D_AND_M, D_IS_D_OR_M, D_IS_M_MINUS_D, M_IS_D_PLUS_M, M_IS_M_MINUS_D, M_IS_D_AND_M, M_IS_D_OR_M, M_IS_MINUS_M, M_IS_NOT_M, JUMP, IF_D_LESS, IF_D_GREATER, IF_D_EQUAL, IF_D_NOT_LESS, IF_D_NOT_EQUAL}
 use Rattle.hack_blocks.specs.declared.routines.Routine.{Routine}
 use Rattle.hack_blocks.specs.declared.routines.Routine.TheVariants as routine
 use Rattle.hack_blocks.specs.declared.routines.Routines.{Routines}
 use Rattle.hack_blocks.specs.Laws.{IsFound}
-use Rattle.hack_blocks.specs.Templates.{call_by, call_routine, compare, compare_by, compare_routine, function_code, go_back, join, load, pop_d, push_constant, push_d, push_word, push_zero, return_code, routine_at, routine_code, routine_of, routine_size, set_stack, endless, size, start_code, template, turn}
+use Rattle.hack_blocks.specs.Templates.{begin_compare, by_difference, call_by, call_routine, compare_by, decide, equal_routine, function_code, go_back, join, load, load_again, order_routine, pop_d, push_constant, push_d, push_word, push_zero, put_false, return_code, routine_at, routine_code, routine_of, routine_size, set_stack, endless, size, start_code, template, turn}
 use Rattle.vm_tree.specs.declared.command.Operation.{Operation}
 use Rattle.vm_tree.specs.declared.command.Operation.TheVariants as operation
 use Rattle.vm_tree.specs.declared.command.Segment.{Segment}
@@ -97,97 +97,41 @@ plain_compare_by : (there back : ℕ) → there < 32768 → back < 32768 → Eac
 unfolding Each
 plain_compare_by there back r b = (b, (plain D_IS_A refl, (r, plain_all (JUMP ∷ []) refl)))
 
-plain_compare : (jump : Instr) (here : ℕ) → is_plain jump ≡ true → here + 38 ≤ 32768 → Each IsPlain (compare jump here)
-unfolding Each
-plain_compare jump here j h =
-    each_both IsPlain (Address 0 ∷ AM_IS_M_MINUS_1 ∷ D_IS_M ∷ Address 13 ∷ M_IS_D ∷ Address 0 ∷ A_IS_M_MINUS_1 ∷ D_IS_M ∷ []) (drop 8 (compare jump here)) (plain_all (Address 0 ∷ AM_IS_M_MINUS_1 ∷ D_IS_M ∷ Address 13 ∷ M_IS_D ∷ Address 0 ∷ A_IS_M_MINUS_1 ∷ D_IS_M ∷ []) refl) (
-      omega arith,
-      (
-        plain IF_D_LESS refl,
-        (
-          plain (Address 13) refl,
-          (
-            plain D_IS_M refl,
-            (
-              omega arith,
-              (
-                plain IF_D_NOT_LESS refl,
-                (
-                  plain D_IS_1 refl,
-                  (
-                    omega arith,
-                    (
-                      plain JUMP refl,
-                      (
-                        plain (Address 13) refl,
-                        (
-                          plain D_IS_M refl,
-                          (
-                            omega arith,
-                            (
-                              plain IF_D_LESS refl,
-                              (
-                                plain D_IS_MINUS_1 refl,
-                                (
-                                  omega arith,
-                                  (
-                                    plain JUMP refl,
-                                    (
-                                      plain (Address 0) refl,
-                                      (
-                                        plain A_IS_M_MINUS_1 refl,
-                                        (
-                                          plain D_IS_M refl,
-                                          (
-                                            plain (Address 13) refl,
-                                            (
-                                              plain D_IS_D_MINUS_M refl,
-                                              (
-                                                omega arith,
-                                                (
-                                                  plain jump j,
-                                                  (
-                                                    plain D_IS_0 refl,
-                                                    (omega arith, plain_all (JUMP ∷ D_IS_MINUS_1 ∷ Address 0 ∷ A_IS_M_MINUS_1 ∷ M_IS_D ∷ []) refl),
-                                                  ),
-                                                ),
-                                              ),
-                                            ),
-                                          ),
-                                        ),
-                                      ),
-                                    ),
-                                  ),
-                                ),
-                              ),
-                            ),
-                          ),
-                        ),
-                      ),
-                    ),
-                  ),
-                ),
-              ),
-            ),
-          ),
-        ),
-      ),
-    )
-
 plain_function : (n : ℕ) → Each IsPlain (function_code n)
 plain_function zero = plain_all (Address 0 ∷ []) refl
 plain_function (suc n) = each_both IsPlain push_zero (function_code n) (plain_all push_zero refl) (plain_function n)
 
-plain_compare_routine : (jump : Instr) (at : ℕ) → is_plain jump ≡ true → at + 43 ≤ 32768 → Each IsPlain (compare_routine jump at)
+plain_decide : (jump : Instr) (here : ℕ) → is_plain jump ≡ true → here + 8 ≤ 32768 → Each IsPlain (decide jump here)
 unfolding Each
-plain_compare_routine jump at j h = (plain (Address 14) refl, (plain M_IS_D refl, each_both IsPlain (compare jump (at + 2)) go_back (plain_compare jump (at + 2) j (omega arith)) (plain_all go_back refl)))
+plain_decide jump here j h = (omega arith, (plain jump j, plain_all (put_false ++ go_back) refl))
+
+plain_difference : (jump : Instr) (here : ℕ) → is_plain jump ≡ true → here + 10 ≤ 32768 → Each IsPlain (by_difference jump here)
+unfolding Each
+plain_difference jump here j h = (plain D_IS_M_MINUS_D refl, (plain M_IS_MINUS_1 refl, plain_decide jump (here + 2) j (omega arith)))
+
+plain_equal : (at : ℕ) → at + 16 ≤ 32768 → Each IsPlain (equal_routine at)
+plain_equal at h = each_both IsPlain begin_compare (by_difference IF_D_EQUAL (at + 6)) (plain_all begin_compare refl) (plain_difference IF_D_EQUAL (at + 6) refl (omega arith))
+
+-- where the signs differ, and what follows
+plain_signs : (jump by_sign : Instr) (at : ℕ) → is_plain jump ≡ true → is_plain by_sign ≡ true → at + 38 ≤ 32768 → Each IsPlain (drop 13 (order_routine jump by_sign at))
+unfolding Each
+plain_signs jump by_sign at j s h =
+    let rest = each_both IsPlain load_again (by_difference jump (at + 28)) (plain_all load_again refl) (plain_difference jump (at + 28) j (omega arith)) in
+    (plain D_IS_D_AND_M refl, (omega arith, (plain IF_D_LESS refl, (plain (Address 0) refl, (plain A_IS_M_MINUS_1 refl, (plain D_IS_M refl, (plain M_IS_MINUS_1 refl, (omega arith, (plain by_sign s, (omega arith, (plain JUMP refl, rest)))))))))))
+
+plain_order : (jump by_sign : Instr) (at : ℕ) → is_plain jump ≡ true → is_plain by_sign ≡ true → at + 38 ≤ 32768 → Each IsPlain (order_routine jump by_sign at)
+unfolding Each
+plain_order jump by_sign at j s h =
+    let code = order_routine jump by_sign at in
+    each_both IsPlain begin_compare (drop 6 code) (plain_all begin_compare refl)
+    (plain D_IS_D_OR_M refl, (omega arith, (plain IF_D_NOT_LESS refl, each_both IsPlain load_again (drop 13 code) (plain_all load_again refl) (plain_signs jump by_sign at j s h))))
 
 pub plain_routine : (r : Routine) (at : ℕ) → at + routine_size r ≤ 32768 → Each IsPlain (routine_code r at)
 plain_routine routine.Call at h = plain_all call_routine refl
 plain_routine routine.Back at h = plain_all return_code refl
-plain_routine routine.Equal at h = plain_compare_routine IF_D_EQUAL at refl h
-plain_routine routine.Greater at h = plain_compare_routine IF_D_GREATER at refl h
-plain_routine routine.Less at h = plain_compare_routine IF_D_LESS at refl h
+plain_routine routine.Equal at h = plain_equal at h
+plain_routine routine.Greater at h = plain_order IF_D_GREATER IF_D_NOT_LESS at refl refl h
+plain_routine routine.Less at h = plain_order IF_D_LESS IF_D_LESS at refl refl h
 
 plain_shared : (at : ℕ) (rs : List Routine) → at + words_shared rs ≤ 32768 → Each IsPlain (shared_from at rs)
 unfolding Each

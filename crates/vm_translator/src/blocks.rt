@@ -1,15 +1,14 @@
 //! The instructions of a step, by its shape.
-ghost use Rattle.std.specs.Prelude.{◌≡◌, ◌≤◌, ◌<◌, ◌+◌, ◌++◌, OnOk, take};
-ghost use Rattle.hack_isa.specs.declared.Instr.{Instr};
-ghost use Rattle.hack_blocks.specs.Templates.{call_by, call_routine, compare, compare_by, compare_routine, endless, function_code, go_back, go_to, if_go_to, join, load, pop_at, pop_d, pop_first, pop_word, push_at, push_constant, push_d, push_first, push_word, put_result, restore, return_code, routine_code, routine_size, save_return, set_pointers, size, start_code, template, turn};
+ghost use Rattle.std.specs.Prelude.{◌≡◌, ◌≤◌, ◌<◌, ◌+◌, ◌++◌, OnOk};
+ghost use Rattle.hack_blocks.specs.Templates.{begin_compare, by_difference, call_by, call_routine, compare_by, decide, endless, equal_routine, function_code, go_back, go_to, if_go_to, join, load, load_again, order_routine, pop_at, pop_d, pop_first, pop_word, push_at, push_constant, push_d, push_first, push_word, put_d, put_result, restore, restore_lcl, return_code, routine_code, routine_size, save, save_return, set_pointers, size, start_code, template, turn};
 ghost use Rattle.vm_translator.specs.Tables.{IsInLimit};
 
 use hack_blocks::instructions::{
     A_IS_A_MINUS_1, A_IS_D_MINUS_A, A_IS_D_PLUS_M, A_IS_M, A_IS_M_MINUS_1, AM_IS_M_MINUS_1,
-    AM_IS_M_PLUS_1, D_IS_0, D_IS_1, D_IS_A, D_IS_D_MINUS_M, D_IS_D_PLUS_M, D_IS_M, D_IS_M_PLUS_1,
-    D_IS_MINUS_1, D_IS_NOT_A, IF_D_EQUAL, IF_D_GREATER, IF_D_LESS, IF_D_NOT_EQUAL, IF_D_NOT_LESS,
-    JUMP, M_IS_0, M_IS_D, M_IS_D_AND_M, M_IS_D_OR_M, M_IS_D_PLUS_M, M_IS_M_MINUS_D, M_IS_MINUS_M,
-    M_IS_NOT_M,
+    AM_IS_M_PLUS_1, D_IS_A, D_IS_D_AND_M, D_IS_D_MINUS_M, D_IS_D_OR_M, D_IS_D_PLUS_M, D_IS_M,
+    D_IS_M_MINUS_D, D_IS_M_PLUS_1, D_IS_NOT_A, IF_D_EQUAL, IF_D_GREATER, IF_D_LESS, IF_D_NOT_EQUAL,
+    IF_D_NOT_LESS, JUMP, M_IS_0, M_IS_D, M_IS_D_AND_M, M_IS_D_OR_M, M_IS_D_PLUS_M, M_IS_M_MINUS_D,
+    M_IS_MINUS_1, M_IS_MINUS_M, M_IS_NOT_M, MD_IS_M_PLUS_1,
 };
 use hack_blocks::{ENDLESS_LOOP, Routine, Routines, Shape};
 use hack_isa::Instr;
@@ -119,68 +118,6 @@ fn turn(out: &mut Vec<Instr>, operation: Instr) -> Result<(), AllocError>
     put(out, &[Instr::Address(0), A_IS_M_MINUS_1, operation])
 }
 
-// The first 24 instructions of a comparison: D is 1 or -1 where the signs differ, else it goes on.
-fn compare_signs(out: &mut Vec<Instr>, here: u16) -> Result<(), AllocError>
-    requires { here + 38 ≤ 32768 }
-    ensures { OnOk result ((jump : Instr) → out.new.items ≡ out.old.items ++ take 24 (compare jump here)) }
-{
-    put(
-        out,
-        &[
-            Instr::Address(0),
-            AM_IS_M_MINUS_1,
-            D_IS_M,
-            Instr::Address(13),
-            M_IS_D,
-            Instr::Address(0),
-            A_IS_M_MINUS_1,
-            D_IS_M,
-            Instr::Address(here + 17),
-            IF_D_LESS,
-            Instr::Address(13),
-            D_IS_M,
-            Instr::Address(here + 24),
-            IF_D_NOT_LESS,
-            D_IS_1,
-            Instr::Address(here + 29),
-            JUMP,
-            Instr::Address(13),
-            D_IS_M,
-            Instr::Address(here + 24),
-            IF_D_LESS,
-            D_IS_MINUS_1,
-            Instr::Address(here + 29),
-            JUMP,
-        ],
-    )
-}
-
-fn compare(out: &mut Vec<Instr>, jump: Instr, here: u16) -> Result<(), AllocError>
-    requires { here + 38 ≤ 32768 }
-    ensures { OnOk result (out.new.items ≡ out.old.items ++ compare jump here) }
-{
-    compare_signs(out, here)?;
-    put(
-        out,
-        &[
-            Instr::Address(0),
-            A_IS_M_MINUS_1,
-            D_IS_M,
-            Instr::Address(13),
-            D_IS_D_MINUS_M,
-            Instr::Address(here + 34),
-            jump,
-            D_IS_0,
-            Instr::Address(here + 35),
-            JUMP,
-            D_IS_MINUS_1,
-            Instr::Address(0),
-            A_IS_M_MINUS_1,
-            M_IS_D,
-        ],
-    )
-}
-
 fn go_to(out: &mut Vec<Instr>, target: u16) -> Result<(), AllocError>
     ensures { OnOk result (out.new.items ≡ out.old.items ++ go_to target) }
 {
@@ -236,6 +173,27 @@ fn compare_by(out: &mut Vec<Instr>, routine: u16, back: u16) -> Result<(), Alloc
     go_to(out, routine)
 }
 
+fn put_d(out: &mut Vec<Instr>) -> Result<(), AllocError>
+    ensures { OnOk result (out.new.items ≡ out.old.items ++ put_d) }
+{
+    put(out, &[Instr::Address(0), A_IS_M, M_IS_D])
+}
+
+fn save(out: &mut Vec<Instr>, register: u16) -> Result<(), AllocError>
+    ensures { OnOk result (out.new.items ≡ out.old.items ++ save register) }
+{
+    put(
+        out,
+        &[
+            Instr::Address(register),
+            D_IS_M,
+            Instr::Address(0),
+            AM_IS_M_PLUS_1,
+            M_IS_D,
+        ],
+    )
+}
+
 fn set_pointers(out: &mut Vec<Instr>) -> Result<(), AllocError>
     ensures { OnOk result (out.new.items ≡ out.old.items ++ set_pointers) }
 {
@@ -243,14 +201,12 @@ fn set_pointers(out: &mut Vec<Instr>) -> Result<(), AllocError>
         out,
         &[
             Instr::Address(0),
-            D_IS_M,
+            MD_IS_M_PLUS_1,
+            Instr::Address(1),
+            M_IS_D,
             Instr::Address(14),
             D_IS_D_MINUS_M,
             Instr::Address(2),
-            M_IS_D,
-            Instr::Address(0),
-            D_IS_M,
-            Instr::Address(1),
             M_IS_D,
         ],
     )
@@ -259,11 +215,11 @@ fn set_pointers(out: &mut Vec<Instr>) -> Result<(), AllocError>
 fn call_routine(out: &mut Vec<Instr>) -> Result<(), AllocError>
     ensures { OnOk result (out.new.items ≡ out.old.items ++ call_routine) }
 {
-    push_d(out)?;
-    push_word(out, 1)?;
-    push_word(out, 2)?;
-    push_word(out, 3)?;
-    push_word(out, 4)?;
+    put_d(out)?;
+    save(out, 1)?;
+    save(out, 2)?;
+    save(out, 3)?;
+    save(out, 4)?;
     set_pointers(out)?;
     put(out, &[Instr::Address(13), A_IS_M, JUMP])
 }
@@ -288,8 +244,6 @@ fn save_return(out: &mut Vec<Instr>) -> Result<(), AllocError>
         &[
             Instr::Address(1),
             D_IS_M,
-            Instr::Address(13),
-            M_IS_D,
             Instr::Address(5),
             A_IS_D_MINUS_A,
             D_IS_M,
@@ -323,13 +277,34 @@ fn restore(out: &mut Vec<Instr>, register: u16) -> Result<(), AllocError>
     put(
         out,
         &[
-            Instr::Address(13),
+            Instr::Address(1),
             AM_IS_M_MINUS_1,
             D_IS_M,
             Instr::Address(register),
             M_IS_D,
         ],
     )
+}
+
+fn restore_lcl(out: &mut Vec<Instr>) -> Result<(), AllocError>
+    ensures { OnOk result (out.new.items ≡ out.old.items ++ restore_lcl) }
+{
+    put(
+        out,
+        &[
+            Instr::Address(1),
+            A_IS_M_MINUS_1,
+            D_IS_M,
+            Instr::Address(1),
+            M_IS_D,
+        ],
+    )
+}
+
+fn go_back(out: &mut Vec<Instr>) -> Result<(), AllocError>
+    ensures { OnOk result (out.new.items ≡ out.old.items ++ go_back) }
+{
+    put(out, &[Instr::Address(14), A_IS_M, JUMP])
 }
 
 fn return_code(out: &mut Vec<Instr>) -> Result<(), AllocError>
@@ -340,18 +315,97 @@ fn return_code(out: &mut Vec<Instr>) -> Result<(), AllocError>
     restore(out, 4)?;
     restore(out, 3)?;
     restore(out, 2)?;
-    restore(out, 1)?;
-    put(out, &[Instr::Address(14), A_IS_M, JUMP])
+    restore_lcl(out)?;
+    go_back(out)
 }
 
-// A comparison as a routine: the address to come back to waits in the word 14.
-fn compare_routine(out: &mut Vec<Instr>, jump: Instr, at: u16) -> Result<(), AllocError>
-    requires { at + 43 ≤ 32768 }
-    ensures { OnOk result (out.new.items ≡ out.old.items ++ compare_routine jump at) }
+fn begin_compare(out: &mut Vec<Instr>) -> Result<(), AllocError>
+    ensures { OnOk result (out.new.items ≡ out.old.items ++ begin_compare) }
 {
-    put(out, &[Instr::Address(14), M_IS_D])?;
-    compare(out, jump, at + 2)?;
-    put(out, &[Instr::Address(14), A_IS_M, JUMP])
+    put(
+        out,
+        &[
+            Instr::Address(14),
+            M_IS_D,
+            Instr::Address(0),
+            AM_IS_M_MINUS_1,
+            D_IS_M,
+            A_IS_A_MINUS_1,
+        ],
+    )
+}
+
+// The -1 that is the topmost word stays there if the jump is taken, else 0 goes over it. Then back.
+fn decide(out: &mut Vec<Instr>, jump: Instr, here: u16) -> Result<(), AllocError>
+    requires { here + 8 ≤ 32768 }
+    ensures { OnOk result (out.new.items ≡ out.old.items ++ decide jump here) }
+{
+    put(
+        out,
+        &[
+            Instr::Address(here + 5),
+            jump,
+            Instr::Address(0),
+            A_IS_M_MINUS_1,
+            M_IS_0,
+        ],
+    )?;
+    go_back(out)
+}
+
+fn by_difference(out: &mut Vec<Instr>, jump: Instr, here: u16) -> Result<(), AllocError>
+    requires { here + 10 ≤ 32768 }
+    ensures { OnOk result (out.new.items ≡ out.old.items ++ by_difference jump here) }
+{
+    put(out, &[D_IS_M_MINUS_D, M_IS_MINUS_1])?;
+    decide(out, jump, here + 2)
+}
+
+fn equal_routine(out: &mut Vec<Instr>, at: u16) -> Result<(), AllocError>
+    requires { at + 16 ≤ 32768 }
+    ensures { OnOk result (out.new.items ≡ out.old.items ++ equal_routine at) }
+{
+    begin_compare(out)?;
+    by_difference(out, IF_D_EQUAL, at + 6)
+}
+
+fn load_again(out: &mut Vec<Instr>) -> Result<(), AllocError>
+    ensures { OnOk result (out.new.items ≡ out.old.items ++ load_again) }
+{
+    put(out, &[Instr::Address(0), A_IS_M, D_IS_M, A_IS_A_MINUS_1])
+}
+
+// By the difference where both values are negative, or neither is; else the jump `by_sign` tells it by the lower value.
+fn order_routine(
+    out: &mut Vec<Instr>,
+    jump: Instr,
+    by_sign: Instr,
+    at: u16,
+) -> Result<(), AllocError>
+    requires { at + 38 ≤ 32768 }
+    ensures { OnOk result (out.new.items ≡ out.old.items ++ order_routine jump by_sign at) }
+{
+    begin_compare(out)?;
+    put(out, &[D_IS_D_OR_M, Instr::Address(at + 24), IF_D_NOT_LESS])?;
+    load_again(out)?;
+    put(
+        out,
+        &[
+            D_IS_D_AND_M,
+            Instr::Address(at + 24),
+            IF_D_LESS,
+            Instr::Address(0),
+            A_IS_M_MINUS_1,
+            D_IS_M,
+            M_IS_MINUS_1,
+            Instr::Address(at + 35),
+            by_sign,
+            Instr::Address(at + 32),
+            JUMP,
+        ],
+    )?;
+    load_again(out)?;
+    by_difference(out, jump, at + 28)
 }
 
 /// Adds the instructions of a routine that stands at this address.
@@ -362,9 +416,9 @@ pub fn routine_code(out: &mut Vec<Instr>, routine: Routine, at: u16) -> Result<(
     match routine {
         Routine::Call => call_routine(out),
         Routine::Back => return_code(out),
-        Routine::Equal => compare_routine(out, IF_D_EQUAL, at),
-        Routine::Greater => compare_routine(out, IF_D_GREATER, at),
-        Routine::Less => compare_routine(out, IF_D_LESS, at),
+        Routine::Equal => equal_routine(out, at),
+        Routine::Greater => order_routine(out, IF_D_GREATER, IF_D_NOT_LESS, at),
+        Routine::Less => order_routine(out, IF_D_LESS, IF_D_LESS, at),
     }
 }
 

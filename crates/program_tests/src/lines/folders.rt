@@ -234,7 +234,7 @@ const TOO_LARGE: &[(&str, Long<'static>, Case<'static>)] = &[
             fails: NONE,
             status: Status::Refused,
             out: "",
-            err: "prog:0:0: TooLarge 144150\n",
+            err: "prog:0:0: TooLarge 144104\n",
         },
     ),
     // however many operators stand in a row, they are read, resolved and counted: 11 words for each sum, 18 for each product
@@ -253,7 +253,7 @@ const TOO_LARGE: &[(&str, Long<'static>, Case<'static>)] = &[
             fails: NONE,
             status: Status::Refused,
             out: "",
-            err: "prog:0:0: TooLarge 1106196\n",
+            err: "prog:0:0: TooLarge 1106150\n",
         },
     ),
     (
@@ -271,7 +271,7 @@ const TOO_LARGE: &[(&str, Long<'static>, Case<'static>)] = &[
             fails: NONE,
             status: Status::Refused,
             out: "",
-            err: "prog:0:0: TooLarge 366462\n",
+            err: "prog:0:0: TooLarge 366416\n",
         },
     ),
 ];
