@@ -6,7 +6,7 @@ use Rattle.std.specs.Prelude.{◌&&◌, ◌||◌, codes}
 use Rattle.hdl_tree.specs.Memory.{number}
 use Rattle.hdl_tree.specs.Chips.{Chips, end_of}
 use Rattle.hdl_tree.specs.Behaviour.{Histories, World, Works}
-use Rattle.chip_basic.specs.Hdl.{shipped, numbered}
+use Rattle.chip_basic.specs.Hdl.{shipped_entry, numbered_name}
 use Rattle.chip_basic.specs.Trees.{and_tree, or_tree, xor_tree}
 use Rattle.chip_basic.specs.Laws.{xor, word}
 use Rattle.chip_basic.proofs.Rows.{get_of_row}
@@ -67,58 +67,58 @@ beyond_first : (k : ℕ) → 0 < k → (leb 0 k && leb (suc k) 1) ≡ false
 beyond_first k h = grind (arith, nat_tests)
 
 module _ (world : World) (library : Chips) (has : HasAluChips library) (c : ℕ) where
-  half_adder_sum : (w : List ℕ → Histories) → Works world c library (shipped half_adder_tree) w → w [] (codes "sum") 0 c ≡ xor (w [] (codes "a") 0 c) (w [] (codes "b") 0 c)
+  half_adder_sum : (w : List ℕ → Histories) → Works world c library (shipped_entry half_adder_tree) w → w [] (codes "sum") 0 c ≡ xor (w [] (codes "a") 0 c) (w [] (codes "b") 0 c)
   unfolding end_of half_adder_tree xor_tree
   half_adder_sum w h =
-      let p = part_of world c library (shipped half_adder_tree) w h 0 _ (shipped xor_tree) refl has.basic.xor in
+      let p = part_of world c library (shipped_entry half_adder_tree) w h 0 _ (shipped_entry xor_tree) refl has.basic.xor in
       let j = p.outside.joined in
       cc (xor_works world library has.basic c (λ path. w (0 ∷ path)) p.inside, j.0 0 (lit< tt), j.1.0 0 (lit< tt), j.1.1.0 0 (lit< tt))
 
-  half_adder_carry : (w : List ℕ → Histories) → Works world c library (shipped half_adder_tree) w → w [] (codes "carry") 0 c ≡ (w [] (codes "a") 0 c && w [] (codes "b") 0 c)
+  half_adder_carry : (w : List ℕ → Histories) → Works world c library (shipped_entry half_adder_tree) w → w [] (codes "carry") 0 c ≡ (w [] (codes "a") 0 c && w [] (codes "b") 0 c)
   unfolding end_of half_adder_tree and_tree
   half_adder_carry w h =
-      let p = part_of world c library (shipped half_adder_tree) w h 1 _ (shipped and_tree) refl has.basic.and in
+      let p = part_of world c library (shipped_entry half_adder_tree) w h 1 _ (shipped_entry and_tree) refl has.basic.and in
       let j = p.outside.joined in
       cc (and_works world library has.basic c (λ path. w (1 ∷ path)) p.inside, j.0 0 (lit< tt), j.1.0 0 (lit< tt), j.1.1.0 0 (lit< tt))
 
-  pub half_adder_works : (w : List ℕ → Histories) → Works world c library (shipped half_adder_tree) w → digit (w [] (codes "sum") 0 c) + 2 * digit (w [] (codes "carry") 0 c) ≡ digit (w [] (codes "a") 0 c) + digit (w [] (codes "b") 0 c)
+  pub half_adder_works : (w : List ℕ → Histories) → Works world c library (shipped_entry half_adder_tree) w → digit (w [] (codes "sum") 0 c) + 2 * digit (w [] (codes "carry") 0 c) ≡ digit (w [] (codes "a") 0 c) + digit (w [] (codes "b") 0 c)
   half_adder_works w h =
       ap₂ (λ s t. digit s + 2 * digit t) (half_adder_sum w h) (half_adder_carry w h) ∙ two_digits (w [] (codes "a") 0 c) (w [] (codes "b") 0 c)
 
-  full_adder_sum : (w : List ℕ → Histories) → Works world c library (shipped full_adder_tree) w → w [] (codes "sum") 0 c ≡ xor (xor (w [] (codes "a") 0 c) (w [] (codes "b") 0 c)) (w [] (codes "c") 0 c)
+  full_adder_sum : (w : List ℕ → Histories) → Works world c library (shipped_entry full_adder_tree) w → w [] (codes "sum") 0 c ≡ xor (xor (w [] (codes "a") 0 c) (w [] (codes "b") 0 c)) (w [] (codes "c") 0 c)
   unfolding end_of full_adder_tree half_adder_tree
   full_adder_sum w h =
-      let p = part_of world c library (shipped full_adder_tree) w h 0 _ (shipped half_adder_tree) refl has.half_adder in
-      let q = part_of world c library (shipped full_adder_tree) w h 1 _ (shipped half_adder_tree) refl has.half_adder in
+      let p = part_of world c library (shipped_entry full_adder_tree) w h 0 _ (shipped_entry half_adder_tree) refl has.half_adder in
+      let q = part_of world c library (shipped_entry full_adder_tree) w h 1 _ (shipped_entry half_adder_tree) refl has.half_adder in
       let j = p.outside.joined in
       let k = q.outside.joined in
       cc (half_adder_sum (λ path. w (0 ∷ path)) p.inside, half_adder_sum (λ path. w (1 ∷ path)) q.inside, j.0 0 (lit< tt), j.1.0 0 (lit< tt), j.1.1.0 0 (lit< tt), k.0 0 (lit< tt), k.1.0 0 (lit< tt), k.1.1.0 0 (lit< tt))
 
-  full_adder_carry : (w : List ℕ → Histories) → Works world c library (shipped full_adder_tree) w → w [] (codes "carry") 0 c ≡ carry_of (w [] (codes "a") 0 c) (w [] (codes "b") 0 c) (w [] (codes "c") 0 c)
+  full_adder_carry : (w : List ℕ → Histories) → Works world c library (shipped_entry full_adder_tree) w → w [] (codes "carry") 0 c ≡ carry_of (w [] (codes "a") 0 c) (w [] (codes "b") 0 c) (w [] (codes "c") 0 c)
   unfolding end_of full_adder_tree half_adder_tree or_tree
   full_adder_carry w h =
-      let p = part_of world c library (shipped full_adder_tree) w h 0 _ (shipped half_adder_tree) refl has.half_adder in
-      let q = part_of world c library (shipped full_adder_tree) w h 1 _ (shipped half_adder_tree) refl has.half_adder in
-      let r = part_of world c library (shipped full_adder_tree) w h 2 _ (shipped or_tree) refl has.basic.or in
+      let p = part_of world c library (shipped_entry full_adder_tree) w h 0 _ (shipped_entry half_adder_tree) refl has.half_adder in
+      let q = part_of world c library (shipped_entry full_adder_tree) w h 1 _ (shipped_entry half_adder_tree) refl has.half_adder in
+      let r = part_of world c library (shipped_entry full_adder_tree) w h 2 _ (shipped_entry or_tree) refl has.basic.or in
       let j = p.outside.joined in
       let k = q.outside.joined in
       let l = r.outside.joined in
       cc (half_adder_carry (λ path. w (0 ∷ path)) p.inside, half_adder_sum (λ path. w (0 ∷ path)) p.inside, half_adder_carry (λ path. w (1 ∷ path)) q.inside, or_works world library has.basic c (λ path. w (2 ∷ path)) r.inside, j.0 0 (lit< tt), j.1.0 0 (lit< tt), j.1.1.0 0 (lit< tt), j.1.1.1.0 0 (lit< tt), k.0 0 (lit< tt), k.1.0 0 (lit< tt), k.1.1.1.0 0 (lit< tt), l.0 0 (lit< tt), l.1.0 0 (lit< tt), l.1.1.0 0 (lit< tt))
 
-  pub full_adder_works : (w : List ℕ → Histories) → Works world c library (shipped full_adder_tree) w → digit (w [] (codes "sum") 0 c) + 2 * digit (w [] (codes "carry") 0 c) ≡ digit (w [] (codes "a") 0 c) + (digit (w [] (codes "b") 0 c) + digit (w [] (codes "c") 0 c))
+  pub full_adder_works : (w : List ℕ → Histories) → Works world c library (shipped_entry full_adder_tree) w → digit (w [] (codes "sum") 0 c) + 2 * digit (w [] (codes "carry") 0 c) ≡ digit (w [] (codes "a") 0 c) + (digit (w [] (codes "b") 0 c) + digit (w [] (codes "c") 0 c))
   full_adder_works w h =
       ap₂ (λ s t. digit s + 2 * digit t) (full_adder_sum w h) (full_adder_carry w h) ∙ three_digits (w [] (codes "a") 0 c) (w [] (codes "b") 0 c) (w [] (codes "c") 0 c)
 
   -- what goes into bit i as a carry
   carry : (List ℕ → Histories) → ℕ → Bool
   carry w zero = false
-  carry w (suc i) = w [] (numbered "carry" (suc i)) 0 c
+  carry w (suc i) = w [] (numbered_name "carry" (suc i)) 0 c
 
-  add16_bit : (w : List ℕ → Histories) → Works world c library (shipped add16_tree) w → (i : ℕ) → i < 16 →
+  add16_bit : (w : List ℕ → Histories) → Works world c library (shipped_entry add16_tree) w → (i : ℕ) → i < 16 →
       (w [] (codes "out") i c ≡ xor (xor (w [] (codes "a") i c) (w [] (codes "b") i c)) (carry w i)) × (carry w (suc i) ≡ carry_of (w [] (codes "a") i c) (w [] (codes "b") i c) (carry w i))
   unfolding end_of add16_tree half_adder_tree full_adder_tree carry
   add16_bit w h zero lt =
-      let p = part_of world c library (shipped add16_tree) w h 0 _ (shipped half_adder_tree) refl has.half_adder in
+      let p = part_of world c library (shipped_entry add16_tree) w h 0 _ (shipped_entry half_adder_tree) refl has.half_adder in
       let j = p.outside.joined in
       let x = w [] (codes "a") 0 c in
       let y = w [] (codes "b") 0 c in
@@ -127,19 +127,19 @@ module _ (world : World) (library : Chips) (has : HasAluChips library) (c : ℕ)
       (s ∙ half_sum x y, t ∙ half_carry x y)
   add16_bit w h (suc i) lt =
       let below : i < 15 = omega arith in
-      let p = part_of world c library (shipped add16_tree) w h (suc i) (add_bit (suc i)) (shipped full_adder_tree) (get_of_row (λ n. add_bit (suc n)) 15 i below) has.full_adder in
+      let p = part_of world c library (shipped_entry add16_tree) w h (suc i) (add_bit (suc i)) (shipped_entry full_adder_tree) (get_of_row (λ n. add_bit (suc n)) 15 i below) has.full_adder in
       let j = p.outside.joined in
-      let a = bit_joined c (shipped full_adder_tree) (w []) (w (suc i ∷ [])) (codes "a") (codes "a") (suc i) j.0 (lit< tt) in
-      let b = bit_joined c (shipped full_adder_tree) (w []) (w (suc i ∷ [])) (codes "b") (codes "b") (suc i) j.1.0 (lit< tt) in
+      let a = bit_joined c (shipped_entry full_adder_tree) (w []) (w (suc i ∷ [])) (codes "a") (codes "a") (suc i) j.0 (lit< tt) in
+      let b = bit_joined c (shipped_entry full_adder_tree) (w []) (w (suc i ∷ [])) (codes "b") (codes "b") (suc i) j.1.0 (lit< tt) in
       let z = j.1.1.0 0 (lit< tt) in
-      let o = bit_joined c (shipped full_adder_tree) (w []) (w (suc i ∷ [])) (codes "sum") (codes "out") (suc i) j.1.1.1.0 (lit< tt) in
+      let o = bit_joined c (shipped_entry full_adder_tree) (w []) (w (suc i ∷ [])) (codes "sum") (codes "out") (suc i) j.1.1.1.0 (lit< tt) in
       let y = j.1.1.1.1.0 0 (lit< tt) in
       let s = full_adder_sum (λ path. w (suc i ∷ path)) p.inside in
       let t = full_adder_carry (λ path. w (suc i ∷ path)) p.inside in
       ((cc), (cc))
 
   -- the lowest k bits of the sum, with what they carry
-  ripple : (w : List ℕ → Histories) → Works world c library (shipped add16_tree) w → (k : ℕ) → k ≤ 16 →
+  ripple : (w : List ℕ → Histories) → Works world c library (shipped_entry add16_tree) w → (k : ℕ) → k ≤ 16 →
       number k (λ i. w [] (codes "out") i c) + cond (carry w k) (2 ^ k) 0 ≡ number k (λ i. w [] (codes "a") i c) + number k (λ i. w [] (codes "b") i c)
   unfolding carry
   ripple w h zero le = refl
@@ -149,17 +149,17 @@ module _ (world : World) (library : Chips) (has : HasAluChips library) (c : ℕ)
       let b = add16_bit w h k here in
       rw (b.0, b.1) (ripple_step (w [] (codes "a") k c) (w [] (codes "b") k c) (carry w k) _ _ _ (2 ^ k) _ (two-pow-succ k) ih)
 
-  pub add16_works : (w : List ℕ → Histories) → Works world c library (shipped add16_tree) w → word (w []) "out" c ≡ (word (w []) "a" c + word (w []) "b" c) % 65536
+  pub add16_works : (w : List ℕ → Histories) → Works world c library (shipped_entry add16_tree) w → word (w []) "out" c ≡ (word (w []) "a" c + word (w []) "b" c) % 65536
   add16_works w h =
       carried_away (carry w 16) (word (w []) "out" c) _ (number_below 16 (λ i. w [] (codes "out") i c)) (ripple w h 16 (lit≤ tt))
 
-  pub inc16_works : (w : List ℕ → Histories) → Works world c library (shipped inc16_tree) w → word (w []) "out" c ≡ (word (w []) "in" c + 1) % 65536
+  pub inc16_works : (w : List ℕ → Histories) → Works world c library (shipped_entry inc16_tree) w → word (w []) "out" c ≡ (word (w []) "in" c + 1) % 65536
   unfolding end_of inc16_tree add16_tree
   inc16_works w h =
-      let p = part_of world c library (shipped inc16_tree) w h 0 _ (shipped add16_tree) refl has.add16 in
+      let p = part_of world c library (shipped_entry inc16_tree) w h 0 _ (shipped_entry add16_tree) refl has.add16 in
       let j = p.outside.joined in
-      let a : word (w (0 ∷ [])) "a" c ≡ word (w []) "in" c = number_same 16 _ _ (λ k lt. whole_joined c (shipped add16_tree) (w []) (w (0 ∷ [])) (codes "a") (codes "in") j.0 k lt) in
-      let o : word (w (0 ∷ [])) "out" c ≡ word (w []) "out" c = number_same 16 _ _ (λ k lt. whole_joined c (shipped add16_tree) (w []) (w (0 ∷ [])) (codes "out") (codes "out") j.1.1.0 k lt) in
+      let a : word (w (0 ∷ [])) "a" c ≡ word (w []) "in" c = number_same 16 _ _ (λ k lt. whole_joined c (shipped_entry add16_tree) (w []) (w (0 ∷ [])) (codes "a") (codes "in") j.0 k lt) in
+      let o : word (w (0 ∷ [])) "out" c ≡ word (w []) "out" c = number_same 16 _ _ (λ k lt. whole_joined c (shipped_entry add16_tree) (w []) (w (0 ∷ [])) (codes "out") (codes "out") j.1.1.0 k lt) in
       let b : (k : ℕ) → k < 16 → w (0 ∷ []) (codes "b") k c ≡ eqb k 0 = elim [
         | zero ↦ λ lt. j.1.0 0 (lit< tt)
         | suc k ↦ λ lt. p.outside.unjoined (codes "b") 16 (suc k) refl lt (rw (beyond_first (suc k) (omega arith))) ∙ sym (ne_eqb (suc k) 0 (omega arith))

@@ -3,7 +3,7 @@ use Rattle.std.specs.Prelude.{◌≡◌, ℕ, suc, true, false, List, [], ◌∷
 use Rattle.hdl_tree.specs.declared.tree.Part.{Part}
 use Rattle.hdl_tree.specs.declared.tree.Chip.{Chip}
 use Rattle.hdl_tree.specs.Chips.{Chips, find_chip}
-use Rattle.chip_basic.specs.Hdl.{pin, bus, wire, wire_to, wire_bit, bit_wire, bits_wire, constant, bit_constant, part, chip, each, numbered, shipped}
+use Rattle.chip_basic.specs.Hdl.{pin, bus, wire, wire_to, wire_bit, bit_wire, bits_wire, constant, bit_constant, part, chip, each, numbered_name, shipped_entry}
 use Rattle.chip_basic.specs.Trees.{HasBasicChips}
 
 -- ---- adders
@@ -23,7 +23,7 @@ full_adder_tree = chip "FullAdder" (pin "a" ∷ pin "b" ∷ pin "c" ∷ []) (pin
 
 -- `FullAdder(a=a[i], b=b[i], c=carry(i), sum=out[i], carry=carry(i+1));`: the net carry(i) carries into bit i
 abbrev pub add_bit : ℕ → Part
-add_bit i = part "FullAdder" (wire_bit "a" "a" i ∷ wire_bit "b" "b" i ∷ wire_to "c" (numbered "carry" i) ∷ wire_bit "sum" "out" i ∷ wire_to "carry" (numbered "carry" (suc i)) ∷ [])
+add_bit i = part "FullAdder" (wire_bit "a" "a" i ∷ wire_bit "b" "b" i ∷ wire_to "c" (numbered_name "carry" i) ∷ wire_bit "sum" "out" i ∷ wire_to "carry" (numbered_name "carry" (suc i)) ∷ [])
 
 -- nothing carries into bit 0; what bit 15 carries is let go
 unfoldable pub add16_tree : Chip
@@ -76,8 +76,8 @@ alu_tree = chip "ALU" (bus "x" 16 ∷ bus "y" 16 ∷ pin "zx" ∷ pin "nx" ∷ p
 -- the library has these chips too, under their names, each as it is shipped
 pub record HasAluChips (library : Chips) : Type 0 where
   pub basic : HasBasicChips library
-  pub half_adder : find_chip library (codes "HalfAdder") ≡ Some (shipped half_adder_tree)
-  pub full_adder : find_chip library (codes "FullAdder") ≡ Some (shipped full_adder_tree)
-  pub add16 : find_chip library (codes "Add16") ≡ Some (shipped add16_tree)
-  pub inc16 : find_chip library (codes "Inc16") ≡ Some (shipped inc16_tree)
-  pub alu : find_chip library (codes "ALU") ≡ Some (shipped alu_tree)
+  pub half_adder : find_chip library (codes "HalfAdder") ≡ Some (shipped_entry half_adder_tree)
+  pub full_adder : find_chip library (codes "FullAdder") ≡ Some (shipped_entry full_adder_tree)
+  pub add16 : find_chip library (codes "Add16") ≡ Some (shipped_entry add16_tree)
+  pub inc16 : find_chip library (codes "Inc16") ≡ Some (shipped_entry inc16_tree)
+  pub alu : find_chip library (codes "ALU") ≡ Some (shipped_entry alu_tree)

@@ -58,16 +58,16 @@ abbrev pub bits_wire : String → ℕ → ℕ → String → Connection
 bits_wire pin first last net = connect (codes pin) (Some (Bits first last)) (codes net) None
 
 -- `pin[..]=true` and `pin[..]=false`
-abbrev pub fixed : List ℕ → Option Subscript → Bool → Connection
-fixed pin bits value = record { pin = record { name = pin; subscript = bits }; source = Constant value }
+abbrev pub fixed_connection : List ℕ → Option Subscript → Bool → Connection
+fixed_connection pin bits value = record { pin = record { name = pin; subscript = bits }; source = Constant value }
 
 -- `pin=true` and `pin=false`
 abbrev pub constant : String → Bool → Connection
-constant pin value = fixed (codes pin) None value
+constant pin value = fixed_connection (codes pin) None value
 
 -- `pin[bit]=true` and `pin[bit]=false`
 abbrev pub bit_constant : String → ℕ → Bool → Connection
-bit_constant pin bit value = fixed (codes pin) (Some (Bit bit)) value
+bit_constant pin bit value = fixed_connection (codes pin) (Some (Bit bit)) value
 
 -- ---- parts and chips
 
@@ -103,8 +103,8 @@ abbrev pub digits : ℕ → List ℕ
 digits i = if nat_lt i 10 then (48 + i) ∷ [] else (48 + i / 10) ∷ (48 + i % 10) ∷ []
 
 -- a name that ends in a number, as `carry1` and `carry15`
-abbrev pub numbered : String → ℕ → List ℕ
-numbered name i = codes name ++ digits i
+abbrev pub numbered_name : String → ℕ → List ℕ
+numbered_name name i = codes name ++ digits i
 
 -- the names a, b, c and so on
 abbrev pub letter : ℕ → List ℕ
@@ -112,10 +112,10 @@ letter i = (97 + i) ∷ []
 
 -- `a=name0, b=name1, ..`, n of them
 abbrev pub ways : ℕ → String → List Connection
-ways n name = map (λ i. connect (letter i) None (numbered name i) None) (range_with_len 0 n)
+ways n name = map (λ i. connect (letter i) None (numbered_name name i) None) (range_with_len 0 n)
 
 -- ---- libraries
 
 -- a chip that is shipped, under its own name
-abbrev pub shipped : Chip → Entry
-shipped chip = record { name = chip.name; chip = chip; shipped = Some chip.name }
+abbrev pub shipped_entry : Chip → Entry
+shipped_entry chip = record { name = chip.name; chip = chip; shipped = Some chip.name }

@@ -7,12 +7,12 @@ use Rattle.hdl_tree.specs.Writable.{all, chip_can}
 use Rattle.hdl_tree.specs.Memory.{number}
 use Rattle.hdl_tree.specs.Chips.{Chips}
 use Rattle.hdl_tree.specs.Behaviour.{Histories, World, IsBehaviour}
-use Rattle.chip_basic.specs.Hdl.{letter, shipped}
+use Rattle.chip_basic.specs.Hdl.{letter, shipped_entry}
 use Rattle.chip_basic.specs.Trees.{HasBasicChips, nand_tree, not_tree, and_tree, or_tree, xor_tree, mux_tree, dmux_tree, not16_tree, and16_tree, or16_tree, mux16_tree, or8way_tree, mux4way16_tree, mux8way16_tree, dmux4way_tree, dmux8way_tree}
 
 -- in each cycle of every behaviour of the chip, in every library that has the chips that it is made of
 abbrev pub Always : (Chips → Type 0) → Chip → (Histories → ℕ → Type 0) → Type 0
-Always HasParts chip P = (world : World) (library : Chips) (n : ℕ) (wires : List ℕ → Histories) → HasParts library → IsBehaviour world library (shipped chip) n wires → (c : ℕ) → c < n → P (wires []) c
+Always HasParts chip P = (world : World) (library : Chips) (n : ℕ) (wires : List ℕ → Histories) → HasParts library → IsBehaviour world library (shipped_entry chip) n wires → (c : ℕ) → c < n → P (wires []) c
 
 -- ---- bits and words of pins
 

@@ -3,7 +3,7 @@ use Rattle.std.specs.Prelude.{◌≡◌, ℕ, [], ◌∷◌, Some, codes}
 use Rattle.hdl_tree.specs.declared.tree.Part.{Part}
 use Rattle.hdl_tree.specs.declared.tree.Chip.{Chip}
 use Rattle.hdl_tree.specs.Chips.{Chips, find_chip}
-use Rattle.chip_basic.specs.Hdl.{pin, bus, wire, wire_bit, wire_bits, part, chip, builtin, each, shipped}
+use Rattle.chip_basic.specs.Hdl.{pin, bus, wire, wire_bit, wire_bits, part, chip, builtin, each, shipped_entry}
 
 -- Nand, of which all is made
 unfoldable pub nand_tree : Chip
@@ -127,19 +127,19 @@ dmux8way_tree = chip "DMux8Way" (pin "in" ∷ bus "sel" 3 ∷ []) (pin "a" ∷ p
 
 -- the library has these chips under their names, each as it is shipped
 pub record HasBasicChips (library : Chips) : Type 0 where
-  pub nand : find_chip library (codes "Nand") ≡ Some (shipped nand_tree)
-  pub not : find_chip library (codes "Not") ≡ Some (shipped not_tree)
-  pub and : find_chip library (codes "And") ≡ Some (shipped and_tree)
-  pub or : find_chip library (codes "Or") ≡ Some (shipped or_tree)
-  pub xor : find_chip library (codes "Xor") ≡ Some (shipped xor_tree)
-  pub mux : find_chip library (codes "Mux") ≡ Some (shipped mux_tree)
-  pub dmux : find_chip library (codes "DMux") ≡ Some (shipped dmux_tree)
-  pub not16 : find_chip library (codes "Not16") ≡ Some (shipped not16_tree)
-  pub and16 : find_chip library (codes "And16") ≡ Some (shipped and16_tree)
-  pub or16 : find_chip library (codes "Or16") ≡ Some (shipped or16_tree)
-  pub mux16 : find_chip library (codes "Mux16") ≡ Some (shipped mux16_tree)
-  pub or8way : find_chip library (codes "Or8Way") ≡ Some (shipped or8way_tree)
-  pub mux4way16 : find_chip library (codes "Mux4Way16") ≡ Some (shipped mux4way16_tree)
-  pub mux8way16 : find_chip library (codes "Mux8Way16") ≡ Some (shipped mux8way16_tree)
-  pub dmux4way : find_chip library (codes "DMux4Way") ≡ Some (shipped dmux4way_tree)
-  pub dmux8way : find_chip library (codes "DMux8Way") ≡ Some (shipped dmux8way_tree)
+  pub nand : find_chip library (codes "Nand") ≡ Some (shipped_entry nand_tree)
+  pub not : find_chip library (codes "Not") ≡ Some (shipped_entry not_tree)
+  pub and : find_chip library (codes "And") ≡ Some (shipped_entry and_tree)
+  pub or : find_chip library (codes "Or") ≡ Some (shipped_entry or_tree)
+  pub xor : find_chip library (codes "Xor") ≡ Some (shipped_entry xor_tree)
+  pub mux : find_chip library (codes "Mux") ≡ Some (shipped_entry mux_tree)
+  pub dmux : find_chip library (codes "DMux") ≡ Some (shipped_entry dmux_tree)
+  pub not16 : find_chip library (codes "Not16") ≡ Some (shipped_entry not16_tree)
+  pub and16 : find_chip library (codes "And16") ≡ Some (shipped_entry and16_tree)
+  pub or16 : find_chip library (codes "Or16") ≡ Some (shipped_entry or16_tree)
+  pub mux16 : find_chip library (codes "Mux16") ≡ Some (shipped_entry mux16_tree)
+  pub or8way : find_chip library (codes "Or8Way") ≡ Some (shipped_entry or8way_tree)
+  pub mux4way16 : find_chip library (codes "Mux4Way16") ≡ Some (shipped_entry mux4way16_tree)
+  pub mux8way16 : find_chip library (codes "Mux8Way16") ≡ Some (shipped_entry mux8way16_tree)
+  pub dmux4way : find_chip library (codes "DMux4Way") ≡ Some (shipped_entry dmux4way_tree)
+  pub dmux8way : find_chip library (codes "DMux8Way") ≡ Some (shipped_entry dmux8way_tree)

@@ -2,7 +2,7 @@
 ghost use Rattle.std.specs.Prelude.{◌≡◌, ◌++◌, ◌∷◌, [], Some, None, IfOk};
 ghost use Rattle.hdl_tree.specs.declared.tree.Subscript.TheVariants.{Bit, Bits};
 ghost use Rattle.hdl_tree.specs.declared.tree.Body.TheVariants.{Parts, Builtin};
-ghost use Rattle.chip_basic.specs.Hdl.{pin_named, connect, fixed, part_named, chip_named, built_in, digits};
+ghost use Rattle.chip_basic.specs.Hdl.{pin_named, connect, fixed_connection, part_named, chip_named, built_in, digits};
 ghost use Rattle.chip_basic.specs.Inner.Joints.{the_source};
 
 use hdl_tree::{Body, Chip, Connection, List, Name, Part, Pin, Selection, Source, Subscript};
@@ -137,7 +137,7 @@ pub fn bits_wire<'a>(pin: &'a [u8], first: u8, last: u8, net: &'a [u8]) -> Joint
 
 /// `pin=true` or `pin=false`
 pub fn constant<'a>(pin: &'a [u8], value: bool) -> Joint<'a>
-    ensures { result ≡ fixed pin.now None value }
+    ensures { result ≡ fixed_connection pin.now None value }
 {
     Joint {
         pin,
@@ -148,7 +148,7 @@ pub fn constant<'a>(pin: &'a [u8], value: bool) -> Joint<'a>
 
 /// `pin[bit]=true` or `pin[bit]=false`
 pub fn bit_constant<'a>(pin: &'a [u8], bit: u8, value: bool) -> Joint<'a>
-    ensures { result ≡ fixed pin.now (Some (Bit bit)) value }
+    ensures { result ≡ fixed_connection pin.now (Some (Bit bit)) value }
 {
     Joint {
         pin,

@@ -2,7 +2,7 @@
 use Rattle.std.proofs.Common.{◌≡◌, ℕ, zero, suc, ◌+◌, ◌*◌, ◌^◌, ◌<◌, Bool, true, false, cond, eqb, refl, sym, ap, ap₂, ◌∙◌, arith, ne_eqb, eq-eqb, eqb-true, add-zero, pow-add}
 use Rattle.std.proofs.lemmas.Bool.{eqb-false}
 use Rattle.std.specs.Prelude.{◌&&◌, codes}
-use Rattle.hdl_tree.specs.Memory.{number, held}
+use Rattle.hdl_tree.specs.Memory.{number, word_held}
 use Rattle.hdl_tree.specs.Behaviour.{Histories, BlockWorks}
 use Rattle.chip_basic.specs.Laws.{word}
 use Rattle.chip_basic.proofs.Numbers.{number_below}
@@ -42,12 +42,12 @@ tests false size x y i j split a b = refl
 
 -- block i, which is loaded where the upper part of the address is i, holds the words from size * i on
 held_part : (size : ℕ) (load : ℕ → Bool) (low high word start : ℕ → ℕ) (i a : ℕ) → IsSplit size → ((c : ℕ) → low c < size) → a < size → (c : ℕ) →
-    held (λ d. load d && eqb (high d) i) low word (λ b. start (b + size * i)) c a ≡ held load (λ d. low d + size * high d) word start c (a + size * i)
+    word_held (λ d. load d && eqb (high d) i) low word (λ b. start (b + size * i)) c a ≡ word_held load (λ d. low d + size * high d) word start c (a + size * i)
 held_part size load low high word start i a split small b zero = refl
 held_part size load low high word start i a split small b (suc c) =
     ap₂ (λ t h. cond t (word c) h) (tests (load c) size (low c) a (high c) i split (small c) b) (held_part size load low high word start i a split small b c)
 
-pub held_same : (l l' : ℕ → Bool) (a a' v v' : ℕ → ℕ) (s : ℕ → ℕ) (c : ℕ) → ((d : ℕ) → d < c → (l d ≡ l' d) × (a d ≡ a' d) × (v d ≡ v' d)) → (x : ℕ) → held l a v s c x ≡ held l' a' v' s c x
+pub held_same : (l l' : ℕ → Bool) (a a' v v' : ℕ → ℕ) (s : ℕ → ℕ) (c : ℕ) → ((d : ℕ) → d < c → (l d ≡ l' d) × (a d ≡ a' d) × (v d ≡ v' d)) → (x : ℕ) → word_held l a v s c x ≡ word_held l' a' v' s c x
 held_same l l' a a' v v' s zero h x = refl
 held_same l l' a a' v v' s (suc c) h x =
     let t = h c (omega arith) in
@@ -108,12 +108,12 @@ module _ (bits upper ways n : ℕ) (split : IsSplit (2 ^ bits)) (w : Histories) 
   load d = w (codes "load") 0 d
 
   -- a smaller block gives the word of the large one
-  small_word : (i : ℕ) → i < ways → (c : ℕ) → c < n → word (small i) "out" c ≡ held load (λ d. low d + 2 ^ bits * high d) (λ d. word w "in" d) (λ a. 0) c (low c + 2 ^ bits * i)
+  small_word : (i : ℕ) → i < ways → (c : ℕ) → c < n → word (small i) "out" c ≡ word_held load (λ d. low d + 2 ^ bits * high d) (λ d. word w "in" d) (λ a. 0) c (low c + 2 ^ bits * i)
   unfolding low high load
   small_word i lt c le =
       works i lt c le
       ∙ held_same _ (λ d. load d && eqb (high d) i) _ low _ (λ d. word w "in" d) (λ a. 0) c (λ d lt'. let f = fed i lt d (omega arith) in (f.load, f.address, f.word_in)) _
-      ∙ ap (held (λ d. load d && eqb (high d) i) low (λ d. word w "in" d) (λ a. 0) c) (fed i lt c le).address
+      ∙ ap (word_held (λ d. load d && eqb (high d) i) low (λ d. word w "in" d) (λ a. 0) c) (fed i lt c le).address
       ∙ held_part (2 ^ bits) load low high (λ d. word w "in" d) (λ a. 0) i (low c) split (λ d. number_below bits (λ k. w (codes "address") k d)) (number_below bits (λ k. w (codes "address") k c)) c
 
   pub block_works : (c : ℕ) → c < n → BlockWorks c (bits + upper) w
@@ -122,4 +122,4 @@ module _ (bits upper ways n : ℕ) (split : IsSplit (2 ^ bits)) (w : Histories) 
       let a : (d : ℕ) → low d + 2 ^ bits * high d ≡ number (bits + upper) (λ k. w (codes "address") k d) = λ d. sym (number_split bits upper (λ k. w (codes "address") k d) (bits + upper) refl) in
       given c le ∙ small_word (high c) (is_way c) c le
       ∙ held_same load load (λ d. low d + 2 ^ bits * high d) (λ d. number (bits + upper) (λ k. w (codes "address") k d)) _ _ (λ x. 0) c (λ d lt. (refl, a d, refl)) _
-      ∙ ap (held load (λ d. number (bits + upper) (λ k. w (codes "address") k d)) (λ d. word w "in" d) (λ x. 0) c) (a c)
+      ∙ ap (word_held load (λ d. number (bits + upper) (λ k. w (codes "address") k d)) (λ d. word w "in" d) (λ x. 0) c) (a c)

@@ -10,7 +10,7 @@ use Rattle.hdl_tree.specs.declared.library.Entry.{Entry}
 use Rattle.hdl_tree.specs.Memory.{number}
 use Rattle.hdl_tree.specs.Chips.{Chips, find_chip, parts_of, first}
 use Rattle.hdl_tree.specs.Behaviour.{Histories, World, Each, Joins, Works, IsBehaviour, BlockWorks, width_of}
-use Rattle.chip_basic.specs.Hdl.{connect, wire, part_named, numbered, letter, ways}
+use Rattle.chip_basic.specs.Hdl.{connect, wire, part_named, numbered_name, letter, ways}
 use Rattle.chip_basic.specs.Laws.{word, GoesWay}
 use Rattle.chip_basic.proofs.Inside.{PartOf, part_of, whole_joined}
 use Rattle.chip_basic.proofs.Numbers.{number_same, number_below}
@@ -53,7 +53,7 @@ each_of_row P f (suc n) a h (suc i) lt =
 -- ---- the parts
 
 abbrev pub way : String → ℕ → Connection
-way name i = connect (letter i) None (numbered name i) None
+way name i = connect (letter i) None (numbered_name name i) None
 
 -- `chip(in=load, sel=address.., a=load0, b=load1, ..)`
 abbrev pub hands_on : List ℕ → ℕ → Option Subscript → Part
@@ -65,10 +65,10 @@ chooses chip m s = part_named chip (ways m "word" ++ connect (codes "sel") None 
 
 -- the pins of a smaller memory, as they are joined
 pub record IsJoined (bits i d : ℕ) (outside inside : Histories) : Type 0 where
-  pub load : inside (codes "load") 0 d ≡ outside (numbered "load" i) 0 d
+  pub load : inside (codes "load") 0 d ≡ outside (numbered_name "load" i) 0 d
   pub word_in : word inside "in" d ≡ word outside "in" d
   pub address : low_part bits inside d ≡ low_part bits outside d
-  pub out : (k : ℕ) → k < 16 → inside (codes "out") k d ≡ outside (numbered "word" i) k d
+  pub out : (k : ℕ) → k < 16 → inside (codes "out") k d ≡ outside (numbered_name "word" i) k d
 
 -- a chip that hands a bit on, and one that chooses a word, as far as their widths go
 pub record HasWidths (m upper : ℕ) (demux mux : Entry) : Type 0 where
@@ -97,7 +97,7 @@ module _ (world : World) (library : Chips) (n : ℕ) (m upper bits : ℕ) (s : O
   upper_bit : (d k : ℕ) → w [] (codes "address") (first s + k) d ≡ w [] (codes "address") (bits + k) d
   upper_bit d k = ap (λ x. w [] (codes "address") (x + k) d) begins
 
-  load_net : (i : ℕ) → i < m → (d : ℕ) → d < n → w [] (numbered "load" i) 0 d ≡ (w [] (codes "load") 0 d && eqb (high_part bits upper (w []) d) i)
+  load_net : (i : ℕ) → i < m → (d : ℕ) → d < n → w [] (numbered_name "load" i) 0 d ≡ (w [] (codes "load") 0 d && eqb (high_part bits upper (w []) d) i)
   load_net i lt d le =
       let p = part_of world d library tree w (h d le) 0 (hands_on demux_name m s) demux (ap (λ x. slice_get x 0) made) has_demux in
       let j = p.outside.joined in
@@ -129,7 +129,7 @@ module _ (world : World) (library : Chips) (n : ℕ) (m upper bits : ℕ) (s : O
       let out : (k : ℕ) → k < 16 → w [] (codes "out") k c ≡ w (suc i ∷ []) (codes "out") k c = λ k lt'.
       let o = whole_joined c mux (w []) (w (suc m ∷ [])) (codes "out") (codes "out") j.1.0 k (subst (λ x. k < x) (sym widths.mux_out) lt') in
       let x = takes c (λ path. w (suc m ∷ path)) p.inside k lt' in
-      let y = whole_joined c mux (w []) (w (suc m ∷ [])) (letter i) (numbered "word" i) row k (subst (λ x. k < x) (sym (widths.mux_way i lt)) lt') in
+      let y = whole_joined c mux (w []) (w (suc m ∷ [])) (letter i) (numbered_name "word" i) row k (subst (λ x. k < x) (sym (widths.mux_way i lt)) lt') in
       sym o ∙ x ∙ ap (λ x. w (suc m ∷ []) (letter x) k c) b ∙ y ∙ sym (q.out k lt') in
       number_same 16 _ _ out
 

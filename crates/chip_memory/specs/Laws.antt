@@ -7,7 +7,7 @@ use Rattle.hdl_tree.specs.Writable.{all, chip_can}
 use Rattle.hdl_tree.specs.Memory.{before}
 use Rattle.hdl_tree.specs.Chips.{Chips}
 use Rattle.hdl_tree.specs.Behaviour.{Histories, World, IsBehaviour, BlockWorks}
-use Rattle.chip_basic.specs.Hdl.{shipped}
+use Rattle.chip_basic.specs.Hdl.{shipped_entry}
 use Rattle.chip_basic.specs.Laws.{Always, bit, word}
 use Rattle.chip_memory.specs.Trees.{HasMemoryChips, dff_tree, bit_tree, register_tree, a_register_tree, d_register_tree, pc_tree, ram8_tree, ram64_tree, ram512_tree, ram4k_tree, ram16k_tree, screen_tree}
 
@@ -43,7 +43,7 @@ of_gates entries = record { entries = entries; blocks = false }
 -- In each cycle of every behaviour of the chip of gates, its pins are those of a block of 2 ^ bits words, all 0 at the start: out is the word at
 -- the address, which is the last one that was loaded there in a cycle before.
 abbrev pub IsBlock : ℕ → Chip → Type 0
-IsBlock bits chip = (world : World) (entries : List Entry) (n : ℕ) (wires : List ℕ → Histories) → HasMemoryChips (of_gates entries) → IsBehaviour world (of_gates entries) (shipped chip) n wires → (c : ℕ) → c < n → BlockWorks c bits (wires [])
+IsBlock bits chip = (world : World) (entries : List Entry) (n : ℕ) (wires : List ℕ → Histories) → HasMemoryChips (of_gates entries) → IsBehaviour world (of_gates entries) (shipped_entry chip) n wires → (c : ℕ) → c < n → BlockWorks c bits (wires [])
 
 abbrev pub Ram8Law : Type 0
 Ram8Law = IsBlock 3 ram8_tree

@@ -5,7 +5,7 @@ use Rattle.hdl_tree.specs.declared.tree.Part.{Part}
 use Rattle.hdl_tree.specs.declared.tree.Body.TheVariants.{Parts}
 use Rattle.hdl_tree.specs.declared.tree.Chip.{Chip}
 use Rattle.hdl_tree.specs.Chips.{Chips, find_chip}
-use Rattle.chip_basic.specs.Hdl.{pin, bus, wire, wire_to, wire_bit, wire_bits, constant, part, part_named, chip, chip_named, builtin, each, numbered, ways, shipped}
+use Rattle.chip_basic.specs.Hdl.{pin, bus, wire, wire_to, wire_bit, wire_bits, constant, part, part_named, chip, chip_named, builtin, each, numbered_name, ways, shipped_entry}
 use Rattle.chip_alu.specs.Trees.{HasAluChips}
 
 -- the flip-flop, which is built in
@@ -57,7 +57,7 @@ memory name bits parts = memory_named (codes name) bits parts
 
 -- `Register(in=in, load=load(i), out=word(i));`
 abbrev pub word_part : ℕ → Part
-word_part i = part "Register" (wire "in" "in" ∷ wire_to "load" (numbered "load" i) ∷ wire_to "out" (numbered "word" i) ∷ [])
+word_part i = part "Register" (wire "in" "in" ∷ wire_to "load" (numbered_name "load" i) ∷ wire_to "out" (numbered_name "word" i) ∷ [])
 
 unfoldable pub ram8_tree : Chip
 ram8_tree = memory "RAM8" 3 (
@@ -66,7 +66,7 @@ ram8_tree = memory "RAM8" 3 (
 
 -- a smaller memory, with the lowest bits of the address: `name(in=in, load=load(i), address=address[0..bits-1], out=word(i));`
 abbrev pub smaller : List ℕ → ℕ → ℕ → Part
-smaller name bits i = part_named name (wire "in" "in" ∷ wire_to "load" (numbered "load" i) ∷ wire_bits "address" "address" 0 (bits - 1) ∷ wire_to "out" (numbered "word" i) ∷ [])
+smaller name bits i = part_named name (wire "in" "in" ∷ wire_to "load" (numbered_name "load" i) ∷ wire_bits "address" "address" 0 (bits - 1) ∷ wire_to "out" (numbered_name "word" i) ∷ [])
 
 -- eight smaller memories, one of which the three upper bits of the address choose
 abbrev pub eight_of : List ℕ → ℕ → List Part
@@ -98,15 +98,15 @@ screen_tree = memory "Screen" 13 (
 -- the library has these chips too, under their names, each as it is shipped
 pub record HasMemoryChips (library : Chips) : Type 0 where
   pub computing : HasAluChips library
-  pub dff : find_chip library (codes "DFF") ≡ Some (shipped dff_tree)
-  pub bit : find_chip library (codes "Bit") ≡ Some (shipped bit_tree)
-  pub register : find_chip library (codes "Register") ≡ Some (shipped register_tree)
-  pub a_register : find_chip library (codes "ARegister") ≡ Some (shipped a_register_tree)
-  pub d_register : find_chip library (codes "DRegister") ≡ Some (shipped d_register_tree)
-  pub pc : find_chip library (codes "PC") ≡ Some (shipped pc_tree)
-  pub ram8 : find_chip library (codes "RAM8") ≡ Some (shipped ram8_tree)
-  pub ram64 : find_chip library (codes "RAM64") ≡ Some (shipped ram64_tree)
-  pub ram512 : find_chip library (codes "RAM512") ≡ Some (shipped ram512_tree)
-  pub ram4k : find_chip library (codes "RAM4K") ≡ Some (shipped ram4k_tree)
-  pub ram16k : find_chip library (codes "RAM16K") ≡ Some (shipped ram16k_tree)
-  pub screen : find_chip library (codes "Screen") ≡ Some (shipped screen_tree)
+  pub dff : find_chip library (codes "DFF") ≡ Some (shipped_entry dff_tree)
+  pub bit : find_chip library (codes "Bit") ≡ Some (shipped_entry bit_tree)
+  pub register : find_chip library (codes "Register") ≡ Some (shipped_entry register_tree)
+  pub a_register : find_chip library (codes "ARegister") ≡ Some (shipped_entry a_register_tree)
+  pub d_register : find_chip library (codes "DRegister") ≡ Some (shipped_entry d_register_tree)
+  pub pc : find_chip library (codes "PC") ≡ Some (shipped_entry pc_tree)
+  pub ram8 : find_chip library (codes "RAM8") ≡ Some (shipped_entry ram8_tree)
+  pub ram64 : find_chip library (codes "RAM64") ≡ Some (shipped_entry ram64_tree)
+  pub ram512 : find_chip library (codes "RAM512") ≡ Some (shipped_entry ram512_tree)
+  pub ram4k : find_chip library (codes "RAM4K") ≡ Some (shipped_entry ram4k_tree)
+  pub ram16k : find_chip library (codes "RAM16K") ≡ Some (shipped_entry ram16k_tree)
+  pub screen : find_chip library (codes "Screen") ≡ Some (shipped_entry screen_tree)

@@ -6,18 +6,18 @@ use Rattle.hdl_tree.specs.declared.tree.Part.{Part}
 use Rattle.hdl_tree.specs.declared.library.Entry.{Entry}
 use Rattle.hdl_tree.specs.Chips.{Chips, find_chip, parts_of}
 use Rattle.hdl_tree.specs.Writable.{all}
-use Rattle.hdl_elab.specs.Whole.{chips_in}
-use Rattle.hdl_elab.specs.Tables.{found}
-use Rattle.hdl_elab.proofs.Order.{not_both}
-use Rattle.hdl_flat.specs.Trees.{PartIn, within, AreListed, none, next, IsTree, bit_count, chip_nodes, part_nodes, node_count}
-use Rattle.hdl_elaborate.specs.declared.fault.ElaborationFault.{ElaborationFault}
-use Rattle.hdl_elaborate.specs.declared.fault.ElaborationFault.TheVariants as faults
-use Rattle.hdl_elaborate.specs.Faults.{IsFaultOf, IsFine}
+use Rattle.hdl_check.specs.Whole.{chips_in}
+use Rattle.hdl_check.specs.Tables.{find_value}
+use Rattle.hdl_check.proofs.Order.{not_both}
+use Rattle.hdl_flatten.specs.Trees.{PartIn, within, AreListed, none, next, IsTree, bit_count, chip_nodes, part_nodes, node_count}
+use Rattle.hdl_elab.specs.declared.fault.ElaborationFault.{ElaborationFault}
+use Rattle.hdl_elab.specs.declared.fault.ElaborationFault.TheVariants as faults
+use Rattle.hdl_elab.specs.Faults.{IsFaultOf, IsFine}
 use Rattle.gate_computer.specs.Computer.{computer}
 use Rattle.gate_computer.specs.Nodes.{NodesLaw, computer_nodes}
 use Rattle.hack_cpu.specs.Library.{shipped_chips}
-use Rattle.hdl_shown.proofs.Clean.{find_in}
-use Rattle.hdl_shown.proofs.Levels.{all_at}
+use Rattle.hdl_behaviours.proofs.Clean.{find_in}
+use Rattle.hdl_behaviours.proofs.Levels.{all_at}
 use Rattle.hack_cpu.proofs.Opened.{opened}
 use Rattle.hack_cpu.proofs.Shown.{no_fault, no_loop}
 
@@ -32,25 +32,25 @@ nodes-within chips i (p ∷ tree) = ap (λ n. chip_nodes chips p.chip + n) (node
 module _ (chips : Chips) (table : List (List ℕ × ℕ)) where
   -- the nodes of the ends in a chip of this name
   abbrev told_of : List ℕ → ℕ
-  told_of name = unwrap_or (found name table) 0
+  told_of name = unwrap_or (find_value name table) 0
 
-  abbrev told_in : List Part → ℕ
-  told_in [] = 0
-  told_in (part ∷ parts) = told_of part.chip + told_in parts
+  abbrev diagnostic_in : List Part → ℕ
+  diagnostic_in [] = 0
+  diagnostic_in (part ∷ parts) = told_of part.chip + diagnostic_in parts
 
   abbrev is_told : Entry → Bool
-  is_told chip = nat_eq (told_of chip.name) (chip_nodes chips chip + told_in (parts_of chips chip))
+  is_told chip = nat_eq (told_of chip.name) (chip_nodes chips chip + diagnostic_in (parts_of chips chip))
 
   module _ (told : all is_told chips.entries ≡ true) where
-    told_at : (i : ℕ) (chip : Entry) → slice_get chips.entries i ≡ Some chip → told_of chip.name ≡ chip_nodes chips chip + told_in (parts_of chips chip)
-    told_at i chip there = (Decides-eqb (told_of chip.name) (chip_nodes chips chip + told_in (parts_of chips chip))).0 (all_at is_told chips.entries told i chip there)
+    told_at : (i : ℕ) (chip : Entry) → slice_get chips.entries i ≡ Some chip → told_of chip.name ≡ chip_nodes chips chip + diagnostic_in (parts_of chips chip)
+    told_at i chip there = (Decides-eqb (told_of chip.name) (chip_nodes chips chip + diagnostic_in (parts_of chips chip))).0 (all_at is_told chips.entries told i chip there)
 
-    told_found : (name : List ℕ) (chip : Entry) → find_chip chips name ≡ Some chip → told_of name ≡ chip_nodes chips chip + told_in (parts_of chips chip)
+    told_found : (name : List ℕ) (chip : Entry) → find_chip chips name ≡ Some chip → told_of name ≡ chip_nodes chips chip + diagnostic_in (parts_of chips chip)
     told_found name chip found_it =
         let r = find_in chips.entries name chip found_it in
         ap told_of r.named ∙ told_at r.place chip r.there
 
-    nodes_in : (i : ℕ) (parts : List Part) (tree : List PartIn) → AreListed chips i parts tree → part_nodes chips tree ≡ told_in parts
+    nodes_in : (i : ℕ) (parts : List Part) (tree : List PartIn) → AreListed chips i parts tree → part_nodes chips tree ≡ diagnostic_in parts
     nodes_in i parts tree none = refl
     nodes_in i parts tree (next {part = part} {parts = behind} {chip = chip} {inner = inner} {others = others} found_it inside after) =
         let whole = nodes-append chips (within i inner) others in
@@ -85,7 +85,7 @@ unfolding opened
 all_told true = refl
 all_told false = refl
 
-computer_told : (blocks : Bool) → told_in (chips_in shipped_chips blocks) (table_of blocks) (parts_of (chips_in shipped_chips blocks) computer) ≡ (if blocks then 1758 else 3663412)
+computer_told : (blocks : Bool) → diagnostic_in (chips_in shipped_chips blocks) (table_of blocks) (parts_of (chips_in shipped_chips blocks) computer) ≡ (if blocks then 1758 else 3663412)
 unfolding opened
 computer_told true = refl
 computer_told false = refl

@@ -7,10 +7,10 @@ use Rattle.word16.specs.Memory.{keyboard}
 use Rattle.hack_isa.specs.Machine.{Machine, machine_at, step}
 use Rattle.machine_io.specs.History.{Turn, turn}
 use Rattle.machine_io.specs.declared.machine.Moved.TheVariants.{Acted}
-use Rattle.layers.specs.System.{IsKey, keys_heard}
-use Rattle.layers.specs.Trace.{heard}
-use Rattle.layers.proofs.Traces.{steps_same, heard_same, point_same}
-use Rattle.hack_blocks.specs.Computer.{reads_key}
+use Rattle.simulation.specs.System.{IsKey, keys_heard}
+use Rattle.simulation.specs.Trace.{heard_keys}
+use Rattle.simulation.proofs.Traces.{steps_same, heard_same, point_same}
+use Rattle.vm_templates.specs.Computer.{reads_key}
 use Rattle.hdl_tree.specs.declared.library.Entry.{Entry}
 use Rattle.hdl_tree.specs.declared.ends.End.TheVariants as ends
 use Rattle.hdl_tree.specs.Memory.{number}
@@ -19,7 +19,7 @@ use Rattle.hdl_tree.specs.Behaviour.{Histories, chip_at}
 use Rattle.netlist.specs.Net.{Net}
 use Rattle.netlist.specs.Order.{AreOrdered}
 use Rattle.netlist.specs.Present.{value_in}
-use Rattle.netlist.specs.Value.{Inputs, AreValues, spelled}
+use Rattle.netlist.specs.Value.{Inputs, AreValues, spelled_number}
 use Rattle.netlist.specs.Words.{word_at as stored_at}
 use Rattle.netlist.proofs.Exist.{values_of}
 use Rattle.netlist.proofs.Rows.{spelled_same}
@@ -30,9 +30,9 @@ use Rattle.gate_sim.specs.State.{SimState}
 use Rattle.gate_sim.specs.Stands.{StandsFor}
 use Rattle.gate_sim.specs.Cycles.{Runs}
 use Rattle.gate_sim.proofs.Cycles.{law, start}
-use Rattle.hdl_numbering.specs.Numbering.{nodes_of}
-use Rattle.hdl_numbering.proofs.Ends.{held_is, spelled_is}
-use Rattle.chip_basic.specs.Hdl.{shipped}
+use Rattle.hdl_nodes.specs.Numbering.{nodes_of}
+use Rattle.hdl_nodes.proofs.Ends.{held_is, spelled_is}
+use Rattle.chip_basic.specs.Hdl.{shipped_entry}
 use Rattle.chip_memory.specs.Trees.{ram16k_tree, screen_tree}
 use Rattle.hack_cpu.specs.Computer.{block_word}
 use Rattle.gate_computer.specs.declared.wiring.Wiring.{Wiring}
@@ -61,7 +61,7 @@ machine_pc image keys c = (machine_at image keys c).pc
 -- what was counted up to cycle n of the run of the instruction machine
 pub record AtMachine (image : List ℕ) (t : Tallied) (ears : ℕ) (keys : ℕ → ℕ) (n : ℕ) : Type 0 where
   pub tallied : HasTallied t (machine_pc image keys) n
-  pub listened : ears ≡ length (heard (machine_trace image (map_in t) keys) n)
+  pub listened : ears ≡ length (heard_keys (machine_trace image (map_in t) keys) n)
 
 machine_same : (image : List ℕ) (keys keys' : ℕ → ℕ) (n : ℕ) → ((c : ℕ) → c < n → keys c ≡ keys' c) → machine_at image keys n ≡ machine_at image keys' n
 machine_same image keys keys' zero h = refl
@@ -147,8 +147,8 @@ module _ (sim : SimState) (w : Wiring) (image : List ℕ) (key : ℕ) (turns : L
   words_are words holds a near =
       either (nat_lt a 16384) (stored_at sim.memory w.main a) (stored_at sim.memory w.screen (a - 16384))
       (block_word 14 (own_wires main_path) (length turns) a) (block_word 13 (own_wires screen_path) (length turns) (a - 16384))
-      (block_is holds main_path (shipped ram16k_tree) 14 w.main main_stands.0 main_stands.1 told.wired.blocks.main a)
-      (block_is holds screen_path (shipped screen_tree) 13 w.screen screen_stands.0 screen_stands.1 told.wired.blocks.screen (a - 16384))
+      (block_is holds main_path (shipped_entry ram16k_tree) 14 w.main main_stands.0 main_stands.1 told.wired.blocks.main a)
+      (block_is holds screen_path (shipped_entry screen_tree) 13 w.screen screen_stands.0 screen_stands.1 told.wired.blocks.screen (a - 16384))
       ∙ (shows_at image keys (suc (length turns)) own_wires (own_is words (suc (length turns))) (length turns) (omega arith)).memory a near
 
 -- ---- a history, from what was told and counted
@@ -257,25 +257,25 @@ module _ (s0 sA sT sK : SimState) (w : Wiring) (image : List ℕ) (old key : ℕ
 
       -- what nodes of a row spell
       spelled_row : (row : ℕ → Bool) (c bits : ℕ) (f : ℕ → ℕ) (nodes : List ℕ) → ((k : ℕ) → k < length s0.net.nodes → row k ≡ v k c) → nodes ≡ nodes_of bits f → All (λ k. k < length s0.net.nodes) nodes
-          → spelled row nodes ≡ number bits (λ k. v (f k) c)
+          → spelled_number row nodes ≡ number bits (λ k. v (f k) c)
       spelled_row row c bits f nodes same e there =
           spelled_same row (λ k. v k c) nodes (λ i d less. same _ (there i d less))
-          ∙ ap (spelled (λ k. v k c)) e ∙ spelled_is (λ k. v k c) bits f
+          ∙ ap (spelled_number (λ k. v k c)) e ∙ spelled_is (λ k. v k c) bits f
 
       module _ (words : (c : ℕ) → IsKey (keys c)) where
-        a_is : spelled (value_in sT.values) w.a ≡ (machine_at image keys (length turns)).a
+        a_is : spelled_number (value_in sT.values) w.a ≡ (machine_at image keys (length turns)).a
         a_is =
             spelled_row (value_in sT.values) (length turns) 16 (told.wired.at a_register_path (codes "out")) w.a tick_value told.wired.pins.a told.wired.nodes.a
             ∙ (shows_at image keys (suc (length turns)) (own_wires s0 w image old turns told keys) (own_is s0 w image old turns told keys words (suc (length turns))) (length turns) (omega arith)).a
 
-        pc_is : spelled (value_in sK.values) w.pc ≡ (machine_at image keys (suc (length turns))).pc
+        pc_is : spelled_number (value_in sK.values) w.pc ≡ (machine_at image keys (suc (length turns))).pc
         pc_is =
             spelled_row (value_in sK.values) (suc (length turns)) 15 (told.wired.at cpu_path (codes "pc")) w.pc tock_value told.wired.pins.pc told.wired.nodes.pc
             ∙ (shows_at image keys (suc (suc (length turns))) (own_wires s0 w image old turns told keys) (own_is s0 w image old turns told keys words (suc (suc (length turns)))) (suc (length turns)) (omega arith)).pc
 
         pub counted_more : (t t' : Tallied) (ears ears' address : ℕ) (hears : Bool) → AtMachine image t ears keys (length turns)
-            → hears ≡ reads_key (slice_index image t.at) (spelled (value_in sT.values) w.a) → ears' ≡ (if hears then suc ears else ears)
-            → address ≡ spelled (value_in sK.values) w.pc → ((pc : ℕ → ℕ) (c : ℕ) → HasTallied t pc c → pc (suc c) ≡ address → HasTallied t' pc (suc c))
+            → hears ≡ reads_key (slice_index image t.at) (spelled_number (value_in sT.values) w.a) → ears' ≡ (if hears then suc ears else ears)
+            → address ≡ spelled_number (value_in sK.values) w.pc → ((pc : ℕ → ℕ) (c : ℕ) → HasTallied t pc c → pc (suc c) ≡ address → HasTallied t' pc (suc c))
             → AtMachine image t' ears' keys (suc (length turns))
         counted_more t t' ears ears' address hears was heard_is ears_is address_is tallies =
             let c = length turns in
@@ -285,7 +285,7 @@ module _ (s0 sA sT sK : SimState) (w : Wiring) (image : List ℕ) (old key : ℕ
             record {
               tallied = tallies (machine_pc image keys) c was.tallied (sym pc_is ∙ sym address_is);
               listened = ears_is ∙ ap (λ b. if b then suc ears else ears) hears_is
-                  ∙ ears_more (reads_key (slice_index image m.pc) m.a) ears (keys c) (heard (machine_trace image (map_in t) keys) c) was.listened
+                  ∙ ears_more (reads_key (slice_index image m.pc) m.a) ears (keys c) (heard_keys (machine_trace image (map_in t) keys) c) was.listened
                   ∙ ap (λ (l : List ℕ). length l) (heard_same (machine_trace image (map_in t) keys) (machine_trace image (map_in t') keys) (suc c) (λ d less. refl) (λ d less. refl));
             }
 
@@ -293,8 +293,8 @@ module _ (s0 sA sT sK : SimState) (w : Wiring) (image : List ℕ) (old key : ℕ
 pub followed_more : (g g' : GateMachine) (sA sT : SimState) (key : ℕ) (turns : List Turn) (f : HasFollowed g turns) → sA.net ≡ g.sim.net → sT.net ≡ g.sim.net → g'.sim.net ≡ g.sim.net → IsKey key
     → g'.wiring ≡ g.wiring → g'.image ≡ g.image → g'.key ≡ key → g'.moves ≡ suc g.moves
     → (set : HasSet sA f.told.calls (HoldsKey g.wiring.keyboard key)) → StandsFor sT (Tick ∷ set.now) → StandsFor g'.sim (Tock ∷ Tick ∷ set.now)
-    → (address : ℕ) (hears : Bool) → hears ≡ reads_key (slice_index g.image g.tally.at) (spelled (value_in sT.values) g.wiring.a) → g'.ears ≡ (if hears then suc g.ears else g.ears)
-    → address ≡ spelled (value_in g'.sim.values) g.wiring.pc → ((pc : ℕ → ℕ) (c : ℕ) → HasTallied g.tally pc c → pc (suc c) ≡ address → HasTallied g'.tally pc (suc c))
+    → (address : ℕ) (hears : Bool) → hears ≡ reads_key (slice_index g.image g.tally.at) (spelled_number (value_in sT.values) g.wiring.a) → g'.ears ≡ (if hears then suc g.ears else g.ears)
+    → address ≡ spelled_number (value_in g'.sim.values) g.wiring.pc → ((pc : ℕ → ℕ) (c : ℕ) → HasTallied g.tally pc c → pc (suc c) ≡ address → HasTallied g'.tally pc (suc c))
     → HasFollowed g' (turns ++ turn key Acted ∷ [])
 followed_more g g' sA sT key turns f netA netT netK word same_wiring same_image same_key more set stT stK address hears heard_is ears_is address_is tallies =
     let t = turn key Acted in

@@ -3,7 +3,7 @@ use Rattle.std.proofs.Common.{◌≡◌, ◌<◌, ◌+◌, ℕ, zero, suc, List,
 use Rattle.std.specs.List.{All}
 use Rattle.std.proofs.lemmas.List.Elements.{All-head, All-tail}
 use Rattle.machine_io.specs.History.{Turn}
-use Rattle.layers.specs.System.{IsKey}
+use Rattle.simulation.specs.System.{IsKey}
 use Rattle.gate_computer.specs.Turns.{HoldsKeys}
 
 pub holds_before : (keys : ℕ → ℕ) (c : ℕ) (turns : List Turn) (t : Turn) → HoldsKeys keys c (turns ++ t ∷ []) → HoldsKeys keys c turns

@@ -7,9 +7,9 @@ use Rattle.hdl_tree.specs.declared.library.Entry.{Entry}
 use Rattle.hdl_tree.specs.declared.tree.Chip.{Chip}
 use Rattle.hdl_tree.specs.declared.ends.End.{End}
 use Rattle.hdl_tree.specs.Chips.{end_of, end_of_shipped, find_entry}
-use Rattle.hdl_elab.specs.Whole.{AreDistinct, chips_in}
-use Rattle.hdl_shown.proofs.Clean.{find_in}
-use Rattle.hdl_flat.specs.Ends.{EndsHavePins, HasPins, named, end_inputs, end_outputs}
+use Rattle.hdl_check.specs.Whole.{AreDistinct, chips_in}
+use Rattle.hdl_behaviours.proofs.Clean.{find_in}
+use Rattle.hdl_flatten.specs.Ends.{EndsHavePins, HasPins, named_pins, end_inputs, end_outputs}
 use Rattle.hack_cpu.specs.Library.{shipped_chips}
 use Rattle.hack_cpu.proofs.Faces.{faces}
 use Rattle.gate_computer.specs.Elaborated.{IsShippedAs, IsLibrary, LibrariesLaw}
@@ -29,9 +29,9 @@ some_found (e ∷ es) zero x h =
 some_found (e ∷ es) (suc k) x h = found_by (bytes_eq x.name e.name) e (find_entry es x.name) (some_found es k x h)
 
 absent : (es : List Entry) (name : List ℕ) (k : ℕ) (x : Entry) → find_entry es name ≡ None → slice_get es k ≡ Some x → x.name ≡ name → ⊥
-absent es name k x none there named =
+absent es name k x none there named_pins =
     let f = some_found es k x there in
-    let same : find_entry es x.name ≡ find_entry es name = ap (find_entry es) named in
+    let same : find_entry es x.name ≡ find_entry es name = ap (find_entry es) named_pins in
     absurd cc
 
 -- it is the one of its name, where no two have the same
@@ -92,8 +92,8 @@ shipped_pins blocks chip e r is =
     let found = itself_found shipped_chips r.place r.original faces.distinct r.there in
     let h = ends_have_pins blocks r.original.name r.original e found (sym (same_end blocks chip r.original r.shipped) ∙ is) in
     record {
-      inputs = subst (λ (c : Chip). named c.inputs ≡ end_inputs e) (sym r.chip) h.inputs;
-      outputs = subst (λ (c : Chip). named c.outputs ≡ end_outputs e) (sym r.chip) h.outputs;
+      inputs = subst (λ (c : Chip). named_pins c.inputs ≡ end_inputs e) (sym r.chip) h.inputs;
+      outputs = subst (λ (c : Chip). named_pins c.outputs ≡ end_outputs e) (sym r.chip) h.outputs;
     }
 
 pub library_ends : (entries : List Entry) (blocks : Bool) → IsLibrary entries → EndsHavePins (chips_in entries blocks)

@@ -8,11 +8,11 @@ use Rattle.hdl_tree.specs.declared.library.Entry.{Entry}
 use Rattle.hdl_tree.specs.Chips.{Chips, find_chip, find_entry, parts_of}
 use Rattle.hdl_tree.specs.Behaviour.{Wires, Each}
 use Rattle.gate_computer.specs.declared.wiring.WiredPart.{WiredPart}
-use Rattle.hdl_flat.specs.Trees.{PartIn, within, AreListed, none, next, bit_count, all_bits}
-use Rattle.hdl_flat.specs.Flat.{nodes_at, part_at}
+use Rattle.hdl_flatten.specs.Trees.{PartIn, within, AreListed, none, next, bit_count, all_bits}
+use Rattle.hdl_flatten.specs.Flat.{nodes_at, part_at}
 use Rattle.gate_computer.specs.Wiring.{part_at as wired_at}
-use Rattle.gate_computer.specs.Inner.Directory.{first_named, outputs_of, turned, wired_part, IsTold, AreTold}
-use Rattle.hdl_shown.proofs.Clean.{find_in}
+use Rattle.gate_computer.specs.Inner.Directory.{first_named, outputs_of, turned_nodes, wired_part, IsTold, AreTold}
+use Rattle.hdl_behaviours.proofs.Clean.{find_in}
 use Rattle.gate_computer.proofs.Standing.{Paths, with_if, places}
 use Rattle.gate_computer.proofs.Turning.{outs_long, turned_is}
 
@@ -105,7 +105,7 @@ module _ (chips : Chips) (at : List ℕ → Wires ℕ) (block : List ℕ → ℕ
 
   wired_is : (p : PartIn) → IsFound chips p → wired_part chips.entries (part_at chips at block p) ≡ wired_at at p
   wired_is p found =
-      ap (λ (o : Option Entry). record { chip = p.chip.name; outputs = turned (outputs_of o) (nodes_at (at p.path) (all_bits p.chip.chip.outputs)) }) found
+      ap (λ (o : Option Entry). record { chip = p.chip.name; outputs = turned_nodes (outputs_of o) (nodes_at (at p.path) (all_bits p.chip.chip.outputs)) }) found
       ∙ ap (λ (l : List ℕ). record { chip = p.chip.name; outputs = l }) (turned_is (at p.path) p.chip.chip.outputs)
 
   pub all_wired : (tree : List PartIn) → Each (IsFound chips) tree → map (wired_part chips.entries) (map (part_at chips at block) tree) ≡ map (wired_at at) tree

@@ -6,7 +6,7 @@ use Rattle.std.proofs.lemmas.List.Elements.{All-head, All-tail}
 use Rattle.hdl_tree.specs.declared.tree.Pin.{Pin}
 use Rattle.hdl_tree.specs.Chips.{pin_width}
 use Rattle.hdl_tree.specs.Behaviour.{Wires}
-use Rattle.hdl_flat.specs.Trees.{PartIn}
+use Rattle.hdl_flatten.specs.Trees.{PartIn}
 use Rattle.gate_computer.specs.declared.wiring.WiredPart.{WiredPart}
 use Rattle.gate_computer.specs.Parts.{digit, from_highest, part_line, parts_text}
 use Rattle.gate_computer.specs.Wiring.{part_at}

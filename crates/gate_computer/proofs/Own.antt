@@ -5,7 +5,7 @@ use Rattle.std.specs.List.{All}
 use Rattle.std.proofs.lemmas.Bool.{cases_lt, le-leb, lt-ltb, le-ltb}
 use Rattle.std.proofs.lemmas.List.{get_or_past, get_or_default}
 use Rattle.word16.specs.Words.{has_bit}
-use Rattle.layers.specs.System.{IsKey}
+use Rattle.simulation.specs.System.{IsKey}
 use Rattle.hdl_tree.specs.declared.library.Entry.{Entry}
 use Rattle.hdl_tree.specs.declared.ends.End.{End}
 use Rattle.hdl_tree.specs.declared.ends.End.TheVariants as ends
@@ -19,10 +19,10 @@ use Rattle.netlist.specs.Order.{AreOrdered}
 use Rattle.netlist.specs.Value.{Inputs, AreValues}
 use Rattle.netlist.specs.Words.{after_load}
 use Rattle.netlist.proofs.Exist.{values_of}
-use Rattle.chip_basic.specs.Hdl.{shipped}
-use Rattle.hdl_numbering.specs.Numbering.{EndStands, EndHears, BlockStands, nodes_of, memory_block, rom_block}
-use Rattle.hdl_numbering.proofs.Numbers.{number_same, number_word, at_row, row_length}
-use Rattle.hdl_numbering.proofs.Numbered.{behaviour}
+use Rattle.chip_basic.specs.Hdl.{shipped_entry}
+use Rattle.hdl_nodes.specs.Numbering.{EndStands, EndHears, BlockStands, nodes_of, memory_block, rom_block}
+use Rattle.hdl_nodes.proofs.Numbers.{number_same, number_word, at_row, row_length}
+use Rattle.hdl_nodes.proofs.Numbered.{behaviour}
 use Rattle.chip_memory.specs.Trees.{ram16k_tree, screen_tree}
 use Rattle.hack_cpu.specs.Trees.{rom_tree, keyboard_tree}
 use Rattle.hack_cpu.specs.Computer.{outside}
@@ -74,7 +74,7 @@ module _ (net : Net) (w : Wiring) (wired : IsWired net w) where
       (wired.numbering.wired path c found)
 
   rom_there : slice_get net.blocks w.rom ≡ Some (rom_block wired.low (wired.at rom_path))
-  rom_there = ap (slice_get net.blocks) wired.blocks.rom ∙ (end_stands rom_path (shipped rom_tree) ends.Rom rom_stands.0 rom_stands.1).there
+  rom_there = ap (slice_get net.blocks) wired.blocks.rom ∙ (end_stands rom_path (shipped_entry rom_tree) ends.Rom rom_stands.0 rom_stands.1).there
 
   pub memory_there : (path : List ℕ) (c : Entry) (bits : ℕ) → chip_at chips computer path ≡ Some c → end_of true c ≡ Some (ends.Block bits)
       → BlockStands net (wired.block path) (memory_block bits (wired.at path)) (wired.at path)
@@ -89,16 +89,16 @@ module _ (net : Net) (w : Wiring) (wired : IsWired net w) where
       omega (arith, no)
 
   abbrev pub main_block : BlockStands net (wired.block main_path) (memory_block 14 (wired.at main_path)) (wired.at main_path)
-  main_block = memory_there main_path (shipped ram16k_tree) 14 main_stands.0 main_stands.1
+  main_block = memory_there main_path (shipped_entry ram16k_tree) 14 main_stands.0 main_stands.1
 
   abbrev pub screen_block : BlockStands net (wired.block screen_path) (memory_block 13 (wired.at screen_path)) (wired.at screen_path)
-  screen_block = memory_there screen_path (shipped screen_tree) 13 screen_stands.0 screen_stands.1
+  screen_block = memory_there screen_path (shipped_entry screen_tree) 13 screen_stands.0 screen_stands.1
 
   pub main_not_rom : w.rom ≢ w.main
-  main_not_rom e = not_rom main_path (shipped ram16k_tree) 14 main_stands.0 main_stands.1 (e ∙ wired.blocks.main)
+  main_not_rom e = not_rom main_path (shipped_entry ram16k_tree) 14 main_stands.0 main_stands.1 (e ∙ wired.blocks.main)
 
   pub screen_not_rom : w.rom ≢ w.screen
-  screen_not_rom e = not_rom screen_path (shipped screen_tree) 13 screen_stands.0 screen_stands.1 (e ∙ wired.blocks.screen)
+  screen_not_rom e = not_rom screen_path (shipped_entry screen_tree) 13 screen_stands.0 screen_stands.1 (e ∙ wired.blocks.screen)
 
   -- ---- what can be told and read
 
@@ -118,7 +118,7 @@ module _ (net : Net) (w : Wiring) (wired : IsWired net w) where
       let wide = key_wide in
       let near : k < 16 = omega (arith, less, wide) in
       ap (slice_get net.nodes) (sym (get_or_default w.keyboard k 0 d less) ∙ key_node k near)
-      ∙ end_stands keyboard_path (shipped keyboard_tree) ends.Keyboard keyboard_stands.0 keyboard_stands.1 k near
+      ∙ end_stands keyboard_path (shipped_entry keyboard_tree) ends.Keyboard keyboard_stands.0 keyboard_stands.1 k near
 
   pub rom_room : (n : ℕ) → n ≤ 32768 → MatchOption (slice_get net.blocks w.rom) ⊥ (λ b. 0 + n ≤ b.words)
   rom_room n le = subst (λ o. MatchOption o ⊥ (λ b. 0 + n ≤ b.words)) (sym rom_there) (omega arith)

@@ -11,7 +11,7 @@ use Rattle.hdl_tree.specs.declared.ends.End.TheVariants as ends
 use Rattle.hdl_tree.specs.Writable.{all}
 use Rattle.hdl_tree.specs.Chips.{end_of, find_entry, parts_of}
 use Rattle.hdl_tree.specs.Behaviour.{chip_at, inner_chip, chip_of}
-use Rattle.chip_basic.specs.Hdl.{shipped}
+use Rattle.chip_basic.specs.Hdl.{shipped_entry}
 use Rattle.chip_basic.specs.Trees.{nand_tree, not_tree, and_tree, or_tree, xor_tree, mux_tree, dmux_tree, not16_tree, and16_tree, or16_tree, mux16_tree, or8way_tree, mux4way16_tree, mux8way16_tree, dmux4way_tree, dmux8way_tree}
 use Rattle.chip_alu.specs.Trees.{half_adder_tree, full_adder_tree, add16_tree, inc16_tree, alu_tree}
 use Rattle.chip_memory.specs.Trees.{dff_tree, bit_tree, register_tree, a_register_tree, d_register_tree, pc_tree, ram8_tree, ram64_tree, ram512_tree, ram4k_tree, ram16k_tree, screen_tree}
@@ -135,32 +135,32 @@ past e i path h = ap (λ (o : Option Part). elim (chip_of chips o) [ None ↦ No
 record HasParts : Type 0 where
   none : end_of true computer ≡ None
   three : length (parts_of chips computer) ≡ 3
-  cpu : inner_chip chips computer 0 ≡ Some (shipped cpu_tree)
-  rom : inner_chip chips computer 1 ≡ Some (shipped rom_tree)
-  memory : inner_chip chips computer 2 ≡ Some (shipped memory_tree)
-  rom_end : end_of true (shipped rom_tree) ≡ Some ends.Rom
-  rom_parts : length (parts_of chips (shipped rom_tree)) ≡ 0
-  memory_end : end_of true (shipped memory_tree) ≡ None
-  eight : length (parts_of chips (shipped memory_tree)) ≡ 8
-  dmux : inner_chip chips (shipped memory_tree) 0 ≡ Some (shipped dmux_tree)
-  not_chip : inner_chip chips (shipped memory_tree) 1 ≡ Some (shipped not_tree)
-  and_chip : inner_chip chips (shipped memory_tree) 2 ≡ Some (shipped and_tree)
-  ram16k : inner_chip chips (shipped memory_tree) 3 ≡ Some (shipped ram16k_tree)
-  screen : inner_chip chips (shipped memory_tree) 4 ≡ Some (shipped screen_tree)
-  keyboard : inner_chip chips (shipped memory_tree) 5 ≡ Some (shipped keyboard_tree)
-  mux : inner_chip chips (shipped memory_tree) 6 ≡ Some (shipped mux16_tree)
-  mux_too : inner_chip chips (shipped memory_tree) 7 ≡ Some (shipped mux16_tree)
-  keyboard_end : end_of true (shipped keyboard_tree) ≡ Some ends.Keyboard
-  keyboard_parts : length (parts_of chips (shipped keyboard_tree)) ≡ 0
-  main_end : end_of true (shipped ram16k_tree) ≡ Some (ends.Block 14)
-  screen_end : end_of true (shipped screen_tree) ≡ Some (ends.Block 13)
-  cpu_quiet : IsQuiet (shipped cpu_tree)
-  dmux_quiet : IsQuiet (shipped dmux_tree)
-  not_quiet : IsQuiet (shipped not_tree)
-  and_quiet : IsQuiet (shipped and_tree)
-  ram16k_quiet : IsQuiet (shipped ram16k_tree)
-  screen_quiet : IsQuiet (shipped screen_tree)
-  mux_quiet : IsQuiet (shipped mux16_tree)
+  cpu : inner_chip chips computer 0 ≡ Some (shipped_entry cpu_tree)
+  rom : inner_chip chips computer 1 ≡ Some (shipped_entry rom_tree)
+  memory : inner_chip chips computer 2 ≡ Some (shipped_entry memory_tree)
+  rom_end : end_of true (shipped_entry rom_tree) ≡ Some ends.Rom
+  rom_parts : length (parts_of chips (shipped_entry rom_tree)) ≡ 0
+  memory_end : end_of true (shipped_entry memory_tree) ≡ None
+  eight : length (parts_of chips (shipped_entry memory_tree)) ≡ 8
+  dmux : inner_chip chips (shipped_entry memory_tree) 0 ≡ Some (shipped_entry dmux_tree)
+  not_chip : inner_chip chips (shipped_entry memory_tree) 1 ≡ Some (shipped_entry not_tree)
+  and_chip : inner_chip chips (shipped_entry memory_tree) 2 ≡ Some (shipped_entry and_tree)
+  ram16k : inner_chip chips (shipped_entry memory_tree) 3 ≡ Some (shipped_entry ram16k_tree)
+  screen : inner_chip chips (shipped_entry memory_tree) 4 ≡ Some (shipped_entry screen_tree)
+  keyboard : inner_chip chips (shipped_entry memory_tree) 5 ≡ Some (shipped_entry keyboard_tree)
+  mux : inner_chip chips (shipped_entry memory_tree) 6 ≡ Some (shipped_entry mux16_tree)
+  mux_too : inner_chip chips (shipped_entry memory_tree) 7 ≡ Some (shipped_entry mux16_tree)
+  keyboard_end : end_of true (shipped_entry keyboard_tree) ≡ Some ends.Keyboard
+  keyboard_parts : length (parts_of chips (shipped_entry keyboard_tree)) ≡ 0
+  main_end : end_of true (shipped_entry ram16k_tree) ≡ Some (ends.Block 14)
+  screen_end : end_of true (shipped_entry screen_tree) ≡ Some (ends.Block 13)
+  cpu_quiet : IsQuiet (shipped_entry cpu_tree)
+  dmux_quiet : IsQuiet (shipped_entry dmux_tree)
+  not_quiet : IsQuiet (shipped_entry not_tree)
+  and_quiet : IsQuiet (shipped_entry and_tree)
+  ram16k_quiet : IsQuiet (shipped_entry ram16k_tree)
+  screen_quiet : IsQuiet (shipped_entry screen_tree)
+  mux_quiet : IsQuiet (shipped_entry mux16_tree)
 
 has_parts : HasParts
 unfolding has_own is_quiet is_fine end_of shipped_chips nand_tree not_tree and_tree or_tree xor_tree mux_tree dmux_tree not16_tree and16_tree or16_tree mux16_tree or8way_tree mux4way16_tree mux8way16_tree dmux4way_tree dmux8way_tree half_adder_tree full_adder_tree add16_tree inc16_tree alu_tree dff_tree bit_tree register_tree a_register_tree d_register_tree pc_tree ram8_tree ram64_tree ram512_tree ram4k_tree ram16k_tree screen_tree rom_tree keyboard_tree cpu_tree memory_tree computer_tree
@@ -213,28 +213,28 @@ module _ (x : End) (loud : is_quiet (Some x) ≡ false) (c : Entry) (is : end_of
   beyond : (e : Entry) (i : ℕ) (path : List ℕ) → length (parts_of chips e) ≤ i → chip_at chips e (i ∷ path) ≡ Some c → ⊥
   beyond e i path h found = none-some c (sym (past e i path h) ∙ found)
 
-  in_memory : (path : List ℕ) → chip_at chips (shipped memory_tree) path ≡ Some c → (path ≡ 5 ∷ []) × (x ≡ ends.Keyboard)
-  in_memory [] found = absurd (none-some x (sym (itself (shipped memory_tree) None has_parts.memory_end found)))
+  in_memory : (path : List ℕ) → chip_at chips (shipped_entry memory_tree) path ≡ Some c → (path ≡ 5 ∷ []) × (x ≡ ends.Keyboard)
+  in_memory [] found = absurd (none-some x (sym (itself (shipped_entry memory_tree) None has_parts.memory_end found)))
   in_memory (zero ∷ path) found = absurd (in_quiet _ _ 0 path has_parts.dmux has_parts.dmux_quiet found)
   in_memory (suc zero ∷ path) found = absurd (in_quiet _ _ 1 path has_parts.not_chip has_parts.not_quiet found)
   in_memory (suc (suc zero) ∷ path) found = absurd (in_quiet _ _ 2 path has_parts.and_chip has_parts.and_quiet found)
   in_memory (suc (suc (suc zero)) ∷ path) found = absurd (in_quiet _ _ 3 path has_parts.ram16k has_parts.ram16k_quiet found)
   in_memory (suc (suc (suc (suc zero))) ∷ path) found = absurd (in_quiet _ _ 4 path has_parts.screen has_parts.screen_quiet found)
-  in_memory (suc (suc (suc (suc (suc zero)))) ∷ []) found = (refl, some_is x ends.Keyboard (itself (shipped keyboard_tree) (Some ends.Keyboard) has_parts.keyboard_end (sym (through _ _ 5 [] has_parts.keyboard) ∙ found)))
+  in_memory (suc (suc (suc (suc (suc zero)))) ∷ []) found = (refl, some_is x ends.Keyboard (itself (shipped_entry keyboard_tree) (Some ends.Keyboard) has_parts.keyboard_end (sym (through _ _ 5 [] has_parts.keyboard) ∙ found)))
   in_memory (suc (suc (suc (suc (suc zero)))) ∷ i ∷ path) found =
-      absurd (beyond (shipped keyboard_tree) i path (let e = has_parts.keyboard_parts in omega (arith, e)) (sym (through _ _ 5 (i ∷ path) has_parts.keyboard) ∙ found))
+      absurd (beyond (shipped_entry keyboard_tree) i path (let e = has_parts.keyboard_parts in omega (arith, e)) (sym (through _ _ 5 (i ∷ path) has_parts.keyboard) ∙ found))
   in_memory (suc (suc (suc (suc (suc (suc zero))))) ∷ path) found = absurd (in_quiet _ _ 6 path has_parts.mux has_parts.mux_quiet found)
   in_memory (suc (suc (suc (suc (suc (suc (suc zero)))))) ∷ path) found = absurd (in_quiet _ _ 7 path has_parts.mux_too has_parts.mux_quiet found)
   in_memory (suc (suc (suc (suc (suc (suc (suc (suc i))))))) ∷ path) found =
-      absurd (beyond (shipped memory_tree) (suc (suc (suc (suc (suc (suc (suc (suc i)))))))) path (let e = has_parts.eight in omega (arith, e)) found)
+      absurd (beyond (shipped_entry memory_tree) (suc (suc (suc (suc (suc (suc (suc (suc i)))))))) path (let e = has_parts.eight in omega (arith, e)) found)
 
   pub in_computer : (path : List ℕ) → chip_at chips computer path ≡ Some c → Found x path
   unfolding Found
   in_computer [] found = absurd (none-some x (sym (itself computer None has_parts.none found)))
   in_computer (zero ∷ path) found = absurd (in_quiet _ _ 0 path has_parts.cpu has_parts.cpu_quiet found)
-  in_computer (suc zero ∷ []) found = inl (refl, some_is x ends.Rom (itself (shipped rom_tree) (Some ends.Rom) has_parts.rom_end (sym (through _ _ 1 [] has_parts.rom) ∙ found)))
+  in_computer (suc zero ∷ []) found = inl (refl, some_is x ends.Rom (itself (shipped_entry rom_tree) (Some ends.Rom) has_parts.rom_end (sym (through _ _ 1 [] has_parts.rom) ∙ found)))
   in_computer (suc zero ∷ i ∷ path) found =
-      absurd (beyond (shipped rom_tree) i path (let e = has_parts.rom_parts in omega (arith, e)) (sym (through _ _ 1 (i ∷ path) has_parts.rom) ∙ found))
+      absurd (beyond (shipped_entry rom_tree) i path (let e = has_parts.rom_parts in omega (arith, e)) (sym (through _ _ 1 (i ∷ path) has_parts.rom) ∙ found))
   in_computer (suc (suc zero) ∷ path) found =
       let p = in_memory path (sym (through _ _ 2 path has_parts.memory) ∙ found) in
       inr (ap (λ (l : List ℕ). 2 ∷ l) p.0, p.1)
@@ -254,14 +254,14 @@ keyboard_is path c found is = elim (in_computer ends.Keyboard refl c is path fou
 at_two : (i j : ℕ) (inner c : Entry) → inner_chip chips computer i ≡ Some inner → inner_chip chips inner j ≡ Some c → chip_at chips computer (i ∷ j ∷ []) ≡ Some c
 at_two i j inner c e f = through computer inner i (j ∷ []) e ∙ through inner c j [] f
 
-pub rom_stands : (chip_at chips computer rom_path ≡ Some (shipped rom_tree)) × (end_of true (shipped rom_tree) ≡ Some ends.Rom)
-rom_stands = (through computer (shipped rom_tree) 1 [] has_parts.rom, has_parts.rom_end)
+pub rom_stands : (chip_at chips computer rom_path ≡ Some (shipped_entry rom_tree)) × (end_of true (shipped_entry rom_tree) ≡ Some ends.Rom)
+rom_stands = (through computer (shipped_entry rom_tree) 1 [] has_parts.rom, has_parts.rom_end)
 
-pub main_stands : (chip_at chips computer main_path ≡ Some (shipped ram16k_tree)) × (end_of true (shipped ram16k_tree) ≡ Some (ends.Block 14))
+pub main_stands : (chip_at chips computer main_path ≡ Some (shipped_entry ram16k_tree)) × (end_of true (shipped_entry ram16k_tree) ≡ Some (ends.Block 14))
 main_stands = (at_two 2 3 _ _ has_parts.memory has_parts.ram16k, has_parts.main_end)
 
-pub screen_stands : (chip_at chips computer screen_path ≡ Some (shipped screen_tree)) × (end_of true (shipped screen_tree) ≡ Some (ends.Block 13))
+pub screen_stands : (chip_at chips computer screen_path ≡ Some (shipped_entry screen_tree)) × (end_of true (shipped_entry screen_tree) ≡ Some (ends.Block 13))
 screen_stands = (at_two 2 4 _ _ has_parts.memory has_parts.screen, has_parts.screen_end)
 
-pub keyboard_stands : (chip_at chips computer keyboard_path ≡ Some (shipped keyboard_tree)) × (end_of true (shipped keyboard_tree) ≡ Some ends.Keyboard)
+pub keyboard_stands : (chip_at chips computer keyboard_path ≡ Some (shipped_entry keyboard_tree)) × (end_of true (shipped_entry keyboard_tree) ≡ Some ends.Keyboard)
 keyboard_stands = (at_two 2 5 _ _ has_parts.memory has_parts.keyboard, has_parts.keyboard_end)

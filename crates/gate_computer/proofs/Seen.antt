@@ -2,10 +2,10 @@
 use Rattle.std.proofs.Common.{ℕ, ◌<◌, true, List, refl, ap, ◌∙◌, arith}
 use Rattle.std.specs.Prelude.{slice_index}
 use Rattle.hack_isa.specs.Machine.{machine_at}
-use Rattle.layers.specs.Laws.{SameTrace}
-use Rattle.layers.proofs.Traces.{same_counts}
-use Rattle.layers.proofs.Following.{following_too}
-use Rattle.hack_blocks.specs.Computer.{Map, reads_key}
+use Rattle.simulation.specs.Laws.{SameTrace}
+use Rattle.simulation.proofs.Traces.{same_counts}
+use Rattle.simulation.proofs.Following.{following_too}
+use Rattle.vm_templates.specs.Computer.{Map, reads_key}
 use Rattle.hdl_tree.specs.Behaviour.{Histories}
 use Rattle.hack_cpu.specs.Library.{shipped_chips}
 use Rattle.hack_cpu.specs.Computer.{Shows, a_at, word_at}

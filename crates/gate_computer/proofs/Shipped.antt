@@ -4,12 +4,12 @@ use Rattle.std.specs.Prelude.{codes}
 use Rattle.hdl_tree.specs.declared.library.Entry.{Entry}
 use Rattle.hdl_tree.specs.declared.ends.End.{End}
 use Rattle.hdl_tree.specs.declared.ends.End.TheVariants as ends
-use Rattle.hdl_elab.specs.Whole.{chips_in}
-use Rattle.hdl_shown.proofs.Clean.{find_in}
-use Rattle.hdl_flat.specs.Ends.{EndsHavePins, HasPins, end_inputs, end_outputs}
-use Rattle.hdl_flat.specs.Flat.{NeedsFew}
-use Rattle.hdl_elaborate.specs.declared.put.Elab.{Elab}
-use Rattle.hdl_elaborate.specs.Elaborated.{IsElaborated, TopIsElaborated}
+use Rattle.hdl_check.specs.Whole.{chips_in}
+use Rattle.hdl_behaviours.proofs.Clean.{find_in}
+use Rattle.hdl_flatten.specs.Ends.{EndsHavePins, HasPins, end_inputs, end_outputs}
+use Rattle.hdl_flatten.specs.Flat.{NeedsFew}
+use Rattle.hdl_elab.specs.declared.put.Elab.{Elab}
+use Rattle.hdl_elab.specs.Elaborated.{IsElaborated, TopIsElaborated}
 use Rattle.hack_cpu.specs.Library.{shipped_chips}
 use Rattle.hack_cpu.specs.Pins.{Port, face_of, end_face}
 use Rattle.hack_cpu.proofs.Faces.{faces}

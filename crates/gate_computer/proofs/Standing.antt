@@ -7,12 +7,12 @@ use Rattle.hdl_tree.specs.declared.tree.Part.{Part}
 use Rattle.hdl_tree.specs.declared.library.Entry.{Entry}
 use Rattle.hdl_tree.specs.Chips.{Chips, find_chip, parts_of}
 use Rattle.hdl_tree.specs.Writable.{all}
-use Rattle.hdl_elab.specs.Tables.{found}
-use Rattle.hdl_flat.specs.Trees.{PartIn, within, AreListed, none, next, IsTree}
+use Rattle.hdl_check.specs.Tables.{find_value}
+use Rattle.hdl_flatten.specs.Trees.{PartIn, within, AreListed, none, next, IsTree}
 use Rattle.gate_computer.specs.Computer.{chips, computer}
 use Rattle.hack_cpu.specs.Library.{shipped_chips}
-use Rattle.hdl_shown.proofs.Clean.{and_left, and_right, find_in}
-use Rattle.hdl_shown.proofs.Levels.{all_at}
+use Rattle.hdl_behaviours.proofs.Clean.{and_left, and_right, find_in}
+use Rattle.hdl_behaviours.proofs.Levels.{all_at}
 use Rattle.hack_cpu.proofs.Opened.{opened}
 
 -- ---- lists of paths
@@ -71,26 +71,26 @@ places-within name i (p ∷ tree) =
 module _ (chips : Chips) (name : List ℕ) (table : List (List ℕ × Paths)) where
   -- where they stand in a chip, and in parts
   abbrev told_of : List ℕ → Paths
-  told_of chip = unwrap_or (found chip table) []
+  told_of chip = unwrap_or (find_value chip table) []
 
-  abbrev told_in : ℕ → List Part → Paths
-  told_in i [] = []
-  told_in i (part ∷ parts) = with_if (bytes_eq name part.chip) (i ∷ []) (under i (told_of part.chip) ++ told_in (suc i) parts)
+  abbrev diagnostic_in : ℕ → List Part → Paths
+  diagnostic_in i [] = []
+  diagnostic_in i (part ∷ parts) = with_if (bytes_eq name part.chip) (i ∷ []) (under i (told_of part.chip) ++ diagnostic_in (suc i) parts)
 
   abbrev is_told : Entry → Bool
-  is_told chip = are_same (told_of chip.name) (told_in 0 (parts_of chips chip))
+  is_told chip = are_same (told_of chip.name) (diagnostic_in 0 (parts_of chips chip))
 
   module _ (told : all is_told chips.entries ≡ true) where
-    told_found : (chip : List ℕ) (entry : Entry) → find_chip chips chip ≡ Some entry → (told_of chip ≡ told_in 0 (parts_of chips entry)) × (chip ≡ entry.name)
+    told_found : (chip : List ℕ) (entry : Entry) → find_chip chips chip ≡ Some entry → (told_of chip ≡ diagnostic_in 0 (parts_of chips entry)) × (chip ≡ entry.name)
     told_found chip entry found_it =
         let r = find_in chips.entries chip entry found_it in
-        (ap told_of r.named ∙ same_paths (told_of entry.name) (told_in 0 (parts_of chips entry)) (all_at is_told chips.entries told r.place entry r.there), r.named)
+        (ap told_of r.named ∙ same_paths (told_of entry.name) (diagnostic_in 0 (parts_of chips entry)) (all_at is_told chips.entries told r.place entry r.there), r.named)
 
-    pub places_in : (i : ℕ) (parts : List Part) (tree : List PartIn) → AreListed chips i parts tree → places name tree ≡ told_in i parts
+    pub places_in : (i : ℕ) (parts : List Part) (tree : List PartIn) → AreListed chips i parts tree → places name tree ≡ diagnostic_in i parts
     places_in i parts tree none = refl
     places_in i parts tree (next {part = part} {parts = behind} {chip = chip} {inner = inner} {others = others} found_it inside after) =
         let r = told_found part.chip chip found_it in
-        let rest : places name (within i inner ++ others) ≡ under i (told_of part.chip) ++ told_in (suc i) behind =
+        let rest : places name (within i inner ++ others) ≡ under i (told_of part.chip) ++ diagnostic_in (suc i) behind =
         places-append name (within i inner) others
         ∙ ap (λ ps. ps ++ places name others) (places-within name i inner ∙ ap (under i) (places_in 0 (parts_of chips chip) inner inside ∙ sym r.0))
         ∙ ap (λ ps. under i (told_of part.chip) ++ ps) (places_in (suc i) behind others after) in
@@ -125,12 +125,12 @@ unfolding opened
 has_one = record { cpu = refl; rom = refl; a_register = refl; main = refl; screen = refl; keyboard = refl }
 
 record StandsAt : Type 0 where
-  cpu : told_in chips (codes "CPU") (stands_in (0 ∷ [])) 0 (parts_of chips computer) ≡ (0 ∷ []) ∷ []
-  rom : told_in chips (codes "ROM32K") (stands_in (1 ∷ [])) 0 (parts_of chips computer) ≡ (1 ∷ []) ∷ []
-  a_register : told_in chips (codes "ARegister") (in_cpu (3 ∷ [])) 0 (parts_of chips computer) ≡ (0 ∷ 3 ∷ []) ∷ []
-  main : told_in chips (codes "RAM16K") (in_memory (3 ∷ [])) 0 (parts_of chips computer) ≡ (2 ∷ 3 ∷ []) ∷ []
-  screen : told_in chips (codes "Screen") (in_memory (4 ∷ [])) 0 (parts_of chips computer) ≡ (2 ∷ 4 ∷ []) ∷ []
-  keyboard : told_in chips (codes "Keyboard") (in_memory (5 ∷ [])) 0 (parts_of chips computer) ≡ (2 ∷ 5 ∷ []) ∷ []
+  cpu : diagnostic_in chips (codes "CPU") (stands_in (0 ∷ [])) 0 (parts_of chips computer) ≡ (0 ∷ []) ∷ []
+  rom : diagnostic_in chips (codes "ROM32K") (stands_in (1 ∷ [])) 0 (parts_of chips computer) ≡ (1 ∷ []) ∷ []
+  a_register : diagnostic_in chips (codes "ARegister") (in_cpu (3 ∷ [])) 0 (parts_of chips computer) ≡ (0 ∷ 3 ∷ []) ∷ []
+  main : diagnostic_in chips (codes "RAM16K") (in_memory (3 ∷ [])) 0 (parts_of chips computer) ≡ (2 ∷ 3 ∷ []) ∷ []
+  screen : diagnostic_in chips (codes "Screen") (in_memory (4 ∷ [])) 0 (parts_of chips computer) ≡ (2 ∷ 4 ∷ []) ∷ []
+  keyboard : diagnostic_in chips (codes "Keyboard") (in_memory (5 ∷ [])) 0 (parts_of chips computer) ≡ (2 ∷ 5 ∷ []) ∷ []
 
 stands_at : StandsAt
 unfolding opened

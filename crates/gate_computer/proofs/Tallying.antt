@@ -5,7 +5,7 @@ use Rattle.std.specs.List.{list_any}
 use Rattle.std.specs.Option.{option_or}
 use Rattle.std.proofs.lemmas.Bool.{cases_lt, le-leb, lt-ltb, le-ltb}
 use Rattle.outer_world.specs.declared.point.Point.{Point}
-use Rattle.layers.specs.Trace.{point_at}
+use Rattle.simulation.specs.Trace.{point_at}
 use Rattle.vm_translator.specs.declared.coded.PointRange.{PointRange}
 use Rattle.vm_translator.specs.Mapping.{map_of, point_in, Covers}
 use Rattle.gate_computer.specs.Tallies.{HasTallied, point_seen, trace_through}

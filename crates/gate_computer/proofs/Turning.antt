@@ -7,10 +7,10 @@ use Rattle.std.proofs.lemmas.List.Elements.{All-nil, All-append, All-take, All-d
 use Rattle.hdl_tree.specs.declared.tree.Pin.{Pin}
 use Rattle.hdl_tree.specs.Chips.{pin_width}
 use Rattle.hdl_tree.specs.Behaviour.{Wires}
-use Rattle.hdl_elab.specs.Tables.{bits_of}
-use Rattle.hdl_flat.specs.Trees.{all_bits, bit_count}
-use Rattle.hdl_flat.specs.Flat.{nodes_at}
-use Rattle.gate_computer.specs.Inner.Directory.{turned}
+use Rattle.hdl_check.specs.Tables.{bits_of}
+use Rattle.hdl_flatten.specs.Trees.{all_bits, bit_count}
+use Rattle.hdl_flatten.specs.Flat.{nodes_at}
+use Rattle.gate_computer.specs.Inner.Directory.{turned_nodes}
 use Rattle.gate_computer.specs.Parts.{from_highest}
 
 both_long : {X : Type 0} (a b : List X) → length (a ++ b) ≡ length a + length b
@@ -52,16 +52,16 @@ behind : (n : ℕ) (xs ys : List ℕ) → length xs ≡ n → drop n (xs ++ ys) 
 behind n xs ys e = drop-append-le n xs ys (omega (arith, e)) ∙ ap (λ (l : List ℕ). l ++ ys) (drop_all n xs (omega (arith, e)))
 
 -- the nodes of a chip's outputs, turned
-pub turned_is : (at : Wires ℕ) (pins : List Pin) → turned pins (nodes_at at (all_bits pins)) ≡ flat_map (λ (pin : Pin). from_highest (pin_width pin) (at pin.name)) pins
+pub turned_is : (at : Wires ℕ) (pins : List Pin) → turned_nodes pins (nodes_at at (all_bits pins)) ≡ flat_map (λ (pin : Pin). from_highest (pin_width pin) (at pin.name)) pins
 turned_is at [] = refl
 turned_is at (pin ∷ pins) =
     let own = nodes_at at (bits_of pin.name 0 (pin_width pin)) in
     let rest = nodes_at at (all_bits pins) in
     let long = nodes_long at pin.name (pin_width pin) in
-    ap (turned (pin ∷ pins)) (map-append (λ b. at b.name b.bit) (bits_of pin.name 0 (pin_width pin)) (all_bits pins))
-    ∙ ap (λ (l : List ℕ). reverse l ++ turned pins (drop (pin_width pin) (own ++ rest))) (front (pin_width pin) own rest long)
-    ∙ ap (λ (l : List ℕ). reverse own ++ turned pins l) (behind (pin_width pin) own rest long)
-    ∙ ap (λ (l : List ℕ). l ++ turned pins rest) (bits_back at pin.name (pin_width pin))
+    ap (turned_nodes (pin ∷ pins)) (map-append (λ b. at b.name b.bit) (bits_of pin.name 0 (pin_width pin)) (all_bits pins))
+    ∙ ap (λ (l : List ℕ). reverse l ++ turned_nodes pins (drop (pin_width pin) (own ++ rest))) (front (pin_width pin) own rest long)
+    ∙ ap (λ (l : List ℕ). reverse own ++ turned_nodes pins l) (behind (pin_width pin) own rest long)
+    ∙ ap (λ (l : List ℕ). l ++ turned_nodes pins rest) (bits_back at pin.name (pin_width pin))
     ∙ ap (λ (l : List ℕ). from_highest (pin_width pin) (at pin.name) ++ l) (turned_is at pins)
 
 back_all : (P : ℕ → Type 0) (xs : List ℕ) → All P xs → All P (reverse xs)
@@ -71,9 +71,9 @@ back_all P xs h k d less =
     subst P (sym (get_or-reverse xs k d near)) (h (length xs - 1 - k) d (omega arith))
 
 -- what holds of each node holds of each that is turned
-pub turned_all : (P : ℕ → Type 0) (pins : List Pin) (nodes : List ℕ) → All P nodes → All P (turned pins nodes)
+pub turned_all : (P : ℕ → Type 0) (pins : List Pin) (nodes : List ℕ) → All P nodes → All P (turned_nodes pins nodes)
 turned_all P [] nodes h = All-nil P
 turned_all P (pin ∷ pins) nodes h =
-    All-append P (reverse (take (pin_width pin) nodes)) (turned pins (drop (pin_width pin) nodes))
+    All-append P (reverse (take (pin_width pin) nodes)) (turned_nodes pins (drop (pin_width pin) nodes))
     (back_all P (take (pin_width pin) nodes) (All-take P (pin_width pin) nodes h))
     (turned_all P pins (drop (pin_width pin) nodes) (All-drop P (pin_width pin) nodes h))

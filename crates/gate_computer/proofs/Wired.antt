@@ -10,13 +10,13 @@ use Rattle.hdl_tree.specs.declared.tree.Chip.{Chip}
 use Rattle.hdl_tree.specs.Chips.{find_entry, parts_of}
 use Rattle.hdl_tree.specs.Behaviour.{Wires, Each}
 use Rattle.netlist.specs.Net.{Net}
-use Rattle.chip_basic.specs.Hdl.{shipped}
+use Rattle.chip_basic.specs.Hdl.{shipped_entry}
 use Rattle.chip_memory.specs.Trees.{a_register_tree, ram16k_tree, screen_tree}
-use Rattle.hdl_numbering.specs.Numbering.{nodes_of}
-use Rattle.hdl_flat.specs.declared.flat.PinAt.{PinAt}
-use Rattle.hdl_flat.specs.declared.flat.PartAt.{PartAt}
-use Rattle.hdl_flat.specs.Trees.{all_bits}
-use Rattle.hdl_flat.specs.Flat.{IsFlat, IsEndBit, nodes_at, block_at, part_at}
+use Rattle.hdl_nodes.specs.Numbering.{nodes_of}
+use Rattle.hdl_flatten.specs.declared.flat.PinAt.{PinAt}
+use Rattle.hdl_flatten.specs.declared.flat.PartAt.{PartAt}
+use Rattle.hdl_flatten.specs.Trees.{all_bits}
+use Rattle.hdl_flatten.specs.Flat.{IsFlat, IsEndBit, nodes_at, block_at, part_at}
 use Rattle.hack_cpu.specs.Trees.{rom_tree, keyboard_tree, cpu_tree}
 use Rattle.hack_cpu.specs.Library.{shipped_chips}
 use Rattle.hack_cpu.proofs.HasAll.{has_all}
@@ -33,19 +33,19 @@ use Rattle.gate_computer.proofs.Listing.{IsFound, all_found, all_told, all_wired
 
 -- ---- the nodes of outputs
 
-keyboard_outs : (at : Wires ℕ) → nodes_at at (all_bits (shipped keyboard_tree).chip.outputs) ≡ nodes_of 16 (at (codes "out"))
+keyboard_outs : (at : Wires ℕ) → nodes_at at (all_bits (shipped_entry keyboard_tree).chip.outputs) ≡ nodes_of 16 (at (codes "out"))
 unfolding opened
 keyboard_outs at = refl
 
-a_outs : (at : Wires ℕ) → nodes_at at (all_bits (shipped a_register_tree).chip.outputs) ≡ nodes_of 16 (at (codes "out"))
+a_outs : (at : Wires ℕ) → nodes_at at (all_bits (shipped_entry a_register_tree).chip.outputs) ≡ nodes_of 16 (at (codes "out"))
 unfolding opened
 a_outs at = refl
 
-pc_outs : (at : Wires ℕ) → drop 32 (nodes_at at (all_bits (shipped cpu_tree).chip.outputs)) ≡ nodes_of 15 (at (codes "pc"))
+pc_outs : (at : Wires ℕ) → drop 32 (nodes_at at (all_bits (shipped_entry cpu_tree).chip.outputs)) ≡ nodes_of 15 (at (codes "pc"))
 unfolding opened
 pc_outs at = refl
 
-cpu_long : (at : Wires ℕ) → length (nodes_at at (all_bits (shipped cpu_tree).chip.outputs)) ≡ 47
+cpu_long : (at : Wires ℕ) → length (nodes_at at (all_bits (shipped_entry cpu_tree).chip.outputs)) ≡ 47
 unfolding opened
 cpu_long at = refl
 
@@ -79,7 +79,7 @@ module _ (net : Net) (pins : List PinAt) (parts : List PartAt) (flat : IsFlat ch
   -- ---- the parts that the wiring names
 
   abbrev told_at : List ℕ → Chip → PartAt
-  told_at path tree = part_at chips flat.at flat.block (record { path = path; chip = shipped tree })
+  told_at path tree = part_at chips flat.at flat.block (record { path = path; chip = shipped_entry tree })
 
   found : Each (IsFound chips) flat.tree
   found = all_found chips 0 (parts_of chips computer) flat.tree flat.listed
@@ -88,22 +88,22 @@ module _ (net : Net) (pins : List PinAt) (parts : List PartAt) (flat : IsFlat ch
   once = stand_once flat.tree flat.listed
 
   cpu_first : first_named (codes "CPU") parts ≡ Some (told_at cpu_path cpu_tree)
-  cpu_first = ap (first_named (codes "CPU")) flat.parts ∙ first_part chips flat.at flat.block (codes "CPU") (shipped cpu_tree) flat.tree cpu_path found (has_all true).cpu once.cpu
+  cpu_first = ap (first_named (codes "CPU")) flat.parts ∙ first_part chips flat.at flat.block (codes "CPU") (shipped_entry cpu_tree) flat.tree cpu_path found (has_all true).cpu once.cpu
 
   a_first : first_named (codes "ARegister") parts ≡ Some (told_at a_register_path a_register_tree)
-  a_first = ap (first_named (codes "ARegister")) flat.parts ∙ first_part chips flat.at flat.block (codes "ARegister") (shipped a_register_tree) flat.tree a_register_path found (has_all true).memories.a_register once.a_register
+  a_first = ap (first_named (codes "ARegister")) flat.parts ∙ first_part chips flat.at flat.block (codes "ARegister") (shipped_entry a_register_tree) flat.tree a_register_path found (has_all true).memories.a_register once.a_register
 
   rom_first : first_named (codes "ROM32K") parts ≡ Some (told_at rom_path rom_tree)
-  rom_first = ap (first_named (codes "ROM32K")) flat.parts ∙ first_part chips flat.at flat.block (codes "ROM32K") (shipped rom_tree) flat.tree rom_path found (has_all true).rom once.rom
+  rom_first = ap (first_named (codes "ROM32K")) flat.parts ∙ first_part chips flat.at flat.block (codes "ROM32K") (shipped_entry rom_tree) flat.tree rom_path found (has_all true).rom once.rom
 
   main_first : first_named (codes "RAM16K") parts ≡ Some (told_at main_path ram16k_tree)
-  main_first = ap (first_named (codes "RAM16K")) flat.parts ∙ first_part chips flat.at flat.block (codes "RAM16K") (shipped ram16k_tree) flat.tree main_path found (has_all true).memories.ram16k once.main
+  main_first = ap (first_named (codes "RAM16K")) flat.parts ∙ first_part chips flat.at flat.block (codes "RAM16K") (shipped_entry ram16k_tree) flat.tree main_path found (has_all true).memories.ram16k once.main
 
   screen_first : first_named (codes "Screen") parts ≡ Some (told_at screen_path screen_tree)
-  screen_first = ap (first_named (codes "Screen")) flat.parts ∙ first_part chips flat.at flat.block (codes "Screen") (shipped screen_tree) flat.tree screen_path found (has_all true).memories.screen once.screen
+  screen_first = ap (first_named (codes "Screen")) flat.parts ∙ first_part chips flat.at flat.block (codes "Screen") (shipped_entry screen_tree) flat.tree screen_path found (has_all true).memories.screen once.screen
 
   keyboard_first : first_named (codes "Keyboard") parts ≡ Some (told_at keyboard_path keyboard_tree)
-  keyboard_first = ap (first_named (codes "Keyboard")) flat.parts ∙ first_part chips flat.at flat.block (codes "Keyboard") (shipped keyboard_tree) flat.tree keyboard_path found (has_all true).keyboard once.keyboard
+  keyboard_first = ap (first_named (codes "Keyboard")) flat.parts ∙ first_part chips flat.at flat.block (codes "Keyboard") (shipped_entry keyboard_tree) flat.tree keyboard_path found (has_all true).keyboard once.keyboard
 
   rom_block : block_named (codes "ROM32K") parts ≡ Some (flat.block rom_path)
   rom_block = ap block_in rom_first ∙ ap (λ o. block_at o (flat.block rom_path)) rom_stands.1
@@ -133,7 +133,7 @@ module _ (net : Net) (pins : List PinAt) (parts : List PartAt) (flat : IsFlat ch
   keyboard_bit : (k : ℕ) → k < 16 → IsEndBit chips computer flat.at (flat.at keyboard_path (codes "out") k)
   keyboard_bit k less = record {
     path = keyboard_path;
-    chip = shipped keyboard_tree;
+    chip = shipped_entry keyboard_tree;
     e = ends.Keyboard;
     bit = k;
     there = keyboard_stands.0;

@@ -1,13 +1,13 @@
 -- The Computer made of gates, with an image and keys: its behaviours, and what is seen of one. (The book, chapter 5.)
 use Rattle.std.specs.Prelude.{◌≡◌, ℕ, ◌<◌, false, List, []}
 use Rattle.hack_isa.specs.Machine.{Machine}
-use Rattle.layers.specs.Trace.{Trace, trace_of}
-use Rattle.hack_blocks.specs.Templates.{endless_loop}
-use Rattle.hack_blocks.specs.Computer.{Map, hack_system}
+use Rattle.simulation.specs.Trace.{Trace, trace_of}
+use Rattle.vm_templates.specs.Templates.{endless_loop}
+use Rattle.vm_templates.specs.Computer.{Map, hack_system}
 use Rattle.hdl_tree.specs.declared.library.Entry.{Entry}
 use Rattle.hdl_tree.specs.Chips.{Chips}
 use Rattle.hdl_tree.specs.Behaviour.{Histories, IsBehaviour}
-use Rattle.chip_basic.specs.Hdl.{shipped}
+use Rattle.chip_basic.specs.Hdl.{shipped_entry}
 use Rattle.chip_basic.specs.Laws.{bit}
 use Rattle.hack_cpu.specs.Trees.{computer_tree}
 use Rattle.hack_cpu.specs.Library.{shipped_chips}
@@ -18,7 +18,7 @@ abbrev pub chips : Chips
 chips = of_blocks shipped_chips
 
 abbrev pub computer : Entry
-computer = shipped computer_tree
+computer = shipped_entry computer_tree
 
 -- A behaviour of the Computer over n cycles: the image is in its ROM, 0 past it, the keyboard holds a key in each cycle, and reset is 0.
 pub record IsComputer (image : List ℕ) (keys : ℕ → ℕ) (n : ℕ) (wires : List ℕ → Histories) : Type 0 where

@@ -2,10 +2,10 @@
 use Rattle.std.specs.Prelude.{◌≡◌, ℕ, Bool, List, [], ◌∷◌, ◌++◌, ◌⊎◌, Some, None, IsSome, codes, slice_get}
 use Rattle.hdl_tree.specs.declared.library.Entry.{Entry}
 use Rattle.hdl_tree.specs.Chips.{find_entry}
-use Rattle.hdl_elab.specs.Whole.{AreDistinct, TopIsFaultless, chips_in}
-use Rattle.hdl_flat.specs.Ends.{EndsHavePins}
-use Rattle.hdl_flat.specs.Flat.{NeedsFew}
-use Rattle.hdl_elaborate.specs.Sound.{TopHasNoLoop}
+use Rattle.hdl_check.specs.Whole.{AreDistinct, TopIsFaultless, chips_in}
+use Rattle.hdl_flatten.specs.Ends.{EndsHavePins}
+use Rattle.hdl_flatten.specs.Flat.{NeedsFew}
+use Rattle.hdl_elab.specs.Sound.{TopHasNoLoop}
 use Rattle.hack_cpu.specs.Library.{shipped_chips}
 
 -- the chip of this name is there, needs few nodes, and it has no fault and no loop

@@ -6,8 +6,8 @@ use Rattle.outer_world.specs.Written.{Puts}
 use Rattle.outer_world.specs.declared.sink.Put.{Put}
 use Rattle.machine_io.specs.History.{Turn}
 use Rattle.machine_io.specs.declared.machine.Moved.TheVariants.{Acted}
-use Rattle.layers.specs.System.{IsKey}
-use Rattle.layers.specs.Trace.{Trace, steps, heard, point_at}
+use Rattle.simulation.specs.System.{IsKey}
+use Rattle.simulation.specs.Trace.{Trace, steps, heard_keys, point_at}
 use Rattle.vm_translator.specs.declared.coded.PointRange.{PointRange}
 use Rattle.hdl_tree.specs.Behaviour.{Histories}
 use Rattle.netlist.specs.Words.{word_at as stored_at}
@@ -52,7 +52,7 @@ trace_of_run g keys wires = trace_shown g.image (map_in g.tally) keys wires
 pub record ShowsCycle (g : GateMachine) (keys : ℕ → ℕ) (wires : List ℕ → Histories) (n : ℕ) : Type 0 where
   pub at : g.tally.at ≡ pc_at wires n
   pub counted : g.tally.count ≡ steps (trace_of_run g keys wires) n
-  pub heard : g.ears ≡ length (heard (trace_of_run g keys wires) n)
+  pub heard : g.ears ≡ length (heard_keys (trace_of_run g keys wires) n)
   pub seen : point_at (trace_of_run g keys wires) n ≡ Some g.tally.place
   pub words : (a : ℕ) → a < keyboard → word_in g a ≡ word_at wires n a
 

@@ -2,12 +2,12 @@
 use Rattle.std.specs.Prelude.{◌≡◌, ℕ, ◌+◌, ◌<◌, List}
 use Rattle.word16.specs.Memory.{keyboard}
 use Rattle.hack_isa.specs.Machine.{machine_at}
-use Rattle.layers.specs.System.{System}
-use Rattle.layers.specs.Trace.{Trace, trace_of}
-use Rattle.layers.specs.Laws.{SameCounts}
-use Rattle.layers.specs.Headline.{Follows}
-use Rattle.hack_blocks.specs.Templates.{endless_loop}
-use Rattle.hack_blocks.specs.Computer.{Map, hack_system}
+use Rattle.simulation.specs.System.{System}
+use Rattle.simulation.specs.Trace.{Trace, trace_of}
+use Rattle.simulation.specs.Laws.{SameCounts}
+use Rattle.simulation.specs.Headline.{Follows}
+use Rattle.vm_templates.specs.Templates.{endless_loop}
+use Rattle.vm_templates.specs.Computer.{Map, hack_system}
 use Rattle.hdl_tree.specs.Behaviour.{Histories}
 use Rattle.hack_cpu.specs.Computer.{word_at}
 use Rattle.gate_computer.specs.Computer.{IsComputer, trace_shown}

@@ -1,11 +1,11 @@
 -- How many nodes the Computer needs. No shipped chip needs more, so none has a fault. (The book, chapters 1 to 5, and appendix 2.)
 use Rattle.std.specs.Prelude.{◌≡◌, ℕ, ◌≤◌, Bool, List, Some, slice_get, if◌then◌else◌}
 use Rattle.hdl_tree.specs.declared.library.Entry.{Entry}
-use Rattle.hdl_elab.specs.Whole.{chips_in}
-use Rattle.hdl_flat.specs.Trees.{PartIn, IsTree, node_count}
-use Rattle.hdl_elaborate.specs.declared.fault.ElaborationFault.{ElaborationFault}
-use Rattle.hdl_elaborate.specs.declared.fault.ElaborationFault.TheVariants as faults
-use Rattle.hdl_elaborate.specs.Faults.{IsFaultOf, IsFine}
+use Rattle.hdl_check.specs.Whole.{chips_in}
+use Rattle.hdl_flatten.specs.Trees.{PartIn, IsTree, node_count}
+use Rattle.hdl_elab.specs.declared.fault.ElaborationFault.{ElaborationFault}
+use Rattle.hdl_elab.specs.declared.fault.ElaborationFault.TheVariants as faults
+use Rattle.hdl_elab.specs.Faults.{IsFaultOf, IsFine}
 use Rattle.hack_cpu.specs.Library.{shipped_chips}
 use Rattle.gate_computer.specs.Computer.{computer}
 

@@ -4,7 +4,7 @@ use Rattle.std.specs.List.{flat_map}
 use Rattle.hdl_tree.specs.declared.library.Entry.{Entry}
 use Rattle.hdl_tree.specs.Chips.{pin_width}
 use Rattle.hdl_tree.specs.Behaviour.{Wires, Histories}
-use Rattle.hdl_flat.specs.Trees.{PartIn, IsTree}
+use Rattle.hdl_flatten.specs.Trees.{PartIn, IsTree}
 use Rattle.gate_computer.specs.Computer.{chips, computer}
 
 -- these are all parts of the Computer, by path, each followed by the parts in it

@@ -1,8 +1,8 @@
 -- What the map of an image counts of a run: the steps of the program's meaning, and the control point.
 use Rattle.std.specs.Prelude.{◌≡◌, ℕ, ◌<◌, false, List, Some, unwrap_or}
 use Rattle.outer_world.specs.declared.point.Point.{Point}
-use Rattle.layers.specs.Trace.{Trace, steps, point_at}
-use Rattle.hack_blocks.specs.Computer.{Map}
+use Rattle.simulation.specs.Trace.{Trace, steps, point_at}
+use Rattle.vm_templates.specs.Computer.{Map}
 use Rattle.vm_translator.specs.declared.coded.PointRange.{PointRange}
 use Rattle.vm_translator.specs.Mapping.{map_of, point_in, Covers}
 

@@ -4,8 +4,8 @@ use Rattle.std.specs.List.{All}
 use Rattle.hdl_tree.specs.Behaviour.{Wires}
 use Rattle.netlist.specs.declared.node.Node.TheVariants.{Pin}
 use Rattle.netlist.specs.Net.{Net}
-use Rattle.hdl_numbering.specs.Numbering.{IsNumbering, nodes_of}
-use Rattle.hdl_flat.specs.Trees.{PartIn}
+use Rattle.hdl_nodes.specs.Numbering.{IsNumbering, nodes_of}
+use Rattle.hdl_flatten.specs.Trees.{PartIn}
 use Rattle.gate_computer.specs.declared.wiring.Wiring.{Wiring}
 use Rattle.gate_computer.specs.declared.wiring.WiredPart.{WiredPart}
 use Rattle.gate_computer.specs.Computer.{chips, computer}

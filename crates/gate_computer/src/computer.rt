@@ -7,7 +7,7 @@ ghost use Rattle.machine_io.specs.History.{Turn, turn};
 ghost use Rattle.machine_io.specs.declared.machine.Moved.TheVariants.{Acted};
 ghost use Rattle.gate_computer.specs.Wiring.{IsWired};
 ghost use Rattle.outer_world.specs.Written.{CountsPut};
-ghost use Rattle.layers.specs.System.{IsKey};
+ghost use Rattle.simulation.specs.System.{IsKey};
 ghost use Rattle.gate_computer.specs.Tallies.{CoverSome};
 ghost use Rattle.gate_computer.specs.Turns.{HoldsKeys};
 ghost use Rattle.gate_computer.specs.Followed.{HasFollowed, PutsParts, program_in, word_in};

@@ -2,12 +2,12 @@
 
 ghost use Rattle.std.specs.Prelude.{◌≡◌, ℕ, ◌≤◌, ◌++◌, IfOk, IsSome, OnOk, Some, length, map, reverse, slice_get};
 ghost use Rattle.hdl_tree.specs.Chips.{find_entry};
-ghost use Rattle.hdl_flat.specs.declared.flat.PartAt.{PartAt};
-ghost use Rattle.hdl_flat.specs.Trees.{bit_count};
-ghost use Rattle.gate_computer.specs.Inner.Directory.{AreTold, IsTold, block_named, first_named, outputs_of, outs_named, turned, wired_part};
+ghost use Rattle.hdl_flatten.specs.declared.flat.PartAt.{PartAt};
+ghost use Rattle.hdl_flatten.specs.Trees.{bit_count};
+ghost use Rattle.gate_computer.specs.Inner.Directory.{AreTold, IsTold, block_named, first_named, outputs_of, outs_named, turned_nodes, wired_part};
 
 use crate::wiring::WiredPart;
-use hdl_flat::PartAt;
+use hdl_flatten::PartAt;
 use hdl_tree::{Library, List, Name, Pin};
 use std::alloc::{AllocError, Global};
 
@@ -69,7 +69,7 @@ fn push_back(turned: &mut Vec<u32>, nodes: &[u32]) -> Result<(), AllocError>
 /// The nodes of the bits of pins, in order of declaration, of each pin the highest first; they are told with the lowest first.
 fn turn(alloc: Global, pins: &[Pin], nodes: &[u32]) -> Result<Vec<u32>, AllocError>
     requires { bit_count pins.now ≤ length nodes.now }
-    ensures { IfOk result (λ v. v.items ≡ turned pins.now nodes.now) }
+    ensures { IfOk result (λ v. v.items ≡ turned_nodes pins.now nodes.now) }
 {
     let mut turned = Vec::new(alloc);
     let mut rest = nodes;

@@ -4,10 +4,10 @@ ghost use Rattle.std.specs.Prelude.{◌≡◌, ◌≢◌, ◌<◌, ◌≤◌, �
 ghost use Rattle.std.specs.List.{All};
 ghost use Rattle.netlist.specs.declared.node.Node.TheVariants.{Pin};
 ghost use Rattle.netlist.specs.Present.{value_in};
-ghost use Rattle.netlist.specs.Value.{spelled};
+ghost use Rattle.netlist.specs.Value.{spelled_number};
 ghost use Rattle.gate_sim.specs.Calls.{Call, pins_of};
 ghost use Rattle.gate_sim.specs.Stands.{StandsFor};
-ghost use Rattle.hack_blocks.specs.Computer.{reads_key};
+ghost use Rattle.vm_templates.specs.Computer.{reads_key};
 ghost use Rattle.gate_computer.specs.Inner.Told.{HoldsKey, HasSet, ChangesPin};
 
 use gate_sim::Sim;
@@ -49,7 +49,7 @@ fn doubled(number: u16, bit: bool) -> u16
 pub fn number_at(sim: &Sim, nodes: &[u32]) -> u16
     requires wide { length nodes.now ≤ 16 }
     requires there { All (λ node. node < length sim.now.net.nodes) nodes.now }
-    ensures { result ≡ spelled (value_in sim.now.values) nodes.now }
+    ensures { result ≡ spelled_number (value_in sim.now.values) nodes.now }
 {
     let mut number = 0;
     for k in (0..nodes.len()).rev() {
@@ -73,7 +73,7 @@ fn word_of(image: &[u16], at: u16) -> u16
 pub fn hears_key(sim: &Sim, a: &[u32], image: &[u16], at: u16) -> bool
     requires wide { length a.now ≤ 16 }
     requires there { All (λ node. node < length sim.now.net.nodes) a.now }
-    ensures { result ≡ reads_key (slice_index image.now at) (spelled (value_in sim.now.values) a.now) }
+    ensures { result ≡ reads_key (slice_index image.now at) (spelled_number (value_in sim.now.values) a.now) }
 {
     let word = word_of(image, at);
     bit(word, 15) && bit(word, 12) && number_at(sim, a) == KEYBOARD

@@ -10,7 +10,7 @@ use std::alloc::{AllocError, Global};
 use std::marker::Model;
 use vm_translator::PointRange;
 
-// Told where there is no control point; address 0 of each image has one.
+// Diagnostic where there is no control point; address 0 of each image has one.
 const NOWHERE: Point = Point { sub: 0, number: 0 };
 
 /// The steps and the control point of a run so far, by the commits and the points of the map of its image.

@@ -2,7 +2,7 @@
 
 ghost use Rattle.std.specs.Prelude.{◌≡◌, IfOk};
 ghost use Rattle.hack_cpu.specs.Library.{shipped_chips};
-ghost use Rattle.hdl_elaborate.specs.Elaborated.{IsElaborated};
+ghost use Rattle.hdl_elab.specs.Elaborated.{IsElaborated};
 ghost use Rattle.gate_computer.specs.Computer.{chips, computer};
 ghost use Rattle.gate_computer.specs.Wiring.{IsWired};
 ghost use Rattle.gate_computer.specs.Inner.Directory.{CanTell, IsToldBy};
@@ -10,8 +10,8 @@ ghost use Rattle.gate_computer.specs.Inner.Directory.{CanTell, IsToldBy};
 use crate::directory::{block_named, outs_named, wire_parts};
 use crate::wiring::{WiredComputer, Wiring};
 use hack_cpu::library;
-use hdl_elaborate::{Elab, build_net};
-use hdl_flat::PartAt;
+use hdl_elab::{Elab, build_net};
+use hdl_flatten::PartAt;
 use hdl_tree::{Library, List, Name};
 use std::alloc::{AllocError, Global};
 

@@ -12,7 +12,7 @@ use Rattle.netlist.specs.Value.{written_in}
 use Rattle.netlist.specs.Present.{value_in}
 use Rattle.netlist.specs.Words.{word_at, after_load}
 use Rattle.netlist.specs.Steps.{after_write, write_at}
-use Rattle.gate_sim.specs.Calls.{Call, cycle_of, evaluated}
+use Rattle.gate_sim.specs.Calls.{Call, cycle_of, evaluated_calls}
 use Rattle.gate_sim.specs.Calls.Call.{Load, Set, Eval, Tick, Tock}
 use Rattle.gate_sim.specs.Values.{written_before}
 use Rattle.gate_sim.specs.Stands.{Keeps, IsFresh, StandsFor}
@@ -69,7 +69,7 @@ pub fresh_tick : (s : SimState) (calls : List Call) → IsFresh s calls → IsFr
 fresh_tick s calls fresh v are k less = fresh v (past_tick s.net calls v are.0, are.1) k less
 
 -- after an evaluation
-pub stands_after : (s : SimState) (calls : List Call) → evaluated calls ≡ Some calls → Keeps s calls → IsFresh s calls → StandsFor s calls
+pub stands_after : (s : SimState) (calls : List Call) → evaluated_calls calls ≡ Some calls → Keeps s calls → IsFresh s calls → StandsFor s calls
 stands_after s calls last keeps fresh = record {
   keeps = keeps;
   values = λ earlier e. subst (IsFresh s) (same_Some calls earlier (sym last ∙ e)) fresh;

@@ -47,10 +47,10 @@ at_tick (Tick ∷ calls) c = if nat_eq c (cycle_of calls) then calls else at_tic
 at_tick (Tock ∷ calls) c = at_tick calls c
 
 -- the calls up to the last evaluation, where there was one
-abbrev pub evaluated : List Call → Option (List Call)
-evaluated [] = None
-evaluated (Load block from words ∷ calls) = evaluated calls
-evaluated (Set node bit ∷ calls) = evaluated calls
-evaluated (Eval ∷ calls) = Some (Eval ∷ calls)
-evaluated (Tick ∷ calls) = Some (Tick ∷ calls)
-evaluated (Tock ∷ calls) = Some (Tock ∷ calls)
+abbrev pub evaluated_calls : List Call → Option (List Call)
+evaluated_calls [] = None
+evaluated_calls (Load block from words ∷ calls) = evaluated_calls calls
+evaluated_calls (Set node bit ∷ calls) = evaluated_calls calls
+evaluated_calls (Eval ∷ calls) = Some (Eval ∷ calls)
+evaluated_calls (Tick ∷ calls) = Some (Tick ∷ calls)
+evaluated_calls (Tock ∷ calls) = Some (Tock ∷ calls)

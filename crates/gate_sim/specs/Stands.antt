@@ -5,7 +5,7 @@ use Rattle.hdl_tree.specs.Memory.{before}
 use Rattle.netlist.specs.Present.{value_in}
 use Rattle.netlist.specs.Words.{word_at}
 use Rattle.netlist.specs.Steps.{after_write, write_at}
-use Rattle.gate_sim.specs.Calls.{Call, cycle_of, pins_of, evaluated}
+use Rattle.gate_sim.specs.Calls.{Call, cycle_of, pins_of, evaluated_calls}
 use Rattle.gate_sim.specs.Calls.Call.{Tock}
 use Rattle.gate_sim.specs.Values.{ArePast, AreValues, words_of, written_before}
 use Rattle.gate_sim.specs.State.{SimState}
@@ -25,5 +25,5 @@ IsFresh s calls = (v : ℕ → ℕ → Bool) → AreValues s.net calls v → (k 
 -- a simulator stands for these calls
 pub record StandsFor (s : SimState) (calls : List Call) : Type 0 where
   pub keeps : Keeps s calls
-  pub values : (earlier : List Call) → evaluated calls ≡ Some earlier → IsFresh s earlier
+  pub values : (earlier : List Call) → evaluated_calls calls ≡ Some earlier → IsFresh s earlier
   pub fresh : s.fresh ≡ true → IsFresh s calls

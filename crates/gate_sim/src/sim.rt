@@ -6,7 +6,7 @@ ghost use Rattle.netlist.specs.Words.{word_at};
 ghost use Rattle.netlist.specs.Steps.{write_at};
 ghost use Rattle.netlist.specs.declared.node.Node.TheVariants.{Pin};
 ghost use Rattle.netlist.specs.declared.node.Block.{Block};
-ghost use Rattle.gate_sim.specs.Calls.{Call, cycle_of, evaluated};
+ghost use Rattle.gate_sim.specs.Calls.{Call, cycle_of, evaluated_calls};
 ghost use Rattle.gate_sim.specs.Calls.Call.{Load, Set, Eval, Tick, Tock};
 ghost use Rattle.gate_sim.specs.Values.{ArePast, AreValues, words_of};
 ghost use Rattle.gate_sim.specs.Cycles.{CyclesLaw, StartLaw};
@@ -196,7 +196,7 @@ impl Sim {
     pub fn get(&self, node: u32) -> bool
         requires { node < length self.now.net.nodes }
         ensures stored { result ≡ value_in self.now.values node }
-        ensures told { (calls earlier : List Call) (v : ℕ → ℕ → Bool) → StandsFor self.now calls → evaluated calls ≡ Some earlier → AreValues self.now.net earlier v → result ≡ v node (cycle_of earlier) }
+        ensures told { (calls earlier : List Call) (v : ℕ → ℕ → Bool) → StandsFor self.now calls → evaluated_calls calls ≡ Some earlier → AreValues self.now.net earlier v → result ≡ v node (cycle_of earlier) }
     {
         self.values[node as usize]
     }

@@ -5,7 +5,7 @@ ghost use Rattle.gate_computer.specs.Elaborated.{IsLibrary, IsShippedAs};
 
 use chip_basic::nand_tree;
 use hack_cpu::{find_shipped, library};
-use hdl_elaborate::{Elab, ElaborationFault, elaborate};
+use hdl_elab::{Elab, ElaborationFault, elaborate};
 use hdl_parser::parse;
 use hdl_tree::{Chip, Entry, Library, List, Name};
 use std::alloc::{AllocError, Global};

@@ -4,7 +4,7 @@ ghost use Rattle.std.specs.Prelude.{IfOk};
 ghost use Rattle.gate_computer.specs.Elaborated.{IsLibrary};
 
 use crate::chips::{add_text, answer, library_with, shipped_library};
-use hdl_elaborate::ElaborationFault;
+use hdl_elab::ElaborationFault;
 use hdl_tree::{Library, Name};
 use std::alloc::{AllocError, Global};
 use std::test::*;

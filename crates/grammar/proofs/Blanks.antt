@@ -8,8 +8,8 @@ use Rattle.std.proofs.lemmas.List.Elements.{All-cons, All-head, All-tail, All-we
 use Rattle.std.proofs.lemmas.Bool.{and_parts, and_from, or_cases, or_left, or_right, eq-eqb, false_from_ne_true, true≢false}
 use Rattle.scan_text.specs.declared.Blank.{Blank}
 use Rattle.scan_text.specs.declared.Blank.TheVariants.{Over, Unclosed, Other}
-use Rattle.scan_text.specs.Text.{front, behind}
-use Rattle.scan_text.specs.Blanks.{starts, is_blank, blank, comment, closed, and_one, block, ends_block, in_line}
+use Rattle.scan_text.specs.Text.{front, rest_behind}
+use Rattle.scan_text.specs.Blanks.{starts, is_blank, blank, comment, closed_comment, and_one, block, ends_block, in_line}
 use Rattle.scan_text.proofs.Texts.{take_front, drop_front}
 use Rattle.scan_text.specs.declared.Place.{Place}
 use Rattle.grammar.specs.declared.Fault.{Fault}
@@ -59,7 +59,7 @@ is_name_run b bs h a = All-cons (λ c. name_byte c ≡ true) b bs (is_name_byte 
 
 -- what begins no comment
 
-closed_not : (o : Option ℕ) → closed o ≡ Other → ⊥
+closed_not : (o : Option ℕ) → closed_comment o ≡ Other → ⊥
 closed_not None e = absurd cc
 closed_not (Some n) e = absurd cc
 
@@ -79,7 +79,7 @@ none_by b bs false false f e = (refl, λ s. absurd (true≢false (sym (eq-eqb b 
 pub begins_none : (b : ℕ) (bs : List ℕ) → blank (b ∷ bs) ≡ Other → BeginsNone b bs
 begins_none b bs e = none_by b bs (is_blank b) (b == 47) refl e
 
-other_by : (c : ℕ) (cs : List ℕ) (x y : Bool) → (c == 47) ≡ x → (c == 42) ≡ y → (OpensComment (c ∷ cs) → ⊥) → cond x (Over (length (front in_line (c ∷ cs)))) (cond y (closed (and_one (block cs))) Other) ≡ Other
+other_by : (c : ℕ) (cs : List ℕ) (x y : Bool) → (c == 47) ≡ x → (c == 42) ≡ y → (OpensComment (c ∷ cs) → ⊥) → cond x (Over (length (front in_line (c ∷ cs)))) (cond y (closed_comment (and_one (block cs))) Other) ≡ Other
 other_by c cs true y e f none = absurd (none (subst (λ (k : ℕ). OpensComment (k ∷ cs)) (sym (eqb-true c 47 e)) OfALine))
 other_by c cs false true e f none = absurd (none (subst (λ (k : ℕ). OpensComment (k ∷ cs)) (sym (eqb-true c 42 f)) OfABlock))
 other_by c cs false false e f none = refl
@@ -112,11 +112,11 @@ no_feed c e f = true≢false (sym (eq-eqb c 10 f) ∙ in_line_by (c == 10) e)
 stands_in_line : (c : ℕ) → (c ≡ 10 → ⊥) → in_line c ≡ true
 stands_in_line c none = let no : (c == 10) ≡ false = false_from_ne_true (c == 10) (λ e. none (eqb-true c 10 e)) in rw no refl
 
-feed_by : (b : ℕ) (bs : List ℕ) (x : Bool) → (b == 10) ≡ x → EndsAtFeed (behind in_line bs) → EndsAtFeed (cond (cond x false true) (behind in_line bs) (b ∷ bs))
+feed_by : (b : ℕ) (bs : List ℕ) (x : Bool) → (b == 10) ≡ x → EndsAtFeed (rest_behind in_line bs) → EndsAtFeed (cond (cond x false true) (rest_behind in_line bs) (b ∷ bs))
 feed_by b bs true e h = subst (λ (k : ℕ). EndsAtFeed (k ∷ bs)) (sym (eqb-true b 10 e)) AtLineFeed
 feed_by b bs false e h = h
 
-feed_behind : (bs : List ℕ) → EndsAtFeed (behind in_line bs)
+feed_behind : (bs : List ℕ) → EndsAtFeed (rest_behind in_line bs)
 feed_behind [] = AtEndOfText
 feed_behind (b ∷ bs) = feed_by b bs (b == 10) refl (feed_behind bs)
 
@@ -208,7 +208,7 @@ block_is (b ∷ inside) rest h =
     let all = (inside ++ 42 ∷ 47 ∷ []) ++ rest in
     ap (λ (t : Bool). cond t (Some 2) (and_one (block all))) (false_from_ne_true (ends_block (b ∷ all)) (block_goes b inside rest h.0)) ∙ ap and_one (block_is inside rest h.1)
 
-block_closed : (cs : List ℕ) (n : ℕ) (o : Option ℕ) → block cs ≡ o → closed (and_one o) ≡ Over n → Passes IsBetween n (47 ∷ 42 ∷ cs)
+block_closed : (cs : List ℕ) (n : ℕ) (o : Option ℕ) → block cs ≡ o → closed_comment (and_one o) ≡ Over n → Passes IsBetween n (47 ∷ 42 ∷ cs)
 block_closed cs n None f e = absurd cc
 block_closed cs n (Some k) f e =
     let found = block_found cs k f in
@@ -219,7 +219,7 @@ block_closed cs n (Some k) f e =
 
 -- what is passed over may stand between tokens
 
-comment_by : (c : ℕ) (cs : List ℕ) (n : ℕ) (x y : Bool) → (c == 47) ≡ x → (c == 42) ≡ y → cond x (Over (length (front in_line (c ∷ cs)))) (cond y (closed (and_one (block cs))) Other) ≡ Over n → Passes IsBetween n (47 ∷ c ∷ cs)
+comment_by : (c : ℕ) (cs : List ℕ) (n : ℕ) (x y : Bool) → (c == 47) ≡ x → (c == 42) ≡ y → cond x (Over (length (front in_line (c ∷ cs)))) (cond y (closed_comment (and_one (block cs))) Other) ≡ Over n → Passes IsBetween n (47 ∷ c ∷ cs)
 comment_by c cs n true y e f h =
     let same = eqb-true c 47 e in
     let long : length (front in_line (c ∷ cs)) ≡ n = cc in
@@ -247,7 +247,7 @@ over_passes (b ∷ bs) n h = passes_by b bs n (is_blank b) (b == 47) refl refl h
 pub between_over : (b : ℕ) (bs rest : List ℕ) → IsBetween (b ∷ bs) rest → blank (b ∷ (bs ++ rest)) ≡ Over (length bs)
 between_over b bs rest (ABlank c) = ap (λ (t : Bool). cond t (Over 0) (cond (b == 47) (comment rest) Other)) (contained (32 ∷ 9 ∷ 10 ∷ 13 ∷ []) b c)
 between_over b bs rest (ALineComment {bs = cs} a h) = ap (λ (l : List ℕ). Over (suc (length l))) (line_front cs rest a h)
-between_over b bs rest (ABlockComment inside h) = ap (λ (o : Option ℕ). closed (and_one o)) (block_is inside rest h)
+between_over b bs rest (ABlockComment inside h) = ap (λ (o : Option ℕ). closed_comment (and_one o)) (block_is inside rest h)
 
 -- from the pieces between to the longest match
 module _ {T : Type 0} (IsOne : List ℕ → List ℕ → Type 0) (Past : List ℕ → (Place → Fault) → Type 0) (piece : List ℕ → Piece T) (cut : (bs : List ℕ) → blank bs ≡ Other → IsCut IsOne IsBetween Past bs (piece bs)) (reaches : (xs rest : List ℕ) → IsOne xs rest → (blank (xs ++ rest) ≡ Other) × Reaches (length xs) (piece (xs ++ rest))) (refuses : (bs : List ℕ) (f : Place → Fault) → Past bs f → (blank bs ≡ Other) × (piece bs ≡ Wrong f)) where

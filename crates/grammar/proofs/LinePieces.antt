@@ -6,7 +6,7 @@ use Rattle.scan_text.specs.declared.Scan.{Scan}
 use Rattle.scan_text.specs.Text.{first, start, step, walk}
 use Rattle.scan_text.specs.Blanks.{starts, line}
 use Rattle.scan_text.proofs.Gone.{take_line}
-use Rattle.scan_text.specs.View.{left, place}
+use Rattle.scan_text.specs.View.{left_bytes, place}
 use Rattle.grammar.specs.declared.Fault.{Fault}
 use Rattle.grammar.specs.declared.Fault.TheVariants.{Grammar, Range}
 use Rattle.grammar.specs.declared.ReadError.{ReadError}
@@ -26,15 +26,15 @@ line_passed : (bs : List ℕ) → first bs ≡ Some 47 → suc (length (line bs)
 line_passed bs e = let h = line_stands bs e in omega arith
 
 -- a comment up to the end of the line
-pub comment_passed : (T : Type 0) (old new : Scan) → first (left old) ≡ Some 47 → first (drop 1 (left old)) ≡ Some 47 → left new ≡ drop (length (line (left old))) (left old) → place new ≡ walk (place old) (line (left old)) → Next (comment_piece {T = T} (left old)) old (Ok None) new
+pub comment_passed : (T : Type 0) (old new : Scan) → first (left_bytes old) ≡ Some 47 → first (drop 1 (left_bytes old)) ≡ Some 47 → left_bytes new ≡ drop (length (line (left_bytes old))) (left_bytes old) → place new ≡ walk (place old) (line (left_bytes old)) → Next (comment_piece {T = T} (left_bytes old)) old (Ok None) new
 comment_passed T old new e f l p =
-    let n = line_passed (left old) e in
+    let n = line_passed (left_bytes old) e in
     subst (λ (q : Piece T). Next q old (Ok None) new)
-    (ap (λ (x : Bool). cond x (Passed (length (line (left old)) - 1)) (Wrong Grammar)) (sym (starts_by (drop 1 (left old)) f))) (
+    (ap (λ (x : Bool). cond x (Passed (length (line (left_bytes old)) - 1)) (Wrong Grammar)) (sym (starts_by (drop 1 (left_bytes old)) f))) (
       refl,
       record {
-        rest = l ∙ ap (λ (k : ℕ). drop k (left old)) (sym n);
-        at = p ∙ ap (walk (place old)) (sym (take_line (left old)) ∙ ap (λ (k : ℕ). take k (left old)) (sym n));
+        rest = l ∙ ap (λ (k : ℕ). drop k (left_bytes old)) (sym n);
+        at = p ∙ ap (walk (place old)) (sym (take_line (left_bytes old)) ∙ ap (λ (k : ℕ). take k (left_bytes old)) (sym n));
       },
     )
 

@@ -7,7 +7,7 @@ use Rattle.std.proofs.lemmas.List.Elements.{All-nil, All-cons, All-head, All-tai
 use Rattle.std.proofs.lemmas.Bool.{and_parts}
 use Rattle.std.proofs.lemmas.Bool.Decides.{nat_tests}
 use Rattle.scan_text.specs.declared.Place.{Place}
-use Rattle.scan_text.specs.Text.{start, front, is_digit, digits, decimal, capped}
+use Rattle.scan_text.specs.Text.{start, front, is_digit, digits, decimal, capped_count}
 use Rattle.scan_text.specs.Blanks.{starts}
 use Rattle.grammar.specs.declared.Fault.{Fault}
 use Rattle.grammar.specs.declared.Fault.TheVariants.{Grammar, Range}
@@ -156,24 +156,24 @@ no_digit test none d e =
     ap test same ∙ not_true (test (48 + (d - 48))) (digit_by (λ c. not (test c)) (d - 48) (all_every (λ c. not (test c)) ten_digits none) (omega (arith, high)))
 
 abbrev pub limited : {T : Type 0} → (Place → T) → List ℕ → Piece T
-limited t bs = cond (nat_lt 32767 (capped (decimal 0 (digits bs)))) (Wrong (λ at. Range at (min (capped (decimal 0 (digits bs))) 1000000000))) (Token t (length (digits bs) - 1))
+limited t bs = cond (nat_lt 32767 (capped_count (decimal 0 (digits bs)))) (Wrong (λ at. Range at (min (capped_count (decimal 0 (digits bs))) 1000000000))) (Token t (length (digits bs) - 1))
 
-past_limit : (n : ℕ) → nat_lt 32767 (capped n) ≡ true → 32767 < n
-past_limit n e = let past = ltb-true 32767 (capped n) e in omega (arith, past)
+past_limit : (n : ℕ) → nat_lt 32767 (capped_count n) ≡ true → 32767 < n
+past_limit n e = let past = ltb-true 32767 (capped_count n) e in omega (arith, past)
 
 -- the value that is told
-told_value : (n : ℕ) → min (capped n) 1000000000 ≡ min n 1000000000
+told_value : (n : ℕ) → min (capped_count n) 1000000000 ≡ min n 1000000000
 told_value n = omega arith
 
 abbrev told_range : ℕ → Place → Fault
 told_range n at = Range at n
 
-over : (bs : List ℕ) → nat_lt 32767 (capped (decimal 0 (digits bs))) ≡ true → IsOver 32767 bs (λ at. Range at (min (capped (decimal 0 (digits bs))) 1000000000))
+over : (bs : List ℕ) → nat_lt 32767 (capped_count (decimal 0 (digits bs))) ≡ true → IsOver 32767 bs (λ at. Range at (min (capped_count (decimal 0 (digits bs))) 1000000000))
 over bs e = (past_limit (decimal 0 (digits bs)) e, ap told_range (told_value (decimal 0 (digits bs))))
 
 pub limited_is_cut : {T : Type 0} (IsOne IsBetween : List ℕ → List ℕ → Type 0) (t : Place → T) (b : ℕ) (bs : List ℕ) → is_digit b ≡ true → ((rest : List ℕ) → IsOne (b ∷ digits bs) rest) → IsCut IsOne IsBetween (IsOver 32767) (b ∷ bs) (limited t (b ∷ bs))
 limited_is_cut IsOne IsBetween t b bs d one =
-    let n = capped (decimal 0 (digits (b ∷ bs))) in
+    let n = capped_count (decimal 0 (digits (b ∷ bs))) in
     cut_if IsOne IsBetween (IsOver 32767) (b ∷ bs) (nat_lt 32767 n) (Wrong (λ at. Range at (min n 1000000000))) (Token t (length (digits (b ∷ bs)) - 1))
     (λ e. inr (over (b ∷ bs) e)) (λ e. run_is_cut IsOne is_digit b bs d one)
 
@@ -188,8 +188,8 @@ over_begins b bs f h = over_by b (digits bs) (is_digit b) h.0
 pub none_over : (f : Place → Fault) → IsOver 32767 [] f → ⊥
 none_over f h = let past : 32767 < 0 = h.0 in omega (arith, past)
 
-limit_past : (n : ℕ) → 32767 < n → nat_lt 32767 (capped n) ≡ true
-limit_past n h = lt-ltb 32767 (capped n) (omega (arith, h))
+limit_past : (n : ℕ) → 32767 < n → nat_lt 32767 (capped_count n) ≡ true
+limit_past n h = lt-ltb 32767 (capped_count n) (omega (arith, h))
 
 abbrev refused : (T : Type 0) → (Place → Fault) → Piece T
 refused T f = Wrong f
@@ -197,7 +197,7 @@ refused T f = Wrong f
 pub limited_refuses : {T : Type 0} (t : Place → T) (bs : List ℕ) (f : Place → Fault) → IsOver 32767 bs f → limited t bs ≡ Wrong f
 limited_refuses {T} t bs f h =
     let n = decimal 0 (digits bs) in
-    ap (λ (x : Bool). cond x (refused T (told_range (min (capped n) 1000000000))) (Token t (length (digits bs) - 1))) (limit_past n h.0)
+    ap (λ (x : Bool). cond x (refused T (told_range (min (capped_count n) 1000000000))) (Token t (length (digits bs) - 1))) (limit_past n h.0)
     ∙ ap (refused T) (ap told_range (told_value n) ∙ sym h.1)
 
 range_is_other : (n : ℕ) → (λ (at : Place). Range at n) ≡ Grammar → ⊥
@@ -205,7 +205,7 @@ range_is_other n e = let here : Range start n ≡ Grammar start = ap (λ (f : Pl
 
 pub limited_reaches : {T : Type 0} (t : Place → T) (d : ℕ) (ds rest : List ℕ) → Run is_digit (d ∷ ds) → Reaches (length (d ∷ ds)) (limited t (d ∷ (ds ++ rest)))
 limited_reaches t d ds rest a =
-    let n = capped (decimal 0 (digits (d ∷ (ds ++ rest)))) in
+    let n = capped_count (decimal 0 (digits (d ∷ (ds ++ rest)))) in
     reaches_if (length (d ∷ ds)) (nat_lt 32767 n) (Wrong (λ at. Range at (min n 1000000000))) (Token t (length (digits (d ∷ (ds ++ rest))) - 1))
     (λ e. range_is_other (min n 1000000000)) (λ e. run_reached is_digit d ds rest a)
 

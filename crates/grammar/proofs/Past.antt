@@ -6,7 +6,7 @@ use Rattle.scan_text.specs.declared.Blank.{Blank}
 use Rattle.scan_text.specs.declared.Blank.TheVariants.{Over, Unclosed, Other}
 use Rattle.scan_text.specs.Text.{step, walk, first}
 use Rattle.scan_text.specs.Blanks.{blank, blanks, blanks_by}
-use Rattle.scan_text.specs.View.{left, place}
+use Rattle.scan_text.specs.View.{left_bytes, place}
 use Rattle.grammar.specs.declared.Fault.{Fault}
 use Rattle.grammar.specs.declared.Fault.TheVariants.{Grammar}
 use Rattle.grammar.specs.Cutting.{Piece, cut, cut_by, past_blank, past_blanks, PastBlanks, Next, TokenBy, last_of}
@@ -63,33 +63,33 @@ module _ {T : Type 0} (piece : List ℕ → Piece T) (close : Option T → Place
   -- the loop of a lexer, past blanks and comments
   pub Cuts-blanks : (front : List T) (old new : Scan) (all : Result (List T) Fault) (finish : Place) (u : Unit {0}) → PastBlanks old (Ok u) new → Cuts (past_blanks piece) close front old all finish → Cuts (past_blanks piece) close front new all finish
   Cuts-blanks front old new all finish u h so_far = record {
-    tokens = ap (with_front front) (sym (cut-blanks piece close (last_of front) 0 (place old) (left old) ∙ ap (cut_found (λ p rest. cut (past_blanks piece) close (last_of front) 0 p rest)) h)) ∙ so_far.tokens;
-    ends = (leaves_blanks 0 (place old) (place new) (left old) (left new) h).ends ∙ so_far.ends;
+    tokens = ap (with_front front) (sym (cut-blanks piece close (last_of front) 0 (place old) (left_bytes old) ∙ ap (cut_found (λ p rest. cut (past_blanks piece) close (last_of front) 0 p rest)) h)) ∙ so_far.tokens;
+    ends = (leaves_blanks 0 (place old) (place new) (left_bytes old) (left_bytes new) h).ends ∙ so_far.ends;
   }
 
   -- a comment that is not closed
   pub Cuts-unclosed : (front : List T) (old new : Scan) (all : Result (List T) Fault) (finish : Place) (f : Fault) → PastBlanks old (Err f) new → Cuts (past_blanks piece) close front old all finish → all ≡ Err f
   Cuts-unclosed front old new all finish f h so_far =
-      sym so_far.tokens ∙ ap (with_front front) (cut-blanks piece close (last_of front) 0 (place old) (left old) ∙ ap (cut_found (λ p rest. cut (past_blanks piece) close (last_of front) 0 p rest)) h.0 ∙ ap Err (sym h.1))
+      sym so_far.tokens ∙ ap (with_front front) (cut-blanks piece close (last_of front) 0 (place old) (left_bytes old) ∙ ap (cut_found (λ p rest. cut (past_blanks piece) close (last_of front) 0 p rest)) h.0 ∙ ap Err (sym h.1))
 
   -- a piece that begins where no blank stands
-  pub no_blank : (old new : Scan) (r : Result (Option T) Fault) → blank (left old) ≡ Other → Next (piece (left old)) old r new → Next (past_blanks piece (left old)) old r new
-  no_blank old new r o h = subst (λ (k : Blank). Next (past_blank k (piece (left old))) old r new) (sym o) h
+  pub no_blank : (old new : Scan) (r : Result (Option T) Fault) → blank (left_bytes old) ≡ Other → Next (piece (left_bytes old)) old r new → Next (past_blanks piece (left_bytes old)) old r new
+  no_blank old new r o h = subst (λ (k : Blank). Next (past_blank k (piece (left_bytes old))) old r new) (sym o) h
 
-  pub first_past : (old new : Scan) (u : Unit {0}) → PastBlanks old (Ok u) new → blank (left new) ≡ Other
-  first_past old new u h = (leaves_blanks 0 (place old) (place new) (left old) (left new) h).no_blank
+  pub first_past : (old new : Scan) (u : Unit {0}) → PastBlanks old (Ok u) new → blank (left_bytes new) ≡ Other
+  first_past old new u h = (leaves_blanks 0 (place old) (place new) (left_bytes old) (left_bytes new) h).no_blank
 
-  pub shorter_past : (old new : Scan) (u : Unit {0}) → PastBlanks old (Ok u) new → length (left new) ≤ length (left old)
-  shorter_past old new u h = (leaves_blanks 0 (place old) (place new) (left old) (left new) h).no_longer
+  pub shorter_past : (old new : Scan) (u : Unit {0}) → PastBlanks old (Ok u) new → length (left_bytes new) ≤ length (left_bytes old)
+  shorter_past old new u h = (leaves_blanks 0 (place old) (place new) (left_bytes old) (left_bytes new) h).no_longer
 
 module _ {C T : Type 0} (view : C → T) (piece : List ℕ → Piece T) (close : Option T → Place → List T) where
   -- the loop of a lexer takes a token where no blank stands
-  pub Cuts-token : (front : List T) (old new : Scan) (all : Result (List T) Fault) (finish : Place) (b : ℕ) (c : C) → blank (left old) ≡ Other → first (left old) ≡ Some b → TokenBy view (piece (left old)) old (Ok c) new → Cuts (past_blanks piece) close front old all finish → Cuts (past_blanks piece) close (front ++ view c ∷ []) new all finish
+  pub Cuts-token : (front : List T) (old new : Scan) (all : Result (List T) Fault) (finish : Place) (b : ℕ) (c : C) → blank (left_bytes old) ≡ Other → first (left_bytes old) ≡ Some b → TokenBy view (piece (left_bytes old)) old (Ok c) new → Cuts (past_blanks piece) close front old all finish → Cuts (past_blanks piece) close (front ++ view c ∷ []) new all finish
   Cuts-token front old new all finish b c o begun h so_far = Cuts-taken (past_blanks piece) close front old new all finish b (view c) begun (no_blank piece close old new (Ok (Some (view c))) o h) so_far
 
   -- or meets the fault of one
-  pub Cuts-wrong : (front : List T) (old new : Scan) (all : Result (List T) Fault) (finish : Place) (b : ℕ) (f : Fault) → blank (left old) ≡ Other → first (left old) ≡ Some b → TokenBy view (piece (left old)) old (Err f) new → Cuts (past_blanks piece) close front old all finish → all ≡ Err f
+  pub Cuts-wrong : (front : List T) (old new : Scan) (all : Result (List T) Fault) (finish : Place) (b : ℕ) (f : Fault) → blank (left_bytes old) ≡ Other → first (left_bytes old) ≡ Some b → TokenBy view (piece (left_bytes old)) old (Err f) new → Cuts (past_blanks piece) close front old all finish → all ≡ Err f
   Cuts-wrong front old new all finish b f o begun h so_far = Cuts-failed (past_blanks piece) close front old new all finish b f begun (no_blank piece close old new (Err f) o h) so_far
 
-  pub shorter_token : (old new : Scan) (b : ℕ) (c : C) → first (left old) ≡ Some b → TokenBy view (piece (left old)) old (Ok c) new → length (left new) < length (left old)
+  pub shorter_token : (old new : Scan) (b : ℕ) (c : C) → first (left_bytes old) ≡ Some b → TokenBy view (piece (left_bytes old)) old (Ok c) new → length (left_bytes new) < length (left_bytes old)
   shorter_token old new b c begun h = goes_on piece close old new (Some (view c)) b begun h

@@ -11,7 +11,7 @@ use Rattle.outer_world.specs.declared.sink.Sink.{Ghosts}
 use Rattle.outer_world.specs.Held.{pending, sink_of}
 use Rattle.outer_world.specs.Written.{Got, Passes, Puts, CountsPut}
 use Rattle.outer_world.proofs.Passing.{Passes-then, Passes-cut, Passes-nothing, Puts-finished, Puts-failed}
-use Rattle.grammar.specs.Rules.{Rule, Rules, mark, word, end, seq, choice, option, repeat, name, within, Tree, Skip, Node, Leaf, Pair, Left, Right, Absent, Present, NoMore, More, listed}
+use Rattle.grammar.specs.Rules.{Rule, Rules, mark, word, end, seq, choice, option, repeat, name, within, Tree, Skip, Node, Leaf, Pair, Left, Right, Absent, Present, NoMore, More, tree_of_list}
 use Rattle.grammar.specs.Leaves.{leaves}
 use Rattle.grammar.specs.Printed.{Wrote, Ended, Writes, Finishes, printed_by, set_off, Shows}
 
@@ -74,9 +74,9 @@ module _ {T S N V : Type 0} (g : Rules T S N V) (said : V → List ℕ) where
   abbrev texts : {X : Type 0} → (X → Tree V) → Rule T S N V → List X → List ℕ
   texts tree a xs = flat_map (λ x. printed_by g said (tree x) a) xs
 
-  text_listed : {X : Type 0} (tree : X → Tree V) (a : Rule T S N V) (xs : List X) → printed_by g said (listed tree xs NoMore) (repeat a) ≡ texts tree a xs
+  text_listed : {X : Type 0} (tree : X → Tree V) (a : Rule T S N V) (xs : List X) → printed_by g said (tree_of_list tree xs NoMore) (repeat a) ≡ texts tree a xs
   text_listed tree a [] = refl
-  text_listed tree a (x ∷ xs) = text_more (tree x) (listed tree xs NoMore) a ∙ ap (λ (t : List ℕ). printed_by g said (tree x) a ++ t) (text_listed tree a xs)
+  text_listed tree a (x ∷ xs) = text_more (tree x) (tree_of_list tree xs NoMore) a ∙ ap (λ (t : List ℕ). printed_by g said (tree x) a ++ t) (text_listed tree a xs)
 
   -- a whole text, and nothing behind it
   pub text_whole : (x : Tree V) (a : Rule T S N V) → printed_by g said (Pair x Skip) (seq a end) ≡ printed_by g said x a
@@ -152,12 +152,12 @@ module _ {T S N V K X : Type 0} {told : Ghosts K} {g : Rules T S N V} {said : V 
       record { writes = writes_is same (writes_then k.writes l.writes) }
 
   -- all of them
-  pub each_done : (xs : List X) {i : ℕ} {v : Put} {b : Pieces K told} → length xs ≤ i → ShowsEach g said [] tree rule (take i xs) u a v b → Shows g said (listed tree xs NoMore) (repeat rule) u a v b
+  pub each_done : (xs : List X) {i : ℕ} {v : Put} {b : Pieces K told} → length xs ≤ i → ShowsEach g said [] tree rule (take i xs) u a v b → Shows g said (tree_of_list tree xs NoMore) (repeat rule) u a v b
   each_done xs {i} n k = record { writes = writes_is (ap (texts g said tree rule) (take_whole i xs n) ∙ sym (text_listed g said tree rule xs)) k.writes }
 
   -- all of them behind a first part
   pub each_behind : {x : Tree V} {first : Rule T S N V} (xs : List X) {i : ℕ} {v : Put} {b : Pieces K told} → length xs ≤ i
-      → ShowsEach g said (printed_by g said x first) tree rule (take i xs) u a v b → Shows g said (Pair x (listed tree xs NoMore)) (seq first (repeat rule)) u a v b
+      → ShowsEach g said (printed_by g said x first) tree rule (take i xs) u a v b → Shows g said (Pair x (tree_of_list tree xs NoMore)) (seq first (repeat rule)) u a v b
   each_behind {x} {first} xs {i} n k =
-      let all : texts g said tree rule (take i xs) ≡ printed_by g said (listed tree xs NoMore) (repeat rule) = ap (texts g said tree rule) (take_whole i xs n) ∙ sym (text_listed g said tree rule xs) in
-      record { writes = writes_is (ap (λ (t : List ℕ). printed_by g said x first ++ t) all ∙ sym (text_pair g said x (listed tree xs NoMore) first (repeat rule))) k.writes }
+      let all : texts g said tree rule (take i xs) ≡ printed_by g said (tree_of_list tree xs NoMore) (repeat rule) = ap (texts g said tree rule) (take_whole i xs n) ∙ sym (text_listed g said tree rule xs) in
+      record { writes = writes_is (ap (λ (t : List ℕ). printed_by g said x first ++ t) all ∙ sym (text_pair g said x (tree_of_list tree xs NoMore) first (repeat rule))) k.writes }

@@ -11,7 +11,7 @@ use Rattle.scan_text.specs.declared.Blank.TheVariants.{Over, Unclosed, Other}
 use Rattle.scan_text.specs.Text.{start, step, walk, front, decimal}
 use Rattle.scan_text.specs.Blanks.{blank, comment, is_blank}
 use Rattle.grammar.specs.declared.Fault.{Fault}
-use Rattle.grammar.specs.Cutting.{Piece, Passed, Token, Wrong, closes_with_nothing, cut, cut_by, followed, past_blank, past_blanks, tokens_between_blanks, too_long}
+use Rattle.grammar.specs.Cutting.{Piece, Passed, Token, Wrong, closes_with_nothing, cut, cut_by, with_token, past_blank, past_blanks, tokens_between_blanks, too_long}
 use Rattle.grammar.proofs.Cuts.{pending, within_limit, followed_is, none_is}
 
 -- lists
@@ -186,14 +186,14 @@ module _ {T : Type 0} (piece : List ℕ → Piece T) where
   gap_passed false last at rest = refl
 
   token_cut : (made : Place → T) (text : List ℕ) (t : Bool) (rest : List ℕ) (last : Option T) (at : Place) → (c : Stands made text t rest)
-      → C last at (text ++ gap t ∷ rest) ≡ followed (made at) (C (Some (made at)) (step (walk (step at c.first) (take (length c.more) (c.more ++ gap t ∷ rest))) (gap t)) rest)
+      → C last at (text ++ gap t ∷ rest) ≡ with_token (made at) (C (Some (made at)) (step (walk (step at c.first) (take (length c.more) (c.more ++ gap t ∷ rest))) (gap t)) rest)
   token_cut made text t rest last at c =
       let token = made at in
       let tail = c.more ++ gap t ∷ rest in
       let here = walk (step at c.first) (take (length c.more) tail) in
       ap (λ (l : List ℕ). C last at (l ++ gap t ∷ rest)) c.is
       ∙ ap (λ (p : Piece T). cut_by p last at (λ l n. cut (past_blanks piece) closes_with_nothing l n (step at c.first) tail)) c.cut_so
-      ∙ ap (followed token) (pending (past_blanks piece) closes_with_nothing (Some token) (length c.more) (step at c.first) tail ∙ ap (C (Some token) here) (drop_length c.more (gap t ∷ rest)) ∙ gap_passed t (Some token) here rest)
+      ∙ ap (with_token token) (pending (past_blanks piece) closes_with_nothing (Some token) (length c.more) (step at c.first) tail ∙ ap (C (Some token) here) (drop_length c.more (gap t ∷ rest)) ∙ gap_passed t (Some token) here rest)
 
   -- Good tokens stand so before a blank that their text, shown, is cut as a token that tells the same.
   module _ {W : Type 0} (Good : T → Type 0) (shown : T → List ℕ) (ends_line : List ℕ → Bool) (again : T → Place → T) (told : T → W) where
@@ -217,7 +217,7 @@ module _ {T : Type 0} (piece : List ℕ → Piece T) where
           let next = recut ws g.1 (Some token) (step (walk (step at c.first) (take (length c.more) (c.more ++ gap t ∷ rest))) (gap t)) in
           record {
             tokens = token ∷ next.tokens;
-            cut = ap (C last at) (append_assoc text (gap t ∷ []) rest) ∙ token_cut (again w) text t rest last at c ∙ ap (followed token) next.cut;
+            cut = ap (C last at) (append_assoc text (gap t ∷ []) rest) ∙ token_cut (again w) text t rest last at c ∙ ap (with_token token) next.cut;
             same = λ i. told_again w at i ∷ next.same i;
           }
 

@@ -4,6 +4,6 @@ use Rattle.outer_world.specs.Refusals.{Message, message}
 use Rattle.grammar.specs.declared.Fault.{Fault}
 use Rattle.grammar.specs.declared.Fault.TheVariants as faults
 
-abbrev pub fault_told : Fault → Message
-fault_told (faults.Grammar at) = message at.line at.column (codes "Grammar") []
-fault_told (faults.Range at value) = message at.line at.column (codes "Range") (decimal value)
+abbrev pub diagnostic_of : Fault → Message
+diagnostic_of (faults.Grammar at) = message at.line at.column (codes "Grammar") []
+diagnostic_of (faults.Range at value) = message at.line at.column (codes "Range") (decimal value)

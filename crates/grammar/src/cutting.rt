@@ -2,7 +2,7 @@
 
 ghost use Rattle.std.specs.Prelude.{◌≡◌, ◌<◌, ◌-◌, ◌^◌, List, ℕ, length, map, Some, None, IfOk};
 ghost use Rattle.scan_text.specs.Text.{first, start, walk};
-ghost use Rattle.scan_text.specs.View.{left};
+ghost use Rattle.scan_text.specs.View.{left_bytes};
 ghost use Rattle.grammar.specs.Cutting.{Piece, TokenBy, cut, past_blanks, closes_with_nothing, too_long, tokens_between_blanks};
 ghost use Rattle.grammar.specs.Reading.{Gives};
 
@@ -34,8 +34,8 @@ pub trait Cutter<'a> {
 
     /// The token that begins at the next byte.
     fn token(&self, scan: &mut Scan<'a>, byte: u8) -> Result<Self::Token, Fault>
-        requires { first (left scan.old) ≡ Some byte }
-        ensures { TokenBy view (piece (left scan.old)) scan.old result scan.new };
+        requires { first (left_bytes scan.old) ≡ Some byte }
+        ensures { TokenBy view (piece (left_bytes scan.old)) scan.old result scan.new };
 }
 
 /// The tokens of a text, and the place of its end.

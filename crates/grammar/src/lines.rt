@@ -3,7 +3,7 @@
 ghost use Rattle.std.specs.Prelude.{◌≡◌, ◌<◌, ◌-◌, ◌^◌, ◌++◌, Bool, List, ℕ, length, map, Some, None, OnOk, IfOk};
 ghost use Rattle.scan_text.specs.declared.Place.{Place};
 ghost use Rattle.scan_text.specs.Text.{first, start, walk};
-ghost use Rattle.scan_text.specs.View.{left};
+ghost use Rattle.scan_text.specs.View.{left_bytes};
 ghost use Rattle.grammar.specs.Cutting.{Piece, NextBy, cut, cut_text, last_of};
 ghost use Rattle.grammar.specs.Lines.{comment_piece, line_end_piece, is_open, close};
 ghost use Rattle.grammar.specs.Reading.{Gives};
@@ -41,14 +41,14 @@ pub trait LineToken: Drop {
 pub trait LineCutter<'a>: LineToken {
     /// What begins at the next byte: a token, or something that is passed over.
     fn next(scan: &mut Scan<'a>, byte: u8) -> Result<Option<Self>, Fault>
-        requires { first (left scan.old) ≡ Some byte }
-        ensures { NextBy Self.view (Self.piece (left scan.old)) scan.old result scan.new };
+        requires { first (left_bytes scan.old) ≡ Some byte }
+        ensures { NextBy Self.view (Self.piece (left_bytes scan.old)) scan.old result scan.new };
 }
 
 /// Goes over a comment of two slashes, up to the end of its line. Grammar, where the slash stands alone.
 pub fn comment<T: LineToken>(scan: &mut Scan) -> Result<Option<T>, Fault>
-    requires { first (left scan.old) ≡ Some 47 }
-    ensures { NextBy T.view (comment_piece (left scan.old)) scan.old result scan.new }
+    requires { first (left_bytes scan.old) ≡ Some 47 }
+    ensures { NextBy T.view (comment_piece (left_bytes scan.old)) scan.old result scan.new }
 {
     let mut ahead = *scan;
     ahead.skip(1);
@@ -63,7 +63,7 @@ pub fn comment<T: LineToken>(scan: &mut Scan) -> Result<Option<T>, Fault>
 
 /// The line end that begins here. Grammar, where none does.
 pub fn line_end<T: LineToken>(scan: &mut Scan) -> Result<Option<T>, Fault>
-    ensures { NextBy T.view (line_end_piece T.line_end_token (left scan.old)) scan.old result scan.new }
+    ensures { NextBy T.view (line_end_piece T.line_end_token (left_bytes scan.old)) scan.old result scan.new }
 {
     let place = scan.place();
     if scan.line_end() {

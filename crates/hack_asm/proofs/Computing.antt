@@ -8,13 +8,13 @@ use Rattle.hack_asm.specs.declared.token.Operator.TheVariants.{Plus, Minus, And,
 use Rattle.hack_asm.specs.declared.lines.Prefix.TheVariants as prefix
 use Rattle.hack_asm.specs.declared.lines.Comp.{Comp}
 use Rattle.hack_asm.specs.declared.lines.Comp.TheVariants as comp
-use Rattle.hack_asm.specs.Comps.{found}
+use Rattle.hack_asm.specs.Comps.{find_row}
 use Rattle.hack_asm.specs.Computed.{Computes}
 
 sums : (x y : ℕ) → word_add x y ≡ word_add y x
 sums x y = omega arith
 
-pub rows_compute : (c : Comp) → Computes c (found c)
+pub rows_compute : (c : Comp) → Computes c (find_row c)
 rows_compute (comp.Alone Zero) = λ h w. sym (alu_42 h.d h.a w.d w.a)
 rows_compute (comp.Alone One) = λ h w. sym (alu_63 h.d h.a w.d w.a)
 rows_compute (comp.Alone A) = λ h w. sym (alu_48 h.d h.a w.d w.a)

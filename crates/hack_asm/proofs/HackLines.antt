@@ -15,7 +15,7 @@ use Rattle.hack_asm.specs.declared.fault.AsmFault.{AsmFault}
 use Rattle.hack_asm.specs.declared.hack_tokens.Kind.TheVariants.{Digit}
 use Rattle.hack_asm.specs.Faults.{Wrong, wrong, wrong_of, asm_fault, Told, Yields}
 use Rattle.hack_asm.specs.HackTokens.{tokens_of, finish}
-use Rattle.hack_asm.specs.HackText.{HackTree, hack, whole, word_tree, line_tree, lines_tree, text_tree, IsLine, AreLines, Spells, Refuses, limited, words_of, Holds, HoldsWrong, IsRefusal, HoldsOf}
+use Rattle.hack_asm.specs.HackText.{HackTree, hack, whole, word_tree, line_tree, lines_tree, text_tree, IsLine, AreLines, Spells, Refuses, within_limit, words_of, Holds, HoldsWrong, IsRefusal, HoldsOf}
 
 pub AreLines-push : (ls : List (Option ℕ)) (l : Option ℕ) → AreLines ls → IsLine l → AreLines (ls ++ l ∷ [])
 AreLines-push [] l h w = (w, tt)
@@ -77,7 +77,7 @@ spelled_once : (text : List ℕ) (ls ms : List (Option ℕ)) → Spells text ls 
 spelled_once text ls ms a b = lines_are ls ms a.0 b.0 (ap one (one_tree (hack (finish text)) whole tt (tokens_of text) (text_tree ls) (text_tree ms) a.1 b.1))
 
 pub one_meaning : (text : List ℕ) (r q : Result (List ℕ) Wrong) → Holds text r → Holds text q → r ≡ q
-one_meaning text r q (inl a) (inl b) = a.2 ∙ ap (λ (ls : List (Option ℕ)). limited (words_of ls)) (spelled_once text a.0 b.0 a.1 b.1) ∙ sym b.2
+one_meaning text r q (inl a) (inl b) = a.2 ∙ ap (λ (ls : List (Option ℕ)). within_limit (words_of ls)) (spelled_once text a.0 b.0 a.1 b.1) ∙ sym b.2
 one_meaning text r q (inl a) (inr b) = absurd (not_both (hack (finish text)) whole tt (tokens_of text) (text_tree a.0) b.0 a.1.1 b.1)
 one_meaning text r q (inr a) (inl b) = absurd (not_both (hack (finish text)) whole tt (tokens_of text) (text_tree b.0) a.0 b.1.1 a.1)
 one_meaning text r q (inr a) (inr b) = a.2 ∙ ap (λ (f : Fault). Err (wrong f)) (first_fault (hack (finish text)) whole tt (tokens_of text) a.0 b.0 a.1 b.1) ∙ sym b.2
@@ -97,11 +97,11 @@ refusal text _ memory = tt
 refusal text _ (told c) = refusal_by text _ c
 
 -- what the lines of a text yield
-told_wrong : (text : List ℕ) (ls : List (Option ℕ)) (o : Option Wrong) → Spells text ls → Told o (limited (words_of ls)) → HoldsWrong text o
+told_wrong : (text : List ℕ) (ls : List (Option ℕ)) (o : Option Wrong) → Spells text ls → Told o (within_limit (words_of ls)) → HoldsWrong text o
 told_wrong text ls None s h = tt
 told_wrong text ls (Some w) s h = inl (ls, s, sym h)
 
-pub yielded : {X : Type 0} (view : X → List ℕ) (text : List ℕ) (ls : List (Option ℕ)) (r : Result X AsmFault) → Spells text ls → Yields view r (limited (words_of ls)) → HoldsOf view text r
+pub yielded : {X : Type 0} (view : X → List ℕ) (text : List ℕ) (ls : List (Option ℕ)) (r : Result X AsmFault) → Spells text ls → Yields view r (within_limit (words_of ls)) → HoldsOf view text r
 yielded view text ls (Ok x) s h = inl (ls, s, sym h)
 yielded view text ls (Err e) s h = told_wrong text ls (wrong_of e) s h
 

@@ -14,7 +14,7 @@ use Rattle.hack_asm.specs.declared.token.Role.TheVariants as role
 use Rattle.hack_asm.specs.declared.words.Before.{Before}
 use Rattle.hack_asm.specs.declared.words.Before.TheVariants.{Sum, Join}
 use Rattle.hack_asm.specs.Tokens.{Word}
-use Rattle.hack_asm.specs.Grammar.{Said, Letter', Operator', Part, assembly, letter_role, role_said, operator_role, is_zero, is_one, is_a, is_d, is_m, by_letter, some_letter, operation, adds, meets, assigns, assignment, after_letter, comp, sign, unary, assigned, several_role, is_several, Several}
+use Rattle.hack_asm.specs.Grammar.{Said, Letter', Operator', Part, assembly, letter_role, role_said, operator_role, is_zero, is_one, is_a, is_d, is_m, by_letter, some_letter, operation, adds, meets, assigns, assignment, after_letter, comp, sign, unary, assignment_part, several_role, is_several, Several}
 use Rattle.hack_asm.specs.Trees.{AsmTree, branch, other, operation_tree}
 use Rattle.hack_asm.specs.Before.{letter_by, letter_next, operator_by, operator_next, assigns_next, several_by, several_next, suits}
 use Rattle.grammar.proofs.Entered.{firm, entered, skip, skip_stops}
@@ -291,21 +291,21 @@ no_several [] h = refl
 no_several (w ∷ ws) h = no_several_by w.role ws h
 
 module _ (end : Place) where
-  pub several_assigned : {n : ℕ} {ts us vs : List Word} {t : AsmTree} → several_next ts ≡ Some (n, us) → R end (seq (sign 61) comp) us t vs → R end assigned ts (Left (Pair (Leaf (Several n)) t)) vs
+  pub several_assigned : {n : ℕ} {ts us vs : List Word} {t : AsmTree} → several_next ts ≡ Some (n, us) → R end (seq (sign 61) comp) us t vs → R end assignment_part ts (Left (Pair (Leaf (Several n)) t)) vs
   several_assigned {n = n} {ts = ts} {us = us} {vs = vs} {t = t} e p =
       let c = several_comes ts n us e in
       let i = ap several_role c.role in
-      subst (λ (l : List Word). R end assigned l (Left (Pair (Leaf (Several n)) t)) vs) (sym c.is)
-      (subst (λ (s : Said). R end assigned (c.token ∷ us) (Left (Pair (Leaf s) t)) vs) (ap role_said c.role) (left i (both (worded i refl) p)))
+      subst (λ (l : List Word). R end assignment_part l (Left (Pair (Leaf (Several n)) t)) vs) (sym c.is)
+      (subst (λ (s : Said). R end assignment_part (c.token ∷ us) (Left (Pair (Leaf s) t)) vs) (ap role_said c.role) (left i (both (worded i refl) p)))
 
-  pub several_stops : {n : ℕ} {ts us : List Word} {f : Fault} → several_next ts ≡ Some (n, us) → F end (seq (sign 61) comp) us f → F end assigned ts f
+  pub several_stops : {n : ℕ} {ts us : List Word} {f : Fault} → several_next ts ≡ Some (n, us) → F end (seq (sign 61) comp) us f → F end assignment_part ts f
   several_stops {n = n} {ts = ts} {us = us} {f = f} e p =
       let c = several_comes ts n us e in
       let i = ap several_role c.role in
-      subst (λ (l : List Word). F end assigned l f) (sym c.is) (in_left i (second (worded i refl) p))
+      subst (λ (l : List Word). F end assignment_part l f) (sym c.is) (in_left i (second (worded i refl) p))
 
-  pub bare_assigned : {ts us : List Word} {t : AsmTree} → several_next ts ≡ None → R end (by_letter after_letter unary) ts t us → R end assigned ts (Right t) us
+  pub bare_assigned : {ts us : List Word} {t : AsmTree} → several_next ts ≡ None → R end (by_letter after_letter unary) ts t us → R end assignment_part ts (Right t) us
   bare_assigned {ts = ts} e p = skip (no_several ts e) refl p
 
-  pub bare_stops : {ts : List Word} {f : Fault} → several_next ts ≡ None → F end (by_letter after_letter unary) ts f → F end assigned ts f
+  pub bare_stops : {ts : List Word} {f : Fault} → several_next ts ≡ None → F end (by_letter after_letter unary) ts f → F end assignment_part ts f
   bare_stops {ts = ts} e p = skip_stops (no_several ts e) refl p

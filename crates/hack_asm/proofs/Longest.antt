@@ -6,7 +6,7 @@ use Rattle.std.specs.Char.{is_ascii_alphabetic}
 use Rattle.std.proofs.lemmas.List.Elements.{All-cons, All-head}
 use Rattle.std.proofs.lemmas.Bool.Decides.{nat_tests}
 use Rattle.scan_text.specs.declared.Place.{Place}
-use Rattle.scan_text.specs.Text.{front, is_digit, digits, decimal, capped}
+use Rattle.scan_text.specs.Text.{front, is_digit, digits, decimal, capped_count}
 use Rattle.grammar.specs.Between.{IsBetweenInLine, ASpace, ATab}
 use Rattle.grammar.specs.declared.Fault.{Fault}
 use Rattle.grammar.specs.Cutting.{Piece, Passed, Wrong}
@@ -17,7 +17,7 @@ use Rattle.grammar.proofs.InLine.{blank_is_cut, comment_is_cut, passes_between}
 use Rattle.grammar.proofs.Longest as longest
 use Rattle.grammar.proofs.Longest.{IsCut, Reaches, cut_if, reaches_if, front_run, run_is_cut, byte_is_cut, run_reached, no_digit, limited_is_cut, limited_reaches, over_begins, none_over, limited_refuses, end_is_cut}
 use Rattle.hack_asm.specs.declared.token.Kind.TheVariants.{Sign, Number}
-use Rattle.hack_asm.specs.Tokens.{Word, made, word_of, number_piece, symbol_piece, line_end_token, piece, is_letter, is_symbol_byte, is_sign}
+use Rattle.hack_asm.specs.Tokens.{Word, made_word, word_of, number_piece, symbol_piece, line_end_token, piece, is_letter, is_symbol_byte, is_sign}
 use Rattle.hack_asm.specs.OneToken.{IsOne, ASymbol, ANumber, ASign, ALineFeed, AReturnAndLineFeed}
 
 -- the pieces that are left when the tests before them fail
@@ -38,7 +38,7 @@ blank_byte b = b == 32 || b == 9
 
 -- the token of a number at the front
 abbrev number : List ℕ → Place → Word
-number all = made (Number (capped (decimal 0 (digits all)))) (take (suc (length (digits all) - 1)) all)
+number all = made_word (Number (capped_count (decimal 0 (digits all)))) (take (suc (length (digits all) - 1)) all)
 
 -- the signs of symbols, and the tokens of one sign
 abbrev marks : List ℕ

@@ -17,7 +17,7 @@ use Rattle.hack_asm.specs.declared.lines.Dest.TheVariants as dests
 use Rattle.hack_asm.specs.Grammar as assembly
 use Rattle.hack_asm.specs.Grammar.{Said, Letter', Operator', letter_role, operator_role, role_said, adds, meets, sums, joins, is_not_zero, is_register}
 use Rattle.hack_asm.specs.Trees.{Line, label, address, compute, operation_tree, comp_tree, bare_tree, assigned_tree, lines_tree, line_tree}
-use Rattle.hack_asm.specs.Comps.{found}
+use Rattle.hack_asm.specs.Comps.{find_row}
 use Rattle.hack_asm.specs.Meaning.{HasRow, CompsHaveRows}
 
 -- The tree has the rule's form, and each leaf is said by a token that passes its test.
@@ -75,7 +75,7 @@ operator_held p op (role.Jump n) h e = absurd cc
 operator_held p op role.Plain h e = absurd cc
 
 abbrev HasOne : Comp → Type 0
-HasOne c = is_some (found c) ≡ true
+HasOne c = is_some (find_row c) ≡ true
 
 alone_found : (x : Letter) → HasOne (comps.Alone x)
 alone_found Zero = refl
@@ -238,7 +238,7 @@ module _ (g : Rules Word (Unit {0}) (Unit {0}) Said) where
   bare_found (Some D) c h = comp_found c h.1.1
   bare_found (Some M) c h = comp_found c h.1.1
 
-  assigned_found : (d : Dest) (c : Comp) → Shaped g assembly.assigned (assigned_tree d c) → HasOne c
+  assigned_found : (d : Dest) (c : Comp) → Shaped g assembly.assignment_part (assigned_tree d c) → HasOne c
   assigned_found (dests.Register d) c h = bare_found d c h
   assigned_found (dests.Several n) c h = comp_found c h.1.1
 

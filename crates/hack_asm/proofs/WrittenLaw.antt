@@ -11,7 +11,7 @@ use Rattle.hack_isa.specs.declared.Instr.{Instr}
 use Rattle.hack_isa.specs.declared.Instr.TheVariants as instr
 use Rattle.hack_asm.specs.declared.token.Kind.TheVariants.{Sign, Number}
 use Rattle.hack_asm.specs.declared.lines.Compute.{Compute}
-use Rattle.hack_asm.specs.Tokens.{Word, made, piece, line_end_token, ends, close, finish}
+use Rattle.hack_asm.specs.Tokens.{Word, made_word, piece, line_end_token, ends, close, finish}
 use Rattle.hack_asm.specs.Grammar as assembly
 use Rattle.hack_asm.specs.Trees.{line_tree, lines_tree}
 use Rattle.hack_asm.specs.Comps.{comp_text, text_in}
@@ -43,11 +43,11 @@ address_lined : (n : ℕ) → n < 32768 → Lined (instr.Address n)
 address_lined n small = record {
   direct = constant n;
   ends_at = address_end n;
-  tokens = λ at ts. sign_token 64 at ∷ made (Number n) (decimal n) (number_at at) ∷ line_end_token (address_end n at) ∷ ts;
+  tokens = λ at ts. sign_token 64 at ∷ made_word (Number n) (decimal n) (number_at at) ∷ line_end_token (address_end n at) ∷ ts;
   cut = λ last at bs ts e.
       let ts1 : List Word = line_end_token (address_end n at) ∷ ts in
       ap (λ (l : List ℕ). the_cut last at (64 ∷ l)) (append_assoc (decimal n) (10 ∷ []) bs)
-      ∙ token_cut 64 [] (decimal n ++ 10 ∷ bs) (Sign 64) last at (made (Number n) (decimal n) (number_at at) ∷ ts1) refl
+      ∙ token_cut 64 [] (decimal n ++ 10 ∷ bs) (Sign 64) last at (made_word (Number n) (decimal n) (number_at at) ∷ ts1) refl
       (λ l. number_cut n l (number_at at) bs ts1 small (λ k. line_end_cut k (address_end n at) bs ts e));
   reads = λ end at ts. skip refl refl (both (skip refl refl (left refl (both (marked refl) (left refl (worded refl refl))))) (marked refl));
   short = omega (arith, length-append (decimal n) (10 ∷ []), length-decimal-le 5 n (omega arith) (omega arith) (omega arith));

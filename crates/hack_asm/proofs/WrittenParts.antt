@@ -20,8 +20,8 @@ use Rattle.hack_asm.specs.declared.lines.Dest.TheVariants as dests
 use Rattle.hack_asm.specs.declared.words.Before.{Before}
 use Rattle.hack_asm.specs.declared.words.Before.TheVariants.{Sum, Join}
 use Rattle.hack_asm.specs.Roles.{role_of}
-use Rattle.hack_asm.specs.Tokens.{Word, made, word_of, line_end_token, piece}
-use Rattle.hack_asm.specs.Grammar.{Said, Letter', is_sign, is_line_end, jump_role, role_said, is_register, is_not_zero, some_letter, maybe_operation, after_letter, unary, comp, operation, assigned, jump}
+use Rattle.hack_asm.specs.Tokens.{Word, made_word, word_of, line_end_token, piece}
+use Rattle.hack_asm.specs.Grammar.{Said, Letter', is_sign, is_line_end, jump_role, role_said, is_register, is_not_zero, some_letter, maybe_operation, after_letter, unary, comp, operation, assignment_part, jump}
 use Rattle.hack_asm.specs.Trees.{comp_tree, unary_tree, assigned_tree, operation_tree, jump_tree}
 use Rattle.hack_asm.specs.Before.{letter_next, operator_next, operator_by, assigns_next, several_next, several_by, suits}
 use Rattle.hack_asm.specs.Comps.{Texts, computations, memory_computations, entry, or_nothing, text_in, comp_table, comp_text, meaning}
@@ -48,7 +48,7 @@ pub record Computes (m : Bool) (bits : ℕ) (text : List ℕ) : Type 0 where
   pub spelled : Comp
   pub tokens : Place → List Word → List Word
   pub cut : (last : Option Word) (at : Place) (bs : List ℕ) (ts : List Word) → Apart bs → ((l : Option Word) → the_cut l (walk at text) bs ≡ Ok ts) → the_cut last at (text ++ bs) ≡ Ok (tokens at ts)
-  pub bare : (end at : Place) (us : List Word) → Shut us → R end assigned (tokens at us) (assigned_tree (dests.Register None) spelled) us
+  pub bare : (end at : Place) (us : List Word) → Shut us → R end assignment_part (tokens at us) (assigned_tree (dests.Register None) spelled) us
   pub after : (end at : Place) (us : List Word) → Shut us → R end comp (tokens at us) (comp_tree spelled) us
   pub begins : (at : Place) (us : List Word) → Begins (tokens at us)
   pub short : length text ≤ 3
@@ -299,7 +299,7 @@ pub record Goes (bits : ℕ) (text : List ℕ) : Type 0 where
   pub spelled : Dest
   pub tokens : Place → List Word → List Word
   pub cut : (last : Option Word) (at : Place) (bs : List ℕ) (ts : List Word) → ((l : Option Word) → the_cut l (walk at text) bs ≡ Ok ts) → the_cut last at (text ++ bs) ≡ Ok (tokens at ts)
-  pub reads : (end at : Place) (c : Comp) (us vs : List Word) → R end assigned us (assigned_tree (dests.Register None) c) vs → R end comp us (comp_tree c) vs → R end assigned (tokens at us) (assigned_tree spelled c) vs
+  pub reads : (end at : Place) (c : Comp) (us vs : List Word) → R end assignment_part us (assigned_tree (dests.Register None) c) vs → R end comp us (comp_tree c) vs → R end assignment_part (tokens at us) (assigned_tree spelled c) vs
   pub begins : (at : Place) (us : List Word) → Begins us → Begins (tokens at us)
   pub short : length text ≤ 4
   pub bits_are : dest_bits spelled ≡ bits
@@ -334,9 +334,9 @@ to_one x r = record {
 to_several : (b : ℕ) (xs : List ℕ) (n : ℕ) → ((bs : List ℕ) → piece (b ∷ (xs ++ 61 ∷ bs)) ≡ word_of Symbol (length xs) (b ∷ (xs ++ 61 ∷ bs))) → ((bs : List ℕ) → (xs ++ 61 ∷ []) ++ bs ≡ xs ++ 61 ∷ bs) → ((at : Place) → walk at (b ∷ (xs ++ 61 ∷ [])) ≡ walk (walk at (b ∷ xs)) (61 ∷ [])) → role_of (b ∷ xs) ≡ role.Several n → n % 8 ≡ n → length xs ≤ 2 → length (xs ++ 61 ∷ []) ≤ 3 → Goes n (b ∷ (xs ++ 61 ∷ []))
 to_several b xs n piece_is bytes places role_is small few size = record {
   spelled = dests.Several n;
-  tokens = λ at ts. made Symbol (b ∷ xs) at ∷ sign_token 61 (walk at (b ∷ xs)) ∷ ts;
+  tokens = λ at ts. made_word Symbol (b ∷ xs) at ∷ sign_token 61 (walk at (b ∷ xs)) ∷ ts;
   cut = λ last at bs ts e.
-      let whole : the_cut last at (b ∷ (xs ++ 61 ∷ bs)) ≡ Ok (made Symbol (b ∷ xs) at ∷ sign_token 61 (walk at (b ∷ xs)) ∷ ts) =
+      let whole : the_cut last at (b ∷ (xs ++ 61 ∷ bs)) ≡ Ok (made_word Symbol (b ∷ xs) at ∷ sign_token 61 (walk at (b ∷ xs)) ∷ ts) =
       token_cut b xs (61 ∷ bs) Symbol last at _ (piece_is bs)
       (λ l. token_cut 61 [] bs (Sign 61) l (walk at (b ∷ xs)) ts refl (λ k. subst (λ (p : Place). the_cut k p bs ≡ Ok ts) (places at) (e k))) in
       ap (λ (l : List ℕ). the_cut last at (b ∷ l)) (bytes bs) ∙ whole;
@@ -383,14 +383,14 @@ no_jump = record {
 jumping : (c d n : ℕ) → ((bs : List ℕ) → piece (74 ∷ c ∷ d ∷ 10 ∷ bs) ≡ word_of Symbol 2 (74 ∷ c ∷ d ∷ 10 ∷ bs)) → role_of (74 ∷ c ∷ d ∷ []) ≡ role.Jump n → n % 8 ≡ n → Jumps n (59 ∷ 74 ∷ c ∷ d ∷ [])
 jumping c d n piece_is role_is small = record {
   spelled = Some n;
-  tokens = λ at ts. sign_token 59 at ∷ made Symbol (74 ∷ c ∷ d ∷ []) (walk at (59 ∷ [])) ∷ ts;
+  tokens = λ at ts. sign_token 59 at ∷ made_word Symbol (74 ∷ c ∷ d ∷ []) (walk at (59 ∷ [])) ∷ ts;
   apart = λ bs. record { symbol = refl; number = refl };
   cut = λ last at bs ts e.
       token_cut 59 [] (74 ∷ c ∷ d ∷ 10 ∷ bs) (Sign 59) last at _ refl
       (λ l. token_cut 74 (c ∷ d ∷ []) (10 ∷ bs) Symbol l (walk at (59 ∷ [])) ts (piece_is bs) e);
   shut = λ at ended_at us. record { operators = λ x. refl; equals = λ x. no_equals x (sign_token 59 at) _ refl };
   reads = λ end at ended_at us.
-      subst (λ (s : Said). R end (option jump) (sign_token 59 at ∷ made Symbol (74 ∷ c ∷ d ∷ []) (walk at (59 ∷ [])) ∷ line_end_token ended_at ∷ us) (Present (Pair Skip (Leaf s))) (line_end_token ended_at ∷ us))
+      subst (λ (s : Said). R end (option jump) (sign_token 59 at ∷ made_word Symbol (74 ∷ c ∷ d ∷ []) (walk at (59 ∷ [])) ∷ line_end_token ended_at ∷ us) (Present (Pair Skip (Leaf s))) (line_end_token ended_at ∷ us))
       (ap role_said role_is) (taken refl (both (marked refl) (worded (ap jump_role role_is) refl)));
   short = omega arith;
   bits_are = small;

@@ -4,7 +4,7 @@ use Rattle.scan_text.specs.declared.Place.{Place}
 use Rattle.hack_asm.specs.declared.lines.Compute.{Compute}
 use Rattle.hack_asm.specs.Faults.{Wrong, TooLarge}
 use Rattle.hack_asm.specs.Trees.{Line, Item, number, address, compute}
-use Rattle.hack_asm.specs.Program.{Table, compute_word, labels, labelled, size, first_past, if_near, variables, with_variables, words, program}
+use Rattle.hack_asm.specs.Program.{Table, compute_word, labels, label_values, size, first_past, if_near, variables, with_variables, words, program}
 
 -- an instruction that uses no symbol
 pub data Direct : Type 0 where
@@ -51,7 +51,7 @@ pub direct_program : (xs : List Direct) → length xs ≤ 32768 → program (dir
 direct_program xs few =
     let ls : List Line = direct_lines xs in
     let size_is = direct_size xs in
-    ap (λ (t : Result Table Wrong). labelled t ls) (no_labels xs 0 [])
+    ap (λ (t : Result Table Wrong). label_values t ls) (no_labels xs 0 [])
     ∙ ap (λ (b : Bool). cond b (Err (TooLarge (size ls))) (if_near (first_past [] ls) [] ls)) (le-ltb 32768 (size ls) (omega (arith, size_is, few)))
     ∙ ap (λ (o : Option Place). if_near o [] ls) (none_past xs)
     ∙ ap (λ (t : Table). with_variables [] t ls) (no_variables xs)

@@ -3,10 +3,10 @@ use Rattle.std.proofs.Common.{◌≡◌, ℕ, suc, ◌+◌, ◌*◌, ◌-◌, �
 use Rattle.std.specs.Prelude.{◌&&◌, ◌||◌, ◌==◌, nat_lt, nat_le, decimal as numeral}
 use Rattle.std.proofs.lemmas.Fmt.{decimal_by_steps}
 use Rattle.scan_text.specs.declared.Place.{Place}
-use Rattle.scan_text.specs.Text.{step, walk, front, is_digit, digits, decimal, capped}
+use Rattle.scan_text.specs.Text.{step, walk, front, is_digit, digits, decimal, capped_count}
 use Rattle.grammar.specs.declared.Fault.{Fault}
 use Rattle.grammar.specs.declared.Fault.TheVariants.{Range}
-use Rattle.grammar.specs.Cutting.{Piece, Wrong, cut, cut_by, followed}
+use Rattle.grammar.specs.Cutting.{Piece, Wrong, cut, cut_by, with_token}
 use Rattle.grammar.proofs.LinePieces.{cut_past}
 use Rattle.hack_asm.specs.declared.token.Kind.{Kind}
 use Rattle.hack_asm.specs.declared.token.Kind.TheVariants.{Sign, Number, Symbol}
@@ -14,7 +14,7 @@ use Rattle.hack_asm.specs.declared.token.Letter.{Letter}
 use Rattle.hack_asm.specs.declared.token.Letter.TheVariants.{Zero, One, A, D, M}
 use Rattle.hack_asm.specs.declared.token.Operator.{Operator}
 use Rattle.hack_asm.specs.declared.token.Operator.TheVariants.{Plus, Minus, And, Or}
-use Rattle.hack_asm.specs.Tokens.{Word, made, word_of, line_end_token, piece, number_piece, close, is_symbol_byte}
+use Rattle.hack_asm.specs.Tokens.{Word, made_word, word_of, line_end_token, piece, number_piece, close, is_symbol_byte}
 
 abbrev pub the_cut : Option Word → Place → List ℕ → Result (List Word) Fault
 the_cut last at bs = cut piece close last 0 at bs
@@ -25,17 +25,17 @@ take_own [] (r ∷ rest) = refl
 take_own (x ∷ xs) rest = ap (λ (l : List ℕ). x ∷ l) (take_own xs rest)
 
 -- a token, and the tokens of the rest
-pub token_cut : (b : ℕ) (xs rest : List ℕ) (kind : Kind) (last : Option Word) (at : Place) (ts : List Word) → piece (b ∷ (xs ++ rest)) ≡ word_of kind (length xs) (b ∷ (xs ++ rest)) → ((l : Option Word) → the_cut l (walk at (b ∷ xs)) rest ≡ Ok ts) → the_cut last at (b ∷ (xs ++ rest)) ≡ Ok (made kind (b ∷ xs) at ∷ ts)
+pub token_cut : (b : ℕ) (xs rest : List ℕ) (kind : Kind) (last : Option Word) (at : Place) (ts : List Word) → piece (b ∷ (xs ++ rest)) ≡ word_of kind (length xs) (b ∷ (xs ++ rest)) → ((l : Option Word) → the_cut l (walk at (b ∷ xs)) rest ≡ Ok ts) → the_cut last at (b ∷ (xs ++ rest)) ≡ Ok (made_word kind (b ∷ xs) at ∷ ts)
 token_cut b xs rest kind last at ts e h =
     let text : take (suc (length xs)) (b ∷ (xs ++ rest)) ≡ b ∷ xs = ap (λ (l : List ℕ). b ∷ l) (take_own xs rest) in
     ap (λ (p : Piece Word). cut_by p last at (λ l n. cut piece close l n (step at b) (xs ++ rest))) e
-    ∙ ap (λ (t : List ℕ). followed (made kind t at) (cut piece close (Some (made kind t at)) (length xs) (step at b) (xs ++ rest))) text
-    ∙ ap (followed (made kind (b ∷ xs) at)) (cut_past piece close xs rest (Some (made kind (b ∷ xs) at)) (step at b) ∙ h (Some (made kind (b ∷ xs) at)))
+    ∙ ap (λ (t : List ℕ). with_token (made_word kind t at) (cut piece close (Some (made_word kind t at)) (length xs) (step at b) (xs ++ rest))) text
+    ∙ ap (with_token (made_word kind (b ∷ xs) at)) (cut_past piece close xs rest (Some (made_word kind (b ∷ xs) at)) (step at b) ∙ h (Some (made_word kind (b ∷ xs) at)))
 
 -- Line ends
 
 pub line_end_cut : (last : Option Word) (at : Place) (bs : List ℕ) (ts : List Word) → the_cut (Some (line_end_token at)) (step at 10) bs ≡ Ok ts → the_cut last at (10 ∷ bs) ≡ Ok (line_end_token at ∷ ts)
-line_end_cut last at bs ts e = ap (followed (line_end_token at)) e
+line_end_cut last at bs ts e = ap (with_token (line_end_token at)) e
 
 -- Letters and operators
 
@@ -59,11 +59,11 @@ letter_kind D = Symbol
 letter_kind M = Symbol
 
 abbrev pub letter_token : Letter → Place → Word
-letter_token x at = made (letter_kind x) (letter_byte x ∷ []) at
+letter_token x at = made_word (letter_kind x) (letter_byte x ∷ []) at
 
 -- the piece of a number by its digits
 abbrev piece_of : List ℕ → List ℕ → Piece Word
-piece_of ds bs = cond (nat_lt 32767 (capped (decimal 0 ds))) (Wrong (λ at. Range at (min (capped (decimal 0 ds)) 1000000000))) (word_of (Number (capped (decimal 0 ds))) (length ds - 1) bs)
+piece_of ds bs = cond (nat_lt 32767 (capped_count (decimal 0 ds))) (Wrong (λ at. Range at (min (capped_count (decimal 0 ds)) 1000000000))) (word_of (Number (capped_count (decimal 0 ds))) (length ds - 1) bs)
 
 letter_piece : (x : Letter) (bs : List ℕ) → Apart bs → piece (letter_byte x ∷ bs) ≡ word_of (letter_kind x) 0 (letter_byte x ∷ bs)
 letter_piece Zero bs h = ap (λ (l : List ℕ). piece_of (48 ∷ l) (48 ∷ bs)) h.number
@@ -76,7 +76,7 @@ pub letter_cut : (x : Letter) (bs : List ℕ) (last : Option Word) (at : Place) 
 letter_cut x bs last at ts a e = token_cut (letter_byte x) [] bs (letter_kind x) last at ts (letter_piece x bs a) e
 
 abbrev pub sign_token : ℕ → Place → Word
-sign_token b at = made (Sign b) (b ∷ []) at
+sign_token b at = made_word (Sign b) (b ∷ []) at
 
 abbrev pub operator_byte : Operator → ℕ
 operator_byte Plus = 43
@@ -144,11 +144,11 @@ not_blank d low = ap (λ (x : Bool). x || d == 9) (ne_eqb d 32 (λ e. absurd (om
 number_begins : (d : ℕ) (bs : List ℕ) → 48 ≤ d → d ≤ 57 → piece (d ∷ bs) ≡ number_piece (d ∷ bs)
 number_begins d bs low high = rw (not_blank d low, digit_test d low high) refl
 
-number_by : (n : ℕ) (ds : List ℕ) (last : Option Word) (at : Place) (bs : List ℕ) (ts : List Word) → n ≤ 32767 → Numeral n ds → ((l : Option Word) → the_cut l (walk at ds) (10 ∷ bs) ≡ Ok ts) → the_cut last at (ds ++ 10 ∷ bs) ≡ Ok (made (Number n) ds at ∷ ts)
+number_by : (n : ℕ) (ds : List ℕ) (last : Option Word) (at : Place) (bs : List ℕ) (ts : List Word) → n ≤ 32767 → Numeral n ds → ((l : Option Word) → the_cut l (walk at ds) (10 ∷ bs) ≡ Ok ts) → the_cut last at (ds ++ 10 ∷ bs) ≡ Ok (made_word (Number n) ds at ∷ ts)
 number_by n [] last at bs ts small r e = absurd (omega (arith, r.some))
 number_by n (d ∷ ds) last at bs ts small r e =
     let text : List ℕ = d ∷ (ds ++ 10 ∷ bs) in
-    let value : capped (decimal 0 (d ∷ ds)) ≡ n = omega (arith, r.value) in
+    let value : capped_count (decimal 0 (d ∷ ds)) ≡ n = omega (arith, r.value) in
     let size : length (d ∷ ds) - 1 ≡ length ds = omega arith in
     token_cut d ds (10 ∷ bs) (Number n) last at ts
     (number_begins d (ds ++ 10 ∷ bs) r.are.0 r.are.1
@@ -159,5 +159,5 @@ number_by n (d ∷ ds) last at bs ts small r e =
     e
 
 -- the number of an address
-pub number_cut : (n : ℕ) (last : Option Word) (at : Place) (bs : List ℕ) (ts : List Word) → n < 32768 → ((l : Option Word) → the_cut l (walk at (numeral n)) (10 ∷ bs) ≡ Ok ts) → the_cut last at (numeral n ++ 10 ∷ bs) ≡ Ok (made (Number n) (numeral n) at ∷ ts)
+pub number_cut : (n : ℕ) (last : Option Word) (at : Place) (bs : List ℕ) (ts : List Word) → n < 32768 → ((l : Option Word) → the_cut l (walk at (numeral n)) (10 ∷ bs) ≡ Ok ts) → the_cut last at (numeral n ++ 10 ∷ bs) ≡ Ok (made_word (Number n) (numeral n) at ∷ ts)
 number_cut n last at bs ts small e = number_by n (numeral n) last at bs ts (omega arith) (spelled n (omega arith)) e

@@ -97,16 +97,16 @@ spelling (comp.Pair x op y) = letter_text x ++ (operator_text op ++ letter_text 
 spelling (comp.Under p y) = prefix_text p ++ letter_text y
 
 -- the two sides of `+`, `&` and `|` exchanged, as they may be
-abbrev pub exchanged : Comp → Comp
-exchanged (comp.Pair x Plus y) = comp.Pair y Plus x
-exchanged (comp.Pair x And y) = comp.Pair y And x
-exchanged (comp.Pair x Or y) = comp.Pair y Or x
-exchanged c = c
+abbrev pub with_operands_exchanged : Comp → Comp
+with_operands_exchanged (comp.Pair x Plus y) = comp.Pair y Plus x
+with_operands_exchanged (comp.Pair x And y) = comp.Pair y And x
+with_operands_exchanged (comp.Pair x Or y) = comp.Pair y Or x
+with_operands_exchanged c = c
 
 -- the row whose text it is, as it is written or with its sides exchanged
-abbrev pub found : Comp → Option Row
-found c = option_or (row_of (spelling c)) (row_of (spelling (exchanged c)))
+abbrev pub find_row : Comp → Option Row
+find_row c = option_or (row_of (spelling c)) (row_of (spelling (with_operands_exchanged c)))
 
 -- What a computation means: its row. (Each that a text spells has one, by a law.)
 abbrev pub meaning : Comp → Row
-meaning c = unwrap_or (found c) (false, 0)
+meaning c = unwrap_or (find_row c) (false, 0)

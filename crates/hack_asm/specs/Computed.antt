@@ -11,7 +11,7 @@ use Rattle.hack_asm.specs.declared.lines.Prefix.{Prefix}
 use Rattle.hack_asm.specs.declared.lines.Prefix.TheVariants as prefix
 use Rattle.hack_asm.specs.declared.lines.Comp.{Comp}
 use Rattle.hack_asm.specs.declared.lines.Comp.TheVariants as comp
-use Rattle.hack_asm.specs.Comps.{Row, found}
+use Rattle.hack_asm.specs.Comps.{Row, find_row}
 
 -- what D, A and M hold
 pub record Held : Type 0 where
@@ -36,10 +36,10 @@ abbrev pub prefix_value : Prefix → ℕ → ℕ
 prefix_value prefix.Minus x = word_neg x
 prefix_value prefix.Not x = word_not x
 
-abbrev pub computed : Held → Comp → ℕ
-computed h (comp.Alone x) = letter_value h x
-computed h (comp.Pair x op y) = operator_value op (letter_value h x) (letter_value h y)
-computed h (comp.Under p y) = prefix_value p (letter_value h y)
+abbrev pub computed_value : Held → Comp → ℕ
+computed_value h (comp.Alone x) = letter_value h x
+computed_value h (comp.Pair x op y) = operator_value op (letter_value h x) (letter_value h y)
+computed_value h (comp.Under p y) = prefix_value p (letter_value h y)
 
 -- they hold words
 pub record AreWords (h : Held) : Type 0 where
@@ -50,8 +50,8 @@ pub record AreWords (h : Held) : Type 0 where
 -- For the six bits of a row the ALU gives, from D and from A, or from M where the bit a is 1, what the text says.
 abbrev pub Computes : Comp → Option Row → Type 0
 Computes c None = Unit {0}
-Computes c (Some row) = (h : Held) → AreWords h → alu_out row.1 h.d (if row.0 then h.m else h.a) ≡ computed h c
+Computes c (Some row) = (h : Held) → AreWords h → alu_out row.1 h.d (if row.0 then h.m else h.a) ≡ computed_value h c
 
 -- The law of rows: so it is for each computation that has one.
 abbrev pub RowsCompute : Type 0
-RowsCompute = (c : Comp) → Computes c (found c)
+RowsCompute = (c : Comp) → Computes c (find_row c)

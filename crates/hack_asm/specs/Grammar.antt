@@ -96,8 +96,8 @@ role_said role.Plain = LineEnd
 abbrev pub number : Word → Said
 number t = number_said t.kind
 
-abbrev pub meant : Word → Said
-meant t = role_said t.role
+abbrev pub word_meaning : Word → Said
+word_meaning t = role_said t.role
 
 abbrev pub name : Word → Said
 name t = Name t.text t.place
@@ -192,13 +192,13 @@ letter x = mark (Letter' x) (is_letter (is x))
 
 -- a letter of which this holds
 abbrev pub some_letter : (Letter → Bool) → Part
-some_letter p = word (is_letter p) free meant
+some_letter p = word (is_letter p) free word_meaning
 
 -- what may stand behind a letter: an operator and a letter
 abbrev pub operation : Letter → Part
 operation x = choice
-    (seq (word (is_operator (adds x)) free meant) (some_letter (sums x)))
-    (seq (word (is_operator (meets x)) free meant) (some_letter (joins x)))
+    (seq (word (is_operator (adds x)) free word_meaning) (some_letter (sums x)))
+    (seq (word (is_operator (meets x)) free word_meaning) (some_letter (joins x)))
 
 -- one of the letters, and what stands behind it
 abbrev pub by_letter : (Letter → Part) → Part → Part
@@ -231,14 +231,14 @@ abbrev pub after_letter : Letter → Part
 after_letter x = option (choice (assignment x) (operation x))
 
 -- a computation, with or without its destination: which it is shows only behind the first letter
-abbrev pub assigned : Part
-assigned = choice (seq (word is_several free meant) (seq (sign 61) comp)) (by_letter after_letter unary)
+abbrev pub assignment_part : Part
+assignment_part = choice (seq (word is_several free word_meaning) (seq (sign 61) comp)) (by_letter after_letter unary)
 
 abbrev pub jump : Part
-jump = seq (sign 59) (word is_jump free meant)
+jump = seq (sign 59) (word is_jump free word_meaning)
 
 abbrev pub compute : Part
-compute = seq assigned (option jump)
+compute = seq assignment_part (option jump)
 
 abbrev pub address : Part
 address = seq (sign 64) (choice (word is_number free number) symbol)

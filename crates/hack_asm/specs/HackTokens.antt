@@ -11,8 +11,8 @@ use Rattle.hack_asm.specs.declared.hack_tokens.Kind.TheVariants.{Digit, LineEnd}
 use Rattle.hack_asm.specs.declared.hack_tokens.Token as declared
 
 -- a token of a kind, at a place
-abbrev pub made : Kind → Place → declared.Token
-made kind at = record { kind = kind; place = at }
+abbrev pub made_token : Kind → Place → declared.Token
+made_token kind at = record { kind = kind; place = at }
 
 -- the tokens of the code are those of the definition
 abbrev pub Word : Type 0
@@ -23,14 +23,14 @@ view t = t
 
 -- the line end at a place
 abbrev pub line_end_token : Place → declared.Token
-line_end_token = made LineEnd
+line_end_token = made_token LineEnd
 
 -- what begins at the first byte: each digit is a token of its own, and there are no blanks
 abbrev pub piece_at : Option ℕ → List ℕ → Piece declared.Token
 piece_at None bs = Passed 0
 piece_at (Some b) bs =
-    if b == 48 then Token (made (Digit false)) 0
-    else (if b == 49 then Token (made (Digit true)) 0
+    if b == 48 then Token (made_token (Digit false)) 0
+    else (if b == 49 then Token (made_token (Digit true)) 0
     else line_end_piece line_end_token bs)
 
 abbrev pub piece : List ℕ → Piece declared.Token

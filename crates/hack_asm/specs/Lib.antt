@@ -13,7 +13,7 @@ pub mod HackTokens
 pub mod HackText
 pub mod Written
 pub mod Inner
-pub mod Told
+pub mod Messages
 pub mod Computed
 pub mod OneToken
 pub mod OneHackToken

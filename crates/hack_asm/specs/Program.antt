@@ -58,8 +58,8 @@ abbrev pub address_among : Table → List ℕ → Option ℕ
 address_among [] name = None
 address_among (e ∷ es) name = if bytes_eq e.0 name then Some e.1 else address_among es name
 
-abbrev pub predefined : List ℕ → Option ℕ
-predefined name = address_among predefined_symbols name
+abbrev pub predefined_value : List ℕ → Option ℕ
+predefined_value name = address_among predefined_symbols name
 
 -- the address of a symbol that is predefined or entered
 abbrev pub or_entry : Option ℕ → Option ℕ → Option ℕ
@@ -67,7 +67,7 @@ or_entry (Some n) m = Some n
 or_entry None m = m
 
 abbrev pub address_in : Table → List ℕ → Option ℕ
-address_in table name = or_entry (predefined name) (entry_of table name)
+address_in table name = or_entry (predefined_value name) (entry_of table name)
 
 abbrev pub with_entry : Table → List ℕ → ℕ → Table
 with_entry table name n = table ++ (name, n) ∷ []
@@ -96,12 +96,12 @@ size [] = 0
 size (l ∷ ls) = (if is_instruction l then 1 else 0) + size ls
 
 -- the symbol that a line uses
-abbrev pub used : Line → Option Symbol
-used None = None
-used (Some (label s)) = None
-used (Some (address (number n))) = None
-used (Some (address (symbol s))) = Some s
-used (Some (compute c)) = None
+abbrev pub used_symbol : Line → Option Symbol
+used_symbol None = None
+used_symbol (Some (label s)) = None
+used_symbol (Some (address (number n))) = None
+used_symbol (Some (address (symbol s))) = Some s
+used_symbol (Some (compute c)) = None
 
 -- the first use of a label that stands behind all 32,768 words
 abbrev pub is_past : Option ℕ → Bool
@@ -114,7 +114,7 @@ past_use table (Some s) later = if is_past (entry_of table s.name) then Some s.p
 
 abbrev pub first_past : Table → List Line → Option Place
 first_past table [] = None
-first_past table (l ∷ ls) = past_use table (used l) (first_past table ls)
+first_past table (l ∷ ls) = past_use table (used_symbol l) (first_past table ls)
 
 -- The variables: symbols that are neither predefined nor entered get the next address, in order of first use.
 abbrev pub enter_variable : Option Symbol → ℕ → Table → (ℕ → Table → Table) → Table
@@ -123,7 +123,7 @@ enter_variable (Some s) next table go = if is_some (address_in table s.name) the
 
 abbrev pub variables : ℕ → Table → List Line → Table
 variables next table [] = table
-variables next table (l ∷ ls) = enter_variable (used l) next table (λ n t. variables n t ls)
+variables next table (l ∷ ls) = enter_variable (used_symbol l) next table (λ n t. variables n t ls)
 
 -- an address has fifteen bits
 abbrev pub address_word : Option ℕ → ℕ
@@ -156,9 +156,9 @@ abbrev pub if_near : Option Place → Table → List Line → Result (List ℕ) 
 if_near (Some at) table ls = Err (Range at 32768)
 if_near None table ls = with_variables table (variables 16 table ls) ls
 
-abbrev pub labelled : Result Table Wrong → List Line → Result (List ℕ) Wrong
-labelled (Err w) ls = Err w
-labelled (Ok table) ls = if nat_lt image_words (size ls) then Err (TooLarge (size ls)) else if_near (first_past table ls) table ls
+abbrev pub label_values : Result Table Wrong → List Line → Result (List ℕ) Wrong
+label_values (Err w) ls = Err w
+label_values (Ok table) ls = if nat_lt image_words (size ls) then Err (TooLarge (size ls)) else if_near (first_past table ls) table ls
 
 abbrev pub program : List Line → Result (List ℕ) Wrong
-program ls = labelled (labels 0 [] ls) ls
+program ls = label_values (labels 0 [] ls) ls

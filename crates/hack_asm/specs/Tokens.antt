@@ -3,7 +3,7 @@
 use Rattle.std.specs.Prelude.{ℕ, suc, ◌-◌, Bool, true, false, List, [], Option, Some, None, Result, ◌==◌, ◌||◌, if◌then◌else◌, length, take, nat_lt, min}
 use Rattle.std.specs.Char.{is_ascii_alphabetic}
 use Rattle.scan_text.specs.declared.Place.{Place}
-use Rattle.scan_text.specs.Text.{start, walk, first, front, is_digit, digits, decimal, capped}
+use Rattle.scan_text.specs.Text.{start, walk, first, front, is_digit, digits, decimal, capped_count}
 use Rattle.grammar.specs.declared.Fault.{Fault}
 use Rattle.grammar.specs.declared.Fault.TheVariants.{Range}
 use Rattle.grammar.specs.Cutting.{Piece, Passed, Token, Wrong, cut_text}
@@ -37,17 +37,17 @@ abbrev pub is_sign : ℕ → Bool
 is_sign b = b == 64 || b == 40 || b == 41 || b == 61 || b == 59 || b == 43 || b == 45 || b == 33 || b == 38 || b == 124
 
 -- a token of a kind and these bytes
-abbrev pub made : Kind → List ℕ → Place → Word
-made kind text at = record { kind = kind; role = role_of text; text = text; place = at }
+abbrev pub made_word : Kind → List ℕ → Place → Word
+made_word kind text at = record { kind = kind; role = role_of text; text = text; place = at }
 
 -- a token of the n + 1 bytes at the front
 abbrev pub word_of : Kind → ℕ → List ℕ → Piece Word
-word_of kind n bs = Token (made kind (take (suc n) bs)) n
+word_of kind n bs = Token (made_word kind (take (suc n) bs)) n
 
 -- decimal digits, a number of at most 32,767
 abbrev pub number_piece : List ℕ → Piece Word
 number_piece bs =
-    let n = capped (decimal 0 (digits bs)) in
+    let n = capped_count (decimal 0 (digits bs)) in
     if nat_lt 32767 n then Wrong (λ at. Range at (min n 1000000000)) else word_of (Number n) (length (digits bs) - 1) bs
 
 abbrev pub symbol_piece : List ℕ → Piece Word
@@ -55,7 +55,7 @@ symbol_piece bs = word_of Symbol (length (front is_symbol_byte bs) - 1) bs
 
 -- the line end at a place
 abbrev pub line_end_token : Place → Word
-line_end_token = made LineEnd []
+line_end_token = made_word LineEnd []
 
 -- what begins at the first byte
 abbrev pub piece_at : Option ℕ → List ℕ → Piece Word

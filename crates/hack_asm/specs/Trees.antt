@@ -2,7 +2,7 @@
 use Rattle.std.specs.Prelude.{ℕ, List, Option, Some, None, option_map}
 use Rattle.scan_text.specs.declared.Place.{Place}
 use Rattle.grammar.specs.declared.Fault.{Fault}
-use Rattle.grammar.specs.Rules.{Tree, Skip, Leaf, Pair, Left, Right, Absent, Present, NoMore, listed}
+use Rattle.grammar.specs.Rules.{Tree, Skip, Leaf, Pair, Left, Right, Absent, Present, NoMore, tree_of_list}
 use Rattle.grammar.specs.Texts.{Spelled, Refused}
 use Rattle.hack_asm.specs.Tokens.{tokens_of, finish}
 use Rattle.hack_asm.specs.Grammar.{Said, Letter', Operator', Several, Jump, Number, Name, assembly, whole}
@@ -120,7 +120,7 @@ line_tree None = Left Skip
 line_tree (Some i) = Right (Pair (item_tree i) Skip)
 
 abbrev pub lines_tree : List Line → AsmTree
-lines_tree ls = listed line_tree ls NoMore
+lines_tree ls = tree_of_list line_tree ls NoMore
 
 abbrev pub text_tree : List Line → AsmTree
 text_tree ls = Pair (lines_tree ls) Skip

@@ -1,10 +1,10 @@
 ghost use Rattle.std.specs.Prelude.{◌≡◌};
 ghost use Rattle.hack_asm.specs.Faults.{asm_fault};
-ghost use Rattle.hack_asm.specs.Told.{asm_told};
+ghost use Rattle.hack_asm.specs.Messages.{asm_message};
 ghost use Rattle.hack_asm.specs.declared.fault.AsmFault.TheVariants.{Memory};
 
 use grammar::{Fault, ReadError};
-use outer_world::{Detail, Told};
+use outer_world::{Detail, Diagnostic};
 use scan_text::Place;
 use std::alloc::{AllocError, AllocFailed};
 use thiserror::Error;
@@ -33,20 +33,20 @@ pub enum AsmFault {
 
 impl AsmFault {
     /// What the fault tells. Want of memory tells nothing.
-    pub fn told(self) -> Option<Told>
-        ensures { result ≡ asm_told self }
+    pub fn diagnostic(self) -> Option<Diagnostic>
+        ensures { result ≡ asm_message self }
     {
         match self {
-            AsmFault::Grammar(at) => Some(Fault::Grammar(at).told()),
-            AsmFault::Range(at, value) => Some(Fault::Range(at, value).told()),
+            AsmFault::Grammar(at) => Some(Fault::Grammar(at).diagnostic()),
+            AsmFault::Range(at, value) => Some(Fault::Range(at, value).diagnostic()),
             AsmFault::LabelTwice(name, at) => {
-                Some(Told::at(at.line, at.column, "LabelTwice", Detail::Name(name)))
+                Some(Diagnostic::at(at.line, at.column, "LabelTwice", Detail::Name(name)))
             }
             AsmFault::TooLarge(words) => {
-                Some(Told::nowhere("TooLarge", Detail::Number(words as u64)))
+                Some(Diagnostic::nowhere("TooLarge", Detail::Number(words as u64)))
             }
             AsmFault::TooManyVariables(count) => {
-                Some(Told::nowhere("TooManyVariables", Detail::Number(count as u64)))
+                Some(Diagnostic::nowhere("TooManyVariables", Detail::Number(count as u64)))
             }
             AsmFault::Memory => None,
         }

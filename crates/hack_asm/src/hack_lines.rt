@@ -4,7 +4,7 @@ ghost use Rattle.std.specs.Prelude.{◌≡◌, ◌<◌, length, IfOk};
 ghost use Rattle.grammar.specs.Reading.{Parses, Passes, Gives, word_at, mark_at, end_at, Ends, ParsesAll};
 ghost use Rattle.grammar.specs.Rules.{Pair, next};
 ghost use Rattle.hack_asm.specs.HackTokens.{ends_line};
-ghost use Rattle.hack_asm.specs.HackText.{has_digit, begins_line, free, said, hack, digit, line_end, four, sixteen, line, lines, whole, digit_tree, four_tree, word_tree, line_tree, lines_tree, text_tree, IsLine, AreLines};
+ghost use Rattle.hack_asm.specs.HackText.{has_digit, begins_line, free, said_kind, hack, digit, line_end, four, sixteen, line, lines, whole, digit_tree, four_tree, word_tree, line_tree, lines_tree, text_tree, IsLine, AreLines};
 
 use crate::hack_tokens::{Kind, Token};
 use grammar::{Fault, ReadError};
@@ -22,7 +22,7 @@ fn grammar_fault(place: Place) -> ReadError
 }
 
 fn digit_at(tokens: &[Token], end: Place) -> Result<(bool, &[Token]), ReadError>
-    ensures { Gives (λ x. (Kind.Digit x.0, tt, x.1.now)) result (word_at (hack end) has_digit free said tt tokens.now) }
+    ensures { Gives (λ x. (Kind.Digit x.0, tt, x.1.now)) result (word_at (hack end) has_digit free said_kind tt tokens.now) }
 {
     let Some((token, rest)) = tokens.split_first() else {
         return Err(grammar_fault(end));

@@ -2,11 +2,11 @@
 
 ghost use Rattle.std.specs.Prelude.{◌≡◌, Some, Result, IfOk};
 ghost use Rattle.scan_text.specs.Text.{first};
-ghost use Rattle.scan_text.specs.View.{left};
+ghost use Rattle.scan_text.specs.View.{left_bytes};
 ghost use Rattle.grammar.specs.Cutting.{NextBy};
 ghost use Rattle.grammar.specs.Cutting.{Token as Cut};
 ghost use Rattle.grammar.specs.Reading.{Gives};
-ghost use Rattle.hack_asm.specs.HackTokens.{view, tokens_of, finish, made};
+ghost use Rattle.hack_asm.specs.HackTokens.{view, tokens_of, finish, made_token};
 
 use grammar::{Fault, LineCutter, LineToken, ReadError, cut_lines, line_end};
 use scan_text::{Place, Scan};
@@ -27,8 +27,8 @@ pub struct Token {
 }
 
 fn digit(scan: &mut Scan, byte: u8, bit: bool) -> Result<Option<Token>, Fault>
-    requires { first (left scan.old) ≡ Some byte }
-    ensures { NextBy view (Cut (made (Kind.Digit bit)) 0) scan.old result scan.new }
+    requires { first (left_bytes scan.old) ≡ Some byte }
+    ensures { NextBy view (Cut (made_token (Kind.Digit bit)) 0) scan.old result scan.new }
 {
     let place = scan.place();
     scan.skip(1);

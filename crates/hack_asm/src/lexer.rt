@@ -2,7 +2,7 @@
 
 ghost use Rattle.std.specs.Prelude.{◌≡◌, true, map, Some, Result, IfOk};
 ghost use Rattle.scan_text.specs.Text.{first, is_digit};
-ghost use Rattle.scan_text.specs.View.{left};
+ghost use Rattle.scan_text.specs.View.{left_bytes};
 ghost use Rattle.grammar.specs.Cutting.{NextBy};
 ghost use Rattle.grammar.specs.Reading.{Gives};
 ghost use Rattle.hack_asm.specs.Roles.{role_of};
@@ -72,9 +72,9 @@ fn is_sign(b: u8) -> bool
 
 // A number, which is at most 32,767.
 fn number<'a>(scan: &mut Scan<'a>, byte: u8) -> Result<Option<Token<'a>>, Fault>
-    requires begun { first (left scan.old) ≡ Some byte }
+    requires begun { first (left_bytes scan.old) ≡ Some byte }
     requires digit { is_digit byte ≡ true }
-    ensures { NextBy view (number_piece (left scan.old)) scan.old result scan.new }
+    ensures { NextBy view (number_piece (left_bytes scan.old)) scan.old result scan.new }
 {
     let place = scan.place();
     let mut ahead = *scan;
@@ -96,9 +96,9 @@ fn number<'a>(scan: &mut Scan<'a>, byte: u8) -> Result<Option<Token<'a>>, Fault>
 }
 
 fn symbol<'a>(scan: &mut Scan<'a>, byte: u8) -> Result<Option<Token<'a>>, Fault>
-    requires begun { first (left scan.old) ≡ Some byte }
+    requires begun { first (left_bytes scan.old) ≡ Some byte }
     requires letter { is_letter byte ≡ true }
-    ensures { NextBy view (symbol_piece (left scan.old)) scan.old result scan.new }
+    ensures { NextBy view (symbol_piece (left_bytes scan.old)) scan.old result scan.new }
 {
     let place = scan.place();
     let text = scan.take_while(|b| is_symbol_byte(b));
@@ -112,8 +112,8 @@ fn symbol<'a>(scan: &mut Scan<'a>, byte: u8) -> Result<Option<Token<'a>>, Fault>
 }
 
 fn sign<'a>(scan: &mut Scan<'a>, byte: u8) -> Result<Option<Token<'a>>, Fault>
-    requires { first (left scan.old) ≡ Some byte }
-    ensures { NextBy view (word_of (Kind.Sign byte) 0 (left scan.old)) scan.old result scan.new }
+    requires { first (left_bytes scan.old) ≡ Some byte }
+    ensures { NextBy view (word_of (Kind.Sign byte) 0 (left_bytes scan.old)) scan.old result scan.new }
 {
     let place = scan.place();
     let text = scan.skip(1);

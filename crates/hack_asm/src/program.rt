@@ -8,7 +8,7 @@ ghost use Rattle.hack_asm.specs.Comps.{meaning};
 ghost use Rattle.hack_asm.specs.Inner.Rows.{alone_row, under_row, both_row, sum_row, difference_row, pair_row};
 ghost use Rattle.hack_asm.specs.Trees.{line_of, symbol_of};
 ghost use Rattle.hack_asm.specs.Inner.Steps.{enter_line, variable_line};
-ghost use Rattle.hack_asm.specs.Program.{register_bit, dest_bits, jump_bits, compute_word, size, first_past, is_past, address_word, labels, is_instruction, used, variables, word_in, words, program};
+ghost use Rattle.hack_asm.specs.Program.{register_bit, dest_bits, jump_bits, compute_word, size, first_past, is_past, address_word, labels, is_instruction, used_symbol, variables, word_in, words, program};
 
 use crate::fault::AsmFault;
 use crate::lines::{Address, Comp, Compute, Dest, Item, Prefix, Symbol};
@@ -210,7 +210,7 @@ fn size(lines: &[Option<Item>]) -> usize
 
 // The symbol that a line uses.
 fn used<'a>(line: &Option<Item<'a>>) -> Option<Symbol<'a>>
-    ensures { option_map symbol_of result ≡ used (line_of line.now) }
+    ensures { option_map symbol_of result ≡ used_symbol (line_of line.now) }
 {
     match line {
         Some(Item::Address(Address::Symbol(symbol))) => Some(*symbol),

@@ -3,7 +3,7 @@
 ghost use Rattle.std.specs.Prelude.{◌≡◌, map};
 ghost use Rattle.grammar.specs.Reading.{ParsesBy};
 ghost use Rattle.hack_asm.specs.Tokens.{view};
-ghost use Rattle.hack_asm.specs.Grammar.{assembly, unary, comp, by_letter, after_letter, assigned, compute, label, address, content, line};
+ghost use Rattle.hack_asm.specs.Grammar.{assembly, unary, comp, by_letter, after_letter, assignment_part, compute, label, address, content, line};
 ghost use Rattle.hack_asm.specs.Trees.{unary_tree, comp_tree, bare_tree, assigned_tree, compute_tree, symbol_of, address_of, address_tree, item_of, item_tree, line_of, line_tree};
 ghost use Rattle.hack_asm.specs.Before.{Operates};
 ghost use Rattle.grammar.specs.Rules.{Leaf, Pair, Skip};
@@ -87,7 +87,7 @@ fn assigned<'a>(
     tokens: &'a [Token<'a>],
     end: Place,
 ) -> Result<((Dest, Comp), &'a [Token<'a>]), ReadError>
-    ensures { ParsesBy view (assembly end) assigned (λ x. assigned_tree x.0 x.1) (λ _. tt) tt tokens.now result }
+    ensures { ParsesBy view (assembly end) assignment_part (λ x. assigned_tree x.0 x.1) (λ _. tt) tt tokens.now result }
 {
     if let Some((bits, rest)) = several(tokens) {
         let rest = sign(rest, end, b'=')?;

@@ -1,7 +1,7 @@
 //! The addresses of symbols.
 
 ghost use Rattle.std.specs.Prelude.{◌≡◌, ◌++◌, ◌∷◌, [], None, OnOk, length};
-ghost use Rattle.hack_asm.specs.Program.{predefined, entry_of, with_entry, address_in};
+ghost use Rattle.hack_asm.specs.Program.{predefined_value, entry_of, with_entry, address_in};
 ghost use Rattle.hack_asm.specs.Entered.{table_of};
 
 use indexmap::IndexMap;
@@ -9,7 +9,7 @@ use std::alloc::{AllocError, Global};
 use word16::{KEYBOARD, SCREEN};
 
 fn predefined(name: &[u8]) -> Option<usize>
-    ensures { result ≡ predefined name.now }
+    ensures { result ≡ predefined_value name.now }
 {
     match name {
         b"R0" => Some(0),

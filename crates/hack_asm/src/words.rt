@@ -4,7 +4,7 @@ ghost use Rattle.std.specs.Prelude.{◌≡◌, map, option_map};
 ghost use Rattle.grammar.specs.Reading.{ParsesBy, PassesBy, Gives, word_at, mark_at};
 ghost use Rattle.grammar.specs.Rules.{Leaf, next, word};
 ghost use Rattle.hack_asm.specs.Tokens.{view};
-ghost use Rattle.hack_asm.specs.Grammar.{assembly, Letter', Jump, Number, Name, is_sign, sign, is_line_end, line_end, is_symbol, symbol, name, is_number, number, is_jump, is_letter, some_letter, free, meant, is_register, adds, meets};
+ghost use Rattle.hack_asm.specs.Grammar.{assembly, Letter', Jump, Number, Name, is_sign, sign, is_line_end, line_end, is_symbol, symbol, name, is_number, number, is_jump, is_letter, some_letter, free, word_meaning, is_register, adds, meets};
 ghost use Rattle.hack_asm.specs.Before.{suits, letter_next, several_next, operator_next, assigns_next};
 
 use crate::lines::Symbol;
@@ -109,7 +109,7 @@ fn number_at<'a>(tokens: &'a [Token<'a>], end: Place) -> Result<(u16, &'a [Token
 }
 
 fn jump_at<'a>(tokens: &'a [Token<'a>], end: Place) -> Result<(u8, &'a [Token<'a>]), ReadError>
-    ensures { Gives (λ x. (Jump x.0, tt, map view x.1.now)) result (word_at (assembly end) is_jump free meant tt (map view tokens.now)) }
+    ensures { Gives (λ x. (Jump x.0, tt, map view x.1.now)) result (word_at (assembly end) is_jump free word_meaning tt (map view tokens.now)) }
 {
     let Some((token, rest)) = tokens.split_first() else {
         return Err(grammar_fault(end));
@@ -141,7 +141,7 @@ fn letter_at<'a>(
     end: Place,
     before: Before,
 ) -> Result<(Letter, &'a [Token<'a>]), ReadError>
-    ensures { Gives (λ x. (Letter' x.0, tt, map view x.1.now)) result (word_at (assembly end) (is_letter (suits before)) free meant tt (map view tokens.now)) }
+    ensures { Gives (λ x. (Letter' x.0, tt, map view x.1.now)) result (word_at (assembly end) (is_letter (suits before)) free word_meaning tt (map view tokens.now)) }
 {
     let Some((token, rest)) = tokens.split_first() else {
         return Err(grammar_fault(end));
@@ -172,7 +172,7 @@ pub fn number<'a>(tokens: &'a [Token<'a>], end: Place) -> Result<(u16, &'a [Toke
 }
 
 pub fn jump<'a>(tokens: &'a [Token<'a>], end: Place) -> Result<(u8, &'a [Token<'a>]), ReadError>
-    ensures { ParsesBy view (assembly end) (word is_jump free meant) (λ n. Leaf (Jump n)) (λ _. tt) tt tokens.now result }
+    ensures { ParsesBy view (assembly end) (word is_jump free word_meaning) (λ n. Leaf (Jump n)) (λ _. tt) tt tokens.now result }
 {
     jump_at(tokens, end)
 }

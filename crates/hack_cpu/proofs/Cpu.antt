@@ -7,7 +7,7 @@ use Rattle.hdl_tree.specs.declared.library.Entry.{Entry}
 use Rattle.hdl_tree.specs.Memory.{number, before}
 use Rattle.hdl_tree.specs.Chips.{Chips, end_of, find_chip, parts_of}
 use Rattle.hdl_tree.specs.Behaviour.{Histories, World, Works, IsBehaviour}
-use Rattle.chip_basic.specs.Hdl.{shipped, wire, wire_bit, part}
+use Rattle.chip_basic.specs.Hdl.{shipped_entry, wire, wire_bit, part}
 use Rattle.chip_basic.specs.Trees.{not_tree, and_tree, or_tree, mux16_tree}
 use Rattle.chip_basic.specs.Laws.{word}
 use Rattle.chip_basic.proofs.Inside.{PartOf, part_of, whole_joined}
@@ -47,37 +47,37 @@ pc_step reset reset' load load' inc x x' out e1 e2 e3 e4 = rw e3 (cc)
 abbrev alu_piece : Part
 alu_piece = part "ALU" (wire "x" "valueD" ∷ wire "y" "valueAOrM" ∷ wire_bit "zx" "instruction" 11 ∷ wire_bit "nx" "instruction" 10 ∷ wire_bit "zy" "instruction" 9 ∷ wire_bit "ny" "instruction" 8 ∷ wire_bit "f" "instruction" 7 ∷ wire_bit "no" "instruction" 6 ∷ wire "out" "result" ∷ wire "out" "outM" ∷ wire "zr" "isZero" ∷ wire "ng" "isNegative" ∷ [])
 
-module _ (world : World) (library : Chips) (has : HasComputerChips library) (n : ℕ) (w : List ℕ → Histories) (h : IsBehaviour world library (shipped cpu_tree) n w) where
+module _ (world : World) (library : Chips) (has : HasComputerChips library) (n : ℕ) (w : List ℕ → Histories) (h : IsBehaviour world library (shipped_entry cpu_tree) n w) where
   -- ---- in one cycle
   module _ (c : ℕ) (lt : c < n) where
-    piece : (i : ℕ) (part : Part) (inner : Entry) → slice_get (parts_of library (shipped cpu_tree)) i ≡ Some part → find_chip library part.chip ≡ Some inner → PartOf world c library w i part inner
-    piece i part inner e f = part_of world c library (shipped cpu_tree) w (h c lt) i part inner e f
+    piece : (i : ℕ) (part : Part) (inner : Entry) → slice_get (parts_of library (shipped_entry cpu_tree)) i ≡ Some part → find_chip library part.chip ≡ Some inner → PartOf world c library w i part inner
+    piece i part inner e f = part_of world c library (shipped_entry cpu_tree) w (h c lt) i part inner e f
 
     load_is : w [] (codes "loadsNumber") 0 c ≡ not (op w c 15)
     unfolding end_of cpu_tree not_tree
     load_is =
-        let p = piece 0 _ (shipped not_tree) refl has.memories.computing.basic.not in
+        let p = piece 0 _ (shipped_entry not_tree) refl has.memories.computing.basic.not in
         let j = p.outside.joined in
         cc (not_works world library has.memories.computing.basic c (λ path. w (0 ∷ path)) p.inside, j.0 0 (lit< tt), j.1.0 0 (lit< tt))
 
     load_a_is : w [] (codes "loadA") 0 c ≡ (not (op w c 15) || op w c 5)
     unfolding end_of cpu_tree or_tree
     load_a_is =
-        let p = piece 2 _ (shipped or_tree) refl has.memories.computing.basic.or in
+        let p = piece 2 _ (shipped_entry or_tree) refl has.memories.computing.basic.or in
         let j = p.outside.joined in
         cc (load_is, or_works world library has.memories.computing.basic c (λ path. w (2 ∷ path)) p.inside, j.0 0 (lit< tt), j.1.0 0 (lit< tt), j.1.1.0 0 (lit< tt))
 
     load_d_is : w [] (codes "loadD") 0 c ≡ (op w c 15 && op w c 4)
     unfolding end_of cpu_tree and_tree
     load_d_is =
-        let p = piece 5 _ (shipped and_tree) refl has.memories.computing.basic.and in
+        let p = piece 5 _ (shipped_entry and_tree) refl has.memories.computing.basic.and in
         let j = p.outside.joined in
         cc (and_works world library has.memories.computing.basic c (λ path. w (5 ∷ path)) p.inside, j.0 0 (lit< tt), j.1.0 0 (lit< tt), j.1.1.0 0 (lit< tt))
 
     write_is : w [] (codes "writeM") 0 c ≡ (op w c 15 && op w c 3)
     unfolding end_of cpu_tree and_tree
     write_is =
-        let p = piece 8 _ (shipped and_tree) refl has.memories.computing.basic.and in
+        let p = piece 8 _ (shipped_entry and_tree) refl has.memories.computing.basic.and in
         let j = p.outside.joined in
         cc (and_works world library has.memories.computing.basic c (λ path. w (8 ∷ path)) p.inside, j.0 0 (lit< tt), j.1.0 0 (lit< tt), j.1.1.0 0 (lit< tt))
 
@@ -85,50 +85,50 @@ module _ (world : World) (library : Chips) (has : HasComputerChips library) (n :
     next_a_is : word (w []) "nextA" c ≡ cond (not (op w c 15)) (word (w []) "instruction" c) (word (w []) "result" c)
     unfolding end_of cpu_tree mux16_tree
     next_a_is =
-        let p = piece 1 _ (shipped mux16_tree) refl has.memories.computing.basic.mux16 in
+        let p = piece 1 _ (shipped_entry mux16_tree) refl has.memories.computing.basic.mux16 in
         let j = p.outside.joined in
-        let a = number_same 16 _ _ (λ k le. whole_joined c (shipped mux16_tree) (w []) (w (1 ∷ [])) (codes "a") (codes "result") j.0 k le) in
-        let b = number_same 16 _ _ (λ k le. whole_joined c (shipped mux16_tree) (w []) (w (1 ∷ [])) (codes "b") (codes "instruction") j.1.0 k le) in
+        let a = number_same 16 _ _ (λ k le. whole_joined c (shipped_entry mux16_tree) (w []) (w (1 ∷ [])) (codes "a") (codes "result") j.0 k le) in
+        let b = number_same 16 _ _ (λ k le. whole_joined c (shipped_entry mux16_tree) (w []) (w (1 ∷ [])) (codes "b") (codes "instruction") j.1.0 k le) in
         let s : w (1 ∷ []) (codes "sel") 0 c ≡ not (op w c 15) = j.1.1.0 0 (lit< tt) ∙ load_is in
-        let o = number_same 16 _ _ (λ k le. whole_joined c (shipped mux16_tree) (w []) (w (1 ∷ [])) (codes "out") (codes "nextA") j.1.1.1.0 k le) in
+        let o = number_same 16 _ _ (λ k le. whole_joined c (shipped_entry mux16_tree) (w []) (w (1 ∷ [])) (codes "out") (codes "nextA") j.1.1.1.0 k le) in
         sym o ∙ mux16_works world library has.memories.computing.basic c (λ path. w (1 ∷ path)) p.inside ∙ ap (λ x. cond x (word (w (1 ∷ [])) "b" c) (word (w (1 ∷ [])) "a" c)) s ∙ ap₂ (λ x y. cond (not (op w c 15)) x y) b a
 
     value_a_is : word (w []) "valueA" c ≡ a_held w c
     unfolding end_of cpu_tree a_register_tree
     value_a_is =
-        let p = piece 3 _ (shipped a_register_tree) refl has.memories.a_register in
+        let p = piece 3 _ (shipped_entry a_register_tree) refl has.memories.a_register in
         let j = p.outside.joined in
-        sym (number_same 16 _ _ (λ k le. whole_joined c (shipped a_register_tree) (w []) (w (3 ∷ [])) (codes "out") (codes "valueA") j.1.1.0 k le))
+        sym (number_same 16 _ _ (λ k le. whole_joined c (shipped_entry a_register_tree) (w []) (w (3 ∷ [])) (codes "out") (codes "valueA") j.1.1.0 k le))
 
     y_is : word (w []) "valueAOrM" c ≡ cond (op w c 12) (word (w []) "inM" c) (a_held w c)
     unfolding end_of cpu_tree mux16_tree
     y_is =
-        let p = piece 4 _ (shipped mux16_tree) refl has.memories.computing.basic.mux16 in
+        let p = piece 4 _ (shipped_entry mux16_tree) refl has.memories.computing.basic.mux16 in
         let j = p.outside.joined in
-        let a = number_same 16 _ _ (λ k le. whole_joined c (shipped mux16_tree) (w []) (w (4 ∷ [])) (codes "a") (codes "valueA") j.0 k le) ∙ value_a_is in
-        let b = number_same 16 _ _ (λ k le. whole_joined c (shipped mux16_tree) (w []) (w (4 ∷ [])) (codes "b") (codes "inM") j.1.0 k le) in
+        let a = number_same 16 _ _ (λ k le. whole_joined c (shipped_entry mux16_tree) (w []) (w (4 ∷ [])) (codes "a") (codes "valueA") j.0 k le) ∙ value_a_is in
+        let b = number_same 16 _ _ (λ k le. whole_joined c (shipped_entry mux16_tree) (w []) (w (4 ∷ [])) (codes "b") (codes "inM") j.1.0 k le) in
         let s : w (4 ∷ []) (codes "sel") 0 c ≡ op w c 12 = j.1.1.0 0 (lit< tt) in
-        let o = number_same 16 _ _ (λ k le. whole_joined c (shipped mux16_tree) (w []) (w (4 ∷ [])) (codes "out") (codes "valueAOrM") j.1.1.1.0 k le) in
+        let o = number_same 16 _ _ (λ k le. whole_joined c (shipped_entry mux16_tree) (w []) (w (4 ∷ [])) (codes "out") (codes "valueAOrM") j.1.1.1.0 k le) in
         sym o ∙ mux16_works world library has.memories.computing.basic c (λ path. w (4 ∷ path)) p.inside ∙ ap (λ x. cond x (word (w (4 ∷ [])) "b" c) (word (w (4 ∷ [])) "a" c)) s ∙ ap₂ (λ x y. cond (op w c 12) x y) b a
 
     x_is : word (w []) "valueD" c ≡ d_held w c
     unfolding end_of cpu_tree d_register_tree
     x_is =
-        let p = piece 6 _ (shipped d_register_tree) refl has.memories.d_register in
+        let p = piece 6 _ (shipped_entry d_register_tree) refl has.memories.d_register in
         let j = p.outside.joined in
-        sym (number_same 16 _ _ (λ k le. whole_joined c (shipped d_register_tree) (w []) (w (6 ∷ [])) (codes "out") (codes "valueD") j.1.1.0 k le))
+        sym (number_same 16 _ _ (λ k le. whole_joined c (shipped_entry d_register_tree) (w []) (w (6 ∷ [])) (codes "out") (codes "valueD") j.1.1.0 k le))
 
     -- the ALU
-    alu_part : PartOf world c library w 7 alu_piece (shipped alu_tree)
+    alu_part : PartOf world c library w 7 alu_piece (shipped_entry alu_tree)
     unfolding end_of cpu_tree
-    alu_part = piece 7 _ (shipped alu_tree) refl has.memories.computing.alu
+    alu_part = piece 7 _ (shipped_entry alu_tree) refl has.memories.computing.alu
 
     v_inside : word (w (7 ∷ [])) "out" c ≡ result w c
     unfolding end_of cpu_tree alu_tree
     v_inside =
         let j = alu_part.outside.joined in
-        let x = number_same 16 _ _ (λ k le. whole_joined c (shipped alu_tree) (w []) (w (7 ∷ [])) (codes "x") (codes "valueD") j.0 k le) ∙ x_is in
-        let y = number_same 16 _ _ (λ k le. whole_joined c (shipped alu_tree) (w []) (w (7 ∷ [])) (codes "y") (codes "valueAOrM") j.1.0 k le) ∙ y_is in
+        let x = number_same 16 _ _ (λ k le. whole_joined c (shipped_entry alu_tree) (w []) (w (7 ∷ [])) (codes "x") (codes "valueD") j.0 k le) ∙ x_is in
+        let y = number_same 16 _ _ (λ k le. whole_joined c (shipped_entry alu_tree) (w []) (w (7 ∷ [])) (codes "y") (codes "valueAOrM") j.1.0 k le) ∙ y_is in
         let e1 : w (7 ∷ []) (codes "zx") 0 c ≡ op w c 11 = j.1.1.0 0 (lit< tt) in
         let e2 : w (7 ∷ []) (codes "nx") 0 c ≡ op w c 10 = j.1.1.1.0 0 (lit< tt) in
         let e3 : w (7 ∷ []) (codes "zy") 0 c ≡ op w c 9 = j.1.1.1.1.0 0 (lit< tt) in
@@ -139,11 +139,11 @@ module _ (world : World) (library : Chips) (has : HasComputerChips library) (n :
 
     v_is : word (w []) "result" c ≡ result w c
     unfolding end_of cpu_tree alu_tree
-    v_is = sym (number_same 16 _ _ (λ k le. whole_joined c (shipped alu_tree) (w []) (w (7 ∷ [])) (codes "out") (codes "result") alu_part.outside.joined.1.1.1.1.1.1.1.1.0 k le)) ∙ v_inside
+    v_is = sym (number_same 16 _ _ (λ k le. whole_joined c (shipped_entry alu_tree) (w []) (w (7 ∷ [])) (codes "out") (codes "result") alu_part.outside.joined.1.1.1.1.1.1.1.1.0 k le)) ∙ v_inside
 
     out_is : word (w []) "outM" c ≡ result w c
     unfolding end_of cpu_tree alu_tree
-    out_is = sym (number_same 16 _ _ (λ k le. whole_joined c (shipped alu_tree) (w []) (w (7 ∷ [])) (codes "out") (codes "outM") alu_part.outside.joined.1.1.1.1.1.1.1.1.1.0 k le)) ∙ v_inside
+    out_is = sym (number_same 16 _ _ (λ k le. whole_joined c (shipped_entry alu_tree) (w []) (w (7 ∷ [])) (codes "out") (codes "outM") alu_part.outside.joined.1.1.1.1.1.1.1.1.1.0 k le)) ∙ v_inside
 
     zr_is : w [] (codes "isZero") 0 c ≡ eqb (result w c) 0
     unfolding end_of cpu_tree alu_tree
@@ -157,14 +157,14 @@ module _ (world : World) (library : Chips) (has : HasComputerChips library) (n :
     unfolding end_of cpu_tree or_tree not_tree and_tree
     jump_is =
         let b = has.memories.computing.basic in
-        let p9 = piece 9 _ (shipped or_tree) refl b.or in
-        let p10 = piece 10 _ (shipped not_tree) refl b.not in
-        let p11 = piece 11 _ (shipped and_tree) refl b.and in
-        let p12 = piece 12 _ (shipped and_tree) refl b.and in
-        let p13 = piece 13 _ (shipped and_tree) refl b.and in
-        let p14 = piece 14 _ (shipped or_tree) refl b.or in
-        let p15 = piece 15 _ (shipped or_tree) refl b.or in
-        let p16 = piece 16 _ (shipped and_tree) refl b.and in
+        let p9 = piece 9 _ (shipped_entry or_tree) refl b.or in
+        let p10 = piece 10 _ (shipped_entry not_tree) refl b.not in
+        let p11 = piece 11 _ (shipped_entry and_tree) refl b.and in
+        let p12 = piece 12 _ (shipped_entry and_tree) refl b.and in
+        let p13 = piece 13 _ (shipped_entry and_tree) refl b.and in
+        let p14 = piece 14 _ (shipped_entry or_tree) refl b.or in
+        let p15 = piece 15 _ (shipped_entry or_tree) refl b.or in
+        let p16 = piece 16 _ (shipped_entry and_tree) refl b.and in
         let j9 = p9.outside.joined in
         let j10 = p10.outside.joined in
         let j11 = p11.outside.joined in
@@ -186,52 +186,52 @@ module _ (world : World) (library : Chips) (has : HasComputerChips library) (n :
     -- what goes into the registers
     a_in : word (w (3 ∷ [])) "in" c ≡ word (w []) "nextA" c
     unfolding end_of cpu_tree a_register_tree
-    a_in = number_same 16 _ _ (λ k le. whole_joined c (shipped a_register_tree) (w []) (w (3 ∷ [])) (codes "in") (codes "nextA") (piece 3 _ (shipped a_register_tree) refl has.memories.a_register).outside.joined.0 k le)
+    a_in = number_same 16 _ _ (λ k le. whole_joined c (shipped_entry a_register_tree) (w []) (w (3 ∷ [])) (codes "in") (codes "nextA") (piece 3 _ (shipped_entry a_register_tree) refl has.memories.a_register).outside.joined.0 k le)
 
     a_load : w (3 ∷ []) (codes "load") 0 c ≡ w [] (codes "loadA") 0 c
     unfolding end_of cpu_tree a_register_tree
-    a_load = (piece 3 _ (shipped a_register_tree) refl has.memories.a_register).outside.joined.1.0 0 (lit< tt)
+    a_load = (piece 3 _ (shipped_entry a_register_tree) refl has.memories.a_register).outside.joined.1.0 0 (lit< tt)
 
-    a_inside : Works world c library (shipped a_register_tree) (λ path. w (3 ∷ path))
+    a_inside : Works world c library (shipped_entry a_register_tree) (λ path. w (3 ∷ path))
     unfolding end_of cpu_tree
-    a_inside = (piece 3 _ (shipped a_register_tree) refl has.memories.a_register).inside
+    a_inside = (piece 3 _ (shipped_entry a_register_tree) refl has.memories.a_register).inside
 
     address_is : (k : ℕ) → k < 15 → w [] (codes "addressM") k c ≡ w (3 ∷ []) (codes "out") k c
     unfolding end_of cpu_tree a_register_tree
     address_is k le =
-        let e = (piece 3 _ (shipped a_register_tree) refl has.memories.a_register).outside.joined.1.1.1.0 k le in
+        let e = (piece 3 _ (shipped_entry a_register_tree) refl has.memories.a_register).outside.joined.1.1.1.0 k le in
         ap (λ x. w [] (codes "addressM") x c) (sym (zero-add k)) ∙ sym e ∙ ap (λ x. w (3 ∷ []) (codes "out") x c) (zero-add k)
 
     d_in : word (w (6 ∷ [])) "in" c ≡ word (w []) "result" c
     unfolding end_of cpu_tree d_register_tree
-    d_in = number_same 16 _ _ (λ k le. whole_joined c (shipped d_register_tree) (w []) (w (6 ∷ [])) (codes "in") (codes "result") (piece 6 _ (shipped d_register_tree) refl has.memories.d_register).outside.joined.0 k le)
+    d_in = number_same 16 _ _ (λ k le. whole_joined c (shipped_entry d_register_tree) (w []) (w (6 ∷ [])) (codes "in") (codes "result") (piece 6 _ (shipped_entry d_register_tree) refl has.memories.d_register).outside.joined.0 k le)
 
     d_load : w (6 ∷ []) (codes "load") 0 c ≡ w [] (codes "loadD") 0 c
     unfolding end_of cpu_tree d_register_tree
-    d_load = (piece 6 _ (shipped d_register_tree) refl has.memories.d_register).outside.joined.1.0 0 (lit< tt)
+    d_load = (piece 6 _ (shipped_entry d_register_tree) refl has.memories.d_register).outside.joined.1.0 0 (lit< tt)
 
-    d_inside : Works world c library (shipped d_register_tree) (λ path. w (6 ∷ path))
+    d_inside : Works world c library (shipped_entry d_register_tree) (λ path. w (6 ∷ path))
     unfolding end_of cpu_tree
-    d_inside = (piece 6 _ (shipped d_register_tree) refl has.memories.d_register).inside
+    d_inside = (piece 6 _ (shipped_entry d_register_tree) refl has.memories.d_register).inside
 
-    pc_inside : Works world c library (shipped pc_tree) (λ path. w (17 ∷ path))
+    pc_inside : Works world c library (shipped_entry pc_tree) (λ path. w (17 ∷ path))
     unfolding end_of cpu_tree
-    pc_inside = (piece 17 _ (shipped pc_tree) refl has.memories.pc).inside
+    pc_inside = (piece 17 _ (shipped_entry pc_tree) refl has.memories.pc).inside
 
     pc_in : word (w (17 ∷ [])) "in" c ≡ a_held w c
     unfolding end_of cpu_tree pc_tree
-    pc_in = number_same 16 _ _ (λ k le. whole_joined c (shipped pc_tree) (w []) (w (17 ∷ [])) (codes "in") (codes "valueA") (piece 17 _ (shipped pc_tree) refl has.memories.pc).outside.joined.0 k le) ∙ value_a_is
+    pc_in = number_same 16 _ _ (λ k le. whole_joined c (shipped_entry pc_tree) (w []) (w (17 ∷ [])) (codes "in") (codes "valueA") (piece 17 _ (shipped_entry pc_tree) refl has.memories.pc).outside.joined.0 k le) ∙ value_a_is
 
     pc_pins : (w (17 ∷ []) (codes "load") 0 c ≡ w [] (codes "jump") 0 c) × (w (17 ∷ []) (codes "inc") 0 c ≡ true) × (w (17 ∷ []) (codes "reset") 0 c ≡ w [] (codes "reset") 0 c)
     unfolding end_of cpu_tree pc_tree
     pc_pins =
-        let j = (piece 17 _ (shipped pc_tree) refl has.memories.pc).outside.joined in
+        let j = (piece 17 _ (shipped_entry pc_tree) refl has.memories.pc).outside.joined in
         (j.1.0 0 (lit< tt), j.1.1.0 0 (lit< tt), j.1.1.1.0 0 (lit< tt))
 
     pc_is : (k : ℕ) → k < 15 → w [] (codes "pc") k c ≡ w (17 ∷ []) (codes "out") k c
     unfolding end_of cpu_tree pc_tree
     pc_is k le =
-        let e = (piece 17 _ (shipped pc_tree) refl has.memories.pc).outside.joined.1.1.1.1.0 k le in
+        let e = (piece 17 _ (shipped_entry pc_tree) refl has.memories.pc).outside.joined.1.1.1.1.0 k le in
         ap (λ x. w [] (codes "pc") x c) (sym (zero-add k)) ∙ sym e ∙ ap (λ x. w (17 ∷ []) (codes "out") x c) (zero-add k)
 
   -- ---- over the cycles

@@ -8,7 +8,7 @@ use Rattle.hdl_tree.specs.declared.library.Entry.{Entry}
 use Rattle.hdl_tree.specs.Memory.{number}
 use Rattle.hdl_tree.specs.Chips.{end_of}
 use Rattle.hdl_tree.specs.Behaviour.{Histories, World, IsBehaviour}
-use Rattle.chip_basic.specs.Hdl.{shipped}
+use Rattle.chip_basic.specs.Hdl.{shipped_entry}
 use Rattle.chip_basic.specs.Laws.{word}
 use Rattle.chip_basic.proofs.Inside.{part_of, whole_joined}
 use Rattle.chip_basic.proofs.Numbers.{number_same}
@@ -64,17 +64,17 @@ read_same a a' key f g e same = ap (λ y. cond (ltb y 24576) (f y) key) e ∙ by
     by true h = ap (λ y. cond (ltb a' 24576) y key) (same a' (ltb-true a' 24576 h))
     by false h = rw h
 
-module _ (image : List ℕ) (keys : ℕ → ℕ) (entries : List Entry) (has : HasComputerChips (of_blocks entries)) (n : ℕ) (w : List ℕ → Histories) (h : IsBehaviour (outside image keys) (of_blocks entries) (shipped computer_tree) n w) (no_reset : (c : ℕ) → c < n → w [] (codes "reset") 0 c ≡ false) where
+module _ (image : List ℕ) (keys : ℕ → ℕ) (entries : List Entry) (has : HasComputerChips (of_blocks entries)) (n : ℕ) (w : List ℕ → Histories) (h : IsBehaviour (outside image keys) (of_blocks entries) (shipped_entry computer_tree) n w) (no_reset : (c : ℕ) → c < n → w [] (codes "reset") 0 c ≡ false) where
   abbrev world : World
   world = outside image keys
 
-  cpu_inside : IsBehaviour world (of_blocks entries) (shipped cpu_tree) n (λ path. w (0 ∷ path))
+  cpu_inside : IsBehaviour world (of_blocks entries) (shipped_entry cpu_tree) n (λ path. w (0 ∷ path))
   unfolding end_of computer_tree
-  cpu_inside c lt = (part_of world c (of_blocks entries) (shipped computer_tree) w (h c lt) 0 _ (shipped cpu_tree) refl has.cpu).inside
+  cpu_inside c lt = (part_of world c (of_blocks entries) (shipped_entry computer_tree) w (h c lt) 0 _ (shipped_entry cpu_tree) refl has.cpu).inside
 
-  memory_inside : IsBehaviour world (of_blocks entries) (shipped memory_tree) n (λ path. w (2 ∷ path))
+  memory_inside : IsBehaviour world (of_blocks entries) (shipped_entry memory_tree) n (λ path. w (2 ∷ path))
   unfolding end_of computer_tree
-  memory_inside c lt = (part_of world c (of_blocks entries) (shipped computer_tree) w (h c lt) 2 _ (shipped memory_tree) refl has.memory).inside
+  memory_inside c lt = (part_of world c (of_blocks entries) (shipped_entry computer_tree) w (h c lt) 2 _ (shipped_entry memory_tree) refl has.memory).inside
 
   cpu : (c : ℕ) → c < n → CpuWorks (λ path. w (0 ∷ path)) c
   cpu c lt = cpu_works world (of_blocks entries) has n (λ path. w (0 ∷ path)) cpu_inside c lt
@@ -82,55 +82,55 @@ module _ (image : List ℕ) (keys : ℕ → ℕ) (entries : List Entry) (has : H
   module _ (c : ℕ) (lt : c < n) where
     reset_is : w (0 ∷ []) (codes "reset") 0 c ≡ false
     unfolding end_of computer_tree cpu_tree
-    reset_is = (part_of world c (of_blocks entries) (shipped computer_tree) w (h c lt) 0 _ (shipped cpu_tree) refl has.cpu).outside.joined.1.1.0 0 (lit< tt) ∙ no_reset c lt
+    reset_is = (part_of world c (of_blocks entries) (shipped_entry computer_tree) w (h c lt) 0 _ (shipped_entry cpu_tree) refl has.cpu).outside.joined.1.1.0 0 (lit< tt) ∙ no_reset c lt
 
     -- the instruction comes from the ROM
     instruction_is : word (w (0 ∷ [])) "instruction" c ≡ slice_index image (number 15 (λ k. w (0 ∷ []) (codes "pc") k c))
     unfolding end_of computer_tree cpu_tree rom_tree
     instruction_is =
-        let p = part_of world c (of_blocks entries) (shipped computer_tree) w (h c lt) 0 _ (shipped cpu_tree) refl has.cpu in
-        let q = part_of world c (of_blocks entries) (shipped computer_tree) w (h c lt) 1 _ (shipped rom_tree) refl has.rom in
+        let p = part_of world c (of_blocks entries) (shipped_entry computer_tree) w (h c lt) 0 _ (shipped_entry cpu_tree) refl has.cpu in
+        let q = part_of world c (of_blocks entries) (shipped_entry computer_tree) w (h c lt) 1 _ (shipped_entry rom_tree) refl has.rom in
         let j = p.outside.joined in
         let k1 = q.outside.joined in
-        let i = number_same 16 _ _ (λ k le. whole_joined c (shipped cpu_tree) (w []) (w (0 ∷ [])) (codes "instruction") (codes "instruction") j.1.0 k le) in
-        let i' = number_same 16 _ _ (λ k le. whole_joined c (shipped rom_tree) (w []) (w (1 ∷ [])) (codes "out") (codes "instruction") k1.1.0 k le) in
-        let a = number_same 15 _ _ (λ k le. whole_joined c (shipped rom_tree) (w []) (w (1 ∷ [])) (codes "address") (codes "pc") k1.0 k le) in
-        let a' = number_same 15 _ _ (λ k le. whole_joined c (shipped cpu_tree) (w []) (w (0 ∷ [])) (codes "pc") (codes "pc") j.1.1.1.1.1.1.0 k le) in
-        i ∙ sym i' ∙ q.inside [] (shipped rom_tree) refl ∙ ap (slice_index image) (a ∙ sym a')
+        let i = number_same 16 _ _ (λ k le. whole_joined c (shipped_entry cpu_tree) (w []) (w (0 ∷ [])) (codes "instruction") (codes "instruction") j.1.0 k le) in
+        let i' = number_same 16 _ _ (λ k le. whole_joined c (shipped_entry rom_tree) (w []) (w (1 ∷ [])) (codes "out") (codes "instruction") k1.1.0 k le) in
+        let a = number_same 15 _ _ (λ k le. whole_joined c (shipped_entry rom_tree) (w []) (w (1 ∷ [])) (codes "address") (codes "pc") k1.0 k le) in
+        let a' = number_same 15 _ _ (λ k le. whole_joined c (shipped_entry cpu_tree) (w []) (w (0 ∷ [])) (codes "pc") (codes "pc") j.1.1.1.1.1.1.0 k le) in
+        i ∙ sym i' ∙ q.inside [] (shipped_entry rom_tree) refl ∙ ap (slice_index image) (a ∙ sym a')
 
     -- Memory's pins
     memory_address : number 15 (λ k. w (2 ∷ []) (codes "address") k c) ≡ a_held (λ path. w (0 ∷ path)) c % 32768
     unfolding end_of computer_tree cpu_tree memory_tree
     memory_address =
-        let p = part_of world c (of_blocks entries) (shipped computer_tree) w (h c lt) 0 _ (shipped cpu_tree) refl has.cpu in
-        let q = part_of world c (of_blocks entries) (shipped computer_tree) w (h c lt) 2 _ (shipped memory_tree) refl has.memory in
-        let a = number_same 15 _ _ (λ k le. whole_joined c (shipped memory_tree) (w []) (w (2 ∷ [])) (codes "address") (codes "address") q.outside.joined.1.1.0 k le) in
-        let a' = number_same 15 _ _ (λ k le. whole_joined c (shipped cpu_tree) (w []) (w (0 ∷ [])) (codes "addressM") (codes "address") p.outside.joined.1.1.1.1.1.0 k le) in
+        let p = part_of world c (of_blocks entries) (shipped_entry computer_tree) w (h c lt) 0 _ (shipped_entry cpu_tree) refl has.cpu in
+        let q = part_of world c (of_blocks entries) (shipped_entry computer_tree) w (h c lt) 2 _ (shipped_entry memory_tree) refl has.memory in
+        let a = number_same 15 _ _ (λ k le. whole_joined c (shipped_entry memory_tree) (w []) (w (2 ∷ [])) (codes "address") (codes "address") q.outside.joined.1.1.0 k le) in
+        let a' = number_same 15 _ _ (λ k le. whole_joined c (shipped_entry cpu_tree) (w []) (w (0 ∷ [])) (codes "addressM") (codes "address") p.outside.joined.1.1.1.1.1.0 k le) in
         a ∙ sym a' ∙ (cpu c lt).address
 
     memory_load : w (2 ∷ []) (codes "load") 0 c ≡ (op (λ path. w (0 ∷ path)) c 15 && op (λ path. w (0 ∷ path)) c 3)
     unfolding end_of computer_tree cpu_tree memory_tree
     memory_load =
-        let p = part_of world c (of_blocks entries) (shipped computer_tree) w (h c lt) 0 _ (shipped cpu_tree) refl has.cpu in
-        let q = part_of world c (of_blocks entries) (shipped computer_tree) w (h c lt) 2 _ (shipped memory_tree) refl has.memory in
+        let p = part_of world c (of_blocks entries) (shipped_entry computer_tree) w (h c lt) 0 _ (shipped_entry cpu_tree) refl has.cpu in
+        let q = part_of world c (of_blocks entries) (shipped_entry computer_tree) w (h c lt) 2 _ (shipped_entry memory_tree) refl has.memory in
         q.outside.joined.1.0 0 (lit< tt) ∙ sym (p.outside.joined.1.1.1.1.0 0 (lit< tt)) ∙ (cpu c lt).write
 
     memory_in : word (w (2 ∷ [])) "in" c ≡ result (λ path. w (0 ∷ path)) c
     unfolding end_of computer_tree cpu_tree memory_tree
     memory_in =
-        let p = part_of world c (of_blocks entries) (shipped computer_tree) w (h c lt) 0 _ (shipped cpu_tree) refl has.cpu in
-        let q = part_of world c (of_blocks entries) (shipped computer_tree) w (h c lt) 2 _ (shipped memory_tree) refl has.memory in
-        let a = number_same 16 _ _ (λ k le. whole_joined c (shipped memory_tree) (w []) (w (2 ∷ [])) (codes "in") (codes "wordToMemory") q.outside.joined.0 k le) in
-        let b = number_same 16 _ _ (λ k le. whole_joined c (shipped cpu_tree) (w []) (w (0 ∷ [])) (codes "outM") (codes "wordToMemory") p.outside.joined.1.1.1.0 k le) in
+        let p = part_of world c (of_blocks entries) (shipped_entry computer_tree) w (h c lt) 0 _ (shipped_entry cpu_tree) refl has.cpu in
+        let q = part_of world c (of_blocks entries) (shipped_entry computer_tree) w (h c lt) 2 _ (shipped_entry memory_tree) refl has.memory in
+        let a = number_same 16 _ _ (λ k le. whole_joined c (shipped_entry memory_tree) (w []) (w (2 ∷ [])) (codes "in") (codes "wordToMemory") q.outside.joined.0 k le) in
+        let b = number_same 16 _ _ (λ k le. whole_joined c (shipped_entry cpu_tree) (w []) (w (0 ∷ [])) (codes "outM") (codes "wordToMemory") p.outside.joined.1.1.1.0 k le) in
         a ∙ sym b ∙ (cpu c lt).out
 
     in_m : word (w (0 ∷ [])) "inM" c ≡ word (w (2 ∷ [])) "out" c
     unfolding end_of computer_tree cpu_tree memory_tree
     in_m =
-        let p = part_of world c (of_blocks entries) (shipped computer_tree) w (h c lt) 0 _ (shipped cpu_tree) refl has.cpu in
-        let q = part_of world c (of_blocks entries) (shipped computer_tree) w (h c lt) 2 _ (shipped memory_tree) refl has.memory in
-        let a = number_same 16 _ _ (λ k le. whole_joined c (shipped cpu_tree) (w []) (w (0 ∷ [])) (codes "inM") (codes "wordFromMemory") p.outside.joined.0 k le) in
-        let b = number_same 16 _ _ (λ k le. whole_joined c (shipped memory_tree) (w []) (w (2 ∷ [])) (codes "out") (codes "wordFromMemory") q.outside.joined.1.1.1.0 k le) in
+        let p = part_of world c (of_blocks entries) (shipped_entry computer_tree) w (h c lt) 0 _ (shipped_entry cpu_tree) refl has.cpu in
+        let q = part_of world c (of_blocks entries) (shipped_entry computer_tree) w (h c lt) 2 _ (shipped_entry memory_tree) refl has.memory in
+        let a = number_same 16 _ _ (λ k le. whole_joined c (shipped_entry cpu_tree) (w []) (w (0 ∷ [])) (codes "inM") (codes "wordFromMemory") p.outside.joined.0 k le) in
+        let b = number_same 16 _ _ (λ k le. whole_joined c (shipped_entry memory_tree) (w []) (w (2 ∷ [])) (codes "out") (codes "wordFromMemory") q.outside.joined.1.1.1.0 k le) in
         a ∙ sym b
 
   -- the pc pins

@@ -3,12 +3,12 @@ use Rattle.std.proofs.Common.{ℕ, zero, suc, ◌<◌, true, false, List, [], �
 use Rattle.std.specs.Prelude.{slice_index, codes}
 use Rattle.std.specs.List.{All}
 use Rattle.std.proofs.lemmas.List.Elements.{All-head, All-tail}
-use Rattle.hdl_elab.specs.Whole.{chips_in}
-use Rattle.hdl_law.specs.Ways.{HasBit}
-use Rattle.hdl_exist.specs.Existence.{HasBehaviour}
-use Rattle.hdl_exist.proofs.Exists.{exists}
-use Rattle.hdl_shown.proofs.Clean.{find_in}
-use Rattle.chip_basic.specs.Hdl.{shipped}
+use Rattle.hdl_check.specs.Whole.{chips_in}
+use Rattle.hdl_plans.specs.Ways.{HasBit}
+use Rattle.hdl_behaviours.specs.Existence.{HasBehaviour}
+use Rattle.hdl_behaviours.proofs.Exists.{exists}
+use Rattle.hdl_behaviours.proofs.Clean.{find_in}
+use Rattle.chip_basic.specs.Hdl.{shipped_entry}
 use Rattle.hack_cpu.specs.Trees.{computer_tree}
 use Rattle.hack_cpu.specs.Library.{shipped_chips}
 use Rattle.hack_cpu.specs.Computer.{outside}
@@ -27,12 +27,12 @@ word_in [] a h = omega arith
 word_in (w ∷ ws) zero h = All-head (λ x. x < 65536) w ws h
 word_in (w ∷ ws) (suc a) h = word_in ws a (All-tail (λ x. x < 65536) w ws h)
 
-reset_bit : HasBit (shipped computer_tree).chip.inputs (codes "reset") 0
+reset_bit : HasBit (shipped_entry computer_tree).chip.inputs (codes "reset") 0
 unfolding computer_tree
 reset_bit = record { width = 1; there = refl; below = omega arith }
 
 pub runs : RunsLaw
 runs image keys n words held =
-    let b : HasBehaviour (outside image keys) (chips_in shipped_chips true) (shipped computer_tree) n (λ name bit c. false) =
-    existing true (codes "Computer") (shipped computer_tree) (has_all true).computer (outside image keys) (record { keys = held; words = λ a. word_in image a words }) n (λ name bit c. false) in
+    let b : HasBehaviour (outside image keys) (chips_in shipped_chips true) (shipped_entry computer_tree) n (λ name bit c. false) =
+    existing true (codes "Computer") (shipped_entry computer_tree) (has_all true).computer (outside image keys) (record { keys = held; words = λ a. word_in image a words }) n (λ name bit c. false) in
     record { wires = b.wires; behaves = b.behaves; no_reset = λ c. b.hears (codes "reset") 0 c reset_bit }

@@ -11,13 +11,13 @@ use Rattle.hdl_tree.specs.declared.ends.End.TheVariants as ends
 use Rattle.hdl_tree.specs.Chips.{end_of, pin_width}
 use Rattle.hdl_tree.specs.Behaviour.{Each, width_in}
 use Rattle.hdl_tree.specs.Writable.{all}
-use Rattle.hdl_elab.specs.Tables.{found}
-use Rattle.hdl_elab.specs.Whole.{chips_in, AreDistinct}
-use Rattle.hdl_law.specs.Plans.{is_input, EndFits}
-use Rattle.hdl_law.specs.Planned.{HasEnds}
-use Rattle.hdl_shown.specs.Clean.{place_of, all_below}
-use Rattle.hdl_shown.proofs.Clean.{find_in, all_told}
-use Rattle.hdl_shown.proofs.Levels.{all_at, pin_tells}
+use Rattle.hdl_check.specs.Tables.{find_value}
+use Rattle.hdl_check.specs.Whole.{chips_in, AreDistinct}
+use Rattle.hdl_plans.specs.Plans.{is_input, EndFits}
+use Rattle.hdl_plans.specs.Planned.{HasEnds}
+use Rattle.hdl_behaviours.specs.Clean.{place_of, all_below}
+use Rattle.hdl_behaviours.proofs.Clean.{find_in, all_told}
+use Rattle.hdl_behaviours.proofs.Levels.{all_at, pin_tells}
 use Rattle.hack_cpu.specs.Library.{shipped_chips}
 use Rattle.hack_cpu.specs.Pins.{Port, port_of, face_of, basic_faces, computing_faces, memory_faces, computer_faces, end_face, HasEndPins, PinsLaw}
 use Rattle.hack_cpu.proofs.Opened.{opened}
@@ -63,20 +63,20 @@ each_get P (y ∷ ys) e zero x h = let same : y ≡ x = cc in subst P same e.0
 each_get P (y ∷ ys) e (suc i) x h = each_get P ys e.1 i x h
 
 end_pins : (blocks : Bool) → HasEndPins (chips_in shipped_chips blocks)
-end_pins blocks name chip e found is =
-    let r = find_in shipped_chips name chip found in
+end_pins blocks name chip e find_value is =
+    let r = find_in shipped_chips name chip find_value in
     subst (FitsEnd chip) is (each_get (λ entry. FitsEnd entry (end_of blocks entry)) shipped_chips (each_end blocks) r.place chip r.there)
 
 -- a name is an input where the ports have it
 width_by : (b : Bool) (w : ℕ) (o p : Option ℕ) → o ≡ p → cond b (Some w) o ≡ cond b (Some w) p
 width_by b w o p e = ap (λ x. cond b (Some w) x) e
 
-width_found : (pins : List Pin) (name : List ℕ) → width_in pins name ≡ found name (map port_of pins)
+width_found : (pins : List Pin) (name : List ℕ) → width_in pins name ≡ find_value name (map port_of pins)
 width_found [] name = refl
-width_found (p ∷ ps) name = width_by (bytes_eq name p.name) (pin_width p) (width_in ps name) (found name (map port_of ps)) (width_found ps name)
+width_found (p ∷ ps) name = width_by (bytes_eq name p.name) (pin_width p) (width_in ps name) (find_value name (map port_of ps)) (width_found ps name)
 
-input_found : (chip : Entry) (inputs : List Port) (name : List ℕ) → map port_of chip.chip.inputs ≡ inputs → is_input chip name ≡ is_some (found name inputs)
-input_found chip inputs name e = ap is_some (width_found chip.chip.inputs name) ∙ ap (λ (ports : List Port). is_some (found name ports)) e
+input_found : (chip : Entry) (inputs : List Port) (name : List ℕ) → map port_of chip.chip.inputs ≡ inputs → is_input chip name ≡ is_some (find_value name inputs)
+input_found chip inputs name e = ap is_some (width_found chip.chip.inputs name) ∙ ap (λ (ports : List Port). is_some (find_value name ports)) e
 
 fits_by : (chip : Entry) (e : End) → (map port_of chip.chip.inputs, map port_of chip.chip.outputs) ≡ end_face e → EndFits chip (Some e)
 fits_by chip ends.Nand h = let i = input_found chip (end_face ends.Nand).0 in let g = ap (λ (p : List Port × List Port). p.0) h in (i (codes "a") g, i (codes "b") g, i (codes "out") g)
@@ -98,9 +98,9 @@ is_false false h = refl
 
 has_ends : (blocks : Bool) → HasEnds (chips_in shipped_chips blocks)
 has_ends blocks = record {
-  fits = λ name chip e found is. fits_by chip e (end_pins blocks name chip e found is);
-  apart = λ name chip e found is pin width there.
-      let r = find_in shipped_chips name chip found in
+  fits = λ name chip e find_value is. fits_by chip e (end_pins blocks name chip e find_value is);
+  apart = λ name chip e find_value is pin width there.
+      let r = find_in shipped_chips name chip find_value in
       is_false (is_input chip pin) (pin_tells (λ x. not (is_input chip x)) chip.chip.outputs (all_at outputs_apart shipped_chips all_apart r.place chip r.there) pin width there);
 }
 

@@ -8,7 +8,7 @@ use Rattle.hdl_tree.specs.declared.library.Entry.{Entry}
 use Rattle.hdl_tree.specs.Memory.{number}
 use Rattle.hdl_tree.specs.Chips.{end_of}
 use Rattle.hdl_tree.specs.Behaviour.{Histories, World, IsBehaviour}
-use Rattle.chip_basic.specs.Hdl.{shipped, wire, wire_bits, part}
+use Rattle.chip_basic.specs.Hdl.{shipped_entry, wire, wire_bits, part}
 use Rattle.chip_basic.specs.Trees.{HasBasicChips, not_tree, and_tree, dmux_tree, mux16_tree}
 use Rattle.chip_basic.specs.Laws.{word}
 use Rattle.chip_basic.proofs.Inside.{PartOf, part_of, whole_joined}
@@ -76,7 +76,7 @@ ram_piece = part "RAM16K" (wire "in" "in" ∷ wire "load" "loadMain" ∷ wire_bi
 abbrev screen_piece : Part
 screen_piece = part "Screen" (wire "in" "in" ∷ wire "load" "loadScreen" ∷ wire_bits "address" "address" 0 12 ∷ wire "out" "screenWord" ∷ [])
 
-module _ (world : World) (entries : List Entry) (has : HasComputerChips (of_blocks entries)) (n : ℕ) (w : List ℕ → Histories) (h : IsBehaviour world (of_blocks entries) (shipped memory_tree) n w) where
+module _ (world : World) (entries : List Entry) (has : HasComputerChips (of_blocks entries)) (n : ℕ) (w : List ℕ → Histories) (h : IsBehaviour world (of_blocks entries) (shipped_entry memory_tree) n w) where
   address : ℕ → ℕ
   address c = number 15 (λ k. w [] (codes "address") k c)
 
@@ -87,16 +87,16 @@ module _ (world : World) (entries : List Entry) (has : HasComputerChips (of_bloc
     load_ram : w [] (codes "loadMain") 0 c ≡ (w [] (codes "load") 0 c && not (w [] (codes "address") 14 c))
     unfolding end_of memory_tree dmux_tree
     load_ram =
-        let p = part_of world c (of_blocks entries) (shipped memory_tree) w (h c lt) 0 _ (shipped dmux_tree) refl basic.dmux in
+        let p = part_of world c (of_blocks entries) (shipped_entry memory_tree) w (h c lt) 0 _ (shipped_entry dmux_tree) refl basic.dmux in
         let j = p.outside.joined in
         cc (dmux_a world (of_blocks entries) basic c (λ path. w (0 ∷ path)) p.inside, j.0 0 (lit< tt), j.1.0 0 (lit< tt), j.1.1.0 0 (lit< tt))
 
     load_screen : w [] (codes "loadScreen") 0 c ≡ ((w [] (codes "load") 0 c && w [] (codes "address") 14 c) && not (w [] (codes "address") 13 c))
     unfolding end_of memory_tree dmux_tree not_tree and_tree
     load_screen =
-        let p = part_of world c (of_blocks entries) (shipped memory_tree) w (h c lt) 0 _ (shipped dmux_tree) refl basic.dmux in
-        let q = part_of world c (of_blocks entries) (shipped memory_tree) w (h c lt) 1 _ (shipped not_tree) refl basic.not in
-        let r = part_of world c (of_blocks entries) (shipped memory_tree) w (h c lt) 2 _ (shipped and_tree) refl basic.and in
+        let p = part_of world c (of_blocks entries) (shipped_entry memory_tree) w (h c lt) 0 _ (shipped_entry dmux_tree) refl basic.dmux in
+        let q = part_of world c (of_blocks entries) (shipped_entry memory_tree) w (h c lt) 1 _ (shipped_entry not_tree) refl basic.not in
+        let r = part_of world c (of_blocks entries) (shipped_entry memory_tree) w (h c lt) 2 _ (shipped_entry and_tree) refl basic.and in
         let j = p.outside.joined in
         let k = q.outside.joined in
         let l = r.outside.joined in
@@ -114,28 +114,28 @@ module _ (world : World) (entries : List Entry) (has : HasComputerChips (of_bloc
           l.1.1.0 0 (lit< tt),
         )
 
-    ram_part : PartOf world c (of_blocks entries) w 3 ram_piece (shipped ram16k_tree)
+    ram_part : PartOf world c (of_blocks entries) w 3 ram_piece (shipped_entry ram16k_tree)
     unfolding end_of memory_tree
-    ram_part = part_of world c (of_blocks entries) (shipped memory_tree) w (h c lt) 3 ram_piece (shipped ram16k_tree) refl has.memories.ram16k
+    ram_part = part_of world c (of_blocks entries) (shipped_entry memory_tree) w (h c lt) 3 ram_piece (shipped_entry ram16k_tree) refl has.memories.ram16k
 
-    screen_part : PartOf world c (of_blocks entries) w 4 screen_piece (shipped screen_tree)
+    screen_part : PartOf world c (of_blocks entries) w 4 screen_piece (shipped_entry screen_tree)
     unfolding end_of memory_tree
-    screen_part = part_of world c (of_blocks entries) (shipped memory_tree) w (h c lt) 4 screen_piece (shipped screen_tree) refl has.memories.screen
+    screen_part = part_of world c (of_blocks entries) (shipped_entry memory_tree) w (h c lt) 4 screen_piece (shipped_entry screen_tree) refl has.memories.screen
 
     ram_address : number 14 (λ k. w (3 ∷ []) (codes "address") k c) ≡ number 14 (λ k. w [] (codes "address") k c)
     unfolding end_of ram16k_tree
-    ram_address = number_same 14 _ _ (λ k le. whole_joined c (shipped ram16k_tree) (w []) (w (3 ∷ [])) (codes "address") (codes "address") ram_part.outside.joined.1.1.0 k le)
+    ram_address = number_same 14 _ _ (λ k le. whole_joined c (shipped_entry ram16k_tree) (w []) (w (3 ∷ [])) (codes "address") (codes "address") ram_part.outside.joined.1.1.0 k le)
 
     screen_address : number 13 (λ k. w (4 ∷ []) (codes "address") k c) ≡ number 13 (λ k. w [] (codes "address") k c)
     unfolding end_of screen_tree
-    screen_address = number_same 13 _ _ (λ k le. whole_joined c (shipped screen_tree) (w []) (w (4 ∷ [])) (codes "address") (codes "address") screen_part.outside.joined.1.1.0 k le)
+    screen_address = number_same 13 _ _ (λ k le. whole_joined c (shipped_entry screen_tree) (w []) (w (4 ∷ [])) (codes "address") (codes "address") screen_part.outside.joined.1.1.0 k le)
 
     -- one step of a word of main memory, and of the screen
     ram_next : (x : ℕ) → x < 16384 → block_word 14 (w (3 ∷ [])) (suc c) x ≡ cond (w [] (codes "load") 0 c && eqb (address c) x) (word (w []) "in" c) (block_word 14 (w (3 ∷ [])) c x)
     unfolding end_of ram16k_tree address
     ram_next x small =
         let j = ram_part.outside.joined in
-        let i : word (w (3 ∷ [])) "in" c ≡ word (w []) "in" c = number_same 16 _ _ (λ k le. whole_joined c (shipped ram16k_tree) (w []) (w (3 ∷ [])) (codes "in") (codes "in") j.0 k le) in
+        let i : word (w (3 ∷ [])) "in" c ≡ word (w []) "in" c = number_same 16 _ _ (λ k le. whole_joined c (shipped_entry ram16k_tree) (w []) (w (3 ∷ [])) (codes "in") (codes "in") j.0 k le) in
         let l : w (3 ∷ []) (codes "load") 0 c ≡ (w [] (codes "load") 0 c && not (w [] (codes "address") 14 c)) = j.1.0 0 (lit< tt) ∙ load_ram in
         let t : (w (3 ∷ []) (codes "load") 0 c && eqb (number 14 (λ k. w (3 ∷ []) (codes "address") k c)) x) ≡ (w [] (codes "load") 0 c && eqb (address c) x) =
         ap₂ (λ a b. a && eqb b x) l ram_address ∙ ram_test (w [] (codes "load") 0 c) (w [] (codes "address") 14 c) (number 14 (λ k. w [] (codes "address") k c)) x small (number_below 14 (λ k. w [] (codes "address") k c)) in
@@ -145,7 +145,7 @@ module _ (world : World) (entries : List Entry) (has : HasComputerChips (of_bloc
     unfolding end_of screen_tree address
     screen_next x large small =
         let j = screen_part.outside.joined in
-        let i : word (w (4 ∷ [])) "in" c ≡ word (w []) "in" c = number_same 16 _ _ (λ k le. whole_joined c (shipped screen_tree) (w []) (w (4 ∷ [])) (codes "in") (codes "in") j.0 k le) in
+        let i : word (w (4 ∷ [])) "in" c ≡ word (w []) "in" c = number_same 16 _ _ (λ k le. whole_joined c (shipped_entry screen_tree) (w []) (w (4 ∷ [])) (codes "in") (codes "in") j.0 k le) in
         let l : w (4 ∷ []) (codes "load") 0 c ≡ ((w [] (codes "load") 0 c && w [] (codes "address") 14 c) && not (w [] (codes "address") 13 c)) = j.1.0 0 (lit< tt) ∙ load_screen in
         let t : (w (4 ∷ []) (codes "load") 0 c && eqb (number 13 (λ k. w (4 ∷ []) (codes "address") k c)) (x - 16384)) ≡ (w [] (codes "load") 0 c && eqb (address c) x) =
         ap₂ (λ a b. a && eqb b (x - 16384)) l screen_address ∙ screen_test (w [] (codes "load") 0 c) (w [] (codes "address") 14 c) (w [] (codes "address") 13 c) (number 13 (λ k. w [] (codes "address") k c)) x large small (number_below 13 (λ k. w [] (codes "address") k c)) in
@@ -162,25 +162,25 @@ module _ (world : World) (entries : List Entry) (has : HasComputerChips (of_bloc
     pub memory_reads : word (w []) "out" c ≡ (let a = number 15 (λ k. w [] (codes "address") k c) in cond (ltb a 24576) (memory_word w c a) (world.key c))
     unfolding end_of memory_tree mux16_tree ram16k_tree screen_tree keyboard_tree
     memory_reads =
-        let p = part_of world c (of_blocks entries) (shipped memory_tree) w (h c lt) 6 _ (shipped mux16_tree) refl basic.mux16 in
-        let q = part_of world c (of_blocks entries) (shipped memory_tree) w (h c lt) 7 _ (shipped mux16_tree) refl basic.mux16 in
-        let k5 = part_of world c (of_blocks entries) (shipped memory_tree) w (h c lt) 5 _ (shipped keyboard_tree) refl has.keyboard in
+        let p = part_of world c (of_blocks entries) (shipped_entry memory_tree) w (h c lt) 6 _ (shipped_entry mux16_tree) refl basic.mux16 in
+        let q = part_of world c (of_blocks entries) (shipped_entry memory_tree) w (h c lt) 7 _ (shipped_entry mux16_tree) refl basic.mux16 in
+        let k5 = part_of world c (of_blocks entries) (shipped_entry memory_tree) w (h c lt) 5 _ (shipped_entry keyboard_tree) refl has.keyboard in
         let j = p.outside.joined in
         let l = q.outside.joined in
         let r : word (w []) "mainWord" c ≡ block_word 14 (w (3 ∷ [])) c (number 14 (λ k. w [] (codes "address") k c)) =
-        sym (number_same 16 _ _ (λ k le. whole_joined c (shipped ram16k_tree) (w []) (w (3 ∷ [])) (codes "out") (codes "mainWord") ram_part.outside.joined.1.1.1.0 k le)) ∙ ram_part.inside [] (shipped ram16k_tree) refl ∙ ap (block_word 14 (w (3 ∷ [])) c) ram_address in
+        sym (number_same 16 _ _ (λ k le. whole_joined c (shipped_entry ram16k_tree) (w []) (w (3 ∷ [])) (codes "out") (codes "mainWord") ram_part.outside.joined.1.1.1.0 k le)) ∙ ram_part.inside [] (shipped_entry ram16k_tree) refl ∙ ap (block_word 14 (w (3 ∷ [])) c) ram_address in
         let s : word (w []) "screenWord" c ≡ block_word 13 (w (4 ∷ [])) c (number 13 (λ k. w [] (codes "address") k c)) =
-        sym (number_same 16 _ _ (λ k le. whole_joined c (shipped screen_tree) (w []) (w (4 ∷ [])) (codes "out") (codes "screenWord") screen_part.outside.joined.1.1.1.0 k le)) ∙ screen_part.inside [] (shipped screen_tree) refl ∙ ap (block_word 13 (w (4 ∷ [])) c) screen_address in
+        sym (number_same 16 _ _ (λ k le. whole_joined c (shipped_entry screen_tree) (w []) (w (4 ∷ [])) (codes "out") (codes "screenWord") screen_part.outside.joined.1.1.1.0 k le)) ∙ screen_part.inside [] (shipped_entry screen_tree) refl ∙ ap (block_word 13 (w (4 ∷ [])) c) screen_address in
         let key : word (w []) "key" c ≡ world.key c =
-        sym (number_same 16 _ _ (λ k le. whole_joined c (shipped keyboard_tree) (w []) (w (5 ∷ [])) (codes "out") (codes "key") k5.outside.joined.0 k le)) ∙ k5.inside [] (shipped keyboard_tree) refl in
-        let a6 = number_same 16 _ _ (λ k le. whole_joined c (shipped mux16_tree) (w []) (w (6 ∷ [])) (codes "a") (codes "screenWord") j.0 k le) ∙ s in
-        let b6 = number_same 16 _ _ (λ k le. whole_joined c (shipped mux16_tree) (w []) (w (6 ∷ [])) (codes "b") (codes "key") j.1.0 k le) ∙ key in
+        sym (number_same 16 _ _ (λ k le. whole_joined c (shipped_entry keyboard_tree) (w []) (w (5 ∷ [])) (codes "out") (codes "key") k5.outside.joined.0 k le)) ∙ k5.inside [] (shipped_entry keyboard_tree) refl in
+        let a6 = number_same 16 _ _ (λ k le. whole_joined c (shipped_entry mux16_tree) (w []) (w (6 ∷ [])) (codes "a") (codes "screenWord") j.0 k le) ∙ s in
+        let b6 = number_same 16 _ _ (λ k le. whole_joined c (shipped_entry mux16_tree) (w []) (w (6 ∷ [])) (codes "b") (codes "key") j.1.0 k le) ∙ key in
         let s6 : w (6 ∷ []) (codes "sel") 0 c ≡ w [] (codes "address") 13 c = j.1.1.0 0 (lit< tt) in
-        let o6 = number_same 16 _ _ (λ k le. whole_joined c (shipped mux16_tree) (w []) (w (6 ∷ [])) (codes "out") (codes "upperWord") j.1.1.1.0 k le) in
+        let o6 = number_same 16 _ _ (λ k le. whole_joined c (shipped_entry mux16_tree) (w []) (w (6 ∷ [])) (codes "out") (codes "upperWord") j.1.1.1.0 k le) in
         let high = sym o6 ∙ mux16_works world (of_blocks entries) basic c (λ path. w (6 ∷ path)) p.inside ∙ three_same _ _ _ _ _ _ s6 b6 a6 in
-        let a7 = number_same 16 _ _ (λ k le. whole_joined c (shipped mux16_tree) (w []) (w (7 ∷ [])) (codes "a") (codes "mainWord") l.0 k le) ∙ r in
-        let b7 = number_same 16 _ _ (λ k le. whole_joined c (shipped mux16_tree) (w []) (w (7 ∷ [])) (codes "b") (codes "upperWord") l.1.0 k le) ∙ high in
+        let a7 = number_same 16 _ _ (λ k le. whole_joined c (shipped_entry mux16_tree) (w []) (w (7 ∷ [])) (codes "a") (codes "mainWord") l.0 k le) ∙ r in
+        let b7 = number_same 16 _ _ (λ k le. whole_joined c (shipped_entry mux16_tree) (w []) (w (7 ∷ [])) (codes "b") (codes "upperWord") l.1.0 k le) ∙ high in
         let s7 : w (7 ∷ []) (codes "sel") 0 c ≡ w [] (codes "address") 14 c = l.1.1.0 0 (lit< tt) in
-        let o7 = number_same 16 _ _ (λ k le. whole_joined c (shipped mux16_tree) (w []) (w (7 ∷ [])) (codes "out") (codes "out") l.1.1.1.0 k le) in
+        let o7 = number_same 16 _ _ (λ k le. whole_joined c (shipped_entry mux16_tree) (w []) (w (7 ∷ [])) (codes "out") (codes "out") l.1.1.1.0 k le) in
         sym o7 ∙ mux16_works world (of_blocks entries) basic c (λ path. w (7 ∷ path)) q.inside ∙ three_same _ _ _ _ _ _ s7 b7 a7
         ∙ read_at (w [] (codes "address") 14 c) (w [] (codes "address") 13 c) (number 13 (λ k. w [] (codes "address") k c)) (world.key c) (block_word 14 (w (3 ∷ [])) c) (block_word 13 (w (4 ∷ [])) c) (number_below 13 (λ k. w [] (codes "address") k c))

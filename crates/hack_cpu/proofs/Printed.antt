@@ -3,8 +3,8 @@ use Rattle.std.proofs.Common.{◌≡◌, ℕ, true, List, Some, refl}
 use Rattle.hdl_tree.specs.Chips.{find_entry}
 use Rattle.hdl_tree.specs.Writable.{chip_can}
 use Rattle.hdl_tree.specs.declared.library.Entry.{Entry}
-use Rattle.hdl_shown.proofs.Clean.{find_in}
-use Rattle.hdl_shown.proofs.Levels.{all_at}
+use Rattle.hdl_behaviours.proofs.Clean.{find_in}
+use Rattle.hdl_behaviours.proofs.Levels.{all_at}
 use Rattle.hack_cpu.specs.Library.{TextsLaw, shipped_chips}
 use Rattle.hack_cpu.proofs.Opened.{opened}
 

@@ -3,12 +3,12 @@ use Rattle.std.proofs.Common.{◌≡◌, ℕ, Bool, true, false, List, [], ◌�
 use Rattle.std.specs.Prelude.{◌&&◌}
 use Rattle.hdl_tree.specs.declared.library.Entry.{Entry}
 use Rattle.hdl_tree.specs.Writable.{all}
-use Rattle.hdl_elab.specs.Whole.{chips_in}
-use Rattle.hdl_shown.specs.Clean.{is_clean, AreClean}
-use Rattle.hdl_shown.specs.Levels.{Level, pairs_of, is_levelled, AreLevelled}
-use Rattle.hdl_shown.proofs.Clean.{clean_faultless}
-use Rattle.hdl_shown.proofs.Levels.{all_at, loopless}
-use Rattle.hdl_shown.proofs.Swept.{swept}
+use Rattle.hdl_check.specs.Whole.{chips_in}
+use Rattle.hdl_behaviours.specs.Clean.{is_clean, AreClean}
+use Rattle.hdl_behaviours.specs.Levels.{Level, pairs_of, is_levelled, AreLevelled}
+use Rattle.hdl_behaviours.proofs.Clean.{clean_faultless}
+use Rattle.hdl_behaviours.proofs.Levels.{all_at, loopless}
+use Rattle.hdl_behaviours.proofs.Swept.{swept}
 use Rattle.hack_cpu.specs.Library.{shipped_chips, basic_chips, computing_chips, memory_chips, computer_chips}
 use Rattle.hack_cpu.specs.Dependencies.{dependencies, FaultlessLaw, LooplessLaw}
 use Rattle.hack_cpu.proofs.Opened.{opened}

@@ -2,10 +2,10 @@
 use Rattle.std.specs.Prelude.{◌≡◌, ℕ, ◌-◌, ◌<◌, nat_lt, true, false, if◌then◌else◌, List, [], ◌∷◌, slice_index}
 use Rattle.hack_isa.specs.Machine.{Machine, machine_at}
 use Rattle.hdl_tree.specs.declared.library.Entry.{Entry}
-use Rattle.hdl_tree.specs.Memory.{held}
+use Rattle.hdl_tree.specs.Memory.{word_held}
 use Rattle.hdl_tree.specs.Chips.{Chips}
 use Rattle.hdl_tree.specs.Behaviour.{Histories, World, IsBehaviour}
-use Rattle.chip_basic.specs.Hdl.{shipped}
+use Rattle.chip_basic.specs.Hdl.{shipped_entry}
 use Rattle.chip_basic.specs.Laws.{bit, bits, word}
 use Rattle.hack_cpu.specs.Trees.{HasComputerChips, computer_tree}
 
@@ -21,7 +21,7 @@ outside image keys = record { key = keys; rom = slice_index image }
 
 -- the word at a place of a block of 2 ^ n words, by the histories of the block's pins
 abbrev pub block_word : ℕ → Histories → ℕ → ℕ → ℕ
-block_word n w c a = held (bit w "load") (bits n w "address") (word w "in") (λ x. 0) c a
+block_word n w c a = word_held (bit w "load") (bits n w "address") (word w "in") (λ x. 0) c a
 
 -- A and D: the registers are the parts 3 and 6 of the CPU, which is part 0
 abbrev pub a_at : (List ℕ → Histories) → ℕ → ℕ
@@ -50,5 +50,5 @@ pub record Shows (wires : List ℕ → Histories) (c : ℕ) (s : Machine) : Type
 -- In every behaviour of the Computer whose memories are blocks, with an image and keys and without a reset: A, D, the pc and the words 0 to 24575 at
 -- cycle c are those of the instruction machine after c steps.
 abbrev pub CycleLaw : Type 0
-CycleLaw = (image : List ℕ) (keys : ℕ → ℕ) (entries : List Entry) (n : ℕ) (wires : List ℕ → Histories) → HasComputerChips (of_blocks entries) → IsBehaviour (outside image keys) (of_blocks entries) (shipped computer_tree) n wires →
+CycleLaw = (image : List ℕ) (keys : ℕ → ℕ) (entries : List Entry) (n : ℕ) (wires : List ℕ → Histories) → HasComputerChips (of_blocks entries) → IsBehaviour (outside image keys) (of_blocks entries) (shipped_entry computer_tree) n wires →
     ((c : ℕ) → c < n → bit (wires []) "reset" c ≡ false) → (c : ℕ) → c < n → Shows wires c (machine_at image keys c)

@@ -7,7 +7,7 @@ use Rattle.hdl_tree.specs.Memory.{number, before}
 use Rattle.hdl_tree.specs.declared.tree.Part.{Part}
 use Rattle.hdl_tree.specs.Chips.{Chips, parts_of_body}
 use Rattle.hdl_tree.specs.Behaviour.{Histories, World, IsBehaviour}
-use Rattle.chip_basic.specs.Hdl.{shipped}
+use Rattle.chip_basic.specs.Hdl.{shipped_entry}
 use Rattle.chip_basic.specs.Laws.{bit, word}
 use Rattle.hack_cpu.specs.Trees.{HasComputerChips, cpu_tree}
 
@@ -43,7 +43,7 @@ pub record CpuWorks (wires : List ℕ → Histories) (c : ℕ) : Type 0 where
   pub next_pc : pc_held wires c ≡ before 0 c (λ d. cond (bit (wires []) "reset" d) 0 (cond (jumps_on wires d (result wires d)) (a_held wires d) (word_add (pc_held wires d) 1)))
 
 abbrev pub CpuLaw : Type 0
-CpuLaw = (world : World) (library : Chips) (n : ℕ) (wires : List ℕ → Histories) → HasComputerChips library → IsBehaviour world library (shipped cpu_tree) n wires → (c : ℕ) → c < n → CpuWorks wires c
+CpuLaw = (world : World) (library : Chips) (n : ℕ) (wires : List ℕ → Histories) → HasComputerChips library → IsBehaviour world library (shipped_entry cpu_tree) n wires → (c : ℕ) → c < n → CpuWorks wires c
 
 -- ---- which part is which
 

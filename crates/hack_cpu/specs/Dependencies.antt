@@ -4,10 +4,10 @@ use Rattle.std.specs.Prelude.{◌≡◌, ℕ, Bool, List, [], ◌∷◌, ◌++�
 use Rattle.hdl_tree.specs.declared.tree.Chip.{Chip}
 use Rattle.hdl_tree.specs.declared.tree.Pin.{Pin}
 use Rattle.hdl_tree.specs.declared.library.Entry.{Entry}
-use Rattle.hdl_elab.specs.Whole.{chips_in}
-use Rattle.hdl_elab.specs.Locations.{IsFaultless}
-use Rattle.hdl_shown.specs.Levels.{Pairs, pairs_of}
-use Rattle.hdl_shown.specs.Laws.{IsLoopless}
+use Rattle.hdl_check.specs.Whole.{chips_in}
+use Rattle.hdl_check.specs.Locations.{IsFaultless}
+use Rattle.hdl_behaviours.specs.Levels.{Pairs, pairs_of}
+use Rattle.hdl_behaviours.specs.Laws.{IsLoopless}
 use Rattle.chip_basic.specs.Trees.{nand_tree, not_tree, and_tree, or_tree, xor_tree, mux_tree, dmux_tree, not16_tree, and16_tree, or16_tree, mux16_tree, or8way_tree, mux4way16_tree, mux8way16_tree, dmux4way_tree, dmux8way_tree}
 use Rattle.chip_alu.specs.Trees.{half_adder_tree, full_adder_tree, add16_tree, inc16_tree, alu_tree}
 use Rattle.hack_cpu.specs.Library.{shipped_chips}

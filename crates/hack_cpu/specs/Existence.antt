@@ -4,9 +4,9 @@ use Rattle.std.specs.List.{All}
 use Rattle.hdl_tree.specs.declared.library.Entry.{Entry}
 use Rattle.hdl_tree.specs.Chips.{find_chip}
 use Rattle.hdl_tree.specs.Behaviour.{Histories, World, IsBehaviour}
-use Rattle.hdl_elab.specs.Whole.{chips_in}
-use Rattle.hdl_exist.specs.Existence.{AreWords, HasBehaviour}
-use Rattle.chip_basic.specs.Hdl.{shipped}
+use Rattle.hdl_check.specs.Whole.{chips_in}
+use Rattle.hdl_behaviours.specs.Existence.{AreWords, HasBehaviour}
+use Rattle.chip_basic.specs.Hdl.{shipped_entry}
 use Rattle.chip_basic.specs.Laws.{bit}
 use Rattle.hack_cpu.specs.Trees.{computer_tree}
 use Rattle.hack_cpu.specs.Library.{shipped_chips}
@@ -22,7 +22,7 @@ ExistenceLaw =
 -- a behaviour of the Computer over n cycles, with an image and keys and without a reset
 pub record ComputerRuns (image : List ℕ) (keys : ℕ → ℕ) (n : ℕ) : Type 0 where
   pub wires : List ℕ → Histories
-  pub behaves : IsBehaviour (outside image keys) (of_blocks shipped_chips) (shipped computer_tree) n wires
+  pub behaves : IsBehaviour (outside image keys) (of_blocks shipped_chips) (shipped_entry computer_tree) n wires
   pub no_reset : (c : ℕ) → bit (wires []) "reset" c ≡ false
 
 -- There is one for each image of words and all keys, so that the law of the Computer speaks of something.

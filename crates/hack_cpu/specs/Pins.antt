@@ -6,8 +6,8 @@ use Rattle.hdl_tree.specs.declared.library.Entry.{Entry}
 use Rattle.hdl_tree.specs.declared.ends.End.{End}
 use Rattle.hdl_tree.specs.declared.ends.End.TheVariants as ends
 use Rattle.hdl_tree.specs.Chips.{Chips, end_of, find_chip, pin_width}
-use Rattle.hdl_elab.specs.Whole.{chips_in, AreDistinct}
-use Rattle.hdl_law.specs.Planned.{HasEnds}
+use Rattle.hdl_check.specs.Whole.{chips_in, AreDistinct}
+use Rattle.hdl_plans.specs.Planned.{HasEnds}
 use Rattle.hack_cpu.specs.Library.{shipped_chips}
 
 -- a name and a width

@@ -3,7 +3,7 @@ use Rattle.std.specs.Prelude.{◌≡◌, true, List, [], ◌∷◌, ◌++◌, So
 use Rattle.hdl_tree.specs.declared.tree.Part.{Part}
 use Rattle.hdl_tree.specs.declared.tree.Chip.{Chip}
 use Rattle.hdl_tree.specs.Chips.{Chips, find_chip}
-use Rattle.chip_basic.specs.Hdl.{pin, bus, wire, wire_bit, wire_bits, bits_wire, constant, part, chip, builtin, shipped}
+use Rattle.chip_basic.specs.Hdl.{pin, bus, wire, wire_bit, wire_bits, bits_wire, constant, part, chip, builtin, shipped_entry}
 use Rattle.chip_memory.specs.Trees.{HasMemoryChips}
 
 -- the instruction memory and the keyboard, which are built in
@@ -79,8 +79,8 @@ computer_tree = chip "Computer" (pin "reset" ∷ []) [] (
 -- the library has these chips too, under their names, each as it is shipped
 pub record HasComputerChips (library : Chips) : Type 0 where
   pub memories : HasMemoryChips library
-  pub rom : find_chip library (codes "ROM32K") ≡ Some (shipped rom_tree)
-  pub keyboard : find_chip library (codes "Keyboard") ≡ Some (shipped keyboard_tree)
-  pub cpu : find_chip library (codes "CPU") ≡ Some (shipped cpu_tree)
-  pub memory : find_chip library (codes "Memory") ≡ Some (shipped memory_tree)
-  pub computer : find_chip library (codes "Computer") ≡ Some (shipped computer_tree)
+  pub rom : find_chip library (codes "ROM32K") ≡ Some (shipped_entry rom_tree)
+  pub keyboard : find_chip library (codes "Keyboard") ≡ Some (shipped_entry keyboard_tree)
+  pub cpu : find_chip library (codes "CPU") ≡ Some (shipped_entry cpu_tree)
+  pub memory : find_chip library (codes "Memory") ≡ Some (shipped_entry memory_tree)
+  pub computer : find_chip library (codes "Computer") ≡ Some (shipped_entry computer_tree)

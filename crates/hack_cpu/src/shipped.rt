@@ -2,7 +2,7 @@
 ghost use Rattle.std.specs.Prelude.{◌≡◌, ◌++◌, ◌∷◌, [], true, Some, None, IfOk, IfSome, IfNone};
 ghost use Rattle.hdl_tree.specs.Chips.{find_entry};
 ghost use Rattle.hdl_tree.specs.Writable.{chip_can};
-ghost use Rattle.chip_basic.specs.Hdl.{shipped};
+ghost use Rattle.chip_basic.specs.Hdl.{shipped_entry};
 ghost use Rattle.hack_cpu.specs.Library.{basic_chips, computing_chips, memory_chips, computer_chips, shipped_chips};
 
 use crate::trees::{computer_tree, cpu_tree, keyboard_tree, memory_tree, rom_tree};
@@ -21,7 +21,7 @@ use std::alloc::{AllocError, Global};
 
 // A chip under its own name, behind those that are there.
 fn add_shipped(alloc: Global, entries: &mut List<Entry>, chip: Chip) -> Result<(), AllocError>
-    ensures { IfOk result (λ _. entries.new ≡ entries.old ++ shipped chip ∷ []) }
+    ensures { IfOk result (λ _. entries.new ≡ entries.old ++ shipped_entry chip ∷ []) }
 {
     let name = chip.name.clone()?;
     let own = chip.name.clone()?;

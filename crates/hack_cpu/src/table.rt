@@ -1,6 +1,6 @@
 //! Parts of chips as constant tables: a row for each part, with its connections in the words of a text.
 ghost use Rattle.std.specs.Prelude.{◌≡◌, ◌++◌, ◌∷◌, [], map, IfOk};
-ghost use Rattle.hack_cpu.specs.Inner.Tables.{connected, part_of};
+ghost use Rattle.hack_cpu.specs.Inner.Tables.{connection_of, part_of};
 
 use chip_basic::{Joint, add_part, bits_wire, constant, wire, wire_bit, wire_bits};
 use hdl_tree::{List, Part};
@@ -30,7 +30,7 @@ pub struct Row<'a> {
 
 // The connection that stands in a table.
 fn joint_of<'a>(link: Link<'a>) -> Joint<'a>
-    ensures { result ≡ connected link.entry }
+    ensures { result ≡ connection_of link.entry }
 {
     match link {
         Link::Wire(pin, net) => wire(pin, net),
@@ -42,7 +42,7 @@ fn joint_of<'a>(link: Link<'a>) -> Joint<'a>
 }
 
 fn joints_of<'a>(alloc: Global, links: &[Link<'a>]) -> Result<Vec<Joint<'a>>, AllocError>
-    ensures { IfOk result (λ joints. joints.items ≡ map connected links.now) }
+    ensures { IfOk result (λ joints. joints.items ≡ map connection_of links.now) }
 {
     let mut joints = Vec::new(alloc);
     for link in links {

@@ -1,6 +1,8 @@
-pub mod Tables
+pub mod Sound
+pub mod Moved
+pub mod Elaborated
+pub mod Orderly
+pub mod Behaviour
+pub mod Hearing
 pub mod Faults
-pub mod Locations
-pub mod Whole
-pub mod Inner
-pub mod Told
+pub mod Directory

@@ -1,23 +1,24 @@
-//! Elaboration: the faults of a library of chips (book, appendix 2).
+//! Elaboration (book, chapters 1 to 3 and appendix 2): a chip as a netlist in order, with a directory of its pins and parts.
 //!
-//! Pass by pass: `catalog` makes tables of the names of chips and pins, `search` goes through a chip's text and those of the chips in
-//! it, each once, depth first, and `check` looks at one connection. The definitions are in `specs/`: `Faults` (what can be wrong with
-//! a pin, a part's chip or a connection), `Locations` (their order, and the first fault) and `Whole`.
+//! `elaboration` asks whether anything is wrong with the chip, and else has `build` make it flat and put its nodes in order: `put`, with
+//! `moving` for the directory. The definitions are in `specs/`: `Elaborated` (what a chip's netlist and directory are), `Behaviour` (that
+//! the values of the netlist are a behaviour of the chip), `Hearing` (what comes in at its ends, told by the directory), `Directory` (that
+//! what the directory names is there), `Faults` (why a chip has no netlist), `Sound` (what a chip must not have), `Orderly` (what can be put
+//! in order) and `Moved` (a flat chip whose nodes have other numbers).
 #![tactic(auto)]
 
-mod catalog;
-mod check;
-mod elab;
+mod build;
+mod elaboration;
 mod fault;
-mod search;
-mod stage;
-mod table;
+mod laws;
+mod moving;
+mod put;
 
-// The passes behind this one go through the chips by the same tables.
-pub use catalog::Catalog;
-pub use check::{count_bits, first_bit};
-pub use table::Table;
-// What the definitions of faults speak of.
-pub use check::{Port, RightSide};
-pub use elab::{check_library, order_law};
-pub use fault::{ElabFault, FaultKind, NamedFault};
+pub use build::build_net;
+pub use elaboration::elaborate;
+pub use fault::ElaborationFault;
+pub use laws::{
+    behaviour_law, directory_law, elaborated_law, end_alone_law, hearing_law, orderly_law,
+    there_law,
+};
+pub use put::{Elab, put_in_net};

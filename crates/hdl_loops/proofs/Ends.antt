@@ -8,10 +8,10 @@ use Rattle.hdl_tree.specs.declared.ends.End.{End}
 use Rattle.hdl_tree.specs.declared.ends.End.TheVariants as ends
 use Rattle.hdl_tree.specs.Chips.{Chips, end_of, parts_of, parts_of_body, parts_unless}
 use Rattle.hdl_tree.specs.Behaviour.{chip_of}
-use Rattle.hdl_law.specs.Loops.{BitAt, bit_at, reaches_out}
-use Rattle.hdl_law.specs.Ways.{Chain, JointsFit, Joined, EndReaches, Own, OwnAt, OwnCircle, Depends}
-use Rattle.hdl_law.proofs.Circles.{own_way}
-use Rattle.hdl_law.proofs.Walks.{at_part}
+use Rattle.hdl_plans.specs.Loops.{BitAt, bit_at, reaches_out}
+use Rattle.hdl_plans.specs.Ways.{Chain, JointsFit, Joined, EndReaches, Own, OwnAt, OwnCircle, Depends}
+use Rattle.hdl_plans.proofs.Circles.{own_way}
+use Rattle.hdl_plans.proofs.Walks.{at_part}
 use Rattle.hdl_loops.specs.Inner.Knowing.{TreeClear, end_crosses}
 
 out_is_none : (e : End) → reaches_out e (codes "out") ≡ false

@@ -7,9 +7,9 @@ use Rattle.std.specs.Str.{bytes_eq}
 use Rattle.std.specs.Cmp.Lexicographic.{bytes_decides}
 use Rattle.std.proofs.lemmas.Bool.Decides.{Decides-eqb}
 use Rattle.std.proofs.lemmas.Option.{slice_get_within}
-use Rattle.hdl_elab.proofs.MarkLemmas.{both}
-use Rattle.hdl_law.specs.Loops.{BitAt, bit_at}
-use Rattle.hdl_law.specs.Ways.{Chain, Way}
+use Rattle.hdl_check.proofs.MarkLemmas.{both}
+use Rattle.hdl_plans.specs.Loops.{BitAt, bit_at}
+use Rattle.hdl_plans.specs.Ways.{Chain, Way}
 use Rattle.hdl_loops.specs.Inner.Hops.{bit, is_bit, HasHop, Linked, AllIn, IsWay, NoRound}
 use Rattle.hdl_loops.specs.Inner.Trees.{place_in, is_marked, IsReached, Behind, Comes, IsBefore, IsNode, IsTree, KeepsMarks, Grows, Adds, IsClosed, IsGrown, open_hops, tree_in, AreTrees, HasTree, IsBack, steps_left, Followed}
 use Rattle.hdl_loops.specs.Inner.Ranked.{rank_at, Rise, AllRise}

@@ -10,9 +10,9 @@ use Rattle.hdl_tree.specs.declared.tree.Part.{Part}
 use Rattle.hdl_tree.specs.declared.library.Entry.{Entry}
 use Rattle.hdl_tree.specs.Chips.{Chips, parts_of, count}
 use Rattle.hdl_tree.specs.Behaviour.{width_of}
-use Rattle.hdl_elab.proofs.MarkLemmas.{both}
-use Rattle.hdl_law.specs.Plans.{is_input}
-use Rattle.hdl_law.specs.Loops.{BitAt}
+use Rattle.hdl_check.proofs.MarkLemmas.{both}
+use Rattle.hdl_plans.specs.Plans.{is_input}
+use Rattle.hdl_plans.specs.Loops.{BitAt}
 use Rattle.hdl_loops.specs.Inner.Hops.{bit, HasHop}
 use Rattle.hdl_loops.specs.Inner.Ties.{Tie, tie, ties_below, ties_by, ties_in, gather}
 use Rattle.hdl_loops.specs.Inner.Told.{Connects, HasConnection}

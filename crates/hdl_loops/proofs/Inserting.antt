@@ -2,7 +2,7 @@
 use Rattle.std.proofs.Common.{◌≡◌, ℕ, ◌⊎◌, inl, inr, Bool, true, false, cond, List, [], ◌∷◌, Some, None, refl, sym, ap, subst, ◌∙◌}
 use Rattle.std.specs.Prelude.{is_some}
 use Rattle.indexmap.specs.IndexMap.{insert_entry}
-use Rattle.hdl_law.specs.Loops.{BitAt, bit_at}
+use Rattle.hdl_plans.specs.Loops.{BitAt, bit_at}
 use Rattle.hdl_loops.specs.Inner.Hops.{bit, is_bit}
 use Rattle.hdl_loops.specs.Inner.Trees.{tree_in, AreTrees, HasTree, KeepsTrees, IsGrown}
 use Rattle.hdl_loops.specs.declared.hops.BitOf.{BitOf}

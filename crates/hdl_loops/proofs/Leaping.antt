@@ -9,8 +9,8 @@ use Rattle.hdl_tree.specs.declared.library.Entry.{Entry}
 use Rattle.hdl_tree.specs.declared.ends.End.{End}
 use Rattle.hdl_tree.specs.Chips.{Chips, end_of, find_chip, parts_of, first}
 use Rattle.hdl_tree.specs.Behaviour.{chip_of}
-use Rattle.hdl_elab.proofs.MarkLemmas.{both}
-use Rattle.hdl_law.specs.Loops.{BitAt, bit_at, reaches_out, IsJoint, Feeds, down, up, through}
+use Rattle.hdl_check.proofs.MarkLemmas.{both}
+use Rattle.hdl_plans.specs.Loops.{BitAt, bit_at, reaches_out, IsJoint, Feeds, down, up, through}
 use Rattle.hdl_loops.specs.Inner.Hops.{bit, input_of, output_of, Linked, AreJoined}
 use Rattle.hdl_loops.specs.Inner.Knowing.{end_crosses, IsHop, AreHops}
 use Rattle.hdl_loops.specs.Inner.Told.{HasConnection, LeadsThrough, Tells, TellsTo, ToldTo, TellsThrough, add_names, names_of}

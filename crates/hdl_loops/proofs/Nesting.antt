@@ -7,8 +7,8 @@ use Rattle.hdl_tree.specs.declared.library.Entry.{Entry}
 use Rattle.hdl_tree.specs.Chips.{Chips, find_chip, find_entry, parts_of}
 use Rattle.hdl_tree.specs.Behaviour.{inner_chip}
 use Rattle.hdl_tree.specs.Writable.{is_among}
-use Rattle.hdl_elab.specs.Locations.{IsFaultless}
-use Rattle.hdl_law.proofs.Nesting.{inner_by}
+use Rattle.hdl_check.specs.Locations.{IsFaultless}
+use Rattle.hdl_plans.proofs.Nesting.{inner_by}
 use Rattle.hdl_loops.specs.Inner.Knowing.{Nests}
 
 -- how many chips have none of these names

@@ -4,7 +4,7 @@ use Rattle.std.specs.Prelude.{slice_get}
 use Rattle.hdl_tree.specs.declared.library.Entry.{Entry}
 use Rattle.hdl_tree.specs.declared.ends.End.{End}
 use Rattle.hdl_tree.specs.Chips.{Chips, end_of}
-use Rattle.hdl_law.specs.Loops.{BitAt}
+use Rattle.hdl_plans.specs.Loops.{BitAt}
 use Rattle.hdl_loops.specs.Inner.Hops.{input_of, output_of}
 use Rattle.hdl_loops.specs.Inner.Knowing.{crosses_in, crosses_by, leads, leads_in, IsHop, IsRight, AreKnown, IsDone, PartsDone, KnowNothing, StaysKnown, Notes}
 use Rattle.hdl_loops.specs.declared.hops.Hop.{Hop}

@@ -7,9 +7,9 @@ use Rattle.hdl_tree.specs.declared.tree.Part.{Part}
 use Rattle.hdl_tree.specs.declared.library.Entry.{Entry}
 use Rattle.hdl_tree.specs.Chips.{Chips, find_chip, find_entry, parts_of}
 use Rattle.hdl_tree.specs.Behaviour.{chip_of}
-use Rattle.hdl_elab.specs.Whole.{chips_in}
-use Rattle.hdl_elab.proofs.Stages.{entry_there}
-use Rattle.hdl_law.specs.Loops.{IsLoop, once_more}
+use Rattle.hdl_check.specs.Whole.{chips_in}
+use Rattle.hdl_check.proofs.Stages.{entry_there}
+use Rattle.hdl_plans.specs.Loops.{IsLoop, once_more}
 use Rattle.hdl_loops.specs.Inner.Told.{Tells, add_name, add_names, names_of}
 use Rattle.hdl_loops.specs.Inner.Looked.{PartTells, TellsLoop}
 use Rattle.hdl_loops.specs.declared.hops.BitOf.{BitOf}

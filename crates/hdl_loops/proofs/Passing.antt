@@ -8,7 +8,7 @@ use Rattle.std.proofs.lemmas.Bool.Decides.{Decides-eqb}
 use Rattle.hdl_tree.specs.declared.library.Entry.{Entry}
 use Rattle.hdl_tree.specs.Writable.{is_among}
 use Rattle.hdl_tree.specs.Chips.{Chips}
-use Rattle.hdl_elab.proofs.MarkLemmas.{or_false, both}
+use Rattle.hdl_check.proofs.MarkLemmas.{or_false, both}
 use Rattle.hdl_loops.specs.Inner.Told.{TripAmong, AllAmong, AreTold, TellsThrough, NotesOne, add_name, add_names, names_of, is_passage, was_passed}
 use Rattle.hdl_loops.specs.declared.told.Passage.{Passage}
 use Rattle.hdl_loops.specs.declared.told.Told.{Told}

@@ -6,7 +6,7 @@ use Rattle.std.specs.Cmp.Lexicographic.{bytes_decides}
 use Rattle.hdl_tree.specs.declared.tree.Pin.{Pin}
 use Rattle.hdl_tree.specs.Chips.{pin_width}
 use Rattle.hdl_tree.specs.Behaviour.{width_in}
-use Rattle.hdl_law.specs.Ways.{HasBit}
+use Rattle.hdl_plans.specs.Ways.{HasBit}
 
 pub record PinOf (pins : List Pin) (name : List ℕ) (width : ℕ) : Type 0 where
   pub place : ℕ

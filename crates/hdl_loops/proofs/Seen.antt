@@ -6,11 +6,11 @@ use Rattle.hdl_tree.specs.declared.library.Entry.{Entry}
 use Rattle.hdl_tree.specs.declared.ends.End.{End}
 use Rattle.hdl_tree.specs.Chips.{Chips, end_of, find_chip, parts_of, count}
 use Rattle.hdl_tree.specs.Behaviour.{chip_of, inner_chip, width_of}
-use Rattle.hdl_law.specs.Plans.{is_input}
-use Rattle.hdl_law.specs.Loops.{BitAt, bit_at, IsLoop}
-use Rattle.hdl_law.specs.Ways.{Chain, Way, HasBit, Depends, TreeFits, Joined, Across, Own, OwnAt, OwnCircle}
-use Rattle.hdl_law.proofs.Circles.{own_way, circle_to_own}
-use Rattle.hdl_law.proofs.Walks.{at_part, part_at, joined_inner, one_step, step_way}
+use Rattle.hdl_plans.specs.Plans.{is_input}
+use Rattle.hdl_plans.specs.Loops.{BitAt, bit_at, IsLoop}
+use Rattle.hdl_plans.specs.Ways.{Chain, Way, HasBit, Depends, TreeFits, Joined, Across, Own, OwnAt, OwnCircle}
+use Rattle.hdl_plans.proofs.Circles.{own_way, circle_to_own}
+use Rattle.hdl_plans.proofs.Walks.{at_part, part_at, joined_inner, one_step, step_way}
 use Rattle.hdl_loops.specs.Inner.Hops.{HasHop, NoRound}
 use Rattle.hdl_loops.specs.Inner.Ties.{tie, ties_in, gather}
 use Rattle.hdl_loops.specs.Inner.Trees.{AreTrees, HasTree}

@@ -4,8 +4,8 @@ use Rattle.std.specs.Prelude.{if◌then◌else◌}
 use Rattle.std.specs.Str.{bytes_eq}
 use Rattle.std.specs.Cmp.Lexicographic.{bytes_decides}
 use Rattle.hdl_tree.specs.Writable.{is_among}
-use Rattle.hdl_elab.proofs.MarkLemmas.{or_assoc, or_false}
-use Rattle.hdl_law.specs.Loops.{once_more}
+use Rattle.hdl_check.proofs.MarkLemmas.{or_assoc, or_false}
+use Rattle.hdl_plans.specs.Loops.{once_more}
 use Rattle.hdl_loops.specs.Inner.Told.{add_name, add_names, AllAmong}
 
 abbrev Names : Type 0

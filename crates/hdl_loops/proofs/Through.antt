@@ -5,7 +5,7 @@ use Rattle.hdl_tree.specs.declared.library.Entry.{Entry}
 use Rattle.hdl_tree.specs.declared.ends.End.{End}
 use Rattle.hdl_tree.specs.Chips.{Chips, end_of}
 use Rattle.hdl_tree.specs.Behaviour.{chip_of, inner_chip}
-use Rattle.hdl_law.specs.Loops.{BitAt}
+use Rattle.hdl_plans.specs.Loops.{BitAt}
 use Rattle.hdl_loops.specs.Inner.Hops.{Linked}
 use Rattle.hdl_loops.specs.Inner.Knowing.{crosses, crosses_in, crosses_by, end_crosses, leads_in, AreKnown, AreHops, IsHop, HasTrees, IsWayIn, Nests, NestsAt}
 use Rattle.hdl_loops.specs.declared.hops.Hop.{Hop}

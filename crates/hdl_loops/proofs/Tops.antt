@@ -3,9 +3,9 @@ use Rattle.std.proofs.Common.{◌≡◌, ℕ, List, [], ◌∷◌, Option, Some,
 use Rattle.std.specs.Prelude.{slice_get, IfOk, OnOk}
 use Rattle.hdl_tree.specs.declared.library.Entry.{Entry}
 use Rattle.hdl_tree.specs.Chips.{find_chip, find_entry}
-use Rattle.hdl_elab.specs.Whole.{chips_in, TopIsFaultless}
-use Rattle.hdl_law.specs.Loops.{IsLoop}
-use Rattle.hdl_law.proofs.Fits.{tree_fits}
+use Rattle.hdl_check.specs.Whole.{chips_in, TopIsFaultless}
+use Rattle.hdl_plans.specs.Loops.{IsLoop}
+use Rattle.hdl_plans.proofs.Fits.{tree_fits}
 use Rattle.hdl_loops.specs.Inner.Knowing.{AreKnown, IsDone, NestsAt}
 use Rattle.hdl_loops.specs.declared.known.Known.{Known}
 use Rattle.hdl_loops.proofs.Nesting.{faultless_nests}

@@ -5,24 +5,24 @@ use Rattle.std.proofs.lemmas.Bool.Decides.{Decides-ltb}
 use Rattle.hdl_tree.specs.declared.library.Entry.{Entry}
 use Rattle.hdl_tree.specs.Chips.{Chips}
 use Rattle.hdl_tree.specs.Behaviour.{inner_chip}
-use Rattle.hdl_law.specs.Loops.{BitAt, bit_at, Feeds, is_peak, peaks, once_more, IsLoop}
-use Rattle.hdl_law.proofs.Walks.{under, join}
-use Rattle.hdl_law.proofs.Circles.{unders, shift_chain, chain_round, circle_of}
+use Rattle.hdl_plans.specs.Loops.{BitAt, bit_at, Feeds, is_peak, peaks, once_more, IsLoop}
+use Rattle.hdl_plans.proofs.Walks.{under, join}
+use Rattle.hdl_plans.proofs.Circles.{unders, shift_chain, chain_round, circle_of}
 use Rattle.hdl_loops.specs.Inner.Told.{Trip, DeepTrip, head_of, last_of}
 
 -- ---- outermost bits of lists that are put together
 
-abbrev told_if : Bool → List ℕ → List (List ℕ)
-told_if b name = if b then name ∷ [] else []
+abbrev diagnostic_if : Bool → List ℕ → List (List ℕ)
+diagnostic_if b name = if b then name ∷ [] else []
 
 abbrev here : BitAt → BitAt → BitAt → List (List ℕ)
-here a m b = told_if (is_peak a m b) m.name
+here a m b = diagnostic_if (is_peak a m b) m.name
 
-told_nil : (b : Bool) (name : List ℕ) → told_if b name ≡ told_if b name ++ []
+told_nil : (b : Bool) (name : List ℕ) → diagnostic_if b name ≡ diagnostic_if b name ++ []
 told_nil true name = refl
 told_nil false name = refl
 
-told_more : (b : Bool) (name : List ℕ) (rest : List (List ℕ)) → (if b then name ∷ rest else rest) ≡ told_if b name ++ rest
+told_more : (b : Bool) (name : List ℕ) (rest : List (List ℕ)) → (if b then name ∷ rest else rest) ≡ diagnostic_if b name ++ rest
 told_more true name rest = refl
 told_more false name rest = refl
 
@@ -65,7 +65,7 @@ peak_under i a m b =
 peaks_under : (i : ℕ) (ms : List BitAt) (x y : BitAt) → peaks (under i x) (unders i ms) (under i y) ≡ peaks x ms y
 unfolding unders
 peaks_under i [] x y = refl
-peaks_under i (m ∷ []) x y = ap (λ (t : Bool). told_if t m.name) (peak_under i x m y)
+peaks_under i (m ∷ []) x y = ap (λ (t : Bool). diagnostic_if t m.name) (peak_under i x m y)
 peaks_under i (m ∷ n ∷ ns) x y =
     ap₂ (λ (t : Bool) (rest : List (List ℕ)). if t then m.name ∷ rest else rest) (peak_under i x m n) (peaks_under i (n ∷ ns) m y)
 
@@ -95,7 +95,7 @@ loop_out chips chip i inner found nets l =
 
 -- ---- ways through parts
 
-not_told : (t : Bool) (name : List ℕ) → told_if (if t then false else false) name ≡ []
+not_told : (t : Bool) (name : List ℕ) → diagnostic_if (if t then false else false) name ≡ []
 not_told true name = refl
 not_told false name = refl
 
@@ -138,7 +138,7 @@ join_trips chips chip x n b y names more f g =
         named =
             peaks_join fs x m y gs
             ∙ ap₂ (λ s t. s ++ t) f.trip.named
-            (ap₂ (λ s t. s ++ t) (ap₂ (λ (s t : Bool). told_if (if s then t else false) n) f.last g.head) g.trip.named);
+            (ap₂ (λ s t. s ++ t) (ap₂ (λ (s t : Bool). diagnostic_if (if s then t else false) n) f.last g.head) g.trip.named);
       };
       head = ap (λ (v : BitAt). nat_lt 0 (length v.path)) (head_join fs m y gs) ∙ f.head;
       last = ap (λ (v : BitAt). nat_lt 0 (length v.path)) (last_join fs x m gs) ∙ g.last;
@@ -155,5 +155,5 @@ trip_loop chips chip n b names f =
       last = last_of x bits;
       ends = get_last bits x;
       circle = circle_of chips chip bits x f.trip.steps;
-      named = ap (once_more []) (sym (peaks_cons (last_of x bits) x x bits ∙ ap₂ (λ s t. s ++ t) (ap₂ (λ (s t : Bool). told_if (if s then t else false) n) f.last f.head) f.trip.named));
+      named = ap (once_more []) (sym (peaks_cons (last_of x bits) x x bits ∙ ap₂ (λ s t. s ++ t) (ap₂ (λ (s t : Bool). diagnostic_if (if s then t else false) n) f.last f.head) f.trip.named));
     }

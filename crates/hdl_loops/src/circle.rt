@@ -1,7 +1,7 @@
 //! A circle of a chip's own graph.
 
 ghost use Rattle.std.specs.Prelude.{◌≡◌, None, OnOk, IfOk, MatchOption};
-ghost use Rattle.hdl_law.specs.Ways.{Way};
+ghost use Rattle.hdl_plans.specs.Ways.{Way};
 ghost use Rattle.hdl_loops.specs.Inner.Hops.{bit, HasHop, IsWay, IsRound, NoRound};
 
 use crate::hops::{BitOf, Hop};

@@ -1,7 +1,7 @@
 //! The own graph of a chip: the hops between the bits of its nets and pins, each through a part.
 
 ghost use Rattle.std.specs.Prelude.{◌≡◌, ◌<◌, ◌++◌, OnOk, IfOk, length};
-ghost use Rattle.hdl_elab.specs.Whole.{chips_in};
+ghost use Rattle.hdl_check.specs.Whole.{chips_in};
 ghost use Rattle.hdl_loops.specs.Inner.Ties.{tie_of, ties_of, gather};
 ghost use Rattle.hdl_loops.specs.Inner.Knowing.{leads_through, leaps_of, leap_by, leaps_from, leaps_through, part_leaps};
 

@@ -1,10 +1,10 @@
 //! What is known of chips: which bits of a chip lead to which.
 
 ghost use Rattle.std.specs.Prelude.{◌≡◌, ◌<◌, ℕ, true, List, [], OnOk, IfOk, length, slice_get};
-ghost use Rattle.hdl_elab.specs.Whole.{chips_in};
+ghost use Rattle.hdl_check.specs.Whole.{chips_in};
 ghost use Rattle.hdl_tree.specs.Chips.{pin_width};
-ghost use Rattle.hdl_law.specs.Loops.{reaches_out, bit_at};
-ghost use Rattle.hdl_law.specs.Ways.{HasBit};
+ghost use Rattle.hdl_plans.specs.Loops.{reaches_out, bit_at};
+ghost use Rattle.hdl_plans.specs.Ways.{HasBit};
 ghost use Rattle.hdl_loops.specs.Inner.Hops.{bit, IsWay};
 ghost use Rattle.hdl_loops.specs.Inner.Trees.{AreTrees, HasTree, KeepsTrees};
 ghost use Rattle.hdl_loops.specs.Inner.Knowing.{leads, leads_in, crosses, end_crosses};

@@ -2,8 +2,8 @@
 
 ghost use Rattle.std.specs.Prelude.{◌≡◌, ◌<◌, [], true, OnOk, IfOk, length, slice_get, Some};
 ghost use Rattle.hdl_tree.specs.declared.library.Entry.{Entry};
-ghost use Rattle.hdl_elab.specs.Whole.{chips_in};
-ghost use Rattle.hdl_law.specs.Loops.{IsLoop};
+ghost use Rattle.hdl_check.specs.Whole.{chips_in};
+ghost use Rattle.hdl_plans.specs.Loops.{IsLoop};
 ghost use Rattle.hdl_loops.specs.Inner.Hops.{input_of, output_of, AreJoined, WayRound};
 ghost use Rattle.hdl_loops.specs.Inner.Knowing.{crosses, HasTrees, AreKnown, AreHops, IsHop, NestsAt, Nests, leads_in, IsWayIn};
 ghost use Rattle.hdl_loops.specs.Inner.Told.{names_of, AreTold, Tells, ToldTo, TellsThrough};

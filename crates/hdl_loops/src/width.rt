@@ -5,7 +5,7 @@ ghost use Rattle.hdl_tree.specs.Chips.{first};
 ghost use Rattle.hdl_tree.specs.Chips.{count as count_of};
 ghost use Rattle.hdl_tree.specs.Behaviour.{width_of};
 ghost use Rattle.hdl_tree.specs.Behaviour.{width_in as width_among};
-ghost use Rattle.hdl_law.specs.Plans.{is_input};
+ghost use Rattle.hdl_plans.specs.Plans.{is_input};
 
 use hdl_tree::{Entry, Pin, Subscript};
 

@@ -1,6 +1,6 @@
 -- Two chips with the same tree are the same chip.
 use Rattle.std.proofs.Common.{◌≡◌, ℕ, true, false, List, [], ◌∷◌, Option, Some, None, refl, ap}
-use Rattle.grammar.specs.Rules.{Tree, Node, Leaf, Pair, Left, Right, Present, NoMore, More, listed}
+use Rattle.grammar.specs.Rules.{Tree, Node, Leaf, Pair, Left, Right, Present, NoMore, More, tree_of_list}
 use Rattle.hdl_tree.specs.declared.tree.Pin.{Pin}
 use Rattle.hdl_tree.specs.declared.tree.Subscript.{Subscript}
 use Rattle.hdl_tree.specs.declared.tree.Subscript.TheVariants as sub
@@ -62,7 +62,7 @@ pin_apart p q e =
     λ i. record { name = n i; width = w i }
 
 module _ {X : Type 0} (tree : X → T) (apart : (x y : X) → tree x ≡ tree y → x ≡ y) where
-  listed_apart : (xs ys : List X) → listed tree xs NoMore ≡ listed tree ys NoMore → xs ≡ ys
+  listed_apart : (xs ys : List X) → tree_of_list tree xs NoMore ≡ tree_of_list tree ys NoMore → xs ≡ ys
   listed_apart [] [] e = refl
   listed_apart [] (y ∷ ys) e = absurd cc
   listed_apart (x ∷ xs) [] e = absurd cc

@@ -14,10 +14,10 @@ use Rattle.hdl_parser.specs.declared.token.Keyword.TheVariants as keyword
 use Rattle.hdl_parser.specs.declared.token.Kind.{Kind}
 use Rattle.hdl_parser.specs.declared.token.Kind.TheVariants as kind
 use Rattle.hdl_parser.specs.Tokens.{Word, tokens_of, finish}
-use Rattle.hdl_parser.specs.Grammar.{hdl, Said, HdlRule, Fixed, Text, sign_is, keyword_is, dotted, names, counts, stands_for, value_of, too_large, symbol_of, keyword_of, dots, name, width, index, last_index, constant, row, width_rule, pin, last, range, indices, subscript, selection, source, connection, part, parts, listing, builtin, body, pins, chip, whole, check_width, check_index, check_last}
+use Rattle.hdl_parser.specs.Grammar.{hdl, Said, HdlRule, Fixed, Text, sign_is, keyword_is, is_dotted, names, counts, stands_for, value_of, too_large, symbol_of, keyword_of, dots, name, width, index, last_index, constant, row, width_rule, pin, last, range, indices, subscript, selection, source, connection, part, parts, listing, builtin, body, pins, chip, whole, check_width, check_index, check_last}
 use Rattle.hdl_parser.specs.Spells.{whole_tree, Spells}
 use Rattle.grammar.specs.Printed.{set_off}
-use Rattle.hdl_parser.specs.Printed.{chip_text, shown}
+use Rattle.hdl_parser.specs.Printed.{chip_text, shown_word}
 use Rattle.grammar.proofs.Alike as alike
 use Rattle.grammar.proofs.Alike.{seen_whole}
 use Rattle.grammar.proofs.Endings.{ends_anywhere}
@@ -79,7 +79,7 @@ module _ (at : Place) where
   keyword_blind k t u e = by_kind (keyword_is k) t u e
 
   dots_blind : Blind at dots
-  dots_blind t u e = by_kind dotted t u e
+  dots_blind t u e = by_kind is_dotted t u e
 
   name_blind : Blind at name
   name_blind = (λ t u e. by_kind names t u e, λ s s' t u e i c. c, λ t u e i. ap Text (name_text t.kind u.kind t.text u.text (by_kind (λ z. z) t u e) (ap (λ (z : W). z.1) e) i))
@@ -157,7 +157,7 @@ none_left (u ∷ us) e = absurd cc
 -- tokens that are read as a chip, and the tokens of its printed form
 read_again : (at : Place) (c : Chip) (ts : List Word) (s' : ℕ) → Reads Word ℕ (Unit {0}) Said (hdl at) 0 whole ts (whole_tree c) s' [] → AllGood ts → length (chip_text c) ≤ 1048576 → Spells (chip_text c) c
 read_again at c ts s' h good small =
-    let same : flat_map set_off (map shown ts) ≡ chip_text c = ap (flat_map set_off) (tokens_read at c ts s' h) in
+    let same : flat_map set_off (map shown_word ts) ≡ chip_text c = ap (flat_map set_off) (tokens_read at c ts s' h) in
     let printed = printed_good ts good (subst (λ (l : List ℕ). length l ≤ 1048576) (sym same) small) in
     let us = printed.0 in
     let m = alike.read_alike Word ℕ (Unit {0}) Said W Said (hdl at) told (λ v. v) (λ n t u e. by_kind (sign_is 59) t u e) (λ n. symbol_blind at 59) (whole_blind at) h us (sym printed.2) in

@@ -4,7 +4,7 @@ use Rattle.std.specs.Prelude.{nat_lt, nat_le, ◌&&◌}
 use Rattle.std.proofs.lemmas.Bool.{le-ltb, le-leb}
 use Rattle.scan_text.specs.Text.{start}
 use Rattle.grammar.specs.declared.Fault.TheVariants.{Grammar}
-use Rattle.grammar.specs.Rules.{option, repeat, next, Tree, NoMore, listed, Reads, marked, worded, at_end, both, left, right, passed, taken, ended, again, inside}
+use Rattle.grammar.specs.Rules.{option, repeat, next, Tree, NoMore, tree_of_list, Reads, marked, worded, at_end, both, left, right, passed, taken, ended, again, inside}
 use Rattle.hdl_tree.specs.declared.tree.Pin.{Pin}
 use Rattle.hdl_tree.specs.declared.tree.Subscript.{Subscript}
 use Rattle.hdl_tree.specs.declared.tree.Subscript.TheVariants as sub
@@ -149,7 +149,7 @@ module _ {X : Type 0} (a : HdlRule) (words : X → List Word → List Word) (tre
   no_bracket [] rest e = e
   no_bracket (x ∷ xs) rest e = refl
 
-  more_read : (xs : List X) → all ok xs ≡ true → (rest : List Word) → NoBracket rest → NoComma rest → Rd (repeat (next_of a)) (more_words words xs rest) (listed (next_tree tree) xs NoMore) rest
+  more_read : (xs : List X) → all ok xs ≡ true → (rest : List Word) → NoBracket rest → NoComma rest → Rd (repeat (next_of a)) (more_words words xs rest) (tree_of_list (next_tree tree) xs NoMore) rest
   more_read [] h rest e f = ended f
   more_read (x ∷ xs) h rest e f =
       again refl (both (marked refl) (one x (first_of (ok x) (all ok xs) h) (more_words words xs rest) (no_bracket xs rest e))) (more_read xs (second_of (ok x) (all ok xs) h) rest e f)
@@ -191,7 +191,7 @@ part_read p h rest =
     both (name_read p.chip (sign 40 ∷ row_words connection_words p.connections behind))
     (both (marked refl) (both (row_read connection connection_words connection_tree connection_can connection_read p.connections connected behind refl refl) (both (marked refl) (marked refl))))
 
-parts_read : (ps : List Part) → all part_can ps ≡ true → (rest : List Word) → next is_name rest ≡ false → Rd (repeat part) (parts_words ps rest) (listed part_tree ps NoMore) rest
+parts_read : (ps : List Part) → all part_can ps ≡ true → (rest : List Word) → next is_name rest ≡ false → Rd (repeat part) (parts_words ps rest) (tree_of_list part_tree ps NoMore) rest
 parts_read [] h rest e = ended e
 parts_read (p ∷ ps) h rest e = again refl (part_read p (first_of (part_can p) (all part_can ps) h) (parts_words ps rest)) (parts_read ps (second_of (part_can p) (all part_can ps) h) rest e)
 

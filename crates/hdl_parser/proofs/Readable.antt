@@ -6,12 +6,12 @@ use Rattle.scan_text.specs.declared.Place.{Place}
 use Rattle.grammar.specs.declared.Fault.{Fault}
 use Rattle.grammar.specs.declared.Fault.TheVariants.{Grammar}
 use Rattle.grammar.specs.declared.ReadError.{ReadError}
-use Rattle.grammar.specs.Rules.{option, repeat, Tree, Skip, Node, Leaf, Pair, Left, Right, Absent, Present, NoMore, More, listed, Reads, marked, worded, at_end, both, left, right, passed, taken, ended, again, named, inside}
+use Rattle.grammar.specs.Rules.{option, repeat, Tree, Skip, Node, Leaf, Pair, Left, Right, Absent, Present, NoMore, More, tree_of_list, Reads, marked, worded, at_end, both, left, right, passed, taken, ended, again, named, inside}
 use Rattle.hdl_tree.specs.declared.tree.Subscript.TheVariants as sub
 use Rattle.hdl_tree.specs.declared.tree.Source.TheVariants as from
 use Rattle.hdl_tree.specs.declared.tree.Body.TheVariants as made_of
 use Rattle.hdl_tree.specs.declared.tree.Chip.{Chip}
-use Rattle.hdl_tree.specs.Writable.{all, all_of_some, is_letter, is_name_byte, is_among, reserved, name_can, width_can, pin_can, subscript_can, selection_can, source_can, connection_can, part_can, body_can, chip_can}
+use Rattle.hdl_tree.specs.Writable.{all, all_of_some, is_letter, is_name_byte, is_among, reserved_names, name_can, width_can, pin_can, subscript_can, selection_can, source_can, connection_can, part_can, body_can, chip_can}
 use Rattle.hdl_parser.specs.declared.token.Keyword.{Keyword}
 use Rattle.hdl_parser.specs.declared.token.Keyword.TheVariants as keyword
 use Rattle.hdl_parser.specs.declared.token.Kind.{Kind}
@@ -41,9 +41,9 @@ free_by (Some k) h = absurd cc
 text_can : (x : List ℕ) → Named x kind.Name → name_can x ≡ true
 text_can x n =
     let word : List ℕ = n.first ∷ n.more in
-    let free : not (is_among word reserved) ≡ true = ap (λ (l : List ℕ). not (is_among l reserved)) (sym n.is) ∙ ap not (reserved_is x) ∙ free_by (keyword_of x) n.kind in
+    let free : not (is_among word reserved_names) ≡ true = ap (λ (l : List ℕ). not (is_among l reserved_names)) (sym n.is) ∙ ap not (reserved_is x) ∙ free_by (keyword_of x) n.kind in
     ap name_can n.is
-    ∙ both_hold (is_letter n.first) (all is_name_byte n.more && not (is_among word reserved)) n.letter (both_hold (all is_name_byte n.more) (not (is_among word reserved)) (are_all is_name_byte n.more n.names) free)
+    ∙ both_hold (is_letter n.first) (all is_name_byte n.more && not (is_among word reserved_names)) n.letter (both_hold (all is_name_byte n.more) (not (is_among word reserved_names)) (are_all is_name_byte n.more n.names) free)
 
 named_can : (k : Kind) (x : List ℕ) → names k ≡ true → Good k x → name_can x ≡ true
 named_can (kind.Keyword j) x i g = absurd cc
@@ -129,7 +129,7 @@ module _ (at : Place) where
       (record { name = n.0; width = w.0 }, (λ i. Pair (n.1 i) (w.1 i)), both_hold (name_can n.0) (width_can w.0) n.2 w.2)
 
   module _ {X : Type 0} (a : HdlRule) (tree : X → Tree Said) (can : X → Bool) (one : (s s' : ℕ) (ts us : List Word) (x : Tree Said) → Rd s a ts x s' us → AllGood ts → Of tree can x) where
-    more_of : {s s' : ℕ} {ts us : List Word} {x : Tree Said} → Rd s (repeat (next_of a)) ts x s' us → AllGood ts → Of (λ xs. listed (next_tree tree) xs NoMore) (all can) x
+    more_of : {s s' : ℕ} {ts us : List Word} {x : Tree Said} → Rd s (repeat (next_of a)) ts x s' us → AllGood ts → Of (λ xs. tree_of_list (next_tree tree) xs NoMore) (all can) x
     more_of (ended e) g = ([], refl, refl)
     more_of (again e (both (marked f) p) q) g =
         let y = one _ _ _ _ _ p g.1 in
@@ -192,7 +192,7 @@ module _ (at : Place) where
       let cs = r.0 ∷ r.1 in
       (record { chip = n.0; connections = cs }, (λ i. Pair (n.1 i) (Pair Skip (Pair (r.2 i) (Pair Skip Skip)))), both_hold (name_can n.0) (all_of_some connection_can cs) n.2 r.3)
 
-  parts_of : {s s' : ℕ} {ts us : List Word} {x : Tree Said} → Rd s (repeat part) ts x s' us → AllGood ts → Of (λ ps. listed part_tree ps NoMore) (all part_can) x
+  parts_of : {s s' : ℕ} {ts us : List Word} {x : Tree Said} → Rd s (repeat part) ts x s' us → AllGood ts → Of (λ ps. tree_of_list part_tree ps NoMore) (all part_can) x
   parts_of (ended e) g = ([], refl, refl)
   parts_of (again e p q) g =
       let y = part_of p g in

@@ -8,21 +8,21 @@ use Rattle.std.proofs.Math.Nat.{min-eq_left}
 use Rattle.scan_text.specs.declared.Place.{Place}
 use Rattle.scan_text.specs.declared.Blank.{Blank}
 use Rattle.scan_text.specs.declared.Blank.TheVariants.{Other}
-use Rattle.scan_text.specs.Text.{front, is_digit, digits, decimal, capped}
+use Rattle.scan_text.specs.Text.{front, is_digit, digits, decimal, capped_count}
 use Rattle.scan_text.specs.Blanks.{blank}
 use Rattle.grammar.specs.declared.Fault.TheVariants.{Grammar}
 use Rattle.grammar.specs.Cutting.{Piece, Token, Wrong, past_blank}
 use Rattle.grammar.proofs.Runs.{run_text}
 use Rattle.grammar.proofs.Spaced as spaced
 use Rattle.grammar.proofs.Spaced.{All, all_every, all_front, front_all, differs, no_blank, no_comment, symbol_alone, gap, gap_fails, take_none, front_taken, less_one, Digits, digits_of, Each, GoodPiece, good_if}
-use Rattle.hdl_tree.specs.Writable.{all, is_letter, is_name_byte, reserved, is_among, name_can}
+use Rattle.hdl_tree.specs.Writable.{all, is_letter, is_name_byte, reserved_names, is_among, name_can}
 use Rattle.hdl_parser.specs.declared.token.Keyword.{Keyword}
 use Rattle.hdl_parser.specs.declared.token.Keyword.TheVariants as keyword
 use Rattle.hdl_parser.specs.declared.token.Kind.{Kind}
 use Rattle.hdl_parser.specs.declared.token.Kind.TheVariants as kind
-use Rattle.hdl_parser.specs.Tokens.{Word, keyword_text, keyword_of, keywords, spelled, piece, tokens_of, token_of, number_piece, word_piece, symbol_piece, dots_piece, begins_dots, is_sign, kind_of, word_kind}
+use Rattle.hdl_parser.specs.Tokens.{Word, keyword_text, keyword_of, keywords, keyword_spelled, piece, tokens_of, token_of, number_piece, word_piece, symbol_piece, dots_piece, begins_dots, is_sign, kind_of, word_kind}
 use Rattle.grammar.specs.Printed.{set_off}
-use Rattle.hdl_parser.specs.Printed.{shown}
+use Rattle.hdl_parser.specs.Printed.{shown_word}
 
 -- a token of these bytes
 abbrev made : Kind → List ℕ → Place → Word
@@ -115,10 +115,10 @@ digits_cut n h (b ∷ w) d t rest =
     let all = b ∷ (w ++ gap t ∷ rest) in
     let facts = plain_is b d.all.0 in
     let run : digits all ≡ b ∷ w = front_all is_digit (b ∷ w) (gap t) rest (plain_digits (b ∷ w) d.all) (gap_fails is_digit refl refl t) in
-    let value : capped (decimal 0 (digits all)) ≡ n = ap (λ (l : List ℕ). capped (decimal 0 l)) run ∙ ap capped d.value ∙ min-eq_left (omega arith) in
+    let value : capped_count (decimal 0 (digits all)) ≡ n = ap (λ (l : List ℕ). capped_count (decimal 0 l)) run ∙ ap capped_count d.value ∙ min-eq_left (omega arith) in
     let other : blank all ≡ Other = no_comment b (w ++ gap t ∷ rest) (no_blank plain b d.all.0 refl refl refl refl) (differs plain b 47 d.all.0 refl) in
     let number : number_piece all ≡ Token (made (kind.Number n) (b ∷ w)) (length w) =
-    token_is (kind.Number (capped (decimal 0 (digits all)))) (kind.Number n) (length (digits all) - 1) (length w) all (b ∷ w) (ap kind.Number value) (ap (λ (l : List ℕ). length l - 1) run ∙ less_one b w) (front_taken b w (gap t ∷ rest)) in
+    token_is (kind.Number (capped_count (decimal 0 (digits all)))) (kind.Number n) (length (digits all) - 1) (length w) all (b ∷ w) (ap kind.Number value) (ap (λ (l : List ℕ). length l - 1) run ∙ less_one b w) (front_taken b w (gap t ∷ rest)) in
     record {
       first = b;
       more = w;
@@ -135,7 +135,7 @@ Good kind.Dots text = Unit {0}
 Good (kind.Number n) text = n ≤ 1000000001
 Good kind.Name text = Named text kind.Name
 
-cut_again : (k : Kind) (text : List ℕ) (at : Place) → Good k text → (t : Bool) (rest : List ℕ) → Cut k (shown (made k text at)) t rest
+cut_again : (k : Kind) (text : List ℕ) (at : Place) → Good k text → (t : Bool) (rest : List ℕ) → Cut k (shown_word (made k text at)) t rest
 cut_again (kind.Keyword k) text at g t rest = named_cut (kind.Keyword k) (keyword_text k) (keyword_named k) t rest
 cut_again (kind.Symbol b) text at g t rest = symbol_cut b g.0 g.1 t rest
 cut_again (kind.Number n) text at g t rest = digits_cut n g (prelude.decimal n) (digits_of plain refl n (omega (arith, g))) t rest
@@ -150,7 +150,7 @@ told_by k text = []
 abbrev pub told : Word → Kind × List ℕ
 told w = (w.kind, told_by w.kind w.text)
 
-told_again : (k : Kind) (text : List ℕ) (at : Place) → told_by k (shown (made k text at)) ≡ told_by k text
+told_again : (k : Kind) (text : List ℕ) (at : Place) → told_by k (shown_word (made k text at)) ≡ told_by k text
 told_again (kind.Keyword k) text at = refl
 told_again (kind.Symbol b) text at = refl
 told_again (kind.Number n) text at = refl
@@ -176,7 +176,7 @@ good_word b bs l at =
     subst (λ (x : List ℕ). Good (word_kind text) x) (sym (run_text is_name_byte (b ∷ bs) b refl (letter_names b l)))
     (good_kind text b (front is_name_byte bs) whole l (all_front is_name_byte bs) (keyword_of text) refl)
 
-capped_within : (n : ℕ) → capped n ≤ 1000000001
+capped_within : (n : ℕ) → capped_count n ≤ 1000000001
 capped_within n = omega arith
 
 good_number : (all : List ℕ) → GoodPiece GoodWord (number_piece all)
@@ -218,24 +218,24 @@ among_by : (k : Keyword) (o : Option Keyword) (b t : Bool) → b ≡ is_one o �
 among_by k o b true e = refl
 among_by k o b false e = e
 
-among : (ks : List Keyword) (text : List ℕ) → is_among text (map keyword_text ks) ≡ is_one (spelled ks text)
+among : (ks : List Keyword) (text : List ℕ) → is_among text (map keyword_text ks) ≡ is_one (keyword_spelled ks text)
 among [] text = refl
-among (k ∷ ks) text = among_by k (spelled ks text) (is_among text (map keyword_text ks)) (bytes_eq text (keyword_text k)) (among ks text)
+among (k ∷ ks) text = among_by k (keyword_spelled ks text) (is_among text (map keyword_text ks)) (bytes_eq text (keyword_text k)) (among ks text)
 
-pub reserved_is : (text : List ℕ) → is_among text reserved ≡ is_one (keyword_of text)
+pub reserved_is : (text : List ℕ) → is_among text reserved_names ≡ is_one (keyword_of text)
 reserved_is text = among keywords text
 
 free_by : (o : Option Keyword) → not (is_one o) ≡ true → kind_of o ≡ kind.Name
 free_by None h = refl
 free_by (Some k) h = absurd cc
 
-free_kind : (text : List ℕ) → not (is_among text reserved) ≡ true → word_kind text ≡ kind.Name
+free_kind : (text : List ℕ) → not (is_among text reserved_names) ≡ true → word_kind text ≡ kind.Name
 free_kind text h = free_by (keyword_of text) (ap not (sym (reserved_is text)) ∙ h)
 
 pub name_good : (text : List ℕ) → name_can text ≡ true → Good kind.Name text
 name_good [] h = absurd cc
 name_good (b ∷ bs) h =
-    let free = not (is_among (b ∷ bs) reserved) in
+    let free = not (is_among (b ∷ bs) reserved_names) in
     let r = second_of (is_letter b) (all is_name_byte bs && free) h in
     record {
       first = b;
@@ -247,7 +247,7 @@ name_good (b ∷ bs) h =
     }
 
 -- the printed form of such tokens
-pub printed_good : (ts : List Word) → AllGood ts → length (flat_map set_off (map shown ts)) ≤ 1048576 → (us : List Word) × (tokens_of (flat_map set_off (map shown ts)) ≡ Ok us) × (map told us ≡ map told ts)
+pub printed_good : (ts : List Word) → AllGood ts → length (flat_map set_off (map shown_word ts)) ≤ 1048576 → (us : List Word) × (tokens_of (flat_map set_off (map shown_word ts)) ≡ Ok us) × (map told us ≡ map told ts)
 printed_good ts good small =
-    spaced.printed_good piece GoodWord shown (λ text. bytes_eq text (codes "{") || (bytes_eq text (codes "}") || bytes_eq text (codes ";"))) (λ w at. made w.kind (shown w) at) told
+    spaced.printed_good piece GoodWord shown_word (λ text. bytes_eq text (codes "{") || (bytes_eq text (codes "}") || bytes_eq text (codes ";"))) (λ w at. made w.kind (shown_word w) at) told
     (λ w g t rest. cut_again w.kind w.text w.place g t rest) (λ w at. ap (λ (x : List ℕ). (w.kind, x)) (told_again w.kind w.text at)) ts good small

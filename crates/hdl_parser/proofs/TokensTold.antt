@@ -13,9 +13,9 @@ use Rattle.hdl_parser.specs.declared.token.Keyword.TheVariants as keyword
 use Rattle.hdl_parser.specs.declared.token.Kind.{Kind}
 use Rattle.hdl_parser.specs.declared.token.Kind.TheVariants as kind
 use Rattle.hdl_parser.specs.Tokens.{Word, keyword_text, tokens_of, finish}
-use Rattle.hdl_parser.specs.Grammar.{hdl, Said, HdlRule, sign_is, keyword_is, dotted, names, counts, stands_for, symbol_of, keyword_of, dots, name, width, index, last_index, constant, row, width_rule, pin, last, range, subscript, selection, source, connection, part, parts, listing, builtin, body, pins, chip, whole}
+use Rattle.hdl_parser.specs.Grammar.{hdl, Said, HdlRule, sign_is, keyword_is, is_dotted, names, counts, stands_for, symbol_of, keyword_of, dots, name, width, index, last_index, constant, row, width_rule, pin, last, range, subscript, selection, source, connection, part, parts, listing, builtin, body, pins, chip, whole}
 use Rattle.hdl_parser.specs.Spells.{whole_tree, Spells}
-use Rattle.hdl_parser.specs.Printed.{kind_text, shown, said_text, chip_tokens}
+use Rattle.hdl_parser.specs.Printed.{kind_text, shown_word, said_text, chip_tokens}
 
 -- what a token says is what it is written as
 symbol_told : (b : ℕ) (k : Kind) (x : List ℕ) → sign_is b k ≡ true → kind_text k x ≡ kind_text (kind.Symbol b) []
@@ -32,19 +32,19 @@ keyword_told k kind.Dots x e = absurd cc
 keyword_told k (kind.Number n) x e = absurd cc
 keyword_told k kind.Name x e = absurd cc
 
-dots_told : (k : Kind) (x : List ℕ) → dotted k ≡ true → kind_text k x ≡ kind_text kind.Dots []
+dots_told : (k : Kind) (x : List ℕ) → is_dotted k ≡ true → kind_text k x ≡ kind_text kind.Dots []
 dots_told (kind.Keyword j) x e = absurd cc
 dots_told (kind.Symbol c) x e = absurd cc
 dots_told kind.Dots x e = refl
 dots_told (kind.Number n) x e = absurd cc
 dots_told kind.Name x e = absurd cc
 
-name_told : (k : Kind) (x : List ℕ) → names k ≡ true → kind_text k x ≡ x
-name_told (kind.Keyword j) x e = absurd cc
-name_told (kind.Symbol c) x e = absurd cc
-name_told kind.Dots x e = absurd cc
-name_told (kind.Number n) x e = absurd cc
-name_told kind.Name x e = refl
+name_message : (k : Kind) (x : List ℕ) → names k ≡ true → kind_text k x ≡ x
+name_message (kind.Keyword j) x e = absurd cc
+name_message (kind.Symbol c) x e = absurd cc
+name_message kind.Dots x e = absurd cc
+name_message (kind.Number n) x e = absurd cc
+name_message kind.Name x e = refl
 
 number_told : (k : Kind) (x : List ℕ) → counts k ≡ true → kind_text k x ≡ kind_text k []
 number_told (kind.Keyword j) x e = absurd cc
@@ -61,7 +61,7 @@ constant_told (kind.Number n) x e = absurd cc
 constant_told kind.Name x e = absurd cc
 
 abbrev Tells : Place → HdlRule → Type 0
-Tells at r = read.Tells Word ℕ (Unit {0}) Said (List ℕ) (hdl at) shown said_text r
+Tells at r = read.Tells Word ℕ (Unit {0}) Said (List ℕ) (hdl at) shown_word said_text r
 
 -- each rule says its tokens
 module _ (at : Place) where
@@ -75,7 +75,7 @@ module _ (at : Place) where
   dots_tells t e = dots_told t.kind t.text e
 
   name_tells : Tells at name
-  name_tells t e = name_told t.kind t.text e
+  name_tells t e = name_message t.kind t.text e
 
   width_tells : Tells at width
   width_tells t e = number_told t.kind t.text e
@@ -144,10 +144,10 @@ same_tokens : (text : List ℕ) (ts us : List Word) → tokens_of text ≡ Ok ts
 same_tokens text ts us a b = cc
 
 -- tokens that are read as a chip
-pub tokens_read : (at : Place) (c : Chip) (ts : List Word) (s' : ℕ) → Reads Word ℕ (Unit {0}) Said (hdl at) 0 whole ts (whole_tree c) s' [] → map shown ts ≡ chip_tokens c
+pub tokens_read : (at : Place) (c : Chip) (ts : List Word) (s' : ℕ) → Reads Word ℕ (Unit {0}) Said (hdl at) 0 whole ts (whole_tree c) s' [] → map shown_word ts ≡ chip_tokens c
 tokens_read at c ts s' h =
-    read.tokens_are Word ℕ (Unit {0}) Said (List ℕ) (hdl at) shown said_text (λ n. symbol_tells at 59) (whole_tells at) h
+    read.tokens_are Word ℕ (Unit {0}) Said (List ℕ) (hdl at) shown_word said_text (λ n. symbol_tells at 59) (whole_tells at) h
     ∙ append-nil (map said_text (leaves (hdl at) (whole_tree c) whole))
 
-pub tokens_told : (text : List ℕ) (c : Chip) (ts : List Word) → tokens_of text ≡ Ok ts → Spells text c → map shown ts ≡ chip_tokens c
-tokens_told text c ts cut s = ap (map shown) (same_tokens text ts s.0 cut s.2) ∙ tokens_read (finish text) c s.0 s.1 s.3
+pub tokens_told : (text : List ℕ) (c : Chip) (ts : List Word) → tokens_of text ≡ Ok ts → Spells text c → map shown_word ts ≡ chip_tokens c
+tokens_told text c ts cut s = ap (map shown_word) (same_tokens text ts s.0 cut s.2) ∙ tokens_read (finish text) c s.0 s.1 s.3

@@ -17,11 +17,11 @@ pub data Said : Type 0 where
   Fixed : Kind → Said
   Text : List ℕ → Said
 
-abbrev pub fixed : Word → Said
-fixed t = Fixed t.kind
+abbrev pub fixed_word : Word → Said
+fixed_word t = Fixed t.kind
 
-abbrev pub named : Word → Said
-named t = Text t.text
+abbrev pub named_word : Word → Said
+named_word t = Text t.text
 
 abbrev pub sign_is : ℕ → Kind → Bool
 sign_is b (kind.Symbol c) = c == b
@@ -37,12 +37,12 @@ keyword_is k j = false
 abbrev pub is_keyword : Keyword → Word → Bool
 is_keyword k t = keyword_is k t.kind
 
-abbrev pub dotted : Kind → Bool
-dotted kind.Dots = true
-dotted k = false
+abbrev pub is_dotted : Kind → Bool
+is_dotted kind.Dots = true
+is_dotted k = false
 
 abbrev pub is_dots : Word → Bool
-is_dots t = dotted t.kind
+is_dots t = is_dotted t.kind
 
 abbrev pub names : Kind → Bool
 names kind.Name = true
@@ -113,19 +113,19 @@ abbrev pub dots : HdlRule
 dots = mark (Fixed kind.Dots) is_dots
 
 abbrev pub name : HdlRule
-name = word is_name free named
+name = word is_name free named_word
 
 abbrev pub width : HdlRule
-width = word is_number check_width fixed
+width = word is_number check_width fixed_word
 
 abbrev pub index : HdlRule
-index = word is_number check_index fixed
+index = word is_number check_index fixed_word
 
 abbrev pub last_index : HdlRule
-last_index = word is_number check_last fixed
+last_index = word is_number check_last fixed_word
 
 abbrev pub constant : HdlRule
-constant = word is_constant free fixed
+constant = word is_constant free fixed_word
 
 -- one or more, with commas between them
 abbrev pub next_of : HdlRule → HdlRule

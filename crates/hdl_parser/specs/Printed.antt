@@ -21,8 +21,8 @@ kind_text kind.Dots text = codes ".."
 kind_text (kind.Number n) text = decimal n
 kind_text kind.Name text = text
 
-abbrev pub shown : Word → List ℕ
-shown t = kind_text t.kind t.text
+abbrev pub shown_word : Word → List ℕ
+shown_word t = kind_text t.kind t.text
 
 abbrev pub said_text : Said → List ℕ
 said_text (Fixed k) = kind_text k []
@@ -38,7 +38,7 @@ chip_text c = flat_map set_off (chip_tokens c)
 
 -- A text that spells a chip has the tokens of the chip, whatever stands between them.
 abbrev pub TokensLaw : Type 0
-TokensLaw = (text : List ℕ) (c : Chip) (ts : List Word) → tokens_of text ≡ Ok ts → Spells text c → map shown ts ≡ chip_tokens c
+TokensLaw = (text : List ℕ) (c : Chip) (ts : List Word) → tokens_of text ≡ Ok ts → Spells text c → map shown_word ts ≡ chip_tokens c
 
 -- The printed form of each chip that texts can have, where it is within the limit of a file, spells that very chip.
 abbrev pub PrintedLaw : Type 0

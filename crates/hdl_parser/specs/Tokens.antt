@@ -3,7 +3,7 @@
 use Rattle.std.specs.Prelude.{ℕ, suc, ◌-◌, Bool, List, [], ◌∷◌, Option, Some, None, Result, ◌==◌, ◌||◌, if◌then◌else◌, length, take, codes}
 use Rattle.std.specs.Str.{bytes_eq}
 use Rattle.scan_text.specs.declared.Place.{Place}
-use Rattle.scan_text.specs.Text.{start, walk, first, front, is_digit, digits, decimal, capped}
+use Rattle.scan_text.specs.Text.{start, walk, first, front, is_digit, digits, decimal, capped_count}
 use Rattle.grammar.specs.declared.Fault.{Fault}
 use Rattle.grammar.specs.declared.Fault.TheVariants.{Grammar}
 use Rattle.grammar.specs.Cutting.{Piece, Passed, Token, Wrong, tokens_between_blanks}
@@ -34,16 +34,16 @@ keyword_text keyword.True = codes "true"
 keyword_text keyword.False = codes "false"
 
 -- the first of some keywords that has this text
-abbrev pub spelled : List Keyword → List ℕ → Option Keyword
-spelled [] text = None
-spelled (k ∷ ks) text = if bytes_eq text (keyword_text k) then Some k else spelled ks text
+abbrev pub keyword_spelled : List Keyword → List ℕ → Option Keyword
+keyword_spelled [] text = None
+keyword_spelled (k ∷ ks) text = if bytes_eq text (keyword_text k) then Some k else keyword_spelled ks text
 
 abbrev pub keywords : List Keyword
 keywords = keyword.Chip ∷ keyword.In ∷ keyword.Out ∷ keyword.Parts ∷ keyword.Builtin ∷ keyword.Clocked ∷ keyword.True ∷ keyword.False ∷ []
 
 -- the keyword that is spelled so
 abbrev pub keyword_of : List ℕ → Option Keyword
-keyword_of text = spelled keywords text
+keyword_of text = keyword_spelled keywords text
 
 -- { } ( ) [ ] , ; : =
 abbrev pub is_sign : ℕ → Bool
@@ -55,7 +55,7 @@ token_of kind n bs = Token (λ at. record { kind = kind; text = take (suc n) bs;
 
 -- decimal digits
 abbrev pub number_piece : List ℕ → Piece Word
-number_piece bs = token_of (kind.Number (capped (decimal 0 (digits bs)))) (length (digits bs) - 1) bs
+number_piece bs = token_of (kind.Number (capped_count (decimal 0 (digits bs)))) (length (digits bs) - 1) bs
 
 abbrev pub kind_of : Option Keyword → Kind
 kind_of None = kind.Name

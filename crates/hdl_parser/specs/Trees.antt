@@ -1,6 +1,6 @@
 -- The trees of chips as trees of the grammar. (The book, chapter 1 and appendix 2.)
 use Rattle.std.specs.Prelude.{ℕ, Bool, true, false, List, [], ◌∷◌, Option, Some, None}
-use Rattle.grammar.specs.Rules.{Tree, Skip, Node, Leaf, Pair, Left, Right, Absent, Present, NoMore, listed}
+use Rattle.grammar.specs.Rules.{Tree, Skip, Node, Leaf, Pair, Left, Right, Absent, Present, NoMore, tree_of_list}
 use Rattle.hdl_tree.specs.declared.tree.Pin.{Pin}
 use Rattle.hdl_tree.specs.declared.tree.Subscript.{Subscript}
 use Rattle.hdl_tree.specs.declared.tree.Subscript.TheVariants as subscript
@@ -39,7 +39,7 @@ next_tree tree x = Pair Skip (tree x)
 
 abbrev pub row_with : {X : Type 0} → (X → Tree Said) → List X → Tree Said → Tree Said
 row_with tree [] more = more
-row_with tree (x ∷ xs) more = Pair (tree x) (listed (next_tree tree) xs more)
+row_with tree (x ∷ xs) more = Pair (tree x) (tree_of_list (next_tree tree) xs more)
 
 -- a keyword, and one or more of a kind up to a semicolon; nothing stands where there are none
 abbrev pub listing_tree : {X : Type 0} → (X → Tree Said) → List X → Tree Said
@@ -90,7 +90,7 @@ abbrev pub part_tree : Part → Tree Said
 part_tree p = Pair (name_leaf p.chip) (Pair Skip (Pair (connections_tree p.connections) (Pair Skip Skip)))
 
 abbrev pub parts_tree : List Part → Tree Said
-parts_tree ps = Pair Skip (Pair Skip (listed part_tree ps NoMore))
+parts_tree ps = Pair Skip (Pair Skip (tree_of_list part_tree ps NoMore))
 
 abbrev pub names_tree : List (List ℕ) → Tree Said
 names_tree ns = listing_tree name_leaf ns

@@ -2,7 +2,7 @@
 
 ghost use Rattle.std.specs.Prelude.{◌≡◌, ◌≤◌, true, map, Some, IfOk};
 ghost use Rattle.scan_text.specs.Text.{first, front, is_digit};
-ghost use Rattle.scan_text.specs.View.{left, place};
+ghost use Rattle.scan_text.specs.View.{left_bytes, place};
 ghost use Rattle.grammar.specs.Cutting.{TokenBy};
 ghost use Rattle.grammar.specs.Reading.{Gives};
 ghost use Rattle.hdl_parser.specs.Tokens.{view, tokens_of, finish, number_piece, word_piece, dots_piece, symbol_piece, begins_dots, is_sign, word_kind};
@@ -35,9 +35,9 @@ fn is_sign(byte: u8) -> bool
 }
 
 fn number<'a>(scan: &mut Scan<'a>, byte: u8) -> Result<Token<'a>, Fault>
-    requires begun { first (left scan.old) ≡ Some byte }
+    requires begun { first (left_bytes scan.old) ≡ Some byte }
     requires digit { is_digit byte ≡ true }
-    ensures { TokenBy view (number_piece (left scan.old)) scan.old result scan.new }
+    ensures { TokenBy view (number_piece (left_bytes scan.old)) scan.old result scan.new }
 {
     let place = scan.place();
     let mut ahead = *scan;
@@ -52,9 +52,9 @@ fn number<'a>(scan: &mut Scan<'a>, byte: u8) -> Result<Token<'a>, Fault>
 
 // A keyword or a name.
 fn word<'a>(scan: &mut Scan<'a>, byte: u8) -> Result<Token<'a>, Fault>
-    requires begun { first (left scan.old) ≡ Some byte }
+    requires begun { first (left_bytes scan.old) ≡ Some byte }
     requires letter { is_letter byte ≡ true }
-    ensures { TokenBy view (word_piece (left scan.old)) scan.old result scan.new }
+    ensures { TokenBy view (word_piece (left_bytes scan.old)) scan.old result scan.new }
 {
     let place = scan.place();
     let text = scan.take_while(|b| is_name_byte(b));
@@ -72,8 +72,8 @@ fn word_kind(text: &[u8]) -> Kind
 }
 
 fn symbol<'a>(scan: &mut Scan<'a>, byte: u8) -> Result<Token<'a>, Fault>
-    requires { first (left scan.old) ≡ Some byte }
-    ensures { TokenBy view (symbol_piece byte (left scan.old)) scan.old result scan.new }
+    requires { first (left_bytes scan.old) ≡ Some byte }
+    ensures { TokenBy view (symbol_piece byte (left_bytes scan.old)) scan.old result scan.new }
 {
     let place = scan.place();
     let text = scan.skip(1);
@@ -92,7 +92,7 @@ fn begins_dots(bytes: &[u8]) -> bool
 
 // Two dots, the only token that begins with a dot.
 fn dots<'a>(scan: &mut Scan<'a>) -> Result<Token<'a>, Fault>
-    ensures { TokenBy view (dots_piece (left scan.old)) scan.old result scan.new }
+    ensures { TokenBy view (dots_piece (left_bytes scan.old)) scan.old result scan.new }
 {
     let place = scan.place();
     if begins_dots(scan.rest()) {

@@ -2,7 +2,7 @@
 
 ghost use Rattle.std.specs.Prelude.{◌≡◌, []};
 ghost use Rattle.grammar.specs.Printed.{Writes, set_off};
-ghost use Rattle.grammar.specs.Rules.{NoMore, option, repeat, listed};
+ghost use Rattle.grammar.specs.Rules.{NoMore, option, repeat, tree_of_list};
 ghost use Rattle.outer_world.specs.Held.{HaveSameSink, pending, sink_of};
 ghost use Rattle.outer_world.specs.Written.{CountsPut, Puts};
 ghost use Rattle.hdl_parser.specs.Tokens.{keyword_text};
@@ -65,7 +65,7 @@ fn put_next_pin<S: Sink>(one: &Pin, status: Put, out: &mut Pieces<'_, S>) -> Put
 }
 
 fn put_more_pins<S: Sink>(all: &[Pin], status: Put, out: &mut Pieces<'_, S>) -> Put
-    ensures { Shows (listed (next_tree pin_tree) all.now NoMore) (repeat (next_of pin)) status out.old result out.new }
+    ensures { Shows (tree_of_list (next_tree pin_tree) all.now NoMore) (repeat (next_of pin)) status out.old result out.new }
 {
     let mut status = status;
     for one in all {
@@ -95,7 +95,7 @@ fn put_next_name<S: Sink>(one: &Name, status: Put, out: &mut Pieces<'_, S>) -> P
 }
 
 fn put_more_names<S: Sink>(all: &[Name], status: Put, out: &mut Pieces<'_, S>) -> Put
-    ensures { Shows (listed (next_tree name_leaf) all.now NoMore) (repeat (next_of name)) status out.old result out.new }
+    ensures { Shows (tree_of_list (next_tree name_leaf) all.now NoMore) (repeat (next_of name)) status out.old result out.new }
 {
     let mut status = status;
     for one in all {
@@ -182,7 +182,7 @@ fn put_next_connection<S: Sink>(one: &Connection, status: Put, out: &mut Pieces<
 }
 
 fn put_more_connections<S: Sink>(all: &[Connection], status: Put, out: &mut Pieces<'_, S>) -> Put
-    ensures { Shows (listed (next_tree connection_tree) all.now NoMore) (repeat (next_of connection)) status out.old result out.new }
+    ensures { Shows (tree_of_list (next_tree connection_tree) all.now NoMore) (repeat (next_of connection)) status out.old result out.new }
 {
     let mut status = status;
     for one in all {
@@ -212,7 +212,7 @@ fn put_part<S: Sink>(one: &Part, status: Put, out: &mut Pieces<'_, S>) -> Put
 }
 
 fn put_all_parts<S: Sink>(all: &[Part], status: Put, out: &mut Pieces<'_, S>) -> Put
-    ensures { Shows (listed part_tree all.now NoMore) (repeat part) status out.old result out.new }
+    ensures { Shows (tree_of_list part_tree all.now NoMore) (repeat part) status out.old result out.new }
 {
     let mut status = status;
     for one in all {

@@ -2,7 +2,7 @@
 
 ghost use Rattle.std.specs.Prelude.{◌≡◌, ◌<◌, ◌≤◌, ◌-◌, ◌+◌, ◌^◌, length, Some, None, Result, Ok, List, ℕ, IfOk, map};
 ghost use Rattle.grammar.specs.Reading.{ParsesBy, PassesBy, Halt};
-ghost use Rattle.grammar.specs.Rules.{option, repeat, listed, NoMore, Leaf};
+ghost use Rattle.grammar.specs.Rules.{option, repeat, tree_of_list, NoMore, Leaf};
 ghost use Rattle.hdl_parser.specs.Tokens.{view};
 ghost use Rattle.hdl_parser.specs.Grammar.{hdl, row, width_rule, pin, pins, name, listing, last, range, indices, subscript, selection, source, connection, part, parts, builtin, body, chip};
 ghost use Rattle.hdl_parser.specs.Trees.{width_tree, pin_tree, pins_tree, row_with, name_leaf, names_tree, last_tree, range_tree, first_bit, indices_tree, subscript_tree, selection_tree, source_tree, connection_tree, connections_tree, part_tree, parts_tree, builtin_tree, body_tree, chip_tree};
@@ -296,7 +296,7 @@ fn part_list<'a>(
     tokens: &'a [Token<'a>],
     end: Place,
 ) -> Result<(List<Part>, &'a [Token<'a>]), ReadError>
-    ensures reads { ParsesBy view (hdl end) (repeat part) (λ v. listed part_tree v NoMore) (λ _. 0) 0 tokens.now result }
+    ensures reads { ParsesBy view (hdl end) (repeat part) (λ v. tree_of_list part_tree v NoMore) (λ _. 0) 0 tokens.now result }
     ensures no_longer { IfOk result (λ r. length r.1.now ≤ length tokens.now) }
 {
     let mut parts = List::new(alloc);

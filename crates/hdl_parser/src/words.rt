@@ -5,7 +5,7 @@ ghost use Rattle.std.specs.Prelude.{map, ◌≡◌, ◌<◌, ◌≤◌, ◌-◌,
 ghost use Rattle.grammar.specs.Reading.{ParsesBy, PassesBy};
 ghost use Rattle.grammar.specs.Rules.{Leaf, next, here};
 ghost use Rattle.hdl_parser.specs.Tokens.{view};
-ghost use Rattle.hdl_parser.specs.Grammar.{hdl, Said, is_symbol, symbol_of, is_keyword, keyword_of, is_dots, dots, is_name, free, named, name, is_number, fixed, check_width, width, check_index, index, check_last, last_index, is_constant, constant, too_large};
+ghost use Rattle.hdl_parser.specs.Grammar.{hdl, Said, is_symbol, symbol_of, is_keyword, keyword_of, is_dots, dots, is_name, free, named_word, name, is_number, fixed_word, check_width, width, check_index, index, check_last, last_index, is_constant, constant, too_large};
 ghost use Rattle.hdl_parser.specs.Trees.{name_said, number_said, constant_said};
 
 use crate::token::{Keyword, Kind, Token};

@@ -10,7 +10,7 @@ use Rattle.hdl_tree.specs.declared.tree.Part.{Part}
 use Rattle.hdl_tree.specs.declared.library.Entry.{Entry}
 use Rattle.hdl_tree.specs.declared.ends.End.{End}
 use Rattle.hdl_tree.specs.declared.ends.End.TheVariants as ends
-use Rattle.hdl_tree.specs.Memory.{number, before, held}
+use Rattle.hdl_tree.specs.Memory.{number, before, word_held}
 use Rattle.hdl_tree.specs.Chips.{Chips, end_of, find_chip, parts_of, parts_of_body, pin_width, first, count}
 
 -- ---- values
@@ -96,7 +96,7 @@ UndrivenIsLow low library chip wires parts =
 -- in cycle c a block of 2 ^ bits words gives the word at the address
 abbrev pub BlockWorks : ℕ → ℕ → Histories → Type 0
 BlockWorks c bits w =
-    number 16 (λ k. w (codes "out") k c) ≡ held (λ d. w (codes "load") 0 d) (λ d. number bits (λ k. w (codes "address") k d)) (λ d. number 16 (λ k. w (codes "in") k d)) (λ a. 0) c (number bits (λ k. w (codes "address") k c))
+    number 16 (λ k. w (codes "out") k c) ≡ word_held (λ d. w (codes "load") 0 d) (λ d. number bits (λ k. w (codes "address") k d)) (λ d. number 16 (λ k. w (codes "in") k d)) (λ a. 0) c (number bits (λ k. w (codes "address") k c))
 
 -- what comes from outside: the key code in each cycle, and the words of the ROM
 pub record World : Type 0 where

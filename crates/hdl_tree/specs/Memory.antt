@@ -12,11 +12,11 @@ before start zero history = start
 before start (suc c) history = history c
 
 -- the word at address a after a cycle in which a word came in, where old stood there: the word that came in, if it was loaded at this address
-abbrev pub written : Bool → ℕ → ℕ → ℕ → ℕ → ℕ
-written load address word a old = cond (load && (address == a)) word old
+abbrev pub word_written : Bool → ℕ → ℕ → ℕ → ℕ → ℕ
+word_written load address word a old = cond (load && (address == a)) word old
 
 -- The word at address a at the start of cycle c: the last one that was loaded there in a cycle before, else the one at the start. Of each cycle
 -- there is known whether a word is loaded, at which address, and which word comes in.
-abbrev pub held : (ℕ → Bool) → (ℕ → ℕ) → (ℕ → ℕ) → (ℕ → ℕ) → ℕ → ℕ → ℕ
-held load address word start zero a = start a
-held load address word start (suc c) a = written (load c) (address c) (word c) a (held load address word start c a)
+abbrev pub word_held : (ℕ → Bool) → (ℕ → ℕ) → (ℕ → ℕ) → (ℕ → ℕ) → ℕ → ℕ → ℕ
+word_held load address word start zero a = start a
+word_held load address word start (suc c) a = word_written (load c) (address c) (word c) a (word_held load address word start c a)

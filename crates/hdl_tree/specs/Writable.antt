@@ -31,8 +31,8 @@ abbrev pub is_name_byte : ℕ → Bool
 is_name_byte b = is_letter b || is_ascii_digit b
 
 -- the words that no name can be
-abbrev pub reserved : List (List ℕ)
-reserved = codes "CHIP" ∷ codes "IN" ∷ codes "OUT" ∷ codes "PARTS" ∷ codes "BUILTIN" ∷ codes "CLOCKED" ∷ codes "true" ∷ codes "false" ∷ []
+abbrev pub reserved_names : List (List ℕ)
+reserved_names = codes "CHIP" ∷ codes "IN" ∷ codes "OUT" ∷ codes "PARTS" ∷ codes "BUILTIN" ∷ codes "CLOCKED" ∷ codes "true" ∷ codes "false" ∷ []
 
 abbrev pub is_among : List ℕ → List (List ℕ) → Bool
 is_among text [] = false
@@ -41,7 +41,7 @@ is_among text (word ∷ words) = bytes_eq text word || is_among text words
 -- letters, digits and underscores, of which the first is no digit, and no reserved word
 abbrev pub name_can : List ℕ → Bool
 name_can [] = false
-name_can (b ∷ bs) = is_letter b && (all is_name_byte bs && not (is_among (b ∷ bs) reserved))
+name_can (b ∷ bs) = is_letter b && (all is_name_byte bs && not (is_among (b ∷ bs) reserved_names))
 
 -- a width is at most 16
 abbrev pub width_can : Option ℕ → Bool

@@ -11,7 +11,7 @@ use Rattle.vm_tree.specs.declared.command.Command.{Command}
 use Rattle.vm_tree.specs.declared.command.Command.TheVariants as command
 use Rattle.vm_tree.specs.declared.command.Segment.TheVariants as segment
 use Rattle.vm_tree.specs.declared.command.Operation.TheVariants as operation
-use Rattle.vm_link.specs.Sections.{Section, called, calls, stands_in, is_named}
+use Rattle.vm_link.specs.Sections.{Section, called_name, calls, stands_in, is_named}
 use Rattle.vm_link.specs.Faults.{first_of, lacking}
 use Rattle.jack_meaning.specs.Text.{Variable, Argument, Local, Static, Sign, Minus, Complement, Operator, Plus, Subtract, And, Or, Less, Greater, Equal, Expression, Literal, Value, Name, This, Field, Unary, Binary, Load, Call, Open, Expressions, NoMore, More, Statement, Let, LetField, LetThis, Store, Do, If, While, Return, Text, End, Next, Kind, Constructor, Function, Method, Subroutine}
 use Rattle.jack_compiler.specs.Templates.{Numbers, first_number, no_else}
@@ -27,7 +27,7 @@ module _ (K : List ℕ → Type 0) where
 
 pub data Calls (K : List ℕ → Type 0) : List Line → Type 0 where
   no_calls : Calls K []
-  more_calls : {x : Line} {xs : List Line} → Of K (called x.command) → Calls K xs → Calls K (x ∷ xs)
+  more_calls : {x : Line} {xs : List Line} → Of K (called_name x.command) → Calls K xs → Calls K (x ∷ xs)
 
 calls_both : {K : List ℕ → Type 0} {xs ys : List Line} → Calls K xs → Calls K ys → Calls K (xs ++ ys)
 calls_both no_calls b = b
@@ -51,21 +51,21 @@ module _ (around : Around) (K : List ℕ → Type 0) where
       by_test true = more_calls tt (more_calls tt no_calls)
       by_test false = more_calls tt no_calls
 
-  push_calls : (x : Variable) → Of K (called (push_variable around x))
+  push_calls : (x : Variable) → Of K (called_name (push_variable around x))
   push_calls (Argument k) = tt
   push_calls (Local k) = tt
   push_calls (Static k) = tt
 
-  pop_calls : (x : Variable) → Of K (called (pop_variable around x))
+  pop_calls : (x : Variable) → Of K (called_name (pop_variable around x))
   pop_calls (Argument k) = tt
   pop_calls (Local k) = tt
   pop_calls (Static k) = tt
 
-  sign_calls : (o : Sign) → Of K (called (sign_command o))
+  sign_calls : (o : Sign) → Of K (called_name (sign_command o))
   sign_calls Minus = tt
   sign_calls Complement = tt
 
-  operator_calls : (o : Operator) → Of K (called (operator_command o))
+  operator_calls : (o : Operator) → Of K (called_name (operator_command o))
   operator_calls Plus = tt
   operator_calls Subtract = tt
   operator_calls And = tt
@@ -157,7 +157,7 @@ subroutine_calls subs first around K there scope sub h = lines_call around K sub
 -- what lines call
 pub calls_at : (K : List ℕ → Type 0) (f : List ℕ) (xs : List Line) → Calls K xs → stands_in (calls xs) f ≡ true → K f
 calls_at K f [] h e = absurd cc
-calls_at K f (x ∷ xs) (more_calls h r) e = by_call (λ k. calls_at K f xs r k) (called x.command) h e
+calls_at K f (x ∷ xs) (more_calls h r) e = by_call (λ k. calls_at K f xs r k) (called_name x.command) h e
   where
     by_name : (stands_in (calls xs) f ≡ true → K f) → (g : List ℕ) → K g → (b : Bool) → (b ≡ true → f ≡ g) → (b || stands_in (calls xs) f) ≡ true → K f
     by_name ih g k true same e = subst K (sym (same refl)) k
@@ -168,10 +168,10 @@ calls_at K f (x ∷ xs) (more_calls h r) e = by_call (λ k. calls_at K f xs r k)
     by_call ih (Some g) h e = by_name ih g h (bytes_eq f g) (bytes_eq-Decides f g).0 e
 
 -- a section that calls what is there
-pub functions_there : (ss : List Section) (xs : List Line) → Calls (λ f. list_any (is_named f) ss ≡ true) xs → first_of (λ x. lacking (λ f. list_any (is_named f) ss) (called x.command)) xs ≡ None
+pub functions_there : (ss : List Section) (xs : List Line) → Calls (λ f. list_any (is_named f) ss ≡ true) xs → first_of (λ x. lacking (λ f. list_any (is_named f) ss) (called_name x.command)) xs ≡ None
 functions_there ss [] h = refl
 functions_there ss (x ∷ xs) (more_calls h r) =
-    ap (λ o. option_or o (first_of (λ x. lacking (λ f. list_any (is_named f) ss) (called x.command)) xs)) (by_call (called x.command) h) ∙ functions_there ss xs r
+    ap (λ o. option_or o (first_of (λ x. lacking (λ f. list_any (is_named f) ss) (called_name x.command)) xs)) (by_call (called_name x.command) h) ∙ functions_there ss xs r
   where
     by_call : (o : Option (List ℕ)) → Of (λ f. list_any (is_named f) ss ≡ true) o → lacking (λ f. list_any (is_named f) ss) o ≡ None
     by_call None h = refl

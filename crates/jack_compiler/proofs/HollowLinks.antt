@@ -9,14 +9,14 @@ use Rattle.vm_tree.specs.declared.program.File.{File}
 use Rattle.vm_link.specs.declared.fault.LinkFault.{LinkFault}
 use Rattle.vm_link.specs.declared.fault.LinkFault.TheVariants.{NoFunction, TwiceDefined, LabelTwice, NoLabel, NoSysInit}
 use Rattle.vm_link.specs.declared.linked.Linked.{Linked}
-use Rattle.vm_link.specs.Sections.{Section, is_named, called, sections}
+use Rattle.vm_link.specs.Sections.{Section, is_named, called_name, sections}
 use Rattle.vm_link.specs.Faults as faults
 use Rattle.vm_link.specs.Faults.{sys_init, first_of, first_repeat, label_twice, no_label, lacking, no_start, kept_fault, text_fault, too_many, words_before}
-use Rattle.vm_link.specs.Marks.{marked}
+use Rattle.vm_link.specs.Marks.{is_marked}
 use Rattle.vm_link.specs.Reached as reached_by
 use Rattle.vm_link.specs.Reached.{Reached, Keeps, none, kept, dropped, IsFunction, AreKept}
 use Rattle.vm_link.specs.Resolved as resolved_files
-use Rattle.vm_link.specs.Resolved.{linked}
+use Rattle.vm_link.specs.Resolved.{linked_of}
 use Rattle.vm_link.specs.Links.{Links, memory, faulty, kept_faulty, whole}
 use Rattle.jack_meaning.specs.Text.{Subroutine, Class, Program}
 use Rattle.jack_core.specs.declared.program.Core.{Core}
@@ -89,11 +89,11 @@ module _ (program : Program) (names class_names : List (List ℕ)) (marks : List
   names_alike g (x ∷ xs) = ap (λ z. name_at names g ∷ z) (names_alike (g + 1) xs)
 
   -- commands too, where there is a mark
-  same_at : (g : ℕ) (xs : List Subroutine) (i : ℕ) → (i < length xs → marked marks (g + i) ≡ true) → slice_get (hollows g xs) i ≡ slice_get (sections_of program names g xs) i
+  same_at : (g : ℕ) (xs : List Subroutine) (i : ℕ) → (i < length xs → is_marked marks (g + i) ≡ true) → slice_get (hollows g xs) i ≡ slice_get (sections_of program names g xs) i
   same_at g [] i h = refl
   same_at g (x ∷ xs) zero h =
-      ap (λ b. Some (section_of program names g (whole_if b x))) (ap (marked marks) (let z : g ≡ g + 0 = omega arith in z) ∙ h (omega arith))
-  same_at g (x ∷ xs) (suc i) h = same_at (g + 1) xs i (λ b. ap (marked marks) (let z : g + 1 + i ≡ g + suc i = omega arith in z) ∙ h (omega arith))
+      ap (λ b. Some (section_of program names g (whole_if b x))) (ap (is_marked marks) (let z : g ≡ g + 0 = omega arith in z) ∙ h (omega arith))
+  same_at g (x ∷ xs) (suc i) h = same_at (g + 1) xs i (λ b. ap (is_marked marks) (let z : g + 1 + i ≡ g + suc i = omega arith in z) ∙ h (omega arith))
 
   -- a fault that no section has, and none without commands
   first_alike : (f : Section → Option (List ℕ)) → ((g : ℕ) (x : Subroutine) → f (section_of program names g (whole_if false x)) ≡ None) → (g : ℕ) (xs : List Subroutine)
@@ -101,7 +101,7 @@ module _ (program : Program) (names class_names : List (List ℕ)) (marks : List
   first_alike f h g [] e = refl
   first_alike f h g (x ∷ xs) e =
       let rest = first_alike f h (g + 1) xs (or_second (f (section_of program names g x)) (first_of f (sections_of program names (g + 1) xs)) e) in
-      ap (λ z. option_or z (first_of f (hollows (g + 1) xs))) (by_test (marked marks g) (or_first (f (section_of program names g x)) (first_of f (sections_of program names (g + 1) xs)) e)) ∙ rest
+      ap (λ z. option_or z (first_of f (hollows (g + 1) xs))) (by_test (is_marked marks g) (or_first (f (section_of program names g x)) (first_of f (sections_of program names (g + 1) xs)) e)) ∙ rest
     where
       by_test : (b : Bool) → f (section_of program names g x) ≡ None → f (section_of program names g (whole_if b x)) ≡ None
       by_test true e = e
@@ -127,7 +127,7 @@ module _ (program : Program) (names class_names : List (List ℕ)) (marks : List
   kept_alike : (n g : ℕ) (xs : List Subroutine) (ks : List Section) → kept_fault n (hollows g xs) ks ≡ kept_fault n (sections_of program names g xs) ks
   kept_alike n g xs ks =
       let there : (λ f. list_any (is_named f) (hollows g xs)) ≡ (λ f. list_any (is_named f) (sections_of program names g xs)) = λ i f. any_alike f g xs i in
-      ap (λ (q : List ℕ → Bool). option_or (option_map NoFunction (first_of (λ (s : Section). first_of (λ (x : Line). lacking q (called x.command)) s.lines) ks)) (too_many (words_before ks n))) there
+      ap (λ (q : List ℕ → Bool). option_or (option_map NoFunction (first_of (λ (s : Section). first_of (λ (x : Line). lacking q (called_name x.command)) s.lines) ks)) (too_many (words_before ks n))) there
 
   -- the files have the same names
   length_files : (k : ℕ) (cs : List Class) → length (files_from hollow names class_names k cs) ≡ length (files_from program names class_names k cs)
@@ -159,8 +159,8 @@ module _ (program : Program) (names class_names : List (List ℕ)) (marks : List
     -- what is reached has its commands
     same_reached : (i : ℕ) → Reached ss i → slice_get hs i ≡ slice_get ss i
     same_reached i r =
-        let linked = reached_linked program names resolved i r in
-        same_at 1 (drop 1 program.subroutines) i (λ b. linked_are.all (1 + i) (within program.subroutines b) linked)
+        let linked_of = reached_linked program names resolved i r in
+        same_at 1 (drop 1 program.subroutines) i (λ b. linked_are.all (1 + i) (within program.subroutines b) linked_of)
       where
         within : (xs : List Subroutine) → i < length (drop 1 xs) → 1 + i < length xs
         within [] b = absurd (omega arith)
@@ -203,8 +203,8 @@ module _ (program : Program) (names class_names : List (List ℕ)) (marks : List
         ∙ ap (λ z. kept_fault (length (program_files program names class_names)) z ks) (sym hollow_is)
         ∙ ap (λ (z : ℕ). kept_fault z (sections false (program_files hollow names class_names)) ks) (sym (length_files 0 program.classes))
 
-    linked_alike : (ks : List Section) → linked false (program_files hollow names class_names) ks ≡ linked false (program_files program names class_names) ks
-    linked_alike ks = ap (λ z. record (linked false (program_files program names class_names) ks) { files = z }) (files_alike ks 0 program.classes)
+    linked_alike : (ks : List Section) → linked_of false (program_files hollow names class_names) ks ≡ linked_of false (program_files program names class_names) ks
+    linked_alike ks = ap (λ z. record (linked_of false (program_files program names class_names) ks) { files = z }) (files_alike ks 0 program.classes)
 
     links_whole : (r : Result Linked LinkFault) → Links false (program_files hollow names class_names) r → Links false (program_files program names class_names) r
     links_whole r memory = memory
@@ -214,5 +214,5 @@ module _ (program : Program) (names class_names : List (List ℕ)) (marks : List
 
 pub links_of : (core : Core) (marks : List Bool) (fs : List File) (r : Result Linked LinkFault) → IsResolvedCore core → AreLinked (the_program core) marks → fs ≡ hollow_files marks core
     → Links false fs r → Links false (files_of core) r
-links_of core marks fs r resolved linked e h =
-    links_whole (the_program core) (names_of core) (class_names_of core) marks resolved linked r (subst (λ z. Links false z r) e h)
+links_of core marks fs r resolved linked_of e h =
+    links_whole (the_program core) (names_of core) (class_names_of core) marks resolved linked_of r (subst (λ z. Links false z r) e h)

@@ -7,7 +7,7 @@ use Rattle.jack_core.specs.declared.tree.Part.TheVariants as part
 use Rattle.jack_core.specs.declared.tree.Expression.{Expression as TheExpression}
 use Rattle.jack_core.specs.declared.program.Statement.{Statement as TheStatement}
 use Rattle.jack_core.specs.Heights.{takes, height}
-use Rattle.jack_core.specs.Reading.{the_expression, arguments_of, put, built}
+use Rattle.jack_core.specs.Reading.{the_expression, arguments_of, put, build_expressions}
 use Rattle.jack_core.specs.Texts.{the_statement, the_block}
 use Rattle.jack_core.proofs.Postfix.{enough, behind, put_length, spells}
 use Rattle.jack_compiler.specs.Inner.Named.{NamesCall, NamesPart, NamesParts, Names, NamesEach, NamesIn, NamesText}
@@ -62,7 +62,7 @@ module _ (around : Around) where
     subst All (take-append-drop k es) (all_both (take k es) (drop k es) (all_reversed (take k es) (all_of (reverse (take k es)) h.0.1)) h.1),
   )
 
-  built_named : (k : ℕ) (es : List Expression) (ps : List Part) → height (length es) ps ≡ Some k → All (built es ps) → NamesParts around ps × All es
+  built_named : (k : ℕ) (es : List Expression) (ps : List Part) → height (length es) ps ≡ Some k → All (build_expressions es ps) → NamesParts around ps × All es
   built_named k es [] e h = (tt, h)
   built_named k es (p ∷ ps) e h =
       let le = enough (length es) k p ps e in

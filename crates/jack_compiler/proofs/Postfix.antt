@@ -8,7 +8,7 @@ use Rattle.jack_core.specs.declared.tree.Part.{Part}
 use Rattle.jack_core.specs.declared.tree.Part.TheVariants as part
 use Rattle.jack_core.specs.declared.tree.Expression.{Expression}
 use Rattle.jack_core.specs.Heights.{takes, height}
-use Rattle.jack_core.specs.Reading.{the_expression, arguments_of, put, built}
+use Rattle.jack_core.specs.Reading.{the_expression, arguments_of, put, build_expressions}
 use Rattle.jack_core.proofs.Postfix.{enough, behind, put_length, spells}
 use Rattle.jack_compiler.specs.Templates.{count}
 use Rattle.jack_compiler.specs.Lines.{Around, commit, expression_lines, arguments_lines}
@@ -77,7 +77,7 @@ module _ (around : Around) (n : ℕ) where
   put_lines part.Load (i ∷ a ∷ es) le = behind_two es a i (part_lines around n part.Load)
   put_lines (part.Call k g) es le = call_lines g k es le
 
-  built_lines : (k : ℕ) (es : List AnExpression) (ps : List Part) → height (length es) ps ≡ Some k → stack_lines (built es ps) ≡ stack_lines es ++ parts_lines around n ps
+  built_lines : (k : ℕ) (es : List AnExpression) (ps : List Part) → height (length es) ps ≡ Some k → stack_lines (build_expressions es ps) ≡ stack_lines es ++ parts_lines around n ps
   built_lines k es [] e = sym (append-nil (stack_lines es))
   built_lines k es (p ∷ ps) e =
       let le = enough (length es) k p ps e in

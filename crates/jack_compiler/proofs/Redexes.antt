@@ -7,7 +7,7 @@ use Rattle.vm_tree.specs.declared.command.Segment.TheVariants as segment
 use Rattle.vm_link.specs.declared.linked.Code.{Code}
 use Rattle.jack_meaning.specs.Text.{Variable, Sign, Operator, Expression, Literal, Value, Name, This, Field, Unary, Binary, Load, Call, Open, Expressions, NoMore, More, Subroutine}
 use Rattle.jack_meaning.specs.Words.{sign_of, operator_of}
-use Rattle.jack_meaning.specs.Expressions.{Move, Stands, Rewrites, Calls, Strays, within, View, variable_of, value_of, values_of, loaded, rewrite, rewrite_first, filled, filled_in, standing, standing_in}
+use Rattle.jack_meaning.specs.Expressions.{Move, Stands, Rewrites, Calls, Strays, within, View, variable_of, value_of, values_of, loaded_word, rewrite, rewrite_first, filled, filled_in, standing, standing_in}
 use Rattle.jack_meaning.specs.Meaning.{subroutine_at}
 use Rattle.jack_compiler.specs.Templates.{Numbers, commit, literal_code, push_variable, sign_step, operator_step, load_code, count, expression_code, arguments_code}
 use Rattle.jack_compiler.specs.Fits.{Scope, IsThere, IsLiteral, IsField, IsCall, IsWhole, AreWhole, Ordered, whole, value, unary, left, right, base, index, call, AreOrdered, none, here, later}
@@ -43,10 +43,10 @@ abbrev pub redex_move : View → Redex → Move Expression
 redex_move v (Number w) = Rewrites false (Value w)
 redex_move v (Reads x) = Rewrites false (Value (variable_of v x))
 redex_move v Self = Rewrites false (Value v.this)
-redex_move v (FieldAt k) = loaded v (word_add v.this k)
+redex_move v (FieldAt k) = loaded_word v (word_add v.this k)
 redex_move v (Turns o x) = Rewrites false (Value (sign_of o x))
 redex_move v (Joins o x y) = Rewrites false (Value (operator_of o x y))
-redex_move v (Loads a i) = loaded v (word_add a i)
+redex_move v (Loads a i) = loaded_word v (word_add a i)
 redex_move v (Enters g xs) = Calls g xs Open
 
 abbrev pub redex_code : Numbers → ℕ → Redex → List Code
@@ -81,7 +81,7 @@ if_move : (b : Bool) (m m' : Move Expression) → NoStand m → NoStand m' → N
 if_move true m m' h h' = h
 if_move false m m' h h' = h'
 
-loaded_moves : (v : View) (a : ℕ) → NoStand (loaded v a)
+loaded_moves : (v : View) (a : ℕ) → NoStand (loaded_word v a)
 loaded_moves v a = if_move (nat_lt a 2048) _ _ tt (if_move (nat_lt a 24576) _ _ tt (if_move (nat_eq a 24576) _ _ tt tt))
 
 pub redex_moves : (v : View) (r : Redex) → NoStand (redex_move v r)
@@ -269,7 +269,7 @@ module _ (subs : List Subroutine) (numbers : Numbers) (scope : Scope) where
       then_stack = λ w vs. whole_stack i (stack_of (f.plug (Value w)) vs) h ∙ f.then_stack w vs;
       ordered = λ w. base (f.plug (Value w)) i (f.ordered w) h;
       filled_is = λ w. ap (λ a'. Load a' (filled w i)) (f.filled_is w) ∙ ap (Load (f.plug (Value w))) (whole_filled w i h);
-      moves = λ v. ap (λ m. within m (λ a'. Load a' i) (within (rewrite v i) (Load a) (loaded v (word_add (value_of a) (value_of i))))) (f.moves v) ∙ within_within (redex_move v f.redex) f.plug (λ a'. Load a' i) _ (redex_moves v f.redex);
+      moves = λ v. ap (λ m. within m (λ a'. Load a' i) (within (rewrite v i) (Load a) (loaded_word v (word_add (value_of a) (value_of i))))) (f.moves v) ∙ within_within (redex_move v f.redex) f.plug (λ a'. Load a' i) _ (redex_moves v f.redex);
       many = λ vs. let z = whole_standing i h in let y = f.many vs in omega arith;
     }
 
@@ -284,7 +284,7 @@ module _ (subs : List Subroutine) (numbers : Numbers) (scope : Scope) where
       then_stack = λ w vs. f.then_stack w (x ∷ vs);
       ordered = λ w. index x (f.plug (Value w)) (f.ordered w);
       filled_is = λ w. ap (Load (Value x)) (f.filled_is w);
-      moves = λ v. ap (λ m. within m (Load (Value x)) (loaded v (word_add x (value_of i)))) (f.moves v) ∙ within_within (redex_move v f.redex) f.plug (Load (Value x)) _ (redex_moves v f.redex);
+      moves = λ v. ap (λ m. within m (Load (Value x)) (loaded_word v (word_add x (value_of i)))) (f.moves v) ∙ within_within (redex_move v f.redex) f.plug (Load (Value x)) _ (redex_moves v f.redex);
       many = λ vs. let y = f.many (x ∷ vs) in omega arith;
     }
 

@@ -4,7 +4,7 @@ use Rattle.std.specs.List.{Contains}
 use Rattle.std.proofs.lemmas.List.{append-nil, reverse-append, take-append-drop, take_more}
 use Rattle.std.proofs.lemmas.List.Elements.{Contains-append_cases, Contains-append_left, Contains-append_right, Contains-push, Contains-push_cases}
 use Rattle.std.proofs.lemmas.Bool.{cases_lt}
-use Rattle.vm_link.specs.Marks.{marked, waits}
+use Rattle.vm_link.specs.Marks.{is_marked, waits}
 use Rattle.vm_link.proofs.Marking.{⊎_by, marks_one, marks_none, marks_then, marks_as, marked_now, marked_below, waits_last, waits_more, waits_from}
 use Rattle.jack_meaning.specs.Text.{Expression as AnExpression, Text, Subroutine, Program}
 use Rattle.jack_meaning.specs.Meaning.{subroutine_at}
@@ -14,7 +14,7 @@ use Rattle.jack_core.specs.declared.tree.Part.TheVariants as part
 use Rattle.jack_core.specs.declared.tree.Expression.{Expression}
 use Rattle.jack_core.specs.declared.program.Statement.{Statement}
 use Rattle.jack_core.specs.Heights.{takes, height}
-use Rattle.jack_core.specs.Reading.{the_expression, arguments_of, put, built}
+use Rattle.jack_core.specs.Reading.{the_expression, arguments_of, put, build_expressions}
 use Rattle.jack_core.specs.declared.program.Subroutine.{Subroutine as TheSubroutine}
 use Rattle.jack_core.specs.Texts.{the_statement, the_block, the_subroutine}
 use Rattle.jack_core.proofs.Postfix.{enough, behind, put_length, spells}
@@ -75,7 +75,7 @@ put_calls part.Load (i ∷ []) le = absurd (omega arith)
 put_calls part.Load (i ∷ a ∷ es) le = nothing_more (stack_calls es ++ (calls a ++ calls i)) (stack_calls (i ∷ a ∷ es)) (behind_two es a i)
 put_calls (part.Call k g) es le = call_calls g k es
 
-built_calls : (k : ℕ) (es : List AnExpression) (ps : List Part) → height (length es) ps ≡ Some k → stack_calls (built es ps) ≡ stack_calls es ++ parts_calls ps
+built_calls : (k : ℕ) (es : List AnExpression) (ps : List Part) → height (length es) ps ≡ Some k → stack_calls (build_expressions es ps) ≡ stack_calls es ++ parts_calls ps
 built_calls k es [] e = sym (append-nil (stack_calls es))
 built_calls k es (p ∷ ps) e =
     let le = enough (length es) k p ps e in
@@ -121,19 +121,19 @@ visits_over n s over = record {
   all = λ g b c. let e = only_called n g c in absurd (omega arith);
 }
 
-pub visits_again : (n : ℕ) (s : Search) → marked s.marks.items n ≡ true → Visits (n ∷ []) s s
+pub visits_again : (n : ℕ) (s : Search) → is_marked s.marks.items n ≡ true → Visits (n ∷ []) s s
 visits_again n s h = record {
   marks = marks_none (Contains (n ∷ [])) s.marks.items s.waiting.items;
-  all = λ g b c. ap (marked s.marks.items) (only_called n g c) ∙ h;
+  all = λ g b c. ap (is_marked s.marks.items) (only_called n g c) ∙ h;
 }
 
-pub visits_one : (n : ℕ) (old new : Search) → n < length old.marks.items → marked old.marks.items n ≡ false → new.marks.items ≡ slice_set old.marks.items n true
+pub visits_one : (n : ℕ) (old new : Search) → n < length old.marks.items → is_marked old.marks.items n ≡ false → new.marks.items ≡ slice_set old.marks.items n true
     → new.waiting.items ≡ old.waiting.items ++ n ∷ [] → Visits (n ∷ []) old new
 visits_one n old new b unmarked marks_are waiting_are = record {
   marks = rw (marks_are, waiting_are)
       (marks_as (λ g. g ≡ n) (Contains (n ∷ [])) old.marks.items (slice_set old.marks.items n true) old.waiting.items (old.waiting.items ++ n ∷ [])
       (λ g e. subst (Contains (n ∷ [])) (sym e) (Contains-push [] n)) (marks_one old.marks.items old.waiting.items n b unmarked));
-  all = λ g h c. ap (λ z. marked z g) marks_are ∙ ap (marked (slice_set old.marks.items n true)) (only_called n g c) ∙ marked_now old.marks.items n b;
+  all = λ g h c. ap (λ z. is_marked z g) marks_are ∙ ap (is_marked (slice_set old.marks.items n true)) (only_called n g c) ∙ marked_now old.marks.items n b;
 }
 
 pub visits_then : (xs ys : List ℕ) (a b c : Search) → Visits xs a b → Visits ys b c → Visits (xs ++ ys) a c
@@ -178,7 +178,7 @@ body_at (x ∷ xs) (suc i) d s ss h e f = body_at xs i d s ss (omega arith) e f
 false_true : {b : Bool} → b ≡ false → b ≡ true → ⊥
 false_true e f = absurd cc
 
-pub looks_first : (program : Program) (none search : Search) → length none.marks.items ≡ length program.subroutines → ((g : ℕ) → marked none.marks.items g ≡ false)
+pub looks_first : (program : Program) (none search : Search) → length none.marks.items ≡ length program.subroutines → ((g : ℕ) → is_marked none.marks.items g ≡ false)
     → none.waiting.items ≡ [] → Visits (program.init ∷ []) none search → Looks program search.marks.items search.waiting.items
 looks_first program none search l unset empty v = record {
   same_length = v.marks.same_length ∙ l;
@@ -221,7 +221,7 @@ over_none program g h = by_list program.subroutines g h
 pub looks_last : (program : Program) (marks : List Bool) → Looks program marks [] → AreLinked program marks
 looks_last program marks k = record { same_length = k.same_length; only = k.only; all = all }
   where
-    all : (g : ℕ) → g < length program.subroutines → IsLinked program g → marked marks g ≡ true
+    all : (g : ℕ) → g < length program.subroutines → IsLinked program g → is_marked marks g ≡ true
     all g b init = k.start (let l = k.same_length in omega arith)
     all g b (called {g = f} linked c) = ⊎_by (cases_lt f (length program.subroutines))
         (λ there. ⊎_by (k.closed f g (all f there linked) c (let l = k.same_length in omega arith)) (λ w. absurd (false_true refl w)) (λ m. m))

@@ -9,14 +9,14 @@ use Rattle.vm_link.specs.declared.linked.Code.{Code}
 use Rattle.vm_link.specs.declared.linked.Linked.{Linked}
 use Rattle.vm_machine.specs.State.{words_in_use}
 use Rattle.vm_machine.specs.State.{Frame as VmFrame, State as VmState}
-use Rattle.vm_machine.specs.Step.{code_in, act, fitted}
+use Rattle.vm_machine.specs.Step.{code_in, act, fit_outcome}
 use Rattle.vm_machine.specs.Step.{Acts as VmActs, Strays as VmStrays, Full as VmFull, step as vm_step}
-use Rattle.hack_blocks.specs.Budgets.{most_steps}
+use Rattle.vm_templates.specs.Budgets.{most_steps}
 use Rattle.vm_machine.specs.Level.{state_after, is_fit, is_commit, subroutine_of, statement_of, end_statement, vm_system, cost_of, vm_cost}
 use Rattle.vm_machine.specs.Level.{has_heard as vm_heard, is_done as vm_done}
-use Rattle.layers.specs.System.{System}
-use Rattle.layers.specs.Layers.{Shows, GoesAstray, Ends, strays, Along, last, onward, Way}
-use Rattle.layers.proofs.Ways.{quiet_step, last_step}
+use Rattle.simulation.specs.System.{System}
+use Rattle.simulation.specs.Layers.{Shows, GoesAstray, Ends, strays, Along, last, onward, Way}
+use Rattle.simulation.proofs.Ways.{quiet_step, last_step}
 use Rattle.jack_meaning.specs.Text.{Program}
 use Rattle.jack_meaning.specs.Meaning.{State, Acts, Stray, step, point_of}
 use Rattle.jack_meaning.specs.Level.{has_heard, is_done, meaning_of}
@@ -58,7 +58,7 @@ module _ (program : Program) (numbers : Numbers) (linked : Linked) (depth : ℕ)
     pub words : V.words ≡ u.words
     pub sub : subroutine_of linked vf.function ≡ (point_of u.frames).0
 
-  performs : (key : ℕ) (V : VmState) (vf : VmFrame) (vbelow : List VmFrame) (c : Code) → slice_get (code_in linked vf.function) vf.place ≡ Some c → vm_step linked key (record V { frames = vf ∷ vbelow }) ≡ fitted (act key c.step (record V { frames = vf ∷ vbelow }) vf vbelow)
+  performs : (key : ℕ) (V : VmState) (vf : VmFrame) (vbelow : List VmFrame) (c : Code) → slice_get (code_in linked vf.function) vf.place ≡ Some c → vm_step linked key (record V { frames = vf ∷ vbelow }) ≡ fit_outcome (act key c.step (record V { frames = vf ∷ vbelow }) vf vbelow)
   unfolding vm_step
   performs key V vf vbelow c h = rw h refl
 
@@ -69,15 +69,15 @@ module _ (program : Program) (numbers : Numbers) (linked : Linked) (depth : ℕ)
   not_over : (w : ℕ) → w ≤ 1792 → nat_lt 1792 w ≡ false
   not_over w h = grind (arith, nat_tests)
 
-  fits_in : (heard : Bool) (v : VmState) → words_in_use v.frames ≤ 1792 → fitted (VmActs heard v) ≡ VmActs heard v
+  fits_in : (heard : Bool) (v : VmState) → words_in_use v.frames ≤ 1792 → fit_outcome (VmActs heard v) ≡ VmActs heard v
   fits_in heard v h = fits_with (nat_lt 1792 (words_in_use v.frames)) heard v (not_over (words_in_use v.frames) h)
 
   -- a command that acts
   pub runs : (key : ℕ) (heard : Bool) (V : VmState) (vf : VmFrame) (vbelow : List VmFrame) (c : Code) (v' : VmState) → slice_get (code_in linked vf.function) vf.place ≡ Some c → act key c.step (record V { frames = vf ∷ vbelow }) vf vbelow ≡ VmActs heard v' → words_in_use v'.frames ≤ 1792 → vm_step linked key (record V { frames = vf ∷ vbelow }) ≡ VmActs heard v'
-  runs key heard V vf vbelow c v' h a r = performs key V vf vbelow c h ∙ (ap fitted a ∙ fits_in heard v' r)
+  runs key heard V vf vbelow c v' h a r = performs key V vf vbelow c h ∙ (ap fit_outcome a ∙ fits_in heard v' r)
 
   pub strays_at : (key a : ℕ) (V : VmState) (vf : VmFrame) (vbelow : List VmFrame) (c : Code) → slice_get (code_in linked vf.function) vf.place ≡ Some c → act key c.step (record V { frames = vf ∷ vbelow }) vf vbelow ≡ VmStrays (stray.Address a) → vm_step linked key (record V { frames = vf ∷ vbelow }) ≡ VmStrays (stray.Address a)
-  strays_at key a V vf vbelow c h e = performs key V vf vbelow c h ∙ ap fitted e
+  strays_at key a V vf vbelow c h e = performs key V vf vbelow c h ∙ ap fit_outcome e
 
   shows_at : (u : State) (V : VmState) (vf : VmFrame) (vbelow : List VmFrame) (c : Code) → Here u V vf → c.statement ≡ (point_of u.frames).1 → slice_get (code_in linked vf.function) vf.place ≡ Some c → is_fit (vm_step linked 0 (record V { frames = vf ∷ vbelow })) ≡ true → Shows up low u (record V { frames = vf ∷ vbelow })
   shows_at u V vf vbelow c here number h fit =

@@ -1,12 +1,12 @@
 -- The virtual machine comes to a load or store outside the memory, as the meaning does.
 use Rattle.std.specs.Prelude.{◌≡◌, ℕ, List, []}
 use Rattle.machine_io.specs.declared.machine.Stray.TheVariants as stray
-use Rattle.layers.specs.Layers.{GoesAstray, Along}
+use Rattle.simulation.specs.Layers.{GoesAstray, Along}
 use Rattle.vm_link.specs.declared.linked.Linked.{Linked}
 use Rattle.vm_machine.specs.State.{State as VmState}
 use Rattle.vm_machine.specs.Step.{Strays}
 use Rattle.vm_machine.specs.Step.{step as vm_step}
-use Rattle.hack_blocks.specs.Budgets.{most_steps}
+use Rattle.vm_templates.specs.Budgets.{most_steps}
 use Rattle.vm_machine.specs.Level.{vm_system, vm_cost}
 use Rattle.jack_meaning.specs.Text.{Subroutine}
 use Rattle.jack_meaning.specs.Meaning.{State}

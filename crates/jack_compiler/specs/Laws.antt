@@ -4,9 +4,9 @@ use Rattle.vm_link.specs.declared.linked.Linked.{Linked}
 use Rattle.vm_machine.specs.State.{words_in_use}
 use Rattle.vm_machine.specs.State.{Frame as VmFrame, State as VmState}
 use Rattle.vm_machine.specs.Step.{start as vm_start}
-use Rattle.hack_blocks.specs.Budgets.{most_steps}
+use Rattle.vm_templates.specs.Budgets.{most_steps}
 use Rattle.vm_machine.specs.Level.{vm_system, vm_cost}
-use Rattle.layers.specs.Layers.{Simulates}
+use Rattle.simulation.specs.Layers.{Simulates}
 use Rattle.jack_meaning.specs.Text.{Program}
 use Rattle.jack_meaning.specs.Meaning.{Frame, State, Stray, step, start}
 use Rattle.jack_meaning.specs.StackWords.{stack_words}

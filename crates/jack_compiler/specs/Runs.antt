@@ -1,8 +1,8 @@
 -- What a run of the virtual machine over the code of a program says of the program's meaning.
 use Rattle.std.specs.Prelude.{◌≡◌, ◌<◌, ◌≤◌, ℕ, suc, ◌+◌, Some}
-use Rattle.layers.specs.System.{IsKey, Listening, run_of, Tame}
-use Rattle.layers.specs.Trace.{Trace, steps, heard, trace_of}
-use Rattle.layers.specs.Headline.{Agrees}
+use Rattle.simulation.specs.System.{IsKey, Listening, run_of, Tame}
+use Rattle.simulation.specs.Trace.{Trace, steps, heard_keys, trace_of}
+use Rattle.simulation.specs.Headline.{Agrees}
 use Rattle.machine_io.specs.declared.machine.Stray.TheVariants as stray
 use Rattle.vm_link.specs.declared.linked.Linked.{Linked}
 use Rattle.vm_machine.specs.State.{State as VmState}
@@ -37,11 +37,11 @@ module _ (linked : Linked) (keys : ℕ → ℕ) (state : ℕ → VmState) where
 
 -- The meaning of a program is tame for m steps from its start over the keys heard in n moves.
 abbrev pub TameFor : Program → Linked → (ℕ → ℕ) → (ℕ → VmState) → ℕ → ℕ → Type 0
-TameFor program linked keys state n m = Tame (meaning_of program.subroutines) (start program) (heard (moves_trace linked keys state) n) m
+TameFor program linked keys state n m = Tame (meaning_of program.subroutines) (start program) (heard_keys (moves_trace linked keys state) n) m
 
 -- what the machine's next outcome says of a state of the meaning
 abbrev pub Answers : Program → State → VmOutcome → Type 0
-Answers program s (VmActs heard v) = Unit {0}
+Answers program s (VmActs heard_keys v) = Unit {0}
 Answers program s (VmStrays why) = (a : ℕ) × (why ≡ stray.Address a) × ((key : ℕ) → step program.subroutines key s ≡ Stray a)
 Answers program s (VmFull words) = ⊥
 Answers program s VmDone = (key : ℕ) → step program.subroutines key s ≡ Done
@@ -63,5 +63,5 @@ pub record VmRunLaw : Type 0 where
   -- It is never full. Where it has come to its end, so has the meaning; and where it strays, the meaning strays, at the same address.
   pub answers : (program : Program) (numbers : Numbers) (linked : Linked) (depth most_locals : ℕ) → IsFit program numbers depth most_locals → IsCodeOf program numbers linked
       → (keys : ℕ → ℕ) (state : ℕ → VmState) (n : ℕ) → Moves linked keys state n → TameFor program linked keys state n (steps (moves_trace linked keys state) n)
-      → (after : Listening State) × (run_of (meaning_of program.subroutines) (start program) (heard (moves_trace linked keys state) n) (steps (moves_trace linked keys state) n) ≡ Some after)
+      → (after : Listening State) × (run_of (meaning_of program.subroutines) (start program) (heard_keys (moves_trace linked keys state) n) (steps (moves_trace linked keys state) n) ≡ Some after)
       × Answers program after.state (vm_step linked (keys n) (state n))

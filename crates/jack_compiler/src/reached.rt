@@ -1,6 +1,6 @@
 //! The subroutines that a program can come to.
 ghost use Rattle.std.specs.Prelude.{◌≡◌, ◌∷◌, [], ℕ, false, length, OnOk, IfOk};
-ghost use Rattle.vm_link.specs.Marks.{marked};
+ghost use Rattle.vm_link.specs.Marks.{is_marked};
 ghost use Rattle.jack_meaning.specs.Linked.{calls, statement_calls, text_calls};
 ghost use Rattle.jack_core.specs.Reading.{the_expression};
 ghost use Rattle.jack_core.specs.Texts.{the_program, the_statement, the_block};
@@ -107,7 +107,7 @@ fn mark_statements(search: &mut Search, ss: &[Statement]) -> Result<(), AllocErr
 // As many marks as there are subroutines, none of them set.
 fn no_marks(alloc: Global, subroutines: &[Subroutine]) -> Result<Vec<bool>, AllocError>
     ensures same_length { IfOk result (λ marks. length marks.items ≡ length subroutines.now) }
-    ensures unset { IfOk result (λ marks. (g : ℕ) → marked marks.items g ≡ false) }
+    ensures unset { IfOk result (λ marks. (g : ℕ) → is_marked marks.items g ≡ false) }
 {
     let mut marks = Vec::new(alloc);
     for _subroutine in subroutines {

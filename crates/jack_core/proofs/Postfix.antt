@@ -7,10 +7,10 @@ use Rattle.jack_meaning.specs.Text.{Expression as AnExpression}
 use Rattle.jack_core.specs.declared.tree.Part.{Part}
 use Rattle.jack_core.specs.declared.tree.Expression.{Expression}
 use Rattle.jack_core.specs.Heights.{takes, height}
-use Rattle.jack_core.specs.Reading.{made, put, built, operand, the_expression}
+use Rattle.jack_core.specs.Reading.{make_expression, put, build_expressions, operand, the_expression}
 
 -- the parts of one expression after those of others
-pub built_more : (es : List AnExpression) (ps qs : List Part) → built es (ps ++ qs) ≡ built (built es ps) qs
+pub built_more : (es : List AnExpression) (ps qs : List Part) → build_expressions es (ps ++ qs) ≡ build_expressions (build_expressions es ps) qs
 built_more es [] qs = refl
 built_more es (p ∷ ps) qs = built_more (put p es) ps qs
 
@@ -44,21 +44,21 @@ height_more h k (p ∷ ps) qs e =
 -- a part with enough operands leaves what is below them alone
 pub put_over : (p : Part) (es low : List AnExpression) → takes p ≤ length es → put p (es ++ low) ≡ put p es ++ low
 put_over p es low le =
-    ap (λ xs. made p (reverse xs) ∷ drop (takes p) (es ++ low)) (take-append-le (takes p) es low le)
-    ∙ ap (λ xs. made p (reverse (take (takes p) es)) ∷ xs) (drop-append-le (takes p) es low le)
+    ap (λ xs. make_expression p (reverse xs) ∷ drop (takes p) (es ++ low)) (take-append-le (takes p) es low le)
+    ∙ ap (λ xs. make_expression p (reverse (take (takes p) es)) ∷ xs) (drop-append-le (takes p) es low le)
 
 pub put_length : (p : Part) (es : List AnExpression) → takes p ≤ length es → length (put p es) ≡ length es - takes p + 1
 put_length p es le = omega (arith, le, length-drop (takes p) es)
 
 -- Parts that find their operands leave what is below those alone, and so many expressions are there after them.
-pub built_over : (k : ℕ) (es low : List AnExpression) (ps : List Part) → height (length es) ps ≡ Some k → built (es ++ low) ps ≡ built es ps ++ low
+pub built_over : (k : ℕ) (es low : List AnExpression) (ps : List Part) → height (length es) ps ≡ Some k → build_expressions (es ++ low) ps ≡ build_expressions es ps ++ low
 built_over k es low [] e = refl
 built_over k es low (p ∷ ps) e =
     let le = enough (length es) k p ps e in
-    ap (λ xs. built xs ps) (put_over p es low le)
+    ap (λ xs. build_expressions xs ps) (put_over p es low le)
     ∙ built_over k (put p es) low ps (ap (λ h. height h ps) (put_length p es le) ∙ behind (length es) k p ps e)
 
-pub built_length : (k : ℕ) (es : List AnExpression) (ps : List Part) → height (length es) ps ≡ Some k → length (built es ps) ≡ k
+pub built_length : (k : ℕ) (es : List AnExpression) (ps : List Part) → height (length es) ps ≡ Some k → length (build_expressions es ps) ≡ k
 built_length k es [] e = some_is e
 built_length k es (p ∷ ps) e =
     let le = enough (length es) k p ps e in
@@ -78,9 +78,9 @@ only (x ∷ []) e = refl
 only (x ∷ y ∷ es) e = absurd (two x y es e)
 
 -- the parts of an expression, after others, add that one
-pub spells : (low : List AnExpression) (e : Expression) → built low e.parts.items ≡ the_expression e ∷ low
+pub spells : (low : List AnExpression) (e : Expression) → build_expressions low e.parts.items ≡ the_expression e ∷ low
 spells low e =
-    built_over 1 [] low e.parts.items e.one ∙ ap (λ xs. xs ++ low) (only (built [] e.parts.items) (built_length 1 [] e.parts.items e.one))
+    built_over 1 [] low e.parts.items e.one ∙ ap (λ xs. xs ++ low) (only (build_expressions [] e.parts.items) (built_length 1 [] e.parts.items e.one))
 
 raised : (l h : ℕ) (ps : List Part) (k : ℕ) → height l ps ≡ Some k → height (h + l) ps ≡ Some (h + k)
 raised l h [] k e = ap (λ x. Some (h + x)) (some_is e)

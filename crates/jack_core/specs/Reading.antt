@@ -38,27 +38,27 @@ abbrev pub operand : ℕ → List AnExpression → AnExpression
 operand k es = get_or es k (Value 0)
 
 -- the expression that a part makes of its operands, the first one first
-abbrev pub made : Part → List AnExpression → AnExpression
-made (part.Literal n) es = Literal n
-made (part.Argument k) es = Name (Argument k)
-made (part.Local k) es = Name (Local k)
-made (part.Static k) es = Name (Static k)
-made part.This es = This
-made (part.Field k) es = Field k
-made (part.Unary o) es = Unary (the_sign o) (operand 0 es)
-made (part.Binary o) es = Binary (the_operator o) (operand 0 es) (operand 1 es)
-made part.Load es = Load (operand 0 es) (operand 1 es)
-made (part.Call n g) es = Call g (arguments_of es)
+abbrev pub make_expression : Part → List AnExpression → AnExpression
+make_expression (part.Literal n) es = Literal n
+make_expression (part.Argument k) es = Name (Argument k)
+make_expression (part.Local k) es = Name (Local k)
+make_expression (part.Static k) es = Name (Static k)
+make_expression part.This es = This
+make_expression (part.Field k) es = Field k
+make_expression (part.Unary o) es = Unary (the_sign o) (operand 0 es)
+make_expression (part.Binary o) es = Binary (the_operator o) (operand 0 es) (operand 1 es)
+make_expression part.Load es = Load (operand 0 es) (operand 1 es)
+make_expression (part.Call n g) es = Call g (arguments_of es)
 
 -- a part on expressions, the last of which comes first: that of its operands is in their place
 abbrev pub put : Part → List AnExpression → List AnExpression
-put p es = made p (reverse (take (takes p) es)) ∷ drop (takes p) es
+put p es = make_expression p (reverse (take (takes p) es)) ∷ drop (takes p) es
 
 -- the same for parts in order
-abbrev pub built : List AnExpression → List Part → List AnExpression
-built es [] = es
-built es (p ∷ ps) = built (put p es) ps
+abbrev pub build_expressions : List AnExpression → List Part → List AnExpression
+build_expressions es [] = es
+build_expressions es (p ∷ ps) = build_expressions (put p es) ps
 
 -- the expression that parts in postfix order spell
 abbrev pub the_expression : Expression → AnExpression
-the_expression e = operand 0 (built [] e.parts.items)
+the_expression e = operand 0 (build_expressions [] e.parts.items)

@@ -7,7 +7,7 @@ use Rattle.std.proofs.lemmas.Bool.{and_parts, and_from, or_cases, or_left, or_ri
 use Rattle.std.proofs.lemmas.Bool.Decides.{nat_tests}
 use Rattle.scan_text.specs.declared.Place.{Place}
 use Rattle.scan_text.specs.declared.Blank.TheVariants.{Other}
-use Rattle.scan_text.specs.Text.{front, is_digit, digits, decimal, capped}
+use Rattle.scan_text.specs.Text.{front, is_digit, digits, decimal, capped_count}
 use Rattle.scan_text.specs.Blanks.{starts, blank}
 use Rattle.grammar.specs.declared.Fault.{Fault}
 use Rattle.grammar.specs.declared.Fault.TheVariants.{Grammar}
@@ -36,7 +36,7 @@ symbol_or b all = cond (is_sign b) (symbol_piece b all) (number_or b all)
 
 -- the token of a number at the front
 abbrev integer : List ℕ → Place → Word
-integer all at = record { kind = kind.Integer (capped (decimal 0 (digits all))); text = take (suc (length (digits all) - 1)) all; place = at }
+integer all at = record { kind = kind.Integer (capped_count (decimal 0 (digits all))); text = take (suc (length (digits all) - 1)) all; place = at }
 
 letter_in_name : (b : ℕ) → is_letter b ≡ true → is_name_byte b ≡ true
 letter_in_name b e = rw e refl

@@ -5,7 +5,7 @@ use Rattle.std.specs.Global.{Global}
 use Rattle.scan_text.specs.declared.Place.{Place}
 use Rattle.scan_text.specs.declared.Blank.{Blank}
 use Rattle.scan_text.specs.declared.Blank.TheVariants.{Over, Unclosed, Other}
-use Rattle.scan_text.specs.Text.{start, step, walk, front, is_digit, digits, decimal, capped}
+use Rattle.scan_text.specs.Text.{start, step, walk, front, is_digit, digits, decimal, capped_count}
 use Rattle.scan_text.specs.Blanks.{blank, starts}
 use Rattle.grammar.specs.declared.Fault.{Fault}
 use Rattle.grammar.specs.declared.Fault.TheVariants.{Grammar, Range}
@@ -47,7 +47,7 @@ tells : (bs : List ℕ) → Tells bs (piece bs)
 tells [] = tt
 tells (b ∷ bs) =
     let all = b ∷ bs in
-    let number = capped (decimal 0 (digits all)) in
+    let number = capped_count (decimal 0 (digits all)) in
     let word : Tells all (word_piece all) = λ at. (refl, refl) in
     let symbol : Tells all (symbol_piece b all) = λ at. (refl, refl) in
     let integer : Tells all (number_piece all) = tells_if all (nat_lt 32767 number) (Wrong (λ at. Range at (min number 1000000000))) (token_of (Integer number) (length (digits all) - 1) all) tt (λ at. (refl, refl)) in

@@ -2,7 +2,7 @@
 use Rattle.std.specs.Prelude.{ℕ, suc, ◌+◌, ◌-◌, Bool, true, false, List, Option, Some, None, Result, ◌==◌, ◌||◌, ◌&&◌, if◌then◌else◌, length, drop, take, nat_le, nat_lt, min}
 use Rattle.std.specs.Char.{is_ascii_alphabetic}
 use Rattle.scan_text.specs.declared.Place.{Place}
-use Rattle.scan_text.specs.Text.{start, walk, first, front, is_digit, digits, decimal, capped}
+use Rattle.scan_text.specs.Text.{start, walk, first, front, is_digit, digits, decimal, capped_count}
 use Rattle.scan_text.specs.Blanks.{starts}
 use Rattle.grammar.specs.declared.Fault.{Fault}
 use Rattle.grammar.specs.declared.Fault.TheVariants.{Grammar, Range}
@@ -38,7 +38,7 @@ token_of kind n bs = Token (λ at. record { kind = kind; text = take (suc n) bs;
 -- decimal digits, at most 32,767
 abbrev pub number_piece : List ℕ → Piece Word
 number_piece bs =
-    let n = capped (decimal 0 (digits bs)) in
+    let n = capped_count (decimal 0 (digits bs)) in
     if nat_lt 32767 n then Wrong (λ at. Range at (min n 1000000000)) else token_of (kind.Integer n) (length (digits bs) - 1) bs
 
 abbrev pub kind_of : Option Keyword → Kind

@@ -2,7 +2,7 @@
 
 ghost use Rattle.std.specs.Prelude.{◌≡◌, ◌≤◌, true, length, map, Some, IfOk};
 ghost use Rattle.scan_text.specs.Text.{first, front, start, is_digit};
-ghost use Rattle.scan_text.specs.View.{left, place};
+ghost use Rattle.scan_text.specs.View.{left_bytes, place};
 ghost use Rattle.grammar.specs.Cutting.{TokenBy};
 ghost use Rattle.grammar.specs.Reading.{Gives};
 ghost use Rattle.jack_tree.specs.Tokens.{view, StandIn};
@@ -60,9 +60,9 @@ fn is_sign(byte: u8) -> bool
 
 // An integer, at most 32,767.
 fn number<'a>(scan: &mut Scan<'a>, byte: u8) -> Result<Token<'a>, Fault>
-    requires begun { first (left scan.old) ≡ Some byte }
+    requires begun { first (left_bytes scan.old) ≡ Some byte }
     requires digit { is_digit byte ≡ true }
-    ensures { TokenBy view (number_piece (left scan.old)) scan.old result scan.new }
+    ensures { TokenBy view (number_piece (left_bytes scan.old)) scan.old result scan.new }
 {
     let place = scan.place();
     let mut ahead = *scan;
@@ -80,9 +80,9 @@ fn number<'a>(scan: &mut Scan<'a>, byte: u8) -> Result<Token<'a>, Fault>
 
 // A keyword or an identifier.
 fn word<'a>(scan: &mut Scan<'a>, byte: u8) -> Result<Token<'a>, Fault>
-    requires begun { first (left scan.old) ≡ Some byte }
+    requires begun { first (left_bytes scan.old) ≡ Some byte }
     requires letter { is_letter byte ≡ true }
-    ensures { TokenBy view (word_piece (left scan.old)) scan.old result scan.new }
+    ensures { TokenBy view (word_piece (left_bytes scan.old)) scan.old result scan.new }
 {
     let place = scan.place();
     let text = scan.take_while(|b| is_name_byte(b));
@@ -100,9 +100,9 @@ fn word_kind(text: &[u8]) -> Kind
 }
 
 fn symbol<'a>(scan: &mut Scan<'a>, byte: u8) -> Result<Token<'a>, Fault>
-    requires begun { first (left scan.old) ≡ Some byte }
+    requires begun { first (left_bytes scan.old) ≡ Some byte }
     requires sign { is_sign byte ≡ true }
-    ensures { TokenBy view (symbol_piece byte (left scan.old)) scan.old result scan.new }
+    ensures { TokenBy view (symbol_piece byte (left_bytes scan.old)) scan.old result scan.new }
 {
     let place = scan.place();
     let text = scan.skip(1);
@@ -115,8 +115,8 @@ fn symbol<'a>(scan: &mut Scan<'a>, byte: u8) -> Result<Token<'a>, Fault>
 
 // A text in double quotes, which is closed.
 fn quoted<'a>(scan: &mut Scan<'a>) -> Result<Token<'a>, Fault>
-    requires { first (left scan.old) ≡ Some 34 }
-    ensures { TokenBy view (text_piece (left scan.old)) scan.old result scan.new }
+    requires { first (left_bytes scan.old) ≡ Some 34 }
+    ensures { TokenBy view (text_piece (left_bytes scan.old)) scan.old result scan.new }
 {
     let place = scan.place();
     let from = scan.rest();

@@ -10,8 +10,8 @@ use Rattle.jack_core.specs.declared.tree.Expression.{Expression as ExpressionTre
 use Rattle.jack_core.specs.declared.program.Statement.{Statement, If', While'}
 use Rattle.jack_core.specs.Heights.{takes}
 use Rattle.jack_core.specs.Texts.{the_statement, the_row}
-use Rattle.jack_core.specs.Reading.{the_variable, the_sign, the_operator, the_expression, arguments_of, operand, made, put, built}
-use Rattle.jack_machine.specs.Texts.{written, written_first, begun, waiting}
+use Rattle.jack_core.specs.Reading.{the_variable, the_sign, the_operator, the_expression, arguments_of, operand, make_expression, put, build_expressions}
+use Rattle.jack_machine.specs.Texts.{written_statement, written_first, begun_text, waiting}
 use Rattle.jack_machine.specs.declared.fronts.First.{First}
 use Rattle.jack_machine.proofs.Lists.{map-reverse, with_first}
 
@@ -29,7 +29,7 @@ module _ (w : ℕ) where
   arguments_filled [] = refl
   arguments_filled (e ∷ es) = ap (More (filled w e)) (arguments_filled es)
 
-  made_filled : (p : Part) (es : List Expression) → filled w (made p es) ≡ made p (all es)
+  made_filled : (p : Part) (es : List Expression) → filled w (make_expression p es) ≡ make_expression p (all es)
   made_filled (part.Literal n) es = refl
   made_filled (part.Argument k) es = refl
   made_filled (part.Local k) es = refl
@@ -43,14 +43,14 @@ module _ (w : ℕ) where
 
   put_filled : (p : Part) (es : List Expression) → all (put p es) ≡ put p (all es)
   put_filled p es =
-      ap (λ e. e ∷ all (drop (takes p) es)) (made_filled p (reverse (take (takes p) es)) ∙ ap (made p) (map-reverse (filled w) (take (takes p) es) ∙ ap reverse (sym (take-map (filled w) (takes p) es))))
-      ∙ ap (λ l. made p (reverse (take (takes p) (all es))) ∷ l) (sym (drop-map (filled w) (takes p) es))
+      ap (λ e. e ∷ all (drop (takes p) es)) (made_filled p (reverse (take (takes p) es)) ∙ ap (make_expression p) (map-reverse (filled w) (take (takes p) es) ∙ ap reverse (sym (take-map (filled w) (takes p) es))))
+      ∙ ap (λ l. make_expression p (reverse (take (takes p) (all es))) ∷ l) (sym (drop-map (filled w) (takes p) es))
 
-  built_filled : (es : List Expression) (ps : List Part) → all (built es ps) ≡ built (all es) ps
+  built_filled : (es : List Expression) (ps : List Part) → all (build_expressions es ps) ≡ build_expressions (all es) ps
   built_filled es [] = refl
-  built_filled es (p ∷ ps) = built_filled (put p es) ps ∙ ap (λ l. built l ps) (put_filled p es)
+  built_filled es (p ∷ ps) = built_filled (put p es) ps ∙ ap (λ l. build_expressions l ps) (put_filled p es)
 
-  written_filled : (s : Statement) (es : List Expression) → filled_first w (written s es) ≡ written s (all es)
+  written_filled : (s : Statement) (es : List Expression) → filled_first w (written_statement s es) ≡ written_statement s (all es)
   written_filled (Statement.Let n x e) es = ap (Let n (the_variable x)) (operand_filled 0 es)
   written_filled (Statement.LetField n k e) es = ap (LetField n k) (operand_filled 0 es)
   written_filled (Statement.LetThis n e) es = ap (LetThis n) (operand_filled 0 es)
@@ -77,7 +77,7 @@ module _ (w : ℕ) where
   all_waiting (x ∷ ws) = ap (λ l. Value w ∷ l) (all_values ws)
 
   expression_filled : (e : ExpressionTree) → filled w (the_expression e) ≡ the_expression e
-  expression_filled e = operand_filled 0 (built [] e.parts.items) ∙ ap (operand 0) (built_filled [] e.parts.items)
+  expression_filled e = operand_filled 0 (build_expressions [] e.parts.items) ∙ ap (operand 0) (built_filled [] e.parts.items)
 
   -- no call of the program's text is open
   statement_filled : (s : Statement) → filled_first w (the_statement s) ≡ the_statement s
@@ -93,14 +93,14 @@ module _ (w : ℕ) where
   statement_filled (Statement.Return n e) = ap (Return n) (expression_filled e)
 
   waiting_filled : (first : First) (ws : List ℕ) (ps : List Part) (rest : Text)
-      → filled_text w (written_first first (built (waiting ws) ps) rest) ≡ written_first first (built (map Value (with_first w ws)) ps) rest
+      → filled_text w (written_first first (build_expressions (waiting ws) ps) rest) ≡ written_first first (build_expressions (map Value (with_first w ws)) ps) rest
   waiting_filled first ws ps rest =
-      first_filled first (built (waiting ws) ps) rest
-      ∙ ap (λ l. written_first first l rest) (built_filled (waiting ws) ps ∙ ap (λ l. built l ps) (all_waiting ws))
+      first_filled first (build_expressions (waiting ws) ps) rest
+      ∙ ap (λ l. written_first first l rest) (built_filled (waiting ws) ps ∙ ap (λ l. build_expressions l ps) (all_waiting ws))
 
   -- where the last value is that of an open call, it becomes this one
   pub begun_filled : (first : First) (done : ℕ) (ws : List ℕ) (ps : List Part) (rest : Text)
-      → filled_text w (begun first done (built (waiting ws) ps) rest) ≡ begun first done (built (map Value (with_first w ws)) ps) rest
+      → filled_text w (begun_text first done (build_expressions (waiting ws) ps) rest) ≡ begun_text first done (build_expressions (map Value (with_first w ws)) ps) rest
   begun_filled (First.Start init) zero ws ps rest = waiting_filled (First.Start init) ws ps rest
   begun_filled (First.Start init) (suc done) ws ps rest = waiting_filled (First.Start init) ws ps rest
   begun_filled (First.Statement s) zero ws ps rest = ap (λ t. Next t rest) (statement_filled s.now)

@@ -8,10 +8,10 @@ use Rattle.jack_core.specs.declared.tree.Part.{Part}
 use Rattle.jack_core.specs.declared.tree.Expression.{Expression}
 use Rattle.jack_core.specs.declared.program.Statement.{Statement, If', While'}
 use Rattle.jack_core.specs.Heights.{takes, height}
-use Rattle.jack_core.specs.Reading.{made, put}
+use Rattle.jack_core.specs.Reading.{make_expression, put}
 use Rattle.jack_core.proofs.Postfix.{some_is, enough, behind, height_more, height_over}
-use Rattle.jack_machine.specs.Looks.{passed, spared}
-use Rattle.jack_machine.specs.Parts.{parts_in, parts_of, wanted_in, wanted}
+use Rattle.jack_machine.specs.Looks.{passed_values, spared_values}
+use Rattle.jack_machine.specs.Parts.{parts_in, parts_of, wanted_in, wanted_count}
 use Rattle.jack_machine.specs.declared.fronts.First.{First}
 use Rattle.jack_machine.specs.declared.fronts.Front.{Front}
 use Rattle.jack_machine.proofs.Lists.{map-reverse, drop_found, drop_none}
@@ -32,54 +32,54 @@ statement_fits (If' n o c p a q b) = c.one
 statement_fits (While' n c p s) = c.one
 statement_fits (Statement.Return n e) = e.one
 
-pub fresh_fits : (first : First) → height 0 (parts_of first) ≡ Some (wanted first)
+pub fresh_fits : (first : First) → height 0 (parts_of first) ≡ Some (wanted_count first)
 fresh_fits (First.Start init) = refl
 fresh_fits (First.Statement s) = statement_fits s.now
 fresh_fits First.Nothing = refl
 
 -- where nothing is done no value stands
-pub none_stand : (h : ℕ) (first : First) → height h (parts_of first) ≡ Some (wanted first) → h ≡ 0
-none_stand h first e = let all : h + wanted first ≡ wanted first = some_is (sym (height_over h (wanted first) (parts_of first) (fresh_fits first)) ∙ e) in omega (arith, all)
+pub none_stand : (h : ℕ) (first : First) → height h (parts_of first) ≡ Some (wanted_count first) → h ≡ 0
+none_stand h first e = let all : h + wanted_count first ≡ wanted_count first = some_is (sym (height_over h (wanted_count first) (parts_of first) (fresh_fits first)) ∙ e) in omega (arith, all)
 
 -- the part that is next, and those behind it
 module _ (f : Front) (p : Part) (next : slice_get (parts_of f.first) f.done ≡ Some p) where
   pub next_is : drop f.done (parts_of f.first) ≡ p ∷ drop (f.done + 1) (parts_of f.first)
   next_is = drop_found (parts_of f.first) f.done p next ∙ ap (λ n. p ∷ drop n (parts_of f.first)) (sym (add-one f.done))
 
-  fits_next : height (length f.values.items) (p ∷ drop (f.done + 1) (parts_of f.first)) ≡ Some (wanted f.first)
+  fits_next : height (length f.values.items) (p ∷ drop (f.done + 1) (parts_of f.first)) ≡ Some (wanted_count f.first)
   fits_next = ap (height (length f.values.items)) (sym next_is) ∙ f.fits
 
   pub has_operands : takes p ≤ length f.values.items
-  has_operands = enough (length f.values.items) (wanted f.first) p (drop (f.done + 1) (parts_of f.first)) fits_next
+  has_operands = enough (length f.values.items) (wanted_count f.first) p (drop (f.done + 1) (parts_of f.first)) fits_next
 
-  pub fits_behind : height (length f.values.items - takes p + 1) (drop (f.done + 1) (parts_of f.first)) ≡ Some (wanted f.first)
-  fits_behind = behind (length f.values.items) (wanted f.first) p (drop (f.done + 1) (parts_of f.first)) fits_next
+  pub fits_behind : height (length f.values.items - takes p + 1) (drop (f.done + 1) (parts_of f.first)) ≡ Some (wanted_count f.first)
+  fits_behind = behind (length f.values.items) (wanted_count f.first) p (drop (f.done + 1) (parts_of f.first)) fits_next
 
 -- no part is left
 pub all_done : (f : Front) → slice_get (parts_of f.first) f.done ≡ None → drop f.done (parts_of f.first) ≡ []
 all_done f e = drop_none (parts_of f.first) f.done e
 
-pub all_wanted : (f : Front) → slice_get (parts_of f.first) f.done ≡ None → length f.values.items ≡ wanted f.first
+pub all_wanted : (f : Front) → slice_get (parts_of f.first) f.done ≡ None → length f.values.items ≡ wanted_count f.first
 all_wanted f e = some_is (ap (height (length f.values.items)) (sym (all_done f e)) ∙ f.fits)
 
 -- the length of what a part leaves of the values, and its own one
-pub spared_length : (p : Part) (ws : List ℕ) → takes p ≤ length ws → length (spared p ws) ≡ length ws - takes p
+pub spared_length : (p : Part) (ws : List ℕ) → takes p ≤ length ws → length (spared_values p ws) ≡ length ws - takes p
 spared_length p ws le = let less : length ws - takes p ≤ length ws = omega arith in length-take-le (length ws - takes p) ws less
 
-pub put_size : (p : Part) (w : ℕ) (ws : List ℕ) → takes p ≤ length ws → length (spared p ws ++ w ∷ []) ≡ length ws - takes p + 1
-put_size p w ws le = length-append (spared p ws) (w ∷ []) ∙ ap (λ n. n + 1) (spared_length p ws le)
+pub put_size : (p : Part) (w : ℕ) (ws : List ℕ) → takes p ≤ length ws → length (spared_values p ws ++ w ∷ []) ≡ length ws - takes p + 1
+put_size p w ws le = length-append (spared_values p ws) (w ∷ []) ∙ ap (λ n. n + 1) (spared_length p ws le)
 
 -- a part over values, the last of which comes first
-pub put_values : (p : Part) (ws : List ℕ) → takes p ≤ length ws → put p (map Value (reverse ws)) ≡ made p (map Value (passed p ws)) ∷ map Value (reverse (spared p ws))
+pub put_values : (p : Part) (ws : List ℕ) → takes p ≤ length ws → put p (map Value (reverse ws)) ≡ make_expression p (map Value (passed_values p ws)) ∷ map Value (reverse (spared_values p ws))
 put_values p ws le =
-    let low : List ℕ = spared p ws in
-    let high : List ℕ = passed p ws in
+    let low : List ℕ = spared_values p ws in
+    let high : List ℕ = passed_values p ws in
     let size : length (map Value (reverse high)) ≡ takes p = omega (arith, le, length-map (reverse high) Value, length-reverse high, length-drop (length ws - takes p) ws) in
     let split : map Value (reverse ws) ≡ map Value (reverse high) ++ map Value (reverse low) =
     ap (λ l. map Value (reverse l)) (sym (take-append-drop (length ws - takes p) ws)) ∙ ap (map Value) (reverse-append low high) ∙ map-append Value (reverse high) (reverse low) in
     let back : reverse (map Value (reverse high)) ≡ map Value high =
     sym (map-reverse Value (reverse high)) ∙ ap (map Value) (reverse-reverse high) in
     ap (put p) split
-    ∙ ap (λ l. made p (reverse l) ∷ drop (takes p) (map Value (reverse high) ++ map Value (reverse low))) (take_at (map Value (reverse high)) (map Value (reverse low)) (takes p) size)
-    ∙ ap (λ l. made p l ∷ drop (takes p) (map Value (reverse high) ++ map Value (reverse low))) back
-    ∙ ap (λ l. made p (map Value high) ∷ l) (drop_at (map Value (reverse high)) (map Value (reverse low)) (takes p) size)
+    ∙ ap (λ l. make_expression p (reverse l) ∷ drop (takes p) (map Value (reverse high) ++ map Value (reverse low))) (take_at (map Value (reverse high)) (map Value (reverse low)) (takes p) size)
+    ∙ ap (λ l. make_expression p l ∷ drop (takes p) (map Value (reverse high) ++ map Value (reverse low))) back
+    ∙ ap (λ l. make_expression p (map Value high) ∷ l) (drop_at (map Value (reverse high)) (map Value (reverse low)) (takes p) size)

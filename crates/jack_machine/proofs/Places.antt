@@ -2,13 +2,13 @@
 use Rattle.std.proofs.Common.{◌≡◌, ℕ, zero, suc, ◌+◌, ◌-◌, ◌≤◌, ◌<◌, Bool, true, false, List, [], ◌∷◌, ◌++◌, Some, length, take, drop, map, reverse, refl, sym, ap, ◌∙◌, arith, ◌⊎◌, inl, inr}
 use Rattle.std.proofs.lemmas.List.{length-append, length-map, length-reverse, length-take-le, take-map, drop-map}
 use Rattle.jack_meaning.specs.Text.{Expression, Value, Open, Unary, Binary, Load, Call, More}
-use Rattle.jack_meaning.specs.Expressions.{View, Move, Stands, Rewrites, Calls, Strays, within, rewrite, rewrite_first, loaded, value_of, values_of}
+use Rattle.jack_meaning.specs.Expressions.{View, Move, Stands, Rewrites, Calls, Strays, within, rewrite, rewrite_first, loaded_word, value_of, values_of}
 use Rattle.jack_meaning.specs.Words.{sign_of, operator_of}
 use Rattle.word16.specs.Words.{word_add}
 use Rattle.jack_core.specs.declared.tree.Part.{Part}
 use Rattle.jack_core.specs.declared.tree.Part.TheVariants as part
 use Rattle.jack_core.specs.Heights.{takes, height}
-use Rattle.jack_core.specs.Reading.{the_sign, the_operator, arguments_of, made, put, built}
+use Rattle.jack_core.specs.Reading.{the_sign, the_operator, arguments_of, make_expression, put, build_expressions}
 use Rattle.jack_core.proofs.Postfix.{enough, behind, put_over, put_length}
 use Rattle.jack_machine.proofs.Lists.{reverse_middle, map-reverse, take_through, drop_through}
 
@@ -54,7 +54,7 @@ module _ (c : Expression → Expression) (place : IsPlace c) where
       ap (λ m. within m (More (Value y)) Stands) (among ys fs v x h) ∙ within_twice (rewrite v x) (λ z. arguments_of (map Value ys ++ c z ∷ fs)) (More (Value y)) Stands h
 
   -- Values stand before it, and any expressions behind it, and a part is made of them all.
-  made_of : (p : Part) (ys : List ℕ) (fs : List Expression) → takes p ≡ length ys + suc (length fs) → IsPlace (λ x. made p (map Value ys ++ c x ∷ fs))
+  made_of : (p : Part) (ys : List ℕ) (fs : List Expression) → takes p ≡ length ys + suc (length fs) → IsPlace (λ x. make_expression p (map Value ys ++ c x ∷ fs))
   made_of (part.Literal n) ys fs e = absurd (omega (arith, e))
   made_of (part.Argument k) ys fs e = absurd (omega (arith, e))
   made_of (part.Local k) ys fs e = absurd (omega (arith, e))
@@ -74,9 +74,9 @@ module _ (c : Expression → Expression) (place : IsPlace c) where
   made_of (part.Binary o) (y ∷ z ∷ ys) fs e = absurd (omega (arith, e))
   made_of part.Load [] [] e = absurd (omega (arith, e))
   made_of part.Load [] (f ∷ []) e =
-      inner (λ a. Load a f) (λ v x. within (rewrite v f) (Load x) (loaded v (word_add (value_of x) (value_of f)))) (λ v x. refl)
+      inner (λ a. Load a f) (λ v x. within (rewrite v f) (Load x) (loaded_word v (word_add (value_of x) (value_of f)))) (λ v x. refl)
   made_of part.Load [] (f ∷ g ∷ fs) e = absurd (omega (arith, e))
-  made_of part.Load (y ∷ []) [] e = inner (Load (Value y)) (λ v x. loaded v (word_add y (value_of x))) (λ v x. refl)
+  made_of part.Load (y ∷ []) [] e = inner (Load (Value y)) (λ v x. loaded_word v (word_add y (value_of x))) (λ v x. refl)
   made_of part.Load (y ∷ []) (f ∷ fs) e = absurd (omega (arith, e))
   made_of part.Load (y ∷ z ∷ ys) fs e = absurd (omega (arith, e))
   made_of (part.Call n g) ys fs e = record {
@@ -107,11 +107,11 @@ lies_put p fresh c low place le (inr below) =
     ∙ ap (λ l. reverse l ++ c x ∷ reverse fresh) (take-map Value j low) ∙ ap (λ l. l ++ c x ∷ reverse fresh) (sym (map-reverse Value (take j low))) in
     record {
       fresh = [];
-      place = λ x. made p (map Value (reverse (take j low)) ++ c x ∷ reverse fresh);
+      place = λ x. make_expression p (map Value (reverse (take j low)) ++ c x ∷ reverse fresh);
       low = drop j low;
       lies = λ x.
-          ap (λ l. made p l ∷ drop (takes p) (fresh ++ c x ∷ map Value low)) (taken x)
-          ∙ ap (λ l. made p (map Value (reverse (take j low)) ++ c x ∷ reverse fresh) ∷ l) (drop_through fresh (c x) (map Value low) (takes p) j through ∙ drop-map Value j low);
+          ap (λ l. make_expression p l ∷ drop (takes p) (fresh ++ c x ∷ map Value low)) (taken x)
+          ∙ ap (λ l. make_expression p (map Value (reverse (take j low)) ++ c x ∷ reverse fresh) ∷ l) (drop_through fresh (c x) (map Value low) (takes p) j through ∙ drop-map Value j low);
       is_place = made_of c place p (reverse (take j low)) (reverse fresh) size;
     }
 
@@ -128,7 +128,7 @@ same_lies : (es fs : Expression → List Expression) → ((x : Expression) → e
 same_lies es fs same l = record { fresh = l.fresh; place = l.place; low = l.low; lies = λ x. same x ∙ l.lies x; is_place = l.is_place }
 
 -- Parts that find their operands leave it in a place.
-pub lies_built : (ps : List Part) (es : Expression → List Expression) → Lies es → (k : ℕ) → height (length (es Open)) ps ≡ Some k → Lies (λ x. built (es x) ps)
+pub lies_built : (ps : List Part) (es : Expression → List Expression) → Lies es → (k : ℕ) → height (length (es Open)) ps ≡ Some k → Lies (λ x. build_expressions (es x) ps)
 lies_built [] es l k h = l
 lies_built (p ∷ ps) es l k h =
     let le : takes p ≤ length (es Open) = enough (length (es Open)) k p ps h in

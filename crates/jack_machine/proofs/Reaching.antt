@@ -5,9 +5,9 @@ use Rattle.std.specs.List.{Contains}
 use Rattle.std.proofs.lemmas.List.Elements.{Contains-append_left, Contains-append_right}
 use Rattle.word16.specs.Memory.{heap, keyboard}
 use Rattle.word16.specs.Words.{word_add}
-use Rattle.jack_meaning.specs.Text.{Variable, Argument, Local, Static, Expression, Literal, Value, Name, This, Field, Unary, Binary, Load, Call, Open, Expressions, NoMore, More, Statement, Let, LetField, LetThis, Store, Do, If, While, Return, Text, End, Next, joined, Program}
-use Rattle.jack_meaning.specs.Expressions.{View, Move, Stands, Rewrites, Calls as Calling, Strays, within, value_of, loaded, rewrite, rewrite_first, filled, filled_in}
-use Rattle.jack_meaning.specs.Meaning.{Frame, State, Outcome, Acts, Stray, Done, view_of, subroutine_at, filled_text, step_part, assigned, stored, passed_over, returned, chosen, turn_of, step_first, step_frames, step, start}
+use Rattle.jack_meaning.specs.Text.{Variable, Argument, Local, Static, Expression, Literal, Value, Name, This, Field, Unary, Binary, Load, Call, Open, Expressions, NoMore, More, Statement, Let, LetField, LetThis, Store, Do, If, While, Return, Text, End, Next, joined_text, Program}
+use Rattle.jack_meaning.specs.Expressions.{View, Move, Stands, Rewrites, Calls as Calling, Strays, within, value_of, loaded_word, rewrite, rewrite_first, filled, filled_in}
+use Rattle.jack_meaning.specs.Meaning.{Frame, State, Outcome, Acts, Stray, Done, view_of, subroutine_at, filled_text, step_part, after_assignment, after_store, passed_over, after_return, text_chosen, turn_of, step_first, step_frames, step, start}
 use Rattle.jack_meaning.specs.Linked.{calls, calls_in, statement_calls, text_calls, IsLinked, init, called}
 use Rattle.jack_machine.specs.Calls.{CallsAreThere}
 use Rattle.jack_machine.specs.Inner.Reached.{Calls, CallsEach, CallsIn, CallsText, AreReached}
@@ -76,7 +76,7 @@ module _ (program : Program) where
   within_moves P Q (Calling g xs a) whole_ after h up next = (h.0, up a h.1)
   within_moves P Q (Strays a) whole_ after h up next = tt
 
-  loaded_moves : (v : View) (a : ℕ) → Moves (Calls program) (loaded v a)
+  loaded_moves : (v : View) (a : ℕ) → Moves (Calls program) (loaded_word v a)
   loaded_moves v a = by_tests (nat_lt a heap) (nat_lt a keyboard) (nat_eq a keyboard)
     where
       by_tests : (b c d : Bool) → Moves (Calls program) (if b then Strays a else (if c then Rewrites false (Value (slice_index v.words (a - heap))) else (if d then Rewrites true (Value v.key) else Strays a)))
@@ -136,11 +136,11 @@ module _ (program : Program) where
   filled_reached w (Next (While n c s) rest) h = h
   filled_reached w (Next (Return n e) rest) h = (filled_calls w e h.0, h.1)
 
-  joined_reached : (t rest : Text) → CallsText program t → CallsText program rest → CallsText program (joined t rest)
+  joined_reached : (t rest : Text) → CallsText program t → CallsText program rest → CallsText program (joined_text t rest)
   joined_reached End rest h k = k
   joined_reached (Next s t) rest h k = (h.0, joined_reached t rest h.1 k)
 
-  chosen_reached : (w : ℕ) (a b : Text) → CallsText program a → CallsText program b → CallsText program (chosen w a b)
+  chosen_reached : (w : ℕ) (a b : Text) → CallsText program a → CallsText program b → CallsText program (text_chosen w a b)
   chosen_reached zero a b h k = k
   chosen_reached (suc w) a b h k = h
 
@@ -153,7 +153,7 @@ module _ (program : Program) where
   Comes (Stray a) = Unit {0}
   Comes Done = Unit {0}
 
-  returned_comes : (s : State) (below : List Frame) (w : ℕ) → AreReached program below → Comes (returned s below w)
+  returned_comes : (s : State) (below : List Frame) (w : ℕ) → AreReached program below → Comes (after_return s below w)
   returned_comes s [] w h = tt
   returned_comes s (f ∷ below) w h = (h.0, filled_reached w f.text h.1, h.2)
 
@@ -165,12 +165,12 @@ module _ (program : Program) where
     part_comes (Calling g xs e) whole_ after h up next = (there g h.0, body_reached g h.0, (is_there, up e h.1, under))
     part_comes (Strays a) whole_ after h up next = tt
 
-    assigned_comes : (rest : Text) (x : Variable) (w : ℕ) → CallsText program rest → Comes (assigned s f below rest x w)
+    assigned_comes : (rest : Text) (x : Variable) (w : ℕ) → CallsText program rest → Comes (after_assignment s f below rest x w)
     assigned_comes rest (Argument k) w h = (is_there, h, under)
     assigned_comes rest (Local k) w h = (is_there, h, under)
     assigned_comes rest (Static k) w h = (is_there, h, under)
 
-    stored_comes : (rest : Text) (a w : ℕ) → CallsText program rest → Comes (stored s f below rest a w)
+    stored_comes : (rest : Text) (a w : ℕ) → CallsText program rest → Comes (after_store s f below rest a w)
     stored_comes rest a w h = by_tests (nat_lt a heap) (nat_lt a keyboard)
       where
         by_tests : (b c : Bool) → Comes (if b then Stray a else (if c then Acts false (record s { words = slice_set s.words (a - heap) w; frames = record f { text = rest } ∷ below }) else Stray a))
@@ -184,16 +184,16 @@ module _ (program : Program) where
     first_comes : (key : ℕ) (t : Text) → CallsText program t → Comes (step_first program.subroutines key s f below t)
     first_comes key End h = tt
     first_comes key (Next (Let n x e) rest) h =
-        part_comes (rewrite (view_of key s f) e) (λ a. Next (Let n x a) rest) (assigned s f below rest x (value_of e)) (rewrite_moves (view_of key s f) e h.0) (λ e' k. (k, h.1)) (assigned_comes rest x (value_of e) h.1)
+        part_comes (rewrite (view_of key s f) e) (λ a. Next (Let n x a) rest) (after_assignment s f below rest x (value_of e)) (rewrite_moves (view_of key s f) e h.0) (λ e' k. (k, h.1)) (assigned_comes rest x (value_of e) h.1)
     first_comes key (Next (LetField n k e) rest) h =
-        part_comes (rewrite (view_of key s f) e) (λ a. Next (LetField n k a) rest) (stored s f below rest (word_add f.this k) (value_of e)) (rewrite_moves (view_of key s f) e h.0) (λ e' k. (k, h.1))
+        part_comes (rewrite (view_of key s f) e) (λ a. Next (LetField n k a) rest) (after_store s f below rest (word_add f.this k) (value_of e)) (rewrite_moves (view_of key s f) e h.0) (λ e' k. (k, h.1))
         (stored_comes rest (word_add f.this k) (value_of e) h.1)
     first_comes key (Next (LetThis n e) rest) h =
         part_comes (rewrite (view_of key s f) e) (λ a. Next (LetThis n a) rest) (passed_over s (record f { this = value_of e }) below rest) (rewrite_moves (view_of key s f) e h.0) (λ e' k. (k, h.1))
         (passed_comes (record f { this = value_of e }) rest is_there h.1)
     first_comes key (Next (Store n a i e) rest) h =
         let view = view_of key s f in
-        let last = stored s f below rest (word_add (value_of a) (value_of i)) (value_of e) in
+        let last = after_store s f below rest (word_add (value_of a) (value_of i)) (value_of e) in
         let third = step_part program.subroutines s f below (rewrite view e) (λ x. Next (Store n a i x) rest) last in
         let second = step_part program.subroutines s f below (rewrite view i) (λ x. Next (Store n a x e) rest) third in
         part_comes (rewrite view a) (λ x. Next (Store n x i e) rest) second (rewrite_moves view a h.0.0) (λ e' k. ((k, h.0.1, h.0.2), h.1))
@@ -203,16 +203,16 @@ module _ (program : Program) where
     first_comes key (Next (Do n e) rest) h =
         part_comes (rewrite (view_of key s f) e) (λ a. Next (Do n a) rest) (passed_over s f below rest) (rewrite_moves (view_of key s f) e h.0) (λ e' k. (k, h.1)) (passed_comes f rest is_there h.1)
     first_comes key (Next (If n o c a b) rest) h =
-        let branch = joined (chosen (value_of c) a b) rest in
+        let branch = joined_text (text_chosen (value_of c) a b) rest in
         part_comes (rewrite (view_of key s f) c) (λ x. Next (If n o x a b) rest) (passed_over s f below branch) (rewrite_moves (view_of key s f) c h.0.0) (λ e' k. ((k, h.0.1, h.0.2), h.1))
-        (passed_comes f branch is_there (joined_reached (chosen (value_of c) a b) rest (chosen_reached (value_of c) a b h.0.1 h.0.2) h.1))
+        (passed_comes f branch is_there (joined_reached (text_chosen (value_of c) a b) rest (chosen_reached (value_of c) a b h.0.1 h.0.2) h.1))
     first_comes key (Next (While n c a) rest) h =
         let turn = turn_reached n c a h.0.0 h.0.1 in
-        let branch = joined (chosen (value_of c) (turn_of n c a) End) rest in
+        let branch = joined_text (text_chosen (value_of c) (turn_of n c a) End) rest in
         part_comes (rewrite (view_of key s f) c) (λ x. Next (If n false x (turn_of n c a) End) rest) (passed_over s f below branch) (rewrite_moves (view_of key s f) c h.0.0) (λ e' k. ((k, turn, tt), h.1))
-        (passed_comes f branch is_there (joined_reached (chosen (value_of c) (turn_of n c a) End) rest (chosen_reached (value_of c) (turn_of n c a) End turn tt) h.1))
+        (passed_comes f branch is_there (joined_reached (text_chosen (value_of c) (turn_of n c a) End) rest (chosen_reached (value_of c) (turn_of n c a) End turn tt) h.1))
     first_comes key (Next (Return n e) rest) h =
-        part_comes (rewrite (view_of key s f) e) (λ a. Next (Return n a) rest) (returned s below (value_of e)) (rewrite_moves (view_of key s f) e h.0) (λ e' k. (k, h.1)) (returned_comes s below (value_of e) under)
+        part_comes (rewrite (view_of key s f) e) (λ a. Next (Return n a) rest) (after_return s below (value_of e)) (rewrite_moves (view_of key s f) e h.0) (λ e' k. (k, h.1)) (returned_comes s below (value_of e) under)
 
   frames_come : (there : CallsAreThere program) (key : ℕ) (s : State) (fs : List Frame) → AreReached program fs → Comes (step_frames program.subroutines key s fs)
   frames_come there key s [] h = tt

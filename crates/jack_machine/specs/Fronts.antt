@@ -1,7 +1,7 @@
 -- What becomes of the front of a text.
 use Rattle.std.specs.Prelude.{◌≡◌, ℕ, ◌+◌, List, [], ◌∷◌, ◌++◌}
 use Rattle.jack_core.specs.declared.tree.Part.{Part}
-use Rattle.jack_machine.specs.Looks.{spared}
+use Rattle.jack_machine.specs.Looks.{spared_values}
 use Rattle.jack_machine.specs.declared.fronts.First.{First}
 use Rattle.jack_machine.specs.declared.fronts.Front.{Front}
 
@@ -15,7 +15,7 @@ pub record IsSameFront (old new : Front) : Type 0 where
 pub record IsPut (p : Part) (w : ℕ) (old new : Front) : Type 0 where
   pub first : new.first ≡ old.first
   pub done : new.done ≡ old.done + 1
-  pub values : new.values.items ≡ spared p old.values.items ++ w ∷ []
+  pub values : new.values.items ≡ spared_values p old.values.items ++ w ∷ []
 
 -- a value in place of the last of values, if there is one
 abbrev pub with_last : ℕ → List ℕ → List ℕ

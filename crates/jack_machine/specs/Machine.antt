@@ -3,7 +3,7 @@ use Rattle.std.specs.Prelude.{◌≡◌, ℕ, Bool, true, false, List, [], ◌�
 use Rattle.jack_meaning.specs.Text.{Subroutine}
 use Rattle.jack_meaning.specs.Meaning.{Frame, this_of, filled_text, start_text}
 use Rattle.jack_core.specs.declared.tree.Part.{Part}
-use Rattle.jack_machine.specs.Frames.{the_frame, the_waiting_frame, opened}
+use Rattle.jack_machine.specs.Frames.{the_frame, the_waiting_frame, opened_frame}
 use Rattle.jack_machine.specs.declared.frames.Frame.{Frame as FrameTree}
 
 -- the frames of a vector, all of which wait for a call, the last one first
@@ -23,7 +23,7 @@ entered_frame g sub xs = record {
 -- the old top frame waits below the new one, with its call open
 pub record IsEntered (p : Part) (top : FrameTree) (below : List FrameTree) (entered top' : FrameTree) (below' : List FrameTree) : Type 0 where
   pub on_top : top' ≡ entered
-  pub waiting : the_stack below' ≡ opened p top ∷ the_stack below
+  pub waiting : the_stack below' ≡ opened_frame p top ∷ the_stack below
 
 -- the caller goes on with the value, or there is none
 abbrev pub IsReturned : ℕ → FrameTree → List FrameTree → Bool → FrameTree → List FrameTree → Type 0

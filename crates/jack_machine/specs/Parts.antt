@@ -27,7 +27,7 @@ parts_of (First.Start init) = part.Call 0 init ∷ []
 parts_of (First.Statement s) = parts_in s.now
 parts_of First.Nothing = []
 
-abbrev pub wanted : First → ℕ
-wanted (First.Start init) = 1
-wanted (First.Statement s) = wanted_in s.now
-wanted First.Nothing = 0
+abbrev pub wanted_count : First → ℕ
+wanted_count (First.Start init) = 1
+wanted_count (First.Statement s) = wanted_in s.now
+wanted_count First.Nothing = 0

@@ -8,7 +8,7 @@ use Rattle.outer_world.specs.declared.point.Point.{Point}
 use Rattle.jack_meaning.specs.Text.{Subroutine}
 use Rattle.jack_meaning.specs.Meaning.{State, Outcome, Acts, Stray, Done, step, start, point_of}
 use Rattle.jack_core.specs.Texts.{the_subroutines, the_program}
-use Rattle.jack_machine.specs.Frames.{the_state, called}
+use Rattle.jack_machine.specs.Frames.{the_state, called_state}
 use Rattle.jack_machine.specs.Machine.{the_stack}
 use Rattle.jack_machine.specs.declared.jack.Jack.{Jack}
 
@@ -25,7 +25,7 @@ IsSame old new = jack_state new ≡ jack_state old
 
 -- the state after a call
 abbrev pub IsCalled : ℕ → ℕ → Jack → Jack → Type 0
-IsCalled g n old new = jack_state new ≡ called (the_subroutines old.core.now) old.top old.memory (the_stack old.below.items) g n
+IsCalled g n old new = jack_state new ≡ called_state (the_subroutines old.core.now) old.top old.memory (the_stack old.below.items) g n
 
 -- the step of the meaning, by what the machine answers
 abbrev pub JackStep : ℕ → Jack → Moved → Jack → Type 0

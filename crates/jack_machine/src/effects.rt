@@ -3,7 +3,7 @@
 ghost use Rattle.std.specs.Prelude.{◌≡◌, length, map, reverse};
 ghost use Rattle.jack_meaning.specs.Text.{Value};
 ghost use Rattle.jack_machine.specs.Parts.{wanted_in};
-ghost use Rattle.jack_machine.specs.Texts.{written};
+ghost use Rattle.jack_machine.specs.Texts.{written_statement};
 ghost use Rattle.jack_machine.specs.Effects.{HasEffect};
 
 use crate::looking::from_end;
@@ -24,7 +24,7 @@ pub(crate) enum Effect {
 /// The effect of a statement in a frame with this `this`, where these are the values of its expressions.
 pub(crate) fn effect_of(this: u16, s: &Statement, values: &[u16]) -> Effect
     requires { length values.now ≡ wanted_in s.now }
-    ensures { HasEffect this (written s.now (map Value (reverse values.now))) result }
+    ensures { HasEffect this (written_statement s.now (map Value (reverse values.now))) result }
 {
     let w = from_end(values, 1);
     match s {

@@ -2,7 +2,7 @@
 
 ghost use Rattle.std.specs.Prelude.{◌≡◌, drop, length, Some};
 ghost use Rattle.jack_core.specs.Heights.{height};
-ghost use Rattle.jack_machine.specs.Parts.{parts_of, wanted};
+ghost use Rattle.jack_machine.specs.Parts.{parts_of, wanted_count};
 
 use jack_core::Statement;
 
@@ -22,5 +22,5 @@ pub(crate) struct Front<'a> {
     pub done: usize,
     pub values: Vec<u16>,
     // Each part that is left finds its operands, and as many values are left as the statement wants.
-    pub ghost fits: { height (length values.items) (drop done (parts_of first)) ≡ Some (wanted first) },
+    pub ghost fits: { height (length values.items) (drop done (parts_of first)) ≡ Some (wanted_count first) },
 }

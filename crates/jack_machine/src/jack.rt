@@ -66,7 +66,7 @@ impl<'a> Jack<'a> {
     ghost use Rattle.jack_meaning.specs.Meaning.{start};
     ghost use Rattle.jack_core.specs.declared.tree.Part.TheVariants as part;
     ghost use Rattle.jack_core.specs.Texts.{the_subroutines};
-    ghost use Rattle.jack_machine.specs.Frames.{called, IsNext};
+    ghost use Rattle.jack_machine.specs.Frames.{called_state, IsNext};
     ghost use Rattle.jack_machine.specs.Whole.{IsCalled, IsSame, JackStep, Stands, jack_state};
 
     /// The machine at the start of a program, where each subroutine is there that the program can come to: `do Sys.init();`, and
@@ -101,7 +101,7 @@ impl<'a> Jack<'a> {
     // A new frame for the call that is next in the top frame, with so many arguments.
     fn make_call(&mut self, g: u32, n: u16) -> Result<(), AllocError>
         requires next { IsNext (part.Call n g) self.old.top }
-        requires reached { ∥ AreReached (the_program self.old.core.now) (called (the_subroutines self.old.core.now) self.old.top self.old.memory (the_stack self.old.below.items) g n).frames ∥₁ }
+        requires reached { ∥ AreReached (the_program self.old.core.now) (called_state (the_subroutines self.old.core.now) self.old.top self.old.memory (the_stack self.old.below.items) g n).frames ∥₁ }
         ensures done { OnOk result (IsCalled g n self.old self.new) }
         ensures refused { OnErr result (IsSame self.old self.new) }
         ensures core { self.new.core ≡ self.old.core }

@@ -2,12 +2,12 @@
 
 ghost use Rattle.std.specs.Prelude.{◌≡◌, ◌+◌, ◌<◌, IfOk, OnOk, OnErr, List, [], nat_eq, if◌then◌else◌};
 ghost use Rattle.std.specs.Vec.{vec_len, vec_capacity};
-ghost use Rattle.jack_meaning.specs.Text.{Expression as AnExpression, Next, joined};
+ghost use Rattle.jack_meaning.specs.Text.{Expression as AnExpression, Next, joined_text};
 ghost use Rattle.jack_meaning.specs.Meaning.{text_point};
-ghost use Rattle.jack_core.specs.Reading.{built};
+ghost use Rattle.jack_core.specs.Reading.{build_expressions};
 ghost use Rattle.jack_core.specs.Texts.{the_statement, the_block};
 ghost use Rattle.jack_machine.specs.Parts.{parts_of};
-ghost use Rattle.jack_machine.specs.Texts.{the_after, the_text, begun, written, chosen_text};
+ghost use Rattle.jack_machine.specs.Texts.{the_after, the_text, begun_text, written_statement, chosen_text};
 
 use crate::fronts::{First, Front};
 use crate::parts::begin;
@@ -30,7 +30,7 @@ pub(crate) struct Text<'a> {
 
 // The next statement of the innermost row; nothing, where no row is left.
 fn take_next<'a>(after: &mut Vec<Row<'a>>) -> First<'a>
-    ensures { (es : List AnExpression) → begun result 0 es (the_after after.new.items) ≡ the_after after.old.items }
+    ensures { (es : List AnExpression) → begun_text result 0 es (the_after after.new.items) ≡ the_after after.old.items }
 {
     match after.pop() {
         None => First::Nothing,
@@ -54,7 +54,7 @@ pub(crate) fn advance(text: &mut Text)
 // A block goes before what follows.
 fn push_block<'a>(after: &mut Vec<Row<'a>>, block: &'a [Statement])
     requires { vec_len after.old < vec_capacity after.old }
-    ensures { the_after after.new.items ≡ joined (the_block block.now) (the_after after.old.items) }
+    ensures { the_after after.new.items ≡ joined_text (the_block block.now) (the_after after.old.items) }
 {
     if let Some((first, others)) = block.split_first() {
         after.push_reserved(Row { first, others });
@@ -86,7 +86,7 @@ pub(crate) fn choose<'a>(
     choice: &'a Statement,
     w: u16,
 ) -> Result<(), AllocError>
-    ensures done { OnOk result ((es : List AnExpression) → the_after after.new.items ≡ chosen_text w (Next (written choice.now es) (the_after after.old.items))) }
+    ensures done { OnOk result ((es : List AnExpression) → the_after after.new.items ≡ chosen_text w (Next (written_statement choice.now es) (the_after after.old.items))) }
     ensures refused { OnErr result (after.new.items ≡ after.old.items) }
 {
     after.reserve(2)?;
@@ -127,7 +127,7 @@ pub(crate) fn text_of_block(alloc: Global, block: &[Statement]) -> Result<Text, 
 
 /// A text of which nothing is done.
 pub(crate) fn text_with<'a>(alloc: Global, first: First<'a>, after: Vec<Row<'a>>) -> Text<'a>
-    ensures { the_text result ≡ begun first.entry 0 (built [] (parts_of first.entry)) (the_after after.entry.items) }
+    ensures { the_text result ≡ begun_text first.entry 0 (build_expressions [] (parts_of first.entry)) (the_after after.entry.items) }
 {
     let values = Vec::new(alloc);
     let front = Front {

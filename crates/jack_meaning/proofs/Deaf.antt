@@ -3,10 +3,10 @@ use Rattle.std.proofs.Common.{◌≡◌, ℕ, ◌-◌, Bool, true, false, List, 
 use Rattle.std.specs.Prelude.{None, if◌then◌else◌, nat_lt, nat_eq, slice_index}
 use Rattle.word16.specs.Words.{word_add}
 use Rattle.jack_meaning.specs.Text.{Variable, Argument, Local, Static, Expression, Literal, Value, Name, This, Field, Unary, Binary, Load, Call, Open, Expressions, NoMore, More, Let, LetField, LetThis, Store, Do, If, While, Return, Text, End, Next, Subroutine}
-use Rattle.jack_meaning.specs.Expressions.{Move, Stands, Rewrites, Calls, Strays, within, View, variable_of, value_of, loaded, rewrite, rewrite_first}
+use Rattle.jack_meaning.specs.Expressions.{Move, Stands, Rewrites, Calls, Strays, within, View, variable_of, value_of, loaded_word, rewrite, rewrite_first}
 use Rattle.jack_meaning.specs.Meaning.{Frame, State, view_of, Outcome, Acts, Stray, Done, step_part, step_first, step_frames, step}
 use Rattle.jack_meaning.specs.Level.{next_of, has_heard, is_done, point_in, meaning_of}
-use Rattle.layers.specs.System.{IsMeaning}
+use Rattle.simulation.specs.System.{IsMeaning}
 use Rattle.jack_meaning.specs.Laws.{MeaningLaw}
 use Rattle.jack_meaning.proofs.Gaps.{gap_once}
 
@@ -34,7 +34,7 @@ module _ (v : View) (k : ℕ) where
   loaded_with false false true a h = absurd (cc h)
   loaded_with false false false a h = refl
 
-  loaded_alike : (a : ℕ) → Alike (loaded v a) (loaded other a)
+  loaded_alike : (a : ℕ) → Alike (loaded_word v a) (loaded_word other a)
   loaded_alike a = loaded_with (nat_lt a 2048) (nat_lt a 24576) (nat_eq a 24576) a
 
   variable_alike : (x : Variable) → variable_of other x ≡ variable_of v x

@@ -1,7 +1,7 @@
 -- Runs that are tame, and runs that are not, by computation.
 use Rattle.std.proofs.Common.{◌≡◌, ◌≢◌, inl, inr, ℕ, zero, suc, ◌+◌, ◌≤◌, Bool, true, false, ◌&&◌, List, Option, Some, None, option_map, option_and_then, refl, ap, subst, ◌∙◌, arith}
 use Rattle.std.proofs.lemmas.Bool.{cases_eq}
-use Rattle.layers.specs.System.{System, Listening, step_from, run_of, Tame}
+use Rattle.simulation.specs.System.{System, Listening, step_from, run_of, Tame}
 
 both : (a b : Bool) → (a && b) ≡ true → (a ≡ true) × (b ≡ true)
 both true b h = (refl, h)

@@ -49,8 +49,8 @@ values_of NoMore = []
 values_of (More e es) = value_of e ∷ values_of es
 
 -- The word at an address becomes a value: that of heap or screen, and at the keyboard's address the key.
-abbrev pub loaded : View → ℕ → Move Expression
-loaded v a =
+abbrev pub loaded_word : View → ℕ → Move Expression
+loaded_word v a =
     if nat_lt a heap then Strays a
     else (if nat_lt a keyboard then Rewrites false (Value (slice_index v.words (a - heap)))
     else (if nat_eq a keyboard then Rewrites true (Value v.key) else Strays a))
@@ -62,7 +62,7 @@ abbrev mutual
   rewrite v (Literal n) = Rewrites false (Value n)
   rewrite v (Name x) = Rewrites false (Value (variable_of v x))
   rewrite v This = Rewrites false (Value v.this)
-  rewrite v (Field k) = loaded v (word_add v.this k)
+  rewrite v (Field k) = loaded_word v (word_add v.this k)
   rewrite v (Unary o a) =
       within (rewrite v a) (Unary o) (Rewrites false (Value (sign_of o (value_of a))))
   rewrite v (Binary o a b) =
@@ -70,7 +70,7 @@ abbrev mutual
       (within (rewrite v b) (Binary o a) (Rewrites false (Value (operator_of o (value_of a) (value_of b)))))
   rewrite v (Load a i) =
       within (rewrite v a) (λ a'. Load a' i)
-      (within (rewrite v i) (Load a) (loaded v (word_add (value_of a) (value_of i))))
+      (within (rewrite v i) (Load a) (loaded_word v (word_add (value_of a) (value_of i))))
   rewrite v (Call g es) = within (rewrite_first v es) (Call g) (Calls g (values_of es) Open)
   rewrite v Open = Stands
 

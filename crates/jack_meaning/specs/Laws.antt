@@ -1,7 +1,7 @@
 -- What holds of every program.
 use Rattle.std.specs.Prelude.{◌≡◌, ℕ, false}
 use Rattle.jack_meaning.specs.Text.{Program}
-use Rattle.layers.specs.System.{IsMeaning}
+use Rattle.simulation.specs.System.{IsMeaning}
 use Rattle.jack_meaning.specs.Meaning.{State, Stray, Done, step, start, point_of}
 use Rattle.jack_meaning.specs.Level.{has_heard, meaning_of}
 use Rattle.jack_meaning.specs.Gap.{IsGap}

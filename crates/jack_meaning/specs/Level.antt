@@ -2,7 +2,7 @@
 use Rattle.std.specs.Prelude.{ℕ, ◌+◌, ◌-◌, nat_le, Bool, true, false, List, slice_index, Option, Some, None}
 use Rattle.word16.specs.Memory.{heap}
 use Rattle.outer_world.specs.declared.point.Point.{Point}
-use Rattle.layers.specs.System.{System, Listening, run_of, Tame}
+use Rattle.simulation.specs.System.{System, Listening, run_of, Tame}
 use Rattle.jack_meaning.specs.Text.{Subroutine, Program}
 use Rattle.jack_meaning.specs.Meaning.{State, Outcome, Acts, Stray, Done, step, start, point_of}
 use Rattle.jack_meaning.specs.StackWords.{stack_words}

@@ -3,7 +3,7 @@
 use Rattle.std.specs.Prelude.{ℕ, zero, suc, ◌-◌, Bool, false, nat_lt, if◌then◌else◌, List, [], ◌∷◌, replicate, get_or, slice_index, slice_set, sum_by}
 use Rattle.word16.specs.Memory.{heap, keyboard, heap_and_screen_size}
 use Rattle.word16.specs.Words.{word_add}
-use Rattle.jack_meaning.specs.Text.{Variable, Argument, Local, Static, Expression, Call, NoMore, Statement, Let, LetField, LetThis, Store, Do, If, While, Return, Text, End, Next, joined, number_of, Kind, Constructor, Function, Method, Subroutine, Program}
+use Rattle.jack_meaning.specs.Text.{Variable, Argument, Local, Static, Expression, Call, NoMore, Statement, Let, LetField, LetThis, Store, Do, If, While, Return, Text, End, Next, joined_text, number_of, Kind, Constructor, Function, Method, Subroutine, Program}
 use Rattle.jack_meaning.specs.Expressions.{Move, Stands, Rewrites, Calls, Strays, View, value_of, rewrite, filled}
 
 -- a call that was made and has not returned: its variables, its object, and the rest of its text
@@ -84,31 +84,31 @@ abbrev pub passed_over : State → Frame → List Frame → Text → Outcome
 passed_over s f below rest = Acts false (with_top s below (record f { text = rest }))
 
 -- a variable gets a value
-abbrev pub assigned : State → Frame → List Frame → Text → Variable → ℕ → Outcome
-assigned s f below rest (Argument k) w = Acts false (with_top s below (record f { text = rest; arguments = slice_set f.arguments k w }))
-assigned s f below rest (Local k) w = Acts false (with_top s below (record f { text = rest; locals = slice_set f.locals k w }))
-assigned s f below rest (Static k) w = passed_over (record s { statics = slice_set s.statics k w }) f below rest
+abbrev pub after_assignment : State → Frame → List Frame → Text → Variable → ℕ → Outcome
+after_assignment s f below rest (Argument k) w = Acts false (with_top s below (record f { text = rest; arguments = slice_set f.arguments k w }))
+after_assignment s f below rest (Local k) w = Acts false (with_top s below (record f { text = rest; locals = slice_set f.locals k w }))
+after_assignment s f below rest (Static k) w = passed_over (record s { statics = slice_set s.statics k w }) f below rest
 
 -- the word at an address of heap or screen is replaced
-abbrev pub stored : State → Frame → List Frame → Text → ℕ → ℕ → Outcome
-stored s f below rest a w =
+abbrev pub after_store : State → Frame → List Frame → Text → ℕ → ℕ → Outcome
+after_store s f below rest a w =
     if nat_lt a heap then Stray a
     else (if nat_lt a keyboard then passed_over (record s { words = slice_set s.words (a - heap) w }) f below rest
     else Stray a)
 
 -- the top frame is taken off, and its value stands in place of the caller's open call
-abbrev pub returned : State → List Frame → ℕ → Outcome
-returned s [] w = Done
-returned s (f ∷ below) w = Acts false (with_top s below (record f { text = filled_text w f.text }))
+abbrev pub after_return : State → List Frame → ℕ → Outcome
+after_return s [] w = Done
+after_return s (f ∷ below) w = Acts false (with_top s below (record f { text = filled_text w f.text }))
 
 -- any value but 0 takes the first branch
-abbrev pub chosen : ℕ → Text → Text → Text
-chosen zero a b = b
-chosen (suc w) a b = a
+abbrev pub text_chosen : ℕ → Text → Text → Text
+text_chosen zero a b = b
+text_chosen (suc w) a b = a
 
 -- a loop, read as a choice: its statements and then the loop again, or nothing
 abbrev pub turn_of : ℕ → Expression → Text → Text
-turn_of n c s = joined s (Next (While n c s) End)
+turn_of n c s = joined_text s (Next (While n c s) End)
 
 -- One step of the frame `f` over the frames `below`, by its first statement: its leftmost innermost part that is no value moves, or
 -- where all its parts are values it acts.
@@ -116,10 +116,10 @@ abbrev pub step_first : List Subroutine → ℕ → State → Frame → List Fra
 step_first subs key s f below End = Done
 step_first subs key s f below (Next (Let n x e) rest) =
     step_part subs s f below (rewrite (view_of key s f) e) (λ e'. Next (Let n x e') rest)
-    (assigned s f below rest x (value_of e))
+    (after_assignment s f below rest x (value_of e))
 step_first subs key s f below (Next (LetField n k e) rest) =
     step_part subs s f below (rewrite (view_of key s f) e) (λ e'. Next (LetField n k e') rest)
-    (stored s f below rest (word_add f.this k) (value_of e))
+    (after_store s f below rest (word_add f.this k) (value_of e))
 step_first subs key s f below (Next (LetThis n e) rest) =
     step_part subs s f below (rewrite (view_of key s f) e) (λ e'. Next (LetThis n e') rest)
     (passed_over s (record f { this = value_of e }) below rest)
@@ -127,19 +127,19 @@ step_first subs key s f below (Next (Store n a i e) rest) =
     step_part subs s f below (rewrite (view_of key s f) a) (λ a'. Next (Store n a' i e) rest)
     (step_part subs s f below (rewrite (view_of key s f) i) (λ i'. Next (Store n a i' e) rest)
     (step_part subs s f below (rewrite (view_of key s f) e) (λ e'. Next (Store n a i e') rest)
-    (stored s f below rest (word_add (value_of a) (value_of i)) (value_of e))))
+    (after_store s f below rest (word_add (value_of a) (value_of i)) (value_of e))))
 step_first subs key s f below (Next (Do n e) rest) =
     step_part subs s f below (rewrite (view_of key s f) e) (λ e'. Next (Do n e') rest)
     (passed_over s f below rest)
 step_first subs key s f below (Next (If n o c a b) rest) =
     step_part subs s f below (rewrite (view_of key s f) c) (λ c'. Next (If n o c' a b) rest)
-    (passed_over s f below (joined (chosen (value_of c) a b) rest))
+    (passed_over s f below (joined_text (text_chosen (value_of c) a b) rest))
 step_first subs key s f below (Next (While n c a) rest) =
     step_part subs s f below (rewrite (view_of key s f) c) (λ c'. Next (If n false c' (turn_of n c a) End) rest)
-    (passed_over s f below (joined (chosen (value_of c) (turn_of n c a) End) rest))
+    (passed_over s f below (joined_text (text_chosen (value_of c) (turn_of n c a) End) rest))
 step_first subs key s f below (Next (Return n e) rest) =
     step_part subs s f below (rewrite (view_of key s f) e) (λ e'. Next (Return n e') rest)
-    (returned s below (value_of e))
+    (after_return s below (value_of e))
 
 abbrev pub step_frames : List Subroutine → ℕ → State → List Frame → Outcome
 step_frames subs key s [] = Done

@@ -5,16 +5,16 @@ use Rattle.jack_meaning.specs.Meaning.{Frame, State, Outcome, Stray, Done, step,
 use Rattle.jack_meaning.specs.StackWords.{stack_words}
 use Rattle.jack_meaning.specs.Linked.{IsLinked}
 use Rattle.jack_meaning.specs.Gap.{nest_in, IsGap}
-use Rattle.layers.specs.System.{Listening, first_key}
+use Rattle.simulation.specs.System.{Listening, first_key}
 use Rattle.jack_meaning.specs.Level.{run, IsTame}
 
 -- the point, and the word at an address
-abbrev pub seen : ℕ → Listening State → (ℕ × ℕ) × ℕ
-seen a l = (point_of l.state.frames, slice_index l.state.words (a - 2048))
+abbrev pub state_seen : ℕ → Listening State → (ℕ × ℕ) × ℕ
+state_seen a l = (point_of l.state.frames, slice_index l.state.words (a - 2048))
 
 -- After m steps over these keys, the program is at this point, and the word at an address is this one.
 abbrev pub IsAt : Program → List ℕ → ℕ → ℕ × ℕ → ℕ → ℕ → Type 0
-IsAt program keys m point a w = option_map (seen a) (run program keys m) ≡ Some (point, w)
+IsAt program keys m point a w = option_map (state_seen a) (run program keys m) ≡ Some (point, w)
 
 -- After m steps over these keys there is no further one, for this reason.
 abbrev pub IsLast : Program → List ℕ → ℕ → Outcome → Type 0

@@ -65,9 +65,9 @@ text_of [] = End
 text_of (s ∷ ss) = Next s (text_of ss)
 
 -- one text after another
-abbrev pub joined : Text → Text → Text
-joined End after = after
-joined (Next s rest) after = Next s (joined rest after)
+abbrev pub joined_text : Text → Text → Text
+joined_text End after = after
+joined_text (Next s rest) after = Next s (joined_text rest after)
 
 -- the number of a statement
 abbrev pub number_of : Statement → ℕ

@@ -12,7 +12,7 @@ use Rattle.jack_tree.specs.declared.tree.Parameter.{Parameter}
 use Rattle.jack_tree.specs.declared.tree.Subroutine.{Subroutine}
 use Rattle.jack_tree.specs.declared.tree.Class.{Class}
 use Rattle.jack_names.specs.Tables.{first_of}
-use Rattle.jack_names.specs.Faults.{Told, Source}
+use Rattle.jack_names.specs.Faults.{NameDiagnostic, Source}
 use Rattle.jack_names.specs.Inner.Twice.{told_name, twice_fault, texts_of, first_twice, names_of, members_twice, parameter_names, locals_twice, variables_fault, subroutines_fault, source_of, declaration_fault, declarations_fault}
 use Rattle.jack_names.specs.Inner.Whole.{class_names, declared_fault}
 use Rattle.jack_names.specs.Using.{Variable, variable, all_names, is_field, members, parameters, locals, inner}
@@ -29,7 +29,7 @@ twice-append : (from : Source) (kind : NameKind) (before : List (List ℕ)) (xs 
     → twice from kind before (map the_name xs ++ ys) ≡ first_of (first_twice from kind before xs) (twice from kind (before ++ texts_of xs) ys)
 twice-append from kind before [] ys = ap (λ (b : List (List ℕ)). twice from kind b ys) (sym (append-nil before))
 twice-append from kind before (x ∷ xs) ys =
-    ap (λ (o : Option Told). first_of (twice_fault from kind before x) o)
+    ap (λ (o : Option NameDiagnostic). first_of (twice_fault from kind before x) o)
     (twice-append from kind (before ++ x.text ∷ []) xs ys ∙ ap (λ (b : List (List ℕ)). first_of (first_twice from kind (before ++ x.text ∷ []) xs) (twice from kind b ys)) (append_assoc before (x.text ∷ []) (texts_of xs)))
     ∙ sym (first_assoc (twice_fault from kind before x) (first_twice from kind (before ++ x.text ∷ []) xs) (twice from kind (before ++ texts_of (x ∷ xs)) ys))
 
@@ -45,14 +45,14 @@ line_first b type ns vs =
 members_same : (from : Source) (before : List (List ℕ)) (vs : List ClassVariables) → members_twice from before vs ≡ twice from kinds.MemberTwice before (names (members (map the_variables vs)))
 members_same from before [] = refl
 members_same from before (v ∷ vs) =
-    ap (λ (o : Option Told). first_of (first_twice from kinds.MemberTwice before (names_of v.names)) o) (members_same from (before ++ texts_of (names_of v.names)) vs)
+    ap (λ (o : Option NameDiagnostic). first_of (first_twice from kinds.MemberTwice before (names_of v.names)) o) (members_same from (before ++ texts_of (names_of v.names)) vs)
     ∙ sym (twice-append from kinds.MemberTwice before (names_of v.names) (names (members (map the_variables vs))))
     ∙ ap (twice from kinds.MemberTwice before) (sym (line_first (is_field (the_scope v.scope)) (the_type v.kind) v.names (members (map the_variables vs))))
 
 locals_same : (from : Source) (before : List (List ℕ)) (vs : List Locals) → locals_twice from before vs ≡ twice from kinds.VariableTwice before (names (locals (map the_locals vs)))
 locals_same from before [] = refl
 locals_same from before (v ∷ vs) =
-    ap (λ (o : Option Told). first_of (first_twice from kinds.VariableTwice before (names_of v.names)) o) (locals_same from (before ++ texts_of (names_of v.names)) vs)
+    ap (λ (o : Option NameDiagnostic). first_of (first_twice from kinds.VariableTwice before (names_of v.names)) o) (locals_same from (before ++ texts_of (names_of v.names)) vs)
     ∙ sym (twice-append from kinds.VariableTwice before (names_of v.names) (names (locals (map the_locals vs))))
     ∙ ap (twice from kinds.VariableTwice before) (sym (line_first false (the_type v.kind) v.names (locals (map the_locals vs))))
 
@@ -64,7 +64,7 @@ variables_same : (from : Source) (s : Subroutine) → variables_fault from s ≡
 variables_same from s =
     let ps : List Variable = parameters (map the_parameter s.parameters.items) in
     let ls : List Variable = locals (map the_locals s.locals.items) in
-    ap (λ (o : Option Told). first_of (first_twice from kinds.VariableTwice [] (parameter_names s.parameters.items)) o) (locals_same from (texts_of (parameter_names s.parameters.items)) s.locals.items)
+    ap (λ (o : Option NameDiagnostic). first_of (first_twice from kinds.VariableTwice [] (parameter_names s.parameters.items)) o) (locals_same from (texts_of (parameter_names s.parameters.items)) s.locals.items)
     ∙ sym (twice-append from kinds.VariableTwice [] (parameter_names s.parameters.items) (names ls))
     ∙ ap (λ (l : List tree.Name). twice from kinds.VariableTwice [] (l ++ names ls)) (sym (parameters_same s.parameters.items))
     ∙ ap (twice from kinds.VariableTwice []) (sym (map-append (λ (v : Variable). v.name) ps ls))
@@ -72,12 +72,12 @@ variables_same from s =
 subroutines_same : (from : Source) (before : List (List ℕ)) (ss : List Subroutine) → subroutines_fault from before ss ≡ subroutines_twice from before (map the_subroutine ss)
 subroutines_same from before [] = refl
 subroutines_same from before (s ∷ ss) =
-    let first : Option Told = twice_fault from kinds.MemberTwice before s.name in
-    let rest : Option Told = subroutines_twice from (before ++ s.name.text ∷ []) (map the_subroutine ss) in
+    let first : Option NameDiagnostic = twice_fault from kinds.MemberTwice before s.name in
+    let rest : Option NameDiagnostic = subroutines_twice from (before ++ s.name.text ∷ []) (map the_subroutine ss) in
     (λ i. first_of first (first_of (variables_same from s i) (subroutines_same from (before ++ s.name.text ∷ []) ss i)))
     ∙ sym (first_assoc first (twice from kinds.VariableTwice [] (names (inner (the_subroutine s)))) rest)
 
-if_not : (b : Bool) (t : Told) → (if b then None else Some t) ≡ fails_if (not b) t
+if_not : (b : Bool) (t : NameDiagnostic) → (if b then None else Some t) ≡ fails_if (not b) t
 if_not true t = refl
 if_not false t = refl
 
@@ -85,10 +85,10 @@ declaration_same : (shipped : Bool) (before : List (List ℕ)) (c : Class) → d
 declaration_same shipped before c =
     let from : Source = source_of shipped c in
     let is_file : Bool = bytes_eq (c.name.text ++ codes ".jack") c.file in
-    let file : Option Told = fails_if (not is_file) (told_name from kinds.FileName c.name) in
-    let title : Option Told = twice_fault from kinds.ClassTwice before c.name in
-    let members : Option Told = twice from kinds.MemberTwice [] (names (members (map the_variables c.variables.items))) in
-    let subroutines : Option Told = subroutines_twice from [] (map the_subroutine c.subroutines.items) in
+    let file : Option NameDiagnostic = fails_if (not is_file) (told_name from kinds.FileName c.name) in
+    let title : Option NameDiagnostic = twice_fault from kinds.ClassTwice before c.name in
+    let members : Option NameDiagnostic = twice from kinds.MemberTwice [] (names (members (map the_variables c.variables.items))) in
+    let subroutines : Option NameDiagnostic = subroutines_twice from [] (map the_subroutine c.subroutines.items) in
     (λ i. first_of (if_not is_file (told_name from kinds.FileName c.name) i) (first_of title (first_of (members_same from [] c.variables.items i) (subroutines_same from [] c.subroutines.items i))))
     ∙ sym (first_assoc file title (first_of members subroutines))
 

@@ -1,33 +1,33 @@
 -- The first fault of one list of uses after another.
 use Rattle.std.proofs.Common.{◌≡◌, ℕ, zero, suc, ◌+◌, ◌<◌, List, [], ◌∷◌, ◌++◌, length, take, get_or, Option, Some, None, Result, Ok, Err, refl, sym, ap, subst, ◌∙◌, arith}
 use Rattle.jack_names.specs.Tables.{first_of}
-use Rattle.jack_names.specs.Faults.{Told, Checks}
+use Rattle.jack_names.specs.Faults.{NameDiagnostic, Checks}
 use Rattle.jack_names.specs.Inner.Uses.{Use, all_uses}
 use Rattle.jack_names.specs.Inner.Scopes.{Scope, use_fault, first_fault}
 use Rattle.jack_names.specs.declared.fault.NameError.{NameError}
 use Rattle.jack_names.specs.declared.fault.NameError.TheVariants as errors
 
-pub in_first : (a b : Option Told) (e : NameError) → Checks a (Err e) → Checks (first_of a b) (Err e)
+pub in_first : (a b : Option NameDiagnostic) (e : NameError) → Checks a (Err e) → Checks (first_of a b) (Err e)
 in_first a b errors.Memory h = tt
 in_first None b (errors.Fault f) h = absurd cc
 in_first (Some a) b (errors.Fault f) h = h
 
-pub in_second : (a b : Option Told) (r : Result (Unit {0}) NameError) → Checks a (Ok tt) → Checks b r → Checks (first_of a b) r
+pub in_second : (a b : Option NameDiagnostic) (r : Result (Unit {0}) NameError) → Checks a (Ok tt) → Checks b r → Checks (first_of a b) r
 in_second None b r h k = k
 in_second (Some a) b r h k = absurd cc
 
-pub as_fault : (a b : Option Told) (r : Result (Unit {0}) NameError) → a ≡ b → Checks a r → Checks b r
-as_fault a b r e h = subst (λ (x : Option Told). Checks x r) e h
+pub as_fault : (a b : Option NameDiagnostic) (r : Result (Unit {0}) NameError) → a ≡ b → Checks a r → Checks b r
+as_fault a b r e h = subst (λ (x : Option NameDiagnostic). Checks x r) e h
 
-first_assoc : (a b c : Option Told) → first_of (first_of a b) c ≡ first_of a (first_of b c)
+first_assoc : (a b c : Option NameDiagnostic) → first_of (first_of a b) c ≡ first_of a (first_of b c)
 first_assoc None b c = refl
 first_assoc (Some a) b c = refl
 
 pub faults-append : (s : Scope) (xs ys : List Use) → first_fault s (xs ++ ys) ≡ first_of (first_fault s xs) (first_fault s ys)
 faults-append s [] ys = refl
-faults-append s (x ∷ xs) ys = ap (λ (o : Option Told). first_of (use_fault s x) o) (faults-append s xs ys) ∙ sym (first_assoc (use_fault s x) (first_fault s xs) (first_fault s ys))
+faults-append s (x ∷ xs) ys = ap (λ (o : Option NameDiagnostic). first_of (use_fault s x) o) (faults-append s xs ys) ∙ sym (first_assoc (use_fault s x) (first_fault s xs) (first_fault s ys))
 
-first_none : (a : Option Told) → first_of a None ≡ a
+first_none : (a : Option NameDiagnostic) → first_of a None ≡ a
 first_none None = refl
 first_none (Some a) = refl
 
@@ -44,7 +44,7 @@ uses_second s xs ys r h k = as_fault (first_of (first_fault s xs) (first_fault s
 pub as_uses : (s : Scope) (xs ys : List Use) (r : Result (Unit {0}) NameError) → xs ≡ ys → Checks (first_fault s ys) r → Checks (first_fault s xs) r
 as_uses s xs ys r e h = subst (λ (zs : List Use). Checks (first_fault s zs) r) (sym e) h
 
-none_both : (a b : Option Told) → first_of a b ≡ None → (a ≡ None) × (b ≡ None)
+none_both : (a b : Option NameDiagnostic) → first_of a b ≡ None → (a ≡ None) × (b ≡ None)
 none_both None b h = (refl, h)
 none_both (Some a) b h = absurd cc
 

@@ -6,9 +6,9 @@ use Rattle.std.specs.Str.{bytes_eq}
 use Rattle.std.proofs.lemmas.Slice.Eq.{bytes_eq-Decides}
 use Rattle.jack_tree.specs.Syntax as tree
 use Rattle.jack_names.specs.Tables.{is_among}
-use Rattle.jack_names.specs.Faults.{Told}
+use Rattle.jack_names.specs.Faults.{NameDiagnostic}
 use Rattle.jack_names.specs.Faults.{kind_number}
-use Rattle.jack_names.specs.Using.{named, members, inner, source, Use, Body, File, file, files, system_files, classes}
+use Rattle.jack_names.specs.Using.{find_named, members, inner, source, Use, Body, File, file, files, system_files, classes}
 use Rattle.jack_names.specs.NameFaults.{IsTwice, names, told_at, no_main, class_of, IsThere, Shipped, Earlier as EarlierClass, OfVariables, OfSubroutines, Misdeclared, FileName, ClassTwice, MemberTwice, VariableTwice, Misused, HasMain, Spot, spot, IsUsed, Fails, InDeclaration, NoMain, InUse, IsWellNamed, UnknownVariable, UnknownClass, UnknownSubroutine, ArgumentCount, MethodByClass, FunctionByObject, ThisInFunction, FieldInFunction, OwnInFunction}
 use Rattle.jack_names.specs.FaultOrder.{IsLess, stage, order, IsFirstFault}
 use Rattle.jack_names.specs.declared.fault.NameKind.{NameKind}
@@ -21,7 +21,7 @@ use Rattle.jack_names.proofs.Repeated.{by_true, true_first, true_second, seen, s
 module _ (own os : List tree.ClassFile) where
   -- Main.main
   MainIs : Option tree.ClassFile → Type 0
-  MainIs o = (c : tree.ClassFile) × (s : tree.Subroutine) × (o ≡ Some c) × (named (λ (z : tree.Subroutine). z.name.text) (codes "main") c.class.subroutines ≡ Some s) × (s.form ≡ tree.Function) × (s.parameters ≡ [])
+  MainIs o = (c : tree.ClassFile) × (s : tree.Subroutine) × (o ≡ Some c) × (find_named (λ (z : tree.Subroutine). z.name.text) (codes "main") c.class.subroutines ≡ Some s) × (s.form ≡ tree.Function) × (s.parameters ≡ [])
 
   none_there : (ps : List tree.Parameter) → Decides (length ps == 0) (ps ≡ [])
   none_there [] = (λ e. refl, λ e. refl)
@@ -39,7 +39,7 @@ module _ (own os : List tree.ClassFile) where
   main_by (Some c) e =
       Decides-like (is_plain own os (main_of own os (Some c))) (λ p. record { class = c; main = p.0; class_is = e; main_is = p.1; form = p.2; parameters = p.3 })
       (λ m. let d = m.class_is in let q : m.class ≡ c = cc in
-      (m.main, subst (λ (z : tree.ClassFile). named (λ (y : tree.Subroutine). y.name.text) (codes "main") z.class.subroutines ≡ Some m.main) q m.main_is, m.form, m.parameters))
+      (m.main, subst (λ (z : tree.ClassFile). find_named (λ (y : tree.Subroutine). y.name.text) (codes "main") z.class.subroutines ≡ Some m.main) q m.main_is, m.form, m.parameters))
       (plain_is (main_of own os (Some c)))
 
   main_is : Decides (has_main own os) (HasMain own os)
@@ -52,16 +52,16 @@ module _ (own os : List tree.ClassFile) where
   finds_main_by true d = FindsSome (1 ∷ 0 ∷ 0 ∷ 0 ∷ 0 ∷ 14 ∷ 0 ∷ []) (refl, refl, d.0 refl) (λ k t x. inl x.1)
   finds_main_by false d = FindsNone (λ k t x. let e : false ≡ true = d.1 x.2 in absurd cc)
 
-  under_less : (F G : Faults) (n m : ℕ) → n < m → (k k' : List ℕ) (t t' : Told) → Under n F k t → Under m G k' t' → IsLess k k'
+  under_less : (F G : Faults) (n m : ℕ) → n < m → (k k' : List ℕ) (t t' : NameDiagnostic) → Under n F k t → Under m G k' t' → IsLess k k'
   under_less F G n m l [] k' t t' x y = absurd x
   under_less F G n m l (a ∷ k) [] t t' x y = absurd y
   under_less F G n m l (a ∷ k) (b ∷ k') t t' x y = let e = x.0 in let f = y.0 in inl (omega arith)
 
-  main_less : (F : Faults) (k k' : List ℕ) (t t' : Told) → MainF k t → Under 2 F k' t' → IsLess k k'
+  main_less : (F : Faults) (k k' : List ℕ) (t t' : NameDiagnostic) → MainF k t → Under 2 F k' t' → IsLess k k'
   main_less F k [] t t' x y = absurd y
   main_less F k (b ∷ k') t t' x y = let f = y.0 in subst (λ (l : List ℕ). IsLess l (b ∷ k')) (sym x.0) (inl (omega arith))
 
-  before_rest : (F G : Faults) (k k' : List ℕ) (t t' : Told) → Under 0 F k t → Either MainF (Under 2 G) k' t' → IsLess k k'
+  before_rest : (F G : Faults) (k k' : List ℕ) (t t' : NameDiagnostic) → Under 0 F k t → Either MainF (Under 2 G) k' t' → IsLess k k'
   before_rest F G [] k' t t' x y = absurd x
   before_rest F G (a ∷ k) k' t t' x (inl y) = let e = x.0 in subst (λ (l : List ℕ). IsLess (a ∷ k) l) (sym y.0) (inl (omega arith))
   before_rest F G (a ∷ k) k' t t' x (inr y) = under_less F G 0 2 (lit< tt) (a ∷ k) k' t t' x y
@@ -84,11 +84,11 @@ module _ (own os : List tree.ClassFile) where
       (before_rest DeclaredF UsedF)
 
   -- each of them fails at a spot, which tells its order
-  abbrev Told_at : List ℕ → Told → Type 0
+  abbrev Told_at : List ℕ → NameDiagnostic → Type 0
   Told_at k t = (at : Spot) × (k ≡ order at t) × Fails own os at t
 
   -- a fault of a declaration, with its order in the file
-  abbrev Wrong : Bool → ℕ → tree.ClassFile → List ℕ → Told → Type 0
+  abbrev Wrong : Bool → ℕ → tree.ClassFile → List ℕ → NameDiagnostic → Type 0
   Wrong shipped i c k t = (part : ℕ) × (j : ℕ) × (kind : NameKind) × (x : tree.Name) × (k ≡ part ∷ j ∷ kind_number kind ∷ 0 ∷ []) × (t ≡ told_at (source shipped c) kind x) × Misdeclared own os shipped i c part j kind x
 
   -- what stands among the names before
@@ -112,14 +112,14 @@ module _ (own os : List tree.ClassFile) where
   got_back (y ∷ zs) zero x q = (y, refl, (let r : y.name ≡ x = cc in r))
   got_back (y ∷ zs) (suc m) x q = got_back zs m x q
 
-  wrong_twice : (shipped : Bool) (i : ℕ) (c : tree.ClassFile) (k : List ℕ) (t : Told) → TwiceF (source shipped c) kinds.MemberTwice [] (names (members c.class.variables)) k t → Wrong shipped i c (1 ∷ k) t
+  wrong_twice : (shipped : Bool) (i : ℕ) (c : tree.ClassFile) (k : List ℕ) (t : NameDiagnostic) → TwiceF (source shipped c) kinds.MemberTwice [] (names (members c.class.variables)) k t → Wrong shipped i c (1 ∷ k) t
   wrong_twice shipped i c [] t h = absurd (each_numbers (λ j x. One kinds.MemberTwice 0 (told_at (source shipped c) kinds.MemberTwice x) (is_among x.text (seen the_text [] (names (members c.class.variables)) j) ≡ true)) (names (members c.class.variables)) t h)
   wrong_twice shipped i c (j ∷ k) t h =
       let xs : List tree.Name = names (members c.class.variables) in
       let p = each_at (λ j x. One kinds.MemberTwice 0 (told_at (source shipped c) kinds.MemberTwice x) (is_among x.text (seen the_text [] xs j) ≡ true)) xs j k t h in
       (1, j, kinds.MemberTwice, p.0, ap (λ (l : List ℕ). 1 ∷ j ∷ l) p.2.0, p.2.1, MemberTwice (OfVariables (twice_is xs j p.0 p.1 p.2.2)))
 
-  wrong_variables : (shipped : Bool) (i : ℕ) (c : tree.ClassFile) (n : ℕ) (s : tree.Subroutine) → slice_get c.class.subroutines n ≡ Some s → (k : List ℕ) (t : Told)
+  wrong_variables : (shipped : Bool) (i : ℕ) (c : tree.ClassFile) (n : ℕ) (s : tree.Subroutine) → slice_get c.class.subroutines n ≡ Some s → (k : List ℕ) (t : NameDiagnostic)
       → OneSubroutineF (source shipped c) (seen the_title [] c.class.subroutines n) s k t → Wrong shipped i c (suc (suc n) ∷ k) t
   wrong_variables shipped i c n s e [] t h = absurd h
   wrong_variables shipped i c n s e (zero ∷ k) t h =
@@ -129,18 +129,18 @@ module _ (own os : List tree.ClassFile) where
       let p = each_at (λ j x. One kinds.VariableTwice 0 (told_at (source shipped c) kinds.VariableTwice x) (is_among x.text (seen the_text [] xs j) ≡ true)) xs j k t h in
       (suc (suc n), suc j, kinds.VariableTwice, p.0, ap (λ (l : List ℕ). suc (suc n) ∷ suc j ∷ l) p.2.0, p.2.1, VariableTwice e (twice_is xs j p.0 p.1 p.2.2))
 
-  wrong_subroutines : (shipped : Bool) (i : ℕ) (c : tree.ClassFile) (n : ℕ) (k : List ℕ) (t : Told) → SubroutinesF (source shipped c) [] c.class.subroutines (n ∷ k) t → Wrong shipped i c (suc (suc n) ∷ k) t
+  wrong_subroutines : (shipped : Bool) (i : ℕ) (c : tree.ClassFile) (n : ℕ) (k : List ℕ) (t : NameDiagnostic) → SubroutinesF (source shipped c) [] c.class.subroutines (n ∷ k) t → Wrong shipped i c (suc (suc n) ∷ k) t
   wrong_subroutines shipped i c n k t h =
       let p = each_at (λ n s. OneSubroutineF (source shipped c) (seen the_title [] c.class.subroutines n) s) c.class.subroutines n k t h in
       wrong_variables shipped i c n p.0 p.1 k t p.2
 
   wrong_title : (shipped : Bool) (i : ℕ) (c : tree.ClassFile) (there : List (List ℕ)) → (is_among c.class.name.text there ≡ true → (d : tree.ClassFile) × IsThere own os shipped i d × (d.class.name.text ≡ c.class.name.text))
-      → (k : List ℕ) (t : Told) → TitleF shipped there c k t → Wrong shipped i c (0 ∷ 0 ∷ k) t
+      → (k : List ℕ) (t : NameDiagnostic) → TitleF shipped there c k t → Wrong shipped i c (0 ∷ 0 ∷ k) t
   wrong_title shipped i c there h k t (inl x) = (0, 0, kinds.FileName, c.class.name, ap (λ (l : List ℕ). 0 ∷ 0 ∷ l) x.0, x.1, FileName x.2)
   wrong_title shipped i c there h k t (inr x) = let p = h x.2 in (0, 0, kinds.ClassTwice, c.class.name, ap (λ (l : List ℕ). 0 ∷ 0 ∷ l) x.0, x.1, ClassTwice p.1 p.2)
 
   wrong_at : (shipped : Bool) (i : ℕ) (c : tree.ClassFile) (there : List (List ℕ)) → (is_among c.class.name.text there ≡ true → (d : tree.ClassFile) × IsThere own os shipped i d × (d.class.name.text ≡ c.class.name.text))
-      → (k : List ℕ) (t : Told) → DeclarationF shipped there c k t → Wrong shipped i c k t
+      → (k : List ℕ) (t : NameDiagnostic) → DeclarationF shipped there c k t → Wrong shipped i c k t
   wrong_at shipped i c there h [] t x = absurd x
   wrong_at shipped i c there h (zero ∷ []) t x = absurd x
   wrong_at shipped i c there h (zero ∷ m ∷ k) t x = subst (λ (z : ℕ). Wrong shipped i c (0 ∷ z ∷ k) t) (sym x.0) (wrong_title shipped i c there h k t x.1)
@@ -208,7 +208,7 @@ module _ (own os : List tree.ClassFile) where
   there_is _ i z d (Shipped k e) q = seen_before class_title (map class_title os) own i z (os_among z os k d e q)
   there_is shipped i z d (EarlierClass k l e) q = seen_back class_title (there_of shipped) (classes own os shipped) i z (k, d, l, e, q)
 
-  each_any : {A : Type 0} (F : ℕ → A → List ℕ → Told → Type 0) (xs : List A) (k : List ℕ) (t : Told) → Each F xs k t → (i : ℕ) × (x : A) × (r : List ℕ) × (k ≡ i ∷ r) × (slice_get xs i ≡ Some x) × F i x r t
+  each_any : {A : Type 0} (F : ℕ → A → List ℕ → NameDiagnostic → Type 0) (xs : List A) (k : List ℕ) (t : NameDiagnostic) → Each F xs k t → (i : ℕ) × (x : A) × (r : List ℕ) × (k ≡ i ∷ r) × (slice_get xs i ≡ Some x) × F i x r t
   each_any F xs [] t h = absurd (each_numbers F xs t h)
   each_any F xs (i ∷ r) t h = let p = each_at F xs i r t h in (i, p.0, r, refl, p.1, p.2)
 
@@ -232,25 +232,25 @@ module _ (own os : List tree.ClassFile) where
   abbrev shipped_number : Bool → ℕ
   shipped_number shipped = if shipped then 1 else 0
 
-  declared_at : (shipped : Bool) (i part j : ℕ) (c : tree.ClassFile) (kind : NameKind) (x : tree.Name) (k : List ℕ) (t : Told) → slice_get (classes own os shipped) i ≡ Some c → Misdeclared own os shipped i c part j kind x
+  declared_at : (shipped : Bool) (i part j : ℕ) (c : tree.ClassFile) (kind : NameKind) (x : tree.Name) (k : List ℕ) (t : NameDiagnostic) → slice_get (classes own os shipped) i ≡ Some c → Misdeclared own os shipped i c part j kind x
       → k ≡ i ∷ part ∷ j ∷ kind_number kind ∷ 0 ∷ [] → t ≡ told_at (source shipped c) kind x → Told_at (0 ∷ shipped_number shipped ∷ k) t
   declared_at shipped i part j c kind x k t e m ek et =
       let s : ℕ = shipped_number shipped in
-      let told : Told = told_at (source shipped c) kind x in
+      let told : NameDiagnostic = told_at (source shipped c) kind x in
       let exact : Told_at (0 ∷ s ∷ i ∷ part ∷ j ∷ kind_number kind ∷ 0 ∷ []) told =
       (spot shipped i part j 0, ap (λ (z : ℕ). z ∷ s ∷ i ∷ part ∷ j ∷ kind_number kind ∷ 0 ∷ []) (sym (stage_declared shipped i c part j kind x m)), InDeclaration e m) in
-      subst (λ (l : List ℕ). Told_at (0 ∷ s ∷ l) t) (sym ek) (subst (λ (w : Told). Told_at (0 ∷ s ∷ i ∷ part ∷ j ∷ kind_number kind ∷ 0 ∷ []) w) (sym et) exact)
+      subst (λ (l : List ℕ). Told_at (0 ∷ s ∷ l) t) (sym ek) (subst (λ (w : NameDiagnostic). Told_at (0 ∷ s ∷ i ∷ part ∷ j ∷ kind_number kind ∷ 0 ∷ []) w) (sym et) exact)
 
-  used_at : (shipped : Bool) (i part j call : ℕ) (f : File) (b : Body) (u : Use) (kind : NameKind) (x : tree.Name) (k : List ℕ) (t : Told) → IsUsed own os shipped i part j f b u → Misused own os b u call kind x
+  used_at : (shipped : Bool) (i part j call : ℕ) (f : File) (b : Body) (u : Use) (kind : NameKind) (x : tree.Name) (k : List ℕ) (t : NameDiagnostic) → IsUsed own os shipped i part j f b u → Misused own os b u call kind x
       → k ≡ i ∷ part ∷ j ∷ kind_number kind ∷ call ∷ [] → t ≡ told_at f.source kind x → Told_at (2 ∷ shipped_number shipped ∷ k) t
   used_at shipped i part j call f b u kind x k t e m ek et =
       let s : ℕ = shipped_number shipped in
-      let told : Told = told_at f.source kind x in
+      let told : NameDiagnostic = told_at f.source kind x in
       let exact : Told_at (2 ∷ s ∷ i ∷ part ∷ j ∷ kind_number kind ∷ call ∷ []) told =
       (spot shipped i part j call, ap (λ (z : ℕ). z ∷ s ∷ i ∷ part ∷ j ∷ kind_number kind ∷ call ∷ []) (sym (stage_used b u call kind x m)), InUse e m) in
-      subst (λ (l : List ℕ). Told_at (2 ∷ s ∷ l) t) (sym ek) (subst (λ (w : Told). Told_at (2 ∷ s ∷ i ∷ part ∷ j ∷ kind_number kind ∷ call ∷ []) w) (sym et) exact)
+      subst (λ (l : List ℕ). Told_at (2 ∷ s ∷ l) t) (sym ek) (subst (λ (w : NameDiagnostic). Told_at (2 ∷ s ∷ i ∷ part ∷ j ∷ kind_number kind ∷ call ∷ []) w) (sym et) exact)
 
-  declared_to : (shipped : Bool) (k : List ℕ) (t : Told) → DeclarationsF shipped (there_of shipped) (classes own os shipped) k t → Told_at (0 ∷ shipped_number shipped ∷ k) t
+  declared_to : (shipped : Bool) (k : List ℕ) (t : NameDiagnostic) → DeclarationsF shipped (there_of shipped) (classes own os shipped) k t → Told_at (0 ∷ shipped_number shipped ∷ k) t
   declared_to shipped k t h =
       let cs : List tree.ClassFile = classes own os shipped in
       let p = each_any (λ i c. DeclarationF shipped (seen class_title (there_of shipped) cs i) c) cs k t h in
@@ -264,7 +264,7 @@ module _ (own os : List tree.ClassFile) where
       at_each (λ i c. DeclarationF shipped (seen class_title (there_of shipped) cs i) c) cs i c (part ∷ j ∷ kind_number kind ∷ 0 ∷ []) (told_at (source shipped c) kind x) e
       (right_back shipped i c (seen class_title (there_of shipped) cs i) (unfold TitleThere in λ d r q. there_is shipped i c.class.name.text d r q) part j kind x m)
 
-  used_to : (shipped : Bool) (k : List ℕ) (t : Told) → FilesF own os (files own os shipped) k t → Told_at (2 ∷ shipped_number shipped ∷ k) t
+  used_to : (shipped : Bool) (k : List ℕ) (t : NameDiagnostic) → FilesF own os (files own os shipped) k t → Told_at (2 ∷ shipped_number shipped ∷ k) t
   used_to shipped k t h =
       let p = each_any (λ i f. FileF own os f) (files own os shipped) k t h in
       let q = each_any (λ n b. BodyF own os p.1.source b) p.1.bodies p.2 t p.5 in
@@ -280,29 +280,29 @@ module _ (own os : List tree.ClassFile) where
       (at_each (λ n b. BodyF own os f.source b) f.bodies part b (j ∷ kind_number kind ∷ call ∷ []) (told_at f.source kind x) e.body
       (at_each (λ j u. PointF own os f.source b u) b.uses j u (kind_number kind ∷ call ∷ []) (told_at f.source kind x) e.name (kind, call, x, refl, refl, m)))
 
-  under_to : (F : Faults) (n : ℕ) (k : List ℕ) (t : Told) → Under n F k t → (r : List ℕ) × (k ≡ n ∷ r) × F r t
+  under_to : (F : Faults) (n : ℕ) (k : List ℕ) (t : NameDiagnostic) → Under n F k t → (r : List ℕ) × (k ≡ n ∷ r) × F r t
   under_to F n [] t x = absurd x
   under_to F n (m ∷ r) t x = (r, ap (λ (z : ℕ). z ∷ r) x.0, x.1)
 
-  declarations_to : (k : List ℕ) (t : Told) → DeclaredF k t → Told_at (0 ∷ k) t
+  declarations_to : (k : List ℕ) (t : NameDiagnostic) → DeclaredF k t → Told_at (0 ∷ k) t
   declarations_to k t (inl x) =
       let p = under_to (DeclarationsF false (map class_title os) own) 0 k t x in subst (λ (l : List ℕ). Told_at (0 ∷ l) t) (sym p.1) (declared_to false p.0 t p.2)
   declarations_to k t (inr x) =
       let p = under_to (DeclarationsF true [] os) 1 k t x in subst (λ (l : List ℕ). Told_at (0 ∷ l) t) (sym p.1) (declared_to true p.0 t p.2)
 
-  uses_to : (k : List ℕ) (t : Told) → UsedF k t → Told_at (2 ∷ k) t
+  uses_to : (k : List ℕ) (t : NameDiagnostic) → UsedF k t → Told_at (2 ∷ k) t
   uses_to k t (inl x) =
       let p = under_to (FilesF own os (map (file false) own)) 0 k t x in subst (λ (l : List ℕ). Told_at (2 ∷ l) t) (sym p.1) (used_to false p.0 t p.2)
   uses_to k t (inr x) =
       let p = under_to (FilesF own os (system_files os)) 1 k t x in subst (λ (l : List ℕ). Told_at (2 ∷ l) t) (sym p.1) (used_to true p.0 t p.2)
 
-  all_to : (k : List ℕ) (t : Told) → AllF k t → Told_at k t
+  all_to : (k : List ℕ) (t : NameDiagnostic) → AllF k t → Told_at k t
   all_to k t (inl x) = let p = under_to DeclaredF 0 k t x in subst (λ (l : List ℕ). Told_at l t) (sym p.1) (declarations_to p.0 t p.2)
   all_to k t (inr (inl x)) =
-      subst (λ (l : List ℕ). Told_at l t) (sym x.0) (subst (λ (w : Told). Told_at (1 ∷ 0 ∷ 0 ∷ 0 ∷ 0 ∷ 14 ∷ 0 ∷ []) w) (sym x.1) (spot false 0 0 0 0, refl, NoMain x.2))
+      subst (λ (l : List ℕ). Told_at l t) (sym x.0) (subst (λ (w : NameDiagnostic). Told_at (1 ∷ 0 ∷ 0 ∷ 0 ∷ 0 ∷ 14 ∷ 0 ∷ []) w) (sym x.1) (spot false 0 0 0 0, refl, NoMain x.2))
   all_to k t (inr (inr x)) = let p = under_to UsedF 2 k t x in subst (λ (l : List ℕ). Told_at l t) (sym p.1) (uses_to p.0 t p.2)
 
-  all_back : (at : Spot) (t : Told) → Fails own os at t → AllF (order at t) t
+  all_back : (at : Spot) (t : NameDiagnostic) → Fails own os at t → AllF (order at t) t
   all_back _ _ (InDeclaration {shipped = false} {i} {part} {j} {c} {kind} {x} e m) = inl (stage_declared false i c part j kind x m, inl (refl, declared_back false i part j c kind x e m))
   all_back _ _ (InDeclaration {shipped = true} {i} {part} {j} {c} {kind} {x} e m) = inl (stage_declared true i c part j kind x m, inr (refl, declared_back true i part j c kind x e m))
   all_back _ _ (NoMain never) = inr (inl (refl, refl, never))
@@ -310,11 +310,11 @@ module _ (own os : List tree.ClassFile) where
   all_back _ _ (InUse {shipped = true} {i} {part} {j} {k} {f} {b} {u} {kind} {x} e m) = inr (inr (stage_used b u k kind x m, inr (refl, used_back true i part j k f b u kind x e m)))
 
   -- what is found, of a program
-  abbrev Answer : Option Told → Type 0
+  abbrev Answer : Option NameDiagnostic → Type 0
   Answer None = IsWellNamed own os
   Answer (Some t) = IsFirstFault own os t
 
-  answers : {o : Option Told} → Finds AllF o → Answer o
+  answers : {o : Option NameDiagnostic} → Finds AllF o → Answer o
   answers (FindsNone h) = λ at t f. h (order at t) t (all_back at t f)
   answers (FindsSome {t} k x first) =
       let p = all_to k t x in
@@ -328,22 +328,22 @@ module _ (own os : List tree.ClassFile) where
   never_less (n ∷ k) (inl h) = omega arith
   never_less (n ∷ k) (inr h) = never_less k h.1
 
-  one_first : (t t' : Told) → IsFirstFault own os t → IsFirstFault own os t' → t' ≡ t
+  one_first : (t t' : NameDiagnostic) → IsFirstFault own os t → IsFirstFault own os t' → t' ≡ t
   one_first t t' f g =
       elim (f.first g.at t' g.fails) [
         | inl e ↦ e
         | inr l ↦ elim (g.first f.at t f.fails) [ inl e ↦ sym e | inr m ↦ absurd (never_less (order f.at t) (less_trans (order f.at t) (order g.at t') (order f.at t) l m)) ]
       ]
 
-  first_by : (o : Option Told) → Answer o → (t : Told) → (o ≡ Some t) ↔ IsFirstFault own os t
+  first_by : (o : Option NameDiagnostic) → Answer o → (t : NameDiagnostic) → (o ≡ Some t) ↔ IsFirstFault own os t
   first_by None h t = (λ e. absurd cc, λ f. absurd (h f.at t f.fails))
-  first_by (Some s) h t = (λ e. let q : s ≡ t = cc in subst (IsFirstFault own os) q h, λ f. ap (λ (z : Told). Some z) (one_first t s f h))
+  first_by (Some s) h t = (λ e. let q : s ≡ t = cc in subst (IsFirstFault own os) q h, λ f. ap (λ (z : NameDiagnostic). Some z) (one_first t s f h))
 
-  none_by : (o : Option Told) → Answer o → (o ≡ None) ↔ IsWellNamed own os
+  none_by : (o : Option NameDiagnostic) → Answer o → (o ≡ None) ↔ IsWellNamed own os
   none_by None h = (λ e. h, λ w. refl)
   none_by (Some s) h = (λ e. absurd cc, λ w. absurd (w h.at s h.fails))
 
-  pub finds_first : (t : Told) → (all_faults own os ≡ Some t) ↔ IsFirstFault own os t
+  pub finds_first : (t : NameDiagnostic) → (all_faults own os ≡ Some t) ↔ IsFirstFault own os t
   finds_first t = first_by (all_faults own os) answer t
 
   pub finds_none : (all_faults own os ≡ None) ↔ IsWellNamed own os

@@ -3,7 +3,7 @@ use Rattle.std.proofs.Common.{◌≡◌, ℕ, ◌+◌, ◌-◌, true, false, Lis
 use Rattle.scan_text.specs.declared.Place.{Place}
 use Rattle.jack_meaning.specs.Text as meaning
 use Rattle.jack_tree.specs.Syntax as tree
-use Rattle.jack_tree.specs.Seen.{the_name, the_operator, the_sign, the_constant, the_object, the_expression, the_operations, the_term, the_call, the_arguments, the_value, unboxed, the_statement, the_row, the_choice, the_statements}
+use Rattle.jack_tree.specs.Seen.{the_name, the_operator, the_sign, the_constant, the_object, the_expression, the_operations, the_term, the_call, the_arguments, the_value, unbox, the_statement, the_row, the_choice, the_statements}
 use Rattle.jack_tree.specs.declared.tree.Name.{Name}
 use Rattle.jack_tree.specs.declared.tree.Operator.{Operator}
 use Rattle.jack_tree.specs.declared.tree.Operator.TheVariants as operator
@@ -32,7 +32,7 @@ made_by : (s : Scope) (f : List ℕ) (o : Option ℕ) → meant.made_by s f o �
 made_by s f None = refl
 made_by s f (Some k) = refl
 
-pub made_same : (s : Scope) (c f : List ℕ) → meant.made_number s c f ≡ plain.made (the_standing s) c f
+pub made_same : (s : Scope) (c f : List ℕ) → meant.made_number s c f ≡ plain.made_word (the_standing s) c f
 made_same s c f = made_by s f (s.class c)
 
 through_same : (s : Scope) (f : List ℕ) (w : Way) (o : Option ℕ) → meant.called_number s f (through w o) ≡ in_class (the_standing s).subroutine o f
@@ -51,12 +51,12 @@ object_same : (s : Scope) (o : Option Name) (es : meaning.Expressions) → meant
 object_same s None es = refl
 object_same s (Some x) es = refl
 
-invoked_same : (s : Scope) (o : Option Name) (f : Name) (es es' : meaning.Expressions) → es ≡ es' → meant.invoked s o f es ≡ plain.invoked (the_standing s) (the_object o) (the_name f) es'
+invoked_same : (s : Scope) (o : Option Name) (f : Name) (es es' : meaning.Expressions) → es ≡ es' → meant.invocation s o f es ≡ plain.invocation (the_standing s) (the_object o) (the_name f) es'
 invoked_same s o f es es' e = λ i. meaning.Call (called_same s f.text o i) ((object_same s o es ∙ ap (plain.with_object (the_standing s) (the_object o)) e) i)
 
 string_same : (s : Scope) (text : List ℕ) → meant.string_meant s text ≡ plain.string_meaning (the_standing s) text
 string_same s text =
-    λ i. shared.filled (made_same s (codes "String") (codes "appendChar") i) (meaning.Call (made_same s (codes "String") (codes "new") i) (shared.one (meaning.Literal (shared.length_word text)))) text
+    λ i. shared.filled_characters (made_same s (codes "String") (codes "appendChar") i) (meaning.Call (made_same s (codes "String") (codes "new") i) (shared.one (meaning.Literal (shared.length_word text)))) text
 
 constant_same : (s : Scope) (c : Constant) → meant.constant_meant s c ≡ plain.constant_meaning (the_standing s) (the_constant c)
 constant_same s (constant.Integer n) = refl
@@ -133,7 +133,7 @@ mutual
 
 mutual
   statement_same : (s : Scope) (n : ℕ) (t : statements.Statement) → meant.statement_meant s n t ≡ plain.statement_meaning (the_standing s) n (the_statement t)
-  statement_same s n (statements.Let at x i e) = let_same s n x (unboxed i) e
+  statement_same s n (statements.Let at x i e) = let_same s n x (unbox i) e
   statement_same s n (statements.If' at e m a b) =
       choice_same s n at e (sized.row_size a) (the_row a) (row_size_same a) (meant.block_meant s (n + 1) a) (block_same s (n + 1) a) b
   statement_same s n (statements.While' at e m a) = λ i. meaning.While n (expression_same s e i) (block_same s (n + 1) a i)

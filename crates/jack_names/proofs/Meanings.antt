@@ -10,8 +10,8 @@ use Rattle.jack_tree.specs.declared.tree.Expression.{Expression, Expression', ou
 use Rattle.jack_tree.specs.declared.tree.Statement as statements
 use Rattle.jack_names.specs.Inner.Scopes.{Scope}
 use Rattle.jack_names.specs.Sizes.{size, row_size, sizes, else_size}
-use Rattle.jack_names.specs.Made.{filled, two}
-use Rattle.jack_names.specs.Inner.Meant.{binary_meant, term_meant, exp_meant, rest_meant, row_meant, operation_meant, grouped, arguments_meant, invoked, call_meant, statement_meant, block_meant, statements_meant, else_meant}
+use Rattle.jack_names.specs.Made.{filled_characters, two}
+use Rattle.jack_names.specs.Inner.Meant.{binary_meant, term_meant, exp_meant, rest_meant, row_meant, operation_meant, grouped_operations, arguments_meant, invocation, call_meant, statement_meant, block_meant, statements_meant, else_meant}
 use Rattle.jack_names.proofs.Rows.{OneCall, OneExpression, first_row, second_row}
 
 row_means : (s : Scope) (n : _) (row : Row_of-Expression n) → row_meant s row ≡ arguments_meant s (items-the_row-Expression n row)
@@ -19,42 +19,42 @@ row_means s n end_of-Expression = refl
 row_means s n (more_of-Expression e es) = ap (λ (x : meaning.Expressions). meaning.More (exp_meant s e) x) (row_means s _ es)
 
 abbrev meant_by : Scope → OneCall → meaning.Expression
-meant_by s c = invoked s c.object c.name (arguments_meant s c.arguments.items)
+meant_by s c = invocation s c.object c.name (arguments_meant s c.arguments.items)
 
 -- a call, by its parts
-pub call_means : (s : Scope) (c : Call) → call_meant s c ≡ invoked s (out-Call c).object (out-Call c).name (arguments_meant s (out-Call c).arguments.items)
+pub call_means : (s : Scope) (c : Call) → call_meant s c ≡ invocation s (out-Call c).object (out-Call c).name (arguments_meant s (out-Call c).arguments.items)
 call_means s (Call' o f p es) =
-    ap (λ (x : meaning.Expressions). invoked s o f x) (row_means s _ es ∙ ap (arguments_meant s) (sym (items_shown-the_row-Expression-0 p es)))
+    ap (λ (x : meaning.Expressions). invocation s o f x) (row_means s _ es ∙ ap (arguments_meant s) (sym (items_shown-the_row-Expression-0 p es)))
     ∙ ap (meant_by s) (sym (outs-Call' o f p es))
 
-rest_means : (s : Scope) (a : meaning.Expression) (n : _) (row : Row_of-Operation n) → rest_meant s a row ≡ grouped s a (items-the_row-Operation n row)
+rest_means : (s : Scope) (a : meaning.Expression) (n : _) (row : Row_of-Operation n) → rest_meant s a row ≡ grouped_operations s a (items-the_row-Operation n row)
 rest_means s a n end_of-Operation = refl
 rest_means s a n (more_of-Operation o at t os) = rest_means s (binary_meant s o a (term_meant s t)) _ os
 
 abbrev grouped_by : Scope → OneExpression → meaning.Expression
-grouped_by s e = grouped s (term_meant s e.first) e.rest.items
+grouped_by s e = grouped_operations s (term_meant s e.first) e.rest.items
 
 -- an expression, by its parts
-pub exp_means : (s : Scope) (e : Expression) → exp_meant s e ≡ grouped s (term_meant s (out-Expression e).first) (out-Expression e).rest.items
+pub exp_means : (s : Scope) (e : Expression) → exp_meant s e ≡ grouped_operations s (term_meant s (out-Expression e).first) (out-Expression e).rest.items
 exp_means s (Expression' t p os) =
-    rest_means s (term_meant s t) _ os ∙ ap (grouped s (term_meant s t)) (sym (items_shown-the_row-Operation-1 p os))
+    rest_means s (term_meant s t) _ os ∙ ap (grouped_operations s (term_meant s t)) (sym (items_shown-the_row-Operation-1 p os))
     ∙ ap (grouped_by s) (sym (outs-Expression' t p os))
 
-grouped-push : (s : Scope) (a : meaning.Expression) (os : List Operation) (o : Operation) → grouped s a (os ++ o ∷ []) ≡ operation_meant s (grouped s a os) o
+grouped-push : (s : Scope) (a : meaning.Expression) (os : List Operation) (o : Operation) → grouped_operations s a (os ++ o ∷ []) ≡ operation_meant s (grouped_operations s a os) o
 grouped-push s a [] o = refl
 grouped-push s a (p ∷ os) o = grouped-push s (operation_meant s a p) os o
 
 -- one operator and term more
-pub grouped_more : (s : Scope) (a : meaning.Expression) (os : List Operation) (i : ℕ) (o : Operation) → i < length os → o ≡ get_or os i o → grouped s a (take (i + 1) os) ≡ operation_meant s (grouped s a (take i os)) o
-grouped_more s a os i o h w = ap (grouped s a) (take_more os i o h ∙ ap (λ (x : Operation). take i os ++ x ∷ []) (sym w)) ∙ grouped-push s a (take i os) o
+pub grouped_more : (s : Scope) (a : meaning.Expression) (os : List Operation) (i : ℕ) (o : Operation) → i < length os → o ≡ get_or os i o → grouped_operations s a (take (i + 1) os) ≡ operation_meant s (grouped_operations s a (take i os)) o
+grouped_more s a os i o h w = ap (grouped_operations s a) (take_more os i o h ∙ ap (λ (x : Operation). take i os ++ x ∷ []) (sym w)) ∙ grouped-push s a (take i os) o
 
 -- one byte more
-filled-push : (append : ℕ) (e : meaning.Expression) (bs : List ℕ) (b : ℕ) → filled append e (bs ++ b ∷ []) ≡ meaning.Call append (two (filled append e bs) (meaning.Literal b))
+filled-push : (append : ℕ) (e : meaning.Expression) (bs : List ℕ) (b : ℕ) → filled_characters append e (bs ++ b ∷ []) ≡ meaning.Call append (two (filled_characters append e bs) (meaning.Literal b))
 filled-push append e [] b = refl
 filled-push append e (x ∷ bs) b = filled-push append (meaning.Call append (two e (meaning.Literal x))) bs b
 
-pub filled_more : (append : ℕ) (e : meaning.Expression) (bs : List ℕ) (i : ℕ) → i < length bs → filled append e (take (i + 1) bs) ≡ meaning.Call append (two (filled append e (take i bs)) (meaning.Literal (get_or bs i 0)))
-filled_more append e bs i h = ap (filled append e) (take_more bs i 0 h) ∙ filled-push append e (take i bs) (get_or bs i 0)
+pub filled_more : (append : ℕ) (e : meaning.Expression) (bs : List ℕ) (i : ℕ) → i < length bs → filled_characters append e (take (i + 1) bs) ≡ meaning.Call append (two (filled_characters append e (take i bs)) (meaning.Literal (get_or bs i 0)))
+filled_more append e bs i h = ap (filled_characters append e) (take_more bs i 0 h) ∙ filled-push append e (take i bs) (get_or bs i 0)
 
 block_means : (s : Scope) (k : ℕ) (n : _) (row : statements.Row_of-Statement n) → block_meant s k row ≡ meaning.text_of (statements_meant s k (statements.items-the_row-Statement n row))
 block_means s k n statements.end_of-Statement = refl

@@ -17,7 +17,7 @@ use Rattle.jack_tree.specs.declared.tree.Locals.{Locals}
 use Rattle.jack_tree.specs.declared.tree.Parameter.{Parameter}
 use Rattle.jack_tree.specs.declared.tree.Subroutine.{Subroutine}
 use Rattle.jack_tree.specs.declared.tree.Class.{Class}
-use Rattle.jack_names.specs.Tables.{found, first_of}
+use Rattle.jack_names.specs.Tables.{find_value, first_of}
 use Rattle.jack_names.specs.Inner.Scopes.{Scope}
 use Rattle.jack_names.specs.Sizes.{sizes}
 use Rattle.jack_names.specs.Inner.Twice.{names_of}
@@ -41,10 +41,10 @@ number_either : (b : Bool) (g : Signature) (o : Option Signature) (p : Option �
 number_either true g o p h = refl
 number_either false g o p h = h
 
-subroutines_same : (n : ℕ) (ss : List Subroutine) (f : List ℕ) → meant.number_by (found f (symbol.signatures n ss)) ≡ numbers.number (found f (numbers.subroutine_numbers n (map the_subroutine ss)))
+subroutines_same : (n : ℕ) (ss : List Subroutine) (f : List ℕ) → meant.number_by (find_value f (symbol.signatures n ss)) ≡ numbers.number (find_value f (numbers.subroutine_numbers n (map the_subroutine ss)))
 subroutines_same n [] f = refl
 subroutines_same n (s ∷ ss) f =
-    number_either (bytes_eq f s.name.text) (record { number = n; form = s.form; parameters = length s.parameters.items }) (found f (symbol.signatures (n + 1) ss)) (found f (numbers.subroutine_numbers (n + 1) (map the_subroutine ss)))
+    number_either (bytes_eq f s.name.text) (record { number = n; form = s.form; parameters = length s.parameters.items }) (find_value f (symbol.signatures (n + 1) ss)) (find_value f (numbers.subroutine_numbers (n + 1) (map the_subroutine ss)))
     (subroutines_same (n + 1) ss f)
 
 numbers_same : (n : ℕ) (cs : List Class) (k : ℕ) (f : List ℕ) → meant.number_by (symbol.found_at (slice_get (symbol.all_signatures n cs) k) f) ≡ numbers.found_in (slice_get (numbers.all_subroutine_numbers n (map the_file cs)) k) f
@@ -127,7 +127,7 @@ module _ (sy : symbol.Symbols) where
       λ i. (parameters_same (symbol.objects s.form) s.parameters.items ∙ ap (λ (k : ℕ). numbers.parameter_slots sy.class k (map the_parameter s.parameters.items)) (objects_same s.form)) i
       ++ locals_same 0 s.locals.items i
 
-text_of-append : (xs ys : List meaning.Statement) → meaning.text_of (xs ++ ys) ≡ meaning.joined (meaning.text_of xs) (meaning.text_of ys)
+text_of-append : (xs ys : List meaning.Statement) → meaning.text_of (xs ++ ys) ≡ meaning.joined_text (meaning.text_of xs) (meaning.text_of ys)
 text_of-append [] ys = refl
 text_of-append (x ∷ xs) ys = ap (λ (t : meaning.Text). meaning.Next x t) (text_of-append xs ys)
 
@@ -137,14 +137,14 @@ added_same false n = refl
 
 -- the statements of a body, with the return that they lack
 rest_same : (s : Scope) (t : Subroutine) → meaning.text_of (meant.statements_meant s 1 t.statements.items ++ whole.added_return (whole.returns t.statements.items) (1 + sizes t.statements.items))
-    ≡ meaning.joined (plain.block_meaning (the_standing s) 1 (the_statements t.statements.items)) (plain.return_added (plain.returns (the_statements t.statements.items)) (1 + plain.sizes (the_statements t.statements.items)))
+    ≡ meaning.joined_text (plain.block_meaning (the_standing s) 1 (the_statements t.statements.items)) (plain.return_added (plain.returns (the_statements t.statements.items)) (1 + plain.sizes (the_statements t.statements.items)))
 rest_same s t =
     let ts = t.statements.items in
     text_of-append (meant.statements_meant s 1 ts) (whole.added_return (whole.returns ts) (1 + sizes ts))
-    ∙ (λ i. meaning.joined (statements_same s 1 ts i) (added_same (whole.returns ts) (1 + sizes ts) i))
-    ∙ (λ i. meaning.joined (plain.block_meaning (the_standing s) 1 (the_statements ts)) (plain.return_added (returns_same ts i) (1 + sizes_same ts i)))
+    ∙ (λ i. meaning.joined_text (statements_same s 1 ts i) (added_same (whole.returns ts) (1 + sizes ts) i))
+    ∙ (λ i. meaning.joined_text (plain.block_meaning (the_standing s) 1 (the_statements ts)) (plain.return_added (returns_same ts i) (1 + sizes_same ts i)))
 
-body_by : (s : Scope) (fields : ℕ) (f : Form) (xs ys : List meaning.Statement) (rest : meaning.Text) → meaning.text_of (xs ++ ys) ≡ rest → meaning.text_of (whole.begun s f fields ++ xs ++ ys) ≡ plain.begun (the_standing s) (the_form f) fields rest
+body_by : (s : Scope) (fields : ℕ) (f : Form) (xs ys : List meaning.Statement) (rest : meaning.Text) → meaning.text_of (xs ++ ys) ≡ rest → meaning.text_of (whole.first_statements s f fields ++ xs ++ ys) ≡ plain.begin_text (the_standing s) (the_form f) fields rest
 body_by s fields form.Constructor xs ys rest e = λ i. meaning.Next (meaning.LetThis 0 (meaning.Call (made_same s (codes "Memory") (codes "alloc") i) (shared.one (meaning.Literal (max 1 fields))))) (e i)
 body_by s fields form.Function xs ys rest e = e
 body_by s fields form.Method xs ys rest e = e
@@ -158,7 +158,7 @@ subroutine_same s fields t =
       arguments = objects_same t.form i + sym (length-map t.parameters.items the_parameter) i;
       locals = local_count_same t.locals.items i;
       body = body_by s fields t.form (meant.statements_meant s 1 ts) (whole.added_return (whole.returns ts) (1 + sizes ts))
-          (meaning.joined (plain.block_meaning (the_standing s) 1 (the_statements ts)) (plain.return_added (plain.returns (the_statements ts)) (1 + plain.sizes (the_statements ts)))) (rest_same s t) i;
+          (meaning.joined_text (plain.block_meaning (the_standing s) 1 (the_statements ts)) (plain.return_added (plain.returns (the_statements ts)) (1 + plain.sizes (the_statements ts)))) (rest_same s t) i;
     }
 
 module _ (all : List Class) where
@@ -169,13 +169,13 @@ module _ (all : List Class) where
   plain_all = map the_file all
 
   class_same : sy.class ≡ numbers.class_number plain_all
-  class_same = λ i x. found x (classes_same 0 all i)
+  class_same = λ i x. find_value x (classes_same 0 all i)
 
   standing_same : (shipped : Bool) (own statics : ℕ) (c : Class) (t : Subroutine) → the_standing (symbol.scope_in (symbol.class_scope sy shipped own statics c) t) ≡ numbers.standing plain_all own statics (the_class c) (the_subroutine t)
   standing_same shipped own statics c t =
       let inner = inner_same sy t ∙ ap (λ (g : List ℕ → Option ℕ). numbers.inner_slots g (the_subroutine t)) class_same in
       let members = members_same sy 0 statics c.variables.items ∙ ap (λ (g : List ℕ → Option ℕ). numbers.member_slots g 0 statics (map the_variables c.variables.items)) class_same in
-      λ i. record { variable = λ x. first_of (found x (inner i)) (found x (members i)); class = class_same i; subroutine = λ k f. numbers_same 1 all k f i; own = own }
+      λ i. record { variable = λ x. first_of (find_value x (inner i)) (find_value x (members i)); class = class_same i; subroutine = λ k f. numbers_same 1 all k f i; own = own }
 
   class_subroutines : (shipped : Bool) (own statics fields : ℕ) (c : Class) (ss : List Subroutine)
       → whole.class_subroutines (symbol.class_scope sy shipped own statics c) fields ss ≡ map (λ t. plain.subroutine_meaning (numbers.standing plain_all own statics (the_class c) t) fields t) (map the_subroutine ss)

@@ -8,7 +8,7 @@ use Rattle.std.proofs.lemmas.List.{map-append}
 use Rattle.std.proofs.lemmas.Option.{slice_get-map}
 use Rattle.std.proofs.lemmas.Slice.Eq.{bytes_eq-Decides}
 use Rattle.jack_tree.specs.declared.tree.Class.{Class}
-use Rattle.jack_names.specs.Tables.{found, first_of, is_among, names_in, with_new}
+use Rattle.jack_names.specs.Tables.{find_value, first_of, is_among, names_in, with_new}
 use Rattle.jack_names.specs.Inner.Entered.{table_of}
 use Rattle.jack_names.specs.Inner.Scoped.{found_in}
 use Rattle.jack_names.specs.Symbols.{class_numbers, signatures, all_signatures, found_at, symbols_of}
@@ -31,31 +31,31 @@ alone_by : {V : Type 0} (b : Bool) (v : V) (o : Option V) → cond b (Some v) o 
 alone_by true v o = refl
 alone_by false v o = refl
 
-alone : {V : Type 0} (y : List ℕ) (e : List ℕ × V) (es : List (List ℕ × V)) → found y (e ∷ es) ≡ first_of (found y (e ∷ [])) (found y es)
-alone y e es = alone_by (bytes_eq y e.0) e.1 (found y es)
+alone : {V : Type 0} (y : List ℕ) (e : List ℕ × V) (es : List (List ℕ × V)) → find_value y (e ∷ es) ≡ first_of (find_value y (e ∷ [])) (find_value y es)
+alone y e es = alone_by (bytes_eq y e.0) e.1 (find_value y es)
 
 kept_by : {V : Type 0} (b : Bool) (o : Option V) (v : V) → (b ≡ true → is_some o ≡ true) → first_of o (cond b (Some v) None) ≡ o
 kept_by b (Some w) v h = refl
 kept_by true None v h = absurd (false≢true (h refl))
 kept_by false None v h = refl
 
-kept : {V : Type 0} (y x : List ℕ) (es : List (List ℕ × V)) (v : V) → is_among x (names_in es) ≡ true → first_of (found y es) (found y ((x, v) ∷ [])) ≡ found y es
-kept y x es v h = kept_by (bytes_eq y x) (found y es) v (λ e. found_among y es ∙ ap (λ (z : List ℕ). is_among z (names_in es)) ((bytes_eq-Decides y x).0 e) ∙ h)
+kept : {V : Type 0} (y x : List ℕ) (es : List (List ℕ × V)) (v : V) → is_among x (names_in es) ≡ true → first_of (find_value y es) (find_value y ((x, v) ∷ [])) ≡ find_value y es
+kept y x es v h = kept_by (bytes_eq y x) (find_value y es) v (λ e. found_among y es ∙ ap (λ (z : List ℕ). is_among z (names_in es)) ((bytes_eq-Decides y x).0 e) ∙ h)
 
-new_by : {V : Type 0} (y x : List ℕ) (es : List (List ℕ × V)) (v : V) (b : Bool) → is_among x (names_in es) ≡ b → found y (cond b es (es ++ (x, v) ∷ [])) ≡ first_of (found y es) (found y ((x, v) ∷ []))
+new_by : {V : Type 0} (y x : List ℕ) (es : List (List ℕ × V)) (v : V) (b : Bool) → is_among x (names_in es) ≡ b → find_value y (cond b es (es ++ (x, v) ∷ [])) ≡ first_of (find_value y es) (find_value y ((x, v) ∷ []))
 new_by y x es v true h = sym (kept y x es v h)
 new_by y x es v false h = found-append y es ((x, v) ∷ [])
 
-found_new : {V : Type 0} (y x : List ℕ) (es : List (List ℕ × V)) (v : V) → found y (with_new es x v) ≡ first_of (found y es) (found y ((x, v) ∷ []))
+found_new : {V : Type 0} (y x : List ℕ) (es : List (List ℕ × V)) (v : V) → find_value y (with_new es x v) ≡ first_of (find_value y es) (find_value y ((x, v) ∷ []))
 found_new y x es v = new_by y x es v (is_among x (names_in es)) refl
 
-pub found_all : {V : Type 0} (y : List ℕ) (es fs : List (List ℕ × V)) → found y (with_all es fs) ≡ first_of (found y es) (found y fs)
-found_all y es [] = sym (first_none (found y es))
+pub found_all : {V : Type 0} (y : List ℕ) (es fs : List (List ℕ × V)) → find_value y (with_all es fs) ≡ first_of (find_value y es) (find_value y fs)
+found_all y es [] = sym (first_none (find_value y es))
 found_all {V = V} y es (f ∷ fs) =
-    found_all y (with_new es f.0 f.1) fs ∙ ap (λ (o : Option V). first_of o (found y fs)) (found_new y f.0 es f.1)
-    ∙ first_assoc (found y es) (found y (f ∷ [])) (found y fs) ∙ ap (λ (o : Option V). first_of (found y es) o) (sym (alone y f fs))
+    found_all y (with_new es f.0 f.1) fs ∙ ap (λ (o : Option V). first_of o (find_value y fs)) (found_new y f.0 es f.1)
+    ∙ first_assoc (find_value y es) (find_value y (f ∷ [])) (find_value y fs) ∙ ap (λ (o : Option V). first_of (find_value y es) o) (sym (alone y f fs))
 
-pub found_filled : {V : Type 0} (y : List ℕ) (fs : List (List ℕ × V)) → found y (with_all [] fs) ≡ found y fs
+pub found_filled : {V : Type 0} (y : List ℕ) (fs : List (List ℕ × V)) → find_value y (with_all [] fs) ≡ find_value y fs
 found_filled y fs = found_all y [] fs
 
 pub with_all-append : {V : Type 0} (es xs ys : List (List ℕ × V)) → with_all es (xs ++ ys) ≡ with_all (with_all es xs) ys
@@ -95,10 +95,10 @@ symbols_are names own os m next h k =
     let numbers : class_numbers 0 (own ++ os) ≡ class_numbers 0 own ++ class_numbers (length own) os = class_numbers-append 0 (length own) own os (omega arith) in
     let sigs : map (with_all []) (all_signatures 1 own) ++ map (with_all []) (all_signatures m os) ≡ map (with_all []) (all_signatures 1 (own ++ os)) =
     sym (map-append (with_all []) (all_signatures 1 own) (all_signatures m os)) ∙ ap (map (with_all [])) (sym (all_signatures-append 1 m own os next)) in
-    let p : (x : List ℕ) → found x (table_of names.classes) ≡ found x (class_numbers 0 (own ++ os)) = λ x.
-    ap (found x) h ∙ found_all x (with_all [] (class_numbers 0 own)) (class_numbers (length own) os)
-    ∙ ap (λ (o : Option ℕ). first_of o (found x (class_numbers (length own) os))) (found_filled x (class_numbers 0 own))
-    ∙ sym (found-append x (class_numbers 0 own) (class_numbers (length own) os)) ∙ ap (found x) (sym numbers) in
+    let p : (x : List ℕ) → find_value x (table_of names.classes) ≡ find_value x (class_numbers 0 (own ++ os)) = λ x.
+    ap (find_value x) h ∙ found_all x (with_all [] (class_numbers 0 own)) (class_numbers (length own) os)
+    ∙ ap (λ (o : Option ℕ). first_of o (find_value x (class_numbers (length own) os))) (found_filled x (class_numbers 0 own))
+    ∙ sym (found-append x (class_numbers 0 own) (class_numbers (length own) os)) ∙ ap (find_value x) (sym numbers) in
     let q : (j : ℕ) (f : List ℕ) → found_in (slice_get names.subroutines.items j) f ≡ found_at (slice_get (all_signatures 1 (own ++ os)) j) f = λ j f.
     signatures_are names.subroutines.items (all_signatures 1 (own ++ os)) j f (k ∙ sigs) in
     λ i. record { class = λ x. p x i; subroutine = λ j f. q j f i }

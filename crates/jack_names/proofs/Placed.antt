@@ -2,9 +2,9 @@
 use Rattle.std.proofs.Common.{◌≡◌, ◌∙◌, ◌++◌, inl, inr, ℕ, zero, suc, Bool, true, false, List, [], ◌∷◌, Option, Some, slice_get, if◌then◌else◌, refl, sym, ap, subst, arith}
 use Rattle.scan_text.specs.declared.Place.{Place}
 use Rattle.jack_tree.specs.Syntax as tree
-use Rattle.jack_names.specs.Faults.{Told}
+use Rattle.jack_names.specs.Faults.{NameDiagnostic}
 use Rattle.jack_names.specs.Faults.{kind_number}
-use Rattle.jack_names.specs.Using.{members, inner, Made, filled, made_calls, Use, OfVariable, OfFront, OfCall, OfThis, OfString, OfMade, Body, File, source, files, classes}
+use Rattle.jack_names.specs.Using.{members, inner, Made, filled_parts, made_calls, Use, OfVariable, OfFront, OfCall, OfThis, OfString, OfMade, Body, File, source, files, classes}
 use Rattle.jack_names.specs.NameFaults.{OfVariables, OfSubroutines, Misdeclared, FileName, ClassTwice, MemberTwice, VariableTwice, Target, Calls, Written, ByItself, Front, Lacking, Alone, BeforeDot, Misused, UnknownVariable, UnknownClass, UnknownSubroutine, ArgumentCount, MethodByClass, FunctionByObject, ThisInFunction, FieldInFunction, OwnInFunction, names, told_at, Spot, spot, IsUsed, Fails, InDeclaration, NoMain, InUse}
 use Rattle.jack_names.specs.FaultOrder.{IsLess, stage, order, Declares, Itself, AVariable, ASubroutine, AnInner, use_place, Uses, AUse, IsEarlier, Rise, PlacesRise, stands, place_order, IsFirstFault, IsFirstByPlace}
 use Rattle.jack_names.specs.declared.fault.NameKind.{NameKind}
@@ -34,7 +34,7 @@ made_place : (u : Use) (k : ℕ) (m : Made) → slice_get (made_calls u) k ≡ S
 made_place (OfString t) zero m e = sym (ap (λ (z : Made). z.place) (same_some (Some m) _ m (sym e) refl))
 made_place (OfString t) (suc k) m e = filled_place t.text t.place k m e
   where
-    filled_place : (text : List ℕ) (at : Place) (k : ℕ) (m : Made) → slice_get (filled text at) k ≡ Some m → m.place ≡ at
+    filled_place : (text : List ℕ) (at : Place) (k : ℕ) (m : Made) → slice_get (filled_parts text at) k ≡ Some m → m.place ≡ at
     filled_place [] at k m e = absurd cc
     filled_place (c ∷ text) at zero m e = sym (ap (λ (z : Made). z.place) (same_some (Some m) _ m (sym e) refl))
     filled_place (c ∷ text) at (suc k) m e = absurd cc
@@ -72,12 +72,12 @@ module _ (own os : List tree.ClassFile) where
   used_place b _ _ _ _ (OwnInFunction e) = refl
 
   -- two faults of one stage and file: their places are as their names are
-  pub record Alike (at : Spot) (t : Told) (at' : Spot) (t' : Told) : Type 0 where
+  pub record Alike (at : Spot) (t : NameDiagnostic) (at' : Spot) (t' : NameDiagnostic) : Type 0 where
     pub less : IsLess (at.part ∷ at.name ∷ []) (at'.part ∷ at'.name ∷ []) → IsEarlier t.place t'.place
     pub same : at.part ≡ at'.part → at.name ≡ at'.name → t.place ≡ t'.place
 
   from_rise : (At : ℕ → ℕ → Place → Type 0) → Rise At → ((i j : ℕ) (p q : Place) → At i j p → At i j q → p ≡ q)
-      → (at : Spot) (t : Told) (at' : Spot) (t' : Told) → At at.part at.name t.place → At at'.part at'.name t'.place → Alike at t at' t'
+      → (at : Spot) (t : NameDiagnostic) (at' : Spot) (t' : NameDiagnostic) → At at.part at.name t.place → At at'.part at'.name t'.place → Alike at t at' t'
   from_rise At rise one at t at' t' h k = record {
     less = λ l. rise at.part at.name at'.part at'.name t.place t'.place h k l;
     same = λ e f. one at'.part at'.name t.place t'.place (subst (λ (z : ℕ). At at'.part z t.place) f (subst (λ (z : ℕ). At z at.name t.place) e h)) k;
@@ -108,7 +108,7 @@ module _ (own os : List tree.ClassFile) where
       from_rise (Uses f) (rise.used i f (subst (λ (b : Bool). slice_get (files own os b) i ≡ Some f) o e.file)) (one_use f) (spot shipped i part j k) (told_at f.source kind x) (spot shipped' i' part' j' k') (told_at f'.source kind' x')
       (uses shipped i part j k f b u kind x e m) (subst (λ (z : File). Uses z part' j' x'.place) same (uses shipped' i' part' j' k' f' b' u' kind' x' g n))
 
-  alike : PlacesRise own os → (at : Spot) (t : Told) (at' : Spot) (t' : Told) → Fails own os at t → Fails own os at' t' → at.shipped ≡ false → stage t.kind ≡ stage t'.kind → folder_number at.shipped ≡ folder_number at'.shipped → at.file ≡ at'.file → Alike at t at' t'
+  alike : PlacesRise own os → (at : Spot) (t : NameDiagnostic) (at' : Spot) (t' : NameDiagnostic) → Fails own os at t → Fails own os at' t' → at.shipped ≡ false → stage t.kind ≡ stage t'.kind → folder_number at.shipped ≡ folder_number at'.shipped → at.file ≡ at'.file → Alike at t at' t'
   alike rise _ _ _ _ (InDeclaration {shipped} {i} {part} {j} {c} {kind} {x} e m) (InDeclaration {shipped = b} {i = i'} {part = p'} {j = j'} {c = c'} {kind = kind'} {x = x'} f n) o s h q =
       declared_alike rise shipped b i i' part j p' j' c c' kind kind' x x' o (same_bool shipped b h) q e f m n
   alike rise _ _ _ _ (InDeclaration {shipped} {i} {part} {j} {c} {kind} {x} e m) (NoMain never) o s h q = let a = stage_declared own os shipped i c part j kind x m in absurd (omega arith)
@@ -131,7 +131,7 @@ module _ (own os : List tree.ClassFile) where
   tied : (p q : Place) (r r' : List ℕ) → p ≡ q → IsLess r r' → IsLess (p.line ∷ p.column ∷ r) (q.line ∷ q.column ∷ r')
   tied p q r r' e l = inr (ap (λ (z : Place). z.line) e, inr (ap (λ (z : Place). z.column) e, l))
 
-  module _ (at : Spot) (t : Told) (at' : Spot) (t' : Told) where
+  module _ (at : Spot) (t : NameDiagnostic) (at' : Spot) (t' : NameDiagnostic) where
     rest_by : Alike at t at' t' → at.part ≡ at'.part → IsLess (at.name ∷ kind_number t.kind ∷ at.call ∷ []) (at'.name ∷ kind_number t'.kind ∷ at'.call ∷ [])
         → IsLess (t.place.line ∷ t.place.column ∷ kind_number t.kind ∷ at.call ∷ []) (t'.place.line ∷ t'.place.column ∷ kind_number t'.kind ∷ at'.call ∷ [])
     rest_by h e (inl m) = lift t.place t'.place (kind_number t.kind ∷ at.call ∷ []) (kind_number t'.kind ∷ at'.call ∷ []) (h.less (inr (e, inl m)))
@@ -148,10 +148,10 @@ module _ (own os : List tree.ClassFile) where
       by_file o o' e (inl l) = inl l
       by_file o o' e (inr l) = inr (l.0, rest_less (alike rise at t at' t' f g o e (ap folder_number (o ∙ sym o')) l.0) l.1)
 
-      abbrev ordered : Bool → Spot → Told → List ℕ
+      abbrev ordered : Bool → Spot → NameDiagnostic → List ℕ
       ordered b at told = stage told.kind ∷ folder_number b ∷ at.file ∷ at.part ∷ at.name ∷ kind_number told.kind ∷ at.call ∷ []
 
-      abbrev placed : Bool → Spot → Told → List ℕ
+      abbrev placed : Bool → Spot → NameDiagnostic → List ℕ
       placed b at told = stage told.kind ∷ folder_number b ∷ at.file ∷ (stands b at told ++ kind_number told.kind ∷ at.call ∷ [])
 
       less_by : (b b' : Bool) → at.shipped ≡ b → at'.shipped ≡ b' → IsLess (ordered b at t) (ordered b' at' t') → IsLess (placed b at t) (placed b' at' t')
@@ -169,6 +169,6 @@ module _ (own os : List tree.ClassFile) where
       place_less : IsLess (order at t) (order at' t') → IsLess (place_order at t) (place_order at' t')
       place_less l = less_by at.shipped at'.shipped refl refl l
 
-  pub first_by_place : (told : Told) → PlacesRise own os → IsFirstFault own os told → IsFirstByPlace own os told
+  pub first_by_place : (told : NameDiagnostic) → PlacesRise own os → IsFirstFault own os told → IsFirstByPlace own os told
   first_by_place told rise f =
       record { at = f.at; fails = f.fails; first = λ at' t' g. elim (f.first at' t' g) [ inl e ↦ inl e | inr l ↦ inr (place_less f.at told at' t' rise f.fails g l) ] }

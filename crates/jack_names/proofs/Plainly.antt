@@ -2,7 +2,7 @@
 use Rattle.std.proofs.Common.{◌≡◌, ℕ, ◌+◌, List, [], ◌∷◌, ◌++◌, Option, Some, None, refl, sym, ap, ◌∙◌, append_assoc, append-nil}
 use Rattle.scan_text.specs.declared.Place.{Place}
 use Rattle.jack_tree.specs.Syntax as tree
-use Rattle.jack_tree.specs.Seen.{the_name, the_operator, the_constant, the_object, the_expression, the_operations, the_term, the_call, the_arguments, the_value, unboxed, the_statement, the_row, the_choice, the_statements, the_form, the_subroutine}
+use Rattle.jack_tree.specs.Seen.{the_name, the_operator, the_constant, the_object, the_expression, the_operations, the_term, the_call, the_arguments, the_value, unbox, the_statement, the_row, the_choice, the_statements, the_form, the_subroutine}
 use Rattle.jack_tree.specs.declared.tree.Name.{Name}
 use Rattle.jack_tree.specs.declared.tree.Operator.{Operator}
 use Rattle.jack_tree.specs.declared.tree.Operator.TheVariants as operator
@@ -99,7 +99,7 @@ mutual
   statement_same : (s : statements.Statement) → plain.statement_uses (the_statement s) ≡ all_points (code.statement_uses s)
   statement_same (statements.Let at x i e) =
       ap (λ (l : List plain.Use). plain.OfVariable (the_name x) ∷ l)
-      (both (code.optional_uses (unboxed i)) (code.exp_uses e) (plain.optional_uses (the_value (unboxed i))) (plain.expression_uses (the_expression e)) (optional_same (unboxed i)) (expression_same e))
+      (both (code.optional_uses (unbox i)) (code.exp_uses e) (plain.optional_uses (the_value (unbox i))) (plain.expression_uses (the_expression e)) (optional_same (unbox i)) (expression_same e))
   statement_same (statements.If' at e n a b) = choice_same at e (code.block_uses a) (the_row a) (block_same a) b
   statement_same (statements.While' at e n a) = both (code.exp_uses e) (code.block_uses a) (plain.expression_uses (the_expression e)) (plain.statements_uses (the_row a)) (expression_same e) (block_same a)
   statement_same (statements.Do at c) = call_same c

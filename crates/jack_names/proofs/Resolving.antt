@@ -16,8 +16,8 @@ use Rattle.jack_tree.specs.declared.tree.Locals.{Locals}
 use Rattle.jack_tree.specs.declared.tree.Parameter.{Parameter}
 use Rattle.jack_tree.specs.declared.tree.Subroutine.{Subroutine}
 use Rattle.jack_tree.specs.declared.tree.Class.{Class}
-use Rattle.jack_names.specs.Tables.{found, first_of}
-use Rattle.jack_names.specs.Faults.{Told, Source, told_in, told_if, first_in}
+use Rattle.jack_names.specs.Tables.{find_value, first_of}
+use Rattle.jack_names.specs.Faults.{NameDiagnostic, Source, diagnostic_in, diagnostic_if, first_in}
 use Rattle.jack_names.specs.Inner.Uses as code
 use Rattle.jack_names.specs.Using as plain
 use Rattle.jack_names.specs.Inner.Scopes as scoped
@@ -57,7 +57,7 @@ IsSignature _ _ = ⊥
 -- a class, by the subroutines that the number of it leads to
 abbrev pub IsClass : (ℕ → List ℕ → Option Signature) → Option ℕ → Option tree.ClassFile → Type 0
 IsClass sub None None = Unit {0}
-IsClass sub (Some k) (Some c) = (f : List ℕ) → IsSignature (sub k f) (plain.named title f c.class.subroutines)
+IsClass sub (Some k) (Some c) = (f : List ℕ) → IsSignature (sub k f) (plain.find_named title f c.class.subroutines)
 IsClass sub _ _ = ⊥
 
 pub function_same : (f : Form) → scoped.is_function f ≡ is_function (the_form f)
@@ -70,16 +70,16 @@ method_same form.Constructor = refl
 method_same form.Function = refl
 method_same form.Method = refl
 
-told_kind : (b : Bool) (kind : NameKind) (from : Source) (name : List ℕ) (at : Place) → told_if from name at (scoped.kind_if b kind) ≡ fails_if b (told_in from name at kind)
+told_kind : (b : Bool) (kind : NameKind) (from : Source) (name : List ℕ) (at : Place) → diagnostic_if from name at (scoped.kind_if b kind) ≡ fails_if b (diagnostic_in from name at kind)
 told_kind true kind from name at = refl
 told_kind false kind from name at = refl
 
-told_first : (from : Source) (name : List ℕ) (at : Place) (a b : Option NameKind) → told_if from name at (first_of a b) ≡ first_of (told_if from name at a) (told_if from name at b)
+told_first : (from : Source) (name : List ℕ) (at : Place) (a b : Option NameKind) → diagnostic_if from name at (first_of a b) ≡ first_of (diagnostic_if from name at a) (diagnostic_if from name at b)
 told_first from name at None b = refl
 told_first from name at (Some k) b = refl
 
 way_told : (from : Source) (f : tree.Name) (w : Way) (g : Form) (s : tree.Subroutine) → the_form g ≡ s.form
-    → told_if from f.text f.place (scoped.way_kind w g) ≡ first_of (fails_if (wrong_method w (Some s)) (told_at from kinds.MethodByClass f)) (fails_if (wrong_function w (Some s)) (told_at from kinds.FunctionByObject f))
+    → diagnostic_if from f.text f.place (scoped.way_kind w g) ≡ first_of (fails_if (wrong_method w (Some s)) (told_at from kinds.MethodByClass f)) (fails_if (wrong_function w (Some s)) (told_at from kinds.FunctionByObject f))
 way_told from f way.ByClass g s e =
     told_kind (scoped.is_method g) kinds.MethodByClass from f.text f.place ∙ ap (λ (b : Bool). fails_if b (told_at from kinds.MethodByClass f)) (method_same g ∙ ap is_method e)
     ∙ sym (first_none (fails_if (is_method s.form) (told_at from kinds.MethodByClass f)))
@@ -90,15 +90,15 @@ way_told from f way.Own g s e =
 
 -- a call of a subroutine, and then what is wrong with a call without class or variable
 called_told : (from : Source) (f : tree.Name) (n : ℕ) (w : Way) (form : Form) (o : Option Signature) (p : Option tree.Subroutine) → IsSignature o p
-    → told_if from f.text f.place (scoped.signature_kind form w n o) ≡ first_of (called from f n w p) (told_if from f.text f.place (scoped.own_kind w form))
+    → diagnostic_if from f.text f.place (scoped.signature_kind form w n o) ≡ first_of (called from f n w p) (diagnostic_if from f.text f.place (scoped.own_kind w form))
 called_told from f n w form None None h = refl
 called_told from f n w form None (Some s) h = absurd h
 called_told from f n w form (Some g) None h = absurd h
 called_told from f n w form (Some g) (Some s) h =
     let own : Option NameKind = scoped.own_kind w form in
-    let t : Option NameKind → Option Told = told_if from f.text f.place in
-    let a : Option Told = fails_if (miscounts n (Some s)) (told_at from kinds.ArgumentCount f) in
-    let b : Option Told = first_of (fails_if (wrong_method w (Some s)) (told_at from kinds.MethodByClass f)) (fails_if (wrong_function w (Some s)) (told_at from kinds.FunctionByObject f)) in
+    let t : Option NameKind → Option NameDiagnostic = diagnostic_if from f.text f.place in
+    let a : Option NameDiagnostic = fails_if (miscounts n (Some s)) (told_at from kinds.ArgumentCount f) in
+    let b : Option NameDiagnostic = first_of (fails_if (wrong_method w (Some s)) (told_at from kinds.MethodByClass f)) (fails_if (wrong_function w (Some s)) (told_at from kinds.FunctionByObject f)) in
     let count : t (scoped.count_kind n g) ≡ a =
     told_kind (not (g.parameters == n)) kinds.ArgumentCount from f.text f.place ∙ ap (λ (k : ℕ). fails_if (not (k == n)) (told_at from kinds.ArgumentCount f)) h.1 in
     told_first from f.text f.place (scoped.count_kind n g) (first_of (scoped.way_kind w g.form) own)
@@ -107,10 +107,10 @@ called_told from f n w form (Some g) (Some s) h =
 
 -- a call that the text does not write: its name is the subroutine's, where the class is there
 abbrev IsKept : Source → List ℕ → List ℕ → Place → Option NameKind → Type 0
-IsKept from c f at o = scoped.made_told from c f at o ≡ told_if from f at o
+IsKept from c f at o = scoped.made_diagnostic from c f at o ≡ diagnostic_if from f at o
 
 kept_if : (from : Source) (c f : List ℕ) (at : Place) (b : Bool) (kind : NameKind) → scoped.made_name c f kind ≡ f → IsKept from c f at (scoped.kind_if b kind)
-kept_if from c f at true kind e = ap (λ (z : List ℕ). Some (told_in from z at kind)) e
+kept_if from c f at true kind e = ap (λ (z : List ℕ). Some (diagnostic_in from z at kind)) e
 kept_if from c f at false kind e = refl
 
 kept_first : (from : Source) (c f : List ℕ) (at : Place) (a b : Option NameKind) → IsKept from c f at a → IsKept from c f at b → IsKept from c f at (first_of a b)
@@ -138,14 +138,14 @@ not_own w = (form : Form) → scoped.own_kind w form ≡ None
 
 -- a call through a class or an object has nothing more
 plain_call : (from : Source) (f : tree.Name) (n : ℕ) (w : Way) (form : Form) (o : Option Signature) (p : Option tree.Subroutine) → not_own w → IsSignature o p
-    → told_if from f.text f.place (scoped.signature_kind form w n o) ≡ called from f n w p
+    → diagnostic_if from f.text f.place (scoped.signature_kind form w n o) ≡ called from f n w p
 plain_call from f n w form o p other h =
-    called_told from f n w form o p h ∙ ap (λ (k : Option NameKind). first_of (called from f n w p) (told_if from f.text f.place k)) (other form) ∙ first_none (called from f n w p)
+    called_told from f n w form o p h ∙ ap (λ (k : Option NameKind). first_of (called from f n w p) (diagnostic_if from f.text f.place k)) (other form) ∙ first_none (called from f n w p)
 
 module _ (own os : List tree.ClassFile) where
   -- a call that is made by itself
   pub made_same : (from : Source) (m : plain.Made) (s : scoped.Scope) → ((form : Form) → scoped.own_kind m.way form ≡ None) → (o : Option ℕ) (p : Option tree.ClassFile) → class_of own os m.class ≡ p → IsClass s.subroutine o p
-      → scoped.made_told from m.class m.name m.place (scoped.made_kind s m.way m.name m.arguments o) ≡ made own os from m
+      → scoped.made_diagnostic from m.class m.name m.place (scoped.made_kind s m.way m.name m.arguments o) ≡ made own os from m
   made_same from m s other None None e h =
       let name : tree.Name = record { text = m.class; place = m.place } in
       let f : tree.Name = record { text = m.name; place = m.place } in
@@ -156,7 +156,7 @@ module _ (own os : List tree.ClassFile) where
       let name : tree.Name = record { text = m.class; place = m.place } in
       let f : tree.Name = record { text = m.name; place = m.place } in
       kept_call from m.class m.name m.place m.arguments m.way s.form (s.subroutine k m.name)
-      ∙ plain_call from f m.arguments m.way s.form (s.subroutine k m.name) (plain.named title m.name c.class.subroutines) other (h m.name)
+      ∙ plain_call from f m.arguments m.way s.form (s.subroutine k m.name) (plain.find_named title m.name c.class.subroutines) other (h m.name)
       ∙ ap (λ (z : Option tree.ClassFile). first_of (fails_if (is_none z) (told_at from kinds.UnknownClass name)) (called_at from f m.arguments (through m.way z))) (sym e)
 
   -- a variable, as the code's tables have it
@@ -168,40 +168,40 @@ module _ (own os : List tree.ClassFile) where
   -- a body, as the code's scope has it
   pub record IsBody (s : scoped.Scope) (b : plain.Body) : Type 0 where
     pub form : the_form s.form ≡ b.form
-    pub variable : (x : List ℕ) → IsVariable s.subroutine (s.variable x) (plain.named variable_title x b.variables)
+    pub variable : (x : List ℕ) → IsVariable s.subroutine (s.variable x) (plain.find_named variable_title x b.variables)
     pub class : (x : List ℕ) → IsClass s.subroutine (s.class x) (class_of own os x)
-    pub own_class : (f : List ℕ) → IsSignature (s.subroutine s.own f) (plain.named title f b.siblings)
+    pub own_class : (f : List ℕ) → IsSignature (s.subroutine s.own f) (plain.find_named title f b.siblings)
 
   -- a field in a function
-  field_told : (from : Source) (x : Name) (c d : Bool) → told_if from x.text x.place (if c then scoped.kind_if d kinds.FieldInFunction else None) ≡ fails_if (c && d) (told_at from kinds.FieldInFunction (the_name x))
+  field_told : (from : Source) (x : Name) (c d : Bool) → diagnostic_if from x.text x.place (if c then scoped.kind_if d kinds.FieldInFunction else None) ≡ fails_if (c && d) (told_at from kinds.FieldInFunction (the_name x))
   field_told from x true true = refl
   field_told from x true false = refl
   field_told from x false d = refl
 
   field_same : (from : Source) (x : Name) (s : scoped.Scope) (b : plain.Body) → the_form s.form ≡ b.form → (v : Declared) (w : plain.Variable) → scoped.is_field v.slot ≡ w.is_field
-      → told_if from x.text x.place (scoped.field_kind s.form v) ≡ fails_if (field_in b (Some w)) (told_at from kinds.FieldInFunction (the_name x))
+      → diagnostic_if from x.text x.place (scoped.field_kind s.form v) ≡ fails_if (field_in b (Some w)) (told_at from kinds.FieldInFunction (the_name x))
   field_same from x s b f v w e =
       field_told from x (scoped.is_function s.form) (scoped.is_field v.slot)
       ∙ (λ i. fails_if ((function_same s.form ∙ ap is_function f) i && e i) (told_at from kinds.FieldInFunction (the_name x)))
 
-  no_field : (c : Bool) (t : Told) → fails_if (c && false) t ≡ None
+  no_field : (c : Bool) (t : NameDiagnostic) → fails_if (c && false) t ≡ None
   no_field true t = refl
   no_field false t = refl
 
   variable_same : (from : Source) (x : Name) (s : scoped.Scope) (b : plain.Body) → the_form s.form ≡ b.form → (o : Option Declared) (p : Option plain.Variable) → IsVariable s.subroutine o p
-      → told_if from x.text x.place (scoped.variable_kind s.form o) ≡ first_of (fails_if (is_none p) (told_at from kinds.UnknownVariable (the_name x))) (fails_if (field_in b p) (told_at from kinds.FieldInFunction (the_name x)))
+      → diagnostic_if from x.text x.place (scoped.variable_kind s.form o) ≡ first_of (fails_if (is_none p) (told_at from kinds.UnknownVariable (the_name x))) (fails_if (field_in b p) (told_at from kinds.FieldInFunction (the_name x)))
   variable_same from x s b f None None h = refl
   variable_same from x s b f None (Some w) h = absurd h
   variable_same from x s b f (Some v) None h = absurd h
   variable_same from x s b f (Some v) (Some w) h = field_same from x s b f v w h.0
 
   -- a call through a front
-  abbrev front_points : Source → plain.Body → tree.Name → tree.Name → ℕ → Option plain.Variable → Option Target → Option Told
+  abbrev front_points : Source → plain.Body → tree.Name → tree.Name → ℕ → Option plain.Variable → Option Target → Option NameDiagnostic
   front_points from b x f n p t =
       first_of (first_of (fails_if (is_none t) (told_at from kinds.UnknownClass x)) (fails_if (field_in b p) (told_at from kinds.FieldInFunction x))) (called_at from f n t)
 
-  abbrev front_code : Source → scoped.Scope → Name → Name → ℕ → Option Declared → Option Callee → Option Told
-  front_code from s x f n o c = first_of (told_if from x.text x.place (scoped.front_by s.form o c)) (told_if from f.text f.place (scoped.called_kind s f.text n c))
+  abbrev front_code : Source → scoped.Scope → Name → Name → ℕ → Option Declared → Option Callee → Option NameDiagnostic
+  front_code from s x f n o c = first_of (diagnostic_if from x.text x.place (scoped.front_by s.form o c)) (diagnostic_if from f.text f.place (scoped.called_kind s f.text n c))
 
   by_class_same : (from : Source) (x f : Name) (n : ℕ) (s : scoped.Scope) (b : plain.Body) (k : Option ℕ) (c : Option tree.ClassFile) → IsClass s.subroutine k c
       → front_code from s x f n None (scoped.through way.ByClass k) ≡ front_points from b (the_name x) (the_name f) n None (through way.ByClass c)
@@ -209,8 +209,8 @@ module _ (own os : List tree.ClassFile) where
   by_class_same from x f n s b None (Some c) h = absurd h
   by_class_same from x f n s b (Some k) None h = absurd h
   by_class_same from x f n s b (Some k) (Some c) h =
-      plain_call from (the_name f) n way.ByClass s.form (s.subroutine k f.text) (plain.named title f.text c.class.subroutines) (λ g. refl) (h f.text)
-      ∙ ap (λ (o : Option Told). first_of o (called from (the_name f) n way.ByClass (plain.named title f.text c.class.subroutines))) (sym (no_field (is_function b.form) (told_at from kinds.FieldInFunction (the_name x))))
+      plain_call from (the_name f) n way.ByClass s.form (s.subroutine k f.text) (plain.find_named title f.text c.class.subroutines) (λ g. refl) (h f.text)
+      ∙ ap (λ (o : Option NameDiagnostic). first_of o (called from (the_name f) n way.ByClass (plain.find_named title f.text c.class.subroutines))) (sym (no_field (is_function b.form) (told_at from kinds.FieldInFunction (the_name x))))
 
   by_object_same : (from : Source) (x f : Name) (n : ℕ) (s : scoped.Scope) (b : plain.Body) → the_form s.form ≡ b.form → (v : Declared) (w : plain.Variable) → scoped.is_field v.slot ≡ w.is_field
       → (k : Option ℕ) (c : Option tree.ClassFile) → IsClass s.subroutine k c
@@ -220,7 +220,7 @@ module _ (own os : List tree.ClassFile) where
   by_object_same from x f n s b g v w e (Some k) None h = absurd h
   by_object_same from x f n s b g v w e (Some k) (Some c) h =
       λ i. first_of (field_same from x s b g v w e i)
-      (plain_call from (the_name f) n way.ByObject s.form (s.subroutine k f.text) (plain.named title f.text c.class.subroutines) (λ g. refl) (h f.text) i)
+      (plain_call from (the_name f) n way.ByObject s.form (s.subroutine k f.text) (plain.find_named title f.text c.class.subroutines) (λ g. refl) (h f.text) i)
 
   front_same : (from : Source) (x f : Name) (n : ℕ) (s : scoped.Scope) (b : plain.Body) → IsBody s b → (o : Option Declared) (p : Option plain.Variable) → IsVariable s.subroutine o p
       → front_code from s x f n o (scoped.callee_by o (s.class x.text)) ≡ front_points from b (the_name x) (the_name f) n p (front_target own os p (the_name x))
@@ -229,16 +229,16 @@ module _ (own os : List tree.ClassFile) where
   front_same from x f n s b is (Some v) None h = absurd h
   front_same from x f n s b is (Some v) (Some w) h = by_object_same from x f n s b is.form v w h.0 v.class (type_class own os w.type) h.1
 
-  kind_told : (from : Source) (c f : List ℕ) (at : Place) (o : Option NameKind) → kind_of (scoped.made_told from c f at o) ≡ o
+  kind_told : (from : Source) (c f : List ℕ) (at : Place) (o : Option NameKind) → kind_of (scoped.made_diagnostic from c f at o) ≡ o
   kind_told from c f at None = refl
   kind_told from c f at (Some k) = refl
 
-  if_lesser : (b : Bool) (n a : Option Told) → (if b then a else n) ≡ lesser_of b n a
+  if_lesser : (b : Bool) (n a : Option NameDiagnostic) → (if b then a else n) ≡ lesser_of b n a
   if_lesser true n a = refl
   if_lesser false n a = refl
 
   -- the calls that fill a string
-  filled_same : (s : scoped.Scope) (b : plain.Body) → IsBody s b → (text : List ℕ) (at : Place) → scoped.made_told s.source (codes "String") (codes "appendChar") at (scoped.append_kind s text) ≡ all_made own os s.source (plain.filled text at)
+  filled_same : (s : scoped.Scope) (b : plain.Body) → IsBody s b → (text : List ℕ) (at : Place) → scoped.made_diagnostic s.source (codes "String") (codes "appendChar") at (scoped.append_kind s text) ≡ all_made own os s.source (plain.filled_parts text at)
   filled_same s b is [] at = refl
   filled_same s b is (c ∷ text) at =
       let m : plain.Made = record { way = way.ByObject; class = codes "String"; name = codes "appendChar"; arguments = 1; place = at } in
@@ -247,10 +247,10 @@ module _ (own os : List tree.ClassFile) where
   string_same : (s : scoped.Scope) (b : plain.Body) → IsBody s b → (t : Name) → scoped.string_fault s t.text t.place ≡ point own os s.source b (plain.OfString (the_name t))
   string_same s b is t =
       let m : plain.Made = plain.by_class (codes "String") (codes "new") 1 t.place in
-      let n : Option Told = scoped.made_told s.source (codes "String") (codes "new") t.place (scoped.new_kind s) in
-      let a : Option Told = scoped.made_told s.source (codes "String") (codes "appendChar") t.place (scoped.append_kind s t.text) in
+      let n : Option NameDiagnostic = scoped.made_diagnostic s.source (codes "String") (codes "new") t.place (scoped.new_kind s) in
+      let a : Option NameDiagnostic = scoped.made_diagnostic s.source (codes "String") (codes "appendChar") t.place (scoped.append_kind s t.text) in
       let first : n ≡ made own os s.source m = made_same s.source m s (λ g. refl) (s.class (codes "String")) (class_of own os (codes "String")) refl (is.class (codes "String")) in
-      let second : a ≡ all_made own os s.source (plain.filled t.text t.place) = filled_same s b is t.text t.place in
+      let second : a ≡ all_made own os s.source (plain.filled_parts t.text t.place) = filled_same s b is t.text t.place in
       if_lesser (scoped.is_lesser (scoped.new_kind s) (scoped.append_kind s t.text)) n a
       ∙ (λ i. lesser_of (scoped.is_lesser (sym (kind_told s.source (codes "String") (codes "new") t.place (scoped.new_kind s)) i) (sym (kind_told s.source (codes "String") (codes "appendChar") t.place (scoped.append_kind s t.text)) i)) n a)
       ∙ (λ i. lesser (first i) (second i))
@@ -263,23 +263,23 @@ module _ (own os : List tree.ClassFile) where
       ∙ ap (λ (c : Bool). fails_if c (told_at s.source kinds.ThisInFunction (this_at at))) (function_same s.form ∙ ap is_function is.form)
       ∙ sym (first_none (point own os s.source b (plain.OfThis at)))
   use_same s b is (code.Calls None f n) =
-      let p : Option tree.Subroutine = plain.named title f.text b.siblings in
+      let p : Option tree.Subroutine = plain.find_named title f.text b.siblings in
       called_told s.source (the_name f) n way.Own s.form (s.subroutine s.own f.text) p (is.own_class f.text)
-      ∙ ap (λ (o : Option Told). first_of (called s.source (the_name f) n way.Own p) o)
+      ∙ ap (λ (o : Option NameDiagnostic). first_of (called s.source (the_name f) n way.Own p) o)
       (told_kind (scoped.is_function s.form) kinds.OwnInFunction s.source f.text f.place ∙ ap (λ (c : Bool). fails_if c (told_at s.source kinds.OwnInFunction (the_name f))) (function_same s.form ∙ ap is_function is.form))
       ∙ sym (first_none (point own os s.source b (plain.OfCall None (the_name f) n)))
   use_same s b is (code.Calls (Some x) f n) =
-      let c : Option Told = called_at s.source (the_name f) n (target own os b (Some (the_name x))) in
+      let c : Option NameDiagnostic = called_at s.source (the_name f) n (target own os b (Some (the_name x))) in
       front_same s.source x f n s b is (s.variable x.text) (variable_of b (the_name x)) (is.variable x.text)
-      ∙ ap (λ (o : Option Told). first_of (point own os s.source b (plain.OfFront (the_name x))) o) (sym (first_none c) ∙ sym (first_none (first_of c None)))
+      ∙ ap (λ (o : Option NameDiagnostic). first_of (point own os s.source b (plain.OfFront (the_name x))) o) (sym (first_none c) ∙ sym (first_none (first_of c None)))
   use_same s b is (code.Makes c f n at) =
       let m : plain.Made = plain.by_class c f n at in
       made_same s.source m s (λ g. refl) (s.class c) (class_of own os c) refl (is.class c) ∙ sym (first_none (made own os s.source m))
   use_same s b is (code.Text t) = string_same s b is t ∙ sym (first_none (point own os s.source b (plain.OfString (the_name t))))
 
-  first_in-append : {A : Type 0} (f : A → Option Told) (xs ys : List A) → first_in f (xs ++ ys) ≡ first_of (first_in f xs) (first_in f ys)
+  first_in-append : {A : Type 0} (f : A → Option NameDiagnostic) (xs ys : List A) → first_in f (xs ++ ys) ≡ first_of (first_in f xs) (first_in f ys)
   first_in-append f [] ys = refl
-  first_in-append f (x ∷ xs) ys = ap (λ (o : Option Told). first_of (f x) o) (first_in-append f xs ys) ∙ sym (first_assoc (f x) (first_in f xs) (first_in f ys))
+  first_in-append f (x ∷ xs) ys = ap (λ (o : Option NameDiagnostic). first_of (f x) o) (first_in-append f xs ys) ∙ sym (first_assoc (f x) (first_in f xs) (first_in f ys))
 
   points_same : (s : scoped.Scope) (b : plain.Body) → IsBody s b → (us : List code.Use) → scoped.first_fault s us ≡ first_in (point own os s.source b) (all_points us)
   points_same s b is [] = refl
@@ -307,13 +307,13 @@ module _ (own os : List tree.ClassFile) where
     either_by true v w o p h k = h
     either_by false v w o p h k = k
 
-    entered_found : (es : List (List ℕ × Declared)) (vs : List plain.Variable) → Entered es vs → (x : List ℕ) → IsVariable sy.subroutine (found x es) (plain.named variable_title x vs)
+    entered_found : (es : List (List ℕ × Declared)) (vs : List plain.Variable) → Entered es vs → (x : List ℕ) → IsVariable sy.subroutine (find_value x es) (plain.find_named variable_title x vs)
     entered_found [] [] h x = tt
     entered_found [] (v ∷ vs) h x = absurd h
     entered_found (e ∷ es) [] h x = absurd h
     entered_found (e ∷ es) (v ∷ vs) h x =
-        subst (λ (z : List ℕ). IsVariable sy.subroutine (found x (e ∷ es)) (if bytes_eq x z then Some v else plain.named variable_title x vs)) h.0
-        (either_by (bytes_eq x e.0) e.1 v (found x es) (plain.named variable_title x vs) h.1 (entered_found es vs h.2 x))
+        subst (λ (z : List ℕ). IsVariable sy.subroutine (find_value x (e ∷ es)) (if bytes_eq x z then Some v else plain.find_named variable_title x vs)) h.0
+        (either_by (bytes_eq x e.0) e.1 v (find_value x es) (plain.find_named variable_title x vs) h.1 (entered_found es vs h.2 x))
 
     entered-append : (es fs : List (List ℕ × Declared)) (vs ws : List plain.Variable) → Entered es vs → Entered fs ws → Entered (es ++ fs) (vs ++ ws)
     entered-append [] fs [] ws h k = k
@@ -348,7 +348,7 @@ module _ (own os : List tree.ClassFile) where
         (map (plain.variable false (the_type v.kind)) (plain.all_names (the_names v.names))) (plain.locals (map the_locals vs))
         (line_entered slot.Local false (λ k. refl) v.kind k (names_of v.names)) (locals_entered (k + length (names_of v.names)) vs)
 
-    pub body_is : (shipped : Bool) (number statics : ℕ) (c : Class) → ((f : List ℕ) → IsSignature (sy.subroutine number f) (plain.named title f (map the_subroutine c.subroutines.items)))
+    pub body_is : (shipped : Bool) (number statics : ℕ) (c : Class) → ((f : List ℕ) → IsSignature (sy.subroutine number f) (plain.find_named title f (map the_subroutine c.subroutines.items)))
         → (t : Subroutine) → IsBody (symbol.scope_in (symbol.class_scope sy shipped number statics c) t) (plain.body (the_class c) (the_subroutine t))
     body_is shipped number statics c h t =
         let es : List (List ℕ × Declared) = symbol.variable_entries sy t in
@@ -362,7 +362,7 @@ module _ (own os : List tree.ClassFile) where
         (members_entered 0 statics c.variables.items) in
         record {
           form = refl;
-          variable = λ x. subst (λ (o : Option Declared). IsVariable sy.subroutine o (plain.named variable_title x (vs ++ ws))) (found-append x es fs) (entered_found (es ++ fs) (vs ++ ws) all x);
+          variable = λ x. subst (λ (o : Option Declared). IsVariable sy.subroutine o (plain.find_named variable_title x (vs ++ ws))) (found-append x es fs) (entered_found (es ++ fs) (vs ++ ws) all x);
           class = classes;
           own_class = h;
         }

@@ -4,9 +4,9 @@ use Rattle.std.specs.Str.{bytes_eq}
 use Rattle.scan_text.specs.declared.Place.{Place}
 use Rattle.jack_tree.specs.Syntax as tree
 use Rattle.jack_names.specs.Tables.{first_of, is_among}
-use Rattle.jack_names.specs.Faults.{Told, Source, first_in}
+use Rattle.jack_names.specs.Faults.{NameDiagnostic, Source, first_in}
 use Rattle.jack_names.specs.Inner.Scopes.{is_lesser}
-use Rattle.jack_names.specs.Using.{named, Variable, members, inner, Made, by_class, filled, Use, OfVariable, OfFront, OfCall, OfThis, OfString, OfMade, Body, File, source, system_files, file}
+use Rattle.jack_names.specs.Using.{find_named, Variable, members, inner, Made, by_class, filled_parts, Use, OfVariable, OfFront, OfCall, OfThis, OfString, OfMade, Body, File, source, system_files, file}
 use Rattle.jack_names.specs.NameFaults.{names, told_at, no_main, made_name, class_of, variable_of, target, through, Target, subroutine_of}
 use Rattle.jack_names.specs.declared.fault.NameKind.{NameKind}
 use Rattle.jack_names.specs.declared.fault.NameKind.TheVariants as kinds
@@ -15,24 +15,24 @@ use Rattle.jack_names.specs.declared.scope.Way.TheVariants as way
 use Rattle.jack_names.proofs.Finding.{fails_if}
 
 -- names that stand before, or among those before
-abbrev pub twice : Source → NameKind → List (List ℕ) → List tree.Name → Option Told
+abbrev pub twice : Source → NameKind → List (List ℕ) → List tree.Name → Option NameDiagnostic
 twice source kind before [] = None
 twice source kind before (x ∷ xs) = first_of (fails_if (is_among x.text before) (told_at source kind x)) (twice source kind (before ++ x.text ∷ []) xs)
 
-abbrev pub subroutines_twice : Source → List (List ℕ) → List tree.Subroutine → Option Told
+abbrev pub subroutines_twice : Source → List (List ℕ) → List tree.Subroutine → Option NameDiagnostic
 subroutines_twice source before [] = None
 subroutines_twice source before (s ∷ ss) =
     first_of (first_of (fails_if (is_among s.name.text before) (told_at source kinds.MemberTwice s.name)) (twice source kinds.VariableTwice [] (names (inner s))))
     (subroutines_twice source (before ++ s.name.text ∷ []) ss)
 
-abbrev pub declaration : Bool → List (List ℕ) → tree.ClassFile → Option Told
+abbrev pub declaration : Bool → List (List ℕ) → tree.ClassFile → Option NameDiagnostic
 declaration shipped there c =
     first_of
     (first_of (fails_if (not (bytes_eq (c.class.name.text ++ codes ".jack") c.file)) (told_at (source shipped c) kinds.FileName c.class.name))
     (fails_if (is_among c.class.name.text there) (told_at (source shipped c) kinds.ClassTwice c.class.name)))
     (first_of (twice (source shipped c) kinds.MemberTwice [] (names (members c.class.variables))) (subroutines_twice (source shipped c) [] c.class.subroutines))
 
-abbrev pub declarations : Bool → List (List ℕ) → List tree.ClassFile → Option Told
+abbrev pub declarations : Bool → List (List ℕ) → List tree.ClassFile → Option NameDiagnostic
 declarations shipped there [] = None
 declarations shipped there (c ∷ cs) = first_of (declaration shipped there c) (declarations shipped (there ++ c.class.name.text ∷ []) cs)
 
@@ -63,13 +63,13 @@ wrong_function w None = false
 wrong_function way.ByClass (Some s) = false
 wrong_function _ (Some s) = not (is_method s.form)
 
-abbrev pub called : Source → tree.Name → ℕ → Way → Option tree.Subroutine → Option Told
+abbrev pub called : Source → tree.Name → ℕ → Way → Option tree.Subroutine → Option NameDiagnostic
 called source f n w o =
     first_of (fails_if (is_unknown o) (told_at source kinds.UnknownSubroutine f))
     (first_of (fails_if (miscounts n o) (told_at source kinds.ArgumentCount f))
     (first_of (fails_if (wrong_method w o) (told_at source kinds.MethodByClass f)) (fails_if (wrong_function w o) (told_at source kinds.FunctionByObject f))))
 
-abbrev pub called_at : Source → tree.Name → ℕ → Option Target → Option Told
+abbrev pub called_at : Source → tree.Name → ℕ → Option Target → Option NameDiagnostic
 called_at source f n None = None
 called_at source f n (Some t) = called source f n t.way (subroutine_of t f)
 
@@ -85,44 +85,44 @@ own_in b None = is_function b.form
 own_in b (Some x) = false
 
 -- the lesser kind of two
-abbrev pub lesser_of : Bool → Option Told → Option Told → Option Told
+abbrev pub lesser_of : Bool → Option NameDiagnostic → Option NameDiagnostic → Option NameDiagnostic
 lesser_of true a b = b
 lesser_of false a b = a
 
-abbrev pub kind_of : Option Told → Option NameKind
+abbrev pub kind_of : Option NameDiagnostic → Option NameKind
 kind_of None = None
 kind_of (Some t) = Some t.kind
 
-abbrev pub lesser : Option Told → Option Told → Option Told
+abbrev pub lesser : Option NameDiagnostic → Option NameDiagnostic → Option NameDiagnostic
 lesser a b = lesser_of (is_lesser (kind_of a) (kind_of b)) a b
 
 abbrev pub this_at : Place → tree.Name
 this_at at = record { text = codes "this"; place = at }
 
 module _ (own os : List tree.ClassFile) where
-  abbrev pub made : Source → Made → Option Told
+  abbrev pub made : Source → Made → Option NameDiagnostic
   made source m =
       first_of (fails_if (is_none (class_of own os m.class)) (told_at source kinds.UnknownClass (made_name m.class m)))
       (called_at source (made_name m.name m) m.arguments (through m.way (class_of own os m.class)))
 
-  abbrev pub all_made : Source → List Made → Option Told
+  abbrev pub all_made : Source → List Made → Option NameDiagnostic
   all_made source [] = None
   all_made source (m ∷ ms) = made source m
 
-  abbrev pub point : Source → Body → Use → Option Told
+  abbrev pub point : Source → Body → Use → Option NameDiagnostic
   point source b (OfVariable x) =
       first_of (fails_if (is_none (variable_of b x)) (told_at source kinds.UnknownVariable x)) (fails_if (field_in b (variable_of b x)) (told_at source kinds.FieldInFunction x))
   point source b (OfFront x) =
       first_of (fails_if (is_none (target own os b (Some x))) (told_at source kinds.UnknownClass x)) (fails_if (field_in b (variable_of b x)) (told_at source kinds.FieldInFunction x))
   point source b (OfCall o f n) = first_of (called_at source f n (target own os b o)) (fails_if (own_in b o) (told_at source kinds.OwnInFunction f))
   point source b (OfThis at) = fails_if (is_function b.form) (told_at source kinds.ThisInFunction (this_at at))
-  point source b (OfString t) = lesser (made source (by_class (codes "String") (codes "new") 1 t.place)) (all_made source (filled t.text t.place))
+  point source b (OfString t) = lesser (made source (by_class (codes "String") (codes "new") 1 t.place)) (all_made source (filled_parts t.text t.place))
   point source b (OfMade m) = made source m
 
-  abbrev pub body_faults : Source → Body → Option Told
+  abbrev pub body_faults : Source → Body → Option NameDiagnostic
   body_faults source b = first_in (point source b) b.uses
 
-  abbrev pub file_faults : File → Option Told
+  abbrev pub file_faults : File → Option NameDiagnostic
   file_faults f = first_in (body_faults f.source) f.bodies
 
   abbrev pub is_plain : Option tree.Subroutine → Bool
@@ -131,12 +131,12 @@ module _ (own os : List tree.ClassFile) where
 
   abbrev pub main_of : Option tree.ClassFile → Option tree.Subroutine
   main_of None = None
-  main_of (Some c) = named (λ s. s.name.text) (codes "main") c.class.subroutines
+  main_of (Some c) = find_named (λ s. s.name.text) (codes "main") c.class.subroutines
 
   abbrev pub has_main : Bool
   has_main = is_plain (main_of (class_of own os (codes "Main")))
 
-  abbrev pub all_faults : Option Told
+  abbrev pub all_faults : Option NameDiagnostic
   all_faults =
       first_of (first_of (declarations false (map (λ c. c.class.name.text) os) own) (declarations true [] os))
       (first_of (fails_if (not has_main) no_main) (first_of (first_in file_faults (map (file false) own)) (first_in file_faults (system_files os))))

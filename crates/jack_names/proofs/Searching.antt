@@ -4,9 +4,9 @@ use Rattle.std.specs.Bool.{Decides}
 use Rattle.std.proofs.lemmas.Bool.Decides.{Decides-eqb, Decides-ltb, Decides-like, Decides-not, Decides-and, not_from_Decides}
 use Rattle.scan_text.specs.declared.Place.{Place}
 use Rattle.jack_tree.specs.Syntax as tree
-use Rattle.jack_names.specs.Faults.{Told, Source, first_in}
+use Rattle.jack_names.specs.Faults.{NameDiagnostic, Source, first_in}
 use Rattle.jack_names.specs.Faults.{kind_number}
-use Rattle.jack_names.specs.Using.{Variable, Made, by_class, filled, made_calls, Use, OfVariable, OfFront, OfCall, OfThis, OfString, OfMade, Body, File}
+use Rattle.jack_names.specs.Using.{Variable, Made, by_class, filled_parts, made_calls, Use, OfVariable, OfFront, OfCall, OfThis, OfString, OfMade, Body, File}
 use Rattle.jack_names.specs.NameFaults.{told_at, made_name, class_of, variable_of, target, through, Target, subroutine_of, Calls, Written, ByItself, Front, Lacking, Alone, BeforeDot, Misused, UnknownVariable, UnknownClass, UnknownSubroutine, ArgumentCount, MethodByClass, FunctionByObject, ThisInFunction, FieldInFunction, OwnInFunction}
 use Rattle.jack_names.specs.FaultOrder.{IsLess}
 use Rattle.jack_names.specs.declared.fault.NameKind.{NameKind}
@@ -96,7 +96,7 @@ finds_target source f n k None = FindsNone (λ key t x. x)
 finds_target source f n k (Some t) = finds_call source f n t.way k (subroutine_of t f)
 
 -- its kinds are 7 to 10
-target_keys : (source : Source) (f : tree.Name) (n k : ℕ) (o : Option Target) (key : List ℕ) (t : Told) → TargetF source f n k o key t
+target_keys : (source : Source) (f : tree.Name) (n k : ℕ) (o : Option Target) (key : List ℕ) (t : NameDiagnostic) → TargetF source f n k o key t
     → (kind : NameKind) × (key ≡ kind_number kind ∷ k ∷ []) × (t ≡ told_at source kind f) × (6 < kind_number kind) × (kind_number kind < 11)
 target_keys source f n k None key t x = absurd x
 target_keys source f n k (Some g) key t (inl x) = (kinds.UnknownSubroutine, x.0, x.1, lit< tt, lit< tt)
@@ -107,7 +107,7 @@ target_keys source f n k (Some g) key t (inr (inr (inr x))) = (kinds.FunctionByO
 target_above : (source : Source) (f : tree.Name) (n k : ℕ) (o : Option Target) → AreAbove 6 (TargetF source f n k o)
 target_above source f n k o key t x = let p = target_keys source f n k o key t x in rw p.1 p.3
 
-target_below : (source : Source) (f : tree.Name) (n k : ℕ) (o : Option Target) (key key' : List ℕ) (t told t' : Told) (P : Type 0) → TargetF source f n k o key t → One kinds.OwnInFunction 0 told P key' t' → IsLess key key'
+target_below : (source : Source) (f : tree.Name) (n k : ℕ) (o : Option Target) (key key' : List ℕ) (t told t' : NameDiagnostic) (P : Type 0) → TargetF source f n k o key t → One kinds.OwnInFunction 0 told P key' t' → IsLess key key'
 target_below source f n k o key key' t told t' P x y = let p = target_keys source f n k o key t x in let e = y.0 in rw (p.1, e) (inl (omega arith))
 
 abbrev FieldIn : Body → tree.Name → Option Variable → Type 0
@@ -135,26 +135,26 @@ tie m n e =
     elim (split m n (omega arith)) [ inl h ↦ inl h | inr q ↦ inr (q, inl (omega arith)) ]
 
 -- two calls at one place: the lesser kind first, and of one kind the first call
-module _ {F G : Faults} (first : (k : List ℕ) (t : Told) → F k t → k ≡ kind_number t.kind ∷ 0 ∷ []) (second : (k : List ℕ) (t : Told) → G k t → k ≡ kind_number t.kind ∷ 1 ∷ []) where
-  key_at : Told → ℕ → List ℕ
+module _ {F G : Faults} (first : (k : List ℕ) (t : NameDiagnostic) → F k t → k ≡ kind_number t.kind ∷ 0 ∷ []) (second : (k : List ℕ) (t : NameDiagnostic) → G k t → k ≡ kind_number t.kind ∷ 1 ∷ []) where
+  key_at : NameDiagnostic → ℕ → List ℕ
   key_at t c = kind_number t.kind ∷ c ∷ []
 
   -- what comes behind what is behind
-  behind : (k l k' : List ℕ) (t t' : Told) → IsLess k l → (t' ≡ t → k' ≡ l) → (t' ≡ t) ⊎ IsLess l k' → IsLess k k'
+  behind : (k l k' : List ℕ) (t t' : NameDiagnostic) → IsLess k l → (t' ≡ t → k' ≡ l) → (t' ≡ t) ⊎ IsLess l k' → IsLess k k'
   behind k l k' t t' less same (inl e) = subst (IsLess k) (sym (same e)) less
   behind k l k' t t' less same (inr h) = less_trans k l k' less h
 
-  pick : (t s : Told) (k l : List ℕ) (c : Bool) → nat_lt (kind_number s.kind) (kind_number t.kind) ≡ c → F k t → G l s
-      → ((k' : List ℕ) (t' : Told) → F k' t' → (t' ≡ t) ⊎ IsLess k k') → ((k' : List ℕ) (t' : Told) → G k' t' → (t' ≡ s) ⊎ IsLess l k') → Finds (Either F G) (lesser_of c (Some t) (Some s))
+  pick : (t s : NameDiagnostic) (k l : List ℕ) (c : Bool) → nat_lt (kind_number s.kind) (kind_number t.kind) ≡ c → F k t → G l s
+      → ((k' : List ℕ) (t' : NameDiagnostic) → F k' t' → (t' ≡ t) ⊎ IsLess k k') → ((k' : List ℕ) (t' : NameDiagnostic) → G k' t' → (t' ≡ s) ⊎ IsLess l k') → Finds (Either F G) (lesser_of c (Some t) (Some s))
   pick t s k l true e x y f g =
       let less : kind_number s.kind < kind_number t.kind = (Decides-ltb (kind_number s.kind) (kind_number t.kind)).0 e in
       let step : IsLess l k = rw (first k t x, second l s y) (inl less) in
-      FindsSome l (inr y) (λ k' t'. elim [ inl z ↦ inr (behind l k k' t t' step (λ q. first k' t' z ∙ ap (λ (w : Told). kind_number w.kind ∷ 0 ∷ []) q ∙ sym (first k t x)) (f k' t' z)) | inr z ↦ g k' t' z ])
+      FindsSome l (inr y) (λ k' t'. elim [ inl z ↦ inr (behind l k k' t t' step (λ q. first k' t' z ∙ ap (λ (w : NameDiagnostic). kind_number w.kind ∷ 0 ∷ []) q ∙ sym (first k t x)) (f k' t' z)) | inr z ↦ g k' t' z ])
   pick t s k l false e x y f g =
       let step : IsLess k l = rw (first k t x, second l s y) (tie (kind_number t.kind) (kind_number s.kind) e) in
-      FindsSome k (inl x) (λ k' t'. elim [ inl z ↦ f k' t' z | inr z ↦ inr (behind k l k' s t' step (λ q. second k' t' z ∙ ap (λ (w : Told). kind_number w.kind ∷ 1 ∷ []) q ∙ sym (second l s y)) (g k' t' z)) ])
+      FindsSome k (inl x) (λ k' t'. elim [ inl z ↦ f k' t' z | inr z ↦ inr (behind k l k' s t' step (λ q. second k' t' z ∙ ap (λ (w : NameDiagnostic). kind_number w.kind ∷ 1 ∷ []) q ∙ sym (second l s y)) (g k' t' z)) ])
 
-  finds_lesser : {o p : Option Told} → Finds F o → Finds G p → Finds (Either F G) (lesser o p)
+  finds_lesser : {o p : Option NameDiagnostic} → Finds F o → Finds G p → Finds (Either F G) (lesser o p)
   finds_lesser (FindsNone f) (FindsNone g) = FindsNone (λ k t. elim [ inl x ↦ f k t x | inr x ↦ g k t x ])
   finds_lesser (FindsNone f) (FindsSome l y g) = FindsSome l (inr y) (λ k t. elim [ inl x ↦ absurd (f k t x) | inr x ↦ g k t x ])
   finds_lesser (FindsSome k x f) (FindsNone g) = FindsSome k (inl x) (λ k' t'. elim [ inl z ↦ f k' t' z | inr z ↦ absurd (g k' t' z) ])
@@ -171,10 +171,10 @@ module _ (own os : List tree.ClassFile) where
       let t : Option Target = through m.way (class_of own os m.class) in
       finds_before kinds.UnknownClass k _ (is_none (class_of own os m.class)) (none_decides (class_of own os m.class)) (finds_target source (made_name m.name m) m.arguments k t) (target_above source (made_name m.name m) m.arguments k t)
 
-  made_keys : (source : Source) (m : Made) (c : ℕ) (k : List ℕ) (t : Told) → MadeF source m c k t → k ≡ kind_number t.kind ∷ c ∷ []
-  made_keys source m c k t (inl x) = x.0 ∙ ap (λ (w : Told). kind_number w.kind ∷ c ∷ []) (sym x.1)
+  made_keys : (source : Source) (m : Made) (c : ℕ) (k : List ℕ) (t : NameDiagnostic) → MadeF source m c k t → k ≡ kind_number t.kind ∷ c ∷ []
+  made_keys source m c k t (inl x) = x.0 ∙ ap (λ (w : NameDiagnostic). kind_number w.kind ∷ c ∷ []) (sym x.1)
   made_keys source m c k t (inr x) =
-      let p = target_keys source (made_name m.name m) m.arguments c (through m.way (class_of own os m.class)) k t x in p.1 ∙ ap (λ (w : Told). kind_number w.kind ∷ c ∷ []) (sym p.2)
+      let p = target_keys source (made_name m.name m) m.arguments c (through m.way (class_of own os m.class)) k t x in p.1 ∙ ap (λ (w : NameDiagnostic). kind_number w.kind ∷ c ∷ []) (sym p.2)
 
   -- the second call of a string
   abbrev FilledF : Source → List Made → Faults
@@ -185,7 +185,7 @@ module _ (own os : List tree.ClassFile) where
   finds_filled source [] = FindsNone (λ k t x. x)
   finds_filled source (m ∷ ms) = finds_made source m 1
 
-  filled_keys : (source : Source) (ms : List Made) (k : List ℕ) (t : Told) → FilledF source ms k t → k ≡ kind_number t.kind ∷ 1 ∷ []
+  filled_keys : (source : Source) (ms : List Made) (k : List ℕ) (t : NameDiagnostic) → FilledF source ms k t → k ≡ kind_number t.kind ∷ 1 ∷ []
   filled_keys source [] k t x = absurd x
   filled_keys source (m ∷ ms) k t x = made_keys source m 1 k t x
 
@@ -199,7 +199,7 @@ module _ (own os : List tree.ClassFile) where
       Either (One kinds.UnknownClass 0 (told_at source kinds.UnknownClass x) (target own os b (Some x) ≡ None)) (One kinds.FieldInFunction 0 (told_at source kinds.FieldInFunction x) (FieldIn b x (variable_of b x)))
   UseF source b (OfCall o f n) = Either (TargetF source f n 0 (target own os b o)) (One kinds.OwnInFunction 0 (told_at source kinds.OwnInFunction f) ((o ≡ None) × (b.form ≡ tree.Function)))
   UseF source b (OfThis at) = One kinds.ThisInFunction 0 (told_at source kinds.ThisInFunction (this_at at)) (b.form ≡ tree.Function)
-  UseF source b (OfString t) = Either (MadeF source (string_made t) 0) (FilledF source (filled t.text t.place))
+  UseF source b (OfString t) = Either (MadeF source (string_made t) 0) (FilledF source (filled_parts t.text t.place))
   UseF source b (OfMade m) = MadeF source m 0
 
   finds_use : (source : Source) (b : Body) (u : Use) → Finds (UseF source b u) (point own os source b u)
@@ -214,29 +214,29 @@ module _ (own os : List tree.ClassFile) where
       (λ k k' t t' x y. target_below source f n 0 (target own os b o) k k' t (told_at source kinds.OwnInFunction f) t' ((o ≡ None) × (b.form ≡ tree.Function)) x y)
   finds_use source b (OfThis at) = finds_test kinds.ThisInFunction 0 _ (is_function b.form) (function_is b.form)
   finds_use source b (OfString t) =
-      finds_lesser (made_keys source (string_made t) 0) (filled_keys source (filled t.text t.place)) (finds_made source (string_made t) 0) (finds_filled source (filled t.text t.place))
+      finds_lesser (made_keys source (string_made t) 0) (filled_keys source (filled_parts t.text t.place)) (finds_made source (string_made t) 0) (finds_filled source (filled_parts t.text t.place))
   finds_use source b (OfMade m) = finds_made source m 0
 
   -- what is wrong with a use, with its order
   abbrev pub PointF : Source → Body → Use → Faults
   PointF source b u k t = (kind : NameKind) × (call : ℕ) × (x : tree.Name) × (k ≡ kind_number kind ∷ call ∷ []) × (t ≡ told_at source kind x) × Misused own os b u call kind x
 
-  target_to : (source : Source) (b : Body) (u : Use) (f : tree.Name) (n k : ℕ) (o : Option Target) (key : List ℕ) (t : Told) → ((g : Target) → o ≡ Some g → Calls own os b u k g f n) → TargetF source f n k o key t → PointF source b u key t
+  target_to : (source : Source) (b : Body) (u : Use) (f : tree.Name) (n k : ℕ) (o : Option Target) (key : List ℕ) (t : NameDiagnostic) → ((g : Target) → o ≡ Some g → Calls own os b u k g f n) → TargetF source f n k o key t → PointF source b u key t
   target_to source b u f n k None key t c x = absurd x
   target_to source b u f n k (Some g) key t c (inl x) = (kinds.UnknownSubroutine, k, f, x.0, x.1, UnknownSubroutine (c g refl) x.2)
   target_to source b u f n k (Some g) key t c (inr (inl x)) = (kinds.ArgumentCount, k, f, x.0, x.1, ArgumentCount (c g refl) x.2.1 x.2.2)
   target_to source b u f n k (Some g) key t c (inr (inr (inl x))) = (kinds.MethodByClass, k, f, x.0, x.1, MethodByClass (c g refl) x.2.1 x.2.2 x.2.3)
   target_to source b u f n k (Some g) key t c (inr (inr (inr x))) = (kinds.FunctionByObject, k, f, x.0, x.1, FunctionByObject (c g refl) x.2.1 x.2.2 x.2.3)
 
-  made_to : (source : Source) (b : Body) (u : Use) (m : Made) (k : ℕ) (key : List ℕ) (t : Told) → slice_get (made_calls u) k ≡ Some m → MadeF source m k key t → PointF source b u key t
+  made_to : (source : Source) (b : Body) (u : Use) (m : Made) (k : ℕ) (key : List ℕ) (t : NameDiagnostic) → slice_get (made_calls u) k ≡ Some m → MadeF source m k key t → PointF source b u key t
   made_to source b u m k key t e (inl x) = (kinds.UnknownClass, k, made_name m.class m, x.0, x.1, UnknownClass (Lacking e x.2))
   made_to source b u m k key t e (inr x) = target_to source b u (made_name m.name m) m.arguments k (through m.way (class_of own os m.class)) key t (λ g q. ByItself e q) x
 
-  filled_to : (source : Source) (b : Body) (u : Use) (ms : List Made) (key : List ℕ) (t : Told) → ((m : Made) → slice_get ms 0 ≡ Some m → slice_get (made_calls u) 1 ≡ Some m) → FilledF source ms key t → PointF source b u key t
+  filled_to : (source : Source) (b : Body) (u : Use) (ms : List Made) (key : List ℕ) (t : NameDiagnostic) → ((m : Made) → slice_get ms 0 ≡ Some m → slice_get (made_calls u) 1 ≡ Some m) → FilledF source ms key t → PointF source b u key t
   filled_to source b u [] key t h x = absurd x
   filled_to source b u (m ∷ ms) key t h x = made_to source b u m 1 key t (h m refl) x
 
-  use_to : (source : Source) (b : Body) (u : Use) (key : List ℕ) (t : Told) → UseF source b u key t → PointF source b u key t
+  use_to : (source : Source) (b : Body) (u : Use) (key : List ℕ) (t : NameDiagnostic) → UseF source b u key t → PointF source b u key t
   use_to source b (OfVariable x) key t (inl h) = (kinds.UnknownVariable, 0, x, h.0, h.1, UnknownVariable h.2)
   use_to source b (OfVariable x) key t (inr h) = (kinds.FieldInFunction, 0, x, h.0, h.1, FieldInFunction Alone h.2.1 h.2.2 h.2.3)
   use_to source b (OfFront x) key t (inl h) = (kinds.UnknownClass, 0, x, h.0, h.1, UnknownClass (Front h.2))
@@ -246,18 +246,18 @@ module _ (own os : List tree.ClassFile) where
   use_to source b (OfCall (Some x) f n) key t (inr h) = let e = h.2.0 in absurd cc
   use_to source b (OfThis at) key t h = (kinds.ThisInFunction, 0, this_at at, h.0, h.1, ThisInFunction h.2)
   use_to source b (OfString s) key t (inl h) = made_to source b (OfString s) (string_made s) 0 key t refl h
-  use_to source b (OfString s) key t (inr h) = filled_to source b (OfString s) (filled s.text s.place) key t (λ m q. q) h
+  use_to source b (OfString s) key t (inr h) = filled_to source b (OfString s) (filled_parts s.text s.place) key t (λ m q. q) h
   use_to source b (OfMade m) key t h = made_to source b (OfMade m) m 0 key t refl h
 
-  same_made : (source : Source) (m m' : Made) (k : ℕ) (key : List ℕ) (t : Told) → Some m' ≡ Some m → MadeF source m k key t → MadeF source m' k key t
+  same_made : (source : Source) (m m' : Made) (k : ℕ) (key : List ℕ) (t : NameDiagnostic) → Some m' ≡ Some m → MadeF source m k key t → MadeF source m' k key t
   same_made source m m' k key t e h = let q : m ≡ m' = cc in subst (λ (z : Made). MadeF source z k key t) q h
 
-  filled_back : (source : Source) (text : List ℕ) (at : Place) (k : ℕ) (m : Made) (key : List ℕ) (t : Told) → slice_get (filled text at) k ≡ Some m → MadeF source m (suc k) key t → FilledF source (filled text at) key t
+  filled_back : (source : Source) (text : List ℕ) (at : Place) (k : ℕ) (m : Made) (key : List ℕ) (t : NameDiagnostic) → slice_get (filled_parts text at) k ≡ Some m → MadeF source m (suc k) key t → FilledF source (filled_parts text at) key t
   filled_back source [] at k m key t e h = absurd cc
   filled_back source (c ∷ text) at zero m key t e h = same_made source m _ 1 key t e h
   filled_back source (c ∷ text) at (suc k) m key t e h = absurd cc
 
-  made_back : (source : Source) (b : Body) (u : Use) (k : ℕ) (m : Made) (key : List ℕ) (t : Told) → slice_get (made_calls u) k ≡ Some m → MadeF source m k key t → UseF source b u key t
+  made_back : (source : Source) (b : Body) (u : Use) (k : ℕ) (m : Made) (key : List ℕ) (t : NameDiagnostic) → slice_get (made_calls u) k ≡ Some m → MadeF source m k key t → UseF source b u key t
   made_back source b (OfString s) zero m key t e h = inl (same_made source m (string_made s) 0 key t e h)
   made_back source b (OfString s) (suc k) m key t e h = inr (filled_back source s.text s.place k m key t e h)
   made_back source b (OfMade m') zero m key t e h = same_made source m m' 0 key t e h
@@ -267,12 +267,12 @@ module _ (own os : List tree.ClassFile) where
   made_back source b (OfCall o f n) k m key t e h = absurd cc
   made_back source b (OfThis at) k m key t e h = absurd cc
 
-  call_back : (source : Source) (b : Body) (u : Use) (k : ℕ) (g : Target) (f : tree.Name) (n : ℕ) (key : List ℕ) (t : Told) → Calls own os b u k g f n → CallF source f n g.way k (subroutine_of g f) key t → UseF source b u key t
+  call_back : (source : Source) (b : Body) (u : Use) (k : ℕ) (g : Target) (f : tree.Name) (n : ℕ) (key : List ℕ) (t : NameDiagnostic) → Calls own os b u k g f n → CallF source f n g.way k (subroutine_of g f) key t → UseF source b u key t
   call_back source b _ _ g f n key t (Written e) h = inl (subst (λ (o : Option Target). TargetF source f n 0 o key t) (sym e) h)
   call_back source b u k g _ _ key t (ByItself {m} e q) h =
       made_back source b u k m key t e (inr (subst (λ (o : Option Target). TargetF source (made_name m.name m) m.arguments k o key t) (sym q) h))
 
-  use_back : (source : Source) (b : Body) (u : Use) (call : ℕ) (kind : NameKind) (x : tree.Name) (key : List ℕ) (t : Told) → key ≡ kind_number kind ∷ call ∷ [] → t ≡ told_at source kind x → Misused own os b u call kind x → UseF source b u key t
+  use_back : (source : Source) (b : Body) (u : Use) (call : ℕ) (kind : NameKind) (x : tree.Name) (key : List ℕ) (t : NameDiagnostic) → key ≡ kind_number kind ∷ call ∷ [] → t ≡ told_at source kind x → Misused own os b u call kind x → UseF source b u key t
   use_back source b _ _ _ _ key t p q (UnknownVariable e) = inl (p, q, e)
   use_back source b _ _ _ _ key t p q (UnknownClass (Front e)) = inl (p, q, e)
   use_back source b u k _ _ key t p q (UnknownClass (Lacking {m} e e')) = made_back source b u k m key t e (inl (p, q, e'))

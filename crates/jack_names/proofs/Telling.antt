@@ -3,7 +3,7 @@ use Rattle.std.proofs.Common.{map, List, Result, Ok, Err, sym, ◌∙◌}
 use Rattle.jack_core.specs.declared.program.Core.{Core}
 use Rattle.jack_tree.specs.declared.tree.Class.{Class}
 use Rattle.jack_tree.specs.Seen.{the_file}
-use Rattle.jack_names.specs.Faults.{fault_told}
+use Rattle.jack_names.specs.Faults.{diagnostic_of}
 use Rattle.jack_names.specs.Inner.Whole.{first_name_fault}
 use Rattle.jack_names.specs.Resolved.{Resolves, Tells}
 use Rattle.jack_names.specs.declared.fault.NameError.{NameError}
@@ -19,7 +19,7 @@ use Rattle.std.proofs.Common.{◌≡◌, IfOk}
 pub tells : (own os : List Class) (r : Result Core NameError) → Resolves (first_name_fault own os) r → Tells (map the_file own) (map the_file os) r
 tells own os (Ok core) h = (finds_none (map the_file own) (map the_file os)).0 (sym (search_same own os) ∙ h)
 tells own os (Err errors.Memory) h = tt
-tells own os (Err (errors.Fault f)) h = (finds_first (map the_file own) (map the_file os) (fault_told f)).0 (sym (search_same own os) ∙ h)
+tells own os (Err (errors.Fault f)) h = (finds_first (map the_file own) (map the_file os) (diagnostic_of f)).0 (sym (search_same own os) ∙ h)
 
 pub means : (own os : List Class) (r : Result Core NameError) → IfOk r (λ core. the_program core ≡ program_meant own os) → IfOk r (λ core. the_program core ≡ program_meaning (map the_file own) (map the_file os))
 means own os (Ok core) h = h ∙ program_same own os

@@ -6,8 +6,8 @@ use Rattle.jack_tree.specs.Syntax as tree
 use Rattle.jack_tree.specs.Seen.{the_parameter, the_subroutine, the_class, the_file}
 use Rattle.jack_tree.specs.declared.tree.Subroutine.{Subroutine}
 use Rattle.jack_tree.specs.declared.tree.Class.{Class}
-use Rattle.jack_names.specs.Tables.{found, first_of}
-use Rattle.jack_names.specs.Faults.{Told, first_in}
+use Rattle.jack_names.specs.Tables.{find_value, first_of}
+use Rattle.jack_names.specs.Faults.{NameDiagnostic, first_in}
 use Rattle.jack_names.specs.Using as plain
 use Rattle.jack_names.specs.Inner.Scopes as scoped
 use Rattle.jack_names.specs.Symbols as symbol
@@ -29,17 +29,17 @@ either_by : (b : Bool) (g : Signature) (s : tree.Subroutine) (o : Option Signatu
 either_by true g s o p h k = h
 either_by false g s o p h k = k
 
-signatures_same : (n : ℕ) (ss : List Subroutine) (f : List ℕ) → IsSignature (found f (symbol.signatures n ss)) (plain.named title f (map the_subroutine ss))
+signatures_same : (n : ℕ) (ss : List Subroutine) (f : List ℕ) → IsSignature (find_value f (symbol.signatures n ss)) (plain.find_named title f (map the_subroutine ss))
 signatures_same n [] f = tt
 signatures_same n (s ∷ ss) f =
-    either_by (bytes_eq f s.name.text) (record { number = n; form = s.form; parameters = length s.parameters.items }) (the_subroutine s) (found f (symbol.signatures (n + 1) ss)) (plain.named title f (map the_subroutine ss))
+    either_by (bytes_eq f s.name.text) (record { number = n; form = s.form; parameters = length s.parameters.items }) (the_subroutine s) (find_value f (symbol.signatures (n + 1) ss)) (plain.find_named title f (map the_subroutine ss))
     (refl, sym (length-map s.parameters.items the_parameter)) (signatures_same (n + 1) ss f)
 
 -- of the first class, and of the others
-first_class : (sy : symbol.Symbols) (n m : ℕ) (c : Class) (cs : List Class) → Numbered sy n m (c ∷ cs) → (f : List ℕ) → IsSignature (sy.subroutine n f) (plain.named title f (map the_subroutine c.subroutines.items))
+first_class : (sy : symbol.Symbols) (n m : ℕ) (c : Class) (cs : List Class) → Numbered sy n m (c ∷ cs) → (f : List ℕ) → IsSignature (sy.subroutine n f) (plain.find_named title f (map the_subroutine c.subroutines.items))
 first_class sy n m c cs h f =
-    let e : sy.subroutine n f ≡ found f (symbol.signatures m c.subroutines.items) = ap (λ (k : ℕ). sy.subroutine k f) (sym (add-zero n)) ∙ h 0 f in
-    subst (λ (o : Option Signature). IsSignature o (plain.named title f (map the_subroutine c.subroutines.items))) (sym e) (signatures_same m c.subroutines.items f)
+    let e : sy.subroutine n f ≡ find_value f (symbol.signatures m c.subroutines.items) = ap (λ (k : ℕ). sy.subroutine k f) (sym (add-zero n)) ∙ h 0 f in
+    subst (λ (o : Option Signature). IsSignature o (plain.find_named title f (map the_subroutine c.subroutines.items))) (sym e) (signatures_same m c.subroutines.items f)
 
 next_classes : (sy : symbol.Symbols) (n m : ℕ) (c : Class) (cs : List Class) → Numbered sy n m (c ∷ cs) → Numbered sy (n + 1) (m + length c.subroutines.items) cs
 next_classes sy n m c cs h j f = let e : n + 1 + j ≡ n + suc j = omega arith in ap (λ (k : ℕ). sy.subroutine k f) e ∙ h (suc j) f
@@ -49,10 +49,10 @@ class_by : (sub : ℕ → List ℕ → Option Signature) (b : Bool) (n : ℕ) (c
 class_by sub true n c o p h k = h
 class_by sub false n c o p h k = k
 
-classes_same : (sy : symbol.Symbols) (n m : ℕ) (cs : List Class) → Numbered sy n m cs → (x : List ℕ) → IsClass sy.subroutine (found x (symbol.class_numbers n cs)) (plain.named class_title x (map the_file cs))
+classes_same : (sy : symbol.Symbols) (n m : ℕ) (cs : List Class) → Numbered sy n m cs → (x : List ℕ) → IsClass sy.subroutine (find_value x (symbol.class_numbers n cs)) (plain.find_named class_title x (map the_file cs))
 classes_same sy n m [] h x = tt
 classes_same sy n m (c ∷ cs) h x =
-    class_by sy.subroutine (bytes_eq x c.name.text) n (the_file c) (found x (symbol.class_numbers (n + 1) cs)) (plain.named class_title x (map the_file cs)) (first_class sy n m c cs h)
+    class_by sy.subroutine (bytes_eq x c.name.text) n (the_file c) (find_value x (symbol.class_numbers (n + 1) cs)) (plain.find_named class_title x (map the_file cs)) (first_class sy n m c cs h)
     (classes_same sy (n + 1) (m + length c.subroutines.items) cs (next_classes sy n m c cs h) x)
 
 -- whether Main.main is a function without parameters
@@ -66,9 +66,9 @@ main_by : (sy : symbol.Symbols) (own os : List tree.ClassFile) (o : Option ℕ) 
 main_by sy own os None None h = refl
 main_by sy own os None (Some c) h = absurd h
 main_by sy own os (Some k) None h = absurd h
-main_by sy own os (Some k) (Some c) h = plain_same (sy.subroutine k (codes "main")) (plain.named title (codes "main") c.class.subroutines) (h (codes "main")) own os
+main_by sy own os (Some k) (Some c) h = plain_same (sy.subroutine k (codes "main")) (plain.find_named title (codes "main") c.class.subroutines) (h (codes "main")) own os
 
-if_not : (b : Bool) (t : Told) → (if b then None else Some t) ≡ fails_if (not b) t
+if_not : (b : Bool) (t : NameDiagnostic) → (if b then None else Some t) ≡ fails_if (not b) t
 if_not true t = refl
 if_not false t = refl
 
@@ -78,7 +78,7 @@ module _ (own os : List tree.ClassFile) (sy : symbol.Symbols) (classes : (x : Li
       if_not (whole.is_plain (whole.found_subroutine sy (codes "Main") (codes "main"))) no_main
       ∙ ap (λ (b : Bool). fails_if (not b) no_main) (main_by sy own os (sy.class (codes "Main")) (class_of own os (codes "Main")) (classes (codes "Main")))
 
-  bodies_same : (shipped : Bool) (number statics : ℕ) (c : Class) → ((f : List ℕ) → IsSignature (sy.subroutine number f) (plain.named title f (map the_subroutine c.subroutines.items)))
+  bodies_same : (shipped : Bool) (number statics : ℕ) (c : Class) → ((f : List ℕ) → IsSignature (sy.subroutine number f) (plain.find_named title f (map the_subroutine c.subroutines.items)))
       → (ss : List Subroutine) → whole.class_fault (symbol.class_scope sy shipped number statics c) ss ≡ first_in (body_faults own os (plain.source shipped (the_file c))) (map (plain.body (the_class c)) (map the_subroutine ss))
   bodies_same shipped number statics c h [] = refl
   bodies_same shipped number statics c h (s ∷ ss) =
@@ -101,12 +101,12 @@ module _ (own os : List tree.ClassFile) (sy : symbol.Symbols) (classes : (x : Li
   start_same : whole.start_fault sy ≡ file_faults own os plain.start_file
   start_same =
       let m : plain.Made = plain.by_class (codes "Sys") (codes "init") 0 plain.nowhere in
-      let b : Option Told = body_faults own os plain.start_file.source plain.start_body in
+      let b : Option NameDiagnostic = body_faults own os plain.start_file.source plain.start_body in
       made_same own os plain.start_file.source m (whole.start_scope sy) (λ g. refl) (sy.class (codes "Sys")) (class_of own os (codes "Sys")) refl (classes (codes "Sys"))
       ∙ sym (first_none b ∙ first_none (made own os plain.start_file.source m))
 
-  by_file : (b : Bool) (u : Option Told) (fs : List plain.File) → u ≡ first_in (file_faults own os) fs → (x : Option Told) (f : plain.File) → x ≡ file_faults own os f
-      → (r : Option Told) (gs : List plain.File) → r ≡ first_in (file_faults own os) gs
+  by_file : (b : Bool) (u : Option NameDiagnostic) (fs : List plain.File) → u ≡ first_in (file_faults own os) fs → (x : Option NameDiagnostic) (f : plain.File) → x ≡ file_faults own os f
+      → (r : Option NameDiagnostic) (gs : List plain.File) → r ≡ first_in (file_faults own os) gs
       → (if b then first_of (whole.start_fault sy) u else first_of x r) ≡ first_in (file_faults own os) (if b then plain.start_file ∷ fs else f ∷ gs)
   by_file true u fs e x f p r gs q = λ i. first_of (start_same i) (e i)
   by_file false u fs e x f p r gs q = λ i. first_of (p i) (q i)
@@ -114,7 +114,7 @@ module _ (own os : List tree.ClassFile) (sy : symbol.Symbols) (classes : (x : Li
   os_same : (number m statics : ℕ) (cs : List Class) → Numbered sy number m cs → whole.os_fault sy number statics cs ≡ first_in (file_faults own os) (plain.system_files (map the_file cs))
   os_same number m statics [] h = start_same ∙ sym (first_none (file_faults own os plain.start_file))
   os_same number m statics (c ∷ cs) h =
-      let from : Option Told = whole.class_fault (symbol.class_scope sy true number statics c) c.subroutines.items in
+      let from : Option NameDiagnostic = whole.class_fault (symbol.class_scope sy true number statics c) c.subroutines.items in
       let statics' : ℕ = statics + symbol.statics_of c.variables.items in
       let fs : List plain.File = map (plain.file true) (map the_file (c ∷ cs)) in
       let whole_h : Numbered sy number m ((c ∷ cs) ++ []) = subst (λ (l : List Class). Numbered sy number m l) (sym (append-nil (c ∷ cs))) h in
@@ -138,7 +138,7 @@ module _ (own os : List Class) where
 
   classes_are : (x : List ℕ) → IsClass symbols.subroutine (symbols.class x) (class_of (map the_file own) (map the_file os) x)
   classes_are x =
-      subst (λ (l : List tree.ClassFile). IsClass symbols.subroutine (symbols.class x) (plain.named class_title x l)) (map-append the_file own os) (classes_same symbols 0 1 (own ++ os) numbered x)
+      subst (λ (l : List tree.ClassFile). IsClass symbols.subroutine (symbols.class x) (plain.find_named class_title x l)) (map-append the_file own os) (classes_same symbols 0 1 (own ++ os) numbered x)
 
   pub search_same : whole.first_name_fault own os ≡ all_faults (map the_file own) (map the_file os)
   search_same =

@@ -2,7 +2,7 @@
 use Rattle.std.specs.Prelude.{◌≡◌, ◌<◌, ◌⊎◌, ℕ, suc, Bool, true, false, List, [], ◌∷◌, ◌++◌, Some, slice_get, if◌then◌else◌}
 use Rattle.scan_text.specs.declared.Place.{Place}
 use Rattle.jack_tree.specs.Syntax as tree
-use Rattle.jack_names.specs.Faults.{Told, kind_number}
+use Rattle.jack_names.specs.Faults.{NameDiagnostic, kind_number}
 use Rattle.jack_names.specs.Using.{members, inner, Use, OfVariable, OfFront, OfCall, OfThis, OfString, OfMade, Body, File, files, classes}
 use Rattle.jack_names.specs.NameFaults.{names, Spot, Fails}
 use Rattle.jack_names.specs.declared.fault.NameKind.{NameKind}
@@ -23,17 +23,17 @@ IsLess (m ∷ ms) (n ∷ ns) = (m < n) ⊎ ((m ≡ n) × IsLess ms ns)
 IsLess _ _ = ⊥
 
 -- The order of faults: by these stages, the folder before the operating system, by file, by the place in the file, and at one place by kind.
-abbrev pub order : Spot → Told → List ℕ
+abbrev pub order : Spot → NameDiagnostic → List ℕ
 order at told = stage told.kind ∷ (if at.shipped then 1 else 0) ∷ at.file ∷ at.part ∷ at.name ∷ kind_number told.kind ∷ at.call ∷ []
 
-abbrev pub Before : Spot → Told → Spot → Told → Type 0
+abbrev pub Before : Spot → NameDiagnostic → Spot → NameDiagnostic → Type 0
 Before at told at' told' = IsLess (order at told) (order at' told')
 
 -- the fault that fails and behind which every other comes
-pub record IsFirstFault (own os : List tree.ClassFile) (told : Told) : Type 0 where
+pub record IsFirstFault (own os : List tree.ClassFile) (told : NameDiagnostic) : Type 0 where
   pub at : Spot
   pub fails : Fails own os at told
-  pub first : (at' : Spot) (told' : Told) → Fails own os at' told' → (told' ≡ told) ⊎ Before at told at' told'
+  pub first : (at' : Spot) (told' : NameDiagnostic) → Fails own os at' told' → (told' ≡ told) ⊎ Before at told at' told'
 
 -- What a class declares, by part and number, at its place.
 pub data Declares (c : tree.Class) : ℕ → ℕ → Place → Type 0 where
@@ -68,16 +68,16 @@ pub record PlacesRise (own os : List tree.ClassFile) : Type 0 where
   pub used : (i : ℕ) (f : File) → slice_get (files own os false) i ≡ Some f → Rise (Uses f)
 
 -- where a fault is in its file: by its place, or in the operating system by the order of its text
-abbrev pub stands : Bool → Spot → Told → List ℕ
+abbrev pub stands : Bool → Spot → NameDiagnostic → List ℕ
 stands true at told = at.part ∷ at.name ∷ []
 stands false at told = told.place.line ∷ told.place.column ∷ []
 
 -- the order by stage, folder, file, place and kind
-abbrev pub place_order : Spot → Told → List ℕ
+abbrev pub place_order : Spot → NameDiagnostic → List ℕ
 place_order at told = stage told.kind ∷ (if at.shipped then 1 else 0) ∷ at.file ∷ (stands at.shipped at told ++ kind_number told.kind ∷ at.call ∷ [])
 
 -- the fault that fails and behind which, by file, place and kind, every other comes
-pub record IsFirstByPlace (own os : List tree.ClassFile) (told : Told) : Type 0 where
+pub record IsFirstByPlace (own os : List tree.ClassFile) (told : NameDiagnostic) : Type 0 where
   pub at : Spot
   pub fails : Fails own os at told
-  pub first : (at' : Spot) (told' : Told) → Fails own os at' told' → (told' ≡ told) ⊎ IsLess (place_order at told) (place_order at' told')
+  pub first : (at' : Spot) (told' : NameDiagnostic) → Fails own os at' told' → (told' ≡ told) ⊎ IsLess (place_order at told) (place_order at' told')

@@ -26,7 +26,7 @@ kind_number kinds.OwnInFunction = 13
 kind_number kinds.NoMain = 14
 
 -- what is wrong, in which file, with which name, and where that stands
-pub record Told : Type 0 where
+pub record NameDiagnostic : Type 0 where
   pub kind : NameKind
   pub shipped : Bool
   pub file : List ℕ
@@ -38,25 +38,25 @@ pub record Source : Type 0 where
   pub shipped : Bool
   pub file : List ℕ
 
-abbrev pub told_in : Source → List ℕ → Place → NameKind → Told
-told_in source name place kind = record { kind = kind; shipped = source.shipped; file = source.file; name = name; place = place }
+abbrev pub diagnostic_in : Source → List ℕ → Place → NameKind → NameDiagnostic
+diagnostic_in source name place kind = record { kind = kind; shipped = source.shipped; file = source.file; name = name; place = place }
 
 -- what is told where something is wrong
-abbrev pub told_if : Source → List ℕ → Place → Option NameKind → Option Told
-told_if source name place None = None
-told_if source name place (Some kind) = Some (told_in source name place kind)
+abbrev pub diagnostic_if : Source → List ℕ → Place → Option NameKind → Option NameDiagnostic
+diagnostic_if source name place None = None
+diagnostic_if source name place (Some kind) = Some (diagnostic_in source name place kind)
 
 -- the first fault of a list of things
-abbrev pub first_in : {A : Type 0} → (A → Option Told) → List A → Option Told
+abbrev pub first_in : {A : Type 0} → (A → Option NameDiagnostic) → List A → Option NameDiagnostic
 first_in fault [] = None
 first_in fault (x ∷ xs) = first_of (fault x) (first_in fault xs)
 
 -- the fault of the code
-abbrev pub fault_told : NameFault → Told
-fault_told f = record { kind = f.kind; shipped = f.shipped; file = f.file; name = f.name.items; place = f.place }
+abbrev pub diagnostic_of : NameFault → NameDiagnostic
+diagnostic_of f = record { kind = f.kind; shipped = f.shipped; file = f.file; name = f.name.items; place = f.place }
 
 -- A check found this fault, or none, unless memory ran out.
-abbrev pub Checks : Option Told → Result (Unit {0}) NameError → Type 0
+abbrev pub Checks : Option NameDiagnostic → Result (Unit {0}) NameError → Type 0
 Checks wanted (Ok u) = wanted ≡ None
 Checks wanted (Err errors.Memory) = Unit {0}
-Checks wanted (Err (errors.Fault f)) = wanted ≡ Some (fault_told f)
+Checks wanted (Err (errors.Fault f)) = wanted ≡ Some (diagnostic_of f)

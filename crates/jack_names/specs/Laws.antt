@@ -2,7 +2,7 @@
 use Rattle.std.specs.Prelude.{◌≡◌, ◌↔◌, List, Some, None, map}
 use Rattle.jack_tree.specs.declared.tree.Class.{Class}
 use Rattle.jack_tree.specs.Seen.{the_file}
-use Rattle.jack_names.specs.Faults.{Told}
+use Rattle.jack_names.specs.Faults.{NameDiagnostic}
 use Rattle.jack_names.specs.Inner.Whole.{first_name_fault, program_meant, all_names_meant}
 use Rattle.jack_names.specs.Meaning.{program_meaning, program_names}
 use Rattle.jack_tree.specs.Syntax.{ClassFile}
@@ -11,10 +11,10 @@ use Rattle.jack_names.specs.FaultOrder.{IsFirstFault, PlacesRise, IsFirstByPlace
 
 -- The search finds the fault that fails and behind which every other comes; and it finds none exactly where none fails.
 pub record NamesLaw : Type 0 where
-  pub finds : (own os : List Class) (told : Told) → (first_name_fault own os ≡ Some told) ↔ IsFirstFault (map the_file own) (map the_file os) told
+  pub finds : (own os : List Class) (told : NameDiagnostic) → (first_name_fault own os ≡ Some told) ↔ IsFirstFault (map the_file own) (map the_file os) told
   pub well_named : (own os : List Class) → (first_name_fault own os ≡ None) ↔ IsWellNamed (map the_file own) (map the_file os)
   -- where places rise in each file, the first fault is the first by file, place and kind
-  pub by_place : (own os : List ClassFile) (told : Told) → PlacesRise own os → IsFirstFault own os told → IsFirstByPlace own os told
+  pub by_place : (own os : List ClassFile) (told : NameDiagnostic) → PlacesRise own os → IsFirstFault own os told → IsFirstByPlace own os told
 
 -- The program that trees mean is the one that their abstract syntax means, and so are the names of its subroutines.
 pub record MeantLaw : Type 0 where

@@ -30,20 +30,20 @@ abbrev pub two : meaning.Expression → meaning.Expression → meaning.Expressio
 two a b = meaning.More a (one b)
 
 -- a string is filled byte by byte
-abbrev pub filled : ℕ → meaning.Expression → List ℕ → meaning.Expression
-filled append e [] = e
-filled append e (b ∷ bs) = filled append (meaning.Call append (two e (meaning.Literal b))) bs
+abbrev pub filled_characters : ℕ → meaning.Expression → List ℕ → meaning.Expression
+filled_characters append e [] = e
+filled_characters append e (b ∷ bs) = filled_characters append (meaning.Call append (two e (meaning.Literal b))) bs
 
 -- the length of a string, as a word
 abbrev pub length_word : List ℕ → ℕ
 length_word text = length text % 65536
 
-abbrev pub assigned : Slot → ℕ → meaning.Expression → meaning.Statement
-assigned (slot.Argument k) n e = meaning.Let n (meaning.Argument k) e
-assigned (slot.Local k) n e = meaning.Let n (meaning.Local k) e
-assigned (slot.Field k) n e = meaning.LetField n k e
-assigned (slot.Static k) n e = meaning.Let n (meaning.Static k) e
+abbrev pub assignment : Slot → ℕ → meaning.Expression → meaning.Statement
+assignment (slot.Argument k) n e = meaning.Let n (meaning.Argument k) e
+assignment (slot.Local k) n e = meaning.Let n (meaning.Local k) e
+assignment (slot.Field k) n e = meaning.LetField n k e
+assignment (slot.Static k) n e = meaning.Let n (meaning.Static k) e
 
 abbrev pub let_by : Option Declared → ℕ → meaning.Expression → meaning.Statement
 let_by None n e = meaning.Let n (meaning.Local 0) e
-let_by (Some v) n e = assigned v.slot n e
+let_by (Some v) n e = assignment v.slot n e

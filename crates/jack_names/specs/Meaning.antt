@@ -5,7 +5,7 @@
 use Rattle.std.specs.Prelude.{ℕ, ◌+◌, max, Bool, true, false, List, [], ◌∷◌, ◌++◌, map, Option, Some, None, length, codes}
 use Rattle.jack_meaning.specs.Text as meaning
 use Rattle.jack_tree.specs.Syntax as tree
-use Rattle.jack_names.specs.Made.{declared_meant, with_variable, one, two, filled, length_word, let_by}
+use Rattle.jack_names.specs.Made.{declared_meant, with_variable, one, two, filled_characters, length_word, let_by}
 use Rattle.jack_names.specs.Numbers.{Standing, standing, in_class, class_number, subroutine_number, field_count, static_count, local_count, object_count}
 use Rattle.jack_names.specs.declared.scope.Declared.{Declared}
 
@@ -13,8 +13,8 @@ abbrev pub variable_meaning : Standing → tree.Name → meaning.Expression
 variable_meaning s x = declared_meant (s.variable x.text)
 
 -- a subroutine that a call names which the text does not write
-abbrev pub made : Standing → List ℕ → List ℕ → ℕ
-made s c f = in_class s.subroutine (s.class c) f
+abbrev pub made_word : Standing → List ℕ → List ℕ → ℕ
+made_word s c f = in_class s.subroutine (s.class c) f
 
 -- the class that a call goes to: that of the variable, or the class of this name; with nothing before the name, that in which it stands
 abbrev pub front_class : Option Declared → Option ℕ → Option ℕ
@@ -30,11 +30,11 @@ abbrev pub with_object : Standing → Option tree.Name → meaning.Expressions �
 with_object s None es = meaning.More meaning.This es
 with_object s (Some x) es = with_variable (s.variable x.text) es
 
-abbrev pub invoked : Standing → Option tree.Name → tree.Name → meaning.Expressions → meaning.Expression
-invoked s o f es = meaning.Call (in_class s.subroutine (called_class s o) f.text) (with_object s o es)
+abbrev pub invocation : Standing → Option tree.Name → tree.Name → meaning.Expressions → meaning.Expression
+invocation s o f es = meaning.Call (in_class s.subroutine (called_class s o) f.text) (with_object s o es)
 
 abbrev pub string_meaning : Standing → List ℕ → meaning.Expression
-string_meaning s text = filled (made s (codes "String") (codes "appendChar")) (meaning.Call (made s (codes "String") (codes "new")) (one (meaning.Literal (length_word text)))) text
+string_meaning s text = filled_characters (made_word s (codes "String") (codes "appendChar")) (meaning.Call (made_word s (codes "String") (codes "new")) (one (meaning.Literal (length_word text)))) text
 
 abbrev pub constant_meaning : Standing → tree.Constant → meaning.Expression
 constant_meaning s (tree.Integer n) = meaning.Literal n
@@ -51,8 +51,8 @@ sign_meaning tree.Not = meaning.Complement
 abbrev pub binary_meaning : Standing → tree.Operator → meaning.Expression → meaning.Expression → meaning.Expression
 binary_meaning s tree.Plus a b = meaning.Binary meaning.Plus a b
 binary_meaning s tree.Minus a b = meaning.Binary meaning.Subtract a b
-binary_meaning s tree.Times a b = meaning.Call (made s (codes "Math") (codes "multiply")) (two a b)
-binary_meaning s tree.Divide a b = meaning.Call (made s (codes "Math") (codes "divide")) (two a b)
+binary_meaning s tree.Times a b = meaning.Call (made_word s (codes "Math") (codes "multiply")) (two a b)
+binary_meaning s tree.Divide a b = meaning.Call (made_word s (codes "Math") (codes "divide")) (two a b)
 binary_meaning s tree.And a b = meaning.Binary meaning.And a b
 binary_meaning s tree.Or a b = meaning.Binary meaning.Or a b
 binary_meaning s tree.Less a b = meaning.Binary meaning.Less a b
@@ -69,7 +69,7 @@ abbrev mutual
   term_meaning s (tree.Unary o t) = meaning.Unary (sign_meaning o) (term_meaning s t)
 
   pub call_meaning : Standing → tree.Call → meaning.Expression
-  call_meaning s (tree.Calls o f es) = invoked s o f (arguments_meaning s es)
+  call_meaning s (tree.Calls o f es) = invocation s o f (arguments_meaning s es)
 
   pub expression_meaning : Standing → tree.Expression → meaning.Expression
   expression_meaning s (tree.Terms t os) = operations_meaning s (term_meaning s t) os
@@ -140,12 +140,12 @@ return_added true n = meaning.End
 return_added false n = meaning.Next (meaning.Return n (meaning.Literal 0)) meaning.End
 
 -- a constructor first takes a block of as many words as its class has fields, one at least
-abbrev pub begun : Standing → tree.Form → ℕ → meaning.Text → meaning.Text
-begun s tree.Constructor fields rest = meaning.Next (meaning.LetThis 0 (meaning.Call (made s (codes "Memory") (codes "alloc")) (one (meaning.Literal (max 1 fields))))) rest
-begun s _ fields rest = rest
+abbrev pub begin_text : Standing → tree.Form → ℕ → meaning.Text → meaning.Text
+begin_text s tree.Constructor fields rest = meaning.Next (meaning.LetThis 0 (meaning.Call (made_word s (codes "Memory") (codes "alloc")) (one (meaning.Literal (max 1 fields))))) rest
+begin_text s _ fields rest = rest
 
 abbrev pub body_meaning : Standing → ℕ → tree.Subroutine → meaning.Text
-body_meaning s fields t = begun s t.form fields (meaning.joined (block_meaning s 1 t.statements) (return_added (returns t.statements) (1 + sizes t.statements)))
+body_meaning s fields t = begin_text s t.form fields (meaning.joined_text (block_meaning s 1 t.statements) (return_added (returns t.statements) (1 + sizes t.statements)))
 
 abbrev pub kind_meaning : tree.Form → meaning.Kind
 kind_meaning tree.Constructor = meaning.Constructor

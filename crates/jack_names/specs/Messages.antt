@@ -21,5 +21,5 @@ kind_word kind.FieldInFunction = codes "FieldInFunction"
 kind_word kind.OwnInFunction = codes "OwnInFunction"
 kind_word kind.NoMain = codes "NoMain"
 
-abbrev pub name_told : NameFault → Message
-name_told fault = message fault.place.line fault.place.column (kind_word fault.kind) fault.name.items
+abbrev pub name_message : NameFault → Message
+name_message fault = message fault.place.line fault.place.column (kind_word fault.kind) fault.name.items

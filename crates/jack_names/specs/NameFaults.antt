@@ -4,8 +4,8 @@
 use Rattle.std.specs.Prelude.{◌≡◌, ◌<◌, ℕ, suc, Bool, true, false, List, [], ◌++◌, map, Option, Some, None, length, codes, slice_get}
 use Rattle.scan_text.specs.declared.Place.{Place}
 use Rattle.jack_tree.specs.Syntax as tree
-use Rattle.jack_names.specs.Faults.{Told, Source, told_in}
-use Rattle.jack_names.specs.Using.{named, Variable, members, inner, Made, made_calls, Use, OfVariable, OfFront, OfCall, OfThis, Body, File, source, files, classes, nowhere}
+use Rattle.jack_names.specs.Faults.{NameDiagnostic, Source, diagnostic_in}
+use Rattle.jack_names.specs.Using.{find_named, Variable, members, inner, Made, made_calls, Use, OfVariable, OfFront, OfCall, OfThis, Body, File, source, files, classes, nowhere}
 use Rattle.jack_names.specs.declared.fault.NameKind.{NameKind}
 use Rattle.jack_names.specs.declared.fault.NameKind.TheVariants as kinds
 use Rattle.jack_names.specs.declared.scope.Way.{Way}
@@ -26,7 +26,7 @@ pub data IsMemberTwice (c : tree.Class) : ℕ → ℕ → tree.Name → Type 0 w
 
 -- the variable of a name: a parameter or local, or else a field or static
 abbrev pub variable_of : Body → tree.Name → Option Variable
-variable_of b x = named (λ v. v.name.text) x.text b.variables
+variable_of b x = find_named (λ v. v.name.text) x.text b.variables
 
 -- a variable that a use names
 pub data Names : Use → tree.Name → Type 0 where
@@ -43,7 +43,7 @@ through w None = None
 through w (Some c) = Some (record { way = w; subroutines = c.class.subroutines })
 
 abbrev pub subroutine_of : Target → tree.Name → Option tree.Subroutine
-subroutine_of t f = named (λ s. s.name.text) f.text t.subroutines
+subroutine_of t f = find_named (λ s. s.name.text) f.text t.subroutines
 
 abbrev pub made_name : List ℕ → Made → tree.Name
 made_name text m = record { text = text; place = m.place }
@@ -68,7 +68,7 @@ module _ (own os : List tree.ClassFile) where
 
   -- the class of a name, and of a type
   abbrev pub class_of : List ℕ → Option tree.ClassFile
-  class_of x = named (λ c. c.class.name.text) x (own ++ os)
+  class_of x = find_named (λ c. c.class.name.text) x (own ++ os)
 
   abbrev pub type_class : tree.ValueType → Option tree.ClassFile
   type_class (tree.Object n) = class_of n.text
@@ -121,7 +121,7 @@ module _ (own os : List tree.ClassFile) where
     pub class : tree.ClassFile
     pub main : tree.Subroutine
     pub class_is : class_of (codes "Main") ≡ Some class
-    pub main_is : named (λ s. s.name.text) (codes "main") class.class.subroutines ≡ Some main
+    pub main_is : find_named (λ s. s.name.text) (codes "main") class.class.subroutines ≡ Some main
     pub form : main.form ≡ tree.Function
     pub parameters : main.parameters ≡ []
 
@@ -144,15 +144,15 @@ pub record IsUsed (own os : List tree.ClassFile) (shipped : Bool) (i part j : �
   pub body : slice_get f.bodies part ≡ Some b
   pub name : slice_get b.uses j ≡ Some u
 
-abbrev pub told_at : Source → NameKind → tree.Name → Told
-told_at source kind x = told_in source x.text x.place kind
+abbrev pub told_at : Source → NameKind → tree.Name → NameDiagnostic
+told_at source kind x = diagnostic_in source x.text x.place kind
 
 -- what is told where Main.main is not there
-abbrev pub no_main : Told
-no_main = told_in (record { shipped = false; file = codes "Main.jack" }) (codes "Main.main") nowhere kinds.NoMain
+abbrev pub no_main : NameDiagnostic
+no_main = diagnostic_in (record { shipped = false; file = codes "Main.jack" }) (codes "Main.main") nowhere kinds.NoMain
 
 -- What can be told of a program, and where: the file, the name, its place and the kind. Kinds 1 to 4 are in declarations, and 5 to 13 in uses.
-pub data Fails (own os : List tree.ClassFile) : Spot → Told → Type 0 where
+pub data Fails (own os : List tree.ClassFile) : Spot → NameDiagnostic → Type 0 where
   InDeclaration : {shipped : Bool} {i part j : ℕ} {c : tree.ClassFile} {kind : NameKind} {x : tree.Name} → slice_get (classes own os shipped) i ≡ Some c
       → Misdeclared own os shipped i c part j kind x → Fails own os (spot shipped i part j 0) (told_at (source shipped c) kind x)
   -- 14: Main.main is not there, or is no function without parameters
@@ -162,4 +162,4 @@ pub data Fails (own os : List tree.ClassFile) : Spot → Told → Type 0 where
 
 -- Nothing is told.
 abbrev pub IsWellNamed : List tree.ClassFile → List tree.ClassFile → Type 0
-IsWellNamed own os = (at : Spot) (told : Told) → Fails own os at told → ⊥
+IsWellNamed own os = (at : Spot) (told : NameDiagnostic) → Fails own os at told → ⊥

@@ -1,7 +1,7 @@
 -- The numbers of what classes declare (the symbol tables of the book's chapter 11), over the abstract syntax.
 use Rattle.std.specs.Prelude.{ℕ, ◌+◌, List, [], ◌∷◌, ◌++◌, Option, Some, None, length, slice_get}
 use Rattle.jack_tree.specs.Syntax as tree
-use Rattle.jack_names.specs.Tables.{found, first_of}
+use Rattle.jack_names.specs.Tables.{find_value, first_of}
 use Rattle.jack_names.specs.Using.{all_names}
 use Rattle.jack_names.specs.declared.scope.Slot.{Slot}
 use Rattle.jack_names.specs.declared.scope.Slot.TheVariants as slot
@@ -29,7 +29,7 @@ number (Some n) = n
 
 abbrev pub found_in : Option (List (List ℕ × ℕ)) → List ℕ → ℕ
 found_in None f = 0
-found_in (Some es) f = number (found f es)
+found_in (Some es) f = number (find_value f es)
 
 -- the number of a subroutine of a class
 abbrev pub in_class : (ℕ → List ℕ → ℕ) → Option ℕ → List ℕ → ℕ
@@ -37,7 +37,7 @@ in_class subroutine None f = 0
 in_class subroutine (Some k) f = subroutine k f
 
 abbrev pub class_number : List tree.ClassFile → List ℕ → Option ℕ
-class_number all x = found x (class_numbers 0 all)
+class_number all x = find_value x (class_numbers 0 all)
 
 abbrev pub subroutine_number : List tree.ClassFile → ℕ → List ℕ → ℕ
 subroutine_number all k f = found_in (slice_get (all_subroutine_numbers 1 all) k) f
@@ -109,7 +109,7 @@ inner_slots class s = parameter_slots class (object_count s.form) s.parameters +
 -- in a subroutine of the class of a number, before whose statics come others
 abbrev pub standing : List tree.ClassFile → ℕ → ℕ → tree.Class → tree.Subroutine → Standing
 standing all own statics c s = record {
-  variable = λ x. first_of (found x (inner_slots (class_number all) s)) (found x (member_slots (class_number all) 0 statics c.variables));
+  variable = λ x. first_of (find_value x (inner_slots (class_number all) s)) (find_value x (member_slots (class_number all) 0 statics c.variables));
   class = class_number all;
   subroutine = subroutine_number all;
   own = own;

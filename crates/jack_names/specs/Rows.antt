@@ -2,7 +2,7 @@
 use Rattle.std.specs.Prelude.{ℕ, false, List, [], ◌∷◌, Some, None, codes}
 use Rattle.scan_text.specs.declared.Place.{Place}
 use Rattle.jack_tree.specs.Syntax as tree
-use Rattle.jack_names.specs.Faults.{Told}
+use Rattle.jack_names.specs.Faults.{NameDiagnostic}
 use Rattle.jack_names.specs.NameFaults.{IsWellNamed, no_main, told_at}
 use Rattle.jack_names.specs.FaultOrder.{IsFirstFault}
 use Rattle.jack_names.specs.declared.fault.NameKind.{NameKind}
@@ -55,13 +55,13 @@ calls x f es = tree.Do (at 6 5) (tree.Calls (Some x) f es)
 abbrev pub calls_own : tree.Name → tree.Statement
 calls_own f = tree.Do (at 6 5) (tree.Calls None f tree.NoExpression)
 
-abbrev pub in_main : NameKind → tree.Name → Told
+abbrev pub in_main : NameKind → tree.Name → NameDiagnostic
 in_main kind x = told_at (record { shipped = false; file = codes "Main.jack" }) kind x
 
 abbrev pub other : tree.ClassFile
 other = class_file (codes "Other.jack") (codes "Main") [] []
 
-abbrev pub in_other : Told
+abbrev pub in_other : NameDiagnostic
 in_other = told_at (record { shipped = false; file = codes "Other.jack" }) kinds.FileName (name (codes "Main") 1 7)
 
 -- the first fault of one class

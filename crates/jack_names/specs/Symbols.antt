@@ -11,7 +11,7 @@ use Rattle.jack_tree.specs.declared.tree.Parameter.{Parameter}
 use Rattle.jack_tree.specs.declared.tree.Form.{Form}
 use Rattle.jack_tree.specs.declared.tree.Subroutine.{Subroutine}
 use Rattle.jack_tree.specs.declared.tree.Class.{Class}
-use Rattle.jack_names.specs.Tables.{found, first_of}
+use Rattle.jack_names.specs.Tables.{find_value, first_of}
 use Rattle.jack_names.specs.Inner.Twice.{names_of, source_of}
 use Rattle.jack_names.specs.Faults.{Source}
 use Rattle.jack_names.specs.Inner.Scopes.{Scope, is_method}
@@ -38,7 +38,7 @@ all_signatures n (c ∷ cs) = signatures n c.subroutines.items ∷ all_signature
 -- what is found in the table of a number
 abbrev pub found_at : {V : Type 0} → Option (List (List ℕ × V)) → List ℕ → Option V
 found_at None x = None
-found_at (Some es) x = found x es
+found_at (Some es) x = find_value x es
 
 -- The names that all of a program can use: the number of each class, and the subroutines of the class of a number.
 pub record Symbols : Type 0 where
@@ -47,7 +47,7 @@ pub record Symbols : Type 0 where
 
 -- the names of these classes; subroutine 0 is none of theirs
 abbrev pub symbols_of : List Class → Symbols
-symbols_of all = record { class = λ x. found x (class_numbers 0 all); subroutine = λ k f. found_at (slice_get (all_signatures 1 all) k) f }
+symbols_of all = record { class = λ x. find_value x (class_numbers 0 all); subroutine = λ k f. found_at (slice_get (all_signatures 1 all) k) f }
 
 -- the number of the class that is a type
 abbrev pub type_class : Symbols → types.Type → Option ℕ
@@ -114,7 +114,7 @@ pub record ClassScope : Type 0 where
 abbrev pub class_scope : Symbols → Bool → ℕ → ℕ → Class → ClassScope
 class_scope symbols shipped own statics c = record {
   symbols = symbols;
-  member = λ x. found x (member_entries symbols 0 statics c.variables.items);
+  member = λ x. find_value x (member_entries symbols 0 statics c.variables.items);
   own = own;
   source = source_of shipped c;
 }
@@ -131,4 +131,4 @@ scope_with c local form = record {
 }
 
 abbrev pub scope_in : ClassScope → Subroutine → Scope
-scope_in c s = scope_with c (λ x. found x (variable_entries c.symbols s)) s.form
+scope_in c s = scope_with c (λ x. find_value x (variable_entries c.symbols s)) s.form

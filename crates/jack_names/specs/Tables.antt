@@ -3,9 +3,9 @@ use Rattle.std.specs.Prelude.{ℕ, Bool, true, false, List, [], ◌∷◌, Optio
 use Rattle.std.specs.Str.{bytes_eq}
 
 -- what was entered first for a name
-abbrev pub found : {V : Type 0} → List ℕ → List (List ℕ × V) → Option V
-found x [] = None
-found x (e ∷ es) = if bytes_eq x e.0 then Some e.1 else found x es
+abbrev pub find_value : {V : Type 0} → List ℕ → List (List ℕ × V) → Option V
+find_value x [] = None
+find_value x (e ∷ es) = if bytes_eq x e.0 then Some e.1 else find_value x es
 
 -- the first of two choices that is there
 abbrev pub first_of : {A : Type 0} → Option A → Option A → Option A

@@ -9,9 +9,9 @@ use Rattle.jack_names.specs.declared.scope.Way.{Way}
 use Rattle.jack_names.specs.declared.scope.Way.TheVariants as way
 
 -- the first of these that has a name
-abbrev pub named : {A : Type 0} → (A → List ℕ) → List ℕ → List A → Option A
-named name x [] = None
-named name x (a ∷ more) = if bytes_eq x (name a) then Some a else named name x more
+abbrev pub find_named : {A : Type 0} → (A → List ℕ) → List ℕ → List A → Option A
+find_named name x [] = None
+find_named name x (a ∷ more) = if bytes_eq x (name a) then Some a else find_named name x more
 
 pub record Variable : Type 0 where
   pub name : tree.Name
@@ -137,13 +137,13 @@ abbrev pub subroutine_uses : tree.Subroutine → List Use
 subroutine_uses s = form_uses s.form s.name.place ++ statements_uses s.statements
 
 -- A string is made by String.new; one that is not empty is then filled by its method appendChar.
-abbrev pub filled : List ℕ → Place → List Made
-filled [] at = []
-filled (b ∷ bs) at = record { way = way.ByObject; class = codes "String"; name = codes "appendChar"; arguments = 1; place = at } ∷ []
+abbrev pub filled_parts : List ℕ → Place → List Made
+filled_parts [] at = []
+filled_parts (b ∷ bs) at = record { way = way.ByObject; class = codes "String"; name = codes "appendChar"; arguments = 1; place = at } ∷ []
 
 -- the calls that a use makes by itself
 abbrev pub made_calls : Use → List Made
-made_calls (OfString t) = by_class (codes "String") (codes "new") 1 t.place ∷ filled t.text t.place
+made_calls (OfString t) = by_class (codes "String") (codes "new") 1 t.place ∷ filled_parts t.text t.place
 made_calls (OfMade m) = m ∷ []
 made_calls _ = []
 

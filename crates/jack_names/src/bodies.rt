@@ -2,11 +2,11 @@
 
 ghost use Rattle.std.specs.Prelude.{◌≡◌, ◌+◌, ◌≤◌, ◌^◌, map, is_some, IfOk};
 ghost use Rattle.jack_meaning.specs.Text.{text_of, If as IfOf, While as WhileOf};
-ghost use Rattle.jack_tree.specs.Seen.{unboxed};
+ghost use Rattle.jack_tree.specs.Seen.{unbox};
 ghost use Rattle.jack_core.specs.Texts.{the_statement, the_block};
 ghost use Rattle.jack_core.specs.Reading.{the_expression};
 ghost use Rattle.jack_names.specs.Sizes.{size, sizes, else_size};
-ghost use Rattle.jack_names.specs.Made.{assigned, let_by};
+ghost use Rattle.jack_names.specs.Made.{assignment, let_by};
 ghost use Rattle.jack_names.specs.Inner.Meant.{exp_meant, let_meant, statement_meant, statements_meant, else_meant};
 ghost use Rattle.jack_names.specs.Inner.Scoped.{the_scope};
 
@@ -17,7 +17,7 @@ use jack_tree::{Expression, Name, Statement};
 use std::alloc::{AllocError, Global};
 
 fn assigned(number: u32, slot: Slot, value: CoreExpression) -> CoreStatement
-    ensures { the_statement result ≡ assigned slot number (the_expression value) }
+    ensures { the_statement result ≡ assignment slot number (the_expression value) }
 {
     let variable = match slot {
         Slot::Argument(k) => Variable::Argument(k),
@@ -59,7 +59,7 @@ fn let_meant<'a>(
     index: &'a Option<Box<Expression>>,
     value: &'a Expression,
 ) -> Result<CoreStatement, AllocError>
-    ensures { IfOk result (λ r. the_statement r ≡ let_meant (the_scope scope.now) number name.now (unboxed index.now) value.now) }
+    ensures { IfOk result (λ r. the_statement r ≡ let_meant (the_scope scope.now) number name.now (unbox index.now) value.now) }
 {
     match index {
         None => {

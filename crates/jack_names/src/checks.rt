@@ -1,10 +1,10 @@
 //! The first fault in the uses of names.
 
 ghost use Rattle.std.specs.Prelude.{◌≡◌, Some, [], ◌∷◌, length};
-ghost use Rattle.jack_tree.specs.Seen.{unboxed};
-ghost use Rattle.jack_names.specs.Faults.{Checks, told_if};
+ghost use Rattle.jack_tree.specs.Seen.{unbox};
+ghost use Rattle.jack_names.specs.Faults.{Checks, diagnostic_if};
 ghost use Rattle.jack_names.specs.Inner.Uses.{Variable, This, Calls, Makes, Text, Use, constant_uses, operator_uses, term_uses, operation_uses, operations_uses, exp_uses, arguments_uses, call_uses, optional_uses, statement_uses, statements_uses, form_uses, subroutine_uses};
-ghost use Rattle.jack_names.specs.Inner.Scopes.{made_told, front_fault, call_fault, string_fault, first_fault, use_fault};
+ghost use Rattle.jack_names.specs.Inner.Scopes.{made_diagnostic, front_fault, call_fault, string_fault, first_fault, use_fault};
 ghost use Rattle.jack_names.specs.Inner.Scopes.{callee as callee_of};
 ghost use Rattle.jack_names.specs.Inner.Scoped.{the_scope};
 
@@ -27,7 +27,7 @@ fn tell_if(
     place: Place,
     kind: Option<NameKind>,
 ) -> Result<(), NameError>
-    ensures { Checks (told_if (the_scope scope.now).source name.now place kind) result }
+    ensures { Checks (diagnostic_if (the_scope scope.now).source name.now place kind) result }
 {
     match kind {
         None => Ok(()),
@@ -43,7 +43,7 @@ fn tell_made(
     place: Place,
     kind: Option<NameKind>,
 ) -> Result<(), NameError>
-    ensures { Checks (made_told (the_scope scope.now).source class.now name.now place kind) result }
+    ensures { Checks (made_diagnostic (the_scope scope.now).source class.now name.now place kind) result }
 {
     match kind {
         None => Ok(()),
@@ -273,7 +273,7 @@ fn check_index<'a>(
     scope: &Scope<'a, '_>,
     index: &'a Option<Box<Expression>>,
 ) -> Result<(), NameError>
-    ensures { Checks (first_fault (the_scope scope.now) (optional_uses (unboxed index.now))) result }
+    ensures { Checks (first_fault (the_scope scope.now) (optional_uses (unbox index.now))) result }
 {
     match index {
         None => Ok(()),

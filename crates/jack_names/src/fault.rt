@@ -1,12 +1,12 @@
 //! What can be wrong with a name.
 
 ghost use Rattle.std.specs.Prelude.{◌≡◌, Some};
-ghost use Rattle.jack_names.specs.Faults.{Checks, told_in};
+ghost use Rattle.jack_names.specs.Faults.{Checks, diagnostic_in};
 ghost use Rattle.jack_names.specs.Inner.Filed.{the_file};
-ghost use Rattle.jack_names.specs.Messages.{kind_word, name_told};
+ghost use Rattle.jack_names.specs.Messages.{kind_word, name_message};
 ghost use Rattle.jack_names.specs.declared.fault.NameError.TheVariants.{Memory};
 
-use outer_world::{Detail, Name as FileName, Told};
+use outer_world::{Detail, Diagnostic, Name as FileName};
 use scan_text::Place;
 use std::alloc::{AllocError, Global};
 use thiserror::Error;
@@ -81,11 +81,11 @@ pub struct NameFault {
 
 impl NameFault {
     /// What the fault tells, beside the path of its file.
-    pub fn told(self) -> Told
-        ensures { result ≡ name_told self }
+    pub fn diagnostic(self) -> Diagnostic
+        ensures { result ≡ name_message self }
     {
         let word = self.kind.word();
-        Told::at(
+        Diagnostic::at(
             self.place.line,
             self.place.column,
             word,
@@ -129,7 +129,7 @@ pub(crate) fn tell(
     place: Place,
     kind: NameKind,
 ) -> Result<(), NameError>
-    ensures { Checks (Some (told_in (the_file file.entry) name.now place kind)) result }
+    ensures { Checks (Some (diagnostic_in (the_file file.entry) name.now place kind)) result }
 {
     let path = file.name.clone()?;
     let name = Vec::from_slice(alloc, name)?;

@@ -3,9 +3,9 @@
 ghost use Rattle.std.specs.Prelude.{◌≡◌, ◌≤◌, ◌∷◌, [], length, map, IfOk, OnOk};
 ghost use Rattle.jack_meaning.specs.Text.{Expression as AnExpression, Call as CallOf, Literal as LiteralOf};
 ghost use Rattle.jack_core.specs.Heights.{takes};
-ghost use Rattle.jack_core.specs.Reading.{made, the_expression, the_sign};
-ghost use Rattle.jack_names.specs.Made.{slot_meant, declared_meant, one, filled, length_word};
-ghost use Rattle.jack_names.specs.Inner.Meant.{variable_meant, number_by, called_number, made_number, string_meant, constant_meant, sign_meant, binary_meant, term_meant, exp_meant, operation_meant, grouped, call_meant, value_meant};
+ghost use Rattle.jack_core.specs.Reading.{make_expression, the_expression, the_sign};
+ghost use Rattle.jack_names.specs.Made.{slot_meant, declared_meant, one, filled_characters, length_word};
+ghost use Rattle.jack_names.specs.Inner.Meant.{variable_meant, number_by, called_number, made_number, string_meant, constant_meant, sign_meant, binary_meant, term_meant, exp_meant, operation_meant, grouped_operations, call_meant, value_meant};
 ghost use Rattle.jack_names.specs.Inner.Pushed.{Adds, AddsAll, Turns, Joins, Puts, object_meant};
 ghost use Rattle.jack_names.specs.Inner.Scoped.{the_scope};
 
@@ -17,7 +17,7 @@ use std::alloc::{AllocError, Global};
 
 fn slot_part(slot: Slot) -> Part
     ensures takes { takes result ≡ 0 }
-    ensures made { made result [] ≡ slot_meant slot }
+    ensures made { make_expression result [] ≡ slot_meant slot }
 {
     match slot {
         Slot::Argument(k) => Part::Argument(k),
@@ -29,7 +29,7 @@ fn slot_part(slot: Slot) -> Part
 
 fn declared_part(variable: Option<Declared>) -> Part
     ensures takes { takes result ≡ 0 }
-    ensures made { made result [] ≡ declared_meant variable }
+    ensures made { make_expression result [] ≡ declared_meant variable }
 {
     match variable {
         None => Part::Literal(0),
@@ -39,7 +39,7 @@ fn declared_part(variable: Option<Declared>) -> Part
 
 fn variable_part<'a>(scope: &Scope<'a, '_>, name: &'a Name) -> Part
     ensures takes { takes result ≡ 0 }
-    ensures made { made result [] ≡ variable_meant (the_scope scope.now) name.now }
+    ensures made { make_expression result [] ≡ variable_meant (the_scope scope.now) name.now }
 {
     declared_part(scope.variable(name.text.as_bytes()))
 }
@@ -83,7 +83,7 @@ fn push_part(parts: &mut Vec<Part>, part: Part) -> Result<(), AllocError>
 // A part that has no operands.
 fn push_value(parts: &mut Vec<Part>, part: Part) -> Result<(), AllocError>
     requires { takes part ≡ 0 }
-    ensures { OnOk result (Adds (made part []) parts.old.items parts.new.items) }
+    ensures { OnOk result (Adds (make_expression part []) parts.old.items parts.new.items) }
 {
     push_part(parts, part)
 }
@@ -111,7 +111,7 @@ fn push_object<'a>(
 
 // A string is filled byte by byte.
 fn push_bytes(parts: &mut Vec<Part>, append: u32, text: &[u8]) -> Result<(), AllocError>
-    ensures { OnOk result (Turns (λ e. filled append e text.now) parts.old.items parts.new.items) }
+    ensures { OnOk result (Turns (λ e. filled_characters append e text.now) parts.old.items parts.new.items) }
 {
     for byte in text {
         push_value(parts, Part::Literal(*byte as u16))?;
@@ -176,7 +176,7 @@ fn sign_meant(sign: Sign) -> CoreSign
 
 fn operator_part(scope: &Scope, operator: Operator) -> Part
     ensures takes { takes result ≡ 2 }
-    ensures made { (a b : AnExpression) → made result (a ∷ b ∷ []) ≡ binary_meant (the_scope scope.now) operator a b }
+    ensures made { (a b : AnExpression) → make_expression result (a ∷ b ∷ []) ≡ binary_meant (the_scope scope.now) operator a b }
 {
     match operator {
         Operator::Plus => Part::Binary(CoreOperator::Plus),
@@ -292,7 +292,7 @@ fn push_operations<'a>(
     scope: &Scope<'a, '_>,
     operations: &'a [Operation],
 ) -> Result<(), AllocError>
-    ensures { OnOk result (Turns (λ e. grouped (the_scope scope.now) e operations.now) parts.old.items parts.new.items) }
+    ensures { OnOk result (Turns (λ e. grouped_operations (the_scope scope.now) e operations.now) parts.old.items parts.new.items) }
 {
     for operation in operations {
         push_operation(parts, scope, operation)?;
@@ -342,7 +342,7 @@ pub(crate) fn call_meant<'a>(
 // An expression of one part.
 fn single(alloc: Global, part: Part) -> Result<CoreExpression, AllocError>
     requires { takes part ≡ 0 }
-    ensures { IfOk result (λ r. the_expression r ≡ made part []) }
+    ensures { IfOk result (λ r. the_expression r ≡ make_expression part []) }
 {
     let mut parts = Vec::with_capacity(alloc, 1)?;
     push_value(&mut parts, part)?;

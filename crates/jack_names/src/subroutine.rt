@@ -4,7 +4,7 @@ ghost use Rattle.std.specs.Prelude.{◌≡◌, ◌+◌, ◌≤◌, ◌^◌, leng
 ghost use Rattle.jack_core.specs.Texts.{the_statement, the_kind, the_subroutine};
 ghost use Rattle.jack_names.specs.Sizes.{sizes};
 ghost use Rattle.jack_names.specs.Symbols.{locals_of, objects};
-ghost use Rattle.jack_names.specs.Inner.Whole.{begun, is_return, returns, body_meant, kind_meant, subroutine_meant, subroutine_name};
+ghost use Rattle.jack_names.specs.Inner.Whole.{first_statements, is_return, returns, body_meant, kind_meant, subroutine_meant, subroutine_name};
 ghost use Rattle.jack_names.specs.Inner.Scoped.{the_scope};
 ghost use Rattle.jack_names.specs.Resolved.{the_name};
 
@@ -23,7 +23,7 @@ fn begun(
     form: Form,
     fields: u16,
 ) -> Result<Vec<CoreStatement>, AllocError>
-    ensures { IfOk result (λ r. map the_statement r.items ≡ begun (the_scope scope.now) form fields) }
+    ensures { IfOk result (λ r. map the_statement r.items ≡ first_statements (the_scope scope.now) form fields) }
 {
     match form {
         Form::Constructor => {

@@ -1,7 +1,7 @@
 //! Tables of names.
 
 ghost use Rattle.std.specs.Prelude.{◌≡◌, [], OnOk, OnErr, IfOk, not};
-ghost use Rattle.jack_names.specs.Tables.{found, is_among, names_in, with_new};
+ghost use Rattle.jack_names.specs.Tables.{find_value, is_among, names_in, with_new};
 ghost use Rattle.jack_names.specs.Inner.Entered.{table_of};
 
 use indexmap::IndexMap;
@@ -24,7 +24,7 @@ impl<'a, V: Copy + Drop> Table<'a, V> {
 
     /// What a name stands for.
     pub(crate) fn find(&self, name: &'a [u8]) -> Option<V>
-        ensures { result ≡ found name.now (table_of self.now) }
+        ensures { result ≡ find_value name.now (table_of self.now) }
     {
         self.entries.get(&name).copied()
     }

@@ -1,7 +1,7 @@
 -- Lists of trees: as they stand in a tree, and as they are made of sketches.
 use Rattle.std.proofs.Common.{◌≡◌, List, [], ◌∷◌, Some, None, map, refl, ap, sym, ◌∙◌, Bor, Vec, Global}
 use mathlib.Core.Former.{Count}
-use Rattle.grammar.specs.Rules.{Pair, Skip, Node, Left, Right, Absent, Present, NoMore, More, listed}
+use Rattle.grammar.specs.Rules.{Pair, Skip, Node, Left, Right, Absent, Present, NoMore, More, tree_of_list}
 use Rattle.jack_tree.specs.declared.token.Keyword.TheVariants as keyword
 use Rattle.jack_tree.specs.declared.tree.Name.{Name}
 use Rattle.jack_tree.specs.declared.tree.Parameter.{Parameter}
@@ -13,18 +13,18 @@ use Rattle.jack_parser.specs.ClassTrees.{next_name_tree, parameter_tree, next_pa
 use Rattle.jack_parser.proofs.Blocks.{while_is, if_is}
 use Rattle.jack_os.specs.declared.sketch.ExpressionSketch.{ExpressionSketch}
 use Rattle.jack_os.specs.declared.sketch.StatementSketch as sketches
-use Rattle.jack_os.specs.Inner.Made.{Jack, nowhere, word_of, enclosed, row, more_of, parameters_of, if_then, if_else, while_loop}
+use Rattle.jack_os.specs.Inner.Made.{Jack, nowhere, word_of, enclosed_term, row, more_of, parameters_of, if_then, if_else, while_loop}
 use Rattle.jack_os.specs.Inner.Sketched.{expression, statement, all}
 
-pub row_is : {X : Type 0} (tree : X → Jack) (xs : List X) → listed tree xs NoMore ≡ row (map tree xs)
+pub row_is : {X : Type 0} (tree : X → Jack) (xs : List X) → tree_of_list tree xs NoMore ≡ row (map tree xs)
 row_is tree [] = refl
 row_is tree (x ∷ xs) = ap (More (tree x)) (row_is tree xs)
 
-pub names_are : (ns : List Name) → listed next_name_tree ns NoMore ≡ more_of (map name_leaf ns)
+pub names_are : (ns : List Name) → tree_of_list next_name_tree ns NoMore ≡ more_of (map name_leaf ns)
 names_are [] = refl
 names_are (n ∷ ns) = ap (More (next_name_tree n)) (names_are ns)
 
-others_are : (ps : List Parameter) → listed next_parameter_tree ps NoMore ≡ more_of (map parameter_tree ps)
+others_are : (ps : List Parameter) → tree_of_list next_parameter_tree ps NoMore ≡ more_of (map parameter_tree ps)
 others_are [] = refl
 others_are (p ∷ ps) = ap (More (next_parameter_tree p)) (others_are ps)
 
@@ -70,20 +70,20 @@ module _ (condition : Expression) (body : Vec statements.Statement Global) (e : 
   pub made_while : statement_tree (statements.While nowhere condition body) ≡ statement (sketches.While e of)
   made_while =
       ap (λ (t : Jack). Node (Node t)) (while_is nowhere condition body)
-      ∙ (λ i. Node (Node (Right (Right (Left (Pair (word_of keyword.While) (Pair (enclosed (Node (tested i))) (enclosed (row_is statement_tree body.items i)))))))))
+      ∙ (λ i. Node (Node (Right (Right (Left (Pair (word_of keyword.While) (Pair (enclosed_term (Node (tested i))) (enclosed_term (row_is statement_tree body.items i)))))))))
       ∙ ap (while_loop (expression e)) made
       ∙ sym (while_sketch e of)
 
   pub made_if : statement_tree (statements.If nowhere condition body None) ≡ statement (sketches.If e of)
   made_if =
       ap (λ (t : Jack). Node (Node t)) (if_is nowhere condition body None)
-      ∙ (λ i. Node (Node (Right (Left (Pair (word_of keyword.If) (Pair (enclosed (Node (tested i))) (Pair (enclosed (row_is statement_tree body.items i)) Absent)))))))
+      ∙ (λ i. Node (Node (Right (Left (Pair (word_of keyword.If) (Pair (enclosed_term (Node (tested i))) (Pair (enclosed_term (row_is statement_tree body.items i)) Absent)))))))
       ∙ ap (if_then (expression e)) made
       ∙ sym (if_sketch e of)
 
   pub made_else : (other : Vec statements.Statement Global) (otherwise : Bor (List sketches.StatementSketch)) → map statement_tree other.items ≡ map statement otherwise.now → statement_tree (statements.If nowhere condition body (Some other)) ≡ statement (sketches.IfElse e of otherwise)
   made_else other otherwise other_made =
       ap (λ (t : Jack). Node (Node t)) (if_is nowhere condition body (Some other))
-      ∙ (λ i. Node (Node (Right (Left (Pair (word_of keyword.If) (Pair (enclosed (Node (tested i))) (Pair (enclosed (row_is statement_tree body.items i)) (Present (Pair Skip (enclosed (row_is statement_tree other.items i)))))))))))
+      ∙ (λ i. Node (Node (Right (Left (Pair (word_of keyword.If) (Pair (enclosed_term (Node (tested i))) (Pair (enclosed_term (row_is statement_tree body.items i)) (Present (Pair Skip (enclosed_term (row_is statement_tree other.items i)))))))))))
       ∙ (λ i. if_else (expression e) (made i) (other_made i))
       ∙ sym (else_sketch e of otherwise)

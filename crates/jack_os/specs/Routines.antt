@@ -6,11 +6,11 @@ use Rattle.jack_os.specs.Made.{name_of, number, variable, element, alone, pair_o
 
 -- Parts that are used several times.
 
-abbrev pub named : List ℕ → Expression
-named x = alone (variable x)
+abbrev pub name_expression : List ℕ → Expression
+name_expression x = alone (variable x)
 
-abbrev pub numbered : ℕ → Expression
-numbered n = alone (number n)
+abbrev pub number_expression : ℕ → Expression
+number_expression n = alone (number n)
 
 -- `~(e)`
 abbrev pub not_of : Expression → Expression
@@ -29,27 +29,27 @@ against x o n = pair_of (variable x) o (number n)
 
 -- `let x = y;`, `let x = n;`
 abbrev pub let_named : List ℕ → List ℕ → Statement
-let_named x y = let_variable x (named y)
+let_named x y = let_variable x (name_expression y)
 
 abbrev pub let_number : List ℕ → ℕ → Statement
-let_number x n = let_variable x (numbered n)
+let_number x n = let_variable x (number_expression n)
 
 -- `let x[i] = n;`, `let x[i] = y;`
 abbrev pub let_word : List ℕ → ℕ → ℕ → Statement
-let_word x i n = let_element x (numbered i) (numbered n)
+let_word x i n = let_element x (number_expression i) (number_expression n)
 
 abbrev pub let_link : List ℕ → ℕ → List ℕ → Statement
-let_link x i y = let_element x (numbered i) (named y)
+let_link x i y = let_element x (number_expression i) (name_expression y)
 
 abbrev pub return_number : ℕ → Statement
-return_number n = return_value (numbered n)
+return_number n = return_value (number_expression n)
 
 abbrev pub return_named : List ℕ → Statement
-return_named x = return_value (named x)
+return_named x = return_value (name_expression x)
 
 -- `let x = x + x;`
-abbrev pub doubled : List ℕ → Statement
-doubled x = let_variable x (both x Plus x)
+abbrev pub double_statement : List ℕ → Statement
+double_statement x = let_variable x (both x Plus x)
 
 -- `let x = x + 1;`
 abbrev pub one_more : List ℕ → Statement
@@ -61,7 +61,7 @@ before_sixteen = not_of (against (codes "i") Equal 16)
 
 -- `do Sys.error(n);`
 abbrev pub error : ℕ → Statement
-error n = do_call (codes "Sys") (codes "error") (numbered n)
+error n = do_call (codes "Sys") (codes "error") (number_expression n)
 
 abbrev pub refuse : Expression → ℕ → Statement
 refuse condition n = if_then condition (error n ∷ [])
@@ -90,8 +90,8 @@ has_bit = not_of (pair_of (Group (both (codes "y") And (codes "bit"))) Equal (nu
 abbrev pub multiply_step : List Statement
 multiply_step =
     if_then has_bit (let_variable (codes "sum") (both (codes "sum") Plus (codes "shifted")) ∷ [])
-    ∷ doubled (codes "shifted")
-    ∷ doubled (codes "bit")
+    ∷ double_statement (codes "shifted")
+    ∷ double_statement (codes "bit")
     ∷ one_more (codes "i")
     ∷ []
 
@@ -149,10 +149,10 @@ subtract = let_variable (codes "r") (both (codes "r") Minus (codes "y"))
 
 abbrev pub divide_step : List Statement
 divide_step =
-    doubled (codes "r")
-    ∷ doubled (codes "q")
+    double_statement (codes "r")
+    ∷ double_statement (codes "q")
     ∷ if_then (against (codes "x") Less 0) (one_more (codes "r") ∷ [])
-    ∷ doubled (codes "x")
+    ∷ double_statement (codes "x")
     ∷ if_then is_enough (subtract ∷ one_more (codes "q") ∷ [])
     ∷ one_more (codes "i")
     ∷ []
@@ -164,7 +164,7 @@ divide_body =
     ∷ made_positive (codes "x")
     ∷ made_positive (codes "y")
     ∷ while_loop before_sixteen divide_step
-    ∷ if_then (named (codes "s")) (return_value (minus_of (codes "q")) ∷ [])
+    ∷ if_then (name_expression (codes "s")) (return_value (minus_of (codes "q")) ∷ [])
     ∷ return_named (codes "q")
     ∷ []
 
@@ -223,11 +223,11 @@ init = function_of None (codes "init") [] (locals_of array_type (codes "h") [] �
 
 -- `c[0]`
 abbrev pub part_length : Term
-part_length = element (codes "c") (numbered 0)
+part_length = element (codes "c") (number_expression 0)
 
 -- `c[1]`
 abbrev pub next_part : Expression
-next_part = alone (element (codes "c") (numbered 1))
+next_part = alone (element (codes "c") (number_expression 1))
 
 -- `return c + 1;`
 abbrev pub give_block : Statement
@@ -242,7 +242,7 @@ abbrev pub unlink : Statement
 unlink =
     if_else (against (codes "p") Equal 0)
     (let_variable (codes "free") next_part ∷ [])
-    (let_element (codes "p") (numbered 1) next_part ∷ [])
+    (let_element (codes "p") (number_expression 1) next_part ∷ [])
 
 -- `~(c[0] < n)`
 abbrev pub is_long : Expression
@@ -251,7 +251,7 @@ is_long = not_of (pair_of part_length Less (variable (codes "n")))
 abbrev pub take_end : List Statement
 take_end =
     if_then is_whole (unlink ∷ give_block ∷ [])
-    ∷ let_element (codes "c") (numbered 0) (pair_of part_length Minus (variable (codes "n")))
+    ∷ let_element (codes "c") (number_expression 0) (pair_of part_length Minus (variable (codes "n")))
     ∷ let_variable (codes "c") (pair_of (variable (codes "c")) Plus part_length)
     ∷ let_link (codes "c") 0 (codes "n")
     ∷ give_block

@@ -1,6 +1,6 @@
 -- Lists that a tree holds as rows, and as the lists that the code has: arguments, and operators with their terms.
 use Rattle.std.proofs.Common.{◌≡◌, ◌≤◌, List, [], ◌∷◌, ◌++◌, length, refl, sym, ap, ◌∙◌, arith}
-use Rattle.grammar.specs.Rules.{Tree, Node, Leaf, Pair, Present, NoMore, More, listed}
+use Rattle.grammar.specs.Rules.{Tree, Node, Leaf, Pair, Present, NoMore, More, tree_of_list}
 use Rattle.grammar.proofs.Repeats.{listed-push}
 use Rattle.jack_tree.specs.declared.tree.Term.{Term}
 use Rattle.jack_tree.specs.declared.tree.Operation.{Operation}
@@ -17,7 +17,7 @@ pub args_tree-some : (es : List Expression) → 1 ≤ length es → args_tree es
 args_tree-some [] h = absurd (omega arith)
 args_tree-some (e ∷ es) h = refl
 
-more_is : (n : _) (row : Row_of-Expression n) → more_of row ≡ listed next_tree (items-the_row-Expression n row) NoMore
+more_is : (n : _) (row : Row_of-Expression n) → more_of row ≡ tree_of_list next_tree (items-the_row-Expression n row) NoMore
 more_is n end_of-Expression = refl
 more_is n (more_of-Expression e es) = ap (More (next_tree e)) (more_is _ es)
 
@@ -63,7 +63,7 @@ expression_is (Expression' t p os) =
     ∙ ap tree_of (sym (outs-Expression' t p os))
 
 -- one more operator
-pub grown : (t : Term) (os : List Operation) (o : Operation) (x : Tree Said) → Node (Pair (term_tree t) (listed operation_tree os (More (operation_tree o) x))) ≡ Node (Pair (term_tree t) (listed operation_tree (os ++ o ∷ []) x))
+pub grown : (t : Term) (os : List Operation) (o : Operation) (x : Tree Said) → Node (Pair (term_tree t) (tree_of_list operation_tree os (More (operation_tree o) x))) ≡ Node (Pair (term_tree t) (tree_of_list operation_tree (os ++ o ∷ []) x))
 grown t os o x = ap (λ (y : Tree Said). Node (Pair (term_tree t) y)) (sym (listed-push operation_tree os o x))
 
 -- an expression that was made of its parts

@@ -20,10 +20,10 @@ use Rattle.jack_parser.specs.declared.counts.Counted.{Counted}
 use Rattle.jack_parser.specs.declared.counts.Counted.TheVariants as counted
 use Rattle.jack_lexer.specs.Tokens.{tokens_of, finish}
 use Rattle.jack_parser.specs.Grammar as grammar
-use Rattle.jack_parser.specs.Grammar.{jack, Part, Said, JackRule, Fixed, Placed, expression, term, statement, rule_of, opens, whole, sign_is, keyword_is, names, stands_for, any_sign, any_keyword, is_value, keyword_said, constant_by, type_by, is_symbol, is_keyword, symbol_of, keyword_of, key, identifier, constant, operator, unary, type_rule, result_rule, form_rule, counted_name, declaration, subscript, group, argument_list, invoked, variable, negation, block, let_rule, else_rule, if_rule, while_rule, do_rule, return_rule, any_statement, names_rule, class_variables, locals_rule, parameter, parameter_list, subroutine, class_rule, is_operator, is_unary, types, returns, forms, string_size, deeper, count, so_many, one_more, fresh, check_constant, unquoted}
+use Rattle.jack_parser.specs.Grammar.{jack, Part, Said, JackRule, Fixed, Placed, expression, term, statement, rule_of, opens, whole, sign_is, keyword_is, names, stands_for, any_sign, any_keyword, is_value, keyword_said, constant_by, type_by, is_symbol, is_keyword, symbol_of, keyword_of, key, identifier, constant, operator, unary, type_rule, result_rule, form_rule, counted_name, declaration, subscript, group, argument_list, invocation_rule, variable, negation, block, let_rule, else_rule, if_rule, while_rule, do_rule, return_rule, any_statement, names_rule, class_variables, locals_rule, parameter, parameter_list, subroutine, class_rule, is_operator, is_unary, types, returns, forms, string_size, deeper, count, so_many, one_more, fresh, check_constant, without_quotes}
 use Rattle.jack_parser.specs.Spells.{whole_tree, Spells}
 use Rattle.grammar.specs.Printed.{set_off}
-use Rattle.jack_parser.specs.Printed.{class_text, unplaced}
+use Rattle.jack_parser.specs.Printed.{class_text, without_place}
 use Rattle.jack_parser.proofs.Spaced.{told, told_by, good_tokens, printed_good}
 use Rattle.jack_parser.proofs.TokensTold.{tokens_told}
 use Rattle.std.specs.List.{flat_map}
@@ -32,7 +32,7 @@ abbrev W : Type 0
 W = Kind × List ℕ
 
 abbrev Blind : Place → JackRule → Type 0
-Blind at r = alike.Blind Word Counts Part Said W Said (jack at) told unplaced r
+Blind at r = alike.Blind Word Counts Part Said W Said (jack at) told without_place r
 
 by_kind : {X : Type 0} (f : Kind → X) (t u : Word) → told t ≡ told u → f t.kind ≡ f u.kind
 by_kind f t u e = ap (λ (x : W). f x.0) e
@@ -57,7 +57,7 @@ said_of (kind.Integer n) x = Fixed (kind.Integer n)
 said_of kind.Text x = Placed kind.Text x start
 said_of kind.Identifier x = Placed kind.Identifier x start
 
-keyword_unplaced : (k : Keyword) (at : Place) → unplaced (keyword_said k at) ≡ keyword_said k start
+keyword_unplaced : (k : Keyword) (at : Place) → without_place (keyword_said k at) ≡ keyword_said k start
 keyword_unplaced keyword.Class at = refl
 keyword_unplaced keyword.Constructor at = refl
 keyword_unplaced keyword.Function at = refl
@@ -80,7 +80,7 @@ keyword_unplaced keyword.Else at = refl
 keyword_unplaced keyword.While at = refl
 keyword_unplaced keyword.Return at = refl
 
-constant_unplaced : (k : Kind) (x : List ℕ) (at : Place) → unplaced (constant_by k x at) ≡ said_of k (told_by k x)
+constant_unplaced : (k : Kind) (x : List ℕ) (at : Place) → without_place (constant_by k x at) ≡ said_of k (told_by k x)
 constant_unplaced (kind.Keyword k) x at = keyword_unplaced k at
 constant_unplaced (kind.Symbol b) x at = refl
 constant_unplaced (kind.Integer n) x at = refl
@@ -91,7 +91,7 @@ abbrev type_of : Kind → List ℕ → Said
 type_of kind.Identifier x = Placed kind.Identifier x start
 type_of k x = Fixed k
 
-type_unplaced : (k : Kind) (x : List ℕ) (at : Place) → unplaced (type_by k x at) ≡ type_of k (told_by k x)
+type_unplaced : (k : Kind) (x : List ℕ) (at : Place) → without_place (type_by k x at) ≡ type_of k (told_by k x)
 type_unplaced (kind.Keyword k) x at = refl
 type_unplaced (kind.Symbol b) x at = refl
 type_unplaced (kind.Integer n) x at = refl
@@ -162,7 +162,7 @@ module _ (at : Place) where
   form_blind : Blind at form_rule
   form_blind = (λ t u e. by_kind (any_keyword forms false) t u e, λ s s' t u e i c. c, λ t u e i. by_kind Fixed t u e)
 
-  nested_blind : (n : Part) → Blind at (grammar.nested (name n))
+  nested_blind : (n : Part) → Blind at (grammar.nested_rule (name n))
   nested_blind n = (deeper_same, tt)
 
   subscript_blind : Blind at subscript
@@ -177,7 +177,7 @@ module _ (at : Place) where
   call_blind : Blind at grammar.call
   call_blind = (symbol_blind 40, ((deeper_same, argument_list_blind), symbol_blind 41))
 
-  invoked_blind : Blind at invoked
+  invoked_blind : Blind at invocation_rule
   invoked_blind = (call_blind, (symbol_blind 46, (name_blind, call_blind)))
 
   variable_blind : Blind at variable
@@ -258,11 +258,11 @@ none_left [] e = refl
 none_left (u ∷ us) e = absurd cc
 
 abbrev pub SpellsAlike : List ℕ → Tree Said → Type 0
-SpellsAlike text x = (y : Tree Said) × Spells text y × (seen_by unplaced x ≡ seen_by unplaced y)
+SpellsAlike text x = (y : Tree Said) × Spells text y × (seen_by without_place x ≡ seen_by without_place y)
 
 pub read_again : (at : Place) (out : List ℕ) (x : Tree Said) (ts us : List Word) (s' : Counts) → Reads Word Counts Part Said (jack at) (fresh 0) whole ts x s' [] → map told us ≡ map told ts → tokens_of out ≡ Ok us → SpellsAlike out x
 read_again at out x ts us s' h same cut =
-    let m = alike.read_alike Word Counts Part Said W Said (jack at) told unplaced opens_same (part_blind at) (whole_blind at) h us (sym same) in
+    let m = alike.read_alike Word Counts Part Said W Said (jack at) told without_place opens_same (part_blind at) (whole_blind at) h us (sym same) in
     let all = subst (λ (l : List Word). Reads Word Counts Part Said (jack at) (fresh 0) whole us m.tree s' l) (none_left m.rest m.same_rest) m.reads in
     (m.tree, (us, s', cut, ends_anywhere (jack at) (finish out) all), m.same_tree)
 

@@ -11,7 +11,7 @@ use Rattle.jack_tree.specs.Tokens.{Word}
 use Rattle.jack_tree.specs.Syntax.{Name}
 use Rattle.jack_parser.specs.declared.counts.Counted.{Counted}
 use Rattle.jack_parser.specs.declared.counts.Counts.{Counts}
-use Rattle.jack_parser.specs.Grammar.{jack, Part, Said, Fixed, Placed, JackRule, free, named, sign_is, is_symbol, symbol_of, so_many, one_more, count, deeper, fresh, nested}
+use Rattle.jack_parser.specs.Grammar.{jack, Part, Said, Fixed, Placed, JackRule, free, named_word, sign_is, is_symbol, symbol_of, so_many, one_more, count, deeper, fresh, nested_rule}
 use Rattle.jack_parser.specs.Spelling.{Tokens, Says, text_by}
 use Rattle.jack_parser.proofs.Saying.{SayFront}
 use Rattle.jack_parser.proofs.PlainTrees.{name_said}
@@ -112,12 +112,12 @@ module _ (end : Place) where
   word_next is value v r vs s s' (t ∷ ts) us y e d h k = both (word_as is free value s s t ts v (ap (λ (j : Kind). is (record t { kind = j })) (kind_said t v h.told.0) ∙ e t) refl (d t h.told.0)) k
 
   -- a part one level deeper
-  pub nested_reads : (r : JackRule) (s s' : Counts) (ts us : List Word) (x : Tree Said) → s.nesting < 256 → enters (jack end) r ts ≡ true → R (fresh (s.nesting + 1)) r ts x s' us → R s (nested r) ts (Node x) s us
+  pub nested_reads : (r : JackRule) (s s' : Counts) (ts us : List Word) (x : Tree Said) → s.nesting < 256 → enters (jack end) r ts ≡ true → R (fresh (s.nesting + 1)) r ts x s' us → R s (nested_rule r) ts (Node x) s us
   nested_reads r s s' ts us x n e h = inside e (deeper_is s (here (jack end) ts) n) h
 
 -- ---- values of tokens
 
-pub name_value : (t : Word) (n : Name) → Says t (name_said n) → named t ≡ name_said n
+pub name_value : (t : Word) (n : Name) → Says t (name_said n) → named_word t ≡ name_said n
 name_value t n h =
     let same : t.text ≡ n.text = sym (ap (λ (k : Kind). text_by k t.text) h.0) ∙ h.1 in
     λ i. Placed kind.Identifier (same i) (h.2 i)

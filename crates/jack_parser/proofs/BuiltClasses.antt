@@ -2,7 +2,7 @@
 use Rattle.std.proofs.Common.{◌≡◌, ℕ, ◌+◌, ◌<◌, ◌≤◌, true, false, List, [], ◌∷◌, ◌++◌, length, Option, Some, None, refl, sym, ap, subst, ◌∙◌, arith}
 use Rattle.std.specs.List.{flat_map}
 use Rattle.scan_text.specs.declared.Place.{Place}
-use Rattle.grammar.specs.Rules.{seq, option, repeat, Tree, Leaf, NoMore, listed, next, both, left, right, passed, taken, ended, again, inside, at_end}
+use Rattle.grammar.specs.Rules.{seq, option, repeat, Tree, Leaf, NoMore, tree_of_list, next, both, left, right, passed, taken, ended, again, inside, at_end}
 use Rattle.jack_tree.specs.declared.token.Keyword.{Keyword}
 use Rattle.jack_tree.specs.declared.token.Keyword.TheVariants as keyword
 use Rattle.jack_tree.specs.declared.token.Kind.{Kind}
@@ -13,7 +13,7 @@ use Rattle.jack_parser.specs.declared.counts.Counted.{Counted}
 use Rattle.jack_parser.specs.declared.counts.Counted.TheVariants as counted
 use Rattle.jack_parser.specs.declared.counts.Counts.{Counts}
 use Rattle.jack_parser.specs.Grammar as grammar
-use Rattle.jack_parser.specs.Grammar.{Said, Fixed, Placed, JackRule, statement, opens, fixed, free, is_keyword, is_symbol, is_identifier, is_type, is_result, is_form, is_scope, type_by, type_said, so_many, one_more, fresh, count, statement_opens}
+use Rattle.jack_parser.specs.Grammar.{Said, Fixed, Placed, JackRule, statement, opens, fixed_word, free, is_keyword, is_symbol, is_identifier, is_type, is_result, is_form, is_scope, type_by, type_said, so_many, one_more, fresh, count, statement_opens}
 use Rattle.jack_parser.specs.Spelling.{Tokens, Says, type_tokens, result_tokens, names_tokens, scope_tokens, variables_tokens, locals_tokens, parameter_tokens, parameters_tokens, form_tokens, statements_tokens, subroutine_tokens, class_tokens}
 use Rattle.jack_parser.specs.Limits.{total, names_of, statics_by, fields_by, statics_in, fields_in, StatementsKeepIn, SubroutineKeeps, SubroutinesKeep, KeepsLimits}
 use Rattle.jack_parser.proofs.PlainTrees as trees
@@ -73,7 +73,7 @@ form_is Constructor w = refl
 form_is Function w = refl
 form_is Method w = refl
 
-form_value : (f : Form) (w : Word) → Says w (form_said f) → fixed w ≡ form_said f
+form_value : (f : Form) (w : Word) → Says w (form_said f) → fixed_word w ≡ form_said f
 form_value Constructor w h = fixed_value w _ h
 form_value Function w h = fixed_value w _ h
 form_value Method w h = fixed_value w _ h
@@ -96,14 +96,14 @@ module _ (end : Place) where
   name_counted x n s [] us k h = absurd h.told
   name_counted x n s (t ∷ ts) us k h =
       rest_is end s (one_more x s) _ (t ∷ ts) ts us _ h.told.1
-      (word_as end is_identifier (λ c w. count x c w.place) grammar.named s (one_more x s) t ts (name_said n) (ap (λ (j : Kind). grammar.names j) (kind_said t (name_said n) h.told.0)) (count_is x s t.place k) (name_value t n h.told.0))
+      (word_as end is_identifier (λ c w. count x c w.place) grammar.named_word s (one_more x s) t ts (name_said n) (ap (λ (j : Kind). grammar.names j) (kind_said t (name_said n) h.told.0)) (count_is x s t.place k) (name_value t n h.told.0))
 
   -- Names of the sort x, which are none of the sort y.
   module _ (x y : Counted) (one : (s : Counts) → so_many x (one_more x s) ≡ so_many x s + 1) (stays : (s : Counts) → so_many y (one_more x s) ≡ so_many y s) (level : (s : Counts) → (one_more x s).nesting ≡ s.nesting) where
     abbrev C : Counts → JackRule → List Word → Tree Said → List Word → ℕ → Type 0
     C s r ts t us n = Counting end x y s r ts t us n 0
 
-    more_counted : (ns : List Name) (s : Counts) (ts us : List Word) → so_many x s + length ns ≤ 16384 → next (is_symbol 44) us ≡ false → Front (flat_map (λ n. sign_of 44 ∷ name_said n ∷ []) ns) ts us → C s (repeat (grammar.next_name x)) ts (listed next_name_tree ns NoMore) us (length ns)
+    more_counted : (ns : List Name) (s : Counts) (ts us : List Word) → so_many x s + length ns ≤ 16384 → next (is_symbol 44) us ≡ false → Front (flat_map (λ n. sign_of 44 ∷ name_said n ∷ []) ns) ts us → C s (repeat (grammar.next_name x)) ts (tree_of_list next_name_tree ns NoMore) us (length ns)
     more_counted [] s ts us k q h = record { after = s; reads = front_is end s s _ ts us us _ h.told (ended q); more = nothing_more (so_many x s); same = nothing_more (so_many y s); level = refl }
     more_counted (n ∷ ns) s ts us k q h =
         let p = front_split (sign_of 44 ∷ name_said n ∷ []) (flat_map (λ m. sign_of 44 ∷ name_said m ∷ []) ns) ts us h in
@@ -160,7 +160,7 @@ module _ (end : Place) where
     next_tokens p = sign_of 44 ∷ parameter_tokens p
 
     further_counted : (ps : List Parameter) (s : Counts) (ts us : List Word) → so_many x s + length ps ≤ 16384 → next (is_symbol 44) us ≡ false → Front (flat_map next_tokens ps) ts us
-        → C s (repeat (seq (grammar.symbol_of 44) (seq grammar.type_rule (grammar.counted_name x)))) ts (listed next_parameter_tree ps NoMore) us (length ps)
+        → C s (repeat (seq (grammar.symbol_of 44) (seq grammar.type_rule (grammar.counted_name x)))) ts (tree_of_list next_parameter_tree ps NoMore) us (length ps)
     further_counted [] s ts us k q h = record { after = s; reads = front_is end s s _ ts us us _ h.told (ended q); more = nothing_more (so_many x s); same = nothing_more (so_many y s); level = refl }
     further_counted (a ∷ ps) s ts us k q h =
         let p = front_split (next_tokens a) (flat_map next_tokens ps) ts us h in
@@ -219,7 +219,7 @@ module _ (end : Place) where
   scope_first Field vs ts us h = next_by is_scope true _ _ ts us h (λ w. refl)
 
   all_variables : (vs : List ClassVariables) (s : Counts) (ts us : List Word) → s.statics + total statics_in vs ≤ 16384 → s.fields + total fields_in vs ≤ 16384 → next is_scope us ≡ false → Front (flat_map variables_tokens vs) ts us
-      → V s (repeat grammar.class_variables) ts (listed variables_tree vs NoMore) us (total statics_in vs) (total fields_in vs)
+      → V s (repeat grammar.class_variables) ts (tree_of_list variables_tree vs NoMore) us (total statics_in vs) (total fields_in vs)
   all_variables [] s ts us k l q h = record { after = s; reads = front_is end s s _ ts us us _ h.told (ended q); more = nothing_more s.statics; same = nothing_more s.fields; level = refl }
   all_variables (v ∷ vs) s ts us k l q h =
       let p = front_split (variables_tokens v) (flat_map variables_tokens vs) ts us h in
@@ -238,7 +238,7 @@ module _ (end : Place) where
   -- ---- subroutines
 
   all_locals : (vs : List Locals) (s : Counts) (ts us : List Word) → s.locals + total (λ v. names_of v.names) vs ≤ 16384 → next (is_keyword keyword.Var) us ≡ false → Front (flat_map locals_tokens vs) ts us
-      → (s' : Counts) × R end s (repeat grammar.locals_rule) ts (listed locals_tree vs NoMore) s' us × (s'.nesting ≡ s.nesting)
+      → (s' : Counts) × R end s (repeat grammar.locals_rule) ts (tree_of_list locals_tree vs NoMore) s' us × (s'.nesting ≡ s.nesting)
   all_locals [] s ts us k q h = (s, front_is end s s _ ts us us _ h.told (ended q), refl)
   all_locals (v ∷ vs) s ts us k q h =
       let p = front_split (locals_tokens v) (flat_map locals_tokens vs) ts us h in
@@ -280,16 +280,16 @@ module _ (end : Place) where
       let done : Done b.0 = (next_by statement_opens false _ _ b.0 us b.2 (λ w. refl), next_by (is_keyword keyword.Else) false _ _ b.0 us b.2 (λ w. refl)) in
       let ss = statements_read end t.statements vs.0 l.0 b.0 (subst (λ (d : ℕ). StatementsKeepIn d t.statements) (sym level) k.statements) done b.1 in
       inside (next_by is_form true _ _ ts us f (form_is t.form)) refl
-      (word_next end is_form fixed (form_said t.form) _ _ begun vs.0 ts us _ (form_is t.form) (form_value t.form) f
+      (word_next end is_form fixed_word (form_said t.form) _ _ begun vs.0 ts us _ (form_is t.form) (form_value t.form) f
       (word_next end is_result type_said (result_said t.result) _ _ begun vs.0 _ us _ (result_is t.result) (result_value t.result) g
-      (word_next end is_identifier grammar.named (name_said t.name) _ _ begun vs.0 _ us _ (λ w. refl) (λ w d. name_value w t.name d) n
+      (word_next end is_identifier grammar.named_word (name_said t.name) _ _ begun vs.0 _ us _ (λ w. refl) (λ w d. name_value w t.name d) n
       (mark_next end (is_symbol 40) (sign_of 40) _ _ begun vs.0 _ us _ (λ w. refl) o
       (both ps.reads
       (mark_next end (is_symbol 41) (sign_of 41) _ _ ps.after vs.0 p.0 us _ (λ w. refl) p.2
       (mark_next end (is_symbol 123) (sign_of 123) _ _ ps.after vs.0 _ us _ (λ w. refl) i
       (both vs.1 (both ss (symbol_last end 125 vs.0 b.0 us b.2))))))))))
 
-  all_subroutines : (ts : List Subroutine) (s : Counts) (ws us : List Word) → SubroutinesKeep ts → s.nesting ≡ 0 → next is_form us ≡ false → Front (flat_map subroutine_tokens ts) ws us → R end s (repeat grammar.subroutine) ws (listed subroutine_tree ts NoMore) s us
+  all_subroutines : (ts : List Subroutine) (s : Counts) (ws us : List Word) → SubroutinesKeep ts → s.nesting ≡ 0 → next is_form us ≡ false → Front (flat_map subroutine_tokens ts) ws us → R end s (repeat grammar.subroutine) ws (tree_of_list subroutine_tree ts NoMore) s us
   all_subroutines [] s ws us k z q h = front_is end s s _ ws us us _ h.told (ended q)
   all_subroutines (t ∷ ts) s ws us k z q h =
       let p = front_split (subroutine_tokens t) (flat_map subroutine_tokens ts) ws us h in
@@ -322,7 +322,7 @@ module _ (end : Place) where
         vs.after,
         both
             (mark_next end (is_keyword keyword.Class) (Fixed (kind.Keyword keyword.Class)) _ _ (fresh 0) vs.after ts [] _ (λ t. refl) h
-            (word_next end is_identifier grammar.named (name_said c.name) _ _ (fresh 0) vs.after _ [] _ (λ t. refl) (λ t d. name_value t c.name d) n
+            (word_next end is_identifier grammar.named_word (name_said c.name) _ _ (fresh 0) vs.after _ [] _ (λ t. refl) (λ t d. name_value t c.name d) n
             (mark_next end (is_symbol 123) (sign_of 123) _ _ (fresh 0) vs.after _ [] _ (λ t. refl) o
             (both vs.reads (both ss (symbol_last end 125 vs.after w.0 [] w.2))))))
             at_end,

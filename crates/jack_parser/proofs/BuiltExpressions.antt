@@ -15,7 +15,7 @@ use Rattle.jack_parser.specs.declared.counts.Counted.TheVariants as counted
 use Rattle.jack_parser.specs.declared.counts.Counts.{Counts}
 use Rattle.jack_parser.specs.declared.words.Start.TheVariants as starts
 use Rattle.jack_parser.specs.Grammar as grammar
-use Rattle.jack_parser.specs.Grammar.{jack, Said, Fixed, Placed, JackRule, expression, term, opens, placed, fixed, operates, negates, is_identifier, is_symbol, symbol_of, is_constant, constant_by, constant_said, check_constant, string_size, unquoted, one_more, fresh, nested, term_opens, free}
+use Rattle.jack_parser.specs.Grammar.{jack, Said, Fixed, Placed, JackRule, expression, term, opens, placed_word, fixed_word, operates, negates, is_identifier, is_symbol, symbol_of, is_constant, constant_by, constant_said, check_constant, string_size, without_quotes, one_more, fresh, nested_rule, term_opens, free}
 use Rattle.jack_parser.specs.Starts.{start_by, start_of}
 use Rattle.jack_parser.specs.Spelling.{Tokens, Says, text_by, operator_tokens, sign_tokens, constant_tokens, expression_tokens, operations_tokens, term_tokens, arguments_tokens, further_tokens}
 use Rattle.jack_parser.specs.Limits.{IsShort, count_of, KeepsIn, OperationsKeepIn, TermKeepsIn, ArgumentsKeepIn, ExpressionsKeepIn}
@@ -32,7 +32,7 @@ in_signs b c l = sign_of b ∷ (l ++ sign_of c ∷ [])
 
 -- what makes a name more than a variable
 abbrev pub goes_on : Word → Bool
-goes_on t = begins opens (rules.choice grammar.subscript grammar.invoked) t
+goes_on t = begins opens (rules.choice grammar.subscript grammar.invocation_rule) t
 
 -- neither an operator follows nor what goes on behind a name
 abbrev pub Stop : List Word → Type 0
@@ -117,7 +117,7 @@ by_kind t k h = ap (λ (j : Kind). constant_by j t.text t.place) h
 constant_value : (c : Constant) (t : Word) → Says t (trees.constant_said c) → constant_said t ≡ trees.constant_said c
 constant_value (Integer n) t h = by_kind t (kind.Integer n) h
 constant_value (String x) t h =
-    let same : unquoted t.text ≡ x.text = sym (ap (λ (k : Kind). text_by k t.text) h.0) ∙ h.1 in
+    let same : without_quotes t.text ≡ x.text = sym (ap (λ (k : Kind). text_by k t.text) h.0) ∙ h.1 in
     by_kind t kind.Text h.0 ∙ (λ i. Placed kind.Text (same i) (h.2 i))
 constant_value True t h = by_kind t (kind.Keyword keyword.True) h
 constant_value False t h = by_kind t (kind.Keyword keyword.False) h
@@ -130,7 +130,7 @@ size_by t k h = ap (λ (j : Kind). string_size j t.text) h
 constant_size : (c : Constant) (t : Word) → IsShort c → Says t (trees.constant_said c) → string_size t.kind t.text ≤ 16384
 constant_size (Integer n) t k h = let e = size_by t (kind.Integer n) h in omega (arith, e)
 constant_size (String x) t k h =
-    let same : unquoted t.text ≡ x.text = sym (ap (λ (j : Kind). text_by j t.text) h.0) ∙ h.1 in
+    let same : without_quotes t.text ≡ x.text = sym (ap (λ (j : Kind). text_by j t.text) h.0) ∙ h.1 in
     let e : string_size t.kind t.text ≡ length x.text = size_by t kind.Text h.0 ∙ ap length same in
     omega (arith, e, k)
 constant_size True t k h = let e = size_by t (kind.Keyword keyword.True) h in omega (arith, e)
@@ -183,7 +183,7 @@ module _ (end : Place) where
 
   -- an expression in brackets
   pub level_reads : (e : Expression) → ReadsAt e → (b c : ℕ) (s : Counts) (ts us : List Word) → (s.nesting < 256) × KeepsIn (s.nesting + 1) e → ((t : Word) → (operates (record t { kind = kind.Symbol c }) ≡ false) × (goes_on (record t { kind = kind.Symbol c }) ≡ false))
-      → Front (in_signs b c (expression_tokens e)) ts us → R end s (seq (symbol_of b) (seq (nested (name expression)) (symbol_of c))) ts (enclosed (Node (expression_tree e))) s us
+      → Front (in_signs b c (expression_tokens e)) ts us → R end s (seq (symbol_of b) (seq (nested_rule (name expression)) (symbol_of c))) ts (enclosed (Node (expression_tree e))) s us
   level_reads e reads b c s ts us k q h = symbol_then end b _ _ s s ts us _ h (λ l f.
       let p = front_split (expression_tokens e) (sign_of c ∷ []) l us f in
       both (nested_reads end (name expression) s (fresh (s.nesting + 1)) l p.0 _ k.0 (expression_first e l p.0 p.1) (reads (fresh (s.nesting + 1)) l p.0 k.1 (stop_by _ _ p.0 us p.2 q) p.1)) (symbol_last end c s p.0 us p.2))
@@ -193,7 +193,7 @@ module _ (end : Place) where
 
   -- a name, and then another part
   pub name_then : (x : Name) (s s' : Counts) (w : Word) (ts us : List Word) (y : Tree Said) {r : JackRule} {vs : Tokens} → Front (name_said x ∷ vs) (w ∷ ts) us → ((l : List Word) → Front vs l us → R end s r l y s' us) → R end s (seq grammar.identifier r) (w ∷ ts) (Pair (Leaf (name_said x)) y) s' us
-  name_then x s s' w ts us y {r} {vs} h k = word_then end is_identifier grammar.named (name_said x) r vs s s' (w ∷ ts) us y (λ t. refl) (λ t d. name_value t x d) h k
+  name_then x s s' w ts us y {r} {vs} h k = word_then end is_identifier grammar.named_word (name_said x) r vs s s' (w ∷ ts) us y (λ t. refl) (λ t d. name_value t x d) h k
 
   -- a call's parentheses
   pub call_by : (es : Expressions) (s : Counts) → ((ts us : List Word) → ArgumentsKeepIn s.nesting es → Shut us → Front (arguments_tokens es) ts us → R end s grammar.arguments ts (arguments_tree es) s us)
@@ -206,7 +206,7 @@ module _ (end : Place) where
   pub through_by : (f : Name) (es : Expressions) (s : Counts) → ((ts us : List Word) → ArgumentsKeepIn s.nesting es → Shut us → Front (arguments_tokens es) ts us → R end s grammar.arguments ts (arguments_tree es) s us)
       → (ts us : List Word) → ArgumentsKeepIn s.nesting es → Front (sign_of 46 ∷ name_said f ∷ in_signs 40 41 (arguments_tokens es)) ts us → R end s grammar.through ts (Pair Skip (Pair (Leaf (name_said f)) (enclosed (arguments_tree es)))) s us
   through_by f es s read ts us k h = symbol_then end 46 _ _ s s ts us _ h (λ l g.
-      word_then end is_identifier grammar.named (name_said f) _ _ s s l us _ (λ t. refl) (λ t d. name_value t f d) g (λ m d. call_by es s read m us k d))
+      word_then end is_identifier grammar.named_word (name_said f) _ _ s s l us _ (λ t. refl) (λ t d. name_value t f d) g (λ m d. call_by es s read m us k d))
 
   mutual
     pub expression_reads : (e : Expression) (s : Counts) (ts us : List Word) → KeepsIn s.nesting e → Stop us → Front (expression_tokens e) ts us → R end s (name expression) ts (expression_tree e) s us
@@ -220,7 +220,7 @@ module _ (end : Place) where
         let f = operator_front o at _ ts us h in
         let p = front_split (operator_said o at ∷ term_tokens t) (operations_tokens os) ts us f in
         again (next_by operates true _ _ ts us f (operator_operates o at))
-        (word_then end operates placed (operator_said o at) _ _ s s ts p.0 _ (operator_operates o at) (λ w d. placed_value w _ at d) p.1 (λ l g. term_reads t s l p.0 k.0 (operations_end os p.0 us p.2 q.1) g))
+        (word_then end operates placed_word (operator_said o at) _ _ s s ts p.0 _ (operator_operates o at) (λ w d. placed_value w _ at d) p.1 (λ l g. term_reads t s l p.0 k.0 (operations_end os p.0 us p.2 q.1) g))
         (operations_reads os s p.0 us k.1 q p.2)
 
     term_reads : (t : Term) (s : Counts) (ts us : List Word) → TermKeepsIn s.nesting t → next goes_on us ≡ false → Front (term_tokens t) ts us → R end s (name term) ts (term_tree t) s us
@@ -237,18 +237,18 @@ module _ (end : Place) where
         (level_reads e (λ u l' m a b c. expression_reads e u l' m a b c) 91 93 s l us k (λ t. (refl, refl)) g))))
     term_reads (Called (Calls None f es)) s [] us k q h = absurd h.told
     term_reads (Called (Calls None f es)) s (w ∷ ts) us k q h = variable_term (start_said (name_said f) w ts h.told.0) (name_then f s s w ts us _ h (λ l g.
-        taken (next_by goes_on true _ _ l us g (λ t. refl)) (right (next_by (begins opens grammar.subscript) false _ _ l us g (λ t. refl)) (next_by (begins opens grammar.invoked) true _ _ l us g (λ t. refl))
+        taken (next_by goes_on true _ _ l us g (λ t. refl)) (right (next_by (begins opens grammar.subscript) false _ _ l us g (λ t. refl)) (next_by (begins opens grammar.invocation_rule) true _ _ l us g (λ t. refl))
         (left (next_by (begins opens grammar.call) true _ _ l us g (λ t. refl)) (call_by es s (λ l' m a b c. arguments_read es s l' m a b c) l us k g)))))
     term_reads (Called (Calls (Some o) f es)) s [] us k q h = absurd h.told
     term_reads (Called (Calls (Some o) f es)) s (w ∷ ts) us k q h = variable_term (start_said (name_said o) w ts h.told.0) (name_then o s s w ts us _ h (λ l g.
-        taken (next_by goes_on true _ _ l us g (λ t. refl)) (right (next_by (begins opens grammar.subscript) false _ _ l us g (λ t. refl)) (next_by (begins opens grammar.invoked) true _ _ l us g (λ t. refl))
+        taken (next_by goes_on true _ _ l us g (λ t. refl)) (right (next_by (begins opens grammar.subscript) false _ _ l us g (λ t. refl)) (next_by (begins opens grammar.invocation_rule) true _ _ l us g (λ t. refl))
         (right (next_by (begins opens grammar.call) false _ _ l us g (λ t. refl)) (next_by (begins opens grammar.through) true _ _ l us g (λ t. refl)) (through_by f es s (λ l' m a b c. arguments_read es s l' m a b c) l us k g)))))
     term_reads (Group e) s [] us k q h = absurd h.told
     term_reads (Group e) s (w ∷ ts) us k q h = group_term (start_said (sign_of 40) w ts h.told.0) (level_reads e (λ u l' m a b c. expression_reads e u l' m a b c) 40 41 s (w ∷ ts) us k (λ t. (refl, refl)) h)
     term_reads (Unary o t) s [] us k q h = absurd (sign_front o _ [] us h).told
     term_reads (Unary o t) s (w ∷ ts) us k q h =
         let f = sign_front o _ (w ∷ ts) us h in
-        negation_term (start_said (sign_said o) w ts f.told.0 ∙ sign_starts o) (word_then end negates fixed (sign_said o) _ _ s s (w ∷ ts) us _ (sign_negates o) (λ v d. fixed_value v _ d) f (λ l g.
+        negation_term (start_said (sign_said o) w ts f.told.0 ∙ sign_starts o) (word_then end negates fixed_word (sign_said o) _ _ s s (w ∷ ts) us _ (sign_negates o) (λ v d. fixed_value v _ d) f (λ l g.
         nested_reads end (name term) s (fresh (s.nesting + 1)) l us _ k.0 (term_first t l us g) (term_reads t (fresh (s.nesting + 1)) l us k.1 q g)))
 
     pub arguments_read : (es : Expressions) (s : Counts) (ts us : List Word) → ArgumentsKeepIn s.nesting es → Shut us → Front (arguments_tokens es) ts us → R end s grammar.arguments ts (arguments_tree es) s us

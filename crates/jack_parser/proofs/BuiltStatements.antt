@@ -10,8 +10,8 @@ use Rattle.jack_tree.specs.Tokens.{Word}
 use Rattle.jack_tree.specs.Syntax.{Name, Expression, Call, Calls, Statement, Let, If, IfElse, While, Do, Return, Statements, End, Next}
 use Rattle.jack_parser.specs.declared.counts.Counts.{Counts}
 use Rattle.jack_parser.specs.Grammar as grammar
-use Rattle.jack_parser.specs.Grammar.{jack, Said, Fixed, Placed, JackRule, expression, statement, rule_of, opens, placed, is_keyword, is_symbol, fresh, statement_opens, term_opens}
-use Rattle.jack_parser.specs.Spelling.{Tokens, expression_tokens, arguments_tokens, call_tokens, index_tokens, value_tokens, condition_tokens, braced, statement_tokens, statements_tokens}
+use Rattle.jack_parser.specs.Grammar.{jack, Said, Fixed, Placed, JackRule, expression, statement, rule_of, opens, placed_word, is_keyword, is_symbol, fresh, statement_opens, term_opens}
+use Rattle.jack_parser.specs.Spelling.{Tokens, expression_tokens, arguments_tokens, call_tokens, index_tokens, value_tokens, condition_tokens, in_braces, statement_tokens, statements_tokens}
 use Rattle.jack_parser.specs.Limits.{CallKeepsIn, IndexKeepsIn, ValueKeepsIn, PartsKeepIn, StatementsKeepIn}
 use Rattle.jack_parser.proofs.PlainTrees.{name_said, enclosed, front_said, invoked_tree, index_tree, value_tree, statement_tree, statements_tree}
 use Rattle.jack_parser.proofs.Building.{Front, front_split, next_by, next_same, R, front_is, symbol_then, symbol_last, mark_then, word_then, nested_reads, name_value, placed_value}
@@ -57,10 +57,10 @@ after_let = rules.choice grammar.if_rule after_if
 module _ (end : Place) where
   key_then : (k : Keyword) (at : Place) (s s' : Counts) (ts us : List Word) (y : Tree Said) {r : JackRule} {vs : Tokens} → ((t : Word) → is_keyword k (record t { kind = kind.Keyword k }) ≡ true) → Front (Placed (kind.Keyword k) [] at ∷ vs) ts us → ((l : List Word) → Front vs l us → R end s r l y s' us)
       → R end s (seq (grammar.key k) r) ts (Pair (Leaf (Placed (kind.Keyword k) [] at)) y) s' us
-  key_then k at s s' ts us y {r} {vs} e h f = word_then end (is_keyword k) placed (Placed (kind.Keyword k) [] at) r vs s s' ts us y e (λ t d. placed_value t (kind.Keyword k) at d) h f
+  key_then k at s s' ts us y {r} {vs} e h f = word_then end (is_keyword k) placed_word (Placed (kind.Keyword k) [] at) r vs s s' ts us y e (λ t d. placed_value t (kind.Keyword k) at d) h f
 
   identifier_then : (x : Name) (s s' : Counts) (ts us : List Word) (y : Tree Said) {r : JackRule} {vs : Tokens} → Front (name_said x ∷ vs) ts us → ((l : List Word) → Front vs l us → R end s r l y s' us) → R end s (seq grammar.identifier r) ts (Pair (Leaf (name_said x)) y) s' us
-  identifier_then x s s' ts us y {r} {vs} h f = word_then end grammar.is_identifier grammar.named (name_said x) r vs s s' ts us y (λ t. refl) (λ t d. name_value t x d) h f
+  identifier_then x s s' ts us y {r} {vs} h f = word_then end grammar.is_identifier grammar.named_word (name_said x) r vs s s' ts us y (λ t. refl) (λ t d. name_value t x d) h f
 
   index_reads : (i : Option Expression) (s : Counts) (ts us : List Word) → IndexKeepsIn s.nesting i → next (is_symbol 91) us ≡ false → Front (index_tokens i) ts us → R end s (option grammar.subscript) ts (index_tree i) s us
   index_reads None s ts us k q h = front_is end s s _ ts us us _ h.told (passed q)
@@ -73,7 +73,7 @@ module _ (end : Place) where
       both (taken (expression_first e ts p.0 p.1) (expression_reads end e s ts p.0 k (stop_by _ _ p.0 us p.2 (λ t. (refl, refl))) p.1)) (symbol_last end 59 s p.0 us p.2)
 
   -- the name of a call and what follows it
-  call_reads : (c : Call) (s : Counts) (ts us : List Word) → CallKeepsIn s.nesting c → Front (call_tokens c ++ sign_of 59 ∷ []) ts us → R end s (seq grammar.identifier (seq grammar.invoked (grammar.symbol_of 59))) ts (Pair (Leaf (front_said c)) (Pair (invoked_tree c) Skip)) s us
+  call_reads : (c : Call) (s : Counts) (ts us : List Word) → CallKeepsIn s.nesting c → Front (call_tokens c ++ sign_of 59 ∷ []) ts us → R end s (seq grammar.identifier (seq grammar.invocation_rule (grammar.symbol_of 59))) ts (Pair (Leaf (front_said c)) (Pair (invoked_tree c) Skip)) s us
   call_reads (Calls None f es) s ts us k h = identifier_then f s s ts us _ h (λ l g.
       let p = front_split (in_signs 40 41 (arguments_tokens es)) (sign_of 59 ∷ []) l us g in
       both (left (next_by (begins opens grammar.call) true _ _ l us g (λ t. refl)) (call_by end es s (arguments_read end es s) l p.0 k p.1)) (symbol_last end 59 s p.0 us p.2))
@@ -85,7 +85,7 @@ module _ (end : Place) where
   BlockReads ss = (s : Counts) (ts us : List Word) → StatementsKeepIn s.nesting ss → Done us → Front (statements_tokens ss) ts us → R end s (repeat (name statement)) ts (statements_tree ss) s us
 
   -- statements in braces
-  block_reads : (ss : Statements) → BlockReads ss → (s : Counts) (ts us : List Word) → StatementsKeepIn s.nesting ss → Front (braced (statements_tokens ss)) ts us → R end s grammar.block ts (enclosed (statements_tree ss)) s us
+  block_reads : (ss : Statements) → BlockReads ss → (s : Counts) (ts us : List Word) → StatementsKeepIn s.nesting ss → Front (in_braces (statements_tokens ss)) ts us → R end s grammar.block ts (enclosed (statements_tree ss)) s us
   block_reads ss reads s ts us k h = symbol_then end 123 _ _ s s ts us _ h (λ l g.
       let p = front_split (statements_tokens ss) (sign_of 125 ∷ []) l us g in
       both (reads s l p.0 k (next_by statement_opens false _ _ p.0 us p.2 (λ t. refl), next_by (is_keyword keyword.Else) false _ _ p.0 us p.2 (λ t. refl)) p.1) (symbol_last end 125 s p.0 us p.2))
@@ -101,13 +101,13 @@ module _ (end : Place) where
         both (expression_reads end e s n c.0 k.1 (stop_by _ _ c.0 us c.2 (λ t. (refl, refl))) c.1) (symbol_last end 59 s c.0 us c.2))))))
     parts_read (If at e body) s ts us k q h = right (next_by (begins opens grammar.let_rule) false _ _ ts us h (λ t. refl)) (next_by (begins opens after_let) true _ _ ts us h (λ t. refl))
         (left (next_by (begins opens grammar.if_rule) true _ _ ts us h (λ t. refl)) (key_then keyword.If at s s ts us _ (λ t. refl) h (λ l g.
-        let p = front_split (condition_tokens e) (braced (statements_tokens body)) l us g in
+        let p = front_split (condition_tokens e) (in_braces (statements_tokens body)) l us g in
         both (level_reads end e (expression_reads end e) 40 41 s l p.0 (k.0, k.1) (λ t. (refl, refl)) p.1)
         (both (block_reads body (λ u m n a b c. statements_read body u m n a b c) s p.0 us k.2 p.2) (passed q)))))
     parts_read (IfElse at e body other) s ts us k q h = right (next_by (begins opens grammar.let_rule) false _ _ ts us h (λ t. refl)) (next_by (begins opens after_let) true _ _ ts us h (λ t. refl))
         (left (next_by (begins opens grammar.if_rule) true _ _ ts us h (λ t. refl)) (key_then keyword.If at s s ts us _ (λ t. refl) h (λ l g.
-        let p = front_split (condition_tokens e) (braced (statements_tokens body) ++ (Fixed (kind.Keyword keyword.Else) ∷ braced (statements_tokens other))) l us g in
-        let d = front_split (braced (statements_tokens body)) (Fixed (kind.Keyword keyword.Else) ∷ braced (statements_tokens other)) p.0 us p.2 in
+        let p = front_split (condition_tokens e) (in_braces (statements_tokens body) ++ (Fixed (kind.Keyword keyword.Else) ∷ in_braces (statements_tokens other))) l us g in
+        let d = front_split (in_braces (statements_tokens body)) (Fixed (kind.Keyword keyword.Else) ∷ in_braces (statements_tokens other)) p.0 us p.2 in
         both (level_reads end e (expression_reads end e) 40 41 s l p.0 (k.0, k.1) (λ t. (refl, refl)) p.1)
         (both (block_reads body (λ u m n a b c. statements_read body u m n a b c) s p.0 d.0 k.2 d.1)
         (taken (next_by (is_keyword keyword.Else) true _ _ d.0 us d.2 (λ t. refl)) (mark_then end (is_keyword keyword.Else) (Fixed (kind.Keyword keyword.Else)) _ _ s s d.0 us _ (λ t. refl) d.2 (λ m f.
@@ -115,7 +115,7 @@ module _ (end : Place) where
     parts_read (While at e body) s ts us k q h = right (next_by (begins opens grammar.let_rule) false _ _ ts us h (λ t. refl)) (next_by (begins opens after_let) true _ _ ts us h (λ t. refl))
         (right (next_by (begins opens grammar.if_rule) false _ _ ts us h (λ t. refl)) (next_by (begins opens after_if) true _ _ ts us h (λ t. refl))
         (left (next_by (begins opens grammar.while_rule) true _ _ ts us h (λ t. refl)) (key_then keyword.While at s s ts us _ (λ t. refl) h (λ l g.
-        let p = front_split (condition_tokens e) (braced (statements_tokens body)) l us g in
+        let p = front_split (condition_tokens e) (in_braces (statements_tokens body)) l us g in
         both (level_reads end e (expression_reads end e) 40 41 s l p.0 (k.0, k.1) (λ t. (refl, refl)) p.1)
         (block_reads body (λ u m n a b c. statements_read body u m n a b c) s p.0 us k.2 p.2)))))
     parts_read (Do at c) s ts us k q h = right (next_by (begins opens grammar.let_rule) false _ _ ts us h (λ t. refl)) (next_by (begins opens after_let) true _ _ ts us h (λ t. refl))

@@ -6,7 +6,7 @@ use Rattle.scan_text.specs.declared.Place.{Place}
 use Rattle.grammar.specs.declared.Fault.{Fault}
 use Rattle.grammar.specs.declared.Fault.TheVariants.{Range}
 use Rattle.grammar.specs.Rules as rules
-use Rattle.grammar.specs.Rules.{Tree, Skip, Leaf, Node, Pair, Left, Right, Absent, Present, NoMore, listed, mark, word, seq, choice, option, repeat, name, within}
+use Rattle.grammar.specs.Rules.{Tree, Skip, Leaf, Node, Pair, Left, Right, Absent, Present, NoMore, tree_of_list, mark, word, seq, choice, option, repeat, name, within}
 use Rattle.jack_tree.specs.declared.token.Keyword.{Keyword}
 use Rattle.jack_tree.specs.declared.token.Keyword.TheVariants as keyword
 use Rattle.jack_tree.specs.declared.token.Kind.{Kind}
@@ -17,7 +17,7 @@ use Rattle.jack_parser.specs.declared.counts.Counted.{Counted}
 use Rattle.jack_parser.specs.declared.counts.Counted.TheVariants as counted
 use Rattle.jack_parser.specs.declared.counts.Counts.{Counts}
 use Rattle.jack_parser.specs.Grammar as grammar
-use Rattle.jack_parser.specs.Grammar.{jack, Part, Said, Fixed, Placed, JackRule, expression, term, statement, rule_of, so_many, one_more, fresh, free, own, nested, symbol_of, counted_name, next_name, names_rule, declaration, type_rule, class_variables, locals_rule, parameters, keyword_said, constant_by, string_size, unquoted, check_constant}
+use Rattle.jack_parser.specs.Grammar.{jack, Part, Said, Fixed, Placed, JackRule, expression, term, statement, rule_of, so_many, one_more, fresh, free, own, nested_rule, symbol_of, counted_name, next_name, names_rule, declaration, type_rule, class_variables, locals_rule, parameters, keyword_said, constant_by, string_size, without_quotes, check_constant}
 use Rattle.jack_parser.specs.Limits.{IsShort, count_of, KeepsIn, OperationsKeepIn, TermKeepsIn, CallKeepsIn, ArgumentsKeepIn, ExpressionsKeepIn, IndexKeepsIn, ValueKeepsIn, PartsKeepIn, StatementsKeepIn, total, names_of, statics_by, fields_by, statics_in, fields_in, SubroutineKeeps, SubroutinesKeep, KeepsLimits}
 use Rattle.jack_parser.proofs.PlainTrees.{constant_said, enclosed, expression_tree, operations_tree, term_tree, arguments_tree, further_tree, invoked_tree, index_tree, value_tree, statement_tree, statements_tree, next_name_tree, declared_tree, scoped, variables_tree, locals_tree, parameter_tree, next_parameter_tree, parameters_tree, subroutine_tree, whole_tree}
 use Rattle.jack_parser.proofs.Reaching.{Reaches, Parts, IsCounted, parts}
@@ -75,7 +75,7 @@ string_is : (k : Kind) (text x : List ℕ) (at p : Place) → constant_by k text
 string_is (kind.Keyword k) text x at p e = absurd (no_string k at p x e)
 string_is (kind.Symbol b) text x at p e = absurd cc
 string_is (kind.Integer n) text x at p e = absurd cc
-string_is kind.Text text x at p e = let same : unquoted text ≡ x = cc in ap length same
+string_is kind.Text text x at p e = let same : without_quotes text ≡ x = cc in ap length same
 string_is kind.Identifier text x at p e = absurd cc
 
 is_short : (c : Constant) (k : Kind) (text : List ℕ) (at : Place) → constant_by k text at ≡ constant_said c → string_size k text ≤ 16384 → IsShort c
@@ -165,9 +165,9 @@ module _ (at : Place) where
   in_name : (s s' : Counts) (n : Part) (x : Tree Said) → Reach s (name n) (Node x) s' → Reach s (rule_of n) x s'
   in_name s s' n x h = in_parts s (name n) (Node x) s' h
 
-  in_nested : (s s' : Counts) (a : JackRule) (x : Tree Said) → Reach s (nested a) (Node x) s' → (s.nesting < 256) × (s' ≡ s) × ((s1 : Counts) × Reach (fresh (s.nesting + 1)) a x s1)
+  in_nested : (s s' : Counts) (a : JackRule) (x : Tree Said) → Reach s (nested_rule a) (Node x) s' → (s.nesting < 256) × (s' ≡ s) × ((s1 : Counts) × Reach (fresh (s.nesting + 1)) a x s1)
   in_nested s s' a x h =
-      let i = in_parts s (nested a) (Node x) s' h in
+      let i = in_parts s (nested_rule a) (Node x) s' h in
       let d = deeper_by s i.inner i.at (nat_le 256 s.nesting) refl i.enters in
       (d.0, i.leaves, (i.outer, subst (λ (t : Counts). Reach t a x i.outer) d.1 i.reads))
 
@@ -191,7 +191,7 @@ module _ (at : Place) where
   KeepsAt e = (s s' : Counts) → Reach s (name expression) (expression_tree e) s' → KeepsIn s.nesting e × (s' ≡ s)
 
   -- an expression in brackets
-  level_by : (e : Expression) → KeepsAt e → (s s' : Counts) (b c : ℕ) → Reach s (seq (symbol_of b) (seq (nested (name expression)) (symbol_of c))) (enclosed (Node (expression_tree e))) s' → ((s.nesting < 256) × KeepsIn (s.nesting + 1) e) × (s' ≡ s)
+  level_by : (e : Expression) → KeepsAt e → (s s' : Counts) (b c : ℕ) → Reach s (seq (symbol_of b) (seq (nested_rule (name expression)) (symbol_of c))) (enclosed (Node (expression_tree e))) s' → ((s.nesting < 256) × KeepsIn (s.nesting + 1) e) × (s' ≡ s)
   level_by e k s s' b c h =
       let n = in_nested s s' _ _ (in_signs s s' b c _ _ h) in
       let a = k (fresh (s.nesting + 1)) n.2.0 n.2.1 in
@@ -265,7 +265,7 @@ module _ (at : Place) where
   value_kept None s s' h = tt
   value_kept (Some e) s s' h = (expression_kept e s s' (is_present s s' _ _ h)).0
 
-  call_kept : (c : Call) (s s' : Counts) → Reach s grammar.invoked (invoked_tree c) s' → CallKeepsIn s.nesting c
+  call_kept : (c : Call) (s s' : Counts) → Reach s grammar.invocation_rule (invoked_tree c) s' → CallKeepsIn s.nesting c
   call_kept (Calls None f es) s s' h = (arguments_kept es s s' (in_signs s s' 40 41 _ _ (is_left s s' _ _ _ h))).0
   call_kept (Calls (Some o) f es) s s' h = (arguments_kept es s s' (in_signs s s' 40 41 _ _ (after_free s s' _ _ _ _ _ (after_mark s s' _ _ _ _ _ (is_right s s' _ _ _ h))))).0
 
@@ -314,7 +314,7 @@ module _ (at : Place) where
         let same : so_many y s' ≡ so_many y (one_more x s) = ap (so_many y) c.1 in
         record { sum = same ∙ one s; bound = λ b. omega (arith, same, fits s c.0 b); nesting = ap (λ (t : Counts). t.nesting) c.1 ∙ same_nesting x s }
 
-    more_gain : (ns : List Name) (s s' : Counts) → Reach s (repeat (next_name x)) (listed next_name_tree ns NoMore) s' → Gains y s s' (times k ns)
+    more_gain : (ns : List Name) (s s' : Counts) → Reach s (repeat (next_name x)) (tree_of_list next_name_tree ns NoMore) s' → Gains y s s' (times k ns)
     more_gain [] s s' h = none y s s' (no_more s s' _ h)
     more_gain (n ∷ ns) s s' h =
         let p = one_more_of s s' _ _ _ h in
@@ -331,7 +331,7 @@ module _ (at : Place) where
     one_parameter : (p : Parameter) (s s' : Counts) → Reach s a_parameter (parameter_tree p) s' → Gains y s s' k
     one_parameter p s s' h = counted_gain s s' _ (after_free s s' _ _ _ _ _ h)
 
-    more_parameters : (ps : List Parameter) (s s' : Counts) → Reach s (repeat (seq (symbol_of 44) a_parameter)) (listed next_parameter_tree ps NoMore) s' → Gains y s s' (times k ps)
+    more_parameters : (ps : List Parameter) (s s' : Counts) → Reach s (repeat (seq (symbol_of 44) a_parameter)) (tree_of_list next_parameter_tree ps NoMore) s' → Gains y s s' (times k ps)
     more_parameters [] s s' h = none y s s' (no_more s s' _ h)
     more_parameters (p ∷ ps) s s' h =
         let q = one_more_of s s' _ _ _ h in
@@ -363,7 +363,7 @@ module _ (at : Place) where
       as_many counted.Field s s' _ _ (all_of ns)
       (declared_gain counted.Field counted.Field 1 (λ u. refl) (λ u. grows u.fields) _ t ns s s' (is_right s s' _ _ _ h))
 
-  all_fields : (vs : List ClassVariables) (s s' : Counts) → Reach s (repeat class_variables) (listed variables_tree vs NoMore) s' → Gains counted.Field s s' (total fields_in vs)
+  all_fields : (vs : List ClassVariables) (s s' : Counts) → Reach s (repeat class_variables) (tree_of_list variables_tree vs NoMore) s' → Gains counted.Field s s' (total fields_in vs)
   all_fields [] s s' h = none counted.Field s s' (no_more s s' _ h)
   all_fields (v ∷ vs) s s' h =
       let q = one_more_of s s' _ _ _ h in
@@ -377,7 +377,7 @@ module _ (at : Place) where
       as_many counted.Static s s' _ _ (none_of ns)
       (declared_gain counted.Field counted.Static 0 (λ u. omega arith) (λ u. stays u.fields u.statics) _ t ns s s' (is_right s s' _ _ _ h))
 
-  all_statics : (vs : List ClassVariables) (s s' : Counts) → Reach s (repeat class_variables) (listed variables_tree vs NoMore) s' → Gains counted.Static s s' (total statics_in vs)
+  all_statics : (vs : List ClassVariables) (s s' : Counts) → Reach s (repeat class_variables) (tree_of_list variables_tree vs NoMore) s' → Gains counted.Static s s' (total statics_in vs)
   all_statics [] s s' h = none counted.Static s s' (no_more s s' _ h)
   all_statics (v ∷ vs) s s' h =
       let q = one_more_of s s' _ _ _ h in
@@ -388,7 +388,7 @@ module _ (at : Place) where
       as_many counted.Local s s' _ _ (all_of v.names)
       (declared_gain counted.Local counted.Local 1 (λ u. refl) (λ u. grows u.locals) _ v.type v.names s s' h)
 
-  all_locals : (vs : List Locals) (s s' : Counts) → Reach s (repeat locals_rule) (listed locals_tree vs NoMore) s' → Gains counted.Local s s' (total (λ v. names_of v.names) vs)
+  all_locals : (vs : List Locals) (s s' : Counts) → Reach s (repeat locals_rule) (tree_of_list locals_tree vs NoMore) s' → Gains counted.Local s s' (total (λ v. names_of v.names) vs)
   all_locals [] s s' h = none counted.Local s s' (no_more s s' _ h)
   all_locals (v ∷ vs) s s' h =
       let q = one_more_of s s' _ _ _ h in
@@ -418,7 +418,7 @@ module _ (at : Place) where
       let locals : total (λ v. names_of v.names) t.locals ≤ 16384 = omega (arith, ls.sum, ls.bound (free.bound (omega arith))) in
       (record { parameters = parameters; locals = locals; statements = subst (λ (n : ℕ). StatementsKeepIn n t.statements) (ls.nesting ∙ ps.nesting ∙ level) ss.0 }, inside.2)
 
-  subroutines_kept : (ts : List Subroutine) (s s' : Counts) → s.nesting ≡ 0 → Reach s (repeat grammar.subroutine) (listed subroutine_tree ts NoMore) s' → SubroutinesKeep ts
+  subroutines_kept : (ts : List Subroutine) (s s' : Counts) → s.nesting ≡ 0 → Reach s (repeat grammar.subroutine) (tree_of_list subroutine_tree ts NoMore) s' → SubroutinesKeep ts
   subroutines_kept [] s s' level h = tt
   subroutines_kept (t ∷ ts) s s' level h =
       let q = one_more_of s s' _ _ _ h in

@@ -1,7 +1,7 @@
 -- How many parts a tree has: a statement that is held by another has fewer.
 use Rattle.std.proofs.Common.{◌≡◌, ℕ, zero, suc, ◌+◌, ◌<◌, List, [], ◌∷◌, Option, Some, length, get_or, ap, ◌∙◌, sym, subst, arith, Vec, Global}
 use Rattle.scan_text.specs.declared.Place.{Place}
-use Rattle.grammar.specs.Rules.{Tree, Skip, Node, Leaf, Pair, Left, Right, Absent, Present, NoMore, More, listed}
+use Rattle.grammar.specs.Rules.{Tree, Skip, Node, Leaf, Pair, Left, Right, Absent, Present, NoMore, More, tree_of_list}
 use Rattle.jack_tree.specs.declared.token.Keyword.TheVariants as keyword
 use Rattle.jack_tree.specs.declared.tree.Expression.{Expression}
 use Rattle.jack_tree.specs.declared.tree.Statement as statements
@@ -43,7 +43,7 @@ pub while_body : {x : statements.Statement} {at : Place} {e : Expression} (body 
 while_body {x} {at} {e} body is =
     subst (λ (t : Tree Said). parts (statements_tree body.items) < parts (Node (Node t))) (sym (while_is at e body) ∙ ap any_tree (sym is)) (body_parts (key_leaf keyword.While at) (group_tree e) (statements_tree body.items))
 
-pub one_of : {X : Type 0} (tree : X → Tree Said) (xs : List X) (i : ℕ) (x : X) → i < length xs → x ≡ get_or xs i x → parts (tree x) < parts (listed tree xs NoMore)
+pub one_of : {X : Type 0} (tree : X → Tree Said) (xs : List X) (i : ℕ) (x : X) → i < length xs → x ≡ get_or xs i x → parts (tree x) < parts (tree_of_list tree xs NoMore)
 one_of tree [] i x n is = absurd (omega arith)
 one_of tree (y ∷ ys) zero x n is = let e : parts (tree x) ≡ parts (tree y) = ap (λ z. parts (tree z)) is in omega (arith, e)
-one_of tree (y ∷ ys) (suc i) x n is = let h : parts (tree x) < parts (listed tree ys NoMore) = one_of tree ys i x (omega arith) is in omega (arith, h)
+one_of tree (y ∷ ys) (suc i) x n is = let h : parts (tree x) < parts (tree_of_list tree ys NoMore) = one_of tree ys i x (omega arith) is in omega (arith, h)

@@ -1,7 +1,7 @@
 -- Abstract syntax as trees of the grammar.
 use Rattle.std.proofs.Common.{ℕ, List, [], ◌∷◌, Option, Some, None}
 use Rattle.scan_text.specs.declared.Place.{Place}
-use Rattle.grammar.specs.Rules.{Tree, Leaf, Node, Pair, Skip, Left, Right, Absent, Present, NoMore, listed}
+use Rattle.grammar.specs.Rules.{Tree, Leaf, Node, Pair, Skip, Left, Right, Absent, Present, NoMore, tree_of_list}
 use Rattle.grammar.specs.Rules as rules
 use Rattle.jack_tree.specs.declared.token.Keyword.{Keyword}
 use Rattle.jack_tree.specs.declared.token.Keyword.TheVariants as keyword
@@ -122,7 +122,7 @@ abbrev pub next_name_tree : Name → Tree Said
 next_name_tree n = Pair Skip (Leaf (name_said n))
 
 abbrev pub names_tree : Names → Tree Said
-names_tree ns = Pair (Leaf (name_said ns.first)) (listed next_name_tree ns.more NoMore)
+names_tree ns = Pair (Leaf (name_said ns.first)) (tree_of_list next_name_tree ns.more NoMore)
 
 abbrev pub declared_tree : ValueType → Names → Tree Said
 declared_tree t ns = Pair Skip (Pair (Leaf (type_said t)) (Pair (names_tree ns) Skip))
@@ -145,18 +145,18 @@ next_parameter_tree p = Pair Skip (parameter_tree p)
 
 abbrev pub parameters_tree : List Parameter → Tree Said
 parameters_tree [] = Absent
-parameters_tree (p ∷ ps) = Present (Pair (parameter_tree p) (listed next_parameter_tree ps NoMore))
+parameters_tree (p ∷ ps) = Present (Pair (parameter_tree p) (tree_of_list next_parameter_tree ps NoMore))
 
 abbrev pub parts_tree : Subroutine → Tree Said
 parts_tree s =
     Pair (Leaf (form_said s.form)) (Pair (Leaf (result_said s.result)) (Pair (Leaf (name_said s.name)) (Pair Skip (Pair (parameters_tree s.parameters) (Pair Skip (Pair Skip
-    (Pair (listed locals_tree s.locals NoMore) (Pair (statements_tree s.statements) Skip))))))))
+    (Pair (tree_of_list locals_tree s.locals NoMore) (Pair (statements_tree s.statements) Skip))))))))
 
 abbrev pub subroutine_tree : Subroutine → Tree Said
 subroutine_tree s = Node (parts_tree s)
 
 abbrev pub class_tree : Class → Tree Said
-class_tree c = Pair Skip (Pair (Leaf (name_said c.name)) (Pair Skip (Pair (listed variables_tree c.variables NoMore) (Pair (listed subroutine_tree c.subroutines NoMore) Skip))))
+class_tree c = Pair Skip (Pair (Leaf (name_said c.name)) (Pair Skip (Pair (tree_of_list variables_tree c.variables NoMore) (Pair (tree_of_list subroutine_tree c.subroutines NoMore) Skip))))
 
 -- a class, and nothing behind it
 abbrev pub whole_tree : Class → Tree Said

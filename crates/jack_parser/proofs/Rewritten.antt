@@ -13,8 +13,8 @@ use Rattle.jack_parser.specs.Grammar.{jack, Said, Fixed, Placed, fresh, whole}
 use Rattle.jack_parser.specs.Spelling.{Tokens, Says, Say, text_by, class_tokens}
 use Rattle.jack_parser.specs.Limits.{KeepsLimits}
 use Rattle.grammar.specs.Printed.{set_off}
-use Rattle.jack_parser.specs.Printed.{kind_text, content, shown, said_text}
-use Rattle.jack_parser.specs.PrintedClass.{printed, CanBe, CanSay, CanAllSay, Tells, Tell, HasTokens, PrintedClassLaw}
+use Rattle.jack_parser.specs.Printed.{kind_text, content, shown_word, said_text}
+use Rattle.jack_parser.specs.PrintedClass.{printed_class, CanBe, CanSay, CanAllSay, Tells, Tell, HasTokens, PrintedClassLaw}
 use Rattle.grammar.proofs.Spaced.{All}
 use Rattle.jack_parser.proofs.Spaced.{Good, AllGood, told, printed_good, quoted, unquoted_quoted}
 use Rattle.jack_parser.proofs.Blindness.{read_again}
@@ -73,11 +73,11 @@ same_text (kind.Integer n) text = refl
 same_text kind.Text text = ap (kind_text kind.Text) (unquoted_quoted text)
 same_text kind.Identifier text = refl
 
-word_shown : (v : Said) → shown (word_for v) ≡ said_text v
+word_shown : (v : Said) → shown_word (word_for v) ≡ said_text v
 word_shown (Fixed k) = same_text k []
 word_shown (Placed k text at) = same_text k text
 
-words_shown : (vs : Tokens) → map shown (map word_for vs) ≡ map said_text vs
+words_shown : (vs : Tokens) → map shown_word (map word_for vs) ≡ map said_text vs
 words_shown [] = refl
 words_shown (v ∷ vs) = λ i. word_shown v i ∷ words_shown vs i
 
@@ -98,12 +98,12 @@ tell_by [] (v ∷ vs) h e = absurd cc
 tell_by (t ∷ ts) [] h e = absurd cc
 tell_by (t ∷ ts) (v ∷ vs) h e = (tells_by t v h.0 (head_is t (word_for v) ts (map word_for vs) e), tell_by ts vs h.1 (tail_is t (word_for v) ts (map word_for vs) e))
 
-again : (c : Class) → KeepsLimits c → CanAllSay (class_tokens c) → length (printed c) ≤ 1048576 → HasTokens (printed c) c
+again : (c : Class) → KeepsLimits c → CanAllSay (class_tokens c) → length (printed_class c) ≤ 1048576 → HasTokens (printed_class c) c
 again c k h small =
     let vs = class_tokens c in
     let ws = map word_for vs in
-    let out = printed c in
-    let same : flat_map set_off (map shown ws) ≡ out = ap (flat_map set_off) (words_shown vs) in
+    let out = printed_class c in
+    let same : flat_map set_off (map shown_word ws) ≡ out = ap (flat_map set_off) (words_shown vs) in
     let cut = printed_good ws (words_good vs h) (subst (λ (l : List ℕ). length l ≤ 1048576) (sym same) small) in
     let tokens : tokens_of out ≡ Ok cut.0 = ap tokens_of (sym same) ∙ cut.1 in
     let read = class_reads start c ws k (record { told = say_front ws vs (words_say vs h) }) in

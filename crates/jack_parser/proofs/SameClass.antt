@@ -2,7 +2,7 @@
 use Rattle.std.proofs.Common.{◌≡◌, ℕ, List, [], ◌∷◌, Option, Some, None, refl, sym, ap, ◌∙◌}
 use Rattle.std.specs.Prelude.{◌==◌, if◌then◌else◌}
 use Rattle.scan_text.specs.declared.Place.{Place}
-use Rattle.grammar.specs.Rules.{Tree, NoMore, listed}
+use Rattle.grammar.specs.Rules.{Tree, NoMore, tree_of_list}
 use Rattle.jack_tree.specs.declared.token.Keyword.TheVariants as keyword
 use Rattle.jack_tree.specs.declared.token.Kind.TheVariants as kind
 use Rattle.jack_tree.specs.Syntax.{Name, Operator, Plus, Minus, Times, Divide, And, Or, Less, Greater, Equal, Sign, Negate, Not, Constant, Integer, String, True, False, Null, This, Expression, Terms, Operations, NoOperation, Then, Term, Value, Variable, Element, Called, Group, Unary, Call, Calls, Expressions, NoExpression, More, Statement, Let, If, IfElse, While, Do, Return, Statements, End, Next, ValueType, Int, Char, Boolean, Object, Names, Scope, Static, Field, ClassVariables, Locals, Parameter, Form, Constructor, Function, Method, Subroutine, Class}
@@ -286,13 +286,13 @@ mutual
 -- ---- declarations
 
 module _ {X : Type 0} (tree : X → Tree Said) (same : (x y : X) → tree x ≡ tree y → x ≡ y) where
-  listed_same : (xs ys : List X) → listed tree xs NoMore ≡ listed tree ys NoMore → xs ≡ ys
+  listed_same : (xs ys : List X) → tree_of_list tree xs NoMore ≡ tree_of_list tree ys NoMore → xs ≡ ys
   listed_same [] [] e = refl
   listed_same [] (y ∷ ys) e = absurd cc
   listed_same (x ∷ xs) [] e = absurd cc
   listed_same (x ∷ xs) (y ∷ ys) e =
       let h : tree x ≡ tree y = cc in
-      let k : listed tree xs NoMore ≡ listed tree ys NoMore = cc in
+      let k : tree_of_list tree xs NoMore ≡ tree_of_list tree ys NoMore = cc in
       let p = same x y h in
       let q = listed_same xs ys k in
       λ i. p i ∷ q i
@@ -303,7 +303,7 @@ next_name_same x y e = let p : name_said x ≡ name_said y = cc in name_same x y
 names_same : (x y : Names) → names_tree x ≡ names_tree y → x ≡ y
 names_same x y e =
     let p : name_said x.first ≡ name_said y.first = cc in
-    let h : listed next_name_tree x.more NoMore ≡ listed next_name_tree y.more NoMore = cc in
+    let h : tree_of_list next_name_tree x.more NoMore ≡ tree_of_list next_name_tree y.more NoMore = cc in
     let q = name_same x.first y.first p in
     let r = listed_same next_name_tree next_name_same x.more y.more h in
     λ i. record { first = q i; more = r i }
@@ -347,7 +347,7 @@ parameters_same [] (q ∷ qs) e = absurd cc
 parameters_same (p ∷ ps) [] e = absurd cc
 parameters_same (p ∷ ps) (q ∷ qs) e =
     let h : parameter_tree p ≡ parameter_tree q = cc in
-    let k : listed next_parameter_tree ps NoMore ≡ listed next_parameter_tree qs NoMore = cc in
+    let k : tree_of_list next_parameter_tree ps NoMore ≡ tree_of_list next_parameter_tree qs NoMore = cc in
     let x = parameter_same p q h in
     let y = listed_same next_parameter_tree next_parameter_same ps qs k in
     λ i. x i ∷ y i
@@ -358,7 +358,7 @@ subroutine_same s t e =
     let b : result_said s.result ≡ result_said t.result = cc in
     let c : name_said s.name ≡ name_said t.name = cc in
     let d : parameters_tree s.parameters ≡ parameters_tree t.parameters = cc in
-    let f : listed locals_tree s.locals NoMore ≡ listed locals_tree t.locals NoMore = cc in
+    let f : tree_of_list locals_tree s.locals NoMore ≡ tree_of_list locals_tree t.locals NoMore = cc in
     let g : statements_tree s.statements ≡ statements_tree t.statements = cc in
     let form = form_same s.form t.form a in
     let result = result_same s.result t.result b in
@@ -371,8 +371,8 @@ subroutine_same s t e =
 pub class_same : (c d : Class) → whole_tree c ≡ whole_tree d → c ≡ d
 class_same c d e =
     let a : name_said c.name ≡ name_said d.name = cc in
-    let b : listed variables_tree c.variables NoMore ≡ listed variables_tree d.variables NoMore = cc in
-    let f : listed subroutine_tree c.subroutines NoMore ≡ listed subroutine_tree d.subroutines NoMore = cc in
+    let b : tree_of_list variables_tree c.variables NoMore ≡ tree_of_list variables_tree d.variables NoMore = cc in
+    let f : tree_of_list subroutine_tree c.subroutines NoMore ≡ tree_of_list subroutine_tree d.subroutines NoMore = cc in
     let name = name_same c.name d.name a in
     let variables = listed_same variables_tree variables_same c.variables d.variables b in
     let subroutines = listed_same subroutine_tree subroutine_same c.subroutines d.subroutines f in

@@ -4,7 +4,7 @@ use Rattle.std.specs.Prelude.{Box}
 use Rattle.std.specs.Global.{Global}
 use Rattle.scan_text.specs.declared.Place.{Place}
 use Rattle.grammar.specs.Rules as rules
-use Rattle.grammar.specs.Rules.{Tree, Leaf, Node, Pair, Skip, Left, Right, Absent, Present, NoMore, listed}
+use Rattle.grammar.specs.Rules.{Tree, Leaf, Node, Pair, Skip, Left, Right, Absent, Present, NoMore, tree_of_list}
 use Rattle.jack_tree.specs.declared.token.Keyword.TheVariants as keyword
 use Rattle.jack_tree.specs.declared.tree.Names.{Names}
 use Rattle.jack_tree.specs.declared.tree.Operator.{Operator}
@@ -29,7 +29,7 @@ use Rattle.jack_tree.specs.declared.tree.Parameter.{Parameter}
 use Rattle.jack_tree.specs.declared.tree.Subroutine.{Subroutine}
 use Rattle.jack_tree.specs.declared.tree.Class.{Class}
 use Rattle.jack_tree.specs.Syntax.{Statements}
-use Rattle.jack_tree.specs.Seen.{the_name, the_operator, the_sign, the_constant, the_expression, the_operations, the_term, the_call, the_arguments, the_value, unboxed, the_statement, the_row, the_choice, the_statements, the_type, the_result, the_names, the_variables, the_locals, the_parameter, the_form, the_subroutine, the_class}
+use Rattle.jack_tree.specs.Seen.{the_name, the_operator, the_sign, the_constant, the_expression, the_operations, the_term, the_call, the_arguments, the_value, unbox, the_statement, the_row, the_choice, the_statements, the_type, the_result, the_names, the_variables, the_locals, the_parameter, the_form, the_subroutine, the_class}
 use Rattle.jack_parser.specs.Grammar.{Said}
 use Rattle.jack_parser.specs.Trees as code
 use Rattle.jack_parser.specs.StatementTrees as code_statements
@@ -108,7 +108,7 @@ invoked_same : (c : Call) → code.invoked_tree c ≡ invoked_tree (the_call c)
 invoked_same (Call' None f q es) = ap (λ (t : Tree Said). Left (enclosed t)) (arguments_same _ es)
 invoked_same (Call' (Some o) f q es) = ap (λ (t : Tree Said). Right (Pair Skip (Pair (Leaf (name_said (the_name f))) (enclosed t)))) (arguments_same _ es)
 
-index_same : (v : Option (Box Expression Global)) → code_statements.index_tree v ≡ index_tree (the_value (unboxed v))
+index_same : (v : Option (Box Expression Global)) → code_statements.index_tree v ≡ index_tree (the_value (unbox v))
 index_same None = refl
 index_same (Some e) = ap (λ (t : Tree Said). Present (enclosed (Node t))) (expression_same e.value)
 
@@ -138,7 +138,7 @@ statements_same [] = refl
 statements_same (s ∷ ss) = λ i. rules.More (Node (Node (statement_same s i))) (statements_same ss i)
 
 module _ {X Y : Type 0} (tree : X → Tree Said) (the : X → Y) (plain : Y → Tree Said) (same : (x : X) → tree x ≡ plain (the x)) where
-  listed_same : (xs : List X) → listed tree xs NoMore ≡ listed plain (map the xs) NoMore
+  listed_same : (xs : List X) → tree_of_list tree xs NoMore ≡ tree_of_list plain (map the xs) NoMore
   listed_same [] = refl
   listed_same (x ∷ xs) = λ i. rules.More (same x i) (listed_same xs i)
 

@@ -5,7 +5,7 @@ use Rattle.std.specs.Global.{Global}
 use Rattle.std.proofs.lemmas.List.{append-nil}
 use Rattle.std.specs.List.{flat_map}
 use Rattle.scan_text.specs.declared.Place.{Place}
-use Rattle.grammar.specs.Rules.{repeat, option, name, NoMore, listed}
+use Rattle.grammar.specs.Rules.{repeat, option, name, NoMore, tree_of_list}
 use Rattle.grammar.specs.Leaves.{leaves}
 use Rattle.jack_tree.specs.declared.token.Keyword.TheVariants as keyword
 use Rattle.jack_tree.specs.declared.token.Kind.TheVariants as kind
@@ -33,7 +33,7 @@ use Rattle.jack_tree.specs.declared.tree.Parameter.{Parameter}
 use Rattle.jack_tree.specs.declared.tree.Subroutine.{Subroutine}
 use Rattle.jack_tree.specs.declared.tree.Class.{Class}
 use Rattle.jack_tree.specs.Syntax.{Statements}
-use Rattle.jack_tree.specs.Seen.{the_name, the_operator, the_sign, the_constant, the_expression, the_operations, the_term, the_call, the_arguments, the_value, unboxed, the_statement, the_row, the_choice, the_statements, the_type, the_result, the_names, the_scope, the_variables, the_locals, the_parameter, the_form, the_subroutine, the_class}
+use Rattle.jack_tree.specs.Seen.{the_name, the_operator, the_sign, the_constant, the_expression, the_operations, the_term, the_call, the_arguments, the_value, unbox, the_statement, the_row, the_choice, the_statements, the_type, the_result, the_names, the_scope, the_variables, the_locals, the_parameter, the_form, the_subroutine, the_class}
 use Rattle.jack_parser.specs.declared.counts.Counted.{Counted}
 use Rattle.jack_parser.specs.declared.counts.Counted.TheVariants as counted
 use Rattle.jack_parser.specs.Grammar as grammar
@@ -100,7 +100,7 @@ module _ (end : Place) where
     term_seen (terms.Group' p e) = ap (in_signs 40 41) (exp_seen e)
     term_seen (terms.Unary' s p t) = λ i. sign_seen s i ++ term_seen t i
 
-    call_seen : (c : Call) → call_said c ∷ leaves (jack end) (invoked_tree c) grammar.invoked ≡ call_tokens (the_call c)
+    call_seen : (c : Call) → call_said c ∷ leaves (jack end) (invoked_tree c) grammar.invocation_rule ≡ call_tokens (the_call c)
     call_seen (Call' None f p es) = ap (λ (l : Tokens). name_said f ∷ in_signs 40 41 l) (args_seen _ es)
     call_seen (Call' (Some o) f p es) = ap (λ (l : Tokens). name_said o ∷ sign_of 46 ∷ name_said f ∷ in_signs 40 41 l) (args_seen _ es)
 
@@ -119,7 +119,7 @@ module _ (end : Place) where
     more_seen n end_of-Expression = refl
     more_seen n (more_of-Expression e es) = λ i. sign_of 44 ∷ (exp_seen e i ++ more_seen _ es i)
 
-  index_seen : (v : Option (Box Expression Global)) → leaves (jack end) (index_tree v) (option grammar.subscript) ≡ index_tokens (the_value (unboxed v))
+  index_seen : (v : Option (Box Expression Global)) → leaves (jack end) (index_tree v) (option grammar.subscript) ≡ index_tokens (the_value (unbox v))
   index_seen None = refl
   index_seen (Some e) = ap (in_signs 91 93) (exp_seen e.value)
 
@@ -154,11 +154,11 @@ module _ (end : Place) where
 
   -- a list of things, each of which is seen
   module _ {X Y : Type 0} (tree : X → _) (rule : JackRule) (the : X → Y) (tokens : Y → Tokens) (seen : (x : X) → leaves (jack end) (tree x) rule ≡ tokens (the x)) where
-    listed_seen : (xs : List X) → leaves (jack end) (listed tree xs NoMore) (repeat rule) ≡ flat_map tokens (map the xs)
+    listed_seen : (xs : List X) → leaves (jack end) (tree_of_list tree xs NoMore) (repeat rule) ≡ flat_map tokens (map the xs)
     listed_seen [] = refl
     listed_seen (x ∷ xs) = λ i. seen x i ++ listed_seen xs i
 
-  more_names_seen : (c : Counted) (ns : List Name) → leaves (jack end) (listed next_name_tree ns NoMore) (repeat (grammar.next_name c)) ≡ flat_map (λ n. sign_of 44 ∷ spelling.name n) (map the_name ns)
+  more_names_seen : (c : Counted) (ns : List Name) → leaves (jack end) (tree_of_list next_name_tree ns NoMore) (repeat (grammar.next_name c)) ≡ flat_map (λ n. sign_of 44 ∷ spelling.name n) (map the_name ns)
   more_names_seen c ns = listed_seen next_name_tree (grammar.next_name c) the_name (λ n. sign_of 44 ∷ spelling.name n) (λ n. refl) ns
 
   names_seen : (c : Counted) (ns : Names) → leaves (jack end) (names_tree ns) (grammar.names_rule c) ≡ names_tokens (the_names ns)

@@ -10,7 +10,7 @@ use Rattle.std.proofs.Math.Nat.{min-eq_left}
 use Rattle.scan_text.specs.declared.Place.{Place}
 use Rattle.scan_text.specs.declared.Blank.{Blank}
 use Rattle.scan_text.specs.declared.Blank.TheVariants.{Other}
-use Rattle.scan_text.specs.Text.{front, is_digit, digits, decimal, capped}
+use Rattle.scan_text.specs.Text.{front, is_digit, digits, decimal, capped_count}
 use Rattle.scan_text.specs.Blanks.{blank, starts}
 use Rattle.grammar.specs.declared.Fault.TheVariants.{Grammar, Range}
 use Rattle.grammar.specs.Cutting.{Piece, Token, Wrong, past_blank}
@@ -23,9 +23,9 @@ use Rattle.jack_tree.specs.declared.token.Kind.{Kind}
 use Rattle.jack_tree.specs.declared.token.Kind.TheVariants as kind
 use Rattle.jack_tree.specs.Tokens.{Word, keyword_text, keyword_of}
 use Rattle.jack_lexer.specs.Tokens.{piece, tokens_of, token_of, number_piece, word_piece, symbol_piece, text_piece, is_letter, is_name_byte, is_text_byte, is_sign, kind_of, word_kind}
-use Rattle.jack_parser.specs.Grammar.{unquoted}
+use Rattle.jack_parser.specs.Grammar.{without_quotes}
 use Rattle.grammar.specs.Printed.{set_off}
-use Rattle.jack_parser.specs.Printed.{shown}
+use Rattle.jack_parser.specs.Printed.{shown_word}
 
 taken_by : (is : ℕ → Bool) (b : ℕ) (m k : ℕ) (bs : List ℕ) (t : Bool) → is b ≡ t → ((n : ℕ) → n ≤ length (front is bs) → All is (take n (take k bs))) → m ≤ length (cond t (b ∷ front is bs) []) → All is (take m (take (suc k) (b ∷ bs)))
 taken_by is b zero k bs t h go le = tt
@@ -142,7 +142,7 @@ digits_cut n h (b ∷ w) d t rest =
     let all = b ∷ (w ++ gap t ∷ rest) in
     let facts = plain_is b d.all.0 in
     let run : digits all ≡ b ∷ w = front_all is_digit (b ∷ w) (gap t) rest (plain_digits (b ∷ w) d.all) (gap_fails is_digit refl refl t) in
-    let value : capped (decimal 0 (digits all)) ≡ n = ap (λ (l : List ℕ). capped (decimal 0 l)) run ∙ ap capped d.value ∙ min-eq_left (omega arith) in
+    let value : capped_count (decimal 0 (digits all)) ≡ n = ap (λ (l : List ℕ). capped_count (decimal 0 l)) run ∙ ap capped_count d.value ∙ min-eq_left (omega arith) in
     let other : blank all ≡ Other = no_comment b (w ++ gap t ∷ rest) (no_blank plain b d.all.0 refl refl refl refl) (differs plain b 47 d.all.0 refl) in
     let fits : nat_lt 32767 n ≡ false = le-ltb _ _ h in
     let token : token_of (kind.Integer n) (length (digits all) - 1) all ≡ Token (made (kind.Integer n) (b ∷ w)) (length w) =
@@ -181,7 +181,7 @@ string_cut u a t rest =
           ∙ token_is kind.Text kind.Text (length w) (length w) all (quoted u) refl refl (front_taken 34 w (gap t ∷ rest));
     }
 
-pub unquoted_quoted : (u : List ℕ) → unquoted (quoted u) ≡ u
+pub unquoted_quoted : (u : List ℕ) → without_quotes (quoted u) ≡ u
 unquoted_quoted u =
     let size : length (quoted u) - 2 ≡ length u = omega (arith, length-append u (34 ∷ [])) in
     (λ i. take (size i) (drop_none (u ++ 34 ∷ []) i)) ∙ take_at u (34 ∷ []) (length u) refl
@@ -191,30 +191,30 @@ abbrev pub Good : Kind → List ℕ → Type 0
 Good (kind.Keyword k) text = Unit {0}
 Good (kind.Symbol b) text = (is_letter b ≡ false) × (is_sign b ≡ true)
 Good (kind.Integer n) text = n ≤ 32767
-Good kind.Text text = All is_text_byte (unquoted text)
+Good kind.Text text = All is_text_byte (without_quotes text)
 Good kind.Identifier text = Named text kind.Identifier
 
-cut_again : (k : Kind) (text : List ℕ) (at : Place) → Good k text → (t : Bool) (rest : List ℕ) → Cut k (shown (made k text at)) t rest
+cut_again : (k : Kind) (text : List ℕ) (at : Place) → Good k text → (t : Bool) (rest : List ℕ) → Cut k (shown_word (made k text at)) t rest
 cut_again (kind.Keyword k) text at g t rest = named_cut (kind.Keyword k) (keyword_text k) (keyword_named k) t rest
 cut_again (kind.Symbol b) text at g t rest = symbol_cut b g.0 g.1 t rest
 cut_again (kind.Integer n) text at g t rest = digits_cut n g (prelude.decimal n) (digits_of plain refl n (omega (arith, g))) t rest
-cut_again kind.Text text at g t rest = string_cut (unquoted text) g t rest
+cut_again kind.Text text at g t rest = string_cut (without_quotes text) g t rest
 cut_again kind.Identifier text at g t rest = named_cut kind.Identifier text g t rest
 
 -- what a token tells, but for its place
 abbrev pub told_by : Kind → List ℕ → List ℕ
-told_by kind.Text text = unquoted text
+told_by kind.Text text = without_quotes text
 told_by kind.Identifier text = text
 told_by k text = []
 
 abbrev pub told : Word → Kind × List ℕ
 told w = (w.kind, told_by w.kind w.text)
 
-told_again : (k : Kind) (text : List ℕ) (at : Place) → told_by k (shown (made k text at)) ≡ told_by k text
+told_again : (k : Kind) (text : List ℕ) (at : Place) → told_by k (shown_word (made k text at)) ≡ told_by k text
 told_again (kind.Keyword k) text at = refl
 told_again (kind.Symbol b) text at = refl
 told_again (kind.Integer n) text at = refl
-told_again kind.Text text at = unquoted_quoted (unquoted text)
+told_again kind.Text text at = unquoted_quoted (without_quotes text)
 told_again kind.Identifier text at = refl
 
 abbrev GoodWord : Word → Type 0
@@ -252,7 +252,7 @@ good_string b bs =
 
 good_number : (all : List ℕ) → GoodPiece GoodWord (number_piece all)
 good_number all =
-    let n = capped (decimal 0 (digits all)) in
+    let n = capped_count (decimal 0 (digits all)) in
     good_if GoodWord (nat_lt 32767 n) (Wrong (λ at. Range at (min n 1000000000))) (token_of (kind.Integer n) (length (digits all) - 1) all) (λ e. tt) (λ e at. ltb-false 32767 n e)
 
 good_piece : (bs : List ℕ) → GoodPiece GoodWord (piece bs)
@@ -268,7 +268,7 @@ pub good_tokens : (text : List ℕ) (ts : List Word) → tokens_of text ≡ Ok t
 good_tokens text ts e = spaced.good_tokens GoodWord piece good_piece text ts e
 
 -- the printed form of such tokens
-pub printed_good : (ts : List Word) → AllGood ts → length (flat_map set_off (map shown ts)) ≤ 1048576 → (us : List Word) × (tokens_of (flat_map set_off (map shown ts)) ≡ Ok us) × (map told us ≡ map told ts)
+pub printed_good : (ts : List Word) → AllGood ts → length (flat_map set_off (map shown_word ts)) ≤ 1048576 → (us : List Word) × (tokens_of (flat_map set_off (map shown_word ts)) ≡ Ok us) × (map told us ≡ map told ts)
 printed_good ts good small =
-    spaced.printed_good piece GoodWord shown (λ text. bytes_eq text (codes "{") || (bytes_eq text (codes "}") || bytes_eq text (codes ";"))) (λ w at. made w.kind (shown w) at) told
+    spaced.printed_good piece GoodWord shown_word (λ text. bytes_eq text (codes "{") || (bytes_eq text (codes "}") || bytes_eq text (codes ";"))) (λ w at. made w.kind (shown_word w) at) told
     (λ w g t rest. cut_again w.kind w.text w.place g t rest) (λ w at. ap (λ (x : List ℕ). (w.kind, x)) (told_again w.kind w.text at)) ts good small

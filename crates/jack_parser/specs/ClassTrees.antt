@@ -1,6 +1,6 @@
 -- The trees of classes as trees of the grammar.
 use Rattle.std.specs.Prelude.{List, [], ◌∷◌, Option, Some, None}
-use Rattle.grammar.specs.Rules.{Tree, Leaf, Node, Pair, Skip, Left, Right, Absent, Present, NoMore, listed}
+use Rattle.grammar.specs.Rules.{Tree, Leaf, Node, Pair, Skip, Left, Right, Absent, Present, NoMore, tree_of_list}
 use Rattle.jack_tree.specs.declared.token.Keyword.TheVariants as keyword
 use Rattle.jack_tree.specs.declared.token.Kind.TheVariants as kind
 use Rattle.jack_tree.specs.declared.tree.Name.{Name}
@@ -39,18 +39,18 @@ abbrev pub next_name_tree : Name → Tree Said
 next_name_tree n = Pair Skip (name_leaf n)
 
 abbrev pub names_tree : Names → Tree Said
-names_tree ns = Pair (name_leaf ns.first) (listed next_name_tree ns.more.items NoMore)
+names_tree ns = Pair (name_leaf ns.first) (tree_of_list next_name_tree ns.more.items NoMore)
 
 -- a type and names behind a keyword
 abbrev pub declared_tree : types.Type → Names → Tree Said
 declared_tree t ns = Pair Skip (Pair (Leaf (type_leaf_said t)) (Pair (names_tree ns) Skip))
 
-abbrev pub scoped : Scope → Tree Said → Tree Said
-scoped scope.Static x = Left x
-scoped scope.Field x = Right x
+abbrev pub scoped_tree : Scope → Tree Said → Tree Said
+scoped_tree scope.Static x = Left x
+scoped_tree scope.Field x = Right x
 
 abbrev pub variables_tree : ClassVariables → Tree Said
-variables_tree v = scoped v.scope (declared_tree v.kind v.names)
+variables_tree v = scoped_tree v.scope (declared_tree v.kind v.names)
 
 abbrev pub locals_tree : Locals → Tree Said
 locals_tree v = declared_tree v.kind v.names
@@ -64,7 +64,7 @@ next_parameter_tree p = Pair Skip (parameter_tree p)
 -- one parameter or more, with more behind them
 abbrev pub parameters_with : List Parameter → Tree Said → Tree Said
 parameters_with [] more = more
-parameters_with (p ∷ ps) more = Pair (parameter_tree p) (listed next_parameter_tree ps more)
+parameters_with (p ∷ ps) more = Pair (parameter_tree p) (tree_of_list next_parameter_tree ps more)
 
 abbrev pub parameters_tree : List Parameter → Tree Said
 parameters_tree [] = Absent
@@ -73,10 +73,10 @@ parameters_tree (p ∷ ps) = Present (parameters_with (p ∷ ps) NoMore)
 abbrev pub parts_tree : Subroutine → Tree Said
 parts_tree s =
     Pair (Leaf (form_said s.form)) (Pair (Leaf (result_said s.result)) (Pair (name_leaf s.name) (Pair Skip (Pair (parameters_tree s.parameters.items) (Pair Skip (Pair Skip
-    (Pair (listed locals_tree s.locals.items NoMore) (Pair (statements_tree s.statements.items) Skip))))))))
+    (Pair (tree_of_list locals_tree s.locals.items NoMore) (Pair (statements_tree s.statements.items) Skip))))))))
 
 abbrev pub subroutine_tree : Subroutine → Tree Said
 subroutine_tree s = Node (parts_tree s)
 
 abbrev pub class_tree : Class → Tree Said
-class_tree c = Pair Skip (Pair (name_leaf c.name) (Pair Skip (Pair (listed variables_tree c.variables.items NoMore) (Pair (listed subroutine_tree c.subroutines.items NoMore) Skip))))
+class_tree c = Pair Skip (Pair (name_leaf c.name) (Pair Skip (Pair (tree_of_list variables_tree c.variables.items NoMore) (Pair (tree_of_list subroutine_tree c.subroutines.items NoMore) Skip))))

@@ -20,18 +20,18 @@ pub data Said : Type 0 where
   Fixed : Kind → Said
   Placed : Kind → List ℕ → Place → Said
 
-abbrev pub fixed : Word → Said
-fixed t = Fixed t.kind
+abbrev pub fixed_word : Word → Said
+fixed_word t = Fixed t.kind
 
-abbrev pub placed : Word → Said
-placed t = Placed t.kind [] t.place
+abbrev pub placed_word : Word → Said
+placed_word t = Placed t.kind [] t.place
 
-abbrev pub named : Word → Said
-named t = Placed kind.Identifier t.text t.place
+abbrev pub named_word : Word → Said
+named_word t = Placed kind.Identifier t.text t.place
 
 -- what is between the quotes of a string
-abbrev pub unquoted : List ℕ → List ℕ
-unquoted text = take (length text - 2) (drop 1 text)
+abbrev pub without_quotes : List ℕ → List ℕ
+without_quotes text = take (length text - 2) (drop 1 text)
 
 abbrev pub keyword_said : Keyword → Place → Said
 keyword_said keyword.This at = Placed (kind.Keyword keyword.This) [] at
@@ -41,7 +41,7 @@ abbrev pub constant_by : Kind → List ℕ → Place → Said
 constant_by (kind.Keyword k) text at = keyword_said k at
 constant_by (kind.Symbol b) text at = Fixed (kind.Symbol b)
 constant_by (kind.Integer n) text at = Fixed (kind.Integer n)
-constant_by kind.Text text at = Placed kind.Text (unquoted text) at
+constant_by kind.Text text at = Placed kind.Text (without_quotes text) at
 constant_by kind.Identifier text at = Placed kind.Identifier text at
 
 abbrev pub constant_said : Word → Said
@@ -132,7 +132,7 @@ abbrev pub free : Counts → Word → Result Counts Fault
 free s t = Ok s
 
 abbrev pub string_size : Kind → List ℕ → ℕ
-string_size kind.Text text = length (unquoted text)
+string_size kind.Text text = length (without_quotes text)
 string_size k text = 0
 
 -- a string has at most 16,384 bytes
@@ -170,9 +170,9 @@ forms keyword.Method = true
 forms k = false
 
 abbrev pub any_keyword : (Keyword → Bool) → Bool → Kind → Bool
-any_keyword is named (kind.Keyword k) = is k
-any_keyword is named kind.Identifier = named
-any_keyword is named k = false
+any_keyword is named_word (kind.Keyword k) = is k
+any_keyword is named_word kind.Identifier = named_word
+any_keyword is named_word k = false
 
 -- int, char, boolean, or the name of a class
 abbrev pub is_type : Word → Bool
@@ -211,26 +211,26 @@ keyword_of k = mark (Fixed (kind.Keyword k)) (is_keyword k)
 
 -- a keyword whose place is kept
 abbrev pub key : Keyword → JackRule
-key k = word (is_keyword k) free placed
+key k = word (is_keyword k) free placed_word
 
 abbrev pub identifier : JackRule
-identifier = word is_identifier free named
+identifier = word is_identifier free named_word
 
 -- a name that is counted
 abbrev pub counted_name : Counted → JackRule
-counted_name x = word is_identifier (λ s t. count x s t.place) named
+counted_name x = word is_identifier (λ s t. count x s t.place) named_word
 
 abbrev pub constant : JackRule
 constant = word is_constant check_constant constant_said
 
 abbrev pub operator : JackRule
-operator = word operates free placed
+operator = word operates free placed_word
 
 abbrev pub unary : JackRule
-unary = word negates free fixed
+unary = word negates free fixed_word
 
-abbrev pub nested : JackRule → JackRule
-nested r = within deeper back r
+abbrev pub nested_rule : JackRule → JackRule
+nested_rule r = within deeper back r
 
 -- a part with counts of its own
 abbrev pub own : JackRule → JackRule
@@ -238,11 +238,11 @@ own r = within anew back r
 
 -- '[' exp ']'
 abbrev pub subscript : JackRule
-subscript = seq (symbol_of 91) (seq (nested (name expression)) (symbol_of 93))
+subscript = seq (symbol_of 91) (seq (nested_rule (name expression)) (symbol_of 93))
 
 -- '(' exp ')'
 abbrev pub group : JackRule
-group = seq (symbol_of 40) (seq (nested (name expression)) (symbol_of 41))
+group = seq (symbol_of 40) (seq (nested_rule (name expression)) (symbol_of 41))
 
 -- an argument counts at its first token
 abbrev pub argument : JackRule
@@ -258,7 +258,7 @@ argument_list = seq argument (repeat next_argument)
 
 -- [exp (, exp)*]
 abbrev pub arguments : JackRule
-arguments = option (nested argument_list)
+arguments = option (nested_rule argument_list)
 
 -- '(' arguments ')'
 abbrev pub call : JackRule
@@ -269,12 +269,12 @@ abbrev pub through : JackRule
 through = seq (symbol_of 46) (seq identifier call)
 
 -- what makes a name a call
-abbrev pub invoked : JackRule
-invoked = choice call through
+abbrev pub invocation_rule : JackRule
+invocation_rule = choice call through
 
 -- name ['[' exp ']' | call]
 abbrev pub variable : JackRule
-variable = seq identifier (option (choice subscript invoked))
+variable = seq identifier (option (choice subscript invocation_rule))
 
 -- op term
 abbrev pub operation : JackRule
@@ -282,7 +282,7 @@ operation = seq operator (name term)
 
 -- unary term
 abbrev pub negation : JackRule
-negation = seq unary (nested (name term))
+negation = seq unary (nested_rule (name term))
 
 -- { stmt* }
 abbrev pub block : JackRule
@@ -306,7 +306,7 @@ while_rule = seq (key keyword.While) (seq group block)
 
 -- do call ;
 abbrev pub do_rule : JackRule
-do_rule = seq (key keyword.Do) (seq identifier (seq invoked (symbol_of 59)))
+do_rule = seq (key keyword.Do) (seq identifier (seq invocation_rule (symbol_of 59)))
 
 -- return [exp] ;
 abbrev pub return_rule : JackRule
@@ -352,7 +352,7 @@ parameters = option parameter_list
 
 -- (constructor|function|method) (void|type) name ( parameters ) { locals* stmt* }
 abbrev pub form_rule : JackRule
-form_rule = word is_form free fixed
+form_rule = word is_form free fixed_word
 
 abbrev pub subroutine_parts : JackRule
 subroutine_parts = seq form_rule (seq result_rule (seq identifier (seq (symbol_of 40) (seq parameters (seq (symbol_of 41) (seq (symbol_of 123) (seq (repeat locals_rule) (seq (repeat (name statement)) (symbol_of 125)))))))))
@@ -378,7 +378,7 @@ rule_of expression = seq (name term) (repeat operation)
 -- term = constant | name ['[' exp ']' | call] | '(' exp ')' | unary term
 rule_of term = choice constant (choice variable (choice group negation))
 -- a statement is one level round all its tokens
-rule_of statement = nested any_statement
+rule_of statement = nested_rule any_statement
 
 abbrev pub term_opens : Word → Bool
 term_opens t = is_constant t || (is_identifier t || (is_symbol 40 t || negates t))

@@ -10,7 +10,7 @@ use Rattle.jack_tree.specs.declared.token.Kind.TheVariants as kind
 use Rattle.jack_tree.specs.declared.tree.Class.{Class}
 use Rattle.jack_tree.specs.Tokens.{Word, keyword_text}
 use Rattle.jack_lexer.specs.Tokens.{tokens_of}
-use Rattle.jack_parser.specs.Grammar.{jack, Said, Fixed, Placed, whole, unquoted}
+use Rattle.jack_parser.specs.Grammar.{jack, Said, Fixed, Placed, whole, without_quotes}
 use Rattle.jack_parser.specs.Spells.{whole_tree, Spells}
 
 -- what a token is written as: a number without leading zeros, a string in its quotes
@@ -23,11 +23,11 @@ kind_text kind.Identifier text = text
 
 -- the text of a token, that of a string without its quotes
 abbrev pub content : Kind → List ℕ → List ℕ
-content kind.Text text = unquoted text
+content kind.Text text = without_quotes text
 content k text = text
 
-abbrev pub shown : Word → List ℕ
-shown t = kind_text t.kind (content t.kind t.text)
+abbrev pub shown_word : Word → List ℕ
+shown_word t = kind_text t.kind (content t.kind t.text)
 
 abbrev pub said_text : Said → List ℕ
 said_text (Fixed k) = kind_text k []
@@ -43,13 +43,13 @@ class_text c = flat_map set_off (class_tokens c)
 
 -- A text that spells a class has the tokens of the class, whatever stands between them.
 abbrev pub TokensLaw : Type 0
-TokensLaw = (text : List ℕ) (c : Class) (ts : List Word) → tokens_of text ≡ Ok ts → Spells text (whole_tree c) → map shown ts ≡ class_tokens c
+TokensLaw = (text : List ℕ) (c : Class) (ts : List Word) → tokens_of text ≡ Ok ts → Spells text (whole_tree c) → map shown_word ts ≡ class_tokens c
 
 -- what a token says but for its place
-abbrev pub unplaced : Said → Said
-unplaced (Fixed k) = Fixed k
-unplaced (Placed k text at) = Placed k text start
+abbrev pub without_place : Said → Said
+without_place (Fixed k) = Fixed k
+without_place (Placed k text at) = Placed k text start
 
 -- The printed form of a class that some text spells, where it is within the limit of a file, spells the class but for places.
 abbrev pub PrintedLaw : Type 0
-PrintedLaw = (text : List ℕ) (c : Class) → Spells text (whole_tree c) → length (class_text c) ≤ 1048576 → (t : Tree Said) × Spells (class_text c) t × (seen_by unplaced (whole_tree c) ≡ seen_by unplaced t)
+PrintedLaw = (text : List ℕ) (c : Class) → Spells text (whole_tree c) → length (class_text c) ≤ 1048576 → (t : Tree Said) × Spells (class_text c) t × (seen_by without_place (whole_tree c) ≡ seen_by without_place t)

@@ -12,8 +12,8 @@ use Rattle.jack_parser.specs.Spelled.{SpellsClass}
 abbrev at : ℕ → Place
 at column = record { line = 1; column = column }
 
-abbrev named : List ℕ → ℕ → Name
-named text column = record { text = text; place = at column }
+abbrev name_at : List ℕ → ℕ → Name
+name_at text column = record { text = text; place = at column }
 
 abbrev word : List ℕ → ℕ → Tokens
 word text column = Placed kind.Identifier text (at column) ∷ []
@@ -25,21 +25,21 @@ small_text = codes "class A { static int n; constructor A new ( char c ) { do B.
 -- its class: a static, a constructor, a string, an operator, both signs and both ways of a choice
 abbrev pub small : Class
 small = record {
-  name = named (codes "A") 7;
-  variables = record { scope = Static; type = Int; names = record { first = named (codes "n") 22; more = [] } } ∷ [];
+  name = name_at (codes "A") 7;
+  variables = record { scope = Static; type = Int; names = record { first = name_at (codes "n") 22; more = [] } } ∷ [];
   subroutines = record {
     form = Constructor;
-    result = Some (Object (named (codes "A") 37));
-    name = named (codes "new") 39;
-    parameters = record { type = Char; name = named (codes "c") 50 } ∷ [];
+    result = Some (Object (name_at (codes "A") 37));
+    name = name_at (codes "new") 39;
+    parameters = record { type = Char; name = name_at (codes "c") 50 } ∷ [];
     locals = [];
     statements =
-        Next (Do (at 56) (Calls (Some (named (codes "B") 59)) (named (codes "put") 61)
-        (More (Terms (Value (String (named (codes "x") 67))) NoOperation)
-        (More (Terms (Value (Integer 2)) (Then Times (at 75) (Variable (named (codes "n") 77)) NoOperation)) NoExpression))))
-        (Next (IfElse (at 83) (Terms (Unary Not (Variable (named (codes "c") 90))) NoOperation)
+        Next (Do (at 56) (Calls (Some (name_at (codes "B") 59)) (name_at (codes "put") 61)
+        (More (Terms (Value (String (name_at (codes "x") 67))) NoOperation)
+        (More (Terms (Value (Integer 2)) (Then Times (at 75) (Variable (name_at (codes "n") 77)) NoOperation)) NoExpression))))
+        (Next (IfElse (at 83) (Terms (Unary Not (Variable (name_at (codes "c") 90))) NoOperation)
         (Next (Return (at 96) (Some (Terms (Value (This (at 103))) NoOperation))) End)
-        (Next (Let (at 119) (named (codes "n") 123) None (Terms (Unary Negate (Value (Integer 1))) NoOperation)) End))
+        (Next (Let (at 119) (name_at (codes "n") 123) None (Terms (Unary Negate (Value (Integer 1))) NoOperation)) End))
         End);
   } ∷ [];
 }
@@ -63,36 +63,36 @@ large_text = codes "class B { field Array f , g ; static boolean s ; method void
 -- its class
 abbrev pub large : Class
 large = record {
-  name = named (codes "B") 7;
+  name = name_at (codes "B") 7;
   variables =
-      record { scope = Field; type = Object (named (codes "Array") 17); names = record { first = named (codes "f") 23; more = named (codes "g") 27 ∷ [] } }
-      ∷ record { scope = Static; type = Boolean; names = record { first = named (codes "s") 46; more = [] } } ∷ [];
+      record { scope = Field; type = Object (name_at (codes "Array") 17); names = record { first = name_at (codes "f") 23; more = name_at (codes "g") 27 ∷ [] } }
+      ∷ record { scope = Static; type = Boolean; names = record { first = name_at (codes "s") 46; more = [] } } ∷ [];
   subroutines = record {
     form = Method;
     result = None;
-    name = named (codes "m") 62;
+    name = name_at (codes "m") 62;
     parameters =
-        record { type = Int; name = named (codes "i") 70 }
-        ∷ record { type = Object (named (codes "Array") 74); name = named (codes "a") 80 } ∷ [];
+        record { type = Int; name = name_at (codes "i") 70 }
+        ∷ record { type = Object (name_at (codes "Array") 74); name = name_at (codes "a") 80 } ∷ [];
     locals =
-        record { type = Char; names = record { first = named (codes "d") 95; more = named (codes "e") 99 ∷ [] } }
-        ∷ record { type = Boolean; names = record { first = named (codes "q") 115; more = [] } } ∷ [];
+        record { type = Char; names = record { first = name_at (codes "d") 95; more = name_at (codes "e") 99 ∷ [] } }
+        ∷ record { type = Boolean; names = record { first = name_at (codes "q") 115; more = [] } } ∷ [];
     statements =
-        (Next (Let (at 119) (named (codes "a") 123) (Some (Terms (Variable (named (codes "i") 127)) NoOperation)) (Terms (Element (named (codes "a") 133) (Terms (Value (Integer 0)) NoOperation)) (Then Plus (at 141) (Variable (named (codes "i") 143)) (Then Minus (at 145) (Value (Integer 2)) (Then Times (at 149) (Value (Integer 3)) (Then Divide (at 153) (Value (Integer 4)) (Then And (at 157) (Value (Integer 5)) (Then Or (at 161) (Variable (named (codes "i") 163)) (Then Less (at 165) (Value (Integer 6)) (Then Greater (at 169) (Value (Integer 7)) (Then Equal (at 173) (Value (Integer 8)) NoOperation)))))))))))
-        (Next (While (at 179) (Terms (Value True) NoOperation) (Next (If (at 196) (Terms (Group (Terms (Value False) NoOperation)) NoOperation) (Next (Do (at 215) (Calls None (named (codes "m") 218) NoExpression))
+        (Next (Let (at 119) (name_at (codes "a") 123) (Some (Terms (Variable (name_at (codes "i") 127)) NoOperation)) (Terms (Element (name_at (codes "a") 133) (Terms (Value (Integer 0)) NoOperation)) (Then Plus (at 141) (Variable (name_at (codes "i") 143)) (Then Minus (at 145) (Value (Integer 2)) (Then Times (at 149) (Value (Integer 3)) (Then Divide (at 153) (Value (Integer 4)) (Then And (at 157) (Value (Integer 5)) (Then Or (at 161) (Variable (name_at (codes "i") 163)) (Then Less (at 165) (Value (Integer 6)) (Then Greater (at 169) (Value (Integer 7)) (Then Equal (at 173) (Value (Integer 8)) NoOperation)))))))))))
+        (Next (While (at 179) (Terms (Value True) NoOperation) (Next (If (at 196) (Terms (Group (Terms (Value False) NoOperation)) NoOperation) (Next (Do (at 215) (Calls None (name_at (codes "m") 218) NoExpression))
         End))
-        (Next (Do (at 228) (Calls None (named (codes "n") 231) (More (Terms (Value Null) NoOperation) (More (Terms (Variable (named (codes "i") 242)) NoOperation) NoExpression))))
+        (Next (Do (at 228) (Calls None (name_at (codes "n") 231) (More (Terms (Value Null) NoOperation) (More (Terms (Variable (name_at (codes "i") 242)) NoOperation) NoExpression))))
         End)))
         (Next (Return (at 250) None)
         End)));
   } ∷ record {
     form = Function;
     result = Some (Boolean);
-    name = named (codes "n") 278;
+    name = name_at (codes "n") 278;
     parameters = [];
     locals = [];
     statements =
-        (Next (Return (at 286) (Some (Terms (Called (Calls (Some (named (codes "q") 293)) (named (codes "r") 297) (More (Terms (Variable (named (codes "s") 301)) NoOperation) NoExpression))) NoOperation)))
+        (Next (Return (at 286) (Some (Terms (Called (Calls (Some (name_at (codes "q") 293)) (name_at (codes "r") 297) (More (Terms (Variable (name_at (codes "s") 301)) NoOperation) NoExpression))) NoOperation)))
         End);
   } ∷ [];
 }

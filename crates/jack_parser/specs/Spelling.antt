@@ -8,7 +8,7 @@ use Rattle.jack_tree.specs.declared.token.Kind.{Kind}
 use Rattle.jack_tree.specs.declared.token.Kind.TheVariants as kind
 use Rattle.jack_tree.specs.Tokens.{Word}
 use Rattle.jack_tree.specs.Syntax.{Name, Operator, Plus, Minus, Times, Divide, And, Or, Less, Greater, Equal, Sign, Negate, Not, Constant, Integer, String, True, False, Null, This, Expression, Terms, Operations, NoOperation, Then, Term, Value, Variable, Element, Called, Group, Unary, Call, Calls, Expressions, NoExpression, More, Statement, Let, If, IfElse, While, Do, Return, Statements, End, Next, ValueType, Int, Char, Boolean, Object, Names, Scope, Static, Field, ClassVariables, Locals, Parameter, Form, Constructor, Function, Method, Subroutine, Class}
-use Rattle.jack_parser.specs.Grammar.{Said, Fixed, Placed, unquoted}
+use Rattle.jack_parser.specs.Grammar.{Said, Fixed, Placed, without_quotes}
 
 -- ---- What a token says: Fixed its kind (which tells a keyword, a symbol and an integer), Placed its text and its place too.
 
@@ -37,7 +37,7 @@ name n = Placed kind.Identifier n.text n.place ∷ []
 -- the text that an identifier or a string has
 abbrev pub text_by : Kind → List ℕ → List ℕ
 text_by kind.Identifier text = text
-text_by kind.Text text = unquoted text
+text_by kind.Text text = without_quotes text
 text_by k text = []
 
 -- The token of a text says this.
@@ -124,15 +124,15 @@ abbrev pub condition_tokens : Expression → Tokens
 condition_tokens e = symbol (codes "(") · expression_tokens e · symbol (codes ")")
 
 -- what stands in braces
-abbrev pub braced : Tokens → Tokens
-braced ts = symbol (codes "{") · ts · symbol (codes "}")
+abbrev pub in_braces : Tokens → Tokens
+in_braces ts = symbol (codes "{") · ts · symbol (codes "}")
 
 abbrev mutual
   pub statement_tokens : Statement → Tokens
   statement_tokens (Let at x i e) = key_at keyword.Let at · name x · index_tokens i · symbol (codes "=") · expression_tokens e · symbol (codes ";")
-  statement_tokens (If at e body) = key_at keyword.If at · condition_tokens e · braced (statements_tokens body)
-  statement_tokens (IfElse at e body other) = key_at keyword.If at · condition_tokens e · braced (statements_tokens body) · key keyword.Else · braced (statements_tokens other)
-  statement_tokens (While at e body) = key_at keyword.While at · condition_tokens e · braced (statements_tokens body)
+  statement_tokens (If at e body) = key_at keyword.If at · condition_tokens e · in_braces (statements_tokens body)
+  statement_tokens (IfElse at e body other) = key_at keyword.If at · condition_tokens e · in_braces (statements_tokens body) · key keyword.Else · in_braces (statements_tokens other)
+  statement_tokens (While at e body) = key_at keyword.While at · condition_tokens e · in_braces (statements_tokens body)
   statement_tokens (Do at c) = key_at keyword.Do at · call_tokens c · symbol (codes ";")
   statement_tokens (Return at v) = key_at keyword.Return at · value_tokens v · symbol (codes ";")
 

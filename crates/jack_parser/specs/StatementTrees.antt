@@ -2,7 +2,7 @@
 use Rattle.std.specs.Prelude.{List, [], Option, Some, None, Vec, Box}
 use Rattle.std.specs.Global.{Global}
 use Rattle.scan_text.specs.declared.Place.{Place}
-use Rattle.grammar.specs.Rules.{Tree, Leaf, Node, Pair, Skip, Left, Right, Absent, Present, NoMore, More, listed}
+use Rattle.grammar.specs.Rules.{Tree, Leaf, Node, Pair, Skip, Left, Right, Absent, Present, NoMore, More, tree_of_list}
 use Rattle.jack_tree.specs.declared.token.Keyword.{Keyword}
 use Rattle.jack_tree.specs.declared.token.Keyword.TheVariants as keyword
 use Rattle.jack_tree.specs.declared.token.Kind.TheVariants as kind
@@ -25,15 +25,15 @@ value_tree None = Absent
 value_tree (Some e) = Present (exp_tree e)
 
 -- what stands in braces
-abbrev pub braced : Tree Said → Tree Said
-braced t = Pair Skip (Pair t Skip)
+abbrev pub braces_tree : Tree Said → Tree Said
+braces_tree t = Pair Skip (Pair t Skip)
 
 abbrev mutual
   -- a statement, without the level that it is round its tokens
   pub any_tree : statements.Statement → Tree Said
   any_tree (statements.Let at n i e) = Left (Pair (key_leaf keyword.Let at) (Pair (name_leaf n) (Pair (index_tree i) (Pair Skip (Pair (exp_tree e) Skip)))))
-  any_tree (statements.If' at e n body other) = Right (Left (Pair (key_leaf keyword.If at) (Pair (group_tree e) (Pair (braced (row_tree body)) (other_tree other)))))
-  any_tree (statements.While' at e n body) = Right (Right (Left (Pair (key_leaf keyword.While at) (Pair (group_tree e) (braced (row_tree body))))))
+  any_tree (statements.If' at e n body other) = Right (Left (Pair (key_leaf keyword.If at) (Pair (group_tree e) (Pair (braces_tree (row_tree body)) (other_tree other)))))
+  any_tree (statements.While' at e n body) = Right (Right (Left (Pair (key_leaf keyword.While at) (Pair (group_tree e) (braces_tree (row_tree body))))))
   any_tree (statements.Do at c) = Right (Right (Right (Left (Pair (key_leaf keyword.Do at) (Pair (Leaf (call_said c)) (Pair (invoked_tree c) Skip))))))
   any_tree (statements.Return at v) = Right (Right (Right (Right (Pair (key_leaf keyword.Return at) (Pair (value_tree v) Skip)))))
 
@@ -43,16 +43,16 @@ abbrev mutual
 
   pub other_tree : statements.Held-Statement-If-3 → Tree Said
   other_tree statements.None' = Absent
-  other_tree (statements.Some' n body) = Present (Pair Skip (braced (row_tree body)))
+  other_tree (statements.Some' n body) = Present (Pair Skip (braces_tree (row_tree body)))
 
 abbrev pub statement_tree : statements.Statement → Tree Said
 statement_tree s = Node (Node (any_tree s))
 
 abbrev pub statements_tree : List statements.Statement → Tree Said
-statements_tree ss = listed statement_tree ss NoMore
+statements_tree ss = tree_of_list statement_tree ss NoMore
 
 abbrev pub block_tree : List statements.Statement → Tree Said
-block_tree ss = braced (statements_tree ss)
+block_tree ss = braces_tree (statements_tree ss)
 
 abbrev pub else_tree : Option (Vec statements.Statement Global) → Tree Said
 else_tree None = Absent

@@ -4,7 +4,7 @@ use Rattle.grammar.specs.declared.Fault.TheVariants.{Range}
 use Rattle.grammar.specs.declared.ReadError.{ReadError}
 use Rattle.grammar.specs.Reading.{Gives}
 use Rattle.scan_text.specs.declared.Place.{Place}
-use Rattle.grammar.specs.Rules.{Tree, Leaf, Node, Pair, Skip, Left, Right, Absent, Present, NoMore, More, listed}
+use Rattle.grammar.specs.Rules.{Tree, Leaf, Node, Pair, Skip, Left, Right, Absent, Present, NoMore, More, tree_of_list}
 use Rattle.jack_tree.specs.declared.token.Keyword.TheVariants as keyword
 use Rattle.jack_tree.specs.declared.token.Kind.TheVariants as kind
 use Rattle.jack_tree.specs.declared.tree.Name.{Name}
@@ -18,7 +18,7 @@ use Rattle.jack_tree.specs.declared.tree.Call.{Call, Call', Row_of-Expression, e
 use Rattle.jack_tree.specs.declared.tree.Term as terms
 use Rattle.jack_tree.specs.declared.tree.Operation.{Operation}
 use Rattle.jack_tree.specs.declared.tree.Expression.{Expression, Expression', Row_of-Operation, end_of-Operation, more_of-Operation}
-use Rattle.jack_parser.specs.Grammar.{Said, Fixed, Placed, unquoted}
+use Rattle.jack_parser.specs.Grammar.{Said, Fixed, Placed, without_quotes}
 
 abbrev pub name_said : Name → Said
 name_said n = Placed kind.Identifier n.text n.place
@@ -66,12 +66,12 @@ front_said (Some o) n = name_said o
 abbrev pub call_said : Call → Said
 call_said (Call' o n p es) = front_said o n
 
-abbrev pub called : Tree Said → Tree Said
-called args = Pair Skip (Pair args Skip)
+abbrev pub call_tree : Tree Said → Tree Said
+call_tree args = Pair Skip (Pair args Skip)
 
 abbrev pub invoked_by : Option Name → Name → Tree Said → Tree Said
-invoked_by None n args = Left (called args)
-invoked_by (Some o) n args = Right (Pair Skip (Pair (name_leaf n) (called args)))
+invoked_by None n args = Left (call_tree args)
+invoked_by (Some o) n args = Right (Pair Skip (Pair (name_leaf n) (call_tree args)))
 
 abbrev mutual
   pub term_tree : terms.Term → Tree Said
@@ -106,7 +106,7 @@ abbrev pub operation_tree : Operation → Tree Said
 operation_tree o = Pair (Leaf (operator_said o.operator o.place)) (term_tree o.term)
 
 abbrev pub operations_tree : List Operation → Tree Said
-operations_tree os = listed operation_tree os NoMore
+operations_tree os = tree_of_list operation_tree os NoMore
 
 -- the arguments of a call, as a list
 abbrev pub argument_tree : Expression → Tree Said
@@ -118,14 +118,14 @@ next_tree e = Pair Skip (argument_tree e)
 -- one argument or more, with more behind them
 abbrev pub list_with : List Expression → Tree Said → Tree Said
 list_with [] more = more
-list_with (e ∷ es) more = Pair (argument_tree e) (listed next_tree es more)
+list_with (e ∷ es) more = Pair (argument_tree e) (tree_of_list next_tree es more)
 
 abbrev pub args_tree : List Expression → Tree Said
 args_tree [] = Absent
 args_tree (e ∷ es) = Present (Node (list_with (e ∷ es) NoMore))
 
 abbrev pub called_tree : List Expression → Tree Said
-called_tree es = called (args_tree es)
+called_tree es = call_tree (args_tree es)
 
 -- '(' exp ')'
 abbrev pub group_tree : Expression → Tree Said
@@ -133,4 +133,4 @@ group_tree e = Pair Skip (Pair (Node (exp_tree e)) Skip)
 
 -- a string was made of a token's text, unless it is past the limit
 abbrev pub IsString : List ℕ → Place → Result Constant ReadError → Type 0
-IsString text at result = Gives constant_leaf_said result (if nat_lt 16384 (length (unquoted text)) then Err (Range at (min (length (unquoted text)) 1000000000)) else Ok (Placed kind.Text (unquoted text) at))
+IsString text at result = Gives constant_leaf_said result (if nat_lt 16384 (length (without_quotes text)) then Err (Range at (min (length (without_quotes text)) 1000000000)) else Ok (Placed kind.Text (without_quotes text) at))

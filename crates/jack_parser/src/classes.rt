@@ -2,7 +2,7 @@
 
 ghost use Rattle.std.specs.Prelude.{◌≡◌, ◌<◌, ◌≤◌, ◌-◌, ◌+◌, ◌^◌, length, Some, None, Result, Ok, List, ℕ, IfOk, map};
 ghost use Rattle.grammar.specs.Reading.{ParsesBy, PassesBy, Halt};
-ghost use Rattle.grammar.specs.Rules.{name, repeat, listed, NoMore};
+ghost use Rattle.grammar.specs.Rules.{name, repeat, tree_of_list, NoMore};
 ghost use Rattle.jack_tree.specs.Tokens.{view};
 ghost use Rattle.jack_parser.specs.Grammar.{jack, names_rule, declaration, class_variables, locals_rule, parameter, parameter_list, parameters, subroutine, subroutine_parts, class_rule};
 ghost use Rattle.jack_parser.specs.ClassTrees.{names_tree, declared_tree, variables_tree, locals_tree, parameter_tree, parameters_with, parameters_tree, parts_tree, subroutine_tree, class_tree};
@@ -120,7 +120,7 @@ fn all_variables<'a>(
     end: Place,
     counts: Counts,
 ) -> Result<((Vec<ClassVariables>, Counts), &'a [Token<'a>]), ReadError>
-    ensures reads { ParsesBy view (jack end) (repeat class_variables) (λ x. listed variables_tree x.0.items NoMore) (λ x. x.1) counts tokens.now result }
+    ensures reads { ParsesBy view (jack end) (repeat class_variables) (λ x. tree_of_list variables_tree x.0.items NoMore) (λ x. x.1) counts tokens.now result }
     ensures no_longer { IfOk result (λ r. length r.1.now ≤ length tokens.now) }
 {
     let mut all = Vec::new(alloc);
@@ -169,7 +169,7 @@ fn all_locals<'a>(
     end: Place,
     counts: Counts,
 ) -> Result<((Vec<Locals>, Counts), &'a [Token<'a>]), ReadError>
-    ensures reads { ParsesBy view (jack end) (repeat locals_rule) (λ x. listed locals_tree x.0.items NoMore) (λ x. x.1) counts tokens.now result }
+    ensures reads { ParsesBy view (jack end) (repeat locals_rule) (λ x. tree_of_list locals_tree x.0.items NoMore) (λ x. x.1) counts tokens.now result }
     ensures no_longer { IfOk result (λ r. length r.1.now ≤ length tokens.now) }
 {
     let mut all = Vec::new(alloc);
@@ -322,7 +322,7 @@ fn subroutines<'a>(
     end: Place,
     counts: Counts,
 ) -> Result<(Vec<Subroutine>, &'a [Token<'a>]), ReadError>
-    ensures reads { ParsesBy view (jack end) (repeat subroutine) (λ v. listed subroutine_tree v.items NoMore) (λ _. counts) counts tokens.now result }
+    ensures reads { ParsesBy view (jack end) (repeat subroutine) (λ v. tree_of_list subroutine_tree v.items NoMore) (λ _. counts) counts tokens.now result }
     ensures no_longer { IfOk result (λ r. length r.1.now ≤ length tokens.now) }
 {
     let mut all = Vec::new(alloc);

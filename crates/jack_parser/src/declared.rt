@@ -5,7 +5,7 @@ ghost use Rattle.jack_tree.specs.Tokens.{view};
 ghost use Rattle.std.specs.Prelude.{map, ◌≡◌, ◌<◌, ◌≤◌, ◌-◌, ◌+◌, ◌^◌, length, Some, None, Result, Ok, List, IfOk, ℕ};
 ghost use Rattle.grammar.specs.Reading.{ParsesBy};
 ghost use Rattle.grammar.specs.Rules.{Leaf, next, here};
-ghost use Rattle.jack_parser.specs.Grammar.{jack, free, fixed, type_said, is_type, is_result, is_scope, is_form, type_rule, result_rule, form_rule};
+ghost use Rattle.jack_parser.specs.Grammar.{jack, free, fixed_word, type_said, is_type, is_result, is_scope, is_form, type_rule, result_rule, form_rule};
 ghost use Rattle.jack_parser.specs.ClassTrees.{type_leaf_said, result_said, form_said};
 
 use crate::counts::Counts;

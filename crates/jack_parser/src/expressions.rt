@@ -4,7 +4,7 @@ ghost use Rattle.std.specs.Prelude.{◌≡◌, ◌<◌, ◌≤◌, ◌-◌, ◌+
 ghost use Rattle.grammar.specs.Reading.{ParsesBy, PassesBy, Halt};
 ghost use Rattle.grammar.specs.Rules.{name, Node};
 ghost use Rattle.jack_tree.specs.Tokens.{view};
-ghost use Rattle.jack_parser.specs.Grammar.{jack, expression, term, nested, arguments, argument, group, call, invoked};
+ghost use Rattle.jack_parser.specs.Grammar.{jack, expression, term, nested_rule, arguments, argument, group, call, invocation_rule};
 ghost use Rattle.jack_parser.specs.Starts.{start_of};
 ghost use Rattle.jack_parser.specs.Trees.{term_tree, exp_tree, args_tree, argument_tree, called_tree, invoked_tree, group_tree, call_said, name_said};
 
@@ -112,7 +112,7 @@ pub fn call_of<'a>(
     end: Place,
     counts: Counts,
 ) -> Result<(Call, &'a [Token<'a>]), ReadError>
-    ensures reads { ParsesBy view (jack end) invoked invoked_tree (λ _. counts) counts tokens.now result }
+    ensures reads { ParsesBy view (jack end) invocation_rule invoked_tree (λ _. counts) counts tokens.now result }
     ensures shorter { IfOk result (λ r. length r.1.now < length tokens.now) }
     ensures front { IfOk result (λ r. call_said r.0 ≡ name_said first) }
 {
@@ -257,7 +257,7 @@ pub fn nested<'a>(
     end: Place,
     counts: Counts,
 ) -> Result<(Expression, &'a [Token<'a>]), ReadError>
-    ensures reads { ParsesBy view (jack end) (nested (name expression)) (λ e. Node (exp_tree e)) (λ _. counts) counts tokens.now result }
+    ensures reads { ParsesBy view (jack end) (nested_rule (name expression)) (λ e. Node (exp_tree e)) (λ _. counts) counts tokens.now result }
     ensures shorter { IfOk result (λ r. length r.1.now < length tokens.now) }
 {
     if !term_begins(tokens) {

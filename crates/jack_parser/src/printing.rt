@@ -2,12 +2,12 @@
 
 ghost use Rattle.std.specs.Prelude.{◌≡◌, ◌++◌, ◌∷◌, []};
 ghost use Rattle.grammar.specs.Printed.{Writes, set_off};
-ghost use Rattle.grammar.specs.Rules.{name, NoMore, option, repeat, listed};
+ghost use Rattle.grammar.specs.Rules.{name, NoMore, option, repeat, tree_of_list};
 ghost use Rattle.outer_world.specs.Held.{HaveSameSink, pending, sink_of};
 ghost use Rattle.outer_world.specs.Written.{CountsPut, Puts};
 ghost use Rattle.jack_tree.specs.Tokens.{keyword_text};
 ghost use Rattle.jack_parser.specs.declared.counts.Counted.{Counted};
-ghost use Rattle.jack_parser.specs.Grammar.{arguments, class_rule, class_variables, declaration, expression, group, invoked, locals_rule, names_rule, next_name, next_parameter, operation, parameter, parameters, statement, subroutine, subscript, term};
+ghost use Rattle.jack_parser.specs.Grammar.{arguments, class_rule, class_variables, declaration, expression, group, invocation_rule, locals_rule, names_rule, next_name, next_parameter, operation, parameter, parameters, statement, subroutine, subscript, term};
 ghost use Rattle.jack_parser.specs.Trees.{args_tree, call_said, constant_leaf_said, exp_tree, group_tree, invoked_tree, operations_tree, operator_byte, sign_byte, term_tree};
 ghost use Rattle.jack_parser.specs.StatementTrees.{index_tree, statement_tree, statements_tree, value_tree};
 ghost use Rattle.jack_parser.specs.ClassTrees.{class_tree, declared_tree, form_said, locals_tree, names_tree, next_name_tree, next_parameter_tree, parameter_tree, parameters_tree, result_said, subroutine_tree, type_leaf_said, variables_tree};
@@ -148,7 +148,7 @@ fn put_front<S: Sink>(call: &Call, status: Put, out: &mut Pieces<'_, S>) -> Put
 // What follows that name.
 #[cycle(printing)]
 fn put_invoked<S: Sink>(call: &Call, status: Put, out: &mut Pieces<'_, S>) -> Put
-    ensures { Shows (invoked_tree call.now) invoked status out.old result out.new }
+    ensures { Shows (invoked_tree call.now) invocation_rule status out.old result out.new }
 {
     match &call.object {
         None => {
@@ -319,7 +319,7 @@ fn put_next_name<S: Sink>(name: &Name, status: Put, out: &mut Pieces<'_, S>) -> 
 }
 
 fn put_more_names<S: Sink>(names: &[Name], status: Put, out: &mut Pieces<'_, S>) -> Put
-    ensures { (x : Counted) → Shows (listed next_name_tree names.now NoMore) (repeat (next_name x)) status out.old result out.new }
+    ensures { (x : Counted) → Shows (tree_of_list next_name_tree names.now NoMore) (repeat (next_name x)) status out.old result out.new }
 {
     let mut status = status;
     for one in names {
@@ -362,7 +362,7 @@ fn put_variables<S: Sink>(variables: &ClassVariables, status: Put, out: &mut Pie
 }
 
 fn put_all_variables<S: Sink>(all: &[ClassVariables], status: Put, out: &mut Pieces<'_, S>) -> Put
-    ensures { Shows (listed variables_tree all.now NoMore) (repeat class_variables) status out.old result out.new }
+    ensures { Shows (tree_of_list variables_tree all.now NoMore) (repeat class_variables) status out.old result out.new }
 {
     let mut status = status;
     for one in all {
@@ -378,7 +378,7 @@ fn put_locals<S: Sink>(locals: &Locals, status: Put, out: &mut Pieces<'_, S>) ->
 }
 
 fn put_all_locals<S: Sink>(all: &[Locals], status: Put, out: &mut Pieces<'_, S>) -> Put
-    ensures { Shows (listed locals_tree all.now NoMore) (repeat locals_rule) status out.old result out.new }
+    ensures { Shows (tree_of_list locals_tree all.now NoMore) (repeat locals_rule) status out.old result out.new }
 {
     let mut status = status;
     for one in all {
@@ -403,7 +403,7 @@ fn put_next_parameter<S: Sink>(one: &Parameter, status: Put, out: &mut Pieces<'_
 }
 
 fn put_more_parameters<S: Sink>(all: &[Parameter], status: Put, out: &mut Pieces<'_, S>) -> Put
-    ensures { Shows (listed next_parameter_tree all.now NoMore) (repeat next_parameter) status out.old result out.new }
+    ensures { Shows (tree_of_list next_parameter_tree all.now NoMore) (repeat next_parameter) status out.old result out.new }
 {
     let mut status = status;
     for one in all {
@@ -438,7 +438,7 @@ fn put_subroutine<S: Sink>(one: &Subroutine, status: Put, out: &mut Pieces<'_, S
 }
 
 fn put_subroutines<S: Sink>(all: &[Subroutine], status: Put, out: &mut Pieces<'_, S>) -> Put
-    ensures { Shows (listed subroutine_tree all.now NoMore) (repeat subroutine) status out.old result out.new }
+    ensures { Shows (tree_of_list subroutine_tree all.now NoMore) (repeat subroutine) status out.old result out.new }
 {
     let mut status = status;
     for one in all {

@@ -2,7 +2,7 @@
 use Rattle.std.specs.Prelude.{◌≡◌, ℕ, List, Some, slice_get}
 use Rattle.jack_tree.specs.Syntax.{ClassFile}
 use Rattle.jack_parser.specs.Spelled.{SpellsClass}
-use Rattle.jack_names.specs.Faults.{Told}
+use Rattle.jack_names.specs.Faults.{NameDiagnostic}
 use Rattle.jack_names.specs.FaultOrder.{IsFirstFault, PlacesRise, IsFirstByPlace}
 
 -- Each of these files has a text that spells its class.
@@ -15,4 +15,4 @@ RisesLaw = (own os : List ClassFile) → AreSpelled own → PlacesRise own os
 
 -- The law of first faults: there the fault that is first in the order of the text is first by file, place and kind.
 abbrev pub FirstLaw : Type 0
-FirstLaw = (own os : List ClassFile) (told : Told) → AreSpelled own → IsFirstFault own os told → IsFirstByPlace own os told
+FirstLaw = (own os : List ClassFile) (told : NameDiagnostic) → AreSpelled own → IsFirstFault own os told → IsFirstByPlace own os told

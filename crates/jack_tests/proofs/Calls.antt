@@ -14,7 +14,7 @@ use Rattle.jack_core.specs.declared.program.Statement.TheVariants as statement
 use Rattle.jack_core.specs.declared.program.Subroutine.{Subroutine}
 use Rattle.jack_core.specs.declared.program.Core.{Core}
 use Rattle.jack_core.specs.Heights.{takes, height}
-use Rattle.jack_core.specs.Reading.{the_expression, arguments_of, put, built}
+use Rattle.jack_core.specs.Reading.{the_expression, arguments_of, put, build_expressions}
 use Rattle.jack_core.specs.Texts.{the_statement, the_block, the_subroutine, the_program}
 use Rattle.jack_core.proofs.Postfix.{enough, behind, put_length, spells}
 use Rattle.jack_core.proofs.Blocks.{while_reads}
@@ -87,7 +87,7 @@ put_four (part.Call n g) es le k h =
       all_back (take n es) (drop n es) split,
     )
 
-built_four : (k : ℕ) (es : List Expression) (ps : List Part) → height (length es) ps ≡ Some k → AreOfFour ps → All es → All (built es ps)
+built_four : (k : ℕ) (es : List Expression) (ps : List Part) → height (length es) ps ≡ Some k → AreOfFour ps → All es → All (build_expressions es ps)
 built_four k es [] e c h = h
 built_four k es (p ∷ ps) e c h =
     let le = enough (length es) k p ps e in

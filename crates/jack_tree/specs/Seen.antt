@@ -86,13 +86,13 @@ the_value None = None
 the_value (Some e) = Some (the_expression e)
 
 -- what is in a box, where there is one
-abbrev pub unboxed : {A : Type 0} → Option (Box A Global) → Option A
-unboxed None = None
-unboxed (Some b) = Some b.value
+abbrev pub unbox : {A : Type 0} → Option (Box A Global) → Option A
+unbox None = None
+unbox (Some b) = Some b.value
 
 abbrev mutual
   pub the_statement : statements.Statement → Statement
-  the_statement (statements.Let at n i e) = Let at (the_name n) (the_value (unboxed i)) (the_expression e)
+  the_statement (statements.Let at n i e) = Let at (the_name n) (the_value (unbox i)) (the_expression e)
   the_statement (statements.If' at e n body other) = the_choice at (the_expression e) (the_row body) other
   the_statement (statements.While' at e n body) = While at (the_expression e) (the_row body)
   the_statement (statements.Do at c) = Do at (the_call c)

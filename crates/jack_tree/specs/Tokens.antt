@@ -41,9 +41,9 @@ keyword_text keyword.While = codes "while"
 keyword_text keyword.Return = codes "return"
 
 -- the first of some keywords that has this text, or else what is told of the others
-abbrev pub spelled : List Keyword → Option Keyword → List ℕ → Option Keyword
-spelled [] others text = others
-spelled (k ∷ ks) others text = if bytes_eq text (keyword_text k) then Some k else spelled ks others text
+abbrev pub keyword_spelled : List Keyword → Option Keyword → List ℕ → Option Keyword
+keyword_spelled [] others text = others
+keyword_spelled (k ∷ ks) others text = if bytes_eq text (keyword_text k) then Some k else keyword_spelled ks others text
 
 abbrev pub statement_keywords : List Keyword
 statement_keywords = keyword.Let ∷ keyword.Do ∷ keyword.If ∷ keyword.Else ∷ keyword.While ∷ keyword.Return ∷ []
@@ -58,17 +58,17 @@ abbrev pub declaring_keywords : List Keyword
 declaring_keywords = keyword.Class ∷ keyword.Constructor ∷ keyword.Function ∷ keyword.Method ∷ keyword.Field ∷ keyword.Static ∷ keyword.Var ∷ []
 
 abbrev pub statement_keyword_of : List ℕ → Option Keyword
-statement_keyword_of text = spelled statement_keywords None text
+statement_keyword_of text = keyword_spelled statement_keywords None text
 
 abbrev pub constant_keyword_of : List ℕ → Option Keyword
-constant_keyword_of text = spelled constant_keywords (statement_keyword_of text) text
+constant_keyword_of text = keyword_spelled constant_keywords (statement_keyword_of text) text
 
 abbrev pub type_keyword_of : List ℕ → Option Keyword
-type_keyword_of text = spelled type_keywords (constant_keyword_of text) text
+type_keyword_of text = keyword_spelled type_keywords (constant_keyword_of text) text
 
 -- the keyword that is spelled so
 abbrev pub keyword_of : List ℕ → Option Keyword
-keyword_of text = spelled declaring_keywords (type_keyword_of text) text
+keyword_of text = keyword_spelled declaring_keywords (type_keyword_of text) text
 
 -- The words stand in the text, which begins at this place, one after another: before each is a gap, and behind it are the others.
 abbrev pub StandIn : Place → List ℕ → List Word → Type 0

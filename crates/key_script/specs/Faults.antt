@@ -10,10 +10,10 @@ use Rattle.key_script.specs.declared.fault.KeyFault.TheVariants.{Grammar, Range,
 use Rattle.key_script.specs.declared.fault.KeyError.{KeyError}
 use Rattle.key_script.specs.declared.fault.KeyError.TheVariants as errors
 
-abbrev pub key_told : KeyFault → Message
-key_told (Grammar at) = message at.line at.column (codes "Grammar") []
-key_told (Range at value) = message at.line at.column (codes "Range") (decimal value)
-key_told (NotRising at) = message at.line at.column (codes "NotRising") []
+abbrev pub key_message : KeyFault → Message
+key_message (Grammar at) = message at.line at.column (codes "Grammar") []
+key_message (Range at value) = message at.line at.column (codes "Range") (decimal value)
+key_message (NotRising at) = message at.line at.column (codes "NotRising") []
 
 -- A fault of the grammar. A moment that does not rise is one past a limit of 0 there (Script).
 abbrev pub key_fault : Fault → KeyFault

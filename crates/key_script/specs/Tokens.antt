@@ -1,7 +1,7 @@
 -- The tokens of a key script: decimal numbers and line ends, with blanks and tabs between them.
 use Rattle.std.specs.Prelude.{ℕ, ◌-◌, Bool, true, false, List, Option, Some, None, Result, ◌==◌, ◌||◌, if◌then◌else◌, length}
 use Rattle.scan_text.specs.declared.Place.{Place}
-use Rattle.scan_text.specs.Text.{start, walk, first, is_digit, digits, decimal, capped}
+use Rattle.scan_text.specs.Text.{start, walk, first, is_digit, digits, decimal, capped_count}
 use Rattle.grammar.specs.declared.Fault.{Fault}
 use Rattle.grammar.specs.Cutting.{Piece, Passed, Token, cut_text}
 use Rattle.grammar.specs.Lines.{line_end_piece}
@@ -11,12 +11,12 @@ use Rattle.key_script.specs.declared.token.Kind.TheVariants.{Number, LineEnd}
 use Rattle.key_script.specs.declared.token.Token as declared
 
 -- a token of a kind, at a place
-abbrev pub made : Kind → Place → declared.Token
-made kind at = record { kind = kind; place = at }
+abbrev pub made_token : Kind → Place → declared.Token
+made_token kind at = record { kind = kind; place = at }
 
 -- decimal digits
 abbrev pub number_piece : List ℕ → Piece declared.Token
-number_piece bs = Token (made (Number (capped (decimal 0 (digits bs))))) (length (digits bs) - 1)
+number_piece bs = Token (made_token (Number (capped_count (decimal 0 (digits bs))))) (length (digits bs) - 1)
 
 -- the tokens of the code are those of the definition
 abbrev pub Word : Type 0
@@ -27,7 +27,7 @@ view t = t
 
 -- the line end at a place
 abbrev pub line_end_token : Place → declared.Token
-line_end_token = made LineEnd
+line_end_token = made_token LineEnd
 
 -- what begins at the first byte: blanks and tabs are passed over
 abbrev pub piece_at : Option ℕ → List ℕ → Piece declared.Token

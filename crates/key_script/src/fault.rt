@@ -1,10 +1,10 @@
 //! Why a key script is not read.
 
 ghost use Rattle.std.specs.Prelude.{◌≡◌};
-ghost use Rattle.key_script.specs.Faults.{key_error, key_fault, key_told};
+ghost use Rattle.key_script.specs.Faults.{key_error, key_fault, key_message};
 
 use grammar::{Fault, ReadError};
-use outer_world::{Detail, Told};
+use outer_world::{Detail, Diagnostic};
 use scan_text::Place;
 use thiserror::Error;
 
@@ -24,13 +24,18 @@ pub enum KeyFault {
 
 impl KeyFault {
     /// What the fault tells.
-    pub fn told(self) -> Told
-        ensures { result ≡ key_told self }
+    pub fn diagnostic(self) -> Diagnostic
+        ensures { result ≡ key_message self }
     {
         match self {
-            KeyFault::Grammar(at) => Fault::Grammar(at).told(),
-            KeyFault::Range(at, value) => Fault::Range(at, value).told(),
-            KeyFault::NotRising(at) => Told::at(at.line, at.column, "NotRising", Detail::Nothing),
+            KeyFault::Grammar(at) => Fault::Grammar(at).diagnostic(),
+            KeyFault::Range(at, value) => Fault::Range(at, value).diagnostic(),
+            KeyFault::NotRising(at) => Diagnostic::at(
+                at.line,
+                at.column,
+                "NotRising",
+                Detail::Nothing,
+            ),
         }
     }
 

@@ -2,7 +2,7 @@
 
 ghost use Rattle.std.specs.Prelude.{◌≡◌, true, Some, Result, IfOk};
 ghost use Rattle.scan_text.specs.Text.{first, is_digit};
-ghost use Rattle.scan_text.specs.View.{left};
+ghost use Rattle.scan_text.specs.View.{left_bytes};
 ghost use Rattle.grammar.specs.Cutting.{NextBy};
 ghost use Rattle.grammar.specs.Reading.{Gives};
 ghost use Rattle.key_script.specs.Tokens.{view, tokens_of, finish, number_piece};
@@ -13,9 +13,9 @@ use scan_text::{Place, Scan};
 use std::alloc::Global;
 
 fn number(scan: &mut Scan, byte: u8) -> Result<Option<Token>, Fault>
-    requires begun { first (left scan.old) ≡ Some byte }
+    requires begun { first (left_bytes scan.old) ≡ Some byte }
     requires digit { is_digit byte ≡ true }
-    ensures { NextBy view (number_piece (left scan.old)) scan.old result scan.new }
+    ensures { NextBy view (number_piece (left_bytes scan.old)) scan.old result scan.new }
 {
     let place = scan.place();
     match scan.number() {

@@ -6,7 +6,7 @@ ghost use Rattle.grammar.specs.Rules.{Leaf, next};
 ghost use Rattle.grammar.specs.declared.Fault.{Fault};
 ghost use Rattle.key_script.specs.Codes.{are_rising};
 ghost use Rattle.key_script.specs.Tokens.{ends_line};
-ghost use Rattle.key_script.specs.Grammar.{has_number, check_moment, check_code, said, script, moment, code, line_end, line, line_tree, after_line, lines, lines_tree, after_lines, whole, script_tree};
+ghost use Rattle.key_script.specs.Grammar.{has_number, check_moment, check_code, said_kind, script, moment, code, line_end, line, line_tree, after_line, lines, lines_tree, after_lines, whole, script_tree};
 
 use crate::lexer::tokens;
 use crate::token::{Kind, Token};
@@ -29,7 +29,7 @@ fn grammar_fault(place: Place) -> ReadError
 
 // A moment, not below the least one: one below it is past a limit of 0 (`KeyFault::of_grammar`).
 fn moment_at(tokens: &[Token], end: Place, least: u32) -> Result<(u32, &[Token]), ReadError>
-    ensures reads { Gives (λ x. (Kind.Number x.0, x.0 + 1, x.1.now)) result (word_at (script end) has_number check_moment said least tokens.now) }
+    ensures reads { Gives (λ x. (Kind.Number x.0, x.0 + 1, x.1.now)) result (word_at (script end) has_number check_moment said_kind least tokens.now) }
     ensures rising { IfOk result (λ x. least ≤ x.0) }
 {
     let Some((token, rest)) = tokens.split_first() else {
@@ -49,7 +49,7 @@ fn moment_at(tokens: &[Token], end: Place, least: u32) -> Result<(u32, &[Token])
 
 // A code.
 fn code_at(tokens: &[Token], end: Place) -> Result<(u16, &[Token]), ReadError>
-    ensures { (least : ℕ) → Gives (λ x. (Kind.Number x.0, least, x.1.now)) result (word_at (script end) has_number check_code said least tokens.now) }
+    ensures { (least : ℕ) → Gives (λ x. (Kind.Number x.0, least, x.1.now)) result (word_at (script end) has_number check_code said_kind least tokens.now) }
 {
     let Some((token, rest)) = tokens.split_first() else {
         return Err(grammar_fault(end));

@@ -33,17 +33,17 @@ end_text (ends.Stray s) = codes "stray " ++ stray_text s
 end_text (ends.Full w) = codes "full " ++ decimal w
 
 -- a line of a word and what is said of it
-abbrev pub said : List ℕ → List ℕ → List ℕ
-said word text = word ++ 32 ∷ (text ++ 10 ∷ [])
+abbrev pub said_line : List ℕ → List ℕ → List ℕ
+said_line word text = word ++ 32 ∷ (text ++ 10 ∷ [])
 
 abbrev pub counts_text : LevelName → ℕ → ℕ → List ℕ
 counts_text level moves steps =
-    said (codes "level") (level_name level) ++ said (codes "moves") (decimal moves) ++ said (codes "steps") (decimal steps)
+    said_line (codes "level") (level_name level) ++ said_line (codes "moves") (decimal moves) ++ said_line (codes "steps") (decimal steps)
 
 -- the five lines that each report begins with
 abbrev pub head_text : LevelName → ℕ → ℕ → List ℕ → ℕ → End → List ℕ
 head_text level moves steps subroutine statement end =
-    counts_text level moves steps ++ said (codes "point") (subroutine ++ 32 ∷ decimal statement) ++ said (codes "end") (end_text end)
+    counts_text level moves steps ++ said_line (codes "point") (subroutine ++ 32 ∷ decimal statement) ++ said_line (codes "end") (end_text end)
 
 -- what is shown of the words of heap and screen
 abbrev pub shown_text : Show → (ℕ → ℕ) → List ℕ

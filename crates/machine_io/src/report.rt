@@ -4,7 +4,7 @@ ghost use Rattle.word16.specs.Memory.{heap, keyboard};
 ghost use Rattle.outer_world.specs.Held.{HaveSameSink, pending, sink_of};
 ghost use Rattle.outer_world.specs.Written.{CountsPut, Passes, Puts};
 ghost use Rattle.machine_io.specs.Words.{IsCallable, Gives};
-ghost use Rattle.machine_io.specs.Report.{level_name, end_text, said, counts_text, head_text, shown_text, report_text};
+ghost use Rattle.machine_io.specs.Report.{level_name, end_text, said_line, counts_text, head_text, shown_text, report_text};
 
 use crate::driving::End;
 use crate::machine::Stray;
@@ -60,7 +60,7 @@ impl LevelName {
 // A line of a word, a space and what is said of it.
 fn put_said<S: Sink>(word: &[u8], text: &[u8], out: &mut Pieces<'_, S>) -> Put
     ensures same_sink { HaveSameSink out.old out.new }
-    ensures passes { Passes (S.written (sink_of out.old)) (pending out.old) (S.written (sink_of out.new)) (pending out.new) (said word.now text.now) result }
+    ensures passes { Passes (S.written (sink_of out.old)) (pending out.old) (S.written (sink_of out.new)) (pending out.new) (said_line word.now text.now) result }
     ensures counts { CountsPut (S.faults (sink_of out.old)) (S.faults (sink_of out.new)) result }
 {
     out.put_all(&[word, b" ", text, b"\n"])
@@ -68,7 +68,7 @@ fn put_said<S: Sink>(word: &[u8], text: &[u8], out: &mut Pieces<'_, S>) -> Put
 
 fn put_number<S: Sink>(word: &[u8], n: u64, out: &mut Pieces<'_, S>) -> Put
     ensures same_sink { HaveSameSink out.old out.new }
-    ensures passes { Passes (S.written (sink_of out.old)) (pending out.old) (S.written (sink_of out.new)) (pending out.new) (said word.now (decimal n)) result }
+    ensures passes { Passes (S.written (sink_of out.old)) (pending out.old) (S.written (sink_of out.new)) (pending out.new) (said_line word.now (decimal n)) result }
     ensures counts { CountsPut (S.faults (sink_of out.old)) (S.faults (sink_of out.new)) result }
 {
     let mut buffer = Buffer::new();
@@ -77,7 +77,7 @@ fn put_number<S: Sink>(word: &[u8], n: u64, out: &mut Pieces<'_, S>) -> Put
 
 fn put_level<S: Sink>(level: LevelName, out: &mut Pieces<'_, S>) -> Put
     ensures same_sink { HaveSameSink out.old out.new }
-    ensures passes { Passes (S.written (sink_of out.old)) (pending out.old) (S.written (sink_of out.new)) (pending out.new) (said (codes "level") (level_name level)) result }
+    ensures passes { Passes (S.written (sink_of out.old)) (pending out.old) (S.written (sink_of out.new)) (pending out.new) (said_line (codes "level") (level_name level)) result }
     ensures counts { CountsPut (S.faults (sink_of out.old)) (S.faults (sink_of out.new)) result }
 {
     put_said(b"level", level.name().as_bytes(), out)
@@ -103,7 +103,7 @@ fn put_counts<S: Sink>(level: LevelName, moves: u64, steps: u64, out: &mut Piece
 // The line of the control point.
 fn put_point<S: Sink>(subroutine: &str, statement: u32, out: &mut Pieces<'_, S>) -> Put
     ensures same_sink { HaveSameSink out.old out.new }
-    ensures passes { Passes (S.written (sink_of out.old)) (pending out.old) (S.written (sink_of out.new)) (pending out.new) (said (codes "point") (subroutine.now ++ 32 ∷ decimal statement)) result }
+    ensures passes { Passes (S.written (sink_of out.old)) (pending out.old) (S.written (sink_of out.new)) (pending out.new) (said_line (codes "point") (subroutine.now ++ 32 ∷ decimal statement)) result }
     ensures counts { CountsPut (S.faults (sink_of out.old)) (S.faults (sink_of out.new)) result }
 {
     let mut buffer = Buffer::new();
@@ -114,7 +114,7 @@ fn put_point<S: Sink>(subroutine: &str, statement: u32, out: &mut Pieces<'_, S>)
 // The line of the end.
 fn put_end<S: Sink>(end: End, out: &mut Pieces<'_, S>) -> Put
     ensures same_sink { HaveSameSink out.old out.new }
-    ensures passes { Passes (S.written (sink_of out.old)) (pending out.old) (S.written (sink_of out.new)) (pending out.new) (said (codes "end") (end_text end)) result }
+    ensures passes { Passes (S.written (sink_of out.old)) (pending out.old) (S.written (sink_of out.new)) (pending out.new) (said_line (codes "end") (end_text end)) result }
     ensures counts { CountsPut (S.faults (sink_of out.old)) (S.faults (sink_of out.new)) result }
 {
     match end {

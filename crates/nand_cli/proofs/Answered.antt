@@ -1,12 +1,12 @@
--- Over told files a line that wants no image has an answer; and a folder has well named classes, or is refused.
+-- Over known files a line that wants no image has an answer; and a folder has well named classes, or is refused.
 use Rattle.std.specs.Prelude.{◌-◌, ◌^◌, min, nat_le}
 use Rattle.std.proofs.Common.{◌≡◌, ◌≤◌, ◌<◌, ◌⊎◌, inl, inr, ℕ, Bool, true, false, List, [], ◌∷◌, Option, Some, None, Result, Ok, Err, codes, length, take, refl, subst, arith}
 use Rattle.std.proofs.lemmas.Bool.Decides.{nat_tests}
 use Rattle.grammar.specs.declared.Fault.{Fault}
-use Rattle.grammar.specs.Faults.{fault_told}
+use Rattle.grammar.specs.Faults.{diagnostic_of}
 use Rattle.grammar.specs.Texts.{SomeReading}
 use Rattle.outer_world.specs.Files.{Files, file_at}
-use Rattle.outer_world.specs.Refusals.{Message, told_line}
+use Rattle.outer_world.specs.Refusals.{Message, message_line}
 use Rattle.hack_isa.specs.Machine.{image_words, machine_at, read}
 use Rattle.hack_asm.specs.Faults.{Wrong}
 use Rattle.hack_asm.specs.Image.{image_text}
@@ -29,10 +29,10 @@ use Rattle.hdl_parser.specs.Printed.{chip_text}
 use Rattle.hdl_parser.specs.Spells.{TotalLaw as ChipLaw, Spells as SpellsChip}
 use Rattle.hack_cpu.specs.Library.{shipped_chips}
 use Rattle.jack_tree.specs.Syntax.{Class, ClassFile}
-use Rattle.jack_parser.specs.PrintedClass.{printed}
+use Rattle.jack_parser.specs.PrintedClass.{printed_class}
 use Rattle.jack_parser.specs.Spelled.{TotalLaw as ClassLaw, SpellsClass}
 use Rattle.jack_parser.specs.Spells.{Refuses as RefusesTree}
-use Rattle.jack_names.specs.Faults.{Told}
+use Rattle.jack_names.specs.Faults.{NameDiagnostic}
 use Rattle.jack_names.specs.FaultOrder.{IsFirstFault}
 use Rattle.jack_names.specs.NameFaults.{IsWellNamed}
 use Rattle.jack_names.proofs.Found.{finds_first, finds_none}
@@ -48,7 +48,7 @@ use Rattle.nand_cli.specs.Commands.Exec.{form_of}
 use Rattle.nand_cli.specs.Commands.Show.{RefusesKind}
 use Rattle.nand_cli.specs.Commands.Vm.{HasProgram, VmPrints, VmRefuses, unread as vm_unread, without_code}
 use Rattle.nand_cli.specs.JackFolder.{FolderIsRefused, HasClasses, files_meant, meaningless, name_line, unread}
-use Rattle.nand_cli.specs.Languages.{MeansAs, RefusesClass, RefusesHdl, RefusesVm, RefusesWords, SpellsFile, SpellsVmFile, SpellsWords, wrong_told}
+use Rattle.nand_cli.specs.Languages.{MeansAs, RefusesClass, RefusesHdl, RefusesVm, RefusesWords, SpellsFile, SpellsVmFile, SpellsWords, wrong_message}
 use Rattle.nand_cli.specs.declared.languages.Form.{Form}
 use Rattle.nand_cli.specs.declared.languages.Form.TheVariants.{Assembly, Image}
 use Rattle.nand_cli.proofs.FolderAnswered.{AllRead, at_path, folder_read}
@@ -68,15 +68,15 @@ module _ {A : Type 0} (spells : List ℕ → List ℕ → A → Type 0) (refuses
   ]
 
 -- what is told of a fault
-told_of : {X : Type 0} (spells : X → Type 0) (refuses : Fault → Type 0) → SomeReading X spells refuses → ((x : X) × spells x) ⊎ ((told : Message) × ((fault : Fault) × refuses fault × (told ≡ fault_told fault)))
+told_of : {X : Type 0} (spells : X → Type 0) (refuses : Fault → Type 0) → SomeReading X spells refuses → ((x : X) × spells x) ⊎ ((told : Message) × ((fault : Fault) × refuses fault × (told ≡ diagnostic_of fault)))
 told_of spells refuses (inl h) = inl h
-told_of spells refuses (inr (fault, h)) = inr (fault_told fault, (fault, h, refl))
+told_of spells refuses (inr (fault, h)) = inr (diagnostic_of fault, (fault, h, refl))
 
 -- ---- programs of the instruction machine
 
 words_by : (form : Form) (text : List ℕ) (r : Result (List ℕ) Wrong) → MeansAs form text r → ((ws : List ℕ) × SpellsWords form text ws) ⊎ ((told : Message) × RefusesWords form text told)
 words_by form text (Ok ws) h = inl (ws, h)
-words_by form text (Err wrong) h = inr (wrong_told wrong, (wrong, h, refl))
+words_by form text (Err wrong) h = inr (wrong_message wrong, (wrong, h, refl))
 
 words_read : AssemblyLaw → ImageLaw → (form : Form) → AllRead (λ (name text words : List ℕ). SpellsWords form text words) (RefusesWords form)
 words_read assembly image Assembly name text = let r = assembly text in words_by Assembly text r.0 r.1
@@ -109,7 +109,7 @@ show_answered vm_law jack_law chip_law there files path kinds.Vm =
     (λ program h. (program_text program, [], ((program, h, refl), refl))) (λ told h. inr (inl ([], [], told, (refl, h, refl)))) (λ gone. inr (inr gone))
 show_answered vm_law jack_law chip_law there files path kinds.Jack =
     of_one_file (λ (name text : List ℕ) (c : Class). SpellsClass text c) RefusesClass (class_read jack_law) there files path (show path kinds.Jack)
-    (λ c h. (printed c, [], ((c, h, refl), refl))) (λ told h. inr (inl ([], [], told, (refl, h, refl)))) (λ gone. inr (inr gone))
+    (λ c h. (printed_class c, [], ((c, h, refl), refl))) (λ told h. inr (inl ([], [], told, (refl, h, refl)))) (λ gone. inr (inr gone))
 show_answered vm_law jack_law chip_law there files path kinds.Hdl =
     of_one_file (λ (name text : List ℕ) (c : Chip). SpellsChip text c) RefusesHdl (chip_read chip_law) there files path (show path kinds.Hdl)
     (λ c h. (chip_text c, [], ((c, h, refl), refl))) (λ told h. inr (inl ([], [], told, (refl, h, refl)))) (λ gone. inr (inr gone))
@@ -118,7 +118,7 @@ show_answered vm_law jack_law chip_law there files path kinds.Hdl =
 
 chip_by : (there : List ℕ → Bool) (files : Files) (name : List ℕ) (o : Option Entry) → find_entry shipped_chips name ≡ o → HasAnswer there files (chip name)
 chip_by there files name (Some entry) e = inl (chip_text entry.chip, [], ((entry, e, refl), refl))
-chip_by there files name None e = inr (inl ([], [], told_line name (unknown_chip name), (refl, (e, refl), refl)))
+chip_by there files name None e = inr (inl ([], [], message_line name (unknown_chip name), (refl, (e, refl), refl)))
 
 pub chip_answered : ChipAnsweredLaw
 chip_answered there files name = chip_by there files name (find_entry shipped_chips name) refl
@@ -144,7 +144,7 @@ module _ (within : (l : Linked) → length (image_of l) ≤ budget_of l) (there 
 
   by_links : (program : List File) → HasProgram bare (Some files) folder program → IsLinkedOrTold bare program → Answer
   by_links program has (inl (l, links)) = by_size program l has links (nat_le (length (image_of l)) image_words) refl
-  by_links program has (inr (fault, told, links, e)) = refused (told_line folder told) (without_code program has (told, inl (fault, links, e), refl))
+  by_links program has (inr (fault, told, links, e)) = refused (message_line folder told) (without_code program has (told, inl (fault, links, e), refl))
 
   by_folder : ((program : List File) × HasProgram bare (Some files) folder program) ⊎ ((line : List ℕ) × IsUnread (SpellsVmFile bare) (RefusesVm bare) (codes ".vm") (Some files) folder line) → Answer
   by_folder (inl (program, has)) = by_links program has (linked_or_told bare program)
@@ -171,7 +171,7 @@ file_by name text (inr h) = inr h
 file_read : ClassLaw → AllRead SpellsFile RefusesClass
 file_read law name text = file_by name text (class_read law name text)
 
-named_or_fault : (own os : List ClassFile) (o : Option Told) → all_faults own os ≡ o → IsWellNamed own os ⊎ ((told : Told) × IsFirstFault own os told)
+named_or_fault : (own os : List ClassFile) (o : Option NameDiagnostic) → all_faults own os ≡ o → IsWellNamed own os ⊎ ((told : NameDiagnostic) × IsFirstFault own os told)
 named_or_fault own os None e = inl ((finds_none own os).0 e)
 named_or_fault own os (Some told) e = inr (told, (finds_first own os told).0 e)
 
@@ -182,7 +182,7 @@ module _ (first : FirstLaw) (the_system : SystemLaw) (files : Files) (folder : L
   abbrev WellOrRefused : Type 0
   WellOrRefused = IsWellFolder files folder ⊎ ((line : List ℕ) × FolderIsRefused (Some files) folder line)
 
-  by_names : (own : List ClassFile) → HasClasses (Some files) folder own → IsWellNamed own the_system.classes ⊎ ((told : Told) × IsFirstFault own the_system.classes told) → WellOrRefused
+  by_names : (own : List ClassFile) → HasClasses (Some files) folder own → IsWellNamed own the_system.classes ⊎ ((told : NameDiagnostic) × IsFirstFault own the_system.classes told) → WellOrRefused
   by_names own has (inl well) = inl (own, the_system.classes, has, the_system.are, well)
   by_names own has (inr (told, h)) =
       inr (name_line folder told, meaningless own has (the_system.classes, told, the_system.are, first own the_system.classes told (spelled_own (Some files) folder own has) h, refl))

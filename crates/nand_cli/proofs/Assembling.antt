@@ -9,13 +9,13 @@ use Rattle.hack_asm.specs.Meaning.{Means, MeansWrong, IsRefusal}
 use Rattle.hack_asm.specs.declared.fault.AsmFault.{AsmFault}
 use Rattle.hack_asm.specs.declared.fault.AsmFault.TheVariants as asm
 use Rattle.outer_world.specs.Refusals.{Message}
-use Rattle.hack_asm.specs.Program.{Table, first_past, if_near, labelled, labels, size, variables, words}
+use Rattle.hack_asm.specs.Program.{Table, first_past, if_near, label_values, labels, size, variables, words}
 use Rattle.hack_asm.specs.HackText.{Holds, HoldsWrong, IsRefusal as IsNoImage, words_of}
 use Rattle.source_files.specs.Loads.{IsWhy, text_error}
 use Rattle.source_files.specs.declared.error.TextError.{TextError}
 use Rattle.source_files.proofs.Told.{why_told}
-use Rattle.hack_asm.specs.Told.{asm_told}
-use Rattle.nand_cli.specs.Languages.{RefusesWords, SpellsWords, wrong_told}
+use Rattle.hack_asm.specs.Messages.{asm_message}
+use Rattle.nand_cli.specs.Languages.{RefusesWords, SpellsWords, wrong_message}
 use Rattle.nand_cli.specs.Inner.Parts.{IsRefused, ReadsWords}
 use Rattle.nand_cli.specs.declared.languages.Form.{Form}
 use Rattle.nand_cli.specs.declared.languages.Form.TheVariants.{Assembly, Image}
@@ -44,7 +44,7 @@ sized_few : (n : ℕ) (b : Bool) (r : Result (List ℕ) Wrong) (ws : List ℕ) �
 sized_few n true r ws test few e = absurd (let bad : ⊥ = cc in bad)
 sized_few n false r ws test few e = let same = few e in grind (arith, nat_tests, test, same)
 
-labelled_few : (r : Result Table Wrong) (ls : List Line) (ws : List ℕ) → labelled r ls ≡ Ok ws → length ws ≤ 32768
+labelled_few : (r : Result Table Wrong) (ls : List Line) (ws : List ℕ) → label_values r ls ≡ Ok ws → length ws ≤ 32768
 labelled_few (Err w) ls ws e = absurd (let bad : ⊥ = cc in bad)
 labelled_few (Ok table) ls ws e =
     sized_few (size ls) (nat_lt 32768 (size ls)) (if_near (first_past table ls) table ls) ws refl (if_near_few (first_past table ls) table ls ws) e
@@ -81,7 +81,7 @@ read_image text (Ok v) h k = h
 read_image text (Err e) h k = k
 
 -- what is told of a fault of the code
-told_by : (fault : AsmFault) → asm_told fault ≡ option_map wrong_told (wrong_of fault)
+told_by : (fault : AsmFault) → asm_message fault ≡ option_map wrong_message (wrong_of fault)
 told_by (asm.Grammar at) = refl
 told_by (asm.Range at value) = refl
 told_by (asm.LabelTwice name at) = refl
@@ -89,18 +89,18 @@ told_by (asm.TooLarge words) = refl
 told_by (asm.TooManyVariables count) = refl
 told_by asm.Memory = refl
 
-assembly_refused : (text : List ℕ) (o : Option Wrong) (told : Message) → MeansWrong text o → option_map wrong_told o ≡ Some told → RefusesWords Assembly text told
+assembly_refused : (text : List ℕ) (o : Option Wrong) (told : Message) → MeansWrong text o → option_map wrong_message o ≡ Some told → RefusesWords Assembly text told
 assembly_refused text None told h e = absurd (let no : ⊥ = cc in no)
-assembly_refused text (Some w) told h e = (w, h, (let same : told ≡ wrong_told w = cc in same))
+assembly_refused text (Some w) told h e = (w, h, (let same : told ≡ wrong_message w = cc in same))
 
-image_refused : (text : List ℕ) (o : Option Wrong) (told : Message) → HoldsWrong text o → option_map wrong_told o ≡ Some told → RefusesWords Image text told
+image_refused : (text : List ℕ) (o : Option Wrong) (told : Message) → HoldsWrong text o → option_map wrong_message o ≡ Some told → RefusesWords Image text told
 image_refused text None told h e = absurd (let no : ⊥ = cc in no)
-image_refused text (Some w) told h e = (w, h, (let same : told ≡ wrong_told w = cc in same))
+image_refused text (Some w) told h e = (w, h, (let same : told ≡ wrong_message w = cc in same))
 
-refused_as : (form : Form) (text : List ℕ) (fault : AsmFault) (told : Message) → IsRefused form text fault → asm_told fault ≡ Some told → RefusesWords form text told
+refused_as : (form : Form) (text : List ℕ) (fault : AsmFault) (told : Message) → IsRefused form text fault → asm_message fault ≡ Some told → RefusesWords form text told
 refused_as Assembly text fault told h e = assembly_refused text (wrong_of fault) told h (sym (told_by fault) ∙ e)
 refused_as Image text fault told h e = image_refused text (wrong_of fault) told h (sym (told_by fault) ∙ e)
 
 -- what is told of a text that is not that of a program
-pub told_why : (form : Form) (text : List ℕ) (fault : AsmFault) (e : TextError) → IsRefused form text fault → e ≡ text_error (asm_told fault) → IsWhy (RefusesWords form text) e
-told_why form text fault e h k = why_told (RefusesWords form text) (asm_told fault) e (λ t same. refused_as form text fault t h same) k
+pub told_why : (form : Form) (text : List ℕ) (fault : AsmFault) (e : TextError) → IsRefused form text fault → e ≡ text_error (asm_message fault) → IsWhy (RefusesWords form text) e
+told_why form text fault e h k = why_told (RefusesWords form text) (asm_message fault) e (λ t same. refused_as form text fault t h same) k

@@ -1,7 +1,7 @@
 -- The VM files of a folder's classes, or why there are none.
 use Rattle.std.proofs.Common.{◌≡◌, List, ℕ, Option, Err, length, map, take, sym, ◌∙◌}
 use Rattle.std.proofs.lemmas.List.{length-map}
-use Rattle.jack_names.specs.Messages.{name_told}
+use Rattle.jack_names.specs.Messages.{name_message}
 use Rattle.outer_world.specs.Files.{Files, path_in}
 use Rattle.source_files.specs.Loads.{Loads}
 use Rattle.source_files.specs.declared.error.LoadError.{LoadError}
@@ -29,7 +29,7 @@ pub not_compiled : FirstLaw → (folder : List ℕ) (classes : List Class) (erro
     → Loads (λ (files : List File). AreCompiled classes files) (IsMeaningless folder (map the_file classes)) ⊥ (Err e)
 not_compiled law folder classes programs.Memory e spelled h tells = rw tells tt
 not_compiled law folder classes (programs.Name f) e spelled h tells =
-    told (λ (files : List File). AreCompiled classes files) (IsMeaningless folder (map the_file classes)) ⊥ (path_in (home_of folder f.shipped) f.file) (name_told f) e (first_told law folder classes f spelled h) tells
+    told (λ (files : List File). AreCompiled classes files) (IsMeaningless folder (map the_file classes)) ⊥ (path_in (home_of folder f.shipped) f.file) (name_message f) e (first_told law folder classes f spelled h) tells
 
 -- the text of the first of the compiled files is what is printed
 pub compiled_prints : (files : Option Files) (folder : List ℕ) (classes : List Class) (compiled : List File) → HasTrees files folder classes → AreCompiled classes compiled

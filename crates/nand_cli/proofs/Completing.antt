@@ -22,7 +22,7 @@ use Rattle.tower.specs.Budget.{BudgetLaw, IsBudget}
 use Rattle.tower.specs.Built.{Builds}
 use Rattle.tower.specs.Program.{class_names}
 use Rattle.tower.specs.Resolved.{ResolvedLaw}
-use Rattle.tower.specs.Told.{build_told}
+use Rattle.tower.specs.Messages.{build_message}
 use Rattle.tower.specs.declared.building.BuildError.{BuildError}
 use Rattle.tower.specs.declared.building.BuildError.TheVariants as building
 use Rattle.command_line.specs.Line.{IsLine, Line, asm, build, chip, compile, exec, map_line, run, show, test, vm}
@@ -76,7 +76,7 @@ module _ (laws : Laws) (files : Files) (folder : List ℕ) (sound : IsSoundFolde
       }
 
   -- it has a computer
-  built : (core : Core) (error : BuildError) (told : Message) → IsMeant core → Builds core (Err error) → build_told error ≡ Some told → ⊥
+  built : (core : Core) (error : BuildError) (told : Message) → IsMeant core → Builds core (Err error) → build_message error ≡ Some told → ⊥
   built core building.Memory told is h e = let no : ⊥ = cc in no
   built core (building.TooManyStatics w) told is h e =
       let (words, has, few) = sound.statics in

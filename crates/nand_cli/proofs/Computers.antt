@@ -18,8 +18,8 @@ use Rattle.tower.specs.Built.{IsComputerOf}
 use Rattle.tower.proofs.Computers.{computer as computer_follows}
 use Rattle.tower.specs.Headline.{run_trace}
 use Rattle.tower.specs.Mapped.{HasFollowed, HoldsKeys, MappedMachine, RunProgram, StandsAt, map_in, program_in}
-use Rattle.layers.specs.System.{IsKey}
-use Rattle.layers.specs.Trace.{steps}
+use Rattle.simulation.specs.System.{IsKey}
+use Rattle.simulation.specs.Trace.{steps}
 use Rattle.command_line.specs.declared.request.RunLevel.TheVariants as levels
 use Rattle.nand_cli.specs.Inner.Reports.{HasCycled, hack_text}
 use Rattle.nand_cli.specs.Commands.Run.{IsReport, name_of}

@@ -12,7 +12,7 @@ use Rattle.source_files.specs.declared.error.LoadError.{LoadError}
 use Rattle.source_files.specs.declared.error.LoadError.TheVariants as errors
 use Rattle.nand_cli.specs.Answer.{CutsOut, Lacks, Misses, Prints, Refuses, Starves}
 use Rattle.nand_cli.specs.Exact.{IsNoTest}
-use Rattle.nand_cli.specs.Inner.Parts.{Counts, Does, finished}
+use Rattle.nand_cli.specs.Inner.Parts.{Counts, Does, finish_result}
 use Rattle.nand_cli.specs.declared.failure.Failure.TheVariants as failure
 
 -- ---- all commands but `test` put nothing before the line that tells how they ended
@@ -80,10 +80,10 @@ missing (Some told) there folder line so h = so told h
 -- ---- what is put
 
 pub done_by : (files : Option Files) (there : List ℕ → Bool) (unfailing : Type 0) (line : Line) (text : List ℕ) (out out' err : Option (List ℕ)) (p : Put) → Prints files line text [] → Puts out out' text p
-    → IsNoTest line → Does files there unfailing line out out' err err (finished p)
+    → IsNoTest line → Does files there unfailing line out out' err err (finish_result p)
 done_by files there unfailing line text out out' err put.Done prints puts other = (text, [], prints, puts, Got-nothing err)
 done_by files there unfailing line text out out' err put.Failed prints puts other = (take puts.0 text, [], cuts_other files line text puts.0 other prints, puts.1, Got-nothing err)
 
-pub done_counts : (shelf shelf' out out' err : ℕ) (p : Put) → shelf' ≡ shelf → CountsPut out out' p → Counts shelf shelf' out out' err err (finished p)
+pub done_counts : (shelf shelf' out out' err : ℕ) (p : Put) → shelf' ≡ shelf → CountsPut out out' p → Counts shelf shelf' out out' err err (finish_result p)
 done_counts shelf shelf' out out' err put.Done same counts = (same, counts, refl)
 done_counts shelf shelf' out out' err put.Failed same counts = (inl same, counts.0, refl)

@@ -2,7 +2,7 @@
 use Rattle.std.specs.Prelude.{min, ◌^◌}
 use Rattle.std.proofs.Common.{◌≡◌, ◌≤◌, ◌-◌, inl, inr, true, None, ℕ, Bool, List, [], ◌∷◌, Some, Result, Ok, Err, codes, length, map, refl, sym, ◌∙◌, ap, subst, arith}
 use Rattle.outer_world.specs.Files.{Files, LacksFolder, file_at}
-use Rattle.outer_world.specs.Refusals.{Message, told_line}
+use Rattle.outer_world.specs.Refusals.{Message, message_line}
 use Rattle.hack_isa.specs.Machine.{image_words, machine_at, read}
 use Rattle.hack_asm.specs.Image.{image_text}
 use Rattle.hack_asm.specs.Written.{asm_text}
@@ -13,20 +13,20 @@ use Rattle.vm_tree.specs.Printed.{program_text}
 use Rattle.vm_tree.specs.declared.program.File.{File}
 use Rattle.vm_parser.specs.Trees.{ReadingLaw as VmLaw, Spells as SpellsProgram}
 use Rattle.vm_link.specs.Links.{Links}
-use Rattle.vm_link.specs.Told.{link_told}
+use Rattle.vm_link.specs.Messages.{link_message}
 use Rattle.vm_link.specs.declared.fault.LinkFault.{LinkFault}
 use Rattle.vm_link.specs.declared.fault.LinkFault.TheVariants.{Memory}
 use Rattle.vm_link.specs.declared.linked.Linked.{Linked}
 use Rattle.vm_link.proofs.Once.{linked_once}
 use Rattle.vm_translator.specs.Image.{IsTooLarge, image_of}
-use Rattle.vm_translator.specs.Told.{code_told}
+use Rattle.vm_translator.specs.Messages.{code_message}
 use Rattle.vm_translator.specs.declared.coded.CodeFault.TheVariants.{TooLarge}
 use Rattle.jack_tree.specs.Syntax.{Class}
 use Rattle.hdl_tree.specs.declared.tree.Chip.{Chip}
 use Rattle.hdl_tree.specs.declared.library.Entry.{Entry}
 use Rattle.hdl_parser.specs.Printed.{chip_text}
 use Rattle.hdl_parser.specs.Spells.{ReadingLaw as ChipLaw, Spells as SpellsChip}
-use Rattle.jack_parser.specs.PrintedClass.{printed}
+use Rattle.jack_parser.specs.PrintedClass.{printed_class}
 use Rattle.jack_parser.specs.Spelled.{ClassLaw, SpellsClass}
 use Rattle.command_line.specs.declared.request.SourceKind.TheVariants as kinds
 use Rattle.source_files.proofs.Once.{never_both, never_unread, one_fault, one_folder, one_refusal, one_source}
@@ -121,7 +121,7 @@ show_exact vm_law jack_law chip_law files path kinds.Vm =
 show_exact vm_law jack_law chip_law files path kinds.Jack =
     let once = shown_once jack_law in record {
       prints = λ one out err out' err' h k. (
-        h.0.2 ∙ ap printed (one_source class_in RefusesClass (λ (c : Class). c) once files [] path h.0.0 k.0.0 h.0.1 k.0.1) ∙ sym k.0.2,
+        h.0.2 ∙ ap printed_class (one_source class_in RefusesClass (λ (c : Class). c) once files [] path h.0.0 k.0.0 h.0.1 k.0.1) ∙ sym k.0.2,
         h.1 ∙ sym k.1,
       );
       refuses = λ out before told out' before' told' h k. (
@@ -176,15 +176,15 @@ one_linked bare program l m h k =
 abbrev unlinked : LinkFault → Result Linked LinkFault
 unlinked fault = Err fault
 
-told_not_memory : (fault : LinkFault) (told : Message) → link_told fault ≡ Some told → unlinked fault ≡ unlinked Memory → ⊥
+told_not_memory : (fault : LinkFault) (told : Message) → link_message fault ≡ Some told → unlinked fault ≡ unlinked Memory → ⊥
 told_not_memory fault told e d =
-    let same : fault ≡ Memory = cc in let bad = sym e ∙ ap link_told same in let no : ⊥ = cc in no
+    let same : fault ≡ Memory = cc in let bad = sym e ∙ ap link_message same in let no : ⊥ = cc in no
 
-pub one_link_fault : (bare : Bool) (program : List File) (f g : LinkFault) (s t : Message) → Links bare program (Err f) → Links bare program (Err g) → link_told f ≡ Some s → link_told g ≡ Some t → f ≡ g
+pub one_link_fault : (bare : Bool) (program : List File) (f g : LinkFault) (s t : Message) → Links bare program (Err f) → Links bare program (Err g) → link_message f ≡ Some s → link_message g ≡ Some t → f ≡ g
 one_link_fault bare program f g s t h k e d =
     let r = linked_once bare program (Err f) (Err g) h k (told_not_memory f s e) (told_not_memory g t d) in let same : f ≡ g = cc in same
 
-pub not_linked : (bare : Bool) (program : List File) (l : Linked) (f : LinkFault) (t : Message) → Links bare program (Ok l) → Links bare program (Err f) → link_told f ≡ Some t → ⊥
+pub not_linked : (bare : Bool) (program : List File) (l : Linked) (f : LinkFault) (t : Message) → Links bare program (Ok l) → Links bare program (Err f) → link_message f ≡ Some t → ⊥
 not_linked bare program l f t h k e =
     let r = linked_once bare program (Ok l) (Err f) h k (λ d. let no : ⊥ = cc in no) (told_not_memory f t e) in let no : ⊥ = cc in no
 
@@ -193,11 +193,11 @@ one_size l m v w e h k = h.words ∙ ap (λ (x : Linked). min (length (image_of 
 
 one_code : (bare : Bool) (program : List File) (s t : Message) → HasNoCode bare program s → HasNoCode bare program t → s ≡ t
 one_code bare program s t (inl (f, h, e)) (inl (g, k, d)) =
-    let same = ap link_told (one_link_fault bare program f g s t h k e d) in let r : s ≡ t = cc in r
+    let same = ap link_message (one_link_fault bare program f g s t h k e d) in let r : s ≡ t = cc in r
 one_code bare program s t (inl (f, h, e)) (inr (m, w, k, large, d)) = absurd (not_linked bare program m f s k h e)
 one_code bare program s t (inr (l, v, h, large, e)) (inl (g, k, d)) = absurd (not_linked bare program l g t h k d)
 one_code bare program s t (inr (l, v, h, large, e)) (inr (m, w, k, large', d)) =
-    let same = ap (λ n. code_told (TooLarge n)) (one_size l m v w (one_linked bare program l m h k) large large') in let r : s ≡ t = cc in r
+    let same = ap (λ n. code_message (TooLarge n)) (one_size l m v w (one_linked bare program l m h k) large large') in let r : s ≡ t = cc in r
 
 never_code : (bare : Bool) (program : List File) (l : Linked) (t : Message) → Links bare program (Ok l) → length (image_of l) ≤ image_words → HasNoCode bare program t → ⊥
 never_code bare program l t h few (inl (g, k, d)) = not_linked bare program l g t h k d
@@ -220,7 +220,7 @@ module _ (law : VmLaw) (files : Files) (folder : List ℕ) (bare : Bool) where
   vm_refuses line other (without_code p has h) (unread k) = absurd (never_unread (SpellsVmFile bare) (RefusesVm bare) (λ (f : File). f) (file_once law bare) files folder (codes ".vm") p other has k)
   vm_refuses line other (without_code p has (s, h, e)) (without_code q has' (t, k, d)) =
       let same = one_program p q has has' in
-      e ∙ ap (told_line folder) (one_code bare p s t h (subst (λ (x : List File). HasNoCode bare x t) (sym same) k)) ∙ sym d
+      e ∙ ap (message_line folder) (one_code bare p s t h (subst (λ (x : List File). HasNoCode bare x t) (sym same) k)) ∙ sym d
 
   vm_apart : (out line : List ℕ) → VmPrints (Some files) folder bare out → VmRefuses (Some files) folder bare line → ⊥
   vm_apart out line (p, l, has, links, few, e) (unread k) = never_unread (SpellsVmFile bare) (RefusesVm bare) (λ (f : File). f) (file_once law bare) files folder (codes ".vm") p line has k

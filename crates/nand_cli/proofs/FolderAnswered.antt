@@ -1,4 +1,4 @@
--- Where each text of a language is spelled or refused, a folder whose files are told is read or refused.
+-- Where each text of a language is spelled or refused, a folder whose files are known is read or refused.
 use Rattle.std.specs.Prelude.{filter, is_some, nat_lt, nat_eq}
 use Rattle.std.specs.List.{AllByRecursion, ends_with}
 use Rattle.std.specs.Cmp.Lexicographic.{slice_cmp}
@@ -6,7 +6,7 @@ use Rattle.std.specs.Ordering.{nat_cmp}
 use Rattle.std.proofs.Common.{◌≡◌, ◌≤◌, ◌<◌, ◌++◌, ◌⊎◌, inl, inr, ℕ, Bool, true, false, List, [], ◌∷◌, Option, Some, None, length, refl, sym, ◌∙◌, ap, arith}
 use Rattle.std.proofs.lemmas.Bool.Decides.{nat_tests}
 use Rattle.outer_world.specs.Files.{Files, file_at, path_in}
-use Rattle.outer_world.specs.Refusals.{Message, told_line}
+use Rattle.outer_world.specs.Refusals.{Message, message_line}
 use Rattle.source_files.specs.Folder.{AreNames, ending_in, overfull}
 use Rattle.source_files.specs.Sources.{FolderSpells, IsFaulty, IsFirstFaulty, IsUnread, SpellEach, SpellsAt}
 use Rattle.source_files.proofs.Spelling.{lacks_none}
@@ -56,7 +56,7 @@ module _ {A : Type 0} (spells : List ℕ → List ℕ → A → Type 0) (refuses
 
   of_text : (name path text : List ℕ) → file_at files path ≡ Some text → ((a : A) × spells name text a) ⊎ ((told : Message) × refuses text told) → IsAt name path
   of_text name path text has (inl (a, h)) = inl (a, (text, has, h))
-  of_text name path text has (inr (told, h)) = inr (inl (told_line path told, (text, told, has, h, refl)))
+  of_text name path text has (inr (told, h)) = inr (inl (message_line path told, (text, told, has, h, refl)))
 
   of_file : (name path : List ℕ) (o : Option (List ℕ)) → file_at files path ≡ o → IsAt name path
   of_file name path None gone = inr (inr gone)
@@ -89,7 +89,7 @@ module _ {A : Type 0} (spells : List ℕ → List ℕ → A → Type 0) (refuses
   few_read ending folder names are few (inr (line, h)) = inr (line, inr (names, (are, few), h))
 
   by_number : (ending folder : List ℕ) (names : List (List ℕ)) → AreNames (Some files) folder ending names → (b : Bool) → nat_lt 256 (length names) ≡ b → IsReadOrNot ending folder
-  by_number ending folder names are true e = let many : 256 < length names = grind (arith, nat_tests, e) in inr (told_line folder (overfull (length names)), inl (names, are, many, refl))
+  by_number ending folder names are true e = let many : 256 < length names = grind (arith, nat_tests, e) in inr (message_line folder (overfull (length names)), inl (names, are, many, refl))
   by_number ending folder names are false e =
       let few : length names ≤ 256 = grind (arith, nat_tests, e) in few_read ending folder names are few (each_read folder names (all_there files folder ending names are))
 

@@ -11,7 +11,7 @@ use Rattle.key_script.specs.declared.token.Token.{Token}
 use Rattle.key_script.specs.Codes.{code_at, code_of, has_come}
 use Rattle.key_script.specs.Grammar.{KeyTree, Part, Spells, check_code, lines, lines_tree, number, script}
 use Rattle.key_script.specs.Tokens.{finish}
-use Rattle.layers.specs.System.{IsKey}
+use Rattle.simulation.specs.System.{IsKey}
 use Rattle.outer_world.specs.Files.{Files}
 use Rattle.nand_cli.specs.Commands.Run.{HasKeys}
 

@@ -14,9 +14,9 @@ use Rattle.vm_link.specs.declared.linked.Linked.{Linked}
 use Rattle.vm_link.specs.Sections.{Section, calls, is_named, sections, stands_in}
 use Rattle.outer_world.specs.Refusals.{Message}
 use Rattle.vm_link.specs.Faults.{first_of, first_repeat, kept_fault, label_twice, names, no_function, no_label, sys_init, text_fault, words_before}
-use Rattle.vm_link.specs.Told.{link_told}
+use Rattle.vm_link.specs.Messages.{link_message}
 use Rattle.vm_link.specs.Reached.{AreKept, IsFunction, Keeps, Reached, called, dropped, kept, none, start}
-use Rattle.vm_link.specs.Resolved.{linked}
+use Rattle.vm_link.specs.Resolved.{linked_of}
 use Rattle.vm_link.specs.Links.{Links, faulty, kept_faulty, whole}
 use Rattle.vm_link.proofs.Marking.{position_below}
 
@@ -237,13 +237,13 @@ some_kept false ss = kept_of (Reached ss) (reached_or_not ss) 0 ss
 -- what is told of a fault, where there is one
 abbrev IsTold : Option LinkFault → Type 0
 IsTold None = Unit {0}
-IsTold (Some f) = (told : Message) × (link_told f ≡ Some told)
+IsTold (Some f) = (told : Message) × (link_message f ≡ Some told)
 
 told_or : (a b : Option LinkFault) → IsTold a → IsTold b → IsTold (option_or a b)
 told_or None b h k = k
 told_or (Some f) b h k = h
 
-told_map : (fault : List ℕ → LinkFault) → ((name : List ℕ) → (told : Message) × (link_told (fault name) ≡ Some told)) → (o : Option (List ℕ)) → IsTold (option_map fault o)
+told_map : (fault : List ℕ → LinkFault) → ((name : List ℕ) → (told : Message) × (link_message (fault name) ≡ Some told)) → (o : Option (List ℕ)) → IsTold (option_map fault o)
 told_map fault tells None = tt
 told_map fault tells (Some name) = tells name
 
@@ -267,13 +267,13 @@ told_kept files ss ks =
 
 -- The program is linked, or it has a fault, of which this is told.
 abbrev pub IsLinkedOrTold : Bool → List File → Type 0
-IsLinkedOrTold bare files = ((l : Linked) × Links bare files (Ok l)) ⊎ ((f : LinkFault) × (told : Message) × Links bare files (Err f) × (link_told f ≡ Some told))
+IsLinkedOrTold bare files = ((l : Linked) × Links bare files (Ok l)) ⊎ ((f : LinkFault) × (told : Message) × Links bare files (Err f) × (link_message f ≡ Some told))
 
 pub linked_or_told : (bare : Bool) (files : List File) → IsLinkedOrTold bare files
 linked_or_told bare files = by_text (text_fault bare (sections bare files)) refl
   where
     by_kept : text_fault bare (sections bare files) ≡ None → (ks : List Section) → AreKept bare (sections bare files) ks → (o : Option LinkFault) → kept_fault (length files) (sections bare files) ks ≡ o → IsLinkedOrTold bare files
-    by_kept well ks are None e = inl (linked bare files ks, whole ks well are e refl)
+    by_kept well ks are None e = inl (linked_of bare files ks, whole ks well are e refl)
     by_kept well ks are (Some f) e = let t = subst IsTold e (told_kept (length files) (sections bare files) ks) in inr (f, t.0, kept_faulty ks well are e, t.1)
 
     by_text : (o : Option LinkFault) → text_fault bare (sections bare files) ≡ o → IsLinkedOrTold bare files

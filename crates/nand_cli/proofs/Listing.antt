@@ -1,4 +1,4 @@
--- The names of a folder whose files are told: there is a list of them, each once and in order.
+-- The names of a folder whose files are known: there is a list of them, each once and in order.
 use Rattle.std.specs.Prelude.{filter, is_some, not}
 use Rattle.std.specs.List.Sorted.{IsPermutation, IsSorted}
 use Rattle.std.specs.Ordering.{is_lt, nat_cmp, ordering_reverse}

@@ -1,10 +1,10 @@
 -- The program of a folder's classes, or why there is none; and why it has no computer.
 use Rattle.std.proofs.Common.{◌≡◌, List, ℕ, Bool, Vec, Global, Option, Result, Ok, Err, codes, map, refl}
-use Rattle.jack_names.specs.Faults.{fault_told}
-use Rattle.jack_names.specs.Messages.{name_told}
+use Rattle.jack_names.specs.Faults.{diagnostic_of}
+use Rattle.jack_names.specs.Messages.{name_message}
 use Rattle.jack_names.specs.declared.fault.NameFault.{NameFault}
 use Rattle.outer_world.specs.Files.{Files, LacksFolder, path_in}
-use Rattle.outer_world.specs.Refusals.{told_line}
+use Rattle.outer_world.specs.Refusals.{message_line}
 use Rattle.source_files.specs.Loads.{CountsLoad, Loads, TellsOf}
 use Rattle.source_files.specs.Sources.{IsUnread}
 use Rattle.source_files.specs.declared.error.LoadError.{LoadError}
@@ -19,7 +19,7 @@ use Rattle.jack_core.specs.declared.program.Core.{Core}
 use Rattle.tower.specs.Built.{Builds, IsBuiltOf}
 use Rattle.tower.specs.Program.{IsProgram, Means}
 use Rattle.tower.specs.Spelled.{AreSpelled}
-use Rattle.tower.specs.Told.{build_told}
+use Rattle.tower.specs.Messages.{build_message}
 use Rattle.tower.specs.declared.building.BuildError.{BuildError}
 use Rattle.tower.specs.declared.program.ProgramError.{ProgramError}
 use Rattle.tower.specs.declared.program.ProgramError.TheVariants as programs
@@ -31,16 +31,16 @@ use Rattle.nand_cli.specs.declared.jack.BuiltProgram.{BuiltProgram}
 use Rattle.nand_cli.proofs.Spelling.{HasTrees, placed, seen_classes, seen_unread}
 
 -- the first fault of names is the first by its place
-pub first_told : FirstLaw → (folder : List ℕ) (classes : List Class) (f : NameFault) → AreSpelled classes → Means classes (Err (fault_told f))
-    → IsMeaningless folder (map the_file classes) (told_line (path_in (home_of folder f.shipped) f.file) (name_told f))
+pub first_told : FirstLaw → (folder : List ℕ) (classes : List Class) (f : NameFault) → AreSpelled classes → Means classes (Err (diagnostic_of f))
+    → IsMeaningless folder (map the_file classes) (message_line (path_in (home_of folder f.shipped) f.file) (name_message f))
 first_told law folder classes f spelled (os, are, first) =
-    (map the_file os, fault_told f, seen_files system os are, law (map the_file classes) (map the_file os) (fault_told f) (placed classes spelled) first, refl)
+    (map the_file os, diagnostic_of f, seen_files system os are, law (map the_file classes) (map the_file os) (diagnostic_of f) (placed classes spelled) first, refl)
 
 pub not_meant : FirstLaw → (folder : List ℕ) (classes : List Class) (error : ProgramError) (e : LoadError) → AreSpelled classes → IsProgram classes (Err error) → TellsWrong folder error e
     → Loads (λ (core : Core). Means classes (Ok core)) (IsMeaningless folder (map the_file classes)) ⊥ (Err e)
 not_meant law folder classes programs.Memory e spelled h tells = rw tells tt
 not_meant law folder classes (programs.Name f) e spelled h tells =
-    told (λ (core : Core). Means classes (Ok core)) (IsMeaningless folder (map the_file classes)) ⊥ (path_in (home_of folder f.shipped) f.file) (name_told f) e (first_told law folder classes f spelled h) tells
+    told (λ (core : Core). Means classes (Ok core)) (IsMeaningless folder (map the_file classes)) ⊥ (path_in (home_of folder f.shipped) f.file) (name_message f) e (first_told law folder classes f spelled h) tells
 
 module _ (files : Option Files) (folder : List ℕ) (there : List ℕ → Bool) (steady : Type 0) where
   -- what the folder's program says of loading it
@@ -66,8 +66,8 @@ program_counts folder classes (Err errors.Memory) shelf shelf' h same = same
 
 -- ---- the computer
 
-pub unbuilt_told : (folder : List ℕ) (core : Core) (error : BuildError) (e : LoadError) → Builds core (Err error) → TellsOf folder (build_told error) e → Loads (IsBuiltOf core) (BuildIsRefused core folder) ⊥ (Err e)
-unbuilt_told folder core error e h tells = told_of (IsBuiltOf core) (BuildIsRefused core folder) ⊥ folder (build_told error) e (λ t same. (error, t, h, same, refl)) tells
+pub unbuilt_told : (folder : List ℕ) (core : Core) (error : BuildError) (e : LoadError) → Builds core (Err error) → TellsOf folder (build_message error) e → Loads (IsBuiltOf core) (BuildIsRefused core folder) ⊥ (Err e)
+unbuilt_told folder core error e h tells = told_of (IsBuiltOf core) (BuildIsRefused core folder) ⊥ folder (build_message error) e (λ t same. (error, t, h, same, refl)) tells
 
 -- ---- a program with its computer
 

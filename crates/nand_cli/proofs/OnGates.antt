@@ -16,10 +16,10 @@ use Rattle.machine_io.specs.declared.machine.Moved.TheVariants as moved
 use Rattle.machine_io.specs.declared.report.LevelName.TheVariants as names
 use Rattle.machine_io.specs.declared.report.Show.{Show}
 use Rattle.machine_io.specs.declared.report.Show.TheVariants as shows
-use Rattle.layers.specs.Headline.{Agrees, Follows}
-use Rattle.layers.specs.Laws.{SameCounts}
-use Rattle.layers.specs.System.{IsKey, Listening, System, Tame, run_of}
-use Rattle.layers.specs.Trace.{Trace, heard, steps}
+use Rattle.simulation.specs.Headline.{Agrees, Follows}
+use Rattle.simulation.specs.Laws.{SameCounts}
+use Rattle.simulation.specs.System.{IsKey, Listening, System, Tame, run_of}
+use Rattle.simulation.specs.Trace.{Trace, heard_keys, steps}
 use Rattle.jack_core.specs.Texts.{names_of, the_program}
 use Rattle.jack_core.specs.declared.program.Core.{Core}
 use Rattle.jack_meaning.specs.Meaning.{State, start}
@@ -40,7 +40,7 @@ use Rattle.command_line.specs.declared.request.Shown.{Shown}
 use Rattle.command_line.specs.declared.request.Shown.TheVariants.{Nets, Words}
 use Rattle.nand_cli.specs.Commands.Gates.{IsGatesReport, ReportsCycle, gates_trace, meaning_in}
 use Rattle.nand_cli.specs.Commands.Run.{name_of}
-use Rattle.nand_cli.specs.Inner.Parts.{finished}
+use Rattle.nand_cli.specs.Inner.Parts.{finish_result}
 use Rattle.nand_cli.specs.Inner.Reports.{IsAtStart, Reports, gates_text, program_of}
 use Rattle.nand_cli.specs.declared.failure.Failure.{Failure}
 use Rattle.nand_cli.specs.declared.failure.Failure.TheVariants as failure
@@ -143,13 +143,13 @@ both P a a' b b' e f p = subst (λ z. P z b') e (subst (P a) f p)
 
 -- what agrees agrees by what is seen alike
 pub agrees_too : {S : Type 0} (meaning : System S) (first : S) (t t' : Trace) (word word' : ℕ → ℕ → ℕ) (n : ℕ) → SameCounts t t' n → ((a : ℕ) → a < keyboard → word n a ≡ word' n a)
-    → (Tame meaning first (heard t' n) (steps t' n) → Agrees meaning first t' word' n) → Tame meaning first (heard t n) (steps t n) → Agrees meaning first t word n
+    → (Tame meaning first (heard_keys t' n) (steps t' n) → Agrees meaning first t' word' n) → Tame meaning first (heard_keys t n) (steps t n) → Agrees meaning first t word n
 agrees_too {S} meaning first t t' word word' n same words f tame =
     let r = f (both (λ ks m. Tame meaning first ks m) _ _ _ _ same.heard_are same.steps_are tame) in
     let after : Listening S = r.after in
     record {
       after = after;
-      run = ap (λ ks. run_of meaning first ks (steps t n)) same.heard_are ∙ ap (run_of meaning first (heard t' n)) same.steps_are ∙ r.run;
+      run = ap (λ ks. run_of meaning first ks (steps t n)) same.heard_are ∙ ap (run_of meaning first (heard_keys t' n)) same.steps_are ∙ r.run;
       words = λ a d. words a d.1 ∙ r.words a d;
       point = same.point_is ∙ r.point;
     }
@@ -228,7 +228,7 @@ module _ (core : Core) (code : ℕ → ℕ) (n : ℕ) (resolved : IsResolvedCore
       (gates_reported core code n Nets (gates_text new (names_of core) end shows.Nothing ++ rest) new resolved words own_computer turns.followed (nets_told new code n turns.followed core end other rest turns.bound behaves shown))
 
   -- the parts are put after the five lines
-  pub nets_after : (out mid out' : Option (List ℕ)) (t : List ℕ) (p : Put) → IsToldOf shows.Nothing t → Got out mid t → PutsParts new.image code n mid out' p → Reports (IsGatesReport core code n Nets) out out' (finished p)
+  pub nets_after : (out mid out' : Option (List ℕ)) (t : List ℕ) (p : Put) → IsToldOf shows.Nothing t → Got out mid t → PutsParts new.image code n mid out' p → Reports (IsGatesReport core code n Nets) out out' (finish_result p)
   nets_after out mid out' t p told got parts =
       reports_by (IsGatesReport core code n Nets) (t ++ parts.text) out out' p (with_nets t parts.text parts.wires told parts.behaves parts.shows) (puts_then out mid out' t parts.text p got parts.puts)
 

@@ -4,8 +4,8 @@ use Rattle.machine_io.specs.Report.{report_text}
 use Rattle.machine_io.specs.declared.driving.End.{End}
 use Rattle.machine_io.specs.declared.report.LevelName.TheVariants as names
 use Rattle.machine_io.specs.declared.report.Show.{Show}
-use Rattle.layers.specs.System.{IsKey}
-use Rattle.layers.specs.Trace.{point_at, steps}
+use Rattle.simulation.specs.System.{IsKey}
+use Rattle.simulation.specs.Trace.{point_at, steps}
 use Rattle.jack_core.specs.declared.program.Core.{Core}
 use Rattle.jack_core.specs.Texts.{names_of}
 use Rattle.jack_compiler.specs.Resolved.{IsResolvedCore}

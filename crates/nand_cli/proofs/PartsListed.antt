@@ -3,9 +3,9 @@ use Rattle.std.proofs.Common.{◌≡◌, ◌≤◌, ◌<◌, ◌++◌, ℕ, zero
 use Rattle.hdl_tree.specs.declared.tree.Part.{Part}
 use Rattle.hdl_tree.specs.declared.library.Entry.{Entry}
 use Rattle.hdl_tree.specs.Chips.{Chips, find_chip, parts_of}
-use Rattle.hdl_flat.specs.Trees.{AreListed, IsTree, PartIn, next, none}
-use Rattle.hdl_shown.specs.Clean.{AreClean, place_of}
-use Rattle.hdl_shown.proofs.Clean.{earlier, find_in}
+use Rattle.hdl_flatten.specs.Trees.{AreListed, IsTree, PartIn, next, none}
+use Rattle.hdl_behaviours.specs.Clean.{AreClean, place_of}
+use Rattle.hdl_behaviours.proofs.Clean.{earlier, find_in}
 use Rattle.hack_cpu.specs.Library.{shipped_chips}
 use Rattle.hack_cpu.proofs.HasAll.{has_all}
 use Rattle.hack_cpu.proofs.Shown.{clean}

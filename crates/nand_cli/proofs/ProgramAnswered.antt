@@ -6,7 +6,7 @@ use Rattle.std.proofs.Common.{◌≡◌, ◌≢◌, ◌≤◌, ◌<◌, ◌+◌,
 use Rattle.std.proofs.lemmas.Bool.Decides.{nat_tests}
 use Rattle.std.proofs.lemmas.List.Elements.{All-from_recursion, recursion_from_All}
 use Rattle.outer_world.specs.Files.{Files, file_at}
-use Rattle.outer_world.specs.Refusals.{Message, told_line}
+use Rattle.outer_world.specs.Refusals.{Message, message_line}
 use Rattle.outer_world.specs.declared.point.Point.{Point}
 use Rattle.hack_isa.specs.Machine.{image_words}
 use Rattle.hack_isa.specs.Table.{word_of}
@@ -14,7 +14,7 @@ use Rattle.hack_isa.specs.declared.Instr.{Instr}
 use Rattle.hack_isa.specs.declared.Instr.TheVariants.{Address, Compute}
 use Rattle.hack_asm.specs.Image.{image_text}
 use Rattle.key_script.specs.Codes.{code_at}
-use Rattle.key_script.specs.Faults.{key_told}
+use Rattle.key_script.specs.Faults.{key_message}
 use Rattle.key_script.specs.Grammar.{TotalLaw as KeyLaw, Refuses as RefusesLines, Spells as SpellsLines}
 use Rattle.key_script.specs.declared.fault.KeyFault.{KeyFault}
 use Rattle.key_script.specs.declared.lines.Line.{Line as KeyLine}
@@ -26,13 +26,13 @@ use Rattle.machine_io.specs.declared.machine.Stray.TheVariants as strays
 use Rattle.machine_io.specs.declared.report.LevelName.TheVariants as names
 use Rattle.machine_io.specs.declared.report.Show.{Show}
 use Rattle.machine_io.specs.declared.report.Show.TheVariants as shows
-use Rattle.layers.specs.System.{IsKey}
-use Rattle.layers.specs.Trace.{Trace, point_at, steps}
+use Rattle.simulation.specs.System.{IsKey}
+use Rattle.simulation.specs.Trace.{Trace, point_at, steps}
 use Rattle.map_text.specs.Text.{map_text}
 use Rattle.vm_link.proofs.Marking.{length_mapped}
 use Rattle.vm_link.proofs.SoundLemmas.{sound_if}
 use Rattle.vm_link.specs.Links.{Links}
-use Rattle.vm_link.specs.Told.{link_told}
+use Rattle.vm_link.specs.Messages.{link_message}
 use Rattle.vm_link.specs.declared.fault.LinkFault.{LinkFault}
 use Rattle.vm_link.specs.declared.linked.Linked.{Linked}
 use Rattle.vm_machine.specs.Level.{point_of, state_after as state_after_outcome}
@@ -119,8 +119,8 @@ module _ (laws : Laws) (core : Core) (resolved : IsResolvedCore core) (folder : 
       let large : IsTooLarge l words = record { words = refl; over = over; within = omega (arith, all) } in
       inr (_, (errors.TooLarge words, _, (l, links, large), refl, refl))
 
-  by_fault : (fault : LinkFault) (told : Message) → Links false (files_of core) (Err fault) → link_told fault ≡ Some told → IsOnlyFault fault → FitsOrTold
-  by_fault fault told links e (inl same) = let none = sym (ap link_told same) ∙ e in let no : ⊥ = cc in absurd no
+  by_fault : (fault : LinkFault) (told : Message) → Links false (files_of core) (Err fault) → link_message fault ≡ Some told → IsOnlyFault fault → FitsOrTold
+  by_fault fault told links e (inl same) = let none = sym (ap link_message same) ∙ e in let no : ⊥ = cc in absurd no
   by_fault fault told links e (inr (w, same)) = inr (_, (errors.TooManyStatics w, _, subst (λ (f : LinkFault). Links false (files_of core) (Err f)) same links, refl, refl))
 
   by_links : IsLinkedOrTold false (files_of core) → FitsOrTold
@@ -348,7 +348,7 @@ level_report laws core resolved f code words n (levels.Gates Nets) = nets_report
 
 keys_by : (text : List ℕ) → SomeReading (List KeyLine) (SpellsLines text) (RefusesLines text) → ((ls : List KeyLine) × SpellsLines text ls) ⊎ ((told : Message) × RefusesKeys text told)
 keys_by text (inl h) = inl h
-keys_by text (inr (fault, h)) = inr (key_told fault, (fault, h, refl))
+keys_by text (inr (fault, h)) = inr (key_message fault, (fault, h, refl))
 
 keys_read : KeyLaw → AllRead (λ (name text : List ℕ) (ls : List KeyLine). SpellsLines text ls) RefusesKeys
 keys_read law name text = keys_by text (law text)

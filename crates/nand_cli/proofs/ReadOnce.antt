@@ -1,7 +1,7 @@
 -- Each language reads a text in one way.
 use Rattle.std.proofs.Common.{◌≡◌, ℕ, Bool, true, List, [], ◌∷◌, Result, Ok, Err, codes, sym, ◌∙◌, ap}
 use Rattle.grammar.specs.declared.Fault.{Fault}
-use Rattle.grammar.specs.Faults.{fault_told}
+use Rattle.grammar.specs.Faults.{diagnostic_of}
 use Rattle.grammar.specs.Texts.{OneReading}
 use Rattle.outer_world.specs.Refusals.{Message}
 use Rattle.hack_asm.specs.Faults.{Wrong}
@@ -14,19 +14,19 @@ use Rattle.hdl_parser.specs.Spells.{ReadingLaw as ChipLaw, Refuses as RefusesChi
 use Rattle.jack_tree.specs.Syntax.{Class, ClassFile}
 use Rattle.jack_parser.specs.Spelled.{ClassLaw, SpellsClass}
 use Rattle.jack_parser.specs.Spells.{Refuses as RefusesTree}
-use Rattle.key_script.specs.Faults.{key_told}
+use Rattle.key_script.specs.Faults.{key_message}
 use Rattle.key_script.specs.Grammar.{ReadingLaw as KeyLaw, Spells as SpellsLines}
 use Rattle.key_script.specs.declared.lines.Line.{Line}
 use Rattle.source_files.proofs.Once.{ReadsOnce}
 use Rattle.source_files.specs.Folder.{stem_of}
-use Rattle.nand_cli.specs.Languages.{IsTold, MeansAs, RefusesClass, RefusesHdl, RefusesKeys, RefusesVm, RefusesWords, SpellsFile, SpellsVmFile, SpellsWords, wrong_told}
+use Rattle.nand_cli.specs.Languages.{IsTold, MeansAs, RefusesClass, RefusesHdl, RefusesKeys, RefusesVm, RefusesWords, SpellsFile, SpellsVmFile, SpellsWords, wrong_message}
 use Rattle.nand_cli.specs.declared.languages.Form.{Form}
 use Rattle.nand_cli.specs.declared.languages.Form.TheVariants.{Assembly, Image}
 
 -- ---- a first fault tells one thing
 
 one_told : {X : Type 0} (spells : X → Type 0) (refuses : List ℕ → Fault → Type 0) (text : List ℕ) (s t : Message) → OneReading X spells (refuses text) → IsTold refuses text s → IsTold refuses text t → s ≡ t
-one_told spells refuses text s t once (f, h, e) (g, k, d) = e ∙ ap fault_told (once.one_fault f g h k) ∙ sym d
+one_told spells refuses text s t once (f, h, e) (g, k, d) = e ∙ ap diagnostic_of (once.one_fault f g h k) ∙ sym d
 
 -- ---- programs of the instruction machine
 
@@ -38,7 +38,7 @@ one_saying assembly image Image text r q h k = image text r q h k
 pub words_once : AssemblyLaw → ImageLaw → (form : Form) → ReadsOnce (λ (name text words : List ℕ). SpellsWords form text words) (RefusesWords form) (λ (words : List ℕ). words)
 words_once assembly image form = record {
   one = λ name text a b h k. let e = one_saying assembly image form text (Ok a) (Ok b) h k in let same : a ≡ b = cc in same;
-  one_told = λ text s t h k. let e = one_saying assembly image form text (Err h.0) (Err k.0) h.1 k.1 in let same : h.0 ≡ k.0 = cc in h.2 ∙ ap wrong_told same ∙ sym k.2;
+  one_told = λ text s t h k. let e = one_saying assembly image form text (Err h.0) (Err k.0) h.1 k.1 in let same : h.0 ≡ k.0 = cc in h.2 ∙ ap wrong_message same ∙ sym k.2;
   not_both = λ name text a t h k. let e = one_saying assembly image form text (Ok a) (Err k.0) h k.1 in let no : ⊥ = cc in no;
 }
 
@@ -88,6 +88,6 @@ chip_once law = record {
 pub keys_once : KeyLaw → ReadsOnce (λ (name text : List ℕ) (keys : List Line). SpellsLines text keys) RefusesKeys (λ (keys : List Line). keys)
 keys_once law = record {
   one = λ name text a b h k. (law text).one a b h k;
-  one_told = λ text s t h k. h.2 ∙ ap key_told ((law text).one_fault h.0 k.0 h.1 k.1) ∙ sym k.2;
+  one_told = λ text s t h k. h.2 ∙ ap key_message ((law text).one_fault h.0 k.0 h.1 k.1) ∙ sym k.2;
   not_both = λ name text a t h k. (law text).not_both a k.0 h k.1;
 }

@@ -29,7 +29,7 @@ use Rattle.command_line.specs.declared.request.RunLevel.TheVariants as levels
 use Rattle.tower.specs.Built.{IsBuiltOf}
 use Rattle.nand_cli.specs.Answer.{Lacks}
 use Rattle.nand_cli.specs.JackFolder.{BuildIsRefused, FolderIsRefused, FolderMeans, IsBuilt}
-use Rattle.nand_cli.specs.Inner.Parts.{Counts, Does, finished}
+use Rattle.nand_cli.specs.Inner.Parts.{Counts, Does, finish_result}
 use Rattle.nand_cli.specs.Inner.Reports.{CountsReport, HasRun, IsPut, Reports, jack_text, machine_text}
 use Rattle.nand_cli.specs.Commands.Run.{HasKeys, IsReport, LacksKeys, ScriptIsRefused, name_of, unbuilt, without_program, without_script}
 use Rattle.nand_cli.specs.declared.failure.Failure.{Failure}
@@ -56,15 +56,15 @@ read_of name subs moves moves' steps steps' subroutine p q end show word e f g h
 
 -- ---- the report is put
 
-pub reports_by : (is_report : List ℕ → Type 0) (text : List ℕ) (out out' : Option (List ℕ)) (p : Put) → is_report text → Puts out out' text p → Reports is_report out out' (finished p)
+pub reports_by : (is_report : List ℕ → Type 0) (text : List ℕ) (out out' : Option (List ℕ)) (p : Put) → is_report text → Puts out out' text p → Reports is_report out out' (finish_result p)
 reports_by is_report text out out' put.Done is puts = (text, is, puts)
 reports_by is_report text out out' put.Failed is puts = (text, is, puts)
 
-pub counts_by : (out out' : ℕ) (p : Put) → CountsPut out out' p → CountsReport out out' (finished p)
+pub counts_by : (out out' : ℕ) (p : Put) → CountsPut out out' p → CountsReport out out' (finish_result p)
 counts_by out out' put.Done counts = counts
 counts_by out out' put.Failed counts = counts.0
 
-pub is_put : (p : Put) → IsPut (finished p)
+pub is_put : (p : Put) → IsPut (finish_result p)
 is_put put.Done = tt
 is_put put.Failed = tt
 

@@ -2,15 +2,15 @@
 use Rattle.std.proofs.Common.{◌≤◌, ◌<◌, ◌+◌, ◌-◌, ℕ, suc, Bool, true, false, List, [], ◌∷◌, Some, None, sym, subst, arith}
 use Rattle.std.specs.Prelude.{◌&&◌, ◌++◌, not, if◌then◌else◌}
 use Rattle.std.specs.List.{cons_option, filter_map}
-use Rattle.hack_blocks.specs.declared.routines.Routine.{Routine}
-use Rattle.hack_blocks.specs.Templates.{routine_size}
+use Rattle.vm_templates.specs.declared.routines.Routine.{Routine}
+use Rattle.vm_templates.specs.Templates.{routine_size}
 use Rattle.jack_core.specs.declared.program.Core.{Core}
 use Rattle.vm_link.specs.declared.linked.Linked.{Linked}
 use Rattle.vm_link.specs.Uniform.{is_shared}
 use Rattle.vm_translator.specs.Image.{commit_of, commits_of, names_end, shared_at, shared_commits}
 use Rattle.vm_translator.specs.Places.{base_of, end_of, program}
 use Rattle.vm_translator.specs.Shapes.{step_size}
-use Rattle.vm_translator.specs.Shared.{lasts_from, used}
+use Rattle.vm_translator.specs.Shared.{lasts_from, used_routines}
 use Rattle.vm_translator.specs.declared.layout.Placed.{Placed}
 use Rattle.vm_translator.proofs.Chained.{Chain, chain_from}
 use Rattle.vm_translator.proofs.Routines.{routine_some}
@@ -59,7 +59,7 @@ after_start false false more rise = lower 0 23 more (omega arith) rise
 
 pub commits_rise : (l : Linked) → AreRising (commits_of l)
 commits_rise l =
-    let shared = if_marked (shared_at l) l.marked (lasts_from (shared_at l) (used l)) (of_routines (shared_at l) (used l)) in
+    let shared = if_marked (shared_at l) l.marked (lasts_from (shared_at l) (used_routines l)) (of_routines (shared_at l) (used_routines l)) in
     let behind = lower (end_of l) (shared_at l) (shared_commits l) (omega arith) shared in
     after_start l.bare l.marked (filter_map commit_of (program l) ++ shared_commits l)
     (of_steps (base_of l) (end_of l) (program l) (shared_commits l) (chain_from 0 (base_of l) l.functions) behind)

@@ -3,13 +3,13 @@ use Rattle.std.proofs.Common.{◌≡◌, ◌≤◌, ◌<◌, ◌+◌, ◌-◌, �
 use Rattle.std.specs.Prelude.{nat_eq, nat_le, option_and_then}
 use Rattle.std.proofs.lemmas.Bool.Decides.{nat_tests}
 use Rattle.outer_world.specs.Files.{Files}
-use Rattle.outer_world.specs.Refusals.{Message, told_line}
+use Rattle.outer_world.specs.Refusals.{Message, message_line}
 use Rattle.outer_world.specs.declared.point.Point.{Point}
 use Rattle.key_script.specs.Codes.{code_at}
 use Rattle.key_script.specs.Grammar.{ReadingLaw as KeyLaw, Spells as SpellsLines}
 use Rattle.key_script.specs.declared.lines.Line.{Line}
-use Rattle.layers.specs.System.{System}
-use Rattle.layers.specs.Trace.{point_at, steps}
+use Rattle.simulation.specs.System.{System}
+use Rattle.simulation.specs.Trace.{point_at, steps}
 use Rattle.machine_io.specs.Report.{head_text, report_text, shown_text}
 use Rattle.machine_io.specs.declared.driving.End.{End}
 use Rattle.machine_io.specs.declared.driving.End.TheVariants as ends
@@ -48,7 +48,7 @@ use Rattle.tower.specs.Mapped.{BuiltImage, RunProgram}
 use Rattle.tower.specs.Headline.{run_word}
 use Rattle.tower.specs.OneProgram.{SameProgram}
 use Rattle.tower.proofs.OneProgram.{one_program}
-use Rattle.tower.specs.Told.{build_told}
+use Rattle.tower.specs.Messages.{build_message}
 use Rattle.tower.specs.declared.building.BuildError.{BuildError}
 use Rattle.tower.specs.declared.building.BuildError.TheVariants as building
 use Rattle.source_files.specs.Sources.{IsUnread}
@@ -121,13 +121,13 @@ module _ (core core' : Core) (same : SameProgram core core') where
   one_large : (l m : Linked) (v w : ℕ) → Links false (files_of core) (Ok l) → Links false (files_of core') (Ok m) → IsTooLarge l v → IsTooLarge m w → v ≡ w
   one_large l m v w h k large large' = one_size l m v w (one_linked false (files_of core) l m h (linked_here (Ok m) k)) large large'
 
-  one_build_told : (error error' : BuildError) (s t : Message) → Builds core (Err error) → Builds core' (Err error') → build_told error ≡ Some s → build_told error' ≡ Some t → s ≡ t
+  one_build_told : (error error' : BuildError) (s t : Message) → Builds core (Err error) → Builds core' (Err error') → build_message error ≡ Some s → build_message error' ≡ Some t → s ≡ t
   one_build_told building.Memory error' s t h k e d = absurd cc
   one_build_told (building.TooManyStatics w) building.Memory s t h k e d = absurd cc
   one_build_told (building.TooManyStatics w) (building.TooManyStatics v) s t h k e d =
       let fault : linking.TooManyStatics w ≡ linking.TooManyStatics v = one_link_fault false (files_of core) (linking.TooManyStatics w) (linking.TooManyStatics v) _ _ h (linked_here (Err (linking.TooManyStatics v)) k) refl refl in
       let n : w ≡ v = cc in
-      let r = ap (λ m. build_told (building.TooManyStatics m)) n in
+      let r = ap (λ m. build_message (building.TooManyStatics m)) n in
       let same_told : s ≡ t = cc in same_told
   one_build_told (building.TooManyStatics w) (building.TooLarge v) s t h (m, k, large) e d = absurd (not_linked false (files_of core) m (linking.TooManyStatics w) _ (linked_here (Ok m) k) h refl)
   one_build_told (building.TooLarge w) building.Memory s t h k e d = absurd cc
@@ -135,11 +135,11 @@ module _ (core core' : Core) (same : SameProgram core core') where
       absurd (not_linked false (files_of core) l (linking.TooManyStatics v) _ h (linked_here (Err (linking.TooManyStatics v)) k) refl)
   one_build_told (building.TooLarge w) (building.TooLarge v) s t (l, h, large) (m, k, large') e d =
       let n = one_large l m w v h k large large' in
-      let r = ap (λ j. build_told (building.TooLarge j)) n in
+      let r = ap (λ j. build_message (building.TooLarge j)) n in
       let same_told : s ≡ t = cc in same_told
 
   pub one_build_line : (folder line line' : List ℕ) → BuildIsRefused core folder line → BuildIsRefused core' folder line' → line ≡ line'
-  one_build_line folder line line' (error, s, h, e, d) (error', t, k, e', d') = d ∙ ap (told_line folder) (one_build_told error error' s t h k e e') ∙ sym d'
+  one_build_line folder line line' (error, s, h, e, d) (error', t, k, e', d') = d ∙ ap (message_line folder) (one_build_told error error' s t h k e e') ∙ sym d'
 
   never_large : (p : RunProgram) (m : Linked) (w : ℕ) → IsComputerOf core p → Links false (files_of core') (Ok m) → IsTooLarge m w → ⊥
   never_large p m w h k large =
@@ -150,7 +150,7 @@ module _ (core core' : Core) (same : SameProgram core core') where
       let e = ap (λ (x : Linked). length (image_of x)) (one_linked false (files_of core) h.linked m h.links (linked_here (Ok m) k)) in
       omega (arith, over, fits, is, long, e)
 
-  pub never_unbuilt : (p : RunProgram) (error : BuildError) (t : Message) → IsComputerOf core p → Builds core' (Err error) → build_told error ≡ Some t → ⊥
+  pub never_unbuilt : (p : RunProgram) (error : BuildError) (t : Message) → IsComputerOf core p → Builds core' (Err error) → build_message error ≡ Some t → ⊥
   never_unbuilt p building.Memory t h k e = let no : ⊥ = cc in no
   never_unbuilt p (building.TooManyStatics w) t h k e = not_linked false (files_of core) h.linked (linking.TooManyStatics w) _ h.links (linked_here (Err (linking.TooManyStatics w)) k) refl
   never_unbuilt p (building.TooLarge w) t h (m, k, large) e = never_large p m w h k large

@@ -8,7 +8,7 @@ use Rattle.outer_world.proofs.Passing.{Got-nothing, Got-then}
 use Rattle.command_line.specs.Line.{Line, IsLine, IsNoLine}
 use Rattle.command_line.specs.declared.reader.LineError.{LineError}
 use Rattle.command_line.specs.declared.reader.LineError.TheVariants as no_line
-use Rattle.script_run.specs.Verdicts.{difference_line}
+use Rattle.tst_runner.specs.Verdicts.{difference_line}
 use Rattle.source_files.specs.Loads.{line_of}
 use Rattle.source_files.specs.declared.error.LoadError.TheVariants as errors
 use Rattle.nand_cli.specs.Answer.{Answers, Causes, Promises}

@@ -4,16 +4,16 @@ use Rattle.std.proofs.Common.{◌≡◌, ℕ, Bool, List, Option, Result, Ok, Er
 use Rattle.outer_world.specs.Files.{Files}
 use Rattle.source_files.specs.declared.error.LoadError.TheVariants as loads
 use Rattle.command_line.specs.Line.{test}
-use Rattle.script_run.specs.Setting.{setting_of}
-use Rattle.script_run.specs.Verdicts.{CountsScript, Runs}
-use Rattle.script_run.specs.declared.script.Verdict.{Verdict}
-use Rattle.script_run.specs.declared.script.Verdict.TheVariants as verdicts
-use Rattle.script_run.specs.declared.script.ScriptError.{ScriptError}
-use Rattle.script_run.specs.declared.script.ScriptError.TheVariants as errors
-use Rattle.nand_cli.specs.Inner.Parts.{Counts, Does, ended}
+use Rattle.tst_runner.specs.Setting.{setting_of}
+use Rattle.tst_runner.specs.Verdicts.{CountsScript, Runs}
+use Rattle.tst_runner.specs.declared.script.Verdict.{Verdict}
+use Rattle.tst_runner.specs.declared.script.Verdict.TheVariants as verdicts
+use Rattle.tst_runner.specs.declared.script.ScriptError.{ScriptError}
+use Rattle.tst_runner.specs.declared.script.ScriptError.TheVariants as errors
+use Rattle.nand_cli.specs.Inner.Parts.{Counts, Does, end_result}
 
 pub does : (files : Option Files) (there : List ℕ → Bool) (unfailing : Type 0) (path : List ℕ) (gates : Bool) (out out' err err' : Option (List ℕ)) (result : Result Verdict ScriptError)
-    → Runs (setting_of path files (not gates)) there unfailing out out' err err' result → Does files there unfailing (test path gates) out out' err err' (ended result)
+    → Runs (setting_of path files (not gates)) there unfailing out out' err err' result → Does files there unfailing (test path gates) out out' err err' (end_result result)
 does files there unfailing path gates out out' err err' (Ok verdicts.Same) (o, e, leaves, got, told) = (o, e, leaves.0, got, told)
 does files there unfailing path gates out out' err err' (Ok verdicts.NoCompare) (o, e, leaves, got, told) = (o, e, leaves.0, got, told)
 does files there unfailing path gates out out' err err' (Ok (verdicts.Differs d)) (o, e, leaves, got, told) = (o, e, leaves.0, got, told)
@@ -23,7 +23,7 @@ does files there unfailing path gates out out' err err' (Err (errors.Unloaded lo
 does files there unfailing path gates out out' err err' (Err errors.Out) h = h
 does files there unfailing path gates out out' err err' (Err errors.Err) h = h
 
-pub counts : (a a' b b' c c' : ℕ) (result : Result Verdict ScriptError) → CountsScript a a' b b' c c' result → Counts a a' b b' c c' (ended result)
+pub counts : (a a' b b' c c' : ℕ) (result : Result Verdict ScriptError) → CountsScript a a' b b' c c' result → Counts a a' b b' c c' (end_result result)
 counts a a' b b' c c' (Ok verdicts.Same) h = h
 counts a a' b b' c c' (Ok verdicts.NoCompare) h = h
 counts a a' b b' c c' (Ok (verdicts.Differs d)) h = h

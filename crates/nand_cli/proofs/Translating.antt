@@ -14,11 +14,11 @@ use Rattle.source_files.specs.declared.error.LoadError.{LoadError}
 use Rattle.source_files.proofs.Told.{told_of, without}
 use Rattle.vm_tree.specs.declared.program.File.{File}
 use Rattle.vm_link.specs.Links.{Links, whole}
-use Rattle.vm_link.specs.Told.{link_told}
+use Rattle.vm_link.specs.Messages.{link_message}
 use Rattle.vm_link.specs.declared.fault.LinkFault.{LinkFault}
 use Rattle.vm_link.specs.declared.linked.Linked.{Linked}
 use Rattle.vm_translator.specs.Image.{IsTooLarge, image_of}
-use Rattle.vm_translator.specs.Told.{code_told}
+use Rattle.vm_translator.specs.Messages.{code_message}
 use Rattle.vm_translator.specs.declared.coded.Coded.{Coded}
 use Rattle.vm_translator.specs.declared.coded.CodeFault.{CodeFault}
 use Rattle.vm_translator.specs.declared.coded.CodeFault.TheVariants as coding
@@ -34,9 +34,9 @@ HasLinked bare program linked = Links bare program (Ok linked)
 abbrev pub HasCode : Bool → List File → Coded → Type 0
 HasCode bare program coded = (linked : Linked) × Links bare program (Ok linked) × (coded.instrs ≡ image_of linked) × (length (image_of linked) ≤ image_words)
 
-pub unlinked : (bare : Bool) (folder : List ℕ) (program : List File) (fault : LinkFault) (e : LoadError) → Links bare program (Err fault) → TellsOf folder (link_told fault) e
+pub unlinked : (bare : Bool) (folder : List ℕ) (program : List File) (fault : LinkFault) (e : LoadError) → Links bare program (Err fault) → TellsOf folder (link_message fault) e
     → Loads (HasLinked bare program) (IsNoCode bare folder program) ⊥ (Err e)
-unlinked bare folder program fault e links tells = told_of (HasLinked bare program) (IsNoCode bare folder program) ⊥ folder (link_told fault) e (λ t same. (t, inl (fault, links, same), refl)) tells
+unlinked bare folder program fault e links tells = told_of (HasLinked bare program) (IsNoCode bare folder program) ⊥ folder (link_message fault) e (λ t same. (t, inl (fault, links, same), refl)) tells
 
 pub same_bare : (bare : Bool) (program : List File) (l : Linked) → Links bare program (Ok l) → bare ≡ l.bare
 same_bare bare program l (whole kept text k fault e) = ap (λ (m : Linked). m.bare) (sym e)
@@ -44,12 +44,12 @@ same_bare bare program l (whole kept text k fault e) = ap (λ (m : Linked). m.ba
 pub uncoded : (bare : Bool) (folder : List ℕ) (program : List File) (e : LoadError) → Loads (HasLinked bare program) (IsNoCode bare folder program) ⊥ (Err e) → Loads (HasCode bare program) (IsNoCode bare folder program) ⊥ (Err e)
 uncoded bare folder program e h = without (HasLinked bare program) (IsNoCode bare folder program) ⊥ (HasCode bare program) (IsNoCode bare folder program) ⊥ e (λ line k. k) (λ k. k) h
 
-pub untranslated : (bare : Bool) (folder : List ℕ) (program : List File) (l : Linked) (fault : CodeFault) (e : LoadError) → Links bare program (Ok l) → ((words : ℕ) → fault ≡ coding.TooLarge words → IsTooLarge l words) → TellsOf folder (code_told fault) e
+pub untranslated : (bare : Bool) (folder : List ℕ) (program : List File) (l : Linked) (fault : CodeFault) (e : LoadError) → Links bare program (Ok l) → ((words : ℕ) → fault ≡ coding.TooLarge words → IsTooLarge l words) → TellsOf folder (code_message fault) e
     → Loads (HasCode bare program) (IsNoCode bare folder program) ⊥ (Err e)
 untranslated bare folder program l (coding.TooLarge words) e links large tells =
-    told_of (HasCode bare program) (IsNoCode bare folder program) ⊥ folder (code_told (coding.TooLarge words)) e (λ t same. (t, inr (l, words, links, large words refl, same), refl)) tells
+    told_of (HasCode bare program) (IsNoCode bare folder program) ⊥ folder (code_message (coding.TooLarge words)) e (λ t same. (t, inr (l, words, links, large words refl, same), refl)) tells
 untranslated bare folder program l coding.Memory e links large tells =
-    told_of (HasCode bare program) (IsNoCode bare folder program) ⊥ folder (code_told coding.Memory) e (λ t same. absurd (let bad : ⊥ = cc in bad)) tells
+    told_of (HasCode bare program) (IsNoCode bare folder program) ⊥ folder (code_message coding.Memory) e (λ t same. absurd (let bad : ⊥ = cc in bad)) tells
 
 -- ---- the translator's instructions can be written
 

@@ -7,7 +7,7 @@ use Rattle.machine_io.specs.declared.driving.End.{End}
 use Rattle.machine_io.specs.declared.driving.End.TheVariants as ends
 use Rattle.machine_io.specs.declared.report.LevelName.TheVariants as names
 use Rattle.machine_io.specs.declared.report.Show.{Show}
-use Rattle.layers.specs.Trace.{point_at, steps}
+use Rattle.simulation.specs.Trace.{point_at, steps}
 use Rattle.jack_core.specs.Texts.{names_of}
 use Rattle.jack_core.specs.declared.program.Core.{Core}
 use Rattle.vm_link.specs.declared.linked.Linked.{Linked}

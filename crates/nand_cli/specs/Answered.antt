@@ -1,4 +1,4 @@
--- Over told files a line has an answer: it is done, it is refused, or something that it reads is not there. So no line is left to want of memory alone,
+-- Over known files a line has an answer: it is done, it is refused, or something that it reads is not there. So no line is left to want of memory alone,
 -- whatever its files hold. (That it has one such answer at most is said in Exact.)
 use Rattle.std.specs.Prelude.{◌⊎◌, ℕ, Bool, List, Option, Some}
 use Rattle.outer_world.specs.Files.{Files}
@@ -55,7 +55,7 @@ AnsweredLaw = (there : List ℕ → Bool) (files : Files) (line : Line) → IsNo
 abbrev pub IsWellFolder : Files → List ℕ → Type 0
 IsWellFolder files folder = (own os : List ClassFile) × HasClasses (Some files) folder own × AreFilesOf system os × IsWellNamed own os
 
--- The law of folders: over told files each is such a one, or it is refused.
+-- The law of folders: over known files each is such a one, or it is refused.
 abbrev pub FolderAnsweredLaw : Type 0
 FolderAnsweredLaw = (files : Files) (folder : List ℕ) → IsWellFolder files folder ⊎ ((line : List ℕ) × FolderIsRefused (Some files) folder line)
 

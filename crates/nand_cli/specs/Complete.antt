@@ -10,7 +10,7 @@ use Rattle.vm_link.specs.Reached.{AreKept}
 use Rattle.vm_link.specs.Sections.{Section, sections}
 use Rattle.jack_tree.specs.Syntax.{ClassFile}
 use Rattle.jack_meaning.specs.Text.{Program}
-use Rattle.jack_names.specs.Faults.{Told}
+use Rattle.jack_names.specs.Faults.{NameDiagnostic}
 use Rattle.jack_names.specs.NameFaults.{Spot, Fails}
 use Rattle.jack_names.specs.Meaning.{program_meaning}
 use Rattle.jack_os.specs.System.{AreFilesOf, system}
@@ -42,7 +42,7 @@ HasSmallBudget program = (words : ℕ) × IsBudget program words × (words ≤ i
 
 -- no name fault is told of the folder
 abbrev pub HasNoNameFault : List ClassFile → List ClassFile → Type 0
-HasNoNameFault own os = (at : Spot) (told : Told) → told.shipped ≡ false → Fails own os at told → ⊥
+HasNoNameFault own os = (at : Spot) (told : NameDiagnostic) → told.shipped ≡ false → Fails own os at told → ⊥
 
 -- The folder has at most 256 Jack files, each of which spells a class within the limits of the language. With those of the
 -- operating system, which there are by its law, no fault of its names is told, their program has at most 240 static words, and its budget is at
@@ -72,7 +72,7 @@ pub record IsUnrefused (files : Option Files) (line : Line) : Type 0 where
   pub accepted : (out before told : List ℕ) → Refuses files line out before told → ⊥
   pub agrees : (out before told : List ℕ) → Disagrees files line out before told → ⊥
 
--- The law of sound lines: over told files nothing refuses them.
+-- The law of sound lines: over known files nothing refuses them.
 abbrev pub SoundLaw : Type 0
 SoundLaw = (files : Files) (line : Line) → IsSound files line → IsUnrefused (Some files) line
 
@@ -90,7 +90,7 @@ IsDoneOrWanting s = (s ≡ status.Done) ⊎ (s ≡ status.NoMemory)
 
 -- What `run` promises of a call with these words, where they are a line and nothing failed.
 pub record Completes (words : List (List ℕ)) (before after : Outside) (s : Status) : Type 0 where
-  -- A line of `build`, `map` or `run` over told files with which nothing is wrong is done,
+  -- A line of `build`, `map` or `run` over known files with which nothing is wrong is done,
   pub sound : (files : Files) (line : Line) → before.files ≡ Some files → IsLine words line → IsSound files line → NoneFailed before after → IsDoneOrWanting s
   -- and so is every line that is not refused and does not end with a difference.
   pub unrefused : (line : Line) → IsLine words line → IsUnrefused before.files line → NoneFailed before after → IsDoneOrWanting s

@@ -7,7 +7,7 @@ use Rattle.vm_tree.specs.declared.command.Segment.TheVariants as segment
 use Rattle.vm_tree.specs.declared.program.File.{File}
 use Rattle.jack_meaning.specs.Text.{Binary, Expression, Let, Local, Minus, Plus, Statement, Unary, While, text_of}
 use Rattle.tower.specs.Budget.{IsBudget}
-use Rattle.tower.specs.BudgetRows.{local, repeated}
+use Rattle.tower.specs.BudgetRows.{local, repeated_program}
 use Rattle.nand_cli.specs.Complete.{HasFewStatics, HasSmallBudget, HasStatics}
 
 abbrev pub line : Command → Line
@@ -52,5 +52,5 @@ pub record CompleteRows : Type 0 where
   -- and these are one more
   pub one_more : HasStatics (two_files 101) 241
   -- 32,768 words of budget are within the room
-  pub budget : IsBudget (repeated 1 (filling 324)) 32768
-  pub small : HasSmallBudget (repeated 1 (filling 324))
+  pub budget : IsBudget (repeated_program 1 (filling 324)) 32768
+  pub small : HasSmallBudget (repeated_program 1 (filling 324))

@@ -1,13 +1,13 @@
 -- The program of a folder's Jack files and its image, or why the folder is refused (the book, chapters 9 to 12).
 use Rattle.std.specs.Prelude.{◌≡◌, ◌++◌, ℕ, List, Bool, Option, Some, Ok, Err, codes, map, if◌then◌else◌}
 use Rattle.outer_world.specs.Files.{Files, path_in}
-use Rattle.outer_world.specs.Refusals.{Message, message, told_line}
+use Rattle.outer_world.specs.Refusals.{Message, message, message_line}
 use Rattle.source_files.specs.Sources.{FolderSpells, IsUnread}
 use Rattle.vm_tree.specs.declared.program.File.{File}
 use Rattle.jack_tree.specs.declared.tree.Class.{Class}
 use Rattle.jack_tree.specs.Seen.{the_file}
 use Rattle.jack_tree.specs.Syntax.{ClassFile}
-use Rattle.jack_names.specs.Faults.{Told}
+use Rattle.jack_names.specs.Faults.{NameDiagnostic}
 use Rattle.jack_names.specs.FaultOrder.{IsFirstByPlace}
 use Rattle.jack_names.specs.Messages.{kind_word}
 use Rattle.jack_names.specs.Meaning.{program_meaning, program_names}
@@ -17,7 +17,7 @@ use Rattle.jack_compiler.specs.Files.{program_files}
 use Rattle.tower.specs.Built.{Builds, IsComputerOf}
 use Rattle.tower.specs.Mapped.{RunProgram}
 use Rattle.tower.specs.Program.{Means, class_names}
-use Rattle.tower.specs.Told.{build_told}
+use Rattle.tower.specs.Messages.{build_message}
 use Rattle.tower.specs.declared.building.BuildError.{BuildError}
 use Rattle.nand_cli.specs.Languages.{RefusesClass, SpellsFile}
 
@@ -38,14 +38,14 @@ abbrev pub home_of : List ℕ → Bool → List ℕ
 home_of folder shipped = if shipped then codes "os" else folder
 
 -- the line that tells a fault of a name: its file, its place, the word of its kind and the name
-abbrev pub name_line : List ℕ → Told → List ℕ
+abbrev pub name_line : List ℕ → NameDiagnostic → List ℕ
 name_line folder told =
-    told_line (path_in (home_of folder told.shipped) told.file) (message told.place.line told.place.column (kind_word told.kind) told.name)
+    message_line (path_in (home_of folder told.shipped) told.file) (message told.place.line told.place.column (kind_word told.kind) told.name)
 
 -- The classes mean no program, and this line tells why: it tells the first fault of their names, by stage, file, place and kind.
 abbrev pub IsMeaningless : List ℕ → List ClassFile → List ℕ → Type 0
 IsMeaningless folder own line =
-    (os : List ClassFile) × (told : Told) × AreFilesOf system os × IsFirstByPlace own os told × (line ≡ name_line folder told)
+    (os : List ClassFile) × (told : NameDiagnostic) × AreFilesOf system os × IsFirstByPlace own os told × (line ≡ name_line folder told)
 
 -- The folder means no program, and this line tells why: its files are not read, or their classes mean none.
 pub data FolderIsRefused (files : Option Files) (folder line : List ℕ) : Type 0 where
@@ -55,7 +55,7 @@ pub data FolderIsRefused (files : Option Files) (folder line : List ℕ) : Type 
 -- The program has no computer, and this line tells why.
 abbrev pub BuildIsRefused : Core → List ℕ → List ℕ → Type 0
 BuildIsRefused core folder line =
-    (error : BuildError) × (told : Message) × Builds core (Err error) × (build_told error ≡ Some told) × (line ≡ told_line folder told)
+    (error : BuildError) × (told : Message) × Builds core (Err error) × (build_message error ≡ Some told) × (line ≡ message_line folder told)
 
 -- the program has a computer
 abbrev pub IsBuilt : Core → Type 0

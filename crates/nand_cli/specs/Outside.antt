@@ -3,13 +3,13 @@ use Rattle.std.specs.Prelude.{ℕ, Bool, List, Option}
 use Rattle.outer_world.specs.Files.{Files}
 
 pub record Outside : Type 1 where
-  -- the files of the shelf, where they are told
+  -- the files of the shelf, where they are known
   pub files : Option Files
   -- which folders are there
   pub there : List ℕ → Bool
   -- no call of the shelf is planned to fail
   pub unfailing : Type 0
-  -- the bytes on out and on err, where they are told
+  -- the bytes on out and on err, where they are known
   pub out : Option (List ℕ)
   pub err : Option (List ℕ)
   -- how often a call of the shelf, of out and of err has failed

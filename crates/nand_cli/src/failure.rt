@@ -1,16 +1,16 @@
 //! Why a line is not done, and the lines on err that tell of it.
 ghost use Rattle.std.specs.Prelude.{◌≡◌};
 ghost use Rattle.outer_world.specs.Texts.{read_fault_line, usage_line, want_of_memory_line};
-ghost use Rattle.script_run.specs.Verdicts.{difference_line};
+ghost use Rattle.tst_runner.specs.Verdicts.{difference_line};
 ghost use Rattle.source_files.specs.Loads.{line_of};
 ghost use Rattle.source_files.specs.declared.error.LoadError.TheVariants.{Memory};
-ghost use Rattle.nand_cli.specs.Inner.Parts.{Says, finished};
+ghost use Rattle.nand_cli.specs.Inner.Parts.{Says, finish_result};
 ghost use Rattle.nand_cli.specs.declared.failure.Failure.TheVariants.{Unloaded};
 
 use outer_world::{Put, Sink};
-use script_run::Difference;
 use source_files::{LoadError, Refusal};
 use std::alloc::{AllocError, AllocFailed};
+use tst_runner::Difference;
 
 /// Why a line is not done: what it needs is not loaded or made, a line differs from the one to compare it with, or out could not be written, or
 /// an echo on err.
@@ -48,7 +48,7 @@ impl<T: Drop> From<AllocFailed<T>> for Failure {
 
 /// How a line ends with the last that it puts on out.
 pub fn finished(put: Put) -> Result<(), Failure>
-    ensures { result ≡ finished put }
+    ensures { result ≡ finish_result put }
 {
     match put {
         Put::Done => Ok(()),
@@ -60,7 +60,7 @@ pub fn finished(put: Put) -> Result<(), Failure>
 pub fn tell_refusal<E: Sink>(refusal: &Refusal, err: &mut E) -> Put
     ensures { Says (E.faults err.old) (E.faults err.new) (E.written err.old) (E.written err.new) (line_of refusal.now) result }
 {
-    refusal.told.put(refusal.path.as_str(), err)
+    refusal.diagnostic.put(refusal.path.as_str(), err)
 }
 
 /// Puts the line that tells of a line that differs.

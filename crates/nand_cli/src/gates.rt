@@ -2,7 +2,7 @@
 ghost use Rattle.std.specs.Prelude.{ℕ, IfOk};
 ghost use Rattle.jack_compiler.specs.Resolved.{IsResolvedCore};
 ghost use Rattle.key_script.specs.Codes.{code_at};
-ghost use Rattle.layers.specs.System.{IsKey};
+ghost use Rattle.simulation.specs.System.{IsKey};
 ghost use Rattle.tower.specs.Built.{IsComputerOf};
 ghost use Rattle.tower.specs.Mapped.{program_built};
 ghost use Rattle.nand_cli.specs.Commands.Gates.{IsGatesReport};

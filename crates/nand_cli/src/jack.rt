@@ -6,7 +6,7 @@ ghost use Rattle.jack_tree.specs.Seen.{the_file};
 ghost use Rattle.tower.specs.Built.{IsBuiltOf};
 ghost use Rattle.tower.specs.Program.{Means};
 ghost use Rattle.tower.specs.Spelled.{AreSpelled};
-ghost use Rattle.jack_names.specs.Messages.{name_told};
+ghost use Rattle.jack_names.specs.Messages.{name_message};
 ghost use Rattle.outer_world.specs.Files.{LacksFolder, path_in};
 ghost use Rattle.source_files.specs.Loads.{CountsLoad, Loads, Refused};
 ghost use Rattle.nand_cli.specs.Commands.Build.{BuildRefuses, FolderBuilds};
@@ -46,10 +46,10 @@ fn home(folder: &str, shipped: bool) -> &str
 
 // The refusal of a name.
 fn name_refused(alloc: Global, folder: &str, fault: NameFault) -> LoadError
-    ensures { Refused (path_in (home_of folder.now fault.shipped) fault.file) (name_told fault) result }
+    ensures { Refused (path_in (home_of folder.now fault.shipped) fault.file) (name_message fault) result }
 {
     match path_in(alloc, home(folder, fault.shipped), fault.file.as_str()) {
-        Ok(path) => LoadError::refused(alloc, path.as_str(), fault.told()),
+        Ok(path) => LoadError::refused(alloc, path.as_str(), fault.diagnostic()),
         Err(_) => LoadError::Memory,
     }
 }
@@ -101,7 +101,7 @@ pub fn image_of(alloc: Global, folder: &str, core: &Core) -> Result<Built, LoadE
 {
     match build(alloc, core) {
         Ok(built) => Ok(built),
-        Err(error) => Err(LoadError::told(alloc, folder, error.told())),
+        Err(error) => Err(LoadError::of_diagnostic(alloc, folder, error.diagnostic())),
     }
 }
 

@@ -26,7 +26,7 @@ fn not_read(error: ReadError) -> TextError
 {
     match error {
         ReadError::Memory => TextError::Memory,
-        ReadError::Fault(fault) => TextError::Refused(fault.told()),
+        ReadError::Fault(fault) => TextError::Refused(fault.diagnostic()),
     }
 }
 
@@ -111,7 +111,7 @@ impl Language for KeyText {
     fn read(&self, alloc: Global, _name: &str, text: &[u8]) -> Result<Keys, TextError> {
         match read_keys(alloc, text) {
             Ok(keys) => Ok(keys),
-            Err(KeyError::Fault(fault)) => Err(TextError::Refused(fault.told())),
+            Err(KeyError::Fault(fault)) => Err(TextError::Refused(fault.diagnostic())),
             Err(KeyError::Memory) => Err(TextError::Memory),
         }
     }
@@ -154,7 +154,7 @@ impl Language for ProgramText {
     fn read(&self, alloc: Global, _name: &str, text: &[u8]) -> Result<Vec<u16>, TextError> {
         match words_of(alloc, self.form, text) {
             Ok(words) => Ok(words),
-            Err(fault) => Err(TextError::told(fault.told())),
+            Err(fault) => Err(TextError::of_diagnostic(fault.diagnostic())),
         }
     }
 

@@ -1,4 +1,4 @@
-//! Laws of lines: over told files a line has at most one answer, one that wants no image has one, and one with which nothing is wrong is
+//! Laws of lines: over known files a line has at most one answer, one that wants no image has one, and one with which nothing is wrong is
 //! not refused.
 ghost use Rattle.nand_cli.specs.Answered.{AnsweredLaw, AsmAnsweredLaw, ChipAnsweredLaw, CompileAnsweredLaw, ExecAnsweredLaw, FolderAnsweredLaw, ProgramAnsweredLaw, ShowAnsweredLaw, VmAnsweredLaw};
 ghost use Rattle.nand_cli.specs.Commands.Vm.{VmDoesLaw};
@@ -6,7 +6,7 @@ ghost use Rattle.nand_cli.specs.Complete.{SoundLaw};
 ghost use Rattle.nand_cli.specs.CompleteRows.{CompleteRows};
 ghost use Rattle.nand_cli.specs.Exact.{AsmExactLaw, BuildExactLaw, ChipExactLaw, CompileExactLaw, ExactLaw, ExecExactLaw, MapExactLaw, OneProgramLaw, RunExactLaw, ShowExactLaw, VmExactLaw};
 
-/// Law: over told files a line of `asm` prints one text or is refused with one line, and not both.
+/// Law: over known files a line of `asm` prints one text or is refused with one line, and not both.
 pub fn asm_exact_law()
     ensures { AsmExactLaw }
 {
@@ -78,7 +78,7 @@ pub fn map_exact_law()
     jack_parser::class_law();
 }
 
-/// Law: over told files each line has one answer: it prints one thing or is refused for one thing, and not both.
+/// Law: over known files each line has one answer: it prints one thing or is refused for one thing, and not both.
 pub fn exact_law()
     ensures { ExactLaw }
 {
@@ -93,7 +93,7 @@ pub fn exact_law()
     map_exact_law();
 }
 
-/// Law: over told files a line of `asm` prints a text or is refused, or its file is not there.
+/// Law: over known files a line of `asm` prints a text or is refused, or its file is not there.
 pub fn asm_answered_law()
     ensures { AsmAnsweredLaw }
 {
@@ -118,7 +118,7 @@ pub fn show_answered_law()
     hdl_parser::total_law();
 }
 
-/// Law: over told files a line of `vm` prints a text or is refused.
+/// Law: over known files a line of `vm` prints a text or is refused.
 pub fn vm_answered_law()
     ensures { VmAnsweredLaw }
 {
@@ -131,7 +131,7 @@ pub fn chip_answered_law()
     ensures { ChipAnsweredLaw }
 {}
 
-/// Law: a folder whose files are told has classes that are well named, or is refused.
+/// Law: a folder whose files are known has classes that are well named, or is refused.
 pub fn folder_answered_law()
     ensures { FolderAnsweredLaw }
 {
@@ -140,14 +140,14 @@ pub fn folder_answered_law()
     jack_os::system_law();
 }
 
-/// Law: over told files a line of `compile` prints a text or is refused.
+/// Law: over known files a line of `compile` prints a text or is refused.
 pub fn compile_answered_law()
     ensures { CompileAnsweredLaw }
 {
     folder_answered_law();
 }
 
-/// Law: over told files each line that wants no image, and is no test script, has an answer.
+/// Law: over known files each line that wants no image, and is no test script, has an answer.
 pub fn answered_law()
     ensures { AnsweredLaw }
 {
@@ -170,14 +170,14 @@ pub fn program_answered_law()
     hack_cpu::runs_law();
 }
 
-/// Law: a folder whose files are told means at most one program.
+/// Law: a folder whose files are known means at most one program.
 pub fn one_program_law()
     ensures { OneProgramLaw }
 {
     jack_parser::class_law();
 }
 
-/// Law: over told files a line of `build`, `map` or `run` with which nothing is wrong is not refused. The limits of static words
+/// Law: over known files a line of `build`, `map` or `run` with which nothing is wrong is not refused. The limits of static words
 /// and of the budget, by computation.
 pub fn sound_law()
     ensures sound { SoundLaw }

@@ -2,7 +2,7 @@
 ghost use Rattle.std.specs.Prelude.{ℕ};
 ghost use Rattle.jack_compiler.specs.Resolved.{IsResolvedCore};
 ghost use Rattle.key_script.specs.Codes.{code_at};
-ghost use Rattle.layers.specs.System.{IsKey};
+ghost use Rattle.simulation.specs.System.{IsKey};
 ghost use Rattle.nand_cli.specs.JackFolder.{IsBuilt};
 ghost use Rattle.nand_cli.specs.Commands.RunVm.{IsVmReport};
 ghost use Rattle.nand_cli.specs.Inner.Reports.{CountsReport, IsPut, IsVmAtStart, Reports};

@@ -13,7 +13,7 @@ use Rattle.netlist.specs.declared.node.Block.{Block}
 use Rattle.netlist.specs.Net.{Net}
 use Rattle.netlist.specs.Order.{FitsAt, IsReadable, HasInputs, AreOrdered}
 use Rattle.netlist.specs.Present.{value_in}
-use Rattle.netlist.specs.Renamed.{renamed}
+use Rattle.netlist.specs.Renamed.{renamed_node}
 use Rattle.netlist.specs.Folded.{IsFolded, ReadsUsed, moved_block}
 use Rattle.net_simplify.specs.Normal.{IsOne, IsConstant, HasNoTwins, HasNoDoubleNot, ReadsNoConstant, HasInput, BlockReads, IsReached, AllReached}
 use Rattle.net_simplify.specs.Normal.IsReached.{keeps, read, input}
@@ -30,21 +30,21 @@ contains_map f xs x c = at xs c.0 c.1 c.2
     at (y ∷ ys) zero less e = (0, omega arith, ap f e)
     at (y ∷ ys) (suc j) less e = let r = at ys j (omega arith) e in let h = r.1 in (suc r.0, omega arith, r.2)
 
-pub was_pin : (places : List ℕ) (node : Node) → renamed places node ≡ Pin → node ≡ Pin
+pub was_pin : (places : List ℕ) (node : Node) → renamed_node places node ≡ Pin → node ≡ Pin
 was_pin places Pin e = refl
 was_pin places (Nand i j) e = absurd cc
 was_pin places (Flip i) e = absurd cc
 was_pin places (Word b bit) e = absurd cc
 was_pin places Zero e = absurd cc
 
-was_zero : (places : List ℕ) (node : Node) → renamed places node ≡ Zero → node ≡ Zero
+was_zero : (places : List ℕ) (node : Node) → renamed_node places node ≡ Zero → node ≡ Zero
 was_zero places Pin e = absurd cc
 was_zero places (Nand i j) e = absurd cc
 was_zero places (Flip i) e = absurd cc
 was_zero places (Word b bit) e = absurd cc
 was_zero places Zero e = refl
 
-was_nand : (places : List ℕ) (node : Node) (a b : ℕ) → renamed places node ≡ Nand a b → (i : ℕ) × (j : ℕ) × (node ≡ Nand i j) × (slice_index places i ≡ a) × (slice_index places j ≡ b)
+was_nand : (places : List ℕ) (node : Node) (a b : ℕ) → renamed_node places node ≡ Nand a b → (i : ℕ) × (j : ℕ) × (node ≡ Nand i j) × (slice_index places i ≡ a) × (slice_index places j ≡ b)
 was_nand places Pin a b e = absurd cc
 was_nand places (Nand i j) a b e = (i, j, refl, cc, cc)
 was_nand places (Flip i) a b e = absurd cc
@@ -52,7 +52,7 @@ was_nand places (Word c bit) a b e = absurd cc
 was_nand places Zero a b e = absurd cc
 
 -- what a renamed node reads
-has_renamed : (places : List ℕ) (node : Node) (i : ℕ) → HasInput node i → HasInput (renamed places node) (slice_index places i)
+has_renamed : (places : List ℕ) (node : Node) (i : ℕ) → HasInput node i → HasInput (renamed_node places node) (slice_index places i)
 has_renamed places Pin i h = h
 has_renamed places (Nand a b) i (inl e) = inl (ap (slice_index places) e)
 has_renamed places (Nand a b) i (inr e) = inr (ap (slice_index places) e)
@@ -110,7 +110,7 @@ module _ (mid : Net) (new : List Node) (kept : List ℕ) (marks : List Bool) (pl
   readable None k within used h = h
   readable (Some block) k within used h = let u = used block refl in (all_earlier k block.address within h.0 u.0, all_inside block.data h.1 u.1, last_inside block.load h.2 u.2)
 
-  fits_at : (k : ℕ) (node : Node) → slice_get mid.nodes k ≡ Some node → IsMarked marks k → FitsAt (on k) (length new) moved (renamed places node)
+  fits_at : (k : ℕ) (node : Node) → slice_get mid.nodes k ≡ Some node → IsMarked marks k → FitsAt (on k) (length new) moved (renamed_node places node)
   fits_at k Pin e m = tt
   fits_at k (Nand i j) e m =
       let w = slice_get_within mid.nodes k (Nand i j) e in
@@ -262,10 +262,10 @@ module _ (mid : Net) (new : List Node) (kept : List ℕ) (marks : List Bool) (pl
   reached_there : (k : ℕ) → IsReached mid kept k → IsReached (record { nodes = new; blocks = moved }) (map on kept) (on k)
   reached_there _ (keeps k c) = keeps (on k) (contains_map on kept k c)
   reached_there _ (read b k block e h) = read b (on k) (moved_block on block) (map_there (moved_block on) mid.blocks b block e) (read_moved block k h)
-  reached_there _ (input k i node h e has) = input (on k) (on i) (renamed places node) (reached_there k h) (t.there k node (slice_get_within mid.nodes k node e) (all_marked k h) e) (has_renamed places node i has)
+  reached_there _ (input k i node h e has) = input (on k) (on i) (renamed_node places node) (reached_there k h) (t.there k node (slice_get_within mid.nodes k node e) (all_marked k h) e) (has_renamed places node i has)
 
   reached_at : (l : ℕ) (node : Node) (c : ComesFrom mid.nodes marks places (length mid.nodes) l node) → IsSound mid kept c.k → (node ≡ Pin) ⊎ IsReached (record { nodes = new; blocks = moved }) (map on kept) l
-  reached_at l node c (inl e) = inl (c.is ∙ ap (renamed places) (same_Some c.old Pin (sym c.there ∙ e)))
+  reached_at l node c (inl e) = inl (c.is ∙ ap (renamed_node places) (same_Some c.old Pin (sym c.there ∙ e)))
   reached_at l node c (inr h) = inr (subst (IsReached (record { nodes = new; blocks = moved }) (map on kept)) c.place (reached_there c.k h))
 
   pub last_reached : AllReached (record { nodes = new; blocks = moved }) (map on kept)

@@ -5,7 +5,7 @@ ghost use Rattle.std.specs.List.{All};
 ghost use Rattle.netlist.specs.declared.node.Node.TheVariants.{Flip, Nand, Pin};
 ghost use Rattle.netlist.specs.declared.node.Block.{Block};
 ghost use Rattle.netlist.specs.Order.{AreOrdered};
-ghost use Rattle.netlist.specs.Renamed.{renamed};
+ghost use Rattle.netlist.specs.Renamed.{renamed_node};
 ghost use Rattle.netlist.specs.Folded.{moved_block};
 ghost use Rattle.net_simplify.specs.Inner.Reach.{AreReached, IsMarked};
 ghost use Rattle.net_simplify.specs.Inner.Trim.{ArePlaces, AreTrimmed};
@@ -34,7 +34,7 @@ pub(crate) fn places_of(alloc: Global, marks: &[bool]) -> Result<Vec<u32>, Alloc
 fn trimmed_node(node: Node, places: &[u32]) -> Node
     requires nand { (i j : ℕ) → node ≡ Nand i j → (i < length places.now) × (j < length places.now) }
     requires flip { (i : ℕ) → node ≡ Flip i → i < length places.now }
-    ensures { result ≡ renamed places.now node }
+    ensures { result ≡ renamed_node places.now node }
 {
     match node {
         Node::Nand(i, j) => Node::Nand(places[i as usize], places[j as usize]),

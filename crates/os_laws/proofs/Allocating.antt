@@ -10,7 +10,7 @@ use Rattle.jack_meaning.specs.Text.{Value, Return, Text, End, Next, Subroutine}
 use Rattle.jack_meaning.specs.Meaning.{Frame, State, subroutine_at, new_frame}
 use Rattle.os_laws.specs.Calls.{NextCall, ComesBack, given_back}
 use Rattle.os_laws.specs.Kernel.{alloc_body, alloc_meaning}
-use Rattle.os_laws.specs.Heap.{word_at, Block, part_at, IsInHeap, IsBlock, HeapOf, passed, InBlocks, IsKept}
+use Rattle.os_laws.specs.Heap.{word_at, Block, part_at, IsInHeap, IsBlock, HeapOf, passed_block, InBlocks, IsKept}
 use Rattle.os_laws.specs.HeapCalls.{Allocated}
 use Rattle.os_laws.specs.Laws.{AllocLaw}
 use Rattle.os_laws.proofs.Basics.{none-some, enters}
@@ -46,15 +46,15 @@ is_below a b h = grind (arith, nat_tests)
 is_above : (a b : ℕ) → nat_lt a b ≡ false → b ≤ a
 is_above a b h = grind (arith, nat_tests)
 
-fit_with : (ws : List ℕ) (n k c : ℕ) (cs : List ℕ) → ((j : ℕ) → passed ws n cs ≡ Some j → FirstFit ws n j cs) → (b : Bool) → nat_lt (word_at ws c) n ≡ b
-    → (if b then option_map (λ j. suc j) (passed ws n cs) else Some 0) ≡ Some k → FirstFit ws n k (c ∷ cs)
+fit_with : (ws : List ℕ) (n k c : ℕ) (cs : List ℕ) → ((j : ℕ) → passed_block ws n cs ≡ Some j → FirstFit ws n j cs) → (b : Bool) → nat_lt (word_at ws c) n ≡ b
+    → (if b then option_map (λ j. suc j) (passed_block ws n cs) else Some 0) ≡ Some k → FirstFit ws n k (c ∷ cs)
 fit_with ws n k c cs more true t e =
-    let m = mapped (passed ws n cs) k e in
+    let m = mapped (passed_block ws n cs) k e in
     let f = more m.0 m.1 in
     record { before = c ∷ f.before; c = f.c; after = f.after; shape = ap (λ l. c ∷ l) f.shape; count = omega (arith, f.count, m.2); short = (is_below _ _ t, f.short); fits = f.fits }
 fit_with ws n k c cs more false t e = record { before = []; c = c; after = cs; shape = refl; count = (let f : Some 0 ≡ Some k = e in cc f); short = tt; fits = is_above _ _ t }
 
-pub first_fit : (ws : List ℕ) (n k : ℕ) (parts : List ℕ) → passed ws n parts ≡ Some k → FirstFit ws n k parts
+pub first_fit : (ws : List ℕ) (n k : ℕ) (parts : List ℕ) → passed_block ws n parts ≡ Some k → FirstFit ws n k parts
 first_fit ws n k [] e = absurd (none-some k e)
 first_fit ws n k (c ∷ cs) e = fit_with ws n k c cs (λ j. first_fit ws n j cs) (nat_lt (word_at ws c) n) refl e
 

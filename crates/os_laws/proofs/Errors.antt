@@ -7,7 +7,7 @@ use Rattle.jack_meaning.specs.Text.{Value, Call as Calling, Open, NoMore, More, 
 use Rattle.jack_meaning.specs.Meaning.{Frame, State, subroutine_at, new_frame}
 use Rattle.os_laws.specs.Calls.{NextCall, ComesToCall, after}
 use Rattle.os_laws.specs.Kernel.{divide_body, divide_meaning, alloc_body, alloc_meaning, alloc_end}
-use Rattle.os_laws.specs.Heap.{Block, word_at, IsInHeap, part_at, part_of, HeapOf, passed}
+use Rattle.os_laws.specs.Heap.{Block, word_at, IsInHeap, part_at, part_of, HeapOf, passed_block}
 use Rattle.os_laws.specs.Laws.{ErrorLaws}
 use Rattle.os_laws.proofs.Basics.{frame_with}
 use Rattle.os_laws.proofs.Runs.{Call, over, run, next_at, run_then, run_before, run_over, run_ends}
@@ -89,12 +89,12 @@ mapped (Some j) e = absurd (cc e)
 some-none : (k : ℕ) → ◌≡◌ {A = Option ℕ} (Some k) None → ⊥
 some-none k e = cc e
 
-short_with : (ws : List ℕ) (n c : ℕ) (cs : List ℕ) → (passed ws n cs ≡ None → AllByRecursion (λ q. word_at ws q < n) cs) → (b : Bool) → nat_lt (word_at ws c) n ≡ b
-    → (if b then option_map (λ j. suc j) (passed ws n cs) else Some 0) ≡ None → AllByRecursion (λ q. word_at ws q < n) (c ∷ cs)
-short_with ws n c cs more true t e = (is_below _ _ t, more (mapped (passed ws n cs) e))
+short_with : (ws : List ℕ) (n c : ℕ) (cs : List ℕ) → (passed_block ws n cs ≡ None → AllByRecursion (λ q. word_at ws q < n) cs) → (b : Bool) → nat_lt (word_at ws c) n ≡ b
+    → (if b then option_map (λ j. suc j) (passed_block ws n cs) else Some 0) ≡ None → AllByRecursion (λ q. word_at ws q < n) (c ∷ cs)
+short_with ws n c cs more true t e = (is_below _ _ t, more (mapped (passed_block ws n cs) e))
 short_with ws n c cs more false t e = absurd (some-none 0 e)
 
-all_short : (ws : List ℕ) (n : ℕ) (parts : List ℕ) → passed ws n parts ≡ None → AllByRecursion (λ q. word_at ws q < n) parts
+all_short : (ws : List ℕ) (n : ℕ) (parts : List ℕ) → passed_block ws n parts ≡ None → AllByRecursion (λ q. word_at ws q < n) parts
 all_short ws n [] e = tt
 all_short ws n (c ∷ cs) e = short_with ws n c cs (all_short ws n cs) (nat_lt (word_at ws c) n) refl e
 
@@ -117,7 +117,7 @@ great_law subs s g size class error free low high kernel c =
     ∙ too_great subs g error free s.statics s.words size (not_less size 1 (omega (arith, low)) high) (less 14335 size low high))
 
 full_law : (subs : List Subroutine) (s : State) (g size class error free : ℕ) (parts : List ℕ) (live : List Block) → 1 ≤ size → size ≤ 14335 → subroutine_at subs g ≡ alloc_meaning class error free
-    → HeapOf s.words (slice_index s.statics free) parts live → passed s.words (size + 1) parts ≡ None → (c : NextCall subs s g (size ∷ [])) → ComesToCall c error (6 ∷ []) (22 + 18 * length parts)
+    → HeapOf s.words (slice_index s.statics free) parts live → passed_block s.words (size + 1) parts ≡ None → (c : NextCall subs s g (size ∷ [])) → ComesToCall c error (6 ∷ []) (22 + 18 * length parts)
 full_law subs s g size class error free parts live low high kernel heap none c =
     let first = slice_index s.statics free in
     let n = size + 1 in

@@ -5,9 +5,9 @@ use Rattle.std.specs.Prelude.{slice_index, slice_set}
 use Rattle.std.proofs.lemmas.Bool.Decides.{nat_tests}
 use Rattle.word16.specs.Words.{word_add}
 use Rattle.jack_meaning.specs.Words.{sign_of, operator_of}
-use Rattle.jack_meaning.specs.Text.{Variable, Argument, Local, Static, Expression, Literal, Value, Name, This, Field, Unary, Binary, Load, Call as Calling, Open, Let, Store, If, While, Return, Text, End, Next, joined, Subroutine}
-use Rattle.jack_meaning.specs.Expressions.{View, Rewrites, within, variable_of, value_of, loaded, rewrite}
-use Rattle.jack_meaning.specs.Meaning.{Done, view_of, step_part, assigned, stored, passed_over, chosen, turn_of}
+use Rattle.jack_meaning.specs.Text.{Variable, Argument, Local, Static, Expression, Literal, Value, Name, This, Field, Unary, Binary, Load, Call as Calling, Open, Let, Store, If, While, Return, Text, End, Next, joined_text, Subroutine}
+use Rattle.jack_meaning.specs.Expressions.{View, Rewrites, within, variable_of, value_of, loaded_word, rewrite}
+use Rattle.jack_meaning.specs.Meaning.{Done, view_of, step_part, after_assignment, after_store, passed_over, text_chosen, turn_of}
 use Rattle.os_laws.proofs.Runs.{Call, over, call_in, next, run, run_then}
 
 -- the steps of an expression: one for each part that is no value
@@ -56,7 +56,7 @@ IsPlain v (Load a i) = IsPlain v a × IsPlain v i × IsInside (word_add (value v
 IsPlain v (Calling g es) = ⊥
 IsPlain v Open = ⊥
 
-pub loaded_inside : (v : View) (a : ℕ) → IsInside a → loaded v a ≡ Rewrites false (Value (word_in v a))
+pub loaded_inside : (v : View) (a : ℕ) → IsInside a → loaded_word v a ≡ Rewrites false (Value (word_in v a))
 loaded_inside v a h =
     let low : nat_lt a 2048 ≡ false = grind (arith, nat_tests) in
     let high : nat_lt a 24576 ≡ true = grind (arith, nat_tests) in
@@ -88,10 +88,10 @@ module _ (subs : List Subroutine) (c : Call) where
   in_base : (whole : Expression → Text) → Place subs c whole → (i : Expression) → Place subs c (λ a. whole (Load a i))
   in_base whole p i a a' e =
       p (Load a i) (Load a' i)
-      (ap (λ m. within m (λ z. Load z i) (within (rewrite (seen c) i) (Load a) (loaded (seen c) (word_add (value_of a) (value_of i))))) e)
+      (ap (λ m. within m (λ z. Load z i) (within (rewrite (seen c) i) (Load a) (loaded_word (seen c) (word_add (value_of a) (value_of i))))) e)
 
   in_index : (whole : Expression → Text) → Place subs c whole → (x : ℕ) → Place subs c (λ i. whole (Load (Value x) i))
-  in_index whole p x i i' e = p (Load (Value x) i) (Load (Value x) i') (ap (λ m. within m (Load (Value x)) (loaded (seen c) (word_add x (value_of i)))) e)
+  in_index whole p x i i' e = p (Load (Value x) i) (Load (Value x) i') (ap (λ m. within m (Load (Value x)) (loaded_word (seen c) (word_add x (value_of i)))) e)
 
   one_step : (t t' : Text) → next subs (with_text c t) ≡ Some (with_text c t') → run subs 1 (with_text c t) ≡ Some (with_text c t')
   one_step t t' e = ap (option_and_then (run subs zero)) e
@@ -127,10 +127,10 @@ module _ (subs : List Subroutine) (c : Call) where
   -- ---- statements
 
   in_let : (n : ℕ) (x : Variable) (rest : Text) → Place subs c (λ e. Next (Let n x e) rest)
-  in_let n x rest e e' h = ap (λ m. call_in (step_part subs (over [] (with_text c (Next (Let n x e) rest))) ((with_text c (Next (Let n x e) rest)).frame) [] m (λ z. Next (Let n x z) rest) (assigned (over [] (with_text c (Next (Let n x e) rest))) ((with_text c (Next (Let n x e) rest)).frame) [] rest x (value_of e)))) h
+  in_let n x rest e e' h = ap (λ m. call_in (step_part subs (over [] (with_text c (Next (Let n x e) rest))) ((with_text c (Next (Let n x e) rest)).frame) [] m (λ z. Next (Let n x z) rest) (after_assignment (over [] (with_text c (Next (Let n x e) rest))) ((with_text c (Next (Let n x e) rest)).frame) [] rest x (value_of e)))) h
 
   in_if : (n : ℕ) (o : _) (a b rest : Text) → Place subs c (λ e. Next (If n o e a b) rest)
-  in_if n o a b rest e e' h = ap (λ m. call_in (step_part subs (over [] (with_text c (Next (If n o e a b) rest))) ((with_text c (Next (If n o e a b) rest)).frame) [] m (λ z. Next (If n o z a b) rest) (passed_over (over [] (with_text c (Next (If n o e a b) rest))) ((with_text c (Next (If n o e a b) rest)).frame) [] (joined (chosen (value_of e) a b) rest)))) h
+  in_if n o a b rest e e' h = ap (λ m. call_in (step_part subs (over [] (with_text c (Next (If n o e a b) rest))) ((with_text c (Next (If n o e a b) rest)).frame) [] m (λ z. Next (If n o z a b) rest) (passed_over (over [] (with_text c (Next (If n o e a b) rest))) ((with_text c (Next (If n o e a b) rest)).frame) [] (joined_text (text_chosen (value_of e) a b) rest)))) h
 
   in_return : (n : ℕ) (rest : Text) → Place subs c (λ e. Next (Return n e) rest)
   in_return n rest e e' h = ap (λ m. call_in (step_part subs (over [] (with_text c (Next (Return n e) rest))) ((with_text c (Next (Return n e) rest)).frame) [] m (λ z. Next (Return n z) rest) Done)) h
@@ -140,18 +140,18 @@ module _ (subs : List Subroutine) (c : Call) where
       let t = with_text c (Next (Store n e i w) rest) in
       ap (λ m. call_in (step_part subs (over [] t) t.frame [] m (λ z. Next (Store n z i w) rest)
       (step_part subs (over [] t) t.frame [] (rewrite (seen c) i) (λ z. Next (Store n e z w) rest)
-      (step_part subs (over [] t) t.frame [] (rewrite (seen c) w) (λ z. Next (Store n e i z) rest) (stored (over [] t) t.frame [] rest (word_add (value_of e) (value_of i)) (value_of w)))))) h
+      (step_part subs (over [] t) t.frame [] (rewrite (seen c) w) (λ z. Next (Store n e i z) rest) (after_store (over [] t) t.frame [] rest (word_add (value_of e) (value_of i)) (value_of w)))))) h
 
   in_store_index : (n x : ℕ) (w : Expression) (rest : Text) → Place subs c (λ e. Next (Store n (Value x) e w) rest)
   in_store_index n x w rest e e' h =
       let t = with_text c (Next (Store n (Value x) e w) rest) in
       ap (λ m. call_in (step_part subs (over [] t) t.frame [] m (λ z. Next (Store n (Value x) z w) rest)
-      (step_part subs (over [] t) t.frame [] (rewrite (seen c) w) (λ z. Next (Store n (Value x) e z) rest) (stored (over [] t) t.frame [] rest (word_add x (value_of e)) (value_of w))))) h
+      (step_part subs (over [] t) t.frame [] (rewrite (seen c) w) (λ z. Next (Store n (Value x) e z) rest) (after_store (over [] t) t.frame [] rest (word_add x (value_of e)) (value_of w))))) h
 
   in_store_value : (n x y : ℕ) (rest : Text) → Place subs c (λ e. Next (Store n (Value x) (Value y) e) rest)
   in_store_value n x y rest e e' h =
       let t = with_text c (Next (Store n (Value x) (Value y) e) rest) in
-      ap (λ m. call_in (step_part subs (over [] t) t.frame [] m (λ z. Next (Store n (Value x) (Value y) z) rest) (stored (over [] t) t.frame [] rest (word_add x y) (value_of e)))) h
+      ap (λ m. call_in (step_part subs (over [] t) t.frame [] m (λ z. Next (Store n (Value x) (Value y) z) rest) (after_store (over [] t) t.frame [] rest (word_add x y) (value_of e)))) h
 
   -- `let` of a local, an argument or a static
   pub let_local : (n k : ℕ) (e : Expression) (rest : Text) → IsPlain (seen c) e
@@ -192,13 +192,13 @@ module _ (subs : List Subroutine) (c : Call) where
 
   -- `if`
   pub if_chooses : (n : ℕ) (o : _) (e : Expression) (a b rest : Text) → IsPlain (seen c) e
-      → run subs (cost e + 1) (with_text c (Next (If n o e a b) rest)) ≡ Some (with_text c (joined (chosen (value (seen c) e) a b) rest))
+      → run subs (cost e + 1) (with_text c (Next (If n o e a b) rest)) ≡ Some (with_text c (joined_text (text_chosen (value (seen c) e) a b) rest))
   if_chooses n o e a b rest h =
       run_then subs (cost e) 1 (with_text c (Next (If n o e a b) rest)) (with_text c (Next (If n o (Value (value (seen c) e)) a b) rest)) _ (evaluates e h (λ z. Next (If n o z a b) rest) (in_if n o a b rest)) refl
 
   -- A loop that comes first goes as the choice that the meaning reads it as.
   pub while_chooses : (n : ℕ) (e : Expression) (s rest : Text) → IsPlain (seen c) e
-      → run subs (cost e + 1) (with_text c (Next (While n e s) rest)) ≡ Some (with_text c (joined (chosen (value (seen c) e) (turn_of n e s) End) rest))
+      → run subs (cost e + 1) (with_text c (Next (While n e s) rest)) ≡ Some (with_text c (joined_text (text_chosen (value (seen c) e) (turn_of n e s) End) rest))
   while_chooses n e s rest h =
       ap (λ k. run subs k (with_text c (Next (While n e s) rest))) (add-one (cost e)) ∙ sym (ap (λ k. run subs k (with_text c (Next (If n false e (turn_of n e s) End) rest))) (add-one (cost e)))
       ∙ if_chooses n false e (turn_of n e s) End rest h

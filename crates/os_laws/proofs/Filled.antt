@@ -3,8 +3,8 @@ use Rattle.std.proofs.Common.{◌≡◌, ℕ, Bool, true, false, nat_lt, nat_eq,
 use Rattle.std.specs.Prelude.{if◌then◌else◌, slice_set}
 use Rattle.word16.specs.Words.{word_add}
 use Rattle.jack_meaning.specs.Text.{Variable, Argument, Local, Static, Expression, Literal, Value, Name, This, Field, Unary, Binary, Load, Call, Open, Expressions, NoMore, More, Let, LetField, LetThis, Store, Do, If, While, Return, Text, End, Next, Subroutine}
-use Rattle.jack_meaning.specs.Expressions.{Move, Stands, Rewrites, Calls, Strays, View, within, value_of, loaded, rewrite, rewrite_first, filled, filled_in}
-use Rattle.jack_meaning.specs.Meaning.{Frame, State, Outcome, Acts, Stray, view_of, filled_text, step_part, assigned, stored, passed_over, returned, new_frame, turn_of, step_first, step_frames}
+use Rattle.jack_meaning.specs.Expressions.{Move, Stands, Rewrites, Calls, Strays, View, within, value_of, loaded_word, rewrite, rewrite_first, filled, filled_in}
+use Rattle.jack_meaning.specs.Meaning.{Frame, State, Outcome, Acts, Stray, view_of, filled_text, step_part, after_assignment, after_store, passed_over, after_return, new_frame, turn_of, step_first, step_frames}
 use Rattle.os_laws.specs.Calls.{NextCall, given_back}
 
 -- where the part calls, the value that fills it can be told
@@ -27,7 +27,7 @@ chosen_told false true d k a e e' = tt
 chosen_told false false true k a e e' = tt
 chosen_told false false false k a e e' = tt
 
-loaded_told : (v : View) (a : ℕ) → Told filled (loaded v a)
+loaded_told : (v : View) (a : ℕ) → Told filled (loaded_word v a)
 loaded_told v a = chosen_told (nat_lt a 2048) (nat_lt a 24576) (nat_eq a 24576) a a _ _
 
 mutual
@@ -88,7 +88,7 @@ module _ (subs : List Subroutine) (s : State) (f : Frame) (below : List Frame) w
       → Deep below (step_part subs s f below (rewrite (view_of 0 s f) e) whole after)
   of_one e whole after k i = part_deep filled (rewrite (view_of 0 s f) e) whole after (told (view_of 0 s f) e) k i
 
-  assigned_deep : (rest : Text) (x : Variable) (w : ℕ) → Deep below (assigned s f below rest x w)
+  assigned_deep : (rest : Text) (x : Variable) (w : ℕ) → Deep below (after_assignment s f below rest x w)
   assigned_deep rest (Argument k) w = flat false _ _ refl
   assigned_deep rest (Local k) w = flat false _ _ refl
   assigned_deep rest (Static k) w = flat false _ _ refl
@@ -98,13 +98,13 @@ module _ (subs : List Subroutine) (s : State) (f : Frame) (below : List Frame) w
   stored_with false true rest a k w = flat false _ _ refl
   stored_with false false rest a k w = λ heard t top caller o d u v q. absurd (cc o)
 
-  stored_deep : (rest : Text) (a w : ℕ) → Deep below (stored s f below rest a w)
+  stored_deep : (rest : Text) (a w : ℕ) → Deep below (after_store s f below rest a w)
   stored_deep rest a w = stored_with (nat_lt a 2048) (nat_lt a 24576) rest a _ w
 
-  returned_deep : (w : ℕ) → Deep below (returned s below w)
+  returned_deep : (w : ℕ) → Deep below (after_return s below w)
   returned_deep w = by_frames below
     where
-      by_frames : (fs : List Frame) → Deep fs (returned s fs w)
+      by_frames : (fs : List Frame) → Deep fs (after_return s fs w)
       by_frames [] = λ heard t top caller o d u v q. absurd (cc o)
       by_frames (g ∷ fs) = λ heard t top caller o d u v q.
           let st : State = record s { frames = record g { text = filled_text w g.text } ∷ fs } in

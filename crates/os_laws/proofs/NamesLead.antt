@@ -5,7 +5,7 @@ use Rattle.std.specs.Str.{bytes_eq}
 use Rattle.std.specs.List.{AllByRecursion}
 use Rattle.std.proofs.lemmas.Slice.Eq.{bytes_eq-Decides}
 use Rattle.jack_tree.specs.Syntax as tree
-use Rattle.jack_names.specs.Tables.{found}
+use Rattle.jack_names.specs.Tables.{find_value}
 use Rattle.jack_names.specs.Numbers.{class_numbers, class_number, subroutine_number, in_class, standing, field_count}
 use Rattle.jack_names.specs.Meaning.{meaning_of, subroutine_meaning}
 use Rattle.jack_names.specs.NameFaults.{IsWellNamed, Shipped, Earlier, OfSubroutines, ClassTwice, MemberTwice, InDeclaration}
@@ -35,11 +35,11 @@ differs : (x y : List ℕ) → (x ≡ y → ⊥) → bytes_eq x y ≡ false
 differs x y h = fails (bytes_eq x y) (λ e. h ((bytes_eq-Decides x y).0 e))
 
 class_found : (x : List ℕ) (n : ℕ) (front back : List tree.ClassFile) (c : tree.ClassFile) → x ≡ c.class.name.text → AllByRecursion (λ (d : tree.ClassFile). bytes_eq x d.class.name.text ≡ false) front
-    → found x (class_numbers n (front ++ c ∷ back)) ≡ Some (n + length front)
+    → find_value x (class_numbers n (front ++ c ∷ back)) ≡ Some (n + length front)
 class_found x n [] back c same none =
-    ap (λ b. if b then Some n else found x (class_numbers (n + 1) back)) ((bytes_eq-Decides x c.class.name.text).1 same) ∙ ap (λ (k : ℕ). Some k) (let e : n ≡ n + 0 = omega arith in e)
+    ap (λ b. if b then Some n else find_value x (class_numbers (n + 1) back)) ((bytes_eq-Decides x c.class.name.text).1 same) ∙ ap (λ (k : ℕ). Some k) (let e : n ≡ n + 0 = omega arith in e)
 class_found x n (f ∷ front) back c same none =
-    ap (λ b. if b then Some n else found x (class_numbers (n + 1) (front ++ c ∷ back))) none.0 ∙ class_found x (n + 1) front back c same none.1
+    ap (λ b. if b then Some n else find_value x (class_numbers (n + 1) (front ++ c ∷ back))) none.0 ∙ class_found x (n + 1) front back c same none.1
     ∙ ap (λ (k : ℕ). Some k) (let e : n + 1 + length front ≡ n + suc (length front) = omega arith in e)
 
 module _ (own front back : List tree.ClassFile) (c : tree.ClassFile) (before after : List tree.Subroutine) (t : tree.Subroutine) (well : IsWellNamed own (front ++ c ∷ back)) (shape : c.class.subroutines ≡ before ++ t ∷ after) where
@@ -94,7 +94,7 @@ module _ (own front back : List tree.ClassFile) (c : tree.ClassFile) (before aft
 
   is_class : class_number (own ++ os) x ≡ Some (length (own ++ front))
   is_class =
-      ap (λ l. found x (class_numbers 0 l)) (sym all_shape) ∙ class_found x 0 (own ++ front) back c refl (all_join NotThere own front none_own none_front)
+      ap (λ l. find_value x (class_numbers 0 l)) (sym all_shape) ∙ class_found x 0 (own ++ front) back c refl (all_join NotThere own front none_own none_front)
       ∙ ap (λ (k : ℕ). Some k) (let e : 0 + length (own ++ front) ≡ length (own ++ front) = omega arith in e)
 
 -- the names of the class and of the subroutine, as they stand in the class

@@ -7,7 +7,7 @@ use Rattle.std.specs.List.{AllByRecursion}
 use Rattle.jack_meaning.specs.Text as meaning
 use Rattle.jack_meaning.specs.Meaning.{subroutine_at}
 use Rattle.jack_tree.specs.Syntax as tree
-use Rattle.jack_names.specs.Tables.{found}
+use Rattle.jack_names.specs.Tables.{find_value}
 use Rattle.jack_names.specs.Numbers.{standing, subroutine_numbers, all_subroutine_numbers, subroutine_number, number, found_in, field_count, static_count}
 use Rattle.jack_names.specs.Meaning.{subroutine_meaning, subroutines_meaning, no_subroutine, meaning_of}
 use Rattle.os_laws.specs.Names.{statics_in}
@@ -28,10 +28,10 @@ class_place n (f ∷ front) back c =
     class_place (n + length f.class.subroutines) front back c ∙ ap (λ k. Some (subroutine_numbers k c.class.subroutines)) (let e : n + length f.class.subroutines + subroutines_in front ≡ n + (length f.class.subroutines + subroutines_in front) = omega arith in e)
 
 -- the number of a subroutine among those of its class
-name_place : (x : List ℕ) (m : ℕ) (before after : List tree.Subroutine) (t : tree.Subroutine) → bytes_eq x t.name.text ≡ true → NoneNamed x before → found x (subroutine_numbers m (before ++ t ∷ after)) ≡ Some (m + length before)
-name_place x m [] after t same none = ap (λ b. if b then Some m else found x (subroutine_numbers (m + 1) after)) same ∙ ap (λ (k : ℕ). Some k) (let e : m ≡ m + 0 = omega arith in e)
+name_place : (x : List ℕ) (m : ℕ) (before after : List tree.Subroutine) (t : tree.Subroutine) → bytes_eq x t.name.text ≡ true → NoneNamed x before → find_value x (subroutine_numbers m (before ++ t ∷ after)) ≡ Some (m + length before)
+name_place x m [] after t same none = ap (λ b. if b then Some m else find_value x (subroutine_numbers (m + 1) after)) same ∙ ap (λ (k : ℕ). Some k) (let e : m ≡ m + 0 = omega arith in e)
 name_place x m (s ∷ before) after t same none =
-    ap (λ b. if b then Some m else found x (subroutine_numbers (m + 1) (before ++ t ∷ after))) none.0 ∙ name_place x (m + 1) before after t same none.1 ∙ ap (λ (k : ℕ). Some k) (let e : m + 1 + length before ≡ m + suc (length before) = omega arith in e)
+    ap (λ b. if b then Some m else find_value x (subroutine_numbers (m + 1) (before ++ t ∷ after))) none.0 ∙ name_place x (m + 1) before after t same none.1 ∙ ap (λ (k : ℕ). Some k) (let e : m + 1 + length before ≡ m + suc (length before) = omega arith in e)
 
 -- the place of a subroutine's meaning among those of all classes
 meaning_place : (all : List tree.ClassFile) (own statics : ℕ) (front back : List tree.ClassFile) (c : tree.ClassFile) (before after : List tree.Subroutine) (t : tree.Subroutine) (d : meaning.Subroutine) → c.class.subroutines ≡ before ++ t ∷ after
@@ -66,7 +66,7 @@ place front back c before after t shape none same =
     let d : meaning.Subroutine = record { kind = meaning.Function; class = 0; arguments = 0; locals = 0; body = meaning.End } in
     let numbered : subroutine_number all (length front) x ≡ suc (subroutines_in front + length before) =
     ap (λ o. found_in o x) (class_place 1 front back c)
-    ∙ ap (λ l. number (found x (subroutine_numbers (1 + subroutines_in front) l))) shape
+    ∙ ap (λ l. number (find_value x (subroutine_numbers (1 + subroutines_in front) l))) shape
     ∙ ap number (name_place x (1 + subroutines_in front) before after t same none)
     ∙ (let e : 1 + subroutines_in front + length before ≡ suc (subroutines_in front + length before) = omega arith in e) in
     ap (λ k. get_or (no_subroutine ∷ subroutines_meaning all 0 0 all) k d) numbered

@@ -7,10 +7,10 @@ use Rattle.jack_meaning.specs.Text.{Local, Literal, Value, Open, NoMore, More, C
 use Rattle.jack_meaning.specs.Meaning.{State, step}
 use Rattle.jack_meaning.specs.Level.{next_of}
 use Rattle.os_laws.specs.Calls.{after, no_key}
-use Rattle.os_laws.specs.Heap.{HeapOf, passed}
+use Rattle.os_laws.specs.Heap.{HeapOf, passed_block}
 use Rattle.os_laws.specs.HeapRun.{Back, Uses, laid, stepped}
 use Rattle.os_laws.specs.HeapRun as run
-use Rattle.os_laws.specs.Rows.{begun, taken, three}
+use Rattle.os_laws.specs.Rows.{begun_memory, taken_memory, three}
 use Rattle.os_laws.specs.StepRows.{kernel}
 use Rattle.os_laws.specs.RunRows.{numbers, running, RunRows}
 
@@ -64,33 +64,33 @@ abbrev at_first : State
 at_first = running (Next (Do 1 (Call 3 NoMore)) asks) (0 ∷ []) (replicate 22528 0)
 
 abbrev at_init : State
-at_init = running (Next (Do 1 (Value 0)) asks) (2048 ∷ []) begun
+at_init = running (Next (Do 1 (Value 0)) asks) (2048 ∷ []) begun_memory
 
 has_laid : Uses kernel numbers at_init []
 has_laid = laid (record { static = omega arith; words = refl }) (record { top = _; caller = record { subroutine = 0; arguments = []; locals = 0 ∷ []; this = 0; text = Next (Do 1 Open) asks }; below = []; frames = refl; calls = refl })
     (comes_back at_first at_init 14 refl refl refl)
 
-has_passed : Uses kernel numbers (running asks (2048 ∷ []) begun) []
+has_passed : Uses kernel numbers (running asks (2048 ∷ []) begun_memory) []
 has_passed = stepped 0 false has_laid refl (record { static = refl; statics = refl; words = inl refl })
 
-has_read : Uses kernel numbers (running asks_three (2048 ∷ []) begun) []
+has_read : Uses kernel numbers (running asks_three (2048 ∷ []) begun_memory) []
 has_read = stepped 0 false has_passed refl (record { static = refl; statics = refl; words = inl refl })
 
-fits : (parts : List ℕ) → HeapOf begun 2048 parts [] → (k : ℕ) × (passed begun 4 parts ≡ Some k)
+fits : (parts : List ℕ) → HeapOf begun_memory 2048 parts [] → (k : ℕ) × (passed_block begun_memory 4 parts ≡ Some k)
 fits [] h = absurd (let e = h.links in omega (arith, e))
-fits (c ∷ cs) h = subst (λ z. (k : ℕ) × (passed begun 4 (z ∷ cs) ≡ Some k)) h.links.0 (0, refl)
+fits (c ∷ cs) h = subst (λ z. (k : ℕ) × (passed_block begun_memory 4 (z ∷ cs) ≡ Some k)) h.links.0 (0, refl)
 
-uses : Uses kernel numbers (running (Next (Let 2 (Local 0) (Value 16381)) End) (2048 ∷ []) taken) (three ∷ [])
+uses : Uses kernel numbers (running (Next (Let 2 (Local 0) (Value 16381)) End) (2048 ∷ []) taken_memory) (three ∷ [])
 uses =
     run.taken has_read (omega arith) (omega arith) fits (record { top = _; caller = record { subroutine = 0; arguments = []; locals = 0 ∷ []; this = 0; text = Next (Let 2 (Local 0) Open) End }; below = []; frames = refl; calls = refl })
-    (comes_back (running asks_three (2048 ∷ []) begun) (running (Next (Let 2 (Local 0) (Value 16381)) End) (2048 ∷ []) taken) 56 refl refl refl) refl
+    (comes_back (running asks_three (2048 ∷ []) begun_memory) (running (Next (Let 2 (Local 0) (Value 16381)) End) (2048 ∷ []) taken_memory) 56 refl refl refl) refl
 
 -- ---- stores
 
-was : slice_index taken 14332 ≡ 4
+was : slice_index taken_memory 14332 ≡ 4
 was = refl
 
-becomes : slice_index (slice_set taken 14332 9) 14332 ≡ 9
+becomes : slice_index (slice_set taken_memory 14332 9) 14332 ≡ 9
 becomes = refl
 
 pub rows : RunRows

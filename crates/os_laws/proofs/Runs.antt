@@ -4,7 +4,7 @@ use Rattle.std.specs.Prelude.{if◌then◌else◌, slice_set}
 use Rattle.word16.specs.Words.{word_add}
 use Rattle.jack_meaning.specs.Text.{Variable, Argument, Local, Static, Let, LetField, LetThis, Store, Do, If, While, Return, Text, End, Next, Subroutine, Program}
 use Rattle.jack_meaning.specs.Expressions.{Move, Stands, Rewrites, Calls, Strays, rewrite, value_of}
-use Rattle.jack_meaning.specs.Meaning.{Frame, State, Outcome, Acts, Stray, Done, view_of, step_part, assigned, stored, passed_over, returned, step_first, step}
+use Rattle.jack_meaning.specs.Meaning.{Frame, State, Outcome, Acts, Stray, Done, view_of, step_part, after_assignment, after_store, passed_over, after_return, step_first, step}
 use Rattle.jack_meaning.specs.Level.{next_of, has_heard}
 use Rattle.jack_meaning.proofs.Deaf.{law as meaning_law}
 use Rattle.os_laws.specs.Calls.{after}
@@ -63,7 +63,7 @@ module _ (subs : List Subroutine) (below : List Frame) (f : Frame) (ss ws : List
   part_lifts (Calls g xs a) whole o o' h = λ c' e. absurd (none-some c' e)
   part_lifts (Strays a) whole o o' h = λ c' e. absurd (none-some c' e)
 
-  assigned_lifts : (rest : Text) (x : Variable) (w : ℕ) → Lifts below (assigned low f [] rest x w) (assigned high f below rest x w)
+  assigned_lifts : (rest : Text) (x : Variable) (w : ℕ) → Lifts below (after_assignment low f [] rest x w) (after_assignment high f below rest x w)
   assigned_lifts rest (Argument k) w = acts_lifts below false (record f { text = rest; arguments = slice_set f.arguments k w }) ss ws
   assigned_lifts rest (Local k) w = acts_lifts below false (record f { text = rest; locals = slice_set f.locals k w }) ss ws
   assigned_lifts rest (Static k) w = acts_lifts below false (record f { text = rest }) (slice_set ss k w) ws
@@ -74,13 +74,13 @@ module _ (subs : List Subroutine) (below : List Frame) (f : Frame) (ss ws : List
   stored_with false true rest a w k = acts_lifts below false (record f { text = rest }) ss (slice_set ws k w)
   stored_with false false rest a w k = λ c' e. absurd (none-some c' e)
 
-  stored_lifts : (rest : Text) (a w : ℕ) → Lifts below (stored low f [] rest a w) (stored high f below rest a w)
+  stored_lifts : (rest : Text) (a w : ℕ) → Lifts below (after_store low f [] rest a w) (after_store high f below rest a w)
   stored_lifts rest a w = stored_with (nat_lt a 2048) (nat_lt a 24576) rest a w _
 
   passed_lifts : (g : Frame) (rest : Text) → Lifts below (passed_over low g [] rest) (passed_over high g below rest)
   passed_lifts g rest = acts_lifts below false (record g { text = rest }) ss ws
 
-  returned_lifts : (w : ℕ) → Lifts below (returned low [] w) (returned high below w)
+  returned_lifts : (w : ℕ) → Lifts below (after_return low [] w) (after_return high below w)
   returned_lifts w c' e = absurd (none-some c' e)
 
   first_lifts : (t : Text) → Lifts below (step_first subs 0 low f [] t) (step_first subs 0 high f below t)

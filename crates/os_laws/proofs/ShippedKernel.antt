@@ -8,7 +8,7 @@ use Rattle.jack_tree.specs.Syntax.{ClassFile, Subroutine, ClassVariables}
 use Rattle.jack_names.specs.Numbers.{class_number, member_slots, type_number}
 use Rattle.jack_names.specs.declared.scope.Declared.{Declared}
 use Rattle.jack_names.specs.declared.scope.Slot.TheVariants as slot
-use Rattle.jack_names.specs.Tables.{found}
+use Rattle.jack_names.specs.Tables.{find_value}
 use Rattle.jack_names.specs.Meaning.{program_meaning}
 use Rattle.jack_names.specs.NameFaults.{IsWellNamed}
 use Rattle.jack_os.specs.Routines.{multiply, divide, init, alloc, deAlloc}
@@ -66,7 +66,7 @@ module _ (core : Core) (s : IsShipped core) (file text class : List ℕ) (a : Am
   earlier = statics_in (s.own ++ a.front)
 
   abbrev variable_in : List ClassVariables → List ℕ → Option Declared
-  variable_in vs x = found x (member_slots numbers 0 earlier vs)
+  variable_in vs x = find_value x (member_slots numbers 0 earlier vs)
 
   as_read : (x : List ℕ) → variable_in a.c.class.variables x ≡ variable_in a.is.0.variables x
   as_read x = ap (λ vs. variable_in vs x) (ap (λ (f : ClassFile). f.class.variables) a.is.2)

@@ -65,9 +65,9 @@ abbrev pub Heap : List ℕ → ℕ → List Block → Type 0
 Heap words first live = (free : List ℕ) × HeapOf words first free live
 
 -- How many of these parts come before the first that has n words; none where no part has so many.
-abbrev pub passed : List ℕ → ℕ → List ℕ → Option ℕ
-passed words n [] = None
-passed words n (c ∷ cs) = if nat_lt (word_at words c) n then option_map (λ k. suc k) (passed words n cs) else Some 0
+abbrev pub passed_block : List ℕ → ℕ → List ℕ → Option ℕ
+passed_block words n [] = None
+passed_block words n (c ∷ cs) = if nat_lt (word_at words c) n then option_map (λ k. suc k) (passed_block words n cs) else Some 0
 
 -- the address is that of a word of one of these blocks
 abbrev pub InBlocks : List Block → ℕ → Type 0

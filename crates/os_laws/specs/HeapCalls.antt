@@ -4,7 +4,7 @@ use Rattle.word16.specs.Memory.{screen, heap_and_screen_size}
 use Rattle.jack_meaning.specs.Text.{Subroutine}
 use Rattle.jack_meaning.specs.Meaning.{State}
 use Rattle.os_laws.specs.Calls.{NextCall, given_back}
-use Rattle.os_laws.specs.Heap.{word_at, Block, HeapOf, passed, IsKept}
+use Rattle.os_laws.specs.Heap.{word_at, Block, HeapOf, passed_block, IsKept}
 
 -- The static `free`, which has this number, is there, and so are the words of heap and screen.
 pub record HasRoom (s : State) (free : ℕ) : Type 0 where
@@ -25,7 +25,7 @@ pub record IsFull (s : State) (free size : ℕ) : Type 0 where
   pub parts : List ℕ
   pub live : List Block
   pub heap : HeapOf s.words (slice_index s.statics free) parts live
-  pub none : passed s.words (size + 1) parts ≡ None
+  pub none : passed_block s.words (size + 1) parts ≡ None
 
 -- No static has changed but `free`, no word of a live block and none of the screen.
 pub record KeepsOthers (free : ℕ) (live : List Block) (s s' : State) : Type 0 where

@@ -4,7 +4,7 @@ use Rattle.word16.specs.Memory.{heap}
 use Rattle.jack_meaning.specs.Text.{Subroutine}
 use Rattle.jack_meaning.specs.Meaning.{State, Acts, step}
 use Rattle.os_laws.specs.Calls.{NextCall, Stops, given_back}
-use Rattle.os_laws.specs.Heap.{Block, HeapOf, passed, IsKept}
+use Rattle.os_laws.specs.Heap.{Block, HeapOf, passed_block, IsKept}
 use Rattle.os_laws.specs.HeapCalls.{HasRoom}
 
 -- the numbers of Memory's three routines of the heap, and that of its static `free`
@@ -22,7 +22,7 @@ pub record StoresWell (free : ℕ) (live : List Block) (s s' : State) : Type 0 w
 
 -- Some free part has a word more than this size, whatever the free parts are.
 abbrev pub HasPart : State → ℕ → List Block → ℕ → Type 0
-HasPart s free live size = (parts : List ℕ) → HeapOf s.words (slice_index s.statics free) parts live → (k : ℕ) × (passed s.words (size + 1) parts ≡ Some k)
+HasPart s free live size = (parts : List ℕ) → HeapOf s.words (slice_index s.statics free) parts live → (k : ℕ) × (passed_block s.words (size + 1) parts ≡ Some k)
 
 -- The call has come back at this state, under some keys.
 pub record Back (subs : List Subroutine) (s s' : State) : Type 0 where

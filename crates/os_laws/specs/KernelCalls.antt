@@ -3,7 +3,7 @@ use Rattle.std.specs.Prelude.{◌≡◌, ◌≤◌, ◌<◌, ◌+◌, ◌^◌, �
 use Rattle.jack_meaning.specs.Text.{Subroutine}
 use Rattle.jack_meaning.specs.Meaning.{State}
 use Rattle.os_laws.specs.Calls.{NextCall}
-use Rattle.os_laws.specs.Heap.{Block, passed}
+use Rattle.os_laws.specs.Heap.{Block, passed_block}
 use Rattle.os_laws.specs.HeapCalls.{HasRoom, HasHeap, IsFull}
 
 -- a call of multiplication with these words
@@ -42,7 +42,7 @@ pub record Allocating (subs : List Subroutine) (s : State) (g free : ℕ) : Type
   pub live : List Block
   pub heap : HasHeap s free parts live
   pub k : ℕ
-  pub fit : passed s.words (size + 1) parts ≡ Some k
+  pub fit : passed_block s.words (size + 1) parts ≡ Some k
   pub call : NextCall subs s g (size ∷ [])
 
 -- the same where the size is greater, or no free part is long enough

@@ -4,7 +4,7 @@ use Rattle.jack_tree.specs.Syntax as tree
 use Rattle.jack_names.specs.declared.scope.Declared.{Declared}
 use Rattle.jack_names.specs.declared.scope.Slot.TheVariants as slot
 use Rattle.jack_names.specs.Numbers.{Standing, standing, static_count}
-use Rattle.jack_names.specs.Meaning.{made, program_meaning}
+use Rattle.jack_names.specs.Meaning.{made_word, program_meaning}
 use Rattle.jack_names.specs.NameFaults.{IsWellNamed}
 use Rattle.jack_core.specs.Texts.{the_program}
 use Rattle.jack_core.specs.declared.program.Core.{Core}
@@ -36,11 +36,11 @@ module _ {core : Core} {class : List ℕ} {routine : tree.Subroutine} (h : HasRo
 
   -- the number to which the names of the class and of the routine lead
   abbrev pub number_of : ℕ
-  number_of = made names_in class routine.name.text
+  number_of = made_word names_in class routine.name.text
 
 -- the number of Sys.error
 abbrev pub error_number : Standing → ℕ
-error_number names = made names (codes "Sys") (codes "error")
+error_number names = made_word names (codes "Sys") (codes "error")
 
 -- no variable has the name of the class Sys
 abbrev pub HasNoSys : Standing → Type 0

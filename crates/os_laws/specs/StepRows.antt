@@ -57,11 +57,11 @@ first_block = then_call 57 4 (3 ∷ []) laid
 abbrev pub second_block : Option State
 second_block = then_call 57 4 (1 ∷ []) first_block
 
-abbrev pub freed : Option State
-freed = then_call 13 5 (16381 ∷ []) second_block
+abbrev pub state_after_free : Option State
+state_after_free = then_call 13 5 (16381 ∷ []) second_block
 
 abbrev pub third_block : Option State
-third_block = then_call 47 4 (3 ∷ []) freed
+third_block = then_call 47 4 (3 ∷ []) state_after_free
 
 pub record StepRows : Type 0 where
   -- the next step is a call, with a frame that waits

@@ -1,6 +1,6 @@
 //! How large the operating system is in an image.
 ghost use Rattle.std.specs.Prelude.{◌≡◌};
-ghost use Rattle.hack_blocks.specs.Budgets.{most_words, operation_words};
+ghost use Rattle.vm_templates.specs.Budgets.{most_words, operation_words};
 
 use crate::programs::program_of;
 use jack_compiler::link_core;

@@ -17,11 +17,11 @@ abbrev pub file_at : Files → List ℕ → Option (List ℕ)
 file_at [] path = None
 file_at (file ∷ files) path = if bytes_eq file.0 path then Some file.1 else file_at files path
 
--- The file at a path has these bytes, where the files are told.
+-- The file at a path has these bytes, where the files are known.
 abbrev pub HasFile : Option Files → List ℕ → List ℕ → Type 0
 HasFile told path bytes = IfSome told (λ files. file_at files path ≡ Some bytes)
 
--- No file stands at a path, where the files are told.
+-- No file stands at a path, where the files are known.
 abbrev pub LacksFile : Option Files → List ℕ → Type 0
 LacksFile told path = IfSome told (λ files. file_at files path ≡ None)
 
@@ -37,7 +37,7 @@ has_slash = list_any (λ c. c == 47)
 abbrev pub IsEmptyFolder : Files → List ℕ → Type 0
 IsEmptyFolder files folder = (name : List ℕ) → has_slash name ≡ false → file_at files (path_in folder name) ≡ None
 
--- A folder is not there, so no file stands in it, where the files are told. A folder that is there may be empty as well.
+-- A folder is not there, so no file stands in it, where the files are known. A folder that is there may be empty as well.
 abbrev pub LacksFolder : Option Files → (List ℕ → Bool) → List ℕ → Type 0
 LacksFolder told there folder = IfSome told (λ files. (there folder ≡ false) × IsEmptyFolder files folder)
 

@@ -10,8 +10,8 @@ sink_of pieces = pieces.sink.now
 abbrev pub pending : {S : Type 0} {told : Ghosts S} → Pieces S told → List ℕ
 pending pieces = take pieces.len pieces.buffer
 
-abbrev pub held : {S : Type 0} {told : Ghosts S} → Pieces S told → ℕ
-held pieces = pieces.len
+abbrev pub held_count : {S : Type 0} {told : Ghosts S} → Pieces S told → ℕ
+held_count pieces = pieces.len
 
 -- they put into one and the same sink
 abbrev pub HaveSameSink : {S : Type 0} {told : Ghosts S} → Pieces S told → Pieces S told → Type 0

@@ -35,8 +35,8 @@ pub record SinkState : Type 0 where
   pub faults : ℕ
 
 -- a count after one more; it stays at its type's end
-abbrev pub counted : ℕ → ℕ
-counted count = min (count + 1) (2 ^ 64 - 1)
+abbrev pub next_count : ℕ → ℕ
+next_count count = min (count + 1) (2 ^ 64 - 1)
 
 -- a call of this number is planned to fail
 abbrev pub is_planned : List ℕ → ℕ → Bool
@@ -44,7 +44,7 @@ is_planned fails call = list_any (λ planned. planned == call) fails
 
 -- Of the calls after so many, none is planned to fail.
 abbrev pub NoneToCome : List ℕ → ℕ → Type 0
-NoneToCome fails calls = (n : ℕ) → calls ≤ n → is_planned fails (counted n) ≡ false
+NoneToCome fails calls = (n : ℕ) → calls ≤ n → is_planned fails (next_count n) ≡ false
 
 -- A shelf in memory fails to list where the call is planned to fail, and at no other.
 abbrev pub ListsAsPlanned : Bool → Listing → Type 0

@@ -15,8 +15,8 @@ abbrev pub message : ℕ → ℕ → List ℕ → List ℕ → Message
 message line column word detail = record { line = line; column = column; word = word; detail = detail }
 
 -- the line that tells it of the file at a path
-abbrev pub told_line : List ℕ → Message → List ℕ
-told_line path m = fault_line path m.line m.column m.word m.detail
+abbrev pub message_line : List ℕ → Message → List ℕ
+message_line path m = fault_line path m.line m.column m.word m.detail
 
 -- a detail as a text: a number in decimal, a name as it stands
 abbrev pub detail_text : Detail → List ℕ

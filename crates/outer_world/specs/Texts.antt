@@ -10,10 +10,10 @@ abbrev pub word_line : ℕ → ℕ → List ℕ
 word_line address w = decimal address ++ 32 ∷ (signed_text w ++ 10 ∷ [])
 
 -- names joined by commas
-abbrev pub joined : List (List ℕ) → List ℕ
-joined [] = []
-joined (name ∷ []) = name
-joined (name ∷ more ∷ names) = name ++ 44 ∷ joined (more ∷ names)
+abbrev pub joined_texts : List (List ℕ) → List ℕ
+joined_texts [] = []
+joined_texts (name ∷ []) = name
+joined_texts (name ∷ more ∷ names) = name ++ 44 ∷ joined_texts (more ∷ names)
 
 -- a kind of fault with its detail; without a detail no space stands after the kind
 abbrev pub fault_text : List ℕ → List ℕ → List ℕ

@@ -4,7 +4,7 @@ use Rattle.outer_world.specs.Faults.{Rose}
 use Rattle.outer_world.specs.declared.sink.Put.{Put}
 use Rattle.outer_world.specs.declared.sink.Put.TheVariants as put
 
--- A text went out whole: the bytes written, where they are told, are those before and the text.
+-- A text went out whole: the bytes written, where they are known, are those before and the text.
 abbrev pub Got : Option (List ℕ) → Option (List ℕ) → List ℕ → Type 0
 Got before now text = now ≡ option_map (λ written. written ++ text) before
 

@@ -2,7 +2,7 @@
 ghost use Rattle.std.specs.Prelude.{◌≡◌, ◌++◌, ◌∷◌, [], length};
 ghost use Rattle.outer_world.specs.Held.{HaveSameSink, pending, sink_of};
 ghost use Rattle.outer_world.specs.Inner.Parts.{front_of, rest_of};
-ghost use Rattle.outer_world.specs.Refusals.{detail_text, message, told_line};
+ghost use Rattle.outer_world.specs.Refusals.{detail_text, message, message_line};
 ghost use Rattle.outer_world.specs.Written.{CountsPut, Passes, Puts};
 
 use crate::{Pieces, Put, Sink};
@@ -20,14 +20,14 @@ pub enum Detail {
 /// What a fault tells: the line and column of its place, both 0 where it has none, its word, and its
 /// detail. The path of the file is not part of it.
 #[derive(Drop)]
-pub struct Told {
+pub struct Diagnostic {
     line: u32,
     column: u32,
     word: &'static str,
     detail: Detail,
 }
 
-impl Model for Told {
+impl Model for Diagnostic {
     ghost use Rattle.outer_world.specs.Refusals.{Message, detail_text, message};
 
     ghost Value = { Message };
@@ -35,12 +35,12 @@ impl Model for Told {
     ghost view = { λ t. message t.line t.column t.word.now (detail_text t.detail) };
 }
 
-impl Told {
+impl Diagnostic {
     /// What a fault at a place tells.
-    pub fn at(line: u32, column: u32, word: &'static str, detail: Detail) -> Told
+    pub fn at(line: u32, column: u32, word: &'static str, detail: Detail) -> Diagnostic
         ensures { result ≡ message line column word.now (detail_text detail) }
     {
-        Told {
+        Diagnostic {
             line,
             column,
             word,
@@ -49,15 +49,15 @@ impl Told {
     }
 
     /// What a fault tells that has no place.
-    pub fn nowhere(word: &'static str, detail: Detail) -> Told
+    pub fn nowhere(word: &'static str, detail: Detail) -> Diagnostic
         ensures { result ≡ message 0 0 word.now (detail_text detail) }
     {
-        Told::at(0, 0, word, detail)
+        Diagnostic::at(0, 0, word, detail)
     }
 
     /// Puts the line that tells it of the file at a path.
     pub fn put<S: Sink>(&self, path: &str, sink: &mut S) -> Put
-        ensures put { Puts (S.written sink.old) (S.written sink.new) (told_line path.now self.now) result }
+        ensures put { Puts (S.written sink.old) (S.written sink.new) (message_line path.now self.now) result }
         ensures counts { CountsPut (S.faults sink.old) (S.faults sink.new) result }
     {
         let mut pieces = Pieces::new(sink);
@@ -66,10 +66,10 @@ impl Told {
 }
 
 // Puts the line through a buffer that is empty before.
-fn put_whole<S: Sink>(told: &Told, path: &str, pieces: &mut Pieces<'_, S>) -> Put
+fn put_whole<S: Sink>(told: &Diagnostic, path: &str, pieces: &mut Pieces<'_, S>) -> Put
     requires empty { pending pieces.old ≡ [] }
     ensures same_sink { HaveSameSink pieces.old pieces.new }
-    ensures put { Puts (S.written (sink_of pieces.old)) (S.written (sink_of pieces.new)) (told_line path.now told.now) result }
+    ensures put { Puts (S.written (sink_of pieces.old)) (S.written (sink_of pieces.new)) (message_line path.now told.now) result }
     ensures counts { CountsPut (S.faults (sink_of pieces.old)) (S.faults (sink_of pieces.new)) result }
 {
     match put_line(told, path, pieces) {
@@ -79,9 +79,9 @@ fn put_whole<S: Sink>(told: &Told, path: &str, pieces: &mut Pieces<'_, S>) -> Pu
 }
 
 // Hands the line to a buffer.
-fn put_line<S: Sink>(told: &Told, path: &str, pieces: &mut Pieces<'_, S>) -> Put
+fn put_line<S: Sink>(told: &Diagnostic, path: &str, pieces: &mut Pieces<'_, S>) -> Put
     ensures same_sink { HaveSameSink pieces.old pieces.new }
-    ensures passes { Passes (S.written (sink_of pieces.old)) (pending pieces.old) (S.written (sink_of pieces.new)) (pending pieces.new) (told_line path.now told.now) result }
+    ensures passes { Passes (S.written (sink_of pieces.old)) (pending pieces.old) (S.written (sink_of pieces.new)) (pending pieces.new) (message_line path.now told.now) result }
     ensures counts { CountsPut (S.faults (sink_of pieces.old)) (S.faults (sink_of pieces.new)) result }
 {
     match put_front(told, path, pieces) {
@@ -91,7 +91,7 @@ fn put_line<S: Sink>(told: &Told, path: &str, pieces: &mut Pieces<'_, S>) -> Put
 }
 
 // Hands the front of the line to a buffer, up to the word.
-fn put_front<S: Sink>(told: &Told, path: &str, pieces: &mut Pieces<'_, S>) -> Put
+fn put_front<S: Sink>(told: &Diagnostic, path: &str, pieces: &mut Pieces<'_, S>) -> Put
     ensures same_sink { HaveSameSink pieces.old pieces.new }
     ensures passes { Passes (S.written (sink_of pieces.old)) (pending pieces.old) (S.written (sink_of pieces.new)) (pending pieces.new) (front_of path.now told.now) result }
     ensures counts { CountsPut (S.faults (sink_of pieces.old)) (S.faults (sink_of pieces.new)) result }

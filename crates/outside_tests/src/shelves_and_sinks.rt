@@ -1,7 +1,7 @@
 //! Shelves and sinks, in memory and real, each on its happy path and where it fails.
 use outer_world::{
-    Detail, FolderShelf, Listing, MemoryShelf, MemorySink, Name, Pieces, PlainSink, Put, Reading,
-    Shelf, Sink, StdSink, Told,
+    Detail, Diagnostic, FolderShelf, Listing, MemoryShelf, MemorySink, Name, Pieces, PlainSink,
+    Put, Reading, Shelf, Sink, StdSink,
 };
 use std::alloc::{AllocError, AllocGlobal, Global};
 use std::io::{ErrorKind, Write};
@@ -257,17 +257,17 @@ fn names(rt: HostRuntime) -> Result<(), Fail> {
 fn lines_of_faults(rt: HostRuntime) -> Result<(), Fail> {
     let alloc = rt.alloc();
     let twice = Detail::Name(b"LOOP".to_vec(alloc)?);
-    let told = Told::at(3, 14, "LabelTwice", twice);
+    let told = Diagnostic::at(3, 14, "LabelTwice", twice);
     let plan = [(2, 9)].to_vec(alloc)?;
     let mut sink = MemorySink::new(alloc, 1000, plan)?;
     assert_eq!(rt; told.put("f/Max.asm", &mut sink), Put::Done);
     assert_eq!(rt; told.put("f/Max.asm", &mut sink), Put::Failed);
     assert_eq!(rt;
-        Told::nowhere("TooLarge", Detail::Number(32769)).put("D", &mut sink),
+        Diagnostic::nowhere("TooLarge", Detail::Number(32769)).put("D", &mut sink),
         Put::Done
     );
     assert_eq!(rt;
-        Told::nowhere("NoSysInit", Detail::Nothing).put("D", &mut sink),
+        Diagnostic::nowhere("NoSysInit", Detail::Nothing).put("D", &mut sink),
         Put::Done
     );
     assert_eq!(rt;

@@ -4,7 +4,7 @@ use Rattle.std.specs.Prelude.{◌==◌}
 use Rattle.scan_text.specs.declared.Place.{Place}
 use Rattle.scan_text.specs.declared.Blank.{Blank}
 use Rattle.scan_text.specs.declared.Blank.TheVariants.{Over, Unclosed, Other}
-use Rattle.scan_text.specs.Text.{step, walk, front, behind}
+use Rattle.scan_text.specs.Text.{step, walk, front, rest_behind}
 use Rattle.scan_text.specs.Blanks.{line_end, line, is_blank, and_one, in_line, comment, blank, blanks, blanks_by}
 
 -- n more bytes
@@ -39,14 +39,14 @@ over_by at bs n e = let same : suc n ≡ n + 1 = omega arith in one_over at bs n
 none_front : (b : ℕ) (bs : List ℕ) → is_blank b ≡ false → front is_blank (b ∷ bs) ≡ []
 none_front b bs e = rw e refl
 
-none_behind : (b : ℕ) (bs : List ℕ) → is_blank b ≡ false → behind is_blank (b ∷ bs) ≡ b ∷ bs
+none_behind : (b : ℕ) (bs : List ℕ) → is_blank b ≡ false → rest_behind is_blank (b ∷ bs) ≡ b ∷ bs
 none_behind b bs e = rw e refl
 
-run_by : (at : Place) (b : ℕ) (bs : List ℕ) (t : Bool) → is_blank b ≡ t → blanks 0 (step at b) bs ≡ blanks 0 (walk (step at b) (front is_blank bs)) (behind is_blank bs) → blanks 0 at (b ∷ bs) ≡ blanks 0 (walk at (front is_blank (b ∷ bs))) (behind is_blank (b ∷ bs))
+run_by : (at : Place) (b : ℕ) (bs : List ℕ) (t : Bool) → is_blank b ≡ t → blanks 0 (step at b) bs ≡ blanks 0 (walk (step at b) (front is_blank bs)) (rest_behind is_blank bs) → blanks 0 at (b ∷ bs) ≡ blanks 0 (walk at (front is_blank (b ∷ bs))) (rest_behind is_blank (b ∷ bs))
 run_by at b bs true e h = rw e h
 run_by at b bs false e h = sym (λ i. blanks 0 (walk at (none_front b bs e i)) (none_behind b bs e i))
 
-pub run_over : (at : Place) (bs : List ℕ) → blanks 0 at bs ≡ blanks 0 (walk at (front is_blank bs)) (behind is_blank bs)
+pub run_over : (at : Place) (bs : List ℕ) → blanks 0 at bs ≡ blanks 0 (walk at (front is_blank bs)) (rest_behind is_blank bs)
 run_over at [] = refl
 run_over at (b ∷ bs) = run_by at b bs (is_blank b) refl (run_over (step at b) bs)
 
@@ -71,9 +71,9 @@ pub line_comment : (bs : List ℕ) (b : ℕ) (tail : List ℕ) → bs ≡ b ∷ 
 line_comment [] b tail e f = absurd cc
 line_comment (c ∷ bs) b tail e f = let same : c ≡ 47 = cc in rw same refl
 
-pub length-behind : (test : ℕ → Bool) (bs : List ℕ) → length (behind test bs) ≤ length bs
+pub length-behind : (test : ℕ → Bool) (bs : List ℕ) → length (rest_behind test bs) ≤ length bs
 length-behind test [] = omega arith
-length-behind test (b ∷ bs) = elim (test b) as (λ t. length (cond t (behind test bs) (b ∷ bs)) ≤ length (b ∷ bs)) [
+length-behind test (b ∷ bs) = elim (test b) as (λ t. length (cond t (rest_behind test bs) (b ∷ bs)) ≤ length (b ∷ bs)) [
   | true ↦ omega (arith, length-behind test bs)
   | false ↦ omega arith
 ]

@@ -2,7 +2,7 @@
 use Rattle.std.proofs.Common.{◌≡◌, ℕ, ◌+◌, ◌-◌, ◌*◌, ◌≤◌, Bool, true, false, cond, List, [], ◌∷◌, length, take, drop, refl, sym, ap, ◌∙◌, arith}
 use Rattle.std.specs.Prelude.{◌==◌, if◌then◌else◌}
 use Rattle.scan_text.specs.declared.Place.{Place}
-use Rattle.scan_text.specs.Text.{step, walk, front, behind, decimal, capped}
+use Rattle.scan_text.specs.Text.{step, walk, front, rest_behind, decimal, capped_count}
 
 -- a place that some bytes lead to
 pub record Follows (at after : Place) (n : ℕ) : Type 0 where
@@ -31,9 +31,9 @@ take_front test (b ∷ bs) = elim (test b) as (λ t. take (length (cond t (b ∷
   | false ↦ refl
 ]
 
-pub drop_front : (test : ℕ → Bool) (bs : List ℕ) → drop (length (front test bs)) bs ≡ behind test bs
+pub drop_front : (test : ℕ → Bool) (bs : List ℕ) → drop (length (front test bs)) bs ≡ rest_behind test bs
 drop_front test [] = refl
-drop_front test (b ∷ bs) = elim (test b) as (λ t. drop (length (cond t (b ∷ front test bs) [])) (b ∷ bs) ≡ cond t (behind test bs) (b ∷ bs)) [
+drop_front test (b ∷ bs) = elim (test b) as (λ t. drop (length (cond t (b ∷ front test bs) [])) (b ∷ bs) ≡ cond t (rest_behind test bs) (b ∷ bs)) [
   | true ↦ drop_front test bs
   | false ↦ refl
 ]
@@ -46,15 +46,15 @@ pub front_front : (test : ℕ → Bool) (bs : List ℕ) → front test (front te
 front_front test [] = refl
 front_front test (b ∷ bs) = keeps test b (front test bs) bs (test b) refl (front_front test bs)
 
-capped_step : (n e : ℕ) → capped (capped n * 10 + e) ≡ capped (n * 10 + e)
+capped_step : (n e : ℕ) → capped_count (capped_count n * 10 + e) ≡ capped_count (n * 10 + e)
 capped_step n e = omega arith
 
 -- only the cap of what stands before the digits counts
-pub capped_decimal : (n : ℕ) (ds : List ℕ) → capped (decimal (capped n) ds) ≡ capped (decimal n ds)
+pub capped_decimal : (n : ℕ) (ds : List ℕ) → capped_count (decimal (capped_count n) ds) ≡ capped_count (decimal n ds)
 capped_decimal n [] = omega arith
 capped_decimal n (d ∷ ds) =
-    sym (capped_decimal (capped n * 10 + (d - 48)) ds)
-    ∙ ap (λ (k : ℕ). capped (decimal k ds)) (capped_step n (d - 48))
+    sym (capped_decimal (capped_count n * 10 + (d - 48)) ds)
+    ∙ ap (λ (k : ℕ). capped_count (decimal k ds)) (capped_step n (d - 48))
     ∙ capped_decimal (n * 10 + (d - 48)) ds
 
 front_tail : (test : ℕ → Bool) (b : ℕ) (bs : List ℕ) (t : Bool) → cond t (b ∷ front test bs) [] ≡ b ∷ bs → front test bs ≡ bs

@@ -40,9 +40,9 @@ block [] = None
 block (b ∷ bs) = if ends_block (b ∷ bs) then Some 2 else and_one (block bs)
 
 -- a comment of a byte and so many more, if it is closed
-abbrev pub closed : Option ℕ → Blank
-closed None = Unclosed
-closed (Some n) = Over n
+abbrev pub closed_comment : Option ℕ → Blank
+closed_comment None = Unclosed
+closed_comment (Some n) = Over n
 
 abbrev pub in_line : ℕ → Bool
 in_line b = if b == 10 then false else true
@@ -50,7 +50,7 @@ in_line b = if b == 10 then false else true
 -- after a slash: `//` begins a comment up to the line's end, `/*` one up to the next `*/`
 abbrev pub comment : List ℕ → Blank
 comment [] = Other
-comment (b ∷ bs) = if b == 47 then Over (length (front in_line (b ∷ bs))) else (if b == 42 then closed (and_one (block bs)) else Other)
+comment (b ∷ bs) = if b == 47 then Over (length (front in_line (b ∷ bs))) else (if b == 42 then closed_comment (and_one (block bs)) else Other)
 
 -- what begins at the front of a text: a blank, a comment, or something else
 abbrev pub blank : List ℕ → Blank

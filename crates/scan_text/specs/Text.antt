@@ -16,9 +16,9 @@ abbrev pub front : (ℕ → Bool) → List ℕ → List ℕ
 front keep [] = []
 front keep (b ∷ bs) = if keep b then b ∷ front keep bs else []
 
-abbrev pub behind : (ℕ → Bool) → List ℕ → List ℕ
-behind keep [] = []
-behind keep (b ∷ bs) = if keep b then behind keep bs else b ∷ bs
+abbrev pub rest_behind : (ℕ → Bool) → List ℕ → List ℕ
+rest_behind keep [] = []
+rest_behind keep (b ∷ bs) = if keep b then rest_behind keep bs else b ∷ bs
 
 -- each call of a closure answers the test
 abbrev pub Computes : (ℕ → Bool → Type 0) → (ℕ → Bool) → Type 0
@@ -41,15 +41,15 @@ decimal n [] = n
 decimal n (d ∷ ds) = decimal (n * 10 + (d - 48)) ds
 
 -- a number, where one past 1,000,000,000 is 1,000,000,001
-abbrev pub capped : ℕ → ℕ
-capped n = min n 1000000001
+abbrev pub capped_count : ℕ → ℕ
+capped_count n = min n 1000000001
 
 abbrev pub start : Place
 start = record { line = 1; column = 1 }
 
 abbrev pub number_at : List ℕ → Option ℕ
 number_at [] = None
-number_at (d ∷ ds) = Some (capped (decimal 0 (d ∷ ds)))
+number_at (d ∷ ds) = Some (capped_count (decimal 0 (d ∷ ds)))
 
 -- the number at the front, if a digit stands there
 abbrev pub number_of : List ℕ → Option ℕ

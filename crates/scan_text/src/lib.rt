@@ -3,7 +3,7 @@
 
 ghost use Rattle.std.specs.Prelude.{◌≡◌, ℕ, Bool, ◌+◌, ◌<◌, ◌≤◌, ◌^◌, length, IfSome};
 ghost use Rattle.scan_text.specs.Blanks.{starts, line_end, line, is_blank, ends_block, IsWithin, block, comment, blank};
-ghost use Rattle.scan_text.specs.Text.{step, walk, front, Computes, is_digit, decimal, capped};
+ghost use Rattle.scan_text.specs.Text.{step, walk, front, Computes, is_digit, decimal, capped_count};
 
 mod reading;
 
@@ -87,7 +87,7 @@ fn run_len<P: Fn(u8) -> bool>(bytes: &[u8], keep: P) -> usize
 // The number that the digits spell, one past 1,000,000,000 as 1,000,000,001.
 fn value(digits: &[u8]) -> u32
     requires { front is_digit digits.now ≡ digits.now }
-    ensures { result ≡ capped (decimal 0 digits.now) }
+    ensures { result ≡ capped_count (decimal 0 digits.now) }
 {
     let mut n: u32 = 0;
     let mut rest = digits;

@@ -1,8 +1,8 @@
 use grammar::ReadError;
 use scan_text::Place;
+use script_parser::*;
 use std::alloc::Global;
 use std::test::*;
-use test_script::*;
 
 fn write_word(out: &mut String, alloc: Global, word: &Placed) -> Result<(), Fail> {
     let text = String::from_utf8_lossy(alloc, word.text.as_slice())?;

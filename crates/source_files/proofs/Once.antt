@@ -1,7 +1,7 @@
--- What texts spell is one thing, where the language reads each text in one way; and so of a folder whose files are told.
+-- What texts spell is one thing, where the language reads each text in one way; and so of a folder whose files are known.
 use Rattle.std.proofs.Common.{◌≡◌, ◌<◌, ◌++◌, ℕ, List, [], ◌∷◌, Some, length, map, refl, sym, ◌∙◌, ap, subst, inl, inr, arith}
 use Rattle.outer_world.specs.Files.{Files, HasFile, path_in}
-use Rattle.outer_world.specs.Refusals.{Message, told_line}
+use Rattle.outer_world.specs.Refusals.{Message, message_line}
 use Rattle.source_files.specs.Folder.{AreNames, AreSources, overfull}
 use Rattle.source_files.specs.Sources.{FolderSpells, IsFaulty, IsUnread, SpellEach, SpellsAt}
 use Rattle.source_files.proofs.Names.{one_list}
@@ -25,7 +25,7 @@ module _ {A B : Type 0} (spells : List ℕ → List ℕ → A → Type 0) (refus
 
   pub one_fault : (path line other : List ℕ) → IsFaulty refuses (Some files) path line → IsFaulty refuses (Some files) path other → line ≡ other
   one_fault path line other (text, told, has, h, e) (text', told', has', k, d) =
-      e ∙ ap (told_line path) (once.one_told text told told' h (subst (λ t. refuses t told') (one_text files path text' text has' has) k)) ∙ sym d
+      e ∙ ap (message_line path) (once.one_told text told told' h (subst (λ t. refuses t told') (one_text files path text' text has' has) k)) ∙ sym d
 
   pub never_both : (name path : List ℕ) (a : A) (line : List ℕ) → SpellsAt (spells name) (Some files) path a → IsFaulty refuses (Some files) path line → ⊥
   never_both name path a line (text, has, h) (text', told, has', k, d) =
@@ -84,7 +84,7 @@ module _ {A B : Type 0} (spells : List ℕ → List ℕ → A → Type 0) (refus
 
   pub one_refusal : (folder ending line other : List ℕ) → IsUnread spells refuses ending (Some files) folder line → IsUnread spells refuses ending (Some files) folder other → line ≡ other
   one_refusal folder ending line other (inl (names, are, many, e)) (inl (others, also, more, d)) =
-      e ∙ ap (λ (ns : List (List ℕ)). told_line folder (overfull (length ns))) (one_list files folder ending names others are also) ∙ sym d
+      e ∙ ap (λ (ns : List (List ℕ)). message_line folder (overfull (length ns))) (one_list files folder ending names others are also) ∙ sym d
   one_refusal folder ending line other (inl (names, are, many, e)) (inr (others, also, faulty)) = absurd (not_so_many folder ending names others are many also)
   one_refusal folder ending line other (inr (names, are, faulty)) (inl (others, also, more, d)) = absurd (not_so_many folder ending others names also more are)
   one_refusal folder ending line other (inr (names, are, (before, name, after, xs, e, h, k))) (inr (others, also, (before', name', after', xs', d, h', k'))) =

@@ -85,7 +85,7 @@ all_kept : {A : Type 0} (P : A → Type 0) (test : A → Bool) (xs : List A) →
 all_kept P test [] h = tt
 all_kept P test (x ∷ xs) h = kept_cons P (test x) x (filter test xs) h.0 (all_kept P test xs h.1)
 
--- so a folder whose files are told lacks none of them
+-- so a folder whose files are known lacks none of them
 pub lacks_none : (told : Option Files) (there : List ℕ → Bool) (folder ending : List ℕ) (names : List (List ℕ)) → AreNames told folder ending names → LacksOne told folder names → LacksFolder told there folder
 lacks_none None there folder ending names are lacks = tt
 lacks_none (Some files) there folder ending names ((all, listing, moved), sorted) lacks =

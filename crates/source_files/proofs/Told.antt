@@ -1,7 +1,7 @@
 -- What loading says where nothing is loaded.
 use Rattle.std.proofs.Common.{◌≡◌, ◌<◌, ℕ, List, Option, Some, None, Err, length, refl, sym, subst}
 use Rattle.outer_world.specs.Files.{Files}
-use Rattle.outer_world.specs.Refusals.{Message, told_line}
+use Rattle.outer_world.specs.Refusals.{Message, message_line}
 use Rattle.source_files.specs.Inner.Limits.{IsPastLimit}
 use Rattle.source_files.specs.Loads.{IsWhy, Loads, Refused, TellsOf, text_error}
 use Rattle.source_files.specs.Sources.{IsFaulty, past_limit}
@@ -10,13 +10,13 @@ use Rattle.source_files.specs.declared.error.LoadError.TheVariants as errors
 use Rattle.source_files.specs.declared.error.TextError.{TextError}
 
 -- a refusal that tells this
-pub told : {A : Type 0} (good : A → Type 0) (refused : List ℕ → Type 0) (missed : Type 0) (path : List ℕ) (t : Message) (e : LoadError) → refused (told_line path t) → Refused path t e → Loads good refused missed (Err e)
+pub told : {A : Type 0} (good : A → Type 0) (refused : List ℕ → Type 0) (missed : Type 0) (path : List ℕ) (t : Message) (e : LoadError) → refused (message_line path t) → Refused path t e → Loads good refused missed (Err e)
 told good refused missed path t (errors.Refused r) h e = subst refused (sym e) h
 told good refused missed path t errors.Failed h e = absurd e
 told good refused missed path t errors.Memory h e = tt
 
 -- what is told of a path, or want of memory
-pub told_of : {A : Type 0} (good : A → Type 0) (refused : List ℕ → Type 0) (missed : Type 0) (path : List ℕ) (o : Option Message) (e : LoadError) → ((t : Message) → o ≡ Some t → refused (told_line path t)) → TellsOf path o e → Loads good refused missed (Err e)
+pub told_of : {A : Type 0} (good : A → Type 0) (refused : List ℕ → Type 0) (missed : Type 0) (path : List ℕ) (o : Option Message) (e : LoadError) → ((t : Message) → o ≡ Some t → refused (message_line path t)) → TellsOf path o e → Loads good refused missed (Err e)
 told_of good refused missed path (Some t) e more h = told good refused missed path t e (more t refl) h
 told_of good refused missed path None e more h = rw h tt
 

@@ -6,7 +6,7 @@ use Rattle.std.specs.List.Sorted.{IsPermutation, IsSorted}
 use Rattle.std.specs.Ordering.{nat_cmp}
 use Rattle.std.specs.Cmp.Lexicographic.{slice_cmp}
 use Rattle.outer_world.specs.Files.{Files, IsListing}
-use Rattle.outer_world.specs.Refusals.{Message, message, told_line}
+use Rattle.outer_world.specs.Refusals.{Message, message, message_line}
 
 -- the names that end so, of some names
 abbrev pub ending_in : List ℕ → List (List ℕ) → List (List ℕ)
@@ -18,7 +18,7 @@ AreNames told folder ending names =
     IfSome told (λ files. (all : List (List ℕ)) × IsListing files folder all × IsPermutation (ending_in ending all) names)
     × IsSorted (slice_cmp nat_cmp) names
 
--- The law of names: over told files they are one list.
+-- The law of names: over known files they are one list.
 abbrev pub NamesLaw : Type 0
 NamesLaw =
     (files : Files) (folder ending : List ℕ) (names others : List (List ℕ))
@@ -35,7 +35,7 @@ overfull n = message 0 0 (codes "Range") (decimal (min n 1000000000))
 -- There are more than 256 of them, and this line tells how many.
 abbrev pub IsOverfull : Option Files → List ℕ → List ℕ → List ℕ → Type 0
 IsOverfull files folder ending line =
-    (names : List (List ℕ)) × AreNames files folder ending names × (256 < length names) × (line ≡ told_line folder (overfull (length names)))
+    (names : List (List ℕ)) × AreNames files folder ending names × (256 < length names) × (line ≡ message_line folder (overfull (length names)))
 
 -- a name without the ending that it has
 abbrev pub stem_of : List ℕ → List ℕ → List ℕ

@@ -1,7 +1,7 @@
 -- What loading says: of what is loaded, of the line of a refusal, and of a fault of the shelf.
 use Rattle.std.specs.Prelude.{◌≡◌, ℕ, List, Option, Some, None, Result, Ok, Err}
 use Rattle.outer_world.specs.Faults.{Rose}
-use Rattle.outer_world.specs.Refusals.{Message, told_line}
+use Rattle.outer_world.specs.Refusals.{Message, message_line}
 use Rattle.source_files.specs.declared.error.LoadError.{LoadError}
 use Rattle.source_files.specs.declared.error.LoadError.TheVariants as errors
 use Rattle.source_files.specs.declared.error.Refusal.{Refusal}
@@ -10,7 +10,7 @@ use Rattle.source_files.specs.declared.error.TextError.TheVariants as texts
 
 -- the line of a refusal
 abbrev pub line_of : Refusal → List ℕ
-line_of r = told_line r.path r.told
+line_of r = message_line r.path r.diagnostic
 
 -- What is loaded is good, a refusal has such a line, a fault of the shelf comes for this alone, or memory is wanting.
 abbrev pub Loads : {A : Type 0} → (A → Type 0) → (List ℕ → Type 0) → Type 0 → Result A LoadError → Type 0
@@ -26,7 +26,7 @@ CountsLoad shelf shelf' _ = shelf' ≡ shelf
 
 -- A refusal tells this of what stands at a path, unless memory is wanting.
 abbrev pub Refused : List ℕ → Message → LoadError → Type 0
-Refused path told (errors.Refused r) = line_of r ≡ told_line path told
+Refused path told (errors.Refused r) = line_of r ≡ message_line path told
 Refused path told errors.Failed = ⊥
 Refused path told errors.Memory = Unit {0}
 

@@ -2,7 +2,7 @@
 -- is told by what the text of a file of some name spells, and by why a text is refused.)
 use Rattle.std.specs.Prelude.{◌≡◌, ◌++◌, ◌⊎◌, ℕ, List, [], ◌∷◌, Option, codes, decimal}
 use Rattle.outer_world.specs.Files.{Files, HasFile, path_in}
-use Rattle.outer_world.specs.Refusals.{Message, message, told_line}
+use Rattle.outer_world.specs.Refusals.{Message, message, message_line}
 use Rattle.source_files.specs.Folder.{AreSources, IsOverfull}
 
 -- what is told of a text of more than 1,048,576 bytes
@@ -16,7 +16,7 @@ SpellsAt spells files path source = (text : List ℕ) × HasFile files path text
 -- The text at a path is refused, and this line tells why.
 abbrev pub IsFaulty : (List ℕ → Message → Type 0) → Option Files → List ℕ → List ℕ → Type 0
 IsFaulty refuses files path line =
-    (text : List ℕ) × (told : Message) × HasFile files path text × refuses text told × (line ≡ told_line path told)
+    (text : List ℕ) × (told : Message) × HasFile files path text × refuses text told × (line ≡ message_line path told)
 
 -- The texts of these names in the folder spell these sources, in order.
 abbrev pub SpellEach : {A : Type 0} → (List ℕ → List ℕ → A → Type 0) → Option Files → List ℕ → List (List ℕ) → List A → Type 0

@@ -4,13 +4,13 @@ ghost use Rattle.source_files.specs.Loads.{Refused, TellsOf, text_error};
 ghost use Rattle.source_files.specs.declared.error.LoadError.TheVariants.{Memory};
 ghost use Rattle.source_files.specs.declared.error.TextError.TheVariants as text;
 
-use outer_world::{Name, Told};
+use outer_world::{Diagnostic, Name};
 use std::alloc::{AllocError, AllocFailed, Global};
 
 /// Why a text is not read: what its fault tells, or want of memory.
 #[derive(Drop)]
 pub enum TextError {
-    Refused(Told),
+    Refused(Diagnostic),
     Memory,
 }
 
@@ -18,7 +18,7 @@ pub enum TextError {
 #[derive(Drop)]
 pub struct Refusal {
     pub path: Name,
-    pub told: Told,
+    pub diagnostic: Diagnostic,
 }
 
 /// Why a source is not loaded: a refusal, a fault of the shelf, or want of memory.
@@ -55,11 +55,11 @@ impl<T: Drop> From<AllocFailed<T>> for LoadError {
 
 impl TextError {
     /// What a fault tells is why; where it tells nothing, memory is wanting.
-    pub fn told(told: Option<Told>) -> TextError
-        ensures { result ≡ text_error told }
+    pub fn of_diagnostic(diagnostic: Option<Diagnostic>) -> TextError
+        ensures { result ≡ text_error diagnostic }
     {
-        match told {
-            Some(told) => TextError::Refused(told),
+        match diagnostic {
+            Some(diagnostic) => TextError::Refused(diagnostic),
             None => TextError::Memory,
         }
     }
@@ -67,21 +67,21 @@ impl TextError {
 
 impl LoadError {
     /// What a fault of what stands at a path tells is its refusal; where it tells nothing, memory is wanting.
-    pub fn told(alloc: Global, path: &str, told: Option<Told>) -> LoadError
-        ensures { TellsOf path.now told result }
+    pub fn of_diagnostic(alloc: Global, path: &str, diagnostic: Option<Diagnostic>) -> LoadError
+        ensures { TellsOf path.now diagnostic result }
     {
-        match told {
-            Some(told) => LoadError::refused(alloc, path, told),
+        match diagnostic {
+            Some(diagnostic) => LoadError::refused(alloc, path, diagnostic),
             None => LoadError::Memory,
         }
     }
 
     /// The refusal of what stands at a path.
-    pub fn refused(alloc: Global, path: &str, told: Told) -> LoadError
-        ensures { Refused path.now told result }
+    pub fn refused(alloc: Global, path: &str, diagnostic: Diagnostic) -> LoadError
+        ensures { Refused path.now diagnostic result }
     {
         match Name::new(alloc, path) {
-            Ok(path) => LoadError::Refused(Refusal { path, told }),
+            Ok(path) => LoadError::Refused(Refusal { path, diagnostic }),
             Err(_) => LoadError::Memory,
         }
     }

@@ -13,7 +13,7 @@ ghost use Rattle.source_files.specs.Sources.{FolderSpells, IsFaulty, IsFirstFaul
 use crate::error::LoadError;
 use crate::language::Language;
 use crate::loading::load;
-use outer_world::{Detail, Listing, Name, Shelf, Told};
+use outer_world::{Detail, Diagnostic, Listing, Name, Shelf};
 use std::alloc::{AllocError, Global};
 
 const MOST_FILES: usize = 256;
@@ -87,7 +87,7 @@ fn overfull(alloc: Global, folder: &str, files: usize) -> LoadError
     ensures { TellsOverfull folder.now files result }
 {
     let told = Detail::Number(files.min(MOST_TOLD) as u64);
-    LoadError::refused(alloc, folder, Told::nowhere("Range", told))
+    LoadError::refused(alloc, folder, Diagnostic::nowhere("Range", told))
 }
 
 // The names of the files of a folder that end so, in order, of which there may be 256.
@@ -152,8 +152,7 @@ fn load_each<L: Language, F: Shelf>(
 
 /// What the texts of the folder's files spell whose names end so, in order of name.
 ///
-/// Otherwise the refusal of more than 256 files, else of the first with a fault, that the shelf failed, or want of memory. A shelf
-/// that tells its files and no call of which is planned to fail fails only for a folder that is not there.
+/// Otherwise the refusal of more than 256 files, else of the first with a fault, that the shelf failed, or want of memory. An honest shelf fails only for a folder that is not there.
 pub fn load_folder<L: Language, F: Shelf>(
     alloc: Global,
     language: &L,

@@ -8,7 +8,7 @@ ghost use Rattle.source_files.specs.Sources.{IsFaulty, SpellsAt};
 
 use crate::error::{LoadError, TextError};
 use crate::language::Language;
-use outer_world::{Detail, Reading, Shelf, Told};
+use outer_world::{Detail, Diagnostic, Reading, Shelf};
 use std::alloc::Global;
 
 const FILE_LIMIT: u32 = 1_048_576;
@@ -25,7 +25,7 @@ fn text_of<F: Shelf>(alloc: Global, path: &str, shelf: &mut F) -> Result<Vec<u8>
         Reading::Bytes(text) => Ok(text),
         Reading::TooLong(_) => {
             let bytes = Detail::Number(u64::from(FILE_LIMIT) + 1);
-            Err(LoadError::refused(alloc, path, Told::nowhere("Range", bytes)))
+            Err(LoadError::refused(alloc, path, Diagnostic::nowhere("Range", bytes)))
         }
         Reading::Failed => Err(LoadError::Failed),
         Reading::Memory => Err(LoadError::Memory),

@@ -10,7 +10,7 @@ use Rattle.std.proofs.lemmas.Option.{slice_get_within}
 use Rattle.vm_link.specs.declared.linked.Linked.{Linked}
 use Rattle.vm_link.specs.declared.linked.LinkedFunction.{LinkedFunction}
 use Rattle.vm_translator.specs.Image.{closing_of, image_of}
-use Rattle.hack_blocks.specs.Templates.{start_size}
+use Rattle.vm_templates.specs.Templates.{start_size}
 use Rattle.vm_translator.specs.Places.{words_in, words_of}
 use Rattle.vm_translator.proofs.Routines.{used_few}
 use Rattle.vm_translator.proofs.Sizes.{closing_few, length_image}

@@ -6,7 +6,7 @@ use Rattle.std.specs.Prelude.{codes}
 use Rattle.std.proofs.lemmas.Bool.{leb-true}
 use Rattle.std.proofs.lemmas.List.{length-map}
 use Rattle.std.proofs.lemmas.List.Elements.{All-nil, All-cons}
-use Rattle.grammar.specs.Rules.{Tree, Skip, Node, Leaf, Pair, Left, Right, Absent, Present, NoMore, More, listed}
+use Rattle.grammar.specs.Rules.{Tree, Skip, Node, Leaf, Pair, Left, Right, Absent, Present, NoMore, More, tree_of_list}
 use Rattle.jack_tree.specs.declared.token.Kind.TheVariants as kind
 use Rattle.jack_tree.specs.declared.tree.Name.{Name}
 use Rattle.jack_tree.specs.declared.tree.Scope as scopes
@@ -103,7 +103,7 @@ abbrev AreSmall : List Subroutine → Type 0
 AreSmall [] = Unit {0}
 AreSmall (t ∷ ts) = IsSmall t × AreSmall ts
 
-read_added : (ts : List Subroutine) → AreSmall ts → IsReadTree (listed subroutine_tree ts NoMore)
+read_added : (ts : List Subroutine) → AreSmall ts → IsReadTree (tree_of_list subroutine_tree ts NoMore)
 read_added [] h = tt
 read_added (t ∷ ts) h = (tree_sound (subroutine_tree t) h.0.reads, read_added ts h.1)
 
@@ -208,11 +208,11 @@ all_few (s ∷ ss) [] (t ∷ ts) e h k =
 
 -- ---- the trees of subroutines
 
-trees_seen : (ss : List code.Subroutine) → listed code_tree ss NoMore ≡ listed subroutine_tree (map the_subroutine ss) NoMore
+trees_seen : (ss : List code.Subroutine) → tree_of_list code_tree ss NoMore ≡ tree_of_list subroutine_tree (map the_subroutine ss) NoMore
 trees_seen [] = refl
 trees_seen (s ∷ ss) = λ i. More (subroutine_same s i) (trees_seen ss i)
 
-read_both : (ss ts : List Subroutine) → IsReadTree (listed subroutine_tree ss NoMore) → IsReadTree (listed subroutine_tree ts NoMore) → IsReadTree (listed subroutine_tree (ss ++ ts) NoMore)
+read_both : (ss ts : List Subroutine) → IsReadTree (tree_of_list subroutine_tree ss NoMore) → IsReadTree (tree_of_list subroutine_tree ts NoMore) → IsReadTree (tree_of_list subroutine_tree (ss ++ ts) NoMore)
 read_both [] ts h k = k
 read_both (s ∷ ss) ts h k = (h.0, read_both ss ts h.1 k)
 
@@ -227,8 +227,8 @@ completed_read added read c small spelled h e =
     let statics : statics_of c.variables.items ≡ statics_of read.variables.items = statics_same c.variables.items ∙ ap static_count variables ∙ sym (statics_same read.variables.items) in
     let own = subst IsReadTree (trees_seen read.subroutines.items) (spelled_subroutines read spelled) in
     let both = read_both (map the_subroutine read.subroutines.items) added own (read_added added small.small) in
-    let trees : listed code_tree c.subroutines.items NoMore ≡ listed subroutine_tree (map the_subroutine read.subroutines.items ++ added) NoMore =
-    trees_seen c.subroutines.items ∙ ap (λ (ss : List Subroutine). listed subroutine_tree ss NoMore) subroutines in
+    let trees : tree_of_list code_tree c.subroutines.items NoMore ≡ tree_of_list subroutine_tree (map the_subroutine read.subroutines.items ++ added) NoMore =
+    trees_seen c.subroutines.items ∙ ap (λ (ss : List Subroutine). tree_of_list subroutine_tree ss NoMore) subroutines in
     let count : length c.subroutines.items ≡ length read.subroutines.items + length added =
     sym (length-map c.subroutines.items the_subroutine) ∙ ap length subroutines ∙ length-append (map the_subroutine read.subroutines.items) added
     ∙ ap (λ (n : ℕ). n + length added) (length-map read.subroutines.items the_subroutine) in

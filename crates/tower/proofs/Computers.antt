@@ -4,7 +4,7 @@ use Rattle.std.proofs.Common.{◌≡◌, ◌≤◌, ℕ, length, Bool, List, [],
 use Rattle.std.specs.Prelude.{IfOk, IfErr, if◌then◌else◌}
 use Rattle.hack_isa.specs.Table.{word_of}
 use Rattle.hack_isa.specs.declared.Instr.{Instr}
-use Rattle.hack_blocks.specs.Templates.{endless_loop, start_size}
+use Rattle.vm_templates.specs.Templates.{endless_loop, start_size}
 use Rattle.vm_tree.specs.declared.program.File.{File}
 use Rattle.vm_link.specs.declared.linked.Linked.{Linked}
 use Rattle.vm_link.specs.Links.{Links, whole}

@@ -5,7 +5,7 @@ use Rattle.std.specs.Prelude.{nat_le}
 use Rattle.scan_text.specs.declared.Place.{Place}
 use Rattle.grammar.specs.declared.Fault.{Fault}
 use Rattle.grammar.specs.declared.Fault.TheVariants.{Range}
-use Rattle.grammar.specs.Rules.{Tree, Node, Pair, Left, Right, Absent, Present, NoMore, More, listed, mark, word, seq, choice, option, repeat}
+use Rattle.grammar.specs.Rules.{Tree, Node, Pair, Left, Right, Absent, Present, NoMore, More, tree_of_list, mark, word, seq, choice, option, repeat}
 use Rattle.jack_tree.specs.declared.token.Keyword.{Keyword}
 use Rattle.jack_tree.specs.declared.tree.Name.{Name}
 use Rattle.jack_tree.specs.declared.tree.Names.{Names}
@@ -20,7 +20,7 @@ use Rattle.jack_parser.specs.declared.counts.Counted.{Counted}
 use Rattle.jack_parser.specs.declared.counts.Counted.TheVariants as counted
 use Rattle.jack_parser.specs.declared.counts.Counts.{Counts}
 use Rattle.jack_parser.specs.Grammar.{jack, Part, Said, JackRule, so_many, one_more, fresh, free, own, counted_name, next_name, names_rule, declaration, type_rule, symbol_of, class_variables, locals_rule, parameters}
-use Rattle.jack_parser.specs.ClassTrees.{next_name_tree, names_tree, declared_tree, scoped, variables_tree, locals_tree, parameter_tree, next_parameter_tree, parameters_tree}
+use Rattle.jack_parser.specs.ClassTrees.{next_name_tree, names_tree, declared_tree, scoped_tree, variables_tree, locals_tree, parameter_tree, next_parameter_tree, parameters_tree}
 use Rattle.jack_names.specs.Inner.Twice.{names_of}
 use Rattle.jack_names.specs.Symbols.{fields_in, fields_of, statics_in, statics_of, locals_of}
 use Rattle.tower.proofs.Reaching.{Reaches, Parts, IsCounted, parts}
@@ -137,7 +137,7 @@ module _ (at : Place) where
         let same : so_many y s' ≡ so_many y (one_more x s) = ap (so_many y) c.1 in
         record { total = same ∙ one s; bound = λ b. omega (arith, same, fits s c.0 b) }
 
-    more_gain : (ns : List Name) (s s' : Counts) → Reach s (repeat (next_name x)) (listed next_name_tree ns NoMore) s' → Gains y s s' (times k ns)
+    more_gain : (ns : List Name) (s s' : Counts) → Reach s (repeat (next_name x)) (tree_of_list next_name_tree ns NoMore) s' → Gains y s s' (times k ns)
     more_gain [] s s' h = none y s s' (no_more s s' _ h)
     more_gain (n ∷ ns) s s' h =
         let p = one_more_of s s' _ _ _ h in
@@ -158,7 +158,7 @@ module _ (at : Place) where
     one_parameter : (p : Parameter) (s s' : Counts) → Reach s a_parameter (parameter_tree p) s' → Gains y s s' k
     one_parameter p s s' h = counted_gain s s' _ (after_free s s' _ _ _ _ _ h)
 
-    more_parameters : (ps : List Parameter) (s s' : Counts) → Reach s (repeat (seq (symbol_of 44) a_parameter)) (listed next_parameter_tree ps NoMore) s' → Gains y s s' (times k ps)
+    more_parameters : (ps : List Parameter) (s s' : Counts) → Reach s (repeat (seq (symbol_of 44) a_parameter)) (tree_of_list next_parameter_tree ps NoMore) s' → Gains y s s' (times k ps)
     more_parameters [] s s' h = none y s s' (no_more s s' _ h)
     more_parameters (p ∷ ps) s s' h =
         let q = one_more_of s s' _ _ _ h in
@@ -178,7 +178,7 @@ module _ (at : Place) where
   grows : (n : ℕ) → n < 16384 → n ≤ 16384 → n + 1 ≤ 16384
   grows n h b = omega (arith, h)
 
-  fields_by : (sc : Scope) (v : ClassVariables) (s s' : Counts) → Reach s class_variables (scoped sc (declared_tree v.kind v.names)) s' → Gains counted.Field s s' (fields_in sc v)
+  fields_by : (sc : Scope) (v : ClassVariables) (s s' : Counts) → Reach s class_variables (scoped_tree sc (declared_tree v.kind v.names)) s' → Gains counted.Field s s' (fields_in sc v)
   fields_by scope.Static v s s' h =
       as_many counted.Field s s' _ _ (times_none (names_of v.names))
       (declared_gain counted.Static counted.Field 0 (λ t. omega arith) (λ t. stays t.statics t.fields) _ v.kind v.names s s' (is_left s s' _ _ _ h))
@@ -186,13 +186,13 @@ module _ (at : Place) where
       as_many counted.Field s s' _ _ (times_one (names_of v.names))
       (declared_gain counted.Field counted.Field 1 (λ t. refl) (λ t. grows t.fields) _ v.kind v.names s s' (is_right s s' _ _ _ h))
 
-  pub fields_gain : (vs : List ClassVariables) (s s' : Counts) → Reach s (repeat class_variables) (listed variables_tree vs NoMore) s' → Gains counted.Field s s' (fields_of vs)
+  pub fields_gain : (vs : List ClassVariables) (s s' : Counts) → Reach s (repeat class_variables) (tree_of_list variables_tree vs NoMore) s' → Gains counted.Field s s' (fields_of vs)
   fields_gain [] s s' h = none counted.Field s s' (no_more s s' _ h)
   fields_gain (v ∷ vs) s s' h =
       let q = one_more_of s s' _ _ _ h in
       both_gain counted.Field s q.0 s' (fields_in v.scope v) (fields_of vs) (fields_by v.scope v s q.0 q.1) (fields_gain vs q.0 s' q.2)
 
-  statics_by : (sc : Scope) (v : ClassVariables) (s s' : Counts) → Reach s class_variables (scoped sc (declared_tree v.kind v.names)) s' → Gains counted.Static s s' (statics_in sc v)
+  statics_by : (sc : Scope) (v : ClassVariables) (s s' : Counts) → Reach s class_variables (scoped_tree sc (declared_tree v.kind v.names)) s' → Gains counted.Static s s' (statics_in sc v)
   statics_by scope.Static v s s' h =
       as_many counted.Static s s' _ _ (times_one (names_of v.names))
       (declared_gain counted.Static counted.Static 1 (λ t. refl) (λ t. grows t.statics) _ v.kind v.names s s' (is_left s s' _ _ _ h))
@@ -200,7 +200,7 @@ module _ (at : Place) where
       as_many counted.Static s s' _ _ (times_none (names_of v.names))
       (declared_gain counted.Field counted.Static 0 (λ t. omega arith) (λ t. stays t.fields t.statics) _ v.kind v.names s s' (is_right s s' _ _ _ h))
 
-  pub statics_gain : (vs : List ClassVariables) (s s' : Counts) → Reach s (repeat class_variables) (listed variables_tree vs NoMore) s' → Gains counted.Static s s' (statics_of vs)
+  pub statics_gain : (vs : List ClassVariables) (s s' : Counts) → Reach s (repeat class_variables) (tree_of_list variables_tree vs NoMore) s' → Gains counted.Static s s' (statics_of vs)
   statics_gain [] s s' h = none counted.Static s s' (no_more s s' _ h)
   statics_gain (v ∷ vs) s s' h =
       let q = one_more_of s s' _ _ _ h in
@@ -211,7 +211,7 @@ module _ (at : Place) where
       as_many counted.Local s s' _ _ (times_one (names_of v.names))
       (declared_gain counted.Local counted.Local 1 (λ t. refl) (λ t. grows t.locals) _ v.kind v.names s s' h)
 
-  pub locals_gain : (vs : List Locals) (s s' : Counts) → Reach s (repeat locals_rule) (listed locals_tree vs NoMore) s' → Gains counted.Local s s' (locals_of vs)
+  pub locals_gain : (vs : List Locals) (s s' : Counts) → Reach s (repeat locals_rule) (tree_of_list locals_tree vs NoMore) s' → Gains counted.Local s s' (locals_of vs)
   locals_gain [] s s' h = none counted.Local s s' (no_more s s' _ h)
   locals_gain (v ∷ vs) s s' h =
       let q = one_more_of s s' _ _ _ h in

@@ -3,17 +3,17 @@ use Rattle.std.proofs.Common.{◌≡◌, ℕ, suc, ◌+◌, ◌-◌, true, List,
 use Rattle.std.specs.Prelude.{Some}
 use Rattle.hack_isa.specs.Machine.{Machine, machine_at}
 use Rattle.hack_isa.specs.Machine as hack
-use Rattle.layers.specs.System.{System, IsKey, Listening, Tame}
-use Rattle.layers.specs.Trace.{steps, heard}
-use Rattle.layers.specs.Headline.{CarriesRun}
-use Rattle.layers.specs.Layers.{Simulates, Starts, Through}
-use Rattle.layers.proofs.Compose.{opens, through}
-use Rattle.layers.proofs.Following.{following, meeting}
-use Rattle.layers.proofs.Runs.{some_is}
-use Rattle.hack_blocks.specs.Budgets.{most_steps}
-use Rattle.hack_blocks.specs.Computer.{Map, hack_system}
-use Rattle.hack_blocks.specs.Templates.{endless_loop}
-use Rattle.hack_blocks.proofs.Loop.{loops_idle}
+use Rattle.simulation.specs.System.{System, IsKey, Listening, Tame}
+use Rattle.simulation.specs.Trace.{steps, heard_keys}
+use Rattle.simulation.specs.Headline.{CarriesRun}
+use Rattle.simulation.specs.Layers.{Simulates, Starts, Through}
+use Rattle.simulation.proofs.Compose.{opens, through}
+use Rattle.simulation.proofs.Following.{following, meeting}
+use Rattle.simulation.proofs.Runs.{some_is}
+use Rattle.vm_templates.specs.Budgets.{most_steps}
+use Rattle.vm_templates.specs.Computer.{Map, hack_system}
+use Rattle.vm_templates.specs.Templates.{endless_loop}
+use Rattle.vm_templates.proofs.Loop.{loops_idle}
 use Rattle.vm_link.specs.declared.linked.Linked.{Linked}
 use Rattle.vm_machine.specs.State.{State as VmState}
 use Rattle.vm_machine.specs.Step.{start as vm_start}
@@ -82,7 +82,7 @@ module _ (program : Program) (numbers : Numbers) (linked : Linked) (depth most_l
       following meaning (start program) computer (λ s. 1) (Through Matches StandsAt) bound (gap depth most_locals) (n + gap depth most_locals) keys (machine_at image keys) (carries keys words (n + gap depth most_locals)) n (omega arith)
 
   pub stands_behind : (keys : ℕ → ℕ) → ((c : ℕ) → IsKey (keys c)) → (n : ℕ) → computer.commits (machine_at image keys n) ≡ true
-      → Tame meaning (start program) (heard (run_trace image map keys) (suc n)) (steps (run_trace image map keys) (suc n)) → StandsBehind program numbers linked depth image map keys (suc n)
+      → Tame meaning (start program) (heard_keys (run_trace image map keys) (suc n)) (steps (run_trace image map keys) (suc n)) → StandsBehind program numbers linked depth image map keys (suc n)
   stands_behind keys words n now tame =
       let m = meeting meaning (start program) computer (λ s. 1) (Through Matches StandsAt) bound (gap depth most_locals) (suc n) keys (machine_at image keys) (carries keys words (suc n)) n (omega arith) now tame in
       let last = tame (steps (run_trace image map keys) (suc n)) (omega arith) in

@@ -1,7 +1,7 @@
 -- A class that some text spells is within the limits.
 use Rattle.std.proofs.Common.{◌≤◌, ℕ, List, [], ◌∷◌, length, arith}
 use Rattle.scan_text.specs.declared.Place.{Place}
-use Rattle.grammar.specs.Rules.{NoMore, listed, repeat}
+use Rattle.grammar.specs.Rules.{NoMore, tree_of_list, repeat}
 use Rattle.jack_tree.specs.declared.tree.Subroutine.{Subroutine}
 use Rattle.jack_tree.specs.declared.tree.Class.{Class}
 use Rattle.jack_tree.specs.Tokens.{Word}
@@ -38,7 +38,7 @@ module _ (at : Place) where
         statements = omega (arith, size, w);
       }
 
-  each_few : (ts : List Subroutine) (s s' : Counts) → weight (listed subroutine_tree ts NoMore) ≤ 1048576 → Reach at s (repeat subroutine) (listed subroutine_tree ts NoMore) s' → AllHaveFew ts
+  each_few : (ts : List Subroutine) (s s' : Counts) → weight (tree_of_list subroutine_tree ts NoMore) ≤ 1048576 → Reach at s (repeat subroutine) (tree_of_list subroutine_tree ts NoMore) s' → AllHaveFew ts
   each_few [] s s' w h = tt
   each_few (t ∷ ts) s s' w h =
       let q = one_more_of at s s' _ _ _ h in
@@ -93,12 +93,12 @@ tree_few c (text, h) =
 pub spelled_few : (c : Class) → IsSpelled c → length c.subroutines.items ≤ 1048573
 spelled_few c h = tree_few c (read_by c h)
 
-subroutine_trees : (c : Class) → IsReadSo c → IsReadTree (listed subroutine_tree c.subroutines.items NoMore)
+subroutine_trees : (c : Class) → IsReadSo c → IsReadTree (tree_of_list subroutine_tree c.subroutines.items NoMore)
 subroutine_trees c (text, h) =
     let told = words_read text h.0 h.2 in
     let t = whole_read (finish text) told.1 h.3 in
     t.0.1.1.1.1.0
 
 -- the names, integers and strings of its subroutines
-pub spelled_subroutines : (c : Class) → IsSpelled c → IsReadTree (listed subroutine_tree c.subroutines.items NoMore)
+pub spelled_subroutines : (c : Class) → IsSpelled c → IsReadTree (tree_of_list subroutine_tree c.subroutines.items NoMore)
 spelled_subroutines c h = subroutine_trees c (read_by c h)

@@ -2,7 +2,7 @@
 use Rattle.std.proofs.Common.{List, [], ◌∷◌, Option, Some, None}
 use Rattle.std.specs.Prelude.{Box}
 use Rattle.std.specs.Global.{Global}
-use Rattle.grammar.specs.Rules.{NoMore, listed}
+use Rattle.grammar.specs.Rules.{NoMore, tree_of_list}
 use Rattle.jack_tree.specs.declared.tree.Constant.{Constant}
 use Rattle.jack_tree.specs.declared.tree.Constant.TheVariants as constant
 use Rattle.jack_tree.specs.declared.tree.Call.{Call, Call', Row_of-Expression, end_of-Expression, more_of-Expression}
@@ -11,7 +11,7 @@ use Rattle.jack_tree.specs.declared.tree.Expression.{Expression, Expression', Ro
 use Rattle.jack_tree.specs.declared.tree.Statement as statements
 use Rattle.jack_tree.specs.declared.tree.Subroutine.{Subroutine}
 use Rattle.jack_parser.specs.Trees.{constant_leaf, term_tree, invoked_tree, exp_tree, rest_of, args_of, more_of}
-use Rattle.jack_tree.specs.Seen.{unboxed}
+use Rattle.jack_tree.specs.Seen.{unbox}
 use Rattle.jack_parser.specs.StatementTrees.{index_tree, value_tree, any_tree, row_tree, other_tree, statements_tree}
 use Rattle.jack_parser.specs.ClassTrees.{subroutine_tree}
 use Rattle.tower.specs.Read.{IsReadConstant, IsReadTerm, IsReadCall, IsRead, AreReadOperations, AreRead, IsReadIfThere, IsReadStatement, IsReadBlock, IsReadElse, AreReadStatements, AreReadSubroutines}
@@ -53,7 +53,7 @@ mutual
   others_read end_of-Expression h = tt
   others_read (more_of-Expression e es) h = (expression_read e h.0.1, others_read es h.1)
 
-index_read : (i : Option (Box Expression Global)) → IsReadTree (index_tree i) → IsReadIfThere (unboxed i)
+index_read : (i : Option (Box Expression Global)) → IsReadTree (index_tree i) → IsReadIfThere (unbox i)
 index_read None h = tt
 index_read (Some e) h = expression_read e.value h.1.0
 
@@ -81,7 +81,7 @@ statements_read : (ss : List statements.Statement) → IsReadTree (statements_tr
 statements_read [] h = tt
 statements_read (s ∷ ss) h = (statement_read s h.0, statements_read ss h.1)
 
-pub subroutines_read : (ss : List Subroutine) → IsReadTree (listed subroutine_tree ss NoMore) → AreReadSubroutines ss
+pub subroutines_read : (ss : List Subroutine) → IsReadTree (tree_of_list subroutine_tree ss NoMore) → AreReadSubroutines ss
 subroutines_read [] h = tt
 subroutines_read (s ∷ ss) h =
     (record { name = h.0.1.1.0; statements = statements_read s.statements.items h.0.1.1.1.1.1.1.1.1.0 }, subroutines_read ss h.1)

@@ -12,7 +12,7 @@ use Rattle.machine_io.specs.History.{Turn, turn}
 use Rattle.machine_io.specs.declared.machine.Moved.TheVariants.{Acted}
 use Rattle.hack_isa.specs.Machine.{machine_at, step, start}
 use Rattle.hack_machine.specs.Loaded.{machine_of}
-use Rattle.layers.specs.Trace.{steps, point_at}
+use Rattle.simulation.specs.Trace.{steps, point_at}
 use Rattle.vm_translator.specs.declared.coded.PointRange.{PointRange}
 use Rattle.vm_translator.specs.Mapping.{point_in, Covers}
 use Rattle.tower.specs.Headline.{run_trace}

@@ -5,7 +5,7 @@ use Rattle.jack_compiler.specs.Lines.{ifs_of, ifs_in, whiles_of, whiles_in}
 use Rattle.jack_tree.specs.declared.tree.Statement as statements
 use Rattle.jack_names.specs.Sizes.{size, row_size, other_size, sizes}
 use Rattle.jack_names.specs.Inner.Scopes.{Scope}
-use Rattle.jack_names.specs.Made.{assigned, let_by}
+use Rattle.jack_names.specs.Made.{assignment, let_by}
 use Rattle.jack_names.specs.Inner.Meant.{exp_meant, statement_meant, block_meant, other_meant, statements_meant}
 use Rattle.jack_names.specs.declared.scope.Slot.{Slot}
 use Rattle.jack_names.specs.declared.scope.Slot.TheVariants as slot
@@ -20,7 +20,7 @@ pub record AllWithin (t : meaning.Text) (n : ℕ) : Type 0 where
   pub ifs : ifs_in t ≤ n
   pub whiles : whiles_in t ≤ n
 
-assigned_within : (v : Slot) (n : ℕ) (e : meaning.Expression) → Within (assigned v n e) 1
+assigned_within : (v : Slot) (n : ℕ) (e : meaning.Expression) → Within (assignment v n e) 1
 assigned_within (slot.Argument k) n e = record { ifs = omega arith; whiles = omega arith }
 assigned_within (slot.Local k) n e = record { ifs = omega arith; whiles = omega arith }
 assigned_within (slot.Field k) n e = record { ifs = omega arith; whiles = omega arith }

@@ -15,12 +15,12 @@ use Rattle.jack_tree.specs.declared.tree.Call.{Call, Call', Row_of-Expression, e
 use Rattle.jack_tree.specs.declared.tree.Term as terms
 use Rattle.jack_tree.specs.declared.tree.Expression.{Expression, Expression', Row_of-Operation, end_of-Operation, more_of-Operation}
 use Rattle.jack_names.specs.Tables.{first_of}
-use Rattle.jack_names.specs.Faults.{Told, Source, told_if}
+use Rattle.jack_names.specs.Faults.{NameDiagnostic, Source, diagnostic_if}
 use Rattle.jack_names.specs.Inner.Uses.{Variable, Calls, operator_uses, constant_uses, row_length, term_uses, call_uses, exp_uses, rest_uses, row_uses}
-use Rattle.jack_names.specs.Inner.Scopes.{is_function, is_field, own_kind, way_kind, count_kind, field_kind, variable_kind, this_kind, through, callee_by, callee, front_by, front_fault, signature_kind, called_kind, made_kind, made_told, is_lesser, new_kind, append_kind, string_fault, call_fault, use_fault, first_fault}
+use Rattle.jack_names.specs.Inner.Scopes.{is_function, is_field, own_kind, way_kind, count_kind, field_kind, variable_kind, this_kind, through, callee_by, callee, front_by, front_fault, signature_kind, called_kind, made_kind, made_diagnostic, is_lesser, new_kind, append_kind, string_fault, call_fault, use_fault, first_fault}
 use Rattle.jack_names.specs.Inner.Scopes.{Scope as Names}
-use Rattle.jack_names.specs.Made.{slot_meant, declared_meant, with_variable, filled, length_word}
-use Rattle.jack_names.specs.Inner.Meant.{variable_meant, called_number, made_by, made_number, invoked, string_meant, constant_meant, binary_meant, term_meant, call_meant, exp_meant, rest_meant, row_meant}
+use Rattle.jack_names.specs.Made.{slot_meant, declared_meant, with_variable, filled_characters, length_word}
+use Rattle.jack_names.specs.Inner.Meant.{variable_meant, called_number, made_by, made_number, invocation, string_meant, constant_meant, binary_meant, term_meant, call_meant, exp_meant, rest_meant, row_meant}
 use Rattle.jack_names.specs.declared.fault.NameKind.{NameKind}
 use Rattle.jack_names.specs.declared.fault.NameKind.TheVariants as kinds
 use Rattle.jack_names.specs.declared.scope.Slot.{Slot}
@@ -33,16 +33,16 @@ use Rattle.tower.specs.Read.{IsString, IsReadConstant, IsReadTerm, IsReadCall, I
 use Rattle.tower.proofs.NamedFaults.{none_both, uses_both, first_use, told_none, kind_none}
 use Rattle.tower.proofs.NamedSound.{IsSlot, Takes, IsSound, field_free, before, signature_sound}
 
-pub made_none : (source : Source) (c f : List ℕ) (at : Place) (k : Option NameKind) → made_told source c f at k ≡ None → k ≡ None
+pub made_none : (source : Source) (c f : List ℕ) (at : Place) (k : Option NameKind) → made_diagnostic source c f at k ≡ None → k ≡ None
 made_none source c f at None h = refl
 made_none source c f at (Some k) h = absurd cc
 
-one_of : (b : Bool) (x y : Told) → cond b (Some x) (Some y) ≡ None → ⊥
+one_of : (b : Bool) (x y : NameDiagnostic) → cond b (Some x) (Some y) ≡ None → ⊥
 one_of true x y h = absurd cc
 one_of false x y h = absurd cc
 
 -- a string has no fault where neither of its calls has one
-string_none : (source : Source) (c f g : List ℕ) (at : Place) (a b : Option NameKind) → cond (is_lesser a b) (made_told source c g at b) (made_told source c f at a) ≡ None
+string_none : (source : Source) (c f g : List ℕ) (at : Place) (a b : Option NameKind) → cond (is_lesser a b) (made_diagnostic source c g at b) (made_diagnostic source c f at a) ≡ None
     → (a ≡ None) × (b ≡ None)
 string_none source c f g at None None h = (refl, refl)
 string_none source c f g at None (Some l) h = absurd cc
@@ -80,13 +80,13 @@ module _ (subs : List meaning.Subroutine) (numbers : Numbers) (scope : Scope) (s
   made_takes w f n None h = absurd cc
   made_takes w f n (Some k) h = signature_sound subs numbers scope s sound s.form w n k f (s.subroutine k f) refl h
 
-  pub made_whole : (c f : List ℕ) (n : ℕ) (at : Place) → made_told s.source c f at (made_kind s way.ByClass f n (s.class c)) ≡ None → T (made_number s c f) n
+  pub made_whole : (c f : List ℕ) (n : ℕ) (at : Place) → made_diagnostic s.source c f at (made_kind s way.ByClass f n (s.class c)) ≡ None → T (made_number s c f) n
   made_whole c f n at h =
       let t = made_takes way.ByClass f n (s.class c) (made_none s.source c f at (made_kind s way.ByClass f n (s.class c)) h) in
       let e : n ≡ 0 + n = omega arith in
       record { kept = t.kept; arguments = e ∙ t.arguments }
 
-  filled_whole : (append : ℕ) (e : meaning.Expression) (bs : List ℕ) → T append 2 → All (λ b. b < 128) bs → W e → W (filled append e bs)
+  filled_whole : (append : ℕ) (e : meaning.Expression) (bs : List ℕ) → T append 2 → All (λ b. b < 128) bs → W e → W (filled_characters append e bs)
   filled_whole append e [] t a h = h
   filled_whole append e (b ∷ bs) t a h =
       let low : b < 128 = All-head (λ b. b < 128) b bs a in
@@ -94,7 +94,7 @@ module _ (subs : List meaning.Subroutine) (numbers : Numbers) (scope : Scope) (s
       ((t.kept, t.arguments), (h, (inl (omega arith), tt)))
 
   string_by : (text : List ℕ) (n : ℕ) → IsString text → T n 1 → append_kind s text ≡ None
-      → W (filled (made_number s (codes "String") (codes "appendChar")) (meaning.Call n (meaning.More (meaning.Literal (length_word text)) meaning.NoMore)) text)
+      → W (filled_characters (made_number s (codes "String") (codes "appendChar")) (meaning.Call n (meaning.More (meaning.Literal (length_word text)) meaning.NoMore)) text)
   string_by [] n r t h = ((t.kept, t.arguments), (inl (omega arith), tt))
   string_by (b ∷ bs) n r t h =
       let short = r.short in
@@ -116,7 +116,7 @@ module _ (subs : List meaning.Subroutine) (numbers : Numbers) (scope : Scope) (s
   constant_whole constant.True h r = inr refl
   constant_whole constant.False h r = inl (omega arith)
   constant_whole constant.Null h r = inl (omega arith)
-  constant_whole (constant.This at) h r = this_whole (told_none s.source (codes "this") at (this_kind s.form) (none_both (told_if s.source (codes "this") at (this_kind s.form)) None h).0)
+  constant_whole (constant.This at) h r = this_whole (told_none s.source (codes "this") at (this_kind s.form) (none_both (diagnostic_if s.source (codes "this") at (this_kind s.form)) None h).0)
 
   binary_whole : (o : Operator) (at : Place) (a b : meaning.Expression) → first_fault s (operator_uses o at) ≡ None → W a → W b → W (binary_meant s o a b)
   binary_whole operator.Plus at a b h x y = (x, y)
@@ -161,11 +161,11 @@ module _ (subs : List meaning.Subroutine) (numbers : Numbers) (scope : Scope) (s
         ((t.kept, same ∙ t.arguments), whole)
     through_whole x (Some v) c e h k = object_whole x v v.class e h k
 
-  invoked_whole : (o : Option Name) (f : Name) (n : ℕ) (es : meaning.Expressions) → call_fault s o f n ≡ None → count es ≡ n → Ws es → W (invoked s o f es)
+  invoked_whole : (o : Option Name) (f : Name) (n : ℕ) (es : meaning.Expressions) → call_fault s o f n ≡ None → count es ≡ n → Ws es → W (invocation s o f es)
   invoked_whole None f n es h c w =
       own_whole f.text n es c w (told_none s.source f.text f.place (called_kind s f.text n (callee s None)) h)
   invoked_whole (Some x) f n es h c w =
-      let a = none_both (front_fault s (Some x)) (told_if s.source f.text f.place (called_kind s f.text n (callee s (Some x)))) h in
+      let a = none_both (front_fault s (Some x)) (diagnostic_if s.source f.text f.place (called_kind s f.text n (callee s (Some x)))) h in
       through_whole f.text n es c w x.text (s.variable x.text) (s.class x.text) refl
       (told_none s.source x.text x.place (front_by s.form (s.variable x.text) (callee s (Some x))) a.0)
       (told_none s.source f.text f.place (called_kind s f.text n (callee s (Some x))) a.1)

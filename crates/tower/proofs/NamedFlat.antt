@@ -5,7 +5,7 @@ use Rattle.std.specs.Str.{bytes_eq}
 use Rattle.std.proofs.lemmas.Slice.Eq.{bytes_eq-Decides}
 use Rattle.jack_tree.specs.declared.tree.Subroutine.{Subroutine}
 use Rattle.jack_tree.specs.declared.tree.Class.{Class}
-use Rattle.jack_names.specs.Tables.{found}
+use Rattle.jack_names.specs.Tables.{find_value}
 use Rattle.jack_names.specs.Symbols.{class_numbers, signatures, all_signatures, found_at}
 use Rattle.jack_names.specs.declared.scope.Signature.{Signature}
 
@@ -73,11 +73,11 @@ signed_on n s ss f g h = record {
   parameters = h.parameters;
 }
 
-pub signed : (n : ℕ) (ss : List Subroutine) (f : List ℕ) (g : Signature) → found f (signatures n ss) ≡ Some g → Signed n ss f g
+pub signed : (n : ℕ) (ss : List Subroutine) (f : List ℕ) (g : Signature) → find_value f (signatures n ss) ≡ Some g → Signed n ss f g
 signed n [] f g h = absurd cc
 signed n (s ∷ ss) f g h = by_test (bytes_eq f s.name.text) refl (λ k. signed_on n s ss f g (signed (n + 1) ss f g k)) h
   where
-    by_test : (b : Bool) → bytes_eq f s.name.text ≡ b → (found f (signatures (n + 1) ss) ≡ Some g → Signed n (s ∷ ss) f g) → cond b (Some (sign n s)) (found f (signatures (n + 1) ss)) ≡ Some g → Signed n (s ∷ ss) f g
+    by_test : (b : Bool) → bytes_eq f s.name.text ≡ b → (find_value f (signatures (n + 1) ss) ≡ Some g → Signed n (s ∷ ss) f g) → cond b (Some (sign n s)) (find_value f (signatures (n + 1) ss)) ≡ Some g → Signed n (s ∷ ss) f g
     by_test true e go k =
         let same : sign n s ≡ g = cc in
         record {
@@ -145,11 +145,11 @@ pub record Numbered (n : ℕ) (cs : List Class) (x : List ℕ) (k : ℕ) : Type 
 numbered_on : (n : ℕ) (c : Class) (cs : List Class) (x : List ℕ) (k : ℕ) → Numbered (n + 1) cs x k → Numbered n (c ∷ cs) x k
 numbered_on n c cs x k r = record { place = suc r.place; class = r.class; number = let a = r.number in omega (arith, a); there = r.there; name = r.name }
 
-pub numbered : (n : ℕ) (cs : List Class) (x : List ℕ) (k : ℕ) → found x (class_numbers n cs) ≡ Some k → Numbered n cs x k
+pub numbered : (n : ℕ) (cs : List Class) (x : List ℕ) (k : ℕ) → find_value x (class_numbers n cs) ≡ Some k → Numbered n cs x k
 numbered n [] x k h = absurd cc
 numbered n (c ∷ cs) x k h = by_test (bytes_eq x c.name.text) refl (λ p. numbered_on n c cs x k (numbered (n + 1) cs x k p)) h
   where
-    by_test : (b : Bool) → bytes_eq x c.name.text ≡ b → (found x (class_numbers (n + 1) cs) ≡ Some k → Numbered n (c ∷ cs) x k) → cond b (Some n) (found x (class_numbers (n + 1) cs)) ≡ Some k → Numbered n (c ∷ cs) x k
+    by_test : (b : Bool) → bytes_eq x c.name.text ≡ b → (find_value x (class_numbers (n + 1) cs) ≡ Some k → Numbered n (c ∷ cs) x k) → cond b (Some n) (find_value x (class_numbers (n + 1) cs)) ≡ Some k → Numbered n (c ∷ cs) x k
     by_test true e go p =
         let same : n ≡ k = cc in
         record { place = 0; class = c; number = sym same ∙ omega arith; there = refl; name = (bytes_eq-Decides x c.name.text).0 e }

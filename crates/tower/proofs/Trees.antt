@@ -15,7 +15,7 @@ use Rattle.jack_lexer.specs.Tokens.{is_name_byte}
 use Rattle.jack_parser.specs.declared.counts.Counted.{Counted}
 use Rattle.jack_parser.specs.declared.counts.Counted.TheVariants as counted
 use Rattle.jack_parser.specs.declared.counts.Counts.{Counts}
-use Rattle.jack_parser.specs.Grammar.{jack, Part, Said, Fixed, Placed, JackRule, expression, term, statement, rule_of, whole, names, keyword_said, constant_by, type_by, string_size, key, identifier, constant, operator, unary, type_rule, result_rule, form_rule, counted_name, declaration, group, argument_list, invoked, variable, negation, block, let_rule, if_rule, while_rule, do_rule, return_rule, any_statement, names_rule, class_variables, locals_rule, parameter, parameter_list, subroutine, class_rule}
+use Rattle.jack_parser.specs.Grammar.{jack, Part, Said, Fixed, Placed, JackRule, expression, term, statement, rule_of, whole, names, keyword_said, constant_by, type_by, string_size, key, identifier, constant, operator, unary, type_rule, result_rule, form_rule, counted_name, declaration, group, argument_list, invocation_rule, variable, negation, block, let_rule, if_rule, while_rule, do_rule, return_rule, any_statement, names_rule, class_variables, locals_rule, parameter, parameter_list, subroutine, class_rule}
 use Rattle.tower.specs.Read.{IsName, IsString}
 use Rattle.tower.proofs.Words.{IsReadText, IsReadWord, AreReadWords}
 
@@ -142,7 +142,7 @@ three_says = (tt, (tt, tt))
 arguments_say : Says argument_list
 arguments_say = (tt, (tt, tt))
 
-invoked_says : Says invoked
+invoked_says : Says invocation_rule
 invoked_says = ((tt, (arguments_say, tt)), (tt, (name_says, (tt, (arguments_say, tt)))))
 
 variable_says : Says variable

@@ -2,7 +2,7 @@
 use Rattle.std.proofs.Common.{◌≡◌, ◌≢◌, ◌⊎◌, ◌<◌, ◌≤◌, ◌+◌, ℕ, zero, suc, Bool, true, false, List, [], ◌∷◌, ◌++◌, Some, Ok, Err, inl, inr, refl, sym, ◌∙◌, ap, subst, arith}
 use Rattle.std.specs.Prelude.{if◌then◌else◌}
 use Rattle.std.proofs.lemmas.Bool.{cases_lt}
-use Rattle.layers.specs.Trace.{steps}
+use Rattle.simulation.specs.Trace.{steps}
 use Rattle.machine_io.specs.Driven.{EndsBy, Goes, IsDriven}
 use Rattle.machine_io.specs.History.{Turn, moves_from, moves_in, turn}
 use Rattle.machine_io.specs.declared.driving.End.{End}

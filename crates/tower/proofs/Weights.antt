@@ -1,6 +1,6 @@
 -- A tree keeps no more words than there are tokens, and a class has no more subroutines and statements than its tree keeps words.
 use Rattle.std.proofs.Common.{ℕ, ◌+◌, ◌*◌, ◌≤◌, List, [], ◌∷◌, length, arith}
-use Rattle.grammar.specs.Rules.{Rule, Tree, Skip, Node, Leaf, Pair, Left, Right, Absent, Present, NoMore, More, listed, Rules, Reads, marked, worded, at_end, both, left, right, passed, taken, ended, again, named, inside}
+use Rattle.grammar.specs.Rules.{Rule, Tree, Skip, Node, Leaf, Pair, Left, Right, Absent, Present, NoMore, More, tree_of_list, Rules, Reads, marked, worded, at_end, both, left, right, passed, taken, ended, again, named, inside}
 use Rattle.jack_tree.specs.declared.tree.Statement as statements
 use Rattle.jack_tree.specs.declared.tree.Subroutine.{Subroutine}
 use Rattle.jack_parser.specs.StatementTrees.{any_tree, row_tree, other_tree, statements_tree}
@@ -57,11 +57,11 @@ sizes_within [] = omega arith
 sizes_within (s ∷ ss) = omega (arith, size_within s, sizes_within ss)
 
 -- each subroutine begins with a word that its tree keeps
-pub subroutines_within : (ss : List Subroutine) → length ss ≤ weight (listed subroutine_tree ss NoMore)
+pub subroutines_within : (ss : List Subroutine) → length ss ≤ weight (tree_of_list subroutine_tree ss NoMore)
 subroutines_within [] = omega arith
 subroutines_within (s ∷ ss) = omega (arith, subroutines_within ss)
 
 -- it begins with three such words: its form, its result and its name
-pub thrice_within : (ss : List Subroutine) → 3 * length ss ≤ weight (listed subroutine_tree ss NoMore)
+pub thrice_within : (ss : List Subroutine) → 3 * length ss ≤ weight (tree_of_list subroutine_tree ss NoMore)
 thrice_within [] = omega arith
 thrice_within (s ∷ ss) = omega (arith, thrice_within ss)

@@ -8,10 +8,10 @@ use Rattle.scan_text.specs.declared.Place.{Place}
 use Rattle.scan_text.specs.declared.Blank.{Blank}
 use Rattle.scan_text.specs.declared.Blank.TheVariants.{Over, Unclosed, Other}
 use Rattle.scan_text.specs.Blanks.{blank, starts}
-use Rattle.scan_text.specs.Text.{start, step, front, is_digit, digits, decimal, capped}
+use Rattle.scan_text.specs.Text.{start, step, front, is_digit, digits, decimal, capped_count}
 use Rattle.grammar.specs.declared.Fault.{Fault}
 use Rattle.grammar.specs.declared.Fault.TheVariants.{Grammar}
-use Rattle.grammar.specs.Cutting.{Piece, Passed, Token, Wrong, cut, cut_by, followed, past_blank, past_blanks}
+use Rattle.grammar.specs.Cutting.{Piece, Passed, Token, Wrong, cut, cut_by, with_token, past_blank, past_blanks}
 use Rattle.grammar.proofs.Runs.{run_text}
 use Rattle.jack_tree.specs.declared.token.Keyword.{Keyword}
 use Rattle.jack_tree.specs.declared.token.Kind.{Kind}
@@ -78,7 +78,7 @@ number_by true n k f bs e = tt
 number_by false n k f bs e = λ at. ltb-false 32767 n e
 
 number_read : (bs : List ℕ) → IsReadPiece (number_piece bs)
-number_read bs = number_by _ (capped (decimal 0 (digits bs))) _ _ bs refl
+number_read bs = number_by _ (capped_count (decimal 0 (digits bs))) _ _ bs refl
 
 -- a string
 
@@ -130,7 +130,7 @@ more_read : (n : ℕ) (r : Result (List Word) Fault) → AreFewRead n r → AreF
 more_read n (Ok ts) h = (omega (arith, h.0), h.1)
 more_read n (Err f) h = tt
 
-followed_read : (n : ℕ) (t : Word) (r : Result (List Word) Fault) → IsReadWord t → AreFewRead n r → AreFewRead (suc n) (followed t r)
+followed_read : (n : ℕ) (t : Word) (r : Result (List Word) Fault) → IsReadWord t → AreFewRead n r → AreFewRead (suc n) (with_token t r)
 followed_read n t (Ok ts) l h = (omega (arith, h.0), (l, h.1))
 followed_read n t (Err f) l h = tt
 

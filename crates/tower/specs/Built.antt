@@ -2,14 +2,14 @@
 use Rattle.std.specs.Prelude.{◌≡◌, ◌≤◌, length, ℕ, map, false, Result, Ok, Err}
 use Rattle.hack_isa.specs.Machine.{image_words}
 use Rattle.hack_isa.specs.Table.{word_of}
-use Rattle.layers.specs.System.{IsKey}
+use Rattle.simulation.specs.System.{IsKey}
 use Rattle.vm_link.specs.declared.fault.LinkFault.TheVariants.{TooManyStatics}
 use Rattle.vm_link.specs.declared.linked.Linked.{Linked}
 use Rattle.vm_link.specs.Links.{Links}
 use Rattle.vm_translator.specs.Image.{commits_of, entries_of, image_of, points_of, shared_ranges, IsTooLarge}
 use Rattle.vm_translator.specs.Mapping.{map_of}
 use Rattle.vm_translator.specs.Statics.{statics_of}
-use Rattle.hack_blocks.specs.Computer.{Map}
+use Rattle.vm_templates.specs.Computer.{Map}
 use Rattle.jack_meaning.specs.Text.{Program}
 use Rattle.jack_core.specs.declared.program.Core.{Core}
 use Rattle.jack_core.specs.Texts.{the_program}

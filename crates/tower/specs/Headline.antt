@@ -1,11 +1,11 @@
 -- What the computer with the image of a program does: it follows the program's meaning, cycle by cycle.
 use Rattle.std.specs.Prelude.{◌≡◌, ℕ, suc, true, List, Some}
-use Rattle.hack_blocks.specs.Templates.{endless_loop}
+use Rattle.vm_templates.specs.Templates.{endless_loop}
 use Rattle.hack_isa.specs.Machine.{machine_at}
-use Rattle.layers.specs.System.{IsKey, Listening, run_of, Tame}
-use Rattle.layers.specs.Trace.{Trace, steps, heard, trace_of}
-use Rattle.layers.specs.Headline.{Follows}
-use Rattle.hack_blocks.specs.Computer.{Map, hack_system}
+use Rattle.simulation.specs.System.{IsKey, Listening, run_of, Tame}
+use Rattle.simulation.specs.Trace.{Trace, steps, heard_keys, trace_of}
+use Rattle.simulation.specs.Headline.{Follows}
+use Rattle.vm_templates.specs.Computer.{Map, hack_system}
 use Rattle.vm_link.specs.declared.linked.Linked.{Linked}
 use Rattle.vm_machine.specs.State.{State as VmState}
 use Rattle.vm_translator.specs.Mapping.{location}
@@ -47,7 +47,7 @@ HeadlineLaw = (program : Program) (numbers : Numbers) (linked : Linked) (depth m
 -- At cycle n the meaning has come, over the keys heard, to a state that the computer holds: by way of a state of the virtual machine.
 pub record StandsBehind (program : Program) (numbers : Numbers) (linked : Linked) (depth : ℕ) (image : List ℕ) (map : Map) (keys : ℕ → ℕ) (n : ℕ) : Type 0 where
   pub after : Listening State
-  pub run : run_of (meaning_of program.subroutines) (start program) (heard (run_trace image map keys) n) (steps (run_trace image map keys) n) ≡ Some after
+  pub run : run_of (meaning_of program.subroutines) (start program) (heard_keys (run_trace image map keys) n) (steps (run_trace image map keys) n) ≡ Some after
   pub fits : (meaning_of program.subroutines).fits after.state ≡ true
   pub between : VmState
   pub matches : Match program numbers linked depth after.state between
@@ -58,5 +58,5 @@ abbrev pub BehindLaw : Type 0
 BehindLaw = (program : Program) (numbers : Numbers) (linked : Linked) (depth most_locals : ℕ) (image : List ℕ) (map : Map)
     → IsFit program numbers depth most_locals → IsCodeOf program numbers linked → IsTranslated linked image map endless_loop
     → (keys : ℕ → ℕ) → ((c : ℕ) → IsKey (keys c)) → (n : ℕ) → (run_trace image map keys).commits n ≡ true
-    → Tame (meaning_of program.subroutines) (start program) (heard (run_trace image map keys) (suc n)) (steps (run_trace image map keys) (suc n))
+    → Tame (meaning_of program.subroutines) (start program) (heard_keys (run_trace image map keys) (suc n)) (steps (run_trace image map keys) (suc n))
     → StandsBehind program numbers linked depth image map keys (suc n)

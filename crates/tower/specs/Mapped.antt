@@ -6,8 +6,8 @@ use Rattle.machine_io.specs.History.{Turn}
 use Rattle.machine_io.specs.declared.machine.Moved.TheVariants.{Acted}
 use Rattle.hack_isa.specs.Machine.{machine_at, image_words}
 use Rattle.hack_machine.specs.Loaded.{LoadedMachine, machine_of}
-use Rattle.layers.specs.Trace.{steps, point_at}
-use Rattle.hack_blocks.specs.Computer.{Map}
+use Rattle.simulation.specs.Trace.{steps, point_at}
+use Rattle.vm_templates.specs.Computer.{Map}
 use Rattle.vm_translator.specs.declared.coded.PointRange.{PointRange}
 use Rattle.vm_translator.specs.declared.coded.StaticWord.{StaticWord}
 use Rattle.vm_translator.specs.Mapping.{map_of, point_in, Covers}

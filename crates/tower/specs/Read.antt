@@ -3,7 +3,7 @@
 -- it declares no more subroutines than that.
 use Rattle.std.specs.Prelude.{◌≡◌, ◌<◌, ◌≤◌, ℕ, true, List, [], ◌∷◌, Option, Some, None, length}
 use Rattle.std.specs.List.{All}
-use Rattle.jack_tree.specs.Seen.{unboxed}
+use Rattle.jack_tree.specs.Seen.{unbox}
 use Rattle.jack_lexer.specs.Tokens.{is_name_byte}
 use Rattle.jack_tree.specs.declared.tree.Constant.{Constant}
 use Rattle.jack_tree.specs.declared.tree.Constant.TheVariants as constant
@@ -61,7 +61,7 @@ IsReadIfThere (Some e) = IsRead e
 
 abbrev mutual
   pub IsReadStatement : statements.Statement → Type 0
-  IsReadStatement (statements.Let at x i e) = IsReadIfThere (unboxed i) × IsRead e
+  IsReadStatement (statements.Let at x i e) = IsReadIfThere (unbox i) × IsRead e
   IsReadStatement (statements.If' at e n a b) = IsRead e × IsReadBlock a × IsReadElse b
   IsReadStatement (statements.While' at e n a) = IsRead e × IsReadBlock a
   IsReadStatement (statements.Do at c) = IsReadCall c

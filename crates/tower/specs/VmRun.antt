@@ -1,9 +1,9 @@
 -- The run of the virtual machine with linked code, and that with the code of a program it follows the program's meaning. (The book, chapters 7 to
 -- 11.)
 use Rattle.std.specs.Prelude.{◌≡◌, ◌<◌, ◌≤◌, ◌+◌, ℕ, zero, suc, [], Some, Ok, false}
-use Rattle.layers.specs.System.{IsKey, Listening, run_of}
-use Rattle.layers.specs.Trace.{Trace, heard, steps}
-use Rattle.layers.specs.Headline.{Agrees}
+use Rattle.simulation.specs.System.{IsKey, Listening, run_of}
+use Rattle.simulation.specs.Trace.{Trace, heard_keys, steps}
+use Rattle.simulation.specs.Headline.{Agrees}
 use Rattle.machine_io.specs.Driven.{IsDriven}
 use Rattle.machine_io.specs.declared.driving.End.{End}
 use Rattle.machine_io.specs.declared.driving.End.TheVariants as ends
@@ -87,7 +87,7 @@ pub record VmFollows (program : Program) (linked : Linked) (keys : ℕ → ℕ) 
       → Agrees (meaning_of program.subroutines) (start program) (vm_trace linked keys) (vm_word linked keys) n
   -- So far the machine is not full; where it has come to its end, so has the meaning; and where it strays, the meaning strays, at the same address.
   pub answers : IsTameFor program linked keys n (steps (vm_trace linked keys) n)
-      → (after : Listening meaning.State) × (run_of (meaning_of program.subroutines) (start program) (heard (vm_trace linked keys) n) (steps (vm_trace linked keys) n) ≡ Some after)
+      → (after : Listening meaning.State) × (run_of (meaning_of program.subroutines) (start program) (heard_keys (vm_trace linked keys) n) (steps (vm_trace linked keys) n) ≡ Some after)
       × Answers program after.state (outcome_at linked keys n)
   -- Where the meaning has one more tame step, the machine has a next move,
   pub moves_on : IsTameFor program linked keys n (suc (steps (vm_trace linked keys) n)) → (s : State) × (state_after (outcome_at linked keys n) ≡ Some s)

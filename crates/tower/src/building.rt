@@ -1,7 +1,7 @@
 //! From linked code to the image that the computer runs.
 ghost use Rattle.std.specs.Prelude.{◌≡◌, ◌≤◌, All, IfOk, IfErr, false, length, map};
 ghost use Rattle.hack_isa.specs.Machine.{image_words};
-ghost use Rattle.hack_blocks.specs.Templates.{endless_loop};
+ghost use Rattle.vm_templates.specs.Templates.{endless_loop};
 ghost use Rattle.hack_isa.specs.Table.{word_of};
 ghost use Rattle.vm_link.specs.Sound.{IsSound};
 ghost use Rattle.vm_link.specs.Uniform.{IsUniform};
@@ -10,10 +10,10 @@ ghost use Rattle.vm_translator.specs.Translated.{IsTranslated};
 ghost use Rattle.tower.specs.declared.building.BuildError.TheVariants.{Memory};
 ghost use Rattle.tower.specs.Built.{IsUnbuilt, built_image, map_for};
 ghost use Rattle.tower.specs.Mapped.{IsMapped, program_built};
-ghost use Rattle.tower.specs.Told.{build_told};
+ghost use Rattle.tower.specs.Messages.{build_message};
 
 use hack_isa::{Instr, encode};
-use outer_world::{Detail, List, Told};
+use outer_world::{Detail, Diagnostic, List};
 use std::alloc::{AllocError, Global};
 use std::marker::Model;
 use thiserror::Error;
@@ -34,14 +34,17 @@ pub enum BuildError {
 
 impl BuildError {
     /// What the fault tells. Want of memory tells nothing.
-    pub fn told(self) -> Option<Told>
-        ensures { result ≡ build_told self }
+    pub fn diagnostic(self) -> Option<Diagnostic>
+        ensures { result ≡ build_message self }
     {
         match self {
             BuildError::TooManyStatics(words) => {
-                Some(Told::nowhere("TooManyStatics", Detail::Number(words)))
+                Some(Diagnostic::nowhere("TooManyStatics", Detail::Number(words)))
             }
-            BuildError::TooLarge(words) => Some(Told::nowhere("TooLarge", Detail::Number(words))),
+            BuildError::TooLarge(words) => Some(Diagnostic::nowhere(
+                "TooLarge",
+                Detail::Number(words),
+            )),
             BuildError::Memory => None,
         }
     }

@@ -16,7 +16,7 @@ use std::alloc::{AllocError, Global};
 use std::marker::Model;
 use vm_translator::PointRange;
 
-// Told where there is no control point; each machine that `new` makes has one.
+// Diagnostic where there is no control point; each machine that `new` makes has one.
 const NOWHERE: Point = Point { sub: 0, number: 0 };
 
 /// The machine with an image and its map.

@@ -1,10 +1,10 @@
 -- What the debugger shows of a computer that is stopped just after a commit.
 use Rattle.std.specs.Prelude.{◌≡◌, ℕ, suc, true, ◌∷◌, List, Some, slice_get}
-use Rattle.hack_blocks.specs.Templates.{endless_loop}
+use Rattle.vm_templates.specs.Templates.{endless_loop}
 use Rattle.hack_isa.specs.Machine.{machine_at}
-use Rattle.layers.specs.System.{IsKey, Listening, run_of, Tame}
-use Rattle.layers.specs.Trace.{steps, heard}
-use Rattle.hack_blocks.specs.Computer.{Map}
+use Rattle.simulation.specs.System.{IsKey, Listening, run_of, Tame}
+use Rattle.simulation.specs.Trace.{steps, heard_keys}
+use Rattle.vm_templates.specs.Computer.{Map}
 use Rattle.vm_link.specs.declared.linked.Linked.{Linked}
 use Rattle.vm_translator.specs.Seen.{IsImage}
 use Rattle.vm_translator.specs.Translated.{IsTranslated}
@@ -25,7 +25,7 @@ use Rattle.tower.specs.Headline.{run_trace}
 -- computer's words is the view of that state.
 pub record ShowsRun (program : Program) (linked : Linked) (places : Places) (index : ℕ → ℕ) (image : List ℕ) (map : Map) (keys : ℕ → ℕ) (n : ℕ) : Type 0 where
   pub after : Listening State
-  pub run : run_of (meaning_of program.subroutines) (start program) (heard (run_trace image map keys) n) (steps (run_trace image map keys) n) ≡ Some after
+  pub run : run_of (meaning_of program.subroutines) (start program) (heard_keys (run_trace image map keys) n) (steps (run_trace image map keys) n) ≡ Some after
   pub shows : (f g : Frame) (below : List Frame) (sub : SubPlaces) → after.state.frames ≡ f ∷ g ∷ below → sub_at places (index f.subroutine) ≡ Some sub → Names sub (subroutine_at program.subroutines f.subroutine)
       → AreStaticsOf program linked (subroutine_at program.subroutines f.subroutine).class (statics_of (slice_get places.classes sub.class))
       → Walk places (machine_at image keys n).memory (machine_at image keys n).pc (view_of places index program sub after.state f (g ∷ below))
@@ -35,13 +35,13 @@ abbrev pub DebuggedLaw : Type 0
 DebuggedLaw = (program : Program) (linked : Linked) → IsLinkedProgram program linked → IsImage linked → (image : List ℕ) (map : Map) → IsTranslated linked image map endless_loop
     → (places : Places) (index : ℕ → ℕ) → IsPlacesOf linked places index
     → (keys : ℕ → ℕ) → ((c : ℕ) → IsKey (keys c)) → (n : ℕ) → (run_trace image map keys).commits n ≡ true
-    → Tame (meaning_of program.subroutines) (start program) (heard (run_trace image map keys) (suc n)) (steps (run_trace image map keys) (suc n))
+    → Tame (meaning_of program.subroutines) (start program) (heard_keys (run_trace image map keys) (suc n)) (steps (run_trace image map keys) (suc n))
     → ShowsRun program linked places index image map keys (suc n)
 
 -- The same where the places are those of the program, which name the variables of each subroutine that they have.
 pub record ShowsProgram (program : Program) (places : Places) (image : List ℕ) (map : Map) (keys : ℕ → ℕ) (n : ℕ) : Type 0 where
   pub after : Listening State
-  pub run : run_of (meaning_of program.subroutines) (start program) (heard (run_trace image map keys) n) (steps (run_trace image map keys) n) ≡ Some after
+  pub run : run_of (meaning_of program.subroutines) (start program) (heard_keys (run_trace image map keys) n) (steps (run_trace image map keys) n) ≡ Some after
   pub shows : (f g : Frame) (below : List Frame) (sub : SubPlaces) → after.state.frames ≡ f ∷ g ∷ below → sub_at places f.subroutine ≡ Some sub
       → Walk places (machine_at image keys n).memory (machine_at image keys n).pc (view_of places (λ g. g) program sub after.state f (g ∷ below))
 
@@ -49,5 +49,5 @@ abbrev pub DebuggedProgramLaw : Type 0
 DebuggedProgramLaw = (program : Program) (linked : Linked) → IsLinkedProgram program linked → IsImage linked → (image : List ℕ) (map : Map) → IsTranslated linked image map endless_loop
     → (places : Places) → ArePlacesOf program linked places
     → (keys : ℕ → ℕ) → ((c : ℕ) → IsKey (keys c)) → (n : ℕ) → (run_trace image map keys).commits n ≡ true
-    → Tame (meaning_of program.subroutines) (start program) (heard (run_trace image map keys) (suc n)) (steps (run_trace image map keys) (suc n))
+    → Tame (meaning_of program.subroutines) (start program) (heard_keys (run_trace image map keys) (suc n)) (steps (run_trace image map keys) (suc n))
     → ShowsProgram program places image map keys (suc n)

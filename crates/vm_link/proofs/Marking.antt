@@ -11,39 +11,39 @@ use Rattle.vm_link.specs.Sections.{Section, calls, stands_in, is_named}
 use Rattle.vm_link.specs.Faults.{sys_init}
 use Rattle.vm_link.specs.Reached.{Reached, IsFunction, start, called}
 use Rattle.vm_link.specs.Maps.{Numbers, number, AreNumbers}
-use Rattle.vm_link.specs.Marks.{marked, waits, unmarked, Marks, AreCalling, AreReached, IsNumber, AreBelow}
+use Rattle.vm_link.specs.Marks.{is_marked, waits, unmarked_count, Marks, AreCalling, AreReached, IsNumber, AreBelow}
 
 pub ⊎_by : {A B C : Type 0} → A ⊎ B → (A → C) → (B → C) → C
 ⊎_by (inl a) f g = f a
 ⊎_by (inr b) f g = g b
 
-pub marked_from : (marks : List Bool) (p i : ℕ) → marked (slice_set marks p true) i ≡ true → (i ≡ p) ⊎ (marked marks i ≡ true)
+pub marked_from : (marks : List Bool) (p i : ℕ) → is_marked (slice_set marks p true) i ≡ true → (i ≡ p) ⊎ (is_marked marks i ≡ true)
 marked_from [] p i h = inr h
 marked_from (x ∷ xs) zero zero h = inl refl
 marked_from (x ∷ xs) zero (suc i) h = inr h
 marked_from (x ∷ xs) (suc p) zero h = inr h
 marked_from (x ∷ xs) (suc p) (suc i) h = ⊎_by (marked_from xs p i h) (λ e. inl (ap suc e)) (λ m. inr m)
 
-pub marked_still : (marks : List Bool) (p i : ℕ) → marked marks i ≡ true → marked (slice_set marks p true) i ≡ true
+pub marked_still : (marks : List Bool) (p i : ℕ) → is_marked marks i ≡ true → is_marked (slice_set marks p true) i ≡ true
 marked_still [] p i h = h
 marked_still (x ∷ xs) zero zero h = refl
 marked_still (x ∷ xs) zero (suc i) h = h
 marked_still (x ∷ xs) (suc p) zero h = h
 marked_still (x ∷ xs) (suc p) (suc i) h = marked_still xs p i h
 
-pub marked_now : (marks : List Bool) (p : ℕ) → p < length marks → marked (slice_set marks p true) p ≡ true
+pub marked_now : (marks : List Bool) (p : ℕ) → p < length marks → is_marked (slice_set marks p true) p ≡ true
 marked_now [] p h = absurd (omega arith)
 marked_now (x ∷ xs) zero h = refl
 marked_now (x ∷ xs) (suc p) h = marked_now xs p (omega arith)
 
-pub unmarked_less : (marks : List Bool) (p : ℕ) → p < length marks → marked marks p ≡ false → unmarked (slice_set marks p true) + 1 ≡ unmarked marks
+pub unmarked_less : (marks : List Bool) (p : ℕ) → p < length marks → is_marked marks p ≡ false → unmarked_count (slice_set marks p true) + 1 ≡ unmarked_count marks
 unmarked_less [] p h e = absurd (omega arith)
 unmarked_less (true ∷ xs) zero h e = absurd cc
-unmarked_less (false ∷ xs) zero h e = add_comm (unmarked xs) 1
+unmarked_less (false ∷ xs) zero h e = add_comm (unmarked_count xs) 1
 unmarked_less (true ∷ xs) (suc p) h e = unmarked_less xs p (omega arith) e
 unmarked_less (false ∷ xs) (suc p) h e =
-    let ih : unmarked (slice_set xs p true) + 1 ≡ unmarked xs = unmarked_less xs p (omega arith) e in
-    let goal : (1 + unmarked (slice_set xs p true)) + 1 ≡ 1 + unmarked xs = omega arith in goal
+    let ih : unmarked_count (slice_set xs p true) + 1 ≡ unmarked_count xs = unmarked_less xs p (omega arith) e in
+    let goal : (1 + unmarked_count (slice_set xs p true)) + 1 ≡ 1 + unmarked_count xs = omega arith in goal
 
 pub waits_more : (xs : List ℕ) (x i : ℕ) → waits xs i ≡ true → waits (xs ++ x ∷ []) i ≡ true
 waits_more xs x i h = list_any-append (nat_eq i) xs (x ∷ []) ∙ or_left (waits xs i) (waits (x ∷ []) i) h
@@ -56,7 +56,7 @@ waits_from xs x i h = ⊎_by (or_cases (waits xs i) (waits (x ∷ []) i) (sym (l
     (λ b. ⊎_by (or_cases (nat_eq i x) false b) (λ e. inr (eqb-true i x e)) (λ n. absurd cc))
 
 -- one more mark
-pub marks_one : (marks : List Bool) (pending : List ℕ) (p : ℕ) → p < length marks → marked marks p ≡ false
+pub marks_one : (marks : List Bool) (pending : List ℕ) (p : ℕ) → p < length marks → is_marked marks p ≡ false
     → Marks (λ i. i ≡ p) marks (slice_set marks p true) pending (pending ++ p ∷ [])
 marks_one marks pending p h e = record {
   same_length = search rules;
@@ -92,11 +92,11 @@ marks_then A B a b c p q r weaker f g = record {
 -- what is known while some wait
 pub record Looks (ss : List Section) (m : Numbers) (marks : List Bool) (pending : List ℕ) : Type 0 where
   pub same_length : length marks ≡ length ss
-  pub only : (i : ℕ) → marked marks i ≡ true → Reached ss i
-  pub start : (i : ℕ) → IsFunction ss sys_init i → marked marks i ≡ true
-  pub waiting : (i : ℕ) → waits pending i ≡ true → marked marks i ≡ true
-  pub closed : (i j : ℕ) (s : Section) → marked marks i ≡ true → slice_get ss i ≡ Some s → AreCalling m s.lines j
-      → (waits pending i ≡ true) ⊎ (marked marks j ≡ true)
+  pub only : (i : ℕ) → is_marked marks i ≡ true → Reached ss i
+  pub start : (i : ℕ) → IsFunction ss sys_init i → is_marked marks i ≡ true
+  pub waiting : (i : ℕ) → waits pending i ≡ true → is_marked marks i ≡ true
+  pub closed : (i j : ℕ) (s : Section) → is_marked marks i ≡ true → slice_get ss i ≡ Some s → AreCalling m s.lines j
+      → (waits pending i ≡ true) ⊎ (is_marked marks j ≡ true)
 
 -- an equal function
 pub marks_as : (A B : ℕ → Type 0) (a b : List Bool) (p q : List ℕ) → ((i : ℕ) → A i → B i) → Marks A a b p q → Marks B a b p q
@@ -118,13 +118,13 @@ rest_at [] i x h e = absurd (omega arith)
 rest_at (y ∷ ys) zero x h e = ap (λ z. z ∷ ys) (sym e)
 rest_at (y ∷ ys) (suc i) x h e = rw (add-one) (let ih : drop i ys ≡ x ∷ drop (i + 1) ys = rest_at ys i x (omega arith) e in rw (add-one) at ih)
 
-pub marked_by : (marks : List Bool) (p : ℕ) (b d : Bool) → p < length marks → b ≡ get_or marks p d → marked marks p ≡ b
+pub marked_by : (marks : List Bool) (p : ℕ) (b d : Bool) → p < length marks → b ≡ get_or marks p d → is_marked marks p ≡ b
 marked_by [] p b d h e = absurd (omega arith)
 marked_by (x ∷ xs) zero b d h e = sym e
 marked_by (x ∷ xs) (suc p) b d h e = marked_by xs p b d (omega arith) e
 
 -- marks that are all unset
-pub marked_none : (xs : List Bool) (i : ℕ) → ((i : ℕ) → marked xs i ≡ false) → marked (xs ++ false ∷ []) i ≡ false
+pub marked_none : (xs : List Bool) (i : ℕ) → ((i : ℕ) → is_marked xs i ≡ false) → is_marked (xs ++ false ∷ []) i ≡ false
 marked_none [] zero h = refl
 marked_none [] (suc i) h = refl
 marked_none (x ∷ xs) zero h = h zero
@@ -133,7 +133,7 @@ marked_none (x ∷ xs) (suc i) h = marked_none xs i (λ j. h (suc j))
 false_true : {b : Bool} → b ≡ false → b ≡ true → ⊥
 false_true e f = absurd cc
 
-pub marked_below : (marks : List Bool) (i : ℕ) → marked marks i ≡ true → i < length marks
+pub marked_below : (marks : List Bool) (i : ℕ) → is_marked marks i ≡ true → i < length marks
 marked_below [] i h = absurd (false_true refl h)
 marked_below (x ∷ xs) zero h = omega arith
 marked_below (x ∷ xs) (suc i) h = let ih = marked_below xs i h in omega arith
@@ -155,12 +155,12 @@ module _ (ss : List Section) (m : Numbers) (numbers : AreNumbers m ss) where
   -- a call as the definition of what is reached has it
   pub call_from : (lines : List Line) (j : ℕ) → AreCalling m lines j → (name : List ℕ) × (stands_in (calls lines) name ≡ true) × IsFunction ss name j
   call_from [] j h = absurd h
-  call_from (x ∷ xs) j (inl h) = by_name (sections.called x.command) h
+  call_from (x ∷ xs) j (inl h) = by_name (sections.called_name x.command) h
     where
       by_name : (o : Option (List ℕ)) → IsNumber m o j → (name : List ℕ) × (stands_in (cons_option o (calls xs)) name ≡ true) × IsFunction ss name j
       by_name None e = absurd cc
       by_name (Some n) e = (n, or_left (bytes_eq n n) (stands_in (calls xs) n) ((bytes_eq-Decides n n).1 refl), sym (numbers n) ∙ e)
-  call_from (x ∷ xs) j (inr h) = let r = call_from xs j h in (r.0, more (sections.called x.command) r.0 r.1, r.2)
+  call_from (x ∷ xs) j (inr h) = let r = call_from xs j h in (r.0, more (sections.called_name x.command) r.0 r.1, r.2)
     where
       more : (o : Option (List ℕ)) (n : List ℕ) → stands_in (calls xs) n ≡ true → stands_in (cons_option o (calls xs)) n ≡ true
       more None n e = e
@@ -168,7 +168,7 @@ module _ (ss : List Section) (m : Numbers) (numbers : AreNumbers m ss) where
 
   pub call_to : (lines : List Line) (name : List ℕ) (j : ℕ) → stands_in (calls lines) name ≡ true → IsFunction ss name j → AreCalling m lines j
   call_to [] name j h f = false_true refl h
-  call_to (x ∷ xs) name j h f = by_name (sections.called x.command) h (λ e. call_to xs name j e f)
+  call_to (x ∷ xs) name j h f = by_name (sections.called_name x.command) h (λ e. call_to xs name j e f)
     where
       by_name : (o : Option (List ℕ)) → stands_in (cons_option o (calls xs)) name ≡ true → (stands_in (calls xs) name ≡ true → AreCalling m xs j) → IsNumber m o j ⊎ AreCalling m xs j
       by_name None e go = inr (go e)
@@ -184,8 +184,8 @@ module _ (ss : List Section) (m : Numbers) (numbers : AreNumbers m ss) where
       let h : place < length marks = marked_below marks place (k.waiting place (waits_last pending place)) in
       let e = k.same_length in omega arith
 
-  pub looks_first : (none marks : List Bool) (pending : List ℕ) → length none ≡ length ss → ((i : ℕ) → marked none i ≡ false)
-      → Marks (IsNumber m (Some sys_init)) none marks [] pending → ((i : ℕ) → IsNumber m (Some sys_init) i → marked marks i ≡ true) → Looks ss m marks pending
+  pub looks_first : (none marks : List Bool) (pending : List ℕ) → length none ≡ length ss → ((i : ℕ) → is_marked none i ≡ false)
+      → Marks (IsNumber m (Some sys_init)) none marks [] pending → ((i : ℕ) → IsNumber m (Some sys_init) i → is_marked marks i ≡ true) → Looks ss m marks pending
   looks_first none marks pending l unset f all = record {
     same_length = f.same_length ∙ l;
     only = λ i h. ⊎_by (f.added i h) (λ o. absurd (false_true (unset i) o)) (λ n. start (sym (numbers sys_init) ∙ n.0));
@@ -196,7 +196,7 @@ module _ (ss : List Section) (m : Numbers) (numbers : AreNumbers m ss) where
 
   pub looks_next : (place : ℕ) (s : Section) (marks marks' : List Bool) (pending pending' : List ℕ) → slice_get ss place ≡ Some s
       → Looks ss m marks (pending ++ place ∷ []) → Marks (AreCalling m s.lines) marks marks' pending pending'
-      → ((i : ℕ) → AreCalling m s.lines i → marked marks' i ≡ true) → Looks ss m marks' pending'
+      → ((i : ℕ) → AreCalling m s.lines i → is_marked marks' i ≡ true) → Looks ss m marks' pending'
   looks_next place s marks marks' pending pending' here old f all = record {
     same_length = f.same_length ∙ old.same_length;
     only = λ i h. ⊎_by (f.added i h) (λ o. old.only i o) (λ n.
@@ -215,7 +215,7 @@ module _ (ss : List Section) (m : Numbers) (numbers : AreNumbers m ss) where
   pub looks_last : (marks : List Bool) → Looks ss m marks [] → AreReached ss marks
   looks_last marks k = record { same_length = k.same_length; only = k.only; all = all }
     where
-      all : (i : ℕ) → Reached ss i → marked marks i ≡ true
+      all : (i : ℕ) → Reached ss i → is_marked marks i ≡ true
       all i (start e) = k.start i e
       all i (called {i = h} s name r g c f) = ⊎_by (k.closed h i s (all h r) g (call_to s.lines name i c f)) (λ w. absurd (false_true refl w)) (λ n. n)
 

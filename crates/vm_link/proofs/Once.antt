@@ -7,7 +7,7 @@ use Rattle.vm_link.specs.declared.fault.LinkFault.TheVariants.{Memory}
 use Rattle.vm_link.specs.Sections.{Section, sections}
 use Rattle.vm_link.specs.Faults.{text_fault, kept_fault}
 use Rattle.vm_link.specs.Reached.{Reached, Keeps, none, kept, dropped, AreKept}
-use Rattle.vm_link.specs.Resolved.{linked}
+use Rattle.vm_link.specs.Resolved.{linked_of}
 use Rattle.vm_link.specs.Links.{Links, memory, faulty, kept_faulty, whole}
 
 keeps_same : (P : ℕ → Type 0) {i : ℕ} {ss ks ls : List Section} → Keeps P i ss ks → Keeps P i ss ls → ks ≡ ls
@@ -46,4 +46,4 @@ linked_once bare files r q (whole ks t k f e) memory n m = absurd (m refl)
 linked_once bare files r q (whole ks t k f e) (faulty d) n m = absurd (some_none (text_fault bare (sections bare files)) d t)
 linked_once bare files r q (whole ks t k f e) (kept_faulty ls d h g) n m =
     absurd (some_none (kept_fault (length files) (sections bare files) ls) g (told (kept_fault (length files) (sections bare files)) (kept_same bare _ ks ls k h) f))
-linked_once bare files r q (whole ks t k f e) (whole ls u h g d) n m = ap Ok (e ∙ (ap (linked bare files) (kept_same bare _ ks ls k h) ∙ sym d))
+linked_once bare files r q (whole ks t k f e) (whole ls u h g d) n m = ap Ok (e ∙ (ap (linked_of bare files) (kept_same bare _ ks ls k h) ∙ sym d))

@@ -18,7 +18,7 @@ use Rattle.vm_link.specs.Sections as sections
 use Rattle.vm_link.specs.Sections.{Section, is_named, has_name, target, label, labels, calls, stands_in}
 use Rattle.vm_link.specs.Faults.{first_of, first_repeat, names, label_twice, lacking, no_label, no_function, static_words, words_at, words_of_lines, words_before, sys_init, no_start, text_fault, kept_fault}
 use Rattle.vm_link.specs.Reached.{Reached, Keeps, none, kept, dropped, AreKept, IsFunction, start, called}
-use Rattle.vm_link.specs.Resolved.{steps, label_place, first_place, number_in, index_in, step_of, code_of, entry_of, function_of, linked}
+use Rattle.vm_link.specs.Resolved.{steps, label_place, first_place, number_in, index_in, step_of, code_of, entry_of, function_of, linked_of}
 use Rattle.vm_link.specs.Sound.{IsIndex, IsSoundStep, IsSoundFunction, IsSound}
 use Rattle.vm_link.specs.declared.fault.LinkFault.TheVariants.{NoSysInit, NoLabel, NoFunction, TwiceDefined, LabelTwice}
 use Rattle.vm_link.specs.Links.{Links, whole}
@@ -60,7 +60,7 @@ each_filtered {A} {B} P f (x ∷ xs) e = by_item (f x) (filter_map f xs) e.0 (ea
 -- what is asked of a command of a section
 record Good (ks : List Section) (s : Section) (c : Command) : Type 0 where
   place : (l : List ℕ) → target c ≡ Some l → is_some (label_place l (first_place s) s.lines) ≡ true
-  number : (f : List ℕ) → sections.called c ≡ Some f → list_any (is_named f) ks ≡ true
+  number : (f : List ℕ) → sections.called_name c ≡ Some f → list_any (is_named f) ks ≡ true
   room : words_before ks s.file + static_words c ≤ 240
 
 unwrapped : (n : ℕ) (o : Option ℕ) → is_some o ≡ true → ((p : ℕ) → o ≡ Some p → p ≤ n) → unwrap_or o 0 ≤ n
@@ -187,7 +187,7 @@ called_later (Some g) f rest e = or_right (bytes_eq f g) (stands_in rest f) e
 
 good_lines : (ss ks : List Section) (s : Section) (lines : List Line)
     → first_of (λ x. lacking (stands_in (labels s.lines)) (target x.command)) lines ≡ None
-    → first_of (λ x. lacking (λ f. list_any (is_named f) ss) (sections.called x.command)) lines ≡ None
+    → first_of (λ x. lacking (λ f. list_any (is_named f) ss) (sections.called_name x.command)) lines ≡ None
     → ((f : List ℕ) → stands_in (calls lines) f ≡ true → list_any (is_named f) ss ≡ true → list_any (is_named f) ks ≡ true)
     → words_before ks s.file + words_of_lines lines ≤ 240 → Each (λ x. Good ks s x.command) lines
 unfolding Each
@@ -306,7 +306,7 @@ section_sound bare ss ks text k calls_none room i s e =
     (closed bare ss ks k i s e) (room i s e))
 
 pub linked_sound : (bare : Bool) (files : List File) (ks : List Section) → text_fault bare (sections.sections bare files) ≡ None → AreKept bare (sections.sections bare files) ks
-    → kept_fault (length files) (sections.sections bare files) ks ≡ None → IsSound (linked bare files ks)
+    → kept_fault (length files) (sections.sections bare files) ks ≡ None → IsSound (linked_of bare files ks)
 linked_sound bare files ks text k fault =
     let ss = sections.sections bare files in
     let n = length_mapped (function_of ks) ks in

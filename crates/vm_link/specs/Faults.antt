@@ -9,7 +9,7 @@ use Rattle.vm_tree.specs.declared.command.Segment.{Segment}
 use Rattle.vm_tree.specs.declared.command.Segment.TheVariants as segment
 use Rattle.vm_link.specs.declared.fault.LinkFault.{LinkFault}
 use Rattle.vm_link.specs.declared.fault.LinkFault.TheVariants.{NoFunction, TwiceDefined, NoLabel, LabelTwice, NoSysInit, TooManyStatics}
-use Rattle.vm_link.specs.Sections.{Section, is_named, called, target, labels, stands_in}
+use Rattle.vm_link.specs.Sections.{Section, is_named, called_name, target, labels, stands_in}
 
 -- where a program starts
 abbrev pub sys_init : List ℕ
@@ -47,7 +47,7 @@ no_label s = first_of (λ x. lacking (stands_in (labels s.lines)) (target x.comm
 
 -- the first name that a section calls and no function has
 abbrev pub no_function : List Section → Section → Option (List ℕ)
-no_function ss s = first_of (λ x. lacking (λ f. list_any (is_named f) ss) (called x.command)) s.lines
+no_function ss s = first_of (λ x. lacking (λ f. list_any (is_named f) ss) (called_name x.command)) s.lines
 
 abbrev pub no_start : Bool → List Section → Option LinkFault
 no_start bare ss = if bare || list_any (is_named sys_init) ss then None else Some NoSysInit

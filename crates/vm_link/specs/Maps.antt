@@ -18,11 +18,11 @@ abbrev pub number : Numbers → List ℕ → Option ℕ
 number m name = get_by (λ k. slice_cmp nat_cmp name k.now) m
 
 -- a part as a section
-abbrev pub seen : Part → Section
-seen p = record { file = p.file; number = p.number; name = option_map (λ n. n.now) p.name; locals = p.locals; lines = p.lines.now }
+abbrev pub seen_section : Part → Section
+seen_section p = record { file = p.file; number = p.number; name = option_map (λ n. n.now) p.name; locals = p.locals; lines = p.lines.now }
 
 abbrev pub all_seen : List Part → List Section
-all_seen ps = map seen ps
+all_seen ps = map seen_section ps
 
 -- the bytes of names
 abbrev pub texts : List (Bor (List ℕ)) → List (List ℕ)

@@ -86,8 +86,8 @@ abbrev pub files_from : List Section → ℕ → List File → List LinkedFile
 files_from kept k [] = []
 files_from kept k (f ∷ fs) = record { name = f.name; statics = file_words kept k } ∷ files_from kept (k + 1) fs
 
-abbrev pub linked : Bool → List File → List Section → Linked
-linked bare files kept = record {
+abbrev pub linked_of : Bool → List File → List Section → Linked
+linked_of bare files kept = record {
   functions = map (function_of kept) kept;
   files = files_from kept 0 files;
   start = position_from (is_named sys_init) 0 kept;

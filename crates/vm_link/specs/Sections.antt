@@ -51,15 +51,15 @@ abbrev pub is_named : List ℕ → Section → Bool
 is_named name s = has_name name s.name
 
 -- what a command calls, goes to and marks
-abbrev pub called : Command → Option (List ℕ)
-called (command.Call name n) = Some name
-called (command.Operate o) = None
-called (command.Push s i) = None
-called (command.Pop s i) = None
-called (command.Label l) = None
-called (command.Goto l) = None
-called (command.IfGoto l) = None
-called command.Return = None
+abbrev pub called_name : Command → Option (List ℕ)
+called_name (command.Call name n) = Some name
+called_name (command.Operate o) = None
+called_name (command.Push s i) = None
+called_name (command.Pop s i) = None
+called_name (command.Label l) = None
+called_name (command.Goto l) = None
+called_name (command.IfGoto l) = None
+called_name command.Return = None
 
 abbrev pub target : Command → Option (List ℕ)
 target (command.Goto l) = Some l
@@ -83,7 +83,7 @@ label command.Return = None
 
 -- the names that lines call, and the labels that stand there, in order of text
 abbrev pub calls : List Line → List (List ℕ)
-calls lines = filter_map (λ x. called x.command) lines
+calls lines = filter_map (λ x. called_name x.command) lines
 
 abbrev pub labels : List Line → List (List ℕ)
 labels lines = filter_map (λ x. label x.command) lines

@@ -1,10 +1,10 @@
 //! What is wrong with a program.
 ghost use Rattle.std.specs.Prelude.{◌≡◌};
 ghost use Rattle.outer_world.specs.Refusals.{message};
-ghost use Rattle.vm_link.specs.Told.{link_told};
+ghost use Rattle.vm_link.specs.Messages.{link_message};
 ghost use Rattle.vm_link.specs.declared.fault.LinkFault.TheVariants.{Memory};
 
-use outer_world::{Detail, Name, Told};
+use outer_world::{Detail, Diagnostic, Name};
 use std::alloc::{AllocError, AllocFailed};
 use thiserror::Error;
 
@@ -35,17 +35,17 @@ pub enum LinkFault {
 
 impl LinkFault {
     /// What the fault tells. Want of memory tells nothing.
-    pub fn told(self) -> Option<Told>
-        ensures { result ≡ link_told self }
+    pub fn diagnostic(self) -> Option<Diagnostic>
+        ensures { result ≡ link_message self }
     {
         match self {
             LinkFault::NoFunction(name) => Some(named("NoFunction", name)),
             LinkFault::TwiceDefined(name) => Some(named("TwiceDefined", name)),
             LinkFault::NoLabel(name) => Some(named("NoLabel", name)),
             LinkFault::LabelTwice(name) => Some(named("LabelTwice", name)),
-            LinkFault::NoSysInit => Some(Told::nowhere("NoSysInit", Detail::Nothing)),
+            LinkFault::NoSysInit => Some(Diagnostic::nowhere("NoSysInit", Detail::Nothing)),
             LinkFault::TooManyStatics(words) => {
-                Some(Told::nowhere("TooManyStatics", Detail::Number(words)))
+                Some(Diagnostic::nowhere("TooManyStatics", Detail::Number(words)))
             }
             LinkFault::Memory => None,
         }
@@ -53,10 +53,10 @@ impl LinkFault {
 }
 
 // What a fault with a name tells.
-fn named(word: &'static str, name: Name) -> Told
+fn named(word: &'static str, name: Name) -> Diagnostic
     ensures { result ≡ message 0 0 word.now name }
 {
-    Told::nowhere(word, Detail::Name(name.into_bytes()))
+    Diagnostic::nowhere(word, Detail::Name(name.into_bytes()))
 }
 
 impl From<AllocError> for LinkFault {

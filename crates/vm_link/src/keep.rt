@@ -1,7 +1,7 @@
 //! The sections that are kept.
 ghost use Rattle.std.specs.Prelude.{◌≡◌, IfOk, false, length};
 ghost use Rattle.vm_link.specs.Reached.{AreKept};
-ghost use Rattle.vm_link.specs.Marks.{selected};
+ghost use Rattle.vm_link.specs.Marks.{selected_sections};
 ghost use Rattle.vm_link.specs.Maps.{AreNumbers, all_seen};
 
 use crate::numbers::Numbers;
@@ -16,7 +16,7 @@ fn select<'a>(
     marks: &[bool],
 ) -> Result<Vec<Part<'a>>, AllocError>
     requires { length marks.now ≡ length parts.now }
-    ensures { IfOk result (λ kept. all_seen kept.items ≡ selected marks.now (all_seen parts.now)) }
+    ensures { IfOk result (λ kept. all_seen kept.items ≡ selected_sections marks.now (all_seen parts.now)) }
 {
     let mut kept = Vec::new(alloc);
     for (place, part) in parts.iter().enumerate() {

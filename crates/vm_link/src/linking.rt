@@ -3,11 +3,11 @@ ghost use Rattle.std.specs.Prelude.{◌≡◌, ◌≤◌, ◌<◌, ℕ, List, So
 ghost use Rattle.std.specs.List.{list_any, position_from};
 ghost use Rattle.vm_link.specs.Sections.{Section, is_named};
 ghost use Rattle.vm_link.specs.Faults.{sys_init, kept_fault, too_many, words_before};
-ghost use Rattle.vm_link.specs.Resolved.{files_from, function_of, is_marked, linked};
+ghost use Rattle.vm_link.specs.Resolved.{files_from, function_of, is_marked, linked_of};
 ghost use Rattle.vm_link.specs.Links.{Links};
 ghost use Rattle.vm_link.specs.Sound.{IsSound};
 ghost use Rattle.vm_link.specs.Words.{AreBases, AreFitting, AreWords, IsFitting};
-ghost use Rattle.vm_link.specs.Maps.{AreNumbers, all_seen, seen};
+ghost use Rattle.vm_link.specs.Maps.{AreNumbers, all_seen, seen_section};
 
 use crate::keep::keep;
 use crate::numbers::{Numbers, function_numbers};
@@ -151,7 +151,7 @@ fn linked(
 ) -> Result<Linked, AllocError>
     requires words { AreWords (all_seen kept.now) (length files.now) words.now }
     requires fits { (bases : List ℕ) → AreBases (all_seen kept.now) (length files.now) bases → AreFitting (all_seen kept.now) bases }
-    ensures { IfOk result (λ l. l ≡ linked bare files.now (all_seen kept.now)) }
+    ensures { IfOk result (λ l. l ≡ linked_of bare files.now (all_seen kept.now)) }
 {
     let numbers = function_numbers(alloc, kept)?;
     let bases = bases(alloc, words)?;

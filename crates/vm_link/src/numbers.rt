@@ -4,7 +4,7 @@ ghost use Rattle.std.specs.Option.{option_or};
 ghost use Rattle.std.specs.Str.{bytes_eq};
 ghost use Rattle.vm_link.specs.Faults.{first_repeat};
 ghost use Rattle.vm_link.specs.Resolved.{label_place, first_place};
-ghost use Rattle.vm_link.specs.Maps.{number, texts, seen, all_seen, AreNumbers};
+ghost use Rattle.vm_link.specs.Maps.{number, texts, seen_section, all_seen, AreNumbers};
 
 use crate::section::{Part, label};
 use std::alloc::{AllocError, Global};
@@ -56,7 +56,7 @@ pub fn function_numbers<'a>(alloc: Global, parts: &[Part<'a>]) -> Result<Numbers
 
 /// The places of a section's labels. A label is no step, and before a function's lines stands its `function` line.
 pub fn label_places<'a>(alloc: Global, part: &Part<'a>) -> Result<Numbers<'a>, AllocError>
-    ensures { IfOk result (λ m. (q : List ℕ) → number m q ≡ label_place q (first_place (seen part.now)) (seen part.now).lines) }
+    ensures { IfOk result (λ m. (q : List ℕ) → number m q ≡ label_place q (first_place (seen_section part.now)) (seen_section part.now).lines) }
 {
     let mut places = BTreeMap::new(alloc);
     let mut place = if part.name.is_some() { 1 } else { 0 };

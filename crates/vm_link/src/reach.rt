@@ -1,6 +1,6 @@
 //! The functions that are reached by calls.
 ghost use Rattle.std.specs.Prelude.{◌≡◌, ◌<◌, ℕ, true, false, length, IfOk, OnOk, option_map};
-ghost use Rattle.vm_link.specs.Marks.{AreBelow, AreCalling, AreReached, IsNumber, Marks, marked};
+ghost use Rattle.vm_link.specs.Marks.{AreBelow, AreCalling, AreReached, IsNumber, Marks, is_marked};
 ghost use Rattle.vm_link.specs.Maps.{AreNumbers, all_seen};
 
 use crate::numbers::Numbers;
@@ -13,7 +13,7 @@ use vm_tree::Line;
 fn mark(place: usize, marks: &mut Vec<bool>, pending: &mut Vec<usize>) -> Result<(), AllocError>
     requires { place < length marks.old.items }
     ensures marks { OnOk result (Marks (λ i. i ≡ place) marks.old.items marks.new.items pending.old.items pending.new.items) }
-    ensures marked { OnOk result (marked marks.new.items place ≡ true) }
+    ensures marked { OnOk result (is_marked marks.new.items place ≡ true) }
 {
     if marks[place] {
         return Ok(());
@@ -32,7 +32,7 @@ fn mark_function(
 ) -> Result<(), AllocError>
     requires { AreBelow numbers.now (length marks.old.items) }
     ensures marks { OnOk result (Marks (IsNumber numbers.now (option_map (λ n. n.now) name.entry)) marks.old.items marks.new.items pending.old.items pending.new.items) }
-    ensures marked { OnOk result ((i : ℕ) → IsNumber numbers.now (option_map (λ n. n.now) name.entry) i → marked marks.new.items i ≡ true) }
+    ensures marked { OnOk result ((i : ℕ) → IsNumber numbers.now (option_map (λ n. n.now) name.entry) i → is_marked marks.new.items i ≡ true) }
 {
     let Some(text) = name else {
         return Ok(());
@@ -52,7 +52,7 @@ fn visit(
 ) -> Result<(), AllocError>
     requires { AreBelow numbers.now (length marks.old.items) }
     ensures marks { OnOk result (Marks (AreCalling numbers.now lines.now) marks.old.items marks.new.items pending.old.items pending.new.items) }
-    ensures all { OnOk result ((i : ℕ) → AreCalling numbers.now lines.now i → marked marks.new.items i ≡ true) }
+    ensures all { OnOk result ((i : ℕ) → AreCalling numbers.now lines.now i → is_marked marks.new.items i ≡ true) }
 {
     for line in lines {
         mark_function(called(&line.command), numbers, marks, pending)?;
@@ -63,7 +63,7 @@ fn visit(
 // As many marks as there are sections, none of them set.
 fn no_marks(alloc: Global, parts: &[Part<'_>]) -> Result<Vec<bool>, AllocError>
     ensures same_length { IfOk result (λ marks. length marks.items ≡ length parts.now) }
-    ensures unset { IfOk result (λ marks. (i : ℕ) → marked marks.items i ≡ false) }
+    ensures unset { IfOk result (λ marks. (i : ℕ) → is_marked marks.items i ≡ false) }
 {
     let mut marks = Vec::new(alloc);
     for _part in parts {

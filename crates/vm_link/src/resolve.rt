@@ -4,7 +4,7 @@ ghost use Rattle.std.specs.List.{filter_map};
 ghost use Rattle.vm_link.specs.Sections.{Section};
 ghost use Rattle.vm_link.specs.Faults.{static_words, words_at, words_before, words_of_lines};
 ghost use Rattle.vm_link.specs.Resolved.{code_of, entry_of, first_statement, function_of, index_in, step_of};
-ghost use Rattle.vm_link.specs.Maps.{AreNumbers, Tells, number, seen};
+ghost use Rattle.vm_link.specs.Maps.{AreNumbers, Tells, number, seen_section};
 
 use crate::numbers::{Numbers, label_places};
 use crate::section::Part;
@@ -88,7 +88,7 @@ fn first_statement(lines: &[Line]) -> u32
 
 // The `function` line, where there is one.
 fn entry(alloc: Global, part: &Part<'_>) -> Result<Vec<Code>, AllocError>
-    ensures { IfOk result (λ code. code.items ≡ entry_of (seen part.now).name (seen part.now).locals (seen part.now).lines) }
+    ensures { IfOk result (λ code. code.items ≡ entry_of (seen_section part.now).name (seen_section part.now).locals (seen_section part.now).lines) }
 {
     let mut code = Vec::new(alloc);
     if part.name.is_some() {
@@ -121,7 +121,7 @@ fn add_lines(
 
 // An opening text has an empty name.
 fn name_of(alloc: Global, part: &Part<'_>) -> Result<Name, AllocError>
-    ensures { IfOk result (λ name. name ≡ unwrap_or (seen part.now).name []) }
+    ensures { IfOk result (λ name. name ≡ unwrap_or (seen_section part.now).name []) }
 {
     match part.name {
         Some(name) => Name::new(alloc, name),
@@ -136,8 +136,8 @@ pub fn function_of(
     functions: &Numbers<'_>,
     before: u16,
 ) -> Result<LinkedFunction, AllocError>
-    requires { before + words_of_lines (seen part.now).lines ≤ 240 }
-    ensures { IfOk result (λ f. (kept : List Section) → AreNumbers functions.now kept → before ≡ words_before kept part.now.file → f ≡ function_of kept (seen part.now)) }
+    requires { before + words_of_lines (seen_section part.now).lines ≤ 240 }
+    ensures { IfOk result (λ f. (kept : List Section) → AreNumbers functions.now kept → before ≡ words_before kept part.now.file → f ≡ function_of kept (seen_section part.now)) }
 {
     let places = label_places(alloc, part)?;
     let mut code = entry(alloc, part)?;

@@ -1,8 +1,8 @@
 //! The sections of a program, and the names in them.
 ghost use Rattle.std.specs.Prelude.{◌≡◌, ◌+◌, ◌++◌, OnOk, IfOk, option_map, length};
-ghost use Rattle.vm_link.specs.Sections.{file_sections, functions_from, function_section, opening_section, sections, called, target, label, labels};
+ghost use Rattle.vm_link.specs.Sections.{file_sections, functions_from, function_section, opening_section, sections, called_name, target, label, labels};
 ghost use Rattle.vm_link.specs.Faults.{names};
-ghost use Rattle.vm_link.specs.Maps.{seen, all_seen, texts};
+ghost use Rattle.vm_link.specs.Maps.{seen_section, all_seen, texts};
 
 use std::alloc::{AllocError, Global};
 use vm_tree::{Command, File, Function, Line};
@@ -29,7 +29,7 @@ fn next_number(parts: &[Part<'_>]) -> Result<u32, AllocError>
 }
 
 fn function_part(file: usize, number: u32, function: &Function) -> Part<'_>
-    ensures { seen result ≡ function_section file number function.now }
+    ensures { seen_section result ≡ function_section file number function.now }
 {
     Part {
         file,
@@ -41,7 +41,7 @@ fn function_part(file: usize, number: u32, function: &Function) -> Part<'_>
 }
 
 fn opening_part(file: usize, number: u32, text: &File) -> Part<'_>
-    ensures { seen result ≡ opening_section file number text.now }
+    ensures { seen_section result ≡ opening_section file number text.now }
 {
     Part {
         file,
@@ -94,7 +94,7 @@ pub fn parts(alloc: Global, files: &[File], bare: bool) -> Result<Vec<Part<'_>>,
 
 /// The name that a command calls.
 pub fn called(command: &Command) -> Option<&str>
-    ensures { option_map (λ n. n.now) result ≡ called command.now }
+    ensures { option_map (λ n. n.now) result ≡ called_name command.now }
 {
     match command {
         Command::Call(name, _) => Some(name.as_str()),

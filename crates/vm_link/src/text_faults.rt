@@ -1,9 +1,9 @@
 //! What is wrong with the text of a program.
 ghost use Rattle.std.specs.Prelude.{◌≡◌, IfOk, List, option_map};
 ghost use Rattle.std.specs.List.{list_any};
-ghost use Rattle.vm_link.specs.Sections.{Section, called, is_named, target};
+ghost use Rattle.vm_link.specs.Sections.{Section, called_name, is_named, target};
 ghost use Rattle.vm_link.specs.Faults.{sys_init, first_of, lacking, label_twice, no_label, no_function, no_start, text_fault};
-ghost use Rattle.vm_link.specs.Maps.{seen, all_seen, AreNumbers, has_number};
+ghost use Rattle.vm_link.specs.Maps.{seen_section, all_seen, AreNumbers, has_number};
 
 use crate::LinkFault;
 use crate::numbers::{Numbers, first_repeat, label_places};
@@ -56,7 +56,7 @@ fn target_lacking<'a>(lines: &'a [Line], places: &Numbers<'_>) -> Option<&'a str
 
 // The first name that lines call and that has no number.
 fn call_lacking<'a>(lines: &'a [Line], numbers: &Numbers<'_>) -> Option<&'a str>
-    ensures { option_map (λ n. n.now) result ≡ first_of (λ x. lacking (has_number numbers.now) (called x.command)) lines.now }
+    ensures { option_map (λ n. n.now) result ≡ first_of (λ x. lacking (has_number numbers.now) (called_name x.command)) lines.now }
 {
     for line in lines {
         let missing = lacking(called(&line.command), numbers);
@@ -69,7 +69,7 @@ fn call_lacking<'a>(lines: &'a [Line], numbers: &Numbers<'_>) -> Option<&'a str>
 
 // The first label that a section goes to and has not.
 fn label_missing<'a>(alloc: Global, part: &Part<'a>) -> Result<Option<&'a str>, AllocError>
-    ensures { IfOk result (λ name. option_map (λ n. n.now) name ≡ no_label (seen part.now)) }
+    ensures { IfOk result (λ name. option_map (λ n. n.now) name ≡ no_label (seen_section part.now)) }
 {
     let places = label_places(alloc, part)?;
     Ok(target_lacking(part.lines, &places))
@@ -134,7 +134,7 @@ fn start_fault(numbers: &Numbers<'_>, bare: bool) -> Option<LinkFault>
 
 // The first name that a section calls and no function has.
 fn function_missing<'a>(part: &Part<'a>, numbers: &Numbers<'_>) -> Option<&'a str>
-    ensures { (ss : List Section) → AreNumbers numbers.now ss → option_map (λ n. n.now) result ≡ no_function ss (seen part.now) }
+    ensures { (ss : List Section) → AreNumbers numbers.now ss → option_map (λ n. n.now) result ≡ no_function ss (seen_section part.now) }
 {
     call_lacking(part.lines, numbers)
 }

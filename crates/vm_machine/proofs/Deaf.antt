@@ -10,7 +10,7 @@ use Rattle.vm_link.specs.declared.linked.Code.{Code}
 use Rattle.vm_link.specs.declared.linked.Linked.{Linked}
 use Rattle.machine_io.specs.declared.machine.Stray.TheVariants as stray
 use Rattle.vm_machine.specs.State.{Frame, State, words_in_use}
-use Rattle.vm_machine.specs.Step.{Outcome, Acts, Strays, Full, after, pushed, load, push, act, fitted, code_in, perform, step_frames, step}
+use Rattle.vm_machine.specs.Step.{Outcome, Acts, Strays, Full, after, push_outcome, load, push, act, fit_outcome, code_in, perform, step_frames, step}
 use Rattle.vm_machine.specs.Level.{has_heard}
 use Rattle.vm_machine.specs.Laws.{KeyLaw}
 
@@ -32,26 +32,26 @@ as_many f [] k k' = refl
 as_many f (g ∷ below) k k' = refl
 
 module _ (s : State) (f : Frame) (below : List Frame) (k k' : ℕ) where
-  heard_alike : Alike (fitted (pushed true s f below k)) (fitted (pushed true s f below k'))
+  heard_alike : Alike (fit_outcome (push_outcome true s f below k)) (fit_outcome (push_outcome true s f below k'))
   heard_alike = rw (as_many f below k k') (with_room (nat_lt 1792 (words_in_use (after f (k ∷ f.values) ∷ below))) (words_in_use (after f (k ∷ f.values) ∷ below))
       (record s { frames = after f (k ∷ f.values) ∷ below }) (record s { frames = after f (k' ∷ f.values) ∷ below }))
 
   load_with : (low data_ key : Bool) (a : ℕ) → Alike
-      (fitted (if low then Strays (stray.Address a) else (if data_ then pushed false s f below (slice_index s.words (a - 2048)) else (if key then pushed true s f below k else Strays (stray.Address a)))))
-      (fitted (if low then Strays (stray.Address a) else (if data_ then pushed false s f below (slice_index s.words (a - 2048)) else (if key then pushed true s f below k' else Strays (stray.Address a)))))
+      (fit_outcome (if low then Strays (stray.Address a) else (if data_ then push_outcome false s f below (slice_index s.words (a - 2048)) else (if key then push_outcome true s f below k else Strays (stray.Address a)))))
+      (fit_outcome (if low then Strays (stray.Address a) else (if data_ then push_outcome false s f below (slice_index s.words (a - 2048)) else (if key then push_outcome true s f below k' else Strays (stray.Address a)))))
   load_with true d key a = same _
   load_with false true key a = same _
   load_with false false true a = heard_alike
   load_with false false false a = same _
 
-  load_alike : (a : ℕ) → Alike (fitted (load k a s f below)) (fitted (load k' a s f below))
+  load_alike : (a : ℕ) → Alike (fit_outcome (load k a s f below)) (fit_outcome (load k' a s f below))
   load_alike a = load_with (nat_lt a 2048) (nat_lt a 24576) (nat_eq a 24576) a
 
-  written_with : (b : Bool) (o o' : Outcome) → Alike (fitted o) (fitted o') → Alike (fitted (if b then o else Strays stray.Code)) (fitted (if b then o' else Strays stray.Code))
+  written_with : (b : Bool) (o o' : Outcome) → Alike (fit_outcome o) (fit_outcome o') → Alike (fit_outcome (if b then o else Strays stray.Code)) (fit_outcome (if b then o' else Strays stray.Code))
   written_with true o o' h = h
   written_with false o o' h = same _
 
-  push_alike : (g : Segment) (i : ℕ) → Alike (fitted (push k g i s f below)) (fitted (push k' g i s f below))
+  push_alike : (g : Segment) (i : ℕ) → Alike (fit_outcome (push k g i s f below)) (fit_outcome (push k' g i s f below))
   push_alike segment.Constant i = same _
   push_alike segment.Argument i = same _
   push_alike segment.Local i = same _
@@ -61,7 +61,7 @@ module _ (s : State) (f : Frame) (below : List Frame) (k k' : ℕ) where
   push_alike segment.This i = written_with (nat_lt i 32768) (load k (word_add f.this i) s f below) (load k' (word_add f.this i) s f below) (load_alike (word_add f.this i))
   push_alike segment.That i = written_with (nat_lt i 32768) (load k (word_add f.that i) s f below) (load k' (word_add f.that i) s f below) (load_alike (word_add f.that i))
 
-  act_alike : (c : Step) → Alike (fitted (act k c s f below)) (fitted (act k' c s f below))
+  act_alike : (c : Step) → Alike (fit_outcome (act k c s f below)) (fit_outcome (act k' c s f below))
   act_alike (command.Operate o) = same _
   act_alike (command.Push g i) = push_alike g i
   act_alike (command.Pop g i) = same _
@@ -71,11 +71,11 @@ module _ (s : State) (f : Frame) (below : List Frame) (k k' : ℕ) where
   act_alike (command.Call g n) = same _
   act_alike command.Return = same _
 
-  perform_alike : (c : Option Code) → Alike (fitted (perform k s f below c)) (fitted (perform k' s f below c))
+  perform_alike : (c : Option Code) → Alike (fit_outcome (perform k s f below c)) (fit_outcome (perform k' s f below c))
   perform_alike None = same _
   perform_alike (Some c) = act_alike c.step
 
-frames_alike : (l : Linked) (k k' : ℕ) (s : State) (fs : List Frame) → Alike (fitted (step_frames l k s fs)) (fitted (step_frames l k' s fs))
+frames_alike : (l : Linked) (k k' : ℕ) (s : State) (fs : List Frame) → Alike (fit_outcome (step_frames l k s fs)) (fit_outcome (step_frames l k' s fs))
 frames_alike l k k' s [] = same _
 frames_alike l k k' s (f ∷ below) = perform_alike s f below k k' (slice_get (code_in l f.function) f.place)
 

@@ -2,7 +2,7 @@
 use Rattle.std.proofs.Common.{◌≡◌, ℕ, Bool, true, false, nat_lt, nat_eq, List, [], ◌∷◌, length, refl, ap, ◌∙◌, sym}
 use Rattle.std.specs.Prelude.{Option, Some, None, if◌then◌else◌, slice_get}
 use Rattle.word16.specs.Words.{word_add}
-use Rattle.layers.specs.System.{IdlesAtEnd}
+use Rattle.simulation.specs.System.{IdlesAtEnd}
 use Rattle.machine_io.specs.declared.machine.Stray.{Stray}
 use Rattle.vm_tree.specs.declared.command.Operation.{Operation}
 use Rattle.vm_tree.specs.declared.command.Operation.TheVariants.{Add, Sub, Neg, Eq, Gt, Lt, And, Or, Not}
@@ -13,7 +13,7 @@ use Rattle.vm_link.specs.declared.linked.Step.TheVariants as command
 use Rattle.vm_link.specs.declared.linked.Code.{Code}
 use Rattle.vm_link.specs.declared.linked.Linked.{Linked}
 use Rattle.vm_machine.specs.State.{Frame, State, words_in_use}
-use Rattle.vm_machine.specs.Step.{Outcome, Acts, Strays, Full, Done, on_top, on_two, on_word, turned, joined, operate, load, store, push, pop, begin, return, act, fitted, code_in, perform, step_frames, step}
+use Rattle.vm_machine.specs.Step.{Outcome, Acts, Strays, Full, Done, on_top, on_two, on_word, unary_outcome, binary_outcome, operate, load, store, push, pop, begin, return, act, fit_outcome, code_in, perform, step_frames, step}
 use Rattle.vm_machine.specs.Level.{has_heard, is_done, is_commit, next_of, state_after, vm_system}
 use Rattle.vm_machine.specs.Laws.{EndLaw}
 use Rattle.vm_machine.proofs.Deaf.{step_alike}
@@ -39,10 +39,10 @@ if_goes true o o' h h' = h
 if_goes false o o' h h' = h'
 
 module _ (key : ℕ) (s : State) (f : Frame) (below : List Frame) where
-  turned_goes : (op : ℕ → ℕ) → Goes (turned op s f below)
+  turned_goes : (op : ℕ → ℕ) → Goes (unary_outcome op s f below)
   turned_goes op = top_goes f.values _ (λ x values. refl)
 
-  joined_goes : (op : ℕ → ℕ → ℕ) → Goes (joined op s f below)
+  joined_goes : (op : ℕ → ℕ → ℕ) → Goes (binary_outcome op s f below)
   joined_goes op = two_goes f.values _ (λ x y values. refl)
 
   operate_goes : (o : Operation) → Goes (operate o s f below)
@@ -102,18 +102,18 @@ module _ (key : ℕ) (s : State) (f : Frame) (below : List Frame) where
   act_goes (command.Call g n) = if_goes (nat_lt (length f.values) n) _ _ refl refl
   act_goes command.Return = top_goes f.values _ (return_goes below)
 
-fitted_goes : (o : Outcome) → Goes o → Goes (fitted o)
+fitted_goes : (o : Outcome) → Goes o → Goes (fit_outcome o)
 fitted_goes (Acts heard s) h = if_goes (nat_lt 1792 (words_in_use s.frames)) _ _ refl refl
 fitted_goes (Strays why) h = refl
 fitted_goes (Full w) h = refl
 fitted_goes Done h = h
 
 -- where there is a command, the machine has not come to its end
-quiet_with : (key : ℕ) (l : Linked) (s : State) (f : Frame) (below : List Frame) (c : Option Code) → is_done (fitted (perform key s f below c)) ≡ true → is_commit c ≡ false
+quiet_with : (key : ℕ) (l : Linked) (s : State) (f : Frame) (below : List Frame) (c : Option Code) → is_done (fit_outcome (perform key s f below c)) ≡ true → is_commit c ≡ false
 quiet_with key l s f below None h = refl
 quiet_with key l s f below (Some c) h = absurd (cc (sym (fitted_goes (act key c.step s f below) (act_goes key s f below c.step)) ∙ h))
 
-quiet_frames : (l : Linked) (s : State) (fs : List Frame) → is_done (fitted (step_frames l 0 s fs)) ≡ true → is_commit (next_of l fs) ≡ false
+quiet_frames : (l : Linked) (s : State) (fs : List Frame) → is_done (fit_outcome (step_frames l 0 s fs)) ≡ true → is_commit (next_of l fs) ≡ false
 quiet_frames l s [] h = refl
 quiet_frames l s (f ∷ below) h = quiet_with 0 l s f below (slice_get (code_in l f.function) f.place) h
 

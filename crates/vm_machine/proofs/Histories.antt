@@ -7,7 +7,7 @@ use Rattle.machine_io.specs.declared.machine.Moved.{Moved}
 use Rattle.vm_link.specs.declared.linked.Code.{Code}
 use Rattle.vm_link.specs.declared.linked.Linked.{Linked}
 use Rattle.vm_machine.specs.State.{State}
-use Rattle.vm_machine.specs.Step.{fitted, perform, code_in, ended, step, start}
+use Rattle.vm_machine.specs.Step.{fit_outcome, perform, code_in, end_outcome, step, start}
 use Rattle.vm_machine.specs.Level.{next_of, last_statement}
 use Rattle.vm_machine.specs.Moves.{Makes, Words, state_of, answer_of, state_or}
 use Rattle.vm_machine.specs.Calls.{Calls}
@@ -16,17 +16,17 @@ use Rattle.vm_machine.specs.Loaded.{LoadedVm, Leads, steps_in, steps_made, HasTa
 -- a step by what is fetched
 pub step_made : (l : Linked) (key : ℕ) (stack : Calls) (memory : Words) (command : Option Code) (answer : Moved) (s' : State)
     → command ≡ slice_get (code_in l stack.top.function) stack.top.place
-    → Makes (fitted (perform key (state_of stack memory) stack.top stack.below command)) (state_of stack memory) answer s'
+    → Makes (fit_outcome (perform key (state_of stack memory) stack.top stack.below command)) (state_of stack memory) answer s'
     → Makes (step l key (state_of stack memory)) (state_of stack memory) answer s'
 unfolding step
-step_made l key stack memory command answer s' e h = subst (λ x. Makes (fitted (perform key (state_of stack memory) stack.top stack.below x)) (state_of stack memory) answer s') e h
+step_made l key stack memory command answer s' e h = subst (λ x. Makes (fit_outcome (perform key (state_of stack memory) stack.top stack.below x)) (state_of stack memory) answer s') e h
 
-ended_with : (function : Option ℕ) (s : State) (answer : Moved) → answer ≡ answer_of (ended function) → Makes (fitted (ended function)) s answer s
+ended_with : (function : Option ℕ) (s : State) (answer : Moved) → answer ≡ answer_of (end_outcome function) → Makes (fit_outcome (end_outcome function)) s answer s
 ended_with None s answer e = record { answer_is = e; state_is = refl }
 ended_with (Some k) s answer e = record { answer_is = e; state_is = refl }
 
 -- where no command is left
-pub end_made : (l : Linked) (key : ℕ) (stack : Calls) (memory : Words) (answer : Moved) → None ≡ next_of l (stack.top ∷ stack.below) → answer ≡ answer_of (ended stack.top.function)
+pub end_made : (l : Linked) (key : ℕ) (stack : Calls) (memory : Words) (answer : Moved) → None ≡ next_of l (stack.top ∷ stack.below) → answer ≡ answer_of (end_outcome stack.top.function)
     → Makes (step l key (state_of stack memory)) (state_of stack memory) answer (state_of stack memory)
 end_made l key stack memory answer e h = step_made l key stack memory None answer (state_of stack memory) e (ended_with stack.top.function (state_of stack memory) answer h)
 

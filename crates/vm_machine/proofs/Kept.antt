@@ -7,7 +7,7 @@ use Rattle.std.proofs.lemmas.Grind.{reverse_onto}
 use Rattle.std.proofs.lemmas.Option.{slice_get_within}
 use Rattle.std.proofs.lemmas.Nat.{or_lt, and_le_l}
 use Rattle.std.proofs.lemmas.Bool.{ltb-false, ltb-true}
-use Rattle.word16.specs.Words.{word_add, word_sub, word_neg, word_not, signed, truth}
+use Rattle.word16.specs.Words.{word_add, word_sub, word_neg, word_not, signed_value, truth}
 use Rattle.machine_io.specs.declared.machine.Stray.{Stray}
 use Rattle.machine_io.specs.declared.machine.Stray.TheVariants as stray
 use Rattle.vm_tree.specs.declared.command.Operation.{Operation}
@@ -21,7 +21,7 @@ use Rattle.vm_link.specs.declared.linked.LinkedFunction.{LinkedFunction}
 use Rattle.vm_link.specs.declared.linked.Linked.{Linked}
 use Rattle.vm_link.specs.Sound.{IsSound, IsSoundStep, IsSoundFunction}
 use Rattle.vm_machine.specs.State.{Frame, State, words_in_use}
-use Rattle.vm_machine.specs.Step.{Outcome, Acts, Strays, Full, Done, after, pushed, on_top, on_two, on_word, turned, joined, operate, load, store, push, pop, call, begin, return, act, fitted, code_of, code_in, ended, perform, step_frames, step, start}
+use Rattle.vm_machine.specs.Step.{Outcome, Acts, Strays, Full, Done, after, push_outcome, on_top, on_two, on_word, unary_outcome, binary_outcome, operate, load, store, push, pop, call, begin, return, act, fit_outcome, code_of, code_in, end_outcome, perform, step_frames, step, start}
 use Rattle.vm_machine.specs.Sound.{AreWords, IsSoundFrame, AreSoundFrames, IsSoundState}
 use Rattle.vm_machine.specs.Laws.{SoundLaw}
 
@@ -122,13 +122,13 @@ module _ (l : Linked) where
     moved place values h ws = retop f (record f { place = place; values = values }) below fs
         (record { place = h; arguments = there.arguments; locals = there.locals; values = ws; this = there.this; that = there.that }) refl (λ e. e) (λ e. e) (λ e. (refl, refl))
 
-    pushed_good : (heard : Bool) (w : ℕ) → w < 65536 → Good (pushed heard s f below w)
+    pushed_good : (heard : Bool) (w : ℕ) → w < 65536 → Good (push_outcome heard s f below w)
     pushed_good heard w h = (moved (f.place + 1) (w ∷ f.values) more (word_more w f.values h there.values), m)
 
-    turned_good : (op : ℕ → ℕ) → ((x : ℕ) → x < 65536 → op x < 65536) → Good (turned op s f below)
+    turned_good : (op : ℕ → ℕ) → ((x : ℕ) → x < 65536 → op x < 65536) → Good (unary_outcome op s f below)
     turned_good op h = top_good f.values _ there.values (λ x ws hx hs. (moved (f.place + 1) (op x ∷ ws) more (word_more (op x) ws (h x hx) hs), m))
 
-    joined_good : (op : ℕ → ℕ → ℕ) → ((x y : ℕ) → x < 65536 → y < 65536 → op x y < 65536) → Good (joined op s f below)
+    joined_good : (op : ℕ → ℕ → ℕ) → ((x y : ℕ) → x < 65536 → y < 65536 → op x y < 65536) → Good (binary_outcome op s f below)
     joined_good op h = two_good f.values _ there.values (λ x y ws hx hy hs. (moved (f.place + 1) (op x y ∷ ws) more (word_more (op x y) ws (h x y hx hy) hs), m))
 
     operate_good : (o : Operation) → Good (operate o s f below)
@@ -136,8 +136,8 @@ module _ (l : Linked) where
     operate_good Sub = joined_good word_sub (λ x y hx hy. omega arith)
     operate_good Neg = turned_good word_neg (λ x hx. omega arith)
     operate_good Eq = joined_good (λ x y. truth (nat_eq x y)) (λ x y hx hy. truth_word (nat_eq x y))
-    operate_good Gt = joined_good (λ x y. truth (int_lt (signed y) (signed x))) (λ x y hx hy. truth_word (int_lt (signed y) (signed x)))
-    operate_good Lt = joined_good (λ x y. truth (int_lt (signed x) (signed y))) (λ x y hx hy. truth_word (int_lt (signed x) (signed y)))
+    operate_good Gt = joined_good (λ x y. truth (int_lt (signed_value y) (signed_value x))) (λ x y hx hy. truth_word (int_lt (signed_value y) (signed_value x)))
+    operate_good Lt = joined_good (λ x y. truth (int_lt (signed_value x) (signed_value y))) (λ x y hx hy. truth_word (int_lt (signed_value x) (signed_value y)))
     operate_good And = joined_good bit_and (λ x y hx hy. omega (arith, and_le_l x y, hx))
     operate_good Or = joined_good bit_or (λ x y hx hy. or_lt 16 x y hx hy)
     operate_good Not = turned_good word_not (λ x hx. omega arith)
@@ -162,7 +162,7 @@ module _ (l : Linked) where
     push_good : (g : Segment) (i : ℕ) → Good (push key g i s f below)
     push_good segment.Constant i = constant (nat_lt i 32768) refl
       where
-        constant : (b : Bool) → nat_lt i 32768 ≡ b → Good (if b then pushed false s f below i else Strays stray.Code)
+        constant : (b : Bool) → nat_lt i 32768 ≡ b → Good (if b then push_outcome false s f below i else Strays stray.Code)
         constant true e = pushed_good false i (small i e)
         constant false e = tt
     push_good segment.Argument i = word_good _ f.arguments i _ there.arguments (pushed_good false)
@@ -291,7 +291,7 @@ module _ (l : Linked) where
     start_keeps f (g ∷ below) h e = absurd (cc e)
 
     module _ (key : ℕ) (is_word : key < 65536) (s : State) (m : AreMemory s.statics s.temps s.words) where
-      ended_good : (o : Option ℕ) → Good (ended o)
+      ended_good : (o : Option ℕ) → Good (end_outcome o)
       ended_good None = tt
       ended_good (Some k) = tt
 
@@ -322,7 +322,7 @@ module _ (l : Linked) where
         words_length = g.1.words_length;
       })
 
-  fit_good : (o : Outcome) (heard : Bool) (s' : State) → Good o → fitted o ≡ Acts heard s' → IsSoundState l s'
+  fit_good : (o : Outcome) (heard : Bool) (s' : State) → Good o → fit_outcome o ≡ Acts heard s' → IsSoundState l s'
   fit_good (Acts h s) heard s' g e = fit_with (nat_lt 1792 (words_in_use s.frames)) h heard s s' refl g e
   fit_good (Strays why) heard s' g e = absurd (cc e)
   fit_good (Full w) heard s' g e = absurd (cc e)

@@ -4,7 +4,7 @@ use Rattle.std.specs.Prelude.{Some, None, slice_get, slice_index, slice_set}
 use Rattle.std.proofs.lemmas.Grind.{reverse_onto}
 use Rattle.std.proofs.lemmas.List.{get_or-set_same, get_or-set_other, get_or_read_under, length-set}
 use Rattle.std.proofs.lemmas.Bool.Decides.{nat_tests}
-use Rattle.vm_machine.specs.Step.{called}
+use Rattle.vm_machine.specs.Step.{called_frame}
 use Rattle.vm_machine.specs.State.{Frame, words_in_use}
 use Rattle.vm_machine.specs.declared.stack.Call.{Call}
 use Rattle.vm_machine.specs.Calls.{Calls, calls_of, range, values_from, frame_of, no_call, call_at, below_of, IsLaid, AreLaid, IsStack}
@@ -276,7 +276,7 @@ entered words g n end v this that few le =
     ap (λ k. range words (end - n) k) many ∙ ap (λ k. range words k n) here ∙ sym (taken words v (end - n - v) n) ∙ ap (λ k. reverse (take n (values_from words v k))) all
 
 pub call_frame : (words : List ℕ) (c : Call) (end g n : ℕ) → n ≤ end - c.values → c.values ≤ end
-    → frame_of words (record { function = Some g; place = 0; arguments = end - n; locals = end + 5; values = end + 5; this = c.this; that = c.that }) (end + 5) ≡ called g n (frame_of words c end)
+    → frame_of words (record { function = Some g; place = 0; arguments = end - n; locals = end + 5; values = end + 5; this = c.this; that = c.that }) (end + 5) ≡ called_frame g n (frame_of words c end)
 call_frame words c end g n few le =
     let none_of : (k : ℕ) → range words k (end + 5 - (end + 5)) ≡ [] = λ k. (let e : end + 5 - (end + 5) ≡ 0 = omega arith in ap (λ m. range words k m) e) in
     let no_values : values_from words (end + 5) (end + 5 - (end + 5)) ≡ [] = (let e : end + 5 - (end + 5) ≡ 0 = omega arith in ap (λ m. values_from words (end + 5) m) e) in

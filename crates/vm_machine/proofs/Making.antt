@@ -8,7 +8,7 @@ use Rattle.machine_io.specs.declared.machine.Stray.TheVariants as stray
 use Rattle.vm_tree.specs.declared.command.Operation.{Operation}
 use Rattle.vm_tree.specs.declared.command.Operation.TheVariants.{Add, Sub, Neg, Eq, Gt, Lt, And, Or, Not}
 use Rattle.vm_machine.specs.State.{Frame, State, words_in_use}
-use Rattle.vm_machine.specs.Step.{Outcome, Acts, Strays, Full, after, goes, on_top, on_two, operate, fitted}
+use Rattle.vm_machine.specs.Step.{Outcome, Acts, Strays, Full, after, goes, on_top, on_two, operate, fit_outcome}
 use Rattle.vm_machine.specs.Moves.{Makes, Words, state_of}
 use Rattle.vm_machine.specs.Performs.{takes_one, word_of}
 use Rattle.vm_machine.specs.Calls.{Calls}
@@ -19,7 +19,7 @@ acted_with true heard s s' e = absurd (cc e)
 acted_with false heard s s' e = record { answer_is = refl; state_is = refl }
 
 -- there is room
-pub acted : (heard : Bool) (s s' : State) → words_in_use s'.frames ≤ 1792 → Makes (fitted (Acts heard s')) s moved.Acted s'
+pub acted : (heard : Bool) (s s' : State) → words_in_use s'.frames ≤ 1792 → Makes (fit_outcome (Acts heard s')) s moved.Acted s'
 acted heard s s' h = acted_with (nat_lt 1792 (words_in_use s'.frames)) heard s s' (grind (arith, nat_tests))
 
 full_with : (full heard : Bool) (s s' : State) (w : ℕ) → full ≡ true → w ≡ words_in_use s'.frames → Makes (if full then Full (words_in_use s'.frames) else Acts heard s') s (moved.Full w) s
@@ -27,16 +27,16 @@ full_with true heard s s' w e h = record { answer_is = ap moved.Full h; state_is
 full_with false heard s s' w e h = absurd (cc e)
 
 -- there is none
-pub filled : (heard : Bool) (s s' : State) (w : ℕ) → 1792 < w → w ≡ words_in_use s'.frames → Makes (fitted (Acts heard s')) s (moved.Full w) s
+pub filled : (heard : Bool) (s s' : State) (w : ℕ) → 1792 < w → w ≡ words_in_use s'.frames → Makes (fit_outcome (Acts heard s')) s (moved.Full w) s
 filled heard s s' w h e = full_with (nat_lt 1792 (words_in_use s'.frames)) heard s s' w (grind (arith, nat_tests)) e
 
 -- there is no step
-pub strayed : (o : Outcome) (s : State) (why : Stray) → o ≡ Strays why → Makes (fitted o) s (moved.Stray why) s
-strayed o s why e = subst (λ x. Makes (fitted x) s (moved.Stray why) s) (sym e) (record { answer_is = refl; state_is = refl })
+pub strayed : (o : Outcome) (s : State) (why : Stray) → o ≡ Strays why → Makes (fit_outcome o) s (moved.Stray why) s
+strayed o s why e = subst (λ x. Makes (fit_outcome x) s (moved.Stray why) s) (sym e) (record { answer_is = refl; state_is = refl })
 
 -- the same outcome
-pub as_outcome : (o o' : Outcome) (s : State) (answer : Moved) (s' : State) → o ≡ o' → Makes (fitted o') s answer s' → Makes (fitted o) s answer s'
-as_outcome o o' s answer s' e h = subst (λ x. Makes (fitted x) s answer s') (sym e) h
+pub as_outcome : (o o' : Outcome) (s : State) (answer : Moved) (s' : State) → o ≡ o' → Makes (fit_outcome o') s answer s' → Makes (fit_outcome o) s answer s'
+as_outcome o o' s answer s' e h = subst (λ x. Makes (fit_outcome x) s answer s') (sym e) h
 
 -- other values of the innermost frame
 pub other_values : (f : Frame) (below : List Frame) (place : ℕ) (values : List ℕ)
@@ -46,8 +46,8 @@ other_values f (g ∷ below) place values = omega arith
 
 -- the calls have come to these frames, over these words
 pub made : (heard : Bool) (s : State) (c : Calls) (w : Words) (f : Frame) (below : List Frame) → c.top ≡ f → c.below ≡ below → words_in_use (c.top ∷ c.below) ≤ 1792
-    → Makes (fitted (Acts heard (state_of (record { top = f; below = below }) w))) s moved.Acted (state_of c w)
-made heard s c w f below e g h = subst (λ z. Makes (fitted (Acts heard z)) s moved.Acted (state_of c w))
+    → Makes (fit_outcome (Acts heard (state_of (record { top = f; below = below }) w))) s moved.Acted (state_of c w)
+made heard s c w f below e g h = subst (λ z. Makes (fit_outcome (Acts heard z)) s moved.Acted (state_of c w))
     (λ i. record { frames = e i ∷ g i; statics = w.statics; temps = w.temps; words = w.heap_and_screen }) (acted heard s (state_of c w) h)
 
 pub top_none : (xs : List ℕ) (act : ℕ → List ℕ → Outcome) → None ≡ slice_get xs 0 → on_top xs act ≡ Strays stray.Values

@@ -1,6 +1,6 @@
 -- What holds of every linked program.
 use Rattle.std.specs.Prelude.{◌≡◌, ℕ, Bool, false, true, None}
-use Rattle.layers.specs.System.{IsKey, IdlesAtEnd}
+use Rattle.simulation.specs.System.{IsKey, IdlesAtEnd}
 use Rattle.vm_link.specs.declared.linked.Linked.{Linked}
 use Rattle.vm_link.specs.Sound.{IsSound}
 use Rattle.vm_machine.specs.State.{State}

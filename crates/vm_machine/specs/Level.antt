@@ -2,7 +2,7 @@
 use Rattle.std.specs.Prelude.{ℕ, ◌-◌, Bool, true, false, List, [], ◌∷◌, Option, Some, None, slice_get, slice_index}
 use Rattle.word16.specs.Memory.{heap}
 use Rattle.outer_world.specs.declared.point.Point.{Point}
-use Rattle.layers.specs.System.{System}
+use Rattle.simulation.specs.System.{System}
 use Rattle.machine_io.specs.declared.machine.Stray.TheVariants as stray
 use Rattle.vm_link.specs.declared.linked.Step.{Step}
 use Rattle.vm_link.specs.declared.linked.Code.{Code}

@@ -5,14 +5,14 @@ use Rattle.word16.specs.Words.{word_add, word_sub, word_neg, word_not, word_eq, 
 use Rattle.vm_tree.specs.declared.command.Operation.{Operation}
 use Rattle.vm_tree.specs.declared.command.Operation.TheVariants.{Add, Sub, Neg, Eq, Gt, Lt, And, Or, Not}
 use Rattle.vm_machine.specs.State.{Frame, State}
-use Rattle.vm_machine.specs.Step.{Outcome, fitted}
+use Rattle.vm_machine.specs.Step.{Outcome, fit_outcome}
 use Rattle.vm_machine.specs.Moves.{Makes, state_of}
 use Rattle.vm_machine.specs.declared.commands.Machine.{Machine}
 
 -- The machine answers to a command, and comes to a state, as the command's outcome says of the state that it was in.
 abbrev pub Performs : (State → Frame → List Frame → Outcome) → Machine → Moved → Machine → Type 0
 Performs command old answer new =
-    Makes (fitted (command (state_of old.stack old.memory) old.stack.top old.stack.below)) (state_of old.stack old.memory) answer (state_of new.stack new.memory)
+    Makes (fit_outcome (command (state_of old.stack old.memory) old.stack.top old.stack.below)) (state_of old.stack old.memory) answer (state_of new.stack new.memory)
 
 -- whether an operation takes one value
 abbrev pub takes_one : Operation → Bool

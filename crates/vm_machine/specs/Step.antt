@@ -35,8 +35,8 @@ abbrev pub after : Frame → List ℕ → Frame
 after f values = record f { place = f.place + 1; values = values }
 
 -- one more value
-abbrev pub pushed : Bool → State → Frame → List Frame → ℕ → Outcome
-pushed heard s f below w = Acts heard (record s { frames = after f (w ∷ f.values) ∷ below })
+abbrev pub push_outcome : Bool → State → Frame → List Frame → ℕ → Outcome
+push_outcome heard s f below w = Acts heard (record s { frames = after f (w ∷ f.values) ∷ below })
 
 -- what is done with the topmost value and those below it
 abbrev pub on_top : List ℕ → (ℕ → List ℕ → Outcome) → Outcome
@@ -55,31 +55,31 @@ on_word why None act = Strays why
 on_word why (Some w) act = act w
 
 -- the topmost value becomes another
-abbrev pub turned : (ℕ → ℕ) → State → Frame → List Frame → Outcome
-turned op s f below = on_top f.values (λ x values. goes s below (after f (op x ∷ values)))
+abbrev pub unary_outcome : (ℕ → ℕ) → State → Frame → List Frame → Outcome
+unary_outcome op s f below = on_top f.values (λ x values. goes s below (after f (op x ∷ values)))
 
 -- the two topmost values become one
-abbrev pub joined : (ℕ → ℕ → ℕ) → State → Frame → List Frame → Outcome
-joined op s f below = on_two f.values (λ x y values. goes s below (after f (op x y ∷ values)))
+abbrev pub binary_outcome : (ℕ → ℕ → ℕ) → State → Frame → List Frame → Outcome
+binary_outcome op s f below = on_two f.values (λ x y values. goes s below (after f (op x y ∷ values)))
 
 -- Sums, differences and negation modulo 65,536. Words are compared by their signed readings, and true is -1.
 abbrev pub operate : Operation → State → Frame → List Frame → Outcome
-operate Add s f below = joined word_add s f below
-operate Sub s f below = joined word_sub s f below
-operate Neg s f below = turned word_neg s f below
-operate Eq s f below = joined word_eq s f below
-operate Gt s f below = joined word_gt s f below
-operate Lt s f below = joined word_lt s f below
-operate And s f below = joined bit_and s f below
-operate Or s f below = joined bit_or s f below
-operate Not s f below = turned word_not s f below
+operate Add s f below = binary_outcome word_add s f below
+operate Sub s f below = binary_outcome word_sub s f below
+operate Neg s f below = unary_outcome word_neg s f below
+operate Eq s f below = binary_outcome word_eq s f below
+operate Gt s f below = binary_outcome word_gt s f below
+operate Lt s f below = binary_outcome word_lt s f below
+operate And s f below = binary_outcome bit_and s f below
+operate Or s f below = binary_outcome bit_or s f below
+operate Not s f below = unary_outcome word_not s f below
 
 -- the word at an address is pushed: that of heap or screen, and at the keyboard's address the key
 abbrev pub load : ℕ → ℕ → State → Frame → List Frame → Outcome
 load key a s f below =
     if nat_lt a heap then Strays (stray.Address a)
-    else (if nat_lt a keyboard then pushed false s f below (slice_index s.words (a - heap))
-    else (if nat_eq a keyboard then pushed true s f below key else Strays (stray.Address a)))
+    else (if nat_lt a keyboard then push_outcome false s f below (slice_index s.words (a - heap))
+    else (if nat_eq a keyboard then push_outcome true s f below key else Strays (stray.Address a)))
 
 -- the word at an address of heap or screen is replaced
 abbrev pub store : ℕ → ℕ → List ℕ → State → Frame → List Frame → Outcome
@@ -89,18 +89,18 @@ store a w values s f below =
     else Strays (stray.Address a))
 
 -- No text has a number over 32,767, a pointer but 0 and 1, a temp word but 0 to 7, or a pop to constant: such a command is none.
-abbrev pub written : ℕ → Outcome → Outcome
-written i outcome = if nat_lt i 32768 then outcome else Strays stray.Code
+abbrev pub write_outcome : ℕ → Outcome → Outcome
+write_outcome i outcome = if nat_lt i 32768 then outcome else Strays stray.Code
 
 abbrev pub push : ℕ → Segment → ℕ → State → Frame → List Frame → Outcome
-push key segment.Constant i s f below = written i (pushed false s f below i)
-push key segment.Argument i s f below = on_word stray.Argument (slice_get f.arguments i) (pushed false s f below)
-push key segment.Local i s f below = on_word stray.Local (slice_get f.locals i) (pushed false s f below)
-push key segment.Static i s f below = on_word stray.Code (slice_get s.statics i) (pushed false s f below)
-push key segment.Temp i s f below = on_word stray.Code (slice_get s.temps i) (pushed false s f below)
-push key segment.Pointer i s f below = on_word stray.Code (slice_get (f.this ∷ f.that ∷ []) i) (pushed false s f below)
-push key segment.This i s f below = written i (load key (word_add f.this i) s f below)
-push key segment.That i s f below = written i (load key (word_add f.that i) s f below)
+push key segment.Constant i s f below = write_outcome i (push_outcome false s f below i)
+push key segment.Argument i s f below = on_word stray.Argument (slice_get f.arguments i) (push_outcome false s f below)
+push key segment.Local i s f below = on_word stray.Local (slice_get f.locals i) (push_outcome false s f below)
+push key segment.Static i s f below = on_word stray.Code (slice_get s.statics i) (push_outcome false s f below)
+push key segment.Temp i s f below = on_word stray.Code (slice_get s.temps i) (push_outcome false s f below)
+push key segment.Pointer i s f below = on_word stray.Code (slice_get (f.this ∷ f.that ∷ []) i) (push_outcome false s f below)
+push key segment.This i s f below = write_outcome i (load key (word_add f.this i) s f below)
+push key segment.That i s f below = write_outcome i (load key (word_add f.that i) s f below)
 
 -- the word w goes to a segment, and these values are left
 abbrev pub pop : Segment → ℕ → State → Frame → List Frame → ℕ → List ℕ → Outcome
@@ -116,12 +116,12 @@ pop segment.Temp i s f below w values =
 pop segment.Pointer i s f below w values =
     if nat_eq i 0 then goes s below (record (after f values) { this = w })
     else (if nat_eq i 1 then goes s below (record (after f values) { that = w }) else Strays stray.Code)
-pop segment.This i s f below w values = written i (store (word_add f.this i) w values s f below)
-pop segment.That i s f below w values = written i (store (word_add f.that i) w values s f below)
+pop segment.This i s f below w values = write_outcome i (store (word_add f.this i) w values s f below)
+pop segment.That i s f below w values = write_outcome i (store (word_add f.that i) w values s f below)
 
 -- the frame of a call: the n topmost values are its arguments, and its pointers are the caller's
-abbrev pub called : ℕ → ℕ → Frame → Frame
-called g n f = record {
+abbrev pub called_frame : ℕ → ℕ → Frame → Frame
+called_frame g n f = record {
   function = Some g;
   place = 0;
   arguments = reverse (take n f.values);
@@ -134,7 +134,7 @@ called g n f = record {
 abbrev pub call : ℕ → ℕ → State → Frame → List Frame → Outcome
 call g n s f below =
     if nat_lt (length f.values) n then Strays stray.Values
-    else goes s (after f (drop n f.values) ∷ below) (called g n f)
+    else goes s (after f (drop n f.values) ∷ below) (called_frame g n f)
 
 -- The start of a function makes its locals. A call alone leads there, so that the frame has no locals and no values yet. (`start` has
 -- no such command.)
@@ -159,11 +159,11 @@ act key (command.Call g n) s f below = call g n s f below
 act key command.Return s f below = on_top f.values (return below s)
 
 -- The stack has 1,792 words. Any other cause comes first.
-abbrev pub fitted : Outcome → Outcome
-fitted (Acts heard s) = if nat_lt 1792 (words_in_use s.frames) then Full (words_in_use s.frames) else Acts heard s
-fitted (Strays why) = Strays why
-fitted (Full w) = Full w
-fitted Done = Done
+abbrev pub fit_outcome : Outcome → Outcome
+fit_outcome (Acts heard s) = if nat_lt 1792 (words_in_use s.frames) then Full (words_in_use s.frames) else Acts heard s
+fit_outcome (Strays why) = Strays why
+fit_outcome (Full w) = Full w
+fit_outcome Done = Done
 
 -- The code of `start`: a call of Sys.init, whose value is dropped. With that the statement `do Sys.init();` is done. Both commands are
 -- commits where the program has some: the call and the end of the statement are steps of its meaning.
@@ -182,12 +182,12 @@ code_in l None = start_code l.marked (unwrap_or l.start 0)
 code_in l (Some k) = code_of (slice_get l.functions k)
 
 -- where no command is left
-abbrev pub ended : Option ℕ → Outcome
-ended None = Done
-ended (Some k) = Strays stray.Code
+abbrev pub end_outcome : Option ℕ → Outcome
+end_outcome None = Done
+end_outcome (Some k) = Strays stray.Code
 
 abbrev pub perform : ℕ → State → Frame → List Frame → Option Code → Outcome
-perform key s f below None = ended f.function
+perform key s f below None = end_outcome f.function
 perform key s f below (Some c) = act key c.step s f below
 
 abbrev pub step_frames : Linked → ℕ → State → List Frame → Outcome
@@ -196,7 +196,7 @@ step_frames l key s (f ∷ below) = perform key s f below (slice_get (code_in l 
 
 -- One step under a key, which a load at the keyboard's address hears.
 unfoldable pub step : Linked → ℕ → State → Outcome
-step l key s = fitted (step_frames l key s s.frames)
+step l key s = fit_outcome (step_frames l key s s.frames)
 
 -- the start: one frame without a command done, and every word 0
 abbrev pub start_frame : Frame

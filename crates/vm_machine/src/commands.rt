@@ -2,7 +2,7 @@
 ghost use Rattle.std.specs.Prelude.{◌≡◌, ◌≤◌, ◌<◌, ◌+◌, ◌^◌, ◌∷◌, [], Bool, false, Option, Some, None, length, drop, slice_get, nat_eq, if◌then◌else◌};
 ghost use Rattle.word16.specs.Words.{word_add};
 ghost use Rattle.vm_machine.specs.State.{State, words_in_use};
-ghost use Rattle.vm_machine.specs.Step.{Acts, after, act, begin, call, goes, load, on_top, on_word, operate, pop, push, pushed, return, store, written};
+ghost use Rattle.vm_machine.specs.Step.{Acts, after, act, begin, call, goes, load, on_top, on_word, operate, pop, push, push_outcome, return, store, write_outcome};
 ghost use Rattle.vm_tree.specs.declared.command.Segment.{Segment};
 ghost use Rattle.vm_machine.specs.Performs.{Performs, takes_one, word_of};
 
@@ -94,7 +94,7 @@ fn operate(machine: &mut Machine, o: Operation) -> Moved
 // One more value, if it is there.
 fn push_found(machine: &mut Machine, word: Option<u16>, why: Stray) -> Moved
     requires { machine.old.stack.top.place + 1 < 2 ^ 64 }
-    ensures { Performs (λ s f below. on_word why word (pushed false s f below)) machine.old result machine.new }
+    ensures { Performs (λ s f below. on_word why word (push_outcome false s f below)) machine.old result machine.new }
 {
     match word {
         Some(w) => give(machine, 0, w),
@@ -130,7 +130,7 @@ fn pointer(stack: &Stack, i: u16) -> Option<u16>
 // The word at an index from a base address is pushed.
 fn push_word(machine: &mut Machine, key: u16, base: u16, i: u16) -> Moved
     requires { machine.old.stack.top.place + 1 < 2 ^ 64 }
-    ensures { Performs (λ s f below. written i (load key (word_add base i) s f below)) machine.old result machine.new }
+    ensures { Performs (λ s f below. write_outcome i (load key (word_add base i) s f below)) machine.old result machine.new }
 {
     if i >= 32768 {
         return Moved::Stray(Stray::Code);
@@ -140,7 +140,7 @@ fn push_word(machine: &mut Machine, key: u16, base: u16, i: u16) -> Moved
 
 fn push_constant(machine: &mut Machine, i: u16) -> Moved
     requires { machine.old.stack.top.place + 1 < 2 ^ 64 }
-    ensures { Performs (λ s f below. written i (pushed false s f below i)) machine.old result machine.new }
+    ensures { Performs (λ s f below. write_outcome i (push_outcome false s f below i)) machine.old result machine.new }
 {
     if i >= 32768 {
         return Moved::Stray(Stray::Code);
@@ -202,7 +202,7 @@ fn store(machine: &mut Machine, a: u16, w: u16) -> Moved
 fn pop_word(machine: &mut Machine, base: u16, i: u16, w: u16) -> Moved
     requires values { 1 ≤ length machine.old.stack.top.values }
     requires place { machine.old.stack.top.place + 1 < 2 ^ 64 }
-    ensures { Performs (λ s f below. written i (store (word_add base i) w (drop 1 f.values) s f below)) machine.old result machine.new }
+    ensures { Performs (λ s f below. write_outcome i (store (word_add base i) w (drop 1 f.values) s f below)) machine.old result machine.new }
 {
     if i >= 32768 {
         return Moved::Stray(Stray::Code);

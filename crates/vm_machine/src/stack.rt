@@ -1,7 +1,7 @@
 //! The calls in progress, on one stack of words.
 ghost use Rattle.std.specs.Prelude.{◌≡◌, ◌≤◌, ◌<◌, ◌+◌, ◌-◌, ◌∷◌, [], ℕ, List, Some, length, drop, take, reverse, replicate, slice_get, slice_index, slice_set, IfOk, nat_lt};
 ghost use Rattle.vm_machine.specs.State.{Frame, words_in_use};
-ghost use Rattle.vm_machine.specs.Step.{start_frame, called};
+ghost use Rattle.vm_machine.specs.Step.{start_frame, called_frame};
 ghost use Rattle.vm_machine.specs.Calls.{Calls, IsStack, calls_of};
 
 use std::alloc::{AllocError, Global};
@@ -255,7 +255,7 @@ impl Stack {
     pub fn call(&mut self, function: usize, n: usize, place: usize)
         requires count { n ≤ length self.old.top.values }
         requires room { words_in_use (self.old.top ∷ self.old.below) + 5 ≤ 1792 }
-        ensures top { self.new.top ≡ called function n self.old.top }
+        ensures top { self.new.top ≡ called_frame function n self.old.top }
         ensures below { self.new.below ≡ record self.old.top { place = place; values = drop n self.old.top.values } ∷ self.old.below }
     {
         let caller = Call { place, ..self.top };

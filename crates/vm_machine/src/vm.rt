@@ -2,7 +2,7 @@
 ghost use Rattle.std.specs.Prelude.{◌≡◌, ◌≤◌, ◌<◌, ◌+◌, ◌-◌, ◌^◌, ◌++◌, ◌∷◌, [], List, ℕ, true, IfOk, IfSome, Some, slice_get, slice_index};
 ghost use Rattle.word16.specs.Memory.{heap, keyboard};
 ghost use Rattle.machine_io.specs.History.{moves_in, OnStop};
-ghost use Rattle.vm_machine.specs.Step.{code_in, ended, start, start_code, step};
+ghost use Rattle.vm_machine.specs.Step.{code_in, end_outcome, start, start_code, step};
 ghost use Rattle.vm_machine.specs.Level.{end_statement, is_commit, last_statement, next_of, point_of, subroutine_of};
 ghost use Rattle.vm_machine.specs.Moves.{Makes, answer_of, state_of};
 ghost use Rattle.vm_machine.specs.Loaded.{LoadedVm, HasTaken, steps_in};
@@ -91,7 +91,7 @@ fn fetch(linked: &Linked, stack: &Stack) -> Option<Code>
 
 // What is answered where no command is left.
 fn ended(function: Option<usize>) -> Moved
-    ensures { result ≡ answer_of (ended function) }
+    ensures { result ≡ answer_of (end_outcome function) }
 {
     match function {
         None => Moved::Done,

@@ -3,12 +3,12 @@ use Rattle.std.proofs.Common.{◌≡◌, ℕ, ◌-◌, ◌≤◌, false, List, [
 use Rattle.scan_text.specs.declared.Place.{Place}
 use Rattle.scan_text.specs.Text.{step, walk}
 use Rattle.grammar.specs.declared.Fault.{Fault}
-use Rattle.grammar.specs.Cutting.{Piece, Token, followed, cut_by, cut}
+use Rattle.grammar.specs.Cutting.{Piece, Token, with_token, cut_by, cut}
 use Rattle.grammar.specs.Lines.{is_open}
 use Rattle.grammar.proofs.LinePieces.{cut_past}
 use Rattle.grammar.proofs.Cuts.{with_front}
 use Rattle.vm_parser.specs.declared.token.Kind.TheVariants as kind
-use Rattle.vm_parser.specs.Tokens.{Word, made, piece, ends, close}
+use Rattle.vm_parser.specs.Tokens.{Word, made_word, piece, ends, close}
 use Rattle.vm_parser.proofs.WordsCut.{Item, IsItem}
 
 abbrev pub C : Option Word → Place → List ℕ → Result (List Word) Fault
@@ -18,11 +18,11 @@ pub walk-append : (at : Place) (g h : List ℕ) → walk at (g ++ h) ≡ walk (w
 walk-append at [] h = refl
 walk-append at (b ∷ g) h = walk-append (step at b) g h
 
-one_front : (t : Word) (ts : List Word) (r : Result (List Word) Fault) → followed t (with_front ts r) ≡ with_front (t ∷ ts) r
+one_front : (t : Word) (ts : List Word) (r : Result (List Word) Fault) → with_token t (with_front ts r) ≡ with_front (t ∷ ts) r
 one_front t ts (Ok us) = refl
 one_front t ts (Err f) = refl
 
-no_front : (t : Word) (r : Result (List Word) Fault) → followed t r ≡ with_front (t ∷ []) r
+no_front : (t : Word) (r : Result (List Word) Fault) → with_token t r ≡ with_front (t ∷ []) r
 no_front t (Ok us) = refl
 no_front t (Err f) = refl
 
@@ -34,12 +34,12 @@ none_front : (r : Result (List Word) Fault) → r ≡ with_front [] r
 none_front (Ok ts) = refl
 none_front (Err f) = refl
 
-token_cut : (last : Option Word) (at : Place) (x more : List ℕ) (t : Place → Word) → 1 ≤ length x → piece (x ++ more) ≡ Token t (length x - 1) → C last at (x ++ more) ≡ followed (t at) (C (Some (t at)) (walk at x) more)
+token_cut : (last : Option Word) (at : Place) (x more : List ℕ) (t : Place → Word) → 1 ≤ length x → piece (x ++ more) ≡ Token t (length x - 1) → C last at (x ++ more) ≡ with_token (t at) (C (Some (t at)) (walk at x) more)
 token_cut last at [] more t some e = absurd (omega arith)
 token_cut last at (c ∷ w) more t some e =
     let n : length (c ∷ w) - 1 ≡ length w = omega arith in
     ap (λ (p : Piece Word). cut_by p last at (λ l n. cut piece close l n (step at c) (w ++ more))) (e ∙ ap (Token t) n)
-    ∙ ap (followed (t at)) (cut_past piece close w more (Some (t at)) (step at c))
+    ∙ ap (with_token (t at)) (cut_past piece close w more (Some (t at)) (step at c))
 
 -- These bytes, before others, are cut into these tokens, and a line is not open then.
 pub record Cut (x : List ℕ) (at : Place) (ts : List Word) (last : Option Word) (rest : List ℕ) : Type 0 where
@@ -66,25 +66,25 @@ tail_text [] = 10 ∷ []
 tail_text (i ∷ is) = 32 ∷ (i.text ++ tail_text is)
 
 abbrev pub tail_tokens : Place → List Item → List Word
-tail_tokens at [] = made kind.LineEnd at ∷ []
+tail_tokens at [] = made_word kind.LineEnd at ∷ []
 tail_tokens at (i ∷ is) = i.token (step at 32) ∷ tail_tokens (walk (step at 32) i.text) is
 
 abbrev pub AreItems : List Item → Type 0
 AreItems [] = Unit {0}
 AreItems (i ∷ is) = IsItem i × AreItems is
 
-item_cut : (last : Option Word) (at : Place) (i : Item) (is : List Item) (rest : List ℕ) → IsItem i → C last at (i.text ++ (tail_text is ++ rest)) ≡ followed (i.token at) (C (Some (i.token at)) (walk at i.text) (tail_text is ++ rest))
+item_cut : (last : Option Word) (at : Place) (i : Item) (is : List Item) (rest : List ℕ) → IsItem i → C last at (i.text ++ (tail_text is ++ rest)) ≡ with_token (i.token at) (C (Some (i.token at)) (walk at i.text) (tail_text is ++ rest))
 item_cut last at i [] rest h = token_cut last at i.text (10 ∷ rest) i.token h.some (h.cuts 10 rest refl)
 item_cut last at i (j ∷ is) rest h = token_cut last at i.text (32 ∷ ((j.text ++ tail_text is) ++ rest)) i.token h.some (h.cuts 32 ((j.text ++ tail_text is) ++ rest) refl)
 
-line_ended : (last : Option Word) (at : Place) (rest : List ℕ) → C last at (10 ∷ rest) ≡ followed (made kind.LineEnd at) (C (Some (made kind.LineEnd at)) (step at 10) rest)
+line_ended : (last : Option Word) (at : Place) (rest : List ℕ) → C last at (10 ∷ rest) ≡ with_token (made_word kind.LineEnd at) (C (Some (made_word kind.LineEnd at)) (step at 10) rest)
 line_ended last at rest = refl
 
 tail_cut : (is : List Item) → AreItems is → (at : Place) (last : Option Word) (rest : List ℕ) → Cut (tail_text is) at (tail_tokens at is) last rest
 tail_cut [] h at last rest = record {
-  then_last = Some (made kind.LineEnd at);
+  then_last = Some (made_word kind.LineEnd at);
   closed = refl;
-  cuts = line_ended last at rest ∙ no_front (made kind.LineEnd at) (C (Some (made kind.LineEnd at)) (step at 10) rest);
+  cuts = line_ended last at rest ∙ no_front (made_word kind.LineEnd at) (C (Some (made_word kind.LineEnd at)) (step at 10) rest);
 }
 tail_cut (i ∷ is) h at last rest =
     let p : Place = step at 32 in
@@ -92,7 +92,7 @@ tail_cut (i ∷ is) h at last rest =
     record {
       then_last = q.then_last;
       closed = q.closed;
-      cuts = ap (C last p) (append_assoc i.text (tail_text is) rest) ∙ item_cut last p i is rest h.0 ∙ ap (followed (i.token p)) q.cuts
+      cuts = ap (C last p) (append_assoc i.text (tail_text is) rest) ∙ item_cut last p i is rest h.0 ∙ ap (with_token (i.token p)) q.cuts
           ∙ one_front (i.token p) (tail_tokens (walk p i.text) is) (C q.then_last (walk (walk p i.text) (tail_text is)) rest)
           ∙ ap (λ (z : Place). with_front (i.token p ∷ tail_tokens (walk p i.text) is) (C q.then_last z rest)) (sym (walk-append p i.text (tail_text is)));
     }
@@ -110,7 +110,7 @@ line_cut i is h hs at last rest =
     record {
       then_last = q.then_last;
       closed = q.closed;
-      cuts = ap (C last at) (append_assoc i.text (tail_text is) rest) ∙ item_cut last at i is rest h ∙ ap (followed (i.token at)) q.cuts
+      cuts = ap (C last at) (append_assoc i.text (tail_text is) rest) ∙ item_cut last at i is rest h ∙ ap (with_token (i.token at)) q.cuts
           ∙ one_front (i.token at) (tail_tokens (walk at i.text) is) (C q.then_last (walk (walk at i.text) (tail_text is)) rest)
           ∙ ap (λ (z : Place). with_front (line_tokens at i is) (C q.then_last z rest)) (sym (walk-append at i.text (tail_text is)));
     }

@@ -7,7 +7,7 @@ use Rattle.std.specs.Str.{bytes_eq}
 use Rattle.std.proofs.lemmas.List.Elements.{All-cons, All-head, All-tail}
 use Rattle.std.proofs.lemmas.Bool.Decides.{nat_tests}
 use Rattle.scan_text.specs.declared.Place.{Place}
-use Rattle.scan_text.specs.Text.{front, is_digit, digits, decimal, capped}
+use Rattle.scan_text.specs.Text.{front, is_digit, digits, decimal, capped_count}
 use Rattle.grammar.specs.Between.{IsBetweenInLine, ASpace, ATab}
 use Rattle.grammar.specs.declared.Fault.{Fault}
 use Rattle.grammar.specs.Cutting.{Piece, Passed, Wrong}
@@ -19,7 +19,7 @@ use Rattle.grammar.proofs.Spaced.{take_none}
 use Rattle.grammar.proofs.Longest as longest
 use Rattle.grammar.proofs.Longest.{IsCut, Reaches, cut_if, reaches_if, front_run, run_is_cut, run_reached, no_digit, limited_is_cut, limited_reaches, over_begins, none_over, limited_refuses, front_is, end_is_cut}
 use Rattle.vm_parser.specs.declared.token.Kind.TheVariants as kind
-use Rattle.vm_parser.specs.Tokens.{Word, made, line_end_token, piece, begins_name, is_name_byte, begins_if_goto, number_piece, word_piece, name_piece, if_goto_piece}
+use Rattle.vm_parser.specs.Tokens.{Word, made_word, line_end_token, piece, begins_name, is_name_byte, begins_if_goto, number_piece, word_piece, name_piece, if_goto_piece}
 use Rattle.vm_parser.specs.OneToken.{IsOne, AWord, IfGoto, ANumber, ALineFeed, AReturnAndLineFeed}
 
 -- the pieces that are left when the tests before them fail
@@ -37,7 +37,7 @@ blank_byte b = b == 32 || b == 9
 
 -- the token of a number at the front
 abbrev number : List ℕ → Place → Word
-number all = made (kind.Number (capped (decimal 0 (digits all))))
+number all = made_word (kind.Number (capped_count (decimal 0 (digits all))))
 
 -- the signs of names
 abbrev signs : List ℕ

@@ -5,28 +5,28 @@ use Rattle.std.specs.Int.{is_in_range}
 use Rattle.std.proofs.lemmas.Str.{IsUtf8-from_ascii}
 use Rattle.std.proofs.lemmas.Bool.{le-ltb, and_parts}
 use Rattle.scan_text.specs.declared.Scan.{Scan}
-use Rattle.scan_text.specs.Text.{first, front, behind, walk, is_digit, digits, decimal, capped, number_of}
-use Rattle.scan_text.specs.View.{left, place}
+use Rattle.scan_text.specs.Text.{first, front, rest_behind, walk, is_digit, digits, decimal, capped_count, number_of}
+use Rattle.scan_text.specs.View.{left_bytes, place}
 use Rattle.grammar.specs.declared.Fault.TheVariants.{Range}
 use Rattle.grammar.specs.Cutting.{Piece, Token, Wrong, Next}
 use Rattle.grammar.proofs.Runs.{run_token, number_stands}
 use Rattle.vm_parser.specs.declared.token.Kind.TheVariants as kind
-use Rattle.vm_parser.specs.Tokens.{Word, made, named, number_piece, name_piece, begins_name, is_name_byte}
+use Rattle.vm_parser.specs.Tokens.{Word, made_word, named_word, number_piece, name_piece, begins_name, is_name_byte}
 
-pub number_taken : (old new : Scan) (b n : ℕ) (w : Word) → first (left old) ≡ Some b → is_digit b ≡ true → Some n ≡ number_of (left old) → n ≤ 32767 → left new ≡ behind is_digit (left old) → place new ≡ walk (place old) (front is_digit (left old)) → w ≡ made (kind.Number n) (place old) → Next (number_piece (left old)) old (Ok (Some w)) new
+pub number_taken : (old new : Scan) (b n : ℕ) (w : Word) → first (left_bytes old) ≡ Some b → is_digit b ≡ true → Some n ≡ number_of (left_bytes old) → n ≤ 32767 → left_bytes new ≡ rest_behind is_digit (left_bytes old) → place new ≡ walk (place old) (front is_digit (left_bytes old)) → w ≡ made_word (kind.Number n) (place old) → Next (number_piece (left_bytes old)) old (Ok (Some w)) new
 number_taken old new b n w e d v small l p m =
-    let told = number_stands (left old) b e d in
-    let value : capped (decimal 0 (digits (left old))) ≡ n = cc (v, told) in
-    let fits : nat_lt 32767 (capped (decimal 0 (digits (left old)))) ≡ false = le-ltb _ _ (omega (arith, value)) in
+    let told = number_stands (left_bytes old) b e d in
+    let value : capped_count (decimal 0 (digits (left_bytes old))) ≡ n = cc (v, told) in
+    let fits : nat_lt 32767 (capped_count (decimal 0 (digits (left_bytes old)))) ≡ false = le-ltb _ _ (omega (arith, value)) in
     subst (λ (q : Piece Word). Next q old (Ok (Some w)) new)
-    (ap (λ (x : Bool). cond x (Wrong (λ a. Range a (min (capped (decimal 0 (digits (left old)))) 1000000000))) (Token (made (kind.Number (capped (decimal 0 (digits (left old)))))) (length (digits (left old)) - 1))) (sym fits))
-    (run_token is_digit (made (kind.Number (capped (decimal 0 (digits (left old)))))) w old new b e d l p (m ∙ ap (λ (k : ℕ). made (kind.Number k) (place old)) (sym value)))
+    (ap (λ (x : Bool). cond x (Wrong (λ a. Range a (min (capped_count (decimal 0 (digits (left_bytes old)))) 1000000000))) (Token (made_word (kind.Number (capped_count (decimal 0 (digits (left_bytes old)))))) (length (digits (left_bytes old)) - 1))) (sym fits))
+    (run_token is_digit (made_word (kind.Number (capped_count (decimal 0 (digits (left_bytes old)))))) w old new b e d l p (m ∙ ap (λ (k : ℕ). made_word (kind.Number k) (place old)) (sym value)))
 
 name_begins : (b : ℕ) → begins_name b ≡ true → is_name_byte b ≡ true
 name_begins b e = rw e refl
 
-pub name_taken : (old new : Scan) (b : ℕ) (w : Word) → first (left old) ≡ Some b → begins_name b ≡ true → left new ≡ behind is_name_byte (left old) → place new ≡ walk (place old) (front is_name_byte (left old)) → w ≡ named (front is_name_byte (left old)) (place old) → Next (name_piece (left old)) old (Ok (Some w)) new
-name_taken old new b w e d l p m = run_token is_name_byte (named (front is_name_byte (left old))) w old new b e (name_begins b d) l p m
+pub name_taken : (old new : Scan) (b : ℕ) (w : Word) → first (left_bytes old) ≡ Some b → begins_name b ≡ true → left_bytes new ≡ rest_behind is_name_byte (left_bytes old) → place new ≡ walk (place old) (front is_name_byte (left_bytes old)) → w ≡ named_word (front is_name_byte (left_bytes old)) (place old) → Next (name_piece (left_bytes old)) old (Ok (Some w)) new
+name_taken old new b w e d l p m = run_token is_name_byte (named_word (front is_name_byte (left_bytes old))) w old new b e (name_begins b d) l p m
 
 -- the bytes of names are ASCII
 range_small : (lo hi b : ℕ) → hi < 128 → is_in_range lo hi b ≡ true → b < 128

@@ -21,7 +21,7 @@ use Rattle.vm_tree.specs.declared.command.Line.{Line}
 use Rattle.vm_tree.specs.declared.program.Function.{Function}
 use Rattle.vm_tree.specs.declared.program.File.{File}
 use Rattle.vm_parser.specs.declared.token.Kind.TheVariants as kind
-use Rattle.vm_parser.specs.Tokens.{Word, made, named, piece, line_end_token, ends, close, finish}
+use Rattle.vm_parser.specs.Tokens.{Word, made_word, named_word, piece, line_end_token, ends, close, finish}
 use Rattle.vm_parser.specs.Grammar as rules
 use Rattle.vm_parser.specs.Grammar.{Said, Number, vm, greatest, most_of, may_come, index, location, line_end, line, lines, opening, whole}
 use Rattle.vm_parser.specs.Trees.{command_tree, line_tree, lines_tree, location_tree, commands, WrittenFunction, function_tree, functions_tree, function_of, Opening, opening_tree, opening_of, WrittenFile, file_of, Spells}
@@ -113,10 +113,10 @@ command_cut : (c : Command) → can_be_written c ≡ true → (at : Place) (last
 command_cut c h at last rest = let p = are_items c h in subst (λ x. Cut x at (command_tokens at c) last rest) (sym (is_line c)) (line_cut (first_item c) (rest_items c) p.0 p.1 at last rest)
 
 module _ (end : Place) where
-  index_read : (most i : ℕ) (p : Place) (ts : List Word) → i ≤ most → Reads Word ℕ (Unit {0}) Said (vm end) most index (made (kind.Number i) p ∷ ts) (Leaf (Number i)) greatest ts
+  index_read : (most i : ℕ) (p : Place) (ts : List Word) → i ≤ most → Reads Word ℕ (Unit {0}) Said (vm end) most index (made_word (kind.Number i) p ∷ ts) (Leaf (Number i)) greatest ts
   index_read most i p ts h = worded refl (ap (λ t. cond t (Err (Range p i)) (Ok greatest)) (le-ltb _ _ h))
 
-  location_read : (constant : Bool) (g : Segment) (i : ℕ) (p q : Place) (ts : List Word) → may_come constant g ≡ true → i ≤ most_of g → R end (location constant) (named (segment_text g) p ∷ made (kind.Number i) q ∷ ts) (location_tree g i) ts
+  location_read : (constant : Bool) (g : Segment) (i : ℕ) (p q : Place) (ts : List Word) → may_come constant g ≡ true → i ≤ most_of g → R end (location constant) (named_word (segment_text g) p ∷ made_word (kind.Number i) q ∷ ts) (location_tree g i) ts
   location_read constant segment.Argument i p q ts m h = both (worded refl refl) (index_read (most_of segment.Argument) i q ts h)
   location_read constant segment.Local i p q ts m h = both (worded refl refl) (index_read (most_of segment.Local) i q ts h)
   location_read constant segment.Static i p q ts m h = both (worded refl refl) (index_read (most_of segment.Static) i q ts h)

@@ -3,10 +3,10 @@ use Rattle.std.proofs.Common.{◌≡◌, ℕ, zero, suc, Bool, true, false, cond
 use Rattle.std.specs.Prelude.{◌||◌, ◌&&◌, ◌==◌, nat_lt, nat_le}
 use Rattle.std.proofs.lemmas.Bool.{ltb-false, le-leb, and_parts, and_from}
 use Rattle.scan_text.specs.declared.Place.{Place}
-use Rattle.scan_text.specs.Text.{start, step, front, is_digit, digits, decimal, capped}
+use Rattle.scan_text.specs.Text.{start, step, front, is_digit, digits, decimal, capped_count}
 use Rattle.grammar.specs.declared.Fault.{Fault}
 use Rattle.grammar.specs.declared.Fault.TheVariants.{Grammar, Range}
-use Rattle.grammar.specs.Cutting.{Piece, Passed, Token, Wrong, followed, cut_by, cut}
+use Rattle.grammar.specs.Cutting.{Piece, Passed, Token, Wrong, with_token, cut_by, cut}
 use Rattle.grammar.specs.Lines.{comment_piece, line_end_piece, is_open}
 use Rattle.grammar.specs.Rules.{Skip, Leaf, Pair, Left, Right, Reads, marked, worded, at_end, both, left, right, passed, taken, ended, again, named as named_rule, inside}
 use Rattle.vm_tree.specs.declared.program.File.{File}
@@ -14,7 +14,7 @@ use Rattle.vm_parser.specs.declared.token.Kind.{Kind}
 use Rattle.vm_parser.specs.declared.token.Kind.TheVariants as kind
 use Rattle.vm_parser.specs.declared.token.Role.{Role}
 use Rattle.vm_parser.specs.declared.token.Role.TheVariants as role
-use Rattle.vm_parser.specs.Tokens.{Word, made, piece, line_end_token, ends, close, tokens_of, finish, begins_name, is_name_byte, begins_if_goto, number_piece, name_piece, word_piece, if_goto_piece}
+use Rattle.vm_parser.specs.Tokens.{Word, made_word, piece, line_end_token, ends, close, tokens_of, finish, begins_name, is_name_byte, begins_if_goto, number_piece, name_piece, word_piece, if_goto_piece}
 use Rattle.vm_parser.specs.Grammar.{Said, Number, Part, vm, greatest, may_come, most_of, most_by, name_kind, number_kind, number_of, operation_role, segment_role, role_said, push, pop, label, goto, if_goto, call, command, lines, functions, opening, whole}
 use Rattle.vm_parser.specs.Trees.{VmTree, file_of, Spells}
 use Rattle.vm_parser.specs.Printed.{all, is_text_of_name, can_be_written, line_can, function_can, opening_can, file_can}
@@ -55,7 +55,7 @@ word_piece_can : (b : ℕ) (bs : List ℕ) (t : Bool) → begins_name b ≡ true
 word_piece_can b bs true e = λ at. refl
 word_piece_can b bs false e = λ at. name_can b bs e
 
-number_can : (n k : ℕ) (wrong : Place → Fault) (t : Bool) → nat_lt 32767 n ≡ t → PieceCan (cond t (Wrong wrong) (Token (made (kind.Number n)) k))
+number_can : (n k : ℕ) (wrong : Place → Fault) (t : Bool) → nat_lt 32767 n ≡ t → PieceCan (cond t (Wrong wrong) (Token (made_word (kind.Number n)) k))
 number_can n k wrong true e = tt
 number_can n k wrong false e = λ at. le-leb n 32767 (ltb-false 32767 n e)
 
@@ -63,13 +63,13 @@ comment_can : (k : ℕ) (t : Bool) → PieceCan (cond t (Passed k) (Wrong Gramma
 comment_can k true = tt
 comment_can k false = tt
 
-line_end_can : (k : ℕ) (t : Bool) → PieceCan (cond t (Token (made kind.LineEnd) k) (Wrong Grammar))
+line_end_can : (k : ℕ) (t : Bool) → PieceCan (cond t (Token (made_word kind.LineEnd) k) (Wrong Grammar))
 line_end_can k true = λ at. refl
 line_end_can k false = tt
 
 piece_can_by : (blank digit letter slash : Bool) (b : ℕ) (bs : List ℕ) → begins_name b ≡ letter → PieceCan (cond blank (Passed 0) (cond digit (number_piece (b ∷ bs)) (cond letter (word_piece (b ∷ bs)) (cond slash (comment_piece (b ∷ bs)) (line_end_piece line_end_token (b ∷ bs))))))
 piece_can_by true digit letter slash b bs e = tt
-piece_can_by false true letter slash b bs e = number_can (capped (decimal 0 (digits (b ∷ bs)))) _ _ _ refl
+piece_can_by false true letter slash b bs e = number_can (capped_count (decimal 0 (digits (b ∷ bs)))) _ _ _ refl
 piece_can_by false false true slash b bs e = word_piece_can b bs (begins_if_goto (b ∷ bs)) e
 piece_can_by false false false true b bs e = comment_can _ _
 piece_can_by false false false false b bs e = line_end_can _ _
@@ -79,11 +79,11 @@ piece_can [] = tt
 piece_can (b ∷ bs) = piece_can_by (b == 32 || b == 9) (is_digit b) (begins_name b) (b == 47) b bs refl
 
 -- the tokens of a text
-close_can : (at : Place) (t : Bool) → all word_can (cond t (made kind.LineEnd at ∷ []) []) ≡ true
+close_can : (at : Place) (t : Bool) → all word_can (cond t (made_word kind.LineEnd at ∷ []) []) ≡ true
 close_can at true = refl
 close_can at false = refl
 
-followed_can : (w : Word) (r : Result (List Word) Fault) (ts : List Word) → word_can w ≡ true → ((us : List Word) → r ≡ Ok us → all word_can us ≡ true) → followed w r ≡ Ok ts → all word_can ts ≡ true
+followed_can : (w : Word) (r : Result (List Word) Fault) (ts : List Word) → word_can w ≡ true → ((us : List Word) → r ≡ Ok us → all word_can us ≡ true) → with_token w r ≡ Ok ts → all word_can ts ≡ true
 followed_can w (Ok us) ts h rest e =
     let same : w ∷ us ≡ ts = cc in
     subst (λ (l : List Word). all word_can l ≡ true) same (and_from (word_can w) (all word_can us) h (rest us refl))

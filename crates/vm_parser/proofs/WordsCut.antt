@@ -7,13 +7,13 @@ use Rattle.std.proofs.lemmas.Bool.{le-ltb, and_parts}
 use Rattle.std.proofs.lemmas.Fmt.{digits_decimal, digits_value-decimal, decimal_is_IsNumeral}
 use Rattle.std.proofs.lemmas.Str.Parse.{IsNumeralModel, numerals_by_fold, tells_all_ascii_digits}
 use Rattle.scan_text.specs.declared.Place.{Place}
-use Rattle.scan_text.specs.Text.{front, is_digit, digits, decimal, capped}
+use Rattle.scan_text.specs.Text.{front, is_digit, digits, decimal, capped_count}
 use Rattle.grammar.specs.declared.Fault.TheVariants.{Range}
 use Rattle.grammar.specs.Cutting.{Passed, Token, Wrong}
 use Rattle.grammar.specs.Lines.{comment_piece, line_end_piece}
 use Rattle.vm_parser.specs.declared.token.Kind.TheVariants as kind
 use Rattle.vm_parser.specs.declared.token.Role.TheVariants as role
-use Rattle.vm_parser.specs.Tokens.{Word, made, named, line_end_token, piece, begins_name, is_name_byte, begins_if_goto, number_piece, word_piece, name_piece, if_goto_piece}
+use Rattle.vm_parser.specs.Tokens.{Word, made_word, named_word, line_end_token, piece, begins_name, is_name_byte, begins_if_goto, number_piece, word_piece, name_piece, if_goto_piece}
 use Rattle.vm_parser.specs.Printed.{all, is_text_of_name}
 
 -- the bytes behind a word: a space or a line feed
@@ -97,7 +97,7 @@ no_if_goto : (c : ℕ) (cs : List ℕ) (b : ℕ) (more : List ℕ) → all is_na
 no_if_goto c cs b more h s = no_if_goto_by c cs b more (begins_if_goto ((c ∷ cs) ++ b ∷ more)) refl h s
 
 -- a piece that is told by the tests of its first byte
-name_cuts : (c : ℕ) (cs : List ℕ) (b : ℕ) (more : List ℕ) → begins_name c ≡ true → all is_name_byte cs ≡ true → stops b ≡ true → piece ((c ∷ cs) ++ b ∷ more) ≡ Token (named (c ∷ cs)) (length (c ∷ cs) - 1)
+name_cuts : (c : ℕ) (cs : List ℕ) (b : ℕ) (more : List ℕ) → begins_name c ≡ true → all is_name_byte cs ≡ true → stops b ≡ true → piece ((c ∷ cs) ++ b ∷ more) ≡ Token (named_word (c ∷ cs)) (length (c ∷ cs) - 1)
 name_cuts c cs b more h a s =
     let bs : List ℕ = (c ∷ cs) ++ b ∷ more in
     let blank : (c == 32 || c == 9) ≡ false = neither_of _ _ (apart begins_name 32 c h refl) (apart begins_name 9 c h refl) in
@@ -107,20 +107,20 @@ name_cuts c cs b more h a s =
     ∙ ap (λ t. cond t (number_piece bs) (cond (begins_name c) (word_piece bs) (cond (c == 47) (comment_piece bs) (line_end_piece line_end_token bs)))) (name_is_no_digit c h)
     ∙ ap (λ t. cond t (word_piece bs) (cond (c == 47) (comment_piece bs) (line_end_piece line_end_token bs))) h
     ∙ ap (λ t. cond t if_goto_piece (name_piece bs)) (no_if_goto c cs b more a s)
-    ∙ ap (λ l. Token (named l) (length l - 1)) run
+    ∙ ap (λ l. Token (named_word l) (length l - 1)) run
 
-number_cuts : (c : ℕ) (cs : List ℕ) (b n : ℕ) (more : List ℕ) → is_digit c ≡ true → all is_digit cs ≡ true → stops b ≡ true → decimal 0 (c ∷ cs) ≡ n → n ≤ 32767 → piece ((c ∷ cs) ++ b ∷ more) ≡ Token (made (kind.Number n)) (length (c ∷ cs) - 1)
+number_cuts : (c : ℕ) (cs : List ℕ) (b n : ℕ) (more : List ℕ) → is_digit c ≡ true → all is_digit cs ≡ true → stops b ≡ true → decimal 0 (c ∷ cs) ≡ n → n ≤ 32767 → piece ((c ∷ cs) ++ b ∷ more) ≡ Token (made_word (kind.Number n)) (length (c ∷ cs) - 1)
 number_cuts c cs b n more h a s v small =
     let bs : List ℕ = (c ∷ cs) ++ b ∷ more in
     let blank : (c == 32 || c == 9) ≡ false = neither_of _ _ (apart is_digit 32 c h refl) (apart is_digit 9 c h refl) in
     let whole : all is_digit (c ∷ cs) ≡ true = rw (h, a) refl in
     let run : digits bs ≡ c ∷ cs = front_all is_digit (c ∷ cs) b more whole (stop_by is_digit b s refl refl) in
-    let value : capped (decimal 0 (digits bs)) ≡ n = ap (λ l. capped (decimal 0 l)) run ∙ ap capped v ∙ omega (arith, small) in
-    let fits : nat_lt 32767 (capped (decimal 0 (digits bs))) ≡ false = le-ltb _ _ (omega (arith, value, small)) in
+    let value : capped_count (decimal 0 (digits bs)) ≡ n = ap (λ l. capped_count (decimal 0 l)) run ∙ ap capped_count v ∙ omega (arith, small) in
+    let fits : nat_lt 32767 (capped_count (decimal 0 (digits bs))) ≡ false = le-ltb _ _ (omega (arith, value, small)) in
     ap (λ t. cond t (Passed 0) (cond (is_digit c) (number_piece bs) (cond (begins_name c) (word_piece bs) (cond (c == 47) (comment_piece bs) (line_end_piece line_end_token bs))))) blank
     ∙ ap (λ t. cond t (number_piece bs) (cond (begins_name c) (word_piece bs) (cond (c == 47) (comment_piece bs) (line_end_piece line_end_token bs)))) h
-    ∙ ap (λ t. cond t (Wrong (λ at. Range at (min (capped (decimal 0 (digits bs))) 1000000000))) (Token (made (kind.Number (capped (decimal 0 (digits bs))))) (length (digits bs) - 1))) fits
-    ∙ (λ i. Token (made (kind.Number (value i))) (length (run i) - 1))
+    ∙ ap (λ t. cond t (Wrong (λ at. Range at (min (capped_count (decimal 0 (digits bs))) 1000000000))) (Token (made_word (kind.Number (capped_count (decimal 0 (digits bs))))) (length (digits bs) - 1))) fits
+    ∙ (λ i. Token (made_word (kind.Number (value i))) (length (run i) - 1))
 
 -- A word of a line: its bytes, and the token that they are.
 pub record Item : Type 0 where
@@ -132,13 +132,13 @@ pub record IsItem (i : Item) : Type 0 where
   pub cuts : (b : ℕ) (more : List ℕ) → stops b ≡ true → piece (i.text ++ b ∷ more) ≡ Token i.token (length i.text - 1)
 
 abbrev pub word_item : List ℕ → Item
-word_item w = record { text = w; token = named w }
+word_item w = record { text = w; token = named_word w }
 
 abbrev pub if_goto_item : Item
 if_goto_item = record { text = codes "if-goto"; token = λ at. record { kind = kind.IfGoto; role = role.IfGoto; text = codes "if-goto"; place = at } }
 
 abbrev pub number_item : ℕ → Item
-number_item n = record { text = fmt.decimal n; token = made (kind.Number n) }
+number_item n = record { text = fmt.decimal n; token = made_word (kind.Number n) }
 
 pub word_is : (w : List ℕ) → is_text_of_name w ≡ true → IsItem (word_item w)
 word_is [] h = absurd cc
@@ -157,7 +157,7 @@ all_digits (c ∷ ds) h =
     let b : all is_digit ds ≡ true = all_digits ds (and_parts (is_digit c) (all_ascii_digits ds) h).1 in
     (λ i. a i && all is_digit ds) ∙ b
 
-number_by : (ds : List ℕ) (n : ℕ) → 0 < length ds → all_ascii_digits ds ≡ true → decimal 0 ds ≡ n → n ≤ 32767 → IsItem (record { text = ds; token = made (kind.Number n) })
+number_by : (ds : List ℕ) (n : ℕ) → 0 < length ds → all_ascii_digits ds ≡ true → decimal 0 ds ≡ n → n ≤ 32767 → IsItem (record { text = ds; token = made_word (kind.Number n) })
 number_by [] n some h v small = absurd (omega arith)
 number_by (c ∷ cs) n some h v small = record { some = omega arith; cuts = λ b more s. number_cuts c cs b n more (and_parts _ _ h).0 (all_digits cs (and_parts _ _ h).1) s v small }
 

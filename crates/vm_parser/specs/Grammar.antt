@@ -82,8 +82,8 @@ role_said (role.Operation o) = Operation' o
 role_said (role.Segment g) = Segment' g
 role_said r = Keyword r
 
-abbrev pub meant : Word → Said
-meant t = role_said t.role
+abbrev pub word_meaning : Word → Said
+word_meaning t = role_said t.role
 
 abbrev pub name_said : Word → Said
 name_said t = Name' t.text
@@ -137,11 +137,11 @@ abbrev pub number : Part
 number = word is_number free number_said
 
 abbrev pub operation : Part
-operation = word is_operation free meant
+operation = word is_operation free word_meaning
 
 -- a segment, where `constant` may or may not come, and an index: of `pointer` at most 1, of `temp` at most 7
 abbrev pub segment_rule : Bool → Part
-segment_rule constant = word (is_segment constant) with_most meant
+segment_rule constant = word (is_segment constant) with_most word_meaning
 
 abbrev pub index : Part
 index = word is_number within_most number_said

@@ -7,9 +7,9 @@ use Rattle.vm_parser.specs.declared.token.Role.{Role}
 use Rattle.vm_parser.specs.declared.token.Role.TheVariants as role
 
 -- the role of the first entry with this text, or else another one
-abbrev pub spelled : List (List ℕ × Role) → Role → List ℕ → Role
-spelled [] other text = other
-spelled (entry ∷ entries) other text = if bytes_eq text entry.0 then entry.1 else spelled entries other text
+abbrev pub role_spelled : List (List ℕ × Role) → Role → List ℕ → Role
+role_spelled [] other text = other
+role_spelled (entry ∷ entries) other text = if bytes_eq text entry.0 then entry.1 else role_spelled entries other text
 
 abbrev pub segments : List (List ℕ × Role)
 segments =
@@ -19,7 +19,7 @@ segments =
 
 -- segments
 abbrev pub segment_role_of : List ℕ → Role
-segment_role_of text = spelled segments role.Plain text
+segment_role_of text = role_spelled segments role.Plain text
 
 abbrev pub operations : List (List ℕ × Role)
 operations =
@@ -29,7 +29,7 @@ operations =
 
 -- operations and segments
 abbrev pub operation_role_of : List ℕ → Role
-operation_role_of text = spelled operations (segment_role_of text) text
+operation_role_of text = role_spelled operations (segment_role_of text) text
 
 abbrev pub commands : List (List ℕ × Role)
 commands =
@@ -39,4 +39,4 @@ commands =
 
 -- what a word can be in a command
 abbrev pub role_of : List ℕ → Role
-role_of text = spelled commands (operation_role_of text) text
+role_of text = role_spelled commands (operation_role_of text) text

@@ -4,7 +4,7 @@ use Rattle.std.specs.Prelude.{ℕ, ◌-◌, Bool, true, false, List, [], Option,
 use Rattle.std.specs.Char.{is_ascii_alphabetic}
 use Rattle.std.specs.Str.{bytes_eq}
 use Rattle.scan_text.specs.declared.Place.{Place}
-use Rattle.scan_text.specs.Text.{start, walk, first, front, is_digit, digits, decimal, capped}
+use Rattle.scan_text.specs.Text.{start, walk, first, front, is_digit, digits, decimal, capped_count}
 use Rattle.grammar.specs.declared.Fault.{Fault}
 use Rattle.grammar.specs.declared.Fault.TheVariants.{Range}
 use Rattle.grammar.specs.Cutting.{Piece, Passed, Token, Wrong, cut_text}
@@ -38,21 +38,21 @@ abbrev pub begins_if_goto : List ℕ → Bool
 begins_if_goto bs = bytes_eq (take 7 bs) (codes "if-goto")
 
 -- a token that is no word
-abbrev pub made : Kind → Place → Word
-made k at = record { kind = k; role = role.Plain; text = []; place = at }
+abbrev pub made_word : Kind → Place → Word
+made_word k at = record { kind = k; role = role.Plain; text = []; place = at }
 
 -- decimal digits, a number of at most 32,767
 abbrev pub number_piece : List ℕ → Piece Word
 number_piece bs =
-    let n = capped (decimal 0 (digits bs)) in
-    if nat_lt 32767 n then Wrong (λ at. Range at (min n 1000000000)) else Token (made (kind.Number n)) (length (digits bs) - 1)
+    let n = capped_count (decimal 0 (digits bs)) in
+    if nat_lt 32767 n then Wrong (λ at. Range at (min n 1000000000)) else Token (made_word (kind.Number n)) (length (digits bs) - 1)
 
 -- a run of the bytes of names
-abbrev pub named : List ℕ → Place → Word
-named text at = record { kind = kind.Name; role = role_of text; text = text; place = at }
+abbrev pub named_word : List ℕ → Place → Word
+named_word text at = record { kind = kind.Name; role = role_of text; text = text; place = at }
 
 abbrev pub name_piece : List ℕ → Piece Word
-name_piece bs = Token (named (front is_name_byte bs)) (length (front is_name_byte bs) - 1)
+name_piece bs = Token (named_word (front is_name_byte bs)) (length (front is_name_byte bs) - 1)
 
 abbrev pub if_goto_piece : Piece Word
 if_goto_piece = Token (λ at. record { kind = kind.IfGoto; role = role.IfGoto; text = codes "if-goto"; place = at }) 6
@@ -63,7 +63,7 @@ word_piece bs = if begins_if_goto bs then if_goto_piece else name_piece bs
 
 -- the line end at a place
 abbrev pub line_end_token : Place → Word
-line_end_token = made kind.LineEnd
+line_end_token = made_word kind.LineEnd
 
 -- what begins at the first byte: blanks and tabs are passed over
 abbrev pub piece_at : Option ℕ → List ℕ → Piece Word

@@ -2,7 +2,7 @@
 
 ghost use Rattle.std.specs.Prelude.{◌≡◌, true, map, Some, Result, IfOk};
 ghost use Rattle.scan_text.specs.Text.{first, is_digit};
-ghost use Rattle.scan_text.specs.View.{left};
+ghost use Rattle.scan_text.specs.View.{left_bytes};
 ghost use Rattle.grammar.specs.Cutting.{NextBy};
 ghost use Rattle.grammar.specs.Reading.{Gives};
 ghost use Rattle.vm_parser.specs.Roles.{segment_role_of, operation_role_of, role_of};
@@ -128,9 +128,9 @@ fn begins_if_goto(bytes: &[u8]) -> bool
 
 // A number, which is at most 32,767.
 fn number<'a>(scan: &mut Scan<'a>, byte: u8) -> Result<Option<Token<'a>>, Fault>
-    requires begun { first (left scan.old) ≡ Some byte }
+    requires begun { first (left_bytes scan.old) ≡ Some byte }
     requires digit { is_digit byte ≡ true }
-    ensures { NextBy view (number_piece (left scan.old)) scan.old result scan.new }
+    ensures { NextBy view (number_piece (left_bytes scan.old)) scan.old result scan.new }
 {
     let place = scan.place();
     match scan.number() {
@@ -151,9 +151,9 @@ fn number<'a>(scan: &mut Scan<'a>, byte: u8) -> Result<Option<Token<'a>>, Fault>
 
 // A run of the bytes of names.
 fn name<'a>(scan: &mut Scan<'a>, byte: u8) -> Result<Option<Token<'a>>, Fault>
-    requires begun { first (left scan.old) ≡ Some byte }
+    requires begun { first (left_bytes scan.old) ≡ Some byte }
     requires letter { begins_name byte ≡ true }
-    ensures { NextBy view (name_piece (left scan.old)) scan.old result scan.new }
+    ensures { NextBy view (name_piece (left_bytes scan.old)) scan.old result scan.new }
 {
     let place = scan.place();
     let bytes = scan.take_while(|b| is_name_byte(b));
@@ -171,7 +171,7 @@ fn name<'a>(scan: &mut Scan<'a>, byte: u8) -> Result<Option<Token<'a>>, Fault>
 }
 
 fn if_goto<'a>(scan: &mut Scan<'a>) -> Result<Option<Token<'a>>, Fault>
-    requires { begins_if_goto (left scan.old) ≡ true }
+    requires { begins_if_goto (left_bytes scan.old) ≡ true }
     ensures { NextBy view if_goto_piece scan.old result scan.new }
 {
     let place = scan.place();
@@ -186,9 +186,9 @@ fn if_goto<'a>(scan: &mut Scan<'a>) -> Result<Option<Token<'a>>, Fault>
 
 // A name, or `if-goto`, which is longer than the name `if`.
 fn word<'a>(scan: &mut Scan<'a>, byte: u8) -> Result<Option<Token<'a>>, Fault>
-    requires begun { first (left scan.old) ≡ Some byte }
+    requires begun { first (left_bytes scan.old) ≡ Some byte }
     requires letter { begins_name byte ≡ true }
-    ensures { NextBy view (word_piece (left scan.old)) scan.old result scan.new }
+    ensures { NextBy view (word_piece (left_bytes scan.old)) scan.old result scan.new }
 {
     if begins_if_goto(scan.rest()) {
         if_goto(scan)

@@ -4,7 +4,7 @@ ghost use Rattle.std.specs.Prelude.{◌≡◌, map};
 ghost use Rattle.grammar.specs.Reading.{ParsesBy, PassesBy, Gives, word_at, mark_at};
 ghost use Rattle.grammar.specs.Rules.{Leaf, next, here};
 ghost use Rattle.vm_parser.specs.Tokens.{view};
-ghost use Rattle.vm_parser.specs.Grammar.{vm, Operation', Segment', Name', Number, same_word, keyword, is_keyword, is_line_end, line_end, is_name, name, free, name_said, is_number, number, number_said, is_operation, operation, meant, may_come, is_segment, segment_rule, with_most, most_of, within_most, index, greatest};
+ghost use Rattle.vm_parser.specs.Grammar.{vm, Operation', Segment', Name', Number, same_word, keyword, is_keyword, is_line_end, line_end, is_name, name, free, name_said, is_number, number, number_said, is_operation, operation, word_meaning, may_come, is_segment, segment_rule, with_most, most_of, within_most, index, greatest};
 ghost use Rattle.vm_parser.specs.Reading.{role_next};
 
 use crate::token::{Kind, Role, Token};
@@ -135,7 +135,7 @@ fn operation_at<'a>(
     tokens: &'a [Token<'a>],
     end: Place,
 ) -> Result<(Operation, &'a [Token<'a>]), ReadError>
-    ensures { Gives (λ x. (Operation' x.0, greatest, map view x.1.now)) result (word_at (vm end) is_operation free meant greatest (map view tokens.now)) }
+    ensures { Gives (λ x. (Operation' x.0, greatest, map view x.1.now)) result (word_at (vm end) is_operation free word_meaning greatest (map view tokens.now)) }
 {
     let Some((token, rest)) = tokens.split_first() else {
         return Err(grammar_fault(end));
@@ -169,7 +169,7 @@ fn segment_at<'a>(
     end: Place,
     constant: bool,
 ) -> Result<(Segment, &'a [Token<'a>]), ReadError>
-    ensures { Gives (λ x. (Segment' x.0, most_of x.0, map view x.1.now)) result (word_at (vm end) (is_segment constant) with_most meant greatest (map view tokens.now)) }
+    ensures { Gives (λ x. (Segment' x.0, most_of x.0, map view x.1.now)) result (word_at (vm end) (is_segment constant) with_most word_meaning greatest (map view tokens.now)) }
 {
     let Some((token, rest)) = tokens.split_first() else {
         return Err(grammar_fault(end));

@@ -6,9 +6,9 @@ use Rattle.vm_link.specs.declared.linked.LinkedFunction.{LinkedFunction}
 use Rattle.vm_link.specs.Sound.{IsSound}
 use Rattle.vm_translator.specs.declared.layout.Layout.{Layout}
 use Rattle.vm_translator.specs.declared.ends.Closing.{Closing}
-use Rattle.hack_blocks.specs.declared.routines.Routine.{Routine}
-use Rattle.hack_blocks.specs.Templates.{start_size}
-use Rattle.vm_translator.specs.Shared.{used, words_shared}
+use Rattle.vm_templates.specs.declared.routines.Routine.{Routine}
+use Rattle.vm_templates.specs.Templates.{start_size}
+use Rattle.vm_translator.specs.Shared.{used_routines, words_shared}
 use Rattle.vm_translator.specs.Image.{budget_of, closing_of, closing_size, image_of, shared_at, IsTooLarge}
 use Rattle.vm_translator.specs.Places.{base_of, end_of, placed_from, program, words_in}
 use Rattle.vm_translator.specs.Tables.{IsLayout, IsReady}
@@ -52,7 +52,7 @@ words_closed l c b w s r n e f g h =
     omega arith
 
 -- the words before the routines and theirs
-pub words_both : (l : Linked) (w s r : ℕ) → w ≡ min (shared_at l) (2 ^ 64 - 1) → s ≡ words_shared (used l) → r ≡ min (w + s) (2 ^ 64 - 1) → r ≡ min (length (image_of l)) (2 ^ 64 - 1)
+pub words_both : (l : Linked) (w s r : ℕ) → w ≡ min (shared_at l) (2 ^ 64 - 1) → s ≡ words_shared (used_routines l) → r ≡ min (w + s) (2 ^ 64 - 1) → r ≡ min (length (image_of l)) (2 ^ 64 - 1)
 words_both l w s r e f g = let n = length_with l in omega arith
 
 pub ready_in : (l : Linked) (layout : Layout) (base : ℕ) (bare : Bool) (fs : List LinkedFunction) → IsSound l → length (image_of l) ≤ 32768
@@ -73,7 +73,7 @@ pub from_is : (l : Linked) (layout : Layout) (base at : ℕ) (bare : Bool) (c : 
 from_is l layout base at bare c fs b e f lay a n = a ∙ ap (λ z. z + closing_size c) (end_is l layout base bare fs b e f lay) ∙ ap (λ z. end_of l + closing_size z) n
 
 pub routines_fit : (l : Linked) (layout : Layout) (base at : ℕ) (bare : Bool) (c : Closing) (fs : List LinkedFunction) (rs : List Routine) → length (image_of l) ≤ 32768 → bare ≡ l.bare → base ≡ (if bare then 0 else start_size) → fs ≡ l.functions → IsLayout base fs layout
-    → at ≡ layout.end + closing_size c → c ≡ closing_of l → rs ≡ used l → at + words_shared rs ≤ 32768
+    → at ≡ layout.end + closing_size c → c ≡ closing_of l → rs ≡ used_routines l → at + words_shared rs ≤ 32768
 routines_fit l layout base at bare c fs rs h b e f lay a n u =
     let from = from_is l layout base at bare c fs b e f lay a n in
     let all = length_with l in

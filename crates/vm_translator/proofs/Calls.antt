@@ -2,10 +2,10 @@
 use Rattle.std.proofs.Common.{◌≡◌, ◌≢◌, ⊎_elim, inl, inr, ℕ, Option, zero, suc, ◌+◌, ◌-◌, ◌<◌, ◌≤◌, List, [], ◌∷◌, ◌++◌, length, reverse, take, drop, refl, ap, ◌∙◌, sym, subst, arith, append-nil, length-append}
 use Rattle.std.specs.Prelude.{replicate}
 use Rattle.std.proofs.lemmas.List.{length-reverse, length-take-le}
-use Rattle.hack_blocks.specs.Effects.{IsKept, PushedAll, Called, Returned}
+use Rattle.vm_templates.specs.Effects.{IsKept, PushedAll, Called, Returned}
 use Rattle.vm_machine.specs.State.{Frame, State, words_in_use}
-use Rattle.vm_machine.specs.Step.{called}
-use Rattle.vm_translator.specs.Stands.{Holds, own_words, saved, SameMemory}
+use Rattle.vm_machine.specs.Step.{called_frame}
+use Rattle.vm_translator.specs.Stands.{Holds, own_words, words_saved, SameMemory}
 use Rattle.vm_translator.proofs.Stack.{holds_kept, holds_both, holds_front, holds_back, use_is, laid_kept, own_top, own_cut}
 use Rattle.vm_translator.proofs.Frames.{inner_of, base, with_frame, at_frames, lcl_same, arg_same, frame_changed, left_words}
 
@@ -28,14 +28,14 @@ holds_copies m b (suc n) z =
 module _ (address : Option ℕ → ℕ → ℕ) (v : State) (m after : ℕ → ℕ) (h : SameMemory address v m) where
   -- a call of function k with n arguments
   pub called_same : (f : Frame) (below : List Frame) (k place n back : ℕ) → v.frames ≡ f ∷ below → n ≤ length f.values → words_in_use (f ∷ below) + 5 ≤ 1792 → back ≡ address f.function place → Called m after back n
-      → SameMemory address (record v { frames = called k n f ∷ record f { place = place; values = drop n f.values } ∷ below }) after
+      → SameMemory address (record v { frames = called_frame k n f ∷ record f { place = place; values = drop n f.values } ∷ below }) after
   called_same f below k place n back e few room back_is c =
       let h' = at_frames address v f below m e h in
       let i = inner_of address v f below m e h in
       let caller : Frame = record f { place = place; values = drop n f.values } in
-      let callee = called k n f in
+      let callee = called_frame k n f in
       let args = reverse (take n f.values) in
-      let link = saved address caller below in
+      let link = words_saved address caller below in
       let own = own_cut address f below n in
       let lower = own_words address caller below in
       let both = subst (Holds m (base address below)) own i.own in
@@ -83,7 +83,7 @@ module _ (address : Option ℕ → ℕ → ℕ) (v : State) (m after : ℕ → �
   begun_same f c below place n e no_locals no_values room p =
       let i = inner_of address v f (c ∷ below) m e h in
       let g : Frame = record f { place = place; locals = replicate n 0 } in
-      let front = f.arguments ++ saved address c below in
+      let front = f.arguments ++ words_saved address c below in
       let old : own_words address f (c ∷ below) ≡ front = ap (λ l. front ++ (l ++ reverse f.values)) no_locals ∙ ap (λ l. front ++ reverse l) no_values ∙ append-nil front in
       let new : own_words address g (c ∷ below) ≡ front ++ replicate n 0 = ap (λ l. front ++ (replicate n 0 ++ reverse l)) no_values ∙ ap (λ l. front ++ l) (append-nil (replicate n 0)) in
       let count = ap length old in
@@ -100,14 +100,14 @@ module _ (address : Option ℕ → ℕ → ℕ) (v : State) (m after : ℕ → �
       (λ k a b. p.same k a (⊎_elim (λ l. inl (omega (arith, i.sp))) (λ l. inr (omega (arith, i.sp))) b))
 
   -- what a frame returns to: the words below LCL
-  pub links : (f g : Frame) (below : List Frame) → v.frames ≡ f ∷ g ∷ below → (m 1 ≡ base address (g ∷ below) + length f.arguments + 5) × (m 2 ≡ base address (g ∷ below)) × Holds m (m 1 - 5) (saved address g below)
+  pub links : (f g : Frame) (below : List Frame) → v.frames ≡ f ∷ g ∷ below → (m 1 ≡ base address (g ∷ below) + length f.arguments + 5) × (m 2 ≡ base address (g ∷ below)) × Holds m (m 1 - 5) (words_saved address g below)
   links f g below e =
       let h' = at_frames address v f (g ∷ below) m e h in
-      let own = holds_front m (base address (g ∷ below)) (f.arguments ++ saved address g below) (f.locals ++ reverse f.values) h'.laid.1 in
-      let link = holds_back m (base address (g ∷ below)) f.arguments (saved address g below) own in
+      let own = holds_front m (base address (g ∷ below)) (f.arguments ++ words_saved address g below) (f.locals ++ reverse f.values) h'.laid.1 in
+      let link = holds_back m (base address (g ∷ below)) f.arguments (words_saved address g below) own in
       let lcl = h'.lcl in
       let to : base address (g ∷ below) + length f.arguments ≡ m 1 - 5 = omega arith in
-      (lcl, h'.arg, subst (λ b. Holds m b (saved address g below)) to link)
+      (lcl, h'.arg, subst (λ b. Holds m b (words_saved address g below)) to link)
 
   pub return_address : (f g : Frame) (below : List Frame) → v.frames ≡ f ∷ g ∷ below → m (m 1 - 5) ≡ address g.function g.place
   return_address f g below e = (links f g below e).2.0

@@ -1,20 +1,20 @@
 -- Each command's instructions carry the memory to the next state.
 use Rattle.std.proofs.Common.{◌≡◌, ℕ, Option, ◌+◌, ◌≤◌, Bool, false, List, ◌∷◌, length, refl, ap, ◌∙◌, subst, arith}
 use Rattle.std.specs.Prelude.{nat_eq, bit_and, bit_or, int_lt}
-use Rattle.word16.specs.Words.{word_add, word_sub, word_neg, word_not, signed, truth}
+use Rattle.word16.specs.Words.{word_add, word_sub, word_neg, word_not, signed_value, truth}
 use Rattle.vm_tree.specs.declared.command.Operation.{Operation}
 use Rattle.vm_tree.specs.declared.command.Operation.TheVariants as operation
 use Rattle.vm_link.specs.declared.linked.Linked.{Linked}
-use Rattle.hack_blocks.specs.declared.shape.Shape.{Shape}
-use Rattle.hack_blocks.specs.declared.shape.Shape.TheVariants as shape
-use Rattle.hack_blocks.specs.Effects.{Pushed, Joined, Turned}
-use Rattle.hack_blocks.specs.Comparing.{equal, greater, less}
-use Rattle.hack_blocks.specs.Commands.{IsShape, HasRoom, HasValues, topmost, second, Ready, Effect, next}
+use Rattle.vm_templates.specs.declared.shape.Shape.{Shape}
+use Rattle.vm_templates.specs.declared.shape.Shape.TheVariants as shape
+use Rattle.vm_templates.specs.Effects.{Pushed, Joined, Turned}
+use Rattle.vm_templates.specs.Comparing.{equal, greater, less}
+use Rattle.vm_templates.specs.Commands.{IsShape, HasRoom, HasValues, topmost, second, Ready, Effect, next}
 use Rattle.vm_machine.specs.State.{Frame, State, words_in_use}
-use Rattle.vm_machine.specs.Step.{Acts, fitted, operate, joined, turned, goes, after}
+use Rattle.vm_machine.specs.Step.{Acts, fit_outcome, operate, binary_outcome, unary_outcome, goes, after}
 use Rattle.vm_machine.specs.Sound.{IsSoundState}
 use Rattle.vm_translator.specs.Stands.{SameMemory}
-use Rattle.vm_translator.specs.Shapes.{operated}
+use Rattle.vm_translator.specs.Shapes.{operation_shape}
 use Rattle.vm_translator.specs.Carries.{Carries}
 use Rattle.vm_translator.proofs.Frames.{inner_of, left_words, left_two, pushed_same, joined_same, turned_same}
 use Rattle.vm_translator.proofs.Cases.{goes_case, top_case, two_case, grown, values_in_use}
@@ -23,11 +23,11 @@ joined_equal : (m after : ℕ → ℕ) (x y : ℕ) → Joined m after (equal x y
 unfolding equal
 joined_equal m after x y j = j
 
-joined_greater : (m after : ℕ → ℕ) (x y : ℕ) → Joined m after (greater x y) → Joined m after (truth (int_lt (signed y) (signed x)))
+joined_greater : (m after : ℕ → ℕ) (x y : ℕ) → Joined m after (greater x y) → Joined m after (truth (int_lt (signed_value y) (signed_value x)))
 unfolding greater
 joined_greater m after x y j = j
 
-joined_less : (m after : ℕ → ℕ) (x y : ℕ) → Joined m after (less x y) → Joined m after (truth (int_lt (signed x) (signed y)))
+joined_less : (m after : ℕ → ℕ) (x y : ℕ) → Joined m after (less x y) → Joined m after (truth (int_lt (signed_value x) (signed_value y)))
 unfolding less
 joined_less m after x y j = j
 
@@ -43,7 +43,7 @@ module _ (address : Option ℕ → ℕ → ℕ) (l : Linked) (v : State) (f : Fr
 
   -- what pushes a word
   pub push_carries : (c : Shape) (w : ℕ) (heard h' : Bool) (v' : State) → IsShape c → (HasRoom 1 m → Ready c m) → ((t : ℕ → ℕ) → Effect c here m t → Pushed m t w) → next c here m ≡ address f.function (f.place + 1)
-      → fitted (Acts h' (record v { frames = after f (w ∷ f.values) ∷ below })) ≡ Acts heard v' → Carries address c here m v'
+      → fit_outcome (Acts h' (record v { frames = after f (w ∷ f.values) ∷ below })) ≡ Acts heard v' → Carries address c here m v'
   push_carries c w heard h' v' fits ready effect to acts =
       let a = goes_case h' heard (record v { frames = after f (w ∷ f.values) ∷ below }) v' acts in
       let more = grown f (after f (w ∷ f.values)) below refl refl in
@@ -56,7 +56,7 @@ module _ (address : Option ℕ → ℕ → ℕ) (l : Linked) (v : State) (f : Fr
 
   -- what joins two values
   join_carries : (c : Shape) (op : ℕ → ℕ → ℕ) (heard : Bool) (v' : State) → IsShape c → (HasValues 2 m → Ready c m) → ((t : ℕ → ℕ) → Effect c here m t → Joined m t (op (second m) (topmost m))) → next c here m ≡ address f.function (f.place + 1)
-      → fitted (joined op v f below) ≡ Acts heard v' → Carries address c here m v'
+      → fit_outcome (binary_outcome op v f below) ≡ Acts heard v' → Carries address c here m v'
   join_carries c op heard v' fits ready effect to acts =
       let two = two_case f.values (λ x y values. goes v below (after f (op x y ∷ values))) heard v' acts in
       let y = two.0 in
@@ -76,7 +76,7 @@ module _ (address : Option ℕ → ℕ → ℕ) (l : Linked) (v : State) (f : Fr
 
   -- what turns one value
   turn_carries : (c : Shape) (op : ℕ → ℕ) (heard : Bool) (v' : State) → IsShape c → (HasValues 1 m → Ready c m) → ((t : ℕ → ℕ) → Effect c here m t → Turned m t (op (topmost m))) → next c here m ≡ address f.function (f.place + 1)
-      → fitted (turned op v f below) ≡ Acts heard v' → Carries address c here m v'
+      → fit_outcome (unary_outcome op v f below) ≡ Acts heard v' → Carries address c here m v'
   turn_carries c op heard v' fits ready effect to acts =
       let one = top_case f.values (λ x values. goes v below (after f (op x ∷ values))) heard v' acts in
       let x = one.0 in
@@ -93,7 +93,7 @@ module _ (address : Option ℕ → ℕ → ℕ) (l : Linked) (v : State) (f : Fr
         to = to;
       })
 
-  pub operate_carries : (o : Operation) (heard : Bool) (v' : State) → next (operated o) here m ≡ address f.function (f.place + 1) → fitted (operate o v f below) ≡ Acts heard v' → Carries address (operated o) here m v'
+  pub operate_carries : (o : Operation) (heard : Bool) (v' : State) → next (operation_shape o) here m ≡ address f.function (f.place + 1) → fit_outcome (operate o v f below) ≡ Acts heard v' → Carries address (operation_shape o) here m v'
   operate_carries operation.Add heard v' to acts = join_carries shape.Add word_add heard v' tt (λ r. r) (λ t p. p) to acts
   operate_carries operation.Sub heard v' to acts = join_carries shape.Sub word_sub heard v' tt (λ r. r) (λ t p. p) to acts
   operate_carries operation.And heard v' to acts = join_carries shape.And bit_and heard v' tt (λ r. r) (λ t p. p) to acts
@@ -101,5 +101,5 @@ module _ (address : Option ℕ → ℕ → ℕ) (l : Linked) (v : State) (f : Fr
   operate_carries operation.Neg heard v' to acts = turn_carries shape.Neg word_neg heard v' tt (λ r. r) (λ t p. p) to acts
   operate_carries operation.Not heard v' to acts = turn_carries shape.Not word_not heard v' tt (λ r. r) (λ t p. p) to acts
   operate_carries operation.Eq heard v' to acts = join_carries shape.Eq (λ x y. truth (nat_eq x y)) heard v' tt (λ r. r) (λ t p. joined_equal m t (second m) (topmost m) p) to acts
-  operate_carries operation.Gt heard v' to acts = join_carries shape.Gt (λ x y. truth (int_lt (signed y) (signed x))) heard v' tt (λ r. r) (λ t p. joined_greater m t (second m) (topmost m) p) to acts
-  operate_carries operation.Lt heard v' to acts = join_carries shape.Lt (λ x y. truth (int_lt (signed x) (signed y))) heard v' tt (λ r. r) (λ t p. joined_less m t (second m) (topmost m) p) to acts
+  operate_carries operation.Gt heard v' to acts = join_carries shape.Gt (λ x y. truth (int_lt (signed_value y) (signed_value x))) heard v' tt (λ r. r) (λ t p. joined_greater m t (second m) (topmost m) p) to acts
+  operate_carries operation.Lt heard v' to acts = join_carries shape.Lt (λ x y. truth (int_lt (signed_value x) (signed_value y))) heard v' tt (λ r. r) (λ t p. joined_less m t (second m) (topmost m) p) to acts

@@ -4,14 +4,14 @@ use Rattle.vm_tree.specs.declared.command.Segment.{Segment}
 use Rattle.vm_tree.specs.declared.command.Segment.TheVariants as segment
 use Rattle.vm_link.specs.declared.linked.Step.{Step}
 use Rattle.vm_link.specs.declared.linked.Step.TheVariants as step
-use Rattle.hack_blocks.specs.declared.shape.Shape.{Shape}
-use Rattle.hack_blocks.specs.declared.shape.Shape.TheVariants as shape
-use Rattle.layers.specs.System.{IsData}
-use Rattle.hack_blocks.specs.Templates.{size}
-use Rattle.hack_blocks.specs.Effects.{Pushed, Stored}
-use Rattle.hack_blocks.specs.Commands.{IsShape, HasRoom, HasValues, address_at, Ready, Effect, MayStore, PushesFrom, PopsTo, next}
+use Rattle.vm_templates.specs.declared.shape.Shape.{Shape}
+use Rattle.vm_templates.specs.declared.shape.Shape.TheVariants as shape
+use Rattle.simulation.specs.System.{IsData}
+use Rattle.vm_templates.specs.Templates.{size}
+use Rattle.vm_templates.specs.Effects.{Pushed, Stored}
+use Rattle.vm_templates.specs.Commands.{IsShape, HasRoom, HasValues, address_at, Ready, Effect, MayStore, PushesFrom, PopsTo, next}
 use Rattle.vm_translator.specs.Shapes as table
-use Rattle.vm_translator.specs.Shapes.{operated, shape_of}
+use Rattle.vm_translator.specs.Shapes.{operation_shape, shape_of}
 
 -- the shapes with the numbers that the step has
 abbrev pub push_from : ℕ → ℕ → Shape
@@ -43,7 +43,7 @@ popped segment.Pointer i = shape.PopWord (3 + i)
 popped segment.Temp i = shape.PopWord (5 + i)
 
 abbrev pub plain_of : ℕ → Step → Shape
-plain_of to (step.Operate o) = operated o
+plain_of to (step.Operate o) = operation_shape o
 plain_of to (step.Push g i) = pushed g i
 plain_of to (step.Pop g i) = popped g i
 plain_of to (step.Goto p) = shape.Goto to
@@ -52,7 +52,7 @@ plain_of to (step.Function n) = shape.Function n
 plain_of to (step.Call f n) = shape.Call to n
 plain_of to step.Return = shape.Return
 
-pub named_is : (i : ℕ) → i < 32768 → table.named i ≡ i
+pub named_is : (i : ℕ) → i < 32768 → table.named_index i ≡ i
 named_is i h = omega arith
 
 from_same : (base i : ℕ) → IsShape (push_from base i) → table.push_from base i ≡ push_from base i
@@ -63,7 +63,7 @@ to_same : (base i : ℕ) → IsShape (pop_to base i) → table.pop_to base i ≡
 to_same base zero h = refl
 to_same base (suc i) h = ap (shape.PopAt base) (named_is (suc i) h.2)
 
-push_same : (g : Segment) (i : ℕ) → IsShape (pushed g i) → table.pushed g i ≡ pushed g i
+push_same : (g : Segment) (i : ℕ) → IsShape (pushed g i) → table.push_shape g i ≡ pushed g i
 push_same segment.Argument i h = from_same 2 i h
 push_same segment.Local i h = from_same 1 i h
 push_same segment.Static i h = ap shape.PushWord (named_is (16 + i) (let k = h.1 in omega arith))
@@ -73,7 +73,7 @@ push_same segment.That i h = from_same 4 i h
 push_same segment.Pointer i h = ap shape.PushWord (named_is (3 + i) (let k = h.1 in omega arith))
 push_same segment.Temp i h = ap shape.PushWord (named_is (5 + i) (let k = h.1 in omega arith))
 
-pop_same : (g : Segment) (i : ℕ) → IsShape (popped g i) → table.popped g i ≡ popped g i
+pop_same : (g : Segment) (i : ℕ) → IsShape (popped g i) → table.pop_shape g i ≡ popped g i
 pop_same segment.Argument i h = to_same 2 i h
 pop_same segment.Local i h = to_same 1 i h
 pop_same segment.Static i h = ap shape.PopWord (named_is (16 + i) (let k = h.1 in omega arith))
@@ -102,7 +102,7 @@ to_next : (base i here : ℕ) (m : ℕ → ℕ) → (here + size (table.pop_to b
 to_next base zero here m = refl
 to_next base (suc i) here m = refl
 
-pub push_next : (g : Segment) (i here : ℕ) (m : ℕ → ℕ) → (here + size (table.pushed g i)) % 32768 ≡ next (pushed g i) here m
+pub push_next : (g : Segment) (i here : ℕ) (m : ℕ → ℕ) → (here + size (table.push_shape g i)) % 32768 ≡ next (pushed g i) here m
 push_next segment.Argument i here m = from_next 2 i here m
 push_next segment.Local i here m = from_next 1 i here m
 push_next segment.Static i here m = refl
@@ -112,7 +112,7 @@ push_next segment.That i here m = from_next 4 i here m
 push_next segment.Pointer i here m = refl
 push_next segment.Temp i here m = refl
 
-pub pop_next : (g : Segment) (i here : ℕ) (m : ℕ → ℕ) → (here + size (table.popped g i)) % 32768 ≡ next (popped g i) here m
+pub pop_next : (g : Segment) (i here : ℕ) (m : ℕ → ℕ) → (here + size (table.pop_shape g i)) % 32768 ≡ next (popped g i) here m
 pop_next segment.Argument i here m = to_next 2 i here m
 pop_next segment.Local i here m = to_next 1 i here m
 pop_next segment.Static i here m = refl

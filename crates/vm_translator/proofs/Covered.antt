@@ -4,8 +4,8 @@ use Rattle.std.specs.Prelude.{nat_le, nat_lt, map, not, length, filter}
 use Rattle.std.specs.List.{list_any}
 use Rattle.std.proofs.lemmas.Bool.{cases_Bool, cases_lt, le-leb, lt-leb, lt-ltb, le-ltb, and_parts, eqb-true}
 use Rattle.outer_world.specs.declared.point.Point.{Point}
-use Rattle.hack_blocks.specs.declared.routines.Routine.{Routine}
-use Rattle.hack_blocks.specs.declared.routines.Routine.TheVariants as routine
+use Rattle.vm_templates.specs.declared.routines.Routine.{Routine}
+use Rattle.vm_templates.specs.declared.routines.Routine.TheVariants as routine
 use Rattle.vm_link.specs.declared.linked.Code.{Code}
 use Rattle.vm_link.specs.declared.linked.Linked.{Linked}
 use Rattle.vm_link.specs.declared.linked.LinkedFunction.{LinkedFunction}
@@ -13,9 +13,9 @@ use Rattle.vm_translator.specs.declared.coded.PointRange.{PointRange}
 use Rattle.vm_translator.specs.declared.layout.Placed.{Placed}
 use Rattle.vm_translator.specs.Shapes.{step_size}
 use Rattle.vm_translator.specs.Places.{base_of, end_of, program, words_in, words_of}
-use Rattle.vm_translator.specs.Shared.{all_routines, is_routine, routine_for, same_routine, used, uses}
+use Rattle.vm_translator.specs.Shared.{all_routines, is_routine, routine_for, same_routine, used_routines, uses}
 use Rattle.vm_translator.specs.declared.ends.Closing.TheVariants as closes
-use Rattle.vm_translator.specs.Image.{closing_size, join, merged, stretched, same_point, range_of, start_ranges, points_of, entry_of, names, names_end, shared_at}
+use Rattle.vm_translator.specs.Image.{closing_size, join, merged_ranges, stretched_ranges, same_point, range_of, start_ranges, points_of, entry_of, names, names_end, shared_at}
 use Rattle.vm_translator.specs.Mapping.{point_in, Covers}
 use Rattle.vm_translator.proofs.Sums.{size_some}
 use Rattle.vm_translator.proofs.Chained.{Chain, chain_from, chain_up}
@@ -76,19 +76,19 @@ join_same at to r (s ∷ ss) h = ⊎_by (cases_Bool (same_point r.point s.point)
 over : (r : PointRange) (xs ys : List PointRange) (k : ℕ) → point_in xs k ≡ point_in ys k → point_in (r ∷ xs) k ≡ point_in (r ∷ ys) k
 over r xs ys k e = ap (λ o. if nat_le r.from k && nat_lt k r.to then Some r.point else o) e
 
-merged_same : (at to : ℕ) (rs : List PointRange) → Covers at rs to → (Covers at (merged rs) to) × ((k : ℕ) → point_in (merged rs) k ≡ point_in rs k)
+merged_same : (at to : ℕ) (rs : List PointRange) → Covers at rs to → (Covers at (merged_ranges rs) to) × ((k : ℕ) → point_in (merged_ranges rs) k ≡ point_in rs k)
 merged_same at to [] h = (h, λ k. refl)
 merged_same at to (r ∷ rs) h =
     let m = merged_same r.to to rs h.2 in
-    let j = join_same at to r (merged rs) (h.0, h.1, m.0) in
-    (j.0, λ k. j.1 k ∙ over r (merged rs) rs k (m.1 k))
+    let j = join_same at to r (merged_ranges rs) (h.0, h.1, m.0) in
+    (j.0, λ k. j.1 k ∙ over r (merged_ranges rs) rs k (m.1 k))
 
 covers_up : (at to : ℕ) (rs : List PointRange) → Covers at rs to → at ≤ to
 covers_up at to [] h = omega arith
 covers_up at to (r ∷ rs) h = let u = covers_up r.to to rs h.2 in let m = h.1 in omega arith
 
 -- ranges that are stretched, where there are some
-stretched_covers : (at to up : ℕ) (rs : List PointRange) → (at ≡ to → up ≡ to) → to ≤ up → Covers at rs to → Covers at (stretched up rs) up
+stretched_covers : (at to up : ℕ) (rs : List PointRange) → (at ≡ to → up ≡ to) → to ≤ up → Covers at rs to → Covers at (stretched_ranges up rs) up
 stretched_covers at to up [] l m h = let e = l h in omega arith
 stretched_covers at to up (r ∷ []) l m h = let e = h.2 in let some = h.1 in (h.0, omega arith, refl)
 stretched_covers at to up (r ∷ s ∷ rs) l m h =
@@ -97,14 +97,14 @@ stretched_covers at to up (r ∷ s ∷ rs) l m h =
     let u = covers_up s.to to rs t.2 in
     (h.0, h.1, stretched_covers r.to to up (s ∷ rs) (λ e. absurd (omega arith)) m t)
 
-stretched_same : (at to up : ℕ) (rs : List PointRange) → to ≤ up → Covers at rs to → (k : ℕ) → k < to → point_in (stretched up rs) k ≡ point_in rs k
+stretched_same : (at to up : ℕ) (rs : List PointRange) → to ≤ up → Covers at rs to → (k : ℕ) → k < to → point_in (stretched_ranges up rs) k ≡ point_in rs k
 stretched_same at to up [] m h k l = refl
 stretched_same at to up (r ∷ []) m h k l =
     let e = h.2 in
     ⊎_by (cases_lt k r.from)
     (λ b. below_range (record { from = r.from; to = up; point = r.point }) [] k b ∙ sym (below_range r [] k b))
     (λ b. in_range (record { from = r.from; to = up; point = r.point }) [] k b (omega arith) ∙ sym (in_range r [] k b (omega arith)))
-stretched_same at to up (r ∷ s ∷ rs) m h k l = over r (stretched up (s ∷ rs)) (s ∷ rs) k (stretched_same r.to to up (s ∷ rs) m h.2 k l)
+stretched_same at to up (r ∷ s ∷ rs) m h k l = over r (stretched_ranges up (s ∷ rs)) (s ∷ rs) k (stretched_same r.to to up (s ∷ rs) m h.2 k l)
 
 covers_both : (at mid to : ℕ) (rs ss : List PointRange) → Covers at rs mid → Covers mid ss to → Covers at (rs ++ ss) to
 covers_both at mid to [] ss h k = subst (λ a. Covers a ss to) (sym h) k
@@ -138,16 +138,16 @@ ranges_cover l = covers_both 0 (base_of l) (end_of l) (start_ranges l) (map rang
 
 -- the point of an address of the code is that of the ranges before they are merged
 pub points_are : (l : Linked) (k : ℕ) → k < end_of l → point_in (points_of l) k ≡ point_in (start_ranges l ++ map range_of (program l)) k
-points_are l k h = stretched_same 0 (end_of l) (shared_at l) (merged (start_ranges l ++ map range_of (program l))) (omega arith) m.0 k h ∙ m.1 k
+points_are l k h = stretched_same 0 (end_of l) (shared_at l) (merged_ranges (start_ranges l ++ map range_of (program l))) (omega arith) m.0 k h ∙ m.1 k
   where
-    m : (Covers 0 (merged (start_ranges l ++ map range_of (program l))) (end_of l)) × ((k : ℕ) → point_in (merged (start_ranges l ++ map range_of (program l))) k ≡ point_in (start_ranges l ++ map range_of (program l)) k)
+    m : (Covers 0 (merged_ranges (start_ranges l ++ map range_of (program l))) (end_of l)) × ((k : ℕ) → point_in (merged_ranges (start_ranges l ++ map range_of (program l))) k ≡ point_in (start_ranges l ++ map range_of (program l)) k)
     m = merged_same 0 (end_of l) (start_ranges l ++ map range_of (program l)) (ranges_cover l)
 
 -- The ranges cover the image up to the routines.
 pub points_cover : (l : Linked) → (0 ≡ end_of l → shared_at l ≡ end_of l) → Covers 0 (points_of l) (shared_at l)
-points_cover l none = stretched_covers 0 (end_of l) (shared_at l) (merged (start_ranges l ++ map range_of (program l))) none (omega arith) m
+points_cover l none = stretched_covers 0 (end_of l) (shared_at l) (merged_ranges (start_ranges l ++ map range_of (program l))) none (omega arith) m
   where
-    m : Covers 0 (merged (start_ranges l ++ map range_of (program l))) (end_of l)
+    m : Covers 0 (merged_ranges (start_ranges l ++ map range_of (program l))) (end_of l)
     m = (merged_same 0 (end_of l) (start_ranges l ++ map range_of (program l)) (ranges_cover l)).0
 
 -- An image whose end is named has code.
@@ -189,7 +189,7 @@ used_code l (r ∷ rs) bare e = ⊎_by (cases_Bool (uses l r)) some
 
 -- nothing closes a program without code
 pub covers : (l : Linked) → Covers 0 (points_of l) (shared_at l)
-covers l = points_cover l (none l.bare (nat_eq (length (used l)) 0) (names_end l) (λ b e. used_code l all_routines b e) (named_code l) refl)
+covers l = points_cover l (none l.bare (nat_eq (length (used_routines l)) 0) (names_end l) (λ b e. used_code l all_routines b e) (named_code l) refl)
   where
     none : (b u n : Bool) → (l.bare ≡ true → u ≡ false → 0 < end_of l) → (n ≡ true → 0 < end_of l) → l.bare ≡ b → 0 ≡ end_of l
         → end_of l + closing_size (if b && not u then closes.Loop else if n then closes.Word else closes.Nothing) ≡ end_of l

@@ -3,7 +3,7 @@ use Rattle.std.proofs.Common.{◌≡◌, ◌+◌, ◌-◌, ◌^◌, ◌<◌, ◌
 use Rattle.std.proofs.lemmas.List.{drop_more}
 use Rattle.hack_isa.specs.declared.Instr.{Instr}
 use Rattle.hack_isa.specs.declared.Instr.TheVariants.{Address}
-use Rattle.hack_blocks.specs.Templates.{function_code, push_zero}
+use Rattle.vm_templates.specs.Templates.{function_code, push_zero}
 use Rattle.vm_link.specs.declared.linked.Code.{Code}
 use Rattle.vm_link.specs.declared.linked.LinkedFunction.{LinkedFunction}
 use Rattle.vm_translator.specs.Shapes.{step_size}

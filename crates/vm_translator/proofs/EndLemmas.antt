@@ -10,7 +10,7 @@ use Rattle.vm_link.specs.declared.linked.Step.TheVariants as step
 use Rattle.vm_link.specs.declared.linked.Code.{Code}
 use Rattle.vm_link.specs.declared.linked.LinkedFunction.{LinkedFunction}
 use Rattle.vm_translator.specs.Shapes.{step_size}
-use Rattle.vm_translator.specs.Places.{words_of, words_in, code_at, address, named, placed_code, placed_from, base_of}
+use Rattle.vm_translator.specs.Places.{words_of, words_in, code_at, address, named_symbol, placed_code, placed_from, base_of}
 use Rattle.vm_link.specs.declared.linked.Linked.{Linked}
 use Rattle.vm_translator.specs.Image.{names, names_end}
 use Rattle.vm_translator.specs.Tables.{IsFilled, is_end, step_names_end, code_names_end, functions_name_end}
@@ -92,7 +92,7 @@ or_false true = refl
 or_false false = refl
 
 module _ (base : ℕ) (fs : List LinkedFunction) (n : ℕ) (f : IsFilled fs n) where
-  step_named : (k p next : ℕ) (s : Step) → next ≡ address base fs k p → list_any (nat_eq (base + words_in fs)) (named base fs k next s) ≡ step_names_end n fs k p s
+  step_named : (k p next : ℕ) (s : Step) → next ≡ address base fs k p → list_any (nat_eq (base + words_in fs)) (named_symbol base fs k next s) ≡ step_names_end n fs k p s
   step_named k p next (step.Goto q) e = or_false _ ∙ end_is base fs n k q f
   step_named k p next (step.IfGoto q) e = or_false _ ∙ end_is base fs n k q f
   step_named k p next (step.Call g m) e = rw (e, end_is base fs n g 0 f, end_is base fs n k p f, or_false) refl

@@ -2,7 +2,7 @@
 use Rattle.std.proofs.Common.{◌≡◌, ◌≢◌, ◌⊎◌, ⊎_elim, inl, inr, ℕ, Option, ◌+◌, ◌-◌, ◌<◌, ◌≤◌, List, [], ◌∷◌, ◌++◌, length, refl, ap, ◌∙◌, sym, subst, arith, length-append}
 use Rattle.std.specs.Prelude.{nat_eq, if◌then◌else◌}
 use Rattle.std.proofs.lemmas.Bool.Decides.{nat_tests}
-use Rattle.hack_blocks.specs.Effects.{IsKept, Pushed, Joined, Turned, Stored, Dropped}
+use Rattle.vm_templates.specs.Effects.{IsKept, Pushed, Joined, Turned, Stored, Dropped}
 use Rattle.vm_machine.specs.State.{Frame, State, words_in_use}
 use Rattle.vm_translator.specs.Stands.{Holds, own_words, lcl_of, arg_of, SameMemory}
 use Rattle.vm_translator.proofs.Stack.{holds_kept, holds_both, holds_front, holds_back, use_is, laid_kept, own_top}

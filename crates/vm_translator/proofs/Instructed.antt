@@ -15,24 +15,24 @@ use Rattle.vm_link.specs.declared.linked.Step.TheVariants as step
 use Rattle.vm_link.specs.declared.linked.Linked.{Linked}
 use Rattle.vm_link.specs.Sound.{IsSound}
 use Rattle.vm_link.specs.Uniform.{IsUniform}
-use Rattle.hack_blocks.specs.Templates.{size}
+use Rattle.vm_templates.specs.Templates.{size}
 use Rattle.vm_translator.proofs.Routines.{ranges_cover}
 use Rattle.vm_translator.proofs.Sizes.{length_with}
-use Rattle.vm_translator.specs.Shared.{used}
-use Rattle.hack_blocks.specs.Budgets.{most_steps}
-use Rattle.hack_blocks.specs.Computer.{Map}
-use Rattle.hack_blocks.specs.Going.{Does}
-use Rattle.hack_blocks.specs.Commands.{MayStore, IsInside, last_of, cycles}
-use Rattle.hack_blocks.proofs.Block.{within as fewer}
+use Rattle.vm_translator.specs.Shared.{used_routines}
+use Rattle.vm_templates.specs.Budgets.{most_steps}
+use Rattle.vm_templates.specs.Computer.{Map}
+use Rattle.vm_templates.specs.Going.{Does}
+use Rattle.vm_templates.specs.Commands.{MayStore, IsInside, last_of, cycles}
+use Rattle.vm_templates.proofs.Block.{within as fewer}
 use Rattle.vm_machine.specs.State.{Frame, State}
-use Rattle.vm_machine.specs.Step.{Outcome, Acts, Strays, Full, Done, act, fitted, ended, code_in, start, on_top, pop, goes, after}
+use Rattle.vm_machine.specs.Step.{Outcome, Acts, Strays, Full, Done, act, fit_outcome, end_outcome, code_in, start, on_top, pop, goes, after}
 use Rattle.vm_machine.specs.Step as vm
 use Rattle.vm_machine.specs.Level.{vm_cost, cost_of, next_of, is_done, has_heard, state_after}
 use Rattle.vm_machine.specs.Sound.{AreSoundFrames}
 use Rattle.vm_machine.proofs.Deaf.{key_law}
 use Rattle.vm_machine.proofs.Ends.{end_law}
 use Rattle.vm_machine.proofs.Kept.{sound_law}
-use Rattle.vm_translator.specs.Shapes.{push_from, operated, pushed, popped, shape_of}
+use Rattle.vm_translator.specs.Shapes.{push_from, operation_shape, push_shape, pop_shape, shape_of}
 use Rattle.vm_translator.specs.Image.{commits_of, image_of, points_of, routines, shared_at, shared_ranges}
 use Rattle.vm_translator.specs.Carries.{IsStep}
 use Rattle.vm_translator.specs.Related.{StandsFor}
@@ -52,7 +52,7 @@ use Rattle.vm_translator.proofs.Placing.{image_words, has_loop}
 use Rattle.vm_translator.proofs.Simulating.{location_low, ended_is, here, own, own_place, at_step, acts_is, at_loop, simulates, starts_so, opens_so}
 
 -- no instruction of these writes data
-operation_quiet : (o : Operation) (m : ℕ → ℕ) → MayStore (operated o) m → ⊥
+operation_quiet : (o : Operation) (m : ℕ → ℕ) → MayStore (operation_shape o) m → ⊥
 operation_quiet operation.Add m h = h
 operation_quiet operation.Sub m h = h
 operation_quiet operation.Neg m h = h
@@ -67,7 +67,7 @@ from_quiet : (base i : ℕ) (m : ℕ → ℕ) → MayStore (push_from base i) m 
 from_quiet base zero m h = h
 from_quiet base (suc i) m h = h
 
-push_quiet : (g : Segment) (i : ℕ) (m : ℕ → ℕ) → MayStore (pushed g i) m → ⊥
+push_quiet : (g : Segment) (i : ℕ) (m : ℕ → ℕ) → MayStore (push_shape g i) m → ⊥
 push_quiet segment.Argument i m h = from_quiet 2 i m h
 push_quiet segment.Local i m h = from_quiet 1 i m h
 push_quiet segment.Static i m h = h
@@ -78,7 +78,7 @@ push_quiet segment.Pointer i m h = h
 push_quiet segment.Temp i m h = h
 
 module _ (address : Option ℕ → ℕ → ℕ) (l : Linked) (v v' : State) (f : Frame) (below : List Frame) (place to : ℕ) (m : ℕ → ℕ) where
-  pop_writes : (g : Segment) (i : ℕ) → IsStep address l v f below (step.Pop g i) place to m → fitted (on_top f.values (pop g i v f below)) ≡ Acts false v' → MayStore (popped g i) m → Writes (step.Pop g i)
+  pop_writes : (g : Segment) (i : ℕ) → IsStep address l v f below (step.Pop g i) place to m → fit_outcome (on_top f.values (pop g i v f below)) ≡ Acts false v' → MayStore (pop_shape g i) m → Writes (step.Pop g i)
   pop_writes segment.Argument i s acts h =
       let one = top_case f.values (pop segment.Argument i v f below) false v' acts in
       let small = less_case i (length f.arguments) _ stray.Argument false v' one.3 in
@@ -102,7 +102,7 @@ module _ (address : Option ℕ → ℕ → ℕ) (l : Linked) (v v' : State) (f :
   pop_writes segment.Pointer i s acts h = h
   pop_writes segment.Temp i s acts h = h
 
-  store_is : (x : Step) → IsStep address l v f below x place to m → fitted (act 0 x v f below) ≡ Acts false v' → MayStore (shape_of to x) m → Writes x
+  store_is : (x : Step) → IsStep address l v f below x place to m → fit_outcome (act 0 x v f below) ≡ Acts false v' → MayStore (shape_of to x) m → Writes x
   store_is (step.Operate o) s acts h = operation_quiet o m h
   store_is (step.Push g i) s acts h = push_quiet g i m h
   store_is (step.Pop g i) s acts h = pop_writes g i s acts h
@@ -127,14 +127,14 @@ module _ (l : Linked) (sound : IsSound l) (uniform : IsUniform l) (whole : l.bar
     no_act : slice_get (code_in l f.function) f.place ≡ None → (heard : Bool) (v' : State) → vm.step l 0 v ≡ Acts heard v' → ⊥
     no_act g heard v' q = by_function f.function (sym (ended_is l v f below 0 e g) ∙ q)
       where
-        by_function : (function : Option ℕ) → fitted (ended function) ≡ Acts heard v' → ⊥
+        by_function : (function : Option ℕ) → fit_outcome (end_outcome function) ≡ Acts heard v' → ⊥
         by_function None z = cc z
         by_function (Some k) z = cc z
 
     no_miss : slice_get (code_in l f.function) f.place ≡ None → (a : ℕ) → vm.step l 0 v ≡ Strays (stray.Address a) → ⊥
     no_miss g a q = by_function f.function (sym (ended_is l v f below 0 e g) ∙ q)
       where
-        by_function : (function : Option ℕ) → fitted (ended function) ≡ Strays (stray.Address a) → ⊥
+        by_function : (function : Option ℕ) → fit_outcome (end_outcome function) ≡ Strays (stray.Address a) → ⊥
         by_function None z = cc z
         by_function (Some k) z = cc z
 
@@ -143,7 +143,7 @@ module _ (l : Linked) (sound : IsSound l) (uniform : IsUniform l) (whole : l.bar
       where
         by_function : (function : Option ℕ) → f.function ≡ function → s.pc ≡ 21
         by_function None z = h.pc ∙ at_loop l sound uniform whole few v s h f below e g z
-        by_function (Some k) z = let d = ended_is l v f below 0 e g ∙ ap (λ function. fitted (ended function)) z in absurd (cc (sym (ap is_done d) ∙ q))
+        by_function (Some k) z = let d = ended_is l v f below 0 e g ∙ ap (λ function. fit_outcome (end_outcome function)) z in absurd (cc (sym (ap is_done d) ∙ q))
 
     module _ (n : ℕ) (b : Bool) where
       abbrev With : Step → Code
@@ -302,7 +302,7 @@ covers_as l points p = subst (λ z. Covers 0 z (shared_at l)) (sym p) (covers l)
 
 -- the routines cover what is behind the points
 pub shared_covers : (l : Linked) → CoversShared (shared_at l) (shared_ranges l) (length (image_of l))
-shared_covers l = subst (CoversShared (shared_at l) (shared_ranges l)) (sym (length_with l)) (ranges_cover (shared_at l) (used l))
+shared_covers l = subst (CoversShared (shared_at l) (shared_ranges l)) (sym (length_with l)) (ranges_cover (shared_at l) (used_routines l))
 
 pub shared_covers_as : (l : Linked) (instrs : List Instr) (shared : List (ℕ × ℕ)) → instrs ≡ image_of l → shared ≡ shared_ranges l → CoversShared (shared_at l) shared (length instrs)
 shared_covers_as l instrs shared i p =

@@ -12,7 +12,7 @@ use Rattle.vm_link.specs.declared.linked.Step.{Step}
 use Rattle.vm_link.specs.declared.linked.Step.TheVariants as step
 use Rattle.vm_machine.specs.State.{Frame, State, words_in_use}
 use Rattle.vm_machine.specs.Level.{is_done}
-use Rattle.vm_machine.specs.Step.{Outcome, Acts, Strays, Full, Done, on_top, on_two, on_word, turned, joined, operate, load, store, push, pop, begin, return, act, fitted}
+use Rattle.vm_machine.specs.Step.{Outcome, Acts, Strays, Full, Done, on_top, on_two, on_word, unary_outcome, binary_outcome, operate, load, store, push, pop, begin, return, act, fit_outcome}
 
 -- astray at an address, where that is allowed
 abbrev pub Astray : Bool → Stray → Type 0
@@ -60,17 +60,17 @@ module _ (h a : Bool) where
   if_allowed true o o' p q = p
   if_allowed false o o' p q = q
 
-  fitted_allowed : (o : Outcome) → Allowed h a o → Allowed h a (fitted o)
+  fitted_allowed : (o : Outcome) → Allowed h a o → Allowed h a (fit_outcome o)
   fitted_allowed (Acts heard s) p = if_allowed (nat_lt 1792 (words_in_use s.frames)) (Full (words_in_use s.frames)) (Acts heard s) tt p
   fitted_allowed (Strays why) p = p
   fitted_allowed (Full w) p = p
   fitted_allowed Done p = p
 
 module _ (key : ℕ) (s : State) (f : Frame) (below : List Frame) where
-  turned_allowed : (op : ℕ → ℕ) → Allowed false false (turned op s f below)
+  turned_allowed : (op : ℕ → ℕ) → Allowed false false (unary_outcome op s f below)
   turned_allowed op = top_allowed false false f.values _ (λ x values. tt)
 
-  joined_allowed : (op : ℕ → ℕ → ℕ) → Allowed false false (joined op s f below)
+  joined_allowed : (op : ℕ → ℕ → ℕ) → Allowed false false (binary_outcome op s f below)
   joined_allowed op = two_allowed false false f.values _ (λ x y values. tt)
 
   operate_allowed : (o : Operation) → Allowed false false (operate o s f below)
@@ -130,7 +130,7 @@ module _ (key : ℕ) (s : State) (f : Frame) (below : List Frame) where
   act_allowed (step.Call g n) = if_allowed false false (nat_lt (length f.values) n) _ _ tt tt
   act_allowed step.Return = top_allowed false false f.values _ (return_allowed below)
 
-  pub outcome_allowed : (c : Step) → Allowed (may_hear c) (may_miss c) (fitted (act key c s f below))
+  pub outcome_allowed : (c : Step) → Allowed (may_hear c) (may_miss c) (fit_outcome (act key c s f below))
   outcome_allowed c = fitted_allowed (may_hear c) (may_miss c) (act key c s f below) (act_allowed c)
 
 -- a fact of every step, from those of loads and stores, and of steps that do neither

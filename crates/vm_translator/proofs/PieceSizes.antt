@@ -2,7 +2,7 @@
 use Rattle.std.proofs.Common.{◌≤◌, [], ◌∷◌, arith}
 use Rattle.vm_link.specs.declared.linked.Step.{Step}
 use Rattle.vm_link.specs.declared.linked.Step.TheVariants as step
-use Rattle.hack_blocks.specs.Budgets.{most_words}
+use Rattle.vm_templates.specs.Budgets.{most_words}
 use Rattle.vm_translator.specs.Pieces.{words, PiecesFit}
 use Rattle.vm_translator.proofs.Sums.{cycles_quick, routine_to, shared_is, size_few}
 

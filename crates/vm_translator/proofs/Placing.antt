@@ -20,19 +20,19 @@ use Rattle.vm_link.specs.declared.linked.Linked.{Linked}
 use Rattle.vm_link.specs.declared.linked.LinkedFunction.{LinkedFunction}
 use Rattle.vm_link.specs.Sound.{IsSound}
 use Rattle.vm_link.specs.Uniform.{IsUniform, is_shared}
-use Rattle.hack_blocks.specs.declared.routines.Routine.{Routine}
-use Rattle.hack_blocks.specs.declared.routines.Routine.TheVariants as routine
-use Rattle.hack_blocks.specs.Templates.{template, size, routine_at, routine_of, routine_size, start_code}
-use Rattle.hack_blocks.specs.Commands.{HasRoutine, IsAmong, last_among}
-use Rattle.hack_blocks.specs.Computer.{Stands, HasLoop}
-use Rattle.hack_blocks.proofs.Placed.{stands_front, stands_back, all_stand, all_words, starts}
+use Rattle.vm_templates.specs.declared.routines.Routine.{Routine}
+use Rattle.vm_templates.specs.declared.routines.Routine.TheVariants as routine
+use Rattle.vm_templates.specs.Templates.{template, size, routine_at, routine_of, routine_size, start_code}
+use Rattle.vm_templates.specs.Commands.{HasRoutine, IsAmong, last_among}
+use Rattle.vm_templates.specs.Computer.{Stands, HasLoop}
+use Rattle.vm_templates.proofs.Placed.{stands_front, stands_back, all_stand, all_words, starts}
 use Rattle.vm_machine.specs.Step.{code_in, code_of}
 use Rattle.vm_machine.specs.Level.{subroutine_of, number_of}
 use Rattle.vm_translator.specs.declared.layout.Placed.{Placed}
 use Rattle.vm_translator.specs.Shapes.{shape_of, step_size}
 use Rattle.vm_translator.specs.Places.{address_of, base_of, end_of, code_at, program, target_of}
 use Rattle.vm_translator.specs.Image.{opening, closing, entry_of, piece, image_of, commit_of, commits_of, routines, shared_at, shared_commits, start_commits, start_ranges, points_of, range_of}
-use Rattle.vm_translator.specs.Shared.{lasts_from, shared_from, used, uses, has_routine as has_one}
+use Rattle.vm_translator.specs.Shared.{lasts_from, shared_from, used_routines, uses, has_routine as has_one}
 use Rattle.vm_translator.specs.Plain.{IsPlain}
 use Rattle.vm_translator.specs.Carries.{IsTarget}
 use Rattle.vm_translator.specs.Mapping.{point_in, map_of, start_address, location}
@@ -138,7 +138,7 @@ module _ (l : Linked) (sound : IsSound l) (uniform : IsUniform l) (whole : l.bar
   code_instrs = flat_map (piece (routines l) (base_of l) l.functions) (program l)
 
   abbrev shared_instrs : List Instr
-  shared_instrs = shared_from (shared_at l) (used l)
+  shared_instrs = shared_from (shared_at l) (used_routines l)
 
   base_is : base_of l ≡ 23
   base_is = ap (λ b. if b then 0 else 23) whole
@@ -213,8 +213,8 @@ module _ (l : Linked) (sound : IsSound l) (uniform : IsUniform l) (whole : l.bar
   early_shared : (a : ℕ) → a < shared_at l → list_any (nat_eq a) (shared_commits l) ≡ false
   early_shared a h = by_marked l.marked
     where
-      by_marked : (b : Bool) → list_any (nat_eq a) (if b then lasts_from (shared_at l) (used l) else []) ≡ false
-      by_marked true = no_last a (shared_at l) (used l) (inl h)
+      by_marked : (b : Bool) → list_any (nat_eq a) (if b then lasts_from (shared_at l) (used_routines l) else []) ≡ false
+      by_marked true = no_last a (shared_at l) (used_routines l) (inl h)
       by_marked false = refl
 
   -- the commits of addresses in the start code, past it, and in the routines
@@ -239,7 +239,7 @@ module _ (l : Linked) (sound : IsSound l) (uniform : IsUniform l) (whole : l.bar
       alone x true z e f = rw e refl
       alone x false z e f = rw (e, f) refl
 
-  shared_commit : (a : ℕ) → shared_at l ≤ a → list_any (nat_eq a) (commits_of l) ≡ (l.marked && list_any (nat_eq a) (lasts_from (shared_at l) (used l)))
+  shared_commit : (a : ℕ) → shared_at l ≤ a → list_any (nat_eq a) (commits_of l) ≡ (l.marked && list_any (nat_eq a) (lasts_from (shared_at l) (used_routines l)))
   shared_commit a h =
       let b = base_is in
       let n = no_commit a (base_of l) (end_of l) (program l) program_chain (inr (omega arith)) in
@@ -248,12 +248,12 @@ module _ (l : Linked) (sound : IsSound l) (uniform : IsUniform l) (whole : l.bar
       alone : (x y z : Bool) → x ≡ false → y ≡ false → (x || (y || z)) ≡ z
       alone x y z e f = rw (e, f) refl
 
-      by_marked : (b : Bool) → list_any (nat_eq a) (if b then lasts_from (shared_at l) (used l) else []) ≡ (b && list_any (nat_eq a) (lasts_from (shared_at l) (used l)))
+      by_marked : (b : Bool) → list_any (nat_eq a) (if b then lasts_from (shared_at l) (used_routines l) else []) ≡ (b && list_any (nat_eq a) (lasts_from (shared_at l) (used_routines l)))
       by_marked true = refl
       by_marked false = refl
 
   -- the routines in the image
-  there : (r : Routine) → uses l r ≡ true → InRoutines (map word_of (image_of l)) (shared_at l) (used l) r (routine_at (routines l) r)
+  there : (r : Routine) → uses l r ≡ true → InRoutines (map word_of (image_of l)) (shared_at l) (used_routines l) r (routine_at (routines l) r)
   there r u = routine_placed (map word_of (image_of l)) l r u shared_stands
 
   pub has_routine : (o : Option Routine) → ((r : Routine) → o ≡ Some r → uses l r ≡ true) → HasRoutine (map word_of (image_of l)) (routines l) o

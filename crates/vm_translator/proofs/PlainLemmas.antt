@@ -5,14 +5,14 @@ use Rattle.std.specs.List.{flat_map, list_any, list_all}
 use Rattle.std.proofs.lemmas.Bool.{and_parts, or_parts, ltb-true, lt-ltb, le-ltb, cases_Bool, cases_eq, cases_lt, eqb-false}
 use Rattle.hack_isa.specs.declared.Instr.{Instr}
 use Rattle.hack_isa.specs.declared.Instr.TheVariants.{Address, Compute}
-use Rattle.hack_blocks.specs.declared.shape.Shape.{Shape}
-use Rattle.hack_blocks.specs.declared.shape.Shape.TheVariants as shape
-use Rattle.hack_blocks.specs.declared.instructions.TheConstants.{D_IS_A, D_IS_NOT_A, D_IS_M, A_IS_M, M_IS_D, M_IS_MINUS_1, A_IS_M_MINUS_1, A_IS_D_PLUS_M, D_IS_D_PLUS_M, D_IS_D_AND_M, D_IS_D_OR_M, D_IS_M_MINUS_D, M_IS_D_PLUS_M, M_IS_M_MINUS_D, M_IS_D_AND_M, M_IS_D_OR_M, M_IS_MINUS_M, M_IS_NOT_M, JUMP, IF_D_LESS, IF_D_GREATER, IF_D_EQUAL, IF_D_NOT_LESS, IF_D_NOT_EQUAL}
-use Rattle.hack_blocks.specs.declared.routines.Routine.{Routine}
-use Rattle.hack_blocks.specs.declared.routines.Routine.TheVariants as routine
-use Rattle.hack_blocks.specs.declared.routines.Routines.{Routines}
-use Rattle.hack_blocks.specs.Laws.{IsFound}
-use Rattle.hack_blocks.specs.Templates.{begin_compare, by_difference, call_by, call_routine, compare_by, decide, equal_routine, function_code, go_back, join, load, load_again, order_routine, pop_d, push_constant, push_d, push_word, push_zero, put_false, return_code, routine_at, routine_code, routine_of, routine_size, set_stack, endless, size, start_code, template, turn}
+use Rattle.vm_templates.specs.declared.shape.Shape.{Shape}
+use Rattle.vm_templates.specs.declared.shape.Shape.TheVariants as shape
+use Rattle.vm_templates.specs.declared.instructions.TheConstants.{D_IS_A, D_IS_NOT_A, D_IS_M, A_IS_M, M_IS_D, M_IS_MINUS_1, A_IS_M_MINUS_1, A_IS_D_PLUS_M, D_IS_D_PLUS_M, D_IS_D_AND_M, D_IS_D_OR_M, D_IS_M_MINUS_D, M_IS_D_PLUS_M, M_IS_M_MINUS_D, M_IS_D_AND_M, M_IS_D_OR_M, M_IS_MINUS_M, M_IS_NOT_M, JUMP, IF_D_LESS, IF_D_GREATER, IF_D_EQUAL, IF_D_NOT_LESS, IF_D_NOT_EQUAL}
+use Rattle.vm_templates.specs.declared.routines.Routine.{Routine}
+use Rattle.vm_templates.specs.declared.routines.Routine.TheVariants as routine
+use Rattle.vm_templates.specs.declared.routines.Routines.{Routines}
+use Rattle.vm_templates.specs.Laws.{IsFound}
+use Rattle.vm_templates.specs.Templates.{begin_compare, by_difference, call_by, call_routine, compare_by, decide, equal_routine, function_code, go_back, join, load, load_again, order_routine, pop_d, push_constant, push_d, push_word, push_zero, put_false, return_code, routine_at, routine_code, routine_of, routine_size, set_stack, endless, size, start_code, template, turn}
 use Rattle.vm_tree.specs.declared.command.Operation.{Operation}
 use Rattle.vm_tree.specs.declared.command.Operation.TheVariants as operation
 use Rattle.vm_tree.specs.declared.command.Segment.{Segment}
@@ -25,10 +25,10 @@ use Rattle.vm_link.specs.declared.linked.LinkedFunction.{LinkedFunction}
 use Rattle.vm_translator.specs.declared.layout.Placed.{Placed}
 use Rattle.vm_translator.specs.declared.ends.Closing.{Closing}
 use Rattle.vm_translator.specs.declared.ends.Closing.TheVariants as closes
-use Rattle.vm_translator.specs.Shapes.{push_from, pop_to, operated, pushed, popped, shape_of, step_size}
-use Rattle.vm_translator.specs.Places.{address, base_of, code_at, end_of, named, placed_code, placed_from, program, target_of, words_in, words_of}
+use Rattle.vm_translator.specs.Shapes.{push_from, pop_to, operation_shape, push_shape, pop_shape, shape_of, step_size}
+use Rattle.vm_translator.specs.Places.{address, base_of, code_at, end_of, named_symbol, placed_code, placed_from, program, target_of, words_in, words_of}
 use Rattle.vm_translator.specs.Image.{closing, closing_code, closing_of, closing_size, entry_of, image_of, names, names_end, opening, piece, routines, shared_at}
-use Rattle.vm_translator.specs.Shared.{routine_for, shared_from, used, uses, words_shared}
+use Rattle.vm_translator.specs.Shared.{routine_for, shared_from, used_routines, uses, words_shared}
 use Rattle.vm_translator.proofs.Routines.{Contained, ContainedIn, contained_uses, routine_some, routine_within, start_uses}
 use Rattle.vm_translator.specs.Plain.{IsPlain, is_spelled}
 use Rattle.vm_translator.specs.Tables.{IsReady}
@@ -163,7 +163,7 @@ plain_template rs here (shape.Call t n) h f w = plain_call rs.call ((here + 12) 
 plain_template rs here (shape.Function n) h f w = plain_function n
 plain_template rs here shape.Return h f w = (f, plain_all (JUMP ∷ []) refl)
 
-numbered_operation : (o : Operation) → IsNumbered (operated o)
+numbered_operation : (o : Operation) → IsNumbered (operation_shape o)
 numbered_operation operation.Add = tt
 numbered_operation operation.Sub = tt
 numbered_operation operation.Neg = tt
@@ -182,7 +182,7 @@ numbered_to : (base i : ℕ) → base < 32768 → IsNumbered (pop_to base i)
 numbered_to base zero h = h
 numbered_to base (suc i) h = (h, omega arith)
 
-numbered_push : (g : Segment) (i : ℕ) → IsNumbered (pushed g i)
+numbered_push : (g : Segment) (i : ℕ) → IsNumbered (push_shape g i)
 numbered_push segment.Argument i = numbered_from 2 i (omega arith)
 numbered_push segment.Local i = numbered_from 1 i (omega arith)
 numbered_push segment.Static i = omega arith
@@ -192,7 +192,7 @@ numbered_push segment.That i = numbered_from 4 i (omega arith)
 numbered_push segment.Pointer i = omega arith
 numbered_push segment.Temp i = omega arith
 
-numbered_pop : (g : Segment) (i : ℕ) → IsNumbered (popped g i)
+numbered_pop : (g : Segment) (i : ℕ) → IsNumbered (pop_shape g i)
 numbered_pop segment.Argument i = numbered_to 2 i (omega arith)
 numbered_pop segment.Local i = numbered_to 1 i (omega arith)
 numbered_pop segment.Static i = omega arith
@@ -259,7 +259,7 @@ below_end end a n h l e = let f = eqb-false end a e in ⊎_by (cases_eq end a) (
     lower t = omega arith
 
 target_below : (base : ℕ) (fs : List LinkedFunction) (k next : ℕ) (s : Step) (n : ℕ) → 0 < n → base + words_in fs ≤ n
-    → list_any (nat_eq (base + words_in fs)) (named base fs k next s) ≡ false → target_of base fs k s < n
+    → list_any (nat_eq (base + words_in fs)) (named_symbol base fs k next s) ≡ false → target_of base fs k s < n
 target_below base fs k next (step.Goto p) n z h e = below_end (base + words_in fs) (address base fs k p) n (address_within base fs k p) h ((or_parts _ _ e).0)
 target_below base fs k next (step.IfGoto p) n z h e = below_end (base + words_in fs) (address base fs k p) n (address_within base fs k p) h ((or_parts _ _ e).0)
 target_below base fs k next (step.Call f m) n z h e = below_end (base + words_in fs) (address base fs f 0) n (address_within base fs f 0) h ((or_parts _ _ e).0)
@@ -341,14 +341,14 @@ plain_image l fits ready =
     let r = each_of (IsReady l.functions) (program l) ready in
     let shared = from_found l fits 0 (base_of l) l.functions (λ f c r j i e. contained_uses l r f c j i e) in
     let code = flat_map (piece (routines l) (base_of l) l.functions) (program l) in
-    let routines_code = shared_from (shared_at l) (used l) in
+    let routines_code = shared_from (shared_at l) (used_routines l) in
     each_all IsPlain (image_of l)
     (each_both IsPlain (opening l) (code ++ (closing l ++ routines_code)) (front t.entry (λ b. found l fits routine.Call (start_uses l b)))
     (each_both IsPlain code (closing l ++ routines_code)
     (each_flat IsPlain (piece (routines l) (base_of l) l.functions) (program l)
     (each_map (λ c. IsReady l.functions c × IsFound (routines l) (routine_for c.code.step)) (λ c. target_of (base_of l) l.functions c.function c.code.step < 32768) (λ c. Each IsPlain (piece (routines l) (base_of l) l.functions c)) (program l)
     (λ c a b. plain_piece (routines l) (base_of l) l.functions c (a.0).fits a.1 b) (each_map (IsReady l.functions) (λ c. IsFound (routines l) (routine_for c.code.step)) (λ c. IsReady l.functions c × IsFound (routines l) (routine_for c.code.step)) (program l) (λ c a b. (a, b)) r shared) t.targets))
-    (each_both IsPlain (closing l) routines_code back (plain_shared (shared_at l) (used l) (omega arith)))))
+    (each_both IsPlain (closing l) routines_code back (plain_shared (shared_at l) (used_routines l) (omega arith)))))
   where
     front : (l.bare ≡ false → entry_of l < 32768) → (l.bare ≡ false → (routines l).call < 32768) → Each IsPlain (opening l)
     front h r = by_bare l.bare (routines l) (entry_of l) h r

@@ -11,7 +11,7 @@ use Rattle.vm_machine.specs.State.{Frame, State, words_in_use}
 use Rattle.vm_machine.specs.Step.{code_in, code_of}
 use Rattle.vm_machine.specs.Level.{subroutine_of, number_of}
 use Rattle.vm_translator.specs.Shapes.{step_size}
-use Rattle.vm_translator.specs.Stands.{Holds, saved, own_words, lcl_of, Laid, SameMemory}
+use Rattle.vm_translator.specs.Stands.{Holds, words_saved, own_words, lcl_of, Laid, SameMemory}
 use Rattle.vm_translator.specs.Places.{address_of, base_of, code_at, end_of, program, words_of}
 use Rattle.vm_translator.specs.Mapping.{point_in, location}
 use Rattle.vm_translator.specs.Image.{points_of, range_of, start_ranges}
@@ -27,19 +27,19 @@ module _ (address : Option ℕ → ℕ → ℕ) (m : ℕ → ℕ) where
   -- the parts of a frame's words
   record Parts (f g : Frame) (below : List Frame) : Type 0 where
     arguments : Holds m (256 + words_in_use (g ∷ below)) f.arguments
-    links : Holds m (256 + words_in_use (g ∷ below) + length f.arguments) (saved address g below)
+    links : Holds m (256 + words_in_use (g ∷ below) + length f.arguments) (words_saved address g below)
     locals : Holds m (256 + words_in_use (g ∷ below) + length f.arguments + 5) f.locals
 
   parts : (f g : Frame) (below : List Frame) → Holds m (256 + words_in_use (g ∷ below)) (own_words address f (g ∷ below)) → Parts f g below
   parts f g below own =
       let b = 256 + words_in_use (g ∷ below) in
-      let lower = holds_front m b (f.arguments ++ saved address g below) (f.locals ++ reverse f.values) own in
-      let upper = holds_back m b (f.arguments ++ saved address g below) (f.locals ++ reverse f.values) own in
-      let size : b + length (f.arguments ++ saved address g below) ≡ b + length f.arguments + 5 = omega (arith, length-append f.arguments (saved address g below)) in
+      let lower = holds_front m b (f.arguments ++ words_saved address g below) (f.locals ++ reverse f.values) own in
+      let upper = holds_back m b (f.arguments ++ words_saved address g below) (f.locals ++ reverse f.values) own in
+      let size : b + length (f.arguments ++ words_saved address g below) ≡ b + length f.arguments + 5 = omega (arith, length-append f.arguments (words_saved address g below)) in
       record {
-        arguments = holds_front m b f.arguments (saved address g below) lower;
-        links = holds_back m b f.arguments (saved address g below) lower;
-        locals = subst (λ a. Holds m a f.locals) size (holds_front m (b + length (f.arguments ++ saved address g below)) f.locals (reverse f.values) upper);
+        arguments = holds_front m b f.arguments (words_saved address g below) lower;
+        links = holds_back m b f.arguments (words_saved address g below) lower;
+        locals = subst (λ a. Holds m a f.locals) size (holds_front m (b + length (f.arguments ++ words_saved address g below)) f.locals (reverse f.values) upper);
       }
 
   called_by : (f g : Frame) (below : List Frame) (above : ℕ) → Parts f g below → lcl_of (f ∷ g ∷ below) + 5 ≤ above → lcl_of (f ∷ g ∷ below) ≤ 2047 → IsCalledBy address m above (lcl_of (f ∷ g ∷ below)) g

@@ -7,15 +7,15 @@ use Rattle.vm_tree.specs.declared.command.Segment.{Segment}
 use Rattle.vm_tree.specs.declared.command.Segment.TheVariants as segment
 use Rattle.machine_io.specs.declared.machine.Stray.TheVariants as stray
 use Rattle.vm_link.specs.declared.linked.Linked.{Linked}
-use Rattle.hack_blocks.specs.declared.shape.Shape.{Shape}
-use Rattle.hack_blocks.specs.declared.shape.Shape.TheVariants as shape
-use Rattle.hack_blocks.specs.Effects.{Pushed, Stored, Dropped}
-use Rattle.hack_blocks.specs.Commands.{IsShape, HasValues, address_at, topmost, Ready, Effect, next}
+use Rattle.vm_templates.specs.declared.shape.Shape.{Shape}
+use Rattle.vm_templates.specs.declared.shape.Shape.TheVariants as shape
+use Rattle.vm_templates.specs.Effects.{Pushed, Stored, Dropped}
+use Rattle.vm_templates.specs.Commands.{IsShape, HasValues, address_at, topmost, Ready, Effect, next}
 use Rattle.vm_machine.specs.State.{Frame, State, words_in_use}
-use Rattle.vm_machine.specs.Step.{Outcome, Acts, Strays, fitted, goes, after, load, store, push, pop, on_top}
+use Rattle.vm_machine.specs.Step.{Outcome, Acts, Strays, fit_outcome, goes, after, load, store, push, pop, on_top}
 use Rattle.vm_machine.specs.Step as vm
 use Rattle.vm_machine.specs.Sound.{IsSoundState, AreSoundFrames}
-use Rattle.vm_translator.specs.Stands.{SameMemory, saved}
+use Rattle.vm_translator.specs.Stands.{SameMemory, words_saved}
 use Rattle.vm_translator.specs.Carries.{Carries, place_of}
 use Rattle.vm_translator.proofs.Clamped.{push_from, pop_to, pushed, popped, push_shape, push_ready, push_effect, pop_shape, pop_ready, pop_effect}
 use Rattle.vm_translator.proofs.Stack.{holds_front, holds_back, holds_at}
@@ -52,9 +52,9 @@ module _ (address : Option ℕ → ℕ → ℕ) (l : Linked) (v : State) (f : Fr
       let e' : v.frames ≡ f ∷ k.0 ∷ k.1 = e ∙ ap (λ fs. f ∷ fs) k.2 in
       let n = inner_of address v f (k.0 ∷ k.1) m e' h in
       let at = argument_place address v m m h sound.room f k.0 k.1 e' in
-      let own = holds_front m (base address (k.0 ∷ k.1)) f.arguments (saved address k.0 k.1) (holds_front m (base address (k.0 ∷ k.1)) (f.arguments ++ saved address k.0 k.1) _ n.own) in
-      let len = length-append (f.arguments ++ saved address k.0 k.1) (f.locals ++ reverse f.values) in
-      let inner = length-append f.arguments (saved address k.0 k.1) in
+      let own = holds_front m (base address (k.0 ∷ k.1)) f.arguments (words_saved address k.0 k.1) (holds_front m (base address (k.0 ∷ k.1)) (f.arguments ++ words_saved address k.0 k.1) _ n.own) in
+      let len = length-append (f.arguments ++ words_saved address k.0 k.1) (f.locals ++ reverse f.values) in
+      let inner = length-append f.arguments (words_saved address k.0 k.1) in
       let sp = sp_is in
       let r = room in
       (ap (λ b. m (b + i)) at ∙ holds_at m (base address (k.0 ∷ k.1)) f.arguments i own small, omega arith, omega (arith, n.sp, at, len, inner, sp, r))
@@ -65,7 +65,7 @@ module _ (address : Option ℕ → ℕ → ℕ) (l : Linked) (v : State) (f : Fr
       let e' : v.frames ≡ f ∷ k.0 ∷ k.1 = e ∙ ap (λ fs. f ∷ fs) k.2 in
       let n = inner_of address v f (k.0 ∷ k.1) m e' h in
       let at = local_place address v m m h sound.room f k.0 k.1 e' in
-      let front = f.arguments ++ saved address k.0 k.1 in
+      let front = f.arguments ++ words_saved address k.0 k.1 in
       let upper = holds_back m (base address (k.0 ∷ k.1)) front (f.locals ++ reverse f.values) n.own in
       let own = holds_front m (base address (k.0 ∷ k.1) + length front) f.locals (reverse f.values) upper in
       let len = length-append front (f.locals ++ reverse f.values) in
@@ -81,18 +81,18 @@ module _ (address : Option ℕ → ℕ → ℕ) (l : Linked) (v : State) (f : Fr
   pointed r a i is = ap (λ k. (k + i) % 65536) is
 
   push_at_carries : (r i w : ℕ) (v' : State) → 1 ≤ r → r ≤ 4 → i < 32768 → address_at m r i < 24576 → m (address_at m r i) ≡ w → next (push_from r i) here m ≡ address f.function (f.place + 1)
-      → fitted (vm.pushed false v f below w) ≡ Acts false v' → Carries address (push_from r i) here m v'
+      → fit_outcome (vm.push_outcome false v f below w) ≡ Acts false v' → Carries address (push_from r i) here m v'
   push_at_carries r i w v' one four small near is to acts =
       push_carries address l v f below m e sound h here (push_from r i) w false false v' (push_shape r m words i one four small) (λ s. push_ready r m words i s near) (λ t p. subst (Pushed m t) is (push_effect r m words i here t p)) to acts
 
   push_word_carries : (a w : ℕ) (v' : State) → 3 ≤ a → a < 256 → m a ≡ w → next (shape.PushWord a) here m ≡ address f.function (f.place + 1)
-      → fitted (vm.pushed false v f below w) ≡ Acts false v' → Carries address (shape.PushWord a) here m v'
+      → fit_outcome (vm.push_outcome false v f below w) ≡ Acts false v' → Carries address (shape.PushWord a) here m v'
   push_word_carries a w v' low small is to acts =
       push_carries address l v f below m e sound h here (shape.PushWord a) w false false v' (low, small) (λ s. s) (λ t p. subst (Pushed m t) is p) to acts
 
   -- a load of heap or screen
   load_carries : (r base key i : ℕ) (v' : State) → 1 ≤ r → r ≤ 4 → m r ≡ base → next (push_from r i) here m ≡ address f.function (f.place + 1)
-      → fitted (vm.written i (load key (word_add base i) v f below)) ≡ Acts false v' → Carries address (push_from r i) here m v'
+      → fit_outcome (vm.write_outcome i (load key (word_add base i) v f below)) ≡ Acts false v' → Carries address (push_from r i) here m v'
   load_carries r base key i v' one four is to acts =
       let p = less_case i 32768 (load key (word_add base i) v f below) stray.Code false v' acts in
       let a = word_add base i in
@@ -107,34 +107,34 @@ module _ (address : Option ℕ → ℕ → ℕ) (l : Linked) (v : State) (f : Fr
       (same_or a 24576 _ _ false v' d.1))
       (less_or a 24576 _ _ false v' q.1)
 
-  pub segment_push_carries : (key : ℕ) (g : Segment) (i : ℕ) (v' : State) → next (pushed g i) here m ≡ address f.function (f.place + 1) → fitted (push key g i v f below) ≡ Acts false v' → Carries address (pushed g i) here m v'
+  pub segment_push_carries : (key : ℕ) (g : Segment) (i : ℕ) (v' : State) → next (pushed g i) here m ≡ address f.function (f.place + 1) → fit_outcome (push key g i v f below) ≡ Acts false v' → Carries address (pushed g i) here m v'
   segment_push_carries key segment.Constant i v' to acts =
-      let p = less_case i 32768 (vm.pushed false v f below i) stray.Code false v' acts in
+      let p = less_case i 32768 (vm.push_outcome false v f below i) stray.Code false v' acts in
       push_carries address l v f below m e sound h here (shape.PushConstant i) i false false v' p.0 (λ s. s) (λ t q. q) to p.1
   segment_push_carries key segment.Argument i v' to acts =
-      let p = word_case stray.Argument (slice_get f.arguments i) (vm.pushed false v f below) false v' acts in
+      let p = word_case stray.Argument (slice_get f.arguments i) (vm.push_outcome false v f below) false v' acts in
       let small = slice_get_within f.arguments i p.0 p.1 in
       let at = argument_at i small in
       let a = near 2 i at.2 in
       push_at_carries 2 i p.0 v' (omega arith) (omega arith) (omega (arith, at.2)) (omega (arith, a, at.2)) (ap m a ∙ at.0 ∙ get_or_from_slice_get f.arguments i p.0 0 p.1) to p.2
   segment_push_carries key segment.Local i v' to acts =
-      let p = word_case stray.Local (slice_get f.locals i) (vm.pushed false v f below) false v' acts in
+      let p = word_case stray.Local (slice_get f.locals i) (vm.push_outcome false v f below) false v' acts in
       let small = slice_get_within f.locals i p.0 p.1 in
       let at = local_at i small in
       let a = near 1 i at.2 in
       push_at_carries 1 i p.0 v' (omega arith) (omega arith) (omega (arith, at.2)) (omega (arith, a, at.2)) (ap m a ∙ at.0 ∙ get_or_from_slice_get f.locals i p.0 0 p.1) to p.2
   segment_push_carries key segment.Static i v' to acts =
-      let p = word_case stray.Code (slice_get v.statics i) (vm.pushed false v f below) false v' acts in
+      let p = word_case stray.Code (slice_get v.statics i) (vm.push_outcome false v f below) false v' acts in
       let small = slice_get_within v.statics i p.0 p.1 in
       let len = sound.statics_length in
       push_word_carries (16 + i) p.0 v' (omega arith) (omega arith) (h.statics i (omega arith) ∙ get_or_from_slice_get v.statics i p.0 0 p.1) to p.2
   segment_push_carries key segment.Temp i v' to acts =
-      let p = word_case stray.Code (slice_get v.temps i) (vm.pushed false v f below) false v' acts in
+      let p = word_case stray.Code (slice_get v.temps i) (vm.push_outcome false v f below) false v' acts in
       let small = slice_get_within v.temps i p.0 p.1 in
       let len = sound.temps_length in
       push_word_carries (5 + i) p.0 v' (omega arith) (omega arith) (h.temps i (omega arith) ∙ get_or_from_slice_get v.temps i p.0 0 p.1) to p.2
   segment_push_carries key segment.Pointer i v' to acts =
-      let p = word_case stray.Code (slice_get (f.this ∷ f.that ∷ []) i) (vm.pushed false v f below) false v' acts in
+      let p = word_case stray.Code (slice_get (f.this ∷ f.that ∷ []) i) (vm.push_outcome false v f below) false v' acts in
       let small = slice_get_within (f.this ∷ f.that ∷ []) i p.0 p.1 in
       push_word_carries (3 + i) p.0 v' (omega arith) (omega arith) (pointer i p.0 p.1) to p.2
     where
@@ -173,7 +173,7 @@ module _ (address : Option ℕ → ℕ → ℕ) (l : Linked) (v : State) (f : Fr
 
     pop_carries : (c : Shape) (to : ℕ) (after_state v' : State) → IsShape c → (HasValues 1 m → Ready c m) → 1 ≤ to → ((t : ℕ → ℕ) → Effect c here m t → Stored m t to) → next c here m ≡ place_of address after_state.frames
         → ((t mid : ℕ → ℕ) → SameMemory address (record v { frames = after f values ∷ below }) mid → Written mid t to y → Dropped m mid → SameMemory address after_state t)
-        → fitted (Acts false after_state) ≡ Acts false v' → Carries address c here m v'
+        → fit_outcome (Acts false after_state) ≡ Acts false v' → Carries address c here m v'
     pop_carries c to after_state v' fits ready one effect goes_to writes acts =
         let a = goes_case false false after_state v' acts in
         subst (Carries address c here m) a.0 (record {
@@ -185,7 +185,7 @@ module _ (address : Option ℕ → ℕ → ℕ) (l : Linked) (v : State) (f : Fr
 
     -- a store to heap or screen
     store_carries : (r base i : ℕ) (v' : State) → 1 ≤ r → r ≤ 4 → m r ≡ base → next (pop_to r i) here m ≡ address f.function (f.place + 1)
-        → fitted (vm.written i (store (word_add base i) y values v f below)) ≡ Acts false v' → Carries address (pop_to r i) here m v'
+        → fit_outcome (vm.write_outcome i (store (word_add base i) y values v f below)) ≡ Acts false v' → Carries address (pop_to r i) here m v'
     store_carries r base i v' one four is_base to acts =
         let p = less_case i 32768 (store (word_add base i) y values v f below) stray.Code false v' acts in
         let a = word_add base i in
@@ -196,7 +196,7 @@ module _ (address : Option ℕ → ℕ → ℕ) (l : Linked) (v : State) (f : Fr
         (λ t mid same w drop. set_word address (record v { frames = after f values ∷ below }) mid t same room1 a y q.0 d.0 sound.words_length w)
         d.1
 
-    pub segment_pop_carries : (g : Segment) (i : ℕ) (v' : State) → next (popped g i) here m ≡ address f.function (f.place + 1) → fitted (pop g i v f below y values) ≡ Acts false v' → Carries address (popped g i) here m v'
+    pub segment_pop_carries : (g : Segment) (i : ℕ) (v' : State) → next (popped g i) here m ≡ address f.function (f.place + 1) → fit_outcome (pop g i v f below y values) ≡ Acts false v' → Carries address (popped g i) here m v'
     segment_pop_carries segment.Constant i v' to acts = absurd (cc acts)
     segment_pop_carries segment.Argument i v' to acts =
         let p = less_case i (length f.arguments) (goes v below (record (after f values) { arguments = slice_set f.arguments i y })) stray.Argument false v' acts in

@@ -4,7 +4,7 @@ use Rattle.std.specs.Prelude.{slice_index, slice_set}
 use Rattle.std.proofs.lemmas.List.{get_or-set_same, get_or-set_other}
 use Rattle.std.proofs.Math.ListN.{length-set}
 use Rattle.vm_machine.specs.State.{Frame, State, words_in_use}
-use Rattle.vm_translator.specs.Stands.{Holds, own_words, saved, SameMemory}
+use Rattle.vm_translator.specs.Stands.{Holds, own_words, words_saved, SameMemory}
 use Rattle.vm_translator.proofs.Stack.{holds_kept, holds_set, use_is, laid_kept}
 use Rattle.vm_translator.proofs.Frames.{Written, inner_of, base, with_frame, at_frames, lcl_same, arg_same, frame_changed}
 
@@ -111,10 +111,10 @@ module _ (address : Option ℕ → ℕ → ℕ) (v : State) (m after : ℕ → �
       }
 
   -- where the locals and arguments of a called frame are
-  pub local_place : (f c : Frame) (below : List Frame) → v.frames ≡ f ∷ c ∷ below → m 1 ≡ base address (c ∷ below) + length (f.arguments ++ saved address c below)
+  pub local_place : (f c : Frame) (below : List Frame) → v.frames ≡ f ∷ c ∷ below → m 1 ≡ base address (c ∷ below) + length (f.arguments ++ words_saved address c below)
   local_place f c below e =
       let h' = at_frames address v f (c ∷ below) m e h in
-      h'.lcl ∙ omega (arith, length-append f.arguments (saved address c below))
+      h'.lcl ∙ omega (arith, length-append f.arguments (words_saved address c below))
 
   pub argument_place : (f c : Frame) (below : List Frame) → v.frames ≡ f ∷ c ∷ below → m 2 ≡ base address (c ∷ below)
   argument_place f c below e = let h' = at_frames address v f (c ∷ below) m e h in h'.arg
@@ -135,7 +135,7 @@ module _ (address : Option ℕ → ℕ → ℕ) (v : State) (m after : ℕ → �
   pub set_local : (f c : Frame) (below : List Frame) (i y : ℕ) → v.frames ≡ f ∷ c ∷ below → i < length f.locals → Written m after (m 1 + i) y → SameMemory address (with_frame address v (record f { locals = slice_set f.locals i y }) (c ∷ below)) after
   set_local f c below i y e small w =
       let g : Frame = record f { locals = slice_set f.locals i y } in
-      let front = f.arguments ++ saved address c below in
+      let front = f.arguments ++ words_saved address c below in
       let at = local_place f c below e in
       let to : m 1 + i ≡ base address (c ∷ below) + (length front + i) = omega arith in
       let own : own_words address g (c ∷ below) ≡ slice_set (own_words address f (c ∷ below)) (length front + i) y = sym (set_back front (f.locals ++ reverse f.values) i y ∙ ap (λ r. front ++ r) (set_front f.locals (reverse f.values) i y small)) in
@@ -144,7 +144,7 @@ module _ (address : Option ℕ → ℕ → ℕ) (v : State) (m after : ℕ → �
   pub set_argument : (f c : Frame) (below : List Frame) (i y : ℕ) → v.frames ≡ f ∷ c ∷ below → i < length f.arguments → Written m after (m 2 + i) y → SameMemory address (with_frame address v (record f { arguments = slice_set f.arguments i y }) (c ∷ below)) after
   set_argument f c below i y e small w =
       let g : Frame = record f { arguments = slice_set f.arguments i y } in
-      let link = saved address c below in
+      let link = words_saved address c below in
       let rest = f.locals ++ reverse f.values in
       let at = argument_place f c below e in
       let to : m 2 + i ≡ base address (c ∷ below) + i = omega arith in

@@ -4,10 +4,10 @@ use Rattle.std.specs.List.{flat_map}
 use Rattle.std.proofs.lemmas.List.Concat.{flat_map-append}
 use Rattle.vm_translator.specs.declared.ends.Closing.{Closing}
 use Rattle.vm_translator.specs.declared.ends.Closing.TheVariants as closes
-use Rattle.hack_blocks.specs.declared.shape.Shape.{Shape}
-use Rattle.hack_blocks.specs.declared.shape.Shape.TheVariants as shape
-use Rattle.hack_blocks.specs.declared.routines.Routines.{Routines}
-use Rattle.hack_blocks.specs.Templates.{function_code, size, template, start_code, start_size}
+use Rattle.vm_templates.specs.declared.shape.Shape.{Shape}
+use Rattle.vm_templates.specs.declared.shape.Shape.TheVariants as shape
+use Rattle.vm_templates.specs.declared.routines.Routines.{Routines}
+use Rattle.vm_templates.specs.Templates.{function_code, size, template, start_code, start_size}
 use Rattle.vm_link.specs.declared.linked.Code.{Code}
 use Rattle.vm_link.specs.declared.linked.LinkedFunction.{LinkedFunction}
 use Rattle.vm_link.specs.declared.linked.Linked.{Linked}
@@ -15,7 +15,7 @@ use Rattle.vm_translator.specs.declared.layout.Placed.{Placed}
 use Rattle.vm_translator.specs.Shapes.{shape_of, step_size}
 use Rattle.vm_translator.specs.Places.{base_of, end_of, placed_code, placed_from, program, target_of, words_of, words_in}
 use Rattle.vm_translator.specs.Image.{closing, closing_code, closing_of, closing_size, entry_of, image_of, names_end, opening, piece, routines, shared_at}
-use Rattle.vm_translator.specs.Shared.{shared_from, used, words_shared}
+use Rattle.vm_translator.specs.Shared.{shared_from, used_routines, words_shared}
 use Rattle.vm_translator.proofs.Routines.{length_shared}
 use Rattle.vm_translator.proofs.Sums.{size_to}
 
@@ -89,7 +89,7 @@ closing_few closes.Word = omega arith
 closing_few closes.Loop = omega arith
 
 pub closing_some : (l : Linked) → names_end l ≡ true → 1 ≤ closing_size (closing_of l)
-closing_some l = by_cases (l.bare && not (nat_eq (length (used l)) 0)) (names_end l)
+closing_some l = by_cases (l.bare && not (nat_eq (length (used_routines l)) 0)) (names_end l)
   where
     by_cases : (b n : Bool) → n ≡ true → 1 ≤ closing_size (if b then closes.Loop else if n then closes.Word else closes.Nothing)
     by_cases true n e = omega arith
@@ -97,17 +97,17 @@ closing_some l = by_cases (l.bare && not (nat_eq (length (used l)) 0)) (names_en
     by_cases false false e = absurd (cc e)
 
 -- the instructions of an image before the routines, and with them
-pub length_image : (l : Linked) → length (image_of l) ≡ base_of l + (words_in l.functions + (closing_size (closing_of l) + words_shared (used l)))
+pub length_image : (l : Linked) → length (image_of l) ≡ base_of l + (words_in l.functions + (closing_size (closing_of l) + words_shared (used_routines l)))
 length_image l =
     let code = flat_map (piece (routines l) (base_of l) l.functions) (program l) in
-    let shared = shared_from (shared_at l) (used l) in
+    let shared = shared_from (shared_at l) (used_routines l) in
     let a = length_opening l in
     let b = length_from (routines l) (base_of l) l.functions 0 (base_of l) l.functions in
     let c = length_closing l in
-    let d = length_shared (shared_at l) (used l) in
+    let d = length_shared (shared_at l) (used_routines l) in
     let e = length-append (closing l) shared in
     let f = length-append code (closing l ++ shared) in
     length-append (opening l) (code ++ (closing l ++ shared)) ∙ omega arith
 
-pub length_with : (l : Linked) → length (image_of l) ≡ shared_at l + words_shared (used l)
+pub length_with : (l : Linked) → length (image_of l) ≡ shared_at l + words_shared (used_routines l)
 length_with l = let n = length_image l in omega arith

@@ -4,7 +4,7 @@ use Rattle.std.specs.Prelude.{slice_index, slice_set}
 use Rattle.std.proofs.lemmas.Grind.{reverse_onto}
 use Rattle.std.proofs.lemmas.List.{length-reverse, reverse-append, take-append-drop}
 use Rattle.vm_machine.specs.State.{Frame, words_in_use}
-use Rattle.vm_translator.specs.Stands.{Holds, Laid, own_words, saved}
+use Rattle.vm_translator.specs.Stands.{Holds, Laid, own_words, words_saved}
 
 pub holds_kept : (m after : ℕ → ℕ) (b : ℕ) (ws : List ℕ) → Holds m b ws → ((k : ℕ) → b ≤ k → k < b + length ws → after k ≡ m k) → Holds after b ws
 holds_kept m after b [] h e = tt
@@ -47,7 +47,7 @@ module _ (address : Option ℕ → ℕ → ℕ) where
   pub use_is : (f : Frame) (below : List Frame) → words_in_use (f ∷ below) ≡ words_in_use below + length (own_words address f below)
   use_is f [] = omega (arith, length-reverse f.values)
   use_is f (g ∷ below) =
-      omega (arith, length-append (f.arguments ++ saved address g below) (f.locals ++ reverse f.values), length-append f.arguments (saved address g below), length-append f.locals (reverse f.values), length-reverse f.values)
+      omega (arith, length-append (f.arguments ++ words_saved address g below) (f.locals ++ reverse f.values), length-append f.arguments (words_saved address g below), length-append f.locals (reverse f.values), length-reverse f.values)
 
   pub laid_kept : (m after : ℕ → ℕ) (fs : List Frame) → Laid address m fs → ((k : ℕ) → 256 ≤ k → k < 256 + words_in_use fs → after k ≡ m k) → Laid address after fs
   laid_kept m after [] h e = tt
@@ -60,15 +60,15 @@ module _ (address : Option ℕ → ℕ → ℕ) where
   own_top f [] x values e = ap reverse e ∙ reverse_onto values x []
   own_top f (g ∷ below) x values e =
       let turned = ap reverse e ∙ reverse_onto values x [] in
-      ap (λ r. (f.arguments ++ saved address g below) ++ (f.locals ++ r)) turned
-      ∙ ap (λ r. (f.arguments ++ saved address g below) ++ r) (sym (append_assoc f.locals (reverse values) (x ∷ [])))
-      ∙ sym (append_assoc (f.arguments ++ saved address g below) (f.locals ++ reverse values) (x ∷ []))
+      ap (λ r. (f.arguments ++ words_saved address g below) ++ (f.locals ++ r)) turned
+      ∙ ap (λ r. (f.arguments ++ words_saved address g below) ++ r) (sym (append_assoc f.locals (reverse values) (x ∷ [])))
+      ∙ sym (append_assoc (f.arguments ++ words_saved address g below) (f.locals ++ reverse values) (x ∷ []))
 
   -- the values that become arguments are the last words
   pub own_cut : (f : Frame) (below : List Frame) (n : ℕ) → own_words address f below ≡ own_words address (record f { values = drop n f.values }) below ++ reverse (take n f.values)
   own_cut f [] n = ap reverse (sym (take-append-drop n f.values)) ∙ reverse-append (take n f.values) (drop n f.values)
   own_cut f (g ∷ below) n =
       let turned = ap reverse (sym (take-append-drop n f.values)) ∙ reverse-append (take n f.values) (drop n f.values) in
-      ap (λ r. (f.arguments ++ saved address g below) ++ (f.locals ++ r)) turned
-      ∙ ap (λ r. (f.arguments ++ saved address g below) ++ r) (sym (append_assoc f.locals (reverse (drop n f.values)) (reverse (take n f.values))))
-      ∙ sym (append_assoc (f.arguments ++ saved address g below) (f.locals ++ reverse (drop n f.values)) (reverse (take n f.values)))
+      ap (λ r. (f.arguments ++ words_saved address g below) ++ (f.locals ++ r)) turned
+      ∙ ap (λ r. (f.arguments ++ words_saved address g below) ++ r) (sym (append_assoc f.locals (reverse (drop n f.values)) (reverse (take n f.values))))
+      ∙ sym (append_assoc (f.arguments ++ words_saved address g below) (f.locals ++ reverse (drop n f.values)) (reverse (take n f.values)))

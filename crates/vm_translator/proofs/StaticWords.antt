@@ -9,7 +9,7 @@ use Rattle.std.proofs.lemmas.Option.{slice_get-get_or}
 use Rattle.vm_link.specs.declared.linked.LinkedFile.{LinkedFile}
 use Rattle.vm_link.specs.declared.linked.Linked.{Linked}
 use Rattle.vm_translator.specs.declared.coded.StaticWord.{StaticWord}
-use Rattle.vm_translator.specs.Shapes.{named}
+use Rattle.vm_translator.specs.Shapes.{named_index}
 use Rattle.vm_translator.specs.Statics.{static_word, statics_in, words_before, words_of_file}
 
 -- the numbers up to one more
@@ -21,7 +21,7 @@ range_more n = sym (map_self (range_with_len 0 (n + 1))) ∙ map-range_with_len_
     map_self (n ∷ ns) = ap (λ ms. n ∷ ms) (map_self ns)
 
 -- one more word of a file
-pub word_more : (l : Linked) (file i address : ℕ) (old now new : List StaticWord) → now ≡ old ++ map (static_word l file) (range_with_len 0 i) → address ≡ named (16 + (words_before l file + i))
+pub word_more : (l : Linked) (file i address : ℕ) (old now new : List StaticWord) → now ≡ old ++ map (static_word l file) (range_with_len 0 i) → address ≡ named_index (16 + (words_before l file + i))
     → new ≡ now ++ record { file = file; index = i; address = address } ∷ [] → new ≡ old ++ map (static_word l file) (range_with_len 0 (i + 1))
 word_more l file i address old now new before at pushed =
     pushed ∙ ap (λ ws. ws ++ record { file = file; index = i; address = address } ∷ []) before

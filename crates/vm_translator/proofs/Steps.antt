@@ -6,11 +6,11 @@ use Rattle.vm_tree.specs.declared.command.Operation.{Operation}
 use Rattle.vm_link.specs.declared.linked.Step.{Step}
 use Rattle.vm_link.specs.declared.linked.Step.TheVariants as step
 use Rattle.vm_link.specs.declared.linked.Linked.{Linked}
-use Rattle.hack_blocks.specs.declared.shape.Shape.TheVariants as shape
-use Rattle.hack_blocks.specs.Templates.{size}
-use Rattle.hack_blocks.specs.Commands.{HasValues, next}
+use Rattle.vm_templates.specs.declared.shape.Shape.TheVariants as shape
+use Rattle.vm_templates.specs.Templates.{size}
+use Rattle.vm_templates.specs.Commands.{HasValues, next}
 use Rattle.vm_machine.specs.State.{Frame, State, words_in_use}
-use Rattle.vm_machine.specs.Step.{Acts, fitted, goes, after, act, on_top, pop, call, called, begin, return}
+use Rattle.vm_machine.specs.Step.{Acts, fit_outcome, goes, after, act, on_top, pop, call, called_frame, begin, return}
 use Rattle.vm_translator.specs.Shapes.{shape_of}
 use Rattle.vm_translator.specs.Carries.{Carries, IsStep}
 use Rattle.vm_translator.proofs.Clamped.{plain_of, plain_same, push_next, pop_next}
@@ -44,7 +44,7 @@ module _ (address : Option ℕ → ℕ → ℕ) (l : Linked) (v : State) (f : Fr
       let r = in_use c s in
       (omega arith, omega arith)
 
-  goto_carries : (p : ℕ) (v' : State) → IsStep address l v f below (step.Goto p) here to m → fitted (goes v below (record f { place = p })) ≡ Acts false v' → Carries address (shape.Goto to) here m v'
+  goto_carries : (p : ℕ) (v' : State) → IsStep address l v f below (step.Goto p) here to m → fit_outcome (goes v below (record f { place = p })) ≡ Acts false v' → Carries address (shape.Goto to) here m v'
   goto_carries p v' s acts =
       let a = goes_case false false (record v { frames = record f { place = p } ∷ below }) v' acts in
       let low = s.low f.function p in
@@ -56,7 +56,7 @@ module _ (address : Option ℕ → ℕ → ℕ) (l : Linked) (v : State) (f : Fr
         to = target;
       })
 
-  if_goto_carries : (p : ℕ) (v' : State) → IsStep address l v f below (step.IfGoto p) here to m → fitted (on_top f.values (λ w values. goes v below (record f { place = if nat_eq w 0 then f.place + 1 else p; values = values }))) ≡ Acts false v' → Carries address (shape.IfGoto to) here m v'
+  if_goto_carries : (p : ℕ) (v' : State) → IsStep address l v f below (step.IfGoto p) here to m → fit_outcome (on_top f.values (λ w values. goes v below (record f { place = if nat_eq w 0 then f.place + 1 else p; values = values }))) ≡ Acts false v' → Carries address (shape.IfGoto to) here m v'
   if_goto_carries p v' s acts =
       let one = top_case f.values (λ w values. goes v below (record f { place = if nat_eq w 0 then f.place + 1 else p; values = values })) false v' acts in
       let w = one.0 in
@@ -74,10 +74,10 @@ module _ (address : Option ℕ → ℕ → ℕ) (l : Linked) (v : State) (f : Fr
         to = ap (λ z. if nat_eq z 0 then (here + 5) % 32768 else to) top ∙ placed_by address f.function (nat_eq w 0) (f.place + 1) p ((here + 5) % 32768) to s.after target;
       })
 
-  call_carries : (g n : ℕ) (v' : State) → IsStep address l v f below (step.Call g n) here to m → fitted (call g n v f below) ≡ Acts false v' → Carries address (shape.Call to n) here m v'
+  call_carries : (g n : ℕ) (v' : State) → IsStep address l v f below (step.Call g n) here to m → fit_outcome (call g n v f below) ≡ Acts false v' → Carries address (shape.Call to n) here m v'
   call_carries g n v' s acts =
-      let p = not_less_case (length f.values) n (goes v (after f (drop n f.values) ∷ below) (called g n f)) stray.Values false v' acts in
-      let a = goes_case false false (record v { frames = called g n f ∷ after f (drop n f.values) ∷ below }) v' p.1 in
+      let p = not_less_case (length f.values) n (goes v (after f (drop n f.values) ∷ below) (called_frame g n f)) stray.Values false v' acts in
+      let a = goes_case false false (record v { frames = called_frame g n f ∷ after f (drop n f.values) ∷ below }) v' p.1 in
       let target = s.target in
       let low = s.low (Some g) 0 in
       let sp = sp_is (step.Call g n) s in
@@ -91,14 +91,14 @@ module _ (address : Option ℕ → ℕ → ℕ) (l : Linked) (v : State) (f : Fr
         to = target;
       })
     where
-      called_use : (g n : ℕ) → n ≤ length f.values → words_in_use (called g n f ∷ after f (drop n f.values) ∷ below) ≡ words_in_use (f ∷ below) + 5
+      called_use : (g n : ℕ) → n ≤ length f.values → words_in_use (called_frame g n f ∷ after f (drop n f.values) ∷ below) ≡ words_in_use (f ∷ below) + 5
       called_use g n few =
           let one = grown f (after f (drop n f.values)) below refl refl in
           let d = length-drop n f.values in
           let k = length-reverse (take n f.values) ∙ length-take-le n f.values few in
           omega arith
 
-  begin_carries : (n : ℕ) (fs : List Frame) (locals values : List ℕ) (v' : State) → f.locals ≡ locals → f.values ≡ values → below ≡ fs → IsStep address l v f below (step.Function n) here to m → fitted (begin n locals values v f fs) ≡ Acts false v' → Carries address (shape.Function n) here m v'
+  begin_carries : (n : ℕ) (fs : List Frame) (locals values : List ℕ) (v' : State) → f.locals ≡ locals → f.values ≡ values → below ≡ fs → IsStep address l v f below (step.Function n) here to m → fit_outcome (begin n locals values v f fs) ≡ Acts false v' → Carries address (shape.Function n) here m v'
   begin_carries n [] [] [] v' no_locals no_values b s acts = absurd (cc acts)
   begin_carries n fs (w ∷ locals) values v' no_locals no_values b s acts = absurd (cc acts)
   begin_carries n fs [] (w ∷ values) v' no_locals no_values b s acts = absurd (cc acts)
@@ -115,7 +115,7 @@ module _ (address : Option ℕ → ℕ → ℕ) (l : Linked) (v : State) (f : Fr
         to = s.after;
       })
 
-  return_carries : (fs : List Frame) (w : ℕ) (values : List ℕ) (v' : State) → f.values ≡ w ∷ values → below ≡ fs → IsStep address l v f below step.Return here to m → fitted (return fs v w values) ≡ Acts false v' → Carries address shape.Return here m v'
+  return_carries : (fs : List Frame) (w : ℕ) (values : List ℕ) (v' : State) → f.values ≡ w ∷ values → below ≡ fs → IsStep address l v f below step.Return here to m → fit_outcome (return fs v w values) ≡ Acts false v' → Carries address shape.Return here m v'
   return_carries [] w values v' is b s acts = absurd (cc acts)
   return_carries (g ∷ rest) w values v' is b s acts =
       let a = goes_case false false (record v { frames = record g { values = w ∷ g.values } ∷ rest }) v' acts in
@@ -132,7 +132,7 @@ module _ (address : Option ℕ → ℕ → ℕ) (l : Linked) (v : State) (f : Fr
         to = back;
       })
 
-  plainly : (key : ℕ) (c : Step) (v' : State) → IsStep address l v f below c here to m → fitted (act key c v f below) ≡ Acts false v' → Carries address (plain_of to c) here m v'
+  plainly : (key : ℕ) (c : Step) (v' : State) → IsStep address l v f below c here to m → fit_outcome (act key c v f below) ≡ Acts false v' → Carries address (plain_of to c) here m v'
   plainly key (step.Operate o) v' s acts = operate_carries address l v f below m s.frames s.sound s.memory here o false v' (plain_operate o s.after) acts
     where
       plain_operate : (o : Operation) → (here + size (shape_of to (step.Operate o))) % 32768 ≡ address f.function (f.place + 1) → next (plain_of to (step.Operate o)) here m ≡ address f.function (f.place + 1)
@@ -150,7 +150,7 @@ module _ (address : Option ℕ → ℕ → ℕ) (l : Linked) (v : State) (f : Fr
       return_carries below one.0 one.1 v' one.2 refl s one.3
 
   -- A step that acts has numbers that an instruction can name.
-  pub step_carries : (key : ℕ) (c : Step) (v' : State) → IsStep address l v f below c here to m → fitted (act key c v f below) ≡ Acts false v' → Carries address (shape_of to c) here m v'
+  pub step_carries : (key : ℕ) (c : Step) (v' : State) → IsStep address l v f below c here to m → fit_outcome (act key c v f below) ≡ Acts false v' → Carries address (shape_of to c) here m v'
   step_carries key c v' s acts =
       let p = plainly key c v' s acts in
       subst (λ z. Carries address z here m v') (sym (plain_same to c p.shape)) p

@@ -9,13 +9,13 @@ use Rattle.vm_link.specs.declared.linked.Step.TheVariants as step
 use Rattle.vm_link.specs.declared.linked.Code.{Code}
 use Rattle.vm_link.specs.declared.linked.LinkedFunction.{LinkedFunction}
 use Rattle.vm_link.specs.Uniform.{is_comparison, is_shared}
-use Rattle.hack_blocks.specs.declared.routines.Routine.{Routine}
-use Rattle.hack_blocks.specs.declared.shape.Shape.{Shape}
-use Rattle.hack_blocks.specs.Templates.{size, routine_of}
-use Rattle.hack_blocks.specs.Commands.{cycles, cycles_of}
-use Rattle.hack_blocks.specs.Budgets.{operation_words, operation_steps, most_words, most_steps}
+use Rattle.vm_templates.specs.declared.routines.Routine.{Routine}
+use Rattle.vm_templates.specs.declared.shape.Shape.{Shape}
+use Rattle.vm_templates.specs.Templates.{size, routine_of}
+use Rattle.vm_templates.specs.Commands.{cycles, cycles_of}
+use Rattle.vm_templates.specs.Budgets.{operation_words, operation_steps, most_words, most_steps}
 use Rattle.vm_translator.specs.Shared.{compared_by, routine_for, has_routine}
-use Rattle.vm_translator.specs.Shapes.{push_from, pop_to, operated, pushed, popped, shape_of, step_size}
+use Rattle.vm_translator.specs.Shapes.{push_from, pop_to, operation_shape, push_shape, pop_shape, shape_of, step_size}
 use Rattle.vm_translator.specs.Places.{words_of, words_in, code_at, address}
 use Rattle.vm_translator.specs.Image.{budget_in, budget_from}
 
@@ -24,7 +24,7 @@ record IsBetween (n m : ℕ) : Type 0 where
   some : 0 < n
   within : n ≤ m
 
-operation_between : (o : Operation) → IsBetween (size (operated o)) (operation_words o)
+operation_between : (o : Operation) → IsBetween (size (operation_shape o)) (operation_words o)
 operation_between operation.Add = record { some = omega arith; within = omega arith }
 operation_between operation.Sub = record { some = omega arith; within = omega arith }
 operation_between operation.Neg = record { some = omega arith; within = omega arith }
@@ -43,7 +43,7 @@ to_between : (base i : ℕ) → IsBetween (size (pop_to base i)) 12
 to_between base zero = record { some = omega arith; within = omega arith }
 to_between base (suc i) = record { some = omega arith; within = omega arith }
 
-push_between : (g : Segment) (i : ℕ) → IsBetween (size (pushed g i)) 9
+push_between : (g : Segment) (i : ℕ) → IsBetween (size (push_shape g i)) 9
 push_between segment.Argument i = from_between 2 i
 push_between segment.Local i = from_between 1 i
 push_between segment.Static i = record { some = omega arith; within = omega arith }
@@ -53,7 +53,7 @@ push_between segment.That i = from_between 4 i
 push_between segment.Pointer i = record { some = omega arith; within = omega arith }
 push_between segment.Temp i = record { some = omega arith; within = omega arith }
 
-pop_between : (g : Segment) (i : ℕ) → IsBetween (size (popped g i)) 12
+pop_between : (g : Segment) (i : ℕ) → IsBetween (size (pop_shape g i)) 12
 pop_between segment.Argument i = to_between 2 i
 pop_between segment.Local i = to_between 1 i
 pop_between segment.Static i = record { some = omega arith; within = omega arith }
@@ -98,7 +98,7 @@ size_few to s = let b = step_between s in let w = b.within in let e = size_to to
 pub routine_to : (to : ℕ) (s : Step) → routine_of (shape_of to s) ≡ routine_for s
 routine_to to (step.Operate o) = compared o
   where
-    compared : (o : Operation) → routine_of (operated o) ≡ compared_by o
+    compared : (o : Operation) → routine_of (operation_shape o) ≡ compared_by o
     compared operation.Add = refl
     compared operation.Sub = refl
     compared operation.Neg = refl
@@ -114,7 +114,7 @@ routine_to to (step.Push g i) = pushed_none g i
     from_none base zero = refl
     from_none base (suc i) = refl
 
-    pushed_none : (g : Segment) (i : ℕ) → routine_of (pushed g i) ≡ None
+    pushed_none : (g : Segment) (i : ℕ) → routine_of (push_shape g i) ≡ None
     pushed_none segment.Argument i = from_none 2 i
     pushed_none segment.Local i = from_none 1 i
     pushed_none segment.Static i = refl
@@ -129,7 +129,7 @@ routine_to to (step.Pop g i) = popped_none g i
     to_none base zero = refl
     to_none base (suc i) = refl
 
-    popped_none : (g : Segment) (i : ℕ) → routine_of (popped g i) ≡ None
+    popped_none : (g : Segment) (i : ℕ) → routine_of (pop_shape g i) ≡ None
     popped_none segment.Argument i = to_none 2 i
     popped_none segment.Local i = to_none 1 i
     popped_none segment.Static i = refl
@@ -167,7 +167,7 @@ shared_is (step.Call f n) = refl
 shared_is step.Return = refl
 
 -- the steps of the computer that a step may take
-operation_cycles : (o : Operation) → cycles_of (size (operated o)) (compared_by o) ≤ operation_steps o
+operation_cycles : (o : Operation) → cycles_of (size (operation_shape o)) (compared_by o) ≤ operation_steps o
 operation_cycles operation.Add = omega arith
 operation_cycles operation.Sub = omega arith
 operation_cycles operation.Neg = omega arith

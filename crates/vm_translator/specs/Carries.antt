@@ -3,9 +3,9 @@ use Rattle.std.specs.Prelude.{◌≡◌, ℕ, ◌+◌, ◌<◌, ◌%◌, List, [
 use Rattle.vm_link.specs.declared.linked.Step.{Step}
 use Rattle.vm_link.specs.declared.linked.Step.TheVariants as step
 use Rattle.vm_link.specs.declared.linked.Linked.{Linked}
-use Rattle.hack_blocks.specs.declared.shape.Shape.{Shape}
-use Rattle.hack_blocks.specs.Templates.{size}
-use Rattle.hack_blocks.specs.Commands.{IsShape, Ready, Effect, next}
+use Rattle.vm_templates.specs.declared.shape.Shape.{Shape}
+use Rattle.vm_templates.specs.Templates.{size}
+use Rattle.vm_templates.specs.Commands.{IsShape, Ready, Effect, next}
 use Rattle.vm_machine.specs.State.{Frame, State}
 use Rattle.vm_machine.specs.Sound.{IsSoundState}
 use Rattle.vm_translator.specs.Shapes.{shape_of}

@@ -11,17 +11,17 @@ use Rattle.vm_link.specs.declared.linked.Code.{Code}
 use Rattle.vm_link.specs.declared.linked.Step.{Step}
 use Rattle.vm_link.specs.declared.linked.Step.TheVariants as step
 use Rattle.vm_link.specs.declared.linked.LinkedFunction.{LinkedFunction}
-use Rattle.hack_blocks.specs.Budgets.{most_words}
-use Rattle.hack_blocks.specs.Templates.{template, start_code, endless, endless_loop, start_size}
+use Rattle.vm_templates.specs.Budgets.{most_words}
+use Rattle.vm_templates.specs.Templates.{template, start_code, endless, endless_loop, start_size}
 use Rattle.vm_translator.specs.declared.ends.Closing.{Closing}
 use Rattle.vm_translator.specs.declared.ends.Closing.TheVariants as closes
 use Rattle.vm_translator.specs.declared.coded.PointRange.{PointRange}
 use Rattle.vm_translator.specs.declared.layout.Placed.{Placed}
-use Rattle.hack_blocks.specs.declared.routines.Routines.{Routines}
+use Rattle.vm_templates.specs.declared.routines.Routines.{Routines}
 use Rattle.vm_link.specs.Uniform.{is_shared}
 use Rattle.vm_translator.specs.Shapes.{shape_of, step_size}
-use Rattle.vm_translator.specs.Shared.{used, shared_from, lasts_from, ranges_from, routines_from}
-use Rattle.vm_translator.specs.Places.{address_of, base_of, end_of, named, program, target_of}
+use Rattle.vm_translator.specs.Shared.{used_routines, shared_from, lasts_from, ranges_from, routines_from}
+use Rattle.vm_translator.specs.Places.{address_of, base_of, end_of, named_symbol, program, target_of}
 
 -- the instructions of a placed step
 abbrev pub piece : Routines → ℕ → List LinkedFunction → Placed → List Instr
@@ -33,7 +33,7 @@ entry_of l = address_of l (unwrap_or l.start 0) 0
 
 -- a placed step names this address
 abbrev pub names : ℕ → List LinkedFunction → ℕ → Placed → Bool
-names base fs at c = list_any (nat_eq at) (named base fs c.function (c.at + step_size c.code.step) c.code.step)
+names base fs at c = list_any (nat_eq at) (named_symbol base fs c.function (c.at + step_size c.code.step) c.code.step)
 
 -- Some label that is gone to, some return address, or a function that is called stands at the end of the code.
 abbrev pub names_end : Linked → Bool
@@ -42,7 +42,7 @@ names_end l = (not l.bare && nat_eq (end_of l) (entry_of l)) || list_any (names 
 -- What closes the code. Where the end is named it is one word 0, so that each address that is named has a word. A program without start code may go past its
 -- last command; where it has routines, an endless loop keeps it from the first of them.
 abbrev pub closing_of : Linked → Closing
-closing_of l = if l.bare && not (nat_eq (length (used l)) 0) then closes.Loop else if names_end l then closes.Word else closes.Nothing
+closing_of l = if l.bare && not (nat_eq (length (used_routines l)) 0) then closes.Loop else if names_end l then closes.Word else closes.Nothing
 
 -- its instructions at an address, and how many they are
 abbrev pub closing_code : ℕ → Closing → List Instr
@@ -63,14 +63,14 @@ abbrev pub shared_at : Linked → ℕ
 shared_at l = end_of l + closing_size (closing_of l)
 
 abbrev pub routines : Linked → Routines
-routines l = routines_from (shared_at l) (used l)
+routines l = routines_from (shared_at l) (used_routines l)
 
 -- the start code, which a program that keeps its opening texts has not
 abbrev pub opening : Linked → List Instr
 opening l = if l.bare then [] else start_code (routines l) (entry_of l)
 
 abbrev pub image_of : Linked → List Instr
-image_of l = opening l ++ (flat_map (piece (routines l) (base_of l) l.functions) (program l) ++ (closing l ++ shared_from (shared_at l) (used l)))
+image_of l = opening l ++ (flat_map (piece (routines l) (base_of l) l.functions) (program l) ++ (closing l ++ shared_from (shared_at l) (used_routines l)))
 
 -- The last address of a placed step that is a commit. One that goes through a routine ends at the routine's last address.
 abbrev pub commit_of : Placed → Option ℕ
@@ -81,14 +81,14 @@ abbrev pub start_commits : Linked → List ℕ
 start_commits l = if not l.bare && l.marked then 20 ∷ [] else []
 
 abbrev pub shared_commits : Linked → List ℕ
-shared_commits l = if l.marked then lasts_from (shared_at l) (used l) else []
+shared_commits l = if l.marked then lasts_from (shared_at l) (used_routines l) else []
 
 abbrev pub commits_of : Linked → List ℕ
 commits_of l = start_commits l ++ (filter_map commit_of (program l) ++ shared_commits l)
 
 -- the addresses of the routines, which have no point
 abbrev pub shared_ranges : Linked → List (ℕ × ℕ)
-shared_ranges l = ranges_from (shared_at l) (used l)
+shared_ranges l = ranges_from (shared_at l) (used_routines l)
 
 -- the addresses of a placed step, which have its point
 abbrev pub range_of : Placed → PointRange
@@ -120,19 +120,19 @@ join r [] = r ∷ []
 join r (s ∷ ss) = if same_point r.point s.point then record { from = r.from; to = s.to; point = r.point } ∷ ss else r ∷ s ∷ ss
 
 -- ranges one after another, where neighbours that have one point are one
-abbrev pub merged : List PointRange → List PointRange
-merged [] = []
-merged (r ∷ rs) = join r (merged rs)
+abbrev pub merged_ranges : List PointRange → List PointRange
+merged_ranges [] = []
+merged_ranges (r ∷ rs) = join r (merged_ranges rs)
 
 -- the last range goes to this address
-abbrev pub stretched : ℕ → List PointRange → List PointRange
-stretched to [] = []
-stretched to (r ∷ []) = record { from = r.from; to = to; point = r.point } ∷ []
-stretched to (r ∷ s ∷ rs) = r ∷ stretched to (s ∷ rs)
+abbrev pub stretched_ranges : ℕ → List PointRange → List PointRange
+stretched_ranges to [] = []
+stretched_ranges to (r ∷ []) = record { from = r.from; to = to; point = r.point } ∷ []
+stretched_ranges to (r ∷ s ∷ rs) = r ∷ stretched_ranges to (s ∷ rs)
 
 -- what closes the code has the point of what stands before it
 abbrev pub points_of : Linked → List PointRange
-points_of l = stretched (shared_at l) (merged (start_ranges l ++ map range_of (program l)))
+points_of l = stretched_ranges (shared_at l) (merged_ranges (start_ranges l ++ map range_of (program l)))
 
 -- The budget by commands: 256 for the start and what is shared, and for each step the most words that it may have.
 abbrev pub budget_in : List Code → ℕ

@@ -12,5 +12,5 @@ pub mod Laws
 pub mod Related
 pub mod Mapping
 pub mod Translated
-pub mod Told
+pub mod Messages
 pub mod Seen

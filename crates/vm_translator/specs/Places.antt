@@ -1,6 +1,6 @@
 -- Where each step of a linked program stands.
 use Rattle.std.specs.Prelude.{ℕ, ◌+◌, List, [], ◌∷◌, ◌++◌, option_map, slice_get, take, unwrap_or, if◌then◌else◌}
-use Rattle.hack_blocks.specs.Templates.{start_size}
+use Rattle.vm_templates.specs.Templates.{start_size}
 use Rattle.vm_link.specs.declared.linked.Code.{Code}
 use Rattle.vm_link.specs.declared.linked.LinkedFunction.{LinkedFunction}
 use Rattle.vm_link.specs.declared.linked.Linked.{Linked}
@@ -50,15 +50,15 @@ target_of base fs k (step.Function n) = 0
 target_of base fs k step.Return = 0
 
 -- The addresses that a step names, where the step after it is at `next`: those of its label or function, and the return address of a call.
-abbrev pub named : ℕ → List LinkedFunction → ℕ → ℕ → Step → List ℕ
-named base fs k next (step.Goto p) = address base fs k p ∷ []
-named base fs k next (step.IfGoto p) = address base fs k p ∷ []
-named base fs k next (step.Call f n) = address base fs f 0 ∷ next ∷ []
-named base fs k next (step.Operate o) = []
-named base fs k next (step.Push g i) = []
-named base fs k next (step.Pop g i) = []
-named base fs k next (step.Function n) = []
-named base fs k next step.Return = []
+abbrev pub named_symbol : ℕ → List LinkedFunction → ℕ → ℕ → Step → List ℕ
+named_symbol base fs k next (step.Goto p) = address base fs k p ∷ []
+named_symbol base fs k next (step.IfGoto p) = address base fs k p ∷ []
+named_symbol base fs k next (step.Call f n) = address base fs f 0 ∷ next ∷ []
+named_symbol base fs k next (step.Operate o) = []
+named_symbol base fs k next (step.Push g i) = []
+named_symbol base fs k next (step.Pop g i) = []
+named_symbol base fs k next (step.Function n) = []
+named_symbol base fs k next step.Return = []
 
 -- The functions come after the start code; a program that keeps its opening texts has none.
 abbrev pub base_of : Linked → ℕ

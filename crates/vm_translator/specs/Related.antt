@@ -1,7 +1,7 @@
 -- The relation between states of the virtual machine and of the computer. (The book, chapters 7 and 8.)
 use Rattle.std.specs.Prelude.{◌≡◌, ℕ, Option}
 use Rattle.hack_isa.specs.Machine.{Machine}
-use Rattle.hack_blocks.specs.Effects.{HasWords}
+use Rattle.vm_templates.specs.Effects.{HasWords}
 use Rattle.vm_link.specs.declared.linked.Linked.{Linked}
 use Rattle.vm_machine.specs.State.{State}
 use Rattle.vm_machine.specs.Sound.{IsSoundState}

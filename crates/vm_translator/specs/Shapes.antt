@@ -6,65 +6,65 @@ use Rattle.vm_tree.specs.declared.command.Segment.{Segment}
 use Rattle.vm_tree.specs.declared.command.Segment.TheVariants as segment
 use Rattle.vm_link.specs.declared.linked.Step.{Step}
 use Rattle.vm_link.specs.declared.linked.Step.TheVariants as step
-use Rattle.hack_blocks.specs.declared.shape.Shape.{Shape}
-use Rattle.hack_blocks.specs.declared.shape.Shape.TheVariants as shape
-use Rattle.hack_blocks.specs.Templates.{size}
+use Rattle.vm_templates.specs.declared.shape.Shape.{Shape}
+use Rattle.vm_templates.specs.declared.shape.Shape.TheVariants as shape
+use Rattle.vm_templates.specs.Templates.{size}
 
 -- The greatest number that an instruction names stands for each that no text has: those commands never act.
-abbrev pub named : ℕ → ℕ
-named n = min n 32767
+abbrev pub named_index : ℕ → ℕ
+named_index n = min n 32767
 
-abbrev pub operated : Operation → Shape
-operated operation.Add = shape.Add
-operated operation.Sub = shape.Sub
-operated operation.Neg = shape.Neg
-operated operation.Eq = shape.Eq
-operated operation.Gt = shape.Gt
-operated operation.Lt = shape.Lt
-operated operation.And = shape.And
-operated operation.Or = shape.Or
-operated operation.Not = shape.Not
+abbrev pub operation_shape : Operation → Shape
+operation_shape operation.Add = shape.Add
+operation_shape operation.Sub = shape.Sub
+operation_shape operation.Neg = shape.Neg
+operation_shape operation.Eq = shape.Eq
+operation_shape operation.Gt = shape.Gt
+operation_shape operation.Lt = shape.Lt
+operation_shape operation.And = shape.And
+operation_shape operation.Or = shape.Or
+operation_shape operation.Not = shape.Not
 
 -- of a segment that begins where a register points: its first word has instructions of its own
 abbrev pub push_from : ℕ → ℕ → Shape
 push_from base zero = shape.PushFirst base
-push_from base (suc i) = shape.PushAt base (named (suc i))
+push_from base (suc i) = shape.PushAt base (named_index (suc i))
 
 abbrev pub pop_to : ℕ → ℕ → Shape
 pop_to base zero = shape.PopFirst base
-pop_to base (suc i) = shape.PopAt base (named (suc i))
+pop_to base (suc i) = shape.PopAt base (named_index (suc i))
 
 -- LCL, ARG, THIS and THAT are the words 1 to 4, temp is 5 to 12, and the static word k of all files is 16 + k.
-abbrev pub pushed : Segment → ℕ → Shape
-pushed segment.Argument i = push_from 2 i
-pushed segment.Local i = push_from 1 i
-pushed segment.Static i = shape.PushWord (named (16 + i))
-pushed segment.Constant i = shape.PushConstant (named i)
-pushed segment.This i = push_from 3 i
-pushed segment.That i = push_from 4 i
-pushed segment.Pointer i = shape.PushWord (named (3 + i))
-pushed segment.Temp i = shape.PushWord (named (5 + i))
+abbrev pub push_shape : Segment → ℕ → Shape
+push_shape segment.Argument i = push_from 2 i
+push_shape segment.Local i = push_from 1 i
+push_shape segment.Static i = shape.PushWord (named_index (16 + i))
+push_shape segment.Constant i = shape.PushConstant (named_index i)
+push_shape segment.This i = push_from 3 i
+push_shape segment.That i = push_from 4 i
+push_shape segment.Pointer i = shape.PushWord (named_index (3 + i))
+push_shape segment.Temp i = shape.PushWord (named_index (5 + i))
 
 -- A value that is popped to a constant goes to the word 13, which is free.
-abbrev pub popped : Segment → ℕ → Shape
-popped segment.Argument i = pop_to 2 i
-popped segment.Local i = pop_to 1 i
-popped segment.Static i = shape.PopWord (named (16 + i))
-popped segment.Constant i = shape.PopWord 13
-popped segment.This i = pop_to 3 i
-popped segment.That i = pop_to 4 i
-popped segment.Pointer i = shape.PopWord (named (3 + i))
-popped segment.Temp i = shape.PopWord (named (5 + i))
+abbrev pub pop_shape : Segment → ℕ → Shape
+pop_shape segment.Argument i = pop_to 2 i
+pop_shape segment.Local i = pop_to 1 i
+pop_shape segment.Static i = shape.PopWord (named_index (16 + i))
+pop_shape segment.Constant i = shape.PopWord 13
+pop_shape segment.This i = pop_to 3 i
+pop_shape segment.That i = pop_to 4 i
+pop_shape segment.Pointer i = shape.PopWord (named_index (3 + i))
+pop_shape segment.Temp i = shape.PopWord (named_index (5 + i))
 
 -- The shape of a step that leads to this address, where it leads anywhere.
 abbrev pub shape_of : ℕ → Step → Shape
-shape_of to (step.Operate o) = operated o
-shape_of to (step.Push g i) = pushed g i
-shape_of to (step.Pop g i) = popped g i
+shape_of to (step.Operate o) = operation_shape o
+shape_of to (step.Push g i) = push_shape g i
+shape_of to (step.Pop g i) = pop_shape g i
 shape_of to (step.Goto p) = shape.Goto to
 shape_of to (step.IfGoto p) = shape.IfGoto to
 shape_of to (step.Function n) = shape.Function n
-shape_of to (step.Call f n) = shape.Call to (named n)
+shape_of to (step.Call f n) = shape.Call to (named_index n)
 shape_of to step.Return = shape.Return
 
 -- how many instructions a step has; where it leads makes no difference

@@ -7,10 +7,10 @@ use Rattle.vm_tree.specs.declared.command.Operation.TheVariants as operation
 use Rattle.vm_link.specs.declared.linked.Step.{Step}
 use Rattle.vm_link.specs.declared.linked.Step.TheVariants as step
 use Rattle.vm_link.specs.declared.linked.Linked.{Linked}
-use Rattle.hack_blocks.specs.declared.routines.Routine.{Routine}
-use Rattle.hack_blocks.specs.declared.routines.Routine.TheVariants as routine
-use Rattle.hack_blocks.specs.declared.routines.Routines.{Routines}
-use Rattle.hack_blocks.specs.Templates.{routine_code, routine_size}
+use Rattle.vm_templates.specs.declared.routines.Routine.{Routine}
+use Rattle.vm_templates.specs.declared.routines.Routine.TheVariants as routine
+use Rattle.vm_templates.specs.declared.routines.Routines.{Routines}
+use Rattle.vm_templates.specs.Templates.{routine_code, routine_size}
 
 abbrev pub same_routine : Routine → Routine → Bool
 same_routine routine.Call routine.Call = true
@@ -51,8 +51,8 @@ abbrev pub all_routines : List Routine
 all_routines = routine.Call ∷ routine.Back ∷ routine.Equal ∷ routine.Greater ∷ routine.Less ∷ []
 
 -- the routines that an image has
-abbrev pub used : Linked → List Routine
-used l = filter (uses l) all_routines
+abbrev pub used_routines : Linked → List Routine
+used_routines l = filter (uses l) all_routines
 
 -- how many instructions routines have
 abbrev pub words_shared : List Routine → ℕ

@@ -30,14 +30,14 @@ that_of (f ∷ below) = f.that
 -- `address` leads from a place of a function's code, or of that of `start`, to the address of its instructions.
 module _ (address : Option ℕ → ℕ → ℕ) where
   -- what a call saves of the frames that it is made in: the return address and the four registers
-  abbrev pub saved : Frame → List Frame → List ℕ
-  saved g below = address g.function g.place ∷ lcl_of (g ∷ below) ∷ arg_of (g ∷ below) ∷ this_of (g ∷ below) ∷ that_of (g ∷ below) ∷ []
+  abbrev pub words_saved : Frame → List Frame → List ℕ
+  words_saved g below = address g.function g.place ∷ lcl_of (g ∷ below) ∷ arg_of (g ∷ below) ∷ this_of (g ∷ below) ∷ that_of (g ∷ below) ∷ []
 
   -- A frame's words on the stack, above those of the frames below it: its arguments, what its call saved, its locals, and its values, the
   -- topmost last. `start` has only values.
   abbrev pub own_words : Frame → List Frame → List ℕ
   own_words f [] = reverse f.values
-  own_words f (g ∷ below) = (f.arguments ++ saved g below) ++ (f.locals ++ reverse f.values)
+  own_words f (g ∷ below) = (f.arguments ++ words_saved g below) ++ (f.locals ++ reverse f.values)
 
   abbrev pub Laid : (ℕ → ℕ) → List Frame → Type 0
   Laid m [] = Unit {0}

@@ -3,7 +3,7 @@ use Rattle.std.specs.Prelude.{ℕ, ◌+◌, List, length, map, option_map, slice
 use Rattle.std.specs.List.{flat_map, range_with_len}
 use Rattle.vm_link.specs.declared.linked.Linked.{Linked}
 use Rattle.vm_translator.specs.declared.coded.StaticWord.{StaticWord}
-use Rattle.vm_translator.specs.Shapes.{named}
+use Rattle.vm_translator.specs.Shapes.{named_index}
 
 -- how many static words a file has, and how many those before it have
 abbrev pub words_of_file : Linked → ℕ → ℕ
@@ -14,7 +14,7 @@ words_before l k = sum_by (λ f. f.statics) (take k l.files)
 
 -- The static of an index in a file: its address is the one that a push and a pop of it name.
 abbrev pub static_word : Linked → ℕ → ℕ → StaticWord
-static_word l k i = record { file = k; index = i; address = named (16 + (words_before l k + i)) }
+static_word l k i = record { file = k; index = i; address = named_index (16 + (words_before l k + i)) }
 
 abbrev pub statics_in : Linked → ℕ → List StaticWord
 statics_in l k = map (static_word l k) (range_with_len 0 (words_of_file l k))

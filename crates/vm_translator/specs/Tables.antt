@@ -6,8 +6,8 @@ use Rattle.vm_link.specs.declared.linked.Step.{Step}
 use Rattle.vm_link.specs.declared.linked.Step.TheVariants as step
 use Rattle.vm_translator.specs.declared.layout.Placed.{Placed}
 use Rattle.vm_translator.specs.Shapes.{step_size}
-use Rattle.hack_blocks.specs.declared.shape.Shape.{Shape}
-use Rattle.hack_blocks.specs.declared.shape.Shape.TheVariants as shape
+use Rattle.vm_templates.specs.declared.shape.Shape.{Shape}
+use Rattle.vm_templates.specs.declared.shape.Shape.TheVariants as shape
 use Rattle.vm_translator.specs.declared.coded.PointRange.{PointRange}
 use Rattle.vm_translator.specs.declared.layout.Layout.{Layout}
 use Rattle.vm_translator.specs.Places.{code_at, placed_from, words_in}
@@ -77,7 +77,7 @@ functions_name_end n fs k [] = false
 functions_name_end n fs k (g ∷ gs) = code_names_end n fs k 0 g.code || functions_name_end n fs (k + 1) gs
 
 -- one more range, which is one with the last where they have one point
-abbrev pub added : List PointRange → PointRange → List PointRange
-added [] r = r ∷ []
-added (x ∷ []) r = if same_point x.point r.point then record { from = x.from; to = r.to; point = x.point } ∷ [] else x ∷ r ∷ []
-added (x ∷ y ∷ ys) r = x ∷ added (y ∷ ys) r
+abbrev pub added_range : List PointRange → PointRange → List PointRange
+added_range [] r = r ∷ []
+added_range (x ∷ []) r = if same_point x.point r.point then record { from = x.from; to = r.to; point = x.point } ∷ [] else x ∷ r ∷ []
+added_range (x ∷ y ∷ ys) r = x ∷ added_range (y ∷ ys) r

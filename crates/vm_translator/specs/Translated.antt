@@ -2,16 +2,16 @@
 use Rattle.std.specs.Prelude.{◌≡◌, ◌⊎◌, ℕ, suc, ◌+◌, ◌-◌, ◌<◌, ◌≤◌, true, false, List, length, Option, Some, None}
 use Rattle.hack_isa.specs.Machine.{Machine}
 use Rattle.hack_isa.specs.Machine as hack
-use Rattle.layers.specs.Layers.{Simulates, Starts}
+use Rattle.simulation.specs.Layers.{Simulates, Starts}
 use Rattle.machine_io.specs.declared.machine.Stray.TheVariants as stray
 use Rattle.vm_tree.specs.declared.command.Segment.TheVariants as segment
 use Rattle.vm_link.specs.declared.linked.Code.{Code}
 use Rattle.vm_link.specs.declared.linked.Step.{Step}
 use Rattle.vm_link.specs.declared.linked.Step.TheVariants as step
 use Rattle.vm_link.specs.declared.linked.Linked.{Linked}
-use Rattle.hack_blocks.specs.Budgets.{most_steps}
-use Rattle.hack_blocks.specs.Computer.{Map, HasLoop, hack_system}
-use Rattle.hack_blocks.specs.Going.{Quiet, Reaches, Does, DoesHearing}
+use Rattle.vm_templates.specs.Budgets.{most_steps}
+use Rattle.vm_templates.specs.Computer.{Map, HasLoop, hack_system}
+use Rattle.vm_templates.specs.Going.{Quiet, Reaches, Does, DoesHearing}
 use Rattle.vm_machine.specs.State.{State}
 use Rattle.vm_machine.specs.Step.{Acts, Strays, start}
 use Rattle.vm_machine.specs.Step as vm

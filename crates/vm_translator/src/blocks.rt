@@ -1,18 +1,18 @@
 //! The instructions of a step, by its shape.
 ghost use Rattle.std.specs.Prelude.{◌≡◌, ◌≤◌, ◌<◌, ◌+◌, ◌++◌, OnOk};
-ghost use Rattle.hack_blocks.specs.Templates.{begin_compare, by_difference, call_by, call_routine, compare_by, decide, endless, equal_routine, function_code, go_back, go_to, if_go_to, join, load, load_again, order_routine, pop_at, pop_d, pop_first, pop_word, push_at, push_constant, push_d, push_first, push_word, put_d, put_result, restore, restore_lcl, return_code, routine_code, routine_size, save, save_return, set_pointers, size, start_code, template, turn};
+ghost use Rattle.vm_templates.specs.Templates.{begin_compare, by_difference, call_by, call_routine, compare_by, decide, endless, equal_routine, function_code, go_back, go_to, if_go_to, join, load, load_again, order_routine, pop_at, pop_d, pop_first, pop_word, push_at, push_constant, push_d, push_first, push_word, put_d, put_result, restore, restore_lcl, return_code, routine_code, routine_size, save, save_return, set_pointers, size, start_code, template, turn};
 ghost use Rattle.vm_translator.specs.Tables.{IsInLimit};
 
-use hack_blocks::instructions::{
+use hack_isa::Instr;
+use std::alloc::AllocError;
+use vm_templates::instructions::{
     A_IS_A_MINUS_1, A_IS_D_MINUS_A, A_IS_D_PLUS_M, A_IS_M, A_IS_M_MINUS_1, AM_IS_M_MINUS_1,
     AM_IS_M_PLUS_1, D_IS_A, D_IS_D_AND_M, D_IS_D_MINUS_M, D_IS_D_OR_M, D_IS_D_PLUS_M, D_IS_M,
     D_IS_M_MINUS_D, D_IS_M_PLUS_1, D_IS_NOT_A, IF_D_EQUAL, IF_D_GREATER, IF_D_LESS, IF_D_NOT_EQUAL,
     IF_D_NOT_LESS, JUMP, M_IS_0, M_IS_D, M_IS_D_AND_M, M_IS_D_OR_M, M_IS_D_PLUS_M, M_IS_M_MINUS_D,
     M_IS_MINUS_1, M_IS_MINUS_M, M_IS_NOT_M, MD_IS_M_PLUS_1,
 };
-use hack_blocks::{ENDLESS_LOOP, Routine, Routines, Shape};
-use hack_isa::Instr;
-use std::alloc::AllocError;
+use vm_templates::{ENDLESS_LOOP, Routine, Routines, Shape};
 
 /// Adds instructions.
 pub fn put(out: &mut Vec<Instr>, block: &[Instr]) -> Result<(), AllocError>

@@ -1,10 +1,10 @@
 //! Translated programs.
 ghost use Rattle.std.specs.Prelude.{◌≡◌};
-ghost use Rattle.vm_translator.specs.Told.{code_told};
+ghost use Rattle.vm_translator.specs.Messages.{code_message};
 ghost use Rattle.vm_translator.specs.declared.coded.CodeFault.TheVariants.{Memory};
 
 use hack_isa::Instr;
-use outer_world::{Detail, List, Point, Told};
+use outer_world::{Detail, Diagnostic, List, Point};
 use std::alloc::AllocError;
 use thiserror::Error;
 
@@ -57,11 +57,14 @@ pub enum CodeFault {
 
 impl CodeFault {
     /// What the fault tells. Want of memory tells nothing.
-    pub fn told(self) -> Option<Told>
-        ensures { result ≡ code_told self }
+    pub fn diagnostic(self) -> Option<Diagnostic>
+        ensures { result ≡ code_message self }
     {
         match self {
-            CodeFault::TooLarge(words) => Some(Told::nowhere("TooLarge", Detail::Number(words))),
+            CodeFault::TooLarge(words) => Some(Diagnostic::nowhere(
+                "TooLarge",
+                Detail::Number(words),
+            )),
             CodeFault::Memory => None,
         }
     }

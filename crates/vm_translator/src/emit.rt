@@ -6,7 +6,7 @@ ghost use Rattle.vm_link.specs.Sound.{IsSound};
 ghost use Rattle.vm_translator.specs.Image.{closing, closing_code, closing_of, image_of, opening, piece, routines, shared_at};
 ghost use Rattle.vm_translator.specs.Places.{base_of, end_of};
 ghost use Rattle.vm_translator.specs.Shapes.{step_size};
-ghost use Rattle.vm_translator.specs.Shared.{used, words_shared};
+ghost use Rattle.vm_translator.specs.Shared.{used_routines, words_shared};
 ghost use Rattle.vm_translator.specs.Tables.{IsLayout, IsReady};
 
 use crate::blocks::{endless, put, start_code, template};
@@ -14,10 +14,10 @@ use crate::ends::{Closing, start_of};
 use crate::layout::{Layout, Placed};
 use crate::shapes::shape_of;
 use crate::shared::{add_shared, routines};
-use hack_blocks::{Routine, Routines};
 use hack_isa::Instr;
 use std::alloc::{AllocError, Global};
 use vm_link::Linked;
+use vm_templates::{Routine, Routines};
 
 fn add_step(
     out: &mut Vec<Instr>,
@@ -91,7 +91,7 @@ pub fn instrs(
     requires sound { IsSound linked.now }
     requires ready { All (IsReady linked.now.functions) layout.now.placed.items }
     requires closing { closing ≡ closing_of linked.now }
-    requires used { shared.now ≡ used linked.now }
+    requires used { shared.now ≡ used_routines linked.now }
     requires from { from ≡ shared_at linked.now }
     requires fits { from + words_shared shared.now ≤ 32768 }
     ensures { IfOk result (λ v. v.items ≡ image_of linked.now) }

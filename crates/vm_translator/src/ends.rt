@@ -1,14 +1,14 @@
 //! What names the end of a program's code, what closes the code, and how many words the program has.
 ghost use Rattle.std.specs.Prelude.{◌≡◌, ◌≤◌, ◌+◌, ◌-◌, ◌^◌, ◌<◌, ◌&&◌, not, nat_eq, length, min, unwrap_or, if◌then◌else◌};
-ghost use Rattle.hack_blocks.specs.Templates.{start_size};
+ghost use Rattle.vm_templates.specs.Templates.{start_size};
 ghost use Rattle.vm_translator.specs.Places.{words_in, words_of};
-ghost use Rattle.vm_translator.specs.Shared.{used, words_shared};
+ghost use Rattle.vm_translator.specs.Shared.{used_routines, words_shared};
 ghost use Rattle.vm_translator.specs.Tables.{IsFilled, code_names_end, functions_name_end, is_end, step_names_end};
 ghost use Rattle.vm_translator.specs.Image.{closing_of, closing_size, image_of, names_end, shared_at};
 
 use crate::shapes::step_size;
-use hack_blocks::{Routine, START_SIZE};
 use vm_link::{Code, Linked, LinkedFunction, Step};
+use vm_templates::{Routine, START_SIZE};
 
 /// What stands behind the functions of a program, before the routines.
 #[derive(Clone, Copy, Debug, PartialEq, Eq)]
@@ -147,7 +147,7 @@ fn names_end(linked: &Linked) -> bool
 
 /// What closes the code of a program that goes through these routines.
 pub fn closing_of(linked: &Linked, shared: &[Routine]) -> Closing
-    requires { shared.now ≡ used linked.now }
+    requires { shared.now ≡ used_routines linked.now }
     ensures { result ≡ closing_of linked.now }
 {
     if linked.bare && !shared.is_empty() {
@@ -199,7 +199,7 @@ fn code_words(linked: &Linked, closing: Closing) -> u64
 /// The words of a program, or 2^64 - 1 where they are more.
 pub fn words(linked: &Linked, closing: Closing, shared: u16) -> u64
     requires closing { closing ≡ closing_of linked.now }
-    requires shared { shared ≡ words_shared (used linked.now) }
+    requires shared { shared ≡ words_shared (used_routines linked.now) }
     ensures { result ≡ min (length (image_of linked.now)) (2 ^ 64 - 1) }
 {
     code_words(linked, closing).saturating_add(shared as u64)

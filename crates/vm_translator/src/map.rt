@@ -1,21 +1,21 @@
 //! The commits and the control points of a program.
 ghost use Rattle.std.specs.Prelude.{◌≡◌, ◌≤◌, ◌+◌, ◌++◌, [], ◌∷◌, All, IfOk, OnOk, if◌then◌else◌};
 ghost use Rattle.std.specs.List.{filter_map};
-ghost use Rattle.hack_blocks.specs.Templates.{endless_loop, start_size};
-ghost use Rattle.vm_translator.specs.Image.{commit_of, commits_of, entries_of, entry_range, points_of, range_of, same_point, shared_at, shared_commits, start_commits, start_ranges, stretched, merged};
+ghost use Rattle.vm_templates.specs.Templates.{endless_loop, start_size};
+ghost use Rattle.vm_translator.specs.Image.{commit_of, commits_of, entries_of, entry_range, points_of, range_of, same_point, shared_at, shared_commits, start_commits, start_ranges, stretched_ranges, merged_ranges};
 ghost use Rattle.vm_translator.specs.Places.{base_of, program};
 ghost use Rattle.vm_translator.specs.Shapes.{step_size};
-ghost use Rattle.vm_translator.specs.Shared.{used, words_shared};
-ghost use Rattle.vm_translator.specs.Tables.{IsLayout, IsReady, added};
+ghost use Rattle.vm_translator.specs.Shared.{used_routines, words_shared};
+ghost use Rattle.vm_translator.specs.Tables.{IsLayout, IsReady, added_range};
 
 use crate::PointRange;
 use crate::layout::{Layout, Placed};
 use crate::shapes::{is_shared, step_size};
 use crate::shared::add_lasts;
-use hack_blocks::{ENDLESS_LOOP, Routine, START_SIZE};
 use outer_world::Point;
 use std::alloc::{AllocError, Global};
 use vm_link::{Linked, Step};
+use vm_templates::{ENDLESS_LOOP, Routine, START_SIZE};
 
 // The last address of the start code's `pop temp 0`, which is a commit where the program has some.
 fn start_commits(alloc: Global, linked: &Linked) -> Result<Vec<u16>, AllocError>
@@ -38,7 +38,7 @@ pub fn commits(
 ) -> Result<Vec<u16>, AllocError>
     requires placed { layout.now.placed.items ≡ program linked.now }
     requires ready { All (IsReady linked.now.functions) layout.now.placed.items }
-    requires used { shared.now ≡ used linked.now }
+    requires used { shared.now ≡ used_routines linked.now }
     requires from { from ≡ shared_at linked.now }
     requires fits { from + words_shared shared.now ≤ 32768 }
     ensures { IfOk result (λ v. v.items ≡ commits_of linked.now) }
@@ -55,7 +55,7 @@ fn add_shared_commits(
     shared: &[Routine],
     from: u16,
 ) -> Result<(), AllocError>
-    requires used { shared.now ≡ used linked.now }
+    requires used { shared.now ≡ used_routines linked.now }
     requires from { from ≡ shared_at linked.now }
     requires fits { from + words_shared shared.now ≤ 32768 }
     ensures { OnOk result (commits.new.items ≡ commits.old.items ++ shared_commits linked.now) }
@@ -100,7 +100,7 @@ fn same_point(p: Point, q: Point) -> bool
 
 // Adds a range, which is one with the last where they have one point.
 fn add_range(points: &mut Vec<PointRange>, range: PointRange) -> Result<(), AllocError>
-    ensures { OnOk result (points.new.items ≡ added points.old.items range) }
+    ensures { OnOk result (points.new.items ≡ added_range points.old.items range) }
 {
     let count = points.len();
     if count > 0 {
@@ -150,7 +150,7 @@ fn start_points(alloc: Global, bare: bool) -> Result<Vec<PointRange>, AllocError
 
 // The last range goes to this address.
 fn stretch(points: &mut Vec<PointRange>, to: u32)
-    ensures { points.new.items ≡ stretched to points.old.items }
+    ensures { points.new.items ≡ stretched_ranges to points.old.items }
 {
     let count = points.len();
     if count > 0 {

@@ -1,23 +1,23 @@
 //! The shapes of steps, and their sizes.
 ghost use Rattle.std.specs.Prelude.{◌≡◌, ◌<◌, ◌≤◌};
-ghost use Rattle.hack_blocks.specs.Templates.{size};
+ghost use Rattle.vm_templates.specs.Templates.{size};
 ghost use Rattle.vm_link.specs.Uniform.{is_shared};
 ghost use Rattle.vm_translator.specs.Shared.{compared_by, routine_for};
-ghost use Rattle.vm_translator.specs.Shapes.{named, operated, push_from, pop_to, pushed, popped, shape_of, step_size};
+ghost use Rattle.vm_translator.specs.Shapes.{named_index, operation_shape, push_from, pop_to, push_shape, pop_shape, shape_of, step_size};
 
-use hack_blocks::{Routine, Shape};
 use vm_link::Step;
+use vm_templates::{Routine, Shape};
 use vm_tree::{Operation, Segment};
 
 // The greatest number that an instruction names stands for those that are greater.
 fn named(number: u16) -> u16
-    ensures { result ≡ named number }
+    ensures { result ≡ named_index number }
 {
     number.min(32767)
 }
 
 fn operated(operation: Operation) -> Shape
-    ensures { result ≡ operated operation }
+    ensures { result ≡ operation_shape operation }
 {
     match operation {
         Operation::Add => Shape::Add,
@@ -61,7 +61,7 @@ fn pop_to(base: u16, index: u16) -> Shape
 }
 
 fn pushed(segment: Segment, index: u16) -> Shape
-    ensures { result ≡ pushed segment index }
+    ensures { result ≡ push_shape segment index }
 {
     match segment {
         Segment::Argument => push_from(2, index),
@@ -76,7 +76,7 @@ fn pushed(segment: Segment, index: u16) -> Shape
 }
 
 fn popped(segment: Segment, index: u16) -> Shape
-    ensures { result ≡ popped segment index }
+    ensures { result ≡ pop_shape segment index }
 {
     match segment {
         Segment::Argument => pop_to(2, index),
@@ -146,7 +146,7 @@ pub fn is_shared(step: Step) -> bool
 
 // The number of a push's instructions.
 fn push_size(segment: Segment, index: u16) -> u32
-    ensures size { result ≡ size (pushed segment index) }
+    ensures size { result ≡ size (push_shape segment index) }
     ensures some { 0 < result }
     ensures small { result < 10 }
 {
@@ -160,7 +160,7 @@ fn push_size(segment: Segment, index: u16) -> u32
 
 // The number of a pop's instructions.
 fn pop_size(segment: Segment, index: u16) -> u32
-    ensures size { result ≡ size (popped segment index) }
+    ensures size { result ≡ size (pop_shape segment index) }
     ensures some { 0 < result }
     ensures small { result < 13 }
 {

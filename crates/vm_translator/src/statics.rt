@@ -2,7 +2,7 @@
 ghost use Rattle.std.specs.Prelude.{◌≡◌, ◌+◌, ◌-◌, ◌^◌, ◌++◌, ℕ, IfOk, OnOk, map, min};
 ghost use Rattle.std.specs.List.{range_with_len};
 ghost use Rattle.vm_link.specs.declared.linked.Linked.{Linked};
-ghost use Rattle.vm_translator.specs.Shapes.{named};
+ghost use Rattle.vm_translator.specs.Shapes.{named_index};
 ghost use Rattle.vm_translator.specs.Statics.{static_word, statics_of, words_before};
 
 use crate::StaticWord;
@@ -11,7 +11,7 @@ use vm_link::Linked;
 
 // The address of a static, before which there are so many of other files.
 fn address(before: u64, index: u32) -> u16
-    ensures { (b : ℕ) → before ≡ min b (2 ^ 64 - 1) → result ≡ named (16 + (b + index)) }
+    ensures { (b : ℕ) → before ≡ min b (2 ^ 64 - 1) → result ≡ named_index (16 + (b + index)) }
 {
     before.saturating_add(16 + index as u64).min(32767) as u16
 }

@@ -1,7 +1,7 @@
 //! Translating.
 ghost use Rattle.std.specs.Prelude.{◌≡◌, ◌≤◌, ◌+◌, ℕ, All, IfOk, IfErr, false, length, map};
 ghost use Rattle.hack_isa.specs.Machine.{image_words};
-ghost use Rattle.hack_blocks.specs.Templates.{endless_loop};
+ghost use Rattle.vm_templates.specs.Templates.{endless_loop};
 ghost use Rattle.hack_isa.specs.Table.{word_of};
 ghost use Rattle.vm_link.specs.declared.linked.Linked.{Linked};
 ghost use Rattle.vm_link.specs.Sound.{IsSound};

@@ -17,8 +17,8 @@ abbrev pub word_not : ℕ → ℕ
 word_not w = 65535 - w
 
 -- the signed reading of a word: w below 32,768, else w - 65,536
-abbrev pub signed : ℕ → ℤ
-signed w = if nat_lt w 32768 then pos w else negsuc (65535 - w)
+abbrev pub signed_value : ℕ → ℤ
+signed_value w = if nat_lt w 32768 then pos w else negsuc (65535 - w)
 
 -- true is -1, each of its bits 1; false is 0. (Chapter 7.)
 abbrev pub truth : Bool → ℕ
@@ -29,10 +29,10 @@ abbrev pub word_eq : ℕ → ℕ → ℕ
 word_eq x y = truth (nat_eq x y)
 
 abbrev pub word_lt : ℕ → ℕ → ℕ
-word_lt x y = truth (int_lt (signed x) (signed y))
+word_lt x y = truth (int_lt (signed_value x) (signed_value y))
 
 abbrev pub word_gt : ℕ → ℕ → ℕ
-word_gt x y = truth (int_lt (signed y) (signed x))
+word_gt x y = truth (int_lt (signed_value y) (signed_value x))
 
 -- bit k of a number is set
 abbrev pub has_bit : ℕ → ℕ → Bool

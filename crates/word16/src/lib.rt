@@ -2,7 +2,7 @@
 #![tactic(auto)]
 
 ghost use Rattle.std.specs.Prelude.{◌≡◌, ◌<◌, ◌<ℤ◌, ◌↔◌, IsTrue, bit_and, bit_or};
-ghost use Rattle.word16.specs.Words.{word_add, word_sub, word_neg, word_not, signed, truth, word_eq, word_lt, word_gt, has_bit, bit_list, number_of};
+ghost use Rattle.word16.specs.Words.{word_add, word_sub, word_neg, word_not, signed_value, truth, word_eq, word_lt, word_gt, has_bit, bit_list, number_of};
 
 mod memory;
 
@@ -52,7 +52,7 @@ pub fn or(a: u16, b: u16) -> u16
 
 /// Whether `a` is less than `b` as signed numbers.
 pub fn lt(a: u16, b: u16) -> bool
-    ensures { IsTrue result ↔ (signed a <ℤ signed b) }
+    ensures { IsTrue result ↔ (signed_value a <ℤ signed_value b) }
 {
     // With the top bit turned over, the order of the signed readings is that of the words.
     a ^ 32768 < b ^ 32768
@@ -60,7 +60,7 @@ pub fn lt(a: u16, b: u16) -> bool
 
 /// Whether `a` is greater than `b` as signed numbers.
 pub fn gt(a: u16, b: u16) -> bool
-    ensures { IsTrue result ↔ (signed b <ℤ signed a) }
+    ensures { IsTrue result ↔ (signed_value b <ℤ signed_value a) }
 {
     lt(b, a)
 }

@@ -4,10 +4,10 @@ use Rattle.std.specs.Str.{bytes_eq}
 use Rattle.hdl_tree.specs.declared.tree.Pin.{Pin}
 use Rattle.hdl_tree.specs.declared.library.Entry.{Entry}
 use Rattle.hdl_tree.specs.Chips.{find_entry, pin_width}
-use Rattle.hdl_flat.specs.declared.flat.PartAt.{PartAt}
+use Rattle.hdl_flatten.specs.declared.flat.PartAt.{PartAt}
 use Rattle.gate_computer.specs.declared.wiring.WiredPart.{WiredPart}
 use Rattle.gate_computer.specs.declared.wiring.Wiring.{Wiring}
-use Rattle.hdl_flat.specs.Trees.{bit_count}
+use Rattle.hdl_flatten.specs.Trees.{bit_count}
 
 -- ---- parts by the names of their chips
 
@@ -38,13 +38,13 @@ outputs_of None = []
 outputs_of (Some chip) = chip.chip.outputs
 
 -- nodes of the bits of pins, told with the lowest bit of each pin first, with the highest first
-abbrev pub turned : List Pin → List ℕ → List ℕ
-turned [] nodes = []
-turned (pin ∷ pins) nodes = reverse (take (pin_width pin) nodes) ++ turned pins (drop (pin_width pin) nodes)
+abbrev pub turned_nodes : List Pin → List ℕ → List ℕ
+turned_nodes [] nodes = []
+turned_nodes (pin ∷ pins) nodes = reverse (take (pin_width pin) nodes) ++ turned_nodes pins (drop (pin_width pin) nodes)
 
 -- a part of a chip that is one of these, with its bits turned
 abbrev pub wired_part : List Entry → PartAt → WiredPart
-wired_part entries part = record { chip = part.chip; outputs = turned (outputs_of (find_entry entries part.chip)) part.outs }
+wired_part entries part = record { chip = part.chip; outputs = turned_nodes (outputs_of (find_entry entries part.chip)) part.outs }
 
 -- its chip is one of these, and all its bits are there
 pub record IsTold (entries : List Entry) (part : PartAt) : Type 0 where

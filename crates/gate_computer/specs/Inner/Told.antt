@@ -3,7 +3,7 @@ use Rattle.std.specs.Prelude.{◌≡◌, ◌≢◌, ℕ, ◌<◌, nat_eq, nat_lt
 use Rattle.std.specs.List.{All}
 use Rattle.word16.specs.Words.{has_bit}
 use Rattle.machine_io.specs.History.{Turn}
-use Rattle.layers.specs.System.{IsKey}
+use Rattle.simulation.specs.System.{IsKey}
 use Rattle.netlist.specs.Order.{AreOrdered}
 use Rattle.netlist.specs.Value.{Inputs}
 use Rattle.netlist.specs.Words.{after_load}

@@ -2,7 +2,7 @@
 use Rattle.std.specs.Prelude.{ℕ, ◌+◌, Option, Some, None, Result, Ok, Err, if◌then◌else◌, is_some}
 use Rattle.hack_asm.specs.Faults.{Wrong, LabelTwice}
 use Rattle.hack_asm.specs.Trees.{Line, label, address, compute, Symbol}
-use Rattle.hack_asm.specs.Program.{Table, address_in, with_entry, used}
+use Rattle.hack_asm.specs.Program.{Table, address_in, with_entry, used_symbol}
 
 abbrev pub enter_line : Line → ℕ → Table → Result (ℕ × Table) Wrong
 enter_line None n table = Ok (n, table)
@@ -15,4 +15,4 @@ variable_by None next table = (next, table)
 variable_by (Some s) next table = if is_some (address_in table s.name) then (next, table) else (next + 1, with_entry table s.name next)
 
 abbrev pub variable_line : Line → ℕ → Table → ℕ × Table
-variable_line l next table = variable_by (used l) next table
+variable_line l next table = variable_by (used_symbol l) next table

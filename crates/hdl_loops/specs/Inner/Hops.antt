@@ -1,8 +1,8 @@
 -- Hops between bits of a chip, and ways of them.
 use Rattle.std.specs.Prelude.{◌≡◌, ℕ, suc, ◌<◌, ◌&&◌, nat_eq, Bool, List, [], ◌∷◌, length, Some, slice_get}
 use Rattle.std.specs.Str.{bytes_eq}
-use Rattle.hdl_law.specs.Loops.{BitAt, bit_at}
-use Rattle.hdl_law.specs.Ways.{Way}
+use Rattle.hdl_plans.specs.Loops.{BitAt, bit_at}
+use Rattle.hdl_plans.specs.Ways.{Way}
 use Rattle.hdl_loops.specs.declared.hops.BitOf.{BitOf}
 use Rattle.hdl_loops.specs.declared.hops.Dependency.{Dependency}
 use Rattle.hdl_loops.specs.declared.hops.Hop.{Hop}

@@ -6,8 +6,8 @@ use Rattle.hdl_tree.specs.declared.library.Entry.{Entry}
 use Rattle.hdl_tree.specs.declared.ends.End.{End}
 use Rattle.hdl_tree.specs.Chips.{Chips, end_of, find_chip, parts_of}
 use Rattle.hdl_tree.specs.Behaviour.{chip_at, inner_chip}
-use Rattle.hdl_law.specs.Loops.{BitAt, bit_at, reaches_out}
-use Rattle.hdl_law.specs.Ways.{Depends, OwnCircle, TreeFits}
+use Rattle.hdl_plans.specs.Loops.{BitAt, bit_at, reaches_out}
+use Rattle.hdl_plans.specs.Ways.{Depends, OwnCircle, TreeFits}
 use Rattle.hdl_loops.specs.Inner.Hops.{bit, input_of, output_of, IsWay}
 use Rattle.hdl_loops.specs.Inner.Ties.{Tie, ties_in, gather}
 use Rattle.hdl_loops.specs.Inner.Told.{HasConnection}

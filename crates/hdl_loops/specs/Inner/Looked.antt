@@ -5,7 +5,7 @@ use Rattle.std.specs.declared.alloc.Global.{Global}
 use Rattle.hdl_tree.specs.declared.tree.Part.{Part}
 use Rattle.hdl_tree.specs.declared.library.Entry.{Entry}
 use Rattle.hdl_tree.specs.Chips.{Chips, find_chip}
-use Rattle.hdl_law.specs.Loops.{IsLoop}
+use Rattle.hdl_plans.specs.Loops.{IsLoop}
 use Rattle.hdl_loops.specs.Inner.Knowing.{IsRight}
 use Rattle.hdl_loops.specs.declared.known.Known.{Known}
 use Rattle.hdl_loops.specs.declared.find.Look.{Look}

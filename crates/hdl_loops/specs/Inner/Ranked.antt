@@ -1,7 +1,7 @@
 -- Ranks of bits.
 use Rattle.std.specs.Prelude.{◌≡◌, ℕ, ◌<◌, List, Option, Some, None, slice_get}
 use Rattle.std.specs.Map.{lookup}
-use Rattle.hdl_law.specs.Loops.{BitAt}
+use Rattle.hdl_plans.specs.Loops.{BitAt}
 use Rattle.hdl_loops.specs.Inner.Hops.{bit, is_bit}
 use Rattle.hdl_loops.specs.declared.hops.Hop.{Hop}
 use Rattle.hdl_loops.specs.declared.ranks.Ranks.{Ranks}

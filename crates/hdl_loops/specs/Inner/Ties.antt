@@ -7,8 +7,8 @@ use Rattle.hdl_tree.specs.declared.tree.Connection.{Connection}
 use Rattle.hdl_tree.specs.declared.library.Entry.{Entry}
 use Rattle.hdl_tree.specs.Chips.{first, count}
 use Rattle.hdl_tree.specs.Behaviour.{width_of}
-use Rattle.hdl_law.specs.Plans.{is_input}
-use Rattle.hdl_law.specs.Loops.{BitAt, bit_at}
+use Rattle.hdl_plans.specs.Plans.{is_input}
+use Rattle.hdl_plans.specs.Loops.{BitAt, bit_at}
 use Rattle.hdl_loops.specs.Inner.Hops.{bit}
 use Rattle.hdl_loops.specs.declared.joint.Joint.{Joint}
 

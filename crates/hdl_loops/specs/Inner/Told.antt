@@ -10,9 +10,9 @@ use Rattle.hdl_tree.specs.declared.library.Entry.{Entry}
 use Rattle.hdl_tree.specs.Writable.{is_among}
 use Rattle.hdl_tree.specs.Chips.{Chips, first, count}
 use Rattle.hdl_tree.specs.Behaviour.{width_of}
-use Rattle.hdl_law.specs.Plans.{is_input}
-use Rattle.hdl_law.specs.Loops.{BitAt, bit_at, Feeds, peaks}
-use Rattle.hdl_law.specs.Ways.{Chain}
+use Rattle.hdl_plans.specs.Plans.{is_input}
+use Rattle.hdl_plans.specs.Loops.{BitAt, bit_at, Feeds, peaks}
+use Rattle.hdl_plans.specs.Ways.{Chain}
 use Rattle.hdl_loops.specs.declared.hops.Dependency.{Dependency}
 use Rattle.hdl_loops.specs.declared.hops.BitOf.{BitOf}
 use Rattle.hdl_loops.specs.declared.hops.Hop.{Hop}

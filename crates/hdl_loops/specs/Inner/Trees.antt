@@ -1,7 +1,7 @@
 -- What is reached from a bit, and by which ways.
 use Rattle.std.specs.Prelude.{◌≡◌, ℕ, suc, ◌+◌, ◌<◌, ◌⊎◌, Bool, true, false, List, [], ◌∷◌, ◌++◌, length, Option, Some, None, is_some, slice_get, if◌then◌else◌}
 use Rattle.std.specs.Map.{lookup}
-use Rattle.hdl_law.specs.Loops.{BitAt, bit_at}
+use Rattle.hdl_plans.specs.Loops.{BitAt, bit_at}
 use Rattle.hdl_loops.specs.Inner.Hops.{bit, is_bit, Linked, AllIn}
 use Rattle.hdl_loops.specs.declared.hops.BitOf.{BitOf}
 use Rattle.hdl_loops.specs.declared.hops.Hop.{Hop}

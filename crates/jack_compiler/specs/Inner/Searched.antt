@@ -1,7 +1,7 @@
 -- The search for the subroutines that a program can come to.
 use Rattle.std.specs.Prelude.{◌≡◌, ◌<◌, ◌⊎◌, ◌++◌, ℕ, Bool, true, List, [], ◌∷◌, length}
 use Rattle.std.specs.List.{Contains}
-use Rattle.vm_link.specs.Marks.{marked, waits, Marks}
+use Rattle.vm_link.specs.Marks.{is_marked, waits, Marks}
 use Rattle.jack_meaning.specs.Text.{Program}
 use Rattle.jack_meaning.specs.Meaning.{subroutine_at}
 use Rattle.jack_meaning.specs.Linked.{text_calls, IsLinked}
@@ -21,19 +21,19 @@ parts_calls (p ∷ ps) = part_calls p ++ parts_calls ps
 -- More is marked: only these subroutines, and each of them that there is a mark for. Each new mark waits.
 pub record Visits (calls : List ℕ) (old new : Search) : Type 0 where
   pub marks : Marks (Contains calls) old.marks.items new.marks.items old.waiting.items new.waiting.items
-  pub all : (g : ℕ) → g < length new.marks.items → Contains calls g → marked new.marks.items g ≡ true
+  pub all : (g : ℕ) → g < length new.marks.items → Contains calls g → is_marked new.marks.items g ≡ true
 
 -- What is known while some wait: the calls of the others are marked.
 pub record Looks (program : Program) (marks : List Bool) (pending : List ℕ) : Type 0 where
   pub same_length : length marks ≡ length program.subroutines
-  pub only : (g : ℕ) → marked marks g ≡ true → IsLinked program g
-  pub start : program.init < length marks → marked marks program.init ≡ true
-  pub waiting : (g : ℕ) → waits pending g ≡ true → marked marks g ≡ true
-  pub closed : (g h : ℕ) → marked marks g ≡ true → Contains (text_calls (subroutine_at program.subroutines g).body) h → h < length marks
-      → (waits pending g ≡ true) ⊎ (marked marks h ≡ true)
+  pub only : (g : ℕ) → is_marked marks g ≡ true → IsLinked program g
+  pub start : program.init < length marks → is_marked marks program.init ≡ true
+  pub waiting : (g : ℕ) → waits pending g ≡ true → is_marked marks g ≡ true
+  pub closed : (g h : ℕ) → is_marked marks g ≡ true → Contains (text_calls (subroutine_at program.subroutines g).body) h → h < length marks
+      → (waits pending g ≡ true) ⊎ (is_marked marks h ≡ true)
 
 -- The marks are at the subroutines that the program can come to.
 pub record AreLinked (program : Program) (marks : List Bool) : Type 0 where
   pub same_length : length marks ≡ length program.subroutines
-  pub only : (g : ℕ) → marked marks g ≡ true → IsLinked program g
-  pub all : (g : ℕ) → g < length program.subroutines → IsLinked program g → marked marks g ≡ true
+  pub only : (g : ℕ) → is_marked marks g ≡ true → IsLinked program g
+  pub all : (g : ℕ) → g < length program.subroutines → IsLinked program g → is_marked marks g ≡ true

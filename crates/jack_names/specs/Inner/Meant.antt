@@ -3,7 +3,7 @@
 -- number in the order of the text, and a body whose last statement is no `return` gets one. A constructor first takes the memory of its object.
 use Rattle.std.specs.Prelude.{ℕ, ◌+◌, ◌%◌, Bool, true, false, List, [], ◌∷◌, map, Option, Some, None, length, codes, Vec}
 use Rattle.std.specs.Global.{Global}
-use Rattle.jack_tree.specs.Seen.{unboxed}
+use Rattle.jack_tree.specs.Seen.{unbox}
 use Rattle.jack_meaning.specs.Text as meaning
 use Rattle.jack_tree.specs.declared.tree.Name.{Name}
 use Rattle.jack_tree.specs.declared.tree.Operator.{Operator}
@@ -17,7 +17,7 @@ use Rattle.jack_tree.specs.declared.tree.Term as terms
 use Rattle.jack_tree.specs.declared.tree.Operation.{Operation}
 use Rattle.jack_tree.specs.declared.tree.Expression.{Expression, Expression', Row_of-Operation, end_of-Operation, more_of-Operation}
 use Rattle.jack_tree.specs.declared.tree.Statement as statements
-use Rattle.jack_names.specs.Made.{slot_meant, declared_meant, with_variable, one, two, filled, length_word, assigned, let_by}
+use Rattle.jack_names.specs.Made.{slot_meant, declared_meant, with_variable, one, two, filled_characters, length_word, assignment, let_by}
 use Rattle.jack_names.specs.Sizes.{size, row_size}
 use Rattle.jack_names.specs.Inner.Scopes.{Scope, callee}
 use Rattle.jack_names.specs.declared.scope.Slot.{Slot}
@@ -50,12 +50,12 @@ abbrev pub with_object : Scope → Option Name → meaning.Expressions → meani
 with_object s None es = meaning.More meaning.This es
 with_object s (Some x) es = with_variable (s.variable x.text) es
 
-abbrev pub invoked : Scope → Option Name → Name → meaning.Expressions → meaning.Expression
-invoked s o f es = meaning.Call (called_number s f.text (callee s o)) (with_object s o es)
+abbrev pub invocation : Scope → Option Name → Name → meaning.Expressions → meaning.Expression
+invocation s o f es = meaning.Call (called_number s f.text (callee s o)) (with_object s o es)
 
 abbrev pub string_meant : Scope → List ℕ → meaning.Expression
 string_meant s text =
-    filled (made_number s (codes "String") (codes "appendChar")) (meaning.Call (made_number s (codes "String") (codes "new")) (one (meaning.Literal (length_word text)))) text
+    filled_characters (made_number s (codes "String") (codes "appendChar")) (meaning.Call (made_number s (codes "String") (codes "new")) (one (meaning.Literal (length_word text)))) text
 
 abbrev pub constant_meant : Scope → Constant → meaning.Expression
 constant_meant s (constant.Integer n) = meaning.Literal n
@@ -90,7 +90,7 @@ abbrev mutual
   term_meant s (terms.Unary' o p t) = meaning.Unary (sign_meant o) (term_meant s t)
 
   pub call_meant : Scope → Call → meaning.Expression
-  call_meant s (Call' o f n es) = invoked s o f (row_meant s es)
+  call_meant s (Call' o f n es) = invocation s o f (row_meant s es)
 
   pub exp_meant : Scope → Expression → meaning.Expression
   exp_meant s (Expression' t n os) = rest_meant s (term_meant s t) os
@@ -109,17 +109,17 @@ abbrev mutual
 abbrev pub operation_meant : Scope → meaning.Expression → Operation → meaning.Expression
 operation_meant s e o = binary_meant s o.operator e (term_meant s o.term)
 
-abbrev pub grouped : Scope → meaning.Expression → List Operation → meaning.Expression
-grouped s e [] = e
-grouped s e (o ∷ os) = grouped s (operation_meant s e o) os
+abbrev pub grouped_operations : Scope → meaning.Expression → List Operation → meaning.Expression
+grouped_operations s e [] = e
+grouped_operations s e (o ∷ os) = grouped_operations s (operation_meant s e o) os
 
 -- arguments in order, before others
-abbrev pub listed : List meaning.Expression → meaning.Expressions → meaning.Expressions
-listed [] more = more
-listed (e ∷ es) more = meaning.More e (listed es more)
+abbrev pub expression_list : List meaning.Expression → meaning.Expressions → meaning.Expressions
+expression_list [] more = more
+expression_list (e ∷ es) more = meaning.More e (expression_list es more)
 
 abbrev pub arguments_meant : Scope → List Expression → meaning.Expressions
-arguments_meant s es = listed (map (exp_meant s) es) meaning.NoMore
+arguments_meant s es = expression_list (map (exp_meant s) es) meaning.NoMore
 
 abbrev pub let_meant : Scope → ℕ → Name → Option Expression → Expression → meaning.Statement
 let_meant s n x None e = let_by (s.variable x.text) n (exp_meant s e)
@@ -138,7 +138,7 @@ is_else (statements.Some' m a) = true
 -- a statement whose number is n; those in it follow
 abbrev mutual
   pub statement_meant : Scope → ℕ → statements.Statement → meaning.Statement
-  statement_meant s n (statements.Let at x i e) = let_meant s n x (unboxed i) e
+  statement_meant s n (statements.Let at x i e) = let_meant s n x (unbox i) e
   statement_meant s n (statements.If' at e m a b) = meaning.If n (is_else b) (exp_meant s e) (block_meant s (n + 1) a) (other_meant s (n + 1 + row_size a) b)
   statement_meant s n (statements.While' at e m a) = meaning.While n (exp_meant s e) (block_meant s (n + 1) a)
   statement_meant s n (statements.Do at c) = meaning.Do n (call_meant s c)

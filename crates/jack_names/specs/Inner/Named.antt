@@ -1,7 +1,7 @@
 -- What the tables of the code stand for: the names of a program, and those of a class.
 use Rattle.std.specs.Prelude.{ℕ, List, [], ◌∷◌, slice_get, map}
 use Rattle.jack_tree.specs.declared.tree.Class.{Class}
-use Rattle.jack_names.specs.Tables.{found, with_new}
+use Rattle.jack_names.specs.Tables.{find_value, with_new}
 use Rattle.jack_names.specs.Inner.Entered.{table_of}
 use Rattle.jack_names.specs.Inner.Filed.{the_file}
 use Rattle.jack_names.specs.Inner.Scoped.{found_in}
@@ -20,12 +20,12 @@ with_all es [] = es
 with_all es (x ∷ xs) = with_all (with_new es x.0 x.1) xs
 
 abbrev pub the_symbols : Names → Symbols
-the_symbols n = record { class = λ x. found x (table_of n.classes); subroutine = λ k f. found_in (slice_get n.subroutines.items k) f }
+the_symbols n = record { class = λ x. find_value x (table_of n.classes); subroutine = λ k f. found_in (slice_get n.subroutines.items k) f }
 
 abbrev pub the_class_scope : ClassScope → AClassScope
 the_class_scope c = record {
   symbols = the_symbols c.names.now;
-  member = λ x. found x (table_of c.members.now);
+  member = λ x. find_value x (table_of c.members.now);
   own = c.own;
   source = the_file c.file;
 }

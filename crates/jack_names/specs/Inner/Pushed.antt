@@ -3,7 +3,7 @@ use Rattle.std.specs.Prelude.{◌≡◌, ◌≤◌, List, [], ◌∷◌, ◌++�
 use Rattle.jack_meaning.specs.Text as meaning
 use Rattle.jack_core.specs.declared.tree.Part.{Part}
 use Rattle.jack_core.specs.Heights.{takes, height}
-use Rattle.jack_core.specs.Reading.{put, built}
+use Rattle.jack_core.specs.Reading.{put, build_expressions}
 use Rattle.jack_tree.specs.declared.tree.Name.{Name}
 use Rattle.jack_names.specs.Inner.Scopes.{Scope}
 use Rattle.jack_names.specs.Made.{slot_meant}
@@ -11,7 +11,7 @@ use Rattle.jack_names.specs.declared.scope.Declared.{Declared}
 
 -- These parts leave these expressions, the last of which comes first, and each part finds its operands.
 pub record Leaves (es : List meaning.Expression) (parts : List Part) : Type 0 where
-  pub built_is : built [] parts ≡ es
+  pub built_is : build_expressions [] parts ≡ es
   pub height_is : height 0 parts ≡ Some (length es)
 
 -- An expression is added to those that the old parts leave,

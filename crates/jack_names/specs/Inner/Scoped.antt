@@ -1,6 +1,6 @@
 -- What the scopes of the code stand for.
 use Rattle.std.specs.Prelude.{ℕ, List, Option, Some, None, slice_get}
-use Rattle.jack_names.specs.Tables.{found, first_of}
+use Rattle.jack_names.specs.Tables.{find_value, first_of}
 use Rattle.jack_names.specs.Inner.Entered.{table_of}
 use Rattle.jack_names.specs.Inner.Filed.{the_file}
 use Rattle.jack_names.specs.Inner.Scopes.{Scope as AScope}
@@ -10,12 +10,12 @@ use Rattle.jack_names.specs.declared.scope.Scope.{Scope}
 
 abbrev pub found_in : Option (Table Signature) → List ℕ → Option Signature
 found_in None f = None
-found_in (Some t) f = found f (table_of t)
+found_in (Some t) f = find_value f (table_of t)
 
 abbrev pub the_scope : Scope → AScope
 the_scope s = record {
-  variable = λ x. first_of (found x (table_of s.locals.now)) (found x (table_of s.members.now));
-  class = λ x. found x (table_of s.names.now.classes);
+  variable = λ x. first_of (find_value x (table_of s.locals.now)) (find_value x (table_of s.members.now));
+  class = λ x. find_value x (table_of s.names.now.classes);
   subroutine = λ k f. found_in (slice_get s.names.now.subroutines.items k) f;
   form = s.form;
   own = s.own;

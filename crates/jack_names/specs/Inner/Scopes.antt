@@ -5,7 +5,7 @@ use Rattle.jack_tree.specs.declared.tree.Name.{Name}
 use Rattle.jack_tree.specs.declared.tree.Form.{Form}
 use Rattle.jack_tree.specs.declared.tree.Form.TheVariants as form
 use Rattle.jack_names.specs.Tables.{first_of}
-use Rattle.jack_names.specs.Faults.{Told, Source, kind_number, told_in, told_if, first_in}
+use Rattle.jack_names.specs.Faults.{NameDiagnostic, Source, kind_number, diagnostic_in, diagnostic_if, first_in}
 use Rattle.jack_names.specs.Inner.Uses.{Use, Variable, This, Calls, Makes, Text}
 use Rattle.jack_names.specs.declared.fault.NameKind.{NameKind}
 use Rattle.jack_names.specs.declared.fault.NameKind.TheVariants as kinds
@@ -76,9 +76,9 @@ front_by f v None = Some kinds.UnknownClass
 front_by f None (Some c) = None
 front_by f (Some v) (Some c) = field_kind f v
 
-abbrev pub front_fault : Scope → Option Name → Option Told
+abbrev pub front_fault : Scope → Option Name → Option NameDiagnostic
 front_fault s None = None
-front_fault s (Some x) = told_if s.source x.text x.place (front_by s.form (s.variable x.text) (callee s (Some x)))
+front_fault s (Some x) = diagnostic_if s.source x.text x.place (front_by s.form (s.variable x.text) (callee s (Some x)))
 
 -- the number of arguments differs
 abbrev pub count_kind : ℕ → Signature → Option NameKind
@@ -114,9 +114,9 @@ abbrev pub made_name : List ℕ → List ℕ → NameKind → List ℕ
 made_name c f kinds.UnknownClass = c
 made_name c f _ = f
 
-abbrev pub made_told : Source → List ℕ → List ℕ → Place → Option NameKind → Option Told
-made_told source c f at None = None
-made_told source c f at (Some k) = Some (told_in source (made_name c f k) at k)
+abbrev pub made_diagnostic : Source → List ℕ → List ℕ → Place → Option NameKind → Option NameDiagnostic
+made_diagnostic source c f at None = None
+made_diagnostic source c f at (Some k) = Some (diagnostic_in source (made_name c f k) at k)
 
 -- the second of two kinds is the lesser
 abbrev pub is_lesser : Option NameKind → Option NameKind → Bool
@@ -132,23 +132,23 @@ abbrev pub append_kind : Scope → List ℕ → Option NameKind
 append_kind s [] = None
 append_kind s (b ∷ bs) = made_kind s way.ByObject (codes "appendChar") 1 (s.class (codes "String"))
 
-abbrev pub string_fault : Scope → List ℕ → Place → Option Told
+abbrev pub string_fault : Scope → List ℕ → Place → Option NameDiagnostic
 string_fault s text at =
     if is_lesser (new_kind s) (append_kind s text)
-    then made_told s.source (codes "String") (codes "appendChar") at (append_kind s text)
-    else made_told s.source (codes "String") (codes "new") at (new_kind s)
+    then made_diagnostic s.source (codes "String") (codes "appendChar") at (append_kind s text)
+    else made_diagnostic s.source (codes "String") (codes "new") at (new_kind s)
 
-abbrev pub call_fault : Scope → Option Name → Name → ℕ → Option Told
-call_fault s o f n = first_of (front_fault s o) (told_if s.source f.text f.place (called_kind s f.text n (callee s o)))
+abbrev pub call_fault : Scope → Option Name → Name → ℕ → Option NameDiagnostic
+call_fault s o f n = first_of (front_fault s o) (diagnostic_if s.source f.text f.place (called_kind s f.text n (callee s o)))
 
 -- what is wrong with a use
-abbrev pub use_fault : Scope → Use → Option Told
-use_fault s (Variable x) = told_if s.source x.text x.place (variable_kind s.form (s.variable x.text))
-use_fault s (This at) = told_if s.source (codes "this") at (this_kind s.form)
+abbrev pub use_fault : Scope → Use → Option NameDiagnostic
+use_fault s (Variable x) = diagnostic_if s.source x.text x.place (variable_kind s.form (s.variable x.text))
+use_fault s (This at) = diagnostic_if s.source (codes "this") at (this_kind s.form)
 use_fault s (Calls o f n) = call_fault s o f n
-use_fault s (Makes c f n at) = made_told s.source c f at (made_kind s way.ByClass f n (s.class c))
+use_fault s (Makes c f n at) = made_diagnostic s.source c f at (made_kind s way.ByClass f n (s.class c))
 use_fault s (Text t) = string_fault s t.text t.place
 
 -- the first use with which something is wrong
-abbrev pub first_fault : Scope → List Use → Option Told
+abbrev pub first_fault : Scope → List Use → Option NameDiagnostic
 first_fault s uses = first_in (use_fault s) uses

@@ -1,7 +1,7 @@
 -- The names that a text uses, in the order of the text, with the calls that its meaning makes by itself: of Math for the operators * and /,
 -- of String for a string, of Memory for a constructor (book, chapters 9, 11 and 12).
 use Rattle.std.specs.Prelude.{ℕ, ◌+◌, List, [], ◌∷◌, ◌++◌, Option, Some, None, codes}
-use Rattle.jack_tree.specs.Seen.{unboxed}
+use Rattle.jack_tree.specs.Seen.{unbox}
 use Rattle.scan_text.specs.declared.Place.{Place}
 use Rattle.jack_tree.specs.declared.tree.Name.{Name}
 use Rattle.jack_tree.specs.declared.tree.Operator.{Operator}
@@ -92,7 +92,7 @@ optional_uses (Some e) = exp_uses e
 
 abbrev mutual
   pub statement_uses : statements.Statement → List Use
-  statement_uses (statements.Let at x i e) = Variable x ∷ (optional_uses (unboxed i) ++ exp_uses e)
+  statement_uses (statements.Let at x i e) = Variable x ∷ (optional_uses (unbox i) ++ exp_uses e)
   statement_uses (statements.If' at e n a b) = exp_uses e ++ (block_uses a ++ other_uses b)
   statement_uses (statements.While' at e n a) = exp_uses e ++ block_uses a
   statement_uses (statements.Do at c) = call_uses c

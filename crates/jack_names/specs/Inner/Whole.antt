@@ -10,7 +10,7 @@ use Rattle.jack_tree.specs.declared.tree.Statement as statements
 use Rattle.jack_tree.specs.declared.tree.Subroutine.{Subroutine}
 use Rattle.jack_tree.specs.declared.tree.Class.{Class}
 use Rattle.jack_names.specs.Tables.{first_of}
-use Rattle.jack_names.specs.Faults.{Told, Source, first_in}
+use Rattle.jack_names.specs.Faults.{NameDiagnostic, Source, first_in}
 use Rattle.jack_names.specs.Inner.Uses.{Makes, subroutine_uses}
 use Rattle.jack_names.specs.Sizes.{sizes}
 use Rattle.jack_names.specs.Inner.Scopes.{Scope, is_function, use_fault, first_fault}
@@ -29,7 +29,7 @@ abbrev pub class_names : List Class → List (List ℕ)
 class_names cs = map (λ c. c.name.text) cs
 
 -- Declarations: the folder's classes are tried with those of the operating system already there.
-abbrev pub declared_fault : List Class → List Class → Option Told
+abbrev pub declared_fault : List Class → List Class → Option NameDiagnostic
 declared_fault own os = first_of (declarations_fault false (class_names os) own) (declarations_fault true [] os)
 
 -- the subroutine of these names, where it is there
@@ -46,18 +46,18 @@ is_plain None = false
 is_plain (Some g) = is_function g.form && nat_eq g.parameters 0
 
 -- There is a function Main.main without parameters.
-abbrev pub main_fault : Symbols → Option Told
+abbrev pub main_fault : Symbols → Option NameDiagnostic
 main_fault symbols =
     if is_plain (found_subroutine symbols (codes "Main") (codes "main"))
     then None
     else Some (record { kind = kinds.NoMain; shipped = false; file = codes "Main.jack"; name = codes "Main.main"; place = no_place })
 
 -- the first fault in the uses of a class
-abbrev pub class_fault : ClassScope → List Subroutine → Option Told
+abbrev pub class_fault : ClassScope → List Subroutine → Option NameDiagnostic
 class_fault scope ss = first_in (λ s. first_fault (scope_in scope s) (subroutine_uses s)) ss
 
 -- The first fault in the uses of classes; the number of the first class and the number of statics before its own are given.
-abbrev pub uses_fault : Symbols → Bool → ℕ → ℕ → List Class → Option Told
+abbrev pub uses_fault : Symbols → Bool → ℕ → ℕ → List Class → Option NameDiagnostic
 uses_fault symbols shipped own statics [] = None
 uses_fault symbols shipped own statics (c ∷ cs) =
     first_of (class_fault (class_scope symbols shipped own statics c) c.subroutines.items) (uses_fault symbols shipped (own + 1) (statics + statics_of c.variables.items) cs)
@@ -78,11 +78,11 @@ start_scope symbols = record {
 }
 
 -- The program begins by a call of Sys.init, whose place is before all else in that file.
-abbrev pub start_fault : Symbols → Option Told
+abbrev pub start_fault : Symbols → Option NameDiagnostic
 start_fault symbols = use_fault (start_scope symbols) (Makes (codes "Sys") (codes "init") 0 no_place)
 
 -- The first fault in the uses of the operating system's classes, with that call: where no file is that of Sys, the call comes last.
-abbrev pub os_fault : Symbols → ℕ → ℕ → List Class → Option Told
+abbrev pub os_fault : Symbols → ℕ → ℕ → List Class → Option NameDiagnostic
 os_fault symbols own statics [] = start_fault symbols
 os_fault symbols own statics (c ∷ cs) =
     if bytes_eq c.file (codes "Sys.jack")
@@ -93,11 +93,11 @@ abbrev pub all_statics : List Class → ℕ
 all_statics [] = 0
 all_statics (c ∷ cs) = statics_of c.variables.items + all_statics cs
 
-abbrev pub all_uses_fault : Symbols → List Class → List Class → Option Told
+abbrev pub all_uses_fault : Symbols → List Class → List Class → Option NameDiagnostic
 all_uses_fault symbols own os = first_of (uses_fault symbols false 0 0 own) (os_fault symbols (length own) (all_statics own) os)
 
 -- Declarations first, then Main.main, then uses; at one place the least kind.
-abbrev pub first_name_fault : List Class → List Class → Option Told
+abbrev pub first_name_fault : List Class → List Class → Option NameDiagnostic
 first_name_fault own os =
     let symbols = symbols_of (own ++ os) in
     first_of (declared_fault own os) (first_of (main_fault symbols) (all_uses_fault symbols own os))
@@ -106,9 +106,9 @@ abbrev pub WellNamed : List Class → List Class → Type 0
 WellNamed own os = first_name_fault own os ≡ None
 
 -- a constructor first takes a block of as many words as its class has fields, one at least
-abbrev pub begun : Scope → Form → ℕ → List meaning.Statement
-begun s form.Constructor fields = meaning.LetThis 0 (meaning.Call (made_number s (codes "Memory") (codes "alloc")) (one (meaning.Literal (max 1 fields)))) ∷ []
-begun s _ fields = []
+abbrev pub first_statements : Scope → Form → ℕ → List meaning.Statement
+first_statements s form.Constructor fields = meaning.LetThis 0 (meaning.Call (made_number s (codes "Memory") (codes "alloc")) (one (meaning.Literal (max 1 fields)))) ∷ []
+first_statements s _ fields = []
 
 abbrev pub is_return : statements.Statement → Bool
 is_return (statements.Return at v) = true
@@ -128,7 +128,7 @@ added_return true n = []
 added_return false n = meaning.Return n (meaning.Literal 0) ∷ []
 
 abbrev pub body_meant : Scope → ℕ → Subroutine → List meaning.Statement
-body_meant s fields t = begun s t.form fields ++ statements_meant s 1 t.statements.items ++ added_return (returns t.statements.items) (1 + sizes t.statements.items)
+body_meant s fields t = first_statements s t.form fields ++ statements_meant s 1 t.statements.items ++ added_return (returns t.statements.items) (1 + sizes t.statements.items)
 
 abbrev pub kind_meant : Form → meaning.Kind
 kind_meant form.Constructor = meaning.Constructor

@@ -27,8 +27,8 @@ abbrev pub fixed_word : Keyword → Jack
 fixed_word k = Leaf (Fixed (kind.Keyword k))
 
 -- what stands between two symbols
-abbrev pub enclosed : Jack → Jack
-enclosed x = Pair Skip (Pair x Skip)
+abbrev pub enclosed_term : Jack → Jack
+enclosed_term x = Pair Skip (Pair x Skip)
 
 -- trees one after another
 abbrev pub row : List Jack → Jack
@@ -50,14 +50,14 @@ variable x = Node (Right (Left (Pair (name_of x) Absent)))
 
 -- `x[index]`
 abbrev pub element : List ℕ → Jack → Jack
-element x index = Node (Right (Left (Pair (name_of x) (Present (Left (enclosed (Node index)))))))
+element x index = Node (Right (Left (Pair (name_of x) (Present (Left (enclosed_term (Node index)))))))
 
 -- `(inside)`
 abbrev pub group : Jack → Jack
-group inside = Node (Right (Right (Left (enclosed (Node inside)))))
+group inside = Node (Right (Right (Left (enclosed_term (Node inside)))))
 
-abbrev pub signed : Sign → Jack → Jack
-signed s t = Node (Right (Right (Right (Pair (Leaf (sign_said s)) (Node t)))))
+abbrev pub signed_term : Sign → Jack → Jack
+signed_term s t = Node (Right (Right (Right (Pair (Leaf (sign_said s)) (Node t)))))
 
 -- Expressions: a term alone, and two or three terms with operators between them, from left to right.
 
@@ -81,14 +81,14 @@ let_variable x value = Node (Node (Left (Pair (word_of keyword.Let) (Pair (name_
 -- `let x[index] = value;`
 abbrev pub let_element : List ℕ → Jack → Jack → Jack
 let_element x index value =
-    Node (Node (Left (Pair (word_of keyword.Let) (Pair (name_of x) (Pair (Present (enclosed (Node index))) (Pair Skip (Pair value Skip)))))))
+    Node (Node (Left (Pair (word_of keyword.Let) (Pair (name_of x) (Pair (Present (enclosed_term (Node index))) (Pair Skip (Pair value Skip)))))))
 
 -- statements in braces
 abbrev pub block : List Jack → Jack
-block body = enclosed (row body)
+block body = enclosed_term (row body)
 
 abbrev pub if_of : Jack → List Jack → Jack → Jack
-if_of condition body other = Node (Node (Right (Left (Pair (word_of keyword.If) (Pair (enclosed (Node condition)) (Pair (block body) other))))))
+if_of condition body other = Node (Node (Right (Left (Pair (word_of keyword.If) (Pair (enclosed_term (Node condition)) (Pair (block body) other))))))
 
 abbrev pub if_then : Jack → List Jack → Jack
 if_then condition body = if_of condition body Absent
@@ -97,13 +97,13 @@ abbrev pub if_else : Jack → List Jack → List Jack → Jack
 if_else condition body other = if_of condition body (Present (Pair Skip (block other)))
 
 abbrev pub while_loop : Jack → List Jack → Jack
-while_loop condition body = Node (Node (Right (Right (Left (Pair (word_of keyword.While) (Pair (enclosed (Node condition)) (block body)))))))
+while_loop condition body = Node (Node (Right (Right (Left (Pair (word_of keyword.While) (Pair (enclosed_term (Node condition)) (block body)))))))
 
 -- `do class.name(argument);`
 abbrev pub do_call : List ℕ → List ℕ → Jack → Jack
 do_call class name argument =
     let arguments = Present (Node (Pair (Node argument) NoMore)) in
-    Node (Node (Right (Right (Right (Left (Pair (word_of keyword.Do) (Pair (name_of class) (Pair (Right (Pair Skip (Pair (name_of name) (enclosed arguments)))) Skip))))))))
+    Node (Node (Right (Right (Right (Left (Pair (word_of keyword.Do) (Pair (name_of class) (Pair (Right (Pair Skip (Pair (name_of name) (enclosed_term arguments)))) Skip))))))))
 
 abbrev pub return_of : Jack → Jack
 return_of value = Node (Node (Right (Right (Right (Right (Pair (word_of keyword.Return) (Pair value Skip)))))))

@@ -17,7 +17,7 @@ abbrev mutual
   term (terms.Variable x) = made.variable x.now
   term (terms.Element' x p index) = made.element x.now (expression index)
   term (terms.Group' p inside) = made.group (expression inside)
-  term (terms.Unary' s p t) = made.signed s (term t)
+  term (terms.Unary' s p t) = made.signed_term s (term t)
 
   pub expression : expressions.ExpressionSketch → Jack
   expression (expressions.One t) = made.alone (term t)

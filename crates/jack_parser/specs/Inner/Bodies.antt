@@ -1,6 +1,6 @@
 -- What stands in the braces of a subroutine: it has a reader of its own.
 use Rattle.std.specs.Prelude.{List}
-use Rattle.grammar.specs.Rules.{seq, repeat, name, Tree, Pair, Skip, NoMore, listed}
+use Rattle.grammar.specs.Rules.{seq, repeat, name, Tree, Pair, Skip, NoMore, tree_of_list}
 use Rattle.jack_tree.specs.declared.tree.Locals.{Locals}
 use Rattle.jack_tree.specs.declared.tree.Statement as statements
 use Rattle.jack_parser.specs.Grammar.{JackRule, Said, statement, symbol_of, locals_rule}
@@ -12,4 +12,4 @@ abbrev pub subroutine_body : JackRule
 subroutine_body = seq (symbol_of 123) (seq (repeat locals_rule) (seq (repeat (name statement)) (symbol_of 125)))
 
 abbrev pub subroutine_body_tree : List Locals → List statements.Statement → Tree Said
-subroutine_body_tree ls ss = Pair Skip (Pair (listed locals_tree ls NoMore) (Pair (statements_tree ss) Skip))
+subroutine_body_tree ls ss = Pair Skip (Pair (tree_of_list locals_tree ls NoMore) (Pair (statements_tree ss) Skip))

@@ -1,6 +1,6 @@
 -- The command `chip`: the printed form of a shipped chip, or that none has this name. (The book, chapters 1 to 5 and appendix 2.)
 use Rattle.std.specs.Prelude.{◌≡◌, ℕ, List, Some, None, codes}
-use Rattle.outer_world.specs.Refusals.{Message, message, told_line}
+use Rattle.outer_world.specs.Refusals.{Message, message, message_line}
 use Rattle.hdl_tree.specs.Chips.{find_entry}
 use Rattle.hdl_tree.specs.declared.library.Entry.{Entry}
 use Rattle.hdl_parser.specs.Printed.{chip_text}
@@ -18,4 +18,4 @@ abbrev pub unknown_chip : List ℕ → Message
 unknown_chip name = message 0 0 (codes "UnknownChip") name
 
 abbrev pub ChipRefuses : List ℕ → List ℕ → Type 0
-ChipRefuses name line = (find_entry shipped_chips name ≡ None) × (line ≡ told_line name (unknown_chip name))
+ChipRefuses name line = (find_entry shipped_chips name ≡ None) × (line ≡ message_line name (unknown_chip name))

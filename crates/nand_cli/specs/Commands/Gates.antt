@@ -4,9 +4,9 @@ use Rattle.outer_world.specs.declared.point.Point.{Point}
 use Rattle.machine_io.specs.Report.{head_text, shown_text}
 use Rattle.machine_io.specs.declared.driving.End.TheVariants.{Bound}
 use Rattle.machine_io.specs.declared.report.LevelName.TheVariants as names
-use Rattle.layers.specs.Headline.{Agrees}
-use Rattle.layers.specs.System.{System, Tame}
-use Rattle.layers.specs.Trace.{Trace, heard, point_at, steps}
+use Rattle.simulation.specs.Headline.{Agrees}
+use Rattle.simulation.specs.System.{System, Tame}
+use Rattle.simulation.specs.Trace.{Trace, heard_keys, point_at, steps}
 use Rattle.jack_meaning.specs.Gap.{IsGap}
 use Rattle.jack_meaning.specs.Meaning.{State, start}
 use Rattle.jack_meaning.specs.Level.{meaning_of}
@@ -58,10 +58,10 @@ pub record IsGatesReport (core : Core) (code : ℕ → ℕ) (n : ℕ) (shown : S
   pub behaves : (m : ℕ) → (wires : List ℕ → Histories) × IsComputer computer.image code m wires
   pub reports : InEach computer.image code n (ReportsCycle core computer code n shown text)
   pub agrees : InEach computer.image code n (λ wires.
-      Tame (meaning_in core) (start (the_program core)) (heard (gates_trace computer code wires) n) (steps (gates_trace computer code wires) n)
+      Tame (meaning_in core) (start (the_program core)) (heard_keys (gates_trace computer code wires) n) (steps (gates_trace computer code wires) n)
       → Agrees (meaning_in core) (start (the_program core)) (gates_trace computer code wires) (word_at wires) n)
   pub most : ℕ
   pub gap : IsGap (the_program core) most
   pub goes_on : InEach computer.image code (n + most) (λ wires.
-      Tame (meaning_in core) (start (the_program core)) (heard (gates_trace computer code wires) n) (suc (steps (gates_trace computer code wires) n))
+      Tame (meaning_in core) (start (the_program core)) (heard_keys (gates_trace computer code wires) n) (suc (steps (gates_trace computer code wires) n))
       → steps (gates_trace computer code wires) n < steps (gates_trace computer code wires) (n + most))

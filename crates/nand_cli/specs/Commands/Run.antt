@@ -5,9 +5,9 @@ use Rattle.source_files.specs.Sources.{IsFaulty, SpellsAt}
 use Rattle.key_script.specs.Codes.{code_at}
 use Rattle.key_script.specs.Grammar.{Spells}
 use Rattle.key_script.specs.declared.lines.Line.{Line}
-use Rattle.layers.specs.Headline.{Agrees}
-use Rattle.layers.specs.System.{System, Tame}
-use Rattle.layers.specs.Trace.{Trace, heard, point_at, steps}
+use Rattle.simulation.specs.Headline.{Agrees}
+use Rattle.simulation.specs.System.{System, Tame}
+use Rattle.simulation.specs.Trace.{Trace, heard_keys, point_at, steps}
 use Rattle.jack_meaning.specs.Gap.{IsGap}
 use Rattle.jack_meaning.specs.Text.{Subroutine}
 use Rattle.jack_meaning.specs.Meaning.{State, Stray, Done, start, step}
@@ -90,9 +90,9 @@ pub record IsHackReport (core : Core) (code : ℕ → ℕ) (n : ℕ) (show : Sho
   pub reports : text ≡ report_text names.Hack n (steps (trace_in computer code) n) (name_of (names_of core) point.sub) point.number ends.Bound show (run_word computer.image code n)
   pub most : ℕ
   pub gap : IsGap (the_program core) most
-  pub agrees : Tame (meaning_of (the_program core).subroutines) (start (the_program core)) (heard (trace_in computer code) n) (steps (trace_in computer code) n)
+  pub agrees : Tame (meaning_of (the_program core).subroutines) (start (the_program core)) (heard_keys (trace_in computer code) n) (steps (trace_in computer code) n)
       → Agrees (meaning_of (the_program core).subroutines) (start (the_program core)) (trace_in computer code) (run_word computer.image code) n
-  pub goes_on : Tame (meaning_of (the_program core).subroutines) (start (the_program core)) (heard (trace_in computer code) n) (suc (steps (trace_in computer code) n))
+  pub goes_on : Tame (meaning_of (the_program core).subroutines) (start (the_program core)) (heard_keys (trace_in computer code) n) (suc (steps (trace_in computer code) n))
       → steps (trace_in computer code) n < steps (trace_in computer code) (n + most)
 
 -- The report of n moves of a program at a level, with what is shown there.

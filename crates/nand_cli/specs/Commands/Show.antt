@@ -12,7 +12,7 @@ use Rattle.hdl_parser.specs.Printed.{chip_text}
 use Rattle.hdl_parser.specs.Spells.{Spells as SpellsChip}
 use Rattle.jack_tree.specs.Syntax.{Class}
 use Rattle.jack_parser.specs.Spelled.{SpellsClass}
-use Rattle.jack_parser.specs.PrintedClass.{printed}
+use Rattle.jack_parser.specs.PrintedClass.{printed_class}
 use Rattle.command_line.specs.declared.request.SourceKind.{SourceKind}
 use Rattle.command_line.specs.declared.request.SourceKind.TheVariants as kinds
 use Rattle.nand_cli.specs.Languages.{RefusesClass, RefusesHdl, RefusesVm}
@@ -25,7 +25,7 @@ SpellsVm text program = SpellsProgram true [] text program
 -- The text at a path spells a source of its kind, and this is the printed form. (The name of a class is not held against that of the file.)
 abbrev pub ShowPrints : Option Files → List ℕ → SourceKind → List ℕ → Type 0
 ShowPrints files path kinds.Vm out = (program : List File) × SpellsAt SpellsVm files path program × (out ≡ program_text program)
-ShowPrints files path kinds.Jack out = (c : Class) × SpellsAt SpellsClass files path c × (out ≡ printed c)
+ShowPrints files path kinds.Jack out = (c : Class) × SpellsAt SpellsClass files path c × (out ≡ printed_class c)
 ShowPrints files path kinds.Hdl out = (c : Chip) × SpellsAt SpellsChip files path c × (out ≡ chip_text c)
 
 -- a text of this kind is refused

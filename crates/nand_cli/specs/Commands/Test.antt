@@ -1,8 +1,8 @@
 -- The command `test`: the lines of a test script, its echoes, and how it ends. (The book, appendix 3.)
 use Rattle.std.specs.Prelude.{ℕ, Bool, List, Option, not}
 use Rattle.outer_world.specs.Files.{Files}
-use Rattle.script_run.specs.Setting.{Setting, setting_of}
-use Rattle.script_run.specs.Ends as script
+use Rattle.tst_runner.specs.Setting.{Setting, setting_of}
+use Rattle.tst_runner.specs.Ends as script
 
 -- the script at a path; with `gates` the memories of its chips are made of gates
 abbrev pub script_at : Option Files → List ℕ → Bool → Setting

@@ -3,19 +3,19 @@
 use Rattle.std.specs.Prelude.{◌≡◌, ◌≤◌, ◌⊎◌, ℕ, Bool, false, List, Option, Some, Ok, Err, length, map, codes}
 use Rattle.hack_isa.specs.Machine.{image_words}
 use Rattle.hack_isa.specs.Table.{word_of}
-use Rattle.hack_blocks.specs.Templates.{endless_loop}
+use Rattle.vm_templates.specs.Templates.{endless_loop}
 use Rattle.outer_world.specs.Files.{Files}
-use Rattle.outer_world.specs.Refusals.{Message, told_line}
+use Rattle.outer_world.specs.Refusals.{Message, message_line}
 use Rattle.hack_asm.specs.Written.{asm_text}
 use Rattle.source_files.specs.Sources.{FolderSpells, IsUnread}
 use Rattle.vm_tree.specs.declared.program.File.{File}
 use Rattle.vm_link.specs.Links.{Links}
-use Rattle.vm_link.specs.Told.{link_told}
+use Rattle.vm_link.specs.Messages.{link_message}
 use Rattle.vm_link.specs.declared.fault.LinkFault.{LinkFault}
 use Rattle.vm_link.specs.declared.linked.Linked.{Linked}
 use Rattle.vm_translator.specs.Image.{IsTooLarge, commits_of, image_of, points_of}
 use Rattle.vm_translator.specs.Mapping.{map_of}
-use Rattle.vm_translator.specs.Told.{code_told}
+use Rattle.vm_translator.specs.Messages.{code_message}
 use Rattle.vm_translator.specs.Translated.{IsTranslated}
 use Rattle.vm_translator.specs.declared.coded.CodeFault.TheVariants.{TooLarge}
 use Rattle.nand_cli.specs.Languages.{RefusesVm, SpellsVmFile}
@@ -33,11 +33,11 @@ VmPrints files folder bare text =
 -- The program has no code, and this is told: it is not linked, or its image is past the limit.
 abbrev pub HasNoCode : Bool → List File → Message → Type 0
 HasNoCode bare program told =
-    ((fault : LinkFault) × Links bare program (Err fault) × (link_told fault ≡ Some told))
-    ⊎ ((linked : Linked) × (words : ℕ) × Links bare program (Ok linked) × IsTooLarge linked words × (code_told (TooLarge words) ≡ Some told))
+    ((fault : LinkFault) × Links bare program (Err fault) × (link_message fault ≡ Some told))
+    ⊎ ((linked : Linked) × (words : ℕ) × Links bare program (Ok linked) × IsTooLarge linked words × (code_message (TooLarge words) ≡ Some told))
 
 abbrev pub IsNoCode : Bool → List ℕ → List File → List ℕ → Type 0
-IsNoCode bare folder program line = (told : Message) × HasNoCode bare program told × (line ≡ told_line folder told)
+IsNoCode bare folder program line = (told : Message) × HasNoCode bare program told × (line ≡ message_line folder told)
 
 -- The folder is refused, and this line tells why: its files are not read, or their program has no code.
 pub data VmRefuses (files : Option Files) (folder : List ℕ) (bare : Bool) (line : List ℕ) : Type 0 where

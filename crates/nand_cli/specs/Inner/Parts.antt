@@ -4,7 +4,7 @@ use Rattle.std.specs.declared.alloc.Global.{Global}
 use Rattle.command_line.specs.Line.{Line}
 use Rattle.command_line.specs.declared.reader.LineError.{LineError}
 use Rattle.command_line.specs.declared.reader.LineError.TheVariants as no_line
-use Rattle.grammar.specs.Faults.{fault_told}
+use Rattle.grammar.specs.Faults.{diagnostic_of}
 use Rattle.grammar.specs.declared.ReadError.{ReadError}
 use Rattle.grammar.specs.declared.ReadError.TheVariants as reads
 use Rattle.hack_asm.specs.HackText.{IsRefusal as IsNoImage}
@@ -21,14 +21,14 @@ use Rattle.source_files.specs.declared.error.LoadError.{LoadError}
 use Rattle.source_files.specs.declared.error.LoadError.TheVariants as errors
 use Rattle.source_files.specs.declared.error.TextError.{TextError}
 use Rattle.source_files.specs.declared.error.TextError.TheVariants as texts
-use Rattle.jack_names.specs.Messages.{name_told}
+use Rattle.jack_names.specs.Messages.{name_message}
 use Rattle.tower.specs.declared.program.ProgramError.{ProgramError}
 use Rattle.tower.specs.declared.program.ProgramError.TheVariants as programs
-use Rattle.script_run.specs.Verdicts.{difference_line}
-use Rattle.script_run.specs.declared.script.Verdict.{Verdict}
-use Rattle.script_run.specs.declared.script.Verdict.TheVariants as verdicts
-use Rattle.script_run.specs.declared.script.ScriptError.{ScriptError}
-use Rattle.script_run.specs.declared.script.ScriptError.TheVariants as scripts
+use Rattle.tst_runner.specs.Verdicts.{difference_line}
+use Rattle.tst_runner.specs.declared.script.Verdict.{Verdict}
+use Rattle.tst_runner.specs.declared.script.Verdict.TheVariants as verdicts
+use Rattle.tst_runner.specs.declared.script.ScriptError.{ScriptError}
+use Rattle.tst_runner.specs.declared.script.ScriptError.TheVariants as scripts
 use Rattle.nand_cli.specs.Answer.{CutsEcho, CutsOut, Disagrees, Misses, Prints, Refuses, Starves}
 use Rattle.nand_cli.specs.JackFolder.{home_of}
 use Rattle.nand_cli.specs.Languages.{SpellsWords}
@@ -62,24 +62,24 @@ Counts shelf shelf' out out' err err' (Err failure.Echo) = (shelf' ≡ shelf) ×
 Counts shelf shelf' out out' err err' _ = (shelf' ≡ shelf) × (out' ≡ out) × (err' ≡ err)
 
 -- how a line ends with the last that it puts on out
-abbrev pub finished : Put → Result (Unit {0}) Failure
-finished put.Done = Ok tt
-finished put.Failed = Err failure.Out
+abbrev pub finish_result : Put → Result (Unit {0}) Failure
+finish_result put.Done = Ok tt
+finish_result put.Failed = Err failure.Out
 
 -- how a line of `test` ends
-abbrev pub ended : Result Verdict ScriptError → Result (Unit {0}) Failure
-ended (Ok verdicts.Same) = Ok tt
-ended (Ok verdicts.NoCompare) = Ok tt
-ended (Ok (verdicts.Differs difference)) = Err (failure.Differs difference)
-ended (Err (scripts.Unloaded error)) = Err (failure.Unloaded error)
-ended (Err scripts.Out) = Err failure.Out
-ended (Err scripts.Err) = Err failure.Echo
+abbrev pub end_result : Result Verdict ScriptError → Result (Unit {0}) Failure
+end_result (Ok verdicts.Same) = Ok tt
+end_result (Ok verdicts.NoCompare) = Ok tt
+end_result (Ok (verdicts.Differs difference)) = Err (failure.Differs difference)
+end_result (Err (scripts.Unloaded error)) = Err (failure.Unloaded error)
+end_result (Err scripts.Out) = Err failure.Out
+end_result (Err scripts.Err) = Err failure.Echo
 
 -- ---- texts
 
 -- A fault of a text is told, unless memory is wanting.
 abbrev pub TellsText : ReadError → TextError → Type 0
-TellsText (reads.Fault fault) e = e ≡ texts.Refused (fault_told fault)
+TellsText (reads.Fault fault) e = e ≡ texts.Refused (diagnostic_of fault)
 TellsText reads.Memory e = e ≡ texts.Memory
 
 -- a text of this form is refused for this fault of the code, unless memory is wanting
@@ -94,7 +94,7 @@ ReadsWords form text (Err fault) = IsRefused form text fault
 
 -- Why classes mean no program is told, unless memory is wanting.
 abbrev pub TellsWrong : List ℕ → ProgramError → LoadError → Type 0
-TellsWrong folder (programs.Name f) e = Refused (path_in (home_of folder f.shipped) f.file) (name_told f) e
+TellsWrong folder (programs.Name f) e = Refused (path_in (home_of folder f.shipped) f.file) (name_message f) e
 TellsWrong folder programs.Memory e = e ≡ errors.Memory
 
 -- ---- what is told on err

@@ -8,7 +8,7 @@ ghost use Rattle.nand_cli.specs.Inner.Parts.{Counts, Does};
 use crate::failure::{Failure, finished};
 use hack_cpu::{find_shipped, library};
 use hdl_parser::print;
-use outer_world::{Detail, Shelf, Sink, Told};
+use outer_world::{Detail, Diagnostic, Shelf, Sink};
 use source_files::LoadError;
 use std::alloc::Global;
 
@@ -20,7 +20,7 @@ fn unknown(alloc: Global, name: &str) -> LoadError
         Ok(detail) => LoadError::refused(
             alloc,
             name,
-            Told::nowhere("UnknownChip", Detail::Name(detail)),
+            Diagnostic::nowhere("UnknownChip", Detail::Name(detail)),
         ),
         Err(_) => LoadError::Memory,
     }

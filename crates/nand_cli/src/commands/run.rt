@@ -4,7 +4,7 @@ ghost use Rattle.command_line.specs.Line.{run};
 ghost use Rattle.jack_compiler.specs.Resolved.{IsResolvedCore};
 ghost use Rattle.key_script.specs.Codes.{code_at};
 ghost use Rattle.key_script.specs.declared.keys.Keys.{Keys};
-ghost use Rattle.layers.specs.System.{IsKey};
+ghost use Rattle.simulation.specs.System.{IsKey};
 ghost use Rattle.outer_world.specs.Files.{LacksFile};
 ghost use Rattle.source_files.specs.Loads.{CountsLoad, Loads};
 ghost use Rattle.tower.specs.Built.{IsComputerOf};

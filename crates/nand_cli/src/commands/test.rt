@@ -1,16 +1,16 @@
 //! The command `test`: a test script.
 ghost use Rattle.std.specs.Prelude.{◌≡◌};
 ghost use Rattle.command_line.specs.Line.{test};
-ghost use Rattle.nand_cli.specs.Inner.Parts.{Counts, Does, ended};
+ghost use Rattle.nand_cli.specs.Inner.Parts.{Counts, Does, end_result};
 
 use crate::failure::Failure;
 use outer_world::{Shelf, Sink};
-use script_run::{ScriptError, Verdict, run_script};
 use std::alloc::Global;
+use tst_runner::{ScriptError, Verdict, run_script};
 
 // How a line of `test` ends.
 fn ended(script: Result<Verdict, ScriptError>) -> Result<(), Failure>
-    ensures { result ≡ ended script }
+    ensures { result ≡ end_result script }
 {
     match script {
         Ok(Verdict::Same | Verdict::NoCompare) => Ok(()),

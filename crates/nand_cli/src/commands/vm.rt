@@ -49,7 +49,7 @@ fn linked(alloc: Global, folder: &str, program: Program, bare: bool) -> Result<L
 {
     match link(alloc, program, bare) {
         Ok(linked) => Ok(linked),
-        Err(fault) => Err(LoadError::told(alloc, folder, fault.told())),
+        Err(fault) => Err(LoadError::of_diagnostic(alloc, folder, fault.diagnostic())),
     }
 }
 
@@ -61,7 +61,7 @@ fn code_of(alloc: Global, folder: &str, program: Program, bare: bool) -> Result<
     let linked = linked(alloc, folder, program, bare)?;
     match translate(alloc, &linked, bare) {
         Ok(coded) => Ok(coded),
-        Err(fault) => Err(LoadError::told(alloc, folder, fault.told())),
+        Err(fault) => Err(LoadError::of_diagnostic(alloc, folder, fault.diagnostic())),
     }
 }
 

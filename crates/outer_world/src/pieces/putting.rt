@@ -1,7 +1,7 @@
 //! What a buffer before a sink does.
 ghost use Rattle.std.specs.Prelude.{◌≡◌, ◌≤◌, ◌+◌, ◌%◌, [], length, take};
 ghost use Rattle.std.specs.List.{flat_map};
-ghost use Rattle.outer_world.specs.Held.{HaveSameSink, held, pending, sink_of};
+ghost use Rattle.outer_world.specs.Held.{HaveSameSink, held_count, pending, sink_of};
 ghost use Rattle.outer_world.specs.Written.{CountsPut, Passes, Puts};
 
 use super::Pieces;
@@ -24,11 +24,11 @@ impl<'a, S: Sink> Pieces<'a, S> {
 
     // Puts the pending bytes with more that fit.
     fn fill(&mut self, part: &[u8]) -> Put
-        requires { held self.old + length part.now ≤ 4096 }
+        requires { held_count self.old + length part.now ≤ 4096 }
         ensures same_sink { HaveSameSink self.old self.new }
         ensures passes { Passes (S.written (sink_of self.old)) (pending self.old) (S.written (sink_of self.new)) (pending self.new) part.now result }
         ensures counts { CountsPut (S.faults (sink_of self.old)) (S.faults (sink_of self.new)) result }
-        ensures pieces { result ≡ Put.Done → held self.new ≡ (held self.old + length part.now) % 4096 }
+        ensures pieces { result ≡ Put.Done → held_count self.new ≡ (held_count self.old + length part.now) % 4096 }
     {
         let end = self.len + part.len();
         self.buffer[self.len..end].copy_from_slice(part);
@@ -45,7 +45,7 @@ impl<'a, S: Sink> Pieces<'a, S> {
         ensures same_sink { HaveSameSink self.old self.new }
         ensures passes { Passes (S.written (sink_of self.old)) (pending self.old) (S.written (sink_of self.new)) (pending self.new) piece.now result }
         ensures counts { CountsPut (S.faults (sink_of self.old)) (S.faults (sink_of self.new)) result }
-        ensures pieces { result ≡ Put.Done → held self.new ≡ (held self.old + length piece.now) % 4096 }
+        ensures pieces { result ≡ Put.Done → held_count self.new ≡ (held_count self.old + length piece.now) % 4096 }
     {
         let mut from = 0;
         while from < piece.len() {
@@ -63,7 +63,7 @@ impl<'a, S: Sink> Pieces<'a, S> {
         ensures same_sink { HaveSameSink self.old self.new }
         ensures passes { Passes (S.written (sink_of self.old)) (pending self.old) (S.written (sink_of self.new)) (pending self.new) (flat_map (λ part. part.now) parts.now) result }
         ensures counts { CountsPut (S.faults (sink_of self.old)) (S.faults (sink_of self.new)) result }
-        ensures pieces { result ≡ Put.Done → held self.new ≡ (held self.old + length (flat_map (λ part. part.now) parts.now)) % 4096 }
+        ensures pieces { result ≡ Put.Done → held_count self.new ≡ (held_count self.old + length (flat_map (λ part. part.now) parts.now)) % 4096 }
     {
         for part in parts {
             match self.put(part) {

@@ -1,6 +1,6 @@
 use Rattle.std.proofs.Common.{length, None, map}
 use Rattle.scan_text.specs.Text.{start, walk}
-use Rattle.scan_text.specs.View.{left}
+use Rattle.scan_text.specs.View.{left_bytes}
 use Rattle.grammar.specs.Cutting.{cut}
 use Rattle.grammar.specs.Lines.{close}
 use Rattle.grammar.proofs.Cuts.{Cuts}
@@ -13,4 +13,4 @@ invariant-loop-byte g l =
     Cuts piece closes (map g.T.LineToken.view l.tokens.items) l.scan (cut piece closes None 0 start l.text) (walk start l.text)
 
 abbrev pub decreases-loop-byte : goal.decreases-loop-byte
-decreases-loop-byte g l = length (left l.scan)
+decreases-loop-byte g l = length (left_bytes l.scan)

@@ -1,6 +1,6 @@
 use Rattle.std.proofs.Common.{◌≡◌, ℕ, ◌<◌, Some}
 use Rattle.std.specs.Prelude.{slice_get}
-use Rattle.hdl_law.specs.Ways.{Way}
+use Rattle.hdl_plans.specs.Ways.{Way}
 use Rattle.hdl_loops.specs.Inner.Hops.{bit, HasHop}
 use Rattle.hdl_loops.specs.declared.hops.Hop.{Hop}
 use Rattle.hdl_loops.proofs.circle.circle_anywhere.Given as goal

@@ -2,7 +2,7 @@ use Rattle.std.proofs.Common.{◌≡◌, true, false, Option, sym, subst, ◌∙
 use Rattle.std.specs.Prelude.{MatchOption}
 use Rattle.std.specs.declared.vec.Vec.{Vec}
 use Rattle.std.specs.declared.alloc.Global.{Global}
-use Rattle.hdl_law.specs.Loops.{BitAt}
+use Rattle.hdl_plans.specs.Loops.{BitAt}
 use Rattle.hdl_loops.specs.Inner.Hops.{bit, IsWay}
 use Rattle.hdl_loops.specs.Inner.Trees.{is_marked}
 use Rattle.hdl_loops.specs.declared.hops.Hop.{Hop}

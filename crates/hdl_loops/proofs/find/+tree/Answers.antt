@@ -5,8 +5,8 @@ use Rattle.std.proofs.lemmas.Result.{IfOk-weaker}
 use Rattle.hdl_tree.specs.declared.tree.Part.{Part}
 use Rattle.hdl_tree.specs.declared.library.Entry.{Entry}
 use Rattle.hdl_tree.specs.Chips.{end_of}
-use Rattle.hdl_elab.proofs.Stages.{entry_there}
-use Rattle.hdl_elab.specs.Whole.{chips_in}
+use Rattle.hdl_check.proofs.Stages.{entry_there}
+use Rattle.hdl_check.specs.Whole.{chips_in}
 use Rattle.hdl_loops.specs.Inner.Knowing.{PartDone, PartsDone}
 use Rattle.hdl_loops.specs.Inner.Looked.{TellsLoop, PartTells}
 use Rattle.hdl_loops.proofs.Outward.{part_loop, place_tells}

@@ -1,7 +1,7 @@
 use Rattle.std.proofs.Common.{◌≡◌, ℕ, ◌+◌, ◌*◌, ◌<◌, Some}
 use Rattle.std.specs.Prelude.{slice_get}
 use Rattle.hdl_tree.specs.declared.tree.Part.{Part}
-use Rattle.hdl_elab.specs.Whole.{chips_in}
+use Rattle.hdl_check.specs.Whole.{chips_in}
 use Rattle.hdl_loops.specs.Inner.Knowing.{AreKnown, StaysKnown, PartDone}
 use Rattle.hdl_loops.proofs.find.+tree.Given as goal
 

@@ -1,10 +1,10 @@
 use Rattle.std.proofs.Common.{◌≡◌, length, Some, refl, subst}
 use Rattle.std.specs.Prelude.{slice_get}
 use Rattle.std.proofs.lemmas.Option.{slice_get_read}
-use Rattle.hdl_elab.specs.Whole.{chips_in}
+use Rattle.hdl_check.specs.Whole.{chips_in}
 use Rattle.hdl_loops.specs.Inner.Knowing.{IsRight}
 use Rattle.hdl_loops.specs.Inner.Looked.{LooksRight}
-use Rattle.hdl_law.specs.Loops.{IsLoop}
+use Rattle.hdl_plans.specs.Loops.{IsLoop}
 use Rattle.hdl_loops.proofs.Noting.{known_more}
 use Rattle.hdl_loops.proofs.find.find_here.Goals as goal
 

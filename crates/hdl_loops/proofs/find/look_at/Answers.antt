@@ -3,8 +3,8 @@ use Rattle.std.specs.Prelude.{MatchOption}
 use Rattle.std.specs.declared.vec.Vec.{Vec}
 use Rattle.std.specs.declared.alloc.Global.{Global}
 use Rattle.hdl_tree.specs.declared.tree.Part.{Part}
-use Rattle.hdl_elab.specs.Whole.{chips_in}
-use Rattle.hdl_law.specs.Loops.{IsLoop}
+use Rattle.hdl_check.specs.Whole.{chips_in}
+use Rattle.hdl_plans.specs.Loops.{IsLoop}
 use Rattle.hdl_loops.specs.Inner.Hops.{NoRound}
 use Rattle.hdl_loops.specs.Inner.Ties.{gather}
 use Rattle.hdl_loops.specs.Inner.Trees.{AreTrees}

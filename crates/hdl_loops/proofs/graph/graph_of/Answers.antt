@@ -1,7 +1,7 @@
 use Rattle.std.proofs.Common.{◌≡◌, [], length, Some, refl, arith}
 use Rattle.std.specs.Prelude.{slice_get}
 use Rattle.std.proofs.lemmas.Option.{slice_get_read}
-use Rattle.hdl_elab.specs.Whole.{chips_in}
+use Rattle.hdl_check.specs.Whole.{chips_in}
 use Rattle.hdl_loops.specs.Inner.Knowing.{leaps_of, part_leaps}
 use Rattle.hdl_loops.proofs.Lists.{gather_step, gather_done}
 use Rattle.hdl_loops.proofs.graph.graph_of.Goals as goal

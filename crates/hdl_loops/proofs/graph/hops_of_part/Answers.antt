@@ -1,5 +1,5 @@
 use Rattle.std.proofs.Common.{◌++◌, ℕ, Option, sym, ap, ◌∙◌, append-nil}
-use Rattle.hdl_elab.specs.Whole.{chips_in}
+use Rattle.hdl_check.specs.Whole.{chips_in}
 use Rattle.hdl_loops.specs.Inner.Knowing.{leaps_of, leaps_at, place_of}
 use Rattle.hdl_loops.proofs.graph.hops_of_part.Goals as goal
 

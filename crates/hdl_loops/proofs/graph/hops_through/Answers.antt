@@ -1,5 +1,5 @@
 use Rattle.std.proofs.Common.{◌≡◌, length, sym, append-nil, arith}
-use Rattle.hdl_elab.specs.Whole.{chips_in}
+use Rattle.hdl_check.specs.Whole.{chips_in}
 use Rattle.hdl_loops.specs.Inner.Ties.{tie_of, ties_of}
 use Rattle.hdl_loops.specs.Inner.Knowing.{leaps_of, leaps_from}
 use Rattle.hdl_loops.proofs.Lists.{item_step, gather_done, map_long}

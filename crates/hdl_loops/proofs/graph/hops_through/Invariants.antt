@@ -1,5 +1,5 @@
 use Rattle.std.proofs.Common.{◌≡◌, ◌++◌}
-use Rattle.hdl_elab.specs.Whole.{chips_in}
+use Rattle.hdl_check.specs.Whole.{chips_in}
 use Rattle.hdl_loops.specs.Inner.Ties.{ties_of, gather_first}
 use Rattle.hdl_loops.specs.Inner.Knowing.{leaps_of, leaps_from}
 use Rattle.hdl_loops.proofs.graph.hops_through.Given as goal

@@ -1,5 +1,5 @@
 use Rattle.std.proofs.Common.{List, ℕ, [], subst, below_more}
-use Rattle.hdl_law.specs.Loops.{bit_at}
+use Rattle.hdl_plans.specs.Loops.{bit_at}
 use Rattle.hdl_loops.specs.Inner.Trees.{HasTree}
 use Rattle.hdl_loops.proofs.Inserting.{keeps_on}
 use Rattle.hdl_loops.proofs.known.add_pin.Goals as goal

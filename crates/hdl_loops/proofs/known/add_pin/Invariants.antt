@@ -1,5 +1,5 @@
 use Rattle.std.proofs.Common.{ℕ, ◌<◌, []}
-use Rattle.hdl_law.specs.Loops.{bit_at}
+use Rattle.hdl_plans.specs.Loops.{bit_at}
 use Rattle.hdl_loops.specs.Inner.Trees.{AreTrees, HasTree, KeepsTrees}
 use Rattle.hdl_loops.proofs.known.add_pin.Given as goal
 

@@ -2,7 +2,7 @@ use Rattle.std.proofs.Common.{◌≡◌, ℕ, ◌<◌, [], List, length, ap, sub
 use Rattle.std.proofs.lemmas.Option.{slice_get_within}
 use Rattle.hdl_tree.specs.declared.tree.Pin.{Pin}
 use Rattle.hdl_tree.specs.Chips.{pin_width}
-use Rattle.hdl_law.specs.Loops.{bit_at}
+use Rattle.hdl_plans.specs.Loops.{bit_at}
 use Rattle.hdl_loops.specs.Inner.Trees.{HasTree}
 use Rattle.hdl_loops.proofs.Lists.{item_is}
 use Rattle.hdl_loops.proofs.PinsOf.{pin_of_bit}

@@ -2,7 +2,7 @@ use Rattle.std.proofs.Common.{◌≡◌, ℕ, ◌<◌, Some, []}
 use Rattle.std.specs.Prelude.{slice_get}
 use Rattle.hdl_tree.specs.Chips.{pin_width}
 use Rattle.hdl_tree.specs.declared.tree.Pin.{Pin}
-use Rattle.hdl_law.specs.Loops.{bit_at}
+use Rattle.hdl_plans.specs.Loops.{bit_at}
 use Rattle.hdl_loops.specs.Inner.Trees.{AreTrees, HasTree}
 use Rattle.hdl_loops.proofs.known.trees_of.Given as goal
 

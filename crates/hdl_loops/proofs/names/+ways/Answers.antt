@@ -4,7 +4,7 @@ use Rattle.std.proofs.lemmas.Option.{slice_get_read, slice_get_within}
 use Rattle.std.proofs.lemmas.Result.{on_ok_weaker}
 use Rattle.hdl_tree.specs.declared.library.Entry.{Entry}
 use Rattle.hdl_tree.specs.Chips.{end_of}
-use Rattle.hdl_elab.specs.Whole.{chips_in}
+use Rattle.hdl_check.specs.Whole.{chips_in}
 use Rattle.hdl_loops.specs.Inner.Hops.{input_of, output_of, AreJoined}
 use Rattle.hdl_loops.specs.Inner.Told.{TellsThrough, ToldTo}
 use Rattle.hdl_loops.specs.Inner.Knowing.{AreHops}

@@ -1,5 +1,5 @@
 use Rattle.std.proofs.Common.{◌+◌, ◌*◌}
-use Rattle.hdl_elab.specs.Whole.{chips_in}
+use Rattle.hdl_check.specs.Whole.{chips_in}
 use Rattle.hdl_loops.specs.Inner.Told.{AreTold, ToldTo}
 use Rattle.hdl_loops.proofs.names.+ways.Given as goal
 

@@ -1,7 +1,7 @@
 use Rattle.std.proofs.Common.{◌<◌, [], ◌∷◌, length, List, refl, sym, subst}
 use Rattle.std.proofs.lemmas.Result.{on_ok_weaker}
-use Rattle.hdl_elab.specs.Whole.{chips_in}
-use Rattle.hdl_law.specs.Loops.{IsLoop}
+use Rattle.hdl_check.specs.Whole.{chips_in}
+use Rattle.hdl_plans.specs.Loops.{IsLoop}
 use Rattle.hdl_loops.specs.Inner.Hops.{bit, AreJoined}
 use Rattle.hdl_loops.specs.Inner.Knowing.{AreHops}
 use Rattle.hdl_loops.specs.Inner.Told.{names_of, ToldTo}

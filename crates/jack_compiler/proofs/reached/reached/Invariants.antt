@@ -1,5 +1,5 @@
 use Rattle.std.proofs.Common.{◌+◌, ◌*◌, length}
-use Rattle.vm_link.specs.Marks.{unmarked}
+use Rattle.vm_link.specs.Marks.{unmarked_count}
 use Rattle.jack_core.specs.Texts.{the_program}
 use Rattle.jack_compiler.specs.Inner.Searched.{Looks}
 use Rattle.jack_compiler.proofs.reached.reached.Given as goal
@@ -8,4 +8,4 @@ abbrev pub invariant-waiting : goal.invariant-waiting
 invariant-waiting l = Looks (the_program l.core) l.search.marks.items l.search.waiting.items
 
 abbrev pub decreases-waiting : goal.decreases-waiting
-decreases-waiting l = 2 * unmarked l.search.marks.items + length l.search.waiting.items
+decreases-waiting l = 2 * unmarked_count l.search.marks.items + length l.search.waiting.items

@@ -2,14 +2,14 @@
 use Rattle.std.proofs.Common.{refl, ap, ◌∙◌, subst}
 use Rattle.word16.specs.Words.{word_add}
 use Rattle.jack_core.specs.declared.tree.Part.TheVariants as part
-use Rattle.jack_machine.specs.Looks.{the_view, passed, Loads}
+use Rattle.jack_machine.specs.Looks.{the_view, passed_values, Loads}
 use Rattle.jack_machine.proofs.Sights.{sees_load, sees_call, no_call}
 use Rattle.jack_machine.proofs.looking.look_at.Goals as goal
 
 pub returns-in-Field-clause-sees : goal.returns-in-Field-clause-sees
 returns-in-Field-clause-sees c key =
     let l = subst (λ a. Loads (the_view c.args.variables.now c.args.memory.now key) a c.load.result) c.add.ensures (c.load.ensures (the_view c.args.variables.now c.args.memory.now key) refl) in
-    rw c.in-Field.is (l.move (passed (part.Field c.in-Field.k) c.args.values.now))
+    rw c.in-Field.is (l.move (passed_values (part.Field c.in-Field.k) c.args.values.now))
 
 pub returns-in-Load-clause-sees : goal.returns-in-Load-clause-sees
 returns-in-Load-clause-sees c key =

@@ -1,6 +1,6 @@
 use Rattle.std.proofs.Common.{◌++◌, sym, ap, ◌∙◌, Ok, Err, arith}
 use Rattle.std.proofs.lemmas.Result.{err_from_is_err_and}
-use Rattle.jack_tree.specs.Seen.{unboxed}
+use Rattle.jack_tree.specs.Seen.{unbox}
 use Rattle.jack_names.specs.Inner.Uses.{Variable, exp_uses, optional_uses, statement_uses, statements_uses}
 use Rattle.jack_names.specs.Inner.Scopes.{use_fault, first_fault}
 use Rattle.jack_names.specs.Inner.Scoped.{the_scope}
@@ -14,15 +14,15 @@ check_statement-returns-in_err-check_index-in-Let t c =
     let s = the_scope c.args.scope.now in
     let p = err_from_is_err_and c.from_residual-in_err-check_index-in-Let.result c.from_residual-in_err-check_index-in-Let.ensures.1 in
     rw (p.1, p.2) (as_uses s _ _ (Err c.in_err-check_index-in-Let.field-0.0) (ap statement_uses c.in-Let.is)
-    (in_second (use_fault s (Variable c.in-Let.name)) (first_fault s (optional_uses (unboxed c.in-Let.index) ++ exp_uses c.in-Let.value)) (Err c.in_err-check_index-in-Let.field-0.0) c.in_ok-check_variable-in-Let.ensures
-    (uses_first s (optional_uses (unboxed c.in-Let.index)) (exp_uses c.in-Let.value) _ c.in_err-check_index-in-Let.ensures)))
+    (in_second (use_fault s (Variable c.in-Let.name)) (first_fault s (optional_uses (unbox c.in-Let.index) ++ exp_uses c.in-Let.value)) (Err c.in_err-check_index-in-Let.field-0.0) c.in_ok-check_variable-in-Let.ensures
+    (uses_first s (optional_uses (unbox c.in-Let.index)) (exp_uses c.in-Let.value) _ c.in_err-check_index-in-Let.ensures)))
 
 pub check_statement-returns-in_ok-check_index-in-Let : goal.check_statement-returns-in_ok-check_index-in-Let
 check_statement-returns-in_ok-check_index-in-Let t c =
     let s = the_scope c.args.scope.now in
     as_uses s _ _ _ (ap statement_uses c.in-Let.is)
-    (in_second (use_fault s (Variable c.in-Let.name)) (first_fault s (optional_uses (unboxed c.in-Let.index) ++ exp_uses c.in-Let.value)) _ c.in_ok-check_variable-in-Let.ensures
-    (uses_second s (optional_uses (unboxed c.in-Let.index)) (exp_uses c.in-Let.value) _ c.in_ok-check_index-in-Let.ensures c.check_expression.ensures))
+    (in_second (use_fault s (Variable c.in-Let.name)) (first_fault s (optional_uses (unbox c.in-Let.index) ++ exp_uses c.in-Let.value)) _ c.in_ok-check_variable-in-Let.ensures
+    (uses_second s (optional_uses (unbox c.in-Let.index)) (exp_uses c.in-Let.value) _ c.in_ok-check_index-in-Let.ensures c.check_expression.ensures))
 
 pub check_statement-returns-in_err-check_expression-in-If : goal.check_statement-returns-in_err-check_expression-in-If
 check_statement-returns-in_err-check_expression-in-If t c =

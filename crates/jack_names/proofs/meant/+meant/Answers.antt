@@ -6,10 +6,10 @@ use Rattle.std.proofs.lemmas.Grind.{common_steps}
 use Rattle.jack_meaning.specs.Text as meaning
 use Rattle.jack_tree.specs.declared.tree.Call.{out-Call}
 use Rattle.jack_tree.specs.declared.tree.Expression.{out-Expression}
-use Rattle.jack_core.specs.Reading.{made, the_sign}
+use Rattle.jack_core.specs.Reading.{make_expression, the_sign}
 use Rattle.jack_core.specs.declared.tree.Part.TheVariants as part
 use Rattle.jack_names.specs.Inner.Scopes.{callee}
-use Rattle.jack_names.specs.Inner.Meant.{exp_meant, term_meant, binary_meant, operation_meant, called_number, variable_meant, sign_meant, invoked, grouped, arguments_meant, call_meant}
+use Rattle.jack_names.specs.Inner.Meant.{exp_meant, term_meant, binary_meant, operation_meant, called_number, variable_meant, sign_meant, invocation, grouped_operations, arguments_meant, call_meant}
 use Rattle.jack_names.specs.Inner.Scoped.{the_scope}
 use Rattle.jack_names.specs.Inner.Pushed.{object_meant}
 use Rattle.jack_names.proofs.Meanings.{call_means, exp_means, grouped_more}
@@ -30,7 +30,7 @@ push_operations-loop-operation-preserved t c =
     let os = c.args.operations.now in
     let i = c.loop-operation.operation-index in
     let o = c.operation-item.result in
-    turned (λ e. grouped s e (take i os)) (λ e. operation_meant s e o) (λ e. grouped s e (take (i + 1) os)) c.args.parts.now.items c.loop-operation.parts.items c.push_operation.new.parts.items
+    turned (λ e. grouped_operations s e (take i os)) (λ e. operation_meant s e o) (λ e. grouped_operations s e (take (i + 1) os)) c.args.parts.now.items c.loop-operation.parts.items c.push_operation.new.parts.items
     (λ e. sym (grouped_more s e os i o c.loop-operation-test.true c.operation-item.is)) c.loop-operation.invariant c.in_ok-push_operation.ensures
 
 pub push_operations-returns : goal.push_operations-returns
@@ -38,7 +38,7 @@ push_operations-returns t c =
     let s = the_scope c.args.scope.now in
     let os = c.args.operations.now in
     let i = c.loop-operation.operation-index in
-    turned_as (λ e. grouped s e (take i os)) (λ e. grouped s e os) c.args.parts.now.items c.loop-operation.parts.items (λ e. ap (grouped s e) (take_all i os (omega arith))) c.loop-operation.invariant
+    turned_as (λ e. grouped_operations s e (take i os)) (λ e. grouped_operations s e os) c.args.parts.now.items c.loop-operation.parts.items (λ e. ap (grouped_operations s e) (take_all i os (omega arith))) c.loop-operation.invariant
 
 pub push_expression-returns : goal.push_expression-returns
 push_expression-returns t c =
@@ -46,9 +46,9 @@ push_expression-returns t c =
     let e = c.args.e.now in
     let first = term_meant s (out-Expression e).first in
     let os = c.deref.result.now in
-    let same : grouped s first os ≡ exp_meant s e = ap (grouped s first) c.deref.ensures.value ∙ sym (exp_means s e) in
+    let same : grouped_operations s first os ≡ exp_meant s e = ap (grouped_operations s first) c.deref.ensures.value ∙ sym (exp_means s e) in
     on_ok_weaker c.push_operations.result
-    (λ goes. added_as (grouped s first os) (exp_meant s e) c.args.parts.now.items c.push_operations.new.parts.items same (added_turned first (λ x. grouped s x os) c.args.parts.now.items c.push_term.new.parts.items c.push_operations.new.parts.items c.in_ok-push_term.ensures goes))
+    (λ goes. added_as (grouped_operations s first os) (exp_meant s e) c.args.parts.now.items c.push_operations.new.parts.items same (added_turned first (λ x. grouped_operations s x os) c.args.parts.now.items c.push_term.new.parts.items c.push_operations.new.parts.items c.in_ok-push_term.ensures goes))
     c.push_operations.ensures
 
 pub push_call-returns : goal.push_call-returns
@@ -60,9 +60,9 @@ push_call-returns t c =
     let args = map (exp_meant s) c.deref.result.now in
     let number : c.called_number-number.result ≡ called_number s k.name.text (callee s k.object) = cc in
     let count : c.in_ok-arguments.arguments ≡ length (object_meant s k.object) + length args = omega (arith, c.in_ok-arguments.ensures, c.in_ok-objects.ensures.count, c.len.ensures, c.deref.ensures.len, length-map c.deref.result.now (exp_meant s), ap length c.deref.ensures.value) in
-    let same : invoked s k.object k.name (arguments_meant s c.deref.result.now) ≡ call_meant s c.args.call.now = ap (λ es. invoked s k.object k.name (arguments_meant s es)) c.deref.ensures.value ∙ sym (call_means s c.args.call.now) in
+    let same : invocation s k.object k.name (arguments_meant s c.deref.result.now) ≡ call_meant s c.args.call.now = ap (λ es. invocation s k.object k.name (arguments_meant s es)) c.deref.ensures.value ∙ sym (call_means s c.args.call.now) in
     on_ok_weaker c.push_part.result
-    (λ last. added_as (invoked s k.object k.name (arguments_meant s c.deref.result.now)) (call_meant s c.args.call.now) old new same
+    (λ last. added_as (invocation s k.object k.name (arguments_meant s c.deref.result.now)) (call_meant s c.args.call.now) old new same
     (called s k.object k.name args c.called_number-number.result c.in_ok-arguments.arguments old c.push_object.new.parts.items c.push_arguments.new.parts.items new c.in_ok-objects.ensures.parts c.in_ok-push_arguments.ensures number count last))
     c.push_part.ensures
 
@@ -73,7 +73,7 @@ push_term-returns-in_ok-push_expression-in-Element t c =
     let middle = c.push_value-in-Element.new.parts.items in
     let full = c.push_expression.new.parts.items in
     let new = c.push_part.new.parts.items in
-    let base = made c.variable_part-in-Element.result [] in
+    let base = make_expression c.variable_part-in-Element.result [] in
     let index = exp_meant s c.deref.result.now in
     let same : meaning.Load base index ≡ term_meant s c.args.term.now =
     ap (λ a. meaning.Load a index) c.variable_part-in-Element.ensures.made ∙ ap (λ e. meaning.Load (variable_meant s c.in-Element.name) (exp_meant s e)) c.deref.ensures ∙ ap (term_meant s) (sym c.in-Element.is) in

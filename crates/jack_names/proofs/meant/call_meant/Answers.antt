@@ -1,7 +1,7 @@
 -- The parts are added to none.
 use Rattle.std.proofs.Common.{ap, ◌∙◌, []}
 use Rattle.jack_core.specs.Heights.{height}
-use Rattle.jack_core.specs.Reading.{built, operand}
+use Rattle.jack_core.specs.Reading.{build_expressions, operand}
 use Rattle.jack_names.specs.Inner.Meant.{call_meant}
 use Rattle.jack_names.specs.Inner.Scoped.{the_scope}
 use Rattle.jack_names.proofs.Pushing.{alone, means}
@@ -13,5 +13,5 @@ invariant_of-result c = record { one = ap (height 0) c.shrink_to_fit.ensures.ite
 pub returns : goal.returns
 returns c =
     let e = call_meant (the_scope c.args.scope.now) c.args.call.now in
-    ap (λ ps. operand 0 (built [] ps)) c.shrink_to_fit.ensures.items
+    ap (λ ps. operand 0 (build_expressions [] ps)) c.shrink_to_fit.ensures.items
     ∙ means e c.push_call.new.parts.items (alone e c.in_ok-parts.parts.items c.push_call.new.parts.items c.in_ok-parts.ensures.items c.in_ok-push_call.ensures)

@@ -3,7 +3,7 @@ use Rattle.std.proofs.Common.{◌≡◌, refl}
 use Rattle.std.proofs.lemmas.Result.{on_ok_weaker}
 use Rattle.jack_meaning.specs.Text as meaning
 use Rattle.jack_core.specs.declared.tree.Part.TheVariants as part
-use Rattle.jack_names.specs.Made.{filled, one}
+use Rattle.jack_names.specs.Made.{filled_characters, one}
 use Rattle.jack_names.specs.Inner.Meant.{string_meant}
 use Rattle.jack_names.specs.Inner.Scoped.{the_scope}
 use Rattle.jack_names.proofs.Pushing.{added_as, added_turned, turns}
@@ -19,8 +19,8 @@ returns c =
     let g = c.made_number-new.result in
     let append = c.made_number-append.result in
     let n = meaning.Literal c.length_word.result in
-    let same : filled append (meaning.Call g (one n)) text ≡ string_meant (the_scope c.args.scope.now) text = cc in
+    let same : filled_characters append (meaning.Call g (one n)) text ≡ string_meant (the_scope c.args.scope.now) text = cc in
     let made = added_turned n (λ e. meaning.Call g (one e)) old middle full c.in_ok-push_value.ensures (turns (part.Call 1 g) (λ e. meaning.Call g (one e)) middle full refl (λ e. refl) c.in_ok-push_part.ensures) in
     on_ok_weaker c.push_bytes.result
-    (λ fills. added_as (filled append (meaning.Call g (one n)) text) (string_meant (the_scope c.args.scope.now) text) old new same (added_turned (meaning.Call g (one n)) (λ e. filled append e text) old full new made fills))
+    (λ fills. added_as (filled_characters append (meaning.Call g (one n)) text) (string_meant (the_scope c.args.scope.now) text) old new same (added_turned (meaning.Call g (one n)) (λ e. filled_characters append e text) old full new made fills))
     c.push_bytes.ensures

@@ -1,5 +1,5 @@
 use Rattle.std.proofs.Common.{◌≡◌, ◌<◌, ◌≤◌, ◌+◌, ◌*◌, length, map, Ok}
-use Rattle.grammar.specs.Rules.{name, repeat, here, Node, Pair, listed}
+use Rattle.grammar.specs.Rules.{name, repeat, here, Node, Pair, tree_of_list}
 use Rattle.grammar.proofs.Continues.{Continues}
 use Rattle.jack_tree.specs.Tokens.{Word, view}
 use Rattle.jack_parser.specs.declared.counts.Counts.{Counts}
@@ -34,7 +34,7 @@ decreases-variable l = 5 * length l.tokens.now
 
 abbrev pub invariant-expression-operators : goal.invariant-expression-operators
 invariant-expression-operators l = record {
-  so_far : Continues Word Counts Part Said (jack l.end) (name expression) l.counts (map view l.tokens) (λ x. Node (Pair (term_tree l.first) (listed operation_tree l.operations.items x))) (repeat operation) l.counts (map view l.rest);
+  so_far : Continues Word Counts Part Said (jack l.end) (name expression) l.counts (map view l.tokens) (λ x. Node (Pair (term_tree l.first) (tree_of_list operation_tree l.operations.items x))) (repeat operation) l.counts (map view l.rest);
   shorter : length l.rest < length l.tokens;
 }
 

@@ -4,7 +4,7 @@ use Rattle.std.specs.Str.{bytes_eq}
 use Rattle.std.proofs.lemmas.Slice.Eq.{bytes_eq-Decides}
 use Rattle.jack_tree.specs.declared.token.Keyword.{Keyword}
 use Rattle.jack_tree.specs.declared.token.Keyword.TheVariants as keyword
-use Rattle.jack_tree.specs.Tokens.{keyword_text, keyword_of, spelled, statement_keywords, constant_keywords, type_keywords, declaring_keywords, statement_keyword_of, constant_keyword_of, type_keyword_of}
+use Rattle.jack_tree.specs.Tokens.{keyword_text, keyword_of, keyword_spelled, statement_keywords, constant_keywords, type_keywords, declaring_keywords, statement_keyword_of, constant_keyword_of, type_keyword_of}
 use Rattle.jack_parser.proofs.laws.keyword_law.Goals as goal
 
 has_text : (k : Keyword) → keyword_of (keyword_text k) ≡ Some k
@@ -37,9 +37,9 @@ first_by : (j : Keyword) (text : List ℕ) (o : Option Keyword) (t : Bool) → b
 first_by j text o true e h k f = let same : j ≡ k = cc in (bytes_eq-Decides text (keyword_text j)).0 e ∙ ap keyword_text same
 first_by j text o false e h k f = h k f
 
-spelled_finds : (ks : List Keyword) (others : Option Keyword) (text : List ℕ) → Finds others text → Finds (spelled ks others text) text
+spelled_finds : (ks : List Keyword) (others : Option Keyword) (text : List ℕ) → Finds others text → Finds (keyword_spelled ks others text) text
 spelled_finds [] others text h = h
-spelled_finds (j ∷ ks) others text h = first_by j text (spelled ks others text) (bytes_eq text (keyword_text j)) refl (spelled_finds ks others text h)
+spelled_finds (j ∷ ks) others text h = first_by j text (keyword_spelled ks others text) (bytes_eq text (keyword_text j)) refl (spelled_finds ks others text h)
 
 none_finds : (text : List ℕ) → Finds None text
 none_finds text k e = absurd cc

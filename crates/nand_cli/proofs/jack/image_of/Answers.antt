@@ -6,5 +6,5 @@ use Rattle.nand_cli.proofs.jack.image_of.Goals as goal
 
 pub returns-in-Err : goal.returns-in-Err
 returns-in-Err c =
-    let P : Option Message → Type 0 = λ o. TellsOf c.args.folder.now o c.told-in-Err.result in
-    unbuilt_told c.args.folder.now c.args.core.now c.in-Err.error _ c.in-Err.ensures (subst P c.told.ensures c.told-in-Err.ensures)
+    let P : Option Message → Type 0 = λ o. TellsOf c.args.folder.now o c.of_diagnostic.result in
+    unbuilt_told c.args.folder.now c.args.core.now c.in-Err.error _ c.in-Err.ensures (subst P c.diagnostic.ensures c.of_diagnostic.ensures)

@@ -1,7 +1,7 @@
 use Rattle.std.proofs.Common.{◌≡◌, ◌++◌, drop}
-use Rattle.vm_link.specs.Marks.{selected}
+use Rattle.vm_link.specs.Marks.{selected_sections}
 use Rattle.vm_link.specs.Maps.{all_seen}
 use Rattle.vm_link.proofs.keep.select.Given as goal
 
 abbrev pub invariant-loop-place : goal.invariant-loop-place
-invariant-loop-place l = all_seen l.kept.items ++ selected (drop l.place l.marks) (all_seen (drop l.place l.parts)) ≡ selected l.marks (all_seen l.parts)
+invariant-loop-place l = all_seen l.kept.items ++ selected_sections (drop l.place l.marks) (all_seen (drop l.place l.parts)) ≡ selected_sections l.marks (all_seen l.parts)

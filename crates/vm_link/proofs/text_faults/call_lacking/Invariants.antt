@@ -1,9 +1,9 @@
 use Rattle.std.proofs.Common.{◌≡◌, drop}
-use Rattle.vm_link.specs.Sections.{called}
+use Rattle.vm_link.specs.Sections.{called_name}
 use Rattle.vm_link.specs.Faults.{first_of, lacking}
 use Rattle.vm_link.specs.Maps.{has_number}
 use Rattle.vm_link.proofs.text_faults.call_lacking.Given as goal
 
 abbrev pub invariant-loop-line : goal.invariant-loop-line
-invariant-loop-line l = first_of (λ x. lacking (has_number l.numbers) (called x.command)) (drop l.line-index l.lines)
-    ≡ first_of (λ x. lacking (has_number l.numbers) (called x.command)) l.lines
+invariant-loop-line l = first_of (λ x. lacking (has_number l.numbers) (called_name x.command)) (drop l.line-index l.lines)
+    ≡ first_of (λ x. lacking (has_number l.numbers) (called_name x.command)) l.lines

@@ -1,5 +1,5 @@
 use Rattle.std.proofs.Common.{sym, ap, ◌∙◌}
-use Rattle.vm_machine.specs.Step.{ended}
+use Rattle.vm_machine.specs.Step.{end_outcome}
 use Rattle.vm_machine.specs.Moves.{answer_of}
 use Rattle.vm_machine.proofs.Histories.{step_made, end_made}
 use Rattle.vm_machine.proofs.vm.proceed.Goals as goal
@@ -10,4 +10,4 @@ returns-in-Some-clause-makes c = step_made c.args.linked.now c.args.key c.args.m
 pub returns-in-None-clause-makes : goal.returns-in-None-clause-makes
 returns-in-None-clause-makes c =
     end_made c.args.linked.now c.args.key c.args.machine.now.stack c.args.machine.now.memory _ (sym c.in-None.is ∙ c.fetch.ensures.code)
-    (c.ended.ensures ∙ ap (λ k. answer_of (ended k)) c.function.ensures)
+    (c.ended.ensures ∙ ap (λ k. answer_of (end_outcome k)) c.function.ensures)

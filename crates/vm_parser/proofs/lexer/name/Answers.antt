@@ -17,4 +17,4 @@ returns-in-Ok c =
 pub returns-in-Err : goal.returns-in-Err
 returns-in-Err c =
     let text = c.take_while-bytes.ensures.text is_name_byte (λ b r lt h. search (rules, h)) in
-    absurd (c.in-Err.ensures.cases.0 (names_are_utf8 (view.left c.args.scan.now) c.take_while-bytes.result.now text))
+    absurd (c.in-Err.ensures.cases.0 (names_are_utf8 (view.left_bytes c.args.scan.now) c.take_while-bytes.result.now text))

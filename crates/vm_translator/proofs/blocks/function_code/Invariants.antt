@@ -1,5 +1,5 @@
 use Rattle.std.proofs.Common.{◌≡◌, ◌-◌, ◌++◌}
-use Rattle.hack_blocks.specs.Templates.{function_code}
+use Rattle.vm_templates.specs.Templates.{function_code}
 use Rattle.vm_translator.proofs.blocks.function_code.Given as goal
 
 abbrev pub invariant-loop-local : goal.invariant-loop-local

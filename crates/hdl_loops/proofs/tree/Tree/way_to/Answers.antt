@@ -1,6 +1,6 @@
 use Rattle.std.proofs.Common.{List, reverse, sym, subst}
 use Rattle.std.proofs.lemmas.Option.{slice_get_within}
-use Rattle.hdl_law.specs.Loops.{BitAt}
+use Rattle.hdl_plans.specs.Loops.{BitAt}
 use Rattle.hdl_loops.specs.Inner.Hops.{bit, IsWay}
 use Rattle.hdl_loops.specs.declared.hops.Hop.{Hop}
 use Rattle.hdl_loops.proofs.tree.Tree.way_to.Goals as goal

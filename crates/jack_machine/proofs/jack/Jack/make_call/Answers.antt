@@ -8,7 +8,7 @@ use Rattle.jack_core.specs.declared.tree.Part.TheVariants as part
 use Rattle.jack_core.specs.Texts.{the_program}
 use Rattle.jack_meaning.specs.Meaning.{new_frame}
 use Rattle.jack_machine.specs.Frames.{the_frame}
-use Rattle.jack_machine.specs.Looks.{passed}
+use Rattle.jack_machine.specs.Looks.{passed_values}
 use Rattle.jack_machine.specs.Machine.{the_stack}
 use Rattle.jack_machine.proofs.Fitting.{has_operands}
 use Rattle.jack_machine.proofs.Reaching.{same_reached, on_either}
@@ -32,7 +32,7 @@ invariant_of-self c =
     let n = c.args.n in
     let subs = the_subroutines j.core.now in
     let values = j.top.text.front.values.items in
-    let frame : the_frame c.in_ok-entered.entered ≡ new_frame (the_subroutines c.args.self.now.core.now) c.args.g (passed (part.Call c.args.n c.args.g) c.args.self.now.top.text.front.values.items) =
+    let frame : the_frame c.in_ok-entered.entered ≡ new_frame (the_subroutines c.args.self.now.core.now) c.args.g (passed_values (part.Call c.args.n c.args.g) c.args.self.now.top.text.front.values.items) =
     c.in_ok-entered.ensures ∙ ap (λ z. new_frame (map the_subroutine z) c.args.g c.in_ok-arguments.arguments.items) c.deref-2.ensures.value
     ∙ ap (new_frame (the_subroutines c.args.self.now.core.now) c.args.g) (c.in_ok-arguments.ensures ∙ ap (λ z. drop (length z - c.args.n) z) c.deref.ensures.value) in record {
       there = j.there;

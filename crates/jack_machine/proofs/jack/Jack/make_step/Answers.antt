@@ -1,10 +1,10 @@
 -- The step, by what the top frame did.
 use Rattle.std.proofs.Common.{true, false, refl, sym, ap, ◌∙◌, subst}
 use Rattle.std.proofs.Math.Logic.{∥∥₁_map}
-use Rattle.jack_meaning.specs.Meaning.{Acts, returned}
+use Rattle.jack_meaning.specs.Meaning.{Acts, after_return}
 use Rattle.jack_core.specs.Texts.{the_program, the_subroutines}
 use Rattle.jack_core.specs.declared.tree.Part.TheVariants as part
-use Rattle.jack_machine.specs.Frames.{the_frame, the_state, called, IsNext}
+use Rattle.jack_machine.specs.Frames.{the_frame, the_state, called_state, IsNext}
 use Rattle.jack_machine.specs.Machine.{the_stack}
 use Rattle.jack_machine.specs.Whole.{IsSame, jack_state}
 use Rattle.jack_machine.specs.Inner.Reached.{AreReached}
@@ -36,7 +36,7 @@ make_call-requires-clause-reached c =
     let t = rw c.in-Calls.is at (c.in_ok-step_top.ensures.done subs below) in
     ∥∥₁_map j.reached
     (λ h. subst (λ s. AreReached (the_program j.core.now) s.frames) (left_called subs j.top c.step_top.new.top j.memory c.step_top.new.memory below c.in-Calls.g c.in-Calls.n t.2)
-    (step_reached (the_program j.core.now) j.there c.args.key (jack_state j) (called subs j.top j.memory below c.in-Calls.g c.in-Calls.n) false h t.0))
+    (step_reached (the_program j.core.now) j.there c.args.key (jack_state j) (called_state subs j.top j.memory below c.in-Calls.g c.in-Calls.n) false h t.0))
 
 pub returns-in_ok-make_call-in-Calls-clause-step : goal.returns-in_ok-make_call-in-Calls-clause-step
 returns-in_ok-make_call-in-Calls-clause-step c =
@@ -71,7 +71,7 @@ returns-then-not-leave-clause-step c =
     let memory = c.step_top.new.memory in
     let t = rw c.in-Returns.is at (c.in_ok-step_top.ensures.done (the_subroutines j.core.now) below) in
     let l = rw c.if-not-leave.true at c.leave.ensures in (
-      t.0 ∙ ap (λ b. returned (the_state j.top j.memory below) b c.in-Returns.w) l.0,
+      t.0 ∙ ap (λ b. after_return (the_state j.top j.memory below) b c.in-Returns.w) l.0,
       ap (λ b. the_state c.leave.new.top memory b) (l.1 ∙ sym l.0) ∙ ap (λ f. the_state f memory below) l.2 ∙ left_state j.top c.step_top.new.top j.memory memory below t.1,
     )
 

@@ -12,5 +12,5 @@ returns-in_err-linked-clause-codes c =
 
 pub returns-clause-codes : goal.returns-clause-codes
 returns-clause-codes c =
-    let P : Option Message → Type 0 = λ o. TellsOf c.args.folder.now o c.told-in-Err.result in
-    untranslated c.args.bare c.args.folder.now c.args.program c.in_ok-linked.linked c.in-Err.fault _ c.in_ok-linked.ensures.links c.in-Err.ensures.too_large (subst P c.told.ensures c.told-in-Err.ensures)
+    let P : Option Message → Type 0 = λ o. TellsOf c.args.folder.now o c.of_diagnostic.result in
+    untranslated c.args.bare c.args.folder.now c.args.program c.in_ok-linked.linked c.in-Err.fault _ c.in_ok-linked.ensures.links c.in-Err.ensures.too_large (subst P c.diagnostic.ensures c.of_diagnostic.ensures)

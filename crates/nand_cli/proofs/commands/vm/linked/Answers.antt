@@ -9,5 +9,5 @@ returns-in-Ok-clause-bare c = same_bare c.args.bare c.args.program c.in-Ok.linke
 
 pub returns-in-Err-clause-links : goal.returns-in-Err-clause-links
 returns-in-Err-clause-links c =
-    let P : Option Message → Type 0 = λ o. TellsOf c.args.folder.now o c.told-in-Err.result in
-    unlinked c.args.bare c.args.folder.now c.args.program c.in-Err.fault _ c.in-Err.ensures.links (subst P c.told.ensures c.told-in-Err.ensures)
+    let P : Option Message → Type 0 = λ o. TellsOf c.args.folder.now o c.of_diagnostic.result in
+    unlinked c.args.bare c.args.folder.now c.args.program c.in-Err.fault _ c.in-Err.ensures.links (subst P c.diagnostic.ensures c.of_diagnostic.ensures)

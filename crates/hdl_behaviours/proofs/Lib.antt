@@ -1,0 +1,12 @@
+pub mod Clean
+pub mod Levels
+pub mod Swept
+pub mod Joints
+pub mod Paths
+pub mod Pigeons
+pub mod Sweeps
+pub mod Exists
+pub mod Loopless
+pub mod Rows
+pub mod Sources
+pub mod Traced

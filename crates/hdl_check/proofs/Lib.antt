@@ -1,0 +1,14 @@
+pub mod Entries
+pub mod MarkLemmas
+pub mod Checking
+pub mod Firsts
+pub mod Rows
+pub mod Places
+pub mod Drivers
+pub mod Telling
+pub mod Keeping
+pub mod Entering
+pub mod Stages
+pub mod Fresh
+pub mod Order
+pub mod Tops

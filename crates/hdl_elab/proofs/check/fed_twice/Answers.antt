@@ -1,7 +1,0 @@
-use Rattle.hdl_elab.specs.Tables.{bits_of}
-use Rattle.hdl_elab.proofs.MarkLemmas.{some_marked_is}
-use Rattle.hdl_elab.proofs.Checking.{fed_is}
-use Rattle.hdl_elab.proofs.check.fed_twice.Goals as goal
-
-pub returns : goal.returns
-returns c = λ bits h. cc (some_marked_is c.args.fed.now bits (bits_of c.as_bytes.result.now c.first_bit.result c.count_bits.result) h, fed_is c.args.port c.args.connection.now c.requires)

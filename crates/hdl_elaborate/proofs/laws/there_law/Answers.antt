@@ -1,5 +1,0 @@
-use Rattle.hdl_elaborate.proofs.There.{all_there}
-use Rattle.hdl_elaborate.proofs.laws.there_law.Goals as goal
-
-pub returns : goal.returns
-returns c = all_there

@@ -1,9 +1,0 @@
-pub mod Joints
-pub mod Paths
-pub mod Pigeons
-pub mod Sweeps
-pub mod Exists
-pub mod Loopless
-pub mod Rows
-pub mod Sources
-pub mod Traced

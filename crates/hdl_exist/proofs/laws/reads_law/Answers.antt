@@ -1,5 +1,0 @@
-use Rattle.hdl_exist.proofs.Traced.{reads_loop}
-use Rattle.hdl_exist.proofs.laws.reads_law.Goals as goal
-
-pub returns : goal.returns
-returns c = reads_loop

@@ -1,5 +1,0 @@
-pub mod Existence
-pub mod Loopless
-pub mod Reads
-pub mod Inner
-pub mod Rows

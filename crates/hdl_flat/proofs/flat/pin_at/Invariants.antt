@@ -1,9 +1,0 @@
-use Rattle.std.proofs.Common.{◌≡◌}
-use Rattle.hdl_elab.specs.Tables.{bits_of}
-use Rattle.hdl_flat.specs.Flat.{nodes_at}
-use Rattle.hdl_flat.specs.Inner.Wired.{wires_of}
-use Rattle.hdl_flat.specs.Inner.Putting.{own_nodes}
-use Rattle.hdl_flat.proofs.flat.pin_at.Given as goal
-
-abbrev pub invariant-loop-bit : goal.invariant-loop-bit
-invariant-loop-bit l = l.nodes.items ≡ nodes_at (own_nodes (wires_of l.wires) l.base l.inputs) (bits_of l.pin.name 0 l.bit)

@@ -1,6 +1,0 @@
-use Rattle.std.proofs.Common.{◌≡◌, ◌++◌}
-use Rattle.hdl_flat.specs.Inner.Putting.{pins}
-use Rattle.hdl_flat.proofs.flat.put_pins.Given as goal
-
-abbrev pub invariant-loop-k : goal.invariant-loop-k
-invariant-loop-k l = l.nodes.items ≡ l.fn.nodes.items ++ pins l.k

@@ -1,6 +1,0 @@
-use Rattle.std.proofs.Common.{◌≡◌, map, take}
-use Rattle.hdl_flat.specs.Inner.Wired.{bit_of, wires_of, origins_at}
-use Rattle.hdl_flat.proofs.wires.origins_of.Given as goal
-
-abbrev pub invariant-loop-bit : goal.invariant-loop-bit
-invariant-loop-bit l = l.origins.items ≡ origins_at (wires_of l.wires) (map bit_of (take l.bit-index l.bits))

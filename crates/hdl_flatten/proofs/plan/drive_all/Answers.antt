@@ -1,0 +1,21 @@
+use Rattle.std.proofs.Common.{◌≡◌, List, ◌∷◌, ◌++◌, Option, sym, ap, ◌∙◌}
+use Rattle.hdl_tree.specs.declared.tree.Connection.{Connection}
+use Rattle.hdl_check.specs.Tables.{find_value}
+use Rattle.hdl_check.specs.Inner.Entered.{table_of}
+use Rattle.hdl_check.specs.declared.check.Port.{Port}
+use Rattle.hdl_flatten.specs.Inner.Wired.{wires_of, found_bit}
+use Rattle.hdl_flatten.specs.Inner.Plans.{driven_by, all_driven}
+use Rattle.hdl_flatten.proofs.Planning.{front_more}
+use Rattle.hdl_flatten.proofs.plan.drive_all.Goals as goal
+
+pub loop-connection-preserved : goal.loop-connection-preserved
+loop-connection-preserved c = λ list f name bit.
+    let rest : c.loop-connection.rest.now ≡ c.in-Some.connection.now ∷ c.in-Some.others.now = c.in-Some.ensures.cases.0 in
+    let pin = c.in-Some.connection.now.pin.name in
+    let port : c.find-port.result ≡ find_value pin list = c.find-port.ensures ∙ ap (λ n. find_value n (table_of c.args.ports.now)) c.as_bytes.ensures ∙ f pin in
+    let inner = wires_of c.args.inner.now in
+    let more = all_driven inner c.args.offset list c.in-Some.others.now in
+    front_more (wires_of c.loop-connection.wires) (wires_of c.drive.new.wires) (driven_by inner c.args.offset c.find-port.result c.in-Some.connection.now) more c.in_ok-drive.ensures name bit
+    ∙ ap (λ (o : Option Port). found_bit name bit (wires_of c.loop-connection.wires ++ (driven_by inner c.args.offset o c.in-Some.connection.now ++ more))) port
+    ∙ ap (λ (cs : List Connection). found_bit name bit (wires_of c.loop-connection.wires ++ all_driven inner c.args.offset list cs)) (sym rest)
+    ∙ c.loop-connection.invariant list f name bit

@@ -1,5 +1,0 @@
-use Rattle.hdl_law.proofs.Unjoined.{faultless_plan}
-use Rattle.hdl_law.proofs.laws.plan_law.Goals as goal
-
-pub returns : goal.returns
-returns c = faultless_plan

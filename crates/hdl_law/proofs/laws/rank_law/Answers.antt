@@ -1,5 +1,0 @@
-use Rattle.hdl_law.proofs.Circles.{ordered_no_loop}
-use Rattle.hdl_law.proofs.laws.rank_law.Goals as goal
-
-pub returns : goal.returns
-returns c = ordered_no_loop

@@ -1,5 +1,0 @@
-use Rattle.hdl_shown.proofs.Clean.{clean_faultless}
-use Rattle.hdl_shown.proofs.laws.clean_law.Goals as goal
-
-pub returns : goal.returns
-returns c = clean_faultless

@@ -1,0 +1,4 @@
+use Rattle.script_device.proofs.chip.DrivenChip.set_word.Goals as goal
+
+pub returns-clause-driven : goal.returns-clause-driven
+returns-clause-driven c = λ calls d. record { stands = c.load_block.ensures.stands calls d.stands; cycle = d.cycle; ticked = d.ticked }

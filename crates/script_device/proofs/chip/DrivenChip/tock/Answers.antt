@@ -1,0 +1,11 @@
+use Rattle.std.proofs.Common.{refl, ◌∙◌}
+use Rattle.gate_sim.specs.Calls.{cycle_of, is_ticked}
+use Rattle.script_device.proofs.Told.{next_cycle}
+use Rattle.script_device.proofs.chip.DrivenChip.tock.Goals as goal
+
+pub returns-clause-driven : goal.returns-clause-driven
+returns-clause-driven c = λ calls d. record {
+  stands = c.tock.ensures.stands calls d.stands;
+  cycle = c.next_cycle-self.ensures.value ∙ next_cycle c.args.self.now.ticked (is_ticked calls) c.args.self.now.cycle (cycle_of calls) d.cycle d.ticked;
+  ticked = refl;
+}

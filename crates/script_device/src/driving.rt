@@ -1,0 +1,201 @@
+//! What a script does to a chip, and what it sees of it.
+
+ghost use Rattle.std.specs.Prelude.{◌≡◌, ◌<◌, ◌≤◌, ◌+◌, ◌^◌, ℕ, suc, Bool, cond, List, [], ◌∷◌, Some, None, IfOk, MatchOption, length, slice_get};
+ghost use Rattle.gate_sim.specs.Calls.{Call};
+ghost use Rattle.gate_sim.specs.Calls.Call.{Eval, Load, Tick, Tock};
+ghost use Rattle.gate_sim.specs.Values.{AreValues};
+ghost use Rattle.script_device.specs.Directory.{AreSizes, IsBus, IsInput, loaded_chip, part_named, pin_named};
+ghost use Rattle.script_device.specs.Driven.{Sees, IsDriven, bus_value, chip_of, value_seen, set_source, time_after, time_of};
+ghost use Rattle.script_device.specs.Variables.Source.{BlockWord, Nodes};
+
+use crate::bus::{bus_word, set_bus};
+use crate::chip::DrivenChip;
+use crate::directory::{Directory, PartNodes, PinNodes};
+use gate_sim::Sim;
+use netlist::Netlist;
+use script_columns::Value;
+use std::alloc::{AllocError, Global};
+
+/// The nodes of the pin of this name.
+pub fn pin_named<'a>(pins: &'a [PinNodes], name: &[u8]) -> Option<&'a [u32]>
+    ensures { MatchOption result (pin_named pins.now name.now ≡ None) (λ nodes. pin_named pins.now name.now ≡ Some nodes.now) }
+{
+    for pin in pins {
+        if pin.name.as_bytes() == name {
+            return Some(pin.nodes.as_slice());
+        }
+    }
+    None
+}
+
+/// The first part of the chip of this name.
+pub fn part_named<'a>(parts: &'a [PartNodes], name: &[u8]) -> Option<&'a PartNodes>
+    ensures { MatchOption result (part_named parts.now name.now ≡ None) (λ part. part_named parts.now name.now ≡ Some part.now) }
+{
+    for part in parts {
+        if part.chip.as_bytes() == name {
+            return Some(part);
+        }
+    }
+    None
+}
+
+// The cycle after a tock.
+fn next_cycle(cycle: u64, ticked: bool) -> u64
+    requires { cycle + 1 < 2 ^ 64 }
+    ensures value { result ≡ cond ticked (suc cycle) cycle }
+    ensures near { result ≤ cycle + 1 }
+{
+    if ticked { cycle + 1 } else { cycle }
+}
+
+// The number of a bus of so many bits.
+fn bus_value(bits: usize, word: u16) -> Value
+    ensures { result ≡ bus_value bits word }
+{
+    if bits == 16 {
+        Value::Wide(word)
+    } else {
+        Value::Narrow(word)
+    }
+}
+
+// How many words each block of a netlist has.
+fn sizes_of(alloc: Global, net: &Netlist) -> Result<Vec<u32>, AllocError>
+    ensures { IfOk result (λ sizes. AreSizes sizes.items net.now) }
+{
+    let mut sizes = Vec::new(alloc);
+    for block in net.blocks() {
+        sizes.push(block.words)?;
+    }
+    Ok(sizes)
+}
+
+impl DrivenChip {
+    /// A chip that was told nothing: inputs, states and words are 0, and the time is 0.
+    pub fn new(alloc: Global, net: Netlist, directory: Directory) -> Result<DrivenChip, AllocError>
+        ensures chip { IfOk result (λ chip. chip_of chip ≡ loaded_chip net directory) }
+        ensures driven { IfOk result (λ chip. IsDriven chip []) }
+    {
+        let sizes = sizes_of(alloc, &net)?;
+        Ok(DrivenChip {
+            sim: Sim::new(alloc, net)?,
+            sizes,
+            cycle: 0,
+            ticked: false,
+            directory,
+        })
+    }
+
+    /// Sets an input's nodes to the low bits of a word. It shows only after an evaluation.
+    pub fn set_bus(&mut self, nodes: &[u32], word: u16)
+        requires { IsInput (chip_of self.old).net nodes.now }
+        ensures kept { chip_of self.new ≡ chip_of self.old }
+        ensures time { time_of self.new ≡ time_of self.old }
+        ensures driven { (calls : List Call) → IsDriven self.old calls → IsDriven self.new (set_source (Nodes nodes.now) word calls) }
+    {
+        set_bus(&mut self.sim, nodes, word);
+    }
+
+    /// Puts a word into a block.
+    pub fn set_word(&mut self, block: u32, address: u32, word: u16)
+        requires { MatchOption (slice_get (chip_of self.old).net.blocks block) ⊥ (λ b. address < b.words) }
+        ensures kept { chip_of self.new ≡ chip_of self.old }
+        ensures time { time_of self.new ≡ time_of self.old }
+        ensures driven { (calls : List Call) → IsDriven self.old calls → IsDriven self.new (set_source (BlockWord block address) word calls) }
+    {
+        self.sim.load_block(block, address, &[word]);
+    }
+
+    /// Puts words into a block, from its first word on.
+    pub fn load_words(&mut self, block: u32, words: &[u16])
+        requires { MatchOption (slice_get (chip_of self.old).net.blocks block) ⊥ (λ b. length words.now ≤ b.words) }
+        ensures kept { chip_of self.new ≡ chip_of self.old }
+        ensures time { time_of self.new ≡ time_of self.old }
+        ensures driven { (calls : List Call) → IsDriven self.old calls → IsDriven self.new (Load block 0 words.now ∷ calls) }
+    {
+        self.sim.load_block(block, 0, words);
+    }
+
+    /// How many words each block has.
+    pub fn sizes(&self) -> &[u32]
+        ensures { AreSizes result.now (chip_of self.now).net }
+    {
+        &self.sizes
+    }
+
+    /// Evaluates the chip.
+    pub fn eval(&mut self)
+        ensures kept { chip_of self.new ≡ chip_of self.old }
+        ensures time { time_of self.new ≡ time_of self.old }
+        ensures driven { (calls : List Call) → IsDriven self.old calls → IsDriven self.new (Eval ∷ calls) }
+    {
+        self.sim.eval();
+    }
+
+    /// Evaluates the chip and fixes the next states.
+    pub fn tick(&mut self)
+        ensures kept { chip_of self.new ≡ chip_of self.old }
+        ensures time { time_of self.new ≡ time_of self.old }
+        ensures driven { (calls : List Call) → IsDriven self.old calls → IsDriven self.new (Tick ∷ calls) }
+    {
+        self.sim.tick();
+        self.ticked = true;
+    }
+
+    /// Takes the states that were fixed and evaluates. The time goes on where a tick came before.
+    pub fn tock(&mut self)
+        requires { time_of self.old + 1 < 2 ^ 64 }
+        ensures kept { chip_of self.new ≡ chip_of self.old }
+        ensures time { time_of self.new ≤ time_of self.old + 1 }
+        ensures driven { (calls : List Call) → IsDriven self.old calls → IsDriven self.new (Tock ∷ calls) }
+    {
+        self.sim.tock();
+        self.cycle = next_cycle(self.cycle, self.ticked);
+        self.ticked = false;
+    }
+
+    /// The time.
+    pub fn time(&self) -> Value
+        ensures { (calls : List Call) → IsDriven self.now calls → result ≡ time_after calls }
+    {
+        Value::Time(self.cycle, self.ticked)
+    }
+
+    /// How many cycles are over.
+    pub fn cycles(&self) -> u64
+        ensures { result ≡ time_of self.now }
+    {
+        self.cycle
+    }
+
+    /// What stood on nodes at the last evaluation.
+    pub fn bus(&self, nodes: &[u32]) -> Value
+        requires { IsBus (chip_of self.now).net nodes.now }
+        ensures { (calls told : List Call) (v : ℕ → ℕ → Bool) → IsDriven self.now calls → Sees (chip_of self.now) calls told v → result ≡ value_seen (chip_of self.now) calls told v (Nodes nodes.now) }
+    {
+        bus_value(nodes.len(), bus_word(&self.sim, nodes))
+    }
+
+    /// The word that stands in a block now.
+    pub fn word(&self, block: u32, address: u32) -> Value
+        requires { MatchOption (slice_get (chip_of self.now).net.blocks block) ⊥ (λ b. address < b.words) }
+        ensures { (calls told : List Call) (v : ℕ → ℕ → Bool) → IsDriven self.now calls → Sees (chip_of self.now) calls told v → result ≡ value_seen (chip_of self.now) calls told v (BlockWord block address) }
+    {
+        Value::Wide(self.sim.block_word(block, address))
+    }
+
+    /// Every list of calls has its values.
+    pub fn values_law(&self)
+        ensures { (calls : List Call) → (v : ℕ → ℕ → Bool) × AreValues (chip_of self.now).net calls v }
+    {
+        self.sim.values_law();
+    }
+
+    /// What has a name.
+    pub fn directory(&self) -> &Directory
+        ensures { result.now ≡ (chip_of self.now).directory }
+    {
+        &self.directory
+    }
+}

@@ -1,5 +1,0 @@
-use Rattle.script_run.proofs.Kept.{IsState-device, Keeps-tock}
-use Rattle.script_run.proofs.acts.tock.Goals as goal
-
-pub returns : goal.returns
-returns c s h = IsState-device c.args.state.now s _ _ h (Keeps-tock s.device) (c.tock.ensures.stands s.device h.device)

@@ -1,7 +1,0 @@
-use Rattle.std.proofs.Common.{map, subst}
-use Rattle.std.specs.List.{All, Contains}
-use Rattle.script_run.specs.Directories.{part_nodes}
-use Rattle.script_run.proofs.directories.directory_of.Goals as goal
-
-pub returns-clause-among : goal.returns-clause-among
-returns-clause-among c = subst (λ parts. All (Contains (map (part_nodes c.args.library.now.entries) parts)) c.in_ok-first_parts.field-0) c.as_slice-3.ensures c.in_ok-first_parts.ensures.among

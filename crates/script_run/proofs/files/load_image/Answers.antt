@@ -1,6 +1,0 @@
-use Rattle.script_run.proofs.Images.{short_image}
-use Rattle.script_run.proofs.files.load_image.Goals as goal
-
-pub returns-clause-short : goal.returns-clause-short
-returns-clause-short g c =
-    short_image c.form_of.result (g.F.Shelf.files c.args.shelf.now) c.as_str.result.now (g.F.Shelf.unfailing c.args.shelf.now) c.load.result c.load.ensures.loads

@@ -1,6 +1,0 @@
-use Rattle.std.proofs.Common.{◌≡◌, take}
-use Rattle.script_text.specs.Columns.{line_text}
-use Rattle.script_text.proofs.columns.value_line.Given as goal
-
-abbrev pub invariant-loop-cell : goal.invariant-loop-cell
-invariant-loop-cell l = l.line.items ≡ line_text (take l.cell-index l.cells)

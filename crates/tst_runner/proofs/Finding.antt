@@ -1,0 +1,145 @@
+-- What loading says of the chip of a name, and of all that are gathered.
+use Rattle.std.proofs.Common.{◌≡◌, ◌<◌, ◌++◌, ℕ, zero, suc, Bool, true, false, cond, List, [], ◌∷◌, Option, Some, None, Result, Ok, Err, refl, sym, ap, subst, ◌∙◌, inl, inr}
+use Rattle.std.specs.Prelude.{IfSome, is_some, slice_get}
+use Rattle.std.specs.Str.{bytes_eq}
+use Rattle.std.proofs.lemmas.Slice.Eq.{bytes_eq-Decides}
+use Rattle.outer_world.specs.Files.{Files, IsListing, LacksFile, LacksFolder, file_at, has_name, path_in}
+use Rattle.outer_world.specs.Refusals.{message_line}
+use Rattle.hdl_tree.specs.declared.tree.Chip.{Chip}
+use Rattle.hdl_tree.specs.declared.tree.Body.{Body}
+use Rattle.hdl_tree.specs.declared.tree.Body.TheVariants as body
+use Rattle.hdl_tree.specs.declared.library.Entry.{Entry}
+use Rattle.hdl_tree.specs.declared.library.Library.{Library}
+use Rattle.hdl_tree.specs.Chips.{find_entry}
+use Rattle.hdl_parser.specs.Spells.{Spells}
+use Rattle.source_files.specs.Loads.{Loads, line_of}
+use Rattle.source_files.specs.Sources.{IsFaulty, SpellsAt}
+use Rattle.source_files.specs.declared.error.LoadError.{LoadError}
+use Rattle.source_files.specs.declared.error.LoadError.TheVariants as errors
+use Rattle.tst_runner.specs.Gathering.{Gather, GatherFails, Sources, IsFound, built_in, entry_of, entry_with, file_of, here, is_in_folder, needed_names, no_more, path_of}
+use Rattle.tst_runner.specs.Inner.Gathered.{IsNext, IsRefusedAt, Leads, LacksFileOf}
+use Rattle.tst_runner.specs.declared.gathering.Origin.{Origin}
+use Rattle.tst_runner.proofs.Leading.{past_found}
+use Rattle.tst_runner.proofs.Ending.{candidates, fewer_left, left}
+use Rattle.tst_runner.specs.Inner.Languages.{RefusesHdl}
+use Rattle.tst_runner.specs.Loading.{HasFailed, HasGathered, HasSources}
+use Rattle.tst_runner.specs.Setting.{Setting}
+
+-- ---- the chip of a file
+
+faulty_refused : (from : Sources) (name line : List ℕ) → is_in_folder from name ≡ true → IsFaulty RefusesHdl from.files (path_of from name) line → IsRefusedAt from name line
+faulty_refused from name line there (text, told, has, (fault, refuses, same), is) = (there, (text, fault, has, refuses, is ∙ ap (message_line (path_of from name)) same))
+
+pub file_unread : (from : Sources) (name file : List ℕ) (steady : Type 0) (e : LoadError) → is_in_folder from name ≡ true → file ≡ file_of name
+    → Loads (SpellsAt Spells from.files (path_in from.folder file)) (IsFaulty RefusesHdl from.files (path_in from.folder file)) (steady → LacksFile from.files (path_in from.folder file)) (Err e)
+    → Loads (IsFound from name) (IsRefusedAt from name) (steady → LacksFileOf from name) (Err e)
+file_unread from name file steady (errors.Refused r) there same h = faulty_refused from name (line_of r) there (subst (λ (f : List ℕ). IsFaulty RefusesHdl from.files (path_in from.folder f) (line_of r)) same h)
+file_unread from name file steady errors.Failed there same h = λ s. (there, subst (λ (f : List ℕ). LacksFile from.files (path_in from.folder f)) same (h s))
+file_unread from name file steady errors.Memory there same h = tt
+
+pub file_found : (from : Sources) (name file : List ℕ) (chip : Chip) (entry : Entry) → is_in_folder from name ≡ true → file ≡ file_of name → SpellsAt Spells from.files (path_in from.folder file) chip
+    → entry ≡ entry_of from.shipped name chip → IsFound from name entry
+file_found from name file chip entry there same spells is =
+    let at : SpellsAt Spells from.files (path_of from name) chip = subst (λ (f : List ℕ). SpellsAt Spells from.files (path_in from.folder f) chip) same spells in
+    inl (there, (at.0, chip, at.1, at.2, is))
+
+-- a chip that is found stands somewhere, and has the name that it is found by
+pub record Stands (entries : List Entry) (name : List ℕ) (entry : Entry) : Type 0 where
+  pub place : ℕ
+  pub there : slice_get entries place ≡ Some entry
+  pub named : name ≡ entry.name
+
+stands_by : (b : Bool) (e : Entry) (entries : List Entry) (name : List ℕ) (entry : Entry) → bytes_eq name e.name ≡ b → cond b (Some e) (find_entry entries name) ≡ Some entry → (find_entry entries name ≡ Some entry → Stands entries name entry)
+    → Stands (e ∷ entries) name entry
+stands_by true e entries name entry test h more =
+    let same : e ≡ entry = cc in
+    record { place = zero; there = h; named = (bytes_eq-Decides name e.name).0 test ∙ ap (λ (c : Entry). c.name) same }
+stands_by false e entries name entry test h more = let s = more h in record { place = suc s.place; there = s.there; named = s.named }
+
+pub stands : (entries : List Entry) (name : List ℕ) (entry : Entry) → find_entry entries name ≡ Some entry → Stands entries name entry
+stands [] name entry h = absurd (let bad : ⊥ = cc in bad)
+stands (e ∷ entries) name entry h = stands_by (bytes_eq name e.name) e entries name entry refl h (stands entries name entry)
+
+named : (entries : List Entry) (name : List ℕ) (entry : Entry) → find_entry entries name ≡ Some entry → name ≡ entry.name
+named entries name entry h = let s = stands entries name entry h in s.named
+
+renamed : (name : List ℕ) (entry : Entry) → name ≡ entry.name → record entry { name = name } ≡ entry
+renamed name entry same = ap (λ (n : List ℕ). record entry { name = n }) same
+
+pub shipped_found : (from : Sources) (name : List ℕ) (original entry : Entry) → (is_in_folder from name ≡ false) × (find_entry from.shipped name ≡ Some original) → entry ≡ record original { name = name } → IsFound from name entry
+shipped_found from name original entry (there, found) is =
+    inr (there, found ∙ ap Some (sym (is ∙ renamed name original (named from.shipped name original found))))
+
+built_named : (name : List ℕ) (chip : Chip) (o : Option Entry) → (built_in name chip o).name ≡ name
+built_named name chip None = refl
+built_named name chip (Some entry) = refl
+
+text_named : (shipped : List Entry) (name : List ℕ) (chip : Chip) (b : Body) → (entry_with shipped name chip b).name ≡ name
+text_named shipped name chip (body.Parts parts) = refl
+text_named shipped name chip (body.Builtin own clocked) = built_named name chip (find_entry shipped own)
+
+pub found_named : (from : Sources) (name : List ℕ) (entry : Entry) → IsFound from name entry → entry.name ≡ name
+found_named from name entry (inl (there, (text, chip, has, spells, is))) = ap (λ (e : Entry). e.name) is ∙ text_named from.shipped name chip chip.body
+found_named from name entry (inr (there, found)) = sym (named from.shipped name entry found)
+
+-- ---- a file that is listed is there
+
+no_file : {A : Type 0} (o : Option A) → o ≡ None → is_some o ≡ true → ⊥
+no_file None e h = let bad : ⊥ = cc in bad
+no_file (Some a) e h = let bad : ⊥ = cc in bad
+
+lacks_none : (told : Option Files) (there : List ℕ → Bool) (folder : List ℕ) (names : List (List ℕ)) (name : List ℕ) → IfSome told (λ files. IsListing files folder names) → has_name names name ≡ true → LacksFile told (path_in folder name) → LacksFolder told there folder
+lacks_none None there folder names name listing stands lacks = tt
+lacks_none (Some files) there folder names name listing stands lacks =
+    absurd (no_file (file_at files (path_in folder name)) lacks (sym (listing.each name (listing.no_slash name stands)) ∙ stands))
+
+-- ---- all that are gathered
+
+module _ (from : Sources) (there : List ℕ → Bool) (first : List ℕ) (steady : Type 0) where
+  abbrev Whole : Result Library LoadError → Type 0
+  Whole r = Loads (λ (library : Library). Gather from (first ∷ []) [] library.entries) (GatherFails from (first ∷ []) []) (steady → LacksFolder from.files there from.folder) r
+
+  -- a chip of which nothing is read
+  pub unfound : (later : Type 0) (name : List ℕ) (others : List (List ℕ)) (entries : List Entry) (e : LoadError) → IfSome from.files (λ told. IsListing told from.folder from.names) → (steady → later) → Leads from (first ∷ []) [] (name ∷ others) entries
+      → find_entry entries name ≡ None → Loads (IsFound from name) (IsRefusedAt from name) (later → LacksFileOf from name) (Err e) → Whole (Err e)
+  unfound later name others entries (errors.Refused r) listing keeps leads new h = leads.fails (line_of r) (here (new, h.0, h.1))
+  unfound later name others entries errors.Failed listing keeps leads new h = λ s. let lacks = h (keeps s) in lacks_none from.files there from.folder from.names (file_of name) listing lacks.0 lacks.1
+  unfound later name others entries errors.Memory listing keeps leads new h = tt
+
+-- ---- a turn of the loop
+
+leads_then : {from : Sources} {names names' names'' : List (List ℕ)} {entries entries' entries'' : List Entry} → Leads from names entries names' entries' → Leads from names' entries' names'' entries'' → Leads from names entries names'' entries''
+leads_then h k = record { gathers = λ all g. h.gathers all (k.gathers all g); fails = λ line g. h.fails line (k.fails line g) }
+
+module _ (from : Sources) (first stack : List (List ℕ)) (entries slice : List Entry) (leads : Leads from first [] stack entries) (same : slice ≡ entries) where
+  -- the code finds the next name in a slice of the chips
+  pub to_next : (name : List ℕ) (origin : Origin) (others : List (List ℕ)) → IsNext from stack slice name origin others → Leads from first [] (name ∷ others) entries
+  to_next name origin others next = leads_then leads (subst (λ (es : List Entry). Leads from stack es (name ∷ others) es) same next.leads)
+
+  pub is_new : (name : List ℕ) (origin : Origin) (others : List (List ℕ)) → IsNext from stack slice name origin others → find_entry entries name ≡ None
+  is_new name origin others next = subst (λ (es : List Entry). find_entry es name ≡ None) same next.new
+
+  pub turn : (name : List ℕ) (origin : Origin) (others stack' : List (List ℕ)) (entry : Entry) (entries' : List Entry) → IsNext from stack slice name origin others → IsFound from name entry
+      → stack' ≡ needed_names from.blocks entry ++ others → entries' ≡ entries ++ entry ∷ [] → Leads from first [] stack' entries'
+  turn name origin others stack' entry entries' next found pushed more =
+      let on : Leads from first [] (needed_names from.blocks entry ++ others) (entries ++ entry ∷ []) = past_found entry (is_new name origin others next) found (to_next name origin others next) in
+      let grown : Leads from first [] (needed_names from.blocks entry ++ others) entries' = subst (λ (es : List Entry). Leads from first [] (needed_names from.blocks entry ++ others) es) (sym more) on in
+      subst (λ (names : List (List ℕ)). Leads from first [] names entries') (sym pushed) grown
+
+  pub fewer : (name : List ℕ) (origin : Origin) (others : List (List ℕ)) (entry : Entry) (entries' : List Entry) → IsNext from stack slice name origin others → IsFound from name entry
+      → entries' ≡ entries ++ entry ∷ [] → left entries' (candidates from.names from.shipped) < left entries (candidates from.names from.shipped)
+  fewer name origin others entry entries' next found more =
+      subst (λ (es : List Entry). left es (candidates from.names from.shipped) < left entries (candidates from.names from.shipped)) (sym more)
+      (fewer_left from entries name origin entry next.at (is_new name origin others next) (found_named from name entry found))
+
+  pub all_taken : Leads from stack slice [] slice → Gather from first [] entries
+  all_taken last =
+      let done : Leads from stack entries [] entries = subst (λ (es : List Entry). Leads from stack es [] es) same last in
+      leads.gathers entries (done.gathers entries no_more)
+
+pub gathered_loads : (setting : Setting) (from : Sources) (name : List ℕ) (missed : Type 0) (r : Result Library LoadError) → HasSources setting from
+    → Loads (λ (library : Library). Gather from (name ∷ []) [] library.entries) (GatherFails from (name ∷ []) []) missed r → Loads (λ (library : Library). HasGathered setting name library.entries) (HasFailed setting name) missed r
+gathered_loads setting from name missed (Ok library) has h = (from, has, h)
+gathered_loads setting from name missed (Err (errors.Refused r)) has h = (from, has, h)
+gathered_loads setting from name missed (Err errors.Failed) has h = h
+gathered_loads setting from name missed (Err errors.Memory) has h = tt

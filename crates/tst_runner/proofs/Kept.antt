@@ -1,0 +1,79 @@
+-- What the items of an output list stand for is kept by what commands do to a device.
+use Rattle.std.proofs.Common.{ℕ, List, [], ◌∷◌, subst}
+use Rattle.gate_sim.specs.Calls.{Call}
+use Rattle.gate_sim.specs.Calls.Call.{Load, Eval, Tick, Tock}
+use Rattle.script_device.specs.Driven.{set_source}
+use Rattle.script_device.specs.Directory.{LoadedChip}
+use Rattle.script_parser.specs.declared.tree.Item.{Item}
+use Rattle.tst_runner.specs.declared.device.Device as code
+use Rattle.tst_runner.specs.declared.standing.State.{State}
+use Rattle.tst_runner.specs.Machines.{RunningMachine}
+use Rattle.tst_runner.specs.Machines as machines
+use Rattle.tst_runner.specs.Devices.{Device, Source, Means, after_set, after_eval, after_tick, after_tock}
+use Rattle.tst_runner.specs.Devices.Device.{Empty, Chip, Machine}
+use Rattle.tst_runner.specs.Devices.Source.{TheTime, OfChip, OfMachine}
+use Rattle.tst_runner.specs.Lines.{AreMeant}
+use Rattle.tst_runner.specs.Effects.{HasRom, with_image, whole_memory}
+use Rattle.tst_runner.specs.Standing.{Standing}
+use Rattle.tst_runner.specs.Inner.Running.{Stands}
+use Rattle.tst_runner.specs.Inner.States.{IsState}
+
+-- what a text stands for it stands for afterwards
+abbrev pub Keeps : Device → Device → Type 0
+Keeps d d' = (text : List ℕ) (source : Source) → Means d text source → Means d' text source
+
+Keeps-chip : (chip : LoadedChip) (calls calls' : List Call) → Keeps (Chip chip calls) (Chip chip calls')
+Keeps-chip chip calls calls' text TheTime h = h
+Keeps-chip chip calls calls' text (OfChip source) h = h
+Keeps-chip chip calls calls' text (OfMachine register) h = h
+
+Keeps-machine : (machine machine' : RunningMachine) → Keeps (Machine machine) (Machine machine')
+Keeps-machine machine machine' text TheTime h = h
+Keeps-machine machine machine' text (OfChip source) h = h
+Keeps-machine machine machine' text (OfMachine register) h = h
+
+pub Keeps-set : (d : Device) (source : Source) (word : ℕ) → Keeps d (after_set d source word)
+Keeps-set Empty source word text meant h = h
+Keeps-set (Chip chip calls) TheTime word text meant h = h
+Keeps-set (Chip chip calls) (OfChip source) word text meant h = Keeps-chip chip calls (set_source source word calls) text meant h
+Keeps-set (Chip chip calls) (OfMachine register) word text meant h = h
+Keeps-set (Machine machine) TheTime word text meant h = h
+Keeps-set (Machine machine) (OfChip source) word text meant h = h
+Keeps-set (Machine machine) (OfMachine register) word text meant h = Keeps-machine machine (machines.after_set machine register word) text meant h
+
+pub Keeps-eval : (d : Device) → Keeps d (after_eval d)
+Keeps-eval Empty text meant h = h
+Keeps-eval (Chip chip calls) text meant h = Keeps-chip chip calls (Eval ∷ calls) text meant h
+Keeps-eval (Machine machine) text meant h = h
+
+pub Keeps-tick : (d : Device) → Keeps d (after_tick d)
+Keeps-tick Empty text meant h = h
+Keeps-tick (Chip chip calls) text meant h = Keeps-chip chip calls (Tick ∷ calls) text meant h
+Keeps-tick (Machine machine) text meant h = Keeps-machine machine (machines.after_tick machine) text meant h
+
+pub Keeps-tock : (d : Device) → Keeps d (after_tock d)
+Keeps-tock Empty text meant h = h
+Keeps-tock (Chip chip calls) text meant h = Keeps-chip chip calls (Tock ∷ calls) text meant h
+Keeps-tock (Machine machine) text meant h = Keeps-machine machine (machines.after_tock machine) text meant h
+
+pub Keeps-image : (d : Device) (rom : HasRom d) (image : List ℕ) → Keeps d (with_image d rom image)
+Keeps-image d rom image text meant h =
+    let P : Device → Type 0 = λ x. Means x text meant in
+    Keeps-chip rom.chip rom.calls (Load rom.block 0 (whole_memory image) ∷ rom.calls) text meant (subst P rom.is h)
+
+pub AreMeant-kept : (d d' : Device) → Keeps d d' → (items : List Item) (sources : List Source) → AreMeant d items sources → AreMeant d' items sources
+AreMeant-kept d d' keeps [] [] h = tt
+AreMeant-kept d d' keeps [] (source ∷ sources) h = absurd h
+AreMeant-kept d d' keeps (item ∷ items) [] h = absurd h
+AreMeant-kept d d' keeps (item ∷ items) (source ∷ sources) h = (keeps item.variable.text source h.0, AreMeant-kept d d' keeps items sources h.1)
+
+-- the device alone has changed
+pub IsState-device : (state : State) (s : Standing) (device : code.Device) (d : Device) → IsState state s → Keeps s.device d → Stands device d
+    → IsState (record state { device = device }) (record s { device = d })
+IsState-device state s device d h keeps stands = record {
+  device = stands;
+  items = h.items;
+  meant = (h.meant.0, AreMeant-kept s.device d keeps s.items h.meant.0 h.meant.1);
+  compared = h.compared;
+  lines = h.lines;
+}

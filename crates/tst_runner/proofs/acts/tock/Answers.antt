@@ -1,0 +1,5 @@
+use Rattle.tst_runner.proofs.Kept.{IsState-device, Keeps-tock}
+use Rattle.tst_runner.proofs.acts.tock.Goals as goal
+
+pub returns : goal.returns
+returns c s h = IsState-device c.args.state.now s _ _ h (Keeps-tock s.device) (c.tock.ensures.stands s.device h.device)

@@ -1,0 +1,17 @@
+use Rattle.std.proofs.Common.{◌≡◌, ◌∷◌, []}
+use Rattle.std.specs.Prelude.{reverse}
+use Rattle.tst_runner.specs.Inner.Gathered.{Leads, sources_of}
+use Rattle.tst_runner.proofs.Ending.{candidates, left}
+use Rattle.tst_runner.proofs.gathering.gather_from.Given as goal
+
+abbrev pub invariant-chips : goal.invariant-chips
+invariant-chips g l = record {
+  leads : Leads (sources_of l.fn.places (g.F.Shelf.files l.fn.shelf)) (l.fn.name ∷ []) [] (reverse l.stack.items) l.entries;
+  counts : g.F.Shelf.faults l.shelf ≡ g.F.Shelf.faults l.fn.shelf;
+  kept : g.F.Shelf.files l.shelf ≡ g.F.Shelf.files l.fn.shelf;
+  stays : g.F.Shelf.there l.shelf ≡ g.F.Shelf.there l.fn.shelf;
+  keeps : g.F.Shelf.unfailing l.fn.shelf → g.F.Shelf.unfailing l.shelf;
+}
+
+abbrev pub decreases-chips : goal.decreases-chips
+decreases-chips g l = left l.entries (candidates l.places.names.now l.places.shipped.now)

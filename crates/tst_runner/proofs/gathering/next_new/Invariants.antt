@@ -1,0 +1,11 @@
+use Rattle.std.proofs.Common.{Option, length}
+use Rattle.std.specs.Prelude.{reverse}
+use Rattle.outer_world.specs.Files.{Files}
+use Rattle.tst_runner.specs.Inner.Gathered.{Leads, sources_of}
+use Rattle.tst_runner.proofs.gathering.next_new.Given as goal
+
+abbrev pub invariant-names : goal.invariant-names
+invariant-names l = (files : Option Files) → Leads (sources_of l.fn.places files) (reverse l.fn.stack.items) l.fn.entries (reverse l.stack.items) l.entries
+
+abbrev pub decreases-names : goal.decreases-names
+decreases-names l = length l.stack.items

@@ -1,0 +1,304 @@
+//! The acts of a script, one by one.
+
+ghost use Rattle.std.specs.Prelude.{◌≡◌, ◌<◌, ◌+◌, ◌^◌, ◌++◌, ◌∷◌, [], Bool, List, ℕ, Option, IfOk};
+ghost use Rattle.std.specs.Str.Lossy.{utf8_lossy};
+ghost use Rattle.outer_world.specs.Files.{path_in};
+ghost use Rattle.outer_world.specs.Written.{CountsPut, Puts};
+ghost use Rattle.outer_world.specs.Held.{HaveSameSink, pending, sink_of};
+ghost use Rattle.script_parser.specs.declared.tree.Act.TheVariants as acts;
+ghost use Rattle.tst_runner.specs.Devices.{after_tock};
+ghost use Rattle.tst_runner.specs.Setting.{Setting, folder_of, setting_of};
+ghost use Rattle.tst_runner.specs.Standing.{Standing};
+ghost use Rattle.tst_runner.specs.Inner.States.{Becomes, Compares, CountsStop, IsNameStop, IsState, Misses, Performs, PutsEcho, PutsOut, Quietly, StandsThere};
+
+use crate::files::{load_compared, load_image, path_beside};
+use crate::lines::names_line;
+use crate::loading::load_device;
+use crate::outlet::put_behind;
+use crate::printing::put_through;
+use crate::standing::{CompareFile, Difference, State, Stop};
+use outer_world::{Detail, Diagnostic, Name, Pieces, Put, Shelf, Sink};
+use script_columns::{agrees_first, past_line, past_lines};
+use script_parser::{Act, Item, Placed, Step};
+use source_files::LoadError;
+use std::alloc::{AllocError, Global};
+
+/// A script: its path, and whether the memories of its chips are blocks.
+#[derive(Clone, Copy)]
+pub struct Script<'a> {
+    pub path: &'a str,
+    pub blocks: bool,
+}
+
+// No script comes to as many steps, nor to as many lines as a count tells; past them memory is said to be wanting.
+const MOST_STEPS: u64 = 1 << 62;
+
+// The refusal of a word that stands for nothing that is wanted.
+fn no_name(alloc: Global, path: &str, word: &Placed) -> Stop
+    ensures { IsNameStop path.now word.now result }
+{
+    let name = match Vec::from_slice(alloc, word.text.as_slice()) {
+        Ok(name) => name,
+        Err(_) => return Stop::Unloaded(LoadError::Memory),
+    };
+    let told = Diagnostic::at(
+        word.place.line,
+        word.place.column,
+        "Name",
+        Detail::Name(name),
+    );
+    Stop::Unloaded(LoadError::refused(alloc, path, told))
+}
+
+// Counts a line that was put, and compares it with that of the compare file.
+fn compare(line: &[u8], state: &mut State<'_>) -> Result<(), Stop>
+    requires room { state.old.lines + 1 < 2 ^ 64 }
+    requires stands { (r : Standing) × IsState state.old r }
+    ensures { (r : Standing) → IsState state.old r → Compares r line.now state.new result }
+{
+    state.lines += 1;
+    let Some(file) = state.compared.take() else {
+        return Ok(());
+    };
+    let rest = &file.text[file.at..];
+    if !agrees_first(rest, line) {
+        return Err(Stop::Differs(Difference {
+            path: file.path,
+            line: state.lines,
+        }));
+    }
+    let at = file.at + past_line(rest);
+    state.compared = Some(CompareFile {
+        path: file.path,
+        text: file.text,
+        at,
+    });
+    Ok(())
+}
+
+// Puts a line, and compares it.
+fn put_line<O: Sink>(
+    line: Vec<u8>,
+    state: &mut State<'_>,
+    out: &mut Pieces<'_, O>,
+) -> Result<(), Stop>
+    requires { (r : Standing) × IsState state.old r }
+    ensures puts { (w e f : Option (List ℕ)) (r : Standing) → IsState state.old r → StandsThere w (O.written (sink_of out.old)) e f (pending out.old) r → PutsOut w (O.written (sink_of out.new)) e f (pending out.new) r line.items state.new result }
+    ensures counts { (h e : ℕ) → CountsStop h h (O.faults (sink_of out.old)) (O.faults (sink_of out.new)) e e result }
+    ensures same_sink { HaveSameSink out.old out.new }
+{
+    if state.lines == u64::MAX {
+        return Err(Stop::Unloaded(LoadError::Memory));
+    }
+    let mut text = line;
+    text.push(b'\n')?;
+    match put_behind(&text, out) {
+        Put::Done => compare(&text[..text.len() - 1], state),
+        Put::Failed => Err(Stop::Out),
+    }
+}
+
+fn tock(state: &mut State<'_>) -> Result<(), Stop>
+    ensures { (s : Standing) → IsState state.old s → Becomes state.new (record s { device = after_tock s.device }) result }
+{
+    if state.device.steps() >= MOST_STEPS {
+        return Err(Stop::Unloaded(LoadError::Memory));
+    }
+    state.device.tock();
+    Ok(())
+}
+
+fn put_values<O: Sink>(
+    alloc: Global,
+    state: &mut State<'_>,
+    out: &mut Pieces<'_, O>,
+) -> Result<(), Stop>
+    requires { (s : Standing) × IsState state.old s }
+    ensures does { (setting : Setting) (there : List ℕ → Bool) (w e f : Option (List ℕ)) (s : Standing) → IsState state.old s → StandsThere w (O.written (sink_of out.old)) e f (pending out.old) s → Performs setting there ⊥ w (O.written (sink_of out.new)) e f (pending out.new) s (acts.Step Step.Output) state.new result }
+    ensures counts { (h e : ℕ) → CountsStop h h (O.faults (sink_of out.old)) (O.faults (sink_of out.new)) e e result }
+    ensures same_sink { HaveSameSink out.old out.new }
+{
+    let line = state.device.line(alloc, state.items)?;
+    put_line(line, state, out)
+}
+
+fn do_step<O: Sink>(
+    alloc: Global,
+    step: Step,
+    state: &mut State<'_>,
+    out: &mut Pieces<'_, O>,
+) -> Result<(), Stop>
+    requires { (s : Standing) × IsState state.old s }
+    ensures does { (setting : Setting) (there : List ℕ → Bool) (w e f : Option (List ℕ)) (s : Standing) → IsState state.old s → StandsThere w (O.written (sink_of out.old)) e f (pending out.old) s → Performs setting there ⊥ w (O.written (sink_of out.new)) e f (pending out.new) s (acts.Step step) state.new result }
+    ensures counts { (h e : ℕ) → CountsStop h h (O.faults (sink_of out.old)) (O.faults (sink_of out.new)) e e result }
+    ensures same_sink { HaveSameSink out.old out.new }
+{
+    match step {
+        Step::Eval => {
+            state.device.eval();
+            Ok(())
+        }
+        Step::Tick => {
+            state.device.tick();
+            Ok(())
+        }
+        Step::Tock => tock(state),
+        Step::TickTock => {
+            state.device.tick();
+            tock(state)
+        }
+        Step::Output => put_values(alloc, state, out),
+    }
+}
+
+fn do_list<'a, O: Sink>(
+    alloc: Global,
+    path: &str,
+    items: &'a [Item],
+    state: &mut State<'a>,
+    out: &mut Pieces<'_, O>,
+) -> Result<(), Stop>
+    requires { (s : Standing) × IsState state.old s }
+    ensures does { (setting : Setting) (there : List ℕ → Bool) (w e f : Option (List ℕ)) (s : Standing) → setting.path ≡ path.now → IsState state.old s → StandsThere w (O.written (sink_of out.old)) e f (pending out.old) s → Performs setting there ⊥ w (O.written (sink_of out.new)) e f (pending out.new) s (acts.OutputList items.now) state.new result }
+    ensures counts { (h e : ℕ) → CountsStop h h (O.faults (sink_of out.old)) (O.faults (sink_of out.new)) e e result }
+    ensures same_sink { HaveSameSink out.old out.new }
+{
+    if let Some(item) = state.device.nameless(items) {
+        return Err(no_name(alloc, path, &item.variable));
+    }
+    let line = names_line(alloc, items)?;
+    state.items = items;
+    put_line(line, state, out)
+}
+
+fn do_set(
+    alloc: Global,
+    path: &str,
+    variable: &Placed,
+    word: u16,
+    state: &mut State<'_>,
+) -> Result<(), Stop>
+    requires { (s : Standing) × IsState state.old s }
+    ensures { (setting : Setting) (s : Standing) → setting.path ≡ path.now → IsState state.old s → Quietly setting ⊥ s (acts.Set variable.now word) state.new result }
+{
+    if state.device.set(variable.text.as_slice(), word) {
+        Ok(())
+    } else {
+        Err(no_name(alloc, path, variable))
+    }
+}
+
+fn put_echo<E: Sink>(text: &[u8], err: &mut E) -> Put
+    ensures put { Puts (E.written err.old) (E.written err.new) (text.now ++ 10 ∷ []) result }
+    ensures counts { CountsPut (E.faults err.old) (E.faults err.new) result }
+{
+    put_through(&[text, b"\n"], err)
+}
+
+fn do_echo<E: Sink>(text: &[u8], err: &mut E) -> Result<(), Stop>
+    ensures puts { PutsEcho (E.written err.old) (E.written err.new) text.now result }
+    ensures counts { (h o : ℕ) → CountsStop h h o o (E.faults err.old) (E.faults err.new) result }
+{
+    match put_echo(text, err) {
+        Put::Done => Ok(()),
+        Put::Failed => Err(Stop::Err),
+    }
+}
+
+fn do_load<F: Shelf>(
+    alloc: Global,
+    script: Script<'_>,
+    file: &Placed,
+    state: &mut State<'_>,
+    shelf: &mut F,
+) -> Result<(), Stop>
+    ensures does { (s : Standing) → IsState state.old s → Quietly (setting_of script.entry.path.now (F.files shelf.old) script.entry.blocks) (Misses (setting_of script.entry.path.now (F.files shelf.old) script.entry.blocks) (F.there shelf.old) (F.unfailing shelf.old) s (acts.Load file.now)) s (acts.Load file.now) state.new result }
+    ensures counts { (o e : ℕ) → CountsStop (F.faults shelf.old) (F.faults shelf.new) o o e e result }
+    ensures kept { F.files shelf.new ≡ F.files shelf.old }
+    ensures stays { F.there shelf.new ≡ F.there shelf.old }
+    ensures keeps { F.unfailing shelf.old → F.unfailing shelf.new }
+{
+    state.device = load_device(alloc, script, file.text.as_slice(), shelf)?;
+    state.items = &[];
+    Ok(())
+}
+
+// The path of a file of the script's folder.
+fn name_beside(alloc: Global, path: &str, file: &[u8]) -> Result<Name, AllocError>
+    ensures { IfOk result (λ name. name ≡ path_in (folder_of path.now) (utf8_lossy file.now)) }
+{
+    let path = path_beside(alloc, path, file)?;
+    Name::new(alloc, path.as_str())
+}
+
+fn do_compare<F: Shelf>(
+    alloc: Global,
+    script: Script<'_>,
+    file: &Placed,
+    state: &mut State<'_>,
+    shelf: &mut F,
+) -> Result<(), Stop>
+    ensures does { (s : Standing) → IsState state.old s → Quietly (setting_of script.entry.path.now (F.files shelf.old) script.entry.blocks) (Misses (setting_of script.entry.path.now (F.files shelf.old) script.entry.blocks) (F.there shelf.old) (F.unfailing shelf.old) s (acts.CompareTo file.now)) s (acts.CompareTo file.now) state.new result }
+    ensures counts { (o e : ℕ) → CountsStop (F.faults shelf.old) (F.faults shelf.new) o o e e result }
+    ensures kept { F.files shelf.new ≡ F.files shelf.old }
+    ensures stays { F.there shelf.new ≡ F.there shelf.old }
+    ensures keeps { F.unfailing shelf.old → F.unfailing shelf.new }
+{
+    let text = load_compared(alloc, script.path, file.text.as_slice(), shelf)?;
+    let path = name_beside(alloc, script.path, file.text.as_slice())?;
+    let at = past_lines(&text, state.lines);
+    state.compared = Some(CompareFile { path, text, at });
+    Ok(())
+}
+
+fn do_rom<F: Shelf>(
+    alloc: Global,
+    script: Script<'_>,
+    word: &Placed,
+    file: &Placed,
+    state: &mut State<'_>,
+    shelf: &mut F,
+) -> Result<(), Stop>
+    ensures does { (s : Standing) → IsState state.old s → Quietly (setting_of script.entry.path.now (F.files shelf.old) script.entry.blocks) (Misses (setting_of script.entry.path.now (F.files shelf.old) script.entry.blocks) (F.there shelf.old) (F.unfailing shelf.old) s (acts.LoadRom word.now file.now)) s (acts.LoadRom word.now file.now) state.new result }
+    ensures counts { (o e : ℕ) → CountsStop (F.faults shelf.old) (F.faults shelf.new) o o e e result }
+    ensures kept { F.files shelf.new ≡ F.files shelf.old }
+    ensures stays { F.there shelf.new ≡ F.there shelf.old }
+    ensures keeps { F.unfailing shelf.old → F.unfailing shelf.new }
+{
+    if !state.device.has_rom() {
+        return Err(no_name(alloc, script.path, word));
+    }
+    let image = load_image(alloc, script.path, file.text.as_slice(), shelf)?;
+    state.device.load_rom(alloc, &image)?;
+    Ok(())
+}
+
+/// Does an act.
+pub fn perform<'a, F: Shelf, O: Sink, E: Sink>(
+    alloc: Global,
+    script: Script<'_>,
+    act: &'a Act,
+    state: &mut State<'a>,
+    shelf: &mut F,
+    out: &mut Pieces<'_, O>,
+    err: &mut E,
+) -> Result<(), Stop>
+    requires { (w e : Option (List ℕ)) × ((s : Standing) × IsState state.old s × StandsThere w (O.written (sink_of out.old)) e (E.written err.old) (pending out.old) s) }
+    ensures does { (w e : Option (List ℕ)) (s : Standing) → IsState state.old s → StandsThere w (O.written (sink_of out.old)) e (E.written err.old) (pending out.old) s → Performs (setting_of script.entry.path.now (F.files shelf.old) script.entry.blocks) (F.there shelf.old) (F.unfailing shelf.old) w (O.written (sink_of out.new)) e (E.written err.new) (pending out.new) s act.now state.new result }
+    ensures counts { CountsStop (F.faults shelf.old) (F.faults shelf.new) (O.faults (sink_of out.old)) (O.faults (sink_of out.new)) (E.faults err.old) (E.faults err.new) result }
+    ensures same_sink { HaveSameSink out.old out.new }
+    ensures kept { F.files shelf.new ≡ F.files shelf.old }
+    ensures stays { F.there shelf.new ≡ F.there shelf.old }
+    ensures keeps { F.unfailing shelf.old → F.unfailing shelf.new }
+{
+    match act {
+        Act::Step(step) => do_step(alloc, *step, state, out),
+        Act::Load(file) => do_load(alloc, script, file, state, shelf),
+        Act::OutputFile(_) => Ok(()),
+        Act::CompareTo(file) => do_compare(alloc, script, file, state, shelf),
+        Act::OutputList(items) => do_list(alloc, script.path, items.as_slice(), state, out),
+        Act::Set(variable, word) => do_set(alloc, script.path, variable, *word, state),
+        Act::Echo(text) => do_echo(text.as_slice(), err),
+        Act::LoadRom(word, file) => do_rom(alloc, script, word, file, state, shelf),
+    }
+}

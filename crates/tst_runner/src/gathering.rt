@@ -1,0 +1,256 @@
+//! The chips that a chip needs.
+ghost use Rattle.std.specs.Prelude.{◌≡◌, ◌++◌, ◌∷◌, [], false, true, ℕ, List, Option, Vec, IfOk, IfSome, MatchOption, OnOk, bytes_eq, map, reverse};
+ghost use Rattle.std.specs.declared.alloc.Global.{Global};
+ghost use Rattle.outer_world.specs.Files.{Files, IsListing, LacksFile, LacksFolder, has_name, path_in};
+ghost use Rattle.source_files.specs.Loads.{CountsLoad, Loads};
+ghost use Rattle.source_files.specs.Sources.{IsFaulty, SpellsAt};
+ghost use Rattle.hdl_tree.specs.declared.library.Library.{Library};
+ghost use Rattle.tst_runner.specs.Gathering.{Gather, GatherFails, IsFound, entry_of, file_of, needed_names};
+ghost use Rattle.tst_runner.specs.Inner.Gathered.{IsNext, IsNowhere, IsOrigin, IsRefusedAt, Leads, LacksFileOf, sources_of, text_entry};
+ghost use Rattle.tst_runner.specs.Inner.Languages.{RefusesHdl};
+ghost use Rattle.tst_runner.specs.Inner.Sound.{IsSound};
+ghost use Rattle.tst_runner.specs.Loading.{HasFailed, HasGathered};
+ghost use Rattle.tst_runner.specs.Setting.{folder_of, setting_of};
+ghost use Rattle.hdl_parser.specs.Spells.{Spells};
+
+use crate::copying::copy_entry;
+use crate::directories::entry_named;
+use crate::files::folder_of;
+use crate::languages::HdlText;
+use hack_cpu::library;
+use hdl_tree::{Body, Chip, Entry, Library, List, Name, Part, find_end};
+use outer_world::{Listing, Shelf};
+use source_files::{LoadError, load, path_in};
+use std::alloc::{AllocError, Global};
+
+// Where chips are found: the shipped ones, whether the memories are blocks, the folder and the names in it.
+#[derive(Clone, Copy)]
+struct Places<'a> {
+    shipped: &'a [Entry],
+    blocks: bool,
+    folder: &'a str,
+    names: &'a [outer_world::Name],
+}
+
+// Where the chip of a name is found: in a file of the folder, or among the shipped ones.
+#[derive(Clone, Copy)]
+enum Origin<'a> {
+    File(&'a outer_world::Name),
+    Shipped(&'a Entry),
+}
+
+// The names in a folder.
+fn names_in<F: Shelf>(
+    alloc: Global,
+    folder: &str,
+    shelf: &mut F,
+) -> Result<Vec<outer_world::Name>, LoadError>
+    ensures loads { Loads (λ (names : Vec (List ℕ) Global). IfSome (F.files shelf.old) (λ told. IsListing told folder.now names.items)) (λ _. ⊥) (F.unfailing shelf.old → LacksFolder (F.files shelf.old) (F.there shelf.old) folder.now) result }
+    ensures counts { CountsLoad (F.faults shelf.old) (F.faults shelf.new) result }
+    ensures kept { F.files shelf.new ≡ F.files shelf.old }
+    ensures stays { F.there shelf.new ≡ F.there shelf.old }
+    ensures keeps { F.unfailing shelf.old → F.unfailing shelf.new }
+{
+    match shelf.list(alloc, folder) {
+        Listing::Names(names) => Ok(names),
+        Listing::Failed => Err(LoadError::Failed),
+        Listing::Memory => Err(LoadError::Memory),
+    }
+}
+
+// Whether a file is that of the chip of a name.
+fn is_file_of(file: &[u8], name: &[u8]) -> bool
+    ensures { result ≡ bytes_eq (file_of name.now) file.now }
+{
+    match file.strip_suffix(b".hdl") {
+        None => false,
+        Some(stem) => name == stem,
+    }
+}
+
+// The name in the folder that is that of the file of a chip.
+fn listed<'a>(names: &'a [outer_world::Name], name: &[u8]) -> Option<&'a outer_world::Name>
+    ensures { MatchOption result (has_name names.now (file_of name.now) ≡ false) (λ file. (has_name names.now (file_of name.now) ≡ true) × (file.now ≡ file_of name.now)) }
+{
+    for file in names {
+        if is_file_of(file.as_bytes(), name) {
+            return Some(file);
+        }
+    }
+    None
+}
+
+// Where the chip of a name is found, if it is anywhere.
+fn find_origin<'a>(places: &Places<'a>, name: &[u8]) -> Option<Origin<'a>>
+    ensures { (files : Option Files) → MatchOption result (IsNowhere (sources_of places.now files) name.now) (IsOrigin (sources_of places.now files) name.now) }
+{
+    if let Some(file) = listed(places.names, name) {
+        return Some(Origin::File(file));
+    }
+    match entry_named(places.shipped, name) {
+        None => None,
+        Some(entry) => Some(Origin::Shipped(entry)),
+    }
+}
+
+// The next name whose chip is to be found, and where that is: those of chips that are there, and those that are nowhere, are passed over.
+fn next_new<'a>(
+    places: &Places<'a>,
+    entries: &[Entry],
+    stack: &mut Vec<Name>,
+) -> Option<(Name, Origin<'a>)>
+    ensures { (files : Option Files) → MatchOption result (Leads (sources_of places.now files) (reverse stack.old.items) entries.now [] entries.now) (λ next. IsNext (sources_of places.now files) (reverse stack.old.items) entries.now next.0 next.1 (reverse stack.new.items)) }
+{
+    'names: while let Some(name) = stack.pop() {
+        if entry_named(entries, name.as_bytes()).is_some() {
+            continue;
+        }
+        if let Some(found) = find_origin(places, name.as_bytes()) {
+            return Some((name, found));
+        }
+    }
+    None
+}
+
+// The shipped chip that a chip which is built in stands for, if there is one.
+fn original<'a>(shipped: &'a [Entry], chip: &Chip) -> Option<&'a Entry>
+    ensures { (name : List ℕ) → MatchOption result (entry_of shipped.now name chip.now ≡ text_entry name chip.now) (λ original. entry_of shipped.now name chip.now ≡ record original.now { name = name }) }
+{
+    match &chip.body {
+        Body::Parts(_) => None,
+        Body::Builtin(own, _) => entry_named(shipped, own.as_bytes()),
+    }
+}
+
+// The chip of a text, under this name.
+fn entry_of(alloc: Global, shipped: &[Entry], name: Name, chip: Chip) -> Result<Entry, AllocError>
+    ensures { IfOk result (λ entry. entry ≡ entry_of shipped.now name chip) }
+{
+    match original(shipped, &chip) {
+        None => Ok(Entry {
+            name,
+            chip,
+            shipped: None,
+        }),
+        Some(original) => copy_entry(alloc, name, original),
+    }
+}
+
+// The chip of a file of a folder.
+fn load_chip<F: Shelf>(
+    alloc: Global,
+    folder: &str,
+    file: &str,
+    shelf: &mut F,
+) -> Result<Chip, LoadError>
+    ensures loads { Loads (SpellsAt Spells (F.files shelf.old) (path_in folder.now file.now)) (IsFaulty RefusesHdl (F.files shelf.old) (path_in folder.now file.now)) (F.unfailing shelf.old → LacksFile (F.files shelf.old) (path_in folder.now file.now)) result }
+    ensures counts { CountsLoad (F.faults shelf.old) (F.faults shelf.new) result }
+    ensures kept { F.files shelf.new ≡ F.files shelf.old }
+    ensures stays { F.there shelf.new ≡ F.there shelf.old }
+    ensures keeps { F.unfailing shelf.old → F.unfailing shelf.new }
+{
+    let path = path_in(alloc, folder, file)?;
+    load(alloc, &HdlText, path.as_str(), file, shelf)
+}
+
+// The chip of a name, from where it is found.
+fn find<F: Shelf>(
+    alloc: Global,
+    places: &Places<'_>,
+    name: Name,
+    found: Origin<'_>,
+    shelf: &mut F,
+) -> Result<Entry, LoadError>
+    requires { IsOrigin (sources_of places.now (F.files shelf.old)) name found }
+    ensures loads { Loads (IsFound (sources_of places.now (F.files shelf.old)) name) (IsRefusedAt (sources_of places.now (F.files shelf.old)) name) (F.unfailing shelf.old → LacksFileOf (sources_of places.now (F.files shelf.old)) name) result }
+    ensures counts { CountsLoad (F.faults shelf.old) (F.faults shelf.new) result }
+    ensures kept { F.files shelf.new ≡ F.files shelf.old }
+    ensures stays { F.there shelf.new ≡ F.there shelf.old }
+    ensures keeps { F.unfailing shelf.old → F.unfailing shelf.new }
+{
+    match found {
+        Origin::File(file) => {
+            let chip = load_chip(alloc, places.folder, file.as_str(), shelf)?;
+            Ok(entry_of(alloc, places.shipped, name, chip)?)
+        }
+        Origin::Shipped(entry) => Ok(copy_entry(alloc, name, entry)?),
+    }
+}
+
+// Puts the names of the chips of parts on a stack, the first on top.
+fn push_chips(stack: &mut Vec<Name>, parts: &[Part]) -> Result<(), AllocError>
+    ensures { OnOk result (stack.new.items ≡ stack.old.items ++ reverse (map (λ part. part.chip) parts.now)) }
+{
+    for k in (0..parts.len()).rev() {
+        stack.push(parts[k].chip.clone()?)?;
+    }
+    Ok(())
+}
+
+// Puts the names that a chip needs on a stack, the first on top.
+fn push_needed(stack: &mut Vec<Name>, blocks: bool, entry: &Entry) -> Result<(), AllocError>
+    ensures { OnOk result (reverse stack.new.items ≡ needed_names blocks entry.now ++ reverse stack.old.items) }
+{
+    if find_end(blocks, entry).is_some() {
+        return Ok(());
+    }
+    match &entry.chip.body {
+        Body::Parts(parts) => push_chips(stack, parts.as_slice()),
+        Body::Builtin(_, _) => Ok(()),
+    }
+}
+
+// The chips that the chip of a name needs.
+fn gather_from<F: Shelf>(
+    alloc: Global,
+    places: &Places<'_>,
+    name: &Name,
+    shelf: &mut F,
+) -> Result<Library, LoadError>
+    requires { IfSome (F.files shelf.old) (λ told. IsListing told places.now.folder.now places.now.names.now) }
+    ensures loads { Loads (λ (library : Library). Gather (sources_of places.now (F.files shelf.old)) (name.now ∷ []) [] library.entries) (GatherFails (sources_of places.now (F.files shelf.old)) (name.now ∷ []) []) (F.unfailing shelf.old → LacksFolder (F.files shelf.old) (F.there shelf.old) places.now.folder.now) result }
+    ensures counts { CountsLoad (F.faults shelf.old) (F.faults shelf.new) result }
+    ensures kept { F.files shelf.new ≡ F.files shelf.old }
+    ensures stays { F.there shelf.new ≡ F.there shelf.old }
+    ensures keeps { F.unfailing shelf.old → F.unfailing shelf.new }
+{
+    let mut entries = List::new(alloc);
+    let mut stack = Vec::new(alloc);
+    stack.push(name.clone()?)?;
+    'chips: while let Some((name, found)) = next_new(places, entries.as_slice(), &mut stack) {
+        let entry = find(alloc, places, name, found, shelf)?;
+        push_needed(&mut stack, places.blocks, &entry)?;
+        entries.push(entry)?;
+    }
+    Ok(Library { entries })
+}
+
+/// The chips that the chip of this name needs, by name: the files of the script's folder, read depth first in text order, each once, and else
+/// the shipped chips.
+///
+/// Otherwise why a text is refused, that the shelf failed, or want of memory. An honest shelf fails only for a folder that is not there.
+pub fn gather<F: Shelf>(
+    alloc: Global,
+    path: &str,
+    name: &Name,
+    blocks: bool,
+    shelf: &mut F,
+) -> Result<Library, LoadError>
+    ensures loads { Loads (λ (library : Library). HasGathered (setting_of path.now (F.files shelf.old) blocks) name.now library.entries) (HasFailed (setting_of path.now (F.files shelf.old) blocks) name.now) (F.unfailing shelf.old → LacksFolder (F.files shelf.old) (F.there shelf.old) (folder_of path.now)) result }
+    ensures sound { IfOk result (λ library. IsSound library.entries) }
+    ensures counts { CountsLoad (F.faults shelf.old) (F.faults shelf.new) result }
+    ensures kept { F.files shelf.new ≡ F.files shelf.old }
+    ensures stays { F.there shelf.new ≡ F.there shelf.old }
+    ensures keeps { F.unfailing shelf.old → F.unfailing shelf.new }
+{
+    let folder = folder_of(path);
+    let names = names_in(alloc, folder, shelf)?;
+    let shipped = library(alloc)?;
+    let places = Places {
+        shipped: shipped.entries.as_slice(),
+        blocks,
+        folder,
+        names: &names,
+    };
+    gather_from(alloc, &places, name, shelf)
+}

@@ -1,0 +1,35 @@
+//! Test scripts: what a script puts on out and on err, as definitions, what its variables stand for, and what it drives. (The book, appendix 3.)
+#![tactic(auto)]
+
+ghost use Rattle.tst_runner.specs.Rows.{ScriptRowsLaw};
+
+mod acts;
+mod brackets;
+mod building;
+mod commands;
+mod copying;
+mod device;
+mod directories;
+mod files;
+mod gathering;
+mod languages;
+mod lines;
+mod loading;
+mod machine;
+mod outlet;
+mod printing;
+mod registers;
+mod running;
+mod script;
+mod script_language;
+mod standing;
+mod variables;
+
+pub use languages::{Form, HdlText, ProgramText};
+pub use script::{ScriptError, Verdict, run_script};
+pub use standing::Difference;
+
+/// Small scripts.
+pub fn rows_law()
+    ensures { ScriptRowsLaw }
+{}

@@ -1,9 +1,0 @@
--- What a program tells that has no code. Want of memory tells nothing.
-use Rattle.std.specs.Prelude.{Option, Some, None, decimal, codes}
-use Rattle.outer_world.specs.Refusals.{Message, message}
-use Rattle.vm_translator.specs.declared.coded.CodeFault.{CodeFault}
-use Rattle.vm_translator.specs.declared.coded.CodeFault.TheVariants as fault
-
-abbrev pub code_told : CodeFault → Option Message
-code_told (fault.TooLarge words) = Some (message 0 0 (codes "TooLarge") (decimal words))
-code_told fault.Memory = None
