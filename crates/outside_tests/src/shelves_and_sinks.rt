@@ -147,7 +147,8 @@ fn buffer_of_pieces(rt: HostRuntime) -> Result<(), Fail> {
     Ok(())
 }
 
-// Makes a folder with two files and with a folder in it. One of the files has the 9,000 bytes of this text.
+// Makes a folder with two files, with a folder in it, and with a link to nothing and one to itself. One of the files has the 9,000
+// bytes of this text.
 fn put_files(
     rt: &(impl Files + AllocGlobal + Abort),
     alloc: Global,
@@ -158,6 +159,10 @@ fn put_files(
     let ball = format!(in alloc; "{folder}/Ball.jack")?;
     fs::create_dir_all(rt, inner.as_str())?;
     fs::write(rt, ball.as_str(), "")?;
+    let lock = format!(in alloc; "{folder}/.#Main.jack")?;
+    let circle = format!(in alloc; "{folder}/Circle.jack")?;
+    rt.symlink("founder@host.1234", lock.as_str())?;
+    rt.symlink("Circle.jack", circle.as_str())?;
     let mut sink = StdSink::new(fs::create(rt, main.as_str())?);
     assert_eq!(rt; put_many(&mut Pieces::new(&mut sink)), Put::Done);
     let text = fs::read_to_string(rt, main.as_str())?;
