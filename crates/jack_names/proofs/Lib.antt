@@ -18,3 +18,8 @@ pub mod Telling
 pub mod Placed
 pub mod Meaningful
 pub mod MeantWholly
+pub mod Held
+pub mod Composed
+pub mod Bodied
+pub mod Programmed
+pub mod Planted

@@ -13,4 +13,6 @@ pub mod Limits
 pub mod Resolved
 pub mod Messages
 pub mod Made
+pub mod Lengths
+pub mod Existence
 pub mod Inner

@@ -1,5 +1,6 @@
 //! What holds of the names of every program.
 
+ghost use Rattle.jack_names.specs.Existence.{ExistenceLaw};
 ghost use Rattle.jack_names.specs.Laws.{NamesLaw, MeantLaw};
 ghost use Rattle.jack_names.specs.Rows.{NameRows};
 
@@ -13,4 +14,9 @@ pub fn names_law()
 /// The program that classes mean is the one that their abstract syntax means.
 pub fn meant_law()
     ensures { MeantLaw }
+{}
+
+/// Each class is what some tree says, and classes mean some program, unless they are longer than any memory.
+pub fn existence_law()
+    ensures { ExistenceLaw }
 {}

@@ -17,7 +17,7 @@ mod twice;
 mod variables;
 
 pub use fault::{NameError, NameFault, NameKind};
-pub use laws::{meant_law, names_law};
+pub use laws::{existence_law, meant_law, names_law};
 pub use program::resolve;
 // What the definitions of resolved names speak of.
 pub use scope::{Declared, Signature, Slot, Way};

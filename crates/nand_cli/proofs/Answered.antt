@@ -1,4 +1,4 @@
--- Over known files a line that wants no image has an answer; and a folder has well named classes, or is refused.
+-- Over known files a line has an answer; and a folder has well named classes, or is refused.
 use Rattle.std.specs.Prelude.{◌-◌, ◌^◌, min, nat_le}
 use Rattle.std.proofs.Common.{◌≡◌, ◌≤◌, ◌<◌, ◌⊎◌, inl, inr, ℕ, Bool, true, false, List, [], ◌∷◌, Option, Some, None, Result, Ok, Err, codes, length, take, refl, subst, arith}
 use Rattle.std.proofs.lemmas.Bool.Decides.{nat_tests}
@@ -42,7 +42,7 @@ use Rattle.jack_places.specs.Rising.{AreSpelled, FirstLaw}
 use Rattle.command_line.specs.Line.{Line, asm, build, chip, compile, exec, map_line, run, show, test, vm}
 use Rattle.command_line.specs.declared.request.SourceKind.TheVariants as kinds
 use Rattle.nand_cli.specs.Answer.{Prints}
-use Rattle.nand_cli.specs.Answered.{AnsweredLaw, AsmAnsweredLaw, ChipAnsweredLaw, CompileAnsweredLaw, ExecAnsweredLaw, FolderAnsweredLaw, HasAnswer, IsWellFolder, ShowAnsweredLaw, VmAnsweredLaw}
+use Rattle.nand_cli.specs.Answered.{AnsweredLaw, AsmAnsweredLaw, ChipAnsweredLaw, CompileAnsweredLaw, ExecAnsweredLaw, FolderAnsweredLaw, HasAnswer, IsWellFolder, ProgramAnsweredLaw, ShowAnsweredLaw, VmAnsweredLaw}
 use Rattle.nand_cli.specs.Commands.Chip.{unknown_chip}
 use Rattle.nand_cli.specs.Commands.Exec.{form_of}
 use Rattle.nand_cli.specs.Commands.Show.{RefusesKind}
@@ -202,14 +202,14 @@ compile_answered law there files folder = elim (law files folder) [
 
 -- ---- each line
 
-pub answered : AsmAnsweredLaw → ExecAnsweredLaw → VmAnsweredLaw → ShowAnsweredLaw → ChipAnsweredLaw → CompileAnsweredLaw → AnsweredLaw
-answered for_asm for_exec for_vm for_show for_chip for_compile there files (asm path) other none = for_asm there files path
-answered for_asm for_exec for_vm for_show for_chip for_compile there files (exec path cycles from to) other none = for_exec there files path cycles from to
-answered for_asm for_exec for_vm for_show for_chip for_compile there files (vm folder bare) other none = for_vm there files folder bare
-answered for_asm for_exec for_vm for_show for_chip for_compile there files (show path kind) other none = for_show there files path kind
-answered for_asm for_exec for_vm for_show for_chip for_compile there files (run folder level cycles keys) other none = absurd none
-answered for_asm for_exec for_vm for_show for_chip for_compile there files (chip name) other none = for_chip there files name
-answered for_asm for_exec for_vm for_show for_chip for_compile there files (compile folder) other none = for_compile there files folder
-answered for_asm for_exec for_vm for_show for_chip for_compile there files (build folder) other none = absurd none
-answered for_asm for_exec for_vm for_show for_chip for_compile there files (map_line folder) other none = absurd none
-answered for_asm for_exec for_vm for_show for_chip for_compile there files (test path gates) other none = absurd other
+pub answered : AsmAnsweredLaw → ExecAnsweredLaw → VmAnsweredLaw → ShowAnsweredLaw → ChipAnsweredLaw → CompileAnsweredLaw → ProgramAnsweredLaw → AnsweredLaw
+answered for_asm for_exec for_vm for_show for_chip for_compile for_image there files (asm path) other = for_asm there files path
+answered for_asm for_exec for_vm for_show for_chip for_compile for_image there files (exec path cycles from to) other = for_exec there files path cycles from to
+answered for_asm for_exec for_vm for_show for_chip for_compile for_image there files (vm folder bare) other = for_vm there files folder bare
+answered for_asm for_exec for_vm for_show for_chip for_compile for_image there files (show path kind) other = for_show there files path kind
+answered for_asm for_exec for_vm for_show for_chip for_compile for_image there files (run folder level cycles keys) other = for_image there files (run folder level cycles keys) tt
+answered for_asm for_exec for_vm for_show for_chip for_compile for_image there files (chip name) other = for_chip there files name
+answered for_asm for_exec for_vm for_show for_chip for_compile for_image there files (compile folder) other = for_compile there files folder
+answered for_asm for_exec for_vm for_show for_chip for_compile for_image there files (build folder) other = for_image there files (build folder) tt
+answered for_asm for_exec for_vm for_show for_chip for_compile for_image there files (map_line folder) other = for_image there files (map_line folder) tt
+answered for_asm for_exec for_vm for_show for_chip for_compile for_image there files (test path gates) other = absurd other

@@ -1,4 +1,4 @@
--- Where a folder means a program, a line that wants its image has an answer.
+-- A line that wants the image of a folder has an answer.
 use Rattle.std.specs.Prelude.{◌-◌, ◌^◌, All, get_or, min, nat_eq, nat_le, option_and_then}
 use Rattle.std.specs.List.{AllByRecursion}
 use Rattle.std.specs.Option.{option_or}
@@ -72,12 +72,12 @@ use Rattle.command_line.specs.declared.request.RunLevel.{RunLevel}
 use Rattle.command_line.specs.declared.request.RunLevel.TheVariants as levels
 use Rattle.command_line.specs.declared.request.Shown.{Shown}
 use Rattle.command_line.specs.declared.request.Shown.TheVariants.{Nets, Words}
-use Rattle.nand_cli.specs.Answered.{HasAnswer, ProgramAnsweredLaw}
-use Rattle.nand_cli.specs.JackFolder.{BuildIsRefused, FolderMeans}
+use Rattle.nand_cli.specs.Answered.{FolderAnsweredLaw, FolderMeansLaw, HasAnswer, IsWellFolder, ProgramAnsweredLaw}
+use Rattle.nand_cli.specs.JackFolder.{BuildIsRefused, FolderIsRefused, FolderMeans}
 use Rattle.nand_cli.specs.Languages.{RefusesKeys}
-use Rattle.nand_cli.specs.Commands.Build.{unbuilt}
+use Rattle.nand_cli.specs.Commands.Build.{unbuilt, without_program}
 use Rattle.nand_cli.specs.Commands.Gates.{ComesAfter, IsGatesReport, gates_trace, meaning_in}
-use Rattle.nand_cli.specs.Commands.Run.{EndsAt, HasKeys, IsHackReport, IsJackReport, IsReport, ScriptIsRefused, name_of, state_after, trace_in, unbuilt as run_unbuilt, without_script}
+use Rattle.nand_cli.specs.Commands.Run.{EndsAt, HasKeys, IsHackReport, IsJackReport, IsReport, ScriptIsRefused, name_of, state_after, trace_in, unbuilt as run_unbuilt, without_program as run_without_program, without_script}
 use Rattle.nand_cli.specs.Commands.RunVm.{IsVmReport}
 use Rattle.nand_cli.proofs.Covering.{covered}
 use Rattle.nand_cli.proofs.FolderAnswered.{AllRead, at_path}
@@ -97,6 +97,8 @@ pub record Laws : Type 0 where
   pub sizes : (l : Linked) → length (image_of l) ≤ budget_of l
   pub keys : KeyLaw
   pub runs : RunsLaw
+  pub folders : FolderAnsweredLaw
+  pub programs : FolderMeansLaw
 
 -- ---- the image
 
@@ -391,14 +393,40 @@ module _ (laws : Laws) (there : List ℕ → Bool) (files : Files) (folder : Lis
     | inr (line, h) ↦ inr (inl ([], [], line, (refl, run_unbuilt core means h, refl)))
   ]
 
+-- ---- the folder
+
+module _ (laws : Laws) (files : Files) (folder : List ℕ) where
+  abbrev MeansOrNot : Type 0
+  MeansOrNot = ((core : Core) × FolderMeans (Some files) folder core) ⊎ ((line : List ℕ) × FolderIsRefused (Some files) folder line)
+
+  by_classes : IsWellFolder files folder ⊎ ((line : List ℕ) × FolderIsRefused (Some files) folder line) → MeansOrNot
+  by_classes (inl well) = inl (laws.programs files folder well)
+  by_classes (inr refused) = inr refused
+
+  means_or_not : MeansOrNot
+  means_or_not = by_classes (laws.folders files folder)
+
+module _ (laws : Laws) (there : List ℕ → Bool) (files : Files) (folder : List ℕ) where
+  build_by : MeansOrNot laws files folder → HasAnswer there files (build folder)
+  build_by (inl (core, means)) = build_answer laws there files folder core means
+  build_by (inr (line, h)) = inr (inl ([], [], line, (refl, without_program h, refl)))
+
+  map_by : MeansOrNot laws files folder → HasAnswer there files (map_line folder)
+  map_by (inl (core, means)) = map_answer laws there files folder core means
+  map_by (inr (line, h)) = inr (inl ([], [], line, (refl, without_program h, refl)))
+
+  any_run : (level : RunLevel) (cycles : ℕ) (keys : Option (List ℕ)) → MeansOrNot laws files folder → HasAnswer there files (run folder level cycles keys)
+  any_run level cycles keys (inl (core, means)) = run_by laws there files folder core means level cycles keys
+  any_run level cycles keys (inr (line, h)) = inr (inl ([], [], line, (refl, run_without_program h, refl)))
+
 pub program_answered : Laws → ProgramAnsweredLaw
-program_answered laws there files (build folder) core means = build_answer laws there files folder core means
-program_answered laws there files (map_line folder) core means = map_answer laws there files folder core means
-program_answered laws there files (run folder level cycles keys) core means = run_by laws there files folder core means level cycles keys
-program_answered laws there files (asm path) core means = absurd means
-program_answered laws there files (exec path cycles from to) core means = absurd means
-program_answered laws there files (vm folder bare) core means = absurd means
-program_answered laws there files (show path kind) core means = absurd means
-program_answered laws there files (compile folder) core means = absurd means
-program_answered laws there files (chip name) core means = absurd means
-program_answered laws there files (test path gates) core means = absurd means
+program_answered laws there files (build folder) wants = build_by laws there files folder (means_or_not laws files folder)
+program_answered laws there files (map_line folder) wants = map_by laws there files folder (means_or_not laws files folder)
+program_answered laws there files (run folder level cycles keys) wants = any_run laws there files folder level cycles keys (means_or_not laws files folder)
+program_answered laws there files (asm path) wants = absurd wants
+program_answered laws there files (exec path cycles from to) wants = absurd wants
+program_answered laws there files (vm folder bare) wants = absurd wants
+program_answered laws there files (show path kind) wants = absurd wants
+program_answered laws there files (compile folder) wants = absurd wants
+program_answered laws there files (chip name) wants = absurd wants
+program_answered laws there files (test path gates) wants = absurd wants

@@ -38,17 +38,6 @@ ChipAnsweredLaw = (there : List ℕ → Bool) (files : Files) (name : List ℕ) 
 abbrev pub CompileAnsweredLaw : Type 0
 CompileAnsweredLaw = (there : List ℕ → Bool) (files : Files) (folder : List ℕ) → HasAnswer there files (compile folder)
 
--- Of lines that want an image it is not claimed as it stands.
-abbrev pub WantsNoImage : Line → Type 0
-WantsNoImage (build folder) = ⊥
-WantsNoImage (map_line folder) = ⊥
-WantsNoImage (run folder level cycles keys) = ⊥
-WantsNoImage line = Unit {0}
-
--- The law of answers.
-abbrev pub AnsweredLaw : Type 0
-AnsweredLaw = (there : List ℕ → Bool) (files : Files) (line : Line) → IsNoTest line → WantsNoImage line → HasAnswer there files line
-
 -- ---- lines that want an image
 
 -- The folder has classes that are well named with those of the operating system.
@@ -59,14 +48,23 @@ IsWellFolder files folder = (own os : List ClassFile) × HasClasses (Some files)
 abbrev pub FolderAnsweredLaw : Type 0
 FolderAnsweredLaw = (files : Files) (folder : List ℕ) → IsWellFolder files folder ⊎ ((line : List ℕ) × FolderIsRefused (Some files) folder line)
 
--- The line wants an image, and its folder means this program.
-abbrev pub MeansProgram : Files → Line → Core → Type 0
-MeansProgram files (build folder) core = FolderMeans (Some files) folder core
-MeansProgram files (map_line folder) core = FolderMeans (Some files) folder core
-MeansProgram files (run folder level cycles keys) core = FolderMeans (Some files) folder core
-MeansProgram files line core = ⊥
+-- The law of meanings: such a folder means a program.
+abbrev pub FolderMeansLaw : Type 0
+FolderMeansLaw = (files : Files) (folder : List ℕ) → IsWellFolder files folder → (core : Core) × FolderMeans (Some files) folder core
 
--- The law of programs: where the folder of a line means a program, the line has an answer. (So of these lines it is open alone whether a folder with
--- well named classes means a program: one that the code can hold.)
+-- The line wants an image.
+abbrev pub WantsImage : Line → Type 0
+WantsImage (build folder) = Unit {0}
+WantsImage (map_line folder) = Unit {0}
+WantsImage (run folder level cycles keys) = Unit {0}
+WantsImage line = ⊥
+
+-- The law of programs: each line that wants an image has an answer.
 abbrev pub ProgramAnsweredLaw : Type 0
-ProgramAnsweredLaw = (there : List ℕ → Bool) (files : Files) (line : Line) (core : Core) → MeansProgram files line core → HasAnswer there files line
+ProgramAnsweredLaw = (there : List ℕ → Bool) (files : Files) (line : Line) → WantsImage line → HasAnswer there files line
+
+-- ---- each line
+
+-- The law of answers: each line that is no test script has one.
+abbrev pub AnsweredLaw : Type 0
+AnsweredLaw = (there : List ℕ → Bool) (files : Files) (line : Line) → IsNoTest line → HasAnswer there files line

@@ -1,6 +1,5 @@
-//! Laws of lines: over known files a line has at most one answer, one that wants no image has one, and one with which nothing is wrong is
-//! not refused.
-ghost use Rattle.nand_cli.specs.Answered.{AnsweredLaw, AsmAnsweredLaw, ChipAnsweredLaw, CompileAnsweredLaw, ExecAnsweredLaw, FolderAnsweredLaw, ProgramAnsweredLaw, ShowAnsweredLaw, VmAnsweredLaw};
+//! Laws of lines: over known files a line has one answer, and one with which nothing is wrong is not refused.
+ghost use Rattle.nand_cli.specs.Answered.{AnsweredLaw, AsmAnsweredLaw, ChipAnsweredLaw, CompileAnsweredLaw, ExecAnsweredLaw, FolderAnsweredLaw, FolderMeansLaw, ProgramAnsweredLaw, ShowAnsweredLaw, VmAnsweredLaw};
 ghost use Rattle.nand_cli.specs.Commands.Vm.{VmDoesLaw};
 ghost use Rattle.nand_cli.specs.Complete.{SoundLaw};
 ghost use Rattle.nand_cli.specs.CompleteRows.{CompleteRows};
@@ -147,7 +146,7 @@ pub fn compile_answered_law()
     folder_answered_law();
 }
 
-/// Law: over known files each line that wants no image, and is no test script, has an answer.
+/// Law: over known files each line that is no test script has an answer.
 pub fn answered_law()
     ensures { AnsweredLaw }
 {
@@ -157,9 +156,17 @@ pub fn answered_law()
     show_answered_law();
     chip_answered_law();
     compile_answered_law();
+    program_answered_law();
 }
 
-/// Law: where the folder of a line that wants an image means a program, the line has an answer.
+/// Law: a folder with well named classes means a program.
+pub fn folder_means_law()
+    ensures { FolderMeansLaw }
+{
+    tower::program_law();
+}
+
+/// Law: over known files each line that wants an image has an answer.
 pub fn program_answered_law()
     ensures { ProgramAnsweredLaw }
 {
@@ -168,6 +175,8 @@ pub fn program_answered_law()
     vm_translator::size_law();
     key_script::total_law();
     hack_cpu::runs_law();
+    folder_answered_law();
+    folder_means_law();
 }
 
 /// Law: a folder whose files are known means at most one program.

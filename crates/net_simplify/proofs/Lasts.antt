@@ -15,7 +15,7 @@ use Rattle.netlist.specs.Order.{FitsAt, IsReadable, HasInputs, AreOrdered}
 use Rattle.netlist.specs.Present.{value_in}
 use Rattle.netlist.specs.Renamed.{renamed_node}
 use Rattle.netlist.specs.Folded.{IsFolded, ReadsUsed, moved_block}
-use Rattle.net_simplify.specs.Normal.{IsOne, IsConstant, HasNoTwins, HasNoDoubleNot, ReadsNoConstant, HasInput, BlockReads, IsReached, AllReached}
+use Rattle.net_simplify.specs.Normal.{IsOne, IsConstant, HasNoTwins, HasOneZero, HasNoDoubleNot, ReadsNoConstant, HasInput, BlockReads, IsReached, AllReached}
 use Rattle.net_simplify.specs.Normal.IsReached.{keeps, read, input}
 use Rattle.net_simplify.specs.Inner.Reach.{IsMarked, IsSound, AreReached}
 use Rattle.net_simplify.specs.Inner.Trim.{ArePlaces, ComesFrom, AreTrimmed}
@@ -206,6 +206,14 @@ module _ (mid : Net) (new : List Node) (kept : List ℕ) (marks : List Bool) (pl
       let y = apart h.j h.i (second_within i j j h) (first_within i j j h) (second_marked i j j h) (first_marked i j j h) (h.second ∙ sym h.first) in
       let z = apart h.k g.i (gate_within i j j h) (first_within k i i g) h.marked (first_marked k i i g) (h.place ∙ sym g.first) in
       nots g.k g.i h.i (g.there ∙ ap (λ u. Some (Nand g.i u)) x) (ap (slice_get mid.nodes) (sym z) ∙ h.there ∙ ap (λ u. Some (Nand h.i u)) y)
+
+  pub last_zeros : HasOneZero mid.nodes → HasOneZero new
+  last_zeros zeros k l e f =
+      let c = t.only k Zero e in
+      let d = t.only l Zero f in
+      let first = c.there ∙ ap Some (was_zero places c.old (sym c.is)) in
+      let second = d.there ∙ ap Some (was_zero places d.old (sym d.is)) in
+      sym c.place ∙ ap on (zeros c.k d.k first second) ∙ d.place
 
   zero_from : (i : ℕ) → i < length mid.nodes → IsMarked marks i → slice_get new (on i) ≡ Some Zero → slice_get mid.nodes i ≡ Some Zero
   zero_from i less m e =

@@ -1,5 +1,5 @@
--- The normal form of a simplified netlist, as five predicates: HasNoTwins, HasNoDoubleNot, ReadsNoConstant, AllReached, IsSmall. (The book,
--- chapter 1.)
+-- The normal form of a simplified netlist, as six predicates: HasNoTwins, HasOneZero, HasNoDoubleNot, ReadsNoConstant, AllReached, IsSmall.
+-- (The book, chapter 1.)
 use Rattle.std.specs.Prelude.{◌≡◌, ℕ, ◌+◌, ◌≤◌, ◌⊎◌, List, length, Some, slice_get}
 use Rattle.std.specs.List.{Contains}
 use Rattle.netlist.specs.declared.node.Node.{Node}
@@ -12,6 +12,10 @@ use Rattle.netlist.specs.Net.{Net}
 -- no two Nands have the same inputs, in either order
 abbrev pub HasNoTwins : List Node → Type 0
 HasNoTwins nodes = (k l i j : ℕ) → slice_get nodes k ≡ Some (Nand i j) → (slice_get nodes l ≡ Some (Nand i j)) ⊎ (slice_get nodes l ≡ Some (Nand j i)) → k ≡ l
+
+-- there is one Zero at most
+abbrev pub HasOneZero : List Node → Type 0
+HasOneZero nodes = (k l : ℕ) → slice_get nodes k ≡ Some Zero → slice_get nodes l ≡ Some Zero → k ≡ l
 
 -- ---- no double negation
 

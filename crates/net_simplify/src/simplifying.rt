@@ -6,6 +6,7 @@ ghost use Rattle.netlist.specs.Order.{AreOrdered};
 ghost use Rattle.net_simplify.specs.Inner.Reach.{AreReached};
 ghost use Rattle.net_simplify.specs.Inner.Trim.{ArePlaces};
 ghost use Rattle.net_simplify.specs.Inner.Last.{HasMarked, HasReached};
+ghost use Rattle.net_simplify.specs.Inner.Twice.{IsFoldedTwice, IsWhole};
 ghost use Rattle.net_simplify.specs.Simplified.{IsSimplified};
 
 use crate::middle::folded_net;
@@ -71,19 +72,20 @@ fn simplified(
     requires ordered { AreOrdered nodes.now blocks.now }
     requires kept { All (λ k. k < length nodes.now) keep.now }
     requires few { length nodes.now < 2 ^ 32 - 1 }
-    ensures { IfOk result (λ s. IsSimplified (record { nodes = nodes.now; blocks = blocks.now }) s.net keep.now s.place.items) }
+    ensures { IfOk result (λ s. IsWhole (record { nodes = nodes.now; blocks = blocks.now }) s.net keep.now s.place.items) }
 {
     let middle = folded_net(alloc, nodes, blocks)?;
     let kept = moved_numbers(alloc, keep, &middle.to)?;
     reached_net(alloc, middle.net.nodes(), middle.net.blocks(), &kept)
 }
 
-/// A netlist that shows the same of the kept nodes, in normal form: no two Nands alike, no double negation, no constant that a gate reads
-/// but in a One, and no dead node. Fails only where memory is wanted.
+/// A netlist that shows the same of the kept nodes, in normal form: no two Nands alike, one Zero at most, no double negation, no constant
+/// that a gate reads but in a One, and no dead node. Fails only where memory is wanted.
 pub fn simplify(alloc: Global, net: &Netlist, keep: &[u32]) -> Result<Simple, AllocError>
     requires kept { All (λ k. k < length net.now.nodes) keep.now }
     requires few { length net.now.nodes < 2 ^ 32 - 1 }
-    ensures { IfOk result (λ s. IsSimplified net.now s.net keep.now s.place.items) }
+    ensures simplified { IfOk result (λ s. IsSimplified net.now s.net keep.now s.place.items) }
+    ensures folded { IfOk result (λ s. IsFoldedTwice net.now s.net keep.now s.place.items) }
 {
     simplified(alloc, net.nodes(), net.blocks(), keep)
 }

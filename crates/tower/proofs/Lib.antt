@@ -27,6 +27,8 @@ pub mod Spelled
 pub mod Completed
 pub mod Programs
 pub mod OneProgram
+mod Long
+pub mod Existing
 pub mod BudgetWords
 pub mod Budgets
 pub mod BudgetRows

@@ -2,6 +2,7 @@ pub mod Read
 pub mod Spelled
 pub mod Program
 pub mod Resolved
+pub mod Existence
 pub mod OneProgram
 pub mod Headline
 pub mod Mapped

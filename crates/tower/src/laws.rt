@@ -3,6 +3,7 @@
 ghost use Rattle.tower.specs.Budget.{BudgetLaw};
 ghost use Rattle.tower.specs.BudgetRows.{BudgetRows};
 ghost use Rattle.tower.specs.Built.{ComputerLaw};
+ghost use Rattle.tower.specs.Existence.{ProgramLaw};
 ghost use Rattle.tower.specs.Headline.{BehindLaw, HeadlineLaw};
 ghost use Rattle.tower.specs.OneProgram.{OneProgramLaw};
 ghost use Rattle.tower.specs.Resolved.{ResolvedLaw};
@@ -20,6 +21,13 @@ pub fn read_law()
 pub fn resolved_law()
     ensures { ResolvedLaw }
 {}
+
+/// Well named classes that texts spell mean a program.
+pub fn program_law()
+    ensures { ProgramLaw }
+{
+    jack_names::existence_law();
+}
 
 /// Classes with the same abstract syntax mean one program, with the same names.
 pub fn one_program_law()

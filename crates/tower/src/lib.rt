@@ -14,8 +14,8 @@ pub use compiled::compile_classes;
 pub use computer::{build, prepare_hack};
 pub use hack_level::HackLevel;
 pub use laws::{
-    behind_law, budget_law, computer_law, headline_law, one_program_law, read_law, resolved_law,
-    vm_driven_law, vm_run_law,
+    behind_law, budget_law, computer_law, headline_law, one_program_law, program_law, read_law,
+    resolved_law, vm_driven_law, vm_run_law,
 };
 pub use program::{ProgramError, program_of_classes};
 pub use vm_level::prepare_vm;

@@ -8,4 +8,6 @@ returns c = program_answered (record {
   sizes = c.size_law.ensures;
   keys = c.total_law.ensures;
   runs = c.runs_law.ensures;
+  folders = c.folder_answered_law.ensures;
+  programs = c.folder_means_law.ensures;
 })
