@@ -10,7 +10,12 @@ use Rattle.machine_io.specs.declared.machine.Moved.TheVariants.{Acted}
 use Rattle.simulation.specs.System.{IsKey, keys_heard}
 use Rattle.simulation.specs.Trace.{heard_keys}
 use Rattle.simulation.proofs.Traces.{steps_same, heard_same, point_same}
-use Rattle.vm_templates.specs.Computer.{reads_key}
+use Rattle.image_map.specs.Map.{the_map}
+use Rattle.image_map.specs.Computer.{reads_key, run_trace}
+use Rattle.image_map.specs.Tallies.{TallyState, HasTallied, trace_through}
+use Rattle.image_map.specs.Turns.{HoldsKeys}
+use Rattle.image_map.proofs.Holding.{holds_before, holds_last, one_longer, key_at, key_at_past, key_words, are_keys, holds_own}
+use Rattle.image_map.proofs.Tallying.{machine_pc}
 use Rattle.hdl_tree.specs.declared.library.Entry.{Entry}
 use Rattle.hdl_tree.specs.declared.ends.End.TheVariants as ends
 use Rattle.hdl_tree.specs.Memory.{number}
@@ -37,10 +42,7 @@ use Rattle.chip_memory.specs.Trees.{ram16k_tree, screen_tree}
 use Rattle.hack_cpu.specs.Computer.{block_word}
 use Rattle.gate_computer.specs.declared.wiring.Wiring.{Wiring}
 use Rattle.gate_computer.specs.Computer.{chips, computer, IsComputer}
-use Rattle.gate_computer.specs.Laws.{machine_trace}
 use Rattle.gate_computer.specs.Wiring.{IsWired, cpu_path, a_register_path, main_path, screen_path}
-use Rattle.gate_computer.specs.Tallies.{Tallied, HasTallied, map_in, trace_through}
-use Rattle.gate_computer.specs.Turns.{HoldsKeys}
 use Rattle.gate_computer.specs.Followed.{GateMachine, HasFollowed, PutsParts}
 use Rattle.gate_computer.specs.Inner.Reading.{wired_text}
 use Rattle.gate_computer.proofs.Outputs.{text_same, text_is}
@@ -51,17 +53,13 @@ use Rattle.gate_computer.proofs.Seen.{shows_at, seen}
 use Rattle.gate_computer.proofs.Paths.{main_stands, screen_stands}
 use Rattle.gate_computer.proofs.Keyboard.{same_pins}
 use Rattle.gate_computer.proofs.Own.{wires_of, memory_there, not_rom, loaded_elsewhere, is_computer, inputs_for, comes_in, behaves}
-use Rattle.gate_computer.proofs.Holding.{holds_before, holds_last, one_longer, key_at, key_at_past, key_words, are_keys, holds_own}
 
 -- ---- counts by the instruction machine
 
-abbrev pub machine_pc : List ℕ → (ℕ → ℕ) → ℕ → ℕ
-machine_pc image keys c = (machine_at image keys c).pc
-
 -- what was counted up to cycle n of the run of the instruction machine
-pub record AtMachine (image : List ℕ) (t : Tallied) (ears : ℕ) (keys : ℕ → ℕ) (n : ℕ) : Type 0 where
+pub record AtMachine (image : List ℕ) (t : TallyState) (heard : ℕ) (keys : ℕ → ℕ) (n : ℕ) : Type 0 where
   pub tallied : HasTallied t (machine_pc image keys) n
-  pub listened : ears ≡ length (heard_keys (machine_trace image (map_in t) keys) n)
+  pub listened : heard ≡ length (heard_keys (run_trace image (the_map t.map) keys) n)
 
 machine_same : (image : List ℕ) (keys keys' : ℕ → ℕ) (n : ℕ) → ((c : ℕ) → c < n → keys c ≡ keys' c) → machine_at image keys n ≡ machine_at image keys' n
 machine_same image keys keys' zero h = refl
@@ -70,38 +68,38 @@ machine_same image keys keys' (suc n) h =
     ∙ ap (step image (keys' n)) (machine_same image keys keys' n (λ c less. h c (omega arith)))
 
 -- other keys that are the same so far
-agree : (image : List ℕ) (t : Tallied) (ears : ℕ) (keys keys' : ℕ → ℕ) (n : ℕ) → ((c : ℕ) → c < n → keys c ≡ keys' c) → AtMachine image t ears keys n → AtMachine image t ears keys' n
-agree image t ears keys keys' n h was =
+agree : (image : List ℕ) (t : TallyState) (heard : ℕ) (keys keys' : ℕ → ℕ) (n : ℕ) → ((c : ℕ) → c < n → keys c ≡ keys' c) → AtMachine image t heard keys n → AtMachine image t heard keys' n
+agree image t heard keys keys' n h was =
     let same : (c : ℕ) → c ≤ n → machine_at image keys c ≡ machine_at image keys' c = λ c le. machine_same image keys keys' c (λ d less. h d (omega arith)) in
     record {
       tallied = record {
         here = was.tallied.here ∙ ap (λ (m : Machine). m.pc) (same n (omega arith));
         counted = was.tallied.counted
-            ∙ steps_same (trace_through (map_in t) (machine_pc image keys)) (trace_through (map_in t) (machine_pc image keys')) n
-            (λ c less. ap (λ (m : Machine). (map_in t).commits m.pc) (same c (omega arith)));
-        seen = sym (point_same (trace_through (map_in t) (machine_pc image keys)) (trace_through (map_in t) (machine_pc image keys')) n
-            (λ c le. ap (λ (m : Machine). (map_in t).points m.pc) (same c le)))
+            ∙ steps_same (trace_through (the_map t.map) (machine_pc image keys)) (trace_through (the_map t.map) (machine_pc image keys')) n
+            (λ c less. ap (λ (m : Machine). (the_map t.map).commits m.pc) (same c (omega arith)));
+        seen = sym (point_same (trace_through (the_map t.map) (machine_pc image keys)) (trace_through (the_map t.map) (machine_pc image keys')) n
+            (λ c le. ap (λ (m : Machine). (the_map t.map).points m.pc) (same c le)))
             ∙ was.tallied.seen;
       };
       listened = was.listened
-          ∙ ap (λ (l : List ℕ). length l) (heard_same (machine_trace image (map_in t) keys) (machine_trace image (map_in t) keys') n
+          ∙ ap (λ (l : List ℕ). length l) (heard_same (run_trace image (the_map t.map) keys) (run_trace image (the_map t.map) keys') n
           (λ c less. ap (λ (m : Machine). reads_key (slice_index image m.pc) m.a) (same c (omega arith)))
           (λ c less. h c less));
     }
 
 -- what it shows is what the instruction machine shows
-pub first : (g : GateMachine) (turns : List Turn) → HasFollowed g turns → (keys : ℕ → ℕ) → ((c : ℕ) → IsKey (keys c)) → HoldsKeys keys 0 turns → AtMachine g.image g.tally g.ears keys (length turns)
+pub first : (g : GateMachine) (turns : List Turn) → HasFollowed g turns → (keys : ℕ → ℕ) → ((c : ℕ) → IsKey (keys c)) → HoldsKeys keys 0 turns → AtMachine g.image g.tally g.heard keys (length turns)
 first g turns f keys words holds =
     let n = length turns in
     let b = f.behaves keys words (suc n) in
     let s = f.shows keys holds (suc n) b.0 (omega arith) b.1 in
-    let alike = seen g.image (map_in g.tally) keys (suc n) b.0 b.1 n (omega arith) in
+    let alike = seen g.image (the_map g.tally.map) keys (suc n) b.0 b.1 n (omega arith) in
     record {
       tallied = record {
         here = s.at ∙ (shows_at g.image keys (suc n) b.0 b.1 n (omega arith)).pc;
         counted = s.counted ∙ alike.counts.steps_are
-            ∙ sym (steps_same (trace_through (map_in g.tally) (machine_pc g.image keys)) (machine_trace g.image (map_in g.tally) keys) n (λ c less. refl));
-        seen = point_same (trace_through (map_in g.tally) (machine_pc g.image keys)) (machine_trace g.image (map_in g.tally) keys) n (λ c less. refl)
+            ∙ sym (steps_same (trace_through (the_map g.tally.map) (machine_pc g.image keys)) (run_trace g.image (the_map g.tally.map) keys) n (λ c less. refl));
+        seen = point_same (trace_through (the_map g.tally.map) (machine_pc g.image keys)) (run_trace g.image (the_map g.tally.map) keys) n (λ c less. refl)
             ∙ sym alike.counts.point_is ∙ s.seen;
       };
       listened = s.heard ∙ ap (λ (l : List ℕ). length l) alike.counts.heard_are;
@@ -154,7 +152,7 @@ module _ (sim : SimState) (w : Wiring) (image : List ℕ) (key : ℕ) (turns : L
 -- ---- a history, from what was told and counted
 
 pub followed : (g : GateMachine) (turns : List Turn) → All (λ t. t.answer ≡ Acted) turns → g.moves ≡ length turns → WasTold g.sim g.wiring g.image g.key turns
-    → ((keys : ℕ → ℕ) → ((c : ℕ) → IsKey (keys c)) → HoldsKeys keys 0 turns → AtMachine g.image g.tally g.ears keys (length turns)) → HasFollowed g turns
+    → ((keys : ℕ → ℕ) → ((c : ℕ) → IsKey (keys c)) → HoldsKeys keys 0 turns → AtMachine g.image g.tally g.heard keys (length turns)) → HasFollowed g turns
 followed g turns acted counts told by = record {
   acted = acted;
   counts = counts;
@@ -165,16 +163,16 @@ followed g turns acted counts told by = record {
       let own_words = key_words g.key turns told.key_word told.key_words in
       let own_holds = holds_own g.key turns in
       let same : (c : ℕ) → c < n → own c ≡ keys c = λ c lt. sym (are_keys g.key keys turns holds c lt) in
-      let mine = agree g.image g.tally g.ears own keys n same (by own own_words own_holds) in
-      let alike = seen g.image (map_in g.tally) keys m wires is n less in
+      let mine = agree g.image g.tally g.heard own keys n same (by own own_words own_holds) in
+      let alike = seen g.image (the_map g.tally.map) keys m wires is n less in
       record {
         at = mine.tallied.here ∙ sym (shows_at g.image keys m wires is n less).pc;
         counted = mine.tallied.counted
-            ∙ steps_same (trace_through (map_in g.tally) (machine_pc g.image keys)) (machine_trace g.image (map_in g.tally) keys) n (λ c lt. refl)
+            ∙ steps_same (trace_through (the_map g.tally.map) (machine_pc g.image keys)) (run_trace g.image (the_map g.tally.map) keys) n (λ c lt. refl)
             ∙ sym alike.counts.steps_are;
         heard = mine.listened ∙ ap (λ (l : List ℕ). length l) (sym alike.counts.heard_are);
         seen = alike.counts.point_is
-            ∙ sym (point_same (trace_through (map_in g.tally) (machine_pc g.image keys)) (machine_trace g.image (map_in g.tally) keys) n (λ c lt. refl))
+            ∙ sym (point_same (trace_through (the_map g.tally.map) (machine_pc g.image keys)) (run_trace g.image (the_map g.tally.map) keys) n (λ c lt. refl))
             ∙ mine.tallied.seen;
         words = λ a near.
             words_are g.sim g.wiring g.image g.key turns told own own_words own_holds a near
@@ -187,9 +185,9 @@ followed g turns acted counts told by = record {
 -- ---- one cycle more
 
 -- a key that is heard, or not
-ears_more : (b : Bool) (ears k : ℕ) (ks : List ℕ) → ears ≡ length ks → (if b then suc ears else ears) ≡ length (ks ++ keys_heard b k)
-ears_more true ears k ks e = ap suc e ∙ sym (length-append ks (k ∷ []) ∙ add-one (length ks))
-ears_more false ears k ks e = e ∙ sym (length-append ks [] ∙ (let z : length ks + 0 ≡ length ks = omega arith in z))
+heard_more : (b : Bool) (heard k : ℕ) (ks : List ℕ) → heard ≡ length ks → (if b then suc heard else heard) ≡ length (ks ++ keys_heard b k)
+heard_more true heard k ks e = ap suc e ∙ sym (length-append ks (k ∷ []) ∙ add-one (length ks))
+heard_more false heard k ks e = e ∙ sym (length-append ks [] ∙ (let z : length ks + 0 ≡ length ks = omega arith in z))
 
 module _ (s0 sA sT sK : SimState) (w : Wiring) (image : List ℕ) (old key : ℕ) (turns : List Turn) (netA : sA.net ≡ s0.net) (netT : sT.net ≡ s0.net) (netK : sK.net ≡ s0.net)
     (word : IsKey key) (told : WasTold s0 w image old turns) (set : HasSet sA told.calls (HoldsKey w.keyboard key)) where
@@ -273,30 +271,30 @@ module _ (s0 sA sT sK : SimState) (w : Wiring) (image : List ℕ) (old key : ℕ
             spelled_row (value_in sK.values) (suc (length turns)) 15 (told.wired.at cpu_path (codes "pc")) w.pc tock_value told.wired.pins.pc told.wired.nodes.pc
             ∙ (shows_at image keys (suc (suc (length turns))) (own_wires s0 w image old turns told keys) (own_is s0 w image old turns told keys words (suc (suc (length turns)))) (suc (length turns)) (omega arith)).pc
 
-        pub counted_more : (t t' : Tallied) (ears ears' address : ℕ) (hears : Bool) → AtMachine image t ears keys (length turns)
-            → hears ≡ reads_key (slice_index image t.at) (spelled_number (value_in sT.values) w.a) → ears' ≡ (if hears then suc ears else ears)
+        pub counted_more : (t t' : TallyState) (heard heard' address : ℕ) (hears : Bool) → AtMachine image t heard keys (length turns)
+            → hears ≡ reads_key (slice_index image t.at) (spelled_number (value_in sT.values) w.a) → heard' ≡ (if hears then suc heard else heard)
             → address ≡ spelled_number (value_in sK.values) w.pc → ((pc : ℕ → ℕ) (c : ℕ) → HasTallied t pc c → pc (suc c) ≡ address → HasTallied t' pc (suc c))
-            → AtMachine image t' ears' keys (suc (length turns))
-        counted_more t t' ears ears' address hears was heard_is ears_is address_is tallies =
+            → AtMachine image t' heard' keys (suc (length turns))
+        counted_more t t' heard heard' address hears was heard_is heard_count address_is tallies =
             let c = length turns in
             let m = machine_at image keys c in
             let hears_is : hears ≡ reads_key (slice_index image m.pc) m.a =
             heard_is ∙ ap (reads_key (slice_index image t.at)) a_is ∙ ap (λ p. reads_key (slice_index image p) m.a) was.tallied.here in
             record {
               tallied = tallies (machine_pc image keys) c was.tallied (sym pc_is ∙ sym address_is);
-              listened = ears_is ∙ ap (λ b. if b then suc ears else ears) hears_is
-                  ∙ ears_more (reads_key (slice_index image m.pc) m.a) ears (keys c) (heard_keys (machine_trace image (map_in t) keys) c) was.listened
-                  ∙ ap (λ (l : List ℕ). length l) (heard_same (machine_trace image (map_in t) keys) (machine_trace image (map_in t') keys) (suc c) (λ d less. refl) (λ d less. refl));
+              listened = heard_count ∙ ap (λ b. if b then suc heard else heard) hears_is
+                  ∙ heard_more (reads_key (slice_index image m.pc) m.a) heard (keys c) (heard_keys (run_trace image (the_map t.map) keys) c) was.listened
+                  ∙ ap (λ (l : List ℕ). length l) (heard_same (run_trace image (the_map t.map) keys) (run_trace image (the_map t'.map) keys) (suc c) (λ d less. refl) (λ d less. refl));
             }
 
 -- the history of one more cycle
 pub followed_more : (g g' : GateMachine) (sA sT : SimState) (key : ℕ) (turns : List Turn) (f : HasFollowed g turns) → sA.net ≡ g.sim.net → sT.net ≡ g.sim.net → g'.sim.net ≡ g.sim.net → IsKey key
     → g'.wiring ≡ g.wiring → g'.image ≡ g.image → g'.key ≡ key → g'.moves ≡ suc g.moves
     → (set : HasSet sA f.told.calls (HoldsKey g.wiring.keyboard key)) → StandsFor sT (Tick ∷ set.now) → StandsFor g'.sim (Tock ∷ Tick ∷ set.now)
-    → (address : ℕ) (hears : Bool) → hears ≡ reads_key (slice_index g.image g.tally.at) (spelled_number (value_in sT.values) g.wiring.a) → g'.ears ≡ (if hears then suc g.ears else g.ears)
+    → (address : ℕ) (hears : Bool) → hears ≡ reads_key (slice_index g.image g.tally.at) (spelled_number (value_in sT.values) g.wiring.a) → g'.heard ≡ (if hears then suc g.heard else g.heard)
     → address ≡ spelled_number (value_in g'.sim.values) g.wiring.pc → ((pc : ℕ → ℕ) (c : ℕ) → HasTallied g.tally pc c → pc (suc c) ≡ address → HasTallied g'.tally pc (suc c))
     → HasFollowed g' (turns ++ turn key Acted ∷ [])
-followed_more g g' sA sT key turns f netA netT netK word same_wiring same_image same_key more set stT stK address hears heard_is ears_is address_is tallies =
+followed_more g g' sA sT key turns f netA netT netK word same_wiring same_image same_key more set stT stK address hears heard_is heard_count address_is tallies =
     let t = turn key Acted in
     let longer : length (turns ++ t ∷ []) ≡ suc (length turns) = one_longer turns t in
     let told' = told_more g.sim sA sT g'.sim g.wiring g.image g.key key turns netA netT netK word f.told set stT stK in
@@ -304,18 +302,18 @@ followed_more g g' sA sT key turns f netA netT netK word same_wiring same_image 
     let own_words = key_words key (turns ++ t ∷ []) word told'.key_words in
     let own_holds = holds_own key (turns ++ t ∷ []) in
     let past : own (suc (length turns)) ≡ key = ap own (let e : suc (length turns) ≡ length (turns ++ t ∷ []) + 0 = omega (arith, longer) in e) ∙ key_at_past key (turns ++ t ∷ []) 0 in
-    let mine : AtMachine g.image g'.tally g'.ears own (suc (length turns)) =
+    let mine : AtMachine g.image g'.tally g'.heard own (suc (length turns)) =
     counted_more g.sim sA sT g'.sim g.wiring g.image g.key key turns netA netT netK word f.told set stT stK own
     (holds_before own 0 turns t own_holds) (holds_last own turns t own_holds) past own_words
-    g.tally g'.tally g.ears g'.ears address hears (first g turns f own own_words (holds_before own 0 turns t own_holds)) heard_is ears_is address_is tallies in
+    g.tally g'.tally g.heard g'.heard address hears (first g turns f own own_words (holds_before own 0 turns t own_holds)) heard_is heard_count address_is tallies in
     followed g' (turns ++ t ∷ [])
     (All-push (λ u. u.answer ≡ Acted) turns t f.acted refl)
     (more ∙ ap suc f.counts ∙ sym longer)
     (subst (λ x. WasTold g'.sim x g'.image g'.key (turns ++ t ∷ [])) (sym same_wiring) (subst (λ x. WasTold g'.sim g.wiring x g'.key (turns ++ t ∷ [])) (sym same_image) (subst (λ x. WasTold g'.sim g.wiring g.image x (turns ++ t ∷ [])) (sym same_key) told')))
     (λ keys words holds.
-    subst (λ i. AtMachine i g'.tally g'.ears keys (length (turns ++ t ∷ []))) (sym same_image)
-    (subst (λ c. AtMachine g.image g'.tally g'.ears keys c) (sym longer)
-    (agree g.image g'.tally g'.ears own keys (suc (length turns)) (λ c less. sym (are_keys key keys (turns ++ t ∷ []) holds c (omega (arith, longer, less)))) mine)))
+    subst (λ i. AtMachine i g'.tally g'.heard keys (length (turns ++ t ∷ []))) (sym same_image)
+    (subst (λ c. AtMachine g.image g'.tally g'.heard keys c) (sym longer)
+    (agree g.image g'.tally g'.heard own keys (suc (length turns)) (λ c less. sym (are_keys key keys (turns ++ t ∷ []) holds c (omega (arith, longer, less)))) mine)))
 
 -- ---- a key that is set and evaluated, without a tick
 
@@ -373,8 +371,8 @@ module _ (s0 sA sE : SimState) (w : Wiring) (image : List ℕ) (old key : ℕ) (
 -- ---- the start
 
 pub followed_none : (g : GateMachine) → IsWired g.sim.net g.wiring → AreOrdered g.sim.net.nodes g.sim.net.blocks → ((a : ℕ) → slice_index g.image a < 65536) → StandsFor g.sim (Load g.wiring.rom 0 g.image ∷ [])
-    → HoldsKey g.wiring.keyboard g.key (λ k. false) → IsKey g.key → g.moves ≡ 0 → g.ears ≡ 0 → ((pc : ℕ → ℕ) → pc 0 ≡ 0 → HasTallied g.tally pc 0) → HasFollowed g []
-followed_none g wired ordered small stands held word moves ears tallied =
+    → HoldsKey g.wiring.keyboard g.key (λ k. false) → IsKey g.key → g.moves ≡ 0 → g.heard ≡ 0 → ((pc : ℕ → ℕ) → pc 0 ≡ 0 → HasTallied g.tally pc 0) → HasFollowed g []
+followed_none g wired ordered small stands held word moves heard tallied =
     followed g [] (λ k d less. absurd (omega (arith, less))) moves
     (record {
       wired = wired;
@@ -389,4 +387,4 @@ followed_none g wired ordered small stands held word moves ears tallied =
           let r = (start g.sim.net h.pin).1 (λ b a. 0) [] g.wiring.rom 0 g.image (start g.sim.net h.pin).0 in
           subst (λ l. Runs g.sim.net (record { pin = h.pin; loaded = l }) 0 (Load g.wiring.rom 0 g.image ∷ [])) (λ i b a. sym (comes.loaded b a) i) r;
     })
-    (λ keys words holds. record { tallied = tallied (machine_pc g.image keys) refl; listened = ears })
+    (λ keys words holds. record { tallied = tallied (machine_pc g.image keys) refl; listened = heard })

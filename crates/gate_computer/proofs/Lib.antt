@@ -1,11 +1,8 @@
 pub mod Seen
 pub mod Paths
 pub mod Keyboard
-pub mod Tallying
 pub mod Numbers
 pub mod Own
-pub mod Holding
-pub mod Prints
 pub mod Outputs
 pub mod Following
 pub mod Counting

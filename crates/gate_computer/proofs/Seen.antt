@@ -5,20 +5,21 @@ use Rattle.hack_isa.specs.Machine.{machine_at}
 use Rattle.simulation.specs.Laws.{SameTrace}
 use Rattle.simulation.proofs.Traces.{same_counts}
 use Rattle.simulation.proofs.Following.{following_too}
-use Rattle.vm_templates.specs.Computer.{Map, reads_key}
+use Rattle.image_map.specs.Map.{Map}
+use Rattle.image_map.specs.Computer.{reads_key, run_trace, run_word}
 use Rattle.hdl_tree.specs.Behaviour.{Histories}
 use Rattle.hack_cpu.specs.Library.{shipped_chips}
 use Rattle.hack_cpu.specs.Computer.{Shows, a_at, word_at}
 use Rattle.hack_cpu.proofs.HasAll.{has_all}
 use Rattle.hack_cpu.proofs.Cycle.{same}
 use Rattle.gate_computer.specs.Computer.{IsComputer, trace_shown}
-use Rattle.gate_computer.specs.Laws.{SeenLaw, GatesLaw, machine_trace, machine_word}
+use Rattle.gate_computer.specs.Laws.{SeenLaw, GatesLaw}
 
 module _ (image : List ℕ) (keys : ℕ → ℕ) (m : ℕ) (wires : List ℕ → Histories) (is : IsComputer image keys m wires) where
   pub shows_at : (c : ℕ) → c < m → Shows wires c (machine_at image keys c)
   shows_at c lt = same image keys shipped_chips (has_all true) m wires is.behaves is.no_reset c lt
 
-  pub same_trace : (map : Map) (n : ℕ) → n < m → SameTrace (trace_shown image map keys wires) (machine_trace image map keys) n
+  pub same_trace : (map : Map) (n : ℕ) → n < m → SameTrace (trace_shown image map keys wires) (run_trace image map keys) n
   same_trace map n lt = record {
     commits = λ c l. ap map.commits (shows_at c (omega arith)).pc;
     hears = λ c l.
@@ -30,13 +31,13 @@ module _ (image : List ℕ) (keys : ℕ → ℕ) (m : ℕ) (wires : List ℕ →
 
 pub seen : SeenLaw
 seen image map keys m wires is n lt = record {
-  counts = same_counts (trace_shown image map keys wires) (machine_trace image map keys) n (same_trace image keys m wires is map n lt);
+  counts = same_counts (trace_shown image map keys wires) (run_trace image map keys) n (same_trace image keys m wires is map n lt);
   words = λ a l. (shows_at image keys m wires is n lt).memory a l;
 }
 
 pub gates : (S : Type 0) → GatesLaw S
 gates S meaning start image map keys most n f m wires near is =
-    following_too meaning start (trace_shown image map keys wires) (machine_trace image map keys) (word_at wires) (machine_word image keys) most n
+    following_too meaning start (trace_shown image map keys wires) (run_trace image map keys) (word_at wires) (run_word image keys) most n
     (same_trace image keys m wires is map n (omega arith))
     (λ c l. ap map.commits (shows_at image keys m wires is c (omega arith)).pc)
     (λ a d. (shows_at image keys m wires is n (omega arith)).memory a d.1)

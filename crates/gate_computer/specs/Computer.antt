@@ -2,8 +2,8 @@
 use Rattle.std.specs.Prelude.{◌≡◌, ℕ, ◌<◌, false, List, []}
 use Rattle.hack_isa.specs.Machine.{Machine}
 use Rattle.simulation.specs.Trace.{Trace, trace_of}
-use Rattle.vm_templates.specs.Templates.{endless_loop}
-use Rattle.vm_templates.specs.Computer.{Map, hack_system}
+use Rattle.image_map.specs.Computer.{endless_loop, hack_system}
+use Rattle.image_map.specs.Map.{Map}
 use Rattle.hdl_tree.specs.declared.library.Entry.{Entry}
 use Rattle.hdl_tree.specs.Chips.{Chips}
 use Rattle.hdl_tree.specs.Behaviour.{Histories, IsBehaviour}

@@ -8,7 +8,10 @@ use Rattle.machine_io.specs.History.{Turn}
 use Rattle.machine_io.specs.declared.machine.Moved.TheVariants.{Acted}
 use Rattle.simulation.specs.System.{IsKey}
 use Rattle.simulation.specs.Trace.{Trace, steps, heard_keys, point_at}
-use Rattle.vm_translator.specs.declared.coded.PointRange.{PointRange}
+use Rattle.image_map.specs.declared.map.Image.{Image}
+use Rattle.image_map.specs.Map.{the_map}
+use Rattle.image_map.specs.Tallies.{TallyState}
+use Rattle.image_map.specs.Turns.{HoldsKeys}
 use Rattle.hdl_tree.specs.Behaviour.{Histories}
 use Rattle.netlist.specs.Words.{word_at as stored_at}
 use Rattle.gate_sim.specs.State.{SimState}
@@ -16,29 +19,22 @@ use Rattle.hack_cpu.specs.Computer.{pc_at, word_at}
 use Rattle.gate_computer.specs.declared.wiring.Wiring.{Wiring}
 use Rattle.gate_computer.specs.Computer.{IsComputer, trace_shown}
 use Rattle.gate_computer.specs.Parts.{ShowsParts}
-use Rattle.gate_computer.specs.Turns.{HoldsKeys}
-use Rattle.gate_computer.specs.Tallies.{Tallied, map_in}
 use Rattle.gate_computer.specs.Inner.Told.{WasTold}
 
--- the simulator of its netlist with the wiring, the image, what is counted, the key that the keyboard's pins hold, and how many cycles passed and
+-- the simulator of its netlist with the wiring, the words of the image, what is counted, the key that the keyboard's pins hold, and how many cycles passed and
 -- how many keys were heard
 pub record GateMachine : Type 0 where
   pub sim : SimState
   pub wiring : Wiring
   pub image : List ℕ
-  pub tally : Tallied
+  pub tally : TallyState
   pub key : ℕ
   pub moves : ℕ
-  pub ears : ℕ
+  pub heard : ℕ
 
--- what runs: the image and its map
-pub record MappedImage : Type 0 where
-  pub image : List ℕ
-  pub commits : List ℕ
-  pub ranges : List PointRange
-
-abbrev pub program_in : GateMachine → MappedImage
-program_in g = record { image = g.image; commits = g.tally.commits; ranges = g.tally.ranges }
+-- what runs: the image with its map
+abbrev pub image_in : GateMachine → Image
+image_in g = record { words = g.image; map = g.tally.map }
 
 -- the word at an address of main memory or of the screen
 abbrev pub word_in : GateMachine → ℕ → ℕ
@@ -46,14 +42,14 @@ word_in g a = if nat_lt a 16384 then stored_at g.sim.memory g.wiring.main a else
 
 -- what a map counts of a behaviour under these keys
 abbrev pub trace_of_run : GateMachine → (ℕ → ℕ) → (List ℕ → Histories) → Trace
-trace_of_run g keys wires = trace_shown g.image (map_in g.tally) keys wires
+trace_of_run g keys wires = trace_shown g.image (the_map g.tally.map) keys wires
 
 -- It shows what is seen of the behaviour at cycle n.
 pub record ShowsCycle (g : GateMachine) (keys : ℕ → ℕ) (wires : List ℕ → Histories) (n : ℕ) : Type 0 where
   pub at : g.tally.at ≡ pc_at wires n
-  pub counted : g.tally.count ≡ steps (trace_of_run g keys wires) n
-  pub heard : g.ears ≡ length (heard_keys (trace_of_run g keys wires) n)
-  pub seen : point_at (trace_of_run g keys wires) n ≡ Some g.tally.place
+  pub counted : g.tally.steps ≡ steps (trace_of_run g keys wires) n
+  pub heard : g.heard ≡ length (heard_keys (trace_of_run g keys wires) n)
+  pub seen : point_at (trace_of_run g keys wires) n ≡ Some g.tally.point
   pub words : (a : ℕ) → a < keyboard → word_in g a ≡ word_at wires n a
 
 -- It acted in each of these turns. Its simulator was told their keys, one in each cycle; and of every behaviour of the Computer that has its image, holds these

@@ -1,5 +1,4 @@
 pub mod Told
 pub mod Readable
-pub mod Marked
 pub mod Reading
 pub mod Directory

@@ -1,26 +1,24 @@
 //! The Computer made of gates, moved by keys.
 
-ghost use Rattle.std.specs.Prelude.{◌≡◌, ◌<◌, ◌≤◌, ◌+◌, ◌^◌, ◌++◌, ◌∷◌, [], ℕ, List, suc, if◌then◌else◌, length, IfOk};
+ghost use Rattle.std.specs.Prelude.{◌≡◌, ◌<◌, ◌≤◌, ◌+◌, ◌^◌, ◌++◌, ◌∷◌, [], ℕ, List, suc, if◌then◌else◌, length, slice_index, IfOk};
 ghost use Rattle.word16.specs.Memory.{keyboard};
-ghost use Rattle.hack_isa.specs.Machine.{image_words};
 ghost use Rattle.machine_io.specs.History.{Turn, turn};
 ghost use Rattle.machine_io.specs.declared.machine.Moved.TheVariants.{Acted};
 ghost use Rattle.gate_computer.specs.Wiring.{IsWired};
 ghost use Rattle.outer_world.specs.Written.{CountsPut};
 ghost use Rattle.simulation.specs.System.{IsKey};
-ghost use Rattle.gate_computer.specs.Tallies.{CoverSome};
-ghost use Rattle.gate_computer.specs.Turns.{HoldsKeys};
-ghost use Rattle.gate_computer.specs.Followed.{HasFollowed, PutsParts, program_in, word_in};
+ghost use Rattle.image_map.specs.Map.{IsMapped};
+ghost use Rattle.image_map.specs.Turns.{HoldsKeys};
+ghost use Rattle.gate_computer.specs.Followed.{HasFollowed, PutsParts, image_in, word_in};
 
 use crate::reading::{hears_key, number_at, set_keyboard};
 use crate::showing::show_parts;
-use crate::tally::Tally;
 use crate::wiring::{WiredComputer, Wiring};
 use gate_sim::Sim;
+use image_map::{Image, Tally};
 use outer_world::{List, Point, Put, Sink};
 use std::alloc::{AllocError, Global};
 use std::marker::Model;
-use vm_translator::PointRange;
 use word16::SCREEN;
 
 /// The simulator of the Computer, with an image in its instruction memory and the map of that image. A move is one cycle under a key.
@@ -28,7 +26,8 @@ use word16::SCREEN;
 pub struct GateComputer {
     sim: Sim,
     wiring: Wiring,
-    image: Vec<u16>,
+    // The words of the image.
+    image: List<u16>,
     tally: Tally,
     // What the pins of the keyboard hold.
     key: u16,
@@ -42,9 +41,9 @@ impl Model for GateComputer {
 
     ghost Value = { GateMachine };
 
-    ghost view = { λ g. record { sim = g.sim; wiring = g.wiring; image = g.image.items; tally = g.tally; key = g.key; moves = g.moves; ears = g.heard } };
+    ghost view = { λ g. record { sim = g.sim; wiring = g.wiring; image = g.image; tally = g.tally; key = g.key; moves = g.moves; heard = g.heard } };
 
-    ghost invariant = { λ g. IsKeptWell g.sim.net g.wiring g.tally.count g.heard g.moves };
+    ghost invariant = { λ g. IsKeptWell g.sim.net g.wiring g.tally.steps g.heard g.moves };
 }
 
 fn counted(hears: bool, heard: u64) -> u64
@@ -54,32 +53,36 @@ fn counted(hears: bool, heard: u64) -> u64
     if hears { heard + 1 } else { heard }
 }
 
+// Each word of an image is one of 16 bits.
+fn words_fit(words: &[u16])
+    ensures { (a : ℕ) → slice_index words.now a < 65536 }
+{}
+
 impl GateComputer {
-    /// The Computer at its start, with an image, its commits and its points. All memory is taken here.
+    /// The Computer at its start, with an image and its map. All memory is taken here.
     pub fn new(
         alloc: Global,
         wired: WiredComputer,
-        image: &[u16],
-        commits: List<u16>,
-        points: List<PointRange>,
+        image: Image,
     ) -> Result<GateComputer, AllocError>
         requires wired { IsWired wired.net wired.wiring }
-        requires room { length image.now ≤ image_words }
-        requires covers { CoverSome points }
-        ensures program { IfOk result (λ g. program_in g ≡ record { image = image.now; commits = commits; ranges = points }) }
+        requires mapped { IsMapped image }
+        ensures image { IfOk result (λ g. image_in g ≡ image) }
         ensures moves { IfOk result (λ g. g.moves ≡ 0) }
         ensures stands { IfOk result (λ g. HasFollowed g []) }
     {
+        let Image { words, map } = image;
         let WiredComputer { net, wiring } = wired;
         // They are in order.
         let _ = net.nodes();
         let mut sim = Sim::new(alloc, net)?;
-        sim.load_block(wiring.rom, 0, image);
+        sim.load_block(wiring.rom, 0, words.as_slice());
+        words_fit(words.as_slice());
         Ok(GateComputer {
             sim,
             wiring,
-            image: Vec::from_slice(alloc, image)?,
-            tally: Tally::new(alloc, commits, points)?,
+            image: words,
+            tally: Tally::new(alloc, map)?,
             key: 0,
             moves: 0,
             heard: 0,
@@ -89,7 +92,7 @@ impl GateComputer {
     /// One cycle, in which the keyboard holds a key.
     pub fn cycle(&mut self, key: u16)
         requires { self.old.moves < 2 ^ 63 }
-        ensures program { program_in self.new ≡ program_in self.old }
+        ensures image { image_in self.new ≡ image_in self.old }
         ensures moves { self.new.moves ≡ self.old.moves + 1 }
         ensures stands { (turns : List Turn) → HasFollowed self.old turns → HasFollowed self.new (turns ++ turn key Acted ∷ []) }
     {
@@ -104,7 +107,7 @@ impl GateComputer {
         let hears = hears_key(
             &self.sim,
             self.wiring.a.as_slice(),
-            &self.image,
+            self.image.as_slice(),
             self.tally.at(),
         );
         self.sim.tock();
@@ -117,7 +120,7 @@ impl GateComputer {
     /// Shows the outputs of all parts in the cycle that comes next, in which the keyboard holds a key: a line for each part, depth first in the order of
     /// the texts, with its chip's name, a space, and the bits of its outputs. Only the pins of the keyboard change.
     pub fn show_nets<S: Sink>(&mut self, key: u16, out: &mut S) -> Put
-        ensures program { program_in self.new ≡ program_in self.old }
+        ensures image { image_in self.new ≡ image_in self.old }
         ensures moves { self.new.moves ≡ self.old.moves }
         ensures stands { (turns : List Turn) → HasFollowed self.old turns → HasFollowed self.new turns }
         ensures put { (turns : List Turn) → HasFollowed self.old turns → (keys : ℕ → ℕ) → ((c : ℕ) → IsKey (keys c)) → HoldsKeys keys 0 turns → keys (length turns) ≡ key → PutsParts self.old.image keys (length turns) (S.written out.old) (S.written out.new) result }
@@ -143,21 +146,21 @@ impl GateComputer {
 
     /// The number of steps of the program's meaning so far.
     pub fn steps(&self) -> u64
-        ensures { result ≡ self.now.tally.count }
+        ensures { result ≡ self.now.tally.steps }
     {
         self.tally.steps()
     }
 
     /// The number of keys heard so far.
     pub fn heard(&self) -> u64
-        ensures { result ≡ self.now.ears }
+        ensures { result ≡ self.now.heard }
     {
         self.heard
     }
 
     /// The control point.
     pub fn point(&self) -> Point
-        ensures { result ≡ self.now.tally.place }
+        ensures { result ≡ self.now.tally.point }
     {
         self.tally.point()
     }

@@ -1,7 +1,7 @@
 //! The Computer made of gates as a level: it acts in each of its turns, and never wants memory.
 
 ghost use Rattle.std.specs.Prelude.{true};
-ghost use Rattle.gate_computer.specs.Followed.{HasFollowed, program_in, word_in};
+ghost use Rattle.gate_computer.specs.Followed.{HasFollowed, image_in, word_in};
 
 use crate::GateComputer;
 use machine_io::{Level, Moved};
@@ -10,7 +10,7 @@ use std::alloc::AllocError;
 
 impl Level for GateComputer {
     ghost use Rattle.machine_io.specs.declared.machine.Moved.TheVariants.{Acted};
-    ghost use Rattle.gate_computer.specs.Followed.{MappedImage};
+    ghost use Rattle.image_map.specs.declared.map.Image.{Image};
 
     type Point = Point;
 
@@ -20,17 +20,17 @@ impl Level for GateComputer {
 
     ghost word = { λ g. word_in g };
 
-    ghost committed = { λ g. g.tally.count };
+    ghost committed = { λ g. g.tally.steps };
 
-    ghost at_point = { λ g. g.tally.place };
+    ghost at_point = { λ g. g.tally.point };
 
     ghost reply = { λ _ _. Acted };
 
     ghost sure = { true };
 
-    ghost Program = { MappedImage };
+    ghost Program = { Image };
 
-    ghost program = { λ g. program_in g };
+    ghost program = { λ g. image_in g };
 
     fn step(&mut self, key: u16) -> Result<Moved, AllocError> {
         self.cycle(key);

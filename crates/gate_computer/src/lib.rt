@@ -2,7 +2,7 @@
 //!
 //! The definitions are in `specs/`: `Computer` (its behaviours, with an image and keys, and what is seen of one), `Laws` (it is seen as the
 //! instruction machine is), `Wiring` (the Computer as a netlist, and where its pins are in it), `Parts` (the lines of its parts),
-//! `Elaborated` (what elaboration asks of the Computer), `Nodes` (how many nodes it needs), `Tallies` (what the map of an image counts) and `Followed` (the behaviours that a `GateComputer` stands for).
+//! `Elaborated` (what elaboration asks of the Computer), `Nodes` (how many nodes it needs) and `Followed` (the behaviours that a `GateComputer` stands for).
 #![tactic(auto)]
 
 mod computer;
@@ -12,13 +12,11 @@ mod level;
 mod prepare;
 mod reading;
 mod showing;
-mod tally;
 mod wire;
 mod wiring;
 
 pub use computer::GateComputer;
 pub use laws::{buildable_law, gates_law, libraries_law, nodes_law, seen_law};
 pub use prepare::prepare_gates;
-pub use tally::Tally;
 pub use wire::{build_computer, wire_computer};
 pub use wiring::{WiredComputer, WiredPart, Wiring};

@@ -7,7 +7,7 @@ ghost use Rattle.netlist.specs.Present.{value_in};
 ghost use Rattle.netlist.specs.Value.{spelled_number};
 ghost use Rattle.gate_sim.specs.Calls.{Call, pins_of};
 ghost use Rattle.gate_sim.specs.Stands.{StandsFor};
-ghost use Rattle.vm_templates.specs.Computer.{reads_key};
+ghost use Rattle.image_map.specs.Computer.{reads_key};
 ghost use Rattle.gate_computer.specs.Inner.Told.{HoldsKey, HasSet, ChangesPin};
 
 use gate_sim::Sim;

@@ -3,24 +3,32 @@
 ghost use Rattle.std.specs.Prelude.{◌≡◌, ◌<◌, ◌≤◌, IfOk, length};
 
 use gate_computer::{GateComputer, build_computer, prepare_gates};
+use image_map::{Image, ImageMap, PointRange};
 use outer_world::{List, MemorySink, Point, Put};
 use std::alloc::{AllocError, Global};
 use std::test::*;
-use vm_translator::PointRange;
 
 // The computer at its start with an image, of which each address has one point.
-fn computer_of(alloc: Global, image: &[u16]) -> Result<GateComputer, AllocError>
-    requires some { 0 < length image.now }
-    requires few { length image.now ≤ 100 }
+fn computer_of(alloc: Global, words: &[u16]) -> Result<GateComputer, AllocError>
+    requires some { 0 < length words.now }
+    requires few { length words.now ≤ 100 }
     ensures { IfOk result (λ computer. computer.moves ≡ 0) }
 {
     let mut points = List::new(alloc);
     points.push(PointRange {
         from: 0,
-        to: image.len() as u32,
+        to: words.len() as u32,
         point: Point { sub: 0, number: 0 },
     })?;
-    prepare_gates(alloc, image, List::new(alloc), points)
+    let map = ImageMap {
+        points,
+        commits: List::new(alloc),
+        shared: List::new(alloc),
+        entries: List::new(alloc),
+        statics: List::new(alloc),
+    };
+    let words = List::of(Vec::from_slice(alloc, words)?);
+    prepare_gates(alloc, Image { words, map })
 }
 
 // One cycle for each key.

@@ -4,27 +4,26 @@ use Rattle.outer_world.specs.Files.{Files}
 use Rattle.hack_asm.specs.Image.{image_text}
 use Rattle.jack_parser.specs.Spelled.{ClassLaw}
 use Rattle.jack_core.specs.Texts.{names_of}
-use Rattle.map_text.specs.Text.{map_text}
-use Rattle.tower.specs.Mapped.{BuiltImage, program_built}
-use Rattle.tower.proofs.Computers.{computer_built}
+use Rattle.image_map.specs.declared.map.Image.{Image}
+use Rattle.image_map.specs.Text.{map_text}
 use Rattle.nand_cli.specs.Exact.{BuildExactLaw, MapExactLaw}
 use Rattle.nand_cli.specs.Commands.Build.{BuildPrints, BuildRefuses, unbuilt, without_program}
 use Rattle.nand_cli.specs.Commands.Map.{MapPrints}
 use Rattle.nand_cli.proofs.Exactly.{not_missing}
-use Rattle.nand_cli.proofs.RunExactly.{never_refused, never_unbuilt, one_build_line, one_built, one_folder_line, one_meaning}
+use Rattle.nand_cli.proofs.RunExactly.{never_refused, never_unbuilt, one_build_line, one_image_of, one_folder_line, one_meaning}
 
 module _ (law : ClassLaw) (files : Files) (folder : List ℕ) where
   one_image : (out out' : List ℕ) → BuildPrints (Some files) folder out → BuildPrints (Some files) folder out' → out ≡ out'
   one_image out out' (core, p, builds, e) (core', q, builds', d) =
       let same = one_meaning law files folder core core' builds.0 builds'.0 in
-      e ∙ ap (λ (x : BuiltImage). image_text x.image) (one_built core core' same p q builds.1 builds'.1) ∙ sym d
+      e ∙ ap (λ (x : Image). image_text x.words) (one_image_of core core' same p q builds.1 builds'.1) ∙ sym d
 
   one_map : (out out' : List ℕ) → MapPrints (Some files) folder out → MapPrints (Some files) folder out' → out ≡ out'
   one_map out out' (core, p, builds, cover, rise, e) (core', q, builds', cover', rise', d) =
       let same = one_meaning law files folder core core' builds.0 builds'.0 in
       e
-      ∙ ap (λ (x : BuiltImage). map_text (names_of core) x.ranges x.commits x.shared) (one_built core core' same p q builds.1 builds'.1)
-      ∙ ap (λ (ns : List (List ℕ)). map_text ns q.ranges q.commits q.shared) same.names
+      ∙ ap (λ (x : Image). map_text (names_of core) x.map) (one_image_of core core' same p q builds.1 builds'.1)
+      ∙ ap (λ (ns : List (List ℕ)). map_text ns q.map) same.names
       ∙ sym d
 
   one_line : (line line' : List ℕ) → BuildRefuses (Some files) folder line → BuildRefuses (Some files) folder line' → line ≡ line'
@@ -36,7 +35,7 @@ module _ (law : ClassLaw) (files : Files) (folder : List ℕ) where
   built_apart : (out line : List ℕ) → BuildPrints (Some files) folder out → BuildRefuses (Some files) folder line → ⊥
   built_apart out line (core, p, builds, e) (without_program k) = never_refused law files folder core line builds.0 k
   built_apart out line (core, p, builds, e) (unbuilt core' means' k) =
-      never_unbuilt core core' (one_meaning law files folder core core' builds.0 means') (program_built p) k.0 k.1 (computer_built core p builds.1) k.2 k.3
+      never_unbuilt core core' (one_meaning law files folder core core' builds.0 means') p k.0 k.1 builds.1 k.2 k.3
 
 pub build_exact : ClassLaw → BuildExactLaw
 build_exact law files folder = record {
@@ -50,6 +49,6 @@ pub map_exact : ClassLaw → MapExactLaw
 map_exact law files folder = record {
   prints = λ one out err out' err' h k. (one_map law files folder out out' h.0 k.0, h.1 ∙ sym k.1);
   refuses = λ out before told out' before' told' h k. (h.0 ∙ sym k.0, one_line law files folder told told' h.1 k.1, h.2 ∙ sym k.2);
-  apart = λ out err out' before told h k. built_apart law files folder (image_text h.0.1.image) told (h.0.0, h.0.1, h.0.2, refl) k.1;
+  apart = λ out err out' before told h k. built_apart law files folder (image_text h.0.1.words) told (h.0.0, h.0.1, h.0.2, refl) k.1;
   lacking = λ there has gone out before told. absurd (not_missing there files folder has gone);
 }

@@ -19,7 +19,7 @@ use Rattle.os_named.specs.Laws.{SystemNamedLaw}
 use Rattle.jack_compiler.specs.Files.{files_of, program_files}
 use Rattle.jack_compiler.specs.Resolved.{IsResolvedCore}
 use Rattle.tower.specs.Budget.{BudgetLaw, IsBudget}
-use Rattle.tower.specs.Built.{Builds}
+use Rattle.tower.specs.Image.{Builds}
 use Rattle.tower.specs.Program.{class_names}
 use Rattle.tower.specs.Resolved.{ResolvedLaw}
 use Rattle.tower.specs.Messages.{build_message}

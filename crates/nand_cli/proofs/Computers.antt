@@ -14,10 +14,13 @@ use Rattle.machine_io.specs.declared.machine.Moved.TheVariants as moved
 use Rattle.machine_io.specs.declared.report.LevelName.TheVariants as names
 use Rattle.machine_io.specs.declared.report.Show.{Show}
 use Rattle.jack_compiler.specs.Resolved.{IsResolvedCore}
-use Rattle.tower.specs.Built.{IsComputerOf}
+use Rattle.image_map.specs.declared.map.Image.{Image}
+use Rattle.tower.specs.Image.{IsImageOf}
 use Rattle.tower.proofs.Computers.{computer as computer_follows}
-use Rattle.tower.specs.Headline.{run_trace}
-use Rattle.tower.specs.Mapped.{HasFollowed, HoldsKeys, MappedMachine, RunProgram, StandsAt, map_in, program_in}
+use Rattle.image_map.specs.Computer.{run_trace}
+use Rattle.tower.specs.Mapped.{HasFollowed, MappedMachine, StandsAt, image_in}
+use Rattle.image_map.specs.Map.{the_map}
+use Rattle.image_map.proofs.Holding.{keys_held, moves_length}
 use Rattle.simulation.specs.System.{IsKey}
 use Rattle.simulation.specs.Trace.{steps}
 use Rattle.command_line.specs.declared.request.RunLevel.TheVariants as levels
@@ -26,14 +29,6 @@ use Rattle.nand_cli.specs.Commands.Run.{IsReport, name_of}
 use Rattle.nand_cli.proofs.Driving.{last_acted}
 
 -- ---- after the cycles
-
-keys_held : (code : ℕ → ℕ) (c n : ℕ) → HoldsKeys code c (moves_from code c n)
-keys_held code c zero = tt
-keys_held code c (suc n) = (refl, keys_held code (suc c) n)
-
-moves_length : (code : ℕ → ℕ) (c n : ℕ) → length (moves_from code c n) ≡ n
-moves_length code c zero = refl
-moves_length code c (suc n) = ap suc (moves_length code (suc c) n)
 
 never_ends : (code : ℕ → ℕ) (old new : MappedMachine) (c n c' : ℕ) (answer : Moved) → EndsBy code (HasFollowed old) c n answer (HasFollowed new) c' → HasFollowed old [] → answer ≡ moved.Acted
 never_ends code old new c n c' answer (m, below, goes) h =
@@ -49,27 +44,26 @@ cycled code old new c n c' ends.Done by h first = let bad = never_ends code old 
 
 -- ---- the report
 
-pub hack_reported : (n : ℕ) (show : Show) (core : Core) (program : RunProgram) (new : MappedMachine) (code : ℕ → ℕ) (end : End)
-    → IsResolvedCore core → ((c : ℕ) → IsKey (code c)) → IsComputerOf core program → program_in new ≡ program → HasCycled code n new end
+pub hack_reported : (n : ℕ) (show : Show) (core : Core) (image : Image) (new : MappedMachine) (code : ℕ → ℕ) (end : End)
+    → IsResolvedCore core → ((c : ℕ) → IsKey (code c)) → IsImageOf core image → image_in new ≡ image → HasCycled code n new end
     → IsReport (levels.Hack show) core code n (hack_text new (names_of core) end show)
-hack_reported n show core program new code end resolved words computer same (bound, stands) =
-    let p = new.place in
+hack_reported n show core image new code end resolved words is same (bound, stands) =
+    let p = new.tally.point in
     let all = names_of core in
-    let own : IsComputerOf core (program_in new) = subst (IsComputerOf core) (sym same) computer in
+    let own : IsImageOf core (image_in new) = subst (IsImageOf core) (sym same) is in
     let text =
-    ap (λ m. report_text names.Hack m new.count (name_of all p.sub) p.number end show (machine_of new.hack).memory) stands.moves
+    ap (λ m. report_text names.Hack m new.tally.steps (name_of all p.sub) p.number end show (machine_of new.hack).memory) stands.moves
     ∙ ap (λ s. report_text names.Hack n s (name_of all p.sub) p.number end show (machine_of new.hack).memory) stands.counted
-    ∙ ap (λ (e : End). report_text names.Hack n (steps (run_trace new.hack.image (map_in new) code) n) (name_of all p.sub) p.number e show (machine_of new.hack).memory) bound
-    ∙ ap (λ s. report_text names.Hack n (steps (run_trace new.hack.image (map_in new) code) n) (name_of all p.sub) p.number ends.Bound show s.memory) stands.machine in
-    let follows = computer_follows core (program_in new) resolved own code words n in
+    ∙ ap (λ (e : End). report_text names.Hack n (steps (run_trace new.hack.image (the_map new.tally.map) code) n) (name_of all p.sub) p.number e show (machine_of new.hack).memory) bound
+    ∙ ap (λ s. report_text names.Hack n (steps (run_trace new.hack.image (the_map new.tally.map) code) n) (name_of all p.sub) p.number ends.Bound show s.memory) stands.machine in
+    let follows = computer_follows core (image_in new) resolved own code words n in
     record {
-      computer = program_in new;
-      is_computer = own;
+      image = image_in new;
+      is_image = own;
       point = p;
       seen = stands.seen;
       reports = text;
       most = follows.0;
       gap = follows.1;
-      agrees = follows.2.agrees;
-      goes_on = follows.2.goes_on;
+      follows = follows.2;
     }

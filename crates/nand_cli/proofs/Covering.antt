@@ -4,14 +4,14 @@ use Rattle.hack_isa.specs.Table.{word_of}
 use Rattle.jack_core.specs.declared.program.Core.{Core}
 use Rattle.vm_link.proofs.Marking.{length_mapped}
 use Rattle.vm_translator.specs.Image.{image_of, shared_at, shared_ranges}
-use Rattle.vm_translator.specs.Mapping.{CoversShared}
+use Rattle.image_map.specs.declared.map.Image.{Image}
+use Rattle.image_map.specs.Map.{CoversShared}
 use Rattle.vm_translator.proofs.Covered.{covers}
 use Rattle.vm_translator.proofs.Instructed.{shared_covers_as}
-use Rattle.tower.specs.Built.{IsBuiltOf}
-use Rattle.tower.specs.Mapped.{BuiltImage}
+use Rattle.tower.specs.Image.{IsImageOf}
 use Rattle.nand_cli.specs.Commands.Map.{HasEachAddress}
 
-pub covered : (core : Core) (b : BuiltImage) → IsBuiltOf core b → HasEachAddress b
+pub covered : (core : Core) (b : Image) → IsImageOf core b → HasEachAddress b
 covered core b is =
     let l = is.linked in
     subst HasEachAddress (sym is.is_image) (record {

@@ -16,7 +16,7 @@ use Rattle.jack_places.specs.Rising.{FirstLaw}
 use Rattle.jack_os.specs.System.{SpellsClass, system}
 use Rattle.jack_os.proofs.SystemTexts.{seen_files}
 use Rattle.jack_core.specs.declared.program.Core.{Core}
-use Rattle.tower.specs.Built.{Builds, IsBuiltOf}
+use Rattle.tower.specs.Image.{Builds, IsImageOf}
 use Rattle.tower.specs.Program.{IsProgram, Means}
 use Rattle.tower.specs.Spelled.{AreSpelled}
 use Rattle.tower.specs.Messages.{build_message}
@@ -66,27 +66,27 @@ program_counts folder classes (Err errors.Memory) shelf shelf' h same = same
 
 -- ---- the computer
 
-pub unbuilt_told : (folder : List ℕ) (core : Core) (error : BuildError) (e : LoadError) → Builds core (Err error) → TellsOf folder (build_message error) e → Loads (IsBuiltOf core) (BuildIsRefused core folder) ⊥ (Err e)
-unbuilt_told folder core error e h tells = told_of (IsBuiltOf core) (BuildIsRefused core folder) ⊥ folder (build_message error) e (λ t same. (error, t, h, same, refl)) tells
+pub unbuilt_told : (folder : List ℕ) (core : Core) (error : BuildError) (e : LoadError) → Builds core (Err error) → TellsOf folder (build_message error) e → Loads (IsImageOf core) (BuildIsRefused core folder) ⊥ (Err e)
+unbuilt_told folder core error e h tells = told_of (IsImageOf core) (BuildIsRefused core folder) ⊥ folder (build_message error) e (λ t same. (error, t, h, same, refl)) tells
 
 -- ---- a program with its computer
 
 module _ (files : Option Files) (folder : List ℕ) (there : List ℕ → Bool) (steady : Type 0) where
   -- what a folder says of loading its program with its image
   abbrev pub LoadsBuilt : Result BuiltProgram LoadError → Type 0
-  LoadsBuilt r = Loads (λ (p : BuiltProgram). FolderBuilds files folder p.core p.built) (BuildRefuses files folder) (steady → LacksFolder files there folder) r
+  LoadsBuilt r = Loads (λ (p : BuiltProgram). FolderBuilds files folder p.core p.image) (BuildRefuses files folder) (steady → LacksFolder files there folder) r
 
   pub without_core : (e : LoadError) → Loads (FolderMeans files folder) (FolderIsRefused files folder) (steady → LacksFolder files there folder) (Err e) → LoadsBuilt (Err e)
   without_core e h =
       without (FolderMeans files folder) (FolderIsRefused files folder) (steady → LacksFolder files there folder)
-      (λ (p : BuiltProgram). FolderBuilds files folder p.core p.built) (BuildRefuses files folder) (steady → LacksFolder files there folder) e (λ line k. without_program k) (λ k. k) h
+      (λ (p : BuiltProgram). FolderBuilds files folder p.core p.image) (BuildRefuses files folder) (steady → LacksFolder files there folder) e (λ line k. without_program k) (λ k. k) h
 
-  pub without_computer : (core : Core) (e : LoadError) → FolderMeans files folder core → Loads (IsBuiltOf core) (BuildIsRefused core folder) ⊥ (Err e) → LoadsBuilt (Err e)
+  pub without_computer : (core : Core) (e : LoadError) → FolderMeans files folder core → Loads (IsImageOf core) (BuildIsRefused core folder) ⊥ (Err e) → LoadsBuilt (Err e)
   without_computer core e means h =
-      without (IsBuiltOf core) (BuildIsRefused core folder) ⊥
-      (λ (p : BuiltProgram). FolderBuilds files folder p.core p.built) (BuildRefuses files folder) (steady → LacksFolder files there folder) e (λ line k. unbuilt core means k) (λ k. absurd k) h
+      without (IsImageOf core) (BuildIsRefused core folder) ⊥
+      (λ (p : BuiltProgram). FolderBuilds files folder p.core p.image) (BuildRefuses files folder) (steady → LacksFolder files there folder) e (λ line k. unbuilt core means k) (λ k. absurd k) h
 
-pub unbuilt_counts : (core : Core) (folder : List ℕ) (e : LoadError) (shelf shelf' : ℕ) → Loads (IsBuiltOf core) (BuildIsRefused core folder) ⊥ (Err e) → shelf' ≡ shelf → CountsLoad {A = BuiltProgram} shelf shelf' (Err e)
+pub unbuilt_counts : (core : Core) (folder : List ℕ) (e : LoadError) (shelf shelf' : ℕ) → Loads (IsImageOf core) (BuildIsRefused core folder) ⊥ (Err e) → shelf' ≡ shelf → CountsLoad {A = BuiltProgram} shelf shelf' (Err e)
 unbuilt_counts core folder (errors.Refused r) shelf shelf' h same = same
 unbuilt_counts core folder errors.Failed shelf shelf' h same = absurd h
 unbuilt_counts core folder errors.Memory shelf shelf' h same = same

@@ -26,22 +26,23 @@ use Rattle.jack_meaning.specs.Meaning.{State, start}
 use Rattle.hdl_tree.specs.Behaviour.{Histories}
 use Rattle.hack_cpu.specs.Computer.{word_at}
 use Rattle.gate_computer.specs.Computer.{IsComputer}
-use Rattle.gate_computer.specs.Followed.{GateMachine, HasFollowed, MappedImage, PutsParts, ShowsCycle, program_in, word_in}
+use Rattle.gate_computer.specs.Followed.{GateMachine, HasFollowed, PutsParts, ShowsCycle, image_in, word_in}
 use Rattle.gate_computer.specs.Parts.{ShowsParts, parts_text}
-use Rattle.gate_computer.specs.Turns.{HoldsKeys}
+use Rattle.image_map.specs.Map.{the_map}
+use Rattle.image_map.specs.declared.map.Image.{Image}
+use Rattle.image_map.specs.Turns.{HoldsKeys}
+use Rattle.image_map.proofs.Holding.{keys_held, moves_length}
 use Rattle.gate_computer.proofs.Seen.{gates, seen}
 use Rattle.jack_compiler.specs.Resolved.{IsResolvedCore}
-use Rattle.vm_translator.specs.declared.coded.PointRange.{PointRange}
-use Rattle.tower.specs.Built.{IsComputerOf, map_for}
-use Rattle.tower.specs.Headline.{run_trace, run_word}
-use Rattle.tower.specs.Mapped.{RunProgram}
+use Rattle.tower.specs.Image.{IsImageOf}
+use Rattle.image_map.specs.Computer.{run_trace, run_word}
 use Rattle.tower.proofs.Computers.{computer as computer_follows}
 use Rattle.command_line.specs.declared.request.Shown.{Shown}
 use Rattle.command_line.specs.declared.request.Shown.TheVariants.{Nets, Words}
 use Rattle.nand_cli.specs.Commands.Gates.{IsGatesReport, ReportsCycle, gates_trace, meaning_in}
 use Rattle.nand_cli.specs.Commands.Run.{name_of}
 use Rattle.nand_cli.specs.Inner.Parts.{finish_result}
-use Rattle.nand_cli.specs.Inner.Reports.{IsAtStart, Reports, gates_text, program_of}
+use Rattle.nand_cli.specs.Inner.Reports.{IsAtStart, Reports, gates_text}
 use Rattle.nand_cli.specs.declared.failure.Failure.{Failure}
 use Rattle.nand_cli.specs.declared.failure.Failure.TheVariants as failure
 use Rattle.nand_cli.proofs.Driving.{last_acted}
@@ -49,14 +50,6 @@ use Rattle.nand_cli.proofs.Reporting.{reports_by}
 use Rattle.nand_cli.proofs.Showing.{shown_same}
 
 -- ---- after the cycles
-
-pub keys_held : (code : ℕ → ℕ) (c n : ℕ) → HoldsKeys code c (moves_from code c n)
-keys_held code c zero = tt
-keys_held code c (suc n) = (refl, keys_held code (suc c) n)
-
-pub moves_length : (code : ℕ → ℕ) (c n : ℕ) → length (moves_from code c n) ≡ n
-moves_length code c zero = refl
-moves_length code c (suc n) = ap suc (moves_length code (suc c) n)
 
 never_ends : (code : ℕ → ℕ) (old new : GateMachine) (c n c' : ℕ) (answer : Moved) → EndsBy code (HasFollowed old) c n answer (HasFollowed new) c' → HasFollowed old [] → answer ≡ moved.Acted
 never_ends code old new c n c' answer (m, below, goes) h =
@@ -89,23 +82,23 @@ module _ (g : GateMachine) (code : ℕ → ℕ) (n : ℕ) (followed : HasFollowe
 
   -- the five lines
   head_is : (subs : List (List ℕ)) (end : End) (wires : List ℕ → Histories) → end ≡ ends.Bound → ShowsCycle g code wires n
-      → head_text names.Gates g.moves g.tally.count (name_of subs g.tally.place.sub) g.tally.place.number end
-      ≡ head_text names.Gates n (steps (gates_trace (program_of g) code wires) n) (name_of subs g.tally.place.sub) g.tally.place.number ends.Bound
+      → head_text names.Gates g.moves g.tally.steps (name_of subs g.tally.point.sub) g.tally.point.number end
+      ≡ head_text names.Gates n (steps (gates_trace (image_in g) code wires) n) (name_of subs g.tally.point.sub) g.tally.point.number ends.Bound
   head_is subs end wires bound s =
-      let p = g.tally.place in
-      ap (λ m. head_text names.Gates m g.tally.count (name_of subs p.sub) p.number end) moves_are
+      let p = g.tally.point in
+      ap (λ m. head_text names.Gates m g.tally.steps (name_of subs p.sub) p.number end) moves_are
       ∙ ap (λ k. head_text names.Gates n k (name_of subs p.sub) p.number end) s.counted
-      ∙ ap (λ (e : End). head_text names.Gates n (steps (gates_trace (program_of g) code wires) n) (name_of subs p.sub) p.number e) bound
+      ∙ ap (λ (e : End). head_text names.Gates n (steps (gates_trace (image_in g) code wires) n) (name_of subs p.sub) p.number e) bound
 
   -- the report of words
   words_told : (core : Core) (end : End) (show : Show) → end ≡ ends.Bound → (m : ℕ) (wires : List ℕ → Histories) → n < m → IsComputer g.image code m wires
-      → ReportsCycle core (program_of g) code n (Words show) (gates_text g (names_of core) end show) wires
+      → ReportsCycle core (image_in g) code n (Words show) (gates_text g (names_of core) end show) wires
   words_told core end show bound m wires near is =
       let s = shows_cycle m wires near is in
       let all = names_of core in
-      let told = head_text names.Gates n (steps (gates_trace (program_of g) code wires) n) (name_of all g.tally.place.sub) g.tally.place.number ends.Bound in
+      let told = head_text names.Gates n (steps (gates_trace (image_in g) code wires) n) (name_of all g.tally.point.sub) g.tally.point.number ends.Bound in
       record {
-        point = g.tally.place;
+        point = g.tally.point;
         seen = s.seen;
         rest = shown_text show (word_at wires n);
         after = refl;
@@ -116,13 +109,13 @@ module _ (g : GateMachine) (code : ℕ → ℕ) (n : ℕ) (followed : HasFollowe
   -- the report of parts: no words, and the lines of the parts
   nets_told : (core : Core) (end : End) (other : List ℕ → Histories) (rest : List ℕ) → end ≡ ends.Bound → IsComputer g.image code (suc n) other → ShowsParts other n rest
       → (m : ℕ) (wires : List ℕ → Histories) → n < m → IsComputer g.image code m wires
-      → ReportsCycle core (program_of g) code n Nets (gates_text g (names_of core) end shows.Nothing ++ rest) wires
+      → ReportsCycle core (image_in g) code n Nets (gates_text g (names_of core) end shows.Nothing ++ rest) wires
   nets_told core end other rest bound behaves shown m wires near is =
       let s = shows_cycle m wires near is in
       let all = names_of core in
-      let head = head_text names.Gates g.moves g.tally.count (name_of all g.tally.place.sub) g.tally.place.number end in
+      let head = head_text names.Gates g.moves g.tally.steps (name_of all g.tally.point.sub) g.tally.point.number end in
       record {
-        point = g.tally.place;
+        point = g.tally.point;
         seen = s.seen;
         rest = rest;
         after = (other, behaves, shown);
@@ -155,26 +148,26 @@ agrees_too {S} meaning first t t' word word' n same words f tame =
     }
 
 -- the report of a computer that has followed the keys
-gates_reported : (core : Core) (code : ℕ → ℕ) (n : ℕ) (shown : Shown) (text : List ℕ) (g : GateMachine) → IsResolvedCore core → ((c : ℕ) → IsKey (code c)) → IsComputerOf core (program_of g)
+gates_reported : (core : Core) (code : ℕ → ℕ) (n : ℕ) (shown : Shown) (text : List ℕ) (g : GateMachine) → IsResolvedCore core → ((c : ℕ) → IsKey (code c)) → IsImageOf core (image_in g)
     → HasFollowed g (moves_from code 0 n)
-    → ((m : ℕ) (wires : List ℕ → Histories) → n < m → IsComputer g.image code m wires → ReportsCycle core (program_of g) code n shown text wires)
+    → ((m : ℕ) (wires : List ℕ → Histories) → n < m → IsComputer g.image code m wires → ReportsCycle core (image_in g) code n shown text wires)
     → IsGatesReport core code n shown text
-gates_reported core code n shown text g resolved words computer followed told =
-    let p = program_of g in
+gates_reported core code n shown text g resolved words is_image followed told =
+    let p = image_in g in
     let first = start (the_program core) in
-    let follows = computer_follows core p resolved computer code words n in
-    let law : Follows (meaning_in core) first (run_trace p.image (map_for p) code) (run_word p.image code) follows.0 n = follows.2 in
+    let follows = computer_follows core p resolved is_image code words n in
+    let law : Follows (meaning_in core) first (run_trace p.words (the_map p.map) code) (run_word p.words code) follows.0 n = follows.2 in
     record {
-      computer = p;
-      is_computer = computer;
+      image = p;
+      is_image = is_image;
       behaves = followed.behaves code words;
       reports = told;
       agrees = λ m wires near is.
-          let alike = seen p.image (map_for p) code m wires is n near in
-          agrees_too (meaning_in core) first (gates_trace p code wires) (run_trace p.image (map_for p) code) (word_at wires) (run_word p.image code) n alike.counts alike.words law.agrees;
+          let alike = seen p.words (the_map p.map) code m wires is n near in
+          agrees_too (meaning_in core) first (gates_trace p code wires) (run_trace p.words (the_map p.map) code) (word_at wires) (run_word p.words code) n alike.counts alike.words law.agrees;
       most = follows.0;
       gap = follows.1;
-      goes_on = λ m wires near is. (gates State (meaning_in core) first p.image (map_for p) code follows.0 n law m wires near is).goes_on;
+      goes_on = λ m wires near is. (gates State (meaning_in core) first p.words (the_map p.map) code follows.0 n law m wires near is).goes_on;
     }
 
 -- ---- the texts
@@ -187,27 +180,15 @@ puts_cut a b s t h = Puts-failed a b [] (s ++ t) (Passes-cut a b [] [] s t (Pass
 
 -- ---- from the start
 
-same_program : (g : GateMachine) (p : RunProgram) → g.image ≡ p.image → g.tally.commits ≡ p.commits → g.tally.ranges ≡ p.ranges → program_of g ≡ p
-same_program g p e f k =
-    let by_image : List ℕ → RunProgram = λ i. record { image = i; commits = g.tally.commits; ranges = g.tally.ranges } in
-    let by_commits : List ℕ → RunProgram = λ cs. record { image = p.image; commits = cs; ranges = g.tally.ranges } in
-    let by_ranges : List PointRange → RunProgram = λ rs. record { image = p.image; commits = p.commits; ranges = rs } in
-    ap by_image e ∙ ap by_commits f ∙ ap by_ranges k
-
 -- what is prepared with the image of the program
-pub prepared : {E : Type 0} (core : Core) (built : RunProgram) (image commits : List ℕ) (ranges : List PointRange) (r : Result GateMachine E) → IsComputerOf core built
-    → image ≡ built.image → commits ≡ built.commits → ranges ≡ built.ranges → IfOk r (λ g. program_in g ≡ record { image = image; commits = commits; ranges = ranges })
+pub prepared : {E : Type 0} (core : Core) (image : Image) (r : Result GateMachine E) → IsImageOf core image → IfOk r (λ g. image_in g ≡ image)
     → IfOk r (λ g. g.moves ≡ 0) → IfOk r (λ g. HasFollowed g []) → IfOk r (IsAtStart core)
-prepared core built image commits ranges (Ok g) computer e f k program moves stands =
-    let same = same_program g built (ap (λ (p : MappedImage). p.image) program ∙ e) (ap (λ (p : MappedImage). p.commits) program ∙ f) (ap (λ (p : MappedImage). p.ranges) program ∙ k) in
-    record { computer = subst (IsComputerOf core) (sym same) computer; moves = moves; stands = stands }
-prepared core built image commits ranges (Err x) computer e f k program moves stands = tt
+prepared core image (Ok g) is same moves stands = record { image = subst (IsImageOf core) (sym same) is; moves = moves; stands = stands }
+prepared core image (Err x) is same moves stands = tt
 
-module _ (core : Core) (code : ℕ → ℕ) (n : ℕ) (resolved : IsResolvedCore core) (words : (c : ℕ) → IsKey (code c)) (old new : GateMachine) (at : IsAtStart core old) (same : program_in new ≡ program_in old) where
-  own_computer : IsComputerOf core (program_of new)
-  own_computer =
-      let P : MappedImage → Type 0 = λ p. IsComputerOf core (record { image = p.image; commits = p.commits; ranges = p.ranges }) in
-      subst P (sym same) at.computer
+module _ (core : Core) (code : ℕ → ℕ) (n : ℕ) (resolved : IsResolvedCore core) (words : (c : ℕ) → IsKey (code c)) (old new : GateMachine) (at : IsAtStart core old) (same : image_in new ≡ image_in old) where
+  own_image : IsImageOf core (image_in new)
+  own_image = subst (IsImageOf core) (sym same) at.image
 
   -- it was driven, and this is told of it
   abbrev pub IsToldOf : Show → List ℕ → Type 0
@@ -218,14 +199,14 @@ module _ (core : Core) (code : ℕ → ℕ) (n : ℕ) (resolved : IsResolvedCore
       let turns = turned code old new old.moves n new.moves end driven at.stands at.moves in
       let Q = IsGatesReport core code n (Words show) in
       subst Q (sym is)
-      (gates_reported core code n (Words show) (gates_text new (names_of core) end show) new resolved words own_computer turns.followed (words_told new code n turns.followed core end show turns.bound))
+      (gates_reported core code n (Words show) (gates_text new (names_of core) end show) new resolved words own_image turns.followed (words_told new code n turns.followed core end show turns.bound))
 
   with_nets : (t rest : List ℕ) (other : List ℕ → Histories) → IsToldOf shows.Nothing t → IsComputer new.image code (suc n) other → ShowsParts other n rest → IsGatesReport core code n Nets (t ++ rest)
   with_nets t rest other (end, driven, is) behaves shown =
       let turns = turned code old new old.moves n new.moves end driven at.stands at.moves in
       let Q : List ℕ → Type 0 = λ l. IsGatesReport core code n Nets (l ++ rest) in
       subst Q (sym is)
-      (gates_reported core code n Nets (gates_text new (names_of core) end shows.Nothing ++ rest) new resolved words own_computer turns.followed (nets_told new code n turns.followed core end other rest turns.bound behaves shown))
+      (gates_reported core code n Nets (gates_text new (names_of core) end shows.Nothing ++ rest) new resolved words own_image turns.followed (nets_told new code n turns.followed core end other rest turns.bound behaves shown))
 
   -- the parts are put after the five lines
   pub nets_after : (out mid out' : Option (List ℕ)) (t : List ℕ) (p : Put) → IsToldOf shows.Nothing t → Got out mid t → PutsParts new.image code n mid out' p → Reports (IsGatesReport core code n Nets) out out' (finish_result p)

@@ -28,7 +28,8 @@ use Rattle.machine_io.specs.declared.report.Show.{Show}
 use Rattle.machine_io.specs.declared.report.Show.TheVariants as shows
 use Rattle.simulation.specs.System.{IsKey}
 use Rattle.simulation.specs.Trace.{Trace, point_at, steps}
-use Rattle.map_text.specs.Text.{map_text}
+use Rattle.image_map.specs.declared.map.Image.{Image}
+use Rattle.image_map.specs.Text.{map_text}
 use Rattle.vm_link.proofs.Marking.{length_mapped}
 use Rattle.vm_link.proofs.SoundLemmas.{sound_if}
 use Rattle.vm_link.specs.Links.{Links}
@@ -38,7 +39,7 @@ use Rattle.vm_link.specs.declared.linked.Linked.{Linked}
 use Rattle.vm_machine.specs.Level.{point_of, state_after as state_after_outcome}
 use Rattle.vm_machine.specs.Moves.{state_or}
 use Rattle.vm_machine.specs.Step.{Outcome as VmOutcome, Acts as VmActs, Done as VmDone, Full, Strays}
-use Rattle.vm_translator.specs.Image.{IsTooLarge, budget_of, image_of, points_of, shared_ranges}
+use Rattle.vm_translator.specs.Image.{IsTooLarge, budget_of, image_map_of, image_of, points_of, shared_ranges}
 use Rattle.vm_translator.specs.Plain.{IsPlain}
 use Rattle.vm_translator.proofs.Answering.{all_ready}
 use Rattle.vm_translator.proofs.Covered.{covers}
@@ -58,14 +59,16 @@ use Rattle.hack_cpu.specs.Existence.{RunsLaw}
 use Rattle.gate_computer.specs.Computer.{IsComputer}
 use Rattle.gate_computer.specs.Parts.{parts_text}
 use Rattle.gate_computer.proofs.Seen.{gates, seen}
-use Rattle.tower.specs.Built.{IsBuiltOf, IsComputerOf, built_image, map_for, run_program}
-use Rattle.tower.specs.Headline.{RunFollows, run_trace, run_word}
-use Rattle.tower.specs.Mapped.{BuiltImage, IsMapped, RunProgram, point_seen}
+use Rattle.tower.specs.Image.{IsImageOf, image_for}
+use Rattle.tower.specs.Headline.{RunFollows}
+use Rattle.image_map.specs.Computer.{run_trace, run_word}
+use Rattle.image_map.specs.Map.{IsMapped, the_map}
+use Rattle.image_map.specs.Tallies.{point_seen}
 use Rattle.tower.specs.Resolved.{ResolvedLaw}
 use Rattle.tower.specs.VmRun.{IsVmCodeOf, MakesMoves, VmEnds, outcome_at, vm_at, vm_trace, vm_word}
 use Rattle.tower.specs.declared.building.BuildError.TheVariants as errors
 use Rattle.tower.proofs.Computers.{computer as computer_follows, is_mapped, linked_bare}
-use Rattle.tower.proofs.Mapped.{place_first}
+use Rattle.image_map.proofs.Tallying.{place_first}
 use Rattle.tower.proofs.VmRuns.{follows}
 use Rattle.command_line.specs.Line.{Line, asm, build, chip, compile, exec, map_line, run, show, test, vm}
 use Rattle.command_line.specs.declared.request.RunLevel.{RunLevel}
@@ -136,19 +139,16 @@ module _ (core : Core) (f : Fits core) where
   long : length (map word_of (image_of f.linked)) ≤ image_words
   long = let e = length_mapped word_of (image_of f.linked) in let few = f.few in omega (arith, e, few)
 
-  pub is_built : IsBuiltOf core (built_image f.linked)
-  is_built = record { linked = f.linked; links = f.links; is_image = refl; fits = long }
+  pub is_image : IsImageOf core (image_for f.linked)
+  is_image = record { linked = f.linked; links = f.links; is_image = refl; fits = long }
 
-  pub is_computer : IsComputerOf core (run_program f.linked)
-  is_computer = record { linked = f.linked; links = f.links; is_image = refl; fits = long }
-
-  mapped : IsMapped (map word_of (image_of f.linked)) (points_of f.linked)
+  mapped : IsMapped (image_for f.linked)
   mapped =
       let l = f.linked in
-      is_mapped l (image_of l) (points_of l) (shared_ranges l) (linked_bare false (files_of core) l f.links) (covers l) (shared_covers_as l (image_of l) (shared_ranges l) refl refl) refl f.few
+      is_mapped l (image_of l) (image_map_of l) (linked_bare false (files_of core) l f.links) (covers l) (shared_covers_as l (image_of l) (shared_ranges l) refl refl) refl f.few
 
-  first_point : (code : ℕ → ℕ) → (trace_in (run_program f.linked) code).point 0 ≡ Some (point_seen (points_of f.linked) 0)
-  first_point code = place_first (points_of f.linked) mapped.mapped mapped.covers mapped.some
+  first_point : (code : ℕ → ℕ) → (trace_in (image_for f.linked) code).point 0 ≡ Some (point_seen (points_of f.linked) 0)
+  first_point code = place_first (points_of f.linked) mapped.covers.mapped mapped.covers.covers mapped.covers.some
 
 -- the words of an image
 one_word : (i : Instr) → IsPlain i → word_of i < 65536
@@ -253,59 +253,58 @@ module _ (laws : Laws) (core : Core) (resolved : IsResolvedCore core) (f : Fits 
         },
       )
 
-  program : RunProgram
-  program = run_program f.linked
+  program : Image
+  program = image_for f.linked
 
-  run_follows : RunFollows (the_program core) (run_program f.linked).image (map_for (run_program f.linked)) code n
-  run_follows = computer_follows core (run_program f.linked) resolved (is_computer core f) code words n
+  run_follows : RunFollows (the_program core) (image_for f.linked).words (the_map (image_for f.linked).map) code n
+  run_follows = computer_follows core (image_for f.linked) resolved (is_image core f) code words n
 
-  point_there : (q : Point) × (point_at (trace_in (run_program f.linked) code) n ≡ Some q)
-  point_there = some_point (trace_in (run_program f.linked) code) (point_seen (points_of f.linked) 0) (first_point core f code) n
+  point_there : (q : Point) × (point_at (trace_in (image_for f.linked) code) n ≡ Some q)
+  point_there = some_point (trace_in (image_for f.linked) code) (point_seen (points_of f.linked) 0) (first_point core f code) n
 
   hack_report : (text : List ℕ) × IsHackReport core code n shown text
   hack_report = (
     _,
     record {
-      computer = run_program f.linked;
-      is_computer = is_computer core f;
+      image = image_for f.linked;
+      is_image = is_image core f;
       point = point_there.0;
       seen = point_there.1;
       reports = refl;
       most = run_follows.0;
       gap = run_follows.1;
-      agrees = run_follows.2.agrees;
-      goes_on = run_follows.2.goes_on;
+      follows = run_follows.2;
     },
   )
 
-  behaves : (m : ℕ) → (wires : List ℕ → Histories) × IsComputer (run_program f.linked).image code m wires
+  behaves : (m : ℕ) → (wires : List ℕ → Histories) × IsComputer (image_for f.linked).words code m wires
   behaves m =
       let l = f.linked in
       let plain = plain_image l f.few (all_ready l f.few (sound_if false (files_of core) l f.links)) in
       let small = All-from_recursion (λ w. w < 65536) (map word_of (image_of l)) (each_word (image_of l) (recursion_from_All IsPlain (image_of l) plain)) in
-      let r = laws.runs (run_program l).image code m small words in
+      let r = laws.runs (image_for l).words code m small words in
       (r.wires, record { behaves = r.behaves; no_reset = λ c near. r.no_reset c })
 
   -- what comes after the five lines
   abbrev After : Shown → List ℕ → Type 0
-  After what rest = (m : ℕ) (wires : List ℕ → Histories) → n < m → IsComputer (run_program f.linked).image code m wires
-      → (l : List ℕ) × ComesAfter what (run_program f.linked).image code n wires l × (rest ≡ l)
+  After what rest = (m : ℕ) (wires : List ℕ → Histories) → n < m → IsComputer (image_for f.linked).words code m wires
+      → (l : List ℕ) × ComesAfter what (image_for f.linked).words code n wires l × (rest ≡ l)
 
   gates_report : (what : Shown) (rest : List ℕ) → After what rest → (text : List ℕ) × IsGatesReport core code n what text
   gates_report what rest after =
-      let p = run_program f.linked in
+      let p = image_for f.linked in
       let first = start (the_program core) in
       let q = point_there in
       let law = run_follows.2 in
-      let trace = run_trace p.image (map_for p) code in
+      let trace = run_trace p.words (the_map p.map) code in
       let head : ℕ → List ℕ = λ k. head_text names.Gates n k (get_or (names_of core) q.0.sub []) q.0.number ends.Bound in (
         head (steps trace n) ++ rest,
         record {
-          computer = p;
-          is_computer = is_computer core f;
+          image = p;
+          is_image = is_image core f;
           behaves = behaves;
           reports = λ m wires near is.
-              let alike = seen p.image (map_for p) code m wires is n near in
+              let alike = seen p.words (the_map p.map) code m wires is n near in
               let behind = after m wires near is in
               record {
                 point = q.0;
@@ -315,19 +314,19 @@ module _ (laws : Laws) (core : Core) (resolved : IsResolvedCore core) (f : Fits 
                 is_text = ap (λ (k : ℕ). head k ++ rest) (sym alike.counts.steps_are) ∙ ap (λ (l : List ℕ). head (steps (gates_trace p code wires) n) ++ l) behind.2;
               };
           agrees = λ m wires near is.
-              let alike = seen p.image (map_for p) code m wires is n near in
-              agrees_too (meaning_in core) first (gates_trace p code wires) trace (word_at wires) (run_word p.image code) n alike.counts alike.words law.agrees;
+              let alike = seen p.words (the_map p.map) code m wires is n near in
+              agrees_too (meaning_in core) first (gates_trace p code wires) trace (word_at wires) (run_word p.words code) n alike.counts alike.words law.agrees;
           most = run_follows.0;
           gap = run_follows.1;
-          goes_on = λ m wires near is. (gates State (meaning_in core) first p.image (map_for p) code run_follows.0 n law m wires near is).goes_on;
+          goes_on = λ m wires near is. (gates State (meaning_in core) first p.words (the_map p.map) code run_follows.0 n law m wires near is).goes_on;
         },
       )
 
   words_report : (text : List ℕ) × IsGatesReport core code n (Words shown) text
   words_report =
-      let word = run_word (run_program f.linked).image code n in
+      let word = run_word (image_for f.linked).words code n in
       gates_report (Words shown) (shown_text shown word) (λ m wires near is.
-      let alike = seen (run_program f.linked).image (map_for (run_program f.linked)) code m wires is n near in
+      let alike = seen (image_for f.linked).words (the_map (image_for f.linked).map) code m wires is n near in
       (shown_text shown (word_at wires n), refl, shown_same word (word_at wires n) (λ a from_on below. sym (alike.words a below)) shown))
 
   nets_report : (text : List ℕ) × IsGatesReport core code n Nets text
@@ -361,15 +360,15 @@ module _ (laws : Laws) (there : List ℕ → Bool) (files : Files) (folder : Lis
 
   build_answer : HasAnswer there files (build folder)
   build_answer = elim (fits_or_told laws core resolved_here folder) [
-    | inl f ↦ inl (image_text (built_image f.linked).image, [], ((core, built_image f.linked, (means, is_built core f), refl), refl))
+    | inl f ↦ inl (image_text (image_for f.linked).words, [], ((core, image_for f.linked, (means, is_image core f), refl), refl))
     | inr (line, h) ↦ inr (inl ([], [], line, (refl, unbuilt core means h, refl)))
   ]
 
   map_answer : HasAnswer there files (map_line folder)
   map_answer = elim (fits_or_told laws core resolved_here folder) [
     | inl f ↦
-        let b = built_image f.linked in
-        inl (map_text (names_of core) b.ranges b.commits b.shared, [], ((core, b, (means, is_built core f), covered core b (is_built core f), rising core b (is_built core f), refl), refl))
+        let b = image_for f.linked in
+        inl (map_text (names_of core) b.map, [], ((core, b, (means, is_image core f), covered core b (is_image core f), rising core b (is_image core f), refl), refl))
     | inr (line, h) ↦ inr (inl ([], [], line, (refl, unbuilt core means h, refl)))
   ]
 
@@ -377,14 +376,14 @@ module _ (laws : Laws) (there : List ℕ → Bool) (files : Files) (folder : Lis
     with_keys : (keys : Option (List ℕ)) (ls : List KeyLine) → HasKeys (Some files) keys ls → HasAnswer there files (run folder level cycles keys)
     with_keys keys ls has =
         let report = level_report laws core resolved_here f (code_at ls) (keys_are_words (Some files) keys ls has) cycles level in
-        inl (report.0, [], ((core, ls, means, (run_program f.linked, is_computer core f), has, report.1), refl))
+        inl (report.0, [], ((core, ls, means, (image_for f.linked, is_image core f), has, report.1), refl))
 
     run_answer : (keys : Option (List ℕ)) → HasAnswer there files (run folder level cycles keys)
     run_answer None = with_keys None [] refl
     run_answer (Some path) = elim (at_path (λ (name text : List ℕ) (ls : List KeyLine). SpellsLines text ls) RefusesKeys (keys_read laws.keys) files [] path) [
       | inl (ls, h) ↦ with_keys (Some path) ls h
-      | inr (inl (line, h)) ↦ inr (inl ([], [], line, (refl, without_script core means (run_program f.linked, is_computer core f) h, refl)))
-      | inr (inr gone) ↦ inr (inr (inr (core, means, (run_program f.linked, is_computer core f), gone)))
+      | inr (inl (line, h)) ↦ inr (inl ([], [], line, (refl, without_script core means (image_for f.linked, is_image core f) h, refl)))
+      | inr (inr gone) ↦ inr (inr (inr (core, means, (image_for f.linked, is_image core f), gone)))
     ]
 
   run_by : (level : RunLevel) (cycles : ℕ) (keys : Option (List ℕ)) → HasAnswer there files (run folder level cycles keys)

@@ -26,7 +26,7 @@ use Rattle.source_files.specs.declared.error.LoadError.TheVariants as errors
 use Rattle.command_line.specs.Line.{run}
 use Rattle.command_line.specs.declared.request.RunLevel.{RunLevel}
 use Rattle.command_line.specs.declared.request.RunLevel.TheVariants as levels
-use Rattle.tower.specs.Built.{IsBuiltOf}
+use Rattle.tower.specs.Image.{IsImageOf}
 use Rattle.nand_cli.specs.Answer.{Lacks}
 use Rattle.nand_cli.specs.JackFolder.{BuildIsRefused, FolderIsRefused, FolderMeans, IsBuilt}
 use Rattle.nand_cli.specs.Inner.Parts.{Counts, Does, finish_result}
@@ -98,10 +98,10 @@ module _ (level : RunLevel) (files : Option Files) (there : List ℕ → Bool) (
       nothing_put (FolderMeans files folder) (FolderIsRefused files folder) (steady → LacksFolder files there folder) files there steady (run folder level n keys) out err e
       (λ told k. (refl, without_program k, refl)) (λ k s. missing files there folder (run folder level n keys) (λ told none. inl none) (k s)) h tt
 
-  pub without_image : (out err : Option (List ℕ)) (core : Core) (e : LoadError) → FolderMeans files folder core → Loads (IsBuiltOf core) (BuildIsRefused core folder) ⊥ (Err e)
+  pub without_image : (out err : Option (List ℕ)) (core : Core) (e : LoadError) → FolderMeans files folder core → Loads (IsImageOf core) (BuildIsRefused core folder) ⊥ (Err e)
       → Does files there steady (run folder level n keys) out out err err (Err (failure.Unloaded e))
   without_image out err core e means h =
-      nothing_put (IsBuiltOf core) (BuildIsRefused core folder) ⊥ files there steady (run folder level n keys) out err e
+      nothing_put (IsImageOf core) (BuildIsRefused core folder) ⊥ files there steady (run folder level n keys) out err e
       (λ told k. (refl, unbuilt core means k, refl)) (λ k. absurd k) h tt
 
   without_script_file : (told : Option Files) (core : Core) → FolderMeans told folder core → IsBuilt core → LacksKeys told keys → IfSome told (λ fs. Lacks there fs (run folder level n keys))

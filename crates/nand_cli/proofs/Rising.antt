@@ -15,8 +15,8 @@ use Rattle.vm_translator.specs.declared.layout.Placed.{Placed}
 use Rattle.vm_translator.proofs.Chained.{Chain, chain_from}
 use Rattle.vm_translator.proofs.Routines.{routine_some}
 use Rattle.vm_translator.proofs.Sums.{size_some}
-use Rattle.tower.specs.Built.{IsBuiltOf}
-use Rattle.tower.specs.Mapped.{BuiltImage}
+use Rattle.image_map.specs.declared.map.Image.{Image}
+use Rattle.tower.specs.Image.{IsImageOf}
 use Rattle.nand_cli.specs.Commands.Map.{AreRising, RiseFrom}
 
 lower : (m n : ℕ) (addresses : List ℕ) → m ≤ n → RiseFrom n addresses → RiseFrom m addresses
@@ -64,5 +64,5 @@ commits_rise l =
     after_start l.bare l.marked (filter_map commit_of (program l) ++ shared_commits l)
     (of_steps (base_of l) (end_of l) (program l) (shared_commits l) (chain_from 0 (base_of l) l.functions) behind)
 
-pub rising : (core : Core) (b : BuiltImage) → IsBuiltOf core b → AreRising b.commits
-rising core b is = subst (λ (q : BuiltImage). AreRising q.commits) (sym is.is_image) (commits_rise is.linked)
+pub rising : (core : Core) (b : Image) → IsImageOf core b → AreRising b.map.commits
+rising core b is = subst (λ (q : Image). AreRising q.map.commits) (sym is.is_image) (commits_rise is.linked)

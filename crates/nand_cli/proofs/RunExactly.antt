@@ -43,9 +43,9 @@ use Rattle.command_line.specs.declared.request.RunLevel.TheVariants as levels
 use Rattle.command_line.specs.declared.request.Shown.TheVariants.{Nets, Words}
 use Rattle.hack_cpu.specs.Computer.{word_at}
 use Rattle.gate_computer.specs.Computer.{IsComputer}
-use Rattle.tower.specs.Built.{Builds, IsBuiltOf, IsComputerOf, built_image, run_program}
-use Rattle.tower.specs.Mapped.{BuiltImage, RunProgram}
-use Rattle.tower.specs.Headline.{run_word}
+use Rattle.image_map.specs.declared.map.Image.{Image}
+use Rattle.tower.specs.Image.{Builds, IsImageOf, image_for}
+use Rattle.image_map.specs.Computer.{run_word}
 use Rattle.tower.specs.OneProgram.{SameProgram}
 use Rattle.tower.proofs.OneProgram.{one_program}
 use Rattle.tower.specs.Messages.{build_message}
@@ -101,7 +101,7 @@ module _ (law : ClassLaw) (files : Files) (folder : List ℕ) where
   pub never_refused : (core : Core) (line : List ℕ) → FolderMeans (Some files) folder core → FolderIsRefused (Some files) folder line → ⊥
   never_refused core line (cs, has, (os, are, is)) k = never_meaningless (map the_file cs) (map the_file os) line has (seen_files system os are) is.well_named k
 
--- ---- its computer
+-- ---- its image
 
 module _ (core core' : Core) (same : SameProgram core core') where
   pub one_list_of_files : files_of core ≡ files_of core'
@@ -110,13 +110,9 @@ module _ (core core' : Core) (same : SameProgram core core') where
   linked_here : (r : Result Linked LinkFault) → Links false (files_of core') r → Links false (files_of core) r
   linked_here r h = subst (λ (fs : List File). Links false fs r) (sym one_list_of_files) h
 
-  pub one_computer : (p q : RunProgram) → IsComputerOf core p → IsComputerOf core' q → p ≡ q
-  one_computer p q h k =
-      h.is_image ∙ ap run_program (one_linked false (files_of core) h.linked k.linked h.links (linked_here (Ok k.linked) k.links)) ∙ sym k.is_image
-
-  pub one_built : (b d : BuiltImage) → IsBuiltOf core b → IsBuiltOf core' d → b ≡ d
-  one_built b d h k =
-      h.is_image ∙ ap built_image (one_linked false (files_of core) h.linked k.linked h.links (linked_here (Ok k.linked) k.links)) ∙ sym k.is_image
+  pub one_image_of : (p q : Image) → IsImageOf core p → IsImageOf core' q → p ≡ q
+  one_image_of p q h k =
+      h.is_image ∙ ap image_for (one_linked false (files_of core) h.linked k.linked h.links (linked_here (Ok k.linked) k.links)) ∙ sym k.is_image
 
   one_large : (l m : Linked) (v w : ℕ) → Links false (files_of core) (Ok l) → Links false (files_of core') (Ok m) → IsTooLarge l v → IsTooLarge m w → v ≡ w
   one_large l m v w h k large large' = one_size l m v w (one_linked false (files_of core) l m h (linked_here (Ok m) k)) large large'
@@ -141,16 +137,16 @@ module _ (core core' : Core) (same : SameProgram core core') where
   pub one_build_line : (folder line line' : List ℕ) → BuildIsRefused core folder line → BuildIsRefused core' folder line' → line ≡ line'
   one_build_line folder line line' (error, s, h, e, d) (error', t, k, e', d') = d ∙ ap (message_line folder) (one_build_told error error' s t h k e e') ∙ sym d'
 
-  never_large : (p : RunProgram) (m : Linked) (w : ℕ) → IsComputerOf core p → Links false (files_of core') (Ok m) → IsTooLarge m w → ⊥
+  never_large : (p : Image) (m : Linked) (w : ℕ) → IsImageOf core p → Links false (files_of core') (Ok m) → IsTooLarge m w → ⊥
   never_large p m w h k large =
       let over = large.over in
       let fits = h.fits in
-      let is = ap (λ (x : RunProgram). length x.image) h.is_image in
+      let is = ap (λ (x : Image). length x.words) h.is_image in
       let long = length_mapped word_of (image_of h.linked) in
       let e = ap (λ (x : Linked). length (image_of x)) (one_linked false (files_of core) h.linked m h.links (linked_here (Ok m) k)) in
       omega (arith, over, fits, is, long, e)
 
-  pub never_unbuilt : (p : RunProgram) (error : BuildError) (t : Message) → IsComputerOf core p → Builds core' (Err error) → build_message error ≡ Some t → ⊥
+  pub never_unbuilt : (p : Image) (error : BuildError) (t : Message) → IsImageOf core p → Builds core' (Err error) → build_message error ≡ Some t → ⊥
   never_unbuilt p building.Memory t h k e = let no : ⊥ = cc in no
   never_unbuilt p (building.TooManyStatics w) t h k e = not_linked false (files_of core) h.linked (linking.TooManyStatics w) _ h.links (linked_here (Err (linking.TooManyStatics w)) k) refl
   never_unbuilt p (building.TooLarge w) t h (m, k, large) e = never_large p m w h k large
@@ -260,27 +256,27 @@ one_jack_report program subs code n shown text text' (m, s, end, a, h, e) (k, t,
 
 one_hack_report : (core core' : Core) (code : ℕ → ℕ) (n : ℕ) (shown : Show) (text text' : List ℕ) → SameProgram core core' → IsHackReport core code n shown text → IsHackReport core' code n shown text' → text ≡ text'
 one_hack_report core core' code n shown text text' same h k =
-    let computer = one_computer core core' same h.computer k.computer h.is_computer k.is_computer in
-    let points = sym h.seen ∙ (λ i. point_at (trace_in (computer i) code) n) ∙ k.seen in
+    let image = one_image_of core core' same h.image k.image h.is_image k.is_image in
+    let points = sym h.seen ∙ (λ i. point_at (trace_in (image i) code) n) ∙ k.seen in
     let point : h.point ≡ k.point = cc in
     h.reports
-    ∙ (λ i. report_text names.Hack n (steps (trace_in (computer i) code) n) (name_of (same.names i) (point i).sub) (point i).number ends.Bound shown (run_word (computer i).image code n))
+    ∙ (λ i. report_text names.Hack n (steps (trace_in (image i) code) n) (name_of (same.names i) (point i).sub) (point i).number ends.Bound shown (run_word (image i).words code n))
     ∙ sym k.reports
 
 -- ---- the report at level gates
 
 one_gates_report : (core core' : Core) (code : ℕ → ℕ) (n : ℕ) (shown : Show) (text text' : List ℕ) → SameProgram core core' → IsGatesReport core code n (Words shown) text → IsGatesReport core' code n (Words shown) text' → text ≡ text'
 one_gates_report core core' code n shown text text' same h k =
-    let computer = one_computer core core' same h.computer k.computer h.is_computer k.is_computer in
+    let image = one_image_of core core' same h.image k.image h.is_image k.is_image in
     let b = h.behaves (suc n) in
     let r = h.reports (suc n) b.0 (omega arith) b.1 in
-    let s = k.reports (suc n) b.0 (omega arith) (subst (λ (p : RunProgram). IsComputer p.image code (suc n) b.0) computer b.1) in
-    let points = sym r.seen ∙ (λ i. point_at (gates_trace (computer i) code b.0) n) ∙ s.seen in
+    let s = k.reports (suc n) b.0 (omega arith) (subst (λ (p : Image). IsComputer p.words code (suc n) b.0) image b.1) in
+    let points = sym r.seen ∙ (λ i. point_at (gates_trace (image i) code b.0) n) ∙ s.seen in
     let point : r.point ≡ s.point = cc in
-    let head : RunProgram → List (List ℕ) → Point → List ℕ = λ p subs q. head_text names.Gates n (steps (gates_trace p code b.0) n) (name_of subs q.sub) q.number ends.Bound in
-    r.is_text ∙ ap (λ l. head h.computer (names_of core) r.point ++ l) r.after
-    ∙ (λ i. head (computer i) (same.names i) (point i) ++ shown_text shown (word_at b.0 n))
-    ∙ sym (s.is_text ∙ ap (λ l. head k.computer (names_of core') s.point ++ l) s.after)
+    let head : Image → List (List ℕ) → Point → List ℕ = λ p subs q. head_text names.Gates n (steps (gates_trace p code b.0) n) (name_of subs q.sub) q.number ends.Bound in
+    r.is_text ∙ ap (λ l. head h.image (names_of core) r.point ++ l) r.after
+    ∙ (λ i. head (image i) (same.names i) (point i) ++ shown_text shown (word_at b.0 n))
+    ∙ sym (s.is_text ∙ ap (λ l. head k.image (names_of core') s.point ++ l) s.after)
 
 -- ---- the report at level vm
 

@@ -14,8 +14,8 @@ use Rattle.jack_names.specs.Meaning.{program_meaning, program_names}
 use Rattle.jack_os.specs.System.{AreFilesOf, system}
 use Rattle.jack_core.specs.declared.program.Core.{Core}
 use Rattle.jack_compiler.specs.Files.{program_files}
-use Rattle.tower.specs.Built.{Builds, IsComputerOf}
-use Rattle.tower.specs.Mapped.{RunProgram}
+use Rattle.image_map.specs.declared.map.Image.{Image}
+use Rattle.tower.specs.Image.{Builds, IsImageOf}
 use Rattle.tower.specs.Program.{Means, class_names}
 use Rattle.tower.specs.Messages.{build_message}
 use Rattle.tower.specs.declared.building.BuildError.{BuildError}
@@ -52,11 +52,11 @@ pub data FolderIsRefused (files : Option Files) (folder line : List ℕ) : Type 
   unread : IsUnread SpellsFile RefusesClass (codes ".jack") files folder line → FolderIsRefused files folder line
   meaningless : (own : List ClassFile) → HasClasses files folder own → IsMeaningless folder own line → FolderIsRefused files folder line
 
--- The program has no computer, and this line tells why.
+-- The program has no image, and this line tells why.
 abbrev pub BuildIsRefused : Core → List ℕ → List ℕ → Type 0
 BuildIsRefused core folder line =
     (error : BuildError) × (told : Message) × Builds core (Err error) × (build_message error ≡ Some told) × (line ≡ message_line folder told)
 
--- the program has a computer
+-- the program has an image
 abbrev pub IsBuilt : Core → Type 0
-IsBuilt core = (p : RunProgram) × IsComputerOf core p
+IsBuilt core = (image : Image) × IsImageOf core image

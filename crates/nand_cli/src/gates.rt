@@ -3,8 +3,8 @@ ghost use Rattle.std.specs.Prelude.{ℕ, IfOk};
 ghost use Rattle.jack_compiler.specs.Resolved.{IsResolvedCore};
 ghost use Rattle.key_script.specs.Codes.{code_at};
 ghost use Rattle.simulation.specs.System.{IsKey};
-ghost use Rattle.tower.specs.Built.{IsComputerOf};
-ghost use Rattle.tower.specs.Mapped.{program_built};
+ghost use Rattle.image_map.specs.Map.{IsMapped};
+ghost use Rattle.tower.specs.Image.{IsImageOf};
 ghost use Rattle.nand_cli.specs.Commands.Gates.{IsGatesReport};
 ghost use Rattle.nand_cli.specs.Inner.Reports.{CountsReport, IsAtStart, IsPut, Reports};
 
@@ -12,20 +12,20 @@ use crate::failure::{Failure, finished};
 use crate::report::report;
 use command_line::Shown;
 use gate_computer::{GateComputer, prepare_gates};
+use image_map::Image;
 use jack_core::Core;
 use key_script::Keys;
 use machine_io::{LevelName, Show};
 use outer_world::Sink;
 use std::alloc::{AllocError, Global};
-use tower::Built;
 
 // The computer made of gates at its start, with the image of a program.
-fn computer_of(alloc: Global, core: &Core, built: Built) -> Result<GateComputer, AllocError>
-    requires { IsComputerOf core.now (program_built built) }
+fn computer_of(alloc: Global, core: &Core, image: Image) -> Result<GateComputer, AllocError>
+    requires image { IsImageOf core.now image }
+    requires mapped { IsMapped image }
     ensures { IfOk result (IsAtStart core.now) }
 {
-    let (image, commits, points) = built.into_parts();
-    prepare_gates(alloc, &image, commits, points)
+    prepare_gates(alloc, image)
 }
 
 // The report with words of the memory. It wants no memory.
@@ -80,19 +80,20 @@ fn report_nets<O: Sink>(
 pub fn report_gates<O: Sink>(
     alloc: Global,
     core: &Core,
-    built: Built,
+    image: Image,
     keys: &Keys,
     cycles: u32,
     shown: Shown,
     out: &mut O,
 ) -> Result<(), Failure>
     requires resolved { IsResolvedCore core.now }
-    requires computer { IsComputerOf core.now (program_built built) }
+    requires image { IsImageOf core.now image }
+    requires mapped { IsMapped image }
     requires words { (c : ℕ) → IsKey (code_at keys.now c) }
     ensures reports { Reports (IsGatesReport core.now (code_at keys.now) cycles shown) (O.written out.old) (O.written out.new) result }
     ensures counts { CountsReport (O.faults out.old) (O.faults out.new) result }
 {
-    let mut computer = computer_of(alloc, core, built)?;
+    let mut computer = computer_of(alloc, core, image)?;
     match shown {
         Shown::Words(show) => report_words(&mut computer, core, keys, cycles, show, out),
         Shown::Nets => report_nets(&mut computer, core, keys, cycles, out),

@@ -3,7 +3,8 @@ ghost use Rattle.std.specs.Prelude.{◌≡◌, ◌≤◌, IfOk, Ok, length, map}
 ghost use Rattle.jack_compiler.specs.Resolved.{IsResolvedCore};
 ghost use Rattle.jack_core.specs.declared.program.Core.{Core};
 ghost use Rattle.jack_tree.specs.Seen.{the_file};
-ghost use Rattle.tower.specs.Built.{IsBuiltOf};
+ghost use Rattle.image_map.specs.Map.{IsMapped};
+ghost use Rattle.tower.specs.Image.{IsImageOf};
 ghost use Rattle.tower.specs.Program.{Means};
 ghost use Rattle.tower.specs.Spelled.{AreSpelled};
 ghost use Rattle.jack_names.specs.Messages.{name_message};
@@ -15,6 +16,7 @@ ghost use Rattle.nand_cli.specs.declared.jack.BuiltProgram.{BuiltProgram};
 ghost use Rattle.nand_cli.specs.JackFolder.{BuildIsRefused, FolderIsRefused, FolderMeans, IsMeaningless, home_of};
 
 use crate::languages::JackText;
+use image_map::Image;
 use jack_core::Core;
 use jack_names::NameFault;
 use jack_places::first_law;
@@ -22,13 +24,13 @@ use jack_tree::Class;
 use outer_world::Shelf;
 use source_files::{LoadError, load_folder, path_in};
 use std::alloc::Global;
-use tower::{Built, ProgramError, build, program_of_classes};
+use tower::{ProgramError, build, program_of_classes};
 
 /// A folder's program with its image.
 #[derive(Drop)]
 pub struct BuiltProgram {
     pub core: Core,
-    pub built: Built,
+    pub image: Image,
 }
 
 /// The ending of the names of Jack files.
@@ -95,12 +97,13 @@ pub fn load_jack<F: Shelf>(alloc: Global, folder: &str, shelf: &mut F) -> Result
 }
 
 /// The image of a folder's program, or why there is none.
-pub fn image_of(alloc: Global, folder: &str, core: &Core) -> Result<Built, LoadError>
+pub fn image_of(alloc: Global, folder: &str, core: &Core) -> Result<Image, LoadError>
     requires { IsResolvedCore core.now }
-    ensures { Loads (IsBuiltOf core.now) (BuildIsRefused core.now folder.now) ⊥ result }
+    ensures loads { Loads (IsImageOf core.now) (BuildIsRefused core.now folder.now) ⊥ result }
+    ensures mapped { IfOk result (λ image. IsMapped image) }
 {
     match build(alloc, core) {
-        Ok(built) => Ok(built),
+        Ok(image) => Ok(image),
         Err(error) => Err(LoadError::of_diagnostic(alloc, folder, error.diagnostic())),
     }
 }
@@ -111,12 +114,12 @@ pub fn load_built<F: Shelf>(
     folder: &str,
     shelf: &mut F,
 ) -> Result<BuiltProgram, LoadError>
-    ensures loads { Loads (λ (p : BuiltProgram). FolderBuilds (F.files shelf.old) folder.now p.core p.built) (BuildRefuses (F.files shelf.old) folder.now) (F.unfailing shelf.old → LacksFolder (F.files shelf.old) (F.there shelf.old) folder.now) result }
+    ensures loads { Loads (λ (p : BuiltProgram). FolderBuilds (F.files shelf.old) folder.now p.core p.image) (BuildRefuses (F.files shelf.old) folder.now) (F.unfailing shelf.old → LacksFolder (F.files shelf.old) (F.there shelf.old) folder.now) result }
     ensures counts { CountsLoad (F.faults shelf.old) (F.faults shelf.new) result }
     ensures kept { F.files shelf.new ≡ F.files shelf.old }
     ensures stays { F.there shelf.new ≡ F.there shelf.old }
 {
     let core = load_jack(alloc, folder, shelf)?;
-    let built = image_of(alloc, folder, &core)?;
-    Ok(BuiltProgram { core, built })
+    let image = image_of(alloc, folder, &core)?;
+    Ok(BuiltProgram { core, image })
 }

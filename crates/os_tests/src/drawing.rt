@@ -135,8 +135,10 @@ pub fn draws(
     let mut jack = Jack::new(alloc, &core)?;
     let by_meaning = screen_at_end(alloc, &mut jack, &core, &keys, moves)?;
     assert_eq!(rt; by_meaning.as_str(), rows);
-    let built = build(alloc, &core).ok().ok_or("the program has an image")?;
-    let mut hack = prepare_hack(alloc, built)?;
+    let Ok(image) = build(alloc, &core) else {
+        return Err(Fail::from("the program has no image"));
+    };
+    let mut hack = prepare_hack(alloc, image)?;
     let on_computer = screen_at_end(alloc, &mut hack, &core, &keys, moves)?;
     assert_eq!(rt; on_computer.as_str(), rows);
     Ok(())

@@ -70,8 +70,10 @@ fn the_system_starts(rt: HostRuntime) -> Result<(), Fail> {
     ] {
         comes_to(&rt, alloc, &core, moves, name, number)?;
     }
-    let built = build(alloc, &core).ok().ok_or("the program has an image")?;
-    let mut hack = prepare_hack(alloc, built)?;
+    let Ok(image) = build(alloc, &core) else {
+        return Err(Fail::from("the program has no image"));
+    };
+    let mut hack = prepare_hack(alloc, image)?;
     drive(&mut hack, &no_keys(alloc)?, 200_000)?;
     assert!(rt; hack.point() == Point { sub: 1, number: 1 });
     Ok(())

@@ -24,7 +24,7 @@ use Rattle.jack_compiler.specs.Resolved.{IsResolvedCore}
 use Rattle.jack_compiler.specs.Templates.{subroutine_code}
 use Rattle.jack_compiler.proofs.Seam.{compiled}
 use Rattle.tower.specs.Budget.{BudgetLaw, IsBudget, words_at}
-use Rattle.tower.specs.Built.{IsNotBuilt, LargeImage}
+use Rattle.tower.specs.Image.{IsNotBuilt, LargeImage}
 use Rattle.tower.proofs.BudgetWords.{subroutine_within}
 
 -- ---- sums over numbers, each once

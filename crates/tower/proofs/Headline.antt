@@ -11,8 +11,8 @@ use Rattle.simulation.proofs.Compose.{opens, through}
 use Rattle.simulation.proofs.Following.{following, meeting}
 use Rattle.simulation.proofs.Runs.{some_is}
 use Rattle.vm_templates.specs.Budgets.{most_steps}
-use Rattle.vm_templates.specs.Computer.{Map, hack_system}
-use Rattle.vm_templates.specs.Templates.{endless_loop}
+use Rattle.image_map.specs.Map.{Map}
+use Rattle.image_map.specs.Computer.{hack_system, endless_loop, run_trace}
 use Rattle.vm_templates.proofs.Loop.{loops_idle}
 use Rattle.vm_link.specs.declared.linked.Linked.{Linked}
 use Rattle.vm_machine.specs.State.{State as VmState}
@@ -30,7 +30,7 @@ use Rattle.jack_meaning.specs.Gap.{gap}
 use Rattle.jack_compiler.specs.Fits.{IsFit}
 use Rattle.jack_compiler.specs.Match.{IsCodeOf, Match}
 use Rattle.jack_compiler.proofs.Starts.{simulation}
-use Rattle.tower.specs.Headline.{FollowsWithin, HeadlineLaw, StandsBehind, BehindLaw, run_trace}
+use Rattle.tower.specs.Headline.{FollowsWithin, HeadlineLaw, StandsBehind, BehindLaw}
 
 module _ (program : Program) (numbers : Numbers) (linked : Linked) (depth most_locals : ℕ) (image : List ℕ) (map : Map)
     (fit : IsFit program numbers depth most_locals) (code : IsCodeOf program numbers linked) (translated : IsTranslated linked image map endless_loop) where

@@ -11,7 +11,7 @@ use Rattle.jack_meaning.specs.Linked.{IsLinked}
 use Rattle.jack_core.specs.declared.program.Core.{Core}
 use Rattle.jack_core.specs.Texts.{the_program}
 use Rattle.jack_compiler.specs.Resolved.{IsResolvedCore}
-use Rattle.tower.specs.Built.{IsNotBuilt, LargeImage}
+use Rattle.tower.specs.Image.{IsNotBuilt, LargeImage}
 use Rattle.tower.specs.VmRun.{IsVmCodeOf}
 
 -- A comparison, a call and a return go through routines that are written once.

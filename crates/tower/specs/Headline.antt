@@ -1,11 +1,11 @@
 -- What the computer with the image of a program does: it follows the program's meaning, cycle by cycle.
 use Rattle.std.specs.Prelude.{◌≡◌, ℕ, suc, true, List, Some}
-use Rattle.vm_templates.specs.Templates.{endless_loop}
 use Rattle.hack_isa.specs.Machine.{machine_at}
+use Rattle.image_map.specs.Map.{Map}
+use Rattle.image_map.specs.Computer.{endless_loop, run_trace, run_word}
 use Rattle.simulation.specs.System.{IsKey, Listening, run_of, Tame}
-use Rattle.simulation.specs.Trace.{Trace, steps, heard_keys, trace_of}
+use Rattle.simulation.specs.Trace.{steps, heard_keys}
 use Rattle.simulation.specs.Headline.{Follows}
-use Rattle.vm_templates.specs.Computer.{Map, hack_system}
 use Rattle.vm_link.specs.declared.linked.Linked.{Linked}
 use Rattle.vm_machine.specs.State.{State as VmState}
 use Rattle.vm_translator.specs.Mapping.{location}
@@ -18,14 +18,6 @@ use Rattle.jack_compiler.specs.Templates.{Numbers}
 use Rattle.jack_meaning.specs.Gap.{gap, IsGap}
 use Rattle.jack_compiler.specs.Fits.{IsFit}
 use Rattle.jack_compiler.specs.Match.{IsCodeOf, Match}
-
--- What is counted of the computer's run with this image and map, from its start, under these keys.
-abbrev pub run_trace : List ℕ → Map → (ℕ → ℕ) → Trace
-run_trace image map keys = trace_of (hack_system image map endless_loop) keys (machine_at image keys)
-
--- the word of the computer at a cycle and an address
-abbrev pub run_word : List ℕ → (ℕ → ℕ) → ℕ → ℕ → ℕ
-run_word image keys n = (machine_at image keys n).memory
 
 -- At cycle n the run of this image and map agrees with the meaning of the program, as far as that is tame, and it makes the meaning's next
 -- tame step within so many cycles.

@@ -6,7 +6,7 @@ pub mod Existence
 pub mod OneProgram
 pub mod Headline
 pub mod Mapped
-pub mod Built
+pub mod Image
 pub mod Messages
 pub mod VmRun
 pub mod Compiled

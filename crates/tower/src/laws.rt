@@ -2,8 +2,8 @@
 
 ghost use Rattle.tower.specs.Budget.{BudgetLaw};
 ghost use Rattle.tower.specs.BudgetRows.{BudgetRows};
-ghost use Rattle.tower.specs.Built.{ComputerLaw};
 ghost use Rattle.tower.specs.Existence.{ProgramLaw};
+ghost use Rattle.tower.specs.Image.{ComputerLaw};
 ghost use Rattle.tower.specs.Headline.{BehindLaw, HeadlineLaw};
 ghost use Rattle.tower.specs.OneProgram.{OneProgramLaw};
 ghost use Rattle.tower.specs.Resolved.{ResolvedLaw};

@@ -9,7 +9,7 @@ mod laws;
 mod program;
 mod vm_level;
 
-pub use building::{BuildError, Built};
+pub use building::BuildError;
 pub use compiled::compile_classes;
 pub use computer::{build, prepare_hack};
 pub use hack_level::HackLevel;

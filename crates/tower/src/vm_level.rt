@@ -2,8 +2,8 @@
 ghost use Rattle.std.specs.Prelude.{◌≡◌, [], IfOk};
 ghost use Rattle.jack_compiler.specs.Resolved.{IsResolvedCore};
 ghost use Rattle.vm_machine.specs.Loaded.{HasTaken};
-ghost use Rattle.tower.specs.Built.{IsComputerOf};
-ghost use Rattle.tower.specs.Mapped.{RunProgram};
+ghost use Rattle.image_map.specs.declared.map.Image.{Image};
+ghost use Rattle.tower.specs.Image.{IsImageOf};
 ghost use Rattle.tower.specs.VmRun.{IsVmCodeOf};
 
 use jack_compiler::link_core;
@@ -15,7 +15,7 @@ use vm_machine::Vm;
 /// The virtual machine at its start, with the code of a program that is built. It has all its memory from here on.
 pub fn prepare_vm(alloc: Global, core: &Core) -> Result<Vm, AllocError>
     requires resolved { IsResolvedCore core.now }
-    requires built { (p : RunProgram) × IsComputerOf core.now p }
+    requires built { (image : Image) × IsImageOf core.now image }
     ensures program { IfOk result (λ vm. IsVmCodeOf core.now vm.linked) }
     ensures moves { IfOk result (λ vm. vm.moves ≡ 0) }
     ensures stands { IfOk result (λ vm. HasTaken vm []) }

@@ -75,10 +75,10 @@ fn method_and_static(rt: HostRuntime) -> Result<(), Fail> {
     assert!(rt; core.subroutines.len() == 63);
     assert!(rt; core.subroutines[1].name.as_str() == "Main.add");
     assert!(rt; core.classes[0].name.as_str() == "Main");
-    let built = build(rt.alloc(), &core)
-        .ok()
-        .ok_or("the program has an image")?;
-    let mut hack = prepare_hack(rt.alloc(), built)?;
+    let Ok(image) = build(rt.alloc(), &core) else {
+        return Err(Fail::from("the program has no image"));
+    };
+    let mut hack = prepare_hack(rt.alloc(), image)?;
     assert!(rt; drive(&mut hack, &NoKeys, 30000)? == End::Bound);
     assert!(rt; hack.word_at(16384) == 6);
     assert!(rt; hack.word_at(16385) == 3);

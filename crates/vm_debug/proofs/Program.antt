@@ -23,10 +23,10 @@ use Rattle.jack_tree.specs.declared.tree.Subroutine as trees
 use Rattle.vm_link.specs.declared.linked.Linked.{Linked}
 use Rattle.vm_link.specs.declared.linked.LinkedFile.{LinkedFile}
 use Rattle.vm_link.specs.declared.linked.LinkedFunction.{LinkedFunction}
-use Rattle.vm_translator.specs.declared.coded.PointRange.{PointRange}
+use Rattle.image_map.specs.declared.map.PointRange.{PointRange}
 use Rattle.vm_translator.specs.Places.{address_of}
 use Rattle.vm_translator.specs.Image.{entries_of, points_of}
-use Rattle.vm_translator.specs.Mapping as image
+use Rattle.image_map.specs.Map as image
 use Rattle.jack_meaning.specs.Text.{Function, Subroutine, Text, End, Program}
 use Rattle.jack_meaning.specs.Text.{Class as MeantClass}
 use Rattle.jack_meaning.specs.Meaning.{subroutine_at, statics_of}

@@ -1,10 +1,10 @@
 -- What the debugger shows of a computer that is stopped just after a commit.
 use Rattle.std.specs.Prelude.{◌≡◌, ℕ, suc, true, ◌∷◌, List, Some, slice_get}
-use Rattle.vm_templates.specs.Templates.{endless_loop}
+use Rattle.image_map.specs.Computer.{endless_loop, run_trace}
 use Rattle.hack_isa.specs.Machine.{machine_at}
 use Rattle.simulation.specs.System.{IsKey, Listening, run_of, Tame}
 use Rattle.simulation.specs.Trace.{steps, heard_keys}
-use Rattle.vm_templates.specs.Computer.{Map}
+use Rattle.image_map.specs.Map.{Map}
 use Rattle.vm_link.specs.declared.linked.Linked.{Linked}
 use Rattle.vm_translator.specs.Seen.{IsImage}
 use Rattle.vm_translator.specs.Translated.{IsTranslated}
@@ -18,7 +18,6 @@ use Rattle.jack_debug.specs.Walk.{Walk, sub_at, statics_of}
 use Rattle.vm_debug.specs.Views.{IsPlacesOf}
 use Rattle.vm_debug.specs.Meanings.{Names, AreStaticsOf, view_of}
 use Rattle.vm_debug.specs.Program.{ArePlacesOf}
-use Rattle.tower.specs.Headline.{run_trace}
 
 -- The computer is stopped before its cycle n. The meaning has come, over the keys that the computer has heard and by the steps that it has
 -- committed, to a state: where a call is its innermost frame and the places name the variables of the called subroutine, the walk of the

@@ -13,7 +13,7 @@ use Rattle.jack_tree.specs.declared.tree.Subroutine.{Subroutine}
 use Rattle.vm_link.specs.declared.linked.Linked.{Linked}
 use Rattle.vm_link.specs.declared.linked.LinkedFile.{LinkedFile}
 use Rattle.vm_link.specs.declared.linked.LinkedFunction.{LinkedFunction}
-use Rattle.vm_translator.specs.declared.coded.PointRange.{PointRange}
+use Rattle.image_map.specs.declared.map.PointRange.{PointRange}
 use Rattle.jack_compiler.specs.Statics.{words_in, words_until}
 use Rattle.jack_debug.specs.declared.places.ClassPlaces.{ClassPlaces}
 use Rattle.jack_debug.specs.declared.places.PlacedRange.{PlacedRange}

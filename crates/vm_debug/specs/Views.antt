@@ -11,7 +11,7 @@ use Rattle.vm_machine.specs.Step.{code_in}
 use Rattle.vm_machine.specs.Level.{point_of}
 use Rattle.vm_translator.specs.Places.{address_of}
 use Rattle.vm_translator.specs.Image.{points_of}
-use Rattle.vm_translator.specs.Mapping as image
+use Rattle.image_map.specs.Map as image
 use Rattle.jack_debug.specs.declared.places.Places.{Places}
 use Rattle.jack_debug.specs.declared.places.PlacedStatic.{PlacedStatic}
 use Rattle.jack_debug.specs.declared.places.SubPlaces.{SubPlaces}

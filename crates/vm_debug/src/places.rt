@@ -3,12 +3,12 @@ ghost use Rattle.std.specs.Prelude.{◌≡◌, ◌+◌, ◌++◌, ◌≤◌, ◌
 ghost use Rattle.jack_compiler.specs.Statics.{words_in, words_until};
 ghost use Rattle.vm_debug.specs.Places.{argument_names, class_subs, entry_in, entry_of, local_names, names_in, names_of_statics, placed_class, placed_classes, placed_range, placed_statics, placed_subs, sub_with, static_names, the_places};
 
+use image_map::{ImageMap, PointRange};
 use jack_debug::{ClassPlaces, PlacedRange, PlacedStatic, Places, SubPlaces};
 use jack_tree::{Class, ClassVariables, Locals, Names, Parameter, Scope, Subroutine};
 use outer_world::{List, Name};
 use std::alloc::{AllocError, Global};
 use vm_link::{Linked, LinkedFile, LinkedFunction};
-use vm_translator::PointRange;
 
 // Adds the names of a declaration.
 fn add_names(declared: &Names, names: &mut List<Name>) -> Result<(), AllocError>
@@ -254,21 +254,21 @@ fn ranges_of(alloc: Global, points: &[PointRange]) -> Result<List<PlacedRange>, 
 }
 
 /// The places of the program of these classes and of those of the operating system, whose linked code is `linked` and whose
-/// image has these points and entries.
+/// image has this map.
 pub fn places_of(
     alloc: Global,
     own: &[Class],
     system: &[Class],
     linked: &Linked,
-    points: &[PointRange],
-    entries: &[(u32, u32)],
+    map: &ImageMap,
 ) -> Result<Places, AllocError>
     requires few { length own.now + length system.now < 2 ^ 32 }
     requires statics { sum_by (λ f. f.statics) linked.now.files ≤ 240 }
-    ensures { IfOk result (λ places. places ≡ the_places (own.now ++ system.now) linked.now points.now entries.now) }
+    ensures { IfOk result (λ places. places ≡ the_places (own.now ++ system.now) linked.now map.now.points map.now.entries) }
 {
     let functions = linked.functions.as_slice();
     let files = linked.files.as_slice();
+    let entries = map.entries.as_slice();
     let mut subs = List::new(alloc);
     add_subs(alloc, own, 0, functions, entries, &mut subs)?;
     add_subs(alloc, system, own.len(), functions, entries, &mut subs)?;
@@ -276,7 +276,7 @@ pub fn places_of(
     add_classes(alloc, own, files, &mut classes)?;
     add_classes(alloc, system, files, &mut classes)?;
     Ok(Places {
-        ranges: ranges_of(alloc, points)?,
+        ranges: ranges_of(alloc, map.points.as_slice())?,
         subs,
         classes,
     })

@@ -10,7 +10,7 @@ use Rattle.hack_isa.specs.declared.Instr.{Instr}
 use Rattle.hack_isa.specs.declared.Instr.TheVariants.{Address, Compute}
 use Rattle.hack_isa.specs.Machine.{Machine, write, perform, fetch, step}
 use Rattle.simulation.specs.System.{IsData}
-use Rattle.vm_templates.specs.Computer.{reads_key}
+use Rattle.image_map.specs.Computer.{reads_key}
 use Rattle.vm_templates.specs.Going.{IsDataWrite, IsKeyRead}
 
 -- a word is kept where nothing is written to the data

@@ -6,7 +6,9 @@ use Rattle.std.proofs.lemmas.Bool.{eq-eqb, eqb-true}
 use Rattle.hack_isa.specs.Table.{alu_out, instr_of}
 use Rattle.hack_isa.specs.Machine.{Machine, jumps, perform, step}
 use Rattle.simulation.specs.System.{System, Idles, IdlesAtEnd}
-use Rattle.vm_templates.specs.Computer.{Map, reads_key, in_loop, hack_system, HasLoop}
+use Rattle.vm_templates.specs.Computer.{HasLoop}
+use Rattle.image_map.specs.Map.{Map}
+use Rattle.image_map.specs.Computer.{reads_key, in_loop, hack_system}
 use Rattle.vm_templates.specs.Going.{IsKeyRead}
 use Rattle.vm_templates.specs.Laws.{LoopsIdle}
 use Rattle.vm_templates.proofs.Keys.{not_heard, false_if}

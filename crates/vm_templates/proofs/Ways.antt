@@ -5,7 +5,8 @@ use Rattle.hack_isa.specs.Machine.{Machine, fetch, step}
 use Rattle.simulation.specs.System.{System, IsData, IsKey, keys_heard}
 use Rattle.simulation.specs.Layers.{Shows, Ends, lands, rests, strays, Way, last, onward, Opens, ready, before}
 use Rattle.simulation.specs.Laws.{Related}
-use Rattle.vm_templates.specs.Computer.{Map, reads_key, in_loop, hack_system}
+use Rattle.image_map.specs.Map.{Map}
+use Rattle.image_map.specs.Computer.{reads_key, in_loop, hack_system}
 use Rattle.vm_templates.specs.Going.{IsDataWrite, Quiet, Last, Reaches, arrived, further, Does, DoesHearing}
 use Rattle.vm_templates.specs.Own.{IsOwn}
 use Rattle.vm_templates.specs.Ways.{StepsAreWays}

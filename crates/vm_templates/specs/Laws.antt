@@ -8,8 +8,10 @@ use Rattle.vm_templates.specs.declared.shape.Shape.{Shape}
 use Rattle.vm_templates.specs.declared.shape.Shape.TheVariants.{PopWord, Call}
 use Rattle.vm_templates.specs.declared.routines.Routine.{Routine}
 use Rattle.vm_templates.specs.declared.routines.Routines.{Routines}
-use Rattle.vm_templates.specs.Templates.{template, size, routine_code, routine_size, routine_at, routine_of, start_code, endless, endless_loop, start_size}
-use Rattle.vm_templates.specs.Computer.{Map, Stands, HasLoop, hack_system}
+use Rattle.vm_templates.specs.Templates.{template, size, routine_code, routine_size, routine_at, routine_of, start_code, endless, start_size}
+use Rattle.image_map.specs.Computer.{endless_loop, hack_system}
+use Rattle.vm_templates.specs.Computer.{Stands, HasLoop}
+use Rattle.image_map.specs.Map.{Map}
 use Rattle.vm_templates.specs.Going.{Quiet, Reaches}
 use Rattle.vm_templates.specs.Effects.{HasWords}
 use Rattle.vm_templates.specs.Commands.{IsShape}

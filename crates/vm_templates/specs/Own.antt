@@ -1,7 +1,7 @@
 -- The addresses of a command of an upper machine's state, in the map.
 use Rattle.std.specs.Prelude.{◌≡◌, ◌≢◌, ◌⊎◌, ℕ, ◌+◌, false, None}
 use Rattle.simulation.specs.System.{System}
-use Rattle.vm_templates.specs.Computer.{Map}
+use Rattle.image_map.specs.Map.{Map}
 
 -- `inside` are the addresses of the command up to its last, which is `last`; they may be those of a shared part, which have no point. Only the
 -- last may be a commit, and is one where the upper step is. It stands before the endless loop, or after it.

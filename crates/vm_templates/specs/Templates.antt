@@ -4,6 +4,7 @@ use Rattle.std.specs.Prelude.{ℕ, zero, suc, ◌+◌, ◌*◌, ◌%◌, nat_lt,
 use Rattle.word16.specs.Words.{word_not}
 use Rattle.hack_isa.specs.declared.Instr.{Instr}
 use Rattle.hack_isa.specs.declared.Instr.TheVariants.{Address}
+use Rattle.image_map.specs.Computer.{endless_loop}
 use Rattle.vm_templates.specs.declared.shape.Shape.{Shape}
 use Rattle.vm_templates.specs.declared.shape.Shape.TheVariants.{PushConstant, PushAt, PushFirst, PushWord, PopAt, PopFirst, PopWord, Add, Sub, And, Or, Neg, Not, Eq, Gt, Lt, Goto, IfGoto, Call, Function, Return}
 use Rattle.vm_templates.specs.declared.routines.Routine.{Routine}
@@ -252,10 +253,7 @@ set_stack = Address 256 ∷ D_IS_A ∷ Address 0 ∷ M_IS_D ∷ []
 abbrev pub endless : ℕ → List Instr
 endless here = Address here ∷ JUMP ∷ []
 
--- where the start's endless loop stands, and how many instructions the start has
-abbrev pub endless_loop : ℕ
-endless_loop = 21
-
+-- how many instructions the start has
 abbrev pub start_size : ℕ
 start_size = 23
 

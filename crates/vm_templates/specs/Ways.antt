@@ -4,7 +4,8 @@ use Rattle.hack_isa.specs.Machine.{Machine}
 use Rattle.simulation.specs.System.{System, IsData, IsKey}
 use Rattle.simulation.specs.Layers.{Way, Opens}
 use Rattle.simulation.specs.Laws.{Related}
-use Rattle.vm_templates.specs.Computer.{Map, in_loop, hack_system}
+use Rattle.image_map.specs.Map.{Map}
+use Rattle.image_map.specs.Computer.{in_loop, hack_system}
 use Rattle.vm_templates.specs.Going.{Quiet, Reaches, Does, DoesHearing}
 use Rattle.vm_templates.specs.Own.{IsOwn}
 

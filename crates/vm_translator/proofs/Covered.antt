@@ -9,14 +9,14 @@ use Rattle.vm_templates.specs.declared.routines.Routine.TheVariants as routine
 use Rattle.vm_link.specs.declared.linked.Code.{Code}
 use Rattle.vm_link.specs.declared.linked.Linked.{Linked}
 use Rattle.vm_link.specs.declared.linked.LinkedFunction.{LinkedFunction}
-use Rattle.vm_translator.specs.declared.coded.PointRange.{PointRange}
+use Rattle.image_map.specs.declared.map.PointRange.{PointRange}
 use Rattle.vm_translator.specs.declared.layout.Placed.{Placed}
 use Rattle.vm_translator.specs.Shapes.{step_size}
 use Rattle.vm_translator.specs.Places.{base_of, end_of, program, words_in, words_of}
 use Rattle.vm_translator.specs.Shared.{all_routines, is_routine, routine_for, same_routine, used_routines, uses}
 use Rattle.vm_translator.specs.declared.ends.Closing.TheVariants as closes
 use Rattle.vm_translator.specs.Image.{closing_size, join, merged_ranges, stretched_ranges, same_point, range_of, start_ranges, points_of, entry_of, names, names_end, shared_at}
-use Rattle.vm_translator.specs.Mapping.{point_in, Covers}
+use Rattle.image_map.specs.Map.{point_in, Covers}
 use Rattle.vm_translator.proofs.Sums.{size_some}
 use Rattle.vm_translator.proofs.Chained.{Chain, chain_from, chain_up}
 

@@ -20,7 +20,7 @@ use Rattle.vm_translator.proofs.Routines.{ranges_cover}
 use Rattle.vm_translator.proofs.Sizes.{length_with}
 use Rattle.vm_translator.specs.Shared.{used_routines}
 use Rattle.vm_templates.specs.Budgets.{most_steps}
-use Rattle.vm_templates.specs.Computer.{Map}
+use Rattle.image_map.specs.Map.{Map, map_of, Covers, CoversShared}
 use Rattle.vm_templates.specs.Going.{Does}
 use Rattle.vm_templates.specs.Commands.{MayStore, IsInside, last_of, cycles}
 use Rattle.vm_templates.proofs.Block.{within as fewer}
@@ -36,8 +36,8 @@ use Rattle.vm_translator.specs.Shapes.{push_from, operation_shape, push_shape, p
 use Rattle.vm_translator.specs.Image.{commits_of, image_of, points_of, routines, shared_at, shared_ranges}
 use Rattle.vm_translator.specs.Carries.{IsStep}
 use Rattle.vm_translator.specs.Related.{StandsFor}
-use Rattle.vm_translator.specs.declared.coded.PointRange.{PointRange}
-use Rattle.vm_translator.specs.Mapping.{map_of, location, Covers, CoversShared}
+use Rattle.image_map.specs.declared.map.PointRange.{PointRange}
+use Rattle.vm_translator.specs.Mapping.{location}
 use Rattle.vm_translator.proofs.Covered.{covers}
 use Rattle.vm_translator.specs.Translated.{Writes, IsStore, IsWithin, IsLast, MakesStep, MakesHearing, IsTranslated}
 use Rattle.vm_translator.proofs.Clamped.{push_size, pop_data}

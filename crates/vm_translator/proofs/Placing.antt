@@ -35,7 +35,8 @@ use Rattle.vm_translator.specs.Image.{opening, closing, entry_of, piece, image_o
 use Rattle.vm_translator.specs.Shared.{lasts_from, shared_from, used_routines, uses, has_routine as has_one}
 use Rattle.vm_translator.specs.Plain.{IsPlain}
 use Rattle.vm_translator.specs.Carries.{IsTarget}
-use Rattle.vm_translator.specs.Mapping.{point_in, map_of, start_address, location}
+use Rattle.vm_translator.specs.Mapping.{start_address, location}
+use Rattle.image_map.specs.Map.{point_in, map_of}
 use Rattle.vm_translator.proofs.Sums.{size_some, size_to, address_next, routine_to, shared_is}
 use Rattle.vm_translator.proofs.Sizes.{length_closing, length_image, length_opening, length_with}
 use Rattle.vm_translator.proofs.Routines.{no_last, routine_placed, routine_some, start_uses, step_uses, Placed as InRoutines}

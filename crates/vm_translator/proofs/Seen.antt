@@ -13,7 +13,8 @@ use Rattle.vm_machine.specs.Level.{subroutine_of, number_of}
 use Rattle.vm_translator.specs.Shapes.{step_size}
 use Rattle.vm_translator.specs.Stands.{Holds, words_saved, own_words, lcl_of, Laid, SameMemory}
 use Rattle.vm_translator.specs.Places.{address_of, base_of, code_at, end_of, program, words_of}
-use Rattle.vm_translator.specs.Mapping.{point_in, location}
+use Rattle.vm_translator.specs.Mapping.{location}
+use Rattle.image_map.specs.Map.{point_in}
 use Rattle.vm_translator.specs.Image.{points_of, range_of, start_ranges}
 use Rattle.vm_translator.specs.Seen.{HasVariables, IsCalledBy, HasCallers, IsImage, SeenLaw}
 use Rattle.vm_translator.proofs.Stack.{holds_front, holds_back, holds_at}

@@ -8,7 +8,7 @@ use Rattle.std.proofs.lemmas.List.Sums.{sum_by_more}
 use Rattle.std.proofs.lemmas.Option.{slice_get-get_or}
 use Rattle.vm_link.specs.declared.linked.LinkedFile.{LinkedFile}
 use Rattle.vm_link.specs.declared.linked.Linked.{Linked}
-use Rattle.vm_translator.specs.declared.coded.StaticWord.{StaticWord}
+use Rattle.image_map.specs.declared.map.StaticWord.{StaticWord}
 use Rattle.vm_translator.specs.Shapes.{named_index}
 use Rattle.vm_translator.specs.Statics.{static_word, statics_in, words_before, words_of_file}
 

@@ -12,15 +12,18 @@ use Rattle.vm_link.specs.declared.linked.Step.{Step}
 use Rattle.vm_link.specs.declared.linked.Step.TheVariants as step
 use Rattle.vm_link.specs.declared.linked.LinkedFunction.{LinkedFunction}
 use Rattle.vm_templates.specs.Budgets.{most_words}
-use Rattle.vm_templates.specs.Templates.{template, start_code, endless, endless_loop, start_size}
+use Rattle.vm_templates.specs.Templates.{template, start_code, endless, start_size}
+use Rattle.image_map.specs.Computer.{endless_loop}
 use Rattle.vm_translator.specs.declared.ends.Closing.{Closing}
 use Rattle.vm_translator.specs.declared.ends.Closing.TheVariants as closes
-use Rattle.vm_translator.specs.declared.coded.PointRange.{PointRange}
+use Rattle.image_map.specs.declared.map.PointRange.{PointRange}
+use Rattle.image_map.specs.declared.map.ImageMap.{ImageMap}
 use Rattle.vm_translator.specs.declared.layout.Placed.{Placed}
 use Rattle.vm_templates.specs.declared.routines.Routines.{Routines}
 use Rattle.vm_link.specs.Uniform.{is_shared}
 use Rattle.vm_translator.specs.Shapes.{shape_of, step_size}
 use Rattle.vm_translator.specs.Shared.{used_routines, shared_from, lasts_from, ranges_from, routines_from}
+use Rattle.vm_translator.specs.Statics.{statics_of}
 use Rattle.vm_translator.specs.Places.{address_of, base_of, end_of, named_symbol, program, target_of}
 
 -- the instructions of a placed step
@@ -133,6 +136,10 @@ stretched_ranges to (r ∷ s ∷ rs) = r ∷ stretched_ranges to (s ∷ rs)
 -- what closes the code has the point of what stands before it
 abbrev pub points_of : Linked → List PointRange
 points_of l = stretched_ranges (shared_at l) (merged_ranges (start_ranges l ++ map range_of (program l)))
+
+-- the map of the image
+abbrev pub image_map_of : Linked → ImageMap
+image_map_of l = record { points = points_of l; commits = commits_of l; shared = shared_ranges l; entries = entries_of l; statics = statics_of l }
 
 -- The budget by commands: 256 for the start and what is shared, and for each step the most words that it may have.
 abbrev pub budget_in : List Code → ℕ

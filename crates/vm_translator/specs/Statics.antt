@@ -2,7 +2,7 @@
 use Rattle.std.specs.Prelude.{ℕ, ◌+◌, List, length, map, option_map, slice_get, sum_by, take, unwrap_or}
 use Rattle.std.specs.List.{flat_map, range_with_len}
 use Rattle.vm_link.specs.declared.linked.Linked.{Linked}
-use Rattle.vm_translator.specs.declared.coded.StaticWord.{StaticWord}
+use Rattle.image_map.specs.declared.map.StaticWord.{StaticWord}
 use Rattle.vm_translator.specs.Shapes.{named_index}
 
 -- how many static words a file has, and how many those before it have

@@ -8,7 +8,7 @@ use Rattle.vm_translator.specs.declared.layout.Placed.{Placed}
 use Rattle.vm_translator.specs.Shapes.{step_size}
 use Rattle.vm_templates.specs.declared.shape.Shape.{Shape}
 use Rattle.vm_templates.specs.declared.shape.Shape.TheVariants as shape
-use Rattle.vm_translator.specs.declared.coded.PointRange.{PointRange}
+use Rattle.image_map.specs.declared.map.PointRange.{PointRange}
 use Rattle.vm_translator.specs.declared.layout.Layout.{Layout}
 use Rattle.vm_translator.specs.Places.{code_at, placed_from, words_in}
 use Rattle.vm_translator.specs.Image.{same_point}

@@ -10,7 +10,9 @@ use Rattle.vm_link.specs.declared.linked.Step.{Step}
 use Rattle.vm_link.specs.declared.linked.Step.TheVariants as step
 use Rattle.vm_link.specs.declared.linked.Linked.{Linked}
 use Rattle.vm_templates.specs.Budgets.{most_steps}
-use Rattle.vm_templates.specs.Computer.{Map, HasLoop, hack_system}
+use Rattle.vm_templates.specs.Computer.{HasLoop}
+use Rattle.image_map.specs.Map.{Map}
+use Rattle.image_map.specs.Computer.{hack_system}
 use Rattle.vm_templates.specs.Going.{Quiet, Reaches, Does, DoesHearing}
 use Rattle.vm_machine.specs.State.{State}
 use Rattle.vm_machine.specs.Step.{Acts, Strays, start}

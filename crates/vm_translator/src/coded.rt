@@ -4,45 +4,16 @@ ghost use Rattle.vm_translator.specs.Messages.{code_message};
 ghost use Rattle.vm_translator.specs.declared.coded.CodeFault.TheVariants.{Memory};
 
 use hack_isa::Instr;
-use outer_world::{Detail, Diagnostic, List, Point};
+use image_map::ImageMap;
+use outer_world::{Detail, Diagnostic, List};
 use std::alloc::AllocError;
 use thiserror::Error;
 
-/// Addresses that follow each other and have one control point.
-#[derive(Clone, Copy, Debug, PartialEq, Eq)]
-pub struct PointRange {
-    /// The first address.
-    pub from: u32,
-    /// The address after the last.
-    pub to: u32,
-    pub point: Point,
-}
-
-/// A static word of a file, by its index there.
-#[derive(Clone, Copy, Debug, PartialEq, Eq)]
-pub struct StaticWord {
-    /// The number of the file, from 0.
-    pub file: usize,
-    pub index: u32,
-    pub address: u16,
-}
-
-/// A program's instructions, from address 0 on, with its map.
+/// A program's instructions, from address 0 on, with the map of their image.
 #[derive(Drop)]
 pub struct Coded {
     pub instrs: List<Instr>,
-    /// The addresses of the instructions that end a step of the program's meaning, rising.
-    pub commits: List<u16>,
-    /// The control points of the addresses before the routines, rising.
-    pub points: List<PointRange>,
-    /// The addresses of routines that commands share, each from its first up to and without the address after its last, rising. They come after those
-    /// that have control points, and have none.
-    pub shared: List<(u32, u32)>,
-    /// The addresses of the instructions by which each function is entered, each from the first up to and without the
-    /// address after the last, rising.
-    pub entries: List<(u32, u32)>,
-    /// The static words of all files, rising.
-    pub statics: List<StaticWord>,
+    pub map: ImageMap,
 }
 
 /// Why a program has no code.

@@ -1,7 +1,7 @@
 //! Laws of what the image of a linked program does: no code, only the statements.
 ghost use Rattle.std.specs.Prelude.{◌≡◌, ◌≤◌, false, length, map};
 ghost use Rattle.hack_isa.specs.Machine.{image_words};
-ghost use Rattle.vm_templates.specs.Templates.{endless_loop};
+ghost use Rattle.image_map.specs.Computer.{endless_loop};
 ghost use Rattle.hack_isa.specs.Table.{word_of};
 ghost use Rattle.vm_link.specs.declared.linked.Linked.{Linked};
 ghost use Rattle.vm_link.specs.Sound.{IsSound};
@@ -9,7 +9,7 @@ ghost use Rattle.vm_link.specs.Uniform.{IsUniform};
 ghost use Rattle.vm_translator.specs.Pieces.{PiecesFit};
 ghost use Rattle.vm_translator.specs.Image.{commits_of, image_of, points_of, shared_at, shared_ranges};
 ghost use Rattle.vm_translator.specs.Laws.{AllStepsCarry};
-ghost use Rattle.vm_translator.specs.Mapping.{map_of, Covers, CoversShared};
+ghost use Rattle.image_map.specs.Map.{map_of, Covers, CoversShared};
 ghost use Rattle.vm_translator.specs.Seen.{SeenLaw};
 ghost use Rattle.vm_translator.specs.Translated.{IsTranslated};
 

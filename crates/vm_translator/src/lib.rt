@@ -13,6 +13,6 @@ mod shared;
 mod statics;
 mod translating;
 
-pub use coded::{CodeFault, Coded, PointRange, StaticWord};
+pub use coded::{CodeFault, Coded};
 pub use laws::{pieces_law, seen_law, steps_carry_law, translated_law};
 pub use translating::{size_law, translate};

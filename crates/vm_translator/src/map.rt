@@ -1,17 +1,18 @@
 //! The commits and the control points of a program.
 ghost use Rattle.std.specs.Prelude.{◌≡◌, ◌≤◌, ◌+◌, ◌++◌, [], ◌∷◌, All, IfOk, OnOk, if◌then◌else◌};
 ghost use Rattle.std.specs.List.{filter_map};
-ghost use Rattle.vm_templates.specs.Templates.{endless_loop, start_size};
+ghost use Rattle.vm_templates.specs.Templates.{start_size};
+ghost use Rattle.image_map.specs.Computer.{endless_loop};
 ghost use Rattle.vm_translator.specs.Image.{commit_of, commits_of, entries_of, entry_range, points_of, range_of, same_point, shared_at, shared_commits, start_commits, start_ranges, stretched_ranges, merged_ranges};
 ghost use Rattle.vm_translator.specs.Places.{base_of, program};
 ghost use Rattle.vm_translator.specs.Shapes.{step_size};
 ghost use Rattle.vm_translator.specs.Shared.{used_routines, words_shared};
 ghost use Rattle.vm_translator.specs.Tables.{IsLayout, IsReady, added_range};
 
-use crate::PointRange;
 use crate::layout::{Layout, Placed};
 use crate::shapes::{is_shared, step_size};
 use crate::shared::add_lasts;
+use image_map::PointRange;
 use outer_world::Point;
 use std::alloc::{AllocError, Global};
 use vm_link::{Linked, Step};

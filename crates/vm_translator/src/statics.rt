@@ -5,7 +5,7 @@ ghost use Rattle.vm_link.specs.declared.linked.Linked.{Linked};
 ghost use Rattle.vm_translator.specs.Shapes.{named_index};
 ghost use Rattle.vm_translator.specs.Statics.{static_word, statics_of, words_before};
 
-use crate::StaticWord;
+use image_map::StaticWord;
 use std::alloc::{AllocError, Global};
 use vm_link::Linked;
 

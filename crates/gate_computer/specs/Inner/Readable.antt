@@ -17,7 +17,7 @@ pub record IsReadable (net : Net) (w : Wiring) : Type 0 where
   pub screen : (a : ℕ) → a < 8192 → MatchOption (slice_get net.blocks w.screen) ⊥ (λ b. a < b.words)
 
 -- the wiring can be told and read, and no more steps were counted and no more keys heard than cycles passed
-pub record IsKeptWell (net : Net) (w : Wiring) (count heard moves : ℕ) : Type 0 where
+pub record IsKeptWell (net : Net) (w : Wiring) (steps heard moves : ℕ) : Type 0 where
   pub readable : IsReadable net w
-  pub few_steps : count ≤ moves
+  pub few_steps : steps ≤ moves
   pub few_keys : heard ≤ moves

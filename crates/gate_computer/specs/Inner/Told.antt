@@ -12,7 +12,7 @@ use Rattle.gate_sim.specs.Calls.{Call, pins_of}
 use Rattle.gate_sim.specs.Stands.{StandsFor}
 use Rattle.gate_sim.specs.Cycles.{Runs}
 use Rattle.gate_computer.specs.declared.wiring.Wiring.{Wiring}
-use Rattle.gate_computer.specs.Turns.{HoldsKeys}
+use Rattle.image_map.specs.Turns.{HoldsKeys}
 use Rattle.gate_computer.specs.Wiring.{IsWired}
 
 -- the pins of the keyboard hold the bits of a key, and every other pin is 0

@@ -3,18 +3,18 @@ use Rattle.std.specs.Prelude.{◌≡◌, ℕ, List, Option}
 use Rattle.outer_world.specs.Files.{Files}
 use Rattle.hack_asm.specs.Image.{image_text}
 use Rattle.jack_core.specs.declared.program.Core.{Core}
-use Rattle.tower.specs.Built.{IsBuiltOf}
-use Rattle.tower.specs.Mapped.{BuiltImage}
+use Rattle.image_map.specs.declared.map.Image.{Image}
+use Rattle.tower.specs.Image.{IsImageOf}
 use Rattle.nand_cli.specs.JackFolder.{BuildIsRefused, FolderIsRefused, FolderMeans}
 
 -- The folder means a program, and this is its image with its map.
-abbrev pub FolderBuilds : Option Files → List ℕ → Core → BuiltImage → Type 0
-FolderBuilds files folder core built = FolderMeans files folder core × IsBuiltOf core built
+abbrev pub FolderBuilds : Option Files → List ℕ → Core → Image → Type 0
+FolderBuilds files folder core image = FolderMeans files folder core × IsImageOf core image
 
 abbrev pub BuildPrints : Option Files → List ℕ → List ℕ → Type 0
-BuildPrints files folder out = (core : Core) × (built : BuiltImage) × FolderBuilds files folder core built × (out ≡ image_text built.image)
+BuildPrints files folder out = (core : Core) × (image : Image) × FolderBuilds files folder core image × (out ≡ image_text image.words)
 
--- The folder has no image, and this line tells why: it means no program, or its program has no computer.
+-- The folder has no image, and this line tells why: it means no program, or its program has none.
 pub data BuildRefuses (files : Option Files) (folder line : List ℕ) : Type 0 where
   without_program : FolderIsRefused files folder line → BuildRefuses files folder line
   unbuilt : (core : Core) → FolderMeans files folder core → BuildIsRefused core folder line → BuildRefuses files folder line

@@ -16,8 +16,9 @@ use Rattle.hdl_tree.specs.Behaviour.{Histories}
 use Rattle.hack_cpu.specs.Computer.{word_at}
 use Rattle.gate_computer.specs.Computer.{IsComputer, trace_shown}
 use Rattle.gate_computer.specs.Parts.{ShowsParts}
-use Rattle.tower.specs.Built.{IsComputerOf, map_for}
-use Rattle.tower.specs.Mapped.{RunProgram}
+use Rattle.image_map.specs.Map.{the_map}
+use Rattle.image_map.specs.declared.map.Image.{Image}
+use Rattle.tower.specs.Image.{IsImageOf}
 use Rattle.command_line.specs.declared.request.Shown.{Shown}
 use Rattle.command_line.specs.declared.request.Shown.TheVariants.{Nets, Words}
 
@@ -27,8 +28,8 @@ abbrev pub InEach : List ℕ → (ℕ → ℕ) → ℕ → ((List ℕ → Histor
 InEach image code n P = (m : ℕ) (wires : List ℕ → Histories) → n < m → IsComputer image code m wires → P wires
 
 -- what the map of the image counts of a behaviour
-abbrev pub gates_trace : RunProgram → (ℕ → ℕ) → (List ℕ → Histories) → Trace
-gates_trace computer code wires = trace_shown computer.image (map_for computer) code wires
+abbrev pub gates_trace : Image → (ℕ → ℕ) → (List ℕ → Histories) → Trace
+gates_trace image code wires = trace_shown image.words (the_map image.map) code wires
 
 -- What comes after the five lines: what is shown of the words of main memory and screen in cycle n of the behaviour; or a line for each part of the
 -- Computer, with its outputs in cycle n of some behaviour with this image and these keys.
@@ -37,12 +38,12 @@ ComesAfter (Words show) image code n wires rest = rest ≡ shown_text show (word
 ComesAfter Nets image code n wires rest = (other : List ℕ → Histories) × IsComputer image code (suc n) other × ShowsParts other n rest
 
 -- The text is the report of cycle n of this behaviour: steps and control point are those that the map counts of it.
-pub record ReportsCycle (core : Core) (computer : RunProgram) (code : ℕ → ℕ) (n : ℕ) (shown : Shown) (text : List ℕ) (wires : List ℕ → Histories) : Type 0 where
+pub record ReportsCycle (core : Core) (image : Image) (code : ℕ → ℕ) (n : ℕ) (shown : Shown) (text : List ℕ) (wires : List ℕ → Histories) : Type 0 where
   pub point : Point
-  pub seen : point_at (gates_trace computer code wires) n ≡ Some point
+  pub seen : point_at (gates_trace image code wires) n ≡ Some point
   pub rest : List ℕ
-  pub after : ComesAfter shown computer.image code n wires rest
-  pub is_text : text ≡ head_text names.Gates n (steps (gates_trace computer code wires) n) (get_or (names_of core) point.sub []) point.number Bound ++ rest
+  pub after : ComesAfter shown image.words code n wires rest
+  pub is_text : text ≡ head_text names.Gates n (steps (gates_trace image code wires) n) (get_or (names_of core) point.sub []) point.number Bound ++ rest
 
 abbrev pub meaning_in : Core → System State
 meaning_in core = meaning_of (the_program core).subroutines
@@ -53,15 +54,15 @@ meaning_in core = meaning_of (the_program core).subroutines
 -- such behaviour at cycle n are those of the meaning then (`agrees`). Where the meaning has one more tame step, each behaviour that goes on for the
 -- gap of the program makes it (`goes_on`).
 pub record IsGatesReport (core : Core) (code : ℕ → ℕ) (n : ℕ) (shown : Shown) (text : List ℕ) : Type 0 where
-  pub computer : RunProgram
-  pub is_computer : IsComputerOf core computer
-  pub behaves : (m : ℕ) → (wires : List ℕ → Histories) × IsComputer computer.image code m wires
-  pub reports : InEach computer.image code n (ReportsCycle core computer code n shown text)
-  pub agrees : InEach computer.image code n (λ wires.
-      Tame (meaning_in core) (start (the_program core)) (heard_keys (gates_trace computer code wires) n) (steps (gates_trace computer code wires) n)
-      → Agrees (meaning_in core) (start (the_program core)) (gates_trace computer code wires) (word_at wires) n)
+  pub image : Image
+  pub is_image : IsImageOf core image
+  pub behaves : (m : ℕ) → (wires : List ℕ → Histories) × IsComputer image.words code m wires
+  pub reports : InEach image.words code n (ReportsCycle core image code n shown text)
+  pub agrees : InEach image.words code n (λ wires.
+      Tame (meaning_in core) (start (the_program core)) (heard_keys (gates_trace image code wires) n) (steps (gates_trace image code wires) n)
+      → Agrees (meaning_in core) (start (the_program core)) (gates_trace image code wires) (word_at wires) n)
   pub most : ℕ
   pub gap : IsGap (the_program core) most
-  pub goes_on : InEach computer.image code (n + most) (λ wires.
-      Tame (meaning_in core) (start (the_program core)) (heard_keys (gates_trace computer code wires) n) (suc (steps (gates_trace computer code wires) n))
-      → steps (gates_trace computer code wires) n < steps (gates_trace computer code wires) (n + most))
+  pub goes_on : InEach image.words code (n + most) (λ wires.
+      Tame (meaning_in core) (start (the_program core)) (heard_keys (gates_trace image code wires) n) (suc (steps (gates_trace image code wires) n))
+      → steps (gates_trace image code wires) n < steps (gates_trace image code wires) (n + most))

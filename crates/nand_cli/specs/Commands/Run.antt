@@ -1,13 +1,13 @@
 -- The command `run`: what it reports of the program of a folder, and why a folder or a key script is refused. (The book, chapters 9 to 12.)
-use Rattle.std.specs.Prelude.{◌≡◌, ◌<◌, ◌+◌, ℕ, zero, suc, List, [], Option, Some, None, get_or, option_and_then}
+use Rattle.std.specs.Prelude.{◌≡◌, ◌<◌, ℕ, zero, suc, List, [], Option, Some, None, get_or, option_and_then}
 use Rattle.outer_world.specs.Files.{Files, LacksFile}
 use Rattle.source_files.specs.Sources.{IsFaulty, SpellsAt}
 use Rattle.key_script.specs.Codes.{code_at}
 use Rattle.key_script.specs.Grammar.{Spells}
 use Rattle.key_script.specs.declared.lines.Line.{Line}
-use Rattle.simulation.specs.Headline.{Agrees}
-use Rattle.simulation.specs.System.{System, Tame}
-use Rattle.simulation.specs.Trace.{Trace, heard_keys, point_at, steps}
+use Rattle.simulation.specs.Headline.{Follows}
+use Rattle.simulation.specs.System.{System}
+use Rattle.simulation.specs.Trace.{Trace, point_at, steps}
 use Rattle.jack_meaning.specs.Gap.{IsGap}
 use Rattle.jack_meaning.specs.Text.{Subroutine}
 use Rattle.jack_meaning.specs.Meaning.{State, Stray, Done, start, step}
@@ -21,12 +21,13 @@ use Rattle.machine_io.specs.declared.machine.Stray.TheVariants as strays
 use Rattle.machine_io.specs.declared.report.LevelName.TheVariants as names
 use Rattle.machine_io.specs.declared.report.Show.{Show}
 use Rattle.outer_world.specs.declared.point.Point.{Point}
-use Rattle.tower.specs.Built.{IsComputerOf, map_for}
-use Rattle.tower.specs.Headline.{run_trace, run_word}
-use Rattle.tower.specs.Mapped.{RunProgram}
+use Rattle.image_map.specs.Map.{the_map}
+use Rattle.image_map.specs.declared.map.Image.{Image}
+use Rattle.tower.specs.Image.{IsImageOf}
+use Rattle.image_map.specs.Computer.{run_trace, run_word}
 use Rattle.command_line.specs.declared.request.RunLevel.{RunLevel}
 use Rattle.command_line.specs.declared.request.RunLevel.TheVariants as levels
-use Rattle.nand_cli.specs.Commands.Gates.{IsGatesReport}
+use Rattle.nand_cli.specs.Commands.Gates.{IsGatesReport, meaning_in}
 use Rattle.nand_cli.specs.Commands.RunVm.{IsVmReport}
 use Rattle.nand_cli.specs.JackFolder.{BuildIsRefused, FolderIsRefused, FolderMeans, IsBuilt}
 use Rattle.nand_cli.specs.Languages.{RefusesKeys}
@@ -75,25 +76,22 @@ IsJackReport core code n show text =
     × (text ≡ report_text names.Jack m m (name_of (names_of core) (point_in s).sub) (point_in s).number end show (meaning.word s))
 
 -- what is counted of the run of the computer with this image and map under these keys
-abbrev pub trace_in : RunProgram → (ℕ → ℕ) → Trace
-trace_in computer code = run_trace computer.image (map_for computer) code
+abbrev pub trace_in : Image → (ℕ → ℕ) → Trace
+trace_in image code = run_trace image.words (the_map image.map) code
 
 -- The report of n cycles of the computer with the image of the program and its map: the steps and the point are those that the map counts in
 -- its run, and the words are its own. Whatever the program does, that is what is told (`reports`). And this is the headline: where the meaning's
--- run is tame so far, the words and the point at cycle n are the meaning's after these steps over the keys heard (`agrees`), and where it has one
--- more tame step, the computer makes it within the gap of the program (`goes_on`).
+-- run is tame so far, the words and the point at cycle n are the meaning's after these steps over the keys heard, and where it has one more tame
+-- step, the computer makes it within the gap of the program (`follows`).
 pub record IsHackReport (core : Core) (code : ℕ → ℕ) (n : ℕ) (show : Show) (text : List ℕ) : Type 0 where
-  pub computer : RunProgram
-  pub is_computer : IsComputerOf core computer
+  pub image : Image
+  pub is_image : IsImageOf core image
   pub point : Point
-  pub seen : point_at (trace_in computer code) n ≡ Some point
-  pub reports : text ≡ report_text names.Hack n (steps (trace_in computer code) n) (name_of (names_of core) point.sub) point.number ends.Bound show (run_word computer.image code n)
+  pub seen : point_at (trace_in image code) n ≡ Some point
+  pub reports : text ≡ report_text names.Hack n (steps (trace_in image code) n) (name_of (names_of core) point.sub) point.number ends.Bound show (run_word image.words code n)
   pub most : ℕ
   pub gap : IsGap (the_program core) most
-  pub agrees : Tame (meaning_of (the_program core).subroutines) (start (the_program core)) (heard_keys (trace_in computer code) n) (steps (trace_in computer code) n)
-      → Agrees (meaning_of (the_program core).subroutines) (start (the_program core)) (trace_in computer code) (run_word computer.image code) n
-  pub goes_on : Tame (meaning_of (the_program core).subroutines) (start (the_program core)) (heard_keys (trace_in computer code) n) (suc (steps (trace_in computer code) n))
-      → steps (trace_in computer code) n < steps (trace_in computer code) (n + most)
+  pub follows : Follows (meaning_in core) (start (the_program core)) (trace_in image code) (run_word image.words code) most n
 
 -- The report of n moves of a program at a level, with what is shown there.
 abbrev pub IsReport : RunLevel → Core → (ℕ → ℕ) → ℕ → List ℕ → Type 0
@@ -104,20 +102,20 @@ IsReport (levels.Gates shown) core code n text = IsGatesReport core code n shown
 
 -- ---- the line
 
--- The folder means a program that has a computer, and this is its report at the level, under the keys of the script.
+-- The folder means a program that has an image, and this is its report at the level, under the keys of the script.
 abbrev pub RunPrints : Option Files → List ℕ → RunLevel → ℕ → Option (List ℕ) → List ℕ → Type 0
 RunPrints files folder level cycles keys out =
     (core : Core) × (lines : List Line) × FolderMeans files folder core × IsBuilt core × HasKeys files keys lines
     × IsReport level core (code_at lines) cycles out
 
--- The run is refused, at whatever level, and this line tells why: the folder means no program, or its program has no computer, or, where it has
+-- The run is refused, at whatever level, and this line tells why: the folder means no program, or its program has no image, or, where it has
 -- one, the key script is refused.
 pub data RunRefuses (files : Option Files) (folder : List ℕ) (keys : Option (List ℕ)) (line : List ℕ) : Type 0 where
   without_program : FolderIsRefused files folder line → RunRefuses files folder keys line
   unbuilt : (core : Core) → FolderMeans files folder core → BuildIsRefused core folder line → RunRefuses files folder keys line
   without_script : (core : Core) → FolderMeans files folder core → IsBuilt core → ScriptIsRefused files keys line → RunRefuses files folder keys line
 
--- The folder means a program that has a computer, and the file of the key script is not there.
+-- The folder means a program that has an image, and the file of the key script is not there.
 abbrev pub LacksScript : Files → List ℕ → Option (List ℕ) → Type 0
 LacksScript files folder keys =
     (core : Core) × FolderMeans (Some files) folder core × IsBuilt core × LacksKeys (Some files) keys

@@ -3,7 +3,7 @@
 use Rattle.std.specs.Prelude.{◌≡◌, ◌≤◌, ◌⊎◌, ℕ, Bool, false, List, Option, Some, Ok, Err, length, map, codes}
 use Rattle.hack_isa.specs.Machine.{image_words}
 use Rattle.hack_isa.specs.Table.{word_of}
-use Rattle.vm_templates.specs.Templates.{endless_loop}
+use Rattle.image_map.specs.Computer.{endless_loop}
 use Rattle.outer_world.specs.Files.{Files}
 use Rattle.outer_world.specs.Refusals.{Message, message_line}
 use Rattle.hack_asm.specs.Written.{asm_text}
@@ -13,8 +13,8 @@ use Rattle.vm_link.specs.Links.{Links}
 use Rattle.vm_link.specs.Messages.{link_message}
 use Rattle.vm_link.specs.declared.fault.LinkFault.{LinkFault}
 use Rattle.vm_link.specs.declared.linked.Linked.{Linked}
-use Rattle.vm_translator.specs.Image.{IsTooLarge, commits_of, image_of, points_of}
-use Rattle.vm_translator.specs.Mapping.{map_of}
+use Rattle.vm_translator.specs.Image.{IsTooLarge, image_map_of, image_of}
+use Rattle.image_map.specs.Map.{the_map}
 use Rattle.vm_translator.specs.Messages.{code_message}
 use Rattle.vm_translator.specs.Translated.{IsTranslated}
 use Rattle.vm_translator.specs.declared.coded.CodeFault.TheVariants.{TooLarge}
@@ -49,4 +49,4 @@ pub data VmRefuses (files : Option Files) (folder : List ℕ) (bare : Bool) (lin
 abbrev pub VmDoesLaw : Type 0
 VmDoesLaw =
     (files : Option Files) (folder : List ℕ) (program : List File) (linked : Linked) → HasProgram false files folder program → Links false program (Ok linked)
-    → length (image_of linked) ≤ image_words → IsTranslated linked (map word_of (image_of linked)) (map_of (commits_of linked) (points_of linked)) endless_loop
+    → length (image_of linked) ≤ image_words → IsTranslated linked (map word_of (image_of linked)) (the_map (image_map_of linked)) endless_loop

@@ -4,7 +4,7 @@ use Rattle.outer_world.specs.Faults.{Rose}
 use Rattle.outer_world.specs.Written.{Got, GotPart}
 use Rattle.outer_world.specs.declared.point.Point.{Point}
 use Rattle.source_files.specs.declared.error.LoadError.TheVariants.{Memory}
-use Rattle.gate_computer.specs.Followed.{GateMachine, HasFollowed as GatesFollowed, word_in}
+use Rattle.gate_computer.specs.Followed.{GateMachine, HasFollowed as GatesFollowed, image_in as gates_image, word_in}
 use Rattle.hack_machine.specs.Loaded.{machine_of}
 use Rattle.jack_meaning.specs.Meaning.{State, start}
 use Rattle.jack_meaning.specs.Level.{meaning_of, point_in}
@@ -18,8 +18,8 @@ use Rattle.machine_io.specs.declared.driving.End.TheVariants as ends
 use Rattle.machine_io.specs.declared.report.LevelName.{LevelName}
 use Rattle.machine_io.specs.declared.report.LevelName.TheVariants as names
 use Rattle.machine_io.specs.declared.report.Show.{Show}
-use Rattle.tower.specs.Built.{IsComputerOf}
-use Rattle.tower.specs.Mapped.{HasFollowed, MappedMachine, RunProgram, StandsAt, program_in}
+use Rattle.tower.specs.Image.{IsImageOf}
+use Rattle.tower.specs.Mapped.{HasFollowed, MappedMachine, StandsAt, image_in}
 use Rattle.tower.specs.VmRun.{IsVmCodeOf}
 use Rattle.vm_machine.specs.Loaded.{HasTaken, LoadedVm}
 use Rattle.nand_cli.specs.Commands.Run.{EndsAt, name_of, state_after}
@@ -85,26 +85,22 @@ HasCycled code n h end = (end ≡ ends.Bound) × StandsAt h code n
 
 -- The computer with the image of the program is at its start.
 pub record IsHackAtStart (core : Core) (h : MappedMachine) : Type 0 where
-  pub computer : IsComputerOf core (program_in h)
+  pub image : IsImageOf core (image_in h)
   pub moves : h.hack.moves ≡ 0
   pub stands : HasFollowed h []
 
 -- the report of what a computer shows
 abbrev pub hack_text : MappedMachine → List (List ℕ) → End → Show → List ℕ
-hack_text h subs end show = machine_text names.Hack subs h.hack.moves h.count h.place end show (machine_of h.hack).memory
+hack_text h subs end show = machine_text names.Hack subs h.hack.moves h.tally.steps h.tally.point end show (machine_of h.hack).memory
 
 -- ---- level gates
 
--- the image of a computer made of gates, with its map
-abbrev pub program_of : GateMachine → RunProgram
-program_of g = record { image = g.image; commits = g.tally.commits; ranges = g.tally.ranges }
-
 -- The computer made of gates with the image of the program is at its start.
 pub record IsAtStart (core : Core) (g : GateMachine) : Type 0 where
-  pub computer : IsComputerOf core (program_of g)
+  pub image : IsImageOf core (gates_image g)
   pub moves : g.moves ≡ 0
   pub stands : GatesFollowed g []
 
 -- the report of what it shows
 abbrev pub gates_text : GateMachine → List (List ℕ) → End → Show → List ℕ
-gates_text g subs end show = machine_text names.Gates subs g.moves g.tally.count g.tally.place end show (word_in g)
+gates_text g subs end show = machine_text names.Gates subs g.moves g.tally.steps g.tally.point end show (word_in g)

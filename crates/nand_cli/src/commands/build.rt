@@ -22,5 +22,5 @@ pub fn answer_build<F: Shelf, O: Sink>(
     ensures stays { F.there shelf.new ≡ F.there shelf.old }
 {
     let program = load_built(alloc, folder, shelf)?;
-    finished(write_hack(program.built.image(), out))
+    finished(write_hack(program.image.words.as_slice(), out))
 }

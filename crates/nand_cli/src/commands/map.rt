@@ -5,8 +5,8 @@ ghost use Rattle.nand_cli.specs.Inner.Parts.{Counts, Does};
 
 use crate::failure::{Failure, finished};
 use crate::jack::load_built;
+use image_map::show_map;
 use jack_core::Subroutine;
-use map_text::show_map;
 use outer_world::{Shelf, Sink};
 use std::alloc::{AllocError, Global};
 
@@ -35,6 +35,5 @@ pub fn answer_map<F: Shelf, O: Sink>(
 {
     let program = load_built(alloc, folder, shelf)?;
     let names = names(alloc, &program.core.subroutines)?;
-    let built = &program.built;
-    finished(show_map(&names, built.points(), built.commits(), built.shared(), out))
+    finished(show_map(&names, &program.image.map, out))
 }

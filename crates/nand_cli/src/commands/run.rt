@@ -7,8 +7,8 @@ ghost use Rattle.key_script.specs.declared.keys.Keys.{Keys};
 ghost use Rattle.simulation.specs.System.{IsKey};
 ghost use Rattle.outer_world.specs.Files.{LacksFile};
 ghost use Rattle.source_files.specs.Loads.{CountsLoad, Loads};
-ghost use Rattle.tower.specs.Built.{IsComputerOf};
-ghost use Rattle.tower.specs.Mapped.{program_built};
+ghost use Rattle.image_map.specs.Map.{IsMapped};
+ghost use Rattle.tower.specs.Image.{IsImageOf};
 ghost use Rattle.nand_cli.specs.Commands.Run.{HasKeys, IsReport, LacksKeys, ScriptIsRefused};
 ghost use Rattle.nand_cli.specs.Inner.Parts.{Counts, Does};
 ghost use Rattle.nand_cli.specs.Inner.Reports.{CountsReport, IsHackAtStart, IsPut, Reports};
@@ -20,6 +20,7 @@ use crate::languages::KeyText;
 use crate::report::report;
 use crate::vm_run::report_vm;
 use command_line::{Run, RunLevel};
+use image_map::Image;
 use jack_core::Core;
 use jack_machine::Jack;
 use key_script::Keys;
@@ -27,7 +28,7 @@ use machine_io::{LevelName, Show};
 use outer_world::{Shelf, Sink};
 use source_files::{LoadError, load};
 use std::alloc::Global;
-use tower::{Built, HackLevel, prepare_hack};
+use tower::{HackLevel, prepare_hack};
 
 // The keys of a run; without a script no key is ever pressed.
 fn load_keys<F: Shelf>(alloc: Global, path: Option<&str>, shelf: &mut F) -> Result<Keys, LoadError>
@@ -82,19 +83,20 @@ fn report_cycles<O: Sink>(
 fn report_hack<O: Sink>(
     alloc: Global,
     core: &Core,
-    built: Built,
+    image: Image,
     keys: &Keys,
     cycles: u32,
     show: Show,
     out: &mut O,
 ) -> Result<(), Failure>
     requires resolved { IsResolvedCore core.now }
-    requires computer { IsComputerOf core.now (program_built built) }
+    requires image { IsImageOf core.now image }
+    requires mapped { IsMapped image }
     requires words { (c : ℕ) → IsKey (code_at keys.now c) }
     ensures reports { Reports (IsReport (RunLevel.Hack show) core.now (code_at keys.now) cycles) (O.written out.old) (O.written out.new) result }
     ensures counts { CountsReport (O.faults out.old) (O.faults out.new) result }
 {
-    let mut computer = prepare_hack(alloc, built)?;
+    let mut computer = prepare_hack(alloc, image)?;
     report_cycles(&mut computer, core, keys, cycles, show, out)
 }
 
@@ -111,24 +113,24 @@ pub fn answer_run<F: Shelf, O: Sink>(
     ensures stays { F.there shelf.new ≡ F.there shelf.old }
 {
     let core = load_jack(alloc, request.folder, shelf)?;
-    let built = image_of(alloc, request.folder, &core)?;
+    let image = image_of(alloc, request.folder, &core)?;
     let keys = load_keys(alloc, request.keys, shelf)?;
     match request.level {
         RunLevel::Jack(show) => {
             // The meaning needs no image.
-            drop(built);
+            drop(image);
             report_jack(alloc, &core, &keys, request.cycles, show, out)
         }
         RunLevel::Vm(show) => {
             // The machine links its code itself.
-            drop(built);
+            drop(image);
             report_vm(alloc, &core, &keys, request.cycles, show, out)
         }
         RunLevel::Hack(show) => {
-            report_hack(alloc, &core, built, &keys, request.cycles, show, out)
+            report_hack(alloc, &core, image, &keys, request.cycles, show, out)
         }
         RunLevel::Gates(shown) => {
-            report_gates(alloc, &core, built, &keys, request.cycles, shown, out)
+            report_gates(alloc, &core, image, &keys, request.cycles, shown, out)
         }
     }
 }

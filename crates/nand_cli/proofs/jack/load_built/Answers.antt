@@ -7,12 +7,12 @@ returns-in_err-core-clause-loads g c =
     let p = err_from_is_err_and c.from_residual.result c.from_residual.ensures.1 in
     rw (p.1, p.2) (without_core _ _ (g.F.Shelf.there c.args.shelf.now) (g.F.Shelf.unfailing c.args.shelf.now) _ c.in_err-core.ensures.loads)
 
-pub returns-in_err-built-clause-loads : goal.returns-in_err-built-clause-loads
-returns-in_err-built-clause-loads g c =
-    let p = err_from_is_err_and c.from_residual-in_err-built.result c.from_residual-in_err-built.ensures.1 in
-    rw (p.1, p.2) (without_computer _ _ (g.F.Shelf.there c.args.shelf.now) (g.F.Shelf.unfailing c.args.shelf.now) c.in_ok-core.core _ c.in_ok-core.ensures.loads c.in_err-built.ensures)
+pub returns-in_err-image-clause-loads : goal.returns-in_err-image-clause-loads
+returns-in_err-image-clause-loads g c =
+    let p = err_from_is_err_and c.from_residual-in_err-image.result c.from_residual-in_err-image.ensures.1 in
+    rw (p.1, p.2) (without_computer _ _ (g.F.Shelf.there c.args.shelf.now) (g.F.Shelf.unfailing c.args.shelf.now) c.in_ok-core.core _ c.in_ok-core.ensures.loads c.in_err-image.ensures.loads)
 
-pub returns-in_err-built-clause-counts : goal.returns-in_err-built-clause-counts
-returns-in_err-built-clause-counts g c =
-    let p = err_from_is_err_and c.from_residual-in_err-built.result c.from_residual-in_err-built.ensures.1 in
-    rw (p.1, p.2) (unbuilt_counts c.in_ok-core.core c.args.folder.now _ _ _ c.in_err-built.ensures c.in_ok-core.ensures.counts)
+pub returns-in_err-image-clause-counts : goal.returns-in_err-image-clause-counts
+returns-in_err-image-clause-counts g c =
+    let p = err_from_is_err_and c.from_residual-in_err-image.result c.from_residual-in_err-image.ensures.1 in
+    rw (p.1, p.2) (unbuilt_counts c.in_ok-core.core c.args.folder.now _ _ _ c.in_err-image.ensures.loads c.in_ok-core.ensures.counts)

@@ -77,7 +77,7 @@ shared_ranges-requires c =
     c.requires.bare c.base_of.ensures c.as_slice.ensures c.in_ok-layout.ensures c.after-from.ensures c.closing_of-closing.ensures (c.deref-5.ensures.value ∙ c.in_ok-used.ensures)
 
 pub returns-clause-covers : goal.returns-clause-covers
-returns-clause-covers c = covers_as c.args.linked.now c.of-3.result (c.of-3.ensures ∙ c.in_ok-points.ensures)
+returns-clause-covers c = covers_as c.args.linked.now c.of-2.result (c.of-2.ensures ∙ c.in_ok-points.ensures)
 
 pub returns-clause-shared_covers : goal.returns-clause-shared_covers
 returns-clause-shared_covers c =
@@ -92,4 +92,4 @@ pub returns-clause-translated : goal.returns-clause-translated
 returns-clause-translated c =
     let l = c.args.linked.now in
     let f = fits l c.words-words.result c.words-words.ensures c.if-words.false in
-    λ whole uniform. translated_as l c.of.result c.of-2.result c.of-3.result c.requires.sound uniform f (c.of.ensures ∙ c.in_ok-instrs.ensures) (c.of-2.ensures ∙ c.in_ok-commits.ensures) (c.of-3.ensures ∙ c.in_ok-points.ensures) whole
+    λ whole uniform. translated_as l c.of.result c.of-3.result c.of-2.result c.requires.sound uniform f (c.of.ensures ∙ c.in_ok-instrs.ensures) (c.of-3.ensures ∙ c.in_ok-commits.ensures) (c.of-2.ensures ∙ c.in_ok-points.ensures) whole

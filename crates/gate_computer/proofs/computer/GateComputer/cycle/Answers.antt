@@ -4,7 +4,7 @@ use Rattle.netlist.specs.Present.{value_in}
 use Rattle.netlist.specs.Value.{spelled_number}
 use Rattle.gate_sim.specs.Calls.{pins_of}
 use Rattle.gate_sim.specs.Calls.Call.{Tick}
-use Rattle.vm_templates.specs.Computer.{reads_key}
+use Rattle.image_map.specs.Computer.{reads_key}
 use Rattle.gate_computer.specs.contracts.computer.GateComputer.{the_view}
 use Rattle.gate_computer.specs.Inner.Told.{HoldsKey, HasSet}
 use Rattle.gate_computer.specs.Inner.Readable.{IsReadable}
@@ -12,9 +12,9 @@ use Rattle.gate_computer.specs.Followed.{HasFollowed}
 use Rattle.gate_computer.proofs.Following.{followed_more}
 use Rattle.gate_computer.proofs.computer.GateComputer.cycle.Goals as goal
 
-few_more : (b : Bool) (ears ears' moves : ℕ) → ears' ≡ (if b then suc ears else ears) → ears ≤ moves → ears' ≤ moves + 1
-few_more true ears ears' moves e h = omega (arith, e, h)
-few_more false ears ears' moves e h = omega (arith, e, h)
+few_more : (b : Bool) (heard heard' moves : ℕ) → heard' ≡ (if b then suc heard else heard) → heard ≤ moves → heard' ≤ moves + 1
+few_more true heard heard' moves e h = omega (arith, e, h)
+few_more false heard heard' moves e h = omega (arith, e, h)
 
 pub invariant_of-self : goal.invariant_of-self
 invariant_of-self c =
@@ -39,10 +39,10 @@ returns-clause-stands c turns h =
     let stK = c.tock.ensures.stands (Tick ∷ set.now) stT in
     let row = value_in c.tick.new.self.values in
     let heard_is = c.hears_key-hears.ensures
-    ∙ ap (λ l. reads_key (slice_index l c.at.result) (spelled_number row c.as_slice-2.result.now)) c.deref.ensures.value
-    ∙ ap (λ x. reads_key (slice_index c.self.inside.image.items x) (spelled_number row c.as_slice-2.result.now)) c.at.ensures
-    ∙ ap (λ l. reads_key (slice_index c.self.inside.image.items c.self.inside.tally.at) (spelled_number row l)) c.as_slice-2.ensures in
+    ∙ ap (λ l. reads_key (slice_index l c.at.result) (spelled_number row c.as_slice-2.result.now)) c.as_slice-3.ensures
+    ∙ ap (λ x. reads_key (slice_index c.self.inside.image x) (spelled_number row c.as_slice-2.result.now)) c.at.ensures
+    ∙ ap (λ l. reads_key (slice_index c.self.inside.image c.self.inside.tally.at) (spelled_number row l)) c.as_slice-2.ensures in
     followed_more g _ c.set_keyboard.new.sim c.tick.new.self c.args.key turns f netA netT netK (omega arith) refl refl refl (add-one c.self.inside.moves) set stT stK
     c.number_at.result c.hears_key-hears.result heard_is c.counted-self-inside.ensures
-    (c.number_at.ensures ∙ ap (spelled_number (value_in c.tock.new.self.values)) c.as_slice-3.ensures)
+    (c.number_at.ensures ∙ ap (spelled_number (value_in c.tock.new.self.values)) c.as_slice-4.ensures)
     c.go.ensures.tallied

@@ -17,12 +17,12 @@ no_bit j = ap (λ q. nat_eq (q % 2) 1) (zero-div (2 ^ j))
 
 pub load_block-requires : goal.load_block-requires
 load_block-requires c =
-    subst (λ (m : Net). MatchOption (slice_get m.blocks c.args.wired.wiring.rom) ⊥ (λ b. 0 + length c.args.image.now ≤ b.words)) (sym c.in_ok-sim.ensures.net)
-    (rom_room c.args.wired.net c.args.wired.wiring c.requires.wired (length c.args.image.now) c.requires.room)
+    subst (λ (m : Net). MatchOption (slice_get m.blocks c.args.wired.wiring.rom) ⊥ (λ b. 0 + length c.as_slice.result.now ≤ b.words)) (sym c.in_ok-sim.ensures.net)
+    (rw c.as_slice.ensures (rom_room c.args.wired.net c.args.wired.wiring c.requires.wired (length c.args.image.words) c.requires.mapped.room))
 
 pub invariant_of-result : goal.invariant_of-result
 invariant_of-result c =
-    let none = c.in_ok-new.ensures.count in
+    let none = c.in_ok-new.ensures.steps in
     record {
       readable = subst (λ m. IsReadable m c.args.wired.wiring) (sym (c.load_block.ensures.net ∙ c.in_ok-sim.ensures.net)) (readable c.args.wired.net c.args.wired.wiring c.requires.wired);
       few_steps = omega (arith, none);
@@ -32,11 +32,10 @@ invariant_of-result c =
 pub returns-clause-stands : goal.returns-clause-stands
 returns-clause-stands c =
     let net = c.load_block.ensures.net ∙ c.in_ok-sim.ensures.net in
-    let items = c.in_ok-from_slice.ensures.items in
-    followed_none _
+    rw c.words.view_is (followed_none _
     (subst (λ m. IsWired m c.args.wired.wiring) (sym net) c.requires.wired)
     (subst (λ (m : Net). AreOrdered m.nodes m.blocks) (sym net) c.nodes.ensures.ordered)
-    (λ a. subst (λ l. slice_index l a < 65536) (sym items) (c.type_inv.image a).fits)
-    (subst (λ l. StandsFor c.load_block.new.self (Load c.args.wired.wiring.rom 0 l ∷ [])) (sym items) (c.load_block.ensures.stands [] c.in_ok-sim.ensures.stands))
+    (λ a. subst (λ l. slice_index l a < 65536) c.as_slice-2.ensures (c.words_fit.ensures a))
+    (subst (λ l. StandsFor c.load_block.new.self (Load c.args.wired.wiring.rom 0 l ∷ [])) c.as_slice.ensures (c.load_block.ensures.stands [] c.in_ok-sim.ensures.stands))
     (record { bits = λ j less. sym (no_bit j); others = λ k out. refl })
-    (omega arith) refl refl c.in_ok-new.ensures.tallied
+    (omega arith) refl refl c.in_ok-new.ensures.tallied)

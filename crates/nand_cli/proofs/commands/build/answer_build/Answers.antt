@@ -16,7 +16,7 @@ returns-in_err-program-clause-does g c = λ err.
     let folder = c.args.folder.now in
     let there = g.F.Shelf.there c.args.shelf.now in
     let steady = g.F.Shelf.unfailing c.args.shelf.now in
-    rw (p.1, p.2) (nothing_put (λ (b : BuiltProgram). FolderBuilds files folder b.core b.built) (BuildRefuses files folder) (steady → LacksFolder files there folder) files there steady (build folder) (g.O.Sink.written c.args.out.now) err _
+    rw (p.1, p.2) (nothing_put (λ (b : BuiltProgram). FolderBuilds files folder b.core b.image) (BuildRefuses files folder) (steady → LacksFolder files there folder) files there steady (build folder) (g.O.Sink.written c.args.out.now) err _
     (λ line k. (refl, k, refl)) (λ k s. missing files there folder (build folder) (λ told none. none) (k s)) c.in_err-program.ensures.loads tt)
 
 pub returns-in_err-program-clause-counts : goal.returns-in_err-program-clause-counts
@@ -28,8 +28,8 @@ pub returns-clause-does : goal.returns-clause-does
 returns-clause-does g c = λ err.
     let P : List ℕ → Type 0 = λ words. Puts (g.O.Sink.written c.args.out.now) (g.O.Sink.written c.write_hack.new.out) (image_text words) c.write_hack.result in
     let program = c.in_ok-program.program in
-    rw (c.finished.ensures) (done_by (g.F.Shelf.files c.args.shelf.now) (g.F.Shelf.there c.args.shelf.now) (g.F.Shelf.unfailing c.args.shelf.now) (build c.args.folder.now) (image_text program.built.image) _ _ err c.write_hack.result
-    ((program.core, program.built, c.in_ok-program.ensures.loads, refl), refl) (subst P c.image.ensures c.write_hack.ensures.put) tt)
+    rw (c.finished.ensures) (done_by (g.F.Shelf.files c.args.shelf.now) (g.F.Shelf.there c.args.shelf.now) (g.F.Shelf.unfailing c.args.shelf.now) (build c.args.folder.now) (image_text program.image.words) _ _ err c.write_hack.result
+    ((program.core, program.image, c.in_ok-program.ensures.loads, refl), refl) (subst P c.as_slice.ensures c.write_hack.ensures.put) tt)
 
 pub returns-clause-counts : goal.returns-clause-counts
 returns-clause-counts g c = λ err.

@@ -4,8 +4,7 @@ use Rattle.outer_world.specs.Files.{LacksFolder}
 use Rattle.outer_world.specs.Written.{Puts}
 use Rattle.outer_world.proofs.Passing.{Got-nothing}
 use Rattle.jack_core.specs.Texts.{names_of}
-use Rattle.map_text.specs.Text.{map_text}
-use Rattle.vm_translator.specs.declared.coded.PointRange.{PointRange}
+use Rattle.image_map.specs.Text.{map_text}
 use Rattle.command_line.specs.Line.{map_line}
 use Rattle.nand_cli.specs.Commands.Build.{BuildRefuses, FolderBuilds}
 use Rattle.nand_cli.specs.declared.jack.BuiltProgram.{BuiltProgram}
@@ -21,7 +20,7 @@ returns-in_err-program-clause-does g c = λ err.
     let folder = c.args.folder.now in
     let there = g.F.Shelf.there c.args.shelf.now in
     let steady = g.F.Shelf.unfailing c.args.shelf.now in
-    rw (p.1, p.2) (nothing_put (λ (b : BuiltProgram). FolderBuilds files folder b.core b.built) (BuildRefuses files folder) (steady → LacksFolder files there folder) files there steady (map_line folder) (g.O.Sink.written c.args.out.now) err _
+    rw (p.1, p.2) (nothing_put (λ (b : BuiltProgram). FolderBuilds files folder b.core b.image) (BuildRefuses files folder) (steady → LacksFolder files there folder) files there steady (map_line folder) (g.O.Sink.written c.args.out.now) err _
     (λ line k. (refl, k, refl)) (λ k s. missing files there folder (map_line folder) (λ told none. none) (k s)) c.in_err-program.ensures.loads tt)
 
 pub returns-in_err-program-clause-counts : goal.returns-in_err-program-clause-counts
@@ -35,19 +34,12 @@ returns-clause-does g c = λ err.
     let out' = g.O.Sink.written c.show_map.new.out in
     let program = c.in_ok-program.program in
     let core = program.core in
-    let built = program.built in
+    let image = program.image in
     let r = c.show_map.result in
-    let names = map (λ n. n.now) c.deref-2.result.now in
-    let ranges = c.points.result.now in
-    let commits = c.commits.result.now in
-    let P : List (List ℕ) → Type 0 = λ ns. Puts out out' (map_text ns built.ranges built.commits built.shared) r in
-    let Q : List PointRange → Type 0 = λ rs. Puts out out' (map_text names rs built.commits built.shared) r in
-    let R : List ℕ → Type 0 = λ cs. Puts out out' (map_text names ranges cs built.shared) r in
-    let T : List (ℕ × ℕ) → Type 0 = λ rs. Puts out out' (map_text names ranges commits rs) r in
-    let put = subst R c.commits.ensures (subst T c.shared.ensures c.show_map.ensures.put) in
+    let P : List (List ℕ) → Type 0 = λ ns. Puts out out' (map_text ns image.map) r in
     let named = ap (map (λ n. n.now)) c.deref-2.ensures.value ∙ c.in_ok-names.ensures ∙ ap (map (λ s. s.name)) c.deref.ensures.value in
-    rw (c.finished.ensures) (done_by (g.F.Shelf.files c.args.shelf.now) (g.F.Shelf.there c.args.shelf.now) (g.F.Shelf.unfailing c.args.shelf.now) (map_line c.args.folder.now) (map_text (names_of core) built.ranges built.commits built.shared) _ _ err r
-    ((core, built, c.in_ok-program.ensures.loads, covered core built c.in_ok-program.ensures.loads.1, rising core built c.in_ok-program.ensures.loads.1, refl), refl) (subst P named (subst Q c.points.ensures put)) tt)
+    rw (c.finished.ensures) (done_by (g.F.Shelf.files c.args.shelf.now) (g.F.Shelf.there c.args.shelf.now) (g.F.Shelf.unfailing c.args.shelf.now) (map_line c.args.folder.now) (map_text (names_of core) image.map) _ _ err r
+    ((core, image, c.in_ok-program.ensures.loads, covered core image c.in_ok-program.ensures.loads.1, rising core image c.in_ok-program.ensures.loads.1, refl), refl) (subst P named c.show_map.ensures.put) tt)
 
 pub returns-clause-counts : goal.returns-clause-counts
 returns-clause-counts g c = λ err.

@@ -5,9 +5,7 @@ use Rattle.key_script.specs.Codes.{code_at}
 use Rattle.key_script.specs.declared.keys.Keys.{Keys}
 use Rattle.outer_world.specs.Files.{Files}
 use Rattle.source_files.specs.Loads.{CountsLoad, Loads}
-use Rattle.tower.specs.Built.{IsBuiltOf}
-use Rattle.tower.specs.Mapped.{program_built}
-use Rattle.tower.proofs.Computers.{computer_built}
+use Rattle.tower.specs.Image.{IsImageOf}
 use Rattle.command_line.specs.Line.{run}
 use Rattle.command_line.specs.declared.request.RunLevel.{RunLevel}
 use Rattle.command_line.specs.declared.request.RunLevel.TheVariants as levels
@@ -31,17 +29,17 @@ returns-in_err-core-clause-counts g c = λ err.
     let p = err_from_is_err_and c.from_residual.result c.from_residual.ensures.1 in
     rw (p.1, p.2) (unread_counts Core _ _ _ _ err c.in_err-core.ensures.counts)
 
-pub returns-in_err-built-clause-does : goal.returns-in_err-built-clause-does
-returns-in_err-built-clause-does g c = λ err.
+pub returns-in_err-image-clause-does : goal.returns-in_err-image-clause-does
+returns-in_err-image-clause-does g c = λ err.
     let request = c.args.request.now in
-    let p = err_from_is_err_and c.from_residual-in_err-built.result c.from_residual-in_err-built.ensures.1 in
-    rw (p.1, p.2) (without_image request.level _ (g.F.Shelf.there c.args.shelf.now) (g.F.Shelf.unfailing c.args.shelf.now) request.folder.now request.cycles (option_map (λ keys. keys.now) request.keys) _ err c.in_ok-core.core _ c.in_ok-core.ensures.loads c.in_err-built.ensures)
+    let p = err_from_is_err_and c.from_residual-in_err-image.result c.from_residual-in_err-image.ensures.loads.1 in
+    rw (p.1, p.2) (without_image request.level _ (g.F.Shelf.there c.args.shelf.now) (g.F.Shelf.unfailing c.args.shelf.now) request.folder.now request.cycles (option_map (λ keys. keys.now) request.keys) _ err c.in_ok-core.core _ c.in_ok-core.ensures.loads c.in_err-image.ensures.loads)
 
-pub returns-in_err-built-clause-counts : goal.returns-in_err-built-clause-counts
-returns-in_err-built-clause-counts g c = λ err.
-    let p = err_from_is_err_and c.from_residual-in_err-built.result c.from_residual-in_err-built.ensures.1 in
+pub returns-in_err-image-clause-counts : goal.returns-in_err-image-clause-counts
+returns-in_err-image-clause-counts g c = λ err.
+    let p = err_from_is_err_and c.from_residual-in_err-image.result c.from_residual-in_err-image.ensures.loads.1 in
     let core = c.in_ok-core.core in
-    rw (p.1, p.2) (unmade_counts (IsBuiltOf core) (BuildIsRefused core c.args.request.now.folder.now) _ _ _ _ err c.in_err-built.ensures c.in_ok-core.ensures.counts)
+    rw (p.1, p.2) (unmade_counts (IsImageOf core) (BuildIsRefused core c.args.request.now.folder.now) _ _ _ _ err c.in_err-image.ensures.loads c.in_ok-core.ensures.counts)
 
 pub returns-in_err-keys-clause-does : goal.returns-in_err-keys-clause-does
 returns-in_err-keys-clause-does g c = λ err.
@@ -55,7 +53,7 @@ returns-in_err-keys-clause-does g c = λ err.
     let P : Option Files → Type 0 = λ fs. Loads (λ (k : Keys). HasKeys fs path k) (ScriptIsRefused fs path) (later → LacksKeys fs path) (Err e) in
     let read = without (λ (k : Keys). HasKeys files path k) (ScriptIsRefused files path) (later → LacksKeys files path) (λ (k : Keys). HasKeys files path k) (ScriptIsRefused files path) (steady → LacksKeys files path) e
     (λ line h. h) (λ h s. h (c.in_ok-core.ensures.keeps s)) (subst P c.in_ok-core.ensures.kept c.in_err-keys.ensures.loads) in
-    rw (p.1, p.2) (without_keys request.level files (g.F.Shelf.there c.args.shelf.now) steady request.folder.now request.cycles path _ err c.in_ok-core.core e c.in_ok-core.ensures.loads (program_built c.in_ok-built.built, computer_built _ _ c.in_ok-built.ensures) read)
+    rw (p.1, p.2) (without_keys request.level files (g.F.Shelf.there c.args.shelf.now) steady request.folder.now request.cycles path _ err c.in_ok-core.core e c.in_ok-core.ensures.loads (c.in_ok-image.image, c.in_ok-image.ensures.loads) read)
 
 pub returns-in_err-keys-clause-counts : goal.returns-in_err-keys-clause-counts
 returns-in_err-keys-clause-counts g c = λ err.
@@ -72,7 +70,7 @@ returns-in-Jack-clause-does g c = λ err.
     let Q : RunLevel → Type 0 = λ level. Does (g.F.Shelf.files c.args.shelf.now) (g.F.Shelf.there c.args.shelf.now) steady (run request.folder.now level request.cycles path) (g.O.Sink.written c.args.out.now) (g.O.Sink.written c.report_jack.new.out) err err c.report_jack.result in
     subst Q (sym c.in-Jack.is)
     (answered (levels.Jack c.in-Jack.show) _ (g.F.Shelf.there c.args.shelf.now) steady request.folder.now request.cycles path c.in_ok-core.core c.in_ok-keys.keys _ _ err c.report_jack.result c.in_ok-core.ensures.loads
-    (program_built c.in_ok-built.built, computer_built _ _ c.in_ok-built.ensures) (subst P c.in_ok-core.ensures.kept c.in_ok-keys.ensures.loads) c.report_jack.ensures.reports)
+    (c.in_ok-image.image, c.in_ok-image.ensures.loads) (subst P c.in_ok-core.ensures.kept c.in_ok-keys.ensures.loads) c.report_jack.ensures.reports)
 
 pub returns-in-Jack-clause-counts : goal.returns-in-Jack-clause-counts
 returns-in-Jack-clause-counts g c = λ err.
@@ -80,7 +78,7 @@ returns-in-Jack-clause-counts g c = λ err.
     (c.in_ok-keys.ensures.counts ∙ c.in_ok-core.ensures.counts) c.report_jack.ensures.reports c.report_jack.ensures.counts
 
 pub report_vm-requires-clause-built : goal.report_vm-requires-clause-built
-report_vm-requires-clause-built g c = (program_built c.in_ok-built.built, computer_built _ _ c.in_ok-built.ensures)
+report_vm-requires-clause-built g c = (c.in_ok-image.image, c.in_ok-image.ensures.loads)
 
 pub report_vm-requires-clause-words : goal.report_vm-requires-clause-words
 report_vm-requires-clause-words g c = keys_are_words _ _ c.in_ok-keys.keys c.in_ok-keys.ensures.loads
@@ -94,15 +92,15 @@ returns-in-Vm-clause-does g c = λ err.
     let Q : RunLevel → Type 0 = λ level. Does (g.F.Shelf.files c.args.shelf.now) (g.F.Shelf.there c.args.shelf.now) steady (run request.folder.now level request.cycles path) (g.O.Sink.written c.args.out.now) (g.O.Sink.written c.report_vm.new.out) err err c.report_vm.result in
     subst Q (sym c.in-Vm.is)
     (answered (levels.Vm c.in-Vm.show) _ (g.F.Shelf.there c.args.shelf.now) steady request.folder.now request.cycles path c.in_ok-core.core c.in_ok-keys.keys _ _ err c.report_vm.result c.in_ok-core.ensures.loads
-    (program_built c.in_ok-built.built, computer_built _ _ c.in_ok-built.ensures) (subst P c.in_ok-core.ensures.kept c.in_ok-keys.ensures.loads) c.report_vm.ensures.reports)
+    (c.in_ok-image.image, c.in_ok-image.ensures.loads) (subst P c.in_ok-core.ensures.kept c.in_ok-keys.ensures.loads) c.report_vm.ensures.reports)
 
 pub returns-in-Vm-clause-counts : goal.returns-in-Vm-clause-counts
 returns-in-Vm-clause-counts g c = λ err.
     report_counts (IsReport (levels.Vm c.in-Vm.show) c.in_ok-core.core (code_at c.in_ok-keys.keys) c.args.request.now.cycles) _ _ _ _ _ _ err c.report_vm.result
     (c.in_ok-keys.ensures.counts ∙ c.in_ok-core.ensures.counts) c.report_vm.ensures.reports c.report_vm.ensures.counts
 
-pub report_hack-requires-clause-computer : goal.report_hack-requires-clause-computer
-report_hack-requires-clause-computer g c = computer_built _ _ c.in_ok-built.ensures
+pub report_hack-requires-clause-image : goal.report_hack-requires-clause-image
+report_hack-requires-clause-image g c = c.in_ok-image.ensures.loads
 
 pub report_hack-requires-clause-words : goal.report_hack-requires-clause-words
 report_hack-requires-clause-words g c = keys_are_words _ _ c.in_ok-keys.keys c.in_ok-keys.ensures.loads
@@ -116,15 +114,15 @@ returns-in-Hack-clause-does g c = λ err.
     let Q : RunLevel → Type 0 = λ level. Does (g.F.Shelf.files c.args.shelf.now) (g.F.Shelf.there c.args.shelf.now) steady (run request.folder.now level request.cycles path) (g.O.Sink.written c.args.out.now) (g.O.Sink.written c.report_hack.new.out) err err c.report_hack.result in
     subst Q (sym c.in-Hack.is)
     (answered (levels.Hack c.in-Hack.show) _ (g.F.Shelf.there c.args.shelf.now) steady request.folder.now request.cycles path c.in_ok-core.core c.in_ok-keys.keys _ _ err c.report_hack.result c.in_ok-core.ensures.loads
-    (program_built c.in_ok-built.built, computer_built _ _ c.in_ok-built.ensures) (subst P c.in_ok-core.ensures.kept c.in_ok-keys.ensures.loads) c.report_hack.ensures.reports)
+    (c.in_ok-image.image, c.in_ok-image.ensures.loads) (subst P c.in_ok-core.ensures.kept c.in_ok-keys.ensures.loads) c.report_hack.ensures.reports)
 
 pub returns-in-Hack-clause-counts : goal.returns-in-Hack-clause-counts
 returns-in-Hack-clause-counts g c = λ err.
     report_counts (IsReport (levels.Hack c.in-Hack.show) c.in_ok-core.core (code_at c.in_ok-keys.keys) c.args.request.now.cycles) _ _ _ _ _ _ err c.report_hack.result
     (c.in_ok-keys.ensures.counts ∙ c.in_ok-core.ensures.counts) c.report_hack.ensures.reports c.report_hack.ensures.counts
 
-pub report_gates-requires-clause-computer : goal.report_gates-requires-clause-computer
-report_gates-requires-clause-computer g c = computer_built _ _ c.in_ok-built.ensures
+pub report_gates-requires-clause-image : goal.report_gates-requires-clause-image
+report_gates-requires-clause-image g c = c.in_ok-image.ensures.loads
 
 pub report_gates-requires-clause-words : goal.report_gates-requires-clause-words
 report_gates-requires-clause-words g c = keys_are_words _ _ c.in_ok-keys.keys c.in_ok-keys.ensures.loads
@@ -138,7 +136,7 @@ returns-clause-does g c = λ err.
     let Q : RunLevel → Type 0 = λ level. Does (g.F.Shelf.files c.args.shelf.now) (g.F.Shelf.there c.args.shelf.now) steady (run request.folder.now level request.cycles path) (g.O.Sink.written c.args.out.now) (g.O.Sink.written c.report_gates.new.out) err err c.report_gates.result in
     subst Q (sym c.in-Gates.is)
     (answered (levels.Gates c.in-Gates.shown) _ (g.F.Shelf.there c.args.shelf.now) steady request.folder.now request.cycles path c.in_ok-core.core c.in_ok-keys.keys _ _ err c.report_gates.result c.in_ok-core.ensures.loads
-    (program_built c.in_ok-built.built, computer_built _ _ c.in_ok-built.ensures) (subst P c.in_ok-core.ensures.kept c.in_ok-keys.ensures.loads) c.report_gates.ensures.reports)
+    (c.in_ok-image.image, c.in_ok-image.ensures.loads) (subst P c.in_ok-core.ensures.kept c.in_ok-keys.ensures.loads) c.report_gates.ensures.reports)
 
 pub returns-clause-counts : goal.returns-clause-counts
 returns-clause-counts g c = λ err.

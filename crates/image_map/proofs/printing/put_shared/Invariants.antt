@@ -1,0 +1,11 @@
+-- The lines of the routines so far have been handed to the buffer.
+use Rattle.std.proofs.Common.{◌≡◌, drop, take}
+use Rattle.std.specs.List.{flat_map}
+use Rattle.image_map.proofs.Prints.{Prints}
+use Rattle.image_map.specs.Text.{shared_line}
+use Rattle.image_map.proofs.printing.put_shared.Given as goal
+
+abbrev pub invariant-loop-range : goal.invariant-loop-range
+invariant-loop-range g l = (l.out.sink.ghost_name ≡ l.fn.out.sink.ghost_name)
+    × Prints (flat_map shared_line l.shared) (flat_map shared_line (drop l.range-index l.shared)) (g.S.Sink.written l.fn.out.sink.now) (take l.fn.out.len l.fn.out.buffer)
+    (g.S.Sink.written l.out.sink.now) (take l.out.len l.out.buffer) (g.S.Sink.faults l.fn.out.sink.now) (g.S.Sink.faults l.out.sink.now)
