@@ -11,4 +11,3 @@ pub mod Turning
 pub mod Listing
 pub mod Wired
 pub mod Shipped
-pub mod Libraries

@@ -1,48 +1,20 @@
 -- What elaboration asks of the Computer among the shipped chips.
-use Rattle.std.proofs.Common.{◌≡◌, ℕ, Bool, true, List, IsSome, refl, ap, sym, subst, ◌∙◌}
+use Rattle.std.proofs.Common.{◌≡◌, ℕ, Bool, true, List, IsSome, refl, sym, subst}
 use Rattle.std.specs.Prelude.{codes}
 use Rattle.hdl_tree.specs.declared.library.Entry.{Entry}
-use Rattle.hdl_tree.specs.declared.ends.End.{End}
-use Rattle.hdl_tree.specs.declared.ends.End.TheVariants as ends
 use Rattle.hdl_check.specs.Whole.{chips_in}
 use Rattle.hdl_behaviours.proofs.Clean.{find_in}
-use Rattle.hdl_flatten.specs.Ends.{EndsHavePins, HasPins, end_inputs, end_outputs}
 use Rattle.hdl_flatten.specs.Flat.{NeedsFew}
 use Rattle.hdl_elab.specs.declared.put.Elab.{Elab}
 use Rattle.hdl_elab.specs.Elaborated.{IsElaborated, TopIsElaborated}
 use Rattle.hack_cpu.specs.Library.{shipped_chips}
-use Rattle.hack_cpu.specs.Pins.{Port, face_of, end_face}
 use Rattle.hack_cpu.proofs.Faces.{faces}
 use Rattle.hack_cpu.proofs.HasAll.{has_all}
+use Rattle.hack_cpu.proofs.Libraries.{ends_have_pins}
 use Rattle.hack_cpu.proofs.Shown.{no_fault, no_loop}
 use Rattle.gate_computer.specs.Computer.{chips, computer}
 use Rattle.gate_computer.specs.Elaborated.{BuildableLaw, CanBeNet}
 use Rattle.gate_computer.proofs.Counting.{nodes}
-
--- ---- the pins of ends
-
-inputs_are : (e : End) → (end_face e).0 ≡ end_inputs e
-inputs_are ends.Nand = refl
-inputs_are ends.Dff = refl
-inputs_are ends.Keyboard = refl
-inputs_are ends.Rom = refl
-inputs_are (ends.Block bits) = refl
-
-outputs_are : (e : End) → (end_face e).1 ≡ end_outputs e
-outputs_are ends.Nand = refl
-outputs_are ends.Dff = refl
-outputs_are ends.Keyboard = refl
-outputs_are ends.Rom = refl
-outputs_are (ends.Block bits) = refl
-
-has_pins : (chip : Entry) (e : End) → ((face_of chip).inputs, (face_of chip).outputs) ≡ end_face e → HasPins chip e
-has_pins chip e h = record {
-  inputs = ap (λ (p : List Port × List Port). p.0) h ∙ inputs_are e;
-  outputs = ap (λ (p : List Port × List Port). p.1) h ∙ outputs_are e;
-}
-
-pub ends_have_pins : (blocks : Bool) → EndsHavePins (chips_in shipped_chips blocks)
-ends_have_pins blocks name chip e found is = has_pins chip e (faces.end_pins blocks name chip e found is)
 
 -- ---- how many nodes
 

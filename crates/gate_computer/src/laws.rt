@@ -1,6 +1,6 @@
 //! What holds of the instruction machine holds of the Computer.
 
-ghost use Rattle.gate_computer.specs.Elaborated.{BuildableLaw, LibrariesLaw};
+ghost use Rattle.gate_computer.specs.Elaborated.{BuildableLaw};
 ghost use Rattle.gate_computer.specs.Laws.{GatesLaw, SeenLaw};
 ghost use Rattle.gate_computer.specs.Nodes.{NodesLaw};
 
@@ -24,9 +24,4 @@ pub fn nodes_law()
 /// The Computer among the shipped chips has all that a netlist of it asks for, with its memories as blocks and with memories of gates.
 pub fn buildable_law()
     ensures { BuildableLaw }
-{}
-
-/// The ends in a library of shipped chips and of chips from texts have their pins, as elaboration asks.
-pub fn libraries_law()
-    ensures { LibrariesLaw }
 {}

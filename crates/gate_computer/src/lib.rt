@@ -16,7 +16,7 @@ mod wire;
 mod wiring;
 
 pub use computer::GateComputer;
-pub use laws::{buildable_law, gates_law, libraries_law, nodes_law, seen_law};
+pub use laws::{buildable_law, gates_law, nodes_law, seen_law};
 pub use prepare::prepare_gates;
 pub use wire::{build_computer, wire_computer};
 pub use wiring::{WiredComputer, WiredPart, Wiring};

@@ -6,7 +6,7 @@ use Rattle.hdl_tree.specs.declared.tree.Chip.{Chip}
 use Rattle.chip_basic.specs.Hdl.{shipped_entry}
 use Rattle.chip_basic.specs.Trees.{nand_tree}
 use Rattle.hack_cpu.specs.Library.{shipped_chips}
-use Rattle.gate_computer.specs.Elaborated.{IsShippedAs}
+use Rattle.hack_cpu.specs.Libraries.{IsShippedAs}
 
 first_is : slice_get shipped_chips 0 ≡ Some (shipped_entry nand_tree)
 unfolding shipped_chips

@@ -3,7 +3,7 @@
 ghost use Rattle.std.specs.Prelude.{◌≡◌, ◌<◌, IfOk, Some, true, length, slice_get};
 ghost use Rattle.std.specs.List.{All};
 ghost use Rattle.netlist.specs.declared.node.Node.TheVariants.{Pin};
-ghost use Rattle.gate_computer.specs.Elaborated.{IsLibrary};
+ghost use Rattle.hack_cpu.specs.Libraries.{IsLibrary};
 
 use crate::chips::answer;
 use gate_sim::Sim;

@@ -1,7 +1,7 @@
 //! Libraries of shipped chips and of chips from texts.
 
 ghost use Rattle.std.specs.Prelude.{◌≡◌, ◌⊎◌, None, IfOk, OnOk};
-ghost use Rattle.gate_computer.specs.Elaborated.{IsLibrary, IsShippedAs};
+ghost use Rattle.hack_cpu.specs.Libraries.{IsLibrary, IsShippedAs};
 
 use chip_basic::nand_tree;
 use hack_cpu::{find_shipped, library};

@@ -1,7 +1,7 @@
 //! Why chips have no netlist.
 
 ghost use Rattle.std.specs.Prelude.{IfOk};
-ghost use Rattle.gate_computer.specs.Elaborated.{IsLibrary};
+ghost use Rattle.hack_cpu.specs.Libraries.{IsLibrary};
 
 use crate::chips::{add_text, answer, library_with, shipped_library};
 use hdl_elab::ElaborationFault;

@@ -8,3 +8,4 @@ pub mod Shown
 pub mod Faces
 pub mod Existing
 pub mod Printed
+pub mod Libraries

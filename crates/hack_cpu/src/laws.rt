@@ -2,6 +2,7 @@
 
 ghost use Rattle.hack_cpu.specs.Cpu.{CpuLaw, RegistersLaw};
 ghost use Rattle.hack_cpu.specs.Computer.{CycleLaw};
+ghost use Rattle.hack_cpu.specs.Libraries.{LibrariesLaw};
 ghost use Rattle.hack_cpu.specs.Library.{LibraryLaw, ComputerTextsLaw, TextsLaw};
 ghost use Rattle.hack_cpu.specs.Pins.{PinsLaw};
 ghost use Rattle.hack_cpu.specs.Dependencies.{FaultlessLaw, LooplessLaw};
@@ -60,4 +61,9 @@ pub fn existence_law()
 /// The Computer has a behaviour with each image, all keys and no reset.
 pub fn runs_law()
     ensures { RunsLaw }
+{}
+
+/// The ends in a library of shipped chips and of chips from texts have their pins, as elaboration asks.
+pub fn libraries_law()
+    ensures { LibrariesLaw }
 {}

@@ -8,8 +8,8 @@ mod table;
 mod trees;
 
 pub use laws::{
-    computer_texts_law, cpu_law, cycle_law, existence_law, faultless_law, library_law,
-    loopless_law, pins_law, registers_law, runs_law, texts_law,
+    computer_texts_law, cpu_law, cycle_law, existence_law, faultless_law, libraries_law,
+    library_law, loopless_law, pins_law, registers_law, runs_law, texts_law,
 };
-pub use shipped::{find_shipped, library};
+pub use shipped::{find_shipped, library, take_shipped};
 pub use trees::{computer_tree, cpu_tree, keyboard_tree, memory_tree, rom_tree};

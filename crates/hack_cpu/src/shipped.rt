@@ -1,5 +1,5 @@
 //! The library of shipped chips.
-ghost use Rattle.std.specs.Prelude.{◌≡◌, ◌++◌, ◌∷◌, [], true, Some, None, IfOk, IfSome, IfNone};
+ghost use Rattle.std.specs.Prelude.{◌≡◌, ◌<◌, ◌++◌, ◌∷◌, [], true, Some, None, IfOk, IfSome, IfNone, length, slice_get};
 ghost use Rattle.hdl_tree.specs.Chips.{find_entry};
 ghost use Rattle.hdl_tree.specs.Writable.{chip_can};
 ghost use Rattle.chip_basic.specs.Hdl.{shipped_entry};
@@ -20,8 +20,8 @@ use hdl_tree::{Chip, Entry, Library, List};
 use std::alloc::{AllocError, Global};
 
 // A chip under its own name, behind those that are there.
-fn add_shipped(alloc: Global, entries: &mut List<Entry>, chip: Chip) -> Result<(), AllocError>
-    ensures { IfOk result (λ _. entries.new ≡ entries.old ++ shipped_entry chip ∷ []) }
+fn add_shipped(alloc: Global, entries: &mut Vec<Entry>, chip: Chip) -> Result<(), AllocError>
+    ensures { IfOk result (λ _. entries.new.items ≡ entries.old.items ++ shipped_entry chip ∷ []) }
 {
     let name = chip.name.clone()?;
     let own = chip.name.clone()?;
@@ -33,10 +33,10 @@ fn add_shipped(alloc: Global, entries: &mut List<Entry>, chip: Chip) -> Result<(
     Ok(())
 }
 
-fn basic_entries(alloc: Global) -> Result<List<Entry>, AllocError>
-    ensures { IfOk result (λ entries. entries ≡ basic_chips) }
+fn basic_entries(alloc: Global) -> Result<Vec<Entry>, AllocError>
+    ensures { IfOk result (λ entries. entries.items ≡ basic_chips) }
 {
-    let mut entries = List::new(alloc);
+    let mut entries = Vec::new(alloc);
     add_shipped(alloc, &mut entries, nand_tree(alloc)?)?;
     add_shipped(alloc, &mut entries, not_tree(alloc)?)?;
     add_shipped(alloc, &mut entries, and_tree(alloc)?)?;
@@ -56,9 +56,9 @@ fn basic_entries(alloc: Global) -> Result<List<Entry>, AllocError>
     Ok(entries)
 }
 
-fn add_computing_entries(alloc: Global, entries: &mut List<Entry>) -> Result<(), AllocError>
-    requires { entries.old ≡ basic_chips }
-    ensures { IfOk result (λ _. entries.new ≡ basic_chips ++ computing_chips) }
+fn add_computing_entries(alloc: Global, entries: &mut Vec<Entry>) -> Result<(), AllocError>
+    requires { entries.old.items ≡ basic_chips }
+    ensures { IfOk result (λ _. entries.new.items ≡ basic_chips ++ computing_chips) }
 {
     add_shipped(alloc, entries, half_adder_tree(alloc)?)?;
     add_shipped(alloc, entries, full_adder_tree(alloc)?)?;
@@ -68,9 +68,9 @@ fn add_computing_entries(alloc: Global, entries: &mut List<Entry>) -> Result<(),
     Ok(())
 }
 
-fn add_memory_entries(alloc: Global, entries: &mut List<Entry>) -> Result<(), AllocError>
-    requires { entries.old ≡ basic_chips ++ computing_chips }
-    ensures { IfOk result (λ _. entries.new ≡ basic_chips ++ (computing_chips ++ memory_chips)) }
+fn add_memory_entries(alloc: Global, entries: &mut Vec<Entry>) -> Result<(), AllocError>
+    requires { entries.old.items ≡ basic_chips ++ computing_chips }
+    ensures { IfOk result (λ _. entries.new.items ≡ basic_chips ++ (computing_chips ++ memory_chips)) }
 {
     add_shipped(alloc, entries, dff_tree(alloc)?)?;
     add_shipped(alloc, entries, bit_tree(alloc)?)?;
@@ -87,9 +87,9 @@ fn add_memory_entries(alloc: Global, entries: &mut List<Entry>) -> Result<(), Al
     Ok(())
 }
 
-fn add_computer_entries(alloc: Global, entries: &mut List<Entry>) -> Result<(), AllocError>
-    requires { entries.old ≡ basic_chips ++ (computing_chips ++ memory_chips) }
-    ensures { IfOk result (λ _. entries.new ≡ basic_chips ++ (computing_chips ++ (memory_chips ++ computer_chips))) }
+fn add_computer_entries(alloc: Global, entries: &mut Vec<Entry>) -> Result<(), AllocError>
+    requires { entries.old.items ≡ basic_chips ++ (computing_chips ++ memory_chips) }
+    ensures { IfOk result (λ _. entries.new.items ≡ basic_chips ++ (computing_chips ++ (memory_chips ++ computer_chips))) }
 {
     add_shipped(alloc, entries, rom_tree(alloc)?)?;
     add_shipped(alloc, entries, keyboard_tree(alloc)?)?;
@@ -99,16 +99,49 @@ fn add_computer_entries(alloc: Global, entries: &mut List<Entry>) -> Result<(), 
     Ok(())
 }
 
-/// All shipped chips, each under its own name.
+// All shipped chips, each under its own name.
 #[tactic(auto, unfolding(crate::specs::Library::shipped_chips))]
-pub fn library(alloc: Global) -> Result<Library, AllocError>
-    ensures { IfOk result (λ library. library.entries ≡ shipped_chips) }
+fn shipped_entries(alloc: Global) -> Result<Vec<Entry>, AllocError>
+    ensures { IfOk result (λ entries. entries.items ≡ shipped_chips) }
 {
     let mut entries = basic_entries(alloc)?;
     add_computing_entries(alloc, &mut entries)?;
     add_memory_entries(alloc, &mut entries)?;
     add_computer_entries(alloc, &mut entries)?;
-    Ok(Library { entries })
+    Ok(entries)
+}
+
+/// All shipped chips, each under its own name.
+pub fn library(alloc: Global) -> Result<Library, AllocError>
+    ensures { IfOk result (λ library. library.entries ≡ shipped_chips) }
+{
+    Ok(Library {
+        entries: List::of(shipped_entries(alloc)?),
+    })
+}
+
+// Where the chip of this name stands, if there is one.
+fn place_of(entries: &[Entry], name: &[u8]) -> Option<usize>
+    ensures found { IfSome result (λ k. (k < length entries.now) × (find_entry entries.now name.now ≡ slice_get entries.now k)) }
+    ensures none { IfNone result (find_entry entries.now name.now ≡ None) }
+{
+    for k in 0..entries.len() {
+        if name == entries[k].name.as_bytes() {
+            return Some(k);
+        }
+    }
+    None
+}
+
+/// The shipped chip of this name, if there is one, to keep.
+pub fn take_shipped(alloc: Global, name: &[u8]) -> Result<Option<Entry>, AllocError>
+    ensures { IfOk result (λ found. found ≡ find_entry shipped_chips name.now) }
+{
+    let mut entries = shipped_entries(alloc)?;
+    match place_of(&entries, name) {
+        None => Ok(None),
+        Some(k) => Ok(Some(entries.swap_remove(k))),
+    }
 }
 
 /// The chip of this name in a library, if there is one. A shipped chip can be printed.

@@ -1,3 +1,11 @@
 pub mod Buses
 pub mod Numbers
 pub mod Told
+pub mod Bracketed
+pub mod Pins
+pub mod Found
+pub mod Fitting
+pub mod MachineNames
+pub mod Standings
+pub mod Moves
+pub mod Memories

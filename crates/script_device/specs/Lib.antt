@@ -1,3 +1,7 @@
 pub mod Directory
 pub mod Variables
 pub mod Driven
+pub mod Machines
+pub mod Devices
+pub mod Running
+pub mod Inner

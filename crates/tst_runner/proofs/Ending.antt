@@ -112,9 +112,9 @@ candidates names shipped = names ++ filed shipped
 
 somewhere : (from : Sources) (name : List ℕ) (origin : Origin) → IsOrigin from name origin → has_name (candidates from.names from.shipped) (file_of name) ≡ true
 somewhere from name (File file) at = list_any-append (bytes_eq (file_of name)) from.names (filed from.shipped) ∙ or_left (has_name from.names (file_of name)) (has_name (filed from.shipped) (file_of name)) at.0
-somewhere from name (Shipped entry) at =
+somewhere from name Shipped at =
     list_any-append (bytes_eq (file_of name)) from.names (filed from.shipped)
-    ∙ or_right (has_name from.names (file_of name)) (has_name (filed from.shipped) (file_of name)) (known_file from.shipped name ∙ ap is_some at.1)
+    ∙ or_right (has_name from.names (file_of name)) (has_name (filed from.shipped) (file_of name)) (known_file from.shipped name ∙ at.1)
 
 pub fewer_left : (from : Sources) (entries : List Entry) (name : List ℕ) (origin : Origin) (entry : Entry) → IsOrigin from name origin → find_entry entries name ≡ None → entry.name ≡ name
     → left (entries ++ entry ∷ []) (candidates from.names from.shipped) < left entries (candidates from.names from.shipped)

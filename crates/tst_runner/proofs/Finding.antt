@@ -12,6 +12,7 @@ use Rattle.hdl_tree.specs.declared.library.Entry.{Entry}
 use Rattle.hdl_tree.specs.declared.library.Library.{Library}
 use Rattle.hdl_tree.specs.Chips.{find_entry}
 use Rattle.hdl_parser.specs.Spells.{Spells}
+use Rattle.hack_cpu.specs.Library.{shipped_chips}
 use Rattle.source_files.specs.Loads.{Loads, line_of}
 use Rattle.source_files.specs.Sources.{IsFaulty, SpellsAt}
 use Rattle.source_files.specs.declared.error.LoadError.{LoadError}
@@ -63,12 +64,17 @@ stands (e ∷ entries) name entry h = stands_by (bytes_eq name e.name) e entries
 named : (entries : List Entry) (name : List ℕ) (entry : Entry) → find_entry entries name ≡ Some entry → name ≡ entry.name
 named entries name entry h = let s = stands entries name entry h in s.named
 
-renamed : (name : List ℕ) (entry : Entry) → name ≡ entry.name → record entry { name = name } ≡ entry
-renamed name entry same = ap (λ (n : List ℕ). record entry { name = n }) same
+-- a shipped chip that is taken is found
+pub shipped_found : (from : Sources) (name : List ℕ) (entry : Entry) → from.shipped ≡ shipped_chips → is_in_folder from name ≡ false → Some entry ≡ find_entry shipped_chips name → IsFound from name entry
+shipped_found from name entry same there taken = inr (there, ap (λ es. find_entry es name) same ∙ sym taken)
 
-pub shipped_found : (from : Sources) (name : List ℕ) (original entry : Entry) → (is_in_folder from name ≡ false) × (find_entry from.shipped name ≡ Some original) → entry ≡ record original { name = name } → IsFound from name entry
-shipped_found from name original entry (there, found) is =
-    inr (there, found ∙ ap Some (sym (is ∙ renamed name original (named from.shipped name original found))))
+-- what is among the shipped chips is taken
+pub is_taken : (from : Sources) (name : List ℕ) (taken : Option Entry) → from.shipped ≡ shipped_chips → is_some (find_entry from.shipped name) ≡ true → taken ≡ find_entry shipped_chips name → taken ≡ None → ⊥
+is_taken from name taken same there is none =
+    let found : is_some (find_entry shipped_chips name) ≡ true = ap (λ es. is_some (find_entry es name)) (sym same) ∙ there in
+    let nothing : find_entry shipped_chips name ≡ None = sym is ∙ none in
+    let bad : is_some {A = Entry} None ≡ true = ap is_some (sym nothing) ∙ found in
+    cc
 
 built_named : (name : List ℕ) (chip : Chip) (o : Option Entry) → (built_in name chip o).name ≡ name
 built_named name chip None = refl

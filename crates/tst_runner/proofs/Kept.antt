@@ -5,17 +5,17 @@ use Rattle.gate_sim.specs.Calls.Call.{Load, Eval, Tick, Tock}
 use Rattle.script_device.specs.Driven.{set_source}
 use Rattle.script_device.specs.Directory.{LoadedChip}
 use Rattle.script_parser.specs.declared.tree.Item.{Item}
-use Rattle.tst_runner.specs.declared.device.Device as code
+use Rattle.script_device.specs.declared.device.Device as code
 use Rattle.tst_runner.specs.declared.standing.State.{State}
-use Rattle.tst_runner.specs.Machines.{RunningMachine}
-use Rattle.tst_runner.specs.Machines as machines
-use Rattle.tst_runner.specs.Devices.{Device, Source, Means, after_set, after_eval, after_tick, after_tock}
-use Rattle.tst_runner.specs.Devices.Device.{Empty, Chip, Machine}
-use Rattle.tst_runner.specs.Devices.Source.{TheTime, OfChip, OfMachine}
-use Rattle.tst_runner.specs.Lines.{AreMeant}
-use Rattle.tst_runner.specs.Effects.{HasRom, with_image, whole_memory}
+use Rattle.script_device.specs.Machines.{RunningMachine}
+use Rattle.script_device.specs.Machines as machines
+use Rattle.script_device.specs.Devices.{Device, HasRom, Source, Means, after_set, after_eval, after_tick, after_tock, whole_memory, with_image}
+use Rattle.script_device.specs.Devices.Device.{Empty, Chip, Machine}
+use Rattle.script_device.specs.Devices.Source.{TheTime, OfChip, OfMachine}
+use Rattle.tst_runner.specs.declared.lines.Column.{Column}
+use Rattle.tst_runner.specs.Inner.Columns.{AreColumns}
 use Rattle.tst_runner.specs.Standing.{Standing}
-use Rattle.tst_runner.specs.Inner.Running.{Stands}
+use Rattle.script_device.specs.Running.{Stands, probe_source}
 use Rattle.tst_runner.specs.Inner.States.{IsState}
 
 -- what a text stands for it stands for afterwards
@@ -61,19 +61,18 @@ Keeps-image d rom image text meant h =
     let P : Device → Type 0 = λ x. Means x text meant in
     Keeps-chip rom.chip rom.calls (Load rom.block 0 (whole_memory image) ∷ rom.calls) text meant (subst P rom.is h)
 
-pub AreMeant-kept : (d d' : Device) → Keeps d d' → (items : List Item) (sources : List Source) → AreMeant d items sources → AreMeant d' items sources
-AreMeant-kept d d' keeps [] [] h = tt
-AreMeant-kept d d' keeps [] (source ∷ sources) h = absurd h
-AreMeant-kept d d' keeps (item ∷ items) [] h = absurd h
-AreMeant-kept d d' keeps (item ∷ items) (source ∷ sources) h = (keeps item.variable.text source h.0, AreMeant-kept d d' keeps items sources h.1)
+pub AreColumns-kept : (d d' : Device) → Keeps d d' → (items : List Item) (columns : List Column) → AreColumns d items columns → AreColumns d' items columns
+AreColumns-kept d d' keeps [] [] h = tt
+AreColumns-kept d d' keeps [] (column ∷ columns) h = absurd h
+AreColumns-kept d d' keeps (item ∷ items) [] h = absurd h
+AreColumns-kept d d' keeps (item ∷ items) (column ∷ columns) h = ((h.0.0, keeps item.variable.text (probe_source column.probe) h.0.1), AreColumns-kept d d' keeps items columns h.1)
 
 -- the device alone has changed
 pub IsState-device : (state : State) (s : Standing) (device : code.Device) (d : Device) → IsState state s → Keeps s.device d → Stands device d
     → IsState (record state { device = device }) (record s { device = d })
 IsState-device state s device d h keeps stands = record {
   device = stands;
-  items = h.items;
-  meant = (h.meant.0, AreMeant-kept s.device d keeps s.items h.meant.0 h.meant.1);
+  columns = AreColumns-kept s.device d keeps s.items state.columns.items h.columns;
   compared = h.compared;
   lines = h.lines;
 }

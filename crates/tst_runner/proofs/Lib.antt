@@ -1,13 +1,5 @@
 pub mod RowsTold
-pub mod Bracketed
-pub mod Pins
-pub mod Found
-pub mod Fitting
-pub mod MachineNames
-pub mod Standings
 pub mod Lined
-pub mod Moves
-pub mod Memories
 pub mod Firsts
 pub mod Fits
 pub mod Folders

@@ -1,5 +1,7 @@
 -- What the parts of an act say, as what doing it says.
 use Rattle.std.proofs.Common.{◌≡◌, ◌≤◌, ◌++◌, ℕ, Bool, true, false, List, [], ◌∷◌, Option, Result, Ok, Err, take, refl, sym, ap, subst, inl, inr, ◌∙◌}
+use Rattle.std.specs.Prelude.{codes}
+use Rattle.outer_world.specs.Refusals.{message, message_line}
 use Rattle.outer_world.specs.Written.{Got}
 use Rattle.outer_world.proofs.Passing.{Got-then}
 use Rattle.source_files.specs.Loads.{Loads}
@@ -12,16 +14,17 @@ use Rattle.tst_runner.specs.declared.standing.Stop.{Stop}
 use Rattle.tst_runner.specs.declared.standing.Stop.TheVariants as stops
 use Rattle.tst_runner.specs.Setting.{Setting}
 use Rattle.tst_runner.specs.Standing.{Standing, with_line, with_echo}
+use Rattle.script_parser.specs.declared.tree.Item.{Item}
 use Rattle.script_parser.specs.declared.tree.Placed.{Placed}
-use Rattle.tst_runner.specs.declared.device.Device as code
-use Rattle.tst_runner.specs.Devices.{Device}
+use Rattle.script_device.specs.declared.device.Device as code
+use Rattle.script_device.specs.Devices.{Device, HasRom, with_image}
 use Rattle.tst_runner.specs.Loading.{IsImage}
-use Rattle.tst_runner.specs.Effects.{Does, Faults, PutsLine, HasRom, with_image}
+use Rattle.tst_runner.specs.Effects.{Does, Faults, PutsLine}
 use Rattle.tst_runner.specs.Ends.{Asks, whole}
 use Rattle.tst_runner.specs.Inner.Outlets.{HasPassed}
-use Rattle.tst_runner.specs.Inner.Driving.{TellsImage}
+use Rattle.script_device.specs.Running.{TellsImage}
 use Rattle.tst_runner.proofs.Kept.{IsState-device, Keeps-image}
-use Rattle.tst_runner.specs.Inner.States.{Becomes, CountsStop, IsDevice, IsState, Misses, Performs, PutsEcho, PutsOut, Quietly, StandsThere}
+use Rattle.tst_runner.specs.Inner.States.{Becomes, CountsStop, IsDevice, IsState, Misses, Performs, PutsEcho, PutsOut, Quietly, StandsThere, StopsAtName}
 
 module _ (setting : Setting) (there : List ℕ → Bool) (unfailing : Type 0) (out out' err err' : Option (List ℕ)) (pending : List ℕ) where
   abbrev Stays : Standing → Type 0
@@ -86,7 +89,7 @@ pub Performs-echo : (setting : Setting) (there : List ℕ → Bool) (unfailing :
 Performs-echo setting there unfailing out out' err mid err' pending s text state (Ok u) is stays h = (
   with_echo s text,
   inl refl,
-  record { device = is.device; items = is.items; meant = is.meant; compared = is.compared; lines = is.lines },
+  record { device = is.device; columns = is.columns; compared = is.compared; lines = is.lines },
   record { on_out = stays.on_out; on_err = Got-then err mid err' s.err (text ++ 10 ∷ []) stays.on_err h },
 )
 Performs-echo setting there unfailing out out' err mid err' pending s text state (Err (stops.Unloaded e)) is stays h = absurd h
@@ -94,6 +97,36 @@ Performs-echo setting there unfailing out out' err mid err' pending s text state
 Performs-echo setting there unfailing out out' err mid err' pending s text state (Err stops.Out) is stays h = absurd h
 Performs-echo setting there unfailing out out' err mid err' pending s text state (Err stops.Err) is stays h =
     (record { text = text; is = refl; n = h.0; went = Got-then err mid err' s.err (take h.0 (text ++ 10 ∷ [])) stays.on_err h.1 }, stays.on_out)
+
+-- ---- names
+
+-- a name that stands for nothing is refused
+pub Performs-name : (setting : Setting) (there : List ℕ → Bool) (out out' err err' : Option (List ℕ)) (pending path : List ℕ) (s : Standing) (items : List Item) (state : State) (stop : Stop)
+    → setting.path ≡ path → StandsThere out out' err err' pending s → StopsAtName path s.device items stop → Performs setting there ⊥ out out' err err' pending s (acts.OutputList items) state (Err stop)
+Performs-name setting there out out' err err' pending path s items state (stops.Unloaded (loads.Refused r)) e stays (inl same) = absurd (let bad : ⊥ = cc in bad)
+Performs-name setting there out out' err err' pending path s items state (stops.Unloaded (loads.Refused r)) e stays (inr h) =
+    let word = h.0.variable in
+    ((h.0, h.1, h.2 ∙ ap (λ p. message_line p (message word.place.line word.place.column (codes "Name") word.text)) (sym e)), stays)
+Performs-name setting there out out' err err' pending path s items state (stops.Unloaded loads.Failed) e stays (inl same) = absurd (let bad : ⊥ = cc in bad)
+Performs-name setting there out out' err err' pending path s items state (stops.Unloaded loads.Failed) e stays (inr h) = absurd h.2
+Performs-name setting there out out' err err' pending path s items state (stops.Unloaded loads.Memory) e stays h = stays
+Performs-name setting there out out' err err' pending path s items state (stops.Differs d) e stays (inl same) = absurd (let bad : ⊥ = cc in bad)
+Performs-name setting there out out' err err' pending path s items state (stops.Differs d) e stays (inr h) = absurd h.2
+Performs-name setting there out out' err err' pending path s items state stops.Out e stays (inl same) = absurd (let bad : ⊥ = cc in bad)
+Performs-name setting there out out' err err' pending path s items state stops.Out e stays (inr h) = absurd h.2
+Performs-name setting there out out' err err' pending path s items state stops.Err e stays (inl same) = absurd (let bad : ⊥ = cc in bad)
+Performs-name setting there out out' err err' pending path s items state stops.Err e stays (inr h) = absurd h.2
+
+pub CountsStop-name : (path : List ℕ) (d : Device) (items : List Item) (stop : Stop) (h o e : ℕ) → StopsAtName path d items stop → CountsStop h h o o e e (Err stop)
+CountsStop-name path d items (stops.Unloaded (loads.Refused r)) h o e at = (refl, refl, refl)
+CountsStop-name path d items (stops.Unloaded loads.Failed) h o e (inl same) = absurd (let bad : ⊥ = cc in bad)
+CountsStop-name path d items (stops.Unloaded loads.Failed) h o e (inr at) = absurd at.2
+CountsStop-name path d items (stops.Unloaded loads.Memory) h o e at = (refl, refl, refl)
+CountsStop-name path d items (stops.Differs x) h o e at = (refl, refl, refl)
+CountsStop-name path d items stops.Out h o e (inl same) = absurd (let bad : ⊥ = cc in bad)
+CountsStop-name path d items stops.Out h o e (inr at) = absurd at.2
+CountsStop-name path d items stops.Err h o e (inl same) = absurd (let bad : ⊥ = cc in bad)
+CountsStop-name path d items stops.Err h o e (inr at) = absurd at.2
 
 -- ---- what is loaded
 

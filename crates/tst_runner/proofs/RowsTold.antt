@@ -3,9 +3,9 @@ use Rattle.std.proofs.Common.{◌≡◌, ◌++◌, ℕ, List, [], ◌∷◌, ref
 use Rattle.std.specs.Prelude.{decimal, codes}
 use Rattle.std.proofs.lemmas.Fmt.{decimal_digit, decimal_step}
 use Rattle.script_columns.specs.Comparison.{agrees}
-use Rattle.tst_runner.specs.Devices.Device.{Empty}
-use Rattle.tst_runner.specs.Devices.{Source, CanSet}
-use Rattle.tst_runner.specs.Devices.Source.{TheTime, OfChip, OfMachine}
+use Rattle.script_device.specs.Devices.Device.{Empty}
+use Rattle.script_device.specs.Devices.{Source, CanSet}
+use Rattle.script_device.specs.Devices.Source.{TheTime, OfChip, OfMachine}
 use Rattle.tst_runner.specs.Lines.{IsLine}
 use Rattle.tst_runner.specs.Standing.{Standing, Compared, Agrees, at_first, with_line, with_echo}
 use Rattle.tst_runner.specs.Gathering.Gather.{one_more, no_more}

@@ -16,12 +16,11 @@ use Rattle.hdl_parser.specs.Spells.{Spells}
 use Rattle.hdl_parser.proofs.Readable.{spelled_can}
 use Rattle.hack_cpu.specs.Library.{shipped_chips}
 use Rattle.hack_cpu.proofs.Printed.{found_printed}
-use Rattle.gate_computer.specs.Elaborated.{IsShippedAs}
-use Rattle.gate_computer.proofs.Libraries.{libraries}
+use Rattle.hack_cpu.specs.Libraries.{IsShippedAs}
+use Rattle.hack_cpu.proofs.Libraries.{libraries}
 use Rattle.source_files.specs.Loads.{Loads}
 use Rattle.source_files.specs.declared.error.LoadError.{LoadError}
 use Rattle.tst_runner.specs.Gathering.{Gather, Sources, IsFound, IsTaken, built_in, entry_with, no_more, one_more}
-use Rattle.tst_runner.specs.Inner.Gathered.{text_entry}
 use Rattle.tst_runner.specs.Inner.Sound.{IsNarrow, IsSound}
 use Rattle.tst_runner.proofs.Finding.{stands}
 
@@ -66,7 +65,7 @@ pub record IsGood (name : List ℕ) (entry : Entry) : Type 0 where
   pub known : (entry.shipped ≡ None) ⊎ IsShippedAs entry
   pub narrow : IsNarrow entry
 
-text_good : (name text : List ℕ) (chip : Chip) → Spells text chip → IsGood name (text_entry name chip)
+text_good : (name text : List ℕ) (chip : Chip) → Spells text chip → IsGood name (built_in name chip None)
 text_good name text chip spells = record { named = refl; known = inl refl; narrow = narrow_chip chip (spelled_can text chip spells) }
 
 shipped_good : (own name : List ℕ) (entry : Entry) → find_entry shipped_chips own ≡ Some entry → IsGood name (record entry { name = name })

@@ -1,11 +1,9 @@
 -- What each act of a script does. (The book, appendix 3.)
-use Rattle.std.specs.Prelude.{◌≡◌, ◌⊎◌, ◌≤◌, ℕ, ◌-◌, List, [], ◌∷◌, ◌++◌, length, Some, MatchOption, slice_get, replicate, codes, decimal}
+use Rattle.std.specs.Prelude.{◌≡◌, ◌⊎◌, ◌≤◌, ℕ, List, [], ◌∷◌, length, Some, codes, decimal}
 use Rattle.outer_world.specs.Files.{HasFile}
 use Rattle.outer_world.specs.Refusals.{message, message_line}
-use Rattle.gate_sim.specs.Calls.{Call}
-use Rattle.gate_sim.specs.Calls.Call.{Load}
 use Rattle.script_columns.specs.Comparison.{lines_of}
-use Rattle.script_device.specs.Directory.{LoadedChip, HasBlock}
+use Rattle.script_device.specs.Directory.{LoadedChip}
 use Rattle.script_parser.specs.declared.tree.Placed.{Placed}
 use Rattle.script_parser.specs.declared.tree.Item.{Item}
 use Rattle.script_parser.specs.declared.tree.Step.TheVariants as steps
@@ -13,27 +11,11 @@ use Rattle.script_parser.specs.declared.tree.Act.{Act}
 use Rattle.script_parser.specs.declared.tree.Act.TheVariants as acts
 use Rattle.tst_runner.specs.Setting.{Setting, path_of}
 use Rattle.tst_runner.specs.Loading.{IsLoaded, IsNotLoaded, IsProgram, IsImage, IsNoImage}
-use Rattle.tst_runner.specs.Devices.{Device, Source, CanSet, after_set, after_eval, after_tick, after_tock}
-use Rattle.tst_runner.specs.Devices.Device.{Chip, Machine}
-use Rattle.tst_runner.specs.Machines.{loaded_machine}
+use Rattle.script_device.specs.Devices.{Source, CanSet, HasRom, with_image, after_set, after_eval, after_tick, after_tock}
+use Rattle.script_device.specs.Devices.Device.{Chip, Machine}
+use Rattle.script_device.specs.Machines.{loaded_machine}
 use Rattle.tst_runner.specs.Lines.{IsLine, AreMeant, IsNameless, head_line}
 use Rattle.tst_runner.specs.Standing.{Standing, Compared, Agrees, with_line, with_echo}
-
--- the words of an image in the instruction memory of a chip: 0 past it
-abbrev pub whole_memory : List ℕ → List ℕ
-whole_memory image = image ++ replicate (32768 - length image) 0
-
--- a chip has an instruction memory: the block of its first ROM32K, of 32,768 words
-pub record HasRom (device : Device) : Type 0 where
-  pub chip : LoadedChip
-  pub calls : List Call
-  pub is : device ≡ Chip chip calls
-  pub block : ℕ
-  pub has : HasBlock chip.directory (codes "ROM32K") block
-  pub whole : MatchOption (slice_get chip.net.blocks block) ⊥ (λ b. b.words ≡ 32768)
-
-abbrev pub with_image : (device : Device) → HasRom device → List ℕ → Device
-with_image device rom image = Chip rom.chip (Load rom.block 0 (whole_memory image) ∷ rom.calls)
 
 module _ (setting : Setting) where
   -- an act that puts no line on out

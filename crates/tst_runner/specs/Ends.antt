@@ -11,7 +11,8 @@ use Rattle.script_parser.specs.Trees.{Commands, Spells, Refuses}
 use Rattle.tst_runner.specs.Acts.{acts_of}
 use Rattle.tst_runner.specs.Setting.{Setting, folder, path_of}
 use Rattle.tst_runner.specs.Standing.{Standing, at_first, with_line}
-use Rattle.tst_runner.specs.Effects.{GoThrough, PutsLine, Differs, Faults, HasRom}
+use Rattle.script_device.specs.Devices.{HasRom}
+use Rattle.tst_runner.specs.Effects.{GoThrough, PutsLine, Differs, Faults}
 
 -- ---- what an act asks of the shelf
 

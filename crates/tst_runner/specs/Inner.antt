@@ -1,11 +1,7 @@
-pub mod Brackets
-pub mod Sources
 pub mod Sound
-pub mod Running
+pub mod Columns
 pub mod States
 pub mod Outlets
-pub mod Registers
-pub mod Driving
 pub mod Languages
 pub mod Limits
 pub mod Files

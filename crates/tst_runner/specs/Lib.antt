@@ -1,6 +1,4 @@
 pub mod Acts
-pub mod Machines
-pub mod Devices
 pub mod Lines
 pub mod Standing
 pub mod Setting

@@ -9,7 +9,7 @@ use Rattle.script_columns.specs.Columns.{column_text, head_column, value_text}
 use Rattle.script_parser.specs.declared.tree.Format.{Format}
 use Rattle.script_parser.specs.declared.tree.Format.TheVariants.{Binary, Decimal, Text}
 use Rattle.script_parser.specs.declared.tree.Item.{Item}
-use Rattle.tst_runner.specs.Devices.{Device, Source, Means, SeesAll, value_of}
+use Rattle.script_device.specs.Devices.{Device, Source, Means, SeesAll, value_of}
 
 abbrev pub format_of : Format → shown.Format
 format_of Binary = shown_as.Binary

@@ -2,8 +2,8 @@
 use Rattle.std.specs.Prelude.{◌≡◌, ℕ, suc, true, List, [], ◌∷◌, ◌++◌, Option, Some, None, IfSome, slice_get}
 use Rattle.script_columns.specs.Comparison.{agrees}
 use Rattle.script_parser.specs.declared.tree.Item.{Item}
-use Rattle.tst_runner.specs.Devices.{Device}
-use Rattle.tst_runner.specs.Devices.Device.{Empty}
+use Rattle.script_device.specs.Devices.{Device}
+use Rattle.script_device.specs.Devices.Device.{Empty}
 
 -- a compare file: its path and its lines
 pub record Compared : Type 0 where

@@ -6,19 +6,22 @@ ghost use Rattle.outer_world.specs.Files.{path_in};
 ghost use Rattle.outer_world.specs.Written.{CountsPut, Puts};
 ghost use Rattle.outer_world.specs.Held.{HaveSameSink, pending, sink_of};
 ghost use Rattle.script_parser.specs.declared.tree.Act.TheVariants as acts;
-ghost use Rattle.tst_runner.specs.Devices.{after_tock};
+ghost use Rattle.script_device.specs.Devices as devices;
+ghost use Rattle.script_device.specs.Devices.{after_tock};
+ghost use Rattle.script_device.specs.Running.{Stands};
 ghost use Rattle.tst_runner.specs.Setting.{Setting, folder_of, setting_of};
 ghost use Rattle.tst_runner.specs.Standing.{Standing};
-ghost use Rattle.tst_runner.specs.Inner.States.{Becomes, Compares, CountsStop, IsNameStop, IsState, Misses, Performs, PutsEcho, PutsOut, Quietly, StandsThere};
+ghost use Rattle.tst_runner.specs.Inner.Outlets.{HasPassed, PutsBehind};
+ghost use Rattle.tst_runner.specs.Inner.States.{Becomes, Compares, CountsStop, FindsColumns, IsNameStop, IsState, Misses, Performs, PutsEcho, PutsOut, Quietly, StandsThere};
 
 use crate::files::{load_compared, load_image, path_beside};
-use crate::lines::names_line;
+use crate::lines::{Column, layout_of, names_line, values_line};
 use crate::loading::load_device;
-use crate::outlet::put_behind;
 use crate::printing::put_through;
 use crate::standing::{CompareFile, Difference, State, Stop};
 use outer_world::{Detail, Diagnostic, Name, Pieces, Put, Shelf, Sink};
 use script_columns::{agrees_first, past_line, past_lines};
+use script_device::Device;
 use script_parser::{Act, Item, Placed, Step};
 use source_files::LoadError;
 use std::alloc::{AllocError, Global};
@@ -51,7 +54,7 @@ fn no_name(alloc: Global, path: &str, word: &Placed) -> Stop
 }
 
 // Counts a line that was put, and compares it with that of the compare file.
-fn compare(line: &[u8], state: &mut State<'_>) -> Result<(), Stop>
+fn compare(line: &[u8], state: &mut State) -> Result<(), Stop>
     requires room { state.old.lines + 1 < 2 ^ 64 }
     requires stands { (r : Standing) × IsState state.old r }
     ensures { (r : Standing) → IsState state.old r → Compares r line.now state.new result }
@@ -76,12 +79,17 @@ fn compare(line: &[u8], state: &mut State<'_>) -> Result<(), Stop>
     Ok(())
 }
 
+// Hands on a text, behind those before it: whole pieces go out, and the rest is pending.
+fn put_behind<O: Sink>(text: &[u8], out: &mut Pieces<'_, O>) -> Put
+    ensures same_sink { HaveSameSink out.old out.new }
+    ensures puts { (before : Option (List ℕ)) (front : List ℕ) → HasPassed before (O.written (sink_of out.old)) (pending out.old) front → PutsBehind before (O.written (sink_of out.new)) (pending out.new) front text.now result }
+    ensures counts { CountsPut (O.faults (sink_of out.old)) (O.faults (sink_of out.new)) result }
+{
+    out.put(text)
+}
+
 // Puts a line, and compares it.
-fn put_line<O: Sink>(
-    line: Vec<u8>,
-    state: &mut State<'_>,
-    out: &mut Pieces<'_, O>,
-) -> Result<(), Stop>
+fn put_line<O: Sink>(line: Vec<u8>, state: &mut State, out: &mut Pieces<'_, O>) -> Result<(), Stop>
     requires { (r : Standing) × IsState state.old r }
     ensures puts { (w e f : Option (List ℕ)) (r : Standing) → IsState state.old r → StandsThere w (O.written (sink_of out.old)) e f (pending out.old) r → PutsOut w (O.written (sink_of out.new)) e f (pending out.new) r line.items state.new result }
     ensures counts { (h e : ℕ) → CountsStop h h (O.faults (sink_of out.old)) (O.faults (sink_of out.new)) e e result }
@@ -98,7 +106,7 @@ fn put_line<O: Sink>(
     }
 }
 
-fn tock(state: &mut State<'_>) -> Result<(), Stop>
+fn tock(state: &mut State) -> Result<(), Stop>
     ensures { (s : Standing) → IsState state.old s → Becomes state.new (record s { device = after_tock s.device }) result }
 {
     if state.device.steps() >= MOST_STEPS {
@@ -110,7 +118,7 @@ fn tock(state: &mut State<'_>) -> Result<(), Stop>
 
 fn put_values<O: Sink>(
     alloc: Global,
-    state: &mut State<'_>,
+    state: &mut State,
     out: &mut Pieces<'_, O>,
 ) -> Result<(), Stop>
     requires { (s : Standing) × IsState state.old s }
@@ -118,14 +126,14 @@ fn put_values<O: Sink>(
     ensures counts { (h e : ℕ) → CountsStop h h (O.faults (sink_of out.old)) (O.faults (sink_of out.new)) e e result }
     ensures same_sink { HaveSameSink out.old out.new }
 {
-    let line = state.device.line(alloc, state.items)?;
+    let line = values_line(alloc, &state.device, &state.columns)?;
     put_line(line, state, out)
 }
 
 fn do_step<O: Sink>(
     alloc: Global,
     step: Step,
-    state: &mut State<'_>,
+    state: &mut State,
     out: &mut Pieces<'_, O>,
 ) -> Result<(), Stop>
     requires { (s : Standing) × IsState state.old s }
@@ -151,11 +159,33 @@ fn do_step<O: Sink>(
     }
 }
 
-fn do_list<'a, O: Sink>(
+// The columns of the items, whose names are looked up here alone.
+fn columns_of(
     alloc: Global,
     path: &str,
-    items: &'a [Item],
-    state: &mut State<'a>,
+    device: &Device,
+    items: &[Item],
+) -> Result<Vec<Column>, Stop>
+    ensures { (d : devices.Device) → Stands device.now d → FindsColumns path.now d items.now result }
+{
+    let mut columns = Vec::new(alloc);
+    for item in items {
+        let Some(probe) = device.find(alloc, item.variable.text.as_slice())? else {
+            return Err(no_name(alloc, path, &item.variable));
+        };
+        columns.push(Column {
+            layout: layout_of(item),
+            probe,
+        })?;
+    }
+    Ok(columns)
+}
+
+fn do_list<O: Sink>(
+    alloc: Global,
+    path: &str,
+    items: &[Item],
+    state: &mut State,
     out: &mut Pieces<'_, O>,
 ) -> Result<(), Stop>
     requires { (s : Standing) × IsState state.old s }
@@ -163,11 +193,9 @@ fn do_list<'a, O: Sink>(
     ensures counts { (h e : ℕ) → CountsStop h h (O.faults (sink_of out.old)) (O.faults (sink_of out.new)) e e result }
     ensures same_sink { HaveSameSink out.old out.new }
 {
-    if let Some(item) = state.device.nameless(items) {
-        return Err(no_name(alloc, path, &item.variable));
-    }
+    let columns = columns_of(alloc, path, &state.device, items)?;
     let line = names_line(alloc, items)?;
-    state.items = items;
+    state.columns = columns;
     put_line(line, state, out)
 }
 
@@ -176,7 +204,7 @@ fn do_set(
     path: &str,
     variable: &Placed,
     word: u16,
-    state: &mut State<'_>,
+    state: &mut State,
 ) -> Result<(), Stop>
     requires { (s : Standing) × IsState state.old s }
     ensures { (setting : Setting) (s : Standing) → setting.path ≡ path.now → IsState state.old s → Quietly setting ⊥ s (acts.Set variable.now word) state.new result }
@@ -209,7 +237,7 @@ fn do_load<F: Shelf>(
     alloc: Global,
     script: Script<'_>,
     file: &Placed,
-    state: &mut State<'_>,
+    state: &mut State,
     shelf: &mut F,
 ) -> Result<(), Stop>
     ensures does { (s : Standing) → IsState state.old s → Quietly (setting_of script.entry.path.now (F.files shelf.old) script.entry.blocks) (Misses (setting_of script.entry.path.now (F.files shelf.old) script.entry.blocks) (F.there shelf.old) (F.unfailing shelf.old) s (acts.Load file.now)) s (acts.Load file.now) state.new result }
@@ -219,7 +247,7 @@ fn do_load<F: Shelf>(
     ensures keeps { F.unfailing shelf.old → F.unfailing shelf.new }
 {
     state.device = load_device(alloc, script, file.text.as_slice(), shelf)?;
-    state.items = &[];
+    state.columns = Vec::new(alloc);
     Ok(())
 }
 
@@ -235,7 +263,7 @@ fn do_compare<F: Shelf>(
     alloc: Global,
     script: Script<'_>,
     file: &Placed,
-    state: &mut State<'_>,
+    state: &mut State,
     shelf: &mut F,
 ) -> Result<(), Stop>
     ensures does { (s : Standing) → IsState state.old s → Quietly (setting_of script.entry.path.now (F.files shelf.old) script.entry.blocks) (Misses (setting_of script.entry.path.now (F.files shelf.old) script.entry.blocks) (F.there shelf.old) (F.unfailing shelf.old) s (acts.CompareTo file.now)) s (acts.CompareTo file.now) state.new result }
@@ -256,7 +284,7 @@ fn do_rom<F: Shelf>(
     script: Script<'_>,
     word: &Placed,
     file: &Placed,
-    state: &mut State<'_>,
+    state: &mut State,
     shelf: &mut F,
 ) -> Result<(), Stop>
     ensures does { (s : Standing) → IsState state.old s → Quietly (setting_of script.entry.path.now (F.files shelf.old) script.entry.blocks) (Misses (setting_of script.entry.path.now (F.files shelf.old) script.entry.blocks) (F.there shelf.old) (F.unfailing shelf.old) s (acts.LoadRom word.now file.now)) s (acts.LoadRom word.now file.now) state.new result }
@@ -274,11 +302,11 @@ fn do_rom<F: Shelf>(
 }
 
 /// Does an act.
-pub fn perform<'a, F: Shelf, O: Sink, E: Sink>(
+pub fn perform<F: Shelf, O: Sink, E: Sink>(
     alloc: Global,
     script: Script<'_>,
-    act: &'a Act,
-    state: &mut State<'a>,
+    act: &Act,
+    state: &mut State,
     shelf: &mut F,
     out: &mut Pieces<'_, O>,
     err: &mut E,

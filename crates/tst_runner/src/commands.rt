@@ -17,11 +17,11 @@ use std::alloc::Global;
 
 // Does a command: an act, or commands as often as their number says.
 #[cycle(running)]
-fn run_command<'a, F: Shelf, O: Sink, E: Sink>(
+fn run_command<F: Shelf, O: Sink, E: Sink>(
     alloc: Global,
     script: Script<'_>,
-    command: &'a Command,
-    state: &mut State<'a>,
+    command: &Command,
+    state: &mut State,
     shelf: &mut F,
     out: &mut Pieces<'_, O>,
     err: &mut E,
@@ -47,11 +47,11 @@ fn run_command<'a, F: Shelf, O: Sink, E: Sink>(
 
 /// Does commands, one after another.
 #[cycle(running)]
-pub fn run_commands<'a, F: Shelf, O: Sink, E: Sink>(
+pub fn run_commands<F: Shelf, O: Sink, E: Sink>(
     alloc: Global,
     script: Script<'_>,
-    commands: &'a [Command],
-    state: &mut State<'a>,
+    commands: &[Command],
+    state: &mut State,
     shelf: &mut F,
     out: &mut Pieces<'_, O>,
     err: &mut E,

@@ -5,19 +5,19 @@ ghost use Rattle.outer_world.specs.Files.{Files, IsListing, LacksFile, LacksFold
 ghost use Rattle.source_files.specs.Loads.{CountsLoad, Loads};
 ghost use Rattle.source_files.specs.Sources.{IsFaulty, SpellsAt};
 ghost use Rattle.hdl_tree.specs.declared.library.Library.{Library};
-ghost use Rattle.tst_runner.specs.Gathering.{Gather, GatherFails, IsFound, entry_of, file_of, needed_names};
-ghost use Rattle.tst_runner.specs.Inner.Gathered.{IsNext, IsNowhere, IsOrigin, IsRefusedAt, Leads, LacksFileOf, sources_of, text_entry};
+ghost use Rattle.hack_cpu.specs.Library.{shipped_chips};
+ghost use Rattle.tst_runner.specs.Gathering.{Gather, GatherFails, IsFound, built_in, entry_of, file_of, needed_names};
+ghost use Rattle.tst_runner.specs.Inner.Gathered.{IsNext, IsNowhere, IsOrigin, IsRefusedAt, Leads, LacksFileOf, sources_of};
 ghost use Rattle.tst_runner.specs.Inner.Languages.{RefusesHdl};
 ghost use Rattle.tst_runner.specs.Inner.Sound.{IsSound};
 ghost use Rattle.tst_runner.specs.Loading.{HasFailed, HasGathered};
 ghost use Rattle.tst_runner.specs.Setting.{folder_of, setting_of};
 ghost use Rattle.hdl_parser.specs.Spells.{Spells};
 
-use crate::copying::copy_entry;
 use crate::directories::entry_named;
 use crate::files::folder_of;
 use crate::languages::HdlText;
-use hack_cpu::library;
+use hack_cpu::{library, take_shipped};
 use hdl_tree::{Body, Chip, Entry, Library, List, Name, Part, find_end};
 use outer_world::{Listing, Shelf};
 use source_files::{LoadError, load, path_in};
@@ -36,7 +36,7 @@ struct Places<'a> {
 #[derive(Clone, Copy)]
 enum Origin<'a> {
     File(&'a outer_world::Name),
-    Shipped(&'a Entry),
+    Shipped,
 }
 
 // The names in a folder.
@@ -89,7 +89,7 @@ fn find_origin<'a>(places: &Places<'a>, name: &[u8]) -> Option<Origin<'a>>
     }
     match entry_named(places.shipped, name) {
         None => None,
-        Some(entry) => Some(Origin::Shipped(entry)),
+        Some(_) => Some(Origin::Shipped),
     }
 }
 
@@ -112,27 +112,31 @@ fn next_new<'a>(
     None
 }
 
-// The shipped chip that a chip which is built in stands for, if there is one.
-fn original<'a>(shipped: &'a [Entry], chip: &Chip) -> Option<&'a Entry>
-    ensures { (name : List ℕ) → MatchOption result (entry_of shipped.now name chip.now ≡ text_entry name chip.now) (λ original. entry_of shipped.now name chip.now ≡ record original.now { name = name }) }
+// The shipped chip that a chip which is built in stands for, if there is one, to keep.
+fn original(alloc: Global, chip: &Chip) -> Result<Option<Entry>, AllocError>
+    ensures { (name : List ℕ) → IfOk result (λ own. entry_of shipped_chips name chip.now ≡ built_in name chip.now own) }
 {
     match &chip.body {
-        Body::Parts(_) => None,
-        Body::Builtin(own, _) => entry_named(shipped, own.as_bytes()),
+        Body::Parts(_) => Ok(None),
+        Body::Builtin(own, _) => take_shipped(alloc, own.as_bytes()),
     }
 }
 
 // The chip of a text, under this name.
-fn entry_of(alloc: Global, shipped: &[Entry], name: Name, chip: Chip) -> Result<Entry, AllocError>
-    ensures { IfOk result (λ entry. entry ≡ entry_of shipped.now name chip) }
+fn entry_of(alloc: Global, name: Name, chip: Chip) -> Result<Entry, AllocError>
+    ensures { IfOk result (λ entry. entry ≡ entry_of shipped_chips name chip) }
 {
-    match original(shipped, &chip) {
+    match original(alloc, &chip)? {
         None => Ok(Entry {
             name,
             chip,
             shipped: None,
         }),
-        Some(original) => copy_entry(alloc, name, original),
+        Some(Entry { chip, shipped, .. }) => Ok(Entry {
+            name,
+            chip,
+            shipped,
+        }),
     }
 }
 
@@ -161,7 +165,8 @@ fn find<F: Shelf>(
     found: Origin<'_>,
     shelf: &mut F,
 ) -> Result<Entry, LoadError>
-    requires { IsOrigin (sources_of places.now (F.files shelf.old)) name found }
+    requires shipped { places.now.shipped.now ≡ shipped_chips }
+    requires origin { IsOrigin (sources_of places.now (F.files shelf.old)) name found }
     ensures loads { Loads (IsFound (sources_of places.now (F.files shelf.old)) name) (IsRefusedAt (sources_of places.now (F.files shelf.old)) name) (F.unfailing shelf.old → LacksFileOf (sources_of places.now (F.files shelf.old)) name) result }
     ensures counts { CountsLoad (F.faults shelf.old) (F.faults shelf.new) result }
     ensures kept { F.files shelf.new ≡ F.files shelf.old }
@@ -171,9 +176,12 @@ fn find<F: Shelf>(
     match found {
         Origin::File(file) => {
             let chip = load_chip(alloc, places.folder, file.as_str(), shelf)?;
-            Ok(entry_of(alloc, places.shipped, name, chip)?)
+            Ok(entry_of(alloc, name, chip)?)
         }
-        Origin::Shipped(entry) => Ok(copy_entry(alloc, name, entry)?),
+        Origin::Shipped => match take_shipped(alloc, name.as_bytes())? {
+            Some(entry) => Ok(entry),
+            None => unreachable!(),
+        },
     }
 }
 
@@ -207,7 +215,8 @@ fn gather_from<F: Shelf>(
     name: &Name,
     shelf: &mut F,
 ) -> Result<Library, LoadError>
-    requires { IfSome (F.files shelf.old) (λ told. IsListing told places.now.folder.now places.now.names.now) }
+    requires shipped { places.now.shipped.now ≡ shipped_chips }
+    requires listed { IfSome (F.files shelf.old) (λ told. IsListing told places.now.folder.now places.now.names.now) }
     ensures loads { Loads (λ (library : Library). Gather (sources_of places.now (F.files shelf.old)) (name.now ∷ []) [] library.entries) (GatherFails (sources_of places.now (F.files shelf.old)) (name.now ∷ []) []) (F.unfailing shelf.old → LacksFolder (F.files shelf.old) (F.there shelf.old) places.now.folder.now) result }
     ensures counts { CountsLoad (F.faults shelf.old) (F.faults shelf.new) result }
     ensures kept { F.files shelf.new ≡ F.files shelf.old }

@@ -4,26 +4,18 @@
 ghost use Rattle.tst_runner.specs.Rows.{ScriptRowsLaw};
 
 mod acts;
-mod brackets;
 mod building;
 mod commands;
-mod copying;
-mod device;
 mod directories;
 mod files;
 mod gathering;
 mod languages;
 mod lines;
 mod loading;
-mod machine;
-mod outlet;
 mod printing;
-mod registers;
-mod running;
 mod script;
 mod script_language;
 mod standing;
-mod variables;
 
 pub use languages::{Form, HdlText, ProgramText};
 pub use script::{ScriptError, Verdict, run_script};

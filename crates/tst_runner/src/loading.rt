@@ -11,13 +11,11 @@ ghost use Rattle.tst_runner.specs.Setting.{folder_of, path_of, setting_of};
 
 use crate::acts::Script;
 use crate::building::build_chip;
-use crate::device::Device;
 use crate::files::load_image;
 use crate::gathering::gather;
-use crate::machine::ScriptMachine;
 use hdl_tree::Name;
 use outer_world::Shelf;
-use script_device::DrivenChip;
+use script_device::{Device, DrivenChip, ScriptMachine};
 use source_files::LoadError;
 use std::alloc::Global;
 

@@ -12,10 +12,10 @@ ghost use Rattle.tst_runner.specs.declared.script.ScriptError.TheVariants as err
 
 use crate::acts::Script;
 use crate::commands::run_commands;
-use crate::device::Device;
 use crate::script_language::ScriptText;
 use crate::standing::{Difference, State, Stop};
 use outer_world::{Pieces, Put, Shelf, Sink};
+use script_device::Device;
 use script_parser::Command;
 use source_files::{LoadError, load};
 use std::alloc::Global;
@@ -110,7 +110,7 @@ fn run_into<F: Shelf, O: Sink, E: Sink>(
 {
     let mut state = State {
         device: Device::Empty,
-        items: &[],
+        columns: Vec::new(alloc),
         compared: None,
         lines: 0,
     };

@@ -6,11 +6,11 @@ ghost use Rattle.source_files.specs.declared.error.LoadError.TheVariants.{Memory
 ghost use Rattle.tst_runner.specs.Verdicts.{difference_line};
 ghost use Rattle.tst_runner.specs.declared.standing.Stop.TheVariants.{Unloaded};
 
-use crate::device::Device;
+use crate::lines::Column;
 use crate::printing::put_through;
 use itoa::Buffer;
 use outer_world::{Name, Put, Sink};
-use script_parser::Item;
+use script_device::Device;
 use source_files::LoadError;
 use std::alloc::{AllocError, AllocFailed};
 
@@ -22,11 +22,11 @@ pub struct CompareFile {
     pub at: usize,
 }
 
-/// Where a script stands: its device, its output list, its compare file, and how many lines it put.
+/// Where a script stands: its device, the columns of its output list, its compare file, and how many lines it put.
 #[derive(Drop)]
-pub struct State<'a> {
+pub struct State {
     pub device: Device,
-    pub items: &'a [Item],
+    pub columns: Vec<Column>,
     pub compared: Option<CompareFile>,
     pub lines: u64,
 }

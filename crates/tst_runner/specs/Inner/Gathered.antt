@@ -1,10 +1,9 @@
 -- What the parts of gathering say. (The book, appendix 2.)
-use Rattle.std.specs.Prelude.{◌≡◌, ℕ, true, false, List, ◌∷◌, Option, Some, None}
+use Rattle.std.specs.Prelude.{◌≡◌, ℕ, true, false, List, ◌∷◌, Option, None, is_some}
 use Rattle.outer_world.specs.Files.{Files, HasFile, LacksFile}
 use Rattle.outer_world.specs.Refusals.{message_line}
 use Rattle.grammar.specs.declared.Fault.{Fault}
 use Rattle.grammar.specs.Faults.{diagnostic_of}
-use Rattle.hdl_tree.specs.declared.tree.Chip.{Chip}
 use Rattle.hdl_tree.specs.declared.library.Entry.{Entry}
 use Rattle.hdl_tree.specs.Chips.{find_entry}
 use Rattle.hdl_parser.specs.Spells.{Refuses}
@@ -17,10 +16,6 @@ use Rattle.tst_runner.specs.Gathering.{Gather, GatherFails, Sources, file_of, is
 abbrev pub sources_of : Places → Option Files → Sources
 sources_of places files = record { shipped = places.shipped.now; blocks = places.blocks; files = files; folder = places.folder.now; names = places.names.now }
 
--- a chip of a text, under this name
-abbrev pub text_entry : List ℕ → Chip → Entry
-text_entry name chip = record { name = name; chip = chip; shipped = None }
-
 -- the chip of a name is nowhere
 abbrev pub IsNowhere : Sources → List ℕ → Type 0
 IsNowhere from name = (is_in_folder from name ≡ false) × (find_entry from.shipped name ≡ None)
@@ -28,7 +23,7 @@ IsNowhere from name = (is_in_folder from name ≡ false) × (find_entry from.shi
 -- or it is found there
 abbrev pub IsOrigin : Sources → List ℕ → Origin → Type 0
 IsOrigin from name (File file) = (is_in_folder from name ≡ true) × (file.now ≡ file_of name)
-IsOrigin from name (Shipped entry) = (is_in_folder from name ≡ false) × (find_entry from.shipped name ≡ Some entry.now)
+IsOrigin from name Shipped = (is_in_folder from name ≡ false) × (is_some (find_entry from.shipped name) ≡ true)
 
 -- the text of its file is refused with this line
 abbrev pub IsRefusedAt : Sources → List ℕ → List ℕ → Type 0

@@ -4,13 +4,13 @@ use Rattle.gate_sim.specs.Calls.Call.{Eval}
 use Rattle.script_device.specs.declared.chip.DrivenChip.{DrivenChip}
 use Rattle.script_device.specs.Directory.{FitsNet}
 use Rattle.script_device.specs.Driven.{IsDriven, chip_of}
-use Rattle.tst_runner.specs.declared.device.Device as code
-use Rattle.tst_runner.specs.declared.machine.ScriptMachine.{ScriptMachine}
+use Rattle.script_device.specs.declared.device.Device as code
+use Rattle.script_device.specs.declared.machine.ScriptMachine.{ScriptMachine}
 use Rattle.tst_runner.specs.Setting.{Setting}
 use Rattle.tst_runner.specs.Loading.{IsLoaded, IsImage}
-use Rattle.tst_runner.specs.Machines.{loaded_machine}
-use Rattle.tst_runner.specs.Devices.{Device}
-use Rattle.tst_runner.specs.Inner.Running.{Stands, running_of}
+use Rattle.script_device.specs.Machines.{loaded_machine}
+use Rattle.script_device.specs.Devices.{Device}
+use Rattle.script_device.specs.Running.{Stands, running_of}
 use Rattle.tst_runner.specs.Inner.States.{IsDevice}
 
 -- the chip of a file, evaluated once

@@ -4,7 +4,7 @@ use Rattle.std.specs.List.{All}
 use Rattle.hdl_tree.specs.declared.library.Entry.{Entry}
 use Rattle.hdl_tree.specs.Chips.{pin_width}
 use Rattle.hdl_check.specs.Whole.{AreDistinct}
-use Rattle.gate_computer.specs.Elaborated.{IsLibrary}
+use Rattle.hack_cpu.specs.Libraries.{IsLibrary}
 
 -- no pin has more than sixteen bits
 abbrev pub IsNarrow : Entry → Type 0

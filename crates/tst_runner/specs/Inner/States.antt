@@ -1,5 +1,6 @@
 -- What the code's standing of a script is, and what doing an act says.
-use Rattle.std.specs.Prelude.{◌≡◌, ◌⊎◌, ◌≤◌, ℕ, suc, true, false, Bool, List, [], ◌∷◌, ◌++◌, Option, Some, None, IfSome, Result, Ok, Err, length, take, drop, codes}
+use Rattle.std.specs.Prelude.{◌≡◌, ◌⊎◌, ◌≤◌, ℕ, suc, true, false, Bool, List, [], ◌∷◌, ◌++◌, Option, Some, None, IfSome, Result, Ok, Err, Vec, length, take, drop, codes}
+use Rattle.std.specs.declared.alloc.Global.{Global}
 use Rattle.outer_world.specs.Faults.{Rose}
 use Rattle.outer_world.specs.Files.{Files, LacksFolder, file_at}
 use Rattle.outer_world.specs.Written.{Got, GotPart}
@@ -8,8 +9,10 @@ use Rattle.source_files.specs.Loads.{Refused, line_of}
 use Rattle.source_files.specs.declared.error.LoadError.TheVariants as loads
 use Rattle.script_columns.specs.Comparison.{lines_of}
 use Rattle.script_parser.specs.declared.tree.Placed.{Placed}
+use Rattle.script_parser.specs.declared.tree.Item.{Item}
 use Rattle.script_parser.specs.declared.tree.Act.{Act}
 use Rattle.script_parser.specs.declared.tree.Act.TheVariants as acts
+use Rattle.tst_runner.specs.declared.lines.Column.{Column}
 use Rattle.tst_runner.specs.declared.standing.CompareFile.{CompareFile}
 use Rattle.tst_runner.specs.declared.standing.State.{State}
 use Rattle.tst_runner.specs.declared.standing.Difference.{Difference}
@@ -19,15 +22,16 @@ use Rattle.script_device.specs.Directory.{LoadedChip}
 use Rattle.script_parser.specs.Numbers.{ends_in}
 use Rattle.tst_runner.specs.Setting.{Setting, folder, path_of}
 use Rattle.tst_runner.specs.Loading.{IsLoaded, IsNotLoaded, IsProgram, IsImage, IsNoImage}
-use Rattle.tst_runner.specs.Machines.{loaded_machine}
-use Rattle.tst_runner.specs.Devices.{Device, Source, after_eval}
-use Rattle.tst_runner.specs.Devices.Device.{Chip, Machine}
-use Rattle.tst_runner.specs.Lines.{AreMeant}
+use Rattle.script_device.specs.Machines.{loaded_machine}
+use Rattle.script_device.specs.Devices.{Device, after_eval}
+use Rattle.script_device.specs.Devices.Device.{Chip, Machine}
+use Rattle.tst_runner.specs.Lines.{IsNameless}
 use Rattle.tst_runner.specs.Standing.{Standing, Compared, Agrees, with_line}
 use Rattle.tst_runner.specs.Effects.{Does, Goes, GoThrough, PutsLine, Differs, Faults}
 use Rattle.tst_runner.specs.Ends.{Asks, Lacks, whole}
+use Rattle.tst_runner.specs.Inner.Columns.{AreColumns}
 use Rattle.tst_runner.specs.Inner.Outlets.{HasPassed}
-use Rattle.tst_runner.specs.Inner.Running.{Stands}
+use Rattle.script_device.specs.Running.{Stands}
 
 -- The code's compare file, after so many lines: what is left of it are the lines that are still to come.
 pub record IsFile (file : CompareFile) (lines : ℕ) (compared : Compared) : Type 0 where
@@ -44,8 +48,7 @@ AreFiles (Some file) lines None = ⊥
 -- The code's state is this standing.
 pub record IsState (state : State) (s : Standing) : Type 0 where
   pub device : Stands state.device s.device
-  pub items : state.items.now ≡ s.items
-  pub meant : (sources : List Source) × AreMeant s.device s.items sources
+  pub columns : AreColumns s.device s.items state.columns.items
   pub compared : AreFiles state.compared state.lines s.compared
   pub lines : state.lines ≡ s.lines
 
@@ -124,6 +127,15 @@ IsNameStop path word (stops.Unloaded e) = Refused path (message word.place.line 
 IsNameStop path word (stops.Differs d) = ⊥
 IsNameStop path word stops.Out = ⊥
 IsNameStop path word stops.Err = ⊥
+
+-- The script stops at the first item whose variable stands for nothing, or for want of memory.
+abbrev pub StopsAtName : List ℕ → Device → List Item → Stop → Type 0
+StopsAtName path device items stop = (stop ≡ stops.Unloaded loads.Memory) ⊎ ((item : Item) × IsNameless device items item × IsNameStop path item.variable stop)
+
+-- The items have their columns, or the script stops.
+abbrev pub FindsColumns : List ℕ → Device → List Item → Result (Vec Column Global) Stop → Type 0
+FindsColumns path device items (Ok columns) = AreColumns device items columns.items
+FindsColumns path device items (Err stop) = StopsAtName path device items stop
 
 -- ---- what the parts of an act say
 

@@ -2,8 +2,8 @@ use Rattle.std.proofs.Common.{rules, arith, ◌≡◌, List, None, sym, subst}
 use Rattle.std.proofs.lemmas.Grind.{common_steps}
 use Rattle.hdl_tree.specs.declared.library.Entry.{Entry}
 use Rattle.hdl_tree.specs.Chips.{find_entry}
-use Rattle.gate_computer.specs.Elaborated.{IsLibrary}
-use Rattle.gate_computer.proofs.Libraries.{libraries}
+use Rattle.hack_cpu.specs.Libraries.{IsLibrary}
+use Rattle.hack_cpu.proofs.Libraries.{libraries}
 use Rattle.gate_tests.proofs.chips.add_entry.Goals as goal
 
 pub returns : goal.returns

@@ -1,4 +1,4 @@
-use Rattle.gate_computer.proofs.Libraries.{libraries}
+use Rattle.hack_cpu.proofs.Libraries.{libraries}
 use Rattle.gate_tests.proofs.chips.answer.Goals as goal
 
 pub elaborate-requires-clause-ends : goal.elaborate-requires-clause-ends

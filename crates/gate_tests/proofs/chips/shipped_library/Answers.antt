@@ -1,8 +1,8 @@
 use Rattle.std.proofs.Common.{List, sym, subst}
 use Rattle.std.proofs.lemmas.Result.{IfOk-weaker}
 use Rattle.hdl_tree.specs.declared.library.Entry.{Entry}
-use Rattle.gate_computer.specs.Elaborated.{IsLibrary}
-use Rattle.gate_computer.proofs.Libraries.{libraries}
+use Rattle.hack_cpu.specs.Libraries.{IsLibrary}
+use Rattle.hack_cpu.proofs.Libraries.{libraries}
 use Rattle.gate_tests.proofs.chips.shipped_library.Goals as goal
 
 pub returns : goal.returns

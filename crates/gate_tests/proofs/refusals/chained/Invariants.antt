@@ -1,4 +1,4 @@
-use Rattle.gate_computer.specs.Elaborated.{IsLibrary}
+use Rattle.hack_cpu.specs.Libraries.{IsLibrary}
 use Rattle.gate_tests.proofs.refusals.chained.Given as goal
 
 abbrev pub invariant-loop-k : goal.invariant-loop-k

@@ -37,8 +37,7 @@ returns c s h =
       file-agrees s.compared file c.args.state.now.lines s.lines c.args.line.now files h.lines b,
       record {
         device = h.device;
-        items = h.items;
-        meant = h.meant;
+        columns = h.columns;
         compared = AreFiles-next s.compared file c.args.state.now.lines k files (subst W q c.past_line.ensures.within) (subst R q c.past_line.ensures.rest);
         lines = omega (arith, h.lines);
       },

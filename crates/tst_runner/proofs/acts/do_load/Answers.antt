@@ -11,7 +11,7 @@ returns-clause-does g c s h =
     let l = subst Q c.as_slice.ensures c.in_ok-state.ensures.loads in (
       record s { device = l.0; items = [] },
       Does-load setting s c.args.file.now l.0 l.1,
-      record { device = l.2; items = refl; meant = ([], tt); compared = h.compared; lines = h.lines },
+      record { device = l.2; columns = tt; compared = h.compared; lines = h.lines },
       refl,
       refl,
     )

@@ -6,7 +6,7 @@ use Rattle.source_files.specs.Loads.{Loads}
 use Rattle.script_parser.specs.declared.tree.Act.TheVariants as acts
 use Rattle.tst_runner.specs.Loading.{IsImage, IsNoImage}
 use Rattle.tst_runner.specs.Setting.{path_of, setting_of}
-use Rattle.tst_runner.specs.Inner.Driving.{TellsImage, TellsMemory}
+use Rattle.script_device.specs.Running.{TellsImage, TellsMemory}
 use Rattle.tst_runner.specs.Inner.States.{Misses}
 use Rattle.tst_runner.proofs.Performed.{Quietly-image, Quietly-load}
 use Rattle.tst_runner.proofs.acts.do_rom.Goals as goal

@@ -1,6 +1,6 @@
 use Rattle.std.proofs.Common.{List, ℕ, true, refl, subst}
-use Rattle.tst_runner.specs.Devices.{after_set}
-use Rattle.tst_runner.specs.Inner.Running.{TellsSet}
+use Rattle.script_device.specs.Devices.{after_set}
+use Rattle.script_device.specs.Running.{TellsSet}
 use Rattle.tst_runner.proofs.Kept.{IsState-device, Keeps-set}
 use Rattle.tst_runner.proofs.acts.do_set.Goals as goal
 

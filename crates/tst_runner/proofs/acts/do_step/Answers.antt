@@ -1,7 +1,7 @@
 use Rattle.std.proofs.Common.{refl, inl, subst, sym}
 use Rattle.script_parser.specs.declared.tree.Step.{Step}
 use Rattle.script_parser.specs.declared.tree.Act.TheVariants as acts
-use Rattle.tst_runner.specs.Devices.{after_eval, after_tick, after_tock}
+use Rattle.script_device.specs.Devices.{after_eval, after_tick, after_tock}
 use Rattle.tst_runner.specs.Effects.{Does}
 use Rattle.outer_world.specs.Held.{pending, sink_of}
 use Rattle.tst_runner.specs.Inner.States.{Performs}

@@ -1,7 +1,7 @@
 use Rattle.std.proofs.Common.{◌≡◌, Some, sym, ap, subst, ◌∙◌}
 use Rattle.hdl_tree.specs.Chips.{find_entry}
 use Rattle.hdl_check.specs.Whole.{chips_in}
-use Rattle.gate_computer.proofs.Libraries.{libraries}
+use Rattle.hack_cpu.proofs.Libraries.{libraries}
 use Rattle.script_device.specs.Directory.{FitsNet}
 use Rattle.script_device.specs.Driven.{chip_of}
 use Rattle.tst_runner.proofs.Fits.{fits}

@@ -9,8 +9,8 @@ use Rattle.tst_runner.specs.Inner.Gathered.{IsRefusedAt, LacksFileOf, sources_of
 use Rattle.tst_runner.proofs.Finding.{all_taken, fewer, is_new, to_next, turn, unfound}
 use Rattle.tst_runner.proofs.gathering.gather_from.Goals as goal
 
-pub find-requires : goal.find-requires
-find-requires g c = let next = c.in-Some.ensures (g.F.Shelf.files c.chips.shelf) in next.at
+pub find-requires-origin : goal.find-requires-origin
+find-requires-origin g c = let next = c.in-Some.ensures (g.F.Shelf.files c.chips.shelf) in next.at
 
 pub returns-in_err-entry-clause-loads : goal.returns-in_err-entry-clause-loads
 returns-in_err-entry-clause-loads g c =
@@ -31,7 +31,7 @@ returns-in_err-entry-clause-loads g c =
     let next = c.in-Some.ensures told in
     let leads = to_next from (first ∷ []) (reverse c.chips.stack.items) c.chips.entries c.as_slice.result.now c.chips.invariant.leads c.as_slice.ensures name found others next in
     let new = is_new from (first ∷ []) (reverse c.chips.stack.items) c.chips.entries c.as_slice.result.now c.chips.invariant.leads c.as_slice.ensures name found others next in
-    rw (p.1, p.2) (unfound from there first steady later name others c.chips.entries e c.requires c.chips.invariant.keeps leads new read)
+    rw (p.1, p.2) (unfound from there first steady later name others c.chips.entries e c.requires.listed c.chips.invariant.keeps leads new read)
 
 pub chips-smaller : goal.chips-smaller
 chips-smaller g c =

@@ -9,9 +9,9 @@ use Rattle.script_parser.specs.Numbers.{ends_in}
 use Rattle.tst_runner.specs.Setting.{folder, setting_of}
 use Rattle.tst_runner.specs.Gathering.{file_of}
 use Rattle.tst_runner.specs.Loading.{IsLoaded, IsNotLoaded}
-use Rattle.tst_runner.specs.Machines.{loaded_machine}
-use Rattle.tst_runner.specs.Devices.{after_eval}
-use Rattle.tst_runner.specs.Devices.Device.{Chip, Machine}
+use Rattle.script_device.specs.Machines.{loaded_machine}
+use Rattle.script_device.specs.Devices.{after_eval}
+use Rattle.script_device.specs.Devices.Device.{Chip, Machine}
 use Rattle.tst_runner.specs.Inner.Loaded.{ChipIsLoaded, StandsForLoaded}
 use Rattle.tst_runner.specs.Inner.States.{IsNoDevice, LacksDevice}
 use Rattle.tst_runner.proofs.Loaded.{Loads-err, file_of-stem, lacks-folder}

@@ -4,7 +4,7 @@ use Rattle.std.proofs.lemmas.Result.{err_from_is_err_and}
 use Rattle.outer_world.specs.Files.{LacksFile}
 use Rattle.tst_runner.specs.Setting.{path_of, setting_of}
 use Rattle.tst_runner.specs.Loading.{IsImage, IsNoImage}
-use Rattle.tst_runner.specs.Machines.{loaded_machine}
+use Rattle.script_device.specs.Machines.{loaded_machine}
 use Rattle.tst_runner.specs.Inner.Loaded.{MachineIsLoaded}
 use Rattle.tst_runner.proofs.Loaded.{Loads-err}
 use Rattle.tst_runner.proofs.loading.load_machine.Goals as goal

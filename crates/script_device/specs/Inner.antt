@@ -1,0 +1,4 @@
+pub mod Brackets
+pub mod Sources
+pub mod Registers
+pub mod Driving

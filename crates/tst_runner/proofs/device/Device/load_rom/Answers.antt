@@ -1,7 +1,0 @@
-use Rattle.std.proofs.Common.{subst, ◌∙◌}
-use Rattle.tst_runner.specs.Inner.Running.{Stands}
-use Rattle.tst_runner.proofs.Moves.{chip_loaded}
-use Rattle.tst_runner.proofs.device.Device.load_rom.Goals as goal
-
-pub returns-clause-stands : goal.returns-clause-stands
-returns-clause-stands c = λ d s. chip_loaded c.in-Chip.chip c.load_words.new.self c.in-Some.block c.args.image.now c.deref.result.now c.load_words.ensures.kept c.in-Some.ensures (c.deref.ensures.value ∙ c.in_ok-words.ensures.words) c.load_words.ensures.driven d (subst (λ x. Stands x d) c.in-Chip.is s)
