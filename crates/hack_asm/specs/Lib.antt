@@ -17,3 +17,4 @@ pub mod Messages
 pub mod Computed
 pub mod OneToken
 pub mod OneHackToken
+pub mod Language

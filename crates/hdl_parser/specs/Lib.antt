@@ -4,4 +4,5 @@ pub mod Trees
 pub mod Spells
 pub mod Printed
 pub mod OneToken
+pub mod Language
 pub mod Inner

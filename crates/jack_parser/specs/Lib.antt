@@ -11,4 +11,5 @@ pub mod Limits
 pub mod Spelled
 pub mod Rows
 pub mod PrintedClass
+pub mod Language
 pub mod Inner

@@ -3,3 +3,5 @@ pub mod Faults
 pub mod Grammar
 pub mod Codes
 pub mod OneToken
+pub mod Language
+pub mod Inner

@@ -48,9 +48,12 @@ use Rattle.nand_cli.specs.Commands.Exec.{form_of}
 use Rattle.nand_cli.specs.Commands.Show.{RefusesKind}
 use Rattle.nand_cli.specs.Commands.Vm.{HasProgram, VmPrints, VmRefuses, unread as vm_unread, without_code}
 use Rattle.nand_cli.specs.JackFolder.{FolderIsRefused, HasClasses, files_meant, meaningless, name_line, unread}
-use Rattle.nand_cli.specs.Languages.{MeansAs, RefusesClass, RefusesHdl, RefusesVm, RefusesWords, SpellsFile, SpellsVmFile, SpellsWords, wrong_message}
-use Rattle.nand_cli.specs.declared.languages.Form.{Form}
-use Rattle.nand_cli.specs.declared.languages.Form.TheVariants.{Assembly, Image}
+use Rattle.hack_asm.specs.Language.{MeansAs, RefusesWords, SpellsWords, wrong_message}
+use Rattle.hdl_parser.specs.Language.{RefusesHdl}
+use Rattle.jack_parser.specs.Language.{RefusesClass, SpellsFile}
+use Rattle.vm_parser.specs.Language.{RefusesVm, SpellsVmFile}
+use Rattle.hack_asm.specs.declared.language.Form.{Form}
+use Rattle.hack_asm.specs.declared.language.Form.TheVariants.{Assembly, Image}
 use Rattle.nand_cli.proofs.FolderAnswered.{AllRead, at_path, folder_read}
 use Rattle.nand_cli.proofs.Linking.{IsLinkedOrTold, linked_or_told}
 use Rattle.nand_cli.proofs.Spelling.{spelled_own}

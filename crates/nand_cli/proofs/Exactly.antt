@@ -32,12 +32,15 @@ use Rattle.command_line.specs.declared.request.SourceKind.TheVariants as kinds
 use Rattle.source_files.proofs.Once.{never_both, never_unread, one_fault, one_folder, one_refusal, one_source}
 use Rattle.source_files.specs.Sources.{IsFaulty, SpellsAt}
 use Rattle.nand_cli.specs.Exact.{AsmExactLaw, ChipExactLaw, ExecExactLaw, ShowExactLaw, VmExactLaw}
-use Rattle.nand_cli.specs.Languages.{RefusesClass, RefusesHdl, RefusesVm, RefusesWords, SpellsVmFile, SpellsWords}
+use Rattle.hack_asm.specs.Language.{RefusesWords, SpellsWords}
+use Rattle.hdl_parser.specs.Language.{RefusesHdl}
+use Rattle.jack_parser.specs.Language.{RefusesClass}
+use Rattle.vm_parser.specs.Language.{RefusesVm, SpellsVmFile}
 use Rattle.nand_cli.specs.Commands.Chip.{ChipPrints, ChipRefuses}
 use Rattle.nand_cli.specs.Commands.Exec.{form_of}
 use Rattle.nand_cli.specs.Commands.Vm.{HasNoCode, HasProgram, VmPrints, VmRefuses, unread, without_code}
-use Rattle.nand_cli.specs.declared.languages.Form.{Form}
-use Rattle.nand_cli.specs.declared.languages.Form.TheVariants.{Assembly}
+use Rattle.hack_asm.specs.declared.language.Form.{Form}
+use Rattle.hack_asm.specs.declared.language.Form.TheVariants.{Assembly}
 use Rattle.nand_cli.proofs.ReadOnce.{chip_once, file_once, program_once, shown_once, words_once}
 
 -- ---- what is not there

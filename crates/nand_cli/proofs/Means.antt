@@ -25,7 +25,7 @@ use Rattle.tower.specs.declared.program.ProgramError.{ProgramError}
 use Rattle.tower.specs.declared.program.ProgramError.TheVariants as programs
 use Rattle.nand_cli.specs.Inner.Parts.{TellsWrong}
 use Rattle.nand_cli.specs.JackFolder.{BuildIsRefused, FolderIsRefused, FolderMeans, IsMeaningless, home_of, meaningless, unread}
-use Rattle.nand_cli.specs.Languages.{RefusesClass}
+use Rattle.jack_parser.specs.Language.{RefusesClass}
 use Rattle.nand_cli.specs.Commands.Build.{BuildRefuses, FolderBuilds, unbuilt, without_program}
 use Rattle.nand_cli.specs.declared.jack.BuiltProgram.{BuiltProgram}
 use Rattle.nand_cli.proofs.Spelling.{HasTrees, placed, seen_classes, seen_unread}

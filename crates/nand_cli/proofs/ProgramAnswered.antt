@@ -77,7 +77,7 @@ use Rattle.command_line.specs.declared.request.Shown.{Shown}
 use Rattle.command_line.specs.declared.request.Shown.TheVariants.{Nets, Words}
 use Rattle.nand_cli.specs.Answered.{FolderAnsweredLaw, FolderMeansLaw, HasAnswer, IsWellFolder, ProgramAnsweredLaw}
 use Rattle.nand_cli.specs.JackFolder.{BuildIsRefused, FolderIsRefused, FolderMeans}
-use Rattle.nand_cli.specs.Languages.{RefusesKeys}
+use Rattle.key_script.specs.Language.{RefusesKeys}
 use Rattle.nand_cli.specs.Commands.Build.{unbuilt, without_program}
 use Rattle.nand_cli.specs.Commands.Gates.{ComesAfter, IsGatesReport, gates_trace, meaning_in}
 use Rattle.nand_cli.specs.Commands.Run.{EndsAt, HasKeys, IsHackReport, IsJackReport, IsReport, ScriptIsRefused, name_of, state_after, trace_in, unbuilt as run_unbuilt, without_program as run_without_program, without_script}

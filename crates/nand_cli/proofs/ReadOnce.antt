@@ -19,13 +19,18 @@ use Rattle.key_script.specs.Grammar.{ReadingLaw as KeyLaw, Spells as SpellsLines
 use Rattle.key_script.specs.declared.lines.Line.{Line}
 use Rattle.source_files.proofs.Once.{ReadsOnce}
 use Rattle.source_files.specs.Folder.{stem_of}
-use Rattle.nand_cli.specs.Languages.{IsTold, MeansAs, RefusesClass, RefusesHdl, RefusesKeys, RefusesVm, RefusesWords, SpellsFile, SpellsVmFile, SpellsWords, wrong_message}
-use Rattle.nand_cli.specs.declared.languages.Form.{Form}
-use Rattle.nand_cli.specs.declared.languages.Form.TheVariants.{Assembly, Image}
+use Rattle.hack_asm.specs.Language.{MeansAs, RefusesWords, SpellsWords, wrong_message}
+use Rattle.hdl_parser.specs.Language.{RefusesHdl}
+use Rattle.jack_parser.specs.Language.{RefusesClass, SpellsFile}
+use Rattle.key_script.specs.Language.{RefusesKeys}
+use Rattle.source_files.specs.Faults.{TellsFault}
+use Rattle.vm_parser.specs.Language.{RefusesVm, SpellsVmFile}
+use Rattle.hack_asm.specs.declared.language.Form.{Form}
+use Rattle.hack_asm.specs.declared.language.Form.TheVariants.{Assembly, Image}
 
 -- ---- a first fault tells one thing
 
-one_told : {X : Type 0} (spells : X → Type 0) (refuses : List ℕ → Fault → Type 0) (text : List ℕ) (s t : Message) → OneReading X spells (refuses text) → IsTold refuses text s → IsTold refuses text t → s ≡ t
+one_told : {X : Type 0} (spells : X → Type 0) (refuses : List ℕ → Fault → Type 0) (text : List ℕ) (s t : Message) → OneReading X spells (refuses text) → TellsFault refuses text s → TellsFault refuses text t → s ≡ t
 one_told spells refuses text s t once (f, h, e) (g, k, d) = e ∙ ap diagnostic_of (once.one_fault f g h k) ∙ sym d
 
 -- ---- programs of the instruction machine

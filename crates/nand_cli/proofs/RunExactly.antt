@@ -55,7 +55,8 @@ use Rattle.source_files.specs.Sources.{IsUnread}
 use Rattle.source_files.proofs.Once.{never_both, never_unread, one_fault, one_folder, one_refusal, one_source}
 use Rattle.nand_cli.specs.Answer.{Lacks}
 use Rattle.nand_cli.specs.Exact.{AsmExactLaw, BuildExactLaw, ChipExactLaw, CompileExactLaw, ExactLaw, ExecExactLaw, MapExactLaw, RunExactLaw, ShowExactLaw, ShowsOneText, VmExactLaw}
-use Rattle.nand_cli.specs.Languages.{RefusesClass, RefusesKeys, SpellsFile}
+use Rattle.jack_parser.specs.Language.{RefusesClass, SpellsFile}
+use Rattle.key_script.specs.Language.{RefusesKeys}
 use Rattle.nand_cli.specs.JackFolder.{BuildIsRefused, FolderIsRefused, FolderMeans, HasClasses, IsMeaningless, meaningless, name_line, unread}
 use Rattle.nand_cli.specs.Commands.Gates.{IsGatesReport, gates_trace}
 use Rattle.nand_cli.specs.Commands.RunVm.{IsVmReport}

@@ -11,7 +11,7 @@ use Rattle.tower.specs.Spelled.{AreSpelled}
 use Rattle.jack_os.specs.System.{SpellsClass}
 use Rattle.source_files.specs.Sources.{FolderSpells, IsUnread, SpellEach}
 use Rattle.nand_cli.specs.JackFolder.{HasClasses}
-use Rattle.nand_cli.specs.Languages.{RefusesClass, SpellsFile}
+use Rattle.jack_parser.specs.Language.{RefusesClass, SpellsFile}
 
 -- the trees that the Jack files of the folder spell
 abbrev pub HasTrees : Option Files → List ℕ → List Class → Type 0

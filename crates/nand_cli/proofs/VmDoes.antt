@@ -20,7 +20,7 @@ use Rattle.vm_parser.specs.Trees.{WrittenFile, WrittenFunction, commands, file_o
 use Rattle.vm_translator.proofs.Instructed.{translated}
 use Rattle.tower.proofs.Computers.{linked_bare}
 use Rattle.nand_cli.specs.Commands.Vm.{HasProgram, VmDoesLaw}
-use Rattle.nand_cli.specs.Languages.{SpellsVmFile}
+use Rattle.vm_parser.specs.Language.{SpellsVmFile}
 
 neither : (a b : Bool) → a ≡ false → b ≡ false → (a || b) ≡ false
 neither a b h k = rw (h, k) refl

@@ -19,7 +19,7 @@ use Rattle.tower.specs.Image.{Builds, IsImageOf}
 use Rattle.tower.specs.Program.{Means, class_names}
 use Rattle.tower.specs.Messages.{build_message}
 use Rattle.tower.specs.declared.building.BuildError.{BuildError}
-use Rattle.nand_cli.specs.Languages.{RefusesClass, SpellsFile}
+use Rattle.jack_parser.specs.Language.{RefusesClass, SpellsFile}
 
 -- The Jack files of the folder spell these classes.
 abbrev pub HasClasses : Option Files → List ℕ → List ClassFile → Type 0

@@ -15,10 +15,10 @@ ghost use Rattle.nand_cli.specs.Inner.Parts.{TellsWrong};
 ghost use Rattle.nand_cli.specs.declared.jack.BuiltProgram.{BuiltProgram};
 ghost use Rattle.nand_cli.specs.JackFolder.{BuildIsRefused, FolderIsRefused, FolderMeans, IsMeaningless, home_of};
 
-use crate::languages::JackText;
 use image_map::Image;
 use jack_core::Core;
 use jack_names::NameFault;
+use jack_parser::JackLanguage;
 use jack_places::first_law;
 use jack_tree::Class;
 use outer_world::Shelf;
@@ -92,7 +92,7 @@ pub fn load_jack<F: Shelf>(alloc: Global, folder: &str, shelf: &mut F) -> Result
     ensures stays { F.there shelf.new ≡ F.there shelf.old }
     ensures keeps { F.unfailing shelf.old → F.unfailing shelf.new }
 {
-    let classes = load_folder(alloc, &JackText, folder, ENDING, shelf)?;
+    let classes = load_folder(alloc, &JackLanguage, folder, ENDING, shelf)?;
     program_of(alloc, folder, &classes)
 }
 

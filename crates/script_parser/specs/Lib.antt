@@ -5,3 +5,4 @@ pub mod Trees
 pub mod Inner
 pub mod Rows
 pub mod OneToken
+pub mod Language

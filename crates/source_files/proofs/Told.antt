@@ -1,10 +1,13 @@
 -- What loading says where nothing is loaded.
 use Rattle.std.proofs.Common.{◌≡◌, ◌<◌, ℕ, List, Option, Some, None, Err, length, refl, sym, subst}
+use Rattle.grammar.specs.Reading.{Halt, memory, fault}
+use Rattle.grammar.specs.declared.Fault.{Fault}
+use Rattle.grammar.specs.declared.ReadError.{ReadError}
 use Rattle.outer_world.specs.Files.{Files}
 use Rattle.outer_world.specs.Refusals.{Message, message_line}
-use Rattle.source_files.specs.Inner.Limits.{IsPastLimit}
 use Rattle.source_files.specs.Loads.{IsWhy, Loads, Refused, TellsOf, text_error}
-use Rattle.source_files.specs.Sources.{IsFaulty, past_limit}
+use Rattle.source_files.specs.Faults.{TellsFault, read_error}
+use Rattle.source_files.specs.Sources.{IsFaulty, IsPastLimit, past_limit}
 use Rattle.source_files.specs.declared.error.LoadError.{LoadError}
 use Rattle.source_files.specs.declared.error.LoadError.TheVariants as errors
 use Rattle.source_files.specs.declared.error.TextError.{TextError}
@@ -24,6 +27,11 @@ told_of good refused missed path None e more h = rw h tt
 pub why_told : (refuses : Message → Type 0) (o : Option Message) (e : TextError) → ((t : Message) → o ≡ Some t → refuses t) → e ≡ text_error o → IsWhy refuses e
 why_told refuses (Some t) e more h = rw h (more t refl)
 why_told refuses None e more h = rw h tt
+
+-- why a text with a first fault is not read, unless memory is wanting
+pub why_refused : (refuses : List ℕ → Fault → Type 0) (text : List ℕ) {error : ReadError} → Halt (refuses text) error → IsWhy (TellsFault refuses text) (read_error error)
+why_refused refuses text memory = tt
+why_refused refuses text (fault {f = f} h) = (f, h, refl)
 
 -- what is not loaded, since something else is not
 pub without : {A B : Type 0} (good : A → Type 0) (refused : List ℕ → Type 0) (missed : Type 0) (good' : B → Type 0) (refused' : List ℕ → Type 0) (missed' : Type 0) (e : LoadError)

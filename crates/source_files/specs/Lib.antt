@@ -1,4 +1,5 @@
 pub mod Folder
 pub mod Sources
 pub mod Loads
+pub mod Faults
 pub mod Inner

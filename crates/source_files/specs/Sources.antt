@@ -1,6 +1,6 @@
 -- What the text of a file spells, or why it is refused; and so of the files of a folder, each text read wholly before the next. (A language
 -- is told by what the text of a file of some name spells, and by why a text is refused.)
-use Rattle.std.specs.Prelude.{◌≡◌, ◌++◌, ◌⊎◌, ℕ, List, [], ◌∷◌, Option, codes, decimal}
+use Rattle.std.specs.Prelude.{◌≡◌, ◌<◌, ◌≤◌, ◌++◌, ◌⊎◌, ℕ, List, [], ◌∷◌, Option, length, codes, decimal}
 use Rattle.outer_world.specs.Files.{Files, HasFile, path_in}
 use Rattle.outer_world.specs.Refusals.{Message, message, message_line}
 use Rattle.source_files.specs.Folder.{AreSources, IsOverfull}
@@ -8,6 +8,15 @@ use Rattle.source_files.specs.Folder.{AreSources, IsOverfull}
 -- what is told of a text of more than 1,048,576 bytes
 abbrev pub past_limit : Message
 past_limit = message 0 0 (codes "Range") (decimal 1048577)
+
+-- The file at a path has this text, of at most 1,048,576 bytes.
+abbrev pub IsText : Option Files → List ℕ → List ℕ → Type 0
+IsText files path text = HasFile files path text × (length text ≤ 1048576)
+
+-- It has a longer one, as this line tells.
+abbrev pub IsPastLimit : Option Files → List ℕ → List ℕ → Type 0
+IsPastLimit files path line =
+    (text : List ℕ) × HasFile files path text × (1048576 < length text) × (line ≡ message_line path past_limit)
 
 -- The text at a path spells this source.
 abbrev pub SpellsAt : {A : Type 0} → (List ℕ → A → Type 0) → Option Files → List ℕ → A → Type 0

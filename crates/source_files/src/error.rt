@@ -1,9 +1,11 @@
 //! Why a source is not loaded.
 ghost use Rattle.std.specs.Prelude.{◌≡◌};
+ghost use Rattle.source_files.specs.Faults.{read_error};
 ghost use Rattle.source_files.specs.Loads.{Refused, TellsOf, text_error};
 ghost use Rattle.source_files.specs.declared.error.LoadError.TheVariants.{Memory};
 ghost use Rattle.source_files.specs.declared.error.TextError.TheVariants as text;
 
+use grammar::ReadError;
 use outer_world::{Diagnostic, Name};
 use std::alloc::{AllocError, AllocFailed, Global};
 
@@ -34,6 +36,17 @@ impl From<AllocError> for TextError {
 
     fn from(_: AllocError) -> Self {
         TextError::Memory
+    }
+}
+
+impl From<ReadError> for TextError {
+    ghost from_gives = { λ error e. e ≡ read_error error };
+
+    fn from(error: ReadError) -> Self {
+        match error {
+            ReadError::Memory => TextError::Memory,
+            ReadError::Fault(fault) => TextError::Refused(fault.diagnostic()),
+        }
     }
 }
 

@@ -11,4 +11,4 @@ pub use error::{LoadError, Refusal, TextError};
 pub use folder::{load_folder, path_in, stem};
 pub use language::Language;
 pub use laws::names_law;
-pub use loading::load;
+pub use loading::{load, load_text};

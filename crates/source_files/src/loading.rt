@@ -1,21 +1,25 @@
-//! The source of a file.
+//! The text of a file, and the source that it spells.
 ghost use Rattle.std.specs.Prelude.{◌≡◌, ℕ, Vec};
 ghost use Rattle.std.specs.declared.alloc.Global.{Global};
-ghost use Rattle.outer_world.specs.Files.{HasFile, LacksFile};
-ghost use Rattle.source_files.specs.Inner.Limits.{IsPastLimit};
+ghost use Rattle.outer_world.specs.Files.{LacksFile};
 ghost use Rattle.source_files.specs.Loads.{CountsLoad, Loads};
-ghost use Rattle.source_files.specs.Sources.{IsFaulty, SpellsAt};
+ghost use Rattle.source_files.specs.Sources.{IsFaulty, IsPastLimit, IsText, SpellsAt};
 
 use crate::error::{LoadError, TextError};
 use crate::language::Language;
+use grammar::MOST_BYTES;
 use outer_world::{Detail, Diagnostic, Reading, Shelf};
 use std::alloc::Global;
 
-const FILE_LIMIT: u32 = 1_048_576;
+// The longest file that is read has so many bytes: as many as a text may have.
+const FILE_LIMIT: u32 = MOST_BYTES as u32;
 
-// The text of a file.
-fn text_of<F: Shelf>(alloc: Global, path: &str, shelf: &mut F) -> Result<Vec<u8>, LoadError>
-    ensures loads { Loads (λ (text : Vec ℕ Global). HasFile (F.files shelf.old) path.now text.items) (IsPastLimit (F.files shelf.old) path.now) (F.unfailing shelf.old → LacksFile (F.files shelf.old) path.now) result }
+/// The text of the file at a path, of at most 1,048,576 bytes.
+///
+/// Otherwise the refusal of a longer one, that the shelf failed, or want of memory. An honest shelf
+/// fails only where there is no such file.
+pub fn load_text<F: Shelf>(alloc: Global, path: &str, shelf: &mut F) -> Result<Vec<u8>, LoadError>
+    ensures loads { Loads (λ (text : Vec ℕ Global). IsText (F.files shelf.old) path.now text.items) (IsPastLimit (F.files shelf.old) path.now) (F.unfailing shelf.old → LacksFile (F.files shelf.old) path.now) result }
     ensures counts { CountsLoad (F.faults shelf.old) (F.faults shelf.new) result }
     ensures kept { F.files shelf.new ≡ F.files shelf.old }
     ensures stays { F.there shelf.new ≡ F.there shelf.old }
@@ -49,7 +53,7 @@ pub fn load<L: Language, F: Shelf>(
     ensures stays { F.there shelf.new ≡ F.there shelf.old }
     ensures keeps { F.unfailing shelf.old → F.unfailing shelf.new }
 {
-    let text = text_of(alloc, path, shelf)?;
+    let text = load_text(alloc, path, shelf)?;
     match language.read(alloc, name, &text) {
         Ok(source) => Ok(source),
         Err(TextError::Refused(told)) => Err(LoadError::refused(alloc, path, told)),

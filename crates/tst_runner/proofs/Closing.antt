@@ -30,7 +30,8 @@ use Rattle.tst_runner.specs.Effects.{PutsLine}
 use Rattle.tst_runner.specs.Acts.{acts_of}
 use Rattle.tst_runner.specs.Ends.{HasActs, HasCompared, HasPut, IsAt, IsUnread, whole}
 use Rattle.tst_runner.specs.Verdicts.{CountsScript, Leaves, Runs, difference_line}
-use Rattle.tst_runner.specs.Inner.Scripts.{Finishes, RefusesScript, is_cut, verdict_of}
+use Rattle.script_parser.specs.Language.{RefusesScript}
+use Rattle.tst_runner.specs.Inner.Scripts.{Finishes, is_cut, verdict_of}
 use Rattle.tst_runner.specs.Inner.Outlets.{HasPassed}
 use Rattle.tst_runner.specs.Inner.States.{AreFiles, CountsStop, IsState, PerformsAll, StandsThere, StopsIn}
 use Rattle.tst_runner.proofs.Threading.{Ran}

@@ -22,7 +22,7 @@ use Rattle.tst_runner.specs.Inner.Gathered.{IsNext, IsRefusedAt, Leads, LacksFil
 use Rattle.tst_runner.specs.declared.gathering.Origin.{Origin}
 use Rattle.tst_runner.proofs.Leading.{past_found}
 use Rattle.tst_runner.proofs.Ending.{candidates, fewer_left, left}
-use Rattle.tst_runner.specs.Inner.Languages.{RefusesHdl}
+use Rattle.hdl_parser.specs.Language.{RefusesHdl}
 use Rattle.tst_runner.specs.Loading.{HasFailed, HasGathered, HasSources}
 use Rattle.tst_runner.specs.Setting.{Setting}
 

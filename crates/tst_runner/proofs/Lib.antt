@@ -5,13 +5,11 @@ pub mod Fits
 pub mod Folders
 pub mod Leading
 pub mod Ending
-pub mod Reading
 pub mod Images
 pub mod Finding
 pub mod Sounding
 mod Joining
 pub mod Threading
-pub mod ScriptTold
 mod Closing
 pub mod Passed
 pub mod Kept

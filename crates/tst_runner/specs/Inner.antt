@@ -2,8 +2,6 @@ pub mod Sound
 pub mod Columns
 pub mod States
 pub mod Outlets
-pub mod Languages
-pub mod Limits
 pub mod Files
 pub mod Gathered
 pub mod Scripts

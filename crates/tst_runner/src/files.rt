@@ -4,16 +4,14 @@ ghost use Rattle.std.specs.declared.alloc.Global.{Global};
 ghost use Rattle.std.specs.Str.Lossy.{utf8_lossy};
 ghost use Rattle.outer_world.specs.Files.{LacksFile, path_in};
 ghost use Rattle.source_files.specs.Loads.{CountsLoad, Loads};
-ghost use Rattle.tst_runner.specs.Inner.Files.{IsCompared, IsTooLong, TellsTooLong, form_of};
+ghost use Rattle.tst_runner.specs.Inner.Files.{IsCompared, IsTooLong, form_of};
 ghost use Rattle.tst_runner.specs.Loading.{IsImage, IsNoImage};
 ghost use Rattle.tst_runner.specs.Setting.{folder_of, path_of, setting_of};
 
-use crate::languages::{Form, ProgramText};
-use outer_world::{Detail, Diagnostic, Reading, Shelf};
-use source_files::{LoadError, load, path_in};
+use hack_asm::{Form, ProgramLanguage};
+use outer_world::Shelf;
+use source_files::{LoadError, load, load_text, path_in};
 use std::alloc::{AllocError, Global};
-
-const FILE_LIMIT: u32 = 1_048_576;
 
 /// The part of a path before its last slash; nothing where it has none.
 pub(crate) fn folder_of(path: &str) -> &str
@@ -61,18 +59,10 @@ pub fn load_image<F: Shelf>(
     ensures keeps { F.unfailing shelf.old → F.unfailing shelf.new }
 {
     let beside = path_beside(alloc, path, file)?;
-    let language = ProgramText {
+    let language = ProgramLanguage {
         form: form_of(file),
     };
     load(alloc, &language, beside.as_str(), beside.as_str(), shelf)
-}
-
-// The refusal of a text that is too long.
-fn too_long(alloc: Global, path: &str) -> LoadError
-    ensures { TellsTooLong path.now result }
-{
-    let bytes = Detail::Number(u64::from(FILE_LIMIT) + 1);
-    LoadError::refused(alloc, path, Diagnostic::nowhere("Range", bytes))
 }
 
 /// The text of a compare file of the script's folder, of at most 1,048,576 bytes.
@@ -91,10 +81,5 @@ pub fn load_compared<F: Shelf>(
     ensures keeps { F.unfailing shelf.old → F.unfailing shelf.new }
 {
     let beside = path_beside(alloc, path, file)?;
-    match shelf.read(alloc, beside.as_str(), FILE_LIMIT) {
-        Reading::Bytes(text) => Ok(text),
-        Reading::TooLong(_) => Err(too_long(alloc, beside.as_str())),
-        Reading::Failed => Err(LoadError::Failed),
-        Reading::Memory => Err(LoadError::Memory),
-    }
+    load_text(alloc, beside.as_str(), shelf)
 }

@@ -8,16 +8,16 @@ ghost use Rattle.hdl_tree.specs.declared.library.Library.{Library};
 ghost use Rattle.hack_cpu.specs.Library.{shipped_chips};
 ghost use Rattle.tst_runner.specs.Gathering.{Gather, GatherFails, IsFound, built_in, entry_of, file_of, needed_names};
 ghost use Rattle.tst_runner.specs.Inner.Gathered.{IsNext, IsNowhere, IsOrigin, IsRefusedAt, Leads, LacksFileOf, sources_of};
-ghost use Rattle.tst_runner.specs.Inner.Languages.{RefusesHdl};
 ghost use Rattle.tst_runner.specs.Inner.Sound.{IsSound};
 ghost use Rattle.tst_runner.specs.Loading.{HasFailed, HasGathered};
 ghost use Rattle.tst_runner.specs.Setting.{folder_of, setting_of};
+ghost use Rattle.hdl_parser.specs.Language.{RefusesHdl};
 ghost use Rattle.hdl_parser.specs.Spells.{Spells};
 
 use crate::directories::entry_named;
 use crate::files::folder_of;
-use crate::languages::HdlText;
 use hack_cpu::{library, take_shipped};
+use hdl_parser::HdlLanguage;
 use hdl_tree::{Body, Chip, Entry, Library, List, Name, Part, find_end};
 use outer_world::{Listing, Shelf};
 use source_files::{LoadError, load, path_in};
@@ -154,7 +154,7 @@ fn load_chip<F: Shelf>(
     ensures keeps { F.unfailing shelf.old → F.unfailing shelf.new }
 {
     let path = path_in(alloc, folder, file)?;
-    load(alloc, &HdlText, path.as_str(), file, shelf)
+    load(alloc, &HdlLanguage, path.as_str(), file, shelf)
 }
 
 // The chip of a name, from where it is found.

@@ -9,15 +9,12 @@ mod commands;
 mod directories;
 mod files;
 mod gathering;
-mod languages;
 mod lines;
 mod loading;
 mod printing;
 mod script;
-mod script_language;
 mod standing;
 
-pub use languages::{Form, HdlText, ProgramText};
 pub use script::{ScriptError, Verdict, run_script};
 pub use standing::Difference;
 

@@ -12,11 +12,10 @@ ghost use Rattle.tst_runner.specs.declared.script.ScriptError.TheVariants as err
 
 use crate::acts::Script;
 use crate::commands::run_commands;
-use crate::script_language::ScriptText;
 use crate::standing::{Difference, State, Stop};
 use outer_world::{Pieces, Put, Shelf, Sink};
 use script_device::Device;
-use script_parser::Command;
+use script_parser::{Command, ScriptLanguage};
 use source_files::{LoadError, load};
 use std::alloc::Global;
 
@@ -155,6 +154,6 @@ pub fn run_script<F: Shelf, O: Sink, E: Sink>(
         path,
         blocks: !gates,
     };
-    let commands = load(alloc, &ScriptText, path, "", shelf)?;
+    let commands = load(alloc, &ScriptLanguage, path, "", shelf)?;
     run_whole(alloc, script, &commands, shelf, out, err)
 }

@@ -5,3 +5,5 @@ pub mod Trees
 pub mod Reading
 pub mod Printed
 pub mod OneToken
+pub mod Language
+pub mod Inner

@@ -3,8 +3,8 @@ use Rattle.std.specs.Prelude.{◌≡◌, ℕ, List, Option}
 use Rattle.outer_world.specs.Files.{Files}
 use Rattle.hack_asm.specs.Image.{image_text}
 use Rattle.source_files.specs.Sources.{IsFaulty, SpellsAt}
-use Rattle.nand_cli.specs.Languages.{RefusesWords, SpellsWords}
-use Rattle.nand_cli.specs.declared.languages.Form.TheVariants.{Assembly}
+use Rattle.hack_asm.specs.Language.{RefusesWords, SpellsWords}
+use Rattle.hack_asm.specs.declared.language.Form.TheVariants.{Assembly}
 
 -- The text of the file means a program as assembly, and these are its words.
 abbrev pub AsmPrints : Option Files → List ℕ → List ℕ → Type 0

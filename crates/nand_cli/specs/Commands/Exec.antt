@@ -6,9 +6,9 @@ use Rattle.outer_world.specs.Files.{Files}
 use Rattle.hack_isa.specs.Machine.{machine_at, read}
 use Rattle.machine_io.specs.Words.{words_text}
 use Rattle.source_files.specs.Sources.{IsFaulty, SpellsAt}
-use Rattle.nand_cli.specs.Languages.{RefusesWords, SpellsWords}
-use Rattle.nand_cli.specs.declared.languages.Form.{Form}
-use Rattle.nand_cli.specs.declared.languages.Form.TheVariants.{Assembly, Image}
+use Rattle.hack_asm.specs.Language.{RefusesWords, SpellsWords}
+use Rattle.hack_asm.specs.declared.language.Form.{Form}
+use Rattle.hack_asm.specs.declared.language.Form.TheVariants.{Assembly, Image}
 
 -- A path that ends in `.hack` is that of an image, and each other one that of assembly.
 abbrev pub form_of : List ℕ → Form

@@ -30,7 +30,7 @@ use Rattle.command_line.specs.declared.request.RunLevel.TheVariants as levels
 use Rattle.nand_cli.specs.Commands.Gates.{IsGatesReport, meaning_in}
 use Rattle.nand_cli.specs.Commands.RunVm.{IsVmReport}
 use Rattle.nand_cli.specs.JackFolder.{BuildIsRefused, FolderIsRefused, FolderMeans, IsBuilt}
-use Rattle.nand_cli.specs.Languages.{RefusesKeys}
+use Rattle.key_script.specs.Language.{RefusesKeys}
 
 -- ---- the keys
 

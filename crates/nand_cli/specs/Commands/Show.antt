@@ -15,7 +15,9 @@ use Rattle.jack_parser.specs.Spelled.{SpellsClass}
 use Rattle.jack_parser.specs.PrintedClass.{printed_class}
 use Rattle.command_line.specs.declared.request.SourceKind.{SourceKind}
 use Rattle.command_line.specs.declared.request.SourceKind.TheVariants as kinds
-use Rattle.nand_cli.specs.Languages.{RefusesClass, RefusesHdl, RefusesVm}
+use Rattle.hdl_parser.specs.Language.{RefusesHdl}
+use Rattle.jack_parser.specs.Language.{RefusesClass}
+use Rattle.vm_parser.specs.Language.{RefusesVm}
 
 -- A VM text spells the program of one file, in which commands may stand before the first function. The file has no
 -- name here, since the printed form has none in it.

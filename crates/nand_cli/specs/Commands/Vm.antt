@@ -18,7 +18,7 @@ use Rattle.image_map.specs.Map.{the_map}
 use Rattle.vm_translator.specs.Messages.{code_message}
 use Rattle.vm_translator.specs.Translated.{IsTranslated}
 use Rattle.vm_translator.specs.declared.coded.CodeFault.TheVariants.{TooLarge}
-use Rattle.nand_cli.specs.Languages.{RefusesVm, SpellsVmFile}
+use Rattle.vm_parser.specs.Language.{RefusesVm, SpellsVmFile}
 
 -- The VM files of the folder spell this program.
 abbrev pub HasProgram : Bool → Option Files → List ℕ → List File → Type 0

@@ -4,12 +4,6 @@ use Rattle.std.specs.declared.alloc.Global.{Global}
 use Rattle.command_line.specs.Line.{Line}
 use Rattle.command_line.specs.declared.reader.LineError.{LineError}
 use Rattle.command_line.specs.declared.reader.LineError.TheVariants as no_line
-use Rattle.grammar.specs.Faults.{diagnostic_of}
-use Rattle.grammar.specs.declared.ReadError.{ReadError}
-use Rattle.grammar.specs.declared.ReadError.TheVariants as reads
-use Rattle.hack_asm.specs.HackText.{IsRefusal as IsNoImage}
-use Rattle.hack_asm.specs.Meaning.{IsRefusal as IsNoAssembly}
-use Rattle.hack_asm.specs.declared.fault.AsmFault.{AsmFault}
 use Rattle.outer_world.specs.Faults.{Rose}
 use Rattle.outer_world.specs.Files.{Files, path_in}
 use Rattle.outer_world.specs.Texts.{read_fault_line, usage_line, want_of_memory_line}
@@ -19,8 +13,6 @@ use Rattle.outer_world.specs.declared.sink.Put.TheVariants as put
 use Rattle.source_files.specs.Loads.{Refused, line_of}
 use Rattle.source_files.specs.declared.error.LoadError.{LoadError}
 use Rattle.source_files.specs.declared.error.LoadError.TheVariants as errors
-use Rattle.source_files.specs.declared.error.TextError.{TextError}
-use Rattle.source_files.specs.declared.error.TextError.TheVariants as texts
 use Rattle.jack_names.specs.Messages.{name_message}
 use Rattle.tower.specs.declared.program.ProgramError.{ProgramError}
 use Rattle.tower.specs.declared.program.ProgramError.TheVariants as programs
@@ -31,11 +23,8 @@ use Rattle.tst_runner.specs.declared.script.ScriptError.{ScriptError}
 use Rattle.tst_runner.specs.declared.script.ScriptError.TheVariants as scripts
 use Rattle.nand_cli.specs.Answer.{CutsEcho, CutsOut, Disagrees, Misses, Prints, Refuses, Starves}
 use Rattle.nand_cli.specs.JackFolder.{home_of}
-use Rattle.nand_cli.specs.Languages.{SpellsWords}
 use Rattle.nand_cli.specs.declared.command.Status.{Status}
 use Rattle.nand_cli.specs.declared.command.Status.TheVariants as status
-use Rattle.nand_cli.specs.declared.languages.Form.{Form}
-use Rattle.nand_cli.specs.declared.languages.Form.TheVariants.{Assembly, Image}
 use Rattle.nand_cli.specs.declared.failure.Failure.{Failure}
 use Rattle.nand_cli.specs.declared.failure.Failure.TheVariants as failure
 
@@ -76,21 +65,6 @@ end_result (Err scripts.Out) = Err failure.Out
 end_result (Err scripts.Err) = Err failure.Echo
 
 -- ---- texts
-
--- A fault of a text is told, unless memory is wanting.
-abbrev pub TellsText : ReadError → TextError → Type 0
-TellsText (reads.Fault fault) e = e ≡ texts.Refused (diagnostic_of fault)
-TellsText reads.Memory e = e ≡ texts.Memory
-
--- a text of this form is refused for this fault of the code, unless memory is wanting
-abbrev pub IsRefused : Form → List ℕ → AsmFault → Type 0
-IsRefused Assembly text fault = IsNoAssembly text fault
-IsRefused Image text fault = IsNoImage text fault
-
--- What reading the words of a text in a form says: the words, or for which fault it is refused, unless memory is wanting.
-abbrev pub ReadsWords : Form → List ℕ → Result (Vec ℕ Global) AsmFault → Type 0
-ReadsWords form text (Ok words) = SpellsWords form text words.items
-ReadsWords form text (Err fault) = IsRefused form text fault
 
 -- Why classes mean no program is told, unless memory is wanting.
 abbrev pub TellsWrong : List ℕ → ProgramError → LoadError → Type 0

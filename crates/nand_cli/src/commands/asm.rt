@@ -4,8 +4,7 @@ ghost use Rattle.command_line.specs.Line.{asm};
 ghost use Rattle.nand_cli.specs.Inner.Parts.{Counts, Does};
 
 use crate::failure::{Failure, finished};
-use crate::languages::{Form, ProgramText};
-use hack_asm::write_hack;
+use hack_asm::{Form, ProgramLanguage, write_hack};
 use outer_world::{Shelf, Sink};
 use source_files::load;
 use std::alloc::Global;
@@ -22,7 +21,7 @@ pub fn answer_asm<F: Shelf, O: Sink>(
     ensures kept { F.files shelf.new ≡ F.files shelf.old }
     ensures stays { F.there shelf.new ≡ F.there shelf.old }
 {
-    let assembly = ProgramText {
+    let assembly = ProgramLanguage {
         form: Form::Assembly,
     };
     let words = load(alloc, &assembly, path, "", shelf)?;

@@ -11,7 +11,7 @@ ghost use Rattle.nand_cli.specs.Inner.Parts.{Counts, Does};
 
 use crate::failure::{Failure, finished};
 use crate::jack::{ENDING, not_meant};
-use crate::languages::JackText;
+use jack_parser::JackLanguage;
 use jack_places::first_law;
 use jack_tree::Class;
 use outer_world::{Shelf, Sink};
@@ -47,7 +47,7 @@ pub fn answer_compile<F: Shelf, O: Sink>(
     ensures kept { F.files shelf.new ≡ F.files shelf.old }
     ensures stays { F.there shelf.new ≡ F.there shelf.old }
 {
-    let classes = load_folder(alloc, &JackText, folder, ENDING, shelf)?;
+    let classes = load_folder(alloc, &JackLanguage, folder, ENDING, shelf)?;
     let files = compiled(alloc, folder, &classes)?;
     finished(print_files(&files.as_slice()[..classes.len()], out))
 }

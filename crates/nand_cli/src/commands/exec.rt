@@ -7,8 +7,8 @@ ghost use Rattle.nand_cli.specs.Commands.Exec.{form_of};
 ghost use Rattle.nand_cli.specs.Inner.Parts.{Counts, Does};
 
 use crate::failure::{Failure, finished};
-use crate::languages::{Form, ProgramText};
 use command_line::Exec;
+use hack_asm::{Form, ProgramLanguage};
 use hack_machine::{Hack, cycles_law};
 use key_script::Keys;
 use machine_io::{Keyboard, drive, show_words};
@@ -56,7 +56,7 @@ pub fn answer_exec<F: Shelf, O: Sink>(
     ensures kept { F.files shelf.new ≡ F.files shelf.old }
     ensures stays { F.there shelf.new ≡ F.there shelf.old }
 {
-    let language = ProgramText {
+    let language = ProgramLanguage {
         form: form_of(request.path),
     };
     let program = load(alloc, &language, request.path, "", shelf)?;

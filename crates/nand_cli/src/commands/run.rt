@@ -16,14 +16,13 @@ ghost use Rattle.nand_cli.specs.Inner.Reports.{CountsReport, IsHackAtStart, IsPu
 use crate::failure::Failure;
 use crate::gates::report_gates;
 use crate::jack::{image_of, load_jack};
-use crate::languages::KeyText;
 use crate::report::report;
 use crate::vm_run::report_vm;
 use command_line::{Run, RunLevel};
 use image_map::Image;
 use jack_core::Core;
 use jack_machine::Jack;
-use key_script::Keys;
+use key_script::{KeyLanguage, Keys};
 use machine_io::{LevelName, Show};
 use outer_world::{Shelf, Sink};
 use source_files::{LoadError, load};
@@ -39,7 +38,7 @@ fn load_keys<F: Shelf>(alloc: Global, path: Option<&str>, shelf: &mut F) -> Resu
 {
     match path {
         None => Ok(Keys::none(alloc)),
-        Some(path) => load(alloc, &KeyText, path, "", shelf),
+        Some(path) => load(alloc, &KeyLanguage, path, "", shelf),
     }
 }
 

@@ -4,12 +4,13 @@ ghost use Rattle.command_line.specs.Line.{show};
 ghost use Rattle.nand_cli.specs.Inner.Parts.{Counts, Does};
 
 use crate::failure::{Failure, finished};
-use crate::languages::{HdlText, JackText, VmText};
 use command_line::SourceKind;
-use jack_parser::printed_class_law;
+use hdl_parser::HdlLanguage;
+use jack_parser::{JackLanguage, printed_class_law};
 use outer_world::{List, Shelf, Sink};
 use source_files::load;
 use std::alloc::Global;
+use vm_parser::VmLanguage;
 
 // Shows a VM text.
 fn show_vm<F: Shelf, O: Sink>(
@@ -23,7 +24,7 @@ fn show_vm<F: Shelf, O: Sink>(
     ensures kept { F.files shelf.new ≡ F.files shelf.old }
     ensures stays { F.there shelf.new ≡ F.there shelf.old }
 {
-    let file = load(alloc, &VmText { bare: true }, path, "", shelf)?;
+    let file = load(alloc, &VmLanguage { bare: true }, path, "", shelf)?;
     let mut program = List::new(alloc);
     program.push(file)?;
     finished(vm_tree::print(&program, out))
@@ -42,7 +43,7 @@ fn show_class<F: Shelf, O: Sink>(
     ensures stays { F.there shelf.new ≡ F.there shelf.old }
 {
     printed_class_law();
-    let class = load(alloc, &JackText, path, "", shelf)?;
+    let class = load(alloc, &JackLanguage, path, "", shelf)?;
     finished(jack_parser::print(&class, out))
 }
 
@@ -58,7 +59,7 @@ fn show_chip<F: Shelf, O: Sink>(
     ensures kept { F.files shelf.new ≡ F.files shelf.old }
     ensures stays { F.there shelf.new ≡ F.there shelf.old }
 {
-    let chip = load(alloc, &HdlText, path, "", shelf)?;
+    let chip = load(alloc, &HdlLanguage, path, "", shelf)?;
     finished(hdl_parser::print(&chip, out))
 }
 

@@ -14,12 +14,12 @@ ghost use Rattle.nand_cli.specs.Commands.Vm.{HasProgram, IsNoCode, VmRefuses};
 ghost use Rattle.nand_cli.specs.Inner.Parts.{Counts, Does};
 
 use crate::failure::{Failure, finished};
-use crate::languages::VmText;
 use hack_asm::write_asm;
 use outer_world::{List, Shelf, Sink};
 use source_files::{LoadError, load_folder};
 use std::alloc::Global;
 use vm_link::{Linked, link};
+use vm_parser::VmLanguage;
 use vm_translator::{Coded, translate};
 use vm_tree::Program;
 
@@ -37,7 +37,7 @@ fn load_program<F: Shelf>(
     ensures kept { F.files shelf.new ≡ F.files shelf.old }
     ensures stays { F.there shelf.new ≡ F.there shelf.old }
 {
-    let files = load_folder(alloc, &VmText { bare }, folder, ENDING, shelf)?;
+    let files = load_folder(alloc, &VmLanguage { bare }, folder, ENDING, shelf)?;
     Ok(List::of(files))
 }
 

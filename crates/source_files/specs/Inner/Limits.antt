@@ -1,16 +1,10 @@
--- What the parts of loading say of the limits, and of a file that a listing named and that is not there.
-use Rattle.std.specs.Prelude.{◌≡◌, ◌<◌, ℕ, List, Option, true, length, is_some, IfSome}
+-- What the parts of loading say of the limit of files, and of a file that a listing named and that is not there.
+use Rattle.std.specs.Prelude.{◌≡◌, ℕ, List, Option, true, is_some, IfSome}
 use Rattle.std.specs.List.{AllByRecursion}
-use Rattle.outer_world.specs.Files.{Files, HasFile, file_at, path_in}
-use Rattle.outer_world.specs.Refusals.{message_line}
+use Rattle.outer_world.specs.Files.{Files, file_at, path_in}
 use Rattle.source_files.specs.Folder.{overfull}
 use Rattle.source_files.specs.Loads.{Refused}
-use Rattle.source_files.specs.Sources.{past_limit}
 use Rattle.source_files.specs.declared.error.LoadError.{LoadError}
-
--- The text at a path is past the limit, as this line tells.
-abbrev pub IsPastLimit : Option Files → List ℕ → List ℕ → Type 0
-IsPastLimit files path line = (text : List ℕ) × HasFile files path text × (1048576 < length text) × (line ≡ message_line path past_limit)
 
 abbrev pub TellsOverfull : List ℕ → ℕ → LoadError → Type 0
 TellsOverfull folder n e = Refused folder (overfull n) e

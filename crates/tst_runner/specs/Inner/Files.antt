@@ -2,12 +2,9 @@
 use Rattle.std.specs.Prelude.{◌≡◌, ◌≤◌, ℕ, List, length, codes, decimal, if◌then◌else◌}
 use Rattle.outer_world.specs.Files.{HasFile}
 use Rattle.outer_world.specs.Refusals.{message, message_line}
-use Rattle.source_files.specs.Loads.{Refused}
-use Rattle.source_files.specs.Sources.{past_limit}
-use Rattle.source_files.specs.declared.error.LoadError.{LoadError}
+use Rattle.hack_asm.specs.declared.language.Form.{Form}
+use Rattle.hack_asm.specs.declared.language.Form.TheVariants.{Assembly, Image}
 use Rattle.script_parser.specs.Numbers.{ends_in}
-use Rattle.tst_runner.specs.declared.languages.Form.{Form}
-use Rattle.tst_runner.specs.declared.languages.Form.TheVariants.{Assembly, Image}
 use Rattle.tst_runner.specs.Setting.{Setting, path_of}
 
 -- the form of a program's text, by the ending of its file
@@ -22,6 +19,3 @@ IsCompared setting file text = HasFile setting.files (path_of setting file) text
 abbrev pub IsTooLong : Setting → List ℕ → List ℕ → Type 0
 IsTooLong setting file line =
     (text : List ℕ) × HasFile setting.files (path_of setting file) text × (1048577 ≤ length text) × (line ≡ message_line (path_of setting file) (message 0 0 (codes "Range") (decimal 1048577)))
-
-abbrev pub TellsTooLong : List ℕ → LoadError → Type 0
-TellsTooLong path e = Refused path past_limit e

@@ -5,8 +5,9 @@ use Rattle.outer_world.specs.Written.{Puts}
 use Rattle.hack_asm.specs.Image.{image_text}
 use Rattle.source_files.specs.Sources.{IsFaulty, SpellsAt}
 use Rattle.command_line.specs.Line.{asm}
-use Rattle.nand_cli.specs.Languages.{RefusesWords, SpellsWords}
-use Rattle.nand_cli.specs.declared.languages.Form.TheVariants.{Assembly}
+use Rattle.hack_asm.specs.Language.{SpellsWords, TellsAsmFault}
+use Rattle.hack_asm.specs.declared.language.Form.TheVariants.{Assembly}
+use Rattle.hack_asm.proofs.Refusals.{refused_in}
 use Rattle.nand_cli.proofs.Doing.{done_by, done_counts, nothing_put, unread_counts}
 use Rattle.nand_cli.proofs.commands.asm.answer_asm.Goals as goal
 
@@ -15,8 +16,8 @@ returns-in_err-words-clause-does g c = λ err.
     let p = err_from_is_err_and c.from_residual.result c.from_residual.ensures.1 in
     let files = g.F.Shelf.files c.args.shelf.now in
     let path = c.args.path.now in
-    rw (p.1, p.2) (nothing_put (SpellsAt (λ text (words : Vec ℕ Global). SpellsWords Assembly text words.items) files path) (IsFaulty (RefusesWords Assembly) files path) (g.F.Shelf.unfailing c.args.shelf.now → LacksFile files path)
-    files (g.F.Shelf.there c.args.shelf.now) (g.F.Shelf.unfailing c.args.shelf.now) (asm path) (g.O.Sink.written c.args.out.now) err _ (λ line k. (refl, k, refl)) (λ h. h) c.in_err-words.ensures.loads tt)
+    rw (p.1, p.2) (nothing_put (SpellsAt (λ text (words : Vec ℕ Global). SpellsWords Assembly text words.items) files path) (IsFaulty (TellsAsmFault Assembly) files path) (g.F.Shelf.unfailing c.args.shelf.now → LacksFile files path)
+    files (g.F.Shelf.there c.args.shelf.now) (g.F.Shelf.unfailing c.args.shelf.now) (asm path) (g.O.Sink.written c.args.out.now) err _ (λ line k. (refl, refused_in Assembly files path line k, refl)) (λ h. h) c.in_err-words.ensures.loads tt)
 
 pub returns-in_err-words-clause-counts : goal.returns-in_err-words-clause-counts
 returns-in_err-words-clause-counts g c = λ err.

@@ -12,7 +12,7 @@ use Rattle.tower.specs.Spelled.{AreSpelled}
 use Rattle.command_line.specs.Line.{compile}
 use Rattle.nand_cli.specs.Commands.Compile.{CompilePrints}
 use Rattle.nand_cli.specs.JackFolder.{IsMeaningless, meaningless, unread}
-use Rattle.nand_cli.specs.Languages.{RefusesClass}
+use Rattle.jack_parser.specs.Language.{RefusesClass}
 use Rattle.nand_cli.proofs.Doing.{done_by, missing, nothing_put, unmade_counts, unread_counts}
 use Rattle.nand_cli.proofs.Compiling.{compiled_prints}
 use Rattle.nand_cli.proofs.Spelling.{HasTrees, few_classes, seen_classes, seen_unread, spelled_classes}

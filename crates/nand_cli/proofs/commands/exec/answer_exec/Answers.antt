@@ -8,9 +8,10 @@ use Rattle.source_files.specs.Loads.{Loads}
 use Rattle.source_files.specs.Sources.{IsFaulty, SpellsAt}
 use Rattle.command_line.specs.Line.{exec}
 use Rattle.nand_cli.specs.Commands.Exec.{form_of}
-use Rattle.nand_cli.specs.Languages.{RefusesWords, SpellsWords}
-use Rattle.nand_cli.specs.declared.languages.Form.{Form}
-use Rattle.nand_cli.proofs.Assembling.{few_words}
+use Rattle.hack_asm.specs.Language.{SpellsWords, TellsAsmFault}
+use Rattle.hack_asm.specs.declared.language.Form.{Form}
+use Rattle.hack_asm.proofs.Refusals.{refused_in}
+use Rattle.hack_asm.proofs.Sizes.{few_words}
 use Rattle.nand_cli.proofs.Doing.{done_by, done_counts, nothing_put, unread_counts}
 use Rattle.nand_cli.proofs.Driving.{without_keys}
 use Rattle.nand_cli.proofs.commands.exec.answer_exec.Goals as goal
@@ -21,9 +22,9 @@ returns-in_err-program-clause-does g c = λ err.
     let request = c.args.request.now in
     let files = g.F.Shelf.files c.args.shelf.now in
     let path = request.path.now in
-    let Q : Form → Type 0 = λ f. Loads (SpellsAt (λ text (words : Vec ℕ Global). SpellsWords f text words.items) files path) (IsFaulty (RefusesWords f) files path) (g.F.Shelf.unfailing c.args.shelf.now → LacksFile files path) (Err c.in_err-program.field-0.0) in
-    rw (p.1, p.2) (nothing_put (SpellsAt (λ text (words : Vec ℕ Global). SpellsWords (form_of path) text words.items) files path) (IsFaulty (RefusesWords (form_of path)) files path) (g.F.Shelf.unfailing c.args.shelf.now → LacksFile files path)
-    files (g.F.Shelf.there c.args.shelf.now) (g.F.Shelf.unfailing c.args.shelf.now) (exec path request.cycles request.from request.to) (g.O.Sink.written c.args.out.now) err _ (λ line k. (refl, k, refl)) (λ h. h) (subst Q c.form_of.ensures c.in_err-program.ensures.loads) tt)
+    let Q : Form → Type 0 = λ f. Loads (SpellsAt (λ text (words : Vec ℕ Global). SpellsWords f text words.items) files path) (IsFaulty (TellsAsmFault f) files path) (g.F.Shelf.unfailing c.args.shelf.now → LacksFile files path) (Err c.in_err-program.field-0.0) in
+    rw (p.1, p.2) (nothing_put (SpellsAt (λ text (words : Vec ℕ Global). SpellsWords (form_of path) text words.items) files path) (IsFaulty (TellsAsmFault (form_of path)) files path) (g.F.Shelf.unfailing c.args.shelf.now → LacksFile files path)
+    files (g.F.Shelf.there c.args.shelf.now) (g.F.Shelf.unfailing c.args.shelf.now) (exec path request.cycles request.from request.to) (g.O.Sink.written c.args.out.now) err _ (λ line k. (refl, refused_in (form_of path) files path line k, refl)) (λ h. h) (subst Q c.form_of.ensures c.in_err-program.ensures.loads) tt)
 
 pub returns-in_err-program-clause-counts : goal.returns-in_err-program-clause-counts
 returns-in_err-program-clause-counts g c = λ err.

@@ -7,7 +7,7 @@ use Rattle.hdl_parser.specs.Spells.{Spells as SpellsChip}
 use Rattle.hdl_parser.specs.Printed.{chip_text}
 use Rattle.command_line.specs.Line.{show}
 use Rattle.command_line.specs.declared.request.SourceKind.TheVariants as kinds
-use Rattle.nand_cli.specs.Languages.{RefusesHdl}
+use Rattle.hdl_parser.specs.Language.{RefusesHdl}
 use Rattle.nand_cli.proofs.Doing.{done_by, done_counts, nothing_put, unread_counts}
 use Rattle.nand_cli.proofs.commands.show.show_chip.Goals as goal
 

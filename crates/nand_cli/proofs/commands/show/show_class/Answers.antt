@@ -8,7 +8,7 @@ use Rattle.jack_os.specs.System.{SpellsClass}
 use Rattle.jack_parser.specs.Printed.{class_text}
 use Rattle.command_line.specs.Line.{show}
 use Rattle.command_line.specs.declared.request.SourceKind.TheVariants as kinds
-use Rattle.nand_cli.specs.Languages.{RefusesClass}
+use Rattle.jack_parser.specs.Language.{RefusesClass}
 use Rattle.nand_cli.proofs.Doing.{done_by, done_counts, nothing_put, unread_counts}
 use Rattle.nand_cli.proofs.commands.show.show_class.Goals as goal
 

@@ -6,7 +6,7 @@ use Rattle.vm_tree.specs.Printed.{program_text}
 use Rattle.vm_tree.specs.declared.program.File.{File}
 use Rattle.command_line.specs.Line.{show}
 use Rattle.command_line.specs.declared.request.SourceKind.TheVariants as kinds
-use Rattle.nand_cli.specs.Languages.{RefusesVm, SpellsVmFile}
+use Rattle.vm_parser.specs.Language.{RefusesVm, SpellsVmFile}
 use Rattle.nand_cli.specs.Commands.Show.{SpellsVm}
 use Rattle.nand_cli.proofs.Doing.{done_by, done_counts, nothing_put, unread_counts}
 use Rattle.nand_cli.proofs.commands.show.show_vm.Goals as goal

@@ -4,7 +4,7 @@ use Rattle.outer_world.specs.Files.{LacksFolder}
 use Rattle.vm_tree.specs.declared.program.File.{File}
 use Rattle.source_files.specs.Sources.{FolderSpells, IsUnread}
 use Rattle.source_files.proofs.Told.{without}
-use Rattle.nand_cli.specs.Languages.{RefusesVm, SpellsVmFile}
+use Rattle.vm_parser.specs.Language.{RefusesVm, SpellsVmFile}
 use Rattle.nand_cli.specs.Commands.Vm.{HasProgram, VmRefuses, unread}
 use Rattle.nand_cli.proofs.commands.vm.load_program.Goals as goal
 
