@@ -1,0 +1,30 @@
+// Every second row of the screen becomes black.
+    @SCREEN
+    D=A
+    @address
+    M=D
+(ROW)
+    @32
+    D=A
+    @left
+    M=D
+(WORD)
+    @address
+    AM=M+1
+    A=A-1
+    M=-1
+    @left
+    MD=M-1
+    @WORD
+    D;JGT
+    @32
+    D=A
+    @address
+    MD=D+M
+    @KBD
+    D=D-A
+    @ROW
+    D;JLT
+(END)
+    @END
+    0;JMP
