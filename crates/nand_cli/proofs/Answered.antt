@@ -1,6 +1,6 @@
 -- Over known files a line has an answer; and a folder has well named classes, or is refused.
 use Rattle.std.specs.Prelude.{◌-◌, ◌^◌, min, nat_le}
-use Rattle.std.proofs.Common.{◌≡◌, ◌≤◌, ◌<◌, ◌⊎◌, inl, inr, ℕ, Bool, true, false, List, [], ◌∷◌, Option, Some, None, Result, Ok, Err, codes, length, take, refl, subst, arith}
+use Rattle.std.proofs.Common.{◌≡◌, ◌≤◌, ◌<◌, ◌⊎◌, inl, inr, ℕ, Bool, true, false, List, [], ◌∷◌, Option, Some, None, Result, Ok, Err, codes, length, take, refl, arith}
 use Rattle.std.proofs.lemmas.Bool.Decides.{nat_tests}
 use Rattle.grammar.specs.declared.Fault.{Fault}
 use Rattle.grammar.specs.Faults.{diagnostic_of}
@@ -15,7 +15,7 @@ use Rattle.hack_asm.specs.Meaning.{TotalLaw as AssemblyLaw}
 use Rattle.hack_asm.specs.HackText.{TotalLaw as ImageLaw}
 use Rattle.machine_io.specs.Words.{words_text}
 use Rattle.source_files.specs.Folder.{stem_of}
-use Rattle.source_files.specs.Sources.{FolderSpells, IsFaulty, IsUnread, SpellsAt}
+use Rattle.source_files.specs.Sources.{IsFaulty, IsUnread, SpellsAt}
 use Rattle.vm_tree.specs.Printed.{files_text, program_text}
 use Rattle.vm_tree.specs.declared.program.File.{File}
 use Rattle.vm_parser.specs.Trees.{TotalLaw as VmLaw, Spells as SpellsProgram, Refuses as RefusesProgram}
@@ -37,16 +37,15 @@ use Rattle.jack_names.specs.FaultOrder.{IsFirstFault}
 use Rattle.jack_names.specs.NameFaults.{IsWellNamed}
 use Rattle.jack_names.proofs.Found.{finds_first, finds_none}
 use Rattle.jack_names.proofs.Searched.{all_faults}
-use Rattle.jack_os.specs.System.{AreFilesOf, SystemLaw, system}
-use Rattle.jack_places.specs.Rising.{AreSpelled, FirstLaw}
+use Rattle.jack_os.specs.System.{SystemLaw}
+use Rattle.jack_places.specs.Rising.{FirstLaw}
 use Rattle.command_line.specs.Line.{Line, asm, build, chip, compile, exec, map_line, run, show, test, vm}
 use Rattle.command_line.specs.declared.request.SourceKind.TheVariants as kinds
 use Rattle.nand_cli.specs.Answer.{Prints}
 use Rattle.nand_cli.specs.Answered.{AnsweredLaw, AsmAnsweredLaw, ChipAnsweredLaw, CompileAnsweredLaw, ExecAnsweredLaw, FolderAnsweredLaw, HasAnswer, IsWellFolder, ProgramAnsweredLaw, ShowAnsweredLaw, VmAnsweredLaw}
 use Rattle.nand_cli.specs.Commands.Chip.{unknown_chip}
 use Rattle.nand_cli.specs.Commands.Exec.{form_of}
-use Rattle.nand_cli.specs.Commands.Show.{RefusesKind}
-use Rattle.nand_cli.specs.Commands.Vm.{HasProgram, VmPrints, VmRefuses, unread as vm_unread, without_code}
+use Rattle.nand_cli.specs.Commands.Vm.{HasProgram, VmRefuses, unread as vm_unread, without_code}
 use Rattle.nand_cli.specs.JackFolder.{FolderIsRefused, HasClasses, files_meant, meaningless, name_line, unread}
 use Rattle.hack_asm.specs.Language.{MeansAs, RefusesWords, SpellsWords, wrong_message}
 use Rattle.hdl_parser.specs.Language.{RefusesHdl}

@@ -27,7 +27,7 @@ use Rattle.tower.specs.declared.building.BuildError.{BuildError}
 use Rattle.tower.specs.declared.building.BuildError.TheVariants as building
 use Rattle.command_line.specs.Line.{IsLine, Line, asm, build, chip, compile, exec, map_line, run, show, test, vm}
 use Rattle.command_line.proofs.Lines.{one_line}
-use Rattle.nand_cli.specs.Answer.{Disagrees, Ends, Promises, Refuses, WordsEnd}
+use Rattle.nand_cli.specs.Answer.{Ends, Promises, WordsEnd}
 use Rattle.nand_cli.specs.Commands.Build.{BuildRefuses, unbuilt, without_program}
 use Rattle.nand_cli.specs.Commands.Run.{RunRefuses, unbuilt as run_unbuilt, without_program as run_without_program, without_script}
 use Rattle.nand_cli.specs.Complete.{Completes, IsDoneOrWanting, IsSoundFolder, IsSoundScript, IsUnrefused, NoneFailed, SoundLaw}

@@ -1,5 +1,5 @@
 -- The computer of a program after its cycles, and its report.
-use Rattle.std.proofs.Common.{◌≡◌, ℕ, zero, suc, [], length, refl, ap, ◌∙◌, sym, subst, append-nil}
+use Rattle.std.proofs.Common.{◌≡◌, ℕ, [], refl, ap, ◌∙◌, sym, subst, append-nil}
 use Rattle.std.proofs.lemmas.List.Elements.{recursion_from_All}
 use Rattle.hack_machine.specs.Loaded.{machine_of}
 use Rattle.jack_core.specs.declared.program.Core.{Core}

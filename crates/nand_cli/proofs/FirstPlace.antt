@@ -1,5 +1,5 @@
 -- One fault at most is the first by file, place and kind.
-use Rattle.std.proofs.Common.{◌≡◌, ◌<◌, ◌⊎◌, inl, inr, ℕ, List, [], ◌∷◌, sym, subst, arith}
+use Rattle.std.proofs.Common.{◌≡◌, ◌⊎◌, inl, inr, ℕ, List, [], ◌∷◌, sym, subst, arith}
 use Rattle.jack_tree.specs.Syntax.{ClassFile}
 use Rattle.jack_names.specs.Faults.{NameDiagnostic}
 use Rattle.jack_names.specs.NameFaults.{IsWellNamed}

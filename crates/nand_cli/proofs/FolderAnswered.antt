@@ -1,9 +1,7 @@
 -- Where each text of a language is spelled or refused, a folder whose files are known is read or refused.
-use Rattle.std.specs.Prelude.{filter, is_some, nat_lt, nat_eq}
-use Rattle.std.specs.List.{AllByRecursion, ends_with}
-use Rattle.std.specs.Cmp.Lexicographic.{slice_cmp}
-use Rattle.std.specs.Ordering.{nat_cmp}
-use Rattle.std.proofs.Common.{◌≡◌, ◌≤◌, ◌<◌, ◌++◌, ◌⊎◌, inl, inr, ℕ, Bool, true, false, List, [], ◌∷◌, Option, Some, None, length, refl, sym, ◌∙◌, ap, arith}
+use Rattle.std.specs.Prelude.{is_some, nat_lt}
+use Rattle.std.specs.List.{AllByRecursion}
+use Rattle.std.proofs.Common.{◌≡◌, ◌≤◌, ◌<◌, ◌⊎◌, inl, inr, ℕ, Bool, true, false, List, [], ◌∷◌, Option, Some, None, length, refl, sym, ◌∙◌, ap, arith}
 use Rattle.std.proofs.lemmas.Bool.Decides.{nat_tests}
 use Rattle.outer_world.specs.Files.{Files, file_at, path_in}
 use Rattle.outer_world.specs.Refusals.{Message, message_line}

@@ -6,7 +6,7 @@ use Rattle.source_files.specs.Sources.{SpellEach}
 use Rattle.tower.specs.Existence.{HaveTexts, ProgramLaw}
 use Rattle.nand_cli.specs.Answered.{FolderMeansLaw}
 use Rattle.nand_cli.specs.JackFolder.{HasClasses}
-use Rattle.nand_cli.specs.Languages.{SpellsFile}
+use Rattle.jack_parser.specs.Language.{SpellsFile}
 
 as_many : (files : Option Files) (folder : List ℕ) (names : List (List ℕ)) (own : List ClassFile) → SpellEach SpellsFile files folder names own → length own ≡ length names
 as_many files folder [] [] h = refl

@@ -1,5 +1,5 @@
 -- The computer made of gates after its cycles, and its report.
-use Rattle.std.proofs.Common.{◌≡◌, ◌<◌, ◌++◌, ℕ, zero, suc, List, [], Option, Result, Ok, Err, IfOk, length, refl, ap, ◌∙◌, sym, subst, append-nil}
+use Rattle.std.proofs.Common.{◌≡◌, ◌<◌, ◌++◌, ℕ, suc, List, [], Option, Result, Ok, Err, IfOk, length, refl, ap, ◌∙◌, sym, subst, append-nil}
 use Rattle.std.proofs.lemmas.List.Elements.{recursion_from_All}
 use Rattle.word16.specs.Memory.{keyboard}
 use Rattle.outer_world.specs.Written.{Got, GotPart, Puts}

@@ -1,12 +1,11 @@
 -- The parts of the Computer can be listed: each chip of a library whose texts are clean has a tree.
-use Rattle.std.proofs.Common.{◌≡◌, ◌≤◌, ◌<◌, ◌++◌, ℕ, zero, suc, true, List, [], ◌∷◌, Some, slice_get, codes, refl, arith}
+use Rattle.std.proofs.Common.{◌≡◌, ◌<◌, ℕ, zero, suc, true, List, [], ◌∷◌, Some, slice_get, codes, refl, arith}
 use Rattle.hdl_tree.specs.declared.tree.Part.{Part}
 use Rattle.hdl_tree.specs.declared.library.Entry.{Entry}
 use Rattle.hdl_tree.specs.Chips.{Chips, find_chip, parts_of}
 use Rattle.hdl_flatten.specs.Trees.{AreListed, IsTree, PartIn, next, none}
 use Rattle.hdl_behaviours.specs.Clean.{AreClean, place_of}
 use Rattle.hdl_behaviours.proofs.Clean.{earlier, find_in}
-use Rattle.hack_cpu.specs.Library.{shipped_chips}
 use Rattle.hack_cpu.proofs.HasAll.{has_all}
 use Rattle.hack_cpu.proofs.Shown.{clean}
 use Rattle.gate_computer.specs.Computer.{chips, computer}

@@ -1,12 +1,12 @@
 -- A line that wants the image of a folder has an answer.
-use Rattle.std.specs.Prelude.{◌-◌, ◌^◌, All, get_or, min, nat_eq, nat_le, option_and_then}
+use Rattle.std.specs.Prelude.{◌-◌, ◌^◌, get_or, min, nat_eq, nat_le, option_and_then}
 use Rattle.std.specs.List.{AllByRecursion}
 use Rattle.std.specs.Option.{option_or}
-use Rattle.std.proofs.Common.{◌≡◌, ◌≢◌, ◌≤◌, ◌<◌, ◌+◌, ◌*◌, ◌++◌, ◌⊎◌, inl, inr, ℕ, zero, suc, Bool, true, false, List, [], ◌∷◌, Option, Some, None, Ok, Err, length, map, refl, sym, ◌∙◌, ap, subst, arith}
+use Rattle.std.proofs.Common.{◌≡◌, ◌≢◌, ◌≤◌, ◌<◌, ◌++◌, ◌⊎◌, inl, inr, ℕ, zero, suc, Bool, true, false, List, [], ◌∷◌, Option, Some, None, Ok, Err, length, map, refl, sym, ◌∙◌, ap, subst, arith}
 use Rattle.std.proofs.lemmas.Bool.Decides.{nat_tests}
 use Rattle.std.proofs.lemmas.List.Elements.{All-from_recursion, recursion_from_All}
-use Rattle.outer_world.specs.Files.{Files, file_at}
-use Rattle.outer_world.specs.Refusals.{Message, message_line}
+use Rattle.outer_world.specs.Files.{Files}
+use Rattle.outer_world.specs.Refusals.{Message}
 use Rattle.outer_world.specs.declared.point.Point.{Point}
 use Rattle.hack_isa.specs.Machine.{image_words}
 use Rattle.hack_isa.specs.Table.{word_of}
@@ -16,10 +16,9 @@ use Rattle.hack_asm.specs.Image.{image_text}
 use Rattle.key_script.specs.Codes.{code_at}
 use Rattle.key_script.specs.Faults.{key_message}
 use Rattle.key_script.specs.Grammar.{TotalLaw as KeyLaw, Refuses as RefusesLines, Spells as SpellsLines}
-use Rattle.key_script.specs.declared.fault.KeyFault.{KeyFault}
 use Rattle.key_script.specs.declared.lines.Line.{Line as KeyLine}
 use Rattle.grammar.specs.Texts.{SomeReading}
-use Rattle.machine_io.specs.Report.{head_text, report_text, shown_text}
+use Rattle.machine_io.specs.Report.{head_text, shown_text}
 use Rattle.machine_io.specs.declared.driving.End.{End}
 use Rattle.machine_io.specs.declared.driving.End.TheVariants as ends
 use Rattle.machine_io.specs.declared.machine.Stray.TheVariants as strays
@@ -47,7 +46,7 @@ use Rattle.vm_translator.proofs.Instructed.{shared_covers_as}
 use Rattle.vm_translator.proofs.PlainLemmas.{plain_image}
 use Rattle.jack_meaning.specs.Text.{Subroutine}
 use Rattle.jack_meaning.specs.Meaning.{Acts, Done, Outcome, State, Stray, start, step}
-use Rattle.jack_meaning.specs.Level.{meaning_of, next_of, point_in}
+use Rattle.jack_meaning.specs.Level.{meaning_of, next_of}
 use Rattle.jack_core.specs.Texts.{names_of, the_program, the_subroutines}
 use Rattle.jack_core.specs.declared.program.Core.{Core}
 use Rattle.jack_compiler.specs.Files.{files_of}
@@ -65,12 +64,12 @@ use Rattle.image_map.specs.Computer.{run_trace, run_word}
 use Rattle.image_map.specs.Map.{IsMapped, the_map}
 use Rattle.image_map.specs.Tallies.{point_seen}
 use Rattle.tower.specs.Resolved.{ResolvedLaw}
-use Rattle.tower.specs.VmRun.{IsVmCodeOf, MakesMoves, VmEnds, outcome_at, vm_at, vm_trace, vm_word}
+use Rattle.tower.specs.VmRun.{MakesMoves, VmEnds, outcome_at, vm_at}
 use Rattle.tower.specs.declared.building.BuildError.TheVariants as errors
 use Rattle.tower.proofs.Computers.{computer as computer_follows, is_mapped, linked_bare}
 use Rattle.image_map.proofs.Tallying.{place_first}
 use Rattle.tower.proofs.VmRuns.{follows}
-use Rattle.command_line.specs.Line.{Line, asm, build, chip, compile, exec, map_line, run, show, test, vm}
+use Rattle.command_line.specs.Line.{asm, build, chip, compile, exec, map_line, run, show, test, vm}
 use Rattle.command_line.specs.declared.request.RunLevel.{RunLevel}
 use Rattle.command_line.specs.declared.request.RunLevel.TheVariants as levels
 use Rattle.command_line.specs.declared.request.Shown.{Shown}
@@ -80,7 +79,7 @@ use Rattle.nand_cli.specs.JackFolder.{BuildIsRefused, FolderIsRefused, FolderMea
 use Rattle.key_script.specs.Language.{RefusesKeys}
 use Rattle.nand_cli.specs.Commands.Build.{unbuilt, without_program}
 use Rattle.nand_cli.specs.Commands.Gates.{ComesAfter, IsGatesReport, gates_trace, meaning_in}
-use Rattle.nand_cli.specs.Commands.Run.{EndsAt, HasKeys, IsHackReport, IsJackReport, IsReport, ScriptIsRefused, name_of, state_after, trace_in, unbuilt as run_unbuilt, without_program as run_without_program, without_script}
+use Rattle.nand_cli.specs.Commands.Run.{EndsAt, HasKeys, IsHackReport, IsJackReport, IsReport, state_after, trace_in, unbuilt as run_unbuilt, without_program as run_without_program, without_script}
 use Rattle.nand_cli.specs.Commands.RunVm.{IsVmReport}
 use Rattle.nand_cli.proofs.Covering.{covered}
 use Rattle.nand_cli.proofs.FolderAnswered.{AllRead, at_path}

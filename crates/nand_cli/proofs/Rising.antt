@@ -7,7 +7,7 @@ use Rattle.vm_templates.specs.Templates.{routine_size}
 use Rattle.jack_core.specs.declared.program.Core.{Core}
 use Rattle.vm_link.specs.declared.linked.Linked.{Linked}
 use Rattle.vm_link.specs.Uniform.{is_shared}
-use Rattle.vm_translator.specs.Image.{commit_of, commits_of, names_end, shared_at, shared_commits}
+use Rattle.vm_translator.specs.Image.{commit_of, commits_of, shared_at, shared_commits}
 use Rattle.vm_translator.specs.Places.{base_of, end_of, program}
 use Rattle.vm_translator.specs.Shapes.{step_size}
 use Rattle.vm_translator.specs.Shared.{lasts_from, used_routines}

@@ -28,9 +28,8 @@ use Rattle.jack_meaning.specs.Text.{Program, Subroutine}
 use Rattle.jack_meaning.specs.Meaning.{Acts, Done, Outcome, State, Stray, start, step}
 use Rattle.jack_meaning.specs.Level.{meaning_of, next_of, point_in}
 use Rattle.jack_core.specs.declared.program.Core.{Core}
-use Rattle.jack_core.specs.Texts.{class_names_of, names_of, the_program}
+use Rattle.jack_core.specs.Texts.{names_of, the_program}
 use Rattle.jack_compiler.specs.Files.{files_of, program_files}
-use Rattle.jack_tree.specs.declared.tree.Class.{Class}
 use Rattle.jack_tree.specs.Syntax.{ClassFile}
 use Rattle.jack_tree.specs.Seen.{the_file}
 use Rattle.jack_parser.specs.Spelled.{ClassLaw}

@@ -1,6 +1,5 @@
 -- The classes of a folder: the trees that the code reads, and what is seen of them.
 use Rattle.std.proofs.Common.{◌≡◌, ◌≤◌, ℕ, zero, suc, List, [], ◌∷◌, Option, Some, length, map, codes, sym, ap, subst, refl, inl, inr}
-use Rattle.std.specs.Prelude.{slice_get}
 use Rattle.outer_world.specs.Files.{Files}
 use Rattle.jack_tree.specs.declared.tree.Class.{Class}
 use Rattle.jack_tree.specs.Syntax.{ClassFile}

@@ -1,6 +1,6 @@
 -- How the end of a script is that of its line.
 use Rattle.std.specs.Prelude.{not}
-use Rattle.std.proofs.Common.{◌≡◌, ℕ, Bool, List, Option, Result, Ok, Err}
+use Rattle.std.proofs.Common.{ℕ, Bool, List, Option, Result, Ok, Err}
 use Rattle.outer_world.specs.Files.{Files}
 use Rattle.source_files.specs.declared.error.LoadError.TheVariants as loads
 use Rattle.command_line.specs.Line.{test}

@@ -1,6 +1,6 @@
--- Over known files a line has an answer: it is done, it is refused, or something that it reads is not there. So no line is left to want of memory alone,
--- whatever its files hold. (That it has one such answer at most is said in Exact.)
-use Rattle.std.specs.Prelude.{◌⊎◌, ℕ, Bool, List, Option, Some}
+-- Over known files each line that is no test script has an answer: it is done, it is refused, or something that it reads is not there. So no line
+-- is left to want of memory alone, whatever its files hold. (That it has one such answer at most is said in Exact.)
+use Rattle.std.specs.Prelude.{◌⊎◌, ℕ, Bool, List, Some}
 use Rattle.outer_world.specs.Files.{Files}
 use Rattle.jack_tree.specs.Syntax.{ClassFile}
 use Rattle.jack_core.specs.declared.program.Core.{Core}

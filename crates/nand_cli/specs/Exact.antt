@@ -1,5 +1,5 @@
--- The answers of a line that is no test script are exact: over known files a line prints one thing or is refused for one thing, and not both; and neither, where what
--- it reads is not there.
+-- The answers of a line that is no test script are exact: over known files a line prints one thing or is refused for one thing, and not both; and
+-- neither, where what it reads is not there.
 use Rattle.std.specs.Prelude.{◌≡◌, ℕ, Bool, true, List, Option, Some}
 use Rattle.outer_world.specs.Files.{Files}
 use Rattle.jack_core.specs.declared.program.Core.{Core}
@@ -32,7 +32,8 @@ HasFolder there (map_line folder) = there folder ≡ true
 HasFolder there line = Unit {0}
 
 -- Over these files the line, where it shows one text, prints at most one thing on out and on err, is refused with at most one, and is not both done
--- and refused. Where its folder is there and something that it reads is not, it is neither: so an honest shelf leaves no choice among Done, Refused and ReadFault. (A folder that is not there may be read as an empty one.)
+-- and refused. Where its folder is there and something that it reads is not, it is neither: so an honest shelf leaves no choice among Done, Refused
+-- and ReadFault. (A folder that is not there may be read as an empty one.)
 pub record IsExact (files : Files) (line : Line) : Type 0 where
   pub prints : HasOneText line → (out err out' err' : List ℕ) → Prints (Some files) line out err → Prints (Some files) line out' err' → (out ≡ out') × (err ≡ err')
   pub refuses : (out before told out' before' told' : List ℕ) → Refuses (Some files) line out before told → Refuses (Some files) line out' before' told' → (out ≡ out') × (told ≡ told') × (before ≡ before')

@@ -6,7 +6,8 @@ ghost use Rattle.netlist.specs.Order.{AreOrdered};
 ghost use Rattle.net_simplify.specs.Inner.Reach.{AreReached};
 ghost use Rattle.net_simplify.specs.Inner.Trim.{ArePlaces};
 ghost use Rattle.net_simplify.specs.Inner.Last.{HasMarked, HasReached};
-ghost use Rattle.net_simplify.specs.Inner.Twice.{IsFoldedTwice, IsWhole};
+ghost use Rattle.net_simplify.specs.Inner.Twice.{IsWhole};
+ghost use Rattle.net_simplify.specs.Twice.{IsFoldedTwice};
 ghost use Rattle.net_simplify.specs.Simplified.{IsSimplified};
 
 use crate::middle::folded_net;

@@ -4,47 +4,26 @@ use Rattle.std.specs.Prelude.{IfSome, is_some, slice_get}
 use Rattle.std.specs.Str.{bytes_eq}
 use Rattle.std.proofs.lemmas.Slice.Eq.{bytes_eq-Decides}
 use Rattle.outer_world.specs.Files.{Files, IsListing, LacksFile, LacksFolder, file_at, has_name, path_in}
-use Rattle.outer_world.specs.Refusals.{message_line}
 use Rattle.hdl_tree.specs.declared.tree.Chip.{Chip}
 use Rattle.hdl_tree.specs.declared.tree.Body.{Body}
 use Rattle.hdl_tree.specs.declared.tree.Body.TheVariants as body
 use Rattle.hdl_tree.specs.declared.library.Entry.{Entry}
 use Rattle.hdl_tree.specs.declared.library.Library.{Library}
 use Rattle.hdl_tree.specs.Chips.{find_entry}
-use Rattle.hdl_parser.specs.Spells.{Spells}
-use Rattle.hack_cpu.specs.Library.{shipped_chips}
 use Rattle.source_files.specs.Loads.{Loads, line_of}
-use Rattle.source_files.specs.Sources.{IsFaulty, SpellsAt}
 use Rattle.source_files.specs.declared.error.LoadError.{LoadError}
 use Rattle.source_files.specs.declared.error.LoadError.TheVariants as errors
-use Rattle.tst_runner.specs.Gathering.{Gather, GatherFails, Sources, IsFound, built_in, entry_of, entry_with, file_of, here, is_in_folder, needed_names, no_more, path_of}
+use Rattle.tst_runner.specs.Gathering.{Gather, GatherFails, Sources, IsFound, built_in, entry_with, file_of, here, needed_names, no_more}
 use Rattle.tst_runner.specs.Inner.Gathered.{IsNext, IsRefusedAt, Leads, LacksFileOf}
 use Rattle.tst_runner.specs.declared.gathering.Origin.{Origin}
 use Rattle.tst_runner.proofs.Leading.{past_found}
 use Rattle.tst_runner.proofs.Ending.{candidates, fewer_left, left}
-use Rattle.hdl_parser.specs.Language.{RefusesHdl}
 use Rattle.tst_runner.specs.Loading.{HasFailed, HasGathered, HasSources}
 use Rattle.tst_runner.specs.Setting.{Setting}
 
--- ---- the chip of a file
+-- ---- a chip that is found
 
-faulty_refused : (from : Sources) (name line : List ℕ) → is_in_folder from name ≡ true → IsFaulty RefusesHdl from.files (path_of from name) line → IsRefusedAt from name line
-faulty_refused from name line there (text, told, has, (fault, refuses, same), is) = (there, (text, fault, has, refuses, is ∙ ap (message_line (path_of from name)) same))
-
-pub file_unread : (from : Sources) (name file : List ℕ) (steady : Type 0) (e : LoadError) → is_in_folder from name ≡ true → file ≡ file_of name
-    → Loads (SpellsAt Spells from.files (path_in from.folder file)) (IsFaulty RefusesHdl from.files (path_in from.folder file)) (steady → LacksFile from.files (path_in from.folder file)) (Err e)
-    → Loads (IsFound from name) (IsRefusedAt from name) (steady → LacksFileOf from name) (Err e)
-file_unread from name file steady (errors.Refused r) there same h = faulty_refused from name (line_of r) there (subst (λ (f : List ℕ). IsFaulty RefusesHdl from.files (path_in from.folder f) (line_of r)) same h)
-file_unread from name file steady errors.Failed there same h = λ s. (there, subst (λ (f : List ℕ). LacksFile from.files (path_in from.folder f)) same (h s))
-file_unread from name file steady errors.Memory there same h = tt
-
-pub file_found : (from : Sources) (name file : List ℕ) (chip : Chip) (entry : Entry) → is_in_folder from name ≡ true → file ≡ file_of name → SpellsAt Spells from.files (path_in from.folder file) chip
-    → entry ≡ entry_of from.shipped name chip → IsFound from name entry
-file_found from name file chip entry there same spells is =
-    let at : SpellsAt Spells from.files (path_of from name) chip = subst (λ (f : List ℕ). SpellsAt Spells from.files (path_in from.folder f) chip) same spells in
-    inl (there, (at.0, chip, at.1, at.2, is))
-
--- a chip that is found stands somewhere, and has the name that it is found by
+-- it stands somewhere, and has the name that it is found by
 pub record Stands (entries : List Entry) (name : List ℕ) (entry : Entry) : Type 0 where
   pub place : ℕ
   pub there : slice_get entries place ≡ Some entry
@@ -63,18 +42,6 @@ stands (e ∷ entries) name entry h = stands_by (bytes_eq name e.name) e entries
 
 named : (entries : List Entry) (name : List ℕ) (entry : Entry) → find_entry entries name ≡ Some entry → name ≡ entry.name
 named entries name entry h = let s = stands entries name entry h in s.named
-
--- a shipped chip that is taken is found
-pub shipped_found : (from : Sources) (name : List ℕ) (entry : Entry) → from.shipped ≡ shipped_chips → is_in_folder from name ≡ false → Some entry ≡ find_entry shipped_chips name → IsFound from name entry
-shipped_found from name entry same there taken = inr (there, ap (λ es. find_entry es name) same ∙ sym taken)
-
--- what is among the shipped chips is taken
-pub is_taken : (from : Sources) (name : List ℕ) (taken : Option Entry) → from.shipped ≡ shipped_chips → is_some (find_entry from.shipped name) ≡ true → taken ≡ find_entry shipped_chips name → taken ≡ None → ⊥
-is_taken from name taken same there is none =
-    let found : is_some (find_entry shipped_chips name) ≡ true = ap (λ es. is_some (find_entry es name)) (sym same) ∙ there in
-    let nothing : find_entry shipped_chips name ≡ None = sym is ∙ none in
-    let bad : is_some {A = Entry} None ≡ true = ap is_some (sym nothing) ∙ found in
-    cc
 
 built_named : (name : List ℕ) (chip : Chip) (o : Option Entry) → (built_in name chip o).name ≡ name
 built_named name chip None = refl

@@ -1,6 +1,5 @@
 -- How texts pass to a sink in whole pieces.
 use Rattle.std.proofs.Common.{◌≡◌, ◌≤◌, ◌+◌, ◌-◌, ◌%◌, ◌++◌, ℕ, List, Option, length, take, drop, refl, sym, ◌∙◌, ap, arith, inl, inr, length-take, length-drop, length-append}
-use Rattle.std.proofs.Math.Seq.{take-add}
 use Rattle.std.proofs.lemmas.Bool.{cases_lt}
 use Rattle.std.proofs.lemmas.List.{take_all, drop_all}
 use Rattle.outer_world.specs.Written.{Got, Passes}

@@ -1,6 +1,5 @@
 -- What the parts of a call say; the call's own contract needs none of it.
-use Rattle.std.specs.Prelude.{◌≡◌, ◌⊎◌, ℕ, Bool, List, Option, Result, Ok, Err, Vec}
-use Rattle.std.specs.declared.alloc.Global.{Global}
+use Rattle.std.specs.Prelude.{◌≡◌, ◌⊎◌, ℕ, Bool, List, Option, Result, Ok, Err}
 use Rattle.command_line.specs.Line.{Line}
 use Rattle.command_line.specs.declared.reader.LineError.{LineError}
 use Rattle.command_line.specs.declared.reader.LineError.TheVariants as no_line

@@ -2,7 +2,8 @@ use Rattle.std.proofs.Common.{List, subst}
 use Rattle.netlist.specs.declared.node.Node.{Node}
 use Rattle.netlist.specs.declared.node.Block.{Block}
 use Rattle.netlist.specs.Net.{Net}
-use Rattle.net_simplify.specs.Inner.Twice.{IsFoldedTwice, IsWhole}
+use Rattle.net_simplify.specs.Inner.Twice.{IsWhole}
+use Rattle.net_simplify.specs.Twice.{IsFoldedTwice}
 use Rattle.net_simplify.proofs.Lists.{ok_weaker}
 use Rattle.net_simplify.proofs.simplifying.simplify.Goals as goal
 

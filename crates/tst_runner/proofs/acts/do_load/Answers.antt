@@ -1,5 +1,6 @@
-use Rattle.std.proofs.Common.{List, ℕ, [], refl, subst}
+use Rattle.std.proofs.Common.{List, ℕ, [], refl, subst, sym}
 use Rattle.tst_runner.specs.Setting.{setting_of}
+use Rattle.tst_runner.specs.Inner.Columns.{AreColumns}
 use Rattle.tst_runner.specs.Inner.Loaded.{StandsForLoaded}
 use Rattle.tst_runner.proofs.Performed.{Does-load}
 use Rattle.tst_runner.proofs.acts.do_load.Goals as goal
@@ -11,7 +12,7 @@ returns-clause-does g c s h =
     let l = subst Q c.as_slice.ensures c.in_ok-state.ensures.loads in (
       record s { device = l.0; items = [] },
       Does-load setting s c.args.file.now l.0 l.1,
-      record { device = l.2; columns = tt; compared = h.compared; lines = h.lines },
+      record { device = l.2; columns = subst (AreColumns l.0 []) (sym c.new.ensures.items) tt; compared = h.compared; lines = h.lines },
       refl,
       refl,
     )

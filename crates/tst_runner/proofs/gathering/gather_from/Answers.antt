@@ -9,8 +9,8 @@ use Rattle.tst_runner.specs.Inner.Gathered.{IsRefusedAt, LacksFileOf, sources_of
 use Rattle.tst_runner.proofs.Finding.{all_taken, fewer, is_new, to_next, turn, unfound}
 use Rattle.tst_runner.proofs.gathering.gather_from.Goals as goal
 
-pub find-requires-origin : goal.find-requires-origin
-find-requires-origin g c = let next = c.in-Some.ensures (g.F.Shelf.files c.chips.shelf) in next.at
+pub find-requires-clause-origin : goal.find-requires-clause-origin
+find-requires-clause-origin g c = let next = c.in-Some.ensures (g.F.Shelf.files c.chips.shelf) in next.at
 
 pub returns-in_err-entry-clause-loads : goal.returns-in_err-entry-clause-loads
 returns-in_err-entry-clause-loads g c =

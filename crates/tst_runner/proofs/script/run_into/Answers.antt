@@ -1,6 +1,7 @@
-use Rattle.std.proofs.Common.{[], refl}
+use Rattle.std.proofs.Common.{[], refl, subst, sym}
 use Rattle.outer_world.proofs.Passing.{Got-nothing}
 use Rattle.outer_world.specs.Held.{pending}
+use Rattle.tst_runner.specs.Inner.Columns.{AreColumns}
 use Rattle.tst_runner.specs.Standing.{at_first}
 use Rattle.tst_runner.proofs.Threading.{acts_in, ran_of}
 use Rattle.tst_runner.proofs.Closing.{counts_ends, run_ends}
@@ -13,7 +14,7 @@ returns-clause-runs g c = λ are.
     let acts = acts_in c.args.commands.now in
     let ran = ran_of {path = c.args.script.path.now} {files = g.F.Shelf.files c.args.shelf.now} {there = g.F.Shelf.there c.args.shelf.now} {u = g.F.Shelf.unfailing c.args.shelf.now} {o = g.O.Sink.written c.args.outlet.now.sink.now} {p = pending c.args.outlet.now} {e = g.E.Sink.written c.args.err.now}
     (g.F.Shelf.files now.shelf) (g.F.Shelf.there now.shelf) (g.F.Shelf.unfailing now.shelf) (g.O.Sink.written now.out.sink.now) (pending now.out) (g.E.Sink.written now.err) acts now.state c.run_commands-end.result done.does done.kept done.stays done.keeps in
-    run_ends _ _ _ _ _ _ _ _ _ _ (g.O.Sink.written c.finish.new.outlet.sink.now) _ _ _ _ acts _ now.state c.run_commands-end.result c.is_some.result c.finish.result (g.O.Sink.faults now.out.sink.now) (g.O.Sink.faults c.finish.new.outlet.sink.now) c.requires are ran (record { device = tt; columns = tt; compared = tt; lines = refl }) c.is_some.ensures c.finish.ensures.finishes
+    run_ends _ _ _ _ _ _ _ _ _ _ (g.O.Sink.written c.finish.new.outlet.sink.now) _ _ _ _ acts _ now.state c.run_commands-end.result c.is_some.result c.finish.result (g.O.Sink.faults now.out.sink.now) (g.O.Sink.faults c.finish.new.outlet.sink.now) c.requires are ran (record { device = tt; columns = subst (AreColumns at_first.device []) (sym c.new.ensures.items) tt; compared = tt; lines = refl }) c.is_some.ensures c.finish.ensures.finishes
 
 pub returns-clause-counts : goal.returns-clause-counts
 returns-clause-counts g c =
@@ -23,4 +24,4 @@ returns-clause-counts g c =
 
 pub run_commands-end-requires : goal.run_commands-end-requires
 run_commands-end-requires g c =
-    (g.O.Sink.written c.args.outlet.now.sink.now, g.E.Sink.written c.args.err.now, (at_first, record { device = tt; columns = tt; compared = tt; lines = refl }, record { on_out = record { went = Got-nothing _; rest = c.requires }; on_err = Got-nothing _ }))
+    (g.O.Sink.written c.args.outlet.now.sink.now, g.E.Sink.written c.args.err.now, (at_first, record { device = tt; columns = subst (AreColumns at_first.device []) (sym c.new.ensures.items) tt; compared = tt; lines = refl }, record { on_out = record { went = Got-nothing _; rest = c.requires }; on_err = Got-nothing _ }))

@@ -32,12 +32,12 @@ returns-in_err-core-clause-counts g c = λ err.
 pub returns-in_err-image-clause-does : goal.returns-in_err-image-clause-does
 returns-in_err-image-clause-does g c = λ err.
     let request = c.args.request.now in
-    let p = err_from_is_err_and c.from_residual-in_err-image.result c.from_residual-in_err-image.ensures.loads.1 in
+    let p = err_from_is_err_and c.from_residual-in_err-image.result c.from_residual-in_err-image.ensures.1 in
     rw (p.1, p.2) (without_image request.level _ (g.F.Shelf.there c.args.shelf.now) (g.F.Shelf.unfailing c.args.shelf.now) request.folder.now request.cycles (option_map (λ keys. keys.now) request.keys) _ err c.in_ok-core.core _ c.in_ok-core.ensures.loads c.in_err-image.ensures.loads)
 
 pub returns-in_err-image-clause-counts : goal.returns-in_err-image-clause-counts
 returns-in_err-image-clause-counts g c = λ err.
-    let p = err_from_is_err_and c.from_residual-in_err-image.result c.from_residual-in_err-image.ensures.loads.1 in
+    let p = err_from_is_err_and c.from_residual-in_err-image.result c.from_residual-in_err-image.ensures.1 in
     let core = c.in_ok-core.core in
     rw (p.1, p.2) (unmade_counts (IsImageOf core) (BuildIsRefused core c.args.request.now.folder.now) _ _ _ _ err c.in_err-image.ensures.loads c.in_ok-core.ensures.counts)
 
