@@ -347,8 +347,9 @@ subroutine_tree s small =
         parameters = held ps.all (omega (arith, small, few_p));
         locals = held vs.all (omega (arith, small, few_v));
         statements = held ss.all (omega (arith, small, few_s));
+        close = s.close;
       },
-      λ i. record { form = f.1 i; result = r.1 i; name = s.name; parameters = ps.are i; locals = vs.are i; statements = ss.are i },
+      λ i. record { form = f.1 i; result = r.1 i; name = s.name; parameters = ps.are i; locals = vs.are i; statements = ss.are i; close = s.close },
     )
 
 pub file_tree : (c : tree.ClassFile) → class_length c.class < 2 ^ 62 → (t : Class) × (the_file t ≡ c)

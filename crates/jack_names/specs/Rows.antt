@@ -16,7 +16,7 @@ name text line column = record { text = text; place = at line column }
 
 -- a subroutine of a form with these locals and one statement
 abbrev pub with_body : tree.Form → tree.Name → List tree.Locals → tree.Statement → tree.Subroutine
-with_body f x vs s = record { form = f; result = None; name = x; parameters = []; locals = vs; statements = tree.Next s tree.End }
+with_body f x vs s = record { form = f; result = None; name = x; parameters = []; locals = vs; statements = tree.Next s tree.End; close = at 7 3 }
 
 abbrev pub back : tree.Statement
 back = tree.Return (at 6 5) None

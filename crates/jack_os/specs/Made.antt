@@ -87,4 +87,5 @@ function_of result name parameters locals statements = record {
   parameters = parameters;
   locals = locals;
   statements = row statements;
+  close = nowhere;
 }

@@ -263,5 +263,6 @@ pub fn subroutine(alloc: Global, sketch: &Sketch) -> Result<Subroutine, AllocErr
         parameters,
         locals,
         statements,
+        close: NOWHERE,
     })
 }

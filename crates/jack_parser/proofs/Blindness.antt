@@ -20,7 +20,7 @@ use Rattle.jack_parser.specs.declared.counts.Counted.{Counted}
 use Rattle.jack_parser.specs.declared.counts.Counted.TheVariants as counted
 use Rattle.jack_lexer.specs.Tokens.{tokens_of, finish}
 use Rattle.jack_parser.specs.Grammar as grammar
-use Rattle.jack_parser.specs.Grammar.{jack, Part, Said, JackRule, Fixed, Placed, expression, term, statement, rule_of, opens, whole, sign_is, keyword_is, names, stands_for, any_sign, any_keyword, is_value, keyword_said, constant_by, type_by, is_symbol, is_keyword, symbol_of, keyword_of, key, identifier, constant, operator, unary, type_rule, result_rule, form_rule, counted_name, declaration, subscript, group, argument_list, invocation_rule, variable, negation, block, let_rule, else_rule, if_rule, while_rule, do_rule, return_rule, any_statement, names_rule, class_variables, locals_rule, parameter, parameter_list, subroutine, class_rule, is_operator, is_unary, types, returns, forms, string_size, deeper, count, so_many, one_more, fresh, check_constant, without_quotes}
+use Rattle.jack_parser.specs.Grammar.{jack, Part, Said, JackRule, Fixed, Placed, expression, term, statement, rule_of, opens, whole, sign_is, keyword_is, names, stands_for, any_sign, any_keyword, is_value, keyword_said, constant_by, type_by, is_symbol, is_keyword, symbol_of, symbol_at, keyword_of, key, identifier, constant, operator, unary, type_rule, result_rule, form_rule, counted_name, declaration, subscript, group, argument_list, invocation_rule, variable, negation, block, let_rule, else_rule, if_rule, while_rule, do_rule, return_rule, any_statement, names_rule, class_variables, locals_rule, parameter, parameter_list, subroutine, class_rule, is_operator, is_unary, types, returns, forms, string_size, deeper, count, so_many, one_more, fresh, check_constant, without_quotes}
 use Rattle.jack_parser.specs.Spells.{whole_tree, Spells}
 use Rattle.grammar.specs.Printed.{set_off}
 use Rattle.jack_parser.specs.Printed.{class_text, without_place}
@@ -135,6 +135,9 @@ module _ (at : Place) where
   keyword_blind : (k : Keyword) → Blind at (keyword_of k)
   keyword_blind k t u e = by_kind (keyword_is k) t u e
 
+  symbol_at_blind : (b : ℕ) → Blind at (symbol_at b)
+  symbol_at_blind b = (λ t u e. by_kind (sign_is b) t u e, λ s s' t u e i c. c, λ t u e i. by_kind (λ (z : Kind). Placed z [] start) t u e)
+
   key_blind : (k : Keyword) → Blind at (key k)
   key_blind k = (λ t u e. by_kind (keyword_is k) t u e, λ s s' t u e i c. c, λ t u e i. by_kind (λ (z : Kind). Placed z [] start) t u e)
 
@@ -229,7 +232,7 @@ module _ (at : Place) where
   parameter_list_blind = (parameter_blind, (symbol_blind 44, parameter_blind))
 
   subroutine_blind : Blind at subroutine
-  subroutine_blind = (λ s s' p q e. e, (form_blind, (result_blind, (name_blind, (symbol_blind 40, (parameter_list_blind, (symbol_blind 41, (symbol_blind 123, (locals_rule_blind, (tt, symbol_blind 125))))))))))
+  subroutine_blind = (λ s s' p q e. e, (form_blind, (result_blind, (name_blind, (symbol_blind 40, (parameter_list_blind, (symbol_blind 41, (symbol_blind 123, (locals_rule_blind, (tt, symbol_at_blind 125))))))))))
 
   class_rule_blind : Blind at class_rule
   class_rule_blind = (keyword_blind keyword.Class, (name_blind, (symbol_blind 123, (class_variables_blind, (subroutine_blind, symbol_blind 125)))))

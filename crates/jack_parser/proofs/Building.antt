@@ -111,6 +111,14 @@ module _ (end : Place) where
   word_next is value v r vs s s' [] us y e d h k = absurd h.told
   word_next is value v r vs s s' (t ∷ ts) us y e d h k = both (word_as is free value s s t ts v (ap (λ (j : Kind). is (record t { kind = j })) (kind_said t v h.told.0) ∙ e t) refl (d t h.told.0)) k
 
+  -- the last token, which is not counted
+  pub word_last : (is : Word → Bool) (value : Word → Said) (v : Said) (s : Counts) (ts us : List Word) → ((t : Word) → is (record t { kind = said_kind v }) ≡ true) → ((t : Word) → Says t v → value t ≡ v)
+      → Front (v ∷ []) ts us → R s (word is free value) ts (Leaf v) s us
+  word_last is value v s [] us e d h = absurd h.told
+  word_last is value v s (t ∷ ts) us e d h =
+      let one = word_as is free value s s t ts v (ap (λ (j : Kind). is (record t { kind = j })) (kind_said t v h.told.0) ∙ e t) refl (d t h.told.0) in
+      rest_is s s (word is free value) (t ∷ ts) ts us (Leaf v) h.told.1 one
+
   -- a part one level deeper
   pub nested_reads : (r : JackRule) (s s' : Counts) (ts us : List Word) (x : Tree Said) → s.nesting < 256 → enters (jack end) r ts ≡ true → R (fresh (s.nesting + 1)) r ts x s' us → R s (nested_rule r) ts (Node x) s us
   nested_reads r s s' ts us x n e h = inside e (deeper_is s (here (jack end) ts) n) h

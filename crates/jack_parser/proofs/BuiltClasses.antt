@@ -13,14 +13,18 @@ use Rattle.jack_parser.specs.declared.counts.Counted.{Counted}
 use Rattle.jack_parser.specs.declared.counts.Counted.TheVariants as counted
 use Rattle.jack_parser.specs.declared.counts.Counts.{Counts}
 use Rattle.jack_parser.specs.Grammar as grammar
-use Rattle.jack_parser.specs.Grammar.{Said, Fixed, Placed, JackRule, statement, opens, fixed_word, free, is_keyword, is_symbol, is_identifier, is_type, is_result, is_form, is_scope, type_by, type_said, so_many, one_more, fresh, count, statement_opens}
+use Rattle.jack_parser.specs.Grammar.{Said, Fixed, Placed, JackRule, statement, opens, fixed_word, placed_word, free, is_keyword, is_symbol, is_identifier, is_type, is_result, is_form, is_scope, type_by, type_said, so_many, one_more, fresh, count, statement_opens}
 use Rattle.jack_parser.specs.Spelling.{Tokens, Says, type_tokens, result_tokens, names_tokens, scope_tokens, variables_tokens, locals_tokens, parameter_tokens, parameters_tokens, form_tokens, statements_tokens, subroutine_tokens, class_tokens}
 use Rattle.jack_parser.specs.Limits.{total, names_of, statics_by, fields_by, statics_in, fields_in, StatementsKeepIn, SubroutineKeeps, SubroutinesKeep, KeepsLimits}
 use Rattle.jack_parser.proofs.PlainTrees as trees
 use Rattle.jack_parser.proofs.PlainTrees.{name_said, result_said, form_said, next_name_tree, names_tree, declared_tree, scoped, variables_tree, locals_tree, parameter_tree, next_parameter_tree, parameters_tree, statements_tree, parts_tree, subroutine_tree, class_tree, whole_tree}
-use Rattle.jack_parser.proofs.Building.{Front, said_kind, kind_said, front_split, next_by, next_same, count_is, R, front_is, rest_is, word_as, behind_says, symbol_then, symbol_last, mark_next, word_next, name_value, fixed_value}
+use Rattle.jack_parser.proofs.Building.{Front, said_kind, kind_said, front_split, next_by, next_same, count_is, R, front_is, rest_is, word_as, behind_says, symbol_then, symbol_last, mark_next, word_next, word_last, name_value, placed_value, fixed_value}
 use Rattle.jack_parser.proofs.BuiltExpressions.{sign_of}
 use Rattle.jack_parser.proofs.BuiltStatements.{Done, first_of_all, statements_read}
+
+-- the brace that closes a body
+abbrev brace_at : Place → Said
+brace_at at = Placed (kind.Symbol 125) [] at
 
 -- ---- types, results, forms
 
@@ -250,15 +254,15 @@ module _ (end : Place) where
       (b.0, again (next_by (is_keyword keyword.Var) true _ _ ts p.0 p.1 (λ w. refl)) a.reads b.1, b.2 ∙ a.level)
 
   -- a statement or the end of the body is no `var`
-  no_var : (ss : _) (ts us : List Word) → Front (statements_tokens ss ++ sign_of 125 ∷ []) ts us → next (is_keyword keyword.Var) ts ≡ false
-  no_var ss ts us h =
-      let p = front_split (statements_tokens ss) (sign_of 125 ∷ []) ts us h in
+  no_var : (ss : _) (at : Place) (ts us : List Word) → Front (statements_tokens ss ++ brace_at at ∷ []) ts us → next (is_keyword keyword.Var) ts ≡ false
+  no_var ss at ts us h =
+      let p = front_split (statements_tokens ss) (brace_at at ∷ []) ts us h in
       first_of_all (is_keyword keyword.Var) false (λ w. refl) (λ w. refl) (λ w. refl) (λ w. refl) (λ w. refl) ss ts p.0 p.1 (next_by (is_keyword keyword.Var) false _ _ p.0 us p.2 (λ w. refl))
 
   subroutine_reads : (t : Subroutine) (s : Counts) (ts us : List Word) → SubroutineKeeps t → s.nesting ≡ 0 → Front (subroutine_tokens t) ts us → R end s grammar.subroutine ts (subroutine_tree t) s us
   subroutine_reads t s ts us k z h =
       let begun = fresh s.nesting in
-      let body = statements_tokens t.statements ++ sign_of 125 ∷ [] in
+      let body = statements_tokens t.statements ++ brace_at t.close ∷ [] in
       let inner = sign_of 123 ∷ (flat_map locals_tokens t.locals ++ body) in
       let params = sign_of 40 ∷ (parameters_tokens t.parameters ++ sign_of 41 ∷ inner) in
       let after_result = name_said t.name ∷ params in
@@ -270,12 +274,12 @@ module _ (end : Place) where
       let i = behind_says (sign_of 41) inner p.0 us p.2 in
       let j = behind_says (sign_of 123) (flat_map locals_tokens t.locals ++ body) _ us i in
       let l = front_split (flat_map locals_tokens t.locals) body _ us j in
-      let b = front_split (statements_tokens t.statements) (sign_of 125 ∷ []) l.0 us l.2 in
+      let b = front_split (statements_tokens t.statements) (brace_at t.close ∷ []) l.0 us l.2 in
       let few = k.parameters in
       let few_locals = k.locals in
       let ps = parameters_counted counted.Parameter counted.Local (λ u. refl) (λ u. refl) (λ u. refl) t.parameters begun _ p.0 (omega (arith, few)) (next_by (is_symbol 44) false _ _ p.0 us p.2 (λ w. refl)) (next_by is_type false _ _ p.0 us p.2 (λ w. refl)) p.1 in
       let none : ps.after.locals ≡ 0 + 0 = ps.same in
-      let vs = all_locals t.locals ps.after _ l.0 (omega (arith, none, few_locals)) (no_var t.statements l.0 us l.2) l.1 in
+      let vs = all_locals t.locals ps.after _ l.0 (omega (arith, none, few_locals)) (no_var t.statements t.close l.0 us l.2) l.1 in
       let level : vs.0.nesting ≡ 0 = vs.2 ∙ ps.level ∙ z in
       let done : Done b.0 = (next_by statement_opens false _ _ b.0 us b.2 (λ w. refl), next_by (is_keyword keyword.Else) false _ _ b.0 us b.2 (λ w. refl)) in
       let ss = statements_read end t.statements vs.0 l.0 b.0 (subst (λ (d : ℕ). StatementsKeepIn d t.statements) (sym level) k.statements) done b.1 in
@@ -287,7 +291,7 @@ module _ (end : Place) where
       (both ps.reads
       (mark_next end (is_symbol 41) (sign_of 41) _ _ ps.after vs.0 p.0 us _ (λ w. refl) p.2
       (mark_next end (is_symbol 123) (sign_of 123) _ _ ps.after vs.0 _ us _ (λ w. refl) i
-      (both vs.1 (both ss (symbol_last end 125 vs.0 b.0 us b.2))))))))))
+      (both vs.1 (both ss (word_last end (is_symbol 125) placed_word (brace_at t.close) vs.0 b.0 us (λ w. refl) (λ w d. placed_value w (kind.Symbol 125) t.close d) b.2))))))))))
 
   all_subroutines : (ts : List Subroutine) (s : Counts) (ws us : List Word) → SubroutinesKeep ts → s.nesting ≡ 0 → next is_form us ≡ false → Front (flat_map subroutine_tokens ts) ws us → R end s (repeat grammar.subroutine) ws (tree_of_list subroutine_tree ts NoMore) s us
   all_subroutines [] s ws us k z q h = front_is end s s _ ws us us _ h.told (ended q)

@@ -135,6 +135,11 @@ module _ (at : Place) where
       let p = two_parts s s' a (mark v is) x y h in
       subst (λ (t : Counts). Reach s a x t) (sym (mark_same p.0 s' v is y p.2)) p.1
 
+  before_free : (s s' : Counts) (v : Said) (is : Word → Bool) (value : Word → Said) (a : JackRule) (x : Tree Said) → Reach s (seq a (word is free value)) (Pair x (Leaf v)) s' → Reach s a x s'
+  before_free s s' v is value a x h =
+      let p = two_parts s s' a (word is free value) x (Leaf v) h in
+      subst (λ (t : Counts). Reach s a x t) (sym (free_same p.0 s' is value v p.2)) p.1
+
   -- repetitions, options, choices, and a part with counts of its own
 
   no_more : (s s' : Counts) (a : JackRule) → Reach s (repeat a) NoMore s' → s' ≡ s
@@ -413,7 +418,7 @@ module _ (at : Place) where
       let ps = all_parameters t.parameters begun p.0 p.1 in
       let free = no_locals t.parameters begun p.0 p.1 in
       let ls = all_locals t.locals p.0 q.0 q.1 in
-      let ss = statements_kept t.statements q.0 inside.0 (before_mark q.0 inside.0 _ _ _ _ _ q.2) in
+      let ss = statements_kept t.statements q.0 inside.0 (before_free q.0 inside.0 _ _ _ _ _ q.2) in
       let parameters : length t.parameters ≤ 16384 = omega (arith, ps.sum, ps.bound (omega arith)) in
       let locals : total (λ v. names_of v.names) t.locals ≤ 16384 = omega (arith, ls.sum, ls.bound (free.bound (omega arith))) in
       (record { parameters = parameters; locals = locals; statements = subst (λ (n : ℕ). StatementsKeepIn n t.statements) (ls.nesting ∙ ps.nesting ∙ level) ss.0 }, inside.2)

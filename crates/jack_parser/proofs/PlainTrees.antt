@@ -8,6 +8,7 @@ use Rattle.jack_tree.specs.declared.token.Keyword.TheVariants as keyword
 use Rattle.jack_tree.specs.declared.token.Kind.TheVariants as kind
 use Rattle.jack_tree.specs.Syntax.{Name, Operator, Plus, Minus, Times, Divide, And, Or, Less, Greater, Equal, Sign, Negate, Not, Constant, Integer, String, True, False, Null, This, Expression, Terms, Operations, NoOperation, Then, Term, Value, Variable, Element, Called, Group, Unary, Call, Calls, Expressions, NoExpression, More, Statement, Let, If, IfElse, While, Do, Return, Statements, End, Next, ValueType, Int, Char, Boolean, Object, Names, Scope, Static, Field, ClassVariables, Locals, Parameter, Form, Constructor, Function, Method, Subroutine, Class}
 use Rattle.jack_parser.specs.Grammar.{Said, Fixed, Placed}
+use Rattle.jack_parser.specs.ClassTrees.{close_leaf}
 
 abbrev pub name_said : Name → Said
 name_said n = Placed kind.Identifier n.text n.place
@@ -150,7 +151,7 @@ parameters_tree (p ∷ ps) = Present (Pair (parameter_tree p) (tree_of_list next
 abbrev pub parts_tree : Subroutine → Tree Said
 parts_tree s =
     Pair (Leaf (form_said s.form)) (Pair (Leaf (result_said s.result)) (Pair (Leaf (name_said s.name)) (Pair Skip (Pair (parameters_tree s.parameters) (Pair Skip (Pair Skip
-    (Pair (tree_of_list locals_tree s.locals NoMore) (Pair (statements_tree s.statements) Skip))))))))
+    (Pair (tree_of_list locals_tree s.locals NoMore) (Pair (statements_tree s.statements) (close_leaf s.close)))))))))
 
 abbrev pub subroutine_tree : Subroutine → Tree Said
 subroutine_tree s = Node (parts_tree s)

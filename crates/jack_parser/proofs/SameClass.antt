@@ -366,7 +366,8 @@ subroutine_same s t e =
     let parameters = parameters_same s.parameters t.parameters d in
     let locals = listed_same locals_tree locals_same s.locals t.locals f in
     let statements = statements_same s.statements t.statements g in
-    λ i. record { form = form i; result = result i; name = name i; parameters = parameters i; locals = locals i; statements = statements i }
+    let close : s.close ≡ t.close = cc in
+    λ i. record { form = form i; result = result i; name = name i; parameters = parameters i; locals = locals i; statements = statements i; close = close i }
 
 pub class_same : (c d : Class) → whole_tree c ≡ whole_tree d → c ≡ d
 class_same c d e =

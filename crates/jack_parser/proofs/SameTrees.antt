@@ -34,6 +34,7 @@ use Rattle.jack_parser.specs.Grammar.{Said}
 use Rattle.jack_parser.specs.Trees as code
 use Rattle.jack_parser.specs.StatementTrees as code_statements
 use Rattle.jack_parser.specs.ClassTrees as code_classes
+use Rattle.jack_parser.specs.ClassTrees.{close_leaf}
 use Rattle.jack_parser.specs.Spells as code_whole
 use Rattle.jack_parser.proofs.PlainTrees.{name_said, operator_said, sign_said, constant_said, enclosed, expression_tree, operations_tree, term_tree, arguments_tree, further_tree, front_said, invoked_tree, key_leaf, index_tree, value_tree, statement_tree, statements_tree, type_said, result_said, form_said, next_name_tree, declared_tree, variables_tree, locals_tree, parameter_tree, next_parameter_tree, parameters_tree, subroutine_tree, whole_tree}
 
@@ -172,7 +173,7 @@ subroutine_same s =
     let ls = listed_same code_classes.locals_tree the_locals locals_tree locals_same s.locals.items in
     let ss = statements_same s.statements.items in
     λ i. Node (Pair (Leaf (form_same s.form i)) (Pair (Leaf (result_same s.result i)) (Pair (Leaf (name_said (the_name s.name))) (Pair Skip (Pair (ps i) (Pair Skip (Pair Skip
-    (Pair (ls i) (Pair (ss i) Skip)))))))))
+    (Pair (ls i) (Pair (ss i) (close_leaf s.close))))))))))
 
 pub class_same : (c : Class) → code_whole.whole_tree c ≡ whole_tree (the_class c)
 class_same c =

@@ -195,7 +195,7 @@ module _ (end : Place) where
       let p = parameters_seen s.parameters.items in
       let l = listed_seen locals_tree grammar.locals_rule the_locals locals_tokens locals_seen s.locals.items in
       let t = statements_seen s.statements.items in
-      λ i. f i ++ (r i ++ (name_said s.name ∷ sign_of 40 ∷ (p i ++ sign_of 41 ∷ sign_of 123 ∷ (l i ++ (t i ++ sign_of 125 ∷ [])))))
+      λ i. f i ++ (r i ++ (name_said s.name ∷ sign_of 40 ∷ (p i ++ sign_of 41 ∷ sign_of 123 ∷ (l i ++ (t i ++ Placed (kind.Symbol 125) [] s.close ∷ [])))))
 
   pub class_seen : (c : Class) → leaves (jack end) (whole_tree c) whole ≡ class_tokens (the_class c)
   class_seen c =

@@ -1,6 +1,7 @@
 -- The trees of classes as trees of the grammar.
 use Rattle.std.specs.Prelude.{List, [], ◌∷◌, Option, Some, None}
 use Rattle.grammar.specs.Rules.{Tree, Leaf, Node, Pair, Skip, Left, Right, Absent, Present, NoMore, tree_of_list}
+use Rattle.scan_text.specs.declared.Place.{Place}
 use Rattle.jack_tree.specs.declared.token.Keyword.TheVariants as keyword
 use Rattle.jack_tree.specs.declared.token.Kind.TheVariants as kind
 use Rattle.jack_tree.specs.declared.tree.Name.{Name}
@@ -16,7 +17,7 @@ use Rattle.jack_tree.specs.declared.tree.Locals.{Locals}
 use Rattle.jack_tree.specs.declared.tree.Parameter.{Parameter}
 use Rattle.jack_tree.specs.declared.tree.Subroutine.{Subroutine}
 use Rattle.jack_tree.specs.declared.tree.Class.{Class}
-use Rattle.jack_parser.specs.Grammar.{Said, Fixed}
+use Rattle.jack_parser.specs.Grammar.{Said, Fixed, Placed}
 use Rattle.jack_parser.specs.Trees.{name_said, name_leaf}
 use Rattle.jack_parser.specs.StatementTrees.{statements_tree}
 
@@ -70,10 +71,14 @@ abbrev pub parameters_tree : List Parameter → Tree Said
 parameters_tree [] = Absent
 parameters_tree (p ∷ ps) = Present (parameters_with (p ∷ ps) NoMore)
 
+-- the brace that closes a body, with its place
+abbrev pub close_leaf : Place → Tree Said
+close_leaf at = Leaf (Placed (kind.Symbol 125) [] at)
+
 abbrev pub parts_tree : Subroutine → Tree Said
 parts_tree s =
     Pair (Leaf (form_said s.form)) (Pair (Leaf (result_said s.result)) (Pair (name_leaf s.name) (Pair Skip (Pair (parameters_tree s.parameters.items) (Pair Skip (Pair Skip
-    (Pair (tree_of_list locals_tree s.locals.items NoMore) (Pair (statements_tree s.statements.items) Skip))))))))
+    (Pair (tree_of_list locals_tree s.locals.items NoMore) (Pair (statements_tree s.statements.items) (close_leaf s.close)))))))))
 
 abbrev pub subroutine_tree : Subroutine → Tree Said
 subroutine_tree s = Node (parts_tree s)

@@ -206,6 +206,10 @@ JackRule = Rule Word Counts Part Said
 abbrev pub symbol_of : ℕ → JackRule
 symbol_of b = mark (Fixed (kind.Symbol b)) (is_symbol b)
 
+-- a symbol whose place is kept
+abbrev pub symbol_at : ℕ → JackRule
+symbol_at b = word (is_symbol b) free placed_word
+
 abbrev pub keyword_of : Keyword → JackRule
 keyword_of k = mark (Fixed (kind.Keyword k)) (is_keyword k)
 
@@ -355,7 +359,7 @@ abbrev pub form_rule : JackRule
 form_rule = word is_form free fixed_word
 
 abbrev pub subroutine_parts : JackRule
-subroutine_parts = seq form_rule (seq result_rule (seq identifier (seq (symbol_of 40) (seq parameters (seq (symbol_of 41) (seq (symbol_of 123) (seq (repeat locals_rule) (seq (repeat (name statement)) (symbol_of 125)))))))))
+subroutine_parts = seq form_rule (seq result_rule (seq identifier (seq (symbol_of 40) (seq parameters (seq (symbol_of 41) (seq (symbol_of 123) (seq (repeat locals_rule) (seq (repeat (name statement)) (symbol_at 125)))))))))
 
 -- a subroutine counts its own parameters and locals
 abbrev pub subroutine : JackRule

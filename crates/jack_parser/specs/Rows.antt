@@ -5,7 +5,7 @@ use Rattle.jack_tree.specs.declared.token.Keyword.TheVariants as keyword
 use Rattle.jack_tree.specs.declared.token.Kind.TheVariants as kind
 use Rattle.jack_tree.specs.Syntax.{Name, Plus, Minus, Times, Divide, And, Or, Less, Greater, Equal, Negate, Not, Integer, String, True, False, Null, This, Terms, NoOperation, Then, Value, Variable, Element, Called, Group, Unary, Calls, NoExpression, More, Let, If, IfElse, While, Do, Return, End, Next, Int, Char, Boolean, Object, Static, Field, Constructor, Function, Method, Class}
 use Rattle.jack_parser.specs.Grammar.{Fixed, Placed}
-use Rattle.jack_parser.specs.Spelling.{Tokens, ◌·◌, key, key_at, symbol, class_tokens}
+use Rattle.jack_parser.specs.Spelling.{Tokens, ◌·◌, key, key_at, symbol, symbol_at, class_tokens}
 use Rattle.jack_parser.specs.Spelled.{SpellsClass}
 
 -- the place at a column of the first line
@@ -41,6 +41,7 @@ small = record {
         (Next (Return (at 96) (Some (Terms (Value (This (at 103))) NoOperation))) End)
         (Next (Let (at 119) (name_at (codes "n") 123) None (Terms (Unary Negate (Value (Integer 1))) NoOperation)) End))
         End);
+    close = at 135;
   } ∷ [];
 }
 
@@ -54,7 +55,7 @@ small_tokens =
     · word (codes "n") 77 · symbol (codes ")") · symbol (codes ";") · key_at keyword.If (at 83) · symbol (codes "(") · symbol (codes "~")
     · word (codes "c") 90 · symbol (codes ")") · symbol (codes "{") · key_at keyword.Return (at 96) · key_at keyword.This (at 103) · symbol (codes ";")
     · symbol (codes "}") · key keyword.Else · symbol (codes "{") · key_at keyword.Let (at 119) · word (codes "n") 123 · symbol (codes "=")
-    · symbol (codes "-") · (Fixed (kind.Integer 1) ∷ []) · symbol (codes ";") · symbol (codes "}") · symbol (codes "}") · symbol (codes "}")
+    · symbol (codes "-") · (Fixed (kind.Integer 1) ∷ []) · symbol (codes ";") · symbol (codes "}") · symbol_at (codes "}") (at 135) · symbol (codes "}")
 
 -- a text with what the first one lacks: all operators in order, fields, locals, the other kinds of subroutines, types, statements and terms
 abbrev pub large_text : List ℕ
@@ -85,6 +86,7 @@ large = record {
         End)))
         (Next (Return (at 250) None)
         End)));
+    close = at 259;
   } ∷ record {
     form = Function;
     result = Some (Boolean);
@@ -94,6 +96,7 @@ large = record {
     statements =
         (Next (Return (at 286) (Some (Terms (Called (Calls (Some (name_at (codes "q") 293)) (name_at (codes "r") 297) (More (Terms (Variable (name_at (codes "s") 301)) NoOperation) NoExpression))) NoOperation)))
         End);
+    close = at 307;
   } ∷ [];
 }
 

@@ -31,6 +31,10 @@ key_at k at = Placed (kind.Keyword k) [] at ∷ []
 abbrev pub symbol : List ℕ → Tokens
 symbol bytes = map (λ b. Fixed (kind.Symbol b)) bytes
 
+-- a symbol whose place is kept
+abbrev pub symbol_at : List ℕ → Place → Tokens
+symbol_at bytes at = map (λ b. Placed (kind.Symbol b) [] at) bytes
+
 abbrev pub name : Name → Tokens
 name n = Placed kind.Identifier n.text n.place ∷ []
 
@@ -67,7 +71,7 @@ operator_text Equal = codes "="
 
 -- an operator's place is kept
 abbrev pub operator_tokens : Operator → Place → Tokens
-operator_tokens o at = map (λ b. Placed (kind.Symbol b) [] at) (operator_text o)
+operator_tokens o at = symbol_at (operator_text o) at
 
 abbrev pub sign_tokens : Sign → Tokens
 sign_tokens Negate = symbol (codes "-")
@@ -180,7 +184,7 @@ form_tokens Method = key keyword.Method
 abbrev pub subroutine_tokens : Subroutine → Tokens
 subroutine_tokens s =
     form_tokens s.form · result_tokens s.result · name s.name · symbol (codes "(") · parameters_tokens s.parameters · symbol (codes ")")
-    · symbol (codes "{") · flat_map locals_tokens s.locals · statements_tokens s.statements · symbol (codes "}")
+    · symbol (codes "{") · flat_map locals_tokens s.locals · statements_tokens s.statements · symbol_at (codes "}") s.close
 
 abbrev pub class_tokens : Class → Tokens
 class_tokens c =

@@ -11,7 +11,9 @@ ghost use Rattle.jack_parser.specs.Inner.Bodies.{subroutine_body, subroutine_bod
 use crate::counts::{Counted, Counts, fresh};
 use crate::declared::{form, form_begins, result_type, scope_begins, type_begins, type_name};
 use crate::statements::statements;
-use crate::words::{counted_name, here, identifier, keyword, keyword_stands, stands, symbol};
+use crate::words::{
+    counted_name, here, identifier, keyword, keyword_stands, stands, symbol, symbol_at,
+};
 use grammar::{Fault, ReadError};
 use jack_tree::{
     Class, ClassVariables, Keyword, Locals, Names, Parameter, Scope, Statement, Subroutine, Token,
@@ -250,22 +252,28 @@ fn parameters<'a>(
     Ok(((parameters, so_far), rest))
 }
 
-// Locals and statements in their braces, and the counts with the locals.
+// Locals and statements in their braces, the place of the brace that closes them, and the counts with the locals.
 #[tactic(auto, using(crate::proofs::Exits::part_exits))]
 fn body<'a>(
     alloc: Global,
     tokens: &'a [Token<'a>],
     end: Place,
     counts: Counts,
-) -> Result<((Vec<Locals>, Vec<Statement>, Counts), &'a [Token<'a>]), ReadError>
-    ensures reads { ParsesBy view (jack end) subroutine_body (λ x. subroutine_body_tree x.0.items x.1.items) (λ x. x.2) counts tokens.now result }
+) -> Result<
+    (
+        (Vec<Locals>, Vec<Statement>, Place, Counts),
+        &'a [Token<'a>],
+    ),
+    ReadError,
+>
+    ensures reads { ParsesBy view (jack end) subroutine_body (λ x. subroutine_body_tree x.0.items x.1.items x.2) (λ x. x.3) counts tokens.now result }
     ensures shorter { IfOk result (λ r. length r.1.now < length tokens.now) }
 {
     let rest = symbol(tokens, end, counts, b'{')?;
     let ((locals, so_far), rest) = all_locals(alloc, rest, end, counts)?;
     let (statements, rest) = statements(alloc, rest, end, so_far)?;
-    let rest = symbol(rest, end, so_far, b'}')?;
-    Ok(((locals, statements, so_far), rest))
+    let (close, rest) = symbol_at(rest, end, so_far, b'}')?;
+    Ok(((locals, statements, close, so_far), rest))
 }
 
 // A subroutine, and the counts with its parameters and locals.
@@ -285,7 +293,7 @@ fn parts<'a>(
     let rest = symbol(rest, end, counts, b'(')?;
     let ((parameters, so_far), rest) = parameters(alloc, rest, end, counts)?;
     let rest = symbol(rest, end, so_far, b')')?;
-    let ((locals, statements, in_all), rest) = body(alloc, rest, end, so_far)?;
+    let ((locals, statements, close, in_all), rest) = body(alloc, rest, end, so_far)?;
     let subroutine = Subroutine {
         form,
         result,
@@ -293,6 +301,7 @@ fn parts<'a>(
         parameters,
         locals,
         statements,
+        close,
     };
     Ok(((subroutine, in_all), rest))
 }

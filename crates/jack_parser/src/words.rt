@@ -2,11 +2,12 @@
 #![tactic(auto, using(grammar::proofs::OneToken::one_token))]
 
 ghost use Rattle.jack_tree.specs.Tokens.{view};
+ghost use Rattle.jack_tree.specs.declared.token.Kind.TheVariants as kind;
 ghost use Rattle.std.specs.Prelude.{map, ◌≡◌, ◌<◌, ◌≤◌, ◌-◌, ◌+◌, ◌^◌, take, drop, length, Some, None, Result, Ok, List, IfOk, ℕ, IfSome, is_some, [], ◌||◌};
 ghost use Rattle.std.specs.Str.{IsAscii};
 ghost use Rattle.grammar.specs.Reading.{ParsesBy, PassesBy};
 ghost use Rattle.grammar.specs.Rules.{Leaf, next, here};
-ghost use Rattle.jack_parser.specs.Grammar.{jack, is_symbol, is_keyword, is_identifier, is_constant, free, check_constant, named_word, placed_word, fixed_word, constant_said, identifier, constant, operator, unary, key, operates, negates, term_opens, statement_opens, count, counted_name, Said, symbol_of, keyword_of, is_operator, is_unary, without_quotes};
+ghost use Rattle.jack_parser.specs.Grammar.{jack, is_symbol, is_keyword, is_identifier, is_constant, free, check_constant, named_word, placed_word, fixed_word, constant_said, identifier, constant, operator, unary, key, symbol_at, Placed, operates, negates, term_opens, statement_opens, count, counted_name, Said, symbol_of, keyword_of, is_operator, is_unary, without_quotes};
 ghost use Rattle.jack_parser.specs.Starts.{start_of};
 ghost use Rattle.jack_parser.specs.Trees.{name_said, operator_said, operator_byte, sign_said, sign_byte, constant_leaf_said, IsString};
 
@@ -42,6 +43,28 @@ pub fn symbol<'a>(
         return Err(grammar_fault(token.place));
     }
     Ok(rest)
+}
+
+/// A symbol, whose place is told.
+pub fn symbol_at<'a>(
+    tokens: &'a [Token<'a>],
+    end: Place,
+    counts: Counts,
+    sign: u8,
+) -> Result<(Place, &'a [Token<'a>]), ReadError>
+    ensures reads { ParsesBy view (jack end) (symbol_at sign) (λ at. Leaf (Placed (kind.Symbol sign) [] at)) (λ _. counts) counts tokens.now result }
+    ensures shorter { IfOk result (λ r. length r.1.now < length tokens.now) }
+{
+    let Some((token, rest)) = tokens.split_first() else {
+        return Err(grammar_fault(end));
+    };
+    let Kind::Symbol(other) = token.kind else {
+        return Err(grammar_fault(token.place));
+    };
+    if other != sign {
+        return Err(grammar_fault(token.place));
+    }
+    Ok((token.place, rest))
 }
 
 pub fn keyword<'a>(

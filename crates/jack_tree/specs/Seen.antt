@@ -150,6 +150,7 @@ the_subroutine s = record {
   parameters = map the_parameter s.parameters.items;
   locals = map the_locals s.locals.items;
   statements = the_statements s.statements.items;
+  close = s.close;
 }
 
 abbrev pub the_class : classes.Class → Class

@@ -156,6 +156,8 @@ pub struct Subroutine {
     pub parameters: Vec<Parameter>,
     pub locals: Vec<Locals>,
     pub statements: Vec<Statement>,
+    /// The place of the brace that closes the body; 0:0 of a subroutine that no text has.
+    pub close: Place,
 }
 
 /// A class, with the name of its file.

@@ -7,7 +7,7 @@ use Rattle.jack_tree.specs.Tokens.{Word}
 use Rattle.jack_tree.specs.Syntax.{Name, Operator, Plus, Minus, Times, Divide, And, Or, Less, Greater, Equal, Sign, Negate, Not, Constant, Integer, String, True, False, Null, This, Expression, Terms, Operations, NoOperation, Then, Term, Value, Variable, Element, Called, Group, Unary, Call, Calls, Expressions, NoExpression, More, Statement, Let, If, IfElse, While, Do, Return, Statements, End, Next, ValueType, Int, Char, Boolean, Object, ClassVariables, Locals, Parameter, Subroutine, Class}
 use Rattle.jack_parser.specs.Limits.{IsShort, KeepsIn, OperationsKeepIn, TermKeepsIn, CallKeepsIn, ArgumentsKeepIn, ExpressionsKeepIn, IndexKeepsIn, ValueKeepsIn, PartsKeepIn, StatementsKeepIn, SubroutineKeeps, SubroutinesKeep, KeepsLimits}
 use Rattle.jack_tree.specs.declared.token.Keyword.TheVariants as keyword
-use Rattle.jack_parser.specs.Spelling.{Tokens, Say, key, name, symbol, condition_tokens, in_braces, operator_tokens, sign_tokens, constant_tokens, expression_tokens, operations_tokens, term_tokens, call_tokens, arguments_tokens, further_tokens, index_tokens, value_tokens, statement_tokens, statements_tokens, type_tokens, names_tokens, scope_tokens, form_tokens, result_tokens, variables_tokens, locals_tokens, parameter_tokens, parameters_tokens, subroutine_tokens, class_tokens}
+use Rattle.jack_parser.specs.Spelling.{Tokens, Say, key, name, symbol, symbol_at, condition_tokens, in_braces, operator_tokens, sign_tokens, constant_tokens, expression_tokens, operations_tokens, term_tokens, call_tokens, arguments_tokens, further_tokens, index_tokens, value_tokens, statement_tokens, statements_tokens, type_tokens, names_tokens, scope_tokens, form_tokens, result_tokens, variables_tokens, locals_tokens, parameter_tokens, parameters_tokens, subroutine_tokens, class_tokens}
 use Rattle.jack_parser.specs.Spelled.{SpellsClass}
 use Rattle.jack_names.specs.Lengths.{constant_length, expression_length, operations_length, term_length, call_length, arguments_length, value_length, statement_length, statements_length, total, variables_length, locals_length, subroutine_length, class_length}
 use Rattle.tower.proofs.Words.{words_read}
@@ -167,7 +167,7 @@ subroutine_long : (s : Subroutine) → SubroutineKeeps s → 1 + subroutine_leng
 subroutine_long s h =
     let body = statements_tokens s.statements in
     let locals = flat_map locals_tokens s.locals in
-    let last = body ++ symbol (codes "}") in
+    let last = body ++ symbol_at (codes "}") s.close in
     let inner = symbol (codes "{") ++ (locals ++ last) in
     let parameters = parameters_tokens s.parameters in
     let heads = symbol (codes "(") ++ (parameters ++ (symbol (codes ")") ++ inner)) in
@@ -181,7 +181,7 @@ subroutine_long s h =
       closed (result_tokens s.result) titled,
       closed parameters (symbol (codes ")") ++ inner),
       closed locals last,
-      closed body (symbol (codes "}")),
+      closed body (symbol_at (codes "}") s.close),
     )
 
 subroutines_long : (ss : List Subroutine) → SubroutinesKeep ss → total subroutine_length ss ≤ 40000 * length (flat_map subroutine_tokens ss)

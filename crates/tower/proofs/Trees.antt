@@ -15,7 +15,7 @@ use Rattle.jack_lexer.specs.Tokens.{is_name_byte}
 use Rattle.jack_parser.specs.declared.counts.Counted.{Counted}
 use Rattle.jack_parser.specs.declared.counts.Counted.TheVariants as counted
 use Rattle.jack_parser.specs.declared.counts.Counts.{Counts}
-use Rattle.jack_parser.specs.Grammar.{jack, Part, Said, Fixed, Placed, JackRule, expression, term, statement, rule_of, whole, names, keyword_said, constant_by, type_by, string_size, key, identifier, constant, operator, unary, type_rule, result_rule, form_rule, counted_name, declaration, group, argument_list, invocation_rule, variable, negation, block, let_rule, if_rule, while_rule, do_rule, return_rule, any_statement, names_rule, class_variables, locals_rule, parameter, parameter_list, subroutine, class_rule}
+use Rattle.jack_parser.specs.Grammar.{jack, Part, Said, Fixed, Placed, JackRule, expression, term, statement, rule_of, whole, names, keyword_said, constant_by, type_by, string_size, key, symbol_at, identifier, constant, operator, unary, type_rule, result_rule, form_rule, counted_name, declaration, group, argument_list, invocation_rule, variable, negation, block, let_rule, if_rule, while_rule, do_rule, return_rule, any_statement, names_rule, class_variables, locals_rule, parameter, parameter_list, subroutine, class_rule}
 use Rattle.tower.specs.Read.{IsName, IsString}
 use Rattle.tower.proofs.Words.{IsReadText, IsReadWord, AreReadWords}
 
@@ -112,6 +112,9 @@ short_by false n f s s' e h = ltb-false 16384 n e
 key_says : (k : Keyword) → Says (key k)
 key_says k s s' t h e c = placed_read t.kind
 
+close_says : Says (symbol_at 125)
+close_says s s' t h e c = placed_read t.kind
+
 name_says : Says identifier
 name_says s s' t h e c = name_read t.kind t.text h e
 
@@ -191,7 +194,7 @@ parameters_say : Says parameter_list
 parameters_say = (parameter_says, (tt, parameter_says))
 
 subroutine_says : Says subroutine
-subroutine_says = (form_says, (result_says, (name_says, (tt, (parameters_say, (tt, (tt, (locals_say, (tt, tt)))))))))
+subroutine_says = (form_says, (result_says, (name_says, (tt, (parameters_say, (tt, (tt, (locals_say, (tt, close_says)))))))))
 
 class_says : Says class_rule
 class_says = (tt, (name_says, (tt, (variables_say, (subroutine_says, tt)))))

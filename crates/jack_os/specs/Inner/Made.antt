@@ -9,6 +9,7 @@ use Rattle.jack_tree.specs.declared.tree.Operator.{Operator}
 use Rattle.jack_tree.specs.declared.tree.Sign.{Sign}
 use Rattle.jack_parser.specs.Grammar.{Said, Fixed, Placed}
 use Rattle.jack_parser.specs.Trees.{operator_said, sign_said}
+use Rattle.jack_parser.specs.ClassTrees.{close_leaf}
 
 abbrev pub Jack : Type 0
 Jack = Tree Said
@@ -139,4 +140,4 @@ parameters_of (p ∷ ps) = Present (Pair p (more_of ps))
 -- `function kind name(parameters) { locals statements }`
 abbrev pub function_of : Jack → List ℕ → List Jack → List Jack → List Jack → Jack
 function_of kind name parameters locals statements =
-    Node (Pair (fixed_word keyword.Function) (Pair kind (Pair (name_of name) (Pair Skip (Pair (parameters_of parameters) (Pair Skip (Pair Skip (Pair (row locals) (Pair (row statements) Skip)))))))))
+    Node (Pair (fixed_word keyword.Function) (Pair kind (Pair (name_of name) (Pair Skip (Pair (parameters_of parameters) (Pair Skip (Pair Skip (Pair (row locals) (Pair (row statements) (close_leaf nowhere))))))))))
