@@ -43,10 +43,10 @@ use Rattle.hack_cpu.specs.Computer.{block_word}
 use Rattle.gate_computer.specs.declared.wiring.Wiring.{Wiring}
 use Rattle.gate_computer.specs.Computer.{chips, computer, IsComputer}
 use Rattle.gate_computer.specs.Wiring.{IsWired, cpu_path, a_register_path, main_path, screen_path}
-use Rattle.gate_computer.specs.Followed.{GateMachine, HasFollowed, PutsParts}
+use Rattle.gate_computer.specs.Followed.{GateMachine, HasFollowed, PassesParts}
 use Rattle.gate_computer.specs.Inner.Reading.{wired_text}
 use Rattle.gate_computer.proofs.Outputs.{text_same, text_is}
-use Rattle.outer_world.specs.Written.{Puts}
+use Rattle.outer_world.specs.Written.{Passes}
 use Rattle.outer_world.specs.declared.sink.Put.{Put}
 use Rattle.gate_computer.specs.Inner.Told.{HoldsKey, ComesIn, WasTold, HasSet}
 use Rattle.gate_computer.proofs.Seen.{shows_at, seen}
@@ -353,8 +353,9 @@ module _ (s0 sA sE : SimState) (w : Wiring) (image : List ℕ) (old key : ℕ) (
         stE.values (Eval ∷ set.now) refl set_values (subst (λ m. AreCallValues m (Eval ∷ set.now) set_values) (sym netE) vals) k (subst (λ (m : Net). k < length m.nodes) (sym netE) less)
         ∙ ap (set_values k) goes.eval.cycle
 
-    pub puts_parts : ((c : ℕ) → IsKey (keys c)) → (before after : Option (List ℕ)) (answer : Put) → Puts before after (wired_text (value_in sE.values) w.parts) answer → PutsParts image keys (length turns) before after answer
-    puts_parts words before after answer puts = record {
+    pub passes_parts : ((c : ℕ) → IsKey (keys c)) → (before : Option (List ℕ)) (pending : List ℕ) (now' : Option (List ℕ)) (pending' : List ℕ) (answer : Put)
+        → Passes before pending now' pending' (wired_text (value_in sE.values) w.parts) answer → PassesParts image keys (length turns) before pending now' pending' answer
+    passes_parts words before pending now' pending' answer passes = record {
       text = wired_text (value_in sE.values) w.parts;
       wires = own_wires s0 w image old turns told keys;
       behaves = own_is s0 w image old turns told keys words (suc (length turns));
@@ -365,7 +366,7 @@ module _ (s0 sA sE : SimState) (w : Wiring) (image : List ℕ) (old key : ℕ) (
             ∙ ap (wired_text (λ k. set_values k (length turns))) told.wired.pins.parts
             ∙ text_is set_values (length turns) told.wired.at told.wired.pins.places,
       );
-      puts = puts;
+      passes = passes;
     }
 
 -- ---- the start

@@ -2,7 +2,7 @@
 use Rattle.std.specs.Prelude.{◌≡◌, ℕ, suc, ◌-◌, ◌<◌, nat_lt, if◌then◌else◌, List, length, Option, Some}
 use Rattle.std.specs.List.{All}
 use Rattle.word16.specs.Memory.{keyboard}
-use Rattle.outer_world.specs.Written.{Puts}
+use Rattle.outer_world.specs.Written.{Passes}
 use Rattle.outer_world.specs.declared.sink.Put.{Put}
 use Rattle.machine_io.specs.History.{Turn}
 use Rattle.machine_io.specs.declared.machine.Moved.TheVariants.{Acted}
@@ -61,10 +61,10 @@ pub record HasFollowed (g : GateMachine) (turns : List Turn) : Type 0 where
   pub shows : (keys : ℕ → ℕ) → HoldsKeys keys 0 turns → (m : ℕ) (wires : List ℕ → Histories) → length turns < m → IsComputer g.image keys m wires → ShowsCycle g keys wires (length turns)
   pub behaves : (keys : ℕ → ℕ) → ((c : ℕ) → IsKey (keys c)) → (m : ℕ) → (wires : List ℕ → Histories) × IsComputer g.image keys m wires
 
--- A text was put that shows the outputs of all parts in cycle n of a behaviour of the Computer with this image and these keys.
-pub record PutsParts (image : List ℕ) (keys : ℕ → ℕ) (n : ℕ) (before now : Option (List ℕ)) (answer : Put) : Type 0 where
+-- A text was handed to a buffer that shows the outputs of all parts in cycle n of a behaviour of the Computer with this image and these keys.
+pub record PassesParts (image : List ℕ) (keys : ℕ → ℕ) (n : ℕ) (before : Option (List ℕ)) (pending : List ℕ) (now : Option (List ℕ)) (pending' : List ℕ) (answer : Put) : Type 0 where
   pub text : List ℕ
   pub wires : List ℕ → Histories
   pub behaves : IsComputer image keys (suc n) wires
   pub shows : ShowsParts wires n text
-  pub puts : Puts before now text answer
+  pub passes : Passes before pending now pending' text answer

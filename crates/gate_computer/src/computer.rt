@@ -5,18 +5,19 @@ ghost use Rattle.word16.specs.Memory.{keyboard};
 ghost use Rattle.machine_io.specs.History.{Turn, turn};
 ghost use Rattle.machine_io.specs.declared.machine.Moved.TheVariants.{Acted};
 ghost use Rattle.gate_computer.specs.Wiring.{IsWired};
+ghost use Rattle.outer_world.specs.Held.{HaveSameSink, pending, sink_of};
 ghost use Rattle.outer_world.specs.Written.{CountsPut};
 ghost use Rattle.simulation.specs.System.{IsKey};
 ghost use Rattle.image_map.specs.Map.{IsMapped};
 ghost use Rattle.image_map.specs.Turns.{HoldsKeys};
-ghost use Rattle.gate_computer.specs.Followed.{HasFollowed, PutsParts, image_in, word_in};
+ghost use Rattle.gate_computer.specs.Followed.{HasFollowed, PassesParts, image_in, word_in};
 
 use crate::reading::{hears_key, number_at, set_keyboard};
-use crate::showing::show_parts;
+use crate::showing::put_parts;
 use crate::wiring::{WiredComputer, Wiring};
 use gate_sim::Sim;
 use image_map::{Image, Tally};
-use outer_world::{List, Point, Put, Sink};
+use outer_world::{List, Pieces, Point, Put, Sink};
 use std::alloc::{AllocError, Global};
 use std::marker::Model;
 use word16::SCREEN;
@@ -117,14 +118,20 @@ impl GateComputer {
         self.moves += 1;
     }
 
-    /// Shows the outputs of all parts in the cycle that comes next, in which the keyboard holds a key: a line for each part, depth first in the order of
+    /// Puts the outputs of all parts in the cycle that comes next, in which the keyboard holds a key: a line for each part, depth first in the order of
     /// the texts, with its chip's name, a space, and the bits of its outputs. Only the pins of the keyboard change.
-    pub fn show_nets<S: Sink>(&mut self, key: u16, out: &mut S) -> Put
+    pub fn put_nets<S: Sink>(&mut self, key: u16, out: &mut Pieces<'_, S>) -> Put
         ensures image { image_in self.new ≡ image_in self.old }
         ensures moves { self.new.moves ≡ self.old.moves }
-        ensures stands { (turns : List Turn) → HasFollowed self.old turns → HasFollowed self.new turns }
-        ensures put { (turns : List Turn) → HasFollowed self.old turns → (keys : ℕ → ℕ) → ((c : ℕ) → IsKey (keys c)) → HoldsKeys keys 0 turns → keys (length turns) ≡ key → PutsParts self.old.image keys (length turns) (S.written out.old) (S.written out.new) result }
-        ensures counts { CountsPut (S.faults out.old) (S.faults out.new) result }
+        ensures stands { (turns : List Turn) → HasFollowed self.old turns
+            → HasFollowed self.new turns }
+        ensures same_sink { HaveSameSink out.old out.new }
+        ensures passes { (turns : List Turn) → HasFollowed self.old turns → (keys : ℕ → ℕ)
+            → ((c : ℕ) → IsKey (keys c)) → HoldsKeys keys 0 turns → keys (length turns) ≡ key
+            → PassesParts self.old.image keys (length turns) (S.written (sink_of out.old))
+            (pending out.old) (S.written (sink_of out.new)) (pending out.new) result }
+        ensures counts { CountsPut (S.faults (sink_of out.old)) (S.faults (sink_of out.new))
+            result }
     {
         set_keyboard(
             &mut self.sim,
@@ -134,7 +141,7 @@ impl GateComputer {
         );
         self.key = key;
         self.sim.eval();
-        show_parts(&self.sim, self.wiring.parts.as_slice(), out)
+        put_parts(&self.sim, self.wiring.parts.as_slice(), out)
     }
 
     /// The number of cycles so far.

@@ -16,13 +16,12 @@ impl Level for GateComputer {
 
     ghost stands = { λ g turns. HasFollowed g turns };
 
-    ghost count = { λ g. g.moves };
-
-    ghost word = { λ g. word_in g };
-
-    ghost committed = { λ g. g.tally.steps };
-
-    ghost at_point = { λ g. g.tally.point };
+    ghost reading = { λ g. record {
+      moves = g.moves;
+      steps = g.tally.steps;
+      point = g.tally.point;
+      word = word_in g;
+    } };
 
     ghost reply = { λ _ _. Acted };
 

@@ -1,9 +1,9 @@
 //! The lines that show the outputs of the Computer's parts.
 
-ghost use Rattle.std.specs.Prelude.{◌≡◌, ◌<◌, [], map, length, slice_get, ℕ, Some};
+ghost use Rattle.std.specs.Prelude.{◌≡◌, ◌<◌, map, length, slice_get, ℕ, Some};
 ghost use Rattle.std.specs.List.{All};
 ghost use Rattle.outer_world.specs.Held.{HaveSameSink, pending, sink_of};
-ghost use Rattle.outer_world.specs.Written.{CountsPut, Passes, Puts};
+ghost use Rattle.outer_world.specs.Written.{CountsPut, Passes};
 ghost use Rattle.netlist.specs.Present.{value_in};
 ghost use Rattle.gate_computer.specs.declared.wiring.WiredPart.{WiredPart};
 ghost use Rattle.gate_computer.specs.Parts.{digit};
@@ -52,7 +52,8 @@ fn put_part<S: Sink>(sim: &Sim, part: &WiredPart, out: &mut Pieces<'_, S>) -> Pu
     out.put(b"\n")
 }
 
-fn put_parts<S: Sink>(sim: &Sim, parts: &[WiredPart], out: &mut Pieces<'_, S>) -> Put
+/// Puts the lines of the parts.
+pub fn put_parts<S: Sink>(sim: &Sim, parts: &[WiredPart], out: &mut Pieces<'_, S>) -> Put
     requires { ArePartsThere (length sim.now.net.nodes) parts.now }
     ensures same_sink { HaveSameSink out.old out.new }
     ensures passes { Passes (S.written (sink_of out.old)) (pending out.old) (S.written (sink_of out.new)) (pending out.new) (wired_text (value_in sim.now.values) parts.now) result }
@@ -65,28 +66,4 @@ fn put_parts<S: Sink>(sim: &Sim, parts: &[WiredPart], out: &mut Pieces<'_, S>) -
         }
     }
     Put::Done
-}
-
-// From an empty buffer, which is empty again after it.
-fn put_all_parts<S: Sink>(sim: &Sim, parts: &[WiredPart], out: &mut Pieces<'_, S>) -> Put
-    requires there { ArePartsThere (length sim.now.net.nodes) parts.now }
-    requires empty { pending out.old ≡ [] }
-    ensures same_sink { HaveSameSink out.old out.new }
-    ensures put { Puts (S.written (sink_of out.old)) (S.written (sink_of out.new)) (wired_text (value_in sim.now.values) parts.now) result }
-    ensures counts { CountsPut (S.faults (sink_of out.old)) (S.faults (sink_of out.new)) result }
-{
-    match put_parts(sim, parts, out) {
-        Put::Done => out.finish(),
-        Put::Failed => Put::Failed,
-    }
-}
-
-/// Puts the lines of the parts.
-pub fn show_parts<S: Sink>(sim: &Sim, parts: &[WiredPart], out: &mut S) -> Put
-    requires { ArePartsThere (length sim.now.net.nodes) parts.now }
-    ensures put { Puts (S.written out.old) (S.written out.new) (wired_text (value_in sim.now.values) parts.now) result }
-    ensures counts { CountsPut (S.faults out.old) (S.faults out.new) result }
-{
-    let mut pieces = Pieces::new(out);
-    put_all_parts(sim, parts, &mut pieces)
 }

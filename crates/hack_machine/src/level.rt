@@ -15,13 +15,12 @@ impl Level for Hack {
 
     ghost stands = { λ h turns. HasTaken h turns };
 
-    ghost count = { λ h. h.moves };
-
-    ghost word = { λ h. (machine_of h).memory };
-
-    ghost committed = { λ _. 0 };
-
-    ghost at_point = { λ h. h.pc };
+    ghost reading = { λ h. record {
+      moves = h.moves;
+      steps = 0;
+      point = h.pc;
+      word = (machine_of h).memory;
+    } };
 
     ghost reply = { λ _ _. Acted };
 

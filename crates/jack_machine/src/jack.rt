@@ -162,13 +162,12 @@ impl<'a> Level for Jack<'a> {
 
     ghost stands = { Stands };
 
-    ghost count = { λ j. j.moves };
-
-    ghost word = { jack_word };
-
-    ghost committed = { λ j. j.moves };
-
-    ghost at_point = { jack_point };
+    ghost reading = { λ j. record {
+      moves = j.moves;
+      steps = j.moves;
+      point = jack_point j;
+      word = jack_word j;
+    } };
 
     ghost reply = { jack_reply };
 

@@ -1,4 +1,5 @@
 pub mod Drives
+pub mod Ways
 pub mod Counting
 pub mod Lines
 pub mod Handed

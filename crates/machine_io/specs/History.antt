@@ -1,6 +1,5 @@
 -- The history of a machine: the keys that it was given, each with its answer.
-use Rattle.std.specs.Prelude.{◌≡◌, ◌≤◌, ◌<◌, ℕ, zero, suc, List, [], ◌∷◌}
-use Rattle.word16.specs.Memory.{heap, keyboard}
+use Rattle.std.specs.Prelude.{ℕ, zero, suc, List, [], ◌∷◌}
 use Rattle.machine_io.specs.declared.machine.Moved.{Moved}
 use Rattle.machine_io.specs.declared.machine.Moved.TheVariants.{Acted}
 
@@ -25,9 +24,3 @@ OnStop _ P = P
 abbrev pub moves_from : (ℕ → ℕ) → ℕ → ℕ → List Turn
 moves_from code c zero = []
 moves_from code c (suc n) = turn (code c) Acted ∷ moves_from code (suc c) n
-
--- what can be read of a machine is the same: the words of heap and screen, the number of steps, the point
-pub record IsSameReading {P : Type 0} (word : ℕ → ℕ) (steps : ℕ) (point : P) (word' : ℕ → ℕ) (steps' : ℕ) (point' : P) : Type 0 where
-  pub words : (a : ℕ) → heap ≤ a → a < keyboard → word' a ≡ word a
-  pub same_steps : steps' ≡ steps
-  pub same_point : point' ≡ point

@@ -8,7 +8,7 @@ mod report;
 mod screen;
 mod words;
 
-pub use driving::{End, Keyboard, drive};
+pub use driving::{End, Keyboard, Stop, Until, drive, drive_until};
 pub use machine::{Level, Moved, Stray};
 pub use report::{Head, LevelName, Show, put_head, put_shown, show_report};
 pub use screen::{put_screen, show_screen};

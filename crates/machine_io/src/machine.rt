@@ -1,7 +1,8 @@
 //! A machine that is moved by keys.
 ghost use Rattle.std.specs.Prelude.{◌≡◌, ◌+◌, ◌<◌, ◌≤◌, ◌^◌, ◌++◌, [], ◌∷◌, List, ℕ, Bool, true, IfOk, OnErr, IsOk};
 ghost use Rattle.word16.specs.Memory.{heap, keyboard};
-ghost use Rattle.machine_io.specs.History.{Turn, turn, moves_in, IsSameReading, OnStop};
+ghost use Rattle.machine_io.specs.History.{Turn, turn, moves_in, OnStop};
+ghost use Rattle.machine_io.specs.Reading.{Reading, IsSameReading};
 ghost use Rattle.machine_io.specs.declared.machine.Moved.{Moved};
 
 use std::alloc::AllocError;
@@ -37,17 +38,9 @@ pub trait Level {
     /// The machine stands where this history leads.
     ghost stands: { Self → List Turn → Type 0 };
 
-    /// The number of moves made.
-    ghost count: { Self → ℕ };
-
-    /// The words of heap and screen by address.
-    ghost word: { Self → ℕ → ℕ };
-
-    /// The number of steps of the program's meaning among the moves made.
-    ghost committed: { Self → ℕ };
-
-    /// The control point.
-    ghost at_point: { Self → Self.Point };
+    /// What can be read of the machine: the numbers of its moves and of its program's steps, the control point,
+    /// and the words of heap and screen.
+    ghost reading: { Self → Reading Self.Point };
 
     /// The answer that the machine has for each key, as it stands.
     ghost reply: { Self → ℕ → Moved };
@@ -65,34 +58,39 @@ pub trait Level {
     /// be read of the machine is as it was, and so is its answer to each key: the same key gets the same answer
     /// again. The program stays what it is.
     fn step(&mut self, key: u16) -> Result<Moved, AllocError>
-        requires { count self.old < 2 ^ 63 }
-        ensures stands { IfOk result (λ answer. (turns : List Turn) → stands self.old turns → stands self.new (turns ++ turn key answer ∷ [])) }
-        ensures counts { IfOk result (λ answer. count self.new ≡ moves_in answer + count self.old) }
-        ensures still { IfOk result (λ answer. OnStop answer (IsSameReading (word self.old) (committed self.old) (at_point self.old) (word self.new) (committed self.new) (at_point self.new))) }
+        requires { (reading self.old).moves < 2 ^ 63 }
+        ensures stands { IfOk result
+            (λ answer. (turns : List Turn) → stands self.old turns
+            → stands self.new (turns ++ turn key answer ∷ [])) }
+        ensures counts { IfOk result
+            (λ answer. (reading self.new).moves ≡ moves_in answer + (reading self.old).moves) }
+        ensures still { IfOk result
+            (λ answer. OnStop answer (IsSameReading (reading self.old) (reading self.new))) }
         ensures replies { IfOk result (λ answer. answer ≡ reply self.old key) }
-        ensures again { IfOk result (λ answer. OnStop answer ((k : ℕ) → reply self.new k ≡ reply self.old k)) }
-        ensures refused { OnErr result ((turns : List Turn) → stands self.old turns → stands self.new turns) }
-        ensures refused_count { OnErr result (count self.new ≡ count self.old) }
-        ensures refused_still { OnErr result (IsSameReading (word self.old) (committed self.old) (at_point self.old) (word self.new) (committed self.new) (at_point self.new)) }
+        ensures again { IfOk result
+            (λ answer. OnStop answer ((k : ℕ) → reply self.new k ≡ reply self.old k)) }
+        ensures refused { OnErr result
+            ((turns : List Turn) → stands self.old turns → stands self.new turns) }
+        ensures refused_still { OnErr result (IsSameReading (reading self.old) (reading self.new)) }
         ensures refused_again { OnErr result ((k : ℕ) → reply self.new k ≡ reply self.old k) }
         ensures sure { sure ≡ true → IsOk result }
         ensures program { program self.new ≡ program self.old };
 
     /// The number of moves made.
     fn moves(&self) -> u64
-        ensures { result ≡ count self.now };
+        ensures { result ≡ (reading self.now).moves };
 
     /// The word at an address of heap or screen.
     fn word_at(&self, a: u16) -> u16
         requires from { heap ≤ a }
         requires below { a < keyboard }
-        ensures { result ≡ word self.now a };
+        ensures { result ≡ (reading self.now).word a };
 
     /// The number of steps of the program's meaning that were made.
     fn steps(&self) -> u64
-        ensures { result ≡ committed self.now };
+        ensures { result ≡ (reading self.now).steps };
 
     /// The control point.
     fn point(&self) -> Self::Point
-        ensures { result ≡ at_point self.now };
+        ensures { result ≡ (reading self.now).point };
 }

@@ -72,13 +72,12 @@ impl Level for HackLevel {
 
     ghost stands = { λ h turns. HasFollowed h turns };
 
-    ghost count = { λ h. h.hack.moves };
-
-    ghost word = { λ h. (machine_of h.hack).memory };
-
-    ghost committed = { λ h. h.tally.steps };
-
-    ghost at_point = { λ h. h.tally.point };
+    ghost reading = { λ h. record {
+      moves = h.hack.moves;
+      steps = h.tally.steps;
+      point = h.tally.point;
+      word = (machine_of h.hack).memory;
+    } };
 
     ghost reply = { λ _ _. Acted };
 

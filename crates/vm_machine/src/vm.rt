@@ -222,13 +222,12 @@ impl Level for Vm {
 
     ghost stands = { λ vm turns. HasTaken vm turns };
 
-    ghost count = { λ vm. vm.moves };
-
-    ghost word = { λ vm a. slice_index vm.state.words (a - heap) };
-
-    ghost committed = { λ vm. vm.steps };
-
-    ghost at_point = { λ vm. point_of vm.linked vm.state.frames };
+    ghost reading = { λ vm. record {
+      moves = vm.moves;
+      steps = vm.steps;
+      point = point_of vm.linked vm.state.frames;
+      word = λ a. slice_index vm.state.words (a - heap);
+    } };
 
     ghost reply = { λ vm key. answer_of (step vm.linked key vm.state) };
 
