@@ -7,5 +7,5 @@ mod printing;
 mod tally;
 
 pub use map::{Image, ImageMap, PointRange, StaticWord};
-pub use printing::show_map;
+pub use printing::{put_commits, put_shared, show_map};
 pub use tally::Tally;

@@ -66,8 +66,8 @@ fn put_commit<S: Sink>(address: u16, out: &mut Pieces<'_, S>) -> Put
     out.put_all(&[b"commit ", digits.format(address).as_bytes(), b"\n"])
 }
 
-// The lines of the commits.
-fn put_commits<S: Sink>(commits: &[u16], out: &mut Pieces<'_, S>) -> Put
+/// The lines of commits.
+pub fn put_commits<S: Sink>(commits: &[u16], out: &mut Pieces<'_, S>) -> Put
     ensures same_sink { HaveSameSink out.old out.new }
     ensures passes { Passes (S.written (sink_of out.old)) (pending out.old) (S.written (sink_of out.new)) (pending out.new) (flat_map commit_line commits.now) result }
     ensures counts { CountsPut (S.faults (sink_of out.old)) (S.faults (sink_of out.new)) result }
@@ -98,8 +98,8 @@ fn put_range<S: Sink>(range: (u32, u32), out: &mut Pieces<'_, S>) -> Put
     ])
 }
 
-// The lines of the routines.
-fn put_shared<S: Sink>(shared: &[(u32, u32)], out: &mut Pieces<'_, S>) -> Put
+/// The lines of routines that commands share.
+pub fn put_shared<S: Sink>(shared: &[(u32, u32)], out: &mut Pieces<'_, S>) -> Put
     ensures same_sink { HaveSameSink out.old out.new }
     ensures passes { Passes (S.written (sink_of out.old)) (pending out.old) (S.written (sink_of out.new)) (pending out.new) (flat_map shared_line shared.now) result }
     ensures counts { CountsPut (S.faults (sink_of out.old)) (S.faults (sink_of out.new)) result }

@@ -4,17 +4,24 @@
 //! in `specs/`, which says it of any words, also of those of a stack that a program has overwritten.
 #![tactic(auto)]
 
-ghost use Rattle.jack_debug.specs.Laws.{WalkLaw};
+ghost use Rattle.jack_debug.specs.Laws.{ByNameLaw, WalkLaw};
+ghost use Rattle.jack_debug.specs.Rows.{RowsLaw};
 
+mod map_printing;
+mod order;
 mod places;
 mod printing;
 mod seen;
+mod statements;
 mod walking;
 mod words;
 
+pub use map_printing::print_map;
+pub use order::classes_by_name;
 pub use places::{ClassPlaces, PlacedRange, PlacedStatic, Places, SubPlaces};
 pub use printing::print_view;
 pub use seen::{Caller, Variable, View};
+pub use statements::subroutine_places;
 pub use walking::view;
 pub use words::Words;
 
@@ -22,4 +29,14 @@ pub use words::Words;
 /// alone.
 pub fn walk_law()
     ensures { WalkLaw }
+{}
+
+/// Law: classes by name are in order of name, and they are those that have a linked subroutine, each once.
+pub fn by_name_law()
+    ensures { ByNameLaw }
+{}
+
+/// Law: the order of some classes, and the places of nested statements.
+pub fn rows_law()
+    ensures { RowsLaw }
 {}

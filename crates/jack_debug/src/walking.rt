@@ -130,8 +130,8 @@ fn this<W: Words>(words: &W, form: Form, number: u32) -> Option<u16>
     }
 }
 
-// How many arguments have no name.
-fn first_named(form: Form) -> usize
+/// How many arguments have no name.
+pub(crate) fn first_named(form: Form) -> usize
     ensures value { result ≡ first_named form }
     ensures few { result < 2 }
 {

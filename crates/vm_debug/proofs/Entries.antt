@@ -3,7 +3,6 @@ use Rattle.std.proofs.Common.{◌≡◌, ◌+◌, ◌<◌, ◌++◌, ℕ, zero, 
 use Rattle.std.specs.List.{filter_map, cons_option}
 use Rattle.std.proofs.lemmas.Bool.{ne_eqb, eq-eqb}
 use Rattle.std.proofs.lemmas.List.Elements.{filter_map-append}
-use Rattle.outer_world.specs.declared.point.Point.{Point}
 use Rattle.vm_tree.specs.declared.command.Operation.TheVariants as operation
 use Rattle.vm_tree.specs.declared.command.Segment.TheVariants as segment
 use Rattle.vm_link.specs.declared.linked.Step.{Step}
@@ -11,13 +10,12 @@ use Rattle.vm_link.specs.declared.linked.Step.TheVariants as command
 use Rattle.vm_link.specs.declared.linked.Code.{Code}
 use Rattle.vm_link.specs.declared.linked.Linked.{Linked}
 use Rattle.vm_link.specs.declared.linked.LinkedFunction.{LinkedFunction}
-use Rattle.vm_translator.specs.declared.layout.Placed.{Placed}
 use Rattle.vm_translator.specs.Shapes.{step_size}
 use Rattle.vm_translator.specs.Places.{address_of, base_of, placed_code, placed_from, words_in, words_of}
 use Rattle.vm_translator.specs.Image.{entries_of, entry_range, is_entry}
 use Rattle.jack_meaning.specs.Text.{Variable, Argument, Local, Static, Sign, Minus, Complement, Operator, Plus, Subtract, And, Or, Less, Greater, Equal, Expression, Literal, Value, Name, This, Field, Unary, Binary, Load, Call, Open, Expressions, NoMore, More, Statement, Let, LetField, LetThis, Store, Do, If, While, Return, Text, End, Next, Kind, Constructor, Function, Method, Subroutine, Program}
 use Rattle.jack_meaning.specs.Meaning.{subroutine_at}
-use Rattle.jack_compiler.specs.Templates.{Numbers, quiet, commit, literal_code, load_code, store_code, expression_code, arguments_code, first_number, no_else, statement_code, text_code, object_code, subroutine_code, push_variable, pop_variable, sign_step, operator_step}
+use Rattle.jack_compiler.specs.Templates.{Numbers, quiet, commit, literal_code, load_code, store_code, expression_code, arguments_code, first_number, no_else, statement_code, text_code, object_code, push_variable, pop_variable, sign_step, operator_step}
 use Rattle.jack_compiler.specs.Linked.{IsLinkedProgram}
 use Rattle.vm_debug.specs.Places.{entry_from, entry_in, entry_of}
 

@@ -4,3 +4,4 @@ pub mod Entries
 pub mod Adding
 pub mod Program
 pub mod Debugged
+pub mod Numbers

@@ -1,7 +1,6 @@
 -- The places of a program are those of its image, and name its subroutines and statics.
 use Rattle.std.proofs.Common.{◌≡◌, ◌+◌, ◌-◌, ◌<◌, ◌≤◌, ◌++◌, ◌&&◌, ℕ, zero, suc, Bool, true, false, List, [], ◌∷◌, Option, Some, None, nat_le, nat_lt, slice_get, get_or, length, map, option_map, refl, sym, ap, subst, ◌∙◌, arith, if◌then◌else◌, length-append}
 use Rattle.std.specs.Prelude.{sum_by}
-use Rattle.std.specs.List.{flat_map}
 use Rattle.std.proofs.lemmas.Bool.Decides.{nat_tests}
 use Rattle.std.proofs.lemmas.List.{length-map, map-append}
 use Rattle.std.proofs.lemmas.List.Sums.{sum_by-cons}
@@ -25,28 +24,26 @@ use Rattle.vm_link.specs.declared.linked.LinkedFile.{LinkedFile}
 use Rattle.vm_link.specs.declared.linked.LinkedFunction.{LinkedFunction}
 use Rattle.image_map.specs.declared.map.PointRange.{PointRange}
 use Rattle.vm_translator.specs.Places.{address_of}
-use Rattle.vm_translator.specs.Image.{entries_of, points_of}
+use Rattle.vm_translator.specs.Image.{entries_of, image_map_of, points_of}
 use Rattle.image_map.specs.Map as image
-use Rattle.jack_meaning.specs.Text.{Function, Subroutine, Text, End, Program}
+use Rattle.jack_meaning.specs.Text.{Function, Subroutine, End, Program}
 use Rattle.jack_meaning.specs.Text.{Class as MeantClass}
 use Rattle.jack_meaning.specs.Meaning.{subroutine_at, statics_of}
-use Rattle.jack_names.specs.Meaning.{class_meaning, kind_meaning, meaning_of, program_meaning, subroutine_meaning, subroutines_meaning}
+use Rattle.jack_names.specs.Meaning.{class_meaning, kind_meaning, meaning_of, subroutine_meaning, subroutines_meaning}
 use Rattle.jack_names.specs.Numbers.{field_count, local_count, object_count, standing, static_count, statics_in}
 use Rattle.jack_names.specs.Using.{all_names}
 use Rattle.jack_compiler.specs.Files.{statics_before}
-use Rattle.jack_compiler.specs.Statics.{class_of, has_word, place_of, static_word, words_in, words_until}
+use Rattle.jack_compiler.specs.Statics.{class_of, place_of, words_in, words_until}
 use Rattle.jack_compiler.specs.Fits.{IsClosed}
 use Rattle.jack_compiler.specs.Linked.{IsLinkedProgram}
 use Rattle.jack_compiler.proofs.Numbering.{class_is}
-use Rattle.jack_debug.specs.declared.places.ClassPlaces.{ClassPlaces}
 use Rattle.jack_debug.specs.declared.places.Places.{Places}
-use Rattle.jack_debug.specs.declared.places.PlacedStatic.{PlacedStatic}
 use Rattle.jack_debug.specs.declared.places.SubPlaces.{SubPlaces}
 use Rattle.jack_debug.specs.Walk.{first_named, point_in, sub_at}
 use Rattle.jack_debug.specs.Walk as debug
 use Rattle.vm_debug.specs.Meanings.{kind_of, Names as NamesOf, AreStaticsOf, HaveWords}
-use Rattle.vm_debug.specs.Places.{class_subs, entry_of, local_names, names_in, names_of_statics, placed_class, placed_classes, placed_range, placed_statics, placed_subs, static_names, the_places}
-use Rattle.vm_debug.specs.Views.{IsPlacesOf, IsSubOf}
+use Rattle.vm_debug.specs.Places.{class_subs, entry_of, local_names, names_in, names_of_statics, placed_class, placed_classes, placed_range, placed_statics, placed_subs, static_names, the_places, trees_of}
+use Rattle.vm_debug.specs.Views.{IsSubOf}
 use Rattle.vm_debug.specs.Program.{ArePlacesOf, PlacesLaw}
 use Rattle.vm_debug.proofs.Adding.{subs_long}
 use Rattle.vm_debug.proofs.Entries.{entry_is}
@@ -169,12 +166,12 @@ module _ (fs : List LinkedFunction) (es : List (ℕ × ℕ)) (all : List Class) 
       (r.0, r.1, subst (λ i. Alike i r.0 m) z r.2)
 
 -- the points of the ranges
-ranges_same : (rs : List PointRange) (a : ℕ) → point_in (map placed_range rs) a ≡ option_map (λ (p : Point). record { sub = p.sub; number = p.number }) (image.point_in rs a)
-ranges_same [] a = refl
-ranges_same (r ∷ rs) a = by_test (nat_le r.from a && nat_lt a r.to) (ranges_same rs a)
+ranges_same : (ts : List trees.Subroutine) (rs : List PointRange) (a : ℕ) → point_in (map (placed_range ts) rs) a ≡ option_map (λ (p : Point). record { sub = p.sub; number = p.number }) (image.point_in rs a)
+ranges_same ts [] a = refl
+ranges_same ts (r ∷ rs) a = by_test (nat_le r.from a && nat_lt a r.to) (ranges_same ts rs a)
   where
-    by_test : (b : Bool) → point_in (map placed_range rs) a ≡ option_map (λ (p : Point). record { sub = p.sub; number = p.number }) (image.point_in rs a)
-        → (if b then Some r.point else point_in (map placed_range rs) a) ≡ option_map (λ (p : Point). record { sub = p.sub; number = p.number }) (if b then Some r.point else image.point_in rs a)
+    by_test : (b : Bool) → point_in (map (placed_range ts) rs) a ≡ option_map (λ (p : Point). record { sub = p.sub; number = p.number }) (image.point_in rs a)
+        → (if b then Some r.point else point_in (map (placed_range ts) rs) a) ≡ option_map (λ (p : Point). record { sub = p.sub; number = p.number }) (if b then Some r.point else image.point_in rs a)
     by_test true e = refl
     by_test false e = e
 
@@ -188,15 +185,15 @@ get_none (m ∷ ms) zero d e = absurd (cc e)
 get_none (m ∷ ms) (suc g) d e = get_none ms g d e
 
 -- classes by their numbers
-classes_at : (files : List LinkedFile) (k : ℕ) (cs : List Class) (i : ℕ) (c : Class) → slice_get cs i ≡ Some c → slice_get (placed_classes files k cs) i ≡ Some (placed_class files (k + i) c)
-classes_at files k [] i c e = absurd (cc e)
-classes_at files k (d ∷ cs) zero c e =
+classes_at : (files : List LinkedFile) (owns k : ℕ) (cs : List Class) (i : ℕ) (c : Class) → slice_get cs i ≡ Some c → slice_get (placed_classes files owns k cs) i ≡ Some (placed_class files owns (k + i) c)
+classes_at files owns k [] i c e = absurd (cc e)
+classes_at files owns k (d ∷ cs) zero c e =
     let same : d ≡ c = some_is e in
     let z : k ≡ k + 0 = omega arith in
-    ap (λ (n : ℕ). Some (placed_class files n d)) z ∙ ap (λ (x : Class). Some (placed_class files (k + 0) x)) same
-classes_at files k (d ∷ cs) (suc i) c e =
+    ap (λ (n : ℕ). Some (placed_class files owns n d)) z ∙ ap (λ (x : Class). Some (placed_class files owns (k + 0) x)) same
+classes_at files owns k (d ∷ cs) (suc i) c e =
     let z : k + 1 + i ≡ k + suc i = omega arith in
-    classes_at files (k + 1) cs i c e ∙ ap (λ (n : ℕ). Some (placed_class files n c)) z
+    classes_at files owns (k + 1) cs i c e ∙ ap (λ (n : ℕ). Some (placed_class files owns n c)) z
 
 meant_class : (cs : List Class) (i : ℕ) (c : Class) → slice_get cs i ≡ Some c → slice_get (map class_meaning (map the_file cs)) i ≡ Some (class_meaning (the_file c))
 meant_class [] i c e = absurd (cc e)
@@ -245,9 +242,12 @@ have_words program linked c count next i (n ∷ ns) e =
       subst (λ z. HaveWords program linked z (placed_statics (16 + words_until linked.files c) (words_in linked.files c) (i + 1) ns)) step (have_words program linked c count next (i + 1) ns (omega arith)),
     )
 
-module _ (classes : List Class) (program : Program) (is : program ≡ meaning_of (map the_file classes)) (linked : Linked) (h : IsLinkedProgram program linked) where
+module _ (own system : List Class) (program : Program) (is : program ≡ meaning_of (map the_file (own ++ system))) (linked : Linked) (h : IsLinkedProgram program linked) where
+  abbrev classes : List Class
+  classes = own ++ system
+
   abbrev places : Places
-  places = the_places classes linked (points_of linked) (entries_of linked)
+  places = the_places own system linked (image_map_of linked)
 
   abbrev files : List ClassFile
   files = map the_file classes
@@ -271,8 +271,8 @@ module _ (classes : List Class) (program : Program) (is : program ≡ meaning_of
   statics g sub e =
       let a = meant g sub e in
       let c = (subroutine_at program.subroutines g).class in
-      let there : slice_get places.classes sub.class ≡ Some (placed_class linked.files c a.tree) =
-      ap (slice_get places.classes) a.class ∙ classes_at linked.files 0 classes c a.tree a.there ∙ ap (λ (n : ℕ). Some (placed_class linked.files n a.tree)) (let z : 0 + c ≡ c = omega arith in z) in
+      let there : slice_get places.classes sub.class ≡ Some (placed_class linked.files (length own) c a.tree) =
+      ap (slice_get places.classes) a.class ∙ classes_at linked.files (length own) 0 classes c a.tree a.there ∙ ap (λ (n : ℕ). Some (placed_class linked.files (length own) n a.tree)) (let z : 0 + c ≡ c = omega arith in z) in
       let class : slice_get program.classes c ≡ Some (class_meaning (the_file a.tree)) = ap (λ (p : Program). slice_get p.classes c) is ∙ meant_class classes c a.tree a.there in
       let names = static_names a.tree.variables.items in
       let count = statics_alike a.tree.variables.items in
@@ -305,7 +305,7 @@ module _ (classes : List Class) (program : Program) (is : program ≡ meaning_of
   are_places = record {
     image = record {
       start = refl;
-      ranges = ranges_same (points_of linked);
+      ranges = ranges_same (trees_of classes) (points_of linked);
       subs = λ k f g. function_placed k f.number f refl g (h.fits.each f.number (h.all f.number (h.only k f g))).closed;
     };
     names = λ g sub e. (meant g sub e).names;
@@ -314,4 +314,4 @@ module _ (classes : List Class) (program : Program) (is : program ≡ meaning_of
 
 pub places_are : PlacesLaw
 places_are own system program linked is h =
-    are_places (own ++ system) program (is ∙ ap meaning_of (sym (map-append the_file own system))) linked h
+    are_places own system program (is ∙ ap meaning_of (sym (map-append the_file own system))) linked h

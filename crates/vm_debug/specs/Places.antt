@@ -1,7 +1,9 @@
 -- The places of a program: its subroutines and classes as their trees declare them, with the addresses that the image gives them. (The book, chapters
 -- 9 and 11: what is declared; chapters 7 and 8: where static words stand.)
-use Rattle.std.specs.Prelude.{ℕ, ◌+◌, nat_eq, nat_lt, if◌then◌else◌, List, [], ◌∷◌, ◌++◌, map, length, codes, Some, None, slice_get, unwrap_or}
+use Rattle.std.specs.Prelude.{ℕ, zero, suc, ◌+◌, nat_eq, nat_lt, if◌then◌else◌, List, [], ◌∷◌, ◌++◌, map, length, codes, Option, Some, None, slice_get, unwrap_or}
 use Rattle.std.specs.List.{flat_map}
+use Rattle.scan_text.specs.declared.Place.{Place}
+use Rattle.jack_tree.specs.Seen.{the_subroutine}
 use Rattle.jack_tree.specs.declared.tree.Class.{Class}
 use Rattle.jack_tree.specs.declared.tree.ClassVariables.{ClassVariables}
 use Rattle.jack_tree.specs.declared.tree.Locals.{Locals}
@@ -13,6 +15,7 @@ use Rattle.jack_tree.specs.declared.tree.Subroutine.{Subroutine}
 use Rattle.vm_link.specs.declared.linked.Linked.{Linked}
 use Rattle.vm_link.specs.declared.linked.LinkedFile.{LinkedFile}
 use Rattle.vm_link.specs.declared.linked.LinkedFunction.{LinkedFunction}
+use Rattle.image_map.specs.declared.map.ImageMap.{ImageMap}
 use Rattle.image_map.specs.declared.map.PointRange.{PointRange}
 use Rattle.jack_compiler.specs.Statics.{words_in, words_until}
 use Rattle.jack_debug.specs.declared.places.ClassPlaces.{ClassPlaces}
@@ -20,6 +23,8 @@ use Rattle.jack_debug.specs.declared.places.PlacedRange.{PlacedRange}
 use Rattle.jack_debug.specs.declared.places.PlacedStatic.{PlacedStatic}
 use Rattle.jack_debug.specs.declared.places.Places.{Places}
 use Rattle.jack_debug.specs.declared.places.SubPlaces.{SubPlaces}
+use Rattle.jack_debug.specs.Order.{classes_by_name}
+use Rattle.jack_debug.specs.Statements.{no_place, place_of}
 
 -- the names of a declaration, in order
 abbrev pub names_in : Names → List (List ℕ)
@@ -38,6 +43,18 @@ names_of_statics Field ns = []
 abbrev pub static_names : List ClassVariables → List (List ℕ)
 static_names vs = flat_map (λ v. names_of_statics v.scope v.names) vs
 
+abbrev pub names_of_fields : Scope → Names → List (List ℕ)
+names_of_fields Static ns = []
+names_of_fields Field ns = names_in ns
+
+abbrev pub field_names : List ClassVariables → List (List ℕ)
+field_names vs = flat_map (λ v. names_of_fields v.scope v.names) vs
+
+-- The name of the file of the class of number k: the first of the classes, so many, are the folder's own, and those behind them are the operating
+-- system's.
+abbrev pub file_name : ℕ → ℕ → List ℕ → List ℕ
+file_name own k file = if nat_lt k own then file else (codes "os/" ++ file)
+
 -- The entry code of the function of this number, where it is linked: the entries come in the order of the functions.
 abbrev pub entry_in : List (ℕ × ℕ) → ℕ → ℕ × ℕ
 entry_in es k = unwrap_or (slice_get es k) (0, 0)
@@ -54,14 +71,19 @@ abbrev pub placed_statics : ℕ → ℕ → ℕ → List (List ℕ) → List Pla
 placed_statics first words k [] = []
 placed_statics first words k (n ∷ ns) = record { name = n; address = if nat_lt k words then Some (first + k) else None } ∷ placed_statics first words (k + 1) ns
 
--- the class of this number
-abbrev pub placed_class : List LinkedFile → ℕ → Class → ClassPlaces
-placed_class files k c = record { name = c.name.text; statics = placed_statics (16 + words_until files k) (words_in files k) 0 (static_names c.variables.items) }
+-- the class of number k
+abbrev pub placed_class : List LinkedFile → ℕ → ℕ → Class → ClassPlaces
+placed_class files own k c = record {
+  name = c.name.text;
+  file = file_name own k c.file;
+  fields = field_names c.variables.items;
+  statics = placed_statics (16 + words_until files k) (words_in files k) 0 (static_names c.variables.items);
+}
 
--- classes, the first of which has this number
-abbrev pub placed_classes : List LinkedFile → ℕ → List Class → List ClassPlaces
-placed_classes files k [] = []
-placed_classes files k (c ∷ cs) = placed_class files k c ∷ placed_classes files (k + 1) cs
+-- classes, the first of which has number k
+abbrev pub placed_classes : List LinkedFile → ℕ → ℕ → List Class → List ClassPlaces
+placed_classes files own k [] = []
+placed_classes files own k (c ∷ cs) = placed_class files own k c ∷ placed_classes files own (k + 1) cs
 
 -- a subroutine of the class of this number and name, with its entry code
 abbrev pub sub_with : ℕ → List ℕ → ℕ × ℕ → Subroutine → SubPlaces
@@ -85,14 +107,40 @@ module _ (fs : List LinkedFunction) (es : List (ℕ × ℕ)) where
   placed_subs class n [] = []
   placed_subs class n (c ∷ cs) = class_subs class c.name.text n c.subroutines.items ++ placed_subs (class + 1) (n + length c.subroutines.items) cs
 
-abbrev pub placed_range : PointRange → PlacedRange
-placed_range r = record { from = r.from; to = r.to; point = r.point }
+-- the subroutines of classes, in order of their numbers from 1
+abbrev pub trees_of : List Class → List Subroutine
+trees_of cs = flat_map (λ (c : Class). c.subroutines.items) cs
 
--- The places of a program of these classes and this linked code, whose image has these points and entries. Subroutines are numbered as in the
--- program, in the order of the text from 1.
-abbrev pub the_places : List Class → Linked → List PointRange → List (ℕ × ℕ) → Places
-the_places classes linked points entries = record {
-  ranges = map placed_range points;
-  subs = placed_subs linked.functions entries 0 1 classes;
-  classes = placed_classes linked.files 0 classes;
-}
+-- the subroutine of a number; `start`, which is 0, has no text
+abbrev pub tree_at : List Subroutine → ℕ → Option Subroutine
+tree_at ts zero = None
+tree_at ts (suc k) = slice_get ts k
+
+abbrev pub place_in : Option Subroutine → ℕ → Place
+place_in None n = no_place
+place_in (Some t) n = place_of (the_subroutine t) n
+
+-- A range is at the place of its point's statement.
+abbrev pub placed_range : List Subroutine → PointRange → PlacedRange
+placed_range ts r = record { from = r.from; to = r.to; point = r.point; place = place_in (tree_at ts r.point.sub) r.point.number }
+
+abbrev pub linked_numbers : List LinkedFunction → List ℕ
+linked_numbers fs = map (λ (f : LinkedFunction). f.number) fs
+
+-- The places of a program of a folder's own classes and the operating system's, and of their linked code, whose image has this map. Subroutines are
+-- numbered as in the program, in the order of the text from 1; functions are linked in order of address.
+abbrev pub the_places : List Class → List Class → Linked → ImageMap → Places
+the_places own system linked m =
+    let all = own ++ system in
+    let subs = placed_subs linked.functions m.entries 0 1 all in
+    let classes = placed_classes linked.files (length own) 0 all in
+    let numbers = linked_numbers linked.functions in
+    record {
+      ranges = map (placed_range (trees_of all)) m.points;
+      commits = m.commits;
+      shared = m.shared;
+      subs = subs;
+      classes = classes;
+      linked = numbers;
+      by_name = classes_by_name classes subs numbers;
+    }

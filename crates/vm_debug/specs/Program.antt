@@ -1,9 +1,9 @@
 -- The places of a program, and that those of its classes are so.
-use Rattle.std.specs.Prelude.{◌≡◌, ◌++◌, ℕ, List, Some, map, slice_get}
+use Rattle.std.specs.Prelude.{◌≡◌, ℕ, List, Some, map, slice_get}
 use Rattle.jack_tree.specs.declared.tree.Class.{Class}
 use Rattle.jack_tree.specs.Seen.{the_file}
 use Rattle.vm_link.specs.declared.linked.Linked.{Linked}
-use Rattle.vm_translator.specs.Image.{entries_of, points_of}
+use Rattle.vm_translator.specs.Image.{image_map_of}
 use Rattle.jack_meaning.specs.Text.{Program}
 use Rattle.jack_meaning.specs.Meaning.{subroutine_at}
 use Rattle.jack_names.specs.Meaning.{program_meaning}
@@ -25,4 +25,4 @@ pub record ArePlacesOf (program : Program) (linked : Linked) (places : Places) :
 -- The places of classes, of their linked code and its image, are those of the program that the classes mean.
 abbrev pub PlacesLaw : Type 0
 PlacesLaw = (own system : List Class) (program : Program) (linked : Linked) → program ≡ program_meaning (map the_file own) (map the_file system) → IsLinkedProgram program linked
-    → ArePlacesOf program linked (the_places (own ++ system) linked (points_of linked) (entries_of linked))
+    → ArePlacesOf program linked (the_places own system linked (image_map_of linked))

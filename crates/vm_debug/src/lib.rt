@@ -4,6 +4,7 @@
 
 ghost use Rattle.vm_debug.specs.Debugged.{DebuggedLaw, DebuggedProgramLaw};
 ghost use Rattle.vm_debug.specs.Program.{PlacesLaw};
+ghost use Rattle.vm_debug.specs.Numbers.{NumbersLaw, StandingLaw};
 ghost use Rattle.vm_debug.specs.Laws.{ViewOfLaw, WalkOfLaw};
 
 mod places;
@@ -25,6 +26,14 @@ pub fn view_of_law()
 /// Law: the places of a program's classes, of its linked code and of its image are those of the program, and name its variables.
 pub fn places_law()
     ensures { PlacesLaw }
+{}
+
+/// Law: a number is that of one statement of a body, and the place of this number is that of its first token; each statement of
+/// the body's meaning stands at the place of its number. So a range of the image is at the place where the statement of its
+/// point stands.
+pub fn numbers_law()
+    ensures numbers { NumbersLaw }
+    ensures standing { StandingLaw }
 {}
 
 /// Law: just after a commit, as long as the meaning is tame, the debugger's walk of the computer's words is the view of the
