@@ -1,6 +1,6 @@
 -- What a part and a chip tell.
-use Rattle.std.proofs.Common.{◌≡◌, ℕ, ◌+◌, ◌<◌, ◌⊎◌, inl, inr, true, false, List, [], ◌∷◌, ◌++◌, take, Option, Some, None, is_some, Result, Ok, Err, refl, sym, ap, subst, ◌∙◌, arith}
-use Rattle.std.specs.Prelude.{slice_get, IfErr, OnOk}
+use Rattle.std.proofs.Common.{◌≡◌, ℕ, ◌+◌, ◌<◌, ◌⊎◌, inl, inr, true, false, List, ◌∷◌, ◌++◌, take, Option, Some, None, is_some, Result, Ok, Err, refl, sym, ap, subst, ◌∙◌, arith}
+use Rattle.std.specs.Prelude.{slice_get, IfErr}
 use Rattle.hdl_tree.specs.declared.tree.Part.{Part}
 use Rattle.hdl_tree.specs.declared.ends.End.{End}
 use Rattle.hdl_tree.specs.declared.library.Entry.{Entry}
@@ -11,7 +11,7 @@ use Rattle.hdl_check.specs.declared.fault.NamedFault.{NamedFault}
 use Rattle.hdl_check.specs.Inner.Checked.{Checks}
 use Rattle.hdl_check.specs.Faults.{ports_of, drivers_of, drivers_by, drivers_of_inner, bits_driven, pin_fault, body_fault, part_fault_by, connection_fault_in, connection_fault_by, connection_fault_of}
 use Rattle.hdl_check.specs.Locations.{Location, AtPin, AtBody, AtPart, Inside, AtConnection, IsEarlier, unless, at_inner, inner_of, fault_of_part, fault_of_connection, fault_at, IsFirstFault}
-use Rattle.hdl_check.specs.Inner.Progress.{IsProgress, Avoids, PartIsEntered, PartIsFine, PartFails, PartsAreFine, ChipIsFine, IsOf, IsFirstOf, FindsFirst, EntersWrong, FailsInside, FailsAt, IsFineAt}
+use Rattle.hdl_check.specs.Inner.Progress.{IsProgress, Avoids, PartIsEntered, PartIsFine, PartFails, PartsAreFine, IsOf, IsFirstOf, FindsFirst, FailsInside, HeadIsFine}
 use Rattle.hdl_check.specs.Whole.{Tells}
 use Rattle.hdl_check.specs.declared.fault.ElabFault.{ElabFault}
 use Rattle.hdl_check.specs.declared.fault.ElabFault.TheVariants as errors
@@ -39,9 +39,9 @@ module _ (chips : Chips) (names : List (List ℕ)) (entry : Entry) (i : ℕ) (pa
     first = λ s of earlier. absurd (none_before i s of earlier);
   }
 
-  pub name_wrong : (wanted : Option NamedFault) (e : ElabFault) → part_fault_by names entry.name part.chip (find_chip chips part.chip) ≡ wanted → Checks wanted (Err e) → Tells (PartFails chips names entry i) e
+  pub name_wrong : (wanted : NamedFault) (e : ElabFault) → part_fault_by names entry.name part.chip (find_chip chips part.chip) ≡ Some wanted → Tells (λ f. f ≡ wanted) e → Tells (PartFails chips names entry i) e
   name_wrong wanted errors.Memory h k = tt
-  name_wrong wanted (errors.Named f) h k = name_fails _ (h ∙ k)
+  name_wrong wanted (errors.Named f) h k = name_fails f (h ∙ ap Some (sym k))
 
   -- what stands in the chip
   inside_first : (inner : Entry) (f : NamedFault) (fails : IsFirstFault chips (inner.name ∷ names) inner f) → find_chip chips part.chip ≡ Some inner → part_fault_by names entry.name part.chip (find_chip chips part.chip) ≡ None → (s : Location) → IsOf i s → IsEarlier s (Inside i fails.place) → fault_at chips names entry s ≡ None
@@ -64,12 +64,9 @@ module _ (chips : Chips) (names : List (List ℕ)) (entry : Entry) (i : ℕ) (pa
   }
 
   module _ (k : ℕ) (inner : Entry) (found : find_chip chips part.chip ≡ slice_get chips.entries k) (here : slice_get chips.entries k ≡ Some inner) where
-    entering_fails : (f : NamedFault) → (part_fault_by names entry.name part.chip (slice_get chips.entries k) ≡ Some f) ⊎ ((part_fault_by names entry.name part.chip (slice_get chips.entries k) ≡ None) × FailsInside chips names k f) → PartFails chips names entry i f
+    pub entering_fails : (f : NamedFault) → (part_fault_by names entry.name part.chip (slice_get chips.entries k) ≡ Some f) ⊎ ((part_fault_by names entry.name part.chip (slice_get chips.entries k) ≡ None) × FailsInside chips names k f) → PartFails chips names entry i f
     entering_fails f (inl h) = name_fails f (ap (part_fault_by names entry.name part.chip) found ∙ h)
     entering_fails f (inr h) = inside_fails inner f (h.1 inner here) (found ∙ here) (ap (part_fault_by names entry.name part.chip) found ∙ h.0)
-
-    pub entering_wrong : (name : List ℕ) (e : ElabFault) → name ≡ part.chip → Tells (EntersWrong chips names entry.name name k) e → Tells (PartFails chips names entry i) e
-    entering_wrong name e same h = tells_more (EntersWrong chips names entry.name part.chip k) (PartFails chips names entry i) e (λ f w. entering_fails f w.wrong) (subst (λ (n : List ℕ). Tells (EntersWrong chips names entry.name n k) e) same h)
 
   -- the connections
   module _ (stages : List Stage) (done : ℕ) (progress : IsProgress chips stages done) (avoids : Avoids chips stages done names) (n : PartIsEntered chips stages part) where
@@ -101,18 +98,16 @@ module _ (chips : Chips) (names : List (List ℕ)) (entry : Entry) (i : ℕ) (pa
     connections_wrong e h = tells_more (IsFirstOf faults) (PartFails chips names entry i) e connection_fails h
 
 -- a part is fine where its connections are
-pub part_fine : (chips : Chips) (stages : List Stage) (entry : Entry) (i : ℕ) (part : Part) (n : PartIsEntered chips stages part) (r : Result (Unit {0}) ElabFault) → FindsFirst (connection_fault_in chips entry i (ports_of n.inner.chip) part.connections) r → OnOk r (PartIsFine chips stages entry i part)
-part_fine chips stages entry i part n (Ok u) h = record { entered = n; connections = λ j. ap (connection_fault_by chips entry i part j) n.found ∙ h j }
-part_fine chips stages entry i part n (Err e) h = tt
+pub part_fine : (chips : Chips) (stages : List Stage) (entry : Entry) (i : ℕ) (part : Part) (n : PartIsEntered chips stages part) → ((j : ℕ) → connection_fault_in chips entry i (ports_of n.inner.chip) part.connections j ≡ None) → PartIsFine chips stages entry i part
+part_fine chips stages entry i part n h = record { entered = n; connections = λ j. ap (connection_fault_by chips entry i part j) n.found ∙ h j }
 
 -- what the part drives is marked
-pub part_marked : (chips : Chips) (stages : List Stage) (entry : Entry) (i : ℕ) (part : Part) (n : PartIsEntered chips stages part) (old new : Marks) (r : Result (Unit {0}) ElabFault) → slice_get (parts_of chips entry) i ≡ Some part → HasMarks old (bits_driven (drivers_of chips (take i (parts_of chips entry)))) →
-    OnOk r (MarksMore old new (bits_driven (drivers_by (ports_of n.inner.chip) part.connections))) → OnOk r (HasMarks new (bits_driven (drivers_of chips (take (i + 1) (parts_of chips entry)))))
-part_marked chips stages entry i part n old new (Err e) there h k = tt
-part_marked chips stages entry i part n old new (Ok u) there h k =
+pub part_marked : (chips : Chips) (entry : Entry) (i : ℕ) (part : Part) (inner : Entry) (old new : Marks) → find_chip chips part.chip ≡ Some inner → slice_get (parts_of chips entry) i ≡ Some part → HasMarks old (bits_driven (drivers_of chips (take i (parts_of chips entry)))) →
+    MarksMore old new (bits_driven (drivers_by (ports_of inner.chip) part.connections)) → HasMarks new (bits_driven (drivers_of chips (take (i + 1) (parts_of chips entry))))
+part_marked chips entry i part inner old new found there h k =
     subst (λ (bs : List BitOf). HasMarks new bs)
-    (ap (λ ps. bits_driven (drivers_of chips (take i (parts_of chips entry))) ++ bits_driven ps) (sym (ap (λ o. drivers_of_inner o part.connections) n.found)) ∙ sym (part_next chips (parts_of chips entry) i part there))
-    (has_more old new (bits_driven (drivers_of chips (take i (parts_of chips entry)))) (bits_driven (drivers_by (ports_of n.inner.chip) part.connections)) h k)
+    (ap (λ ps. bits_driven (drivers_of chips (take i (parts_of chips entry))) ++ bits_driven ps) (sym (ap (λ o. drivers_of_inner o part.connections) found)) ∙ sym (part_next chips (parts_of chips entry) i part there))
+    (has_more old new (bits_driven (drivers_of chips (take i (parts_of chips entry)))) (bits_driven (drivers_by (ports_of inner.chip) part.connections)) h k)
 
 pub if_err : (r : Result (Unit {0}) ElabFault) (fault : ℕ → Option NamedFault) (Q : ElabFault → Type 0) → FindsFirst fault r → ((e : ElabFault) → Tells (IsFirstOf fault) e → Q e) → IfErr r Q
 if_err (Ok u) fault Q h go = tt
@@ -174,30 +169,23 @@ module _ (chips : Chips) (entry : Entry) (tree : is_some (end_of chips.blocks en
   body_right h = tree_fault (body_fault entry) ∙ h
 
 -- an end
-pub end_fine : (chips : Chips) (stages : List Stage) (entry : Entry) → is_some (end_of chips.blocks entry) ≡ true → ChipIsFine chips stages entry
-end_fine chips stages entry h = by (end_of chips.blocks entry) refl
+pub end_head : (chips : Chips) (entry : Entry) → is_some (end_of chips.blocks entry) ≡ true → HeadIsFine chips entry
+end_head chips entry h = by (end_of chips.blocks entry) refl
   where
-    by : (o : Option End) → end_of chips.blocks entry ≡ o → ChipIsFine chips stages entry
+    by : (o : Option End) → end_of chips.blocks entry ≡ o → HeadIsFine chips entry
     by None e = let n : false ≡ true = ap is_some (sym e) ∙ h in absurd cc
     by (Some x) e = record {
       pins = λ k. ap (λ o. unless o (pin_fault entry k)) e;
       body = ap (λ o. unless o (body_fault entry)) e;
-      parts = λ i part there. let n : slice_get [] i ≡ Some part = ap (λ o. slice_get (parts_unless o (parts_of_body entry.chip.body)) i) (sym e) ∙ there in absurd (nothing i part n);
     }
-      where
-        nothing : (i : ℕ) (part : Part) → slice_get [] i ≡ Some part → ⊥
-        nothing i part n = cc
 
 -- the same chip at its place
 pub at_entry : (chips : Chips) (k : ℕ) (entry other : Entry) → slice_get chips.entries k ≡ Some entry → slice_get chips.entries k ≡ Some other → entry ≡ other
 at_entry chips k entry other here there = cc (sym here ∙ there)
 
-pub fails_at : (chips : Chips) (names : List (List ℕ)) (k : ℕ) (entry : Entry) (f : NamedFault) → slice_get chips.entries k ≡ Some entry → IsFirstFault chips names entry f → FailsAt chips names k f
-fails_at chips names k entry f here h other there = subst (λ (x : Entry). IsFirstFault chips names x f) (at_entry chips k entry other here there) h
+pub fails_at : (chips : Chips) (outer : List (List ℕ)) (k : ℕ) (entry : Entry) (f : NamedFault) → slice_get chips.entries k ≡ Some entry → IsFirstFault chips (entry.name ∷ outer) entry f → FailsInside chips outer k f
+fails_at chips outer k entry f here h other there = subst (λ (x : Entry). IsFirstFault chips (x.name ∷ outer) x f) (at_entry chips k entry other here there) h
 
-pub fine_there : (chips : Chips) (stages : List Stage) (k : ℕ) (entry : Entry) → slice_get chips.entries k ≡ Some entry → ChipIsFine chips stages entry → IsFineAt chips stages k
-fine_there chips stages k entry here h other there = subst (λ (x : Entry). ChipIsFine chips stages x) (at_entry chips k entry other here there) h
-
-pub body_wrong : (chips : Chips) (entry : Entry) (tree : is_some (end_of chips.blocks entry) ≡ false) (names : List (List ℕ)) (k : ℕ) (wanted : NamedFault) (e : ElabFault) → slice_get chips.entries k ≡ Some entry → ((j : ℕ) → pin_fault entry j ≡ None) → body_fault entry ≡ Some wanted → Checks (Some wanted) (Err e) → Tells (FailsAt chips names k) e
-body_wrong chips entry tree names k wanted errors.Memory here pins h c = tt
-body_wrong chips entry tree names k wanted (errors.Named f) here pins h c = fails_at chips names k entry _ here (body_fails chips entry tree names _ pins (h ∙ c))
+pub body_wrong : (chips : Chips) (entry : Entry) (tree : is_some (end_of chips.blocks entry) ≡ false) (names : List (List ℕ)) (wanted : NamedFault) (e : ElabFault) → ((j : ℕ) → pin_fault entry j ≡ None) → body_fault entry ≡ Some wanted → Checks (Some wanted) (Err e) → Tells (IsFirstFault chips names entry) e
+body_wrong chips entry tree names wanted errors.Memory pins h c = tt
+body_wrong chips entry tree names wanted (errors.Named f) pins h c = body_fails chips entry tree names _ pins (h ∙ c)

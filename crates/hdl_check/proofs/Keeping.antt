@@ -11,7 +11,7 @@ use Rattle.hdl_tree.specs.declared.library.Entry.{Entry}
 use Rattle.hdl_tree.specs.Chips.{Chips}
 use Rattle.hdl_tree.specs.Writable.{is_among}
 use Rattle.hdl_check.specs.Locations.{IsFaultless}
-use Rattle.hdl_check.specs.Inner.Progress.{IsProgress, Avoids, AreOpen, is_open, is_new, IsKept, PartIsFine, PartsAreFine, ChipIsFine}
+use Rattle.hdl_check.specs.Inner.Progress.{IsProgress, Avoids, AreOpen, is_open, is_new, PartIsFine, PartsAreFine, ChipIsFine}
 use Rattle.hdl_check.specs.Whole.{AreDistinct}
 use Rattle.hdl_check.specs.declared.stage.Stage.{Stage}
 use Rattle.hdl_check.specs.declared.stage.Stage.TheVariants.{New, Open, Done}
@@ -39,26 +39,15 @@ count_set xs k v x h =
     ap (λ (z : Stage). count_by is_new (set xs k v) + cond (is_new z) 1 0) (sym (get_or_from_slice_get xs k x x h))
     ∙ sum_by-set (λ (z : Stage). cond (is_new z) 1 0) xs k v x (slice_get_within xs k x h)
 
--- ---- what is kept
+-- ---- what is done stays done
 
-pub kept_refl : (s : List Stage) → IsKept s s
-kept_refl s = record { opened = λ k. refl; done = λ k r h. h; long = refl; fewer = omega arith }
+abbrev pub StaysDone : List Stage → List Stage → Type 0
+StaysDone old new = (k r : ℕ) → slice_get old k ≡ Some (Done r) → slice_get new k ≡ Some (Done r)
 
-pub kept_trans : (a b c : List Stage) → IsKept a b → IsKept b c → IsKept a c
-kept_trans a b c h k = record {
-  opened = λ j. k.opened j ∙ h.opened j;
-  done = λ j r e. k.done j r (h.done j r e);
-  long = k.long ∙ h.long;
-  fewer = let x = h.fewer in let y = k.fewer in omega arith;
-}
+fine_kept : (chips : Chips) (a b : List Stage) (entry : Entry) (i : ℕ) (part : Part) → StaysDone a b → PartIsFine chips a entry i part → PartIsFine chips b entry i part
+fine_kept chips a b entry i part h f = let n = f.entered in record { entered = record { inner = n.inner; number = n.number; rank = n.rank; found = n.found; there = n.there; done = h n.number n.rank n.done }; connections = f.connections }
 
-pub open_kept : (chips : Chips) (a b : List Stage) (names : List (List ℕ)) → IsKept a b → AreOpen chips a names → AreOpen chips b names
-open_kept chips a b names h o k entry there = o k entry there ∙ sym (h.opened k)
-
-pub fine_kept : (chips : Chips) (a b : List Stage) (entry : Entry) (i : ℕ) (part : Part) → IsKept a b → PartIsFine chips a entry i part → PartIsFine chips b entry i part
-fine_kept chips a b entry i part h f = let n = f.entered in record { entered = record { inner = n.inner; number = n.number; rank = n.rank; found = n.found; there = n.there; done = h.done n.number n.rank n.done }; connections = f.connections }
-
-pub parts_kept : (chips : Chips) (a b : List Stage) (entry : Entry) (n : ℕ) → IsKept a b → PartsAreFine chips a entry n → PartsAreFine chips b entry n
+pub parts_kept : (chips : Chips) (a b : List Stage) (entry : Entry) (n : ℕ) → StaysDone a b → PartsAreFine chips a entry n → PartsAreFine chips b entry n
 parts_kept chips a b entry n h f = λ i part lt there. fine_kept chips a b entry i part h (f i part lt there)
 
 -- ---- a chip is opened
@@ -71,7 +60,7 @@ module _ (chips : Chips) (distinct : AreDistinct chips.entries) (s : List Stage)
       at (inl e) = let o : slice_get (set s k Open) j ≡ Some Open = ap (slice_get (set s k Open)) e ∙ get_set_same s k Open New new in absurd cc
       at (inr n) = sym (get_set_other s k j Open n) ∙ h
 
-  done_opened : (j r : ℕ) → slice_get s j ≡ Some (Done r) → slice_get (set s k Open) j ≡ Some (Done r)
+  pub done_opened : (j r : ℕ) → slice_get s j ≡ Some (Done r) → slice_get (set s k Open) j ≡ Some (Done r)
   done_opened j r h = at (same_or j k)
     where
       at : (j ≡ k) ⊎ (j ≢ k) → slice_get (set s k Open) j ≡ Some (Done r)
@@ -102,13 +91,16 @@ module _ (chips : Chips) (distinct : AreDistinct chips.entries) (s : List Stage)
   new_stages : List Stage
   new_stages = set s k (Done done)
 
-  done_closed : (j r : ℕ) → slice_get s j ≡ Some (Done r) → slice_get new_stages j ≡ Some (Done r)
-  unfolding new_stages
+  pub done_closed : (j r : ℕ) → slice_get s j ≡ Some (Done r) → slice_get (set s k (Done done)) j ≡ Some (Done r)
   done_closed j r h = at (same_or j k)
     where
       at : (j ≡ k) ⊎ (j ≢ k) → slice_get (set s k (Done done)) j ≡ Some (Done r)
       at (inl e) = let o : slice_get s j ≡ Some Open = ap (slice_get s) e ∙ open_here in absurd cc
       at (inr n) = get_set_other s k j (Done done) n ∙ h
+
+  still_done : (j r : ℕ) → slice_get s j ≡ Some (Done r) → slice_get new_stages j ≡ Some (Done r)
+  unfolding new_stages
+  still_done j r h = done_closed j r h
 
   closed_done : (j r : ℕ) → slice_get new_stages j ≡ Some (Done r) → ((j ≡ k) × (r ≡ done)) ⊎ (slice_get s j ≡ Some (Done r))
   unfolding new_stages
@@ -126,13 +118,13 @@ module _ (chips : Chips) (distinct : AreDistinct chips.entries) (s : List Stage)
       at true same =
           let f : j ≡ k = distinct j k other entry there here ((bytes_decides other.name entry.name).0 same) in
           let o : slice_get s j ≡ Some Open = ap (slice_get s) f ∙ open_here in absurd cc
-      at false same = avoids j q other (done_closed j q e) lt there
+      at false same = avoids j q other (still_done j q e) lt there
 
   closed_faultless : (j r : ℕ) (entry : Entry) → ((j ≡ k) × (r ≡ done)) ⊎ (slice_get s j ≡ Some (Done r)) → slice_get chips.entries j ≡ Some entry → (outer : List (List ℕ)) → Avoids chips new_stages r outer → IsFaultless chips (entry.name ∷ outer) entry
   closed_faultless j r entry (inl h) there outer avoids =
       let here : slice_get chips.entries k ≡ Some entry = ap (slice_get chips.entries) (sym h.0) ∙ there in
       fine_chip chips s done p (entry.name ∷ outer) (own_avoids entry outer here (subst (λ x. Avoids chips new_stages x outer) h.1 avoids)) entry (fine entry here)
-  closed_faultless j r entry (inr h) there outer avoids = p.faultless j r entry h there outer (λ i q other e lt at. avoids i q other (done_closed i q e) lt at)
+  closed_faultless j r entry (inr h) there outer avoids = p.faultless j r entry h there outer (λ i q other e lt at. avoids i q other (still_done i q e) lt at)
 
   ranked_by : (j r : ℕ) → ((j ≡ k) × (r ≡ done)) ⊎ (slice_get s j ≡ Some (Done r)) → r < done + 1
   ranked_by j r (inl h) = let e : r ≡ done = h.1 in omega arith
@@ -146,7 +138,21 @@ module _ (chips : Chips) (distinct : AreDistinct chips.entries) (s : List Stage)
     faultless = λ j r entry h there outer avoids. closed_faultless j r entry (closed_done j r h) there outer avoids;
   }
 
--- ---- both
+  -- the names round the chip, which are those of the chips that stay open
+  pub closed_names : (entry : Entry) (outer : List (List ℕ)) → slice_get chips.entries k ≡ Some entry → is_among entry.name outer ≡ false → AreOpen chips s (entry.name ∷ outer) → AreOpen chips (set s k (Done done)) outer
+  closed_names entry outer here apart o j other there = at (same_or j k)
+    where
+      at : (j ≡ k) ⊎ (j ≢ k) → is_among other.name outer ≡ is_open (slice_get (set s k (Done done)) j)
+      at (inl e) =
+          let same : other ≡ entry = cc (sym there ∙ ap (slice_get chips.entries) e ∙ here) in
+          ap (λ (x : Entry). is_among x.name outer) same ∙ apart ∙ sym (ap is_open (ap (slice_get (set s k (Done done))) e ∙ get_set_same s k (Done done) Open open_here))
+      at (inr n) = by (bytes_eq other.name entry.name) refl
+        where
+          by : (b : Bool) → bytes_eq other.name entry.name ≡ b → is_among other.name outer ≡ is_open (slice_get (set s k (Done done)) j)
+          by true e = absurd (n (distinct j k other entry there here ((bytes_decides other.name entry.name).0 e)))
+          by false e = ap (λ b. b || is_among other.name outer) (sym e) ∙ o j other there ∙ sym (ap is_open (get_set_other s k j (Done done) n))
+
+-- ---- counts and names
 
 -- what is at a place that is open
 open_there : (o : Option Stage) → is_open o ≡ true → o ≡ Some Open
@@ -155,27 +161,13 @@ open_there (Some New) h = absurd cc
 open_there (Some Open) h = refl
 open_there (Some (Done r)) h = absurd cc
 
-module _ (s t : List Stage) (k done : ℕ) (new : slice_get s k ≡ Some New) (h : IsKept (set s k Open) t) where
-  pub still_open : slice_get t k ≡ Some Open
-  still_open = open_there (slice_get t k) (h.opened k ∙ ap is_open (get_set_same s k Open New new))
+-- a chip whose name is among those of the open ones
+pub open_named : (chips : Chips) (s : List Stage) (k : ℕ) (entry : Entry) (outer : List (List ℕ)) → slice_get chips.entries k ≡ Some entry → AreOpen chips s (entry.name ∷ outer) → slice_get s k ≡ Some Open
+open_named chips s k entry outer here o =
+    open_there (slice_get s k) (sym (o k entry here) ∙ ap (λ b. b || is_among entry.name outer) ((bytes_decides entry.name entry.name).1 refl))
 
-  opened_by : (j : ℕ) → (j ≡ k) ⊎ (j ≢ k) → is_open (slice_get (set t k (Done done)) j) ≡ is_open (slice_get s j)
-  opened_by j (inl e) =
-      ap (λ x. is_open (slice_get (set t k (Done done)) x)) e ∙ ap is_open (get_set_same t k (Done done) Open still_open)
-      ∙ sym (ap (λ x. is_open (slice_get s x)) e ∙ ap is_open new)
-  opened_by j (inr n) = ap is_open (get_set_other t k j (Done done) n) ∙ h.opened j ∙ ap is_open (get_set_other s k j Open n)
-
-  done_by : (j r : ℕ) → slice_get s j ≡ Some (Done r) → (j ≡ k) ⊎ (j ≢ k) → slice_get (set t k (Done done)) j ≡ Some (Done r)
-  done_by j r e (inl q) = let o : slice_get s j ≡ Some New = ap (slice_get s) q ∙ new in absurd cc
-  done_by j r e (inr n) = get_set_other t k j (Done done) n ∙ h.done j r (get_set_other s k j Open n ∙ e)
-
-  pub kept_all : IsKept s (set t k (Done done))
-  kept_all = record {
-    opened = λ j. opened_by j (same_or j k);
-    done = λ j r e. done_by j r e (same_or j k);
-    long = length-set t k (Done done) ∙ h.long ∙ length-set s k Open;
-    fewer = let a = count_set s k Open New new in let b = h.fewer in let c = count_set t k (Done done) Open still_open in omega (arith, a, b, c);
-  }
+pub same_new : (s : List Stage) (k r : ℕ) → slice_get s k ≡ Some Open → count_by is_new (set s k (Done r)) ≡ count_by is_new s
+same_new s k r opened = let a = count_set s k (Done r) Open opened in omega (arith, a)
 
 pub fewer_new : (s : List Stage) (k : ℕ) → slice_get s k ≡ Some New → count_by is_new (set s k Open) + 1 ≡ count_by is_new s
 fewer_new s k new = let a = count_set s k Open New new in omega (arith, a)

@@ -12,3 +12,6 @@ pub mod Stages
 pub mod Fresh
 pub mod Order
 pub mod Tops
+pub mod Stacks
+pub mod Descents
+pub mod Advances

@@ -3,3 +3,5 @@ pub mod Marked
 pub mod Checked
 pub mod Seen
 pub mod Progress
+pub mod Stacks
+pub mod Frames

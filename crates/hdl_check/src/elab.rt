@@ -9,7 +9,7 @@ ghost use Rattle.hdl_check.specs.Whole.{AreDistinct, chips_in, Tells, TopIsFault
 
 use crate::catalog::Catalog;
 use crate::fault::ElabFault;
-use crate::search::check_all;
+use crate::walk::check_all;
 use hdl_tree::{Library, Name};
 use std::alloc::Global;
 

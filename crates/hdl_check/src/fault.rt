@@ -1,9 +1,10 @@
 //! What can be wrong with chips.
 
-ghost use Rattle.std.specs.Prelude.{◌≡◌, Some};
+ghost use Rattle.std.specs.Prelude.{◌≡◌, Some, IfOk};
 ghost use Rattle.hdl_check.specs.declared.fault.ElabFault.TheVariants.{Memory};
 ghost use Rattle.hdl_check.specs.Faults.{fault_in};
 ghost use Rattle.hdl_check.specs.Inner.Checked.{Checks};
+ghost use Rattle.hdl_check.specs.Whole.{Tells};
 ghost use Rattle.hdl_check.specs.Messages.{kind_word, named_message};
 
 use hdl_tree::Name;
@@ -86,6 +87,29 @@ impl From<AllocError> for ElabFault {
     }
 }
 
+fn name_fault(
+    alloc: Global,
+    kind: FaultKind,
+    chip: &[u8],
+    name: &[u8],
+) -> Result<NamedFault, AllocError>
+    ensures { IfOk result (λ f. f ≡ fault_in chip.now kind name.now) }
+{
+    let chip = Name::from_bytes(alloc, chip)?;
+    let name = Name::from_bytes(alloc, name)?;
+    Ok(NamedFault { kind, chip, name })
+}
+
+/// What is wrong.
+pub(crate) fn fault_of(alloc: Global, kind: FaultKind, chip: &[u8], name: &[u8]) -> ElabFault
+    ensures { Tells (λ f. f ≡ fault_in chip.now kind name.now) result }
+{
+    match name_fault(alloc, kind, chip, name) {
+        Ok(fault) => ElabFault::Named(fault),
+        Err(_) => ElabFault::Memory,
+    }
+}
+
 /// Tells what is wrong.
 pub(crate) fn tell(
     alloc: Global,
@@ -95,7 +119,5 @@ pub(crate) fn tell(
 ) -> Result<(), ElabFault>
     ensures { Checks (Some (fault_in chip.now kind name.now)) result }
 {
-    let chip = Name::from_bytes(alloc, chip)?;
-    let name = Name::from_bytes(alloc, name)?;
-    Err(ElabFault::Named(NamedFault { kind, chip, name }))
+    Err(fault_of(alloc, kind, chip, name))
 }

@@ -17,3 +17,6 @@ pub mod Words
 pub mod Putting
 pub mod Sized
 pub mod Flattened
+pub mod Stacks
+pub mod Visiting
+pub mod Pending

@@ -22,52 +22,7 @@ use Rattle.hdl_flatten.specs.declared.nest.Nest.{Nest}
 use Rattle.hdl_flatten.specs.Inner.Nests.{IsFine, IsFineAt, StandsAt, AreAt, IsNested, IsNest, HasNumber, IsSearch, Grows, IsNestOf}
 use Rattle.hdl_flatten.proofs.Lists.{get_there, get_front, get_last, last_or, assoc, nil_after}
 
--- ---- the chips of parts
-
-pub record FinePart (chips : Chips) (d : ℕ) (part : Part) : Type 0 where
-  pub positive : 0 < d
-  pub chip : Entry
-  pub found : find_chip chips part.chip ≡ Some chip
-  pub fine : IsFine chips chip
-  pub sound : IsSound (d - 1) chips (plan_of chips) chip
-
-part_by : (chips : Chips) (chip : Entry) (names : List (List ℕ)) (i d : ℕ) (part : Part) (o : Option Entry) → slice_get (parts_of chips chip) i ≡ Some part → find_chip chips part.chip ≡ o → IsFaultless chips names chip → IsSound d chips (plan_of chips) chip → FinePart chips d part
-part_by chips chip names i zero part o e f faultless sound = absurd sound
-part_by chips chip names i (suc d) part None e f faultless sound =
-    let none : part_fault_by names chip.name part.chip None ≡ None = sym (ap (fault_of_part chips names chip) e ∙ ap (part_fault_by names chip.name part.chip) f) ∙ faultless (AtPart i) in
-    absurd cc
-part_by chips chip names i (suc d) part (Some inner) e f faultless sound =
-    let same : d ≡ suc d - 1 = omega arith in
-    record {
-      positive = omega arith;
-      chip = inner;
-      found = f;
-      fine = record {
-        name = part.chip;
-        found = f;
-        outer = inner.name ∷ names;
-        faultless = λ s. sym (ap (λ p. at_inner (λ y. fault_at chips (y.name ∷ names) y s) (inner_of chips p)) e ∙ ap (at_inner (λ y. fault_at chips (y.name ∷ names) y s)) f) ∙ faultless (Inside i s);
-      };
-      sound = subst (λ (n : ℕ). IsSound n chips (plan_of chips) inner) same (sound.2 i inner (ap (chip_of chips) e ∙ f));
-    }
-
-pub fine_part : (chips : Chips) (d k i : ℕ) (chip : Entry) (part : Part) → IsFineAt chips d k → slice_get chips.entries k ≡ Some chip → slice_get (parts_of chips chip) i ≡ Some part → FinePart chips d part
-fine_part chips d k i chip part at there e =
-    let both : Some at.chip ≡ Some chip = sym at.there ∙ there in
-    let same : at.chip ≡ chip = cc in
-    part_by chips chip at.fine.outer i d part (find_chip chips part.chip) e refl (subst (λ (x : Entry). IsFaultless chips at.fine.outer x) same at.fine.faultless) (subst (λ (x : Entry). IsSound d chips (plan_of chips) x) same at.sound)
-
--- the chip of the part, which is chip m of the library
-pub fine_at : (chips : Chips) (d m : ℕ) (part : Part) (p : FinePart chips d part) → find_chip chips part.chip ≡ slice_get chips.entries m → IsFineAt chips (d - 1) m
-fine_at chips d m part p e = record { chip = p.chip; there = sym e ∙ p.found; fine = p.fine; sound = p.sound }
-
 -- ---- growing
-
-pub grows_none : (nest : List Nested) → Grows nest nest
-grows_none nest = record { more = []; longer = sym (nil_after nest) }
-
-pub grows_more : (a b c : List Nested) → Grows a b → Grows b c → Grows a c
-grows_more a b c f g = record { more = f.more ++ g.more; longer = g.longer ∙ ap (λ t. t ++ g.more) f.longer ∙ assoc a f.more g.more }
 
 pub number_grows : (a b : List Nested) (r k : ℕ) → Grows a b → HasNumber a r k → HasNumber b r k
 number_grows a b r k g h = record { nested = h.nested; at = ap (λ t. slice_get t r) g.longer ∙ get_front a g.more r h.nested h.at; number = h.number }
@@ -91,17 +46,6 @@ at_more chips nest i [] [] p r h s = (s, tt)
 at_more chips nest i [] (x ∷ rs) p r h s = absurd h
 at_more chips nest i (q ∷ ps) [] p r h s = absurd h
 at_more chips nest i (q ∷ ps) (x ∷ rs) p r h s = (h.0, at_more chips nest i ps rs p r h.1 s)
-
--- the place of a part's chip
-pub stands : (chips : Chips) (d m r : ℕ) (part : Part) (nest : List Nested) (p : FinePart chips d part) → find_chip chips part.chip ≡ slice_get chips.entries m → HasNumber nest r m → StandsAt chips nest (length nest) part r
-stands chips d m r part nest p e h = record {
-  nested = h.nested;
-  chip = p.chip;
-  before = slice_get_within nest r h.nested h.at;
-  at = h.at;
-  there = ap (slice_get chips.entries) h.number ∙ sym e ∙ p.found;
-  found = p.found;
-}
 
 -- ---- one chip more
 

@@ -615,28 +615,12 @@ pub record Head (chips : Chips) (plans : List Plan) (place : ℕ) (plan : Plan) 
   pub room : length old.nodes.items + plan.size.nodes ≤ 16777216
   pub going : IsGoing chips plans place plan inputs old now (q ∷ qs)
 
-pub head_of : (chips : Chips) (plans : List Plan) (place : ℕ) (plan : Plan) (inputs : List ℕ) (old now : Growing) (rest : List PartPlan) (q : PartPlan) (qs : List PartPlan) → ArePlans chips plans → EndsHavePins chips → MayPut plans place inputs old → plan ≡ get_or plans place plan →
-    ((x : Plan) → slice_get plans place ≡ Some x → IsGoing chips plans place x inputs old now rest) → rest ≡ q ∷ qs → Head chips plans place plan inputs old now q qs
-head_of chips plans place plan inputs old now rest q qs are pins r is going e =
-    let there = plan_there plans place r.plan plan r.there is in
-    record {
-      are = are;
-      pins = pins;
-      there = there.0;
-      long = r.long ∙ ap (λ (x : Plan). length x.inputs.items) there.1;
-      room = subst (λ (x : Plan). length old.nodes.items + x.size.nodes ≤ 16777216) there.1 r.room;
-      going = subst (λ (t : List PartPlan). IsGoing chips plans place plan inputs old now t) e (going plan there.0);
-    }
-
 module _ (chips : Chips) (plans : List Plan) (place : ℕ) (plan : Plan) (inputs : List ℕ) (old now : Growing) (q : PartPlan) (qs : List PartPlan) (h : Head chips plans place plan inputs old now q qs) where
   pub head_next : NextPart chips plans place plan h.going.parts_left h.going.plans_left h.going.sum q qs
   head_next = next_part chips plans place plan inputs old now q qs h.are h.pins h.there h.long h.room h.going
 
   pub head_fed : All (IsWithin (length inputs) 16777216) q.origins.items
   head_fed = let room = h.room in all_wider (length inputs) plan.size.nodes 16777216 q.origins.items (omega (arith, room)) (fed_within chips plans place plan inputs old now q qs h.are h.pins h.there h.long h.room h.going)
-
-  pub head_before : q.place < place
-  head_before = head_next.has.before
 
   pub head_place : q.place < length plans
   head_place = slice_get_within plans q.place head_next.x head_next.has.at

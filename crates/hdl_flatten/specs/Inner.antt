@@ -1,6 +1,9 @@
 pub mod Nests
+pub mod Stacks
+pub mod Visits
 pub mod Sizes
 pub mod Wired
 pub mod Plans
 pub mod Puts
 pub mod Putting
+pub mod Unfinished

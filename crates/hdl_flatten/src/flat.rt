@@ -15,10 +15,11 @@ ghost use Rattle.hdl_flatten.specs.Flat as Listed;
 ghost use Rattle.hdl_flatten.specs.Inner.Wired.{wires_of};
 ghost use Rattle.hdl_flatten.specs.Inner.Plans.{ArePlans};
 ghost use Rattle.hdl_flatten.specs.Inner.Puts.{node_of};
+ghost use Rattle.hdl_flatten.specs.Inner.Unfinished.{Task, ArePending, CanBegin, IsBegun, all_steps};
 ghost use Rattle.hdl_flatten.specs.Inner.Putting.{IsWithin, AreWithin, own_nodes, from_two, constants, pins, words, end_puts, end_blocks, rom_of, memory_of, IsEndFed, MayPut, IsPut};
 
 use crate::nest::{entry_at, nest_of};
-use crate::plan::{Plan, plans_of};
+use crate::plan::{PartPlan, Plan, plans_of};
 use crate::wires::{Bit, Origin, Wires};
 use hdl_check::Catalog;
 use hdl_tree::{End, Library, List, Name, Pin};
@@ -215,6 +216,86 @@ fn part_at<'a>(
     })
 }
 
+/// A chip of which some parts are put: where its nodes begin, the nodes of its input bits, and the parts that are to come.
+#[derive(Drop)]
+pub(crate) struct Unfinished<'b> {
+    pub base: usize,
+    pub inputs: Vec<u32>,
+    pub rest: &'b [PartPlan],
+}
+
+fn push<'b>(stack: &mut Vec<Unfinished<'b>>, chip: Unfinished<'b>) -> Result<(), AllocError>
+    ensures { OnOk result (stack.new.items ≡ stack.old.items ++ chip.entry ∷ []) }
+{
+    stack.push(chip)?;
+    Ok(())
+}
+
+/// Puts an end behind what is there, or begins a chip that has parts; the nodes of its input bits are given.
+fn enter<'a, 'b>(
+    alloc: Global,
+    plan: &'b Plan<'a>,
+    inputs: Vec<u32>,
+    flat: &mut Growing,
+    stack: &mut Vec<Unfinished<'b>>,
+) -> Result<(), AllocError>
+    requires { CanBegin plan.now inputs.items flat.old }
+    ensures { OnOk result (IsBegun plan.now inputs.items flat.old flat.new stack.old.items stack.new.items) }
+{
+    match plan.end {
+        Some(end) => put_end(alloc, end, &inputs, flat),
+        None => push(
+            stack,
+            Unfinished {
+                base: flat.nodes.as_slice().len(),
+                inputs,
+                rest: plan.parts.as_slice(),
+            },
+        ),
+    }
+}
+
+/// Puts the next part of the chip on top of the stack.
+fn step<'a, 'b>(
+    alloc: Global,
+    catalog: &Catalog<'a>,
+    plans: &'b [Plan<'a>],
+    flat: &mut Growing,
+    stack: &mut Vec<Unfinished<'b>>,
+    chip: Unfinished<'b>,
+) -> Result<(), AllocError>
+    requires catalog { IsCatalog catalog.now }
+    requires ends { EndsHavePins (chips_of catalog.now) }
+    requires plans { ArePlans (chips_of catalog.now) plans.now }
+    requires pending { (task : Task) × ArePending (chips_of catalog.now) plans.now task (stack.old.items ++ chip ∷ []) flat.old }
+    ensures pending { OnOk result ((task : Task) → ArePending (chips_of catalog.now) plans.now task (stack.old.items ++ chip.entry ∷ []) flat.old → ArePending (chips_of catalog.now) plans.now task stack.new.items flat.new) }
+    ensures less { OnOk result (all_steps plans.now stack.new.items < all_steps plans.now (stack.old.items ++ chip.entry ∷ [])) }
+{
+    let Some((part, others)) = chip.rest.split_first() else {
+        return Ok(());
+    };
+    let plan = &plans[part.place];
+    let nodes = nodes_of(alloc, &part.origins, chip.base, &chip.inputs)?;
+    let listed = part_at(
+        alloc,
+        catalog,
+        plan,
+        &nodes,
+        flat.nodes.as_slice().len(),
+        flat.blocks.as_slice().len(),
+    )?;
+    flat.parts.push(listed)?;
+    push(
+        stack,
+        Unfinished {
+            base: chip.base,
+            inputs: chip.inputs,
+            rest: others,
+        },
+    )?;
+    enter(alloc, plan, nodes, flat, stack)
+}
+
 /// Puts a chip behind what is there; the nodes of its input bits are given.
 fn put<'a>(
     alloc: Global,
@@ -230,25 +311,11 @@ fn put<'a>(
     requires put { MayPut plans.now place inputs.now flat.old }
     ensures { OnOk result ((plan : Plan) → slice_get plans.now place ≡ Some plan → IsPut (chips_of catalog.now) plan inputs.now flat.old flat.new) }
 {
-    let plan = &plans[place];
-    if let Some(end) = plan.end {
-        return put_end(alloc, end, inputs, flat);
-    }
-    let base = flat.nodes.as_slice().len();
-    let mut rest = plan.parts.as_slice();
-    while let Some((part, others)) = rest.split_first() {
-        let nodes = nodes_of(alloc, &part.origins, base, inputs)?;
-        let listed = part_at(
-            alloc,
-            catalog,
-            &plans[part.place],
-            &nodes,
-            flat.nodes.as_slice().len(),
-            flat.blocks.as_slice().len(),
-        )?;
-        flat.parts.push(listed)?;
-        put(alloc, catalog, plans, part.place, &nodes, flat)?;
-        rest = others;
+    let mut stack = Vec::new(alloc);
+    let inputs = Vec::from_slice(alloc, inputs)?;
+    enter(alloc, &plans[place], inputs, flat, &mut stack)?;
+    'chips: while let Some(chip) = stack.pop() {
+        step(alloc, catalog, plans, flat, &mut stack, chip)?;
     }
     Ok(())
 }

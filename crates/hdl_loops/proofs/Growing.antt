@@ -1,5 +1,5 @@
 -- A tree of what is reached, as it grows, and the ways in it.
-use Rattle.std.proofs.Common.{◌≡◌, ℕ, zero, suc, ◌+◌, ◌<◌, ◌≤◌, ◌⊎◌, inl, inr, below_more, Bool, true, false, cond, nat_eq, List, [], ◌∷◌, ◌++◌, length, get_or, Option, Some, None, refl, sym, ap, subst, ◌∙◌, arith}
+use Rattle.std.proofs.Common.{◌≡◌, ℕ, zero, suc, ◌+◌, ◌<◌, ◌≤◌, ◌⊎◌, inl, inr, Bool, true, false, cond, nat_eq, List, [], ◌∷◌, ◌++◌, length, get_or, Option, Some, None, refl, sym, ap, subst, ◌∙◌, arith}
 use Rattle.std.specs.Prelude.{slice_get, is_some, ◌&&◌, if◌then◌else◌}
 use Rattle.std.specs.Map.{lookup}
 use Rattle.indexmap.specs.IndexMap.{insert_entry}
@@ -10,16 +10,18 @@ use Rattle.std.proofs.lemmas.Option.{slice_get_within}
 use Rattle.hdl_check.proofs.MarkLemmas.{both}
 use Rattle.hdl_plans.specs.Loops.{BitAt, bit_at}
 use Rattle.hdl_plans.specs.Ways.{Chain, Way}
+use Rattle.hdl_plans.proofs.Walks.{one_step}
 use Rattle.hdl_loops.specs.Inner.Hops.{bit, is_bit, HasHop, Linked, AllIn, IsWay, NoRound}
-use Rattle.hdl_loops.specs.Inner.Trees.{place_in, is_marked, IsReached, Behind, Comes, IsBefore, IsNode, IsTree, KeepsMarks, Grows, Adds, IsClosed, IsGrown, open_hops, tree_in, AreTrees, HasTree, IsBack, steps_left, Followed}
+use Rattle.hdl_loops.specs.Inner.Trees.{place_in, is_marked, IsReached, Behind, Comes, IsBefore, IsNode, IsTree, KeepsMarks, IsFollowed, IsLeft, Adds, IsClosed, IsGrown, open_hops, IsBack, steps_left}
+use Rattle.hdl_loops.specs.Inner.Leaving.{latest_from, IsFrom, IsPast, Leaves, LeavesIn, IsLinked}
 use Rattle.hdl_loops.specs.Inner.Ranked.{rank_at, Rise, AllRise}
-use Rattle.hdl_loops.specs.Inner.Knowing.{leads_by}
 use Rattle.hdl_loops.specs.declared.hops.BitOf.{BitOf}
 use Rattle.hdl_loops.specs.declared.hops.Hop.{Hop}
+use Rattle.hdl_loops.specs.declared.leaving.Leaving.{Leaving}
 use Rattle.hdl_loops.specs.declared.ranks.Ranks.{Ranks}
 use Rattle.hdl_loops.specs.declared.tree.Node.{Node}
 use Rattle.hdl_loops.specs.declared.tree.Tree.{Tree}
-use Rattle.hdl_loops.proofs.Lists.{get_there}
+use Rattle.hdl_loops.proofs.Lists.{get_there, there_at}
 
 -- ---- lists that grow by one
 
@@ -41,6 +43,10 @@ get_cases [] x y zero e = inr (refl, cc)
 get_cases [] x y (suc j) e = absurd cc
 get_cases (z ∷ zs) x y zero e = inl e
 get_cases (z ∷ zs) x y (suc j) e = more_cases zs z x y j (get_cases zs x y j e)
+
+pub length_more : {A : Type 0} (xs : List A) (x : A) → length (xs ++ x ∷ []) ≡ length xs + 1
+length_more [] x = refl
+length_more (z ∷ zs) x = let h = length_more zs x in omega (arith, h)
 
 -- ---- maps by bits
 
@@ -74,13 +80,71 @@ and_both false b e f = absurd cc
 pub bit_same : (v : BitOf) → is_bit (bit v) v ≡ true
 bit_same v = and_both (bytes_eq v.name.now v.name.now) (nat_eq v.bit v.bit) ((bytes_decides v.name.now v.name.now).1 refl) ((Decides-eqb v.bit v.bit).1 refl)
 
-none_of : {A : Type 0} (o : Option A) → is_some o ≡ false → o ≡ None
+pub none_of : {A : Type 0} (o : Option A) → is_some o ≡ false → o ≡ None
 none_of None h = refl
 none_of (Some v) h = absurd cc
 
 pub some_of : {A : Type 0} (o : Option A) → is_some o ≡ true → (v : A) × (o ≡ Some v)
 some_of None h = absurd cc
 some_of (Some v) h = (v, refl)
+
+-- ---- marks
+
+pub keeps_refl : (t : Tree) → KeepsMarks t t
+keeps_refl t = record { root = refl; nodes = λ j node e. e; marks = λ n b h. h }
+
+pub keeps_on : (a b c : Tree) → KeepsMarks a b → KeepsMarks b c → KeepsMarks a c
+keeps_on a b c h g = record { root = g.root ∙ h.root; nodes = λ j node e. g.nodes j node (h.nodes j node e); marks = λ n x k. g.marks n x (h.marks n x k) }
+
+-- ---- fewer hops lead to what is not reached
+
+abbrev one_open : Bool → ℕ
+one_open t = if t then 0 else 1
+
+less_by : (a b : Bool) → (a ≡ true → b ≡ true) → one_open b ≤ one_open a
+less_by true true h = omega arith
+less_by true false h = absurd (let e = h refl in cc)
+less_by false true h = omega arith
+less_by false false h = omega arith
+
+open_le : (a b : Tree) → KeepsMarks a b → (hs : List Hop) → open_hops b hs ≤ open_hops a hs
+open_le a b h [] = omega arith
+open_le a b h (x ∷ hs) = omega (arith, less_by (is_marked a (bit x.to)) (is_marked b (bit x.to)) (h.marks x.to.name.now x.to.bit), open_le a b h hs)
+
+here_less : (a b : Bool) → a ≡ false → b ≡ true → one_open b + 1 ≤ one_open a
+here_less false true e f = omega arith
+here_less true b e f = absurd cc
+here_less false false e f = absurd cc
+
+one_small : (b : Bool) → one_open b ≤ 1
+one_small true = omega arith
+one_small false = omega arith
+
+open_less_at : (a b : Tree) → KeepsMarks a b → (hs : List Hop) (p : ℕ) (h : Hop) → slice_get hs p ≡ Some h → is_marked a (bit h.to) ≡ false → is_marked b (bit h.to) ≡ true → open_hops b hs < open_hops a hs
+open_less_at a b keeps [] p h e x y = absurd cc
+open_less_at a b keeps (z ∷ zs) zero h e x y =
+    let same : z ≡ h = cc in
+    let l = here_less (is_marked a (bit z.to)) (is_marked b (bit z.to)) (ap (λ (v : Hop). is_marked a (bit v.to)) same ∙ x) (ap (λ (v : Hop). is_marked b (bit v.to)) same ∙ y) in
+    let r = open_le a b keeps zs in
+    omega (arith, l, r)
+open_less_at a b keeps (z ∷ zs) (suc p) h e x y =
+    let l = less_by (is_marked a (bit z.to)) (is_marked b (bit z.to)) (keeps.marks z.to.name.now z.to.bit) in
+    let r = open_less_at a b keeps zs p h e x y in
+    omega (arith, l, r)
+
+pub open_all : (t : Tree) → ((x : BitAt) → is_marked t x ≡ false) → (hs : List Hop) → open_hops t hs ≤ length hs
+open_all t none [] = omega arith
+open_all t none (h ∷ hs) = let r = open_all t none hs in let b = one_small (is_marked t (bit h.to)) in omega (arith, r, b)
+
+pub new_tree : (t : Tree) → t.places.entries ≡ [] → t.nodes.items ≡ [] → (hs : List Hop) → IsTree hs t
+new_tree t places nodes hs = record {
+  nodes = λ j node e. absurd (let f : slice_get [] j ≡ Some node = sym (ap (λ (ns : List Node). slice_get ns j) nodes) ∙ e in cc);
+  places = λ n b j e. absurd (let f : None ≡ Some j = sym (ap (λ (es : List (BitOf × ℕ)). lookup (is_bit (bit_at [] n b)) es) places) ∙ e in cc);
+  few =
+      let none : length t.nodes.items ≡ 0 = ap (λ (ns : List Node). length ns) nodes in
+      let all = open_all t (λ x. ap (λ (es : List (BitOf × ℕ)). is_some (lookup (is_bit x) es)) places) hs in
+      omega (arith, none, all);
+}
 
 -- ---- a hop is added
 
@@ -95,7 +159,7 @@ module _ (hs : List Hop) (old new : Tree) (hop : Hop) (before : Option ℕ) (add
   root_is = ap bit adds.root
 
   pub added_keeps : KeepsMarks old new
-  added_keeps = record { root = root_is; marks = λ n b h. let p = some_of (place_in old (bit_at [] n b)) h in ap is_some (place_kept (bit_at [] n b) p.0 p.1) }
+  added_keeps = record { root = root_is; nodes = node_kept; marks = λ n b h. let p = some_of (place_in old (bit_at [] n b)) h in ap is_some (place_kept (bit_at [] n b) p.0 p.1) }
 
   behind_kept : (o : Option ℕ) (x : BitAt) → Behind old.nodes.items (bit old.root) o x → Behind new.nodes.items (bit new.root) o x
   behind_kept None x h = root_is ∙ h
@@ -116,9 +180,9 @@ module _ (hs : List Hop) (old new : Tree) (hop : Hop) (before : Option ℕ) (add
     behind_new (Some i) h = tree.places hop.from.name.now hop.from.bit i h
 
     new_node : (j : ℕ) (node : Node) → (slice_get old.nodes.items j ≡ Some node) ⊎ ((j ≡ length old.nodes.items) × (record { hop = hop; before = before } ≡ node)) → IsNode hs new j node
-    new_node j node (inl e) = let r = tree.nodes j node e in record { number = r.number; inside = r.inside; before = r.before; behind = behind_kept node.before (bit node.hop.from) r.behind }
+    new_node j node (inl e) = let r = tree.nodes j node e in record { number = r.number; inside = r.inside; before = r.before; behind = behind_kept node.before (bit node.hop.from) r.behind; marked = added_keeps.marks node.hop.to.name.now node.hop.to.bit r.marked }
     new_node j node (inr e) =
-        let made : IsNode hs new (length old.nodes.items) (record { hop = hop; before = before }) = record { number = number; inside = inside; before = before_less before comes; behind = behind_kept before (bit hop.from) (behind_new before comes) } in
+        let made : IsNode hs new (length old.nodes.items) (record { hop = hop; before = before }) = record { number = number; inside = inside; before = before_less before comes; behind = behind_kept before (bit hop.from) (behind_new before comes); marked = added_marks none } in
         subst (λ (i : ℕ). IsNode hs new i node) (sym e.0) (subst (IsNode hs new (length old.nodes.items)) e.1 made)
 
     abbrev Stands : List ℕ → ℕ → ℕ → Type 0
@@ -145,65 +209,12 @@ module _ (hs : List Hop) (old new : Tree) (hop : Hop) (before : Option ℕ) (add
     added_tree = record {
       nodes = λ j node e. new_node j node (get_cases old.nodes.items (record { hop = hop; before = before }) node j (sym (ap (λ (ns : List Node). slice_get ns j) adds.nodes) ∙ e));
       places = λ n b j h. place_by n b j (place_in old (bit_at [] n b)) refl h;
+      few =
+          let less = open_less_at old new added_keeps hs number hop inside none (added_marks none) in
+          let long : length new.nodes.items ≡ length (old.nodes.items ++ record { hop = hop; before = before } ∷ []) = ap (λ (ns : List Node). length ns) adds.nodes in
+          let more = length_more old.nodes.items (record { hop = hop; before = before }) in
+          omega (arith, less, long, more, tree.few);
     }
-
--- ---- marks
-
-pub keeps_refl : (t : Tree) → KeepsMarks t t
-keeps_refl t = record { root = refl; marks = λ n b h. h }
-
-pub keeps_on : (a b c : Tree) → KeepsMarks a b → KeepsMarks b c → KeepsMarks a c
-keeps_on a b c h g = record { root = g.root ∙ h.root; marks = λ n x k. g.marks n x (h.marks n x k) }
-
-not_both : (a : Bool) → (a ≡ true → false ≡ true) → a ≡ false
-not_both true h = absurd (let e = h refl in cc)
-not_both false h = refl
-
-was_open : (a b : Bool) → (a ≡ true → b ≡ true) → b ≡ false → a ≡ false
-was_open true b h e = absurd (let f = h refl in cc)
-was_open false b h e = refl
-
--- what grows from a later tree grows from an earlier one
-pub grows_before : (hs : List Hop) (a b c : Tree) → KeepsMarks a b → Grows hs b c → Grows hs a c
-grows_before hs a b c h g = (g.0, g.1, g.2, was_open (is_marked a (bit g.1.to)) (is_marked b (bit g.1.to)) (h.marks g.1.to.name.now g.1.to.bit) g.3, g.4)
-
-pub grows_after : (hs : List Hop) (a b c : Tree) → Grows hs a b → KeepsMarks b c → Grows hs a c
-grows_after hs a b c g h = (g.0, g.1, g.2, g.3, h.marks g.1.to.name.now g.1.to.bit g.4)
-
--- ---- fewer hops lead to what is not reached
-
-abbrev one_open : Bool → ℕ
-one_open t = if t then 0 else 1
-
-less_by : (a b : Bool) → (a ≡ true → b ≡ true) → one_open b ≤ one_open a
-less_by true true h = omega arith
-less_by true false h = absurd (let e = h refl in cc)
-less_by false true h = omega arith
-less_by false false h = omega arith
-
-open_le : (a b : Tree) → KeepsMarks a b → (hs : List Hop) → open_hops b hs ≤ open_hops a hs
-open_le a b h [] = omega arith
-open_le a b h (x ∷ hs) = omega (arith, less_by (is_marked a (bit x.to)) (is_marked b (bit x.to)) (h.marks x.to.name.now x.to.bit), open_le a b h hs)
-
-here_less : (a b : Bool) → a ≡ false → b ≡ true → one_open b + 1 ≤ one_open a
-here_less false true e f = omega arith
-here_less true b e f = absurd cc
-here_less false false e f = absurd cc
-
-open_less_at : (a b : Tree) → KeepsMarks a b → (hs : List Hop) (p : ℕ) (h : Hop) → slice_get hs p ≡ Some h → is_marked a (bit h.to) ≡ false → is_marked b (bit h.to) ≡ true → open_hops b hs < open_hops a hs
-open_less_at a b keeps [] p h e x y = absurd cc
-open_less_at a b keeps (z ∷ zs) zero h e x y =
-    let same : z ≡ h = cc in
-    let l = here_less (is_marked a (bit z.to)) (is_marked b (bit z.to)) (ap (λ (v : Hop). is_marked a (bit v.to)) same ∙ x) (ap (λ (v : Hop). is_marked b (bit v.to)) same ∙ y) in
-    let r = open_le a b keeps zs in
-    omega (arith, l, r)
-open_less_at a b keeps (z ∷ zs) (suc p) h e x y =
-    let l = less_by (is_marked a (bit z.to)) (is_marked b (bit z.to)) (keeps.marks z.to.name.now z.to.bit) in
-    let r = open_less_at a b keeps zs p h e x y in
-    omega (arith, l, r)
-
-pub open_less : (hs : List Hop) (a b : Tree) → KeepsMarks a b → Grows hs a b → open_hops b hs < open_hops a hs
-open_less hs a b keeps g = open_less_at a b keeps hs g.0 g.1 g.2 g.3 g.4
 
 -- ---- ways
 
@@ -219,17 +230,35 @@ module _ (hs : List Hop) (t : Tree) (closed : IsClosed hs t) where
 pub way_marked : (hs : List Hop) (t : Tree) (x y : BitAt) → IsGrown hs t x → Way (HasHop hs) x y → is_marked t y ≡ true
 way_marked hs t x y g w = chain_marked hs t g.closed w.over x y w.steps (inl g.root)
 
-leads_of : (hs : List Hop) (x y : BitAt) (o : Option Tree) → is_some o ≡ true → ((t : Tree) → o ≡ Some t → IsGrown hs t x) → Way (HasHop hs) x y → leads_by o y ≡ true
-leads_of hs x y None h g w = absurd cc
-leads_of hs x y (Some t) h g w = way_marked hs t x y (g t refl) w
+extended : (hs : List Hop) (x y z : BitAt) (over : List BitAt) → Chain (HasHop hs) x over y → HasHop hs y z → Chain (HasHop hs) x (over ++ y ∷ []) z
+extended hs x y z [] s h = (s, h)
+extended hs x y z (m ∷ ms) s h = (s.0, extended hs m y z ms s.1 h)
 
-pub way_leads : (hs : List Hop) (ts : List (BitOf × Tree)) (n : List ℕ) (b : ℕ) (y : BitAt) → AreTrees hs ts → HasTree ts (bit_at [] n b) → Way (HasHop hs) (bit_at [] n b) y → leads_by (tree_in ts (bit_at [] n b)) y ≡ true
-way_leads hs ts n b y are has w = leads_of hs (bit_at [] n b) y (tree_in ts (bit_at [] n b)) has (are n b) w
+-- a hop more
+pub one_more : (hs : List Hop) (x y z : BitAt) → Way (HasHop hs) x y → HasHop hs y z → Way (HasHop hs) x z
+one_more hs x y z w h = record { over = w.over ++ y ∷ []; steps = extended hs x y z w.over w.steps h }
+
+node_by : (hs : List Hop) (t : Tree) (node : Node) (j n : ℕ) (o : Option ℕ) → HasHop hs (bit node.hop.from) (bit node.hop.to) → IsBefore o j → j ≤ n → Behind t.nodes.items (bit t.root) o (bit node.hop.from) →
+    ((i : ℕ) (before : Node) → slice_get t.nodes.items i ≡ Some before → i < n → Way (HasHop hs) (bit t.root) (bit before.hop.to)) → Way (HasHop hs) (bit t.root) (bit node.hop.to)
+node_by hs t node j n None hop less le behind go = one_step (bit t.root) (bit node.hop.to) (subst (λ (v : BitAt). HasHop hs v (bit node.hop.to)) (sym behind) hop)
+node_by hs t node j n (Some i) hop less le behind go =
+    let w = go i behind.0 behind.1 (omega (arith, less, le)) in
+    one_more hs (bit t.root) (bit node.hop.from) (bit node.hop.to) (subst (Way (HasHop hs) (bit t.root)) behind.2 w) hop
+
+node_below : (hs : List Hop) (t : Tree) → IsTree hs t → (n j : ℕ) (node : Node) → slice_get t.nodes.items j ≡ Some node → j < n → Way (HasHop hs) (bit t.root) (bit node.hop.to)
+node_below hs t tree zero j node e lt = absurd (omega (arith, lt))
+node_below hs t tree (suc n) j node e lt =
+    let r = tree.nodes j node e in
+    node_by hs t node j n node.before (r.number, node.hop, r.inside, refl, refl) r.before (omega (arith, lt)) r.behind (λ i before f l. node_below hs t tree n i before f l)
+
+-- what is reached is reached by a way
+pub node_way : (hs : List Hop) (t : Tree) → IsTree hs t → (j : ℕ) (node : Node) → slice_get t.nodes.items j ≡ Some node → Way (HasHop hs) (bit t.root) (bit node.hop.to)
+node_way hs t tree j node e = node_below hs t tree (suc j) j node e (omega arith)
 
 -- ---- the way back
 
 pub back_start : (hs : List Hop) (t : Tree) (j : ℕ) (node : Node) → slice_get t.nodes.items j ≡ Some node → IsBack hs t (Some j) [] (bit node.hop.to)
-back_start hs t j node e = record { x = bit node.hop.to; stands = (node, e, refl); linked = refl; inside = λ p h f. absurd cc; some = λ f. absurd cc }
+back_start hs t j node e = record { x = bit node.hop.to; stands = (node, e, refl); linked = refl; inside = λ p h f. absurd cc; some = λ f. absurd cc; few = let lt = slice_get_within t.nodes.items j node e in omega (arith, lt) }
 
 abbrev IsIn : List Hop → Hop → Type 0
 IsIn hs h = (q : ℕ) × (slice_get hs q ≡ Some h)
@@ -237,6 +266,13 @@ IsIn hs h = (q : ℕ) × (slice_get hs q ≡ Some h)
 more_inside : (hs ws : List Hop) (first : Hop) → IsIn hs first → AllIn hs ws → (p : ℕ) (h : Hop) → slice_get (first ∷ ws) p ≡ Some h → IsIn hs h
 more_inside hs ws first is all zero h e = let same : first ≡ h = cc in subst (IsIn hs) same is
 more_inside hs ws first is all (suc p) h e = all p h e
+
+pub back_less : (hs : List Hop) (t : Tree) (j : ℕ) (node : Node) → IsTree hs t → slice_get t.nodes.items j ≡ Some node → steps_left node.before < suc j
+back_less hs t j node tree e = by node.before (tree.nodes j node e).before
+  where
+    by : (o : Option ℕ) → IsBefore o j → steps_left o < suc j
+    by None h = omega arith
+    by (Some i) h = omega (arith, h)
 
 pub back_more : (hs : List Hop) (t : Tree) (j : ℕ) (node : Node) (ws more : List Hop) (to : BitAt) → IsTree hs t → slice_get t.nodes.items j ≡ Some node → more ≡ node.hop ∷ ws → IsBack hs t (Some j) ws to → IsBack hs t node.before more to
 back_more hs t j node ws more to tree e is b =
@@ -253,20 +289,14 @@ back_more hs t j node ws more to tree e is b =
       linked = (refl, linked);
       inside = more_inside hs ws node.hop (r.number, r.inside) b.inside;
       some = λ f. omega arith;
+      few = let less = back_less hs t j node tree e in let was = b.few in omega (arith, less, was);
     })
-
-pub back_less : (hs : List Hop) (t : Tree) (j : ℕ) (node : Node) → IsTree hs t → slice_get t.nodes.items j ≡ Some node → steps_left node.before < suc j
-back_less hs t j node tree e = by node.before (tree.nodes j node e).before
-  where
-    by : (o : Option ℕ) → IsBefore o j → steps_left o < suc j
-    by None h = omega arith
-    by (Some i) h = omega (arith, h)
 
 pub back_within : (hs : List Hop) (t : Tree) (j : ℕ) (ws : List Hop) (to : BitAt) → IsBack hs t (Some j) ws to → j < length t.nodes.items
 back_within hs t j ws to b = slice_get_within t.nodes.items j b.stands.0 b.stands.1
 
-pub back_way : (hs : List Hop) (t : Tree) (ws : List Hop) (to : BitAt) → IsBack hs t None ws to → IsWay hs (bit t.root) ws to
-back_way hs t ws to b = record { some = b.some refl; linked = subst (λ (v : BitAt). Linked v ws to) (sym b.stands) b.linked; inside = b.inside }
+pub back_way : (hs : List Hop) (t : Tree) (ws : List Hop) (to : BitAt) → IsTree hs t → IsBack hs t None ws to → IsWay hs (bit t.root) ws to
+back_way hs t ws to tree b = record { some = b.some refl; few = (let n = b.few in let m = tree.few in omega (arith, n, m)); linked = subst (λ (v : BitAt). Linked v ws to) (sym b.stands) b.linked; inside = b.inside }
 
 -- ---- circles
 
@@ -321,43 +351,92 @@ pub absent_last : {A : Type 0} (es : List (BitOf × A)) (k : BitOf) (v : A) → 
 absent_last [] k v h = refl
 absent_last (e ∷ es) k v h = absent_by e es (insert_entry same_bit es k v) k v (is_bit (bit k) e.0) h (absent_last es k v)
 
--- ---- the hops are followed one by one
+-- ---- the hops that leave a bit are followed
 
-closed_by : (hs : List Hop) (start t new : Tree) (k : ℕ) → new ≡ t → ((p : ℕ) → p < k → (h : Hop) → slice_get hs p ≡ Some h → IsReached t (bit h.from) → is_marked t (bit h.to) ≡ true) →
-    ((h : Hop) → slice_get hs k ≡ Some h → IsReached new (bit h.from) → is_marked new (bit h.to) ≡ true) → (p : ℕ) → p < k + 1 → (h : Hop) → slice_get hs p ≡ Some h → IsReached new (bit h.from) → is_marked new (bit h.to) ≡ true
-closed_by hs start t new k same before here =
-    below_more (λ p. (h : Hop) → slice_get hs p ≡ Some h → IsReached new (bit h.from) → is_marked new (bit h.to) ≡ true) k
-    (λ p lt h e r. subst (λ (v : Tree). is_marked v (bit h.to) ≡ true) (sym same) (before p lt h e (subst (λ (v : Tree). IsReached v (bit h.from)) same r)))
-    here
+pub left_kept : (hs : List Hop) (a b : Tree) (x : BitAt) → KeepsMarks a b → IsLeft hs a x → IsLeft hs b x
+left_kept hs a b x keeps left p h e f = keeps.marks h.to.name.now h.to.bit (left p h e f)
 
-pub followed_more : (hs : List Hop) (start t new : Tree) (more next r : Bool) (k : ℕ) → Followed hs start t more k → (r ≡ true → next ≡ true) → (r ≡ false → next ≡ more) → IsTree hs new → KeepsMarks t new → (r ≡ true → Grows hs t new) → (r ≡ false → new ≡ t) →
-    (r ≡ false → (h : Hop) → slice_get hs k ≡ Some h → IsReached new (bit h.from) → is_marked new (bit h.to) ≡ true) → Followed hs start new next (k + 1)
-followed_more hs start t new more next r k f if_more if_not tree kept grown same closed = by r refl
+-- the hops that leave a bit and stand behind those still to come were followed
+abbrev pub IsLeftPast : List Hop → Tree → BitAt → Option ℕ → Type 0
+IsLeftPast hs t x o = (q : ℕ) (h : Hop) → slice_get hs q ≡ Some h → bit h.from ≡ x → IsPast o q → is_marked t (bit h.to) ≡ true
+
+not_past : (o : Option ℕ) (q : ℕ) → IsFrom o q → IsPast o q → ⊥
+not_past None q f p = f
+not_past (Some r) q f p = omega (arith, f, p)
+
+pub past_start : (hs : List Hop) (l : Leaving) (t : Tree) (x : BitAt) (o : Option ℕ) → IsLinked hs l (length hs) → o ≡ latest_from l x → IsLeftPast hs t x o
+past_start hs l t x o linked is q h e at past =
+    absurd (not_past o q (subst (λ (v : Option ℕ). IsFrom v q) (sym is) (subst (λ (v : BitAt). IsFrom (latest_from l v) q) at (linked.latest q h (slice_get_within hs q h e) e))) past)
+
+heads_by : (hs : List Hop) (l : Leaving) (m : List ℕ) (b : ℕ) (o : Option ℕ) → IsLinked hs l (length hs) → o ≡ latest_from l (bit_at [] m b) → LeavesIn hs o (bit_at [] m b)
+heads_by hs l m b None linked is = tt
+heads_by hs l m b (Some p) linked is = (linked.heads m b p (sym is)).1
+
+pub leaves_start : (hs : List Hop) (l : Leaving) (m : List ℕ) (b : ℕ) (o : Option ℕ) → IsLinked hs l (length hs) → o ≡ latest_from l (bit_at [] m b) → LeavesIn hs o (bit_at [] m b)
+leaves_start hs l m b o linked is = heads_by hs l m b o linked is
+
+pub leaves_more : (hs : List Hop) (l : Leaving) (k : ℕ) (o : Option ℕ) (x : BitAt) → IsLinked hs l (length hs) → Leaves hs k x → slice_get l.before.items k ≡ Some o → LeavesIn hs o x
+leaves_more hs l k None x linked at e = tt
+leaves_more hs l k (Some r) x linked at e = subst (Leaves hs r) at.2 (linked.back k r at.0 at.1 e).1
+
+past_by : (hs : List Hop) (l : Leaving) (t new : Tree) (k : ℕ) (o : Option ℕ) (x : BitAt) → IsLinked hs l (length hs) → (at : Leaves hs k x) → slice_get l.before.items k ≡ Some o → KeepsMarks t new → is_marked new (bit at.0.to) ≡ true → IsLeftPast hs t x (Some k) →
+    (q : ℕ) (h : Hop) → slice_get hs q ≡ Some h → bit h.from ≡ x → IsPast o q → (k < q) ⊎ ((q ≡ k) ⊎ (q < k)) → is_marked new (bit h.to) ≡ true
+past_by hs l t new k o x linked at e keeps here was q h there from past (inl lt) = keeps.marks h.to.name.now h.to.bit (was q h there from lt)
+past_by hs l t new k o x linked at e keeps here was q h there from past (inr (inl same)) =
+    let f : slice_get hs k ≡ Some h = ap (slice_get hs) (sym same) ∙ there in
+    let g = at.1 in
+    let is : at.0 ≡ h = cc in
+    subst (λ (v : Hop). is_marked new (bit v.to) ≡ true) is here
+past_by hs l t new k o x linked at e keeps here was q h there from past (inr (inr lt)) =
+    absurd (not_past o q (linked.links k q at.0 h o (slice_get_within hs k at.0 at.1) at.1 there (from ∙ sym at.2) lt e) past)
+
+order : (k q : ℕ) → (k < q) ⊎ ((q ≡ k) ⊎ (q < k))
+order zero zero = inr (inl refl)
+order zero (suc q) = inl (omega arith)
+order (suc k) zero = inr (inr (omega arith))
+order (suc k) (suc q) = by (order k q)
   where
-    by : (b : Bool) → r ≡ b → Followed hs start new next (k + 1)
-    by true is = record {
-      right = tree;
-      kept = keeps_on start t new f.kept kept;
-      grown = λ e. grows_before hs start t new f.kept (grown is);
-      closed = λ e. absurd (let h : true ≡ false = sym (if_more is) ∙ e in cc);
-    }
-    by false is = record {
-      right = tree;
-      kept = keeps_on start t new f.kept kept;
-      grown = λ e. grows_after hs start t new (f.grown (sym (if_not is) ∙ e)) kept;
-      closed = λ e. closed_by hs start t new k (same is) (f.closed (sym (if_not is) ∙ e)) (closed is);
-    }
+    by : (k < q) ⊎ ((q ≡ k) ⊎ (q < k)) → (suc k < suc q) ⊎ ((suc q ≡ suc k) ⊎ (suc q < suc k))
+    by (inl lt) = inl (omega (arith, lt))
+    by (inr (inl e)) = inr (inl (ap suc e))
+    by (inr (inr lt)) = inr (inr (omega (arith, lt)))
 
-pub followed_none : (hs : List Hop) (t : Tree) → IsTree hs t → Followed hs t t false 0
-followed_none hs t tree = record { right = tree; kept = keeps_refl t; grown = λ e. absurd cc; closed = λ e p lt h at r. absurd (omega (arith, lt)) }
+pub past_more : (hs : List Hop) (l : Leaving) (t new : Tree) (k : ℕ) (o : Option ℕ) (x : BitAt) → IsLinked hs l (length hs) → Leaves hs k x → slice_get l.before.items k ≡ Some o → KeepsMarks t new → IsFollowed hs k t new → IsReached t x → IsLeftPast hs t x (Some k) → IsLeftPast hs new x o
+past_more hs l t new k o x linked at e keeps followed reached was q h there from past =
+    past_by hs l t new k o x linked at e keeps (followed at.0 at.1 (subst (IsReached t) (sym at.2) reached)) was q h there from past (order k q)
 
-pub followed_all : (hs : List Hop) (start t : Tree) (k : ℕ) → Followed hs start t false k → k ≡ length hs → IsClosed hs t
-followed_all hs start t k f n p h e r = let lt = slice_get_within hs p h e in f.closed refl p (omega (arith, lt, n)) h e r
+pub reached_kept : (a b : Tree) (n : List ℕ) (k : ℕ) → KeepsMarks a b → IsReached a (bit_at [] n k) → IsReached b (bit_at [] n k)
+reached_kept a b n k keeps (inl e) = inl (keeps.root ∙ e)
+reached_kept a b n k keeps (inr e) = inr (keeps.marks n k e)
+
+-- one more of them
+pub left_more : (hs : List Hop) (t u : Tree) (k : ℕ) (item : Node) → KeepsMarks t u → slice_get t.nodes.items k ≡ Some item → IsLeft hs u (bit item.hop.to) → ((j : ℕ) (node : Node) → j < k → slice_get t.nodes.items j ≡ Some node → IsLeft hs t (bit node.hop.to)) →
+    (j : ℕ) (node : Node) → (j ≡ k) ⊎ (j < k) → slice_get u.nodes.items j ≡ Some node → IsLeft hs u (bit node.hop.to)
+left_more hs t u k item keeps there here before j node (inl e) at =
+    let f = keeps.nodes k item there in
+    let g : slice_get u.nodes.items k ≡ Some node = ap (slice_get u.nodes.items) (sym e) ∙ at in
+    let same : item ≡ node = cc in
+    subst (λ (v : Node). IsLeft hs u (bit v.hop.to)) same here
+left_more hs t u k item keeps there here before j node (inr lt) at =
+    let in_t = slice_get_within t.nodes.items k item there in
+    let old = there_at t.nodes.items j (omega (arith, lt, in_t)) in
+    let f = keeps.nodes j old.0 old.1 in
+    let same : old.0 ≡ node = cc in
+    subst (λ (v : Node). IsLeft hs u (bit v.hop.to)) same (left_kept hs t u (bit old.0.hop.to) keeps (before j old.0 lt old.1))
+
+-- where the hops that leave the root and each reached bit lead is reached
+pub all_left : (hs : List Hop) (t : Tree) (k : ℕ) → IsTree hs t → length t.nodes.items ≤ k → IsLeft hs t (bit t.root) → ((j : ℕ) (node : Node) → j < k → slice_get t.nodes.items j ≡ Some node → IsLeft hs t (bit node.hop.to)) → IsClosed hs t
+all_left hs t k tree le root left p h e r = by r
+  where
+    by : IsReached t (bit h.from) → is_marked t (bit h.to) ≡ true
+    by (inl f) = root p h e (sym f)
+    by (inr f) =
+        let s = some_of (place_in t (bit h.from)) f in
+        let n = tree.places h.from.name.now h.from.bit s.0 s.1 in
+        let lt = slice_get_within t.nodes.items s.0 n.0 n.1 in
+        left s.0 n.0 (omega (arith, lt, le)) n.1 p h e (sym n.2)
 
 pub back_smaller : (hs : List Hop) (t : Tree) (place : ℕ) (list : List Node) (d : Node) (ws new : List Hop) (o : Option ℕ) → IsTree hs t → list ≡ t.nodes.items → place < length list → o ≡ Some place → new ≡ ws ++ (get_or list place d).hop ∷ [] → steps_left (get_or list place d).before < steps_left o
 back_smaller hs t place list d ws new o tree same within is more =
     let at : slice_get t.nodes.items place ≡ Some (get_or list place d) = ap (λ (v : List Node). slice_get v place) (sym same) ∙ get_there list place d within in
     subst (λ (p : Option ℕ). steps_left (get_or list place d).before < steps_left p) (sym is) (back_less hs t place (get_or list place d) tree at)
-
-pub grows_by : (hs : List Hop) (old new : Tree) (k : ℕ) (d : Hop) (before : Option ℕ) → k < length hs → Adds old new (get_or hs k d) before → is_marked old (bit (get_or hs k d).to) ≡ false → Grows hs old new
-grows_by hs old new k d before lt adds none = (k, get_or hs k d, get_there hs k d lt, none, added_marks hs old new (get_or hs k d) before adds none)

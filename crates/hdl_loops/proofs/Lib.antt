@@ -4,7 +4,7 @@ pub mod Finding
 pub mod Places
 pub mod Lists
 pub mod Growing
-pub mod Inserting
+pub mod Linking
 pub mod Hopping
 pub mod Ends
 pub mod Seen
@@ -15,6 +15,9 @@ pub mod Through
 pub mod Trips
 pub mod Telling
 pub mod Passing
+pub mod Pairing
+pub mod Stacking
+pub mod Tasking
 pub mod Leaping
 pub mod Outward
 pub mod Tops

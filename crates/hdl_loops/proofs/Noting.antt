@@ -6,7 +6,7 @@ use Rattle.hdl_tree.specs.declared.ends.End.{End}
 use Rattle.hdl_tree.specs.Chips.{Chips, end_of}
 use Rattle.hdl_plans.specs.Loops.{BitAt}
 use Rattle.hdl_loops.specs.Inner.Hops.{input_of, output_of}
-use Rattle.hdl_loops.specs.Inner.Knowing.{crosses_in, crosses_by, leads, leads_in, IsHop, IsRight, AreKnown, IsDone, PartsDone, KnowNothing, StaysKnown, Notes}
+use Rattle.hdl_loops.specs.Inner.Knowing.{crosses_in, crosses_by, leads, leads_in, IsHop, IsRight, AreKnown, IsDone, KnowNothing, StaysKnown, Notes}
 use Rattle.hdl_loops.specs.declared.hops.Hop.{Hop}
 use Rattle.hdl_loops.specs.declared.known.Known.{Known}
 
@@ -52,12 +52,6 @@ notes_same old k inside was e = record { stays = λ j other h. h; noted = (was, 
 
 -- ---- what is known stays
 
-pub stays_refl : (known : Lists) → StaysKnown known known
-stays_refl known k inside e = e
-
-pub stays_on : (a b c : Lists) → StaysKnown a b → StaysKnown b c → StaysKnown a c
-stays_on a b c h g k inside e = g k inside (h k inside e)
-
 leads_still : (old new : Lists) (k : ℕ) (x y : BitAt) (o : Option (Option Known)) → StaysKnown old new → slice_get old k ≡ o → leads_in o x y ≡ true → leads_in (slice_get new k) x y ≡ true
 leads_still old new k x y None stays e h = absurd cc
 leads_still old new k x y (Some None) stays e h = absurd cc
@@ -85,7 +79,7 @@ hop_still chips old new chip h stays r = record {
 }
 
 right_still : (chips : Chips) (old new : Lists) (chip : Entry) (inside : Known) → StaysKnown old new → IsRight chips old chip inside → IsRight chips new chip inside
-right_still chips old new chip inside stays r = record { hops = λ p h e. hop_still chips old new chip h stays (r.hops p h e); trees = r.trees; covers = r.covers; clear = r.clear }
+right_still chips old new chip inside stays r = record { hops = λ p h e. hop_still chips old new chip h stays (r.hops p h e); linked = r.linked; sound = r.sound; covers = r.covers; clear = r.clear }
 
 -- one more is right
 pub known_more : (chips : Chips) (old new : Lists) (k : ℕ) (entry : Entry) (inside : Known) → Notes old new k inside → slice_get chips.entries k ≡ Some entry → AreKnown chips old → IsRight chips old entry inside → AreKnown chips new
@@ -100,9 +94,6 @@ known_more chips old new k entry inside notes there known right j chip other e f
 
 pub done_still : (chips : Chips) (old new : Lists) (k : ℕ) → StaysKnown old new → IsDone chips old k → IsDone chips new k
 done_still chips old new k stays done chip at is = let r = done chip at is in (r.0, stays k r.0 r.1)
-
-pub parts_still : (chips : Chips) (old new : Lists) (chip : Entry) → StaysKnown old new → PartsDone chips old chip → PartsDone chips new chip
-parts_still chips old new chip stays done i part k there placed = done_still chips old new k stays (done i part k there placed)
 
 pub none_more : (xs : Lists) → KnowNothing xs → KnowNothing (xs ++ None ∷ [])
 none_more [] h zero list e = cc

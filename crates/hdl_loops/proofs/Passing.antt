@@ -1,18 +1,18 @@
 -- Ways that are noted, and the names that are told.
-use Rattle.std.proofs.Common.{◌≡◌, ℕ, Bool, true, false, cond, ◌&&◌, ◌||◌, nat_eq, ◌⊎◌, inl, inr, List, [], ◌∷◌, ◌++◌, map, Some, refl, sym, ap, subst, ◌∙◌}
+use Rattle.std.proofs.Common.{◌≡◌, ℕ, Bool, true, false, cond, ◌&&◌, ◌||◌, nat_eq, ◌⊎◌, inl, inr, List, [], ◌∷◌, ◌++◌, map, refl, sym, ap, subst, ◌∙◌}
 use Rattle.std.specs.Prelude.{slice_get}
 use Rattle.std.specs.Str.{bytes_eq}
 use Rattle.std.specs.List.{list_any}
 use Rattle.std.specs.Cmp.Lexicographic.{bytes_decides}
 use Rattle.std.proofs.lemmas.Bool.Decides.{Decides-eqb}
-use Rattle.hdl_tree.specs.declared.library.Entry.{Entry}
 use Rattle.hdl_tree.specs.Writable.{is_among}
 use Rattle.hdl_tree.specs.Chips.{Chips}
 use Rattle.hdl_check.proofs.MarkLemmas.{or_false, both}
-use Rattle.hdl_loops.specs.Inner.Told.{TripAmong, AllAmong, AreTold, TellsThrough, NotesOne, add_name, add_names, names_of, is_passage, was_passed}
+use Rattle.hdl_loops.specs.Inner.Told.{TripAmong, AllAmong, AreTold, NotesOne, add_name, add_names, names_of, is_passage, was_passed}
+use Rattle.hdl_loops.specs.Inner.Tasks.{PassTold}
 use Rattle.hdl_loops.specs.declared.told.Passage.{Passage}
 use Rattle.hdl_loops.specs.declared.told.Told.{Told}
-use Rattle.hdl_loops.proofs.Telling.{all_stay, now_told, told_before}
+use Rattle.hdl_loops.proofs.Telling.{all_stay}
 
 -- ---- sets
 
@@ -86,24 +86,15 @@ same_passage p chip n b m k h =
       k_is = (Decides-eqb k d.out).0 g.1;
     }
 
-pub noted_told : (chips : Chips) (start old new : Told) (p : Passage) → AreTold chips old → names_of new ≡ names_of old → NotesOne old new p →
-    ((chip : Entry) → slice_get chips.entries p.chip ≡ Some chip → TellsThrough chips chip p.through start old) → AreTold chips new
-noted_told chips start old new p are same one goes place n b m k h chip at = by (or_cases (was_passed old place n b m k) (is_passage place n b m k p) (one place n b m k h))
+pub noted_told : (chips : Chips) (old new : Told) (p : Passage) → AreTold chips old → names_of new ≡ names_of old → NotesOne old new p → PassTold chips p (names_of old) → AreTold chips new
+noted_told chips old new p are same one pass place n b m k h chip at = by (or_cases (was_passed old place n b m k) (is_passage place n b m k p) (one place n b m k h))
   where
     by : (was_passed old place n b m k ≡ true) ⊎ (is_passage place n b m k p ≡ true) → TripAmong chips chip n b m k (names_of new)
     by (inl was) = subst (TripAmong chips chip n b m k) (sym same) (are place n b m k was chip at)
     by (inr is) =
         let s = same_passage p place n b m k is in
-        let r = goes chip (ap (slice_get chips.entries) (sym s.chip_is) ∙ at) in
-        let told : TripAmong chips chip p.through.input.now p.through.bit p.through.output.now p.through.out (names_of new) = (r.0, r.1, subst (AllAmong r.0) (sym (same ∙ r.2)) (now_told r.0 (names_of start))) in
+        let told : TripAmong chips chip p.through.input.now p.through.bit p.through.output.now p.through.out (names_of new) = subst (TripAmong chips chip p.through.input.now p.through.bit p.through.output.now p.through.out) (sym same) (pass chip (ap (slice_get chips.entries) (sym s.chip_is) ∙ at)) in
         subst (λ v. TripAmong chips chip v b m k (names_of new)) (sym s.n_is)
         (subst (λ v. TripAmong chips chip p.through.input.now v m k (names_of new)) (sym s.b_is)
         (subst (λ v. TripAmong chips chip p.through.input.now p.through.bit v k (names_of new)) (sym s.m_is)
         (subst (λ v. TripAmong chips chip p.through.input.now p.through.bit p.through.output.now v (names_of new)) (sym s.k_is) told)))
-
--- a way that was told is told again by nothing
-pub told_again : (chips : Chips) (told : Told) (p : Passage) → AreTold chips told → was_passed told p.chip p.through.input.now p.through.bit p.through.output.now p.through.out ≡ true →
-    (chip : Entry) → slice_get chips.entries p.chip ≡ Some chip → TellsThrough chips chip p.through told told
-told_again chips told p are was chip at =
-    let r = are p.chip p.through.input.now p.through.bit p.through.output.now p.through.out was chip at in
-    (r.0, r.1, sym (told_before r.0 (names_of told) r.2))

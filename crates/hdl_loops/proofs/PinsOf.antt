@@ -1,5 +1,5 @@
 -- The pin that a bit is of.
-use Rattle.std.proofs.Common.{◌≡◌, ℕ, zero, suc, ◌<◌, Bool, true, false, cond, List, [], ◌∷◌, Some, refl, sym, length, arith}
+use Rattle.std.proofs.Common.{◌≡◌, ℕ, suc, Bool, true, false, cond, List, [], ◌∷◌, Some, refl, sym}
 use Rattle.std.specs.Prelude.{slice_get}
 use Rattle.std.specs.Str.{bytes_eq}
 use Rattle.std.specs.Cmp.Lexicographic.{bytes_decides}
@@ -25,8 +25,3 @@ pin_of (p ∷ ps) name w h = pin_by p ps name w (bytes_eq name p.name) refl h (p
 
 pub pin_of_bit : (pins : List Pin) (name : List ℕ) (bit : ℕ) → (h : HasBit pins name bit) → PinOf pins name h.width
 pin_of_bit pins name bit h = pin_of pins name h.width h.there
-
-pub below_length : (pins : List Pin) (k : ℕ) (a : Pin) → slice_get pins k ≡ Some a → k < length pins
-below_length [] k a e = absurd cc
-below_length (x ∷ xs) zero a e = omega arith
-below_length (x ∷ xs) (suc k) a e = let h = below_length xs k a e in omega (arith, h)

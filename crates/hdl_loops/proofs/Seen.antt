@@ -1,5 +1,5 @@
 -- A way in the own graph of a chip is one of hops, and what was seen of a chip is right.
-use Rattle.std.proofs.Common.{◌≡◌, ℕ, ◌<◌, ◌⊎◌, inl, inr, Bool, true, false, List, [], ◌∷◌, Option, Some, None, refl, sym, ap, subst, ◌∙◌}
+use Rattle.std.proofs.Common.{◌≡◌, ℕ, ◌<◌, ◌⊎◌, inl, inr, Bool, true, false, List, [], ◌∷◌, Option, Some, None, length, refl, sym, ap, subst, ◌∙◌}
 use Rattle.std.specs.Prelude.{slice_get, is_some}
 use Rattle.hdl_tree.specs.declared.tree.Part.{Part}
 use Rattle.hdl_tree.specs.declared.library.Entry.{Entry}
@@ -13,13 +13,12 @@ use Rattle.hdl_plans.proofs.Circles.{own_way, circle_to_own}
 use Rattle.hdl_plans.proofs.Walks.{at_part, part_at, joined_inner, one_step, step_way}
 use Rattle.hdl_loops.specs.Inner.Hops.{HasHop, NoRound}
 use Rattle.hdl_loops.specs.Inner.Ties.{tie, ties_in, gather}
-use Rattle.hdl_loops.specs.Inner.Trees.{AreTrees, HasTree}
-use Rattle.hdl_loops.specs.Inner.Knowing.{crosses, crosses_by, crosses_in, place_of, IsGraph, IsRight, AreKnown, IsDone, PartsDone, TreeClear}
+use Rattle.hdl_loops.specs.Inner.Leaving.{IsLinked}
+use Rattle.hdl_loops.specs.Inner.Knowing.{leads, crosses, crosses_by, crosses_in, place_of, IsGraph, IsRight, AreKnown, IsDone, PartsDone, TreeClear}
 use Rattle.hdl_loops.specs.declared.hops.Hop.{Hop}
 use Rattle.hdl_loops.specs.declared.known.Known.{Known}
 use Rattle.hdl_loops.proofs.Ends.{end_clear, end_depends}
 use Rattle.hdl_loops.proofs.Hopping.{tie_there, graph_hops, graph_has}
-use Rattle.hdl_loops.proofs.Growing.{way_leads}
 use Rattle.hdl_loops.proofs.Lists.{In}
 use Rattle.hdl_loops.proofs.Places.{place_found, place_there}
 
@@ -209,11 +208,13 @@ module _ (chips : Chips) (known : List (Option Known)) (chip : Entry) (hs : List
 
 -- what was seen of a chip is right
 pub seen_right : (chips : Chips) (known : List (Option Known)) (chip : Entry) (inside : Known) → end_of chips.blocks chip ≡ None → IsGraph chips known chip inside.hops.items → AreKnown chips known → PartsDone chips known chip → NoRound inside.hops.items →
-    AreTrees inside.hops.items inside.trees.entries → ((n : List ℕ) (b : ℕ) → HasBit chip.chip.inputs n b → HasTree inside.trees.entries (bit_at [] n b)) → IsRight chips known chip inside
-seen_right chips known chip inside no_end is right done none trees has = record {
+    IsLinked inside.hops.items inside.leaving (length inside.hops.items) → ((n m : List ℕ) (b k : ℕ) → leads inside (bit_at [] n b) (bit_at [] m k) ≡ true → Way (HasHop inside.hops.items) (bit_at [] n b) (bit_at [] m k)) →
+    ((n m : List ℕ) (b k : ℕ) → HasBit chip.chip.inputs n b → HasBit chip.chip.outputs m k → Way (HasHop inside.hops.items) (bit_at [] n b) (bit_at [] m k) → leads inside (bit_at [] n b) (bit_at [] m k) ≡ true) → IsRight chips known chip inside
+seen_right chips known chip inside no_end is right done none linked sound there = record {
   hops = graph_hops chips known chip inside.hops.items is;
-  trees = trees;
-  covers = λ fit n m b k d. way_leads inside.hops.items inside.trees.entries n b (bit_at [] m k) trees (has n b d.from) (depends_hops chips known chip inside.hops.items no_end is right done fit n m b k d);
+  linked = linked;
+  sound = sound;
+  covers = λ fit n m b k d. there n m b k d.from d.to (depends_hops chips known chip inside.hops.items no_end is right done fit n m b k d);
   clear = λ fit. clear_of chips known chip inside.hops.items no_end is right done fit none;
 }
 

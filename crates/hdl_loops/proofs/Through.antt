@@ -7,7 +7,7 @@ use Rattle.hdl_tree.specs.Chips.{Chips, end_of}
 use Rattle.hdl_tree.specs.Behaviour.{chip_of, inner_chip}
 use Rattle.hdl_plans.specs.Loops.{BitAt}
 use Rattle.hdl_loops.specs.Inner.Hops.{Linked}
-use Rattle.hdl_loops.specs.Inner.Knowing.{crosses, crosses_in, crosses_by, end_crosses, leads_in, AreKnown, AreHops, IsHop, HasTrees, IsWayIn, Nests, NestsAt}
+use Rattle.hdl_loops.specs.Inner.Knowing.{crosses, crosses_in, crosses_by, end_crosses, leads_in, AreKnown, AreHops, IsHop, HasWays, IsWayIn, Nests, NestsAt}
 use Rattle.hdl_loops.specs.declared.hops.Hop.{Hop}
 use Rattle.hdl_loops.specs.declared.known.Known.{Known}
 use Rattle.hdl_loops.proofs.Nesting.{parts_nest}
@@ -22,8 +22,8 @@ module _ (chips : Chips) (known : List (Option Known)) (k : ℕ) (entry : Entry)
   pub cross_known : (x y : BitAt) → end_of chips.blocks entry ≡ None → crosses chips known k x y ≡ true → leads_in (slice_get known k) x y ≡ true
   cross_known x y is h = sym (crosses_is x y None is) ∙ h
 
-  pub known_trees : AreKnown chips known → HasTrees known k
-  known_trees are inside e = (are k entry inside at e).trees
+  pub known_ways : AreKnown chips known → HasWays known k
+  known_ways are inside e = let r = are k entry inside at e in (r.linked, r.sound)
 
   way_by : (o : Option (Option Known)) (x y : BitAt) (ws : List Hop) → slice_get known k ≡ o → AreKnown chips known → IsWayIn o x ws y → AreHops chips known entry ws × (0 < length ws) × Linked x ws y
   way_by None x y ws e are w = absurd w

@@ -1,7 +1,11 @@
 pub mod Hops
 pub mod Ties
+pub mod Leaving
+pub mod Pairs
 pub mod Trees
 pub mod Ranked
 pub mod Knowing
 pub mod Looked
 pub mod Told
+pub mod Stacked
+pub mod Tasks

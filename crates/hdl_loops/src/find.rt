@@ -1,22 +1,21 @@
 //! A loop of a chip, found in the own graphs of the chips in it.
 
-ghost use Rattle.std.specs.Prelude.{◌≡◌, ℕ, List, ◌+◌, ◌-◌, ◌<◌, ◌^◌, None, Some, true, OnOk, IfOk, MatchOption, length, slice_get};
+ghost use Rattle.std.specs.Prelude.{◌≡◌, ℕ, List, ◌+◌, ◌<◌, None, Some, true, OnOk, IfOk, MatchOption, is_some, length, slice_get};
 ghost use Rattle.hdl_tree.specs.declared.library.Entry.{Entry};
-ghost use Rattle.hdl_tree.specs.declared.tree.Part.{Part};
 ghost use Rattle.hdl_tree.specs.Chips.{end_of, find_chip, find_entry};
 ghost use Rattle.hdl_tree.specs.Chips.{parts_of as parts_in};
 ghost use Rattle.hdl_check.specs.Whole.{chips_in, TopIsFaultless};
 ghost use Rattle.hdl_plans.specs.Loops.{IsLoop};
 ghost use Rattle.hdl_loops.specs.Inner.Hops.{NoRound};
-ghost use Rattle.hdl_loops.specs.Inner.Looked.{LooksRight, PartTells, TellsLoop};
-ghost use Rattle.hdl_loops.specs.Inner.Knowing.{place_of, AreHops, AreKnown, IsKnown, IsDone, Notes, Nests, PartDone, PartNests, PartsDone, StaysKnown, KnowNothing, NestsAt, PartsNest};
+ghost use Rattle.hdl_loops.specs.Inner.Looked.{LooksRight, TellsLoop};
+ghost use Rattle.hdl_loops.specs.Inner.Stacked.{IsStack, IsEntered, weight};
+ghost use Rattle.hdl_loops.specs.Inner.Knowing.{place_of, AreHops, AreKnown, IsKnown, IsDone, Notes, Nests, PartsDone, StaysKnown, KnowNothing, NestsAt};
 
 use crate::circle::circle_in;
 use crate::graph::graph_of;
 use crate::hops::Hop;
-use crate::known::{Known, trees_of};
+use crate::known::{Known, known_of};
 use crate::names::nets_of;
-use crate::search::Numbered;
 use hdl_tree::{Body, Entry, Library, Name, Part, find_end};
 use std::alloc::{AllocError, Global};
 
@@ -46,6 +45,22 @@ pub(crate) fn parts_of<'a>(blocks: bool, entry: &'a Entry) -> &'a [Part]
     }
 }
 
+/// A chip that is looked at, how many of its parts are, and what chips nest in it less deep than.
+#[derive(Clone, Copy, Debug)]
+pub struct Frame {
+    pub chip: usize,
+    pub next: usize,
+    pub depth: usize,
+}
+
+/// Whether chip k is an end.
+pub(crate) fn is_end(entries: &[Entry], blocks: bool, k: usize) -> bool
+    requires { k < length entries.now }
+    ensures { (chip : Entry) → slice_get entries.now k ≡ Some chip → result ≡ is_some (end_of blocks chip) }
+{
+    find_end(blocks, &entries[k]).is_some()
+}
+
 /// What a look at one chip gives: what is known of it, or the nets of a loop.
 #[derive(Drop)]
 pub(crate) enum Look<'a> {
@@ -61,7 +76,6 @@ fn loop_in<'a>(
     known: &[Option<Known<'a>>],
     entry: &'a Entry,
     hops: &[Hop<'a>],
-    graph: &Numbered<'a>,
     depth: usize,
 ) -> Result<Option<Vec<Name>>, AllocError>
     requires known { AreKnown (chips_in entries.now blocks) known.now }
@@ -69,7 +83,7 @@ fn loop_in<'a>(
     requires nests { Nests depth (chips_in entries.now blocks) entry.now }
     ensures { IfOk result (λ r. MatchOption r (NoRound hops.now) (λ nets. IsLoop (chips_in entries.now blocks) entry.now nets.items)) }
 {
-    match circle_in(alloc, hops, graph)? {
+    match circle_in(alloc, hops)? {
         None => Ok(None),
         Some(circle) => {
             let nets = nets_of(alloc, entries, blocks, known, entry, &circle, depth)?;
@@ -95,12 +109,11 @@ fn look_at<'a>(
 {
     let hops = graph_of(alloc, entries, blocks, known, parts_of(blocks, entry))?;
     let list = hops.as_slice();
-    let graph = Numbered::new(alloc, list)?;
-    match loop_in(alloc, entries, blocks, known, entry, list, &graph, depth)? {
+    match loop_in(alloc, entries, blocks, known, entry, list, depth)? {
         Some(nets) => Ok(Look::Loop(nets)),
         None => {
-            let trees = trees_of(alloc, entry, list, &graph)?;
-            Ok(Look::Fine(Known { hops, trees }))
+            let inside = known_of(alloc, entry, hops)?;
+            Ok(Look::Fine(inside))
         }
     }
 }
@@ -124,57 +137,6 @@ fn note<'a>(known: &mut [Option<Known<'a>>], k: usize, inside: Known<'a>)
         Some(_inside) => {}
         None => known[k] = Some(inside),
     }
-}
-
-/// The nets of a loop in the chip of a part, if there is its chip; none, and that is known, if it is no end.
-#[cycle(tree)]
-fn find_in_part<'a>(
-    alloc: Global,
-    entries: &'a [Entry],
-    blocks: bool,
-    known: &mut [Option<Known<'a>>],
-    part: &'a Part,
-    depth: usize,
-) -> Result<Option<Vec<Name>>, AllocError>
-    requires long { length known.old ≡ length entries.now }
-    requires right { AreKnown (chips_in entries.now blocks) known.old }
-    requires nests { PartNests depth (chips_in entries.now blocks) part.now }
-    ensures right { OnOk result (AreKnown (chips_in entries.now blocks) known.new) }
-    ensures stay { OnOk result (StaysKnown known.old known.new) }
-    ensures done { IfOk result (λ r. r ≡ None → PartDone (chips_in entries.now blocks) known.new part.now) }
-    ensures told { IfOk result (PartTells (chips_in entries.now blocks) part.now) }
-{
-    match place(entries, part.chip.as_bytes()) {
-        None => Ok(None),
-        Some(k) => find_in(alloc, entries, blocks, known, k, depth),
-    }
-}
-
-/// The nets of a loop in the parts of a chip; none, and their chips are known.
-#[cycle(tree)]
-fn find_in_parts<'a>(
-    alloc: Global,
-    entries: &'a [Entry],
-    blocks: bool,
-    known: &mut [Option<Known<'a>>],
-    entry: &'a Entry,
-    depth: usize,
-) -> Result<Option<Vec<Name>>, AllocError>
-    requires long { length known.old ≡ length entries.now }
-    requires right { AreKnown (chips_in entries.now blocks) known.old }
-    requires nests { PartsNest depth (chips_in entries.now blocks) entry.now }
-    ensures right { OnOk result (AreKnown (chips_in entries.now blocks) known.new) }
-    ensures stay { OnOk result (StaysKnown known.old known.new) }
-    ensures done { IfOk result (λ r. r ≡ None → PartsDone (chips_in entries.now blocks) known.new entry.now) }
-    ensures told { IfOk result (TellsLoop (chips_in entries.now blocks) entry.now) }
-{
-    let parts = parts_of(blocks, entry);
-    for part in parts {
-        if let Some(nets) = find_in_part(alloc, entries, blocks, known, part, depth)? {
-            return Ok(Some(nets));
-        }
-    }
-    Ok(None)
 }
 
 /// Looks at chip k, which is no end, and whose parts are known.
@@ -206,8 +168,72 @@ fn find_here<'a>(
     }
 }
 
-/// The nets of a loop in chip k, in which chips nest less deep than this; none, and the chip is known, if it is no end.
-#[cycle(tree)]
+/// Puts the chip of a part on the stack, unless there is none, it is known, or it is an end.
+fn enter(
+    entries: &[Entry],
+    blocks: bool,
+    known: &[Option<Known>],
+    part: &Part,
+    depth: usize,
+    stack: &mut Vec<Frame>,
+) -> Result<(), AllocError>
+    requires long { length known.now ≡ length entries.now }
+    ensures { OnOk result (IsEntered (chips_in entries.now blocks) known.now part.now depth stack.old.items stack.new.items) }
+{
+    let Some(k) = place(entries, part.chip.as_bytes()) else {
+        return Ok(());
+    };
+    if is_known(known, k) {
+        return Ok(());
+    }
+    if is_end(entries, blocks, k) {
+        return Ok(());
+    }
+    stack.push(Frame {
+        chip: k,
+        next: 0,
+        depth,
+    })?;
+    Ok(())
+}
+
+/// Goes on from the chip on top of the stack to its next part, or looks at it where its parts are known. The nets of a loop, if it has one.
+fn step<'a>(
+    alloc: Global,
+    entries: &'a [Entry],
+    blocks: bool,
+    known: &mut [Option<Known<'a>>],
+    top: usize,
+    stack: &mut Vec<Frame>,
+) -> Result<Option<Vec<Name>>, AllocError>
+    requires long { length known.old ≡ length entries.now }
+    requires right { AreKnown (chips_in entries.now blocks) known.old }
+    requires some { 0 < length stack.old.items }
+    requires stack { IsStack (chips_in entries.now blocks) known.old top stack.old.items }
+    ensures right { OnOk result (AreKnown (chips_in entries.now blocks) known.new) }
+    ensures stack { IfOk result (λ r. r ≡ None → IsStack (chips_in entries.now blocks) known.new top stack.new.items) }
+    ensures less { IfOk result (λ r. r ≡ None → weight (chips_in entries.now blocks) stack.new.items < weight (chips_in entries.now blocks) stack.old.items) }
+    ensures told { IfOk result (λ r. (chip : Entry) → slice_get entries.now top ≡ Some chip → TellsLoop (chips_in entries.now blocks) chip r) }
+{
+    let Some(frame) = stack.pop() else {
+        return Ok(None);
+    };
+    let parts = parts_of(blocks, &entries[frame.chip]);
+    if frame.next < parts.len() {
+        stack.push(Frame {
+            chip: frame.chip,
+            next: frame.next + 1,
+            depth: frame.depth,
+        })?;
+        let part = &parts[frame.next];
+        enter(entries, blocks, known, part, frame.depth - 1, stack)?;
+        return Ok(None);
+    }
+    find_here(alloc, entries, blocks, known, frame.chip, frame.depth)
+}
+
+/// The nets of a loop in chip k, in which chips nest less deep than this; none, and the chip is known, if it is no end. The chips on the
+/// way to the one that is looked at stand on a stack, so that no depth is too deep.
 fn find_in<'a>(
     alloc: Global,
     entries: &'a [Entry],
@@ -221,23 +247,24 @@ fn find_in<'a>(
     requires right { AreKnown (chips_in entries.now blocks) known.old }
     requires nests { NestsAt depth (chips_in entries.now blocks) k }
     ensures right { OnOk result (AreKnown (chips_in entries.now blocks) known.new) }
-    ensures stay { OnOk result (StaysKnown known.old known.new) }
     ensures done { IfOk result (λ r. r ≡ None → IsDone (chips_in entries.now blocks) known.new k) }
     ensures told { IfOk result (λ r. (chip : Entry) → slice_get entries.now k ≡ Some chip → TellsLoop (chips_in entries.now blocks) chip r) }
 {
-    if is_known(known, k) {
+    if is_end(entries, blocks, k) {
         return Ok(None);
     }
-    match find_end(blocks, &entries[k]) {
-        Some(_end) => Ok(None),
-        None => {
-            let entry = &entries[k];
-            if let Some(nets) = find_in_parts(alloc, entries, blocks, known, entry, depth - 1)? {
-                return Ok(Some(nets));
-            }
-            find_here(alloc, entries, blocks, known, k, depth)
+    let mut stack = Vec::new(alloc);
+    stack.push(Frame {
+        chip: k,
+        next: 0,
+        depth,
+    })?;
+    while !stack.is_empty() {
+        if let Some(nets) = step(alloc, entries, blocks, known, k, &mut stack)? {
+            return Ok(Some(nets));
         }
     }
+    Ok(None)
 }
 
 /// Notes that nothing is known of one more chip.

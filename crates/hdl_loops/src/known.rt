@@ -1,37 +1,47 @@
 //! What is known of chips: which bits of a chip lead to which.
 
-ghost use Rattle.std.specs.Prelude.{◌≡◌, ◌<◌, ℕ, true, List, [], OnOk, IfOk, length, slice_get};
+ghost use Rattle.std.specs.Prelude.{◌≡◌, ◌<◌, ℕ, true, List, [], IfOk, length, map, slice_get};
 ghost use Rattle.hdl_check.specs.Whole.{chips_in};
-ghost use Rattle.hdl_tree.specs.Chips.{pin_width};
 ghost use Rattle.hdl_plans.specs.Loops.{reaches_out, bit_at};
-ghost use Rattle.hdl_plans.specs.Ways.{HasBit};
-ghost use Rattle.hdl_loops.specs.Inner.Hops.{bit, IsWay};
-ghost use Rattle.hdl_loops.specs.Inner.Trees.{AreTrees, HasTree, KeepsTrees};
+ghost use Rattle.hdl_plans.specs.Ways.{Way, HasBit};
+ghost use Rattle.hdl_loops.specs.Inner.Hops.{bit, HasHop, IsWay, turn};
+ghost use Rattle.hdl_loops.specs.Inner.Leaving.{IsLinked};
+ghost use Rattle.hdl_loops.specs.Inner.Pairs.{has_pair};
 ghost use Rattle.hdl_loops.specs.Inner.Knowing.{leads, leads_in, crosses, end_crosses};
 
 use crate::hops::{BitOf, Hop};
-use crate::search::Numbered;
+use crate::leaving::Leaving;
+use crate::pairs::{Pair, pairs_of};
 use crate::tree::Tree;
 use hdl_tree::{End, Entry, Pin, find_end};
-use indexmap::IndexMap;
+use indexmap::IndexSet;
 use std::alloc::{AllocError, Global};
 
-/// What is known of a chip that is no end: the hops of its own graph, and what each input bit reaches.
+/// What is known of a chip that is no end: the hops of its own graph, and which inputs lead to which outputs. Where it has fewer outputs
+/// these are searched for against the hops, and the pairs are turned.
 #[derive(Drop)]
 pub struct Known<'a> {
     pub hops: Vec<Hop<'a>>,
-    pub trees: IndexMap<BitOf<'a>, Tree<'a>>,
+    pub leaving: Leaving<'a>,
+    pub turned: bool,
+    pub pairs: IndexSet<Pair<'a>>,
 }
 
 impl<'a> Known<'a> {
-    /// Whether there is a way from the input bit to the bit.
+    /// Whether there is a way from the input bit to the output bit.
     fn leads(&self, input: &BitOf<'a>, to: &BitOf<'a>) -> bool
         ensures { result ≡ leads self.now (bit input.now) (bit to.now) }
     {
-        match self.trees.get(input) {
-            None => false,
-            Some(tree) => tree.has(to),
+        if self.turned {
+            return self.pairs.contains(&Pair {
+                from: *to,
+                to: *input,
+            });
         }
+        self.pairs.contains(&Pair {
+            from: *input,
+            to: *to,
+        })
     }
 
     /// A way from the input bit to the bit, to which it leads.
@@ -41,16 +51,15 @@ impl<'a> Known<'a> {
         input: &BitOf<'a>,
         to: &BitOf<'a>,
     ) -> Result<Vec<Hop<'a>>, AllocError>
-        requires right { AreTrees self.now.hops.items self.now.trees.entries }
-        requires leads { leads self.now (bit input.now) (bit to.now) ≡ true }
+        requires linked { IsLinked self.now.hops.items self.now.leaving (length self.now.hops.items) }
+        requires leads { Way (HasHop self.now.hops.items) (bit input.now) (bit to.now) }
         ensures { IfOk result (λ v. IsWay self.now.hops.items (bit input.now) v.items (bit to.now)) }
     {
-        match self.trees.get(input) {
+        let hops = self.hops.as_slice();
+        let tree = Tree::of(alloc, hops, &self.leaving, *input)?;
+        match tree.way_to(alloc, hops, to)? {
             None => unreachable!(),
-            Some(tree) => match tree.way_to(alloc, self.hops.as_slice(), to)? {
-                None => unreachable!(),
-                Some(way) => Ok(way),
-            },
+            Some(way) => Ok(way),
         }
     }
 }
@@ -103,63 +112,83 @@ pub(crate) fn crosses<'a>(
     }
 }
 
-/// Adds what an input bit reaches.
-fn add_tree<'a>(
-    alloc: Global,
-    hops: &[Hop<'a>],
-    graph: &Numbered<'a>,
-    input: BitOf<'a>,
-    trees: &mut IndexMap<BitOf<'a>, Tree<'a>>,
-) -> Result<(), AllocError>
-    requires { AreTrees hops.now trees.old.entries }
-    ensures right { OnOk result (AreTrees hops.now trees.new.entries) }
-    ensures kept { OnOk result (KeepsTrees trees.old.entries trees.new.entries) }
-    ensures has { OnOk result (HasTree trees.new.entries (bit input.entry)) }
+/// A hop the other way.
+fn turn<'a>(hop: &Hop<'a>) -> Hop<'a>
+    ensures { result ≡ turn hop.now }
 {
-    let tree = Tree::of(alloc, hops, graph, input)?;
-    match trees.insert(input, tree) {
-        Err(_) => Err(AllocError),
-        Ok(_) => Ok(()),
+    Hop {
+        from: hop.to,
+        chip: hop.chip,
+        through: hop.through,
+        to: hop.from,
     }
 }
 
-/// Adds what the bits of an input reach.
-fn add_pin<'a>(
-    alloc: Global,
-    hops: &[Hop<'a>],
-    graph: &Numbered<'a>,
-    pin: &'a Pin,
-    trees: &mut IndexMap<BitOf<'a>, Tree<'a>>,
-) -> Result<(), AllocError>
-    requires { AreTrees hops.now trees.old.entries }
-    ensures right { OnOk result (AreTrees hops.now trees.new.entries) }
-    ensures kept { OnOk result (KeepsTrees trees.old.entries trees.new.entries) }
-    ensures has { OnOk result ((b : ℕ) → b < pin_width pin.now → HasTree trees.new.entries (bit_at [] pin.now.name b)) }
+/// The hops the other way.
+fn turn_all<'a>(alloc: Global, hops: &[Hop<'a>]) -> Result<Vec<Hop<'a>>, AllocError>
+    ensures { IfOk result (λ v. v.items ≡ map turn hops.now) }
 {
-    let width = u32::from(pin.width.unwrap_or(1));
-    for b in 0..width {
-        let input = BitOf {
-            name: pin.name.as_bytes(),
-            bit: b,
-        };
-        add_tree(alloc, hops, graph, input, trees)?;
+    let mut turned = Vec::new(alloc);
+    for hop in hops {
+        turned.push(turn(hop))?;
     }
-    Ok(())
+    Ok(turned)
 }
 
-/// What each input bit of a chip that is no end reaches.
-pub(crate) fn trees_of<'a>(
+/// How many bits these pins have; of so many that is no matter, fewer.
+fn count_bits(pins: &[Pin]) -> u64 {
+    let mut count: u64 = 0;
+    for pin in pins {
+        count = count.saturating_add(u64::from(pin.width.unwrap_or(1)));
+    }
+    count
+}
+
+/// The pairs of a bit of the first pins and a bit of the second that leads to it.
+fn turned_pairs<'a>(
+    alloc: Global,
+    hops: &[Hop<'a>],
+    first: &'a [Pin],
+    second: &'a [Pin],
+) -> Result<IndexSet<Pair<'a>>, AllocError>
+    ensures right { IfOk result (λ s. (n m : List ℕ) (b k : ℕ) → has_pair s.keys (bit_at [] n b) (bit_at [] m k) ≡ true → Way (HasHop hops.now) (bit_at [] m k) (bit_at [] n b)) }
+    ensures there { IfOk result (λ s. (n m : List ℕ) (b k : ℕ) → HasBit first.now n b → HasBit second.now m k → Way (HasHop hops.now) (bit_at [] m k) (bit_at [] n b) → has_pair s.keys (bit_at [] n b) (bit_at [] m k) ≡ true) }
+{
+    let back = turn_all(alloc, hops)?;
+    let list = back.as_slice();
+    let leaving = Leaving::of(alloc, list)?;
+    pairs_of(alloc, list, &leaving, first, second)
+}
+
+/// What is known of a chip that is no end and has these hops.
+pub(crate) fn known_of<'a>(
     alloc: Global,
     entry: &'a Entry,
-    hops: &[Hop<'a>],
-    graph: &Numbered<'a>,
-) -> Result<IndexMap<BitOf<'a>, Tree<'a>>, AllocError>
-    ensures right { IfOk result (λ trees. AreTrees hops.now trees.entries) }
-    ensures has { IfOk result (λ trees. (n : List ℕ) (b : ℕ) → HasBit entry.now.chip.inputs n b → HasTree trees.entries (bit_at [] n b)) }
+    hops: Vec<Hop<'a>>,
+) -> Result<Known<'a>, AllocError>
+    ensures hops { IfOk result (λ inside. inside.hops.items ≡ hops.entry.items) }
+    ensures linked { IfOk result (λ inside. IsLinked inside.hops.items inside.leaving (length inside.hops.items)) }
+    ensures right { IfOk result (λ inside. (n m : List ℕ) (b k : ℕ) → leads inside (bit_at [] n b) (bit_at [] m k) ≡ true → Way (HasHop inside.hops.items) (bit_at [] n b) (bit_at [] m k)) }
+    ensures there { IfOk result (λ inside. (n m : List ℕ) (b k : ℕ) → HasBit entry.now.chip.inputs n b → HasBit entry.now.chip.outputs m k → Way (HasHop inside.hops.items) (bit_at [] n b) (bit_at [] m k) → leads inside (bit_at [] n b) (bit_at [] m k) ≡ true) }
 {
-    let mut trees = IndexMap::new(alloc);
-    for pin in entry.chip.inputs.as_slice() {
-        add_pin(alloc, hops, graph, pin, &mut trees)?;
+    let inputs = entry.chip.inputs.as_slice();
+    let outputs = entry.chip.outputs.as_slice();
+    let list = hops.as_slice();
+    let leaving = Leaving::of(alloc, list)?;
+    if count_bits(outputs) < count_bits(inputs) {
+        let pairs = turned_pairs(alloc, list, outputs, inputs)?;
+        return Ok(Known {
+            hops,
+            leaving,
+            turned: true,
+            pairs,
+        });
     }
-    Ok(trees)
+    let pairs = pairs_of(alloc, list, &leaving, inputs, outputs)?;
+    Ok(Known {
+        hops,
+        leaving,
+        turned: false,
+        pairs,
+    })
 }

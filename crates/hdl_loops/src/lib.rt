@@ -3,9 +3,10 @@
 //! Each chip is looked at once, behind the chips of its parts. `graph` lists the hops of its own graph, each from a bit of the chip through
 //! one part to a bit of the chip: `joint` lists what the part's connections join, and `known` says which outputs of its chip depend on which
 //! inputs. `circle` finds a circle of hops, or sees that there is none: `ranks` that rise along each hop show that. `tree` lists what is
-//! reached from a bit, and by which ways; `search` only proposes, so that both are quick. `find` goes through the chips. `names` goes along
-//! a circle and through the parts, and `told` keeps the nets that it passes. What is proved is each answer: that there is no loop, or that
-//! the nets are a loop's. There is no other but want of memory.
+//! reached from a bit, and by which ways, along the hops that by `leaving` leave what is reached; `pairs` does so for each bit of some pins.
+//! `search` only proposes a circle, so that it is found quickly. `find` goes through the chips. `names` goes along a circle and through the
+//! parts, and `told` keeps the nets that it passes. What is proved is each answer: that there is no loop, or that the nets are a loop's.
+//! There is no other but want of memory.
 #![tactic(auto)]
 
 mod circle;
@@ -14,7 +15,9 @@ mod graph;
 mod hops;
 mod joint;
 mod known;
+mod leaving;
 mod names;
+mod pairs;
 mod ranks;
 mod search;
 mod told;
@@ -24,9 +27,13 @@ mod width;
 pub use find::find_loop;
 // What the definitions speak of.
 pub use circle::Circle;
+pub use find::Frame;
 pub use hops::{BitOf, Dependency, Hop};
 pub use joint::Joint;
 pub use known::Known;
+pub use leaving::Leaving;
+pub use names::Task;
+pub use pairs::{Pair, PinNames};
 pub use ranks::Ranks;
 pub use told::{Passage, Told};
 pub use tree::{Node, Tree};

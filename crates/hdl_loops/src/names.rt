@@ -1,18 +1,19 @@
 //! The nets of a circle: those of the chip, and between them those of the ways through its parts, each once.
 
-ghost use Rattle.std.specs.Prelude.{◌≡◌, ◌<◌, [], true, OnOk, IfOk, length, slice_get, Some};
-ghost use Rattle.hdl_tree.specs.declared.library.Entry.{Entry};
+ghost use Rattle.std.specs.Prelude.{◌≡◌, ◌<◌, ◌∷◌, ◌++◌, true, OnOk, IfOk, length, reverse, slice_get};
 ghost use Rattle.hdl_check.specs.Whole.{chips_in};
 ghost use Rattle.hdl_plans.specs.Loops.{IsLoop};
-ghost use Rattle.hdl_loops.specs.Inner.Hops.{input_of, output_of, AreJoined, WayRound};
-ghost use Rattle.hdl_loops.specs.Inner.Knowing.{crosses, HasTrees, AreKnown, AreHops, IsHop, NestsAt, Nests, leads_in, IsWayIn};
-ghost use Rattle.hdl_loops.specs.Inner.Told.{names_of, AreTold, Tells, ToldTo, TellsThrough};
+ghost use Rattle.hdl_loops.specs.Inner.Hops.{input_of, output_of, WayRound};
+ghost use Rattle.hdl_loops.specs.Inner.Knowing.{HasWays, AreKnown, AreHops, Nests, leads_in, IsWayIn};
+ghost use Rattle.hdl_loops.specs.Inner.Told.{names_of, AreTold};
+ghost use Rattle.hdl_loops.specs.Inner.Tasks.{passage_of, pass_task, way_tasks, IsTask, AreTasks, IsSure, GoesOn, room, tasks_weight};
 
 use crate::circle::Circle;
+use crate::find::is_end;
 use crate::hops::{BitOf, Dependency, Hop};
 use crate::known::Known;
 use crate::told::{Passage, Told};
-use hdl_tree::{Entry, Name, find_end};
+use hdl_tree::{Entry, Name};
 use std::alloc::{AllocError, Global};
 
 /// A way through chip k between these bits.
@@ -22,7 +23,7 @@ fn way_through<'a>(
     k: usize,
     through: &Dependency<'a>,
 ) -> Result<Vec<Hop<'a>>, AllocError>
-    requires right { HasTrees known.now k }
+    requires right { HasWays known.now k }
     requires leads { leads_in (slice_get known.now k) (input_of through.now) (output_of through.now) ≡ true }
     ensures { IfOk result (λ v. IsWayIn (slice_get known.now k) (input_of through.now) v.items (output_of through.now)) }
 {
@@ -40,126 +41,106 @@ fn way_through<'a>(
     }
 }
 
-/// Tells the nets of a way through chip k, unless they are told.
-#[cycle(ways)]
+/// What is still to be told: a net, the nets of a way through a chip in which chips nest less deep than this, or no more of such a way.
+#[derive(Clone, Copy, Debug)]
+pub enum Task<'a> {
+    Net(&'a [u8]),
+    Pass(Passage<'a>, usize),
+    Passed(Passage<'a>),
+}
+
+/// Puts what a hop passes on the stack.
+fn put_pass<'a>(hop: &Hop<'a>, depth: usize, tasks: &mut Vec<Task<'a>>) -> Result<(), AllocError>
+    ensures { OnOk result (reverse tasks.new.items ≡ pass_task (passage_of hop.now) depth ∷ reverse tasks.old.items) }
+{
+    let passage = Passage {
+        chip: hop.chip,
+        through: hop.through,
+    };
+    tasks.push(Task::Pass(passage, depth))?;
+    Ok(())
+}
+
+/// Puts the hops of a way and the nets between them on the stack, the first on top.
+fn put_way<'a>(way: &[Hop<'a>], depth: usize, tasks: &mut Vec<Task<'a>>) -> Result<(), AllocError>
+    requires { 0 < length way.now }
+    ensures { OnOk result (reverse tasks.new.items ≡ way_tasks depth way.now ++ reverse tasks.old.items) }
+{
+    let mut k = way.len() - 1;
+    while k > 0 {
+        put_pass(&way[k], depth, tasks)?;
+        tasks.push(Task::Net(way[k].from.name))?;
+        k -= 1;
+    }
+    put_pass(&way[0], depth, tasks)?;
+    Ok(())
+}
+
+/// Puts what a way through a chip passes on the stack, unless it is told, or the chip is an end.
 fn pass<'a>(
     alloc: Global,
     entries: &'a [Entry],
     blocks: bool,
     known: &[Option<Known<'a>>],
-    k: usize,
-    through: Dependency<'a>,
+    passage: Passage<'a>,
     depth: usize,
-    told: &mut Told<'a>,
+    tasks: &mut Vec<Task<'a>>,
+    told: &Told<'a>,
 ) -> Result<(), AllocError>
-    requires there { k < length entries.now }
     requires known { AreKnown (chips_in entries.now blocks) known.now }
-    requires crosses { crosses (chips_in entries.now blocks) known.now k (input_of through) (output_of through) ≡ true }
-    requires nests { NestsAt depth (chips_in entries.now blocks) k }
-    requires right { AreTold (chips_in entries.now blocks) told.old }
-    ensures right { OnOk result (AreTold (chips_in entries.now blocks) told.new) }
-    ensures told { OnOk result ((entry : Entry) → slice_get entries.now k ≡ Some entry → TellsThrough (chips_in entries.now blocks) entry through.entry told.old told.new) }
+    requires task { IsTask (chips_in entries.now blocks) known.now (pass_task passage depth) }
+    requires tasks { AreTasks (chips_in entries.now blocks) known.now (reverse tasks.old.items) }
+    requires right { AreTold (chips_in entries.now blocks) told.now }
+    ensures tasks { OnOk result (AreTasks (chips_in entries.now blocks) known.now (reverse tasks.new.items)) }
+    ensures goes { OnOk result (GoesOn (chips_in entries.now blocks) (pass_task passage.entry depth ∷ reverse tasks.old.items) (names_of told.now) (reverse tasks.new.items) (names_of told.now)) }
+    ensures less { OnOk result (tasks_weight (room known.now) (reverse tasks.new.items) < tasks_weight (room known.now) (pass_task passage.entry depth ∷ reverse tasks.old.items)) }
 {
-    let passage = Passage { chip: k, through };
     if told.has_passed(&passage) {
         return Ok(());
     }
-    let entry = &entries[k];
-    match find_end(blocks, entry) {
-        Some(_end) => Ok(()),
-        None => {
-            let way = way_through(alloc, known, k, &through)?;
-            let hops = way.as_slice();
-            follow(alloc, entries, blocks, known, entry, hops, depth, told)?;
-            told.note(passage)?;
-            Ok(())
-        }
+    if is_end(entries, blocks, passage.chip) {
+        return Ok(());
     }
-}
-
-/// Tells what a hop passes inside its part.
-#[cycle(ways)]
-fn leap<'a>(
-    alloc: Global,
-    entries: &'a [Entry],
-    blocks: bool,
-    known: &[Option<Known<'a>>],
-    entry: &'a Entry,
-    hop: &Hop<'a>,
-    depth: usize,
-    told: &mut Told<'a>,
-) -> Result<(), AllocError>
-    requires known { AreKnown (chips_in entries.now blocks) known.now }
-    requires hop { IsHop (chips_in entries.now blocks) known.now entry.now hop.now }
-    requires nests { Nests depth (chips_in entries.now blocks) entry.now }
-    requires right { AreTold (chips_in entries.now blocks) told.old }
-    ensures right { OnOk result (AreTold (chips_in entries.now blocks) told.new) }
-    ensures told { OnOk result (Tells (chips_in entries.now blocks) entry.now hop.now.from hop.now.to told.old told.new) }
-{
-    pass(
-        alloc,
-        entries,
-        blocks,
-        known,
-        hop.chip,
-        hop.through,
-        depth - 1,
-        told,
-    )
-}
-
-/// Tells the nets between the ends of a way, which has one hop or more.
-#[cycle(ways)]
-fn follow<'a>(
-    alloc: Global,
-    entries: &'a [Entry],
-    blocks: bool,
-    known: &[Option<Known<'a>>],
-    entry: &'a Entry,
-    way: &[Hop<'a>],
-    depth: usize,
-    told: &mut Told<'a>,
-) -> Result<(), AllocError>
-    requires known { AreKnown (chips_in entries.now blocks) known.now }
-    requires hops { AreHops (chips_in entries.now blocks) known.now entry.now way.now }
-    requires some { 0 < length way.now }
-    requires joined { AreJoined way.now }
-    requires nests { Nests depth (chips_in entries.now blocks) entry.now }
-    requires right { AreTold (chips_in entries.now blocks) told.old }
-    ensures right { OnOk result (AreTold (chips_in entries.now blocks) told.new) }
-    ensures told { OnOk result (ToldTo (chips_in entries.now blocks) entry.now way.now (length way.now) told.old told.new) }
-{
-    leap(alloc, entries, blocks, known, entry, &way[0], depth, told)?;
-    for k in 1..way.len() {
-        let hop = &way[k];
-        told.add(hop.from.name)?;
-        leap(alloc, entries, blocks, known, entry, hop, depth, told)?;
-    }
+    let way = way_through(alloc, known, passage.chip, &passage.through)?;
+    tasks.push(Task::Passed(passage))?;
+    put_way(way.as_slice(), depth - 1, tasks)?;
     Ok(())
 }
 
-/// Tells the nets of a circle in the own graph of a chip, where none is told.
-fn tell<'a>(
+/// Tells what comes next.
+fn tell_next<'a>(
     alloc: Global,
     entries: &'a [Entry],
     blocks: bool,
     known: &[Option<Known<'a>>],
-    entry: &'a Entry,
-    circle: &Circle<'a>,
-    depth: usize,
+    tasks: &mut Vec<Task<'a>>,
     told: &mut Told<'a>,
 ) -> Result<(), AllocError>
+    requires some { 0 < length tasks.old.items }
     requires known { AreKnown (chips_in entries.now blocks) known.now }
-    requires hops { AreHops (chips_in entries.now blocks) known.now entry.now circle.now.way.items }
-    requires round { WayRound circle.now }
-    requires nests { Nests depth (chips_in entries.now blocks) entry.now }
-    requires names { names_of told.old ≡ [] }
-    requires passed { told.old.passed.keys ≡ [] }
-    ensures { OnOk result (IsLoop (chips_in entries.now blocks) entry.now (names_of told.new)) }
+    requires tasks { AreTasks (chips_in entries.now blocks) known.now (reverse tasks.old.items) }
+    requires right { AreTold (chips_in entries.now blocks) told.old }
+    requires sure { IsSure (chips_in entries.now blocks) (reverse tasks.old.items) (names_of told.old) }
+    ensures tasks { OnOk result (AreTasks (chips_in entries.now blocks) known.now (reverse tasks.new.items)) }
+    ensures right { OnOk result (AreTold (chips_in entries.now blocks) told.new) }
+    ensures goes { OnOk result (GoesOn (chips_in entries.now blocks) (reverse tasks.old.items) (names_of told.old) (reverse tasks.new.items) (names_of told.new)) }
+    ensures less { OnOk result (tasks_weight (room known.now) (reverse tasks.new.items) < tasks_weight (room known.now) (reverse tasks.old.items)) }
 {
-    told.add(circle.at.name)?;
-    let way = circle.way.as_slice();
-    follow(alloc, entries, blocks, known, entry, way, depth, told)
+    match tasks.pop() {
+        None => Ok(()),
+        Some(Task::Net(name)) => {
+            told.add(name)?;
+            Ok(())
+        }
+        Some(Task::Passed(passage)) => {
+            told.note(passage)?;
+            Ok(())
+        }
+        Some(Task::Pass(passage, depth)) => {
+            pass(alloc, entries, blocks, known, passage, depth, tasks, told)?;
+            Ok(())
+        }
+    }
 }
 
 /// The nets of a circle in the own graph of a chip.
@@ -179,8 +160,11 @@ pub(crate) fn nets_of<'a>(
     ensures { IfOk result (λ nets. IsLoop (chips_in entries.now blocks) entry.now nets.items) }
 {
     let mut told = Told::new(alloc);
-    tell(
-        alloc, entries, blocks, known, entry, circle, depth, &mut told,
-    )?;
+    told.add(circle.at.name)?;
+    let mut tasks = Vec::new(alloc);
+    put_way(circle.way.as_slice(), depth - 1, &mut tasks)?;
+    while !tasks.is_empty() {
+        tell_next(alloc, entries, blocks, known, &mut tasks, &mut told)?;
+    }
     told.copied(alloc)
 }

@@ -1,5 +1,5 @@
-//! Searches of a graph: an order of its bits or a bit of a circle, and what is reached from a bit. What they find are proposals, by which
-//! those who ask come to an answer at once: nothing rests on them.
+//! A search of a graph: an order of its bits, or a bit of a circle. What it finds are proposals, by which those who ask come to an answer
+//! at once: nothing rests on them.
 
 use crate::hops::{BitOf, Hop};
 use crate::ranks::Ranks;
@@ -155,49 +155,6 @@ impl<'a> Numbered<'a> {
         }
         let ranks = self.ranks(alloc, stages.as_slice())?;
         Ok(Proposal { ranks, circle })
-    }
-
-    /// The hops by which each bit that is reached from this one is reached first, in order.
-    pub(crate) fn reach(&self, alloc: Global, from: &BitOf<'a>) -> Result<Vec<usize>, AllocError> {
-        let mut steps = Vec::new(alloc);
-        let Some(root) = self.bits.get_index_of(from) else {
-            return Ok(steps);
-        };
-        let mut seen = vec![in alloc; false; self.leaving.len()]?;
-        let mut reached = Vec::new(alloc);
-        reached.push(root)?;
-        for k in 0..self.leaving.len() {
-            let Some(bit) = reached.get(k).copied() else {
-                break;
-            };
-            self.reach_on(bit, &mut seen, &mut reached, &mut steps)?;
-        }
-        Ok(steps)
-    }
-
-    /// Goes on to what the hops that leave a bit lead to.
-    fn reach_on(
-        &self,
-        bit: usize,
-        seen: &mut Vec<bool>,
-        reached: &mut Vec<usize>,
-        steps: &mut Vec<usize>,
-    ) -> Result<(), AllocError> {
-        let Some(leaving) = self.leaving.get(bit) else {
-            return Ok(());
-        };
-        for step in leaving {
-            if let Some(to) = self.leads_to.get(*step).copied() {
-                if let Some(known) = seen.get_mut(to) {
-                    if !*known {
-                        *known = true;
-                        reached.push(to)?;
-                        steps.push(*step)?;
-                    }
-                }
-            }
-        }
-        Ok(())
     }
 }
 

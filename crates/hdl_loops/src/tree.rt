@@ -1,13 +1,14 @@
 //! What is reached from a bit, and by which ways.
 
-ghost use Rattle.std.specs.Prelude.{◌≡◌, ◌<◌, true, false, List, OnOk, IfOk, MatchOption, Some, length, reverse, slice_get};
+ghost use Rattle.std.specs.Prelude.{◌≡◌, ◌<◌, false, List, OnOk, IfOk, MatchOption, Some, length, reverse, slice_get};
 ghost use Rattle.hdl_loops.specs.declared.hops.Hop.{Hop};
 ghost use Rattle.hdl_loops.specs.declared.tree.Node.{Node};
 ghost use Rattle.hdl_loops.specs.Inner.Hops.{bit, IsWay};
-ghost use Rattle.hdl_loops.specs.Inner.Trees.{is_marked, IsReached, Comes, IsTree, KeepsMarks, Grows, IsClosed, IsGrown, Adds};
+ghost use Rattle.hdl_loops.specs.Inner.Leaving.{IsLinked};
+ghost use Rattle.hdl_loops.specs.Inner.Trees.{is_marked, IsReached, Comes, IsTree, KeepsMarks, IsFollowed, IsLeft, IsClosed, IsGrown, Adds};
 
 use crate::hops::{BitOf, Hop};
-use crate::search::Numbered;
+use crate::leaving::Leaving;
 use indexmap::IndexMap;
 use std::alloc::{AllocError, Global};
 
@@ -61,74 +62,65 @@ impl<'a> Tree<'a> {
         Ok(())
     }
 
-    /// Follows hop k, if it goes on from what is reached to what is not; whether it does.
-    fn follow(&mut self, hops: &[Hop<'a>], k: usize) -> Result<bool, AllocError>
+    /// Follows hop k, if it goes on from what is reached to what is not.
+    fn follow(&mut self, hops: &[Hop<'a>], k: usize) -> Result<(), AllocError>
         requires there { k < length hops.now }
         requires right { IsTree hops.now self.old }
         ensures right { OnOk result (IsTree hops.now self.new) }
         ensures kept { OnOk result (KeepsMarks self.old self.new) }
-        ensures grown { IfOk result (λ more. more ≡ true → Grows hops.now self.old self.new) }
-        ensures same { IfOk result (λ more. more ≡ false → self.new ≡ self.old) }
-        ensures closed { IfOk result (λ more. more ≡ false → (hop : Hop) → slice_get hops.now k ≡ Some hop → IsReached self.new (bit hop.from) → is_marked self.new (bit hop.to) ≡ true) }
+        ensures followed { OnOk result (IsFollowed hops.now k self.old self.new) }
     {
         let hop = hops[k];
         if self.has(&hop.to) {
-            return Ok(false);
+            return Ok(());
         }
         match self.goes_on(&hop.from) {
-            None => Ok(false),
+            None => Ok(()),
             Some(before) => {
                 self.add(hop, before)?;
-                Ok(true)
+                Ok(())
             }
         }
     }
 
-    /// Follows hops in this order.
-    fn follow_order(&mut self, hops: &[Hop<'a>], order: &[usize]) -> Result<(), AllocError>
-        requires { IsTree hops.now self.old }
+    /// Follows the hops that leave a bit.
+    fn follow_from(
+        &mut self,
+        hops: &[Hop<'a>],
+        leaving: &Leaving<'a>,
+        from: &BitOf<'a>,
+    ) -> Result<(), AllocError>
+        requires right { IsTree hops.now self.old }
+        requires linked { IsLinked hops.now leaving.now (length hops.now) }
         ensures right { OnOk result (IsTree hops.now self.new) }
-        ensures same { OnOk result (bit self.new.root ≡ bit self.old.root) }
+        ensures kept { OnOk result (KeepsMarks self.old self.new) }
+        ensures left { OnOk result (IsReached self.old (bit from.now) → IsLeft hops.now self.new (bit from.now)) }
     {
-        for k in order {
-            if *k < hops.len() {
-                self.follow(hops, *k)?;
-            }
+        let mut at = leaving.last(from);
+        while let Some(k) = at {
+            self.follow(hops, k)?;
+            at = leaving.before(k);
         }
         Ok(())
     }
 
-    /// Follows all hops once; whether more is reached.
-    fn follow_all(&mut self, hops: &[Hop<'a>]) -> Result<bool, AllocError>
-        requires { IsTree hops.now self.old }
-        ensures right { OnOk result (IsTree hops.now self.new) }
-        ensures kept { OnOk result (KeepsMarks self.old self.new) }
-        ensures grown { IfOk result (λ more. more ≡ true → Grows hops.now self.old self.new) }
-        ensures closed { IfOk result (λ more. more ≡ false → IsClosed hops.now self.new) }
-    {
-        let mut more = false;
-        for k in 0..hops.len() {
-            let grown = self.follow(hops, k)?;
-            if grown {
-                more = true;
-            }
-        }
-        Ok(more)
-    }
-
-    /// Follows hops until none goes on to what is not reached.
-    fn close(&mut self, hops: &[Hop<'a>]) -> Result<(), AllocError>
-        requires { IsTree hops.now self.old }
+    /// Follows the hops that leave the root, and then those that leave each bit that is reached.
+    fn grow(&mut self, hops: &[Hop<'a>], leaving: &Leaving<'a>) -> Result<(), AllocError>
+        requires right { IsTree hops.now self.old }
+        requires linked { IsLinked hops.now leaving.now (length hops.now) }
         ensures right { OnOk result (IsTree hops.now self.new) }
         ensures same { OnOk result (bit self.new.root ≡ bit self.old.root) }
         ensures closed { OnOk result (IsClosed hops.now self.new) }
     {
-        'rounds: loop {
-            let more = self.follow_all(hops)?;
-            if !more {
-                return Ok(());
-            }
+        let root = self.root;
+        self.follow_from(hops, leaving, &root)?;
+        let mut k = 0;
+        while k < self.nodes.len() {
+            let at = self.nodes[k].hop.to;
+            self.follow_from(hops, leaving, &at)?;
+            k += 1;
         }
+        Ok(())
     }
 
     fn new(alloc: Global, root: BitOf<'a>) -> Tree<'a>
@@ -142,32 +134,26 @@ impl<'a> Tree<'a> {
         }
     }
 
-    /// All that hops reach from a bit. The order in which they are tried first is of no matter for what is reached.
-    fn from(
-        alloc: Global,
-        hops: &[Hop<'a>],
-        order: &[usize],
-        root: BitOf<'a>,
-    ) -> Result<Tree<'a>, AllocError>
-        ensures { IfOk result (λ tree. IsGrown hops.now tree (bit root.entry)) }
-    {
-        let mut tree = Tree::new(alloc, root);
-        tree.follow_order(hops, order)?;
-        tree.close(hops)?;
-        Ok(tree)
-    }
-
-    /// All that hops reach from a bit. A search of their graph proposes the order in which they are tried first.
+    /// All that hops reach from a bit.
     pub(crate) fn of(
         alloc: Global,
         hops: &[Hop<'a>],
-        graph: &Numbered<'a>,
+        leaving: &Leaving<'a>,
         root: BitOf<'a>,
     ) -> Result<Tree<'a>, AllocError>
+        requires { IsLinked hops.now leaving.now (length hops.now) }
         ensures { IfOk result (λ tree. IsGrown hops.now tree (bit root.entry)) }
     {
-        let order = graph.reach(alloc, &root)?;
-        Tree::from(alloc, hops, order.as_slice(), root)
+        let mut tree = Tree::new(alloc, root);
+        tree.grow(hops, leaving)?;
+        Ok(tree)
+    }
+
+    /// The hops that reach the bits, each behind the one that it goes on from.
+    pub(crate) fn reached(&self) -> &[Node<'a>]
+        ensures { result.now ≡ self.now.nodes.items }
+    {
+        self.nodes.as_slice()
     }
 
     /// The hops back from the one in this place to the root.

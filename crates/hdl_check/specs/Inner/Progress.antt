@@ -1,5 +1,5 @@
 -- Where a depth first search of chips stands, and what it has found.
-use Rattle.std.specs.Prelude.{◌≡◌, ℕ, suc, ◌<◌, ◌≤◌, ◌⊎◌, ◌++◌, map, take, Bool, true, false, List, [], ◌∷◌, Option, Some, None, length, slice_get, count_by, Result, Ok, Err}
+use Rattle.std.specs.Prelude.{◌≡◌, ℕ, suc, ◌<◌, ◌++◌, map, take, Bool, true, false, List, [], ◌∷◌, Option, Some, None, length, slice_get, Result, Ok, Err}
 use Rattle.hdl_tree.specs.declared.tree.Pin.{Pin}
 use Rattle.hdl_tree.specs.declared.tree.Part.{Part}
 use Rattle.hdl_tree.specs.declared.library.Entry.{Entry}
@@ -9,7 +9,7 @@ use Rattle.hdl_tree.specs.Writable.{is_among}
 use Rattle.hdl_check.specs.Whole.{AreDistinct, Tells}
 use Rattle.hdl_check.specs.Inner.Entered.{table_of, Finds}
 use Rattle.hdl_check.specs.declared.fault.NamedFault.{NamedFault}
-use Rattle.hdl_check.specs.Faults.{Driver, pin_name, ports_of, drivers_of, net_width, twice_fault, pin_fault, part_fault_by, body_fault, connection_fault_of}
+use Rattle.hdl_check.specs.Faults.{Driver, pin_name, ports_of, drivers_of, net_width, twice_fault, pin_fault, body_fault, connection_fault_of}
 use Rattle.hdl_check.specs.Locations.{Location, AtPin, AtBody, AtPart, Inside, AtConnection, IsEarlier, unless, fault_at, IsFaultless, IsFirstFault}
 use Rattle.hdl_check.specs.declared.check.Port.{Port}
 use Rattle.hdl_check.specs.declared.check.Scope.{Scope}
@@ -70,13 +70,6 @@ pub record IsProgress (chips : Chips) (stages : List Stage) (done : ℕ) : Type 
 abbrev pub AreOpen : Chips → List Stage → List (List ℕ) → Type 0
 AreOpen chips stages names = (k : ℕ) (entry : Entry) → slice_get chips.entries k ≡ Some entry → is_among entry.name names ≡ is_open (slice_get stages k)
 
--- the open chips stay, and what is done stays done
-pub record IsKept (old new : List Stage) : Type 0 where
-  pub opened : (k : ℕ) → is_open (slice_get new k) ≡ is_open (slice_get old k)
-  pub done : (k r : ℕ) → slice_get old k ≡ Some (Done r) → slice_get new k ≡ Some (Done r)
-  pub long : length new ≡ length old
-  pub fewer : count_by is_new new ≤ count_by is_new old
-
 -- ---- what is found
 
 -- the first of some things that are wrong
@@ -135,9 +128,6 @@ pub record PartsFail (chips : Chips) (names : List (List ℕ)) (entry : Entry) (
   pub there : fault_at chips names entry place ≡ Some f
   pub first : (s : Location) → IsOfParts s → IsEarlier s place → fault_at chips names entry s ≡ None
 
-abbrev pub FailsAt : Chips → List (List ℕ) → ℕ → NamedFault → Type 0
-FailsAt chips names k f = (entry : Entry) → slice_get chips.entries k ≡ Some entry → IsFirstFault chips names entry f
-
 -- the first fault of chip k, which stands in these chips
 abbrev pub FailsInside : Chips → List (List ℕ) → ℕ → NamedFault → Type 0
 FailsInside chips outer k f = (entry : Entry) → slice_get chips.entries k ≡ Some entry → IsFirstFault chips (entry.name ∷ outer) entry f
@@ -145,18 +135,21 @@ FailsInside chips outer k f = (entry : Entry) → slice_get chips.entries k ≡ 
 abbrev pub IsDone : List Stage → ℕ → Type 0
 IsDone stages k = (r : ℕ) × (slice_get stages k ≡ Some (Done r))
 
--- a part's chip k is open, or else it has a first fault
-pub record EntersWrong (chips : Chips) (names : List (List ℕ)) (chip name : List ℕ) (k : ℕ) (f : NamedFault) : Type 0 where
-  pub wrong : (part_fault_by names chip name (slice_get chips.entries k) ≡ Some f) ⊎ ((part_fault_by names chip name (slice_get chips.entries k) ≡ None) × FailsInside chips names k f)
+-- the pins and the body of a chip are right, or it is an end
+pub record HeadIsFine (chips : Chips) (entry : Entry) : Type 0 where
+  pub pins : (k : ℕ) → unless (end_of chips.blocks entry) (pin_fault entry k) ≡ None
+  pub body : unless (end_of chips.blocks entry) (body_fault entry) ≡ None
+
+-- the chip of a part is chip k
+pub record IsInner (chips : Chips) (part : Part) (k : ℕ) : Type 0 where
+  pub within : k < length chips.entries
+  pub found : find_chip chips part.chip ≡ slice_get chips.entries k
 
 -- a chip whose text is right, and whose parts are fine
 pub record ChipIsFine (chips : Chips) (stages : List Stage) (entry : Entry) : Type 0 where
   pub pins : (k : ℕ) → unless (end_of chips.blocks entry) (pin_fault entry k) ≡ None
   pub body : unless (end_of chips.blocks entry) (body_fault entry) ≡ None
   pub parts : (i : ℕ) (part : Part) → slice_get (parts_of chips entry) i ≡ Some part → PartIsFine chips stages entry i part
-
-abbrev pub IsFineAt : Chips → List Stage → ℕ → Type 0
-IsFineAt chips stages k = (entry : Entry) → slice_get chips.entries k ≡ Some entry → ChipIsFine chips stages entry
 
 -- a pin whose name an earlier pin has, where some pins stand in front
 abbrev pub pin_fault_in : Entry → List Pin → List Pin → ℕ → Option NamedFault

@@ -1,5 +1,5 @@
 -- Hops between bits of a chip, and ways of them.
-use Rattle.std.specs.Prelude.{◌≡◌, ℕ, suc, ◌<◌, ◌&&◌, nat_eq, Bool, List, [], ◌∷◌, length, Some, slice_get}
+use Rattle.std.specs.Prelude.{◌≡◌, ℕ, ◌<◌, ◌≤◌, ◌&&◌, nat_eq, Bool, List, [], ◌∷◌, length, Some, slice_get}
 use Rattle.std.specs.Str.{bytes_eq}
 use Rattle.hdl_plans.specs.Loops.{BitAt, bit_at}
 use Rattle.hdl_plans.specs.Ways.{Way}
@@ -24,6 +24,10 @@ is_bit x v = bytes_eq x.name v.name.now && nat_eq x.bit v.bit
 abbrev pub HasHop : List Hop → BitAt → BitAt → Type 0
 HasHop hs x y = (p : ℕ) × (h : Hop) × (slice_get hs p ≡ Some h) × (bit h.from ≡ x) × (bit h.to ≡ y)
 
+-- the hop the other way
+abbrev pub turn : Hop → Hop
+turn h = record { from = h.to; chip = h.chip; through = h.through; to = h.from }
+
 -- hops that lead, one behind another, from one bit to another
 abbrev pub Linked : BitAt → List Hop → BitAt → Type 0
 Linked x [] y = x ≡ y
@@ -38,6 +42,7 @@ pub record IsWay (hs : List Hop) (x : BitAt) (ws : List Hop) (y : BitAt) : Type 
   pub some : 0 < length ws
   pub linked : Linked x ws y
   pub inside : AllIn hs ws
+  pub few : length ws ≤ length hs
 
 -- a way round
 abbrev pub IsRound : List Hop → Circle → Type 0
@@ -45,10 +50,6 @@ IsRound hs c = IsWay hs (bit c.at) c.way.items (bit c.at)
 
 abbrev pub NoRound : List Hop → Type 0
 NoRound hs = (x : BitAt) → Way (HasHop hs) x x → ⊥
-
--- each hop begins where the one before it ends
-abbrev pub AreJoined : List Hop → Type 0
-AreJoined ws = (k : ℕ) (h next : Hop) → slice_get ws k ≡ Some h → slice_get ws (suc k) ≡ Some next → bit h.to ≡ bit next.from
 
 abbrev pub WayRound : Circle → Type 0
 WayRound c = (0 < length c.way.items) × Linked (bit c.at) c.way.items (bit c.at)

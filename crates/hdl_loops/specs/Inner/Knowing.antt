@@ -1,5 +1,5 @@
 -- What is known of chips.
-use Rattle.std.specs.Prelude.{◌≡◌, ℕ, zero, suc, ◌&&◌, ◌⊎◌, Bool, true, false, not, List, [], ◌∷◌, map, Option, Some, None, slice_get, codes, if◌then◌else◌}
+use Rattle.std.specs.Prelude.{◌≡◌, ℕ, zero, suc, ◌&&◌, ◌⊎◌, Bool, true, false, not, List, [], ◌∷◌, length, map, Option, Some, None, slice_get, codes, if◌then◌else◌}
 use Rattle.std.specs.Str.{bytes_eq}
 use Rattle.hdl_tree.specs.declared.tree.Part.{Part}
 use Rattle.hdl_tree.specs.declared.library.Entry.{Entry}
@@ -7,23 +7,19 @@ use Rattle.hdl_tree.specs.declared.ends.End.{End}
 use Rattle.hdl_tree.specs.Chips.{Chips, end_of, find_chip, parts_of}
 use Rattle.hdl_tree.specs.Behaviour.{chip_at, inner_chip}
 use Rattle.hdl_plans.specs.Loops.{BitAt, bit_at, reaches_out}
-use Rattle.hdl_plans.specs.Ways.{Depends, OwnCircle, TreeFits}
-use Rattle.hdl_loops.specs.Inner.Hops.{bit, input_of, output_of, IsWay}
+use Rattle.hdl_plans.specs.Ways.{Way, Depends, OwnCircle, TreeFits}
+use Rattle.hdl_loops.specs.Inner.Hops.{bit, input_of, output_of, HasHop, IsWay}
 use Rattle.hdl_loops.specs.Inner.Ties.{Tie, ties_in, gather}
 use Rattle.hdl_loops.specs.Inner.Told.{HasConnection}
-use Rattle.hdl_loops.specs.Inner.Trees.{is_marked, tree_in, AreTrees}
+use Rattle.hdl_loops.specs.Inner.Leaving.{IsLinked}
+use Rattle.hdl_loops.specs.Inner.Pairs.{has_pair}
 use Rattle.hdl_loops.specs.declared.hops.Hop.{Hop}
-use Rattle.hdl_loops.specs.declared.tree.Tree.{Tree}
 use Rattle.hdl_loops.specs.declared.known.Known.{Known}
 
 -- ---- which bits of a chip lead to which
 
-abbrev pub leads_by : Option Tree → BitAt → Bool
-leads_by None y = false
-leads_by (Some t) y = is_marked t y
-
 abbrev pub leads : Known → BitAt → BitAt → Bool
-leads inside x y = leads_by (tree_in inside.trees.entries x) y
+leads inside x y = if inside.turned then has_pair inside.pairs.keys y x else has_pair inside.pairs.keys x y
 
 abbrev pub leads_in : Option (Option Known) → BitAt → BitAt → Bool
 leads_in None x y = false
@@ -129,7 +125,8 @@ TreeClear chips top = (path : List ℕ) (chip : Entry) → chip_at chips top pat
 -- what is known of a chip that is no end
 pub record IsRight (chips : Chips) (known : List (Option Known)) (chip : Entry) (inside : Known) : Type 0 where
   pub hops : AreHops chips known chip inside.hops.items
-  pub trees : AreTrees inside.hops.items inside.trees.entries
+  pub linked : IsLinked inside.hops.items inside.leaving (length inside.hops.items)
+  pub sound : (n m : List ℕ) (b k : ℕ) → leads inside (bit_at [] n b) (bit_at [] m k) ≡ true → Way (HasHop inside.hops.items) (bit_at [] n b) (bit_at [] m k)
   pub covers : TreeFits chips chip → (n m : List ℕ) (b k : ℕ) → Depends chips chip n b m k → leads inside (bit_at [] n b) (bit_at [] m k) ≡ true
   pub clear : TreeFits chips chip → TreeClear chips chip
 
@@ -174,16 +171,12 @@ Nests (suc d) chips chip = (i : ℕ) (inner : Entry) → inner_chip chips chip i
 abbrev pub NestsAt : ℕ → Chips → ℕ → Type 0
 NestsAt d chips k = (chip : Entry) → slice_get chips.entries k ≡ Some chip → Nests d chips chip
 
-abbrev pub PartNests : ℕ → Chips → Part → Type 0
-PartNests d chips part = (inner : Entry) → find_chip chips part.chip ≡ Some inner → Nests d chips inner
-
-abbrev pub PartsNest : ℕ → Chips → Entry → Type 0
-PartsNest d chips chip = (i : ℕ) (inner : Entry) → inner_chip chips chip i ≡ Some inner → Nests d chips inner
-
 -- ---- ways through chips
 
-abbrev pub HasTrees : List (Option Known) → ℕ → Type 0
-HasTrees known k = (inside : Known) → slice_get known k ≡ Some (Some inside) → AreTrees inside.hops.items inside.trees.entries
+-- ways are found in what is known of the chip in this place
+abbrev pub HasWays : List (Option Known) → ℕ → Type 0
+HasWays known k = (inside : Known) → slice_get known k ≡ Some (Some inside) → IsLinked inside.hops.items inside.leaving (length inside.hops.items) ×
+    ((n m : List ℕ) (b l : ℕ) → leads inside (bit_at [] n b) (bit_at [] m l) ≡ true → Way (HasHop inside.hops.items) (bit_at [] n b) (bit_at [] m l))
 
 -- hops of what is known, which are a way between these bits
 abbrev pub IsWayIn : Option (Option Known) → BitAt → List Hop → BitAt → Type 0

@@ -1,10 +1,9 @@
 -- What a look at chips gives.
-use Rattle.std.specs.Prelude.{◌≡◌, ℕ, List, Option, Some, None}
+use Rattle.std.specs.Prelude.{ℕ, List, Option, Some, None}
 use Rattle.std.specs.declared.vec.Vec.{Vec}
 use Rattle.std.specs.declared.alloc.Global.{Global}
-use Rattle.hdl_tree.specs.declared.tree.Part.{Part}
 use Rattle.hdl_tree.specs.declared.library.Entry.{Entry}
-use Rattle.hdl_tree.specs.Chips.{Chips, find_chip}
+use Rattle.hdl_tree.specs.Chips.{Chips}
 use Rattle.hdl_plans.specs.Loops.{IsLoop}
 use Rattle.hdl_loops.specs.Inner.Knowing.{IsRight}
 use Rattle.hdl_loops.specs.declared.known.Known.{Known}
@@ -20,8 +19,3 @@ LooksRight chips known entry (looks.Loop nets) = IsLoop chips entry nets.items
 abbrev pub TellsLoop : Chips → Entry → Option (Vec (List ℕ) Global) → Type 0
 TellsLoop chips chip None = Unit {0}
 TellsLoop chips chip (Some nets) = IsLoop chips chip nets.items
-
--- the nets, if there are any, are those of a loop of the part's chip
-abbrev pub PartTells : Chips → Part → Option (Vec (List ℕ) Global) → Type 0
-PartTells chips part None = Unit {0}
-PartTells chips part (Some nets) = (inner : Entry) × (find_chip chips part.chip ≡ Some inner) × IsLoop chips inner nets.items

@@ -1,5 +1,5 @@
 -- Ways whose nets are told.
-use Rattle.std.specs.Prelude.{◌≡◌, ℕ, suc, ◌+◌, ◌<◌, Bool, true, false, List, [], ◌∷◌, ◌++◌, ◌||◌, ◌&&◌, map, length, Some, nat_eq, nat_lt, slice_get, if◌then◌else◌}
+use Rattle.std.specs.Prelude.{◌≡◌, ℕ, ◌+◌, ◌<◌, Bool, true, List, [], ◌∷◌, ◌++◌, ◌||◌, ◌&&◌, map, length, Some, nat_eq, nat_lt, slice_get, if◌then◌else◌}
 use Rattle.std.specs.Str.{bytes_eq}
 use Rattle.std.specs.List.{list_any}
 use Rattle.hdl_tree.specs.declared.tree.Selection.{Selection}
@@ -13,9 +13,6 @@ use Rattle.hdl_tree.specs.Behaviour.{width_of}
 use Rattle.hdl_plans.specs.Plans.{is_input}
 use Rattle.hdl_plans.specs.Loops.{BitAt, bit_at, Feeds, peaks}
 use Rattle.hdl_plans.specs.Ways.{Chain}
-use Rattle.hdl_loops.specs.declared.hops.Dependency.{Dependency}
-use Rattle.hdl_loops.specs.declared.hops.BitOf.{BitOf}
-use Rattle.hdl_loops.specs.declared.hops.Hop.{Hop}
 use Rattle.hdl_loops.specs.declared.told.Passage.{Passage}
 use Rattle.hdl_loops.specs.declared.told.Told.{Told}
 
@@ -38,10 +35,6 @@ pub record HasConnection (inner : Entry) (part : Part) (input : Bool) (net : Lis
   pub conn : Connection
   pub here : slice_get part.connections j ≡ Some conn
   pub joins : Connects inner conn input net b pin k
-
--- a hop goes in and out by connections of the part
-abbrev pub LeadsThrough : Entry → Part → Hop → Type 0
-LeadsThrough inner part hop = HasConnection inner part true hop.from.name.now hop.from.bit hop.through.input.now hop.through.bit × HasConnection inner part false hop.to.name.now hop.to.bit hop.through.output.now hop.through.out
 
 -- ---- ways with their nets
 
@@ -99,18 +92,3 @@ TripAmong chips chip n b m k told = (names : List (List ℕ)) × (Trip chips chi
 -- each way that is noted is one, and its nets are told
 abbrev pub AreTold : Chips → Told → Type 0
 AreTold chips told = (place : ℕ) (n : List ℕ) (b : ℕ) (m : List ℕ) (k : ℕ) → was_passed told place n b m k ≡ true → (chip : Entry) → slice_get chips.entries place ≡ Some chip → TripAmong chips chip n b m k (names_of told)
-
--- there is a way through the chip, and its nets, in order, are what is told more
-abbrev pub TellsThrough : Chips → Entry → Dependency → Told → Told → Type 0
-TellsThrough chips chip d old new = (names : List (List ℕ)) × (Trip chips chip (bit_at [] d.input.now d.bit) (bit_at [] d.output.now d.out) names) × (names_of new ≡ add_names (names_of old) names)
-
--- the same of a way between bits of the chip, by its parts
-abbrev pub TellsTo : Chips → Entry → BitAt → BitAt → Told → Told → Type 0
-TellsTo chips chip x y old new = (names : List (List ℕ)) × (DeepTrip chips chip x y names) × (names_of new ≡ add_names (names_of old) names)
-
-abbrev pub Tells : Chips → Entry → BitOf → BitOf → Told → Told → Type 0
-Tells chips chip x y old new = TellsTo chips chip (bit_at [] x.name.now x.bit) (bit_at [] y.name.now y.bit) old new
-
--- of the first n hops of a way, one or more, what they pass is told
-abbrev pub ToldTo : Chips → Entry → List Hop → ℕ → Told → Told → Type 0
-ToldTo chips chip way n old new = (first : Hop) (k : ℕ) (last : Hop) → slice_get way 0 ≡ Some first → suc k ≡ n → slice_get way k ≡ Some last → Tells chips chip first.from last.to old new

@@ -1,9 +1,8 @@
 -- What is reached from a bit, and by which ways.
-use Rattle.std.specs.Prelude.{◌≡◌, ℕ, suc, ◌+◌, ◌<◌, ◌⊎◌, Bool, true, false, List, [], ◌∷◌, ◌++◌, length, Option, Some, None, is_some, slice_get, if◌then◌else◌}
+use Rattle.std.specs.Prelude.{◌≡◌, ℕ, suc, ◌+◌, ◌<◌, ◌≤◌, ◌⊎◌, Bool, true, List, [], ◌∷◌, ◌++◌, length, Option, Some, None, is_some, slice_get, if◌then◌else◌}
 use Rattle.std.specs.Map.{lookup}
 use Rattle.hdl_plans.specs.Loops.{BitAt, bit_at}
 use Rattle.hdl_loops.specs.Inner.Hops.{bit, is_bit, Linked, AllIn}
-use Rattle.hdl_loops.specs.declared.hops.BitOf.{BitOf}
 use Rattle.hdl_loops.specs.declared.hops.Hop.{Hop}
 use Rattle.hdl_loops.specs.declared.tree.Node.{Node}
 use Rattle.hdl_loops.specs.declared.tree.Tree.{Tree}
@@ -40,19 +39,31 @@ pub record IsNode (hs : List Hop) (t : Tree) (j : ℕ) (node : Node) : Type 0 wh
   pub inside : slice_get hs number ≡ Some node.hop
   pub before : IsBefore node.before j
   pub behind : Behind t.nodes.items (bit t.root) node.before (bit node.hop.from)
+  pub marked : is_marked t (bit node.hop.to) ≡ true
+
+-- how many hops lead to what is not reached
+abbrev pub open_hops : Tree → List Hop → ℕ
+open_hops t [] = 0
+open_hops t (h ∷ hs) = (if is_marked t (bit h.to) then 0 else 1) + open_hops t hs
 
 pub record IsTree (hs : List Hop) (t : Tree) : Type 0 where
   pub nodes : (j : ℕ) (node : Node) → slice_get t.nodes.items j ≡ Some node → IsNode hs t j node
   pub places : (n : List ℕ) (b : ℕ) (j : ℕ) → place_in t (bit_at [] n b) ≡ Some j → (node : Node) × (slice_get t.nodes.items j ≡ Some node) × (bit node.hop.to ≡ bit_at [] n b)
+  pub few : length t.nodes.items + open_hops t hs ≤ length hs
 
 -- what was reached still is, from the same root
 pub record KeepsMarks (old new : Tree) : Type 0 where
   pub root : bit new.root ≡ bit old.root
+  pub nodes : (j : ℕ) (node : Node) → slice_get old.nodes.items j ≡ Some node → slice_get new.nodes.items j ≡ Some node
   pub marks : (n : List ℕ) (b : ℕ) → is_marked old (bit_at [] n b) ≡ true → is_marked new (bit_at [] n b) ≡ true
 
--- where a hop of the list leads was not reached, and is
-abbrev pub Grows : List Hop → Tree → Tree → Type 0
-Grows hs old new = (p : ℕ) × (h : Hop) × (slice_get hs p ≡ Some h) × (is_marked old (bit h.to) ≡ false) × (is_marked new (bit h.to) ≡ true)
+-- where hop k leads is reached, if it goes on from what was
+abbrev pub IsFollowed : List Hop → ℕ → Tree → Tree → Type 0
+IsFollowed hs k old new = (h : Hop) → slice_get hs k ≡ Some h → IsReached old (bit h.from) → is_marked new (bit h.to) ≡ true
+
+-- where the hops that leave a bit lead is reached
+abbrev pub IsLeft : List Hop → Tree → BitAt → Type 0
+IsLeft hs t x = (p : ℕ) (h : Hop) → slice_get hs p ≡ Some h → bit h.from ≡ x → is_marked t (bit h.to) ≡ true
 
 -- a hop is added
 pub record Adds (old new : Tree) (hop : Hop) (before : Option ℕ) : Type 0 where
@@ -70,24 +81,9 @@ pub record IsGrown (hs : List Hop) (t : Tree) (x : BitAt) : Type 0 where
   pub closed : IsClosed hs t
   pub root : bit t.root ≡ x
 
--- how many hops lead to what is not reached
-abbrev pub open_hops : Tree → List Hop → ℕ
-open_hops t [] = 0
-open_hops t (h ∷ hs) = (if is_marked t (bit h.to) then 0 else 1) + open_hops t hs
-
--- trees by their roots
-abbrev pub tree_in : List (BitOf × Tree) → BitAt → Option Tree
-tree_in ts x = lookup (is_bit x) ts
-
--- each has all that hops of the list reach from its root
-abbrev pub AreTrees : List Hop → List (BitOf × Tree) → Type 0
-AreTrees hs ts = (n : List ℕ) (b : ℕ) (t : Tree) → tree_in ts (bit_at [] n b) ≡ Some t → IsGrown hs t (bit_at [] n b)
-
-abbrev pub HasTree : List (BitOf × Tree) → BitAt → Type 0
-HasTree ts x = is_some (tree_in ts x) ≡ true
-
-abbrev pub KeepsTrees : List (BitOf × Tree) → List (BitOf × Tree) → Type 0
-KeepsTrees old new = (n : List ℕ) (b : ℕ) → HasTree old (bit_at [] n b) → HasTree new (bit_at [] n b)
+abbrev pub steps_left : Option ℕ → ℕ
+steps_left None = 0
+steps_left (Some j) = suc j
 
 -- the hops that lead back from a bit, as far as they are listed: they lead on from what stands in a place, or from the root
 pub record IsBack (hs : List Hop) (t : Tree) (at : Option ℕ) (ws : List Hop) (to : BitAt) : Type 0 where
@@ -96,14 +92,4 @@ pub record IsBack (hs : List Hop) (t : Tree) (at : Option ℕ) (ws : List Hop) (
   pub linked : Linked x ws to
   pub inside : AllIn hs ws
   pub some : at ≡ None → 0 < length ws
-
-abbrev pub steps_left : Option ℕ → ℕ
-steps_left None = 0
-steps_left (Some j) = suc j
-
--- the first k hops were followed, and more is reached or none of them leads out
-pub record Followed (hs : List Hop) (start t : Tree) (more : Bool) (k : ℕ) : Type 0 where
-  pub right : IsTree hs t
-  pub kept : KeepsMarks start t
-  pub grown : more ≡ true → Grows hs start t
-  pub closed : more ≡ false → (p : ℕ) → p < k → (h : Hop) → slice_get hs p ≡ Some h → IsReached t (bit h.from) → is_marked t (bit h.to) ≡ true
+  pub few : length ws + steps_left at ≤ length t.nodes.items

@@ -7,9 +7,7 @@ use Rattle.hdl_check.specs.Whole.{chips_in}
 use Rattle.hdl_plans.specs.Loops.{IsLoop}
 use Rattle.hdl_loops.specs.Inner.Hops.{NoRound}
 use Rattle.hdl_loops.specs.Inner.Ties.{gather}
-use Rattle.hdl_loops.specs.Inner.Trees.{AreTrees}
 use Rattle.hdl_loops.specs.Inner.Knowing.{part_leaps, AreHops, IsGraph}
-use Rattle.hdl_loops.specs.declared.hops.Hop.{Hop}
 use Rattle.hdl_loops.proofs.Hopping.{graph_hops}
 use Rattle.hdl_loops.proofs.Seen.{seen_right}
 use Rattle.hdl_loops.proofs.find.look_at.Goals as goal
@@ -20,11 +18,13 @@ returns c =
     let chips = chips_in es c.args.blocks in
     let hs = c.in_ok-hops.hops.items in
     let list = c.as_slice-list.result.now in
+    let inside = c.in_ok-inside-in-None.inside in
+    let e = c.in_ok-inside-in-None.ensures in
     let same : list ≡ hs = c.as_slice-list.ensures.value in
     let is : IsGraph chips c.args.known.now c.args.entry.now hs = c.in_ok-hops.ensures ∙ ap (λ (ps : List Part). gather (part_leaps chips c.args.known.now) ps) (c.parts_of.ensures es) in
     let none : NoRound hs = subst NoRound same (subst (λ (r : Option (Vec (List ℕ) Global)). MatchOption r (NoRound list) (λ nets. IsLoop chips c.args.entry.now nets.items)) c.in-None.is c.in_ok-nets.ensures) in
-    let trees : AreTrees hs c.in_ok-trees-in-None.trees.entries = subst (λ (v : List Hop). AreTrees v c.in_ok-trees-in-None.trees.entries) same c.in_ok-trees-in-None.ensures.right in
-    seen_right chips c.args.known.now c.args.entry.now (record { hops = c.in_ok-hops.hops; trees = c.in_ok-trees-in-None.trees }) c.requires.no_end is c.requires.right c.requires.done none trees c.in_ok-trees-in-None.ensures.has
+    let back : hs ≡ inside.hops.items = sym e.hops in
+    seen_right chips c.args.known.now c.args.entry.now inside c.requires.no_end (subst (IsGraph chips c.args.known.now c.args.entry.now) back is) c.requires.right c.requires.done (subst NoRound back none) e.linked e.right e.there
 
 pub loop_in-requires-clause-hops : goal.loop_in-requires-clause-hops
 loop_in-requires-clause-hops c =

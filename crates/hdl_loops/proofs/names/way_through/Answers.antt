@@ -14,13 +14,15 @@ bounds-known-k c =
     let r = leads_known (slice_get ks c.args.k) (input_of c.args.through.now) (output_of c.args.through.now) c.requires.leads in
     slice_get_within ks c.args.k (Some r.0) r.1
 
-pub way-requires-clause-right : goal.way-requires-clause-right
-way-requires-clause-right c =
+pub way-requires-clause-linked : goal.way-requires-clause-linked
+way-requires-clause-linked c =
     let ks = c.args.known.now in
-    let r = leads_known (slice_get ks c.args.k) (input_of c.args.through.now) (output_of c.args.through.now) c.requires.leads in
+    let x = input_of c.args.through.now in
+    let y = output_of c.args.through.now in
+    let r = leads_known (slice_get ks c.args.k) x y c.requires.leads in
     let lt : c.args.k < length ks = slice_get_within ks c.args.k (Some r.0) r.1 in
     let there : slice_get ks c.args.k ≡ Some (Some c.in-Some.inside) = slice_get_read ks (length ks) c.args.k c.index-known-k.result refl lt c.index-known-k.is ∙ ap Some c.in-Some.is in
-    c.requires.right c.in-Some.inside there
+    (c.requires.right c.in-Some.inside there).0
 
 pub way-requires-clause-leads : goal.way-requires-clause-leads
 way-requires-clause-leads c =
@@ -30,7 +32,8 @@ way-requires-clause-leads c =
     let r = leads_known (slice_get ks c.args.k) x y c.requires.leads in
     let lt : c.args.k < length ks = slice_get_within ks c.args.k (Some r.0) r.1 in
     let there : slice_get ks c.args.k ≡ Some (Some c.in-Some.inside) = slice_get_read ks (length ks) c.args.k c.index-known-k.result refl lt c.index-known-k.is ∙ ap Some c.in-Some.is in
-    sym (ap (λ (o : Option (Option Known)). leads_in o x y) there) ∙ c.requires.leads
+    let d = c.args.through.now in
+    (c.requires.right c.in-Some.inside there).1 d.input.now d.output.now d.bit d.out (sym (ap (λ (o : Option (Option Known)). leads_in o x y) there) ∙ c.requires.leads)
 
 pub returns : goal.returns
 returns c =

@@ -24,7 +24,7 @@ pub returns : goal.returns
 returns c = λ node e.
     let t = c.args.self.now in
     let b : IsBack c.args.hops.now t None (reverse c.loop-at.way.items) (bit node.hop.to) = subst (λ (o : Option ℕ). IsBack c.args.hops.now t o (reverse c.loop-at.way.items) (bit node.hop.to)) (not_some _ c.in_default.not-Some) (c.loop-at.invariant node e) in
-    back_way c.args.hops.now t (reverse c.loop-at.way.items) (bit node.hop.to) b
+    back_way c.args.hops.now t (reverse c.loop-at.way.items) (bit node.hop.to) c.requires.right b
 
 pub loop-at-preserved : goal.loop-at-preserved
 loop-at-preserved c = λ node e.

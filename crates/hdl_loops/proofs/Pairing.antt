@@ -1,0 +1,109 @@
+-- Which bits lead to which, as more is found.
+use Rattle.std.proofs.Common.{◌≡◌, ℕ, zero, suc, ◌+◌, ◌<◌, ◌≤◌, ◌⊎◌, inl, inr, Bool, true, false, cond, ◌&&◌, ◌||◌, List, [], ◌∷◌, ◌++◌, length, map, Some, get_or, refl, sym, ap, subst, ◌∙◌, arith, below_more}
+use Rattle.std.specs.Prelude.{slice_get}
+use Rattle.std.proofs.lemmas.Option.{slice_get_within, get_or_from_slice_get}
+use Rattle.hdl_check.proofs.MarkLemmas.{both}
+use Rattle.hdl_plans.specs.Loops.{BitAt, bit_at}
+use Rattle.hdl_plans.specs.Ways.{Chain, Way}
+use Rattle.hdl_plans.proofs.Walks.{one_step}
+use Rattle.hdl_loops.specs.Inner.Hops.{bit, is_bit, HasHop, turn}
+use Rattle.hdl_loops.specs.Inner.Trees.{place_in, IsGrown}
+use Rattle.hdl_loops.specs.Inner.Pairs.{is_pair, has_pair, has_name, AreWays, KeepsPairs, IsOnlyMore, BitLeads}
+use Rattle.hdl_loops.specs.declared.hops.Hop.{Hop}
+use Rattle.hdl_loops.specs.declared.tree.Node.{Node}
+use Rattle.hdl_loops.specs.declared.tree.Tree.{Tree}
+use Rattle.hdl_loops.specs.declared.pairs.Pair.{Pair}
+use Rattle.hdl_loops.specs.declared.pairs.PinNames.{PinNames}
+use Rattle.hdl_loops.proofs.Growing.{bit_is, some_of, node_way, way_marked, one_more}
+use Rattle.hdl_loops.proofs.Lists.{get_there}
+use Rattle.hdl_loops.proofs.Passing.{any_inserted}
+
+-- ---- a key more
+
+-- ---- pairs
+
+or_cases : (a b : Bool) → (a || b) ≡ true → (a ≡ true) ⊎ (b ≡ true)
+or_cases true b h = inl refl
+or_cases false b h = inr h
+
+and_both : (a b : Bool) → a ≡ true → b ≡ true → (a && b) ≡ true
+and_both true b e f = f
+and_both false b e f = absurd cc
+
+pub only_more : (old new : List Pair) (b : Bool) (p : Pair) → new ≡ cond b old (old ++ p ∷ []) → IsOnlyMore old new (bit p.from) (bit p.to)
+only_more old new b p is n m k l h = by (or_cases (has_pair old (bit_at [] n k) (bit_at [] m l)) (is_pair (bit_at [] n k) (bit_at [] m l) p) (any_inserted (is_pair (bit_at [] n k) (bit_at [] m l)) b old p (ap (λ (ps : List Pair). has_pair ps (bit_at [] n k) (bit_at [] m l)) (sym is) ∙ h)))
+  where
+    by : (has_pair old (bit_at [] n k) (bit_at [] m l) ≡ true) ⊎ (is_pair (bit_at [] n k) (bit_at [] m l) p ≡ true) → (has_pair old (bit_at [] n k) (bit_at [] m l) ≡ true) ⊎ ((bit p.from ≡ bit_at [] n k) × (bit p.to ≡ bit_at [] m l))
+    by (inl e) = inl e
+    by (inr e) = let r = both (is_bit (bit_at [] n k) p.from) (is_bit (bit_at [] m l) p.to) e in inr (bit_is n k p.from r.0, bit_is m l p.to r.1)
+
+pub ways_more : (hs : List Hop) (old new : List Pair) (x y : BitAt) → AreWays hs old → IsOnlyMore old new x y → Way (HasHop hs) x y → AreWays hs new
+ways_more hs old new x y are only w n m b k h = by (only n m b k h)
+  where
+    by : (has_pair old (bit_at [] n b) (bit_at [] m k) ≡ true) ⊎ ((x ≡ bit_at [] n b) × (y ≡ bit_at [] m k)) → Way (HasHop hs) (bit_at [] n b) (bit_at [] m k)
+    by (inl e) = are n m b k e
+    by (inr e) = subst (λ (v : BitAt). Way (HasHop hs) v (bit_at [] m k)) e.0 (subst (Way (HasHop hs) x) e.1 w)
+
+pub pairs_kept : (a b c : List Pair) → KeepsPairs a b → KeepsPairs b c → KeepsPairs a c
+pairs_kept a b c h g x y e = g x y (h x y e)
+
+-- the pairs of all that is reached
+pub tree_leads : (hs : List Hop) (t : Tree) (names : PinNames) (ps : List Pair) (x : BitAt) (k : ℕ) → IsGrown hs t x → length t.nodes.items ≤ k →
+    ((j : ℕ) → j < k → (node : Node) → slice_get t.nodes.items j ≡ Some node → has_name names node.hop.to.name.now ≡ true → has_pair ps x (bit node.hop.to) ≡ true) → BitLeads hs names ps x
+tree_leads hs t names ps x k grown le all m b named w =
+    let marked = way_marked hs t x (bit_at [] m b) grown w in
+    let s = some_of (place_in t (bit_at [] m b)) marked in
+    let n = grown.right.places m b s.0 s.1 in
+    let lt = slice_get_within t.nodes.items s.0 n.0 n.1 in
+    let name_is : n.0.hop.to.name.now ≡ m = ap (λ (v : BitAt). v.name) n.2 in
+    subst (λ (v : BitAt). has_pair ps x v ≡ true) n.2 (all s.0 (omega (arith, lt, le)) n.0 n.1 (ap (has_name names) name_is ∙ named))
+
+pub way_at : (hs : List Hop) (t : Tree) (list : List Node) (x : BitAt) (j : ℕ) (d : Node) → IsGrown hs t x → list ≡ t.nodes.items → j < length list → Way (HasHop hs) x (bit (get_or list j d).hop.to)
+way_at hs t list x j d grown same lt =
+    let item = get_or list j d in
+    let at : slice_get t.nodes.items j ≡ Some item = ap (λ (v : List Node). slice_get v j) (sym same) ∙ get_there list j d lt in
+    subst (λ (v : BitAt). Way (HasHop hs) v (bit item.hop.to)) grown.root (node_way hs t grown.right j item at)
+
+pub there_more : (names : PinNames) (list : List Node) (x : BitAt) (j : ℕ) (d : Node) (old new : List Pair) → KeepsPairs old new → (has_name names (get_or list j d).hop.to.name.now ≡ true → has_pair new x (bit (get_or list j d).hop.to) ≡ true) →
+    ((i : ℕ) → i < j → (node : Node) → slice_get list i ≡ Some node → has_name names node.hop.to.name.now ≡ true → has_pair old x (bit node.hop.to) ≡ true) →
+    (i : ℕ) → i < j + 1 → (node : Node) → slice_get list i ≡ Some node → has_name names node.hop.to.name.now ≡ true → has_pair new x (bit node.hop.to) ≡ true
+there_more names list x j d old new keeps here before =
+    below_more (λ i. (node : Node) → slice_get list i ≡ Some node → has_name names node.hop.to.name.now ≡ true → has_pair new x (bit node.hop.to) ≡ true) j
+    (λ i lt node e named. keeps x (bit node.hop.to) (before i lt node e named))
+    (λ node e. subst (λ (v : Node). has_name names v.hop.to.name.now ≡ true → has_pair new x (bit v.hop.to) ≡ true) (get_or_from_slice_get list j node d e) here)
+
+pub leads_kept : (hs : List Hop) (names : PinNames) (old new : List Pair) (x : BitAt) → KeepsPairs old new → BitLeads hs names old x → BitLeads hs names new x
+leads_kept hs names old new x keeps leads m k named w = keeps x (bit_at [] m k) (leads m k named w)
+
+-- ---- hops the other way
+
+turned_at : (hs : List Hop) (p : ℕ) (h : Hop) → slice_get hs p ≡ Some h → slice_get (map turn hs) p ≡ Some (turn h)
+turned_at [] p h e = absurd cc
+turned_at (x ∷ xs) zero h e = let same : x ≡ h = cc in ap (λ (v : Hop). Some (turn v)) same
+turned_at (x ∷ xs) (suc p) h e = turned_at xs p h e
+
+turned_from : (hs : List Hop) (p : ℕ) (g : Hop) → slice_get (map turn hs) p ≡ Some g → (h : Hop) × (slice_get hs p ≡ Some h) × (turn h ≡ g)
+turned_from [] p g e = absurd cc
+turned_from (x ∷ xs) zero g e = (x, refl, cc)
+turned_from (x ∷ xs) (suc p) g e = turned_from xs p g e
+
+pub hop_back : (hs : List Hop) (x y : BitAt) → HasHop hs x y → HasHop (map turn hs) y x
+hop_back hs x y s = (s.0, turn s.1, turned_at hs s.0 s.1 s.2, s.4, s.3)
+
+pub hop_forth : (hs : List Hop) (x y : BitAt) → HasHop (map turn hs) y x → HasHop hs x y
+hop_forth hs x y s =
+    let r = turned_from hs s.0 s.1 s.2 in
+    (s.0, r.0, r.1, ap (λ (v : Hop). bit v.to) r.2 ∙ s.4, ap (λ (v : Hop). bit v.from) r.2 ∙ s.3)
+
+-- a way is gone back by the hops the other way
+back_on : (hs gs : List Hop) (ms : List BitAt) (x y : BitAt) → ((a b : BitAt) → HasHop hs a b → HasHop gs b a) → Chain (HasHop hs) x ms y → Way (HasHop gs) y x
+back_on hs gs [] x y go s = one_step y x (go x y s)
+back_on hs gs (m ∷ ms) x y go s = one_more gs y m x (back_on hs gs ms m y go s.1) (go x m s.0)
+
+pub way_back : (hs back : List Hop) → back ≡ map turn hs → (x y : BitAt) → Way (HasHop hs) x y → Way (HasHop back) y x
+way_back hs back is x y w = subst (λ (v : List Hop). Way (HasHop v) y x) (sym is) (back_on hs (map turn hs) w.over x y (hop_back hs) w.steps)
+
+pub way_forth : (hs back : List Hop) → back ≡ map turn hs → (x y : BitAt) → Way (HasHop back) y x → Way (HasHop hs) x y
+way_forth hs back is x y w =
+    let v : Way (HasHop (map turn hs)) y x = subst (λ (v : List Hop). Way (HasHop v) y x) is w in
+    back_on (map turn hs) hs v.over y x (λ a b h. hop_forth hs b a h) v.steps

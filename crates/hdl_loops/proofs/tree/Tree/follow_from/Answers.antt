@@ -1,0 +1,37 @@
+use Rattle.std.proofs.Common.{Option, ℕ, subst}
+use Rattle.hdl_loops.specs.Inner.Hops.{bit}
+use Rattle.hdl_loops.specs.Inner.Leaving.{Leaves, LeavesIn}
+use Rattle.hdl_loops.proofs.Growing.{keeps_refl, keeps_on, leaves_start, leaves_more, past_start, past_more, reached_kept, IsLeftPast}
+use Rattle.hdl_loops.proofs.tree.Tree.follow_from.Goals as goal
+
+pub loop-at-init : goal.loop-at-init
+loop-at-init c =
+    let hs = c.args.hops.now in
+    let l = c.args.leaving.now in
+    let from = c.args.from.now in
+    record {
+      right = c.requires.right;
+      kept = keeps_refl c.args.self.now;
+      leaves = leaves_start hs l from.name.now from.bit c.last-at.result c.requires.linked c.last-at.ensures;
+      left = λ r. past_start hs l c.args.self.now (bit from) c.last-at.result c.requires.linked c.last-at.ensures;
+    }
+
+pub loop-at-preserved : goal.loop-at-preserved
+loop-at-preserved c =
+    let hs = c.args.hops.now in
+    let l = c.args.leaving.now in
+    let from = c.args.from.now in
+    let x = bit from in
+    let k = c.in-Some.k in
+    let t = c.loop-at.self in
+    let inv = c.loop-at.invariant in
+    let e = c.in_ok-follow.ensures in
+    let at : Leaves hs k x = subst (λ (o : Option ℕ). LeavesIn hs o x) c.in-Some.is inv.leaves in
+    record {
+      right = e.right;
+      kept = keeps_on c.args.self.now t c.follow.new.self inv.kept e.kept;
+      leaves = leaves_more hs l k c.before-at.result x c.requires.linked at c.before-at.ensures;
+      left = λ r.
+          past_more hs l t c.follow.new.self k c.before-at.result x c.requires.linked at c.before-at.ensures e.kept e.followed (reached_kept c.args.self.now t from.name.now from.bit inv.kept r)
+          (subst (λ (o : Option ℕ). IsLeftPast hs t x o) c.in-Some.is (inv.left r));
+    }
