@@ -1,5 +1,5 @@
 -- From the matches of `clap` to lines.
-use Rattle.std.proofs.Common.{◌≡◌, ◌≢◌, ◌+◌, ◌*◌, [], ℕ, Bool, List, Option, Some, true, false, refl, sym, ◌∙◌, ap, subst, codes, inl, inr, nat_eq, slice_index}
+use Rattle.std.proofs.Common.{◌≡◌, ◌≢◌, ◌+◌, ◌*◌, [], ℕ, Bool, List, Option, Some, None, true, false, refl, sym, ◌∙◌, ap, subst, codes, inl, inr, nat_eq, slice_index}
 use Rattle.std.proofs.lemmas.Bool.{eqb-false}
 use Rattle.std.specs.Str.Parse.{digits_value}
 use Rattle.clap.specs.Kinds.{HasKind, Kinds}
@@ -18,33 +18,9 @@ use Rattle.command_line.specs.declared.request.RunLevel.TheVariants as levels
 use Rattle.command_line.specs.declared.request.Shown.{Shown}
 use Rattle.command_line.specs.declared.request.Shown.TheVariants.{Words, Nets}
 use Rattle.command_line.specs.declared.request.SourceKind.{SourceKind}
-use Rattle.command_line.specs.Line.{AreOneLine, IsInRange, IsLine, IsReading, Line, NumberIn, asm, build, chip, compile, exec, flag_word, kind_of as source_kind, level_word, map_line, run, show, shown_at, shown_word, test, vm}
+use Rattle.command_line.specs.Line.{AreOneLine, ClassWork, FileWork, HasClassWork, HasFileWork, HasValues, IsInRange, IsLine, IsReading, Line, NumberIn, Source, asm, build, chip, class_command, of_classes, command_of, compile, exec, of_file, file_command, flag_word, kind_of as source_kind, level_word, map_image, run, show, shown_at, shown_word, test, vm}
 
 -- ---- the names of the commands, which differ in their first letter or in their second
-
-abbrev command_of : Line → Text
-command_of (asm path) = codes "asm"
-command_of (exec path cycles from to) = codes "exec"
-command_of (vm folder bare) = codes "vm"
-command_of (show path kind) = codes "show"
-command_of (run folder level cycles keys) = codes "run"
-command_of (compile folder) = codes "compile"
-command_of (build folder) = codes "build"
-command_of (map_line folder) = codes "map"
-command_of (chip chosen) = codes "chip"
-command_of (test path gates) = codes "test"
-
-named : (name : Text) (rows : List Row) (l : Line) → IsReading name rows l → name ≡ command_of l
-named name rows (asm path) h = h.0
-named name rows (exec path cycles from to) h = h.0
-named name rows (vm folder bare) h = h.0
-named name rows (show path kind) h = h.0
-named name rows (run folder level cycles keys) h = h.0
-named name rows (compile folder) h = h.0
-named name rows (build folder) h = h.0
-named name rows (map_line folder) h = h.0
-named name rows (chip chosen) h = h.0
-named name rows (test path gates) h = h.0
 
 abbrev letters : Text → ℕ
 letters t = 256 * slice_index t 0 + slice_index t 1
@@ -53,27 +29,98 @@ letters t = 256 * slice_index t 0 + slice_index t 1
 apart : (t u : Text) → nat_eq (letters t) (letters u) ≡ false → t ≡ u → ⊥
 apart t u other same = eqb-false (letters t) (letters u) other (ap letters same)
 
+abbrev Differ : Text → Text → Type 0
+Differ t u = nat_eq (letters t) (letters u) ≡ false
+
+-- a name that is none of a work with classes, and one that is none of a work with one file
+no_class : (name : Text) → Differ name (codes "compile") → Differ name (codes "build") → Differ name (codes "map") → Differ name (codes "run") → (work : ClassWork) → name ≡ class_command work → ⊥
+no_class name c b m r compile e = apart name (codes "compile") c e
+no_class name c b m r build e = apart name (codes "build") b e
+no_class name c b m r map_image e = apart name (codes "map") m e
+no_class name c b m r (run level cycles keys) e = apart name (codes "run") r e
+
+no_file : (name : Text) → Differ name (codes "asm") → Differ name (codes "exec") → Differ name (codes "show") → (work : FileWork) → name ≡ file_command work → ⊥
+no_file name a x s asm e = apart name (codes "asm") a e
+no_file name a x s (exec cycles from to) e = apart name (codes "exec") x e
+no_file name a x s (show kind) e = apart name (codes "show") s e
+
+-- the command of a work with classes is that of no other line
+no_file_class : (v : FileWork) (w : ClassWork) → file_command v ≡ class_command w → ⊥
+no_file_class asm w e = no_class (codes "asm") refl refl refl refl w e
+no_file_class (exec cycles from to) w e = no_class (codes "exec") refl refl refl refl w e
+no_file_class (show kind) w e = no_class (codes "show") refl refl refl refl w e
+
+abbrev IsOfClasses : Line → Type 0
+IsOfClasses (of_classes source work) = Unit {0}
+IsOfClasses line = ⊥
+
+of_classes_alone : (w : ClassWork) (l : Line) → command_of l ≡ class_command w → IsOfClasses l
+of_classes_alone w (of_classes source work) e = tt
+of_classes_alone w (of_file path work) e = no_file_class work w e
+of_classes_alone w (vm folder bare) e = no_class (codes "vm") refl refl refl refl w e
+of_classes_alone w (chip name) e = no_class (codes "chip") refl refl refl refl w e
+of_classes_alone w (test path gates) e = no_class (codes "test") refl refl refl refl w e
+
+-- nor is that of a work with one file
+abbrev IsOfFile : Line → Type 0
+IsOfFile (of_file path work) = Unit {0}
+IsOfFile line = ⊥
+
+of_file_alone : (w : FileWork) (l : Line) → command_of l ≡ file_command w → IsOfFile l
+of_file_alone w (of_classes source work) e = no_file_class w work (sym e)
+of_file_alone w (of_file path work) e = tt
+of_file_alone w (vm folder bare) e = no_file (codes "vm") refl refl refl w e
+of_file_alone w (chip name) e = no_file (codes "chip") refl refl refl w e
+of_file_alone w (test path gates) e = no_file (codes "test") refl refl refl w e
+
 -- ---- the matches of a command are those of its own lines only
 
-pub no_exec : (rows : List Row) → ((path : Text) (c f t : ℕ) → ¬ IsReading (codes "exec") rows (exec path c f t)) → (l : Line) → ¬ IsReading (codes "exec") rows l
-no_exec rows none (exec path c f t) h = none path c f t h
-no_exec rows none l h = apart (codes "exec") (command_of l) refl (named (codes "exec") rows l h)
+-- each line but one of `chip` has a path
+pub no_path : (name : Text) (rows : List Row) → first_of (codes "path") rows ≡ None → nat_eq (letters name) (letters (codes "chip")) ≡ false → (l : Line) → ¬ IsReading name rows l
+no_path name rows none other (of_classes source work) h = let gone = h.1.0 in let no : ⊥ = cc in no
+no_path name rows none other (of_file path work) h = let gone = h.1.0 in let no : ⊥ = cc in no
+no_path name rows none other (vm folder bare) h = let gone = h.1.0 in let no : ⊥ = cc in no
+no_path name rows none other (chip chosen) h = apart name (codes "chip") other h.0
+no_path name rows none other (test path gates) h = let gone = h.1.0 in let no : ⊥ = cc in no
 
-pub no_show : (rows : List Row) → ((path : Text) (kind : SourceKind) → ¬ IsReading (codes "show") rows (show path kind)) → (l : Line) → ¬ IsReading (codes "show") rows l
-no_show rows none (show path kind) h = none path kind h
-no_show rows none l h = apart (codes "show") (command_of l) refl (named (codes "show") rows l h)
+pub no_classes : (work : ClassWork) (rows : List Row) → first_of (codes "path") rows ≡ None → (l : Line) → ¬ IsReading (class_command work) rows l
+no_classes compile rows none = no_path (codes "compile") rows none refl
+no_classes build rows none = no_path (codes "build") rows none refl
+no_classes map_image rows none = no_path (codes "map") rows none refl
+no_classes (run level cycles keys) rows none = no_path (codes "run") rows none refl
 
-pub no_vm : (rows : List Row) → ((folder : Text) (bare : Bool) → ¬ IsReading (codes "vm") rows (vm folder bare)) → (l : Line) → ¬ IsReading (codes "vm") rows l
-no_vm rows none (vm folder bare) h = none folder bare h
-no_vm rows none l h = apart (codes "vm") (command_of l) refl (named (codes "vm") rows l h)
+pub no_exec : (rows : List Row) → ((cycles from to : ℕ) → ¬ HasFileWork rows [] (exec cycles from to)) → (l : Line) → ¬ IsReading (codes "exec") rows l
+no_exec rows none (of_file path (exec c f t)) h = none c f t h.1.1
+no_exec rows none (of_classes source work) h = no_class (codes "exec") refl refl refl refl work h.0
+no_exec rows none l h = apart (codes "exec") (command_of l) refl h.0
 
-pub no_test : (rows : List Row) → ((path : Text) (gates : Bool) → ¬ IsReading (codes "test") rows (test path gates)) → (l : Line) → ¬ IsReading (codes "test") rows l
-no_test rows none (test path gates) h = none path gates h
-no_test rows none l h = apart (codes "test") (command_of l) refl (named (codes "test") rows l h)
+pub no_show : (rows : List Row) → ((path : Text) (kind : SourceKind) → first_of (codes "path") rows ≡ Some path → ¬ (source_kind path ≡ Some kind)) → (l : Line) → ¬ IsReading (codes "show") rows l
+no_show rows none (of_file path (show kind)) h = none path kind h.1.0 h.1.1
+no_show rows none (of_classes source work) h = no_class (codes "show") refl refl refl refl work h.0
+no_show rows none l h = apart (codes "show") (command_of l) refl h.0
 
-pub no_run : (rows : List Row) → ((folder : Text) (level : RunLevel) (n : ℕ) (keys : Option Text) → ¬ IsReading (codes "run") rows (run folder level n keys)) → (l : Line) → ¬ IsReading (codes "run") rows l
-no_run rows none (run folder level n keys) h = none folder level n keys h
-no_run rows none l h = apart (codes "run") (command_of l) refl (named (codes "run") rows l h)
+pub no_vm : (rows : List Row) → ((bare : Bool) → ¬ (first_of (codes "bare") rows ≡ Some (flag_word bare))) → (l : Line) → ¬ IsReading (codes "vm") rows l
+no_vm rows none (vm folder bare) h = none bare h.1.1
+no_vm rows none (of_classes source work) h = no_class (codes "vm") refl refl refl refl work h.0
+no_vm rows none (of_file path work) h = no_file (codes "vm") refl refl refl work h.0
+no_vm rows none l h = apart (codes "vm") (command_of l) refl h.0
+
+pub no_test : (rows : List Row) → ((gates : Bool) → ¬ (first_of (codes "gates") rows ≡ Some (flag_word gates))) → (l : Line) → ¬ IsReading (codes "test") rows l
+no_test rows none (test path gates) h = none gates h.1.1
+no_test rows none (of_classes source work) h = no_class (codes "test") refl refl refl refl work h.0
+no_test rows none (of_file path work) h = no_file (codes "test") refl refl refl work h.0
+no_test rows none l h = apart (codes "test") (command_of l) refl h.0
+
+pub no_run : (rows : List Row) → ((level : RunLevel) (n : ℕ) (keys : Option Text) → ¬ HasClassWork rows (run level n keys)) → (l : Line) → ¬ IsReading (codes "run") rows l
+no_run rows none (of_classes source (run level n keys)) h = none level n keys h.1.2
+no_run rows none (of_file path work) h = no_file (codes "run") refl refl refl work h.0
+no_run rows none l h = apart (codes "run") (command_of l) refl h.0
+
+pub no_chip : (rows : List Row) → first_of (codes "name") rows ≡ None → (l : Line) → ¬ IsReading (codes "chip") rows l
+no_chip rows none (chip name) h = let gone = h.1 in let no : ⊥ = cc in no
+no_chip rows none (of_classes source work) h = no_class (codes "chip") refl refl refl refl work h.0
+no_chip rows none (of_file path work) h = no_file (codes "chip") refl refl refl work h.0
+no_chip rows none l h = apart (codes "chip") (command_of l) refl h.0
 
 -- ---- the table
 
@@ -114,15 +161,15 @@ fault_line a ws e is fails other l (free, name, rows, found, reading) =
 -- ---- the numbers
 
 pub in_range : (ws : List Text) (l : Line) → IsLine ws l → IsInRange l
-in_range ws (asm path) h = tt
-in_range ws (exec path c f t) (free, name, rows, found, reading) = (reading.2.2.small, reading.3.2.small, reading.4.2.small)
+in_range ws (of_classes source (run level n keys)) (free, name, rows, found, (named, values)) = values.2.1.2.small
+in_range ws (of_classes source compile) h = tt
+in_range ws (of_classes source build) h = tt
+in_range ws (of_classes source map_image) h = tt
+in_range ws (of_file path (exec c f t)) (free, name, rows, found, (named, values)) = (values.1.0.2.small, values.1.1.2.small, values.1.2.2.small)
+in_range ws (of_file path asm) h = tt
+in_range ws (of_file path (show kind)) h = tt
 in_range ws (vm folder bare) h = tt
-in_range ws (show path kind) h = tt
-in_range ws (run folder level n keys) (free, name, rows, found, reading) = reading.3.2.small
-in_range ws (compile folder) h = tt
-in_range ws (build folder) h = tt
-in_range ws (map_line folder) h = tt
-in_range ws (chip chosen) h = tt
+in_range ws (chip name) h = tt
 in_range ws (test path gates) h = tt
 
 -- ---- words are at most one line
@@ -174,65 +221,65 @@ same_flag true true e = refl
 same_flag false false e = refl
 same_flag b c e = absurd (apart (flag_word b) (flag_word c) refl e)
 
-same_source : (p q : Text) (i j : SourceKind) → p ≡ q → source_kind p ≡ Some i → source_kind q ≡ Some j → show p i ≡ show q j
-same_source p q i j path e f =
+same_kind : (p q : Text) (i j : SourceKind) → p ≡ q → source_kind p ≡ Some i → source_kind q ≡ Some j → i ≡ j
+same_kind p q i j path e f =
     let both : Some i ≡ Some j = sym e ∙ ap source_kind path ∙ f in
-    let kind : i ≡ j = cc in
+    let kind : i ≡ j = cc in kind
+
+same_source : (s u : Source) → s.folder ≡ u.folder → s.replace ≡ false → u.replace ≡ false → s ≡ u
+same_source s u e f g = λ i. record { folder = e i; replace = (f ∙ sym g) i }
+
+same_class_work : (rows : List Row) (v w : ClassWork) → HasClassWork rows v → HasClassWork rows w → class_command v ≡ class_command w → v ≡ w
+same_class_work rows compile compile h k e = refl
+same_class_work rows build build h k e = refl
+same_class_work rows map_image map_image h k e = refl
+same_class_work rows (run l c js) (run m d ks) h k e =
+    let shown : shown_at l ≡ shown_at m =
+    same_shown (shown_at l) (shown_at m) (same_word rows (codes "show") (shown_word (shown_at l)) (shown_word (shown_at m)) h.3 k.3) in
+    let level : l ≡ m = same_level l m (same_word rows (codes "level") (level_word l) (level_word m) h.0 k.0) shown in
+    let cycles : c ≡ d = same_number rows (codes "cycles") 1000000000 c d h.1 k.1 in
+    let keys : js ≡ ks = sym h.2 ∙ k.2 in
     cc
+same_class_work rows v w h k e = absurd (apart (class_command v) (class_command w) refl e)
+
+same_file_work : (rows : List Row) (p q : Text) (v w : FileWork) → p ≡ q → HasFileWork rows p v → HasFileWork rows q w → file_command v ≡ file_command w → v ≡ w
+same_file_work rows p q asm asm path h k e = refl
+same_file_work rows p q (exec c f t) (exec d g u) path h k e =
+    let cycles : c ≡ d = same_number rows (codes "cycles") 1000000000 c d h.0 k.0 in
+    let from_on : f ≡ g = same_number rows (codes "from") 32767 f g h.1 k.1 in
+    let up_to : t ≡ u = same_number rows (codes "to") 32767 t u h.2 k.2 in
+    cc
+same_file_work rows p q (show i) (show j) path h k e = ap show (same_kind p q i j path h k)
+same_file_work rows p q v w path h k e = absurd (apart (file_command v) (file_command w) refl e)
+
+same_values : (rows : List Row) (l m : Line) → HasValues rows l → HasValues rows m → command_of l ≡ command_of m → l ≡ m
+same_values rows (of_classes s v) (of_classes u w) h k e =
+    let source : s ≡ u = same_source s u (same_word rows (codes "path") s.folder u.folder h.0 k.0) h.1 k.1 in
+    let work : v ≡ w = same_class_work rows v w h.2 k.2 e in
+    cc
+same_values rows (of_file p v) (of_file q w) h k e =
+    let path : p ≡ q = same_word rows (codes "path") p q h.0 k.0 in
+    let work : v ≡ w = same_file_work rows p q v w path h.1 k.1 e in
+    cc
+same_values rows (vm p b) (vm q c) h k e =
+    let folder : p ≡ q = same_word rows (codes "path") p q h.0 k.0 in
+    let bare : b ≡ c = same_flag b c (same_word rows (codes "bare") (flag_word b) (flag_word c) h.1 k.1) in
+    cc
+same_values rows (test p b) (test q c) h k e =
+    let path : p ≡ q = same_word rows (codes "path") p q h.0 k.0 in
+    let gates : b ≡ c = same_flag b c (same_word rows (codes "gates") (flag_word b) (flag_word c) h.1 k.1) in
+    cc
+same_values rows (chip p) (chip q) h k e = ap chip (same_word rows (codes "name") p q h k)
+same_values rows (of_classes s v) m h k e = absurd (of_classes_alone v m (sym e))
+same_values rows l (of_classes u w) h k e = absurd (of_classes_alone w l e)
+same_values rows (of_file p v) m h k e = absurd (of_file_alone v m (sym e))
+same_values rows l (of_file q w) h k e = absurd (of_file_alone w l e)
+same_values rows l m h k e = absurd (apart (command_of l) (command_of m) refl e)
 
 same_line : (name other : Text) (rows others : List Row) (l m : Line) → rows ≡ others → IsReading name rows l → IsReading other others m → name ≡ other → l ≡ m
-same_line name other rows others (asm p) (asm q) same h k e =
-    let R : List Row → Type 0 = λ r. IsReading other r (asm q) in
-    ap asm (same_word rows (codes "path") p q h.1 (subst R (sym same) k).1)
-same_line name other rows others (exec p c f t) (exec q d g u) same h k e =
-    let R : List Row → Type 0 = λ r. IsReading other r (exec q d g u) in
-    let k' = subst R (sym same) k in
-    let path : p ≡ q = same_word rows (codes "path") p q h.1 k'.1 in
-    let cycles : c ≡ d = same_number rows (codes "cycles") 1000000000 c d h.2 k'.2 in
-    let from_on : f ≡ g = same_number rows (codes "from") 32767 f g h.3 k'.3 in
-    let up_to : t ≡ u = same_number rows (codes "to") 32767 t u h.4 k'.4 in
-    cc
-same_line name other rows others (show p i) (show q j) same h k e =
-    let R : List Row → Type 0 = λ r. IsReading other r (show q j) in
-    let k' = subst R (sym same) k in
-    let path : p ≡ q = same_word rows (codes "path") p q h.1 k'.1 in
-    same_source p q i j path h.2 k'.2
-same_line name other rows others (vm p b) (vm q c) same h k e =
-    let R : List Row → Type 0 = λ r. IsReading other r (vm q c) in
-    let k' = subst R (sym same) k in
-    let folder : p ≡ q = same_word rows (codes "path") p q h.1 k'.1 in
-    let bare : b ≡ c = same_flag b c (same_word rows (codes "bare") (flag_word b) (flag_word c) h.2 k'.2) in
-    cc
-same_line name other rows others (test p b) (test q c) same h k e =
-    let R : List Row → Type 0 = λ r. IsReading other r (test q c) in
-    let k' = subst R (sym same) k in
-    let path : p ≡ q = same_word rows (codes "path") p q h.1 k'.1 in
-    let gates : b ≡ c = same_flag b c (same_word rows (codes "gates") (flag_word b) (flag_word c) h.2 k'.2) in
-    cc
-same_line name other rows others (run p l c js) (run q m d ks) same h k e =
-    let R : List Row → Type 0 = λ r. IsReading other r (run q m d ks) in
-    let k' = subst R (sym same) k in
-    let folder : p ≡ q = same_word rows (codes "path") p q h.1 k'.1 in
-    let shown : shown_at l ≡ shown_at m =
-    same_shown (shown_at l) (shown_at m) (same_word rows (codes "show") (shown_word (shown_at l)) (shown_word (shown_at m)) h.5 k'.5) in
-    let level : l ≡ m = same_level l m (same_word rows (codes "level") (level_word l) (level_word m) h.2 k'.2) shown in
-    let cycles : c ≡ d = same_number rows (codes "cycles") 1000000000 c d h.3 k'.3 in
-    let keys : js ≡ ks = sym h.4 ∙ k'.4 in
-    cc
-same_line name other rows others (compile p) (compile q) same h k e =
-    let R : List Row → Type 0 = λ r. IsReading other r (compile q) in
-    ap compile (same_word rows (codes "path") p q h.1 (subst R (sym same) k).1)
-same_line name other rows others (build p) (build q) same h k e =
-    let R : List Row → Type 0 = λ r. IsReading other r (build q) in
-    ap build (same_word rows (codes "path") p q h.1 (subst R (sym same) k).1)
-same_line name other rows others (map_line p) (map_line q) same h k e =
-    let R : List Row → Type 0 = λ r. IsReading other r (map_line q) in
-    ap map_line (same_word rows (codes "path") p q h.1 (subst R (sym same) k).1)
-same_line name other rows others (chip p) (chip q) same h k e =
-    let R : List Row → Type 0 = λ r. IsReading other r (chip q) in
-    ap chip (same_word rows (codes "name") p q h.1 (subst R (sym same) k).1)
 same_line name other rows others l m same h k e =
-    absurd (apart (command_of l) (command_of m) refl (sym (named name rows l h) ∙ e ∙ named other others m k))
+    let R : List Row → Type 0 = λ r. HasValues r m in
+    same_values rows l m h.1 (subst R (sym same) k.1) (sym h.0 ∙ e ∙ k.0)
 
 pub one_line : AreOneLine
 one_line words l m (_, name, rows, found, h) (_, other, others, found', k) =

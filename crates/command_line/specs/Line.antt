@@ -1,5 +1,5 @@
 -- The command lines: which words are a line, and what the line asks for.
-use Rattle.std.specs.Prelude.{◌≡◌, ◌≤◌, ⊤, ℕ, Bool, true, false, List, [], Option, Some, None, codes, nat_eq, option_map, if◌then◌else◌}
+use Rattle.std.specs.Prelude.{◌≡◌, ◌≤◌, ℕ, Bool, true, false, List, [], Option, Some, None, codes, nat_eq, option_map, if◌then◌else◌}
 use Rattle.std.specs.List.{ends_with}
 use Rattle.std.specs.Str.Parse.{IsNumeral, digits_value}
 use Rattle.clap.specs.Walk.{Row, Text, first_of, rows_of}
@@ -15,21 +15,54 @@ use Rattle.command_line.specs.declared.request.Shown.{Shown}
 use Rattle.command_line.specs.declared.request.Shown.TheVariants.{Words, Nets}
 use Rattle.command_line.specs.declared.request.SourceKind.{SourceKind}
 use Rattle.command_line.specs.declared.request.SourceKind.TheVariants as kinds
+use Rattle.command_line.specs.declared.request.Source as code_source
+use Rattle.command_line.specs.declared.request.ClassWork.{ClassWork as CodeClassWork}
+use Rattle.command_line.specs.declared.request.ClassWork.TheVariants as class_work
+use Rattle.command_line.specs.declared.request.FileWork.{FileWork as CodeFileWork}
+use Rattle.command_line.specs.declared.request.FileWork.TheVariants as file_work
 use Rattle.command_line.specs.declared.request.Request.{Request}
 use Rattle.command_line.specs.declared.request.Request.TheVariants as request
 
--- What a line asks for: a command with its values. A path is the bytes of its word.
+-- ---- the lines, by what they read
+
+-- Where the Jack classes of a program are read: a folder, and whether its classes take the place of those of the operating system that have their
+-- names. No word asks for that yet.
+pub record Source : Type 0 where
+  pub folder : Text
+  pub replace : Bool
+
+-- What is done with the Jack classes of a source: the commands `compile`, `build`, `map` and `run`.
+pub data ClassWork : Type 0 where
+  compile : ClassWork
+  build : ClassWork
+  map_image : ClassWork
+  run : (level : RunLevel) (cycles : ℕ) (keys : Option Text) → ClassWork
+
+-- What is done with one file: the commands `asm`, `exec` and `show`.
+pub data FileWork : Type 0 where
+  asm : FileWork
+  exec : (cycles from to : ℕ) → FileWork
+  show : (kind : SourceKind) → FileWork
+
+-- What a line asks for: a work with what it reads, or a command of its own, with its values. A path is the bytes of its word.
 pub data Line : Type 0 where
-  asm : (path : Text) → Line
-  exec : (path : Text) (cycles from to : ℕ) → Line
+  of_classes : (source : Source) (work : ClassWork) → Line
+  of_file : (path : Text) (work : FileWork) → Line
   vm : (folder : Text) (bare : Bool) → Line
-  show : (path : Text) (kind : SourceKind) → Line
-  run : (folder : Text) (level : RunLevel) (cycles : ℕ) (keys : Option Text) → Line
-  compile : (folder : Text) → Line
-  build : (folder : Text) → Line
-  map_line : (folder : Text) → Line
   chip : (name : Text) → Line
   test : (path : Text) (gates : Bool) → Line
+
+-- The key script of a work with classes, where it has one.
+abbrev pub script_of : ClassWork → Option Text
+script_of (run level cycles keys) = keys
+script_of work = None
+
+-- The line is that of no test script, which alone is read as it goes.
+abbrev pub IsNoTest : Line → Type 0
+IsNoTest (test path gates) = ⊥
+IsNoTest line = Unit {0}
+
+-- ---- the words of a line
 
 -- One or more decimal digits and nothing else, which write a number of at most `most`.
 pub record IsNumber (text : List ℕ) (most n : ℕ) : Type 0 where
@@ -76,28 +109,52 @@ kind_of path =
     else if ends_with nat_eq path (codes ".hdl") then Some kinds.Hdl
     else None
 
--- The matches of the command `name` are those of the line: a case for each row of the table.
-abbrev pub IsReading : Text → List Row → Line → Type 0
-IsReading name rows (asm path) = (name ≡ codes "asm") × (first_of (codes "path") rows ≡ Some path)
-IsReading name rows (exec path cycles from to) =
-    (name ≡ codes "exec") × (first_of (codes "path") rows ≡ Some path)
-    × NumberIn rows (codes "cycles") 1000000000 cycles
-    × NumberIn rows (codes "from") 32767 from × NumberIn rows (codes "to") 32767 to
-IsReading name rows (vm folder bare) =
-    (name ≡ codes "vm") × (first_of (codes "path") rows ≡ Some folder) × (first_of (codes "bare") rows ≡ Some (flag_word bare))
-IsReading name rows (show path kind) =
-    (name ≡ codes "show") × (first_of (codes "path") rows ≡ Some path) × (kind_of path ≡ Some kind)
-IsReading name rows (run folder level cycles keys) =
-    (name ≡ codes "run") × (first_of (codes "path") rows ≡ Some folder)
-    × (first_of (codes "level") rows ≡ Some (level_word level))
+-- the command of a line
+abbrev pub class_command : ClassWork → Text
+class_command compile = codes "compile"
+class_command build = codes "build"
+class_command map_image = codes "map"
+class_command (run level cycles keys) = codes "run"
+
+abbrev pub file_command : FileWork → Text
+file_command asm = codes "asm"
+file_command (exec cycles from to) = codes "exec"
+file_command (show kind) = codes "show"
+
+abbrev pub command_of : Line → Text
+command_of (of_classes source work) = class_command work
+command_of (of_file path work) = file_command work
+command_of (vm folder bare) = codes "vm"
+command_of (chip name) = codes "chip"
+command_of (test path gates) = codes "test"
+
+-- The matches beside the folder are those of the work, and so of a work with one file.
+abbrev pub HasClassWork : List Row → ClassWork → Type 0
+HasClassWork rows (run level cycles keys) =
+    (first_of (codes "level") rows ≡ Some (level_word level))
     × NumberIn rows (codes "cycles") 1000000000 cycles
     × (first_of (codes "keys") rows ≡ keys) × (first_of (codes "show") rows ≡ Some (shown_word (shown_at level)))
-IsReading name rows (compile folder) = (name ≡ codes "compile") × (first_of (codes "path") rows ≡ Some folder)
-IsReading name rows (build folder) = (name ≡ codes "build") × (first_of (codes "path") rows ≡ Some folder)
-IsReading name rows (map_line folder) = (name ≡ codes "map") × (first_of (codes "path") rows ≡ Some folder)
-IsReading name rows (chip chosen) = (name ≡ codes "chip") × (first_of (codes "name") rows ≡ Some chosen)
-IsReading name rows (test path gates) =
-    (name ≡ codes "test") × (first_of (codes "path") rows ≡ Some path) × (first_of (codes "gates") rows ≡ Some (flag_word gates))
+HasClassWork rows work = Unit {0}
+
+abbrev pub HasFileWork : List Row → Text → FileWork → Type 0
+HasFileWork rows path asm = Unit {0}
+HasFileWork rows path (exec cycles from to) =
+    NumberIn rows (codes "cycles") 1000000000 cycles
+    × NumberIn rows (codes "from") 32767 from × NumberIn rows (codes "to") 32767 to
+HasFileWork rows path (show kind) = kind_of path ≡ Some kind
+
+-- The matches of a command are those of the line, beside its name. No word asks to replace a class of the operating system.
+abbrev pub HasValues : List Row → Line → Type 0
+HasValues rows (of_classes source work) =
+    (first_of (codes "path") rows ≡ Some source.folder) × (source.replace ≡ false) × HasClassWork rows work
+HasValues rows (of_file path work) = (first_of (codes "path") rows ≡ Some path) × HasFileWork rows path work
+HasValues rows (vm folder bare) = (first_of (codes "path") rows ≡ Some folder) × (first_of (codes "bare") rows ≡ Some (flag_word bare))
+HasValues rows (chip name) = first_of (codes "name") rows ≡ Some name
+HasValues rows (test path gates) = (first_of (codes "path") rows ≡ Some path) × (first_of (codes "gates") rows ≡ Some (flag_word gates))
+
+-- The matches of the command `name` are those of the line: the table says which matches a command has.
+abbrev pub IsReading : Text → List Row → Line → Type 0
+IsReading name rows line = (name ≡ command_of line) × HasValues rows line
 
 -- The words are the line: `clap` reads them by the table without a fault, as a command of the table
 -- with its matches, and these are the line's. So words are no line where `clap` gives no matches, or
@@ -116,29 +173,32 @@ AreOneLine = (words : List Text) (line other : Line) → IsLine words line → I
 
 -- The numbers of a line are within their ranges.
 abbrev pub IsInRange : Line → Type 0
-IsInRange (asm path) = ⊤
-IsInRange (exec path cycles from to) = (cycles ≤ 1000000000) × (from ≤ 32767) × (to ≤ 32767)
-IsInRange (vm folder bare) = ⊤
-IsInRange (show path kind) = ⊤
-IsInRange (run folder level cycles keys) = cycles ≤ 1000000000
-IsInRange (compile folder) = ⊤
-IsInRange (build folder) = ⊤
-IsInRange (map_line folder) = ⊤
-IsInRange (chip name) = ⊤
-IsInRange (test path gates) = ⊤
+IsInRange (of_classes source (run level cycles keys)) = cycles ≤ 1000000000
+IsInRange (of_file path (exec cycles from to)) = (cycles ≤ 1000000000) × (from ≤ 32767) × (to ≤ 32767)
+IsInRange line = Unit {0}
 
 -- ---- the code's side
 
--- the line that a request of the code is
+-- the source and the work that a request of the code names
+abbrev pub source_of : code_source.Source → Source
+source_of source = record { folder = source.folder.now; replace = source.replace }
+
+abbrev pub class_work_of : CodeClassWork → ClassWork
+class_work_of class_work.Compile = compile
+class_work_of class_work.Build = build
+class_work_of class_work.Map = map_image
+class_work_of (class_work.Run r) = run r.level r.cycles (option_map (λ keys. keys.now) r.keys)
+
+abbrev pub file_work_of : CodeFileWork → FileWork
+file_work_of file_work.Asm = asm
+file_work_of (file_work.Exec e) = exec e.cycles e.from e.to
+file_work_of (file_work.Show kind) = show kind
+
+-- the line that it is
 abbrev pub line_of : Request → Line
-line_of (request.Asm path) = asm path.now
-line_of (request.Exec e) = exec e.path.now e.cycles e.from e.to
+line_of (request.Classes source work) = of_classes (source_of source) (class_work_of work)
+line_of (request.File path work) = of_file path.now (file_work_of work)
 line_of (request.Vm folder bare) = vm folder.now bare
-line_of (request.Show path kind) = show path.now kind
-line_of (request.Run r) = run r.folder.now r.level r.cycles (option_map (λ keys. keys.now) r.keys)
-line_of (request.Compile folder) = compile folder.now
-line_of (request.Build folder) = build folder.now
-line_of (request.Map folder) = map_line folder.now
 line_of (request.Chip name) = chip name.now
 line_of (request.Test path gates) = test path.now gates
 

@@ -10,4 +10,4 @@ mod reader;
 mod request;
 
 pub use reader::{LineError, one_line_law, read};
-pub use request::{Exec, Request, Run, RunLevel, Shown, SourceKind};
+pub use request::{ClassWork, Exec, FileWork, Request, Run, RunLevel, Shown, Source, SourceKind};

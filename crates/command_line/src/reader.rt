@@ -1,11 +1,13 @@
 //! The line that words are.
 ghost use Rattle.std.specs.Prelude.{◌≡◌, ◌≤◌, ℕ, List, Some, IfOk, MatchOption, MatchResult, codes, map, option_map, string_bytes};
 ghost use Rattle.clap.specs.Words.{Row, Text, first_of, subcommand_rows_of};
-ghost use Rattle.command_line.specs.Line.{AreOneLine, IsInRange, IsLine, IsNoLine, IsLevelOf, IsReading, Line, Reads, ReadsFlag, ReadsLevel, ReadsNumber, ReadsShown, kind_of, line_of, rows_in};
+ghost use Rattle.command_line.specs.Line.{AreOneLine, HasClassWork, IsInRange, IsLine, IsNoLine, IsLevelOf, IsReading, Line, Reads, ReadsFlag, ReadsLevel, ReadsNumber, ReadsShown, class_command, class_work_of, kind_of, line_of, rows_in};
 
 use crate::commands::table;
 use crate::number::number;
-use crate::request::{Exec, Request, Run, RunLevel, Shown, SourceKind};
+use crate::request::{
+    ClassWork, Exec, FileWork, Request, Run, RunLevel, Shown, Source, SourceKind,
+};
 use clap::ArgMatches;
 use clap::error::ErrorKind;
 use machine_io::Show;
@@ -46,7 +48,10 @@ fn asm<'a>(matches: &ArgMatches<'a>) -> Option<Request<'a>>
     ensures { Reads (codes "asm") (rows_in matches.now) result }
 {
     let path = text_in(matches, "path")?;
-    Some(Request::Asm { path })
+    Some(Request::File {
+        path,
+        work: FileWork::Asm,
+    })
 }
 
 fn exec<'a>(matches: &ArgMatches<'a>) -> Option<Request<'a>>
@@ -62,12 +67,15 @@ fn exec<'a>(matches: &ArgMatches<'a>) -> Option<Request<'a>>
     let Some(to) = number_in(matches, "to", MOST_ADDRESS) else {
         return None;
     };
-    Some(Request::Exec(Exec {
-        path,
+    let exec = Exec {
         cycles,
         from: from as u16,
         to: to as u16,
-    }))
+    };
+    Some(Request::File {
+        path,
+        work: FileWork::Exec(exec),
+    })
 }
 
 // Whether an option without a value of its own stands.
@@ -116,7 +124,10 @@ fn show<'a>(matches: &ArgMatches<'a>) -> Option<Request<'a>>
     let Some(kind) = kind_of(path) else {
         return None;
     };
-    Some(Request::Show { path, kind })
+    Some(Request::File {
+        path,
+        work: FileWork::Show(kind),
+    })
 }
 
 // The value of `--show`.
@@ -161,10 +172,22 @@ fn level_in(matches: &ArgMatches<'_>) -> Option<RunLevel>
     level_of(word, shown)
 }
 
+// A work with the classes of a folder, whose other values are read.
+fn with_classes<'a>(matches: &ArgMatches<'a>, work: ClassWork<'a>) -> Option<Request<'a>>
+    requires { HasClassWork (rows_in matches.now) (class_work_of work) }
+    ensures { Reads (class_command (class_work_of work.entry)) (rows_in matches.now) result }
+{
+    let folder = text_in(matches, "path")?;
+    let source = Source {
+        folder,
+        replace: false,
+    };
+    Some(Request::Classes { source, work })
+}
+
 fn run<'a>(matches: &ArgMatches<'a>) -> Option<Request<'a>>
     ensures { Reads (codes "run") (rows_in matches.now) result }
 {
-    let folder = text_in(matches, "path")?;
     let Some(level) = level_in(matches) else {
         return None;
     };
@@ -172,33 +195,12 @@ fn run<'a>(matches: &ArgMatches<'a>) -> Option<Request<'a>>
         return None;
     };
     let keys = text_in(matches, "keys");
-    Some(Request::Run(Run {
-        folder,
+    let run = Run {
         level,
         cycles,
         keys,
-    }))
-}
-
-fn compile<'a>(matches: &ArgMatches<'a>) -> Option<Request<'a>>
-    ensures { Reads (codes "compile") (rows_in matches.now) result }
-{
-    let folder = text_in(matches, "path")?;
-    Some(Request::Compile { folder })
-}
-
-fn build<'a>(matches: &ArgMatches<'a>) -> Option<Request<'a>>
-    ensures { Reads (codes "build") (rows_in matches.now) result }
-{
-    let folder = text_in(matches, "path")?;
-    Some(Request::Build { folder })
-}
-
-fn map_of<'a>(matches: &ArgMatches<'a>) -> Option<Request<'a>>
-    ensures { Reads (codes "map") (rows_in matches.now) result }
-{
-    let folder = text_in(matches, "path")?;
-    Some(Request::Map { folder })
+    };
+    with_classes(matches, ClassWork::Run(run))
 }
 
 fn chip<'a>(matches: &ArgMatches<'a>) -> Option<Request<'a>>
@@ -228,9 +230,9 @@ fn reading<'a>(name: &str, matches: &ArgMatches<'a>) -> Option<Request<'a>>
         "vm" => vm(matches),
         "show" => show(matches),
         "run" => run(matches),
-        "compile" => compile(matches),
-        "build" => build(matches),
-        "map" => map_of(matches),
+        "compile" => with_classes(matches, ClassWork::Compile),
+        "build" => with_classes(matches, ClassWork::Build),
+        "map" => with_classes(matches, ClassWork::Map),
         "chip" => chip(matches),
         "test" => test(matches),
         _ => None,

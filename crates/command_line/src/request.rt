@@ -2,11 +2,18 @@
 
 use machine_io::Show;
 
+/// Where the Jack classes of a program are read.
+#[derive(Clone, Copy, Debug, PartialEq, Eq)]
+pub struct Source<'a> {
+    /// Their folder.
+    pub folder: &'a str,
+    /// Whether they take the place of the classes of the operating system that have their names; no word asks for it yet.
+    pub replace: bool,
+}
+
 /// `exec F --cycles N --from A --to B`: words of the memory after a run of the instruction machine.
 #[derive(Clone, Copy, Debug, PartialEq, Eq)]
-pub struct Exec<'a> {
-    /// The file of the program.
-    pub path: &'a str,
+pub struct Exec {
     /// How many cycles are made, at most 1,000,000,000.
     pub cycles: u32,
     /// The first address that is shown, at most 32,767.
@@ -51,8 +58,6 @@ pub enum RunLevel {
 /// `run D --level L --cycles N [--keys F] [--show W]`: the report of a run of a program.
 #[derive(Clone, Copy, Debug, PartialEq, Eq)]
 pub struct Run<'a> {
-    /// The folder of the program.
-    pub folder: &'a str,
     /// The level, with what is shown after the report.
     pub level: RunLevel,
     /// How many moves are made, at most 1,000,000,000.
@@ -61,25 +66,53 @@ pub struct Run<'a> {
     pub keys: Option<&'a str>,
 }
 
-/// A line: a command with its values.
+/// What is done with the Jack classes of a source.
+#[derive(Clone, Copy, Debug, PartialEq, Eq)]
+pub enum ClassWork<'a> {
+    /// `compile D`: the VM text of a folder's own classes.
+    Compile,
+    /// `build D`: the image of a folder's program, as `.hack` text.
+    Build,
+    /// `map D`: the map of that image.
+    Map,
+    Run(Run<'a>),
+}
+
+/// What is done with one file.
+#[derive(Clone, Copy, Debug, PartialEq, Eq)]
+pub enum FileWork {
+    /// `asm F`: the words of an assembly file, as `.hack` text.
+    Asm,
+    Exec(Exec),
+    /// `show F`: the printed form of a source; its path tells the kind.
+    Show(SourceKind),
+}
+
+/// A line, by what it reads: a command with its values.
 #[derive(Clone, Copy, Debug, PartialEq, Eq)]
 pub enum Request<'a> {
-    /// `asm F`: the words of an assembly file, as `.hack` text.
-    Asm { path: &'a str },
-    Exec(Exec<'a>),
+    /// A work with the Jack classes of a folder.
+    Classes {
+        source: Source<'a>,
+        work: ClassWork<'a>,
+    },
+    /// A work with one file.
+    File {
+        path: &'a str,
+        work: FileWork,
+    },
     /// `vm D [--bare]`: the assembly of the VM files of a folder, with `bare` without start code.
-    Vm { folder: &'a str, bare: bool },
-    /// `show F`: the printed form of a source; its path tells the kind.
-    Show { path: &'a str, kind: SourceKind },
-    Run(Run<'a>),
-    /// `compile D`: the VM text of a folder's own classes.
-    Compile { folder: &'a str },
-    /// `build D`: the image of a folder's program, as `.hack` text.
-    Build { folder: &'a str },
-    /// `map D`: the map of that image.
-    Map { folder: &'a str },
+    Vm {
+        folder: &'a str,
+        bare: bool,
+    },
     /// `chip NAME`: the printed form of a shipped chip.
-    Chip { name: &'a str },
+    Chip {
+        name: &'a str,
+    },
     /// `test F [--gates]`: what a test script puts, with `gates` over memories made of gates.
-    Test { path: &'a str, gates: bool },
+    Test {
+        path: &'a str,
+        gates: bool,
+    },
 }

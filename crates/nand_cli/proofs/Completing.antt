@@ -25,7 +25,7 @@ use Rattle.tower.specs.Resolved.{ResolvedLaw}
 use Rattle.tower.specs.Messages.{build_message}
 use Rattle.tower.specs.declared.building.BuildError.{BuildError}
 use Rattle.tower.specs.declared.building.BuildError.TheVariants as building
-use Rattle.command_line.specs.Line.{IsLine, Line, asm, build, chip, compile, exec, map_line, run, show, test, vm}
+use Rattle.command_line.specs.Line.{IsLine, Line, build, chip, compile, map_image, of_classes, of_file, run, test, vm}
 use Rattle.command_line.proofs.Lines.{one_line}
 use Rattle.nand_cli.specs.Answer.{Ends, Promises, WordsEnd}
 use Rattle.nand_cli.specs.Commands.Build.{BuildRefuses, unbuilt, without_program}
@@ -35,7 +35,7 @@ use Rattle.nand_cli.specs.JackFolder.{BuildIsRefused, FolderIsRefused, FolderMea
 use Rattle.nand_cli.specs.Outside.{Outside}
 use Rattle.nand_cli.specs.declared.command.Status.{Status}
 use Rattle.nand_cli.specs.declared.command.Status.TheVariants as status
-use Rattle.nand_cli.proofs.RunExactly.{never_meaningless, never_scripted, one_list_of_classes}
+use Rattle.nand_cli.proofs.OneFolder.{never_meaningless, never_scripted, one_list_of_classes}
 use Rattle.nand_cli.proofs.FolderResolved.{folder_resolved}
 use Rattle.nand_cli.proofs.Statics.{statics_over}
 
@@ -100,23 +100,24 @@ module _ (laws : Laws) (files : Files) (folder : List ℕ) (sound : IsSoundFolde
   run_accepted keys line (lines, has) (without_script core means computer k) = never_scripted laws.scripts files keys lines line has k
 
 pub sound_lines : Laws → SoundLaw
-sound_lines laws files (build folder) sound = record {
-  accepted = λ out before told h. build_accepted laws files folder sound told h.1;
+sound_lines laws files (of_classes source compile) (sound, script) = record {
+  accepted = λ out before told h. never_refused laws files source.folder sound told h.1;
   agrees = λ out before told h. h;
 }
-sound_lines laws files (map_line folder) sound = record {
-  accepted = λ out before told h. build_accepted laws files folder sound told h.1;
+sound_lines laws files (of_classes source build) (sound, script) = record {
+  accepted = λ out before told h. build_accepted laws files source.folder sound told h.1;
   agrees = λ out before told h. h;
 }
-sound_lines laws files (run folder level cycles keys) sound = record {
-  accepted = λ out before told h. run_accepted laws files folder sound.0 keys told sound.1 h.1;
+sound_lines laws files (of_classes source map_image) (sound, script) = record {
+  accepted = λ out before told h. build_accepted laws files source.folder sound told h.1;
   agrees = λ out before told h. h;
 }
-sound_lines laws files (asm path) sound = absurd sound
-sound_lines laws files (exec path cycles from to) sound = absurd sound
+sound_lines laws files (of_classes source (run level cycles keys)) (sound, script) = record {
+  accepted = λ out before told h. run_accepted laws files source.folder sound keys told script h.1;
+  agrees = λ out before told h. h;
+}
+sound_lines laws files (of_file path work) sound = absurd sound
 sound_lines laws files (vm folder bare) sound = absurd sound
-sound_lines laws files (show path kind) sound = absurd sound
-sound_lines laws files (compile folder) sound = absurd sound
 sound_lines laws files (chip name) sound = absurd sound
 sound_lines laws files (test path gates) sound = absurd sound
 

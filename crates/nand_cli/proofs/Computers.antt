@@ -1,5 +1,5 @@
 -- The computer of a program after its cycles, and its report.
-use Rattle.std.proofs.Common.{◌≡◌, ℕ, [], refl, ap, ◌∙◌, sym, subst, append-nil}
+use Rattle.std.proofs.Common.{◌≡◌, ℕ, [], Result, Ok, Err, IfOk, refl, ap, ◌∙◌, sym, subst, append-nil}
 use Rattle.std.proofs.lemmas.List.Elements.{recursion_from_All}
 use Rattle.hack_machine.specs.Loaded.{machine_of}
 use Rattle.jack_core.specs.declared.program.Core.{Core}
@@ -24,7 +24,7 @@ use Rattle.image_map.proofs.Holding.{keys_held, moves_length}
 use Rattle.simulation.specs.System.{IsKey}
 use Rattle.simulation.specs.Trace.{steps}
 use Rattle.command_line.specs.declared.request.RunLevel.TheVariants as levels
-use Rattle.nand_cli.specs.Inner.Reports.{HasCycled, hack_text}
+use Rattle.nand_cli.specs.Inner.Reports.{HasCycled, IsHackAtStart, hack_text}
 use Rattle.nand_cli.specs.Commands.Run.{IsReport, name_of}
 use Rattle.nand_cli.proofs.Driving.{last_acted}
 
@@ -41,6 +41,14 @@ cycled code old new c n c' ends.Bound goes h first =
 cycled code old new c n c' (ends.Stray s) by h first = let bad = never_ends code old new c n c' (moved.Stray s) by h in absurd (let no : ⊥ = cc in no)
 cycled code old new c n c' (ends.Full w) by h first = let bad = never_ends code old new c n c' (moved.Full w) by h in absurd (let no : ⊥ = cc in no)
 cycled code old new c n c' ends.Done by h first = let bad = never_ends code old new c n c' moved.Done by h in absurd (let no : ⊥ = cc in no)
+
+-- ---- from the start
+
+-- what is prepared with the image of the program
+pub prepared : {E : Type 0} (core : Core) (image : Image) (r : Result MappedMachine E) → IsImageOf core image → IfOk r (λ h. image_in h ≡ image)
+    → IfOk r (λ h. h.hack.moves ≡ 0) → IfOk r (λ h. HasFollowed h []) → IfOk r (IsHackAtStart core)
+prepared core image (Ok h) is same moves stands = record { image = subst (IsImageOf core) (sym same) is; moves = moves; stands = stands }
+prepared core image (Err x) is same moves stands = tt
 
 -- ---- the report
 

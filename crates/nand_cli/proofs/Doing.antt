@@ -6,51 +6,35 @@ use Rattle.outer_world.specs.Written.{CountsPut, Puts}
 use Rattle.outer_world.specs.declared.sink.Put.{Put}
 use Rattle.outer_world.specs.declared.sink.Put.TheVariants as put
 use Rattle.outer_world.proofs.Passing.{Got-nothing}
-use Rattle.command_line.specs.Line.{Line, asm, build, chip, compile, exec, map_line, run, show, test, vm}
+use Rattle.command_line.specs.Line.{IsNoTest, Line, chip, of_classes, of_file, test, vm}
 use Rattle.source_files.specs.Loads.{CountsLoad, Loads, line_of}
 use Rattle.source_files.specs.declared.error.LoadError.{LoadError}
 use Rattle.source_files.specs.declared.error.LoadError.TheVariants as errors
 use Rattle.nand_cli.specs.Answer.{CutsOut, Lacks, Misses, Prints, Refuses, Starves}
-use Rattle.nand_cli.specs.Exact.{IsNoTest}
 use Rattle.nand_cli.specs.Inner.Parts.{Counts, Does, finish_result}
 use Rattle.nand_cli.specs.declared.failure.Failure.TheVariants as failure
 
 -- ---- all commands but `test` put nothing before the line that tells how they ended
 
 pub misses_other : (files : Option Files) (there : List ℕ → Bool) (unfailing : Type 0) (line : Line) → IsNoTest line → (unfailing → IfSome files (λ told. Lacks there told line)) → Misses files there unfailing line [] []
-misses_other files there unfailing (asm path) other may = (refl, refl, may)
-misses_other files there unfailing (exec path cycles from to) other may = (refl, refl, may)
+misses_other files there unfailing (of_classes source work) other may = (refl, refl, may)
+misses_other files there unfailing (of_file path work) other may = (refl, refl, may)
 misses_other files there unfailing (vm folder bare) other may = (refl, refl, may)
-misses_other files there unfailing (show path kind) other may = (refl, refl, may)
-misses_other files there unfailing (compile folder) other may = (refl, refl, may)
-misses_other files there unfailing (build folder) other may = (refl, refl, may)
-misses_other files there unfailing (map_line folder) other may = (refl, refl, may)
 misses_other files there unfailing (chip name) other may = (refl, refl, may)
-misses_other files there unfailing (run folder level cycles keys) other may = (refl, refl, may)
 misses_other files there unfailing (test path gates) other may = absurd other
 
 pub starves_other : (files : Option Files) (line : Line) → IsNoTest line → Starves files line [] []
-starves_other files (asm path) other = (refl, refl)
-starves_other files (exec path cycles from to) other = (refl, refl)
+starves_other files (of_classes source work) other = (refl, refl)
+starves_other files (of_file path work) other = (refl, refl)
 starves_other files (vm folder bare) other = (refl, refl)
-starves_other files (show path kind) other = (refl, refl)
-starves_other files (compile folder) other = (refl, refl)
-starves_other files (build folder) other = (refl, refl)
-starves_other files (map_line folder) other = (refl, refl)
 starves_other files (chip name) other = (refl, refl)
-starves_other files (run folder level cycles keys) other = (refl, refl)
 starves_other files (test path gates) other = absurd other
 
 pub cuts_other : (files : Option Files) (line : Line) (text : List ℕ) (n : ℕ) → IsNoTest line → Prints files line text [] → CutsOut files line (take n text) []
-cuts_other files (asm path) text n other prints = (text, n, prints, refl, refl)
-cuts_other files (exec path cycles from to) text n other prints = (text, n, prints, refl, refl)
+cuts_other files (of_classes source work) text n other prints = (text, n, prints, refl, refl)
+cuts_other files (of_file path work) text n other prints = (text, n, prints, refl, refl)
 cuts_other files (vm folder bare) text n other prints = (text, n, prints, refl, refl)
-cuts_other files (show path kind) text n other prints = (text, n, prints, refl, refl)
-cuts_other files (compile folder) text n other prints = (text, n, prints, refl, refl)
-cuts_other files (build folder) text n other prints = (text, n, prints, refl, refl)
-cuts_other files (map_line folder) text n other prints = (text, n, prints, refl, refl)
 cuts_other files (chip name) text n other prints = (text, n, prints, refl, refl)
-cuts_other files (run folder level cycles keys) text n other prints = (text, n, prints, refl, refl)
 cuts_other files (test path gates) text n other prints = absurd other
 
 -- nothing is put of what is not loaded

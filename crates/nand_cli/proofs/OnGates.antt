@@ -1,11 +1,8 @@
 -- The computer made of gates after its cycles, and its report.
-use Rattle.std.proofs.Common.{◌≡◌, ◌<◌, ◌++◌, ℕ, suc, List, [], Option, Result, Ok, Err, IfOk, length, refl, ap, ◌∙◌, sym, subst, append-nil}
+use Rattle.std.proofs.Common.{◌≡◌, ◌<◌, ◌++◌, ℕ, suc, List, [], Option, Result, Ok, Err, IfOk, refl, ap, ◌∙◌, sym, subst, append-nil}
 use Rattle.std.proofs.lemmas.List.Elements.{recursion_from_All}
 use Rattle.word16.specs.Memory.{keyboard}
-use Rattle.outer_world.specs.Written.{Got, GotPart, Puts}
 use Rattle.outer_world.specs.declared.sink.Put.{Put}
-use Rattle.outer_world.specs.declared.sink.Put.TheVariants as put
-use Rattle.outer_world.proofs.Passing.{Passes-cut, Passes-pending, Passes-put, Passes-then, Puts-failed, Puts-finished}
 use Rattle.machine_io.specs.Driven.{EndsBy, IsDriven}
 use Rattle.machine_io.specs.History.{Turn, moves_from}
 use Rattle.machine_io.specs.Report.{head_text, shown_text}
@@ -15,7 +12,6 @@ use Rattle.machine_io.specs.declared.machine.Moved.{Moved}
 use Rattle.machine_io.specs.declared.machine.Moved.TheVariants as moved
 use Rattle.machine_io.specs.declared.report.LevelName.TheVariants as names
 use Rattle.machine_io.specs.declared.report.Show.{Show}
-use Rattle.machine_io.specs.declared.report.Show.TheVariants as shows
 use Rattle.simulation.specs.Headline.{Agrees, Follows}
 use Rattle.simulation.specs.Laws.{SameCounts}
 use Rattle.simulation.specs.System.{IsKey, Listening, System, Tame, run_of}
@@ -26,11 +22,10 @@ use Rattle.jack_meaning.specs.Meaning.{State, start}
 use Rattle.hdl_tree.specs.Behaviour.{Histories}
 use Rattle.hack_cpu.specs.Computer.{word_at}
 use Rattle.gate_computer.specs.Computer.{IsComputer}
-use Rattle.gate_computer.specs.Followed.{GateMachine, HasFollowed, PutsParts, ShowsCycle, image_in, word_in}
+use Rattle.gate_computer.specs.Followed.{GateMachine, HasFollowed, ShowsCycle, image_in, word_in}
 use Rattle.gate_computer.specs.Parts.{ShowsParts, parts_text}
 use Rattle.image_map.specs.Map.{the_map}
 use Rattle.image_map.specs.declared.map.Image.{Image}
-use Rattle.image_map.specs.Turns.{HoldsKeys}
 use Rattle.image_map.proofs.Holding.{keys_held, moves_length}
 use Rattle.gate_computer.proofs.Seen.{gates, seen}
 use Rattle.jack_compiler.specs.Resolved.{IsResolvedCore}
@@ -42,9 +37,7 @@ use Rattle.command_line.specs.declared.request.Shown.TheVariants.{Nets, Words}
 use Rattle.nand_cli.specs.Commands.Gates.{IsGatesReport, ReportsCycle, gates_trace, meaning_in}
 use Rattle.nand_cli.specs.Commands.Run.{name_of}
 use Rattle.nand_cli.specs.Inner.Parts.{finish_result}
-use Rattle.nand_cli.specs.Inner.Reports.{IsAtStart, Reports, gates_text}
-use Rattle.nand_cli.specs.declared.failure.Failure.{Failure}
-use Rattle.nand_cli.specs.declared.failure.Failure.TheVariants as failure
+use Rattle.nand_cli.specs.Inner.Reports.{IsAtStart, PutsNets, PutsParts, Reports, gates_head, gates_text}
 use Rattle.nand_cli.proofs.Driving.{last_acted}
 use Rattle.nand_cli.proofs.Reporting.{reports_by}
 use Rattle.nand_cli.proofs.Showing.{shown_same}
@@ -106,28 +99,26 @@ module _ (g : GateMachine) (code : ℕ → ℕ) (n : ℕ) (followed : HasFollowe
             ∙ ap (λ l. told ++ l) (shown_same (word_in g) (word_at wires n) (λ a from_on below. s.words a below) show);
       }
 
-  -- the report of parts: no words, and the lines of the parts
+  -- the report of parts: the five lines, and the lines of the parts
   nets_told : (core : Core) (end : End) (other : List ℕ → Histories) (rest : List ℕ) → end ≡ ends.Bound → IsComputer g.image code (suc n) other → ShowsParts other n rest
       → (m : ℕ) (wires : List ℕ → Histories) → n < m → IsComputer g.image code m wires
-      → ReportsCycle core (image_in g) code n Nets (gates_text g (names_of core) end shows.Nothing ++ rest) wires
+      → ReportsCycle core (image_in g) code n Nets (gates_head g (names_of core) end ++ rest) wires
   nets_told core end other rest bound behaves shown m wires near is =
-      let s = shows_cycle m wires near is in
-      let all = names_of core in
-      let head = head_text names.Gates g.moves g.tally.steps (name_of all g.tally.point.sub) g.tally.point.number end in
-      record {
+      let s = shows_cycle m wires near is in record {
         point = g.tally.point;
         seen = s.seen;
         rest = rest;
         after = (other, behaves, shown);
-        is_text = ap (λ l. l ++ rest) (append-nil head) ∙ ap (λ l. l ++ rest) (head_is all end wires bound s);
+        is_text = ap (λ l. l ++ rest) (head_is (names_of core) end wires bound s);
       }
 
-  -- there are lines of the parts
-  parts_there : ((c : ℕ) → IsKey (code c)) → (rest : List ℕ) × (wires : List ℕ → Histories) × IsComputer g.image code (suc n) wires × ShowsParts wires n rest
-  parts_there words =
-      let behaviour = followed.behaves code words (suc n) in
-      let pins = followed.told.wired.pins in
-      (parts_text behaviour.0 n pins.places, behaviour.0, behaviour.1, (pins.places, pins.all_places, refl))
+-- of each history and its keys there are lines of the parts
+pub parts_there : (g : GateMachine) (turns : List Turn) (keys : ℕ → ℕ) (n : ℕ) → HasFollowed g turns → ((c : ℕ) → IsKey (keys c))
+    → (rest : List ℕ) × (wires : List ℕ → Histories) × IsComputer g.image keys (suc n) wires × ShowsParts wires n rest
+parts_there g turns keys n followed words =
+    let behaviour = followed.behaves keys words (suc n) in
+    let pins = followed.told.wired.pins in
+    (parts_text behaviour.0 n pins.places, behaviour.0, behaviour.1, (pins.places, pins.all_places, refl))
 
 -- ---- the headline
 
@@ -167,16 +158,8 @@ gates_reported core code n shown text g resolved words is_image followed told =
           agrees_too (meaning_in core) first (gates_trace p code wires) (run_trace p.words (the_map p.map) code) (word_at wires) (run_word p.words code) n alike.counts alike.words law.agrees;
       most = follows.0;
       gap = follows.1;
-      goes_on = λ m wires near is. (gates State (meaning_in core) first p.words (the_map p.map) code follows.0 n law m wires near is).goes_on;
+      follows = λ m wires near is. gates State (meaning_in core) first p.words (the_map p.map) code follows.0 n law m wires near is;
     }
-
--- ---- the texts
-
-pub puts_then : (a b c : Option (List ℕ)) (s t : List ℕ) (p : Put) → Puts a b s put.Done → Puts b c t p → Puts a c (s ++ t) p
-puts_then a b c s t p h k = Puts-finished a b c t (s ++ t) p (Passes-then a b b [] [] t s t put.Done (Passes-put a b [] s put.Done h) (Passes-pending b [] t)) k
-
-pub puts_cut : (a b : Option (List ℕ)) (s t : List ℕ) → GotPart a b s → GotPart a b (s ++ t)
-puts_cut a b s t h = Puts-failed a b [] (s ++ t) (Passes-cut a b [] [] s t (Passes-put a b [] s put.Failed h))
 
 -- ---- from the start
 
@@ -201,33 +184,18 @@ module _ (core : Core) (code : ℕ → ℕ) (n : ℕ) (resolved : IsResolvedCore
       subst Q (sym is)
       (gates_reported core code n (Words show) (gates_text new (names_of core) end show) new resolved words own_image turns.followed (words_told new code n turns.followed core end show turns.bound))
 
-  with_nets : (t rest : List ℕ) (other : List ℕ → Histories) → IsToldOf shows.Nothing t → IsComputer new.image code (suc n) other → ShowsParts other n rest → IsGatesReport core code n Nets (t ++ rest)
-  with_nets t rest other (end, driven, is) behaves shown =
+  with_nets : (end : End) (rest : List ℕ) (other : List ℕ → Histories) → IsDriven code (HasFollowed old) old.moves n end (HasFollowed new) new.moves → IsComputer new.image code (suc n) other → ShowsParts other n rest
+      → IsGatesReport core code n Nets (gates_head new (names_of core) end ++ rest)
+  with_nets end rest other driven behaves shown =
       let turns = turned code old new old.moves n new.moves end driven at.stands at.moves in
-      let Q : List ℕ → Type 0 = λ l. IsGatesReport core code n Nets (l ++ rest) in
-      subst Q (sym is)
-      (gates_reported core code n Nets (gates_text new (names_of core) end shows.Nothing ++ rest) new resolved words own_image turns.followed (nets_told new code n turns.followed core end other rest turns.bound behaves shown))
+      gates_reported core code n Nets (gates_head new (names_of core) end ++ rest) new resolved words own_image turns.followed (nets_told new code n turns.followed core end other rest turns.bound behaves shown)
 
-  -- the parts are put after the five lines
-  pub nets_after : (out mid out' : Option (List ℕ)) (t : List ℕ) (p : Put) → IsToldOf shows.Nothing t → Got out mid t → PutsParts new.image code n mid out' p → Reports (IsGatesReport core code n Nets) out out' (finish_result p)
-  nets_after out mid out' t p told got parts =
-      reports_by (IsGatesReport core code n Nets) (t ++ parts.text) out out' p (with_nets t parts.text parts.wires told parts.behaves parts.shows) (puts_then out mid out' t parts.text p got parts.puts)
-
-  -- the five lines are not put whole
-  pub nets_cut : (out mid : Option (List ℕ)) (f : Failure) → Reports (IsToldOf shows.Nothing) out mid (Err f) → Reports (IsGatesReport core code n Nets) out mid (Err f)
-  nets_cut out mid failure.Out (t, told, part) =
-      let turns = turned code old new old.moves n new.moves told.0 told.1 at.stands at.moves in
-      let (rest, other, behaves, shown) = parts_there new code n turns.followed words in
-      (t ++ rest, with_nets t rest other told behaves shown, puts_cut out mid t rest part)
-  nets_cut out mid (failure.Unloaded e) h = h
-  nets_cut out mid (failure.Differs d) h = absurd h
-  nets_cut out mid failure.Echo h = absurd h
-
-  -- the parts are asked for at the cycle that comes next
-  pub parts_put : (mid out' : Option (List ℕ)) (t : List ℕ) (p : Put) (key : ℕ) → IsToldOf shows.Nothing t → key ≡ code n
-      → ((turns : List Turn) → HasFollowed new turns → (keys : ℕ → ℕ) → ((c : ℕ) → IsKey (keys c)) → HoldsKeys keys 0 turns → keys (length turns) ≡ key → PutsParts new.image keys (length turns) mid out' p)
-      → PutsParts new.image code n mid out' p
-  parts_put mid out' t p key (end, driven, is) held put_by =
+  -- the five lines are put, and those of the parts in the cycle that comes next
+  pub nets_put : (end : End) (key : ℕ) (out out' : Option (List ℕ)) (p : Put) → IsDriven code (HasFollowed old) old.moves n end (HasFollowed new) new.moves → key ≡ code n
+      → PutsNets new key (gates_head new (names_of core) end) out out' p → Reports (IsGatesReport core code n Nets) out out' (finish_result p)
+  nets_put end key out out' p driven held puts =
       let turns = turned code old new old.moves n new.moves end driven at.stands at.moves in
-      let P : ℕ → Type 0 = λ k. PutsParts new.image code k mid out' p in
-      subst P (moves_length code 0 n) (put_by (moves_from code 0 n) turns.followed code words (keys_held code 0 n) (ap code (moves_length code 0 n) ∙ sym held))
+      let head = gates_head new (names_of core) end in
+      let P : ℕ → Type 0 = λ k. PutsParts new.image code k head out out' p in
+      let parts = subst P (moves_length code 0 n) (puts (moves_from code 0 n) turns.followed code words (keys_held code 0 n) (ap code (moves_length code 0 n) ∙ sym held)) in
+      reports_by (IsGatesReport core code n Nets) (head ++ parts.rest) out out' p (with_nets end parts.rest parts.wires driven parts.behaves parts.shows) parts.puts

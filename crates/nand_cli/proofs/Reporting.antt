@@ -1,4 +1,4 @@
--- The report of what a machine shows; and what a line of `run` does, with a report and without.
+-- The report of what a machine shows; and what a line of `run` does, prepared or not.
 use Rattle.std.proofs.Common.{◌≡◌, ◌-◌, ℕ, Bool, List, [], Option, Some, None, Result, Ok, Err, refl, sym, ◌∙◌, ap, subst, inl, inr, slice_index, take}
 use Rattle.std.specs.Prelude.{IfSome}
 use Rattle.jack_meaning.specs.Level.{point_in}
@@ -17,21 +17,23 @@ use Rattle.outer_world.proofs.Passing.{Got-nothing}
 use Rattle.outer_world.specs.declared.point.Point.{Point}
 use Rattle.machine_io.specs.Report.{report_text}
 use Rattle.machine_io.specs.declared.driving.End.{End}
-use Rattle.machine_io.specs.declared.report.LevelName.{LevelName}
 use Rattle.machine_io.specs.declared.report.LevelName.TheVariants as names
 use Rattle.machine_io.specs.declared.report.Show.{Show}
-use Rattle.source_files.specs.Loads.{Loads}
+use Rattle.source_files.specs.Loads.{CountsLoad, Loads}
+use Rattle.source_files.proofs.Told.{without}
 use Rattle.source_files.specs.declared.error.LoadError.{LoadError}
 use Rattle.source_files.specs.declared.error.LoadError.TheVariants as errors
-use Rattle.command_line.specs.Line.{run}
+use Rattle.command_line.specs.Line.{Source, of_classes, run}
 use Rattle.command_line.specs.declared.request.RunLevel.{RunLevel}
 use Rattle.command_line.specs.declared.request.RunLevel.TheVariants as levels
 use Rattle.tower.specs.Image.{IsImageOf}
 use Rattle.nand_cli.specs.Answer.{Lacks}
 use Rattle.nand_cli.specs.JackFolder.{BuildIsRefused, FolderIsRefused, FolderMeans, IsBuilt}
 use Rattle.nand_cli.specs.Inner.Parts.{Counts, Does, finish_result}
-use Rattle.nand_cli.specs.Inner.Reports.{CountsReport, HasRun, IsPut, Reports, jack_text, machine_text}
-use Rattle.nand_cli.specs.Commands.Run.{HasKeys, IsReport, LacksKeys, ScriptIsRefused, name_of, unbuilt, without_program, without_script}
+use Rattle.nand_cli.specs.Inner.Reports.{CountsReport, HasRun, IsPut, Reports, jack_text}
+use Rattle.nand_cli.specs.Inner.Prepared.{IsPrepared, level_of}
+use Rattle.nand_cli.specs.declared.commands.run.PreparedRun.{PreparedRun}
+use Rattle.nand_cli.specs.Commands.Run.{HasKeys, IsReport, LacksKeys, RunRefuses, ScriptIsRefused, TellsAtMost, name_of, unbuilt, without_program, without_script}
 use Rattle.nand_cli.specs.declared.failure.Failure.{Failure}
 use Rattle.nand_cli.specs.declared.failure.Failure.TheVariants as failure
 use Rattle.nand_cli.proofs.Doing.{missing, nothing_put}
@@ -44,15 +46,6 @@ reported n show core new code end same (s, at, ends_so, shows) =
     ap (λ (p : Point). report_text names.Jack new.moves new.moves (name_of all p.sub) p.number end show (jack_word new)) shows.point
     ∙ ap (λ (ws : List ℕ). report_text names.Jack new.moves new.moves (name_of all (point_in s).sub) (point_in s).number end show (λ a. slice_index ws (a - 2048))) shows.words in
     subst (λ (c : Core). IsReport (levels.Jack show) c code n (jack_text new (names_of c) end show)) same (new.moves, s, end, at, ends_so, text)
-
--- what is put is told by what was read of the machine
-pub read_of : (name : LevelName) (subs : List (List ℕ)) (moves moves' steps steps' : ℕ) (subroutine : List ℕ) (p q : Point) (end : End) (show : Show) (word : ℕ → ℕ) → moves' ≡ moves → steps' ≡ steps → subroutine ≡ name_of subs p.sub → p ≡ q
-    → report_text name moves' steps' subroutine p.number end show word ≡ machine_text name subs moves steps q end show word
-read_of name subs moves moves' steps steps' subroutine p q end show word e f g h =
-    ap (λ m. report_text name m steps' subroutine p.number end show word) e
-    ∙ ap (λ s. report_text name moves s subroutine p.number end show word) f
-    ∙ ap (λ n. report_text name moves steps n p.number end show word) g
-    ∙ ap (λ (r : Point). machine_text name subs moves steps r end show word) h
 
 -- ---- the report is put
 
@@ -78,10 +71,10 @@ reported_as P Q out out' (Err failure.Echo) more h = absurd h
 
 -- ---- the line
 
-module _ (level : RunLevel) (files : Option Files) (there : List ℕ → Bool) (steady : Type 0) (folder : List ℕ) (n : ℕ) (keys : Option (List ℕ)) where
+module _ (level : RunLevel) (files : Option Files) (there : List ℕ → Bool) (steady : Type 0) (source : Source) (n : ℕ) (keys : Option (List ℕ)) where
   -- with a report
-  pub answered : (core : Core) (lines : List Line) (out out' err : Option (List ℕ)) (r : Result (Unit {0}) Failure) → FolderMeans files folder core → IsBuilt core → HasKeys files keys lines
-      → Reports (IsReport level core (code_at lines) n) out out' r → Does files there steady (run folder level n keys) out out' err err r
+  pub answered : (core : Core) (lines : List Line) (out out' err : Option (List ℕ)) (r : Result (Unit {0}) Failure) → FolderMeans files source.folder core → IsBuilt core → HasKeys files keys lines
+      → Reports (IsReport level core (code_at lines) n) out out' r → Does files there steady (of_classes source (run level n keys)) out out' err err r
   answered core lines out out' err (Ok u) means built has (text, is, got) = (text, [], ((core, lines, means, built, has, is), refl), got, Got-nothing err)
   answered core lines out out' err (Err failure.Out) means built has (text, is, part) = (take part.0 text, [], (text, part.0, ((core, lines, means, built, has, is), refl), refl, refl), part.1, Got-nothing err)
   answered core lines out out' err (Err (failure.Differs d)) means built has h = absurd h
@@ -91,28 +84,60 @@ module _ (level : RunLevel) (files : Option Files) (there : List ℕ → Bool) (
   answered core lines out out' err (Err (failure.Unloaded errors.Memory)) means built has (same, e) =
       ([], [], (refl, refl), subst (λ now. Got out now []) (sym same) (Got-nothing out), Got-nothing err)
 
+  -- of what is prepared for it
+  pub shown : (p : PreparedRun) (out out' err : Option (List ℕ)) (r : Result (Unit {0}) Failure) → IsPrepared files source.folder level n keys p
+      → Reports (λ text. IsReport (level_of p.machine) p.core (code_at p.keys) p.cycles text × TellsAtMost p.cycles text) out out' r → Does files there steady (of_classes source (run level n keys)) out out' err err r
+  shown p out out' err r is h =
+      let one = IsReport (level_of p.machine) p.core (code_at p.keys) p.cycles in
+      let told = reported_as (λ text. one text × TellsAtMost p.cycles text) one out out' r (λ text both. both.0) h in
+      let A : RunLevel → Type 0 = λ l. Reports (IsReport l p.core (code_at p.keys) p.cycles) out out' r in
+      let B : ℕ → Type 0 = λ m. Reports (IsReport level p.core (code_at p.keys) m) out out' r in
+      answered p.core p.keys out out' err r is.means is.built is.has_keys (subst B is.same_cycles (subst A is.same_level told))
+
   -- without a program, without its image, and without keys
-  pub without_jack : (out err : Option (List ℕ)) (e : LoadError) → Loads (FolderMeans files folder) (FolderIsRefused files folder) (steady → LacksFolder files there folder) (Err e)
-      → Does files there steady (run folder level n keys) out out err err (Err (failure.Unloaded e))
-  without_jack out err e h =
-      nothing_put (FolderMeans files folder) (FolderIsRefused files folder) (steady → LacksFolder files there folder) files there steady (run folder level n keys) out err e
-      (λ told k. (refl, without_program k, refl)) (λ k s. missing files there folder (run folder level n keys) (λ told none. inl none) (k s)) h tt
+  abbrev Missed : Type 0
+  Missed = steady → IfSome files (λ told. Lacks there told (of_classes source (run level n keys)))
 
-  pub without_image : (out err : Option (List ℕ)) (core : Core) (e : LoadError) → FolderMeans files folder core → Loads (IsImageOf core) (BuildIsRefused core folder) ⊥ (Err e)
-      → Does files there steady (run folder level n keys) out out err err (Err (failure.Unloaded e))
-  without_image out err core e means h =
-      nothing_put (IsImageOf core) (BuildIsRefused core folder) ⊥ files there steady (run folder level n keys) out err e
-      (λ told k. (refl, unbuilt core means k, refl)) (λ k. absurd k) h tt
+  abbrev Unprepared : LoadError → Type 0
+  Unprepared e = Loads (IsPrepared files source.folder level n keys) (RunRefuses files source.folder keys) Missed (Err e)
 
-  without_script_file : (told : Option Files) (core : Core) → FolderMeans told folder core → IsBuilt core → LacksKeys told keys → IfSome told (λ fs. Lacks there fs (run folder level n keys))
+  pub without_jack : (e : LoadError) → Loads (FolderMeans files source.folder) (FolderIsRefused files source.folder) (steady → LacksFolder files there source.folder) (Err e) → Unprepared e
+  without_jack e h =
+      without (FolderMeans files source.folder) (FolderIsRefused files source.folder) (steady → LacksFolder files there source.folder) (IsPrepared files source.folder level n keys) (RunRefuses files source.folder keys) Missed e
+      (λ told k. without_program k) (λ k s. missing files there source.folder (of_classes source (run level n keys)) (λ told none. inl none) (k s)) h
+
+  pub without_image : (core : Core) (e : LoadError) → FolderMeans files source.folder core → Loads (IsImageOf core) (BuildIsRefused core source.folder) ⊥ (Err e) → Unprepared e
+  without_image core e means h =
+      without (IsImageOf core) (BuildIsRefused core source.folder) ⊥ (IsPrepared files source.folder level n keys) (RunRefuses files source.folder keys) Missed e
+      (λ told k. unbuilt core means k) (λ k. absurd k) h
+
+  without_script_file : (told : Option Files) (core : Core) → FolderMeans told source.folder core → IsBuilt core → LacksKeys told keys → IfSome told (λ fs. Lacks there fs (of_classes source (run level n keys)))
   without_script_file None core means built lacks = tt
   without_script_file (Some fs) core means built lacks = inr (core, means, built, lacks)
 
-  pub without_keys : (out err : Option (List ℕ)) (core : Core) (e : LoadError) → FolderMeans files folder core → IsBuilt core
-      → Loads (λ (k : Keys). HasKeys files keys k) (ScriptIsRefused files keys) (steady → LacksKeys files keys) (Err e) → Does files there steady (run folder level n keys) out out err err (Err (failure.Unloaded e))
-  without_keys out err core e means built h =
-      nothing_put (λ (k : Keys). HasKeys files keys k) (ScriptIsRefused files keys) (steady → LacksKeys files keys) files there steady (run folder level n keys) out err e
-      (λ told k. (refl, without_script core means built k, refl)) (λ k s. without_script_file files core means built (k s)) h tt
+  pub without_keys : (core : Core) (e : LoadError) → FolderMeans files source.folder core → IsBuilt core
+      → Loads (λ (k : Keys). HasKeys files keys k) (ScriptIsRefused files keys) (steady → LacksKeys files keys) (Err e) → Unprepared e
+  without_keys core e means built h =
+      without (λ (k : Keys). HasKeys files keys k) (ScriptIsRefused files keys) (steady → LacksKeys files keys) (IsPrepared files source.folder level n keys) (RunRefuses files source.folder keys) Missed e
+      (λ told k. without_script core means built k) (λ k s. without_script_file files core means built (k s)) h
+
+  -- a line that is not prepared does nothing
+  pub undone : (out err : Option (List ℕ)) (e : LoadError) → Unprepared e → Does files there steady (of_classes source (run level n keys)) out out err err (Err (failure.Unloaded e))
+  undone out err e h =
+      nothing_put (IsPrepared files source.folder level n keys) (RunRefuses files source.folder keys) Missed files there steady (of_classes source (run level n keys)) out err e
+      (λ told k. (refl, k, refl)) (λ k. k) h tt
+
+-- a fault of the shelf counts alike, whatever was to be loaded
+pub counts_too : (A B : Type 0) (e : LoadError) (shelf shelf' : ℕ) → CountsLoad {A = A} shelf shelf' (Err e) → CountsLoad {A = B} shelf shelf' (Err e)
+counts_too A B (errors.Refused r) shelf shelf' h = h
+counts_too A B errors.Failed shelf shelf' h = h
+counts_too A B errors.Memory shelf shelf' h = h
+
+-- nor does it rise where nothing is read
+pub counts_none : {A : Type 0} (B : Type 0) (good : A → Type 0) (refused : List ℕ → Type 0) (e : LoadError) (shelf shelf' : ℕ) → Loads good refused ⊥ (Err e) → shelf' ≡ shelf → CountsLoad {A = B} shelf shelf' (Err e)
+counts_none B good refused (errors.Refused r) shelf shelf' h e = e
+counts_none B good refused errors.Failed shelf shelf' h e = absurd h
+counts_none B good refused errors.Memory shelf shelf' h e = e
 
 -- ---- the counts
 

@@ -1,5 +1,5 @@
--- Completeness: where nothing is wrong with what a line of `build`, `map` or `run` names, and no call of the outside fails, the line is done, but
--- for want of memory. So is every line that is not refused. (The book, chapters 4 and 7 to 12.)
+-- Completeness: where nothing is wrong with the Jack classes that a line reads and with its key script, and no call of the outside fails, the line is
+-- done, but for want of memory. So is every line that is not refused. (The book, chapters 4 and 7 to 12.)
 use Rattle.std.specs.Prelude.{◌≡◌, ◌≤◌, ◌⊎◌, ℕ, false, List, Option, Some, length}
 use Rattle.hack_isa.specs.Machine.{image_words}
 use Rattle.outer_world.specs.Faults.{Rose}
@@ -16,7 +16,7 @@ use Rattle.jack_names.specs.Meaning.{program_meaning}
 use Rattle.jack_os.specs.System.{AreFilesOf, system}
 use Rattle.key_script.specs.declared.lines.Line.{Line as KeyLine}
 use Rattle.tower.specs.Budget.{IsBudget}
-use Rattle.command_line.specs.Line.{Line, IsLine, build, map_line, run}
+use Rattle.command_line.specs.Line.{Line, IsLine, of_classes, script_of}
 use Rattle.nand_cli.specs.Answer.{Disagrees, Refuses}
 use Rattle.nand_cli.specs.Commands.Run.{HasKeys}
 use Rattle.nand_cli.specs.JackFolder.{HasClasses, files_meant}
@@ -60,11 +60,9 @@ pub record IsSoundFolder (files : Files) (folder : List ℕ) : Type 0 where
 abbrev pub IsSoundScript : Files → Option (List ℕ) → Type 0
 IsSoundScript files keys = (lines : List KeyLine) × HasKeys (Some files) keys lines
 
--- Nothing is wrong with the folder and the key script of a line of `build`, `map` or `run`.
+-- Nothing is wrong with the folder and the key script of a line that reads Jack classes: of `compile`, `build`, `map` or `run`.
 abbrev pub IsSound : Files → Line → Type 0
-IsSound files (build folder) = IsSoundFolder files folder
-IsSound files (map_line folder) = IsSoundFolder files folder
-IsSound files (run folder level cycles keys) = IsSoundFolder files folder × IsSoundScript files keys
+IsSound files (of_classes source work) = IsSoundFolder files source.folder × IsSoundScript files (script_of work)
 IsSound files line = ⊥
 
 -- A line is neither refused over the files nor ends with a difference.
@@ -90,7 +88,7 @@ IsDoneOrWanting s = (s ≡ status.Done) ⊎ (s ≡ status.NoMemory)
 
 -- What `run` promises of a call with these words, where they are a line and nothing failed.
 pub record Completes (words : List (List ℕ)) (before after : Outside) (s : Status) : Type 0 where
-  -- A line of `build`, `map` or `run` over known files with which nothing is wrong is done,
+  -- A line over known files that reads Jack classes, and with which nothing is wrong, is done,
   pub sound : (files : Files) (line : Line) → before.files ≡ Some files → IsLine words line → IsSound files line → NoneFailed before after → IsDoneOrWanting s
   -- and so is every line that is not refused and does not end with a difference.
   pub unrefused : (line : Line) → IsLine words line → IsUnrefused before.files line → NoneFailed before after → IsDoneOrWanting s

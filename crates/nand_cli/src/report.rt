@@ -3,10 +3,11 @@ ghost use Rattle.std.specs.Prelude.{◌≡◌, ℕ, List, true};
 ghost use Rattle.jack_core.specs.Texts.{names_of};
 ghost use Rattle.key_script.specs.Codes.{code_at};
 ghost use Rattle.machine_io.specs.Driven.{IsDriven};
+ghost use Rattle.machine_io.specs.Report.{head_text};
 ghost use Rattle.machine_io.specs.declared.driving.End.{End};
 ghost use Rattle.outer_world.specs.Written.{CountsPut, Puts};
 ghost use Rattle.nand_cli.specs.Commands.Run.{name_of};
-ghost use Rattle.nand_cli.specs.Inner.Reports.{CountsReport, IsPut, Reports, machine_text};
+ghost use Rattle.nand_cli.specs.Inner.Reports.{CountsReport, IsPut, Reports, machine_head, machine_text};
 
 use crate::failure::{Failure, finished};
 use jack_core::Core;
@@ -24,6 +25,28 @@ fn name_at(core: &Core, sub: u32) -> &str
     }
 }
 
+/// What the report of a machine begins with.
+pub fn head_of<'a, L: Level<Point = Point>>(
+    level: &L,
+    name: LevelName,
+    core: &'a Core,
+    end: End,
+) -> Head<'a>
+    ensures { head_text result.level result.moves result.steps result.subroutine.now
+        result.statement result.end ≡ machine_head name (names_of core.now) (L.reading level.now)
+        end }
+{
+    let point = level.point();
+    Head {
+        level: name,
+        moves: level.moves(),
+        steps: level.steps(),
+        subroutine: name_at(core, point.sub),
+        statement: point.number,
+        end,
+    }
+}
+
 // Puts the report of what a machine shows.
 fn put_report<L: Level<Point = Point>, O: Sink>(
     level: &L,
@@ -33,18 +56,11 @@ fn put_report<L: Level<Point = Point>, O: Sink>(
     show: Show,
     out: &mut O,
 ) -> Put
-    ensures put { Puts (O.written out.old) (O.written out.new) (machine_text name (names_of core.now) (L.count level.now) (L.committed level.now) (L.at_point level.now) end show (L.word level.now)) result }
+    ensures put { Puts (O.written out.old) (O.written out.new)
+        (machine_text name (names_of core.now) (L.reading level.now) end show) result }
     ensures counts { CountsPut (O.faults out.old) (O.faults out.new) result }
 {
-    let point = level.point();
-    let head = Head {
-        level: name,
-        moves: level.moves(),
-        steps: level.steps(),
-        subroutine: name_at(core, point.sub),
-        statement: point.number,
-        end,
-    };
+    let head = head_of(level, name, core, end);
     show_report(&head, show, |a| level.word_at(a), out)
 }
 
@@ -60,8 +76,12 @@ pub fn report<L: Level<Point = Point>, O: Sink>(
     show: Show,
     out: &mut O,
 ) -> Result<(), Failure>
-    requires first { L.count level.old ≡ 0 }
-    ensures reports { Reports (λ text. (end : End) × IsDriven (code_at keys.now) (L.stands level.old) (L.count level.old) cycles end (L.stands level.new) (L.count level.new) × (text ≡ machine_text name (names_of core.now) (L.count level.new) (L.committed level.new) (L.at_point level.new) end show (L.word level.new))) (O.written out.old) (O.written out.new) result }
+    requires first { (L.reading level.old).moves ≡ 0 }
+    ensures reports { Reports
+        (λ text. (end : End) × IsDriven (code_at keys.now) (L.stands level.old)
+        (L.reading level.old).moves cycles end (L.stands level.new) (L.reading level.new).moves
+        × (text ≡ machine_text name (names_of core.now) (L.reading level.new) end show))
+        (O.written out.old) (O.written out.new) result }
     ensures counts { CountsReport (O.faults out.old) (O.faults out.new) result }
     ensures sure { L.sure ≡ true → IsPut result }
     ensures program { L.program level.new ≡ L.program level.old }

@@ -4,7 +4,7 @@ use Rattle.outer_world.specs.declared.point.Point.{Point}
 use Rattle.machine_io.specs.Report.{head_text, shown_text}
 use Rattle.machine_io.specs.declared.driving.End.TheVariants.{Bound}
 use Rattle.machine_io.specs.declared.report.LevelName.TheVariants as names
-use Rattle.simulation.specs.Headline.{Agrees}
+use Rattle.simulation.specs.Headline.{Agrees, Follows}
 use Rattle.simulation.specs.System.{System, Tame}
 use Rattle.simulation.specs.Trace.{Trace, heard_keys, point_at, steps}
 use Rattle.jack_meaning.specs.Gap.{IsGap}
@@ -50,9 +50,9 @@ meaning_in core = meaning_of (the_program core).subroutines
 
 -- The report of n cycles of the computer made of gates, with the image of the program: behaviours of it there are, over any number of cycles
 -- (`behaves`), and whatever the program does, of each of them that goes on past cycle n this is the report of cycle n (`reports`). And this is the
--- headline. Where the meaning's run is tame after the steps counted, over the keys heard, the words of heap and screen and the control point of each
--- such behaviour at cycle n are those of the meaning then (`agrees`). Where the meaning has one more tame step, each behaviour that goes on for the
--- gap of the program makes it (`goes_on`).
+-- headline. In each of these behaviours, where the meaning's run is tame after the steps counted, over the keys heard, the words of heap and screen and
+-- the control point at cycle n are those of the meaning then (`agrees`). Each that goes on for the gap of the program also makes the meaning's next
+-- tame step within it (`follows`).
 pub record IsGatesReport (core : Core) (code : ℕ → ℕ) (n : ℕ) (shown : Shown) (text : List ℕ) : Type 0 where
   pub image : Image
   pub is_image : IsImageOf core image
@@ -63,6 +63,5 @@ pub record IsGatesReport (core : Core) (code : ℕ → ℕ) (n : ℕ) (shown : S
       → Agrees (meaning_in core) (start (the_program core)) (gates_trace image code wires) (word_at wires) n)
   pub most : ℕ
   pub gap : IsGap (the_program core) most
-  pub goes_on : InEach image.words code (n + most) (λ wires.
-      Tame (meaning_in core) (start (the_program core)) (heard_keys (gates_trace image code wires) n) (suc (steps (gates_trace image code wires) n))
-      → steps (gates_trace image code wires) n < steps (gates_trace image code wires) (n + most))
+  pub follows : InEach image.words code (n + most) (λ wires.
+      Follows (meaning_in core) (start (the_program core)) (gates_trace image code wires) (word_at wires) most n)

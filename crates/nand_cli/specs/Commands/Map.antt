@@ -1,4 +1,4 @@
--- The command `map`: the map of the image of the program of a folder, or why there is none. (The book, chapters 8 and 11.)
+-- The command `map`: the map of the image of the program of a folder; it is refused as `build` is. (The book, chapters 8 and 11.)
 use Rattle.std.specs.Prelude.{◌≡◌, ◌≤◌, ℕ, suc, List, [], ◌∷◌, Option, length}
 use Rattle.outer_world.specs.Files.{Files}
 use Rattle.jack_core.specs.Texts.{names_of}
@@ -6,7 +6,7 @@ use Rattle.jack_core.specs.declared.program.Core.{Core}
 use Rattle.image_map.specs.declared.map.Image.{Image}
 use Rattle.image_map.specs.Text.{map_text}
 use Rattle.image_map.specs.Map.{Covers, CoversShared}
-use Rattle.nand_cli.specs.Commands.Build.{BuildRefuses, FolderBuilds}
+use Rattle.nand_cli.specs.Commands.Build.{FolderBuilds}
 
 -- Each of these addresses is above the one before, and the first is at least this one.
 abbrev pub RiseFrom : ℕ → List ℕ → Type 0
@@ -28,7 +28,3 @@ abbrev pub MapPrints : Option Files → List ℕ → List ℕ → Type 0
 MapPrints files folder out =
     (core : Core) × (image : Image) × FolderBuilds files folder core image
     × HasEachAddress image × AreRising image.map.commits × (out ≡ map_text (names_of core) image.map)
-
--- There is no map where there is no image.
-abbrev pub MapRefuses : Option Files → List ℕ → List ℕ → Type 0
-MapRefuses files folder line = BuildRefuses files folder line

@@ -1,5 +1,5 @@
 -- The command `run`: what it reports of the program of a folder, and why a folder or a key script is refused. (The book, chapters 9 to 12.)
-use Rattle.std.specs.Prelude.{◌≡◌, ◌<◌, ℕ, zero, suc, List, [], Option, Some, None, get_or, option_and_then}
+use Rattle.std.specs.Prelude.{◌≡◌, ◌<◌, ◌≤◌, ◌++◌, ℕ, zero, suc, List, [], Option, Some, None, codes, decimal, get_or, option_and_then}
 use Rattle.outer_world.specs.Files.{Files, LacksFile}
 use Rattle.source_files.specs.Sources.{IsFaulty, SpellsAt}
 use Rattle.key_script.specs.Codes.{code_at}
@@ -14,10 +14,11 @@ use Rattle.jack_meaning.specs.Meaning.{State, Stray, Done, start, step}
 use Rattle.jack_meaning.specs.Level.{meaning_of, point_in}
 use Rattle.jack_core.specs.Texts.{the_program, the_subroutines, names_of}
 use Rattle.jack_core.specs.declared.program.Core.{Core}
-use Rattle.machine_io.specs.Report.{report_text}
+use Rattle.machine_io.specs.Report.{level_name, report_text, said_line}
 use Rattle.machine_io.specs.declared.driving.End.{End}
 use Rattle.machine_io.specs.declared.driving.End.TheVariants as ends
 use Rattle.machine_io.specs.declared.machine.Stray.TheVariants as strays
+use Rattle.machine_io.specs.declared.report.LevelName.{LevelName}
 use Rattle.machine_io.specs.declared.report.LevelName.TheVariants as names
 use Rattle.machine_io.specs.declared.report.Show.{Show}
 use Rattle.outer_world.specs.declared.point.Point.{Point}
@@ -99,6 +100,12 @@ IsReport (levels.Jack show) core code n text = IsJackReport core code n show tex
 IsReport (levels.Vm show) core code n text = IsVmReport core code n show text
 IsReport (levels.Hack show) core code n text = IsHackReport core code n show text
 IsReport (levels.Gates shown) core code n text = IsGatesReport core code n shown text
+
+-- The text tells of so many moves at most.
+abbrev pub TellsAtMost : ℕ → List ℕ → Type 0
+TellsAtMost n text =
+    (level : LevelName) × (moves : ℕ) × (rest : List ℕ) × (moves ≤ n)
+    × (text ≡ said_line (codes "level") (level_name level) ++ (said_line (codes "moves") (decimal moves) ++ rest))
 
 -- ---- the line
 

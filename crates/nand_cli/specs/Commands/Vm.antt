@@ -1,9 +1,7 @@
 -- The command `vm`: the assembly of the program that the VM files of a folder spell, one instruction a line, or why the folder is refused.
 -- (The book, chapters 7 and 8.)
-use Rattle.std.specs.Prelude.{◌≡◌, ◌≤◌, ◌⊎◌, ℕ, Bool, false, List, Option, Some, Ok, Err, length, map, codes}
+use Rattle.std.specs.Prelude.{◌≡◌, ◌≤◌, ◌⊎◌, ℕ, Bool, List, Option, Some, Ok, Err, length, codes}
 use Rattle.hack_isa.specs.Machine.{image_words}
-use Rattle.hack_isa.specs.Table.{word_of}
-use Rattle.image_map.specs.Computer.{endless_loop}
 use Rattle.outer_world.specs.Files.{Files}
 use Rattle.outer_world.specs.Refusals.{Message, message_line}
 use Rattle.hack_asm.specs.Written.{asm_text}
@@ -13,10 +11,8 @@ use Rattle.vm_link.specs.Links.{Links}
 use Rattle.vm_link.specs.Messages.{link_message}
 use Rattle.vm_link.specs.declared.fault.LinkFault.{LinkFault}
 use Rattle.vm_link.specs.declared.linked.Linked.{Linked}
-use Rattle.vm_translator.specs.Image.{IsTooLarge, image_map_of, image_of}
-use Rattle.image_map.specs.Map.{the_map}
+use Rattle.vm_translator.specs.Image.{IsTooLarge, image_of}
 use Rattle.vm_translator.specs.Messages.{code_message}
-use Rattle.vm_translator.specs.Translated.{IsTranslated}
 use Rattle.vm_translator.specs.declared.coded.CodeFault.TheVariants.{TooLarge}
 use Rattle.vm_parser.specs.Language.{RefusesVm, SpellsVmFile}
 
@@ -43,10 +39,3 @@ IsNoCode bare folder program line = (told : Message) × HasNoCode bare program t
 pub data VmRefuses (files : Option Files) (folder : List ℕ) (bare : Bool) (line : List ℕ) : Type 0 where
   unread : IsUnread (SpellsVmFile bare) (RefusesVm bare) (codes ".vm") files folder line → VmRefuses files folder bare line
   without_code : (program : List File) → HasProgram bare files folder program → IsNoCode bare folder program line → VmRefuses files folder bare line
-
--- The image of the program of a folder does what the program does. (No command that is read from text is a commit, so calls, returns and comparisons
--- are all alike.)
-abbrev pub VmDoesLaw : Type 0
-VmDoesLaw =
-    (files : Option Files) (folder : List ℕ) (program : List File) (linked : Linked) → HasProgram false files folder program → Links false program (Ok linked)
-    → length (image_of linked) ≤ image_words → IsTranslated linked (map word_of (image_of linked)) (the_map (image_map_of linked)) endless_loop

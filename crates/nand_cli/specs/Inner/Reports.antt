@@ -1,8 +1,9 @@
 -- What reporting a run says.
-use Rattle.std.specs.Prelude.{◌≡◌, ℕ, List, [], Option, Some, Result, Ok, Err}
+use Rattle.std.specs.Prelude.{◌≡◌, ◌++◌, ℕ, suc, List, [], Option, Some, Result, Ok, Err, length}
 use Rattle.outer_world.specs.Faults.{Rose}
-use Rattle.outer_world.specs.Written.{Got, GotPart}
+use Rattle.outer_world.specs.Written.{Got, GotPart, Puts}
 use Rattle.outer_world.specs.declared.point.Point.{Point}
+use Rattle.outer_world.specs.declared.sink.Put.{Put}
 use Rattle.source_files.specs.declared.error.LoadError.TheVariants.{Memory}
 use Rattle.gate_computer.specs.Followed.{GateMachine, HasFollowed as GatesFollowed, image_in as gates_image, word_in}
 use Rattle.hack_machine.specs.Loaded.{machine_of}
@@ -12,7 +13,14 @@ use Rattle.jack_core.specs.Texts.{the_program, the_subroutines}
 use Rattle.jack_core.specs.declared.program.Core.{Core}
 use Rattle.jack_machine.specs.Whole.{jack_point, jack_word}
 use Rattle.jack_machine.specs.declared.jack.Jack.{Jack}
-use Rattle.machine_io.specs.Report.{report_text}
+use Rattle.machine_io.specs.History.{Turn}
+use Rattle.machine_io.specs.Reading.{Reading}
+use Rattle.machine_io.specs.Report.{head_text, report_text}
+use Rattle.simulation.specs.System.{IsKey}
+use Rattle.image_map.specs.Turns.{HoldsKeys}
+use Rattle.hdl_tree.specs.Behaviour.{Histories}
+use Rattle.gate_computer.specs.Computer.{IsComputer}
+use Rattle.gate_computer.specs.Parts.{ShowsParts}
 use Rattle.machine_io.specs.declared.driving.End.{End}
 use Rattle.machine_io.specs.declared.driving.End.TheVariants as ends
 use Rattle.machine_io.specs.declared.report.LevelName.{LevelName}
@@ -47,10 +55,14 @@ IsPut (Err (failure.Unloaded e)) = ⊥
 IsPut (Err (failure.Differs d)) = ⊥
 IsPut (Err failure.Echo) = ⊥
 
--- the report of what a machine shows: its moves and steps, its control point by the names of subroutines, how its moves ended, and its words
-abbrev pub machine_text : LevelName → List (List ℕ) → ℕ → ℕ → Point → End → Show → (ℕ → ℕ) → List ℕ
-machine_text level subs moves steps point end show word =
-    report_text level moves steps (name_of subs point.sub) point.number end show word
+-- what the report of a machine begins with: its moves and steps, its control point by the names of subroutines, and how its moves ended
+abbrev pub machine_head : LevelName → List (List ℕ) → Reading Point → End → List ℕ
+machine_head level subs seen end = head_text level seen.moves seen.steps (name_of subs seen.point.sub) seen.point.number end
+
+-- the report of what is read of a machine
+abbrev pub machine_text : LevelName → List (List ℕ) → Reading Point → End → Show → List ℕ
+machine_text level subs seen end show =
+    report_text level seen.moves seen.steps (name_of subs seen.point.sub) seen.point.number end show seen.word
 
 -- ---- level jack
 
@@ -67,7 +79,8 @@ HasRun code n jack end =
 
 -- the report of what a machine shows
 abbrev pub jack_text : Jack → List (List ℕ) → End → Show → List ℕ
-jack_text jack subs end show = machine_text names.Jack subs jack.moves jack.moves (jack_point jack) end show (jack_word jack)
+jack_text jack subs end show =
+    machine_text names.Jack subs (record { moves = jack.moves; steps = jack.moves; point = jack_point jack; word = jack_word jack }) end show
 
 -- ---- level vm
 
@@ -91,7 +104,8 @@ pub record IsHackAtStart (core : Core) (h : MappedMachine) : Type 0 where
 
 -- the report of what a computer shows
 abbrev pub hack_text : MappedMachine → List (List ℕ) → End → Show → List ℕ
-hack_text h subs end show = machine_text names.Hack subs h.hack.moves h.tally.steps h.tally.point end show (machine_of h.hack).memory
+hack_text h subs end show =
+    machine_text names.Hack subs (record { moves = h.hack.moves; steps = h.tally.steps; point = h.tally.point; word = (machine_of h.hack).memory }) end show
 
 -- ---- level gates
 
@@ -101,6 +115,27 @@ pub record IsAtStart (core : Core) (g : GateMachine) : Type 0 where
   pub moves : g.moves ≡ 0
   pub stands : GatesFollowed g []
 
--- the report of what it shows
+-- what is read of it
+abbrev pub gates_reading : GateMachine → Reading Point
+gates_reading g = record { moves = g.moves; steps = g.tally.steps; point = g.tally.point; word = word_in g }
+
+-- what its report begins with, and the report with words
+abbrev pub gates_head : GateMachine → List (List ℕ) → End → List ℕ
+gates_head g subs end = machine_head names.Gates subs (gates_reading g) end
+
 abbrev pub gates_text : GateMachine → List (List ℕ) → End → Show → List ℕ
-gates_text g subs end show = machine_text names.Gates subs g.moves g.tally.steps g.tally.point end show (word_in g)
+gates_text g subs end show = machine_text names.Gates subs (gates_reading g) end show
+
+-- After these lines came those of all parts in cycle n of a behaviour of the Computer with this image and these keys, and all of it was put.
+pub record PutsParts (image : List ℕ) (keys : ℕ → ℕ) (n : ℕ) (head : List ℕ) (before now : Option (List ℕ)) (answer : Put) : Type 0 where
+  pub rest : List ℕ
+  pub wires : List ℕ → Histories
+  pub behaves : IsComputer image keys (suc n) wires
+  pub shows : ShowsParts wires n rest
+  pub puts : Puts before now (head ++ rest) answer
+
+-- So it was put of the cycle that comes next, in which the keyboard holds this key, whatever the keys of the turns before.
+abbrev pub PutsNets : GateMachine → ℕ → List ℕ → Option (List ℕ) → Option (List ℕ) → Put → Type 0
+PutsNets g key head before now answer =
+    (turns : List Turn) → GatesFollowed g turns → (keys : ℕ → ℕ) → ((c : ℕ) → IsKey (keys c)) → HoldsKeys keys 0 turns → keys (length turns) ≡ key
+    → PutsParts g.image keys (length turns) head before now answer

@@ -1,10 +1,11 @@
 //! The command `build`: the image of a folder's program.
 ghost use Rattle.std.specs.Prelude.{◌≡◌, List, ℕ, Option};
-ghost use Rattle.command_line.specs.Line.{build};
+ghost use Rattle.command_line.specs.Line.{build, of_classes, source_of};
 ghost use Rattle.nand_cli.specs.Inner.Parts.{Counts, Does};
 
 use crate::failure::{Failure, finished};
 use crate::jack::load_built;
+use command_line::Source;
 use hack_asm::write_hack;
 use outer_world::{Shelf, Sink};
 use std::alloc::Global;
@@ -12,15 +13,15 @@ use std::alloc::Global;
 /// Does a line of `build`; err is left as it is.
 pub fn answer_build<F: Shelf, O: Sink>(
     alloc: Global,
-    folder: &str,
+    source: &Source<'_>,
     shelf: &mut F,
     out: &mut O,
 ) -> Result<(), Failure>
-    ensures does { (err : Option (List ℕ)) → Does (F.files shelf.old) (F.there shelf.old) (F.unfailing shelf.old) (build folder.now) (O.written out.old) (O.written out.new) err err result }
+    ensures does { (err : Option (List ℕ)) → Does (F.files shelf.old) (F.there shelf.old) (F.unfailing shelf.old) (of_classes (source_of source.now) build) (O.written out.old) (O.written out.new) err err result }
     ensures counts { (err : ℕ) → Counts (F.faults shelf.old) (F.faults shelf.new) (O.faults out.old) (O.faults out.new) err err result }
     ensures kept { F.files shelf.new ≡ F.files shelf.old }
     ensures stays { F.there shelf.new ≡ F.there shelf.old }
 {
-    let program = load_built(alloc, folder, shelf)?;
+    let program = load_built(alloc, source.folder, shelf)?;
     finished(write_hack(program.image.words.as_slice(), out))
 }

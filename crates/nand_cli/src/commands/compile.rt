@@ -1,6 +1,6 @@
 //! The command `compile`: the VM text of a folder's classes.
 ghost use Rattle.std.specs.Prelude.{◌≡◌, ◌≤◌, IfOk, List, ℕ, Option, length, map};
-ghost use Rattle.command_line.specs.Line.{compile};
+ghost use Rattle.command_line.specs.Line.{compile, of_classes, source_of};
 ghost use Rattle.jack_tree.specs.Seen.{the_file};
 ghost use Rattle.tower.specs.Compiled.{AreCompiled, AreNamed};
 ghost use Rattle.tower.specs.Spelled.{AreSpelled};
@@ -11,6 +11,7 @@ ghost use Rattle.nand_cli.specs.Inner.Parts.{Counts, Does};
 
 use crate::failure::{Failure, finished};
 use crate::jack::{ENDING, not_meant};
+use command_line::Source;
 use jack_parser::JackLanguage;
 use jack_places::first_law;
 use jack_tree::Class;
@@ -38,16 +39,16 @@ fn compiled(alloc: Global, folder: &str, classes: &[Class]) -> Result<Program, L
 /// Does a line of `compile`; err is left as it is.
 pub fn answer_compile<F: Shelf, O: Sink>(
     alloc: Global,
-    folder: &str,
+    source: &Source<'_>,
     shelf: &mut F,
     out: &mut O,
 ) -> Result<(), Failure>
-    ensures does { (err : Option (List ℕ)) → Does (F.files shelf.old) (F.there shelf.old) (F.unfailing shelf.old) (compile folder.now) (O.written out.old) (O.written out.new) err err result }
+    ensures does { (err : Option (List ℕ)) → Does (F.files shelf.old) (F.there shelf.old) (F.unfailing shelf.old) (of_classes (source_of source.now) compile) (O.written out.old) (O.written out.new) err err result }
     ensures counts { (err : ℕ) → Counts (F.faults shelf.old) (F.faults shelf.new) (O.faults out.old) (O.faults out.new) err err result }
     ensures kept { F.files shelf.new ≡ F.files shelf.old }
     ensures stays { F.there shelf.new ≡ F.there shelf.old }
 {
-    let classes = load_folder(alloc, &JackLanguage, folder, ENDING, shelf)?;
-    let files = compiled(alloc, folder, &classes)?;
+    let classes = load_folder(alloc, &JackLanguage, source.folder, ENDING, shelf)?;
+    let files = compiled(alloc, source.folder, &classes)?;
     finished(print_files(&files.as_slice()[..classes.len()], out))
 }

@@ -1,6 +1,6 @@
 //! The command `exec`: words of the memory after a run of the instruction machine.
 ghost use Rattle.std.specs.Prelude.{◌≡◌, ◌≤◌, List, ℕ, IfOk, Option, length};
-ghost use Rattle.command_line.specs.Line.{exec};
+ghost use Rattle.command_line.specs.Line.{exec, of_file};
 ghost use Rattle.hack_isa.specs.Machine.{machine_at, image_words};
 ghost use Rattle.hack_machine.specs.Loaded.{machine_of};
 ghost use Rattle.nand_cli.specs.Commands.Exec.{form_of};
@@ -47,19 +47,20 @@ fn machine_after<K: Keyboard>(
 /// Does a line of `exec`; err is left as it is.
 pub fn answer_exec<F: Shelf, O: Sink>(
     alloc: Global,
-    request: &Exec<'_>,
+    path: &str,
+    request: &Exec,
     shelf: &mut F,
     out: &mut O,
 ) -> Result<(), Failure>
-    ensures does { (err : Option (List ℕ)) → Does (F.files shelf.old) (F.there shelf.old) (F.unfailing shelf.old) (exec request.now.path.now request.now.cycles request.now.from request.now.to) (O.written out.old) (O.written out.new) err err result }
+    ensures does { (err : Option (List ℕ)) → Does (F.files shelf.old) (F.there shelf.old) (F.unfailing shelf.old) (of_file path.now (exec request.now.cycles request.now.from request.now.to)) (O.written out.old) (O.written out.new) err err result }
     ensures counts { (err : ℕ) → Counts (F.faults shelf.old) (F.faults shelf.new) (O.faults out.old) (O.faults out.new) err err result }
     ensures kept { F.files shelf.new ≡ F.files shelf.old }
     ensures stays { F.there shelf.new ≡ F.there shelf.old }
 {
     let language = ProgramLanguage {
-        form: form_of(request.path),
+        form: form_of(path),
     };
-    let program = load(alloc, &language, request.path, "", shelf)?;
+    let program = load(alloc, &language, path, "", shelf)?;
     let keys = Keys::none(alloc);
     let hack = machine_after(alloc, &program, &keys, request.cycles)?;
     finished(show_words(

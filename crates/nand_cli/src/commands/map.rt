@@ -1,10 +1,11 @@
 //! The command `map`: the map of the image of a folder's program.
 ghost use Rattle.std.specs.Prelude.{◌≡◌, List, ℕ, IfOk, Option, map};
-ghost use Rattle.command_line.specs.Line.{map_line};
+ghost use Rattle.command_line.specs.Line.{map_image, of_classes, source_of};
 ghost use Rattle.nand_cli.specs.Inner.Parts.{Counts, Does};
 
 use crate::failure::{Failure, finished};
 use crate::jack::load_built;
+use command_line::Source;
 use image_map::show_map;
 use jack_core::Subroutine;
 use outer_world::{Shelf, Sink};
@@ -24,16 +25,16 @@ fn names<'a>(alloc: Global, subroutines: &'a [Subroutine]) -> Result<Vec<&'a str
 /// Does a line of `map`; err is left as it is.
 pub fn answer_map<F: Shelf, O: Sink>(
     alloc: Global,
-    folder: &str,
+    source: &Source<'_>,
     shelf: &mut F,
     out: &mut O,
 ) -> Result<(), Failure>
-    ensures does { (err : Option (List ℕ)) → Does (F.files shelf.old) (F.there shelf.old) (F.unfailing shelf.old) (map_line folder.now) (O.written out.old) (O.written out.new) err err result }
+    ensures does { (err : Option (List ℕ)) → Does (F.files shelf.old) (F.there shelf.old) (F.unfailing shelf.old) (of_classes (source_of source.now) map_image) (O.written out.old) (O.written out.new) err err result }
     ensures counts { (err : ℕ) → Counts (F.faults shelf.old) (F.faults shelf.new) (O.faults out.old) (O.faults out.new) err err result }
     ensures kept { F.files shelf.new ≡ F.files shelf.old }
     ensures stays { F.there shelf.new ≡ F.there shelf.old }
 {
-    let program = load_built(alloc, folder, shelf)?;
+    let program = load_built(alloc, source.folder, shelf)?;
     let names = names(alloc, &program.core.subroutines)?;
     finished(show_map(&names, &program.image.map, out))
 }

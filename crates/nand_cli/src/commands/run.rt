@@ -1,37 +1,45 @@
-//! The command `run`: the report of a program's run.
-ghost use Rattle.std.specs.Prelude.{◌≡◌, List, ℕ, Option, option_map};
-ghost use Rattle.command_line.specs.Line.{run};
-ghost use Rattle.jack_compiler.specs.Resolved.{IsResolvedCore};
+//! The command `run`: a program is built and its keys are read, and then it is run and its report is put.
+ghost use Rattle.std.specs.Prelude.{◌≡◌, List, ℕ, Option, option_map, IfSome};
+ghost use Rattle.command_line.specs.Line.{of_classes, run, source_of};
 ghost use Rattle.key_script.specs.Codes.{code_at};
 ghost use Rattle.key_script.specs.declared.keys.Keys.{Keys};
-ghost use Rattle.simulation.specs.System.{IsKey};
-ghost use Rattle.outer_world.specs.Files.{LacksFile};
 ghost use Rattle.source_files.specs.Loads.{CountsLoad, Loads};
-ghost use Rattle.image_map.specs.Map.{IsMapped};
-ghost use Rattle.tower.specs.Image.{IsImageOf};
-ghost use Rattle.nand_cli.specs.Commands.Run.{HasKeys, IsReport, LacksKeys, ScriptIsRefused};
+ghost use Rattle.nand_cli.specs.Answer.{Lacks};
+ghost use Rattle.nand_cli.specs.Commands.Run.{HasKeys, IsReport, LacksKeys, RunRefuses, ScriptIsRefused, TellsAtMost};
 ghost use Rattle.nand_cli.specs.Inner.Parts.{Counts, Does};
-ghost use Rattle.nand_cli.specs.Inner.Reports.{CountsReport, IsHackAtStart, IsPut, Reports};
+ghost use Rattle.nand_cli.specs.Inner.Prepared.{IsPrepared, IsReady, WantsNoMemory, level_of};
+ghost use Rattle.nand_cli.specs.Inner.Reports.{CountsReport, IsPut, Reports};
 
 use crate::failure::Failure;
-use crate::gates::report_gates;
 use crate::jack::{image_of, load_jack};
-use crate::report::report;
-use crate::vm_run::report_vm;
-use command_line::{Run, RunLevel};
-use image_map::Image;
+use crate::levels::gates::report_gates;
+use crate::levels::hack::report_hack;
+use crate::levels::jack::report_jack;
+use crate::levels::vm::report_vm;
+use crate::levels::{Machine, machine_at_start};
+use command_line::{Run, Source};
 use jack_core::Core;
-use jack_machine::Jack;
 use key_script::{KeyLanguage, Keys};
-use machine_io::{LevelName, Show};
 use outer_world::{Shelf, Sink};
 use source_files::{LoadError, load};
 use std::alloc::Global;
-use tower::{HackLevel, prepare_hack};
+
+/// A run of a program that is built, with the keys that are read and a machine at its start.
+#[derive(Drop)]
+pub struct PreparedRun {
+    core: Core,
+    keys: Keys,
+    cycles: u32,
+    machine: Machine,
+}
 
 // The keys of a run; without a script no key is ever pressed.
 fn load_keys<F: Shelf>(alloc: Global, path: Option<&str>, shelf: &mut F) -> Result<Keys, LoadError>
-    ensures loads { Loads (λ (keys : Keys). HasKeys (F.files shelf.old) (option_map (λ path. path.now) path.entry) keys) (ScriptIsRefused (F.files shelf.old) (option_map (λ path. path.now) path.entry)) (F.unfailing shelf.old → LacksKeys (F.files shelf.old) (option_map (λ path. path.now) path.entry)) result }
+    ensures loads { Loads (λ (keys : Keys). HasKeys (F.files shelf.old)
+        (option_map (λ path. path.now) path.entry) keys)
+        (ScriptIsRefused (F.files shelf.old) (option_map (λ path. path.now) path.entry))
+        (F.unfailing shelf.old → LacksKeys (F.files shelf.old)
+        (option_map (λ path. path.now) path.entry)) result }
     ensures counts { CountsLoad (F.faults shelf.old) (F.faults shelf.new) result }
     ensures kept { F.files shelf.new ≡ F.files shelf.old }
     ensures stays { F.there shelf.new ≡ F.there shelf.old }
@@ -42,94 +50,88 @@ fn load_keys<F: Shelf>(alloc: Global, path: Option<&str>, shelf: &mut F) -> Resu
     }
 }
 
-// Runs a program by its meaning.
-fn report_jack<O: Sink>(
+/// Reads and builds all that a line of `run` needs: at each level the program is built first, then the keys are read, and then the machine is put at
+/// its start.
+///
+/// Otherwise the refusal of the folder, else of the build, else of the key script; or the shelf failed, or memory was wanted.
+pub fn prepare_run<F: Shelf>(
     alloc: Global,
-    core: &Core,
-    keys: &Keys,
-    cycles: u32,
-    show: Show,
-    out: &mut O,
-) -> Result<(), Failure>
-    requires { IsResolvedCore core.now }
-    ensures reports { Reports (IsReport (RunLevel.Jack show) core.now (code_at keys.now) cycles) (O.written out.old) (O.written out.new) result }
-    ensures counts { CountsReport (O.faults out.old) (O.faults out.new) result }
+    source: &Source<'_>,
+    request: &Run<'_>,
+    shelf: &mut F,
+) -> Result<PreparedRun, LoadError>
+    ensures loads { Loads (IsPrepared (F.files shelf.old) source.now.folder.now request.now.level
+        request.now.cycles (option_map (λ keys. keys.now) request.now.keys))
+        (RunRefuses (F.files shelf.old) source.now.folder.now
+        (option_map (λ keys. keys.now) request.now.keys))
+        (F.unfailing shelf.old → IfSome (F.files shelf.old)
+        (λ told. Lacks (F.there shelf.old) told
+        (of_classes (source_of source.now) (run request.now.level request.now.cycles
+        (option_map (λ keys. keys.now) request.now.keys))))) result }
+    ensures counts { CountsLoad (F.faults shelf.old) (F.faults shelf.new) result }
+    ensures kept { F.files shelf.new ≡ F.files shelf.old }
+    ensures stays { F.there shelf.new ≡ F.there shelf.old }
 {
-    let mut jack = Jack::new(alloc, core)?;
-    report(&mut jack, LevelName::Jack, core, keys, cycles, show, out)
+    let core = load_jack(alloc, source.folder, shelf)?;
+    let image = image_of(alloc, source.folder, &core)?;
+    let keys = load_keys(alloc, request.keys, shelf)?;
+    let machine = machine_at_start(alloc, &core, image, request.level)?;
+    Ok(PreparedRun {
+        core,
+        keys,
+        cycles: request.cycles,
+        machine,
+    })
 }
 
-// The report of the computer with the image of a program, which is there. It wants no memory.
-fn report_cycles<O: Sink>(
-    computer: &mut HackLevel,
-    core: &Core,
-    keys: &Keys,
-    cycles: u32,
-    show: Show,
-    out: &mut O,
-) -> Result<(), Failure>
-    requires resolved { IsResolvedCore core.now }
-    requires words { (c : ℕ) → IsKey (code_at keys.now c) }
-    requires start { IsHackAtStart core.now computer.old }
-    ensures reports { Reports (IsReport (RunLevel.Hack show) core.now (code_at keys.now) cycles) (O.written out.old) (O.written out.new) result }
-    ensures counts { CountsReport (O.faults out.old) (O.faults out.new) result }
-    ensures put { IsPut result }
-{
-    report(computer, LevelName::Hack, core, keys, cycles, show, out)
+impl PreparedRun {
+    /// Runs the program, with at most so many moves as are asked for, and puts its report. No memory is wanted but at level jack, where each call of the program may want some.
+    pub fn show<O: Sink>(self, out: &mut O) -> Result<(), Failure>
+        requires { IsReady self }
+        ensures reports { Reports
+            (λ text. IsReport (level_of self.machine) self.core (code_at self.keys) self.cycles text
+            × TellsAtMost self.cycles text) (O.written out.old) (O.written out.new) result }
+        ensures counts { CountsReport (O.faults out.old) (O.faults out.new) result }
+        ensures put { WantsNoMemory self.machine → IsPut result }
+    {
+        let PreparedRun {
+            core,
+            keys,
+            cycles,
+            machine,
+        } = self;
+        match machine {
+            Machine::Jack(alloc, show) => report_jack(alloc, &core, &keys, cycles, show, out),
+            Machine::Vm(mut vm, show) => report_vm(&mut vm, &core, &keys, cycles, show, out),
+            Machine::Hack(mut hack, show) => {
+                report_hack(&mut hack, &core, &keys, cycles, show, out)
+            }
+            Machine::Gates(mut computer, shown) => {
+                report_gates(&mut computer, &core, &keys, cycles, shown, out)
+            }
+        }
+    }
 }
 
-// Runs a program on the computer with its image. Once the computer is there no memory is wanted.
-fn report_hack<O: Sink>(
-    alloc: Global,
-    core: &Core,
-    image: Image,
-    keys: &Keys,
-    cycles: u32,
-    show: Show,
-    out: &mut O,
-) -> Result<(), Failure>
-    requires resolved { IsResolvedCore core.now }
-    requires image { IsImageOf core.now image }
-    requires mapped { IsMapped image }
-    requires words { (c : ℕ) → IsKey (code_at keys.now c) }
-    ensures reports { Reports (IsReport (RunLevel.Hack show) core.now (code_at keys.now) cycles) (O.written out.old) (O.written out.new) result }
-    ensures counts { CountsReport (O.faults out.old) (O.faults out.new) result }
-{
-    let mut computer = prepare_hack(alloc, image)?;
-    report_cycles(&mut computer, core, keys, cycles, show, out)
-}
-
-/// Does a line of `run`; err is left as it is. At each level the program is built first, and then the keys are read.
+/// Does a line of `run`; err is left as it is.
 pub fn answer_run<F: Shelf, O: Sink>(
     alloc: Global,
+    source: &Source<'_>,
     request: &Run<'_>,
     shelf: &mut F,
     out: &mut O,
 ) -> Result<(), Failure>
-    ensures does { (err : Option (List ℕ)) → Does (F.files shelf.old) (F.there shelf.old) (F.unfailing shelf.old) (run request.now.folder.now request.now.level request.now.cycles (option_map (λ keys. keys.now) request.now.keys)) (O.written out.old) (O.written out.new) err err result }
-    ensures counts { (err : ℕ) → Counts (F.faults shelf.old) (F.faults shelf.new) (O.faults out.old) (O.faults out.new) err err result }
+    ensures does { (err : Option (List ℕ))
+        → Does (F.files shelf.old) (F.there shelf.old) (F.unfailing shelf.old)
+        (of_classes (source_of source.now) (run request.now.level request.now.cycles
+        (option_map (λ keys. keys.now) request.now.keys))) (O.written out.old) (O.written out.new)
+        err err result }
+    ensures counts { (err : ℕ)
+        → Counts (F.faults shelf.old) (F.faults shelf.new) (O.faults out.old) (O.faults out.new) err
+        err result }
     ensures kept { F.files shelf.new ≡ F.files shelf.old }
     ensures stays { F.there shelf.new ≡ F.there shelf.old }
 {
-    let core = load_jack(alloc, request.folder, shelf)?;
-    let image = image_of(alloc, request.folder, &core)?;
-    let keys = load_keys(alloc, request.keys, shelf)?;
-    match request.level {
-        RunLevel::Jack(show) => {
-            // The meaning needs no image.
-            drop(image);
-            report_jack(alloc, &core, &keys, request.cycles, show, out)
-        }
-        RunLevel::Vm(show) => {
-            // The machine links its code itself.
-            drop(image);
-            report_vm(alloc, &core, &keys, request.cycles, show, out)
-        }
-        RunLevel::Hack(show) => {
-            report_hack(alloc, &core, image, &keys, request.cycles, show, out)
-        }
-        RunLevel::Gates(shown) => {
-            report_gates(alloc, &core, image, &keys, request.cycles, shown, out)
-        }
-    }
+    let prepared = prepare_run(alloc, source, request, shelf)?;
+    prepared.show(out)
 }

@@ -13,10 +13,12 @@ returns-clause-reports g c =
     let old = c.args.level.now in
     let new = c.drive.new.level in
     let end = c.in_ok-end.end in
-    let text : List ℕ = machine_text c.args.name (names_of c.args.core.now) (g.L.Level.count new) (g.L.Level.committed new) (g.L.Level.at_point new) end c.args.show (g.L.Level.word new) in
-    let D : ℕ → Type 0 = λ n. IsDriven code (g.L.Level.stands old) (g.L.Level.count old) n end (g.L.Level.stands new) (g.L.Level.count new) in
-    rw (c.finished.ensures) (reports_by (λ t. (e : End) × IsDriven code (g.L.Level.stands old) (g.L.Level.count old) c.args.cycles e (g.L.Level.stands new) (g.L.Level.count new)
-    × (t ≡ machine_text c.args.name (names_of c.args.core.now) (g.L.Level.count new) (g.L.Level.committed new) (g.L.Level.at_point new) e c.args.show (g.L.Level.word new)))
+    let stands = g.L.Level.stands in
+    let reading = g.L.Level.reading in
+    let text : List ℕ = machine_text c.args.name (names_of c.args.core.now) (reading new) end c.args.show in
+    let D : ℕ → Type 0 = λ n. IsDriven code (stands old) (reading old).moves n end (stands new) (reading new).moves in
+    rw (c.finished.ensures) (reports_by (λ t. (e : End) × IsDriven code (stands old) (reading old).moves c.args.cycles e (stands new) (reading new).moves
+    × (t ≡ machine_text c.args.name (names_of c.args.core.now) (reading new) e c.args.show))
     text _ _ c.put_report.result (end, subst D c.from.ensures c.in_ok-end.ensures.driven, refl) c.put_report.ensures.put)
 
 pub returns-clause-counts : goal.returns-clause-counts

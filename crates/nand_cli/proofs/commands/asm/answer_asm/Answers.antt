@@ -4,7 +4,7 @@ use Rattle.outer_world.specs.Files.{LacksFile}
 use Rattle.outer_world.specs.Written.{Puts}
 use Rattle.hack_asm.specs.Image.{image_text}
 use Rattle.source_files.specs.Sources.{IsFaulty, SpellsAt}
-use Rattle.command_line.specs.Line.{asm}
+use Rattle.command_line.specs.Line.{asm, of_file}
 use Rattle.hack_asm.specs.Language.{SpellsWords, TellsAsmFault}
 use Rattle.hack_asm.specs.declared.language.Form.TheVariants.{Assembly}
 use Rattle.hack_asm.proofs.Refusals.{refused_in}
@@ -17,7 +17,7 @@ returns-in_err-words-clause-does g c = λ err.
     let files = g.F.Shelf.files c.args.shelf.now in
     let path = c.args.path.now in
     rw (p.1, p.2) (nothing_put (SpellsAt (λ text (words : Vec ℕ Global). SpellsWords Assembly text words.items) files path) (IsFaulty (TellsAsmFault Assembly) files path) (g.F.Shelf.unfailing c.args.shelf.now → LacksFile files path)
-    files (g.F.Shelf.there c.args.shelf.now) (g.F.Shelf.unfailing c.args.shelf.now) (asm path) (g.O.Sink.written c.args.out.now) err _ (λ line k. (refl, refused_in Assembly files path line k, refl)) (λ h. h) c.in_err-words.ensures.loads tt)
+    files (g.F.Shelf.there c.args.shelf.now) (g.F.Shelf.unfailing c.args.shelf.now) (of_file path asm) (g.O.Sink.written c.args.out.now) err _ (λ line k. (refl, refused_in Assembly files path line k, refl)) (λ h. h) c.in_err-words.ensures.loads tt)
 
 pub returns-in_err-words-clause-counts : goal.returns-in_err-words-clause-counts
 returns-in_err-words-clause-counts g c = λ err.
@@ -30,7 +30,7 @@ returns-clause-does g c = λ err.
     let out' = g.O.Sink.written c.write_hack.new.out in
     let P : List ℕ → Type 0 = λ words. Puts out out' (image_text words) c.write_hack.result in
     let words = c.in_ok-words.words.items in
-    rw (c.finished.ensures) (done_by (g.F.Shelf.files c.args.shelf.now) (g.F.Shelf.there c.args.shelf.now) (g.F.Shelf.unfailing c.args.shelf.now) (asm c.args.path.now) (image_text words) out out' err c.write_hack.result
+    rw (c.finished.ensures) (done_by (g.F.Shelf.files c.args.shelf.now) (g.F.Shelf.there c.args.shelf.now) (g.F.Shelf.unfailing c.args.shelf.now) (of_file c.args.path.now asm) (image_text words) out out' err c.write_hack.result
     ((words, c.in_ok-words.ensures.loads, refl), refl) (subst P c.deref.ensures.value c.write_hack.ensures.put) tt)
 
 pub returns-clause-counts : goal.returns-clause-counts

@@ -5,7 +5,7 @@ use Rattle.source_files.specs.Sources.{IsFaulty, SpellsAt}
 use Rattle.hdl_tree.specs.declared.tree.Chip.{Chip}
 use Rattle.hdl_parser.specs.Spells.{Spells as SpellsChip}
 use Rattle.hdl_parser.specs.Printed.{chip_text}
-use Rattle.command_line.specs.Line.{show}
+use Rattle.command_line.specs.Line.{of_file, show}
 use Rattle.command_line.specs.declared.request.SourceKind.TheVariants as kinds
 use Rattle.hdl_parser.specs.Language.{RefusesHdl}
 use Rattle.nand_cli.proofs.Doing.{done_by, done_counts, nothing_put, unread_counts}
@@ -17,7 +17,7 @@ returns-in_err-chip-clause-does g c = λ err.
     let files = g.F.Shelf.files c.args.shelf.now in
     let path = c.args.path.now in
     rw (p.1, p.2) (nothing_put (SpellsAt SpellsChip files path) (IsFaulty RefusesHdl files path) (g.F.Shelf.unfailing c.args.shelf.now → LacksFile files path)
-    files (g.F.Shelf.there c.args.shelf.now) (g.F.Shelf.unfailing c.args.shelf.now) (show path kinds.Hdl) (g.O.Sink.written c.args.out.now) err _ (λ line k. (refl, k, refl)) (λ h. h) c.in_err-chip.ensures.loads tt)
+    files (g.F.Shelf.there c.args.shelf.now) (g.F.Shelf.unfailing c.args.shelf.now) (of_file path (show kinds.Hdl)) (g.O.Sink.written c.args.out.now) err _ (λ line k. (refl, k, refl)) (λ h. h) c.in_err-chip.ensures.loads tt)
 
 pub returns-in_err-chip-clause-counts : goal.returns-in_err-chip-clause-counts
 returns-in_err-chip-clause-counts g c = λ err.
@@ -28,7 +28,7 @@ pub returns-clause-does : goal.returns-clause-does
 returns-clause-does g c = λ err.
     let source = c.in_ok-chip.chip in
     let loaded = c.in_ok-chip.ensures.loads in
-    rw (c.finished.ensures) (done_by (g.F.Shelf.files c.args.shelf.now) (g.F.Shelf.there c.args.shelf.now) (g.F.Shelf.unfailing c.args.shelf.now) (show c.args.path.now kinds.Hdl) (chip_text source) _ _ err c.print.result ((source, loaded, refl), refl) c.print.ensures.put tt)
+    rw (c.finished.ensures) (done_by (g.F.Shelf.files c.args.shelf.now) (g.F.Shelf.there c.args.shelf.now) (g.F.Shelf.unfailing c.args.shelf.now) (of_file c.args.path.now (show kinds.Hdl)) (chip_text source) _ _ err c.print.result ((source, loaded, refl), refl) c.print.ensures.put tt)
 
 pub returns-clause-counts : goal.returns-clause-counts
 returns-clause-counts g c = λ err.

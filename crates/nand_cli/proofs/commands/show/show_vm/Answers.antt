@@ -4,7 +4,7 @@ use Rattle.outer_world.specs.Files.{LacksFile}
 use Rattle.source_files.specs.Sources.{IsFaulty, SpellsAt}
 use Rattle.vm_tree.specs.Printed.{program_text}
 use Rattle.vm_tree.specs.declared.program.File.{File}
-use Rattle.command_line.specs.Line.{show}
+use Rattle.command_line.specs.Line.{of_file, show}
 use Rattle.command_line.specs.declared.request.SourceKind.TheVariants as kinds
 use Rattle.vm_parser.specs.Language.{RefusesVm, SpellsVmFile}
 use Rattle.nand_cli.specs.Commands.Show.{SpellsVm}
@@ -17,7 +17,7 @@ returns-in_err-file-clause-does g c = λ err.
     let files = g.F.Shelf.files c.args.shelf.now in
     let path = c.args.path.now in
     rw (p.1, p.2) (nothing_put (SpellsAt (SpellsVmFile true []) files path) (IsFaulty (RefusesVm true) files path) (g.F.Shelf.unfailing c.args.shelf.now → LacksFile files path)
-    files (g.F.Shelf.there c.args.shelf.now) (g.F.Shelf.unfailing c.args.shelf.now) (show path kinds.Vm) (g.O.Sink.written c.args.out.now) err _ (λ line k. (refl, k, refl)) (λ h. h) c.in_err-file.ensures.loads tt)
+    files (g.F.Shelf.there c.args.shelf.now) (g.F.Shelf.unfailing c.args.shelf.now) (of_file path (show kinds.Vm)) (g.O.Sink.written c.args.out.now) err _ (λ line k. (refl, k, refl)) (λ h. h) c.in_err-file.ensures.loads tt)
 
 pub returns-in_err-file-clause-counts : goal.returns-in_err-file-clause-counts
 returns-in_err-file-clause-counts g c = λ err.
@@ -32,7 +32,7 @@ returns-clause-does g c = λ err.
     let program = c.push.new.self in
     let P : List File → Type 0 = λ p. SpellsVm loaded.0 p in
     let alone = c.in_ok-push.ensures.ok ∙ ap (λ (files : List File). files ++ c.in_ok-file.file ∷ []) c.new-program.ensures in
-    rw (c.finished.ensures) (done_by files (g.F.Shelf.there c.args.shelf.now) (g.F.Shelf.unfailing c.args.shelf.now) (show path kinds.Vm) (program_text program) _ _ err c.print.result ((program, (loaded.0, loaded.1, subst P (sym alone) loaded.2), refl), refl) c.print.ensures.put tt)
+    rw (c.finished.ensures) (done_by files (g.F.Shelf.there c.args.shelf.now) (g.F.Shelf.unfailing c.args.shelf.now) (of_file path (show kinds.Vm)) (program_text program) _ _ err c.print.result ((program, (loaded.0, loaded.1, subst P (sym alone) loaded.2), refl), refl) c.print.ensures.put tt)
 
 pub returns-clause-counts : goal.returns-clause-counts
 returns-clause-counts g c = λ err.

@@ -1,0 +1,15 @@
+pub mod Answered
+pub mod BuildExactly
+pub mod CompileExactly
+pub mod Exactly
+pub mod FolderAnswered
+pub mod FolderMeaning
+pub mod LinesExactly
+pub mod Linking
+pub mod Listing
+pub mod PartsListed
+pub mod ProgramAnswered
+pub mod RunExactly
+pub mod TextsOnce
+pub mod VmDoes
+pub mod VmExactly

@@ -1,0 +1,58 @@
+-- The answers of a line that is no test script are exact: over known files a line prints one thing or is refused for one thing, and not both; and
+-- neither, where what it reads is not there.
+use Rattle.std.specs.Prelude.{◌≡◌, ℕ, Bool, true, List, Some}
+use Rattle.outer_world.specs.Files.{Files}
+use Rattle.jack_core.specs.declared.program.Core.{Core}
+use Rattle.tower.specs.OneProgram.{SameProgram}
+use Rattle.command_line.specs.Line.{ClassWork, FileWork, IsNoTest, Line, Source, chip, of_classes, of_file, run, vm}
+use Rattle.command_line.specs.declared.request.RunLevel.{RunLevel}
+use Rattle.command_line.specs.declared.request.RunLevel.TheVariants.{Gates}
+use Rattle.command_line.specs.declared.request.Shown.TheVariants.{Nets}
+use Rattle.nand_cli.specs.Answer.{Lacks, Prints, Refuses}
+use Rattle.nand_cli.specs.JackFolder.{FolderMeans}
+
+-- What is shown at the level is one text. The outputs of parts are told as those of some behaviour of the Computer; that it has no other is not
+-- claimed.
+abbrev pub ShowsOneText : RunLevel → Type 0
+ShowsOneText (Gates Nets) = ⊥
+ShowsOneText level = Unit {0}
+
+abbrev pub HasOneText : Line → Type 0
+HasOneText (of_classes source (run level cycles keys)) = ShowsOneText level
+HasOneText line = Unit {0}
+
+-- The folder that a line names is there, be it empty; a line that names a file alone wants none.
+abbrev pub HasFolder : (List ℕ → Bool) → Line → Type 0
+HasFolder there (of_classes source work) = there source.folder ≡ true
+HasFolder there (vm folder bare) = there folder ≡ true
+HasFolder there line = Unit {0}
+
+-- Over these files the line, where it shows one text, prints at most one thing on out and on err, is refused with at most one, and is not both done
+-- and refused. Where its folder is there and something that it reads is not, it is neither: so an honest shelf leaves no choice among Done, Refused
+-- and ReadFault. (A folder that is not there may be read as an empty one.)
+pub record IsExact (files : Files) (line : Line) : Type 0 where
+  pub prints : HasOneText line → (out err out' err' : List ℕ) → Prints (Some files) line out err → Prints (Some files) line out' err' → (out ≡ out') × (err ≡ err')
+  pub refuses : (out before told out' before' told' : List ℕ) → Refuses (Some files) line out before told → Refuses (Some files) line out' before' told' → (out ≡ out') × (told ≡ told') × (before ≡ before')
+  pub apart : (out err out' before told : List ℕ) → Prints (Some files) line out err → Refuses (Some files) line out' before told → ⊥
+  pub lacking : (there : List ℕ → Bool) → HasFolder there line → Lacks there files line → (out before told : List ℕ) → (Prints (Some files) line out before → ⊥) × (Refuses (Some files) line out before told → ⊥)
+
+-- by what a line reads
+abbrev pub ClassesExactLaw : Type 0
+ClassesExactLaw = (files : Files) (source : Source) (work : ClassWork) → IsExact files (of_classes source work)
+
+abbrev pub FileExactLaw : Type 0
+FileExactLaw = (files : Files) (path : List ℕ) (work : FileWork) → IsExact files (of_file path work)
+
+abbrev pub VmExactLaw : Type 0
+VmExactLaw = (files : Files) (folder : List ℕ) (bare : Bool) → IsExact files (vm folder bare)
+
+abbrev pub ChipExactLaw : Type 0
+ChipExactLaw = (files : Files) (name : List ℕ) → IsExact files (chip name)
+
+-- The law of exactness. Of a script it is not claimed: what is seen of its chip is told as values of some netlist of it.
+abbrev pub ExactLaw : Type 0
+ExactLaw = (files : Files) (line : Line) → IsNoTest line → IsExact files line
+
+-- A folder whose files are known means at most one program.
+abbrev pub OneProgramLaw : Type 0
+OneProgramLaw = (files : Files) (folder : List ℕ) (core core' : Core) → FolderMeans (Some files) folder core → FolderMeans (Some files) folder core' → SameProgram core core'

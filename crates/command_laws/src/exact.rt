@@ -1,0 +1,51 @@
+//! Over known files a line has at most one answer.
+ghost use Rattle.command_laws.specs.Exact.{ChipExactLaw, ClassesExactLaw, ExactLaw, FileExactLaw, OneProgramLaw, VmExactLaw};
+
+/// Law: over known files a line that reads the Jack classes of a folder prints one text or is refused with one line, and not both.
+pub fn classes_exact_law()
+    ensures { ClassesExactLaw }
+{
+    jack_parser::class_law();
+    key_script::reading_law();
+}
+
+/// Law: so does a line that reads one file.
+pub fn file_exact_law()
+    ensures { FileExactLaw }
+{
+    hack_asm::assembly_law();
+    hack_asm::hack_law();
+    vm_parser::reading_law();
+    jack_parser::class_law();
+    hdl_parser::reading_law();
+}
+
+/// Law: so does a line of `vm`.
+pub fn vm_exact_law()
+    ensures { VmExactLaw }
+{
+    vm_parser::reading_law();
+}
+
+/// Law: so does a line of `chip`.
+#[tactic(auto, using(crate::proofs::Exactly::chip_exact))]
+pub fn chip_exact_law()
+    ensures { ChipExactLaw }
+{}
+
+/// Law: over known files each line has one answer: it prints one thing or is refused for one thing, and not both.
+pub fn exact_law()
+    ensures { ExactLaw }
+{
+    classes_exact_law();
+    file_exact_law();
+    vm_exact_law();
+    chip_exact_law();
+}
+
+/// Law: a folder whose files are known means at most one program.
+pub fn one_program_law()
+    ensures { OneProgramLaw }
+{
+    jack_parser::class_law();
+}

@@ -1,6 +1,0 @@
-use Rattle.nand_cli.proofs.OnGates.{prepared}
-use Rattle.nand_cli.proofs.gates.computer_of.Goals as goal
-
-pub returns : goal.returns
-returns c =
-    prepared c.args.core.now c.args.image c.prepare_gates.result c.requires.image c.prepare_gates.ensures.image c.prepare_gates.ensures.moves c.prepare_gates.ensures.stands

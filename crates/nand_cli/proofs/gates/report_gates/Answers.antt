@@ -1,7 +1,0 @@
-use Rattle.nand_cli.proofs.gates.report_gates.Goals as goal
-
-pub returns-in-Words-clause-reports : goal.returns-in-Words-clause-reports
-returns-in-Words-clause-reports g c = rw c.in-Words.is c.report_words.ensures.reports
-
-pub returns-clause-reports : goal.returns-clause-reports
-returns-clause-reports g c = rw c.in-Nets.is c.report_nets.ensures.reports

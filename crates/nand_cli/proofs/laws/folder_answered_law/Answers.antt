@@ -1,5 +1,0 @@
-use Rattle.nand_cli.proofs.Answered.{folder_answered}
-use Rattle.nand_cli.proofs.laws.folder_answered_law.Goals as goal
-
-pub returns : goal.returns
-returns c = folder_answered c.first_law.ensures c.system_law.ensures c.total_law.ensures

@@ -1,5 +1,0 @@
-use Rattle.nand_cli.proofs.RunExactly.{one_meaning}
-use Rattle.nand_cli.proofs.laws.one_program_law.Goals as goal
-
-pub returns : goal.returns
-returns c files folder = one_meaning c.class_law.ensures files folder
