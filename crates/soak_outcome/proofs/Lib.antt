@@ -1,0 +1,4 @@
+pub mod Fits
+pub mod Silent
+pub mod Commits
+pub mod Agreeing

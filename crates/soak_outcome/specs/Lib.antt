@@ -1,0 +1,4 @@
+pub mod Fits
+pub mod Levels
+pub mod Summary
+pub mod Laws

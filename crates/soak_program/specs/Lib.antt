@@ -1,0 +1,4 @@
+pub mod Generator
+pub mod Laws
+pub mod Rows
+pub mod Inner

@@ -1,0 +1,5 @@
+//! Tests of the generator: whole texts.
+#![tactic(auto)]
+
+#[cfg(test)]
+mod texts;
