@@ -4,7 +4,7 @@ ghost use Rattle.std.specs.Prelude.{◌≡◌, ◌<◌, ◌≤◌, IfOk, length}
 
 use gate_computer::{GateComputer, build_computer, prepare_gates};
 use image_map::{Image, ImageMap, PointRange};
-use outer_world::{List, MemorySink, Point, Put};
+use outer_world::{List, MemorySink, Pieces, Point, Put};
 use std::alloc::{AllocError, Global};
 use std::test::*;
 
@@ -85,7 +85,9 @@ fn contains(text: &[u8], line: &[u8]) -> bool
 fn shows_the_outputs_of_its_parts(rt: HostRuntime) -> Result<(), Fail> {
     let mut computer = computer_of(rt.alloc(), &[21, 0xEC10])?;
     let mut out = MemorySink::new(rt.alloc(), 200_000, Vec::new(rt.alloc()))?;
-    assert!(rt; matches!(computer.show_nets(65, &mut out), Put::Done));
+    let mut pieces = Pieces::new(&mut out);
+    assert!(rt; matches!(computer.put_nets(65, &mut pieces), Put::Done));
+    assert!(rt; matches!(pieces.finish(), Put::Done));
     assert!(rt; contains(out.bytes(), b"\nROM32K 0000000000010101\n"));
     assert!(rt; contains(out.bytes(), b"\nKeyboard 0000000001000001\n"));
     Ok(())

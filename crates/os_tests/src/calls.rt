@@ -103,10 +103,11 @@ let s[21] = (t.length()) = 5; let s[22] = (t.charAt(3)) = 33; let s[23] = (t.cha
 let t = String.new(5); do t.appendChar(1); do t.appendChar(1); do t.appendChar(1); do t.appendChar(1);
 do t.appendChar(1); let s[24] = (t.length()) = 5; let a = Array.new(3); let a[0] = 9; let a[1] = 9;
 let a[2] = 9; do a.dispose(); let t = String.new(2); let s[25] = (t.length()) = 0; do t.appendChar(7);
-let s[26] = (t.length()) = 1;",
+let s[26] = (t.length()) = 1; let t = \"1:2\"; let s[27] = (t.intValue()) = 1; let t = \"2/1\";
+let s[28] = (t.intValue()) = 2;",
         moves: 1_000_000,
         keys: "",
-        rows: "0..1: 0..432
+        rows: "0..1: 0..464
 ",
     },
     // string set int

@@ -1,10 +1,10 @@
 //! Words and the lines that they are.
 mod tables;
 
-use command_line::{Exec, LineError, Request, Run, RunLevel, read};
+use command_line::{ClassWork, Exec, FileWork, LineError, Request, Run, RunLevel, read};
 use std::alloc::{AllocError, Global};
 use std::test::Fail;
-use tables::{EXECS, LINES, NO_LINES, RUNS};
+use tables::{EXECS, LINES, NO_LINES, PROG, RUNS};
 
 // The words of a text.
 fn words_of(alloc: Global, text: &str) -> Result<Vec<String>, AllocError> {
@@ -31,12 +31,15 @@ fn first_misread_exec(
 ) -> Result<Option<&'static str>, AllocError> {
     for (text, path, cycles, from, to) in lines {
         let exec = Exec {
-            path,
             cycles: *cycles,
             from: *from,
             to: *to,
         };
-        if !is_line(alloc, text, Request::Exec(exec))? {
+        let request = Request::File {
+            path,
+            work: FileWork::Exec(exec),
+        };
+        if !is_line(alloc, text, request)? {
             return Ok(Some(*text));
         }
     }
@@ -50,12 +53,15 @@ fn first_misread_run(
 ) -> Result<Option<&'static str>, AllocError> {
     for (text, level, cycles, keys) in lines {
         let run = Run {
-            folder: "prog",
             level: *level,
             cycles: *cycles,
             keys: *keys,
         };
-        if !is_line(alloc, text, Request::Run(run))? {
+        let request = Request::Classes {
+            source: PROG,
+            work: ClassWork::Run(run),
+        };
+        if !is_line(alloc, text, request)? {
             return Ok(Some(*text));
         }
     }

@@ -6,8 +6,8 @@ ghost use Rattle.machine_io.specs.Words.{words_text};
 ghost use Rattle.outer_world.specs.Written.{Puts};
 
 use machine_io::{
-    End, Head, Keyboard, Level, LevelName, Moved, Show, Stray, drive, show_report, show_screen,
-    show_words,
+    End, Head, Keyboard, Level, LevelName, Moved, Show, Stop, Stray, Until, drive, drive_until,
+    show_report, show_screen, show_words,
 };
 use outer_world::{MemorySink, Put, Sink};
 use std::alloc::AllocError;
@@ -29,13 +29,12 @@ impl Level for Counter {
 
     ghost stands = { λ r turns. r.moves ≡ sum_by (λ t. moves_in t.answer) turns };
 
-    ghost count = { λ r. r.moves };
-
-    ghost word = { λ r a. r.last_key };
-
-    ghost committed = { λ r. r.moves };
-
-    ghost at_point = { λ r. r.last_key };
+    ghost reading = { λ r. record {
+      moves = r.moves;
+      steps = r.moves;
+      point = r.last_key;
+      word = λ a. r.last_key;
+    } };
 
     ghost reply = { λ r k. if nat_eq k 0 then Stray Values else (if nat_eq k 9 then Done else (if nat_lt r.moves r.room then Acted else Full 5)) };
 
@@ -88,6 +87,19 @@ impl Keyboard for Turning {
     }
 }
 
+// The last key is this one, and the last move was a step.
+struct LastKey(u16);
+
+impl Until<Counter> for LastKey {
+    ghost use Rattle.std.specs.Prelude.{◌&&◌};
+
+    ghost test = { λ key steps reading. nat_eq reading.point key.0 && nat_lt steps reading.steps };
+
+    fn holds(&self, steps: u64, level: &Counter) -> bool {
+        level.point() == self.0 && steps < level.steps()
+    }
+}
+
 fn new_counter(room: u64) -> Counter
     ensures { result.moves ≡ 0 }
 {
@@ -100,7 +112,7 @@ fn new_counter(room: u64) -> Counter
 
 // What a machine that can't move answers, it answers again.
 fn asked_twice<L: Level>(level: &mut L, key: u16) -> Result<(Moved, Moved), AllocError>
-    requires { L.count level.old + 1 < 2 ^ 63 }
+    requires { (L.reading level.old).moves + 1 < 2 ^ 63 }
     ensures { IfOk result (λ answers. OnStop answers.0 (answers.1 ≡ answers.0)) }
 {
     let first = level.step(key)?;
@@ -118,6 +130,31 @@ fn the_same_key_gets_the_same_answer(rt: HostRuntime) -> Result<(), Fail> {
     );
     assert!(rt; level.moves() == 0);
     assert_eq!(rt; asked_twice(&mut level, 3)?, (Moved::Acted, Moved::Full(5)));
+    Ok(())
+}
+
+// The move that the test stops at is made, and none after it; at the next drive the test is asked before the first.
+#[test]
+fn drive_stops_where_the_test_holds(rt: HostRuntime) -> Result<(), Fail> {
+    let mut level = new_counter(100);
+    assert_eq!(rt;
+        drive_until(&mut level, &Turning, 5, &LastKey(6))?,
+        Stop::Found
+    );
+    assert_eq!(rt; (level.moves(), level.point()), (3, 6));
+    assert_eq!(rt;
+        drive_until(&mut level, &Turning, 1, &LastKey(6))?,
+        Stop::Ended(End::Bound)
+    );
+    assert_eq!(rt;
+        drive_until(&mut level, &Turning, 1, &LastKey(8))?,
+        Stop::Found
+    );
+    assert_eq!(rt; (level.moves(), level.point()), (5, 8));
+    assert_eq!(rt;
+        drive_until(&mut level, &Turning, 9, &LastKey(4))?,
+        Stop::Ended(End::Done)
+    );
     Ok(())
 }
 
@@ -234,7 +271,7 @@ fn a_report_has_its_lines(rt: HostRuntime) -> Result<(), Fail> {
 
 // Any level can be shown.
 fn show_level<L: Level, S: Sink>(level: &L, out: &mut S) -> Put
-    ensures { Puts (S.written out.old) (S.written out.new) (words_text (L.word level.now) false 2048 16383) result }
+    ensures { Puts (S.written out.old) (S.written out.new) (words_text (L.reading level.now).word false 2048 16383) result }
 {
     show_words(|a| level.word_at(a), 2048, 16383, false, out)
 }

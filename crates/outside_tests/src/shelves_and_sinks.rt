@@ -1,4 +1,5 @@
 //! Shelves and sinks, in memory and real, each on its happy path and where it fails.
+use crate::entries::Entries;
 use outer_world::{
     Detail, Diagnostic, FolderShelf, Listing, MemoryShelf, MemorySink, Name, Pieces, PlainSink,
     Put, Reading, Shelf, Sink, StdSink,
@@ -194,6 +195,31 @@ fn answers_in<S: Shelf>(
     Ok(answers)
 }
 
+// Entries of a folder, and the names that are listed of it. A name that is no text is left out, but where it ends like a source.
+const ENTRIES: &[(&[u8], &str)] = &[
+    (b"Main.jack\0Ball.jack\0", "Ball.jack Main.jack "),
+    (
+        b"Main.jack\0Caf\xe9.txt\0\xff\0Caf\xe9.jac\0Ball.jack\0",
+        "Ball.jack Main.jack ",
+    ),
+    (b"Main.jack\0Caf\xe9.jack\0Ball.jack\0", "failed"),
+    (b"Main.jack\0Caf\xe9.vm\0", "failed"),
+    (b"\x80.hdl\0", "failed"),
+];
+
+fn listed(
+    rt: &(impl Files + Clone + Drop),
+    alloc: Global,
+    folder: &str,
+) -> Result<Vec<String>, AllocError> {
+    let mut answers = Vec::new(alloc);
+    for (names, _) in ENTRIES {
+        let mut shelf = FolderShelf::new((Entries { files: rt, names }, alloc));
+        answers.push(answer(alloc, &mut shelf, folder, None)?)?;
+    }
+    Ok(answers)
+}
+
 #[test]
 fn real_files(rt: HostRuntime) -> Result<(), Fail> {
     let alloc = rt.alloc();
@@ -205,12 +231,16 @@ fn real_files(rt: HostRuntime) -> Result<(), Fail> {
     let text = put_files(&rt, alloc, folder.as_str())?;
     let mut shelf = FolderShelf::new(rt.clone()?);
     let answers = answers_in(alloc, &mut shelf, folder.as_str())?;
+    let listings = listed(&rt, alloc, folder.as_str())?;
     let main = format!(in alloc; "{folder}/Main.jack")?;
     let whole = shelf.read(alloc, main.as_str(), 9000);
     fs::remove_dir_all(&rt, folder.as_str())?;
 
     for ((path, _, expected), answered) in IN_FOLDER.iter().zip(answers.iter()) {
         assert_eq!(rt; answered.as_str(), *expected, "at {path}");
+    }
+    for ((_, expected), listing) in ENTRIES.iter().zip(listings.iter()) {
+        assert_eq!(rt; listing.as_str(), *expected);
     }
     match whole {
         Reading::Bytes(bytes) => assert_eq!(rt; bytes.as_slice(), text.as_bytes()),

@@ -2,7 +2,10 @@
 mod building;
 mod computing;
 mod executing;
+mod failing;
 mod folders;
+mod fronts;
+mod limits;
 mod running;
 mod showing;
 mod translating;
@@ -218,6 +221,36 @@ fn each_long_ends(
         }
     }
     Ok(())
+}
+
+fn lines_in(text: &[u8]) -> u32 {
+    let mut lines = 0u32;
+    for byte in text {
+        if *byte == b'\n' {
+            lines = lines.saturating_add(1);
+        }
+    }
+    lines
+}
+
+// The chips C0.hdl to C40.hdl in the folder t: C0 has these parts, each other one two of the one before, from the input `in` to the
+// output `out`.
+fn doubled(alloc: Global, parts: &str) -> Result<Vec<(Name, Vec<u8>)>, Fail> {
+    let mut files = Vec::new(alloc);
+    let text = format!(in alloc; "CHIP C0 {{ IN in; OUT out; PARTS: {parts} }}")?;
+    files.push((
+        Name::new(alloc, "t/C0.hdl")?,
+        text.as_bytes().to_vec(alloc)?,
+    ))?;
+    for below in 0..40u32 {
+        let number = below.saturating_add(1);
+        let path = format!(in alloc; "t/C{number}.hdl")?;
+        let text = format!(in alloc;
+            "CHIP C{number} {{ IN in; OUT out; PARTS: C{below}(in=in, out=n); C{below}(in=n, out=out); }}"
+        )?;
+        files.push((Name::new(alloc, &path)?, text.as_bytes().to_vec(alloc)?))?;
+    }
+    Ok(files)
 }
 
 // A class Main with these statements.

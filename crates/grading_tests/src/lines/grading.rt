@@ -161,6 +161,9 @@ fn puts_fail(rt: &impl Abort, alloc: Global) -> Result<(), Fail> {
     let status = Status::WriteFault;
     let fails = failing_out(&[(1, 3)]);
     ends_where(rt, alloc, "output, output;", fails, status, "|\n|", "")?;
+    // also where the first piece is put, and an echo would come behind it
+    let script = "repeat 3000 { output; } echo \"one\";";
+    ends_where(rt, alloc, script, fails, status, "|\n|", "")?;
     let fails = failing_err(&[(1, 2)]);
     let script = "output; echo \"one\";";
     ends_where(rt, alloc, script, fails, status, "", "on")?;

@@ -1,6 +1,6 @@
 //! Texts that are lines, and texts that are none. The words of a text stand apart by single spaces, and two spaces have an
 //! empty word between them.
-use command_line::{Request, RunLevel, Shown, SourceKind};
+use command_line::{ClassWork, FileWork, Request, RunLevel, Shown, Source, SourceKind};
 use machine_io::Show;
 
 // Lines of `exec`, each with its path, its cycles and its two addresses.
@@ -75,6 +75,17 @@ pub(super) const EXECS: &[(&str, &str, u32, u16, u16)] = &[
     ("exec --cycles 1 --from 2 --to 3 -- --", "--", 1, 2, 3),
     ("exec a --cycles 1 --from 2 --to 3 --", "a", 1, 2, 3),
 ];
+
+// The folders of Jack classes, whose classes replace none of the operating system.
+pub(super) const PROG: Source<'static> = Source {
+    folder: "prog",
+    replace: false,
+};
+
+const DASHED: Source<'static> = Source {
+    folder: "-p",
+    replace: false,
+};
 
 // Lines of `run` of the folder prog, each with its level, its cycles and its key script.
 pub(super) const RUNS: &[(&str, RunLevel, u32, Option<&str>)] = &[
@@ -154,10 +165,34 @@ pub(super) const RUNS: &[(&str, RunLevel, u32, Option<&str>)] = &[
 
 // The other lines, and what they ask for.
 pub(super) const LINES: &[(&str, Request<'static>)] = &[
-    ("asm a.asm", Request::Asm { path: "a.asm" }),
-    ("asm a", Request::Asm { path: "a" }),
-    ("asm -- --a", Request::Asm { path: "--a" }),
-    ("asm help", Request::Asm { path: "help" }),
+    (
+        "asm a.asm",
+        Request::File {
+            path: "a.asm",
+            work: FileWork::Asm,
+        },
+    ),
+    (
+        "asm a",
+        Request::File {
+            path: "a",
+            work: FileWork::Asm,
+        },
+    ),
+    (
+        "asm -- --a",
+        Request::File {
+            path: "--a",
+            work: FileWork::Asm,
+        },
+    ),
+    (
+        "asm help",
+        Request::File {
+            path: "help",
+            work: FileWork::Asm,
+        },
+    ),
     (
         "vm v",
         Request::Vm {
@@ -188,65 +223,95 @@ pub(super) const LINES: &[(&str, Request<'static>)] = &[
     ),
     (
         "show a.vm",
-        Request::Show {
+        Request::File {
             path: "a.vm",
-            kind: SourceKind::Vm,
+            work: FileWork::Show(SourceKind::Vm),
         },
     ),
     (
         "show prog/A.jack",
-        Request::Show {
+        Request::File {
             path: "prog/A.jack",
-            kind: SourceKind::Jack,
+            work: FileWork::Show(SourceKind::Jack),
         },
     ),
     (
         "show .vm",
-        Request::Show {
+        Request::File {
             path: ".vm",
-            kind: SourceKind::Vm,
+            work: FileWork::Show(SourceKind::Vm),
         },
     ),
     (
         "show .jack",
-        Request::Show {
+        Request::File {
             path: ".jack",
-            kind: SourceKind::Jack,
+            work: FileWork::Show(SourceKind::Jack),
         },
     ),
     (
         "show a.jack.vm",
-        Request::Show {
+        Request::File {
             path: "a.jack.vm",
-            kind: SourceKind::Vm,
+            work: FileWork::Show(SourceKind::Vm),
         },
     ),
     (
         "show a.vm.jack",
-        Request::Show {
+        Request::File {
             path: "a.vm.jack",
-            kind: SourceKind::Jack,
+            work: FileWork::Show(SourceKind::Jack),
         },
     ),
     (
         "show -- -a.vm",
-        Request::Show {
+        Request::File {
             path: "-a.vm",
-            kind: SourceKind::Vm,
+            work: FileWork::Show(SourceKind::Vm),
         },
     ),
     (
         "show t/And.hdl",
-        Request::Show {
+        Request::File {
             path: "t/And.hdl",
-            kind: SourceKind::Hdl,
+            work: FileWork::Show(SourceKind::Hdl),
         },
     ),
-    ("compile prog", Request::Compile { folder: "prog" }),
-    ("compile -- -p", Request::Compile { folder: "-p" }),
-    ("build prog", Request::Build { folder: "prog" }),
-    ("build -- -p", Request::Build { folder: "-p" }),
-    ("map prog", Request::Map { folder: "prog" }),
+    (
+        "compile prog",
+        Request::Classes {
+            source: PROG,
+            work: ClassWork::Compile,
+        },
+    ),
+    (
+        "compile -- -p",
+        Request::Classes {
+            source: DASHED,
+            work: ClassWork::Compile,
+        },
+    ),
+    (
+        "build prog",
+        Request::Classes {
+            source: PROG,
+            work: ClassWork::Build,
+        },
+    ),
+    (
+        "build -- -p",
+        Request::Classes {
+            source: DASHED,
+            work: ClassWork::Build,
+        },
+    ),
+    (
+        "map prog",
+        Request::Classes {
+            source: PROG,
+            work: ClassWork::Map,
+        },
+    ),
     ("chip Not", Request::Chip { name: "Not" }),
     ("chip map", Request::Chip { name: "map" }),
 ];
@@ -266,6 +331,7 @@ pub(super) const NO_LINES: &[&str] = &[
     "a.asm --cycles 1 --from 2 --to 3",
     "--cycles 1 exec a --from 2 --to 3",
     "builds prog",
+    "build prog --replace",
     "soak 1 2",
     // a path too few, too many
     "exec",

@@ -103,6 +103,23 @@ fn a_program_is_built(rt: HostRuntime) -> Result<(), Fail> {
     is_cut(&rt, alloc, FOLDER, "build prog", 4_106)
 }
 
+// The only statement of a body without one is the return that is added to it.
+#[test]
+fn an_added_return_has_a_point(rt: HostRuntime) -> Result<(), Fail> {
+    let alloc = rt.alloc();
+    let files = files_of(alloc, &[("prog/Main.jack", MAIN)])?;
+    let map = outcome_of(alloc, files, "map prog", NONE)?;
+    let mut points = 0u32;
+    for line in map.out.bytes().split(|byte| *byte == b'\n') {
+        if line.starts_with(b"point ") && line.ends_with(b" Main.main 1") {
+            points = points.saturating_add(1);
+        }
+        assert!(rt; !line.ends_with(b" Main.main 2"));
+    }
+    assert_eq!(rt; points, 1);
+    Ok(())
+}
+
 #[test]
 fn lines_of_folders_and_chips(rt: HostRuntime) -> Result<(), Fail> {
     let alloc = rt.alloc();

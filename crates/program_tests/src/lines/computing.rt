@@ -96,14 +96,21 @@ fn stack_is_full(rt: &impl Abort, alloc: Global) -> Result<(), Fail> {
     Ok(())
 }
 
-const LEVELS: &[&str] = &["jack", "vm", "hack", "gates"];
+// The levels, and for how many moves each program is run there. In 100,000 cycles it ends, and at the gates each of them takes long:
+// examples/levels makes 300,000 there too.
+const LEVELS: &[(&str, u32)] = &[
+    ("jack", 300_000),
+    ("vm", 300_000),
+    ("hack", 300_000),
+    ("gates", 100_000),
+];
 
 fn each_shows(rt: &impl Abort, alloc: Global, rows: &[(&str, &[usize])]) -> Result<(), Fail> {
     for (row, (body, columns)) in rows.iter().enumerate() {
         let text = class_of(alloc, body)?;
-        for level in LEVELS {
+        for (level, cycles) in LEVELS {
             let files = files_of(alloc, &[("prog/Main.jack", text.as_str())])?;
-            let words = format!(in alloc; "{level} --cycles 100000")?;
+            let words = format!(in alloc; "{level} --cycles {cycles}")?;
             shows(rt, alloc, row, files, &words, columns)?;
         }
     }
@@ -118,9 +125,100 @@ fn keyboard_is_read(rt: &impl Abort, alloc: Global) -> Result<(), Fail> {
         ("prog/Main.jack", text.as_str()),
         ("k.txt", "0 65\n1000000 66\n"),
     ];
-    for level in LEVELS {
-        let words = format!(in alloc; "{level} --cycles 100000 --keys k.txt")?;
+    for (level, cycles) in LEVELS {
+        let words = format!(in alloc; "{level} --cycles {cycles} --keys k.txt")?;
         shows(rt, alloc, 0, files_of(alloc, &files)?, &words, &[0, 6])?;
+    }
+    Ok(())
+}
+
+/// The statements of a class Main, how long it is run, and how the rows of the screen begin that are not white.
+struct Picture<'a> {
+    body: &'a str,
+    cycles: u32,
+    rows: &'a [(usize, &'a str)],
+}
+
+const PICTURES: &[Picture<'static>] = &[
+    // a square root, and the least of two numbers
+    Picture {
+        body: "let s[0] = Math.sqrt(32767); let s[1] = Math.min(-3, 2);",
+        cycles: 10_000_000,
+        rows: &[(0, "#.#.##.#........#.##############")],
+    },
+    // a line and a circle
+    Picture {
+        body: "if (true) { do Screen.drawLine(0, 0, 3, 1); do Screen.drawCircle(34, 2, 2); }",
+        cycles: 10_000_000,
+        rows: &[
+            (0, "#.................................#"),
+            (1, "####.............................###"),
+            (2, "................................#####"),
+            (3, ".................................###"),
+            (4, "..................................#"),
+        ],
+    },
+    // a negative number
+    Picture {
+        body: "if (true) { do Output.printInt(-7); }",
+        cycles: 10_000_000,
+        rows: &[
+            (1, "........#####"),
+            (2, "............#"),
+            (3, "...........#"),
+            (4, "#####.....#"),
+            (5, ".........#"),
+            (6, ".........#"),
+            (7, ".........#"),
+        ],
+    },
+    // a division by 0 is an error of the system
+    Picture {
+        body: "let s = 1/0;",
+        cycles: 1_000_000,
+        rows: &[
+            (1, "#####...####....####....#####..."),
+            (2, "#.......#...#...#...#......#...."),
+            (3, "#.......#...#...#...#.....#....."),
+            (4, "####....####....####.......#...."),
+            (5, "#.......#.#.....#.#.........#..."),
+            (6, "#.......#..#....#..#....#...#..."),
+            (7, "#####...#...#...#...#....###...."),
+        ],
+    },
+];
+
+// The text of a screen whose rows begin so, and are white behind that.
+fn screen_with(alloc: Global, rows: &[(usize, &str)]) -> Result<String, Fail> {
+    let mut text = String::new(alloc);
+    for row in 0..256usize {
+        let mut begun = "";
+        for (number, begins) in rows {
+            if *number == row {
+                begun = *begins;
+            }
+        }
+        text.push_str(begun)?;
+        for _ in begun.len()..512 {
+            text.push('.')?;
+        }
+        text.push('\n')?;
+    }
+    Ok(text)
+}
+
+#[test]
+fn the_computer_draws(rt: HostRuntime) -> Result<(), Fail> {
+    let alloc = rt.alloc();
+    for Picture { body, cycles, rows } in PICTURES {
+        let body = format!(in alloc; "var Array s; let s = 16384; {body} return;")?;
+        let text = class_of(alloc, &body)?;
+        let files = files_of(alloc, &[("prog/Main.jack", text.as_str())])?;
+        let line = format!(in alloc; "run prog --level hack --cycles {cycles} --show screen")?;
+        let outcome = outcome_of(alloc, files, &line, NONE)?;
+        let screen = screen_with(alloc, rows)?;
+        assert_eq!(rt; outcome.status, Status::Done, "{body}");
+        assert!(rt; outcome.out.bytes().ends_with(screen.as_bytes()), "{body}");
     }
     Ok(())
 }

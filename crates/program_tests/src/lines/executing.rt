@@ -284,6 +284,24 @@ const LONG: &[(&str, Long<'static>, Case<'static>)] = &[
             err: "a.asm:0:0: TooManyVariables 16369\n",
         },
     ),
+    (
+        "a.asm",
+        Long {
+            front: "",
+            piece: "@a",
+            behind_number: Some("\n"),
+            times: 16_368,
+            back: "D=A\n@0\nM=D",
+        },
+        Case {
+            files: &[],
+            lines: &["exec a.asm --cycles 16371 --from 0 --to 0"],
+            fails: NONE,
+            status: Status::Done,
+            out: "0 16383\n",
+            err: "",
+        },
+    ),
     // the last byte of a file, and one past it
     (
         "Long.asm",

@@ -1,7 +1,7 @@
 //! Lines of `run` at the level of the meaning.
 use super::{
-    Case, Failures, NONE, READ_FAULT, STORE, STORE_CLASS, each_ends, each_is_done, each_reports,
-    refused,
+    Case, Failures, NONE, READ_FAULT, STORE, STORE_CLASS, class_of, each_ends, each_is_done,
+    each_reports, files_of, outcome_of, refused,
 };
 use nand_cli::Status;
 use std::alloc::Global;
@@ -43,6 +43,18 @@ const REPORTS: &[(&str, &str, &str)] = &[
         STORE,
         "jack --cycles 10",
         "level jack\nmoves 10\nsteps 10\npoint Memory.init 4\nend bound\n",
+    ),
+    // before the system has stored it, no word of the heap is there
+    (
+        "",
+        "jack --cycles 9 --show heap",
+        "level jack\nmoves 9\nsteps 9\npoint Memory.init 3\nend bound\n",
+    ),
+    // the return that is added to a body is a statement behind its last
+    (
+        "",
+        "jack --cycles 1735",
+        "level jack\nmoves 1735\nsteps 1735\npoint Main.main 1\nend bound\n",
     ),
     // the heap begins with the length of the one free block
     (
@@ -146,6 +158,48 @@ fn each_class_is_refused(
     ];
     for (row, (text, err)) in rows.iter().enumerate() {
         refused(rt, alloc, row, ("prog/Main.jack", *text), &lines, err)?;
+    }
+    Ok(())
+}
+
+// The number of moves in a report.
+fn moves_in(report: &[u8]) -> u32 {
+    let mut moves = 0u32;
+    for line in report.split(|byte| *byte == b'\n') {
+        if let Some(digits) = line.strip_prefix(b"moves ") {
+            for digit in digits {
+                let digit = u32::from(digit.saturating_sub(b'0'));
+                moves = moves.saturating_mul(10).saturating_add(digit);
+            }
+        }
+    }
+    moves
+}
+
+// How many moves a program makes that waits for so long and then strays.
+fn moves_of_waiting(alloc: Global, duration: u32) -> Result<u32, Fail> {
+    let body = format!(in alloc;
+        "var Array s; do Sys.wait({duration}); let s = 100; let s[0] = 1;"
+    )?;
+    let text = class_of(alloc, &body)?;
+    let files = files_of(alloc, &[("prog/Main.jack", text.as_str())])?;
+    let outcome = outcome_of(alloc, files, "run prog --level jack --cycles 20000", NONE)?;
+    if !outcome.out.bytes().ends_with(b"end stray 100\n") {
+        return Err(Fail::from("the program strays"));
+    }
+    Ok(moves_in(outcome.out.bytes()))
+}
+
+// A wait counts its duration down by 1: each makes as many moves more than the one before.
+#[test]
+fn the_system_waits(rt: HostRuntime) -> Result<(), Fail> {
+    let alloc = rt.alloc();
+    let first = moves_of_waiting(alloc, 0)?;
+    let turn = moves_of_waiting(alloc, 1)?.saturating_sub(first);
+    assert!(rt; turn > 0);
+    for duration in [2u32, 3, 10] {
+        let moves = first.saturating_add(duration.saturating_mul(turn));
+        assert_eq!(rt; moves_of_waiting(alloc, duration)?, moves, "{duration}");
     }
     Ok(())
 }

@@ -1,7 +1,7 @@
 //! Lines of `vm`.
 use super::{
     Case, Failures, Long, NONE, READ_FAULT, each_ends, each_is_done, each_is_refused,
-    each_long_ends, files_of, outcome_of, text_of,
+    each_long_ends, files_of, lines_in, outcome_of, text_of,
 };
 use nand_cli::Status;
 use outer_world::Name;
@@ -246,17 +246,7 @@ const COMPARISONS: Long<'static> = Long {
 };
 
 // Besides there are 23 words of the start, 1 of the function and 2 of the jump, and the routines of calls and of `lt` with 34 and 38.
-const COMPARISONS_LINES: usize = 950 * 21 + 98;
-
-fn lines_in(text: &[u8]) -> usize {
-    let mut lines = 0usize;
-    for byte in text {
-        if *byte == b'\n' {
-            lines = lines.saturating_add(1);
-        }
-    }
-    lines
-}
+const COMPARISONS_LINES: u32 = 950 * 21 + 98;
 
 fn comparisons_are_short(rt: &impl Abort, alloc: Global) -> Result<(), Fail> {
     let mut files = Vec::new(alloc);

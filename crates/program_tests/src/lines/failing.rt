@@ -1,0 +1,371 @@
+//! A failing outside: each call of the shelf in turn, each put on out, and each on err.
+use super::{
+    Failures, Long, NONE, Outcome, READ_FAULT, USAGE, doubled, ended, files_of, is_cut, outcome_of,
+    text_of,
+};
+use nand_cli::Status;
+use outer_world::Name;
+use std::alloc::Global;
+use std::process::Abort;
+use std::test::Fail;
+
+const MAIN: &str = "class Main { function void main() { do A.f(); } }";
+
+const AND: &str =
+    "CHIP And { IN a, b; OUT out; PARTS: Nand(a=a, b=b, out=n); Nand(a=n, b=n, out=out); }";
+
+const FILES: &[(&str, &str)] = &[
+    ("Add.asm", "@2\nD=A\n@3\nD=D+A\n@0\nM=D\n"),
+    ("bad.asm", "D=X\n"),
+    ("k.txt", "5 65\n"),
+    // a folder of three classes, and one of a class beside another file
+    ("three/A.jack", "class A { function void f() { } }"),
+    ("three/B.jack", "class B { }"),
+    ("three/Main.jack", MAIN),
+    ("one/Main.jack", "class Main { function void main() { } }"),
+    ("one/readme.txt", "class"),
+    // its first class is refused
+    ("bad/A.jack", "class A {"),
+    ("bad/B.jack", "class B { }"),
+    ("v/Sys.vm", "function Sys.init 0\nlabel E\ngoto E\n"),
+    // scripts, a chip of two others, and what their lines are compared with
+    (
+        "t/And.tst",
+        "load And2.hdl, compare-to And.cmp, output-list a out; set a 1, set b 1, eval, output;",
+    ),
+    (
+        "t/And2.hdl",
+        "CHIP And2 { IN a, b; OUT out; PARTS: And(a=a, b=b, out=out); }",
+    ),
+    ("t/And.hdl", AND),
+    ("t/And.cmp", "| a |out|\n| 1 | 1 |\n"),
+    (
+        "t/Wrong.tst",
+        "echo \"first\"; load And.hdl, compare-to And.cmp, output-list a out; echo \"second\"; output;",
+    ),
+    ("t/None.tst", "echo \"first\"; load None.hdl;"),
+    ("t/Read.tst", "echo \"first\"; load t.asm;"),
+    ("t/Deep.tst", "echo \"first\"; load C40.hdl;"),
+];
+
+// With them chips of which the last has more parts than memory can hold.
+fn with_chips(alloc: Global) -> Result<Vec<(Name, Vec<u8>)>, Fail> {
+    let mut files = doubled(alloc, "")?;
+    for file in files_of(alloc, FILES)? {
+        files.push(file)?;
+    }
+    Ok(files)
+}
+
+fn failing_shelf(calls: &[u64]) -> Failures<'_> {
+    Failures {
+        shelf: calls,
+        out: &[],
+        err: &[],
+    }
+}
+
+fn failing_out(puts: &[(u64, u32)]) -> Failures<'_> {
+    Failures {
+        shelf: &[],
+        out: puts,
+        err: &[],
+    }
+}
+
+fn failing_err(puts: &[(u64, u32)]) -> Failures<'_> {
+    Failures {
+        shelf: &[],
+        out: &[],
+        err: puts,
+    }
+}
+
+fn over_files(alloc: Global, line: &str, fails: Failures<'_>) -> Result<Outcome, Fail> {
+    Ok(outcome_of(alloc, files_of(alloc, FILES)?, line, fails)?)
+}
+
+// Lines, how many calls of the shelf each needs, and how it ends.
+const CALLS: &[(&str, u64, Status)] = &[
+    ("asm", 0, Status::Usage),
+    ("chip Not", 0, Status::Done),
+    ("asm Add.asm", 1, Status::Done),
+    ("asm bad.asm", 1, Status::Refused),
+    ("exec Add.asm --cycles 6 --from 0 --to 1", 1, Status::Done),
+    ("show v/Sys.vm", 1, Status::Done),
+    ("show one/Main.jack", 1, Status::Done),
+    ("show t/And.hdl", 1, Status::Done),
+    // the folder, and each text
+    ("vm v", 2, Status::Done),
+    ("compile three", 4, Status::Done),
+    ("build three", 4, Status::Done),
+    ("map three", 4, Status::Done),
+    ("run three --level jack --cycles 0", 4, Status::Done),
+    ("run three --level vm --cycles 0", 4, Status::Done),
+    // the key script too
+    (
+        "run three --level hack --cycles 0 --keys k.txt",
+        5,
+        Status::Done,
+    ),
+    (
+        "run three --level gates --cycles 0 --keys k.txt",
+        5,
+        Status::Done,
+    ),
+    // a file with another ending is not read, nor what stands behind a text that is refused
+    ("build one", 2, Status::Done),
+    ("build bad", 2, Status::Refused),
+    (
+        "run bad --level jack --cycles 0 --keys k.txt",
+        2,
+        Status::Refused,
+    ),
+    // the script, the folder, two chips, and the compare file
+    ("test t/And.tst", 5, Status::Done),
+];
+
+// Where a call that a line needs fails, nothing is put on out. Where one behind those would fail, the line ends as else.
+fn needs_calls(
+    rt: &impl Abort,
+    alloc: Global,
+    row: usize,
+    (line, calls, status): (&str, u64, Status),
+) -> Result<(), Fail> {
+    let plain = over_files(alloc, line, NONE)?;
+    assert_eq!(rt; plain.status, status, "row {row}, {line}");
+    let behind = over_files(alloc, line, failing_shelf(&[calls.saturating_add(1)]))?;
+    assert_eq!(rt; behind.status, status, "row {row}, {line}");
+    assert_eq!(rt; behind.out.bytes(), plain.out.bytes(), "row {row}, {line}");
+    assert_eq!(rt; behind.err.bytes(), plain.err.bytes(), "row {row}, {line}");
+    for call in 0..calls {
+        let outcome = over_files(alloc, line, failing_shelf(&[call.saturating_add(1)]))?;
+        ended(rt, row, line, &outcome, Status::ReadFault, "", READ_FAULT);
+    }
+    Ok(())
+}
+
+#[test]
+fn each_call_of_the_shelf_fails(rt: HostRuntime) -> Result<(), Fail> {
+    for (row, case) in CALLS.iter().enumerate() {
+        needs_calls(&rt, rt.alloc(), row, *case)?;
+    }
+    Ok(())
+}
+
+const PIECE: usize = 4096;
+
+// A put on out fails that still takes so many bytes: these and the puts before it stand there, and nothing stands on err.
+fn put_fails(
+    rt: &impl Abort,
+    alloc: Global,
+    whole: &[u8],
+    (put, taken): (usize, u32),
+) -> Result<(), Fail> {
+    let plan = [((put as u64).saturating_add(1), taken)];
+    let outcome = over_files(alloc, "build three", failing_out(&plan))?;
+    let length = PIECE.saturating_mul(put).saturating_add(taken as usize);
+    assert_eq!(rt;
+        outcome.status,
+        Status::WriteFault,
+        "put {put} after {taken}"
+    );
+    assert_eq!(rt; outcome.err.bytes().len(), 0, "put {put} after {taken}");
+    assert_eq!(rt;
+        Some(outcome.out.bytes()),
+        whole.get(..length),
+        "put {put} after {taken}"
+    );
+    Ok(())
+}
+
+// Each put of an image fails in turn, after none of its bytes and after ten. One behind them does not.
+fn each_put_fails(rt: &impl Abort, alloc: Global) -> Result<(), Fail> {
+    let whole = over_files(alloc, "build three", NONE)?;
+    let bytes = whole.out.bytes();
+    let puts = bytes.len().div_ceil(PIECE);
+    assert!(rt; puts > 20);
+    for put in 0..puts {
+        put_fails(rt, alloc, bytes, (put, 0))?;
+        put_fails(rt, alloc, bytes, (put, 10))?;
+    }
+    let plan = [((puts as u64).saturating_add(1), 0)];
+    let behind = over_files(alloc, "build three", failing_out(&plan))?;
+    assert_eq!(rt; behind.status, Status::Done);
+    assert_eq!(rt; behind.out.bytes(), bytes);
+    Ok(())
+}
+
+#[test]
+fn each_put_on_out_fails(rt: HostRuntime) -> Result<(), Fail> {
+    each_put_fails(&rt, rt.alloc())
+}
+
+// Lines that put something on err, how they end, and the lines there.
+const TOLD: &[(&str, Status, &[&str])] = &[
+    ("asm", Status::Usage, &[USAGE]),
+    ("asm bad.asm", Status::Refused, &["bad.asm:1:3: Grammar\n"]),
+    (
+        "build bad",
+        Status::Refused,
+        &["bad/A.jack:1:10: Grammar\n"],
+    ),
+    ("chip Nor", Status::Refused, &["Nor:0:0: UnknownChip Nor\n"]),
+    ("asm none.asm", Status::ReadFault, &[READ_FAULT]),
+    (
+        "build none",
+        Status::Refused,
+        &["none/Main.jack:0:0: NoMain Main.main\n"],
+    ),
+    // behind an echo
+    (
+        "test t/Wrong.tst",
+        Status::Differs,
+        &["first\n", "second\n", "t/And.cmp:2:1: Differs\n"],
+    ),
+    (
+        "test t/None.tst",
+        Status::Refused,
+        &["first\n", "t/None.tst:0:0: UnknownChip None\n"],
+    ),
+    (
+        "test t/Read.tst",
+        Status::ReadFault,
+        &["first\n", READ_FAULT],
+    ),
+    (
+        "test t/Deep.tst",
+        Status::NoMemory,
+        &["first\n", "nand: want of memory\n"],
+    ),
+];
+
+// A put on err fails that still takes so many bytes: these stand there behind the lines before, and nothing more is put.
+fn line_fails(
+    rt: &impl Abort,
+    alloc: Global,
+    line: &str,
+    told: &[&str],
+    (put, taken): (usize, u32),
+) -> Result<(), Fail> {
+    let plan = [((put as u64).saturating_add(1), taken)];
+    let outcome = outcome_of(alloc, with_chips(alloc)?, line, failing_err(&plan))?;
+    let mut err = Vec::new(alloc);
+    for (number, text) in told.iter().enumerate() {
+        if number < put {
+            err.extend_from_slice(text.as_bytes())?;
+        } else if number == put {
+            let front = text.as_bytes().get(..taken as usize);
+            err.extend_from_slice(front.ok_or("a line is longer")?)?;
+        }
+    }
+    assert_eq!(rt;
+        outcome.status,
+        Status::WriteFault,
+        "{line}, put {put} after {taken}"
+    );
+    assert_eq!(rt;
+        outcome.err.bytes(),
+        err.as_slice(),
+        "{line}, put {put} after {taken}"
+    );
+    Ok(())
+}
+
+fn each_line_fails(
+    rt: &impl Abort,
+    alloc: Global,
+    (line, status, told): (&str, Status, &[&str]),
+) -> Result<(), Fail> {
+    let plain = outcome_of(alloc, with_chips(alloc)?, line, NONE)?;
+    let mut err = String::new(alloc);
+    for text in told {
+        err.push_str(text)?;
+    }
+    assert_eq!(rt; plain.status, status, "{line}");
+    assert_eq!(rt; plain.err.bytes(), err.as_bytes(), "{line}");
+    for put in 0..told.len() {
+        line_fails(rt, alloc, line, told, (put, 0))?;
+        line_fails(rt, alloc, line, told, (put, 5))?;
+    }
+    Ok(())
+}
+
+#[test]
+fn each_put_on_err_fails(rt: HostRuntime) -> Result<(), Fail> {
+    for case in TOLD {
+        each_line_fails(&rt, rt.alloc(), *case)?;
+    }
+    Ok(())
+}
+
+/// A piece so many times between two others.
+type Repeated<'a> = (&'a str, &'a str, u32, &'a str);
+
+const EMPTY_MAIN: Repeated<'static> = ("class Main { function void main() { } }", "", 0, "");
+
+// Texts, and lines that put more than a piece on out.
+const LONG: &[(&str, Repeated<'static>, &str)] = &[
+    ("a.asm", ("", "@7\n", 300, ""), "asm a.asm"),
+    (
+        "a.asm",
+        ("", "@7\n", 300, ""),
+        "exec a.asm --cycles 1 --from 0 --to 2000",
+    ),
+    ("v/A.vm", ("", "push constant 7\n", 300, ""), "vm v --bare"),
+    ("v/A.vm", ("", "push constant 7\n", 300, ""), "show v/A.vm"),
+    (
+        "C.jack",
+        ("class C { function void f() { ", "return; ", 600, "} }"),
+        "show C.jack",
+    ),
+    (
+        "F.hdl",
+        ("CHIP F { IN a; PARTS: ", "Not(in=a); ", 300, "}"),
+        "show F.hdl",
+    ),
+    (
+        "p/Main.jack",
+        (
+            "class Main { function void main() { ",
+            "do Main.main(); ",
+            300,
+            "} }",
+        ),
+        "compile p",
+    ),
+    ("p/Main.jack", EMPTY_MAIN, "build p"),
+    ("p/Main.jack", EMPTY_MAIN, "map p"),
+    (
+        "p/Main.jack",
+        EMPTY_MAIN,
+        "run p --level jack --cycles 5 --show screen",
+    ),
+    ("t/a.tst", ("", "output, ", 3000, ""), "test t/a.tst"),
+];
+
+// The text of such a piece so many times.
+fn text_repeated(alloc: Global, repeated: &Repeated<'_>) -> Result<String, Fail> {
+    let (front, piece, times, back) = repeated;
+    let long = Long {
+        front,
+        piece,
+        behind_number: None,
+        times: *times,
+        back,
+    };
+    Ok(String::from_utf8_lossy(alloc, &text_of(alloc, &long)?)?)
+}
+
+// A line whose second put takes ten bytes alone has put a piece and these.
+#[test]
+fn each_line_puts_pieces(rt: HostRuntime) -> Result<(), Fail> {
+    let alloc = rt.alloc();
+    for (path, repeated, line) in LONG {
+        let text = text_repeated(alloc, repeated)?;
+        is_cut(&rt, alloc, &[(*path, text.as_str())], line, PIECE + 10)?;
+    }
+    let files = [("p/Main.jack", EMPTY_MAIN.0)];
+    let line = "run p --level gates --cycles 0 --show nets";
+    is_cut(&rt, alloc, &files, line, PIECE + 10)
+}

@@ -1,0 +1,208 @@
+//! Fronts of texts: a text of each of the seven languages is broken off behind each of its bytes.
+//!
+//! Under each line of a text stands where its tokens and comments begin (`^`). Under that stands what the fronts are told that end in
+//! this line, from the one that has nothing of it on: `+` that they are taken, `<` Grammar at their last token, `>` Grammar at their end.
+//! A program in Python told the signs, by the grammars of docs/FORMATS.md; it shares nothing with the readers.
+use super::{NONE, ended, files_of, outcome_of};
+use nand_cli::Status;
+use outer_world::Name;
+use std::alloc::Global;
+use std::process::Abort;
+use std::test::Fail;
+
+/// The path of a text, a line that reads it, the files beside it, and the lines of the text.
+#[derive(Clone, Copy)]
+struct Fronts<'a> {
+    path: &'a str,
+    call: &'a str,
+    beside: &'a [(&'a str, &'a str)],
+    lines: &'a [(&'a str, &'a str, &'a str)],
+}
+
+const ASSEMBLY: Fronts<'static> = Fronts {
+    path: "Add.asm",
+    call: "asm Add.asm",
+    beside: &[],
+    lines: &[
+        ("@2", "^^", "+>+"),
+        ("D=A", "^^^", "++>+"),
+        ("@3", "^^", "+>+"),
+        ("D=D+A", "^^^^^", "++>+>+"),
+        ("@0", "^^", "+>+"),
+        ("M=D", "^^^", "++>+"),
+        ("", "", "+"),
+    ],
+};
+
+const IMAGE: Fronts<'static> = Fronts {
+    path: "Add.hack",
+    call: "exec Add.hack --cycles 0 --from 1 --to 0",
+    beside: &[],
+    lines: &[
+        ("0000000000000010", "^^^^^^^^^^^^^^^^", "+>>>>>>>>>>>>>>>+"),
+        ("1110110000010000", "^^^^^^^^^^^^^^^^", "+>>>>>>>>>>>>>>>+"),
+        ("0000000000000011", "^^^^^^^^^^^^^^^^", "+>>>>>>>>>>>>>>>+"),
+        ("1110000010010000", "^^^^^^^^^^^^^^^^", "+>>>>>>>>>>>>>>>+"),
+        ("0000000000000000", "^^^^^^^^^^^^^^^^", "+>>>>>>>>>>>>>>>+"),
+        ("1110001100001000", "^^^^^^^^^^^^^^^^", "+>>>>>>>>>>>>>>>+"),
+        ("", "", "+"),
+    ],
+};
+
+const VM: Fronts<'static> = Fronts {
+    path: "v/Sys.vm",
+    call: "show v/Sys.vm",
+    beside: &[],
+    lines: &[
+        (
+            "function Sys.init 0",
+            "^        ^        ^",
+            "+<<<<<<<>>>>>>>>>>>+",
+        ),
+        ("call Sys.seven 0", "^    ^         ^", "+<<<>>>>>>>>>>>>+"),
+        ("pop temp 0", "^   ^    ^", "+<<>><<<>>+"),
+        ("label END", "^     ^  ", "+<<<<>>+++"),
+        ("goto END", "^    ^  ", "+<<<>>+++"),
+        (
+            "function Sys.seven 0",
+            "^        ^         ^",
+            "+<<<<<<<>>>>>>>>>>>>+",
+        ),
+        ("push constant 7", "^    ^        ^", "+<<<>><<<<<<<>>+"),
+        ("return", "^     ", "+<<<<<+"),
+        ("", "", "+"),
+    ],
+};
+
+const JACK: Fronts<'static> = Fronts {
+    path: "Main.jack",
+    call: "show Main.jack",
+    beside: &[],
+    lines: &[(
+        "class Main { function void main() { } }",
+        "^     ^    ^ ^        ^    ^   ^^ ^ ^ ^",
+        "><<<<>>>>>>>>><<<<<<<>>>>>>>>>>>>>>>>>>+",
+    )],
+};
+
+const CHIP: Fronts<'static> = Fronts {
+    path: "And.hdl",
+    call: "show And.hdl",
+    beside: &[],
+    lines: &[(
+        "CHIP And { IN a, b; OUT out; PARTS: Nand(a=a, b=b, out=n); Nand(a=n, b=n, out=out); }",
+        "^    ^   ^ ^  ^^ ^^ ^   ^  ^ ^    ^ ^   ^^^^^ ^^^^ ^  ^^^^ ^   ^^^^^ ^^^^ ^  ^^  ^^ ^",
+        "><<<>>>>>>>><>>>>>>>><<>>>>>>><<<<>>>>>>>>>>>>>>>>>>>>>>>>>>>>>>>>>>>>>>>>>>>>>>>>>>>+",
+    )],
+};
+
+const SCRIPT: Fronts<'static> = Fronts {
+    path: "And.tst",
+    call: "test And.tst",
+    beside: &[],
+    lines: &[
+        (
+            "load And.hdl, output-list a%B3.1.3 out;",
+            "^    ^      ^ ^           ^        ^  ^",
+            "+<<<>><<<<<<>++<<<<<><<<<>>><<<<<<>>>>>+",
+        ),
+        (
+            "repeat 2 { set a -1, eval; }",
+            "^      ^ ^ ^   ^ ^ ^ ^   ^ ^",
+            "+<<<<<>>>>>><<>>>><>>><<<>>>+",
+        ),
+        (
+            "output! /* b */ echo \"to b\";",
+            "^     ^ ^       ^    ^     ^",
+            "+<<<<<>++<<<<<<++<<<>><<<<<>+",
+        ),
+        ("", "", "+"),
+    ],
+};
+
+const KEYS: Fronts<'static> = Fronts {
+    path: "k.txt",
+    call: "run prog --level jack --cycles 0 --keys k.txt",
+    beside: &[("prog/Main.jack", "class Main { function void main() { } }")],
+    lines: &[
+        ("5 65", "^ ^ ", "+>>++"),
+        ("60 0", "^  ^", "+>>>+"),
+        ("", "", "+"),
+    ],
+};
+
+// The column of the last token that begins in the first bytes of a line.
+fn last_column(marks: &str, length: usize) -> usize {
+    let mut column = 0usize;
+    for (at, mark) in marks.as_bytes().iter().enumerate() {
+        if at < length && *mark == b'^' {
+            column = at.saturating_add(1);
+        }
+    }
+    column
+}
+
+// A text is taken, or told to have the fault Grammar at this place.
+fn is_told(
+    rt: &impl Abort,
+    alloc: Global,
+    fronts: &Fronts<'_>,
+    text: Vec<u8>,
+    place: Option<(usize, usize)>,
+) -> Result<(), Fail> {
+    let Fronts { path, call, .. } = fronts;
+    let mut files = files_of(alloc, fronts.beside)?;
+    files.push((Name::new(alloc, path)?, text))?;
+    let outcome = outcome_of(alloc, files, call, NONE)?;
+    let Some((line, column)) = place else {
+        assert_eq!(rt; outcome.status, Status::Done, "{call}");
+        return Ok(());
+    };
+    let err = format!(in alloc; "{path}:{line}:{column}: Grammar\n")?;
+    ended(rt, line, call, &outcome, Status::Refused, "", &err);
+    Ok(())
+}
+
+// The fronts that end in a line are told so, where this text stands before it.
+fn each_front_of_a_line(
+    rt: &impl Abort,
+    alloc: Global,
+    fronts: &Fronts<'_>,
+    before: &[u8],
+    number: usize,
+) -> Result<(), Fail> {
+    let (line, marks, signs) = fronts.lines.get(number).ok_or("the line is there")?;
+    assert_eq!(rt; marks.len(), line.len(), "{line}");
+    assert_eq!(rt; signs.len(), line.len().saturating_add(1), "{line}");
+    let number = number.saturating_add(1);
+    for (length, sign) in signs.as_bytes().iter().enumerate() {
+        let mut text = before.to_vec(alloc)?;
+        let front = line.as_bytes().get(..length);
+        text.extend_from_slice(front.ok_or("the front is one of the line")?)?;
+        let place = match *sign {
+            b'+' => None,
+            b'<' => Some((number, last_column(marks, length))),
+            _ => Some((number, length.saturating_add(1))),
+        };
+        is_told(rt, alloc, fronts, text, place)?;
+    }
+    Ok(())
+}
+
+fn each_front(rt: &impl Abort, alloc: Global, fronts: &Fronts<'_>) -> Result<(), Fail> {
+    let mut before = Vec::new(alloc);
+    for (number, (line, _, _)) in fronts.lines.iter().enumerate() {
+        each_front_of_a_line(rt, alloc, fronts, &before, number)?;
+        before.extend_from_slice(line.as_bytes())?;
+        before.push(b'\n')?;
+    }
+    Ok(())
+}
+
+#[test]
+fn each_front_of_a_text(rt: HostRuntime) -> Result<(), Fail> {
+    for fronts in [&ASSEMBLY, &IMAGE, &VM, &JACK, &CHIP, &SCRIPT, &KEYS] {
+        each_front(&rt, rt.alloc(), fronts)?;
+    }
+    Ok(())
+}
