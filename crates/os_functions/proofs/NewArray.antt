@@ -1,0 +1,90 @@
+-- A new array: a call of Memory.alloc within a call.
+use Rattle.std.proofs.Common.{◌≡◌, ℕ, suc, ◌+◌, ◌*◌, ◌-◌, ◌<◌, ◌≤◌, List, [], ◌∷◌, ◌++◌, length, Some, codes, refl, sym, ap, ◌∙◌, subst, arith}
+use Rattle.word16.specs.Words.{word_lt}
+use Rattle.jack_core.specs.declared.program.Core.{Core}
+use Rattle.jack_core.specs.Texts.{the_subroutines}
+use Rattle.jack_meaning.specs.Text.{Value, Literal, Call as Calling, Open, NoMore, More, Do, Return, Text, End, Next, Subroutine}
+use Rattle.jack_meaning.specs.Meaning.{Frame, State, subroutine_at, new_frame}
+use Rattle.os_laws.specs.Calls.{NextCall, ComesToCall, given_back}
+use Rattle.os_laws.specs.Heap.{Block}
+use Rattle.os_laws.specs.HeapCalls.{HasRoom, HasHeap, Holds, KeepsOthers, Allocated, Freed}
+use Rattle.os_laws.specs.KernelCalls.{Allocating, AllocatingNothing, Deallocating}
+use Rattle.os_laws.specs.Kernel.{alloc_meaning, deAlloc_meaning}
+use Rattle.os_laws.specs.Names.{IsShipped}
+use Rattle.os_laws.proofs.Allocating as allocating
+use Rattle.os_laws.proofs.Basics.{enters, frame_with}
+use Rattle.os_laws.proofs.Comparing.{below_one, not_less}
+use Rattle.os_laws.proofs.HeapCalls.{free_law}
+use Rattle.os_laws.proofs.Runs.{Call, over, run}
+use Rattle.os_functions.specs.Calls.{routine_number, CallsNext, Returns, Refuses}
+use Rattle.os_functions.specs.MemoryLaws.{NewLaw, NewErrorLaw, NewAsksLaw, DisposeLaw, ArrayLaws, free_number}
+use Rattle.os_functions.proofs.Pieces.{in_call, tail, returns_value, erring, refuses_by}
+use Rattle.os_functions.proofs.MemoryRoutines.{is_new_array, is_dispose_array, is_alloc, is_deAlloc, is_free}
+use Rattle.os_functions.proofs.Named.{numbered, is_error, system_error, number_of, own_number}
+use Rattle.os_functions.proofs.Texts.{new_array_body, dispose_array_body}
+use Rattle.os_functions.proofs.Ways.{Way, way_then, way_of_run, way_of_call, returns, opened, returns_by, comes_to}
+use Rattle.os_functions.proofs.ArrayRuns.{asking, asks, with_frames, has_heap, holds, keeps, at_one, asking_frame, waiting_frame}
+
+module _ {core : Core} (p : IsShipped core) (s : State) (a : Allocating (the_subroutines core) s (routine_number p (codes "Array") (codes "new")) (free_number p s)) where
+  abbrev subs : List Subroutine
+  subs = the_subroutines core
+
+  abbrev g : ℕ
+  g = routine_number p (codes "Array") (codes "new")
+
+  abbrev alloc_at : ℕ
+  alloc_at = number_of core p (codes "Memory") (codes "alloc")
+
+  abbrev below : List Frame
+  below = a.call.caller ∷ a.call.below
+
+  abbrev middle : State
+  middle = record { frames = asking_frame p s alloc_at a.size ∷ below; statics = s.statics; words = s.words }
+
+  begins : Way subs (suc (length below)) 5 (opened subs s g (a.size ∷ []) a.call) middle
+  begins =
+      way_of_run subs below 5 (record { frame = new_frame subs g (a.size ∷ []); statics = s.statics; words = s.words })
+      (record { frame = asking_frame p s alloc_at a.size; statics = s.statics; words = s.words })
+      (ap (λ (z : Frame). run subs 5 (record { frame = z; statics = s.statics; words = s.words })) (enters subs g _ (a.size ∷ []) (is_new_array core p))
+      ∙ asks subs g s.statics s.words (system_error p) alloc_at a.size (at_one p s a.size a.low (let h : a.size < 32768 = omega (arith, a.high) in h)))
+
+  -- the call of Memory.alloc
+  abbrev inner : Allocating subs middle alloc_at (free_number p s)
+  inner = record {
+    size = a.size;
+    low = a.low;
+    high = a.high;
+    parts = a.parts;
+    live = a.live;
+    heap = has_heap s (asking_frame p s alloc_at a.size ∷ below) (free_number p s) a.parts a.live a.heap;
+    k = a.k;
+    fit = a.fit;
+    call = record { top = asking_frame p s alloc_at a.size; caller = waiting_frame p s a.size; below = below; frames = refl; calls = refl };
+  }
+
+  is_asked : subroutine_at subs alloc_at ≡ alloc_meaning (own_number core p 3) (system_error p) (free_number p s)
+  is_asked = ap (subroutine_at subs) (sym (numbered core p (codes "Memory") (codes "alloc"))) ∙ is_alloc core p ∙ ap (λ (k : ℕ). alloc_meaning (own_number core p 3) (system_error p) k) (is_free core p)
+
+  pub made_new : (n : ℕ) × (n ≤ 67 + 18 * a.k) × (s' : State) × Returns subs s n s' × Allocated a.call (free_number p s) a.size a.live s'
+  made_new =
+      let (n, few, t, back, got) = allocating.law subs middle alloc_at (own_number core p 3) (system_error p) (free_number p s) is_asked inner in
+      let end : Frame = (in_call g 0 t.statics t.words End (a.size ∷ []) []).frame in
+      let same : t ≡ record { frames = (in_call g 0 t.statics t.words (returns_value 3 got.place End) (a.size ∷ []) []).frame ∷ below; statics = t.statics; words = t.words } =
+      ap (λ (fs : List Frame). with_frames t fs) got.frames in
+      let inside = way_of_call subs (suc (length below)) n middle t (omega arith) (returns subs n middle t back) in
+      let way = way_then subs (suc (length below)) 5 n (opened subs s g (a.size ∷ []) a.call) middle t begins inside in
+      let whole = subst (λ (z : State). Way subs (suc (length below)) (5 + n) (opened subs s g (a.size ∷ []) a.call) z) same way in
+      let last : State = record (given_back s a.call.caller a.call.below got.place) { statics = t.statics; words = t.words } in (
+        suc (suc (5 + n)),
+        omega (arith, few),
+        last,
+        returns_by subs s g (a.size ∷ []) a.call (5 + n) end t.statics t.words 3 got.place End whole,
+        record {
+          place = got.place;
+          frames = refl;
+          low = got.low;
+          high = got.high;
+          heap = holds t last.frames (free_number p s) _ got.heap;
+          keeps = keeps (free_number p s) a.live middle t s.frames last.frames got.keeps;
+        },
+      )

@@ -1,0 +1,62 @@
+-- Calls of the operating system's routines, by their names, and what they leave (book, chapter 12).
+use Rattle.std.specs.Prelude.{◌≡◌, ◌≤◌, ◌<◌, ◌+◌, ℕ, List, [], ◌∷◌, ◌++◌, length, Option, Some, None, codes, if◌then◌else◌}
+use Rattle.std.specs.Str.{bytes_eq}
+use Rattle.jack_core.specs.Texts.{the_subroutines}
+use Rattle.jack_core.specs.declared.program.Core.{Core}
+use Rattle.jack_meaning.specs.Text.{Subroutine}
+use Rattle.jack_meaning.specs.Meaning.{State}
+use Rattle.jack_names.specs.declared.scope.Declared.{Declared}
+use Rattle.jack_names.specs.declared.scope.Slot.{Slot}
+use Rattle.jack_names.specs.declared.scope.Slot.TheVariants as slot
+use Rattle.jack_names.specs.Numbers.{class_number, subroutine_number, in_class, member_slots, static_count}
+use Rattle.jack_names.specs.Tables.{find_value}
+use Rattle.jack_tree.specs.Syntax.{ClassFile}
+use Rattle.os_laws.specs.Calls.{NextCall, ComesToCall, after, given_back}
+use Rattle.os_laws.specs.Names.{IsShipped, statics_in}
+
+-- the number to which the names of a class and of a routine in it lead, in a program with the system as it is shipped
+abbrev pub routine_number : {core : Core} → IsShipped core → List ℕ → List ℕ → ℕ
+routine_number p class name = in_class (subroutine_number (p.own ++ p.os)) (class_number (p.own ++ p.os) class) name
+
+abbrev static_of : Slot → ℕ
+static_of (slot.Static k) = k
+static_of _ = 0
+
+abbrev slot_number : Option Declared → ℕ
+slot_number None = 0
+slot_number (Some d) = static_of d.slot
+
+-- the number of a static of one of these classes, before whose statics stand n others
+abbrev pub static_from : ℕ → List ClassFile → List ℕ → List ℕ → ℕ
+static_from n [] class name = 0
+static_from n (c ∷ cs) class name =
+    if bytes_eq class c.class.name.text then slot_number (find_value name (member_slots (λ x. None) 0 n c.class.variables)) else static_from (n + static_count c.class.variables) cs class name
+
+-- the number of a static of one of the system's classes, whose statics come behind those of the folder's
+abbrev pub static_number : {core : Core} → IsShipped core → List ℕ → List ℕ → ℕ
+static_number p class name = static_from (statics_in p.own) p.os class name
+
+-- The next step of the state is a call of this routine with these values.
+abbrev pub CallsNext : {core : Core} → IsShipped core → List ℕ → List ℕ → State → List ℕ → Type 0
+CallsNext {core} p class name s values = NextCall (the_subroutines core) s (routine_number p class name) values
+
+-- Under every key, from the call on, n steps lead to this state, which has as many frames as the first one. Before the last of them there are more: the call has not
+-- come back.
+pub record Returns (subs : List Subroutine) (s : State) (n : ℕ) (s' : State) : Type 0 where
+  pub some : 0 < n
+  pub leads : (keys : ℕ → ℕ) → after subs keys n s ≡ Some s'
+  pub frames : length s'.frames ≡ length s.frames
+  pub inside : (keys : ℕ → ℕ) (j : ℕ) → 0 < j → j < n → (t : State) × (after subs keys j s ≡ Some t) × (length s.frames < length t.frames)
+
+module _ {subs : List Subroutine} {s : State} {g : ℕ} {values : List ℕ} (c : NextCall subs s g values) where
+  -- Within so many steps the call comes back with this value, and nothing else has changed.
+  abbrev pub Gives : ℕ → ℕ → Type 0
+  Gives most w = (n : ℕ) × (n ≤ most) × Returns subs s n (given_back s c.caller c.below w)
+
+  -- The same where these are the statics and the words afterwards.
+  abbrev pub Leaves : ℕ → ℕ → List ℕ → List ℕ → Type 0
+  Leaves most w statics words = (n : ℕ) × (n ≤ most) × Returns subs s n (record (given_back s c.caller c.below w) { statics = statics; words = words })
+
+-- Within so many steps the call that was made calls Sys.error with this number; nothing else has changed.
+abbrev pub Refuses : {core : Core} (p : IsShipped core) {s : State} {g : ℕ} {values : List ℕ} → NextCall (the_subroutines core) s g values → ℕ → ℕ → Type 0
+Refuses p c most number = (n : ℕ) × (n ≤ most) × ComesToCall c (routine_number p (codes "Sys") (codes "error")) (number ∷ []) n

@@ -1,0 +1,6 @@
+pub mod Calls
+pub mod MathLaws
+pub mod MemoryLaws
+pub mod StringLaws
+pub mod ScreenLaws
+pub mod CursorLaws

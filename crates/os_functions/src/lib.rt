@@ -1,0 +1,43 @@
+//! Laws of functions of the operating system, in the meaning of Jack (book, chapter 12).
+#![tactic(auto)]
+
+ghost use Rattle.os_functions.specs.MathLaws.{MathLaws, MathRows};
+ghost use Rattle.os_functions.specs.MemoryLaws.{MemoryLaws, ArrayLaws};
+ghost use Rattle.os_functions.specs.StringLaws.{StringLaws};
+ghost use Rattle.os_functions.specs.ScreenLaws.{ScreenLaws};
+ghost use Rattle.os_functions.specs.CursorLaws.{CursorLaws};
+
+/// Math gives the distance from 0, the lesser, the greater and the root.
+pub fn math_laws()
+    ensures { MathLaws }
+{}
+
+/// Worked values of these functions.
+pub fn math_rows()
+    ensures { MathRows }
+{}
+
+/// Memory gives the word at an address, and sets it.
+pub fn memory_laws()
+    ensures { MemoryLaws }
+{}
+
+/// An array is a block of the heap, from its making until it is given back.
+pub fn array_laws()
+    ensures { ArrayLaws }
+{}
+
+/// A string has its characters in order, and room for more.
+pub fn string_laws()
+    ensures { StringLaws }
+{}
+
+/// A pixel drawn is that bit of that word.
+pub fn screen_laws()
+    ensures { ScreenLaws }
+{}
+
+/// The cursor goes to a cell.
+pub fn cursor_laws()
+    ensures { CursorLaws }
+{}
