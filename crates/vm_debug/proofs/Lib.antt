@@ -3,5 +3,8 @@ pub mod Meant
 pub mod Entries
 pub mod Adding
 pub mod Program
-pub mod Debugged
 pub mod Numbers
+pub mod Few
+pub mod SeenPlaces
+pub mod Linked
+pub mod CorePlaces

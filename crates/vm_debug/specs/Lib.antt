@@ -4,5 +4,5 @@ pub mod Places
 pub mod Program
 pub mod Numbers
 pub mod Laws
-pub mod Debugged
 pub mod Inner
+pub mod Linked

@@ -3,7 +3,7 @@ use Rattle.std.proofs.Common.{◌+◌}
 use Rattle.std.proofs.lemmas.Bool.{leb-true}
 use Rattle.jack_meaning.specs.StackWords.{stack_words}
 use Rattle.vm_debug.proofs.Meant.{view_of}
-use Rattle.vm_debug.specs.Debugged.{DebuggedLaw, DebuggedProgramLaw}
+use Rattle.debug_laws.specs.Debugged.{DebuggedLaw, DebuggedProgramLaw}
 use Rattle.tower.proofs.Headline.{behind}
 
 pub debugged : DebuggedLaw

@@ -1,5 +1,5 @@
-use Rattle.vm_debug.proofs.Debugged.{debugged, debugged_program}
-use Rattle.vm_debug.proofs.debugged_law.Goals as goal
+use Rattle.debug_laws.proofs.Debugged.{debugged, debugged_program}
+use Rattle.debug_laws.proofs.debugged_law.Goals as goal
 
 pub returns-clause-image : goal.returns-clause-image
 returns-clause-image c = debugged
