@@ -1,5 +1,5 @@
 -- The program that a generated text means is one that the compiler takes.
-use Rattle.std.proofs.Common.{◌≡◌, ◌≤◌, ◌+◌, ℕ, List, [], ◌∷◌, ◌++◌, map, refl, sym, ap, subst}
+use Rattle.std.proofs.Common.{◌≡◌, ◌≤◌, ◌+◌, ℕ, false, List, [], ◌∷◌, ◌++◌, map, refl, sym, ap, subst}
 use Rattle.jack_tree.specs.declared.tree.Class as code
 use Rattle.jack_tree.specs.Syntax.{Class, ClassFile}
 use Rattle.jack_tree.specs.Seen.{the_file}
@@ -24,7 +24,7 @@ all_spelled text c own h e =
     let one = one_file own _ e in
     subst AreSpelled (sym one.1) ((text, subst (SpellsClass text) (sym (ap (λ (f : ClassFile). f.class) one.2)) h), tt)
 
-pub resolved : ResolvedLaw → (text : List ℕ) (c : Class) (core : Core) → SpellsClass text c → FilesMean (folder_of c) core → IsResolvedCore core
+pub resolved : ResolvedLaw → (text : List ℕ) (c : Class) (core : Core) → SpellsClass text c → FilesMean false (folder_of c) core → IsResolvedCore core
 resolved law text c core spells (own, is, (os, are, of)) =
     let r = law own os _ of.well_named (all_spelled text c own spells is) are in
     subst (λ (p : Program). IsResolved p (names_of core)) (sym of.program) (subst (IsResolved (program_meaning (map the_file own) (map the_file os))) (sym of.names) r)

@@ -11,11 +11,13 @@ use Rattle.jack_tree.specs.Seen.{the_file}
 use Rattle.jack_parser.specs.Spelled as spelling
 use Rattle.jack_names.specs.Existence.{ExistenceLaw}
 use Rattle.jack_names.specs.Lengths.{total, subroutine_length, class_length, classes_length}
-use Rattle.jack_os.specs.System.{Texts, SpellsClass, IsClassOf, AreClassesOf, IsFileOf, AreFilesOf, added_to, with_added, system}
+use Rattle.jack_os.specs.System.{Texts, SpellsClass, IsClassOf, AreClassesOf, IsFileOf, AreFilesOf, added_to, with_added}
 use Rattle.jack_os.specs.Routines.{multiply, divide, init, alloc, deAlloc}
 use Rattle.tower.specs.Existence.{HaveTexts, ProgramLaw}
 use Rattle.tower.specs.Program.{IsProgramOf}
+use Rattle.tower.specs.Sources.{system_beside}
 use Rattle.tower.proofs.Long.{spelled_long}
+use Rattle.tower.proofs.Beside.{few_beside}
 
 -- ---- how long they are
 
@@ -59,15 +61,11 @@ files_long [] (c ∷ os) h = absurd h
 files_long (f ∷ files) [] h = absurd h
 files_long (f ∷ files) (c ∷ os) h = let p = file_long f.0 f.1 c h.0 in let q = files_long files os h.1 in omega (arith, p, q)
 
-eight : length system ≡ 8
-unfolding system
-eight = refl
-
-all_long : (own os : List ClassFile) → length own ≤ 256 → HaveTexts own → AreFilesOf system os → classes_length (own ++ os) < 2 ^ 62
-all_long own os few texts are =
+all_long : (replace : Bool) (own os : List ClassFile) → length own ≤ 256 → HaveTexts own → AreFilesOf (system_beside replace own) os → classes_length (own ++ os) < 2 ^ 62
+all_long replace own os few texts are =
     let p = own_long own texts in
-    let q = files_long system os are in
-    omega (arith, few, p, q, eight, total-append (λ (c : ClassFile). class_length c.class) own os)
+    let q = files_long (system_beside replace own) os are in
+    omega (arith, few, p, q, few_beside replace own, total-append (λ (c : ClassFile). class_length c.class) own os)
 
 -- ---- their trees
 
@@ -101,10 +99,10 @@ module _ (law : ExistenceLaw) where
       (t.0 ∷ ts.0, λ i. t.1 i ∷ ts.1 i, (t.2, ts.2))
 
   pub means_program : ProgramLaw
-  means_program own os few texts are well =
-      let c = law.core own os (all_long own os few texts are) in
+  means_program replace own os few texts are well =
+      let c = law.core own os (all_long replace own os few texts are) in
       let own_ts = own_trees own texts in
-      let os_ts = system_trees system os are in
+      let os_ts = system_trees (system_beside replace own) os are in
       let is : IsProgramOf own os c.0 = record {
         well_named = well;
         program = c.1.program;
@@ -112,4 +110,6 @@ module _ (law : ExistenceLaw) where
         classes = c.1.classes ∙ map-append (λ (d : ClassFile). d.class.name.text) own os;
       } in
       let same : IsProgramOf (map the_file own_ts.0) (map the_file os_ts.0) c.0 = subst (λ (ds : List ClassFile). IsProgramOf ds (map the_file os_ts.0) c.0) (sym own_ts.1) (subst (λ (ds : List ClassFile). IsProgramOf own ds c.0) (sym os_ts.1) is) in
-      (c.0, (own_ts.0, own_ts.1, (os_ts.0, os_ts.2, same)))
+      let beside : AreClassesOf (system_beside replace (map the_file own_ts.0)) os_ts.0 =
+      subst (λ (ds : List ClassFile). AreClassesOf (system_beside replace ds) os_ts.0) (sym own_ts.1) os_ts.2 in
+      (c.0, (own_ts.0, own_ts.1, (os_ts.0, beside, same)))

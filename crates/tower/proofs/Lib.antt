@@ -25,6 +25,7 @@ pub mod NamedClasses
 pub mod NamedProgram
 pub mod Spelled
 pub mod Completed
+pub mod Beside
 pub mod Programs
 pub mod OneProgram
 mod Long

@@ -1,12 +1,14 @@
 -- Classes with the same abstract syntax mean one program.
-use Rattle.std.proofs.Common.{◌≡◌, ◌++◌, ℕ, List, [], ◌∷◌, map, refl, sym, ap, ◌∙◌}
+use Rattle.std.proofs.Common.{◌≡◌, ◌++◌, ℕ, List, [], ◌∷◌, map, refl, subst, sym, ap, ◌∙◌}
 use Rattle.jack_tree.specs.declared.tree.Class.{Class}
 use Rattle.jack_tree.specs.Syntax as syntax
 use Rattle.jack_tree.specs.Seen.{the_class, the_file}
 use Rattle.jack_parser.proofs.Spelt.{one_class}
 use Rattle.jack_names.specs.Meaning.{program_meaning, program_names}
-use Rattle.jack_os.specs.System.{Texts, IsClassOf, AreClassesOf, added_to, with_added, system}
+use Rattle.jack_tree.specs.Syntax.{ClassFile}
+use Rattle.jack_os.specs.System.{Texts, IsClassOf, AreClassesOf, added_to, with_added}
 use Rattle.tower.specs.Program.{class_names}
+use Rattle.tower.specs.Sources.{system_beside}
 use Rattle.tower.specs.OneProgram.{OneProgramLaw}
 
 one_of_file : (file text : List ℕ) (c d : Class) → IsClassOf file text c → IsClassOf file text d → the_file c ≡ the_file d
@@ -29,8 +31,10 @@ one_system (f ∷ fs) (c ∷ cs) (d ∷ ds) h k =
     λ i. p i ∷ q i
 
 pub one_program : OneProgramLaw
-one_program own own' core core' same (os, are, p) (os', are', q) =
-    let theirs = one_system system os os' are are' in
+one_program replace own own' core core' same (os, are, p) (os', are', q) =
+    let beside : AreClassesOf (system_beside replace (map the_file own)) os' =
+    subst (λ (fs : List ClassFile). AreClassesOf (system_beside replace fs) os') (sym same) are' in
+    let theirs = one_system (system_beside replace (map the_file own)) os os' are beside in
     record {
       program = p.program ∙ (λ i. program_meaning (same i) (theirs i)) ∙ sym q.program;
       names = p.names ∙ (λ i. program_names (same i) (theirs i)) ∙ sym q.names;

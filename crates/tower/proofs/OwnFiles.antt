@@ -1,5 +1,5 @@
 -- The files of a folder's classes come first, and are named as the classes.
-use Rattle.std.proofs.Common.{◌≡◌, ◌≤◌, ◌+◌, ◌++◌, ℕ, suc, List, [], ◌∷◌, Ok, length, map, take, drop, get_or, refl, sym, ap, ◌∙◌, subst, arith, add-one, length-append}
+use Rattle.std.proofs.Common.{◌≡◌, ◌≤◌, ◌+◌, ◌++◌, ℕ, suc, Bool, List, [], ◌∷◌, Ok, length, map, take, drop, get_or, refl, sym, ap, ◌∙◌, subst, arith, add-one, length-append}
 use Rattle.std.proofs.Math.Seq.{drop-cons, take-append_seam, take-length}
 use Rattle.std.proofs.lemmas.List.{length-map, take-map}
 use Rattle.vm_tree.specs.declared.program.File.{File}
@@ -31,7 +31,7 @@ files_named core =
     names_from (the_program core) (names_of core) (class_names_of core) 0 classes (omega (arith, count))
     ∙ ap (λ n. take n (class_names_of core)) count ∙ take-length (class_names_of core)
 
-module _ (own : List Class) (core : Core) (means : Means own (Ok core)) where
+module _ (replace : Bool) (own : List Class) (core : Core) (means : Means replace own (Ok core)) where
   -- those of the folder's own classes come first
   in_order : file_names (files_of core) ≡ class_names (map the_file own) ++ class_names (map the_file means.0)
   in_order = files_named core ∙ means.2.classes
@@ -46,5 +46,5 @@ module _ (own : List Class) (core : Core) (means : Means own (Ok core)) where
         ∙ ap (λ n. take n (class_names (map the_file own) ++ class_names (map the_file means.0))) as_many ∙ take-append_seam (class_names (map the_file own)) (class_names (map the_file means.0));
   }
 
-pub named : (own : List Class) (files : List File) → AreCompiled own files → AreNamed own files
-named own files (core, means, same) = subst (AreNamed own) (sym same) (own_named own core means)
+pub named : (replace : Bool) (own : List Class) (files : List File) → AreCompiled replace own files → AreNamed own files
+named replace own files (core, means, same) = subst (AreNamed own) (sym same) (own_named replace own core means)

@@ -1,5 +1,5 @@
 -- The VM files of a folder's classes. (The book, chapters 10 and 11.)
-use Rattle.std.specs.Prelude.{◌≡◌, ◌≤◌, List, Ok, length, map, take}
+use Rattle.std.specs.Prelude.{◌≡◌, ◌≤◌, Bool, List, Ok, length, map, take}
 use Rattle.vm_tree.specs.declared.program.File.{File}
 use Rattle.jack_tree.specs.declared.tree.Class.{Class}
 use Rattle.jack_tree.specs.Seen.{the_file}
@@ -7,10 +7,10 @@ use Rattle.jack_core.specs.declared.program.Core.{Core}
 use Rattle.jack_compiler.specs.Files.{files_of}
 use Rattle.tower.specs.Program.{Means, class_names}
 
--- These are the compiled files of the program that a folder's classes mean with those of the operating system: a file for each class, with every
--- subroutine of it.
-abbrev pub AreCompiled : List Class → List File → Type 0
-AreCompiled own files = (core : Core) × Means own (Ok core) × (files ≡ files_of core)
+-- These are the compiled files of the program that a folder's classes mean with those of the operating system beside them: a file for each class,
+-- with every subroutine of it.
+abbrev pub AreCompiled : Bool → List Class → List File → Type 0
+AreCompiled replace own files = (core : Core) × Means replace own (Ok core) × (files ≡ files_of core)
 
 -- the files of the folder's own classes, which come first
 abbrev pub own_files : List Class → List File → List File

@@ -1,5 +1,6 @@
 pub mod Read
 pub mod Spelled
+pub mod Sources
 pub mod Program
 pub mod Resolved
 pub mod Existence

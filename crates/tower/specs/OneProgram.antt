@@ -1,5 +1,5 @@
 -- Classes mean at most one program (book, chapters 9 to 12).
-use Rattle.std.specs.Prelude.{◌≡◌, List, Ok, map}
+use Rattle.std.specs.Prelude.{◌≡◌, Bool, List, Ok, map}
 use Rattle.jack_tree.specs.declared.tree.Class.{Class}
 use Rattle.jack_tree.specs.Seen.{the_file}
 use Rattle.jack_core.specs.Texts.{the_program, names_of, class_names_of}
@@ -14,4 +14,6 @@ pub record SameProgram (core core' : Core) : Type 0 where
 
 -- Classes with the same abstract syntax mean one program.
 abbrev pub OneProgramLaw : Type 0
-OneProgramLaw = (own own' : List Class) (core core' : Core) → map the_file own ≡ map the_file own' → Means own (Ok core) → Means own' (Ok core') → SameProgram core core'
+OneProgramLaw =
+    (replace : Bool) (own own' : List Class) (core core' : Core) → map the_file own ≡ map the_file own' → Means replace own (Ok core)
+    → Means replace own' (Ok core') → SameProgram core core'

@@ -7,6 +7,7 @@ mod computer;
 mod hack_level;
 mod laws;
 mod program;
+mod sources;
 mod vm_level;
 
 pub use building::BuildError;
@@ -18,4 +19,5 @@ pub use laws::{
     resolved_law, vm_driven_law, vm_run_law,
 };
 pub use program::{ProgramError, program_of_classes};
+pub use sources::classes_beside;
 pub use vm_level::prepare_vm;
