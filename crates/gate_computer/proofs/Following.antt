@@ -26,7 +26,6 @@ use Rattle.netlist.specs.Order.{AreOrdered}
 use Rattle.netlist.specs.Present.{value_in}
 use Rattle.netlist.specs.Value.{Inputs, AreValues, spelled_number}
 use Rattle.netlist.specs.Words.{word_at as stored_at}
-use Rattle.netlist.proofs.Exist.{values_of}
 use Rattle.netlist.proofs.Rows.{spelled_same}
 use Rattle.gate_sim.specs.Calls.{pins_of}
 use Rattle.gate_sim.specs.Calls.Call.{Load, Eval, Tick, Tock}
@@ -42,17 +41,20 @@ use Rattle.chip_memory.specs.Trees.{ram16k_tree, screen_tree}
 use Rattle.hack_cpu.specs.Computer.{block_word}
 use Rattle.gate_computer.specs.declared.wiring.Wiring.{Wiring}
 use Rattle.gate_computer.specs.Computer.{chips, computer, IsComputer}
-use Rattle.gate_computer.specs.Wiring.{IsWired, cpu_path, a_register_path, main_path, screen_path}
+use Rattle.gate_computer.specs.declared.wiring.WiredPart.{WiredPart}
+use Rattle.gate_computer.specs.Wiring.{cpu_path, a_register_path, main_path, screen_path}
+use Rattle.gate_computer.specs.Simple.{ShowsComputer}
 use Rattle.gate_computer.specs.Followed.{GateMachine, HasFollowed, PassesParts}
 use Rattle.gate_computer.specs.Inner.Reading.{wired_text}
-use Rattle.gate_computer.proofs.Outputs.{text_same, text_is}
+use Rattle.gate_computer.proofs.Outputs.{text_same}
 use Rattle.outer_world.specs.Written.{Passes}
 use Rattle.outer_world.specs.declared.sink.Put.{Put}
 use Rattle.gate_computer.specs.Inner.Told.{HoldsKey, ComesIn, WasTold, HasSet}
 use Rattle.gate_computer.proofs.Seen.{shows_at, seen}
 use Rattle.gate_computer.proofs.Paths.{main_stands, screen_stands}
 use Rattle.gate_computer.proofs.Keyboard.{same_pins}
-use Rattle.gate_computer.proofs.Own.{wires_of, memory_there, not_rom, loaded_elsewhere, is_computer, inputs_for, comes_in, behaves}
+use Rattle.gate_computer.proofs.Own.{wires_of, memory_there, not_rom, loaded_elsewhere, is_computer, keys_apart, key_inputs, comes_in, behaves}
+use Rattle.gate_computer.proofs.Simple.{Ran, ran, readable_of}
 
 -- ---- counts by the instruction machine
 
@@ -111,42 +113,52 @@ either : (b : Bool) (x y x' y' : ℕ) → x ≡ x' → y ≡ y' → (if b then x
 either b x y x' y' e f = ap (λ z. if b then z else y) e ∙ ap (λ z. if b then x' else z) f
 
 module _ (sim : SimState) (w : Wiring) (image : List ℕ) (key : ℕ) (turns : List Turn) (told : WasTold sim w image key turns) (keys : ℕ → ℕ) where
+  -- what comes into its own netlist, and into that of the Computer
   abbrev own_inputs : Inputs
-  own_inputs = inputs_for sim.net w told.wired image told.image_words keys
+  own_inputs = key_inputs w image keys
 
-  own_values : (v : ℕ → ℕ → Bool) × ((n : ℕ) → AreValues sim.net own_inputs n v)
-  own_values = values_of sim.net told.ordered own_inputs
+  abbrev full_inputs : Inputs
+  full_inputs = key_inputs told.seen.full image keys
+
+  own_comes : (n : ℕ) → ComesIn w image keys n own_inputs
+  own_comes n = comes_in w image keys n (readable_of sim.net w told.seen).apart
+
+  own_values : Ran told.seen.whole sim.net told.seen.full w told.seen.wired image keys
+  own_values = ran sim.net w told.seen image keys told.ordered
 
   abbrev own_wires : List ℕ → Histories
-  own_wires = wires_of sim.net w told.wired own_values.0
+  own_wires = wires_of told.seen.whole told.seen.full told.seen.wired own_values.v
 
   own_is : ((c : ℕ) → IsKey (keys c)) → (m : ℕ) → IsComputer image keys m own_wires
   own_is words m =
-      is_computer sim.net w told.wired image told.image_words keys m (λ c less. words c) own_inputs (comes_in sim.net w told.wired image told.image_words keys m) own_values.0 (own_values.1 m)
+      is_computer told.seen.whole told.seen.full told.seen.wired image told.image_words keys m (λ c less. words c) full_inputs
+      (comes_in told.seen.full image keys m (keys_apart told.seen.whole told.seen.full told.seen.wired)) own_values.v (own_values.are m)
 
   own_runs : HoldsKeys keys 0 turns → Runs sim.net own_inputs (length turns) told.calls
-  own_runs holds = told.runs keys own_inputs holds (comes_in sim.net w told.wired image told.image_words keys (length turns))
+  own_runs holds = told.runs keys own_inputs holds (own_comes (length turns))
 
-  block_is : HoldsKeys keys 0 turns → (path : List ℕ) (c : Entry) (bits b : ℕ) → chip_at chips computer path ≡ Some c → end_of true c ≡ Some (ends.Block bits) → b ≡ told.wired.block path → (a : ℕ)
+  block_is : HoldsKeys keys 0 turns → (path : List ℕ) (c : Entry) (bits b : ℕ) → chip_at chips computer path ≡ Some c → end_of true c ≡ Some (ends.Block bits) → b ≡ told.seen.wired.block path → (a : ℕ)
       → stored_at sim.memory b a ≡ block_word bits (own_wires path) (length turns) a
   block_is holds path c bits b found is e a =
       let n = length turns in
-      let block = told.wired.block path in
+      let s = told.seen in
+      let block = s.wired.block path in
       let runs = own_runs holds in
-      let past = subst (λ m. ArePast sim.net told.calls m own_values.0) (sym runs.cycle) ((law sim.net own_inputs n told.calls runs).past own_values.0 (own_values.1 n)) in
+      let past = subst (λ m. ArePast sim.net told.calls m own_values.u) (sym runs.cycle) ((law sim.net own_inputs n told.calls runs).past own_values.u (own_values.own n)) in
       ap (λ x. stored_at sim.memory x a) e
-      ∙ told.stands.keeps.words own_values.0 past block a
-      ∙ runs.words own_values.0 block a
-      ∙ held_is sim.net own_inputs n own_values.0 (own_values.1 n) block bits (told.wired.at path) (memory_there sim.net w told.wired path c bits found is)
-      (λ x. loaded_elsewhere image w.rom block x (not_rom sim.net w told.wired path c bits found is)) n a
+      ∙ told.stands.keeps.words own_values.u past block a
+      ∙ runs.words own_values.u block a
+      ∙ own_values.words n block a
+      ∙ held_is s.whole full_inputs n own_values.v (own_values.are n) block bits (s.wired.at path) (memory_there s.whole s.full s.wired path c bits found is)
+      (λ x. loaded_elsewhere image s.full.rom block x (not_rom s.whole s.full s.wired path c bits found is)) n a
 
   words_are : ((c : ℕ) → IsKey (keys c)) → HoldsKeys keys 0 turns → (a : ℕ) → a < keyboard
       → (if nat_lt a 16384 then stored_at sim.memory w.main a else stored_at sim.memory w.screen (a - 16384)) ≡ (machine_at image keys (length turns)).memory a
   words_are words holds a near =
       either (nat_lt a 16384) (stored_at sim.memory w.main a) (stored_at sim.memory w.screen (a - 16384))
       (block_word 14 (own_wires main_path) (length turns) a) (block_word 13 (own_wires screen_path) (length turns) (a - 16384))
-      (block_is holds main_path (shipped_entry ram16k_tree) 14 w.main main_stands.0 main_stands.1 told.wired.blocks.main a)
-      (block_is holds screen_path (shipped_entry screen_tree) 13 w.screen screen_stands.0 screen_stands.1 told.wired.blocks.screen (a - 16384))
+      (block_is holds main_path (shipped_entry ram16k_tree) 14 w.main main_stands.0 main_stands.1 (own_values.main ∙ told.seen.wired.blocks.main) a)
+      (block_is holds screen_path (shipped_entry screen_tree) 13 w.screen screen_stands.0 screen_stands.1 (own_values.screen ∙ told.seen.wired.blocks.screen) (a - 16384))
       ∙ (shows_at image keys (suc (length turns)) own_wires (own_is words (suc (length turns))) (length turns) (omega arith)).memory a near
 
 -- ---- a history, from what was told and counted
@@ -179,7 +191,7 @@ followed g turns acted counts told by = record {
             ∙ ap (λ (s : Machine). s.memory a) (machine_same g.image own keys n same)
             ∙ sym (alike.words a near);
       };
-  behaves = λ keys words m. behaves g.sim.net g.wiring told.wired g.image told.image_words told.ordered keys words m;
+  behaves = λ keys words m. behaves told.seen.whole told.seen.full told.seen.wired g.image told.image_words told.seen.ordered keys words m;
 }
 
 -- ---- one cycle more
@@ -200,7 +212,7 @@ module _ (s0 sA sT sK : SimState) (w : Wiring) (image : List ℕ) (old key : ℕ
   module _ (stT : StandsFor sT (Tick ∷ set.now)) (stK : StandsFor sK (Tock ∷ Tick ∷ set.now)) where
     pub told_more : WasTold sK w image key (turns ++ turn key Acted ∷ [])
     told_more = record {
-      wired = subst (λ m. IsWired m w) (sym netK) told.wired;
+      seen = subst (λ m. ShowsComputer m w) (sym netK) told.seen;
       ordered = subst (λ (m : Net). AreOrdered m.nodes m.blocks) (sym netK) told.ordered;
       image_words = told.image_words;
       key_words = All-push (λ t. IsKey t.key) turns (turn key Acted) told.key_words word;
@@ -226,49 +238,54 @@ module _ (s0 sA sT sK : SimState) (w : Wiring) (image : List ℕ) (old key : ℕ
       h = own_inputs s0 w image old turns told keys
 
       abbrev v : ℕ → ℕ → Bool
-      v = (own_values s0 w image old turns told keys).0
+      v = (own_values s0 w image old turns told keys).v
 
-      are : (m : ℕ) → AreValues s0.net h m v
-      are = (own_values s0 w image old turns told keys).1
+      abbrev u : ℕ → ℕ → Bool
+      u = (own_values s0 w image old turns told keys).u
+
+      are : (m : ℕ) → AreValues s0.net h m u
+      are = (own_values s0 w image old turns told keys).own
 
       held_at : (c : ℕ) → keys c ≡ key → HoldsKey w.keyboard key (h.pin c)
-      held_at c e = subst (λ k. HoldsKey w.keyboard k (h.pin c)) e ((comes_in s0.net w told.wired image told.image_words keys (suc c)).pins c (omega arith))
+      held_at c e = subst (λ k. HoldsKey w.keyboard k (h.pin c)) e ((own_comes s0 w image old turns told keys (suc c)).pins c (omega arith))
 
       now_runs : Runs s0.net h (length turns) set.now
       now_runs = runs_set h (own_runs s0 w image old turns told keys holds)
 
       -- what is stored after the tick, and after the tock
-      tick_value : (k : ℕ) → k < length s0.net.nodes → value_in sT.values k ≡ v k (length turns)
+      tick_value : (k : ℕ) → k < length s0.net.nodes → value_in sT.values k ≡ u k (length turns)
       tick_value k less =
           let goes = law s0.net h (length turns) set.now now_runs in
-          let vals = (law s0.net h (length turns) (Tick ∷ set.now) goes.tick).now v (λ i pin. are_set (h.pin (length turns)) (held_at (length turns) now) i) (are (suc (length turns))) in
-          stT.values (Tick ∷ set.now) refl v (subst (λ m. AreCallValues m (Tick ∷ set.now) v) (sym netT) vals) k (subst (λ (m : Net). k < length m.nodes) (sym netT) less)
-          ∙ ap (v k) goes.tick.cycle
+          let vals = (law s0.net h (length turns) (Tick ∷ set.now) goes.tick).now u (λ i pin. are_set (h.pin (length turns)) (held_at (length turns) now) i) (are (suc (length turns))) in
+          stT.values (Tick ∷ set.now) refl u (subst (λ m. AreCallValues m (Tick ∷ set.now) u) (sym netT) vals) k (subst (λ (m : Net). k < length m.nodes) (sym netT) less)
+          ∙ ap (u k) goes.tick.cycle
 
-      tock_value : (k : ℕ) → k < length s0.net.nodes → value_in sK.values k ≡ v k (suc (length turns))
+      tock_value : (k : ℕ) → k < length s0.net.nodes → value_in sK.values k ≡ u k (suc (length turns))
       tock_value k less =
           let goes = law s0.net h (length turns) set.now now_runs in
           let runs = goes.cycle (λ i pin. are_set (h.pin (length turns)) (held_at (length turns) now) i) in
-          let vals = (law s0.net h (suc (length turns)) (Tock ∷ Tick ∷ set.now) runs).now v (λ i pin. are_set (h.pin (suc (length turns))) (held_at (suc (length turns)) next) i) (are (suc (suc (length turns)))) in
-          stK.values (Tock ∷ Tick ∷ set.now) refl v (subst (λ m. AreCallValues m (Tock ∷ Tick ∷ set.now) v) (sym netK) vals) k (subst (λ (m : Net). k < length m.nodes) (sym netK) less)
-          ∙ ap (v k) runs.cycle
+          let vals = (law s0.net h (suc (length turns)) (Tock ∷ Tick ∷ set.now) runs).now u (λ i pin. are_set (h.pin (suc (length turns))) (held_at (suc (length turns)) next) i) (are (suc (suc (length turns)))) in
+          stK.values (Tock ∷ Tick ∷ set.now) refl u (subst (λ m. AreCallValues m (Tock ∷ Tick ∷ set.now) u) (sym netK) vals) k (subst (λ (m : Net). k < length m.nodes) (sym netK) less)
+          ∙ ap (u k) runs.cycle
 
       -- what nodes of a row spell
-      spelled_row : (row : ℕ → Bool) (c bits : ℕ) (f : ℕ → ℕ) (nodes : List ℕ) → ((k : ℕ) → k < length s0.net.nodes → row k ≡ v k c) → nodes ≡ nodes_of bits f → All (λ k. k < length s0.net.nodes) nodes
-          → spelled_number row nodes ≡ number bits (λ k. v (f k) c)
-      spelled_row row c bits f nodes same e there =
-          spelled_same row (λ k. v k c) nodes (λ i d less. same _ (there i d less))
-          ∙ ap (spelled_number (λ k. v k c)) e ∙ spelled_is (λ k. v k c) bits f
+      spelled_row : (row : ℕ → Bool) (c bits : ℕ) (f : ℕ → ℕ) (nodes full : List ℕ) → ((k : ℕ) → k < length s0.net.nodes → row k ≡ u k c) → All (λ k. k < length s0.net.nodes) nodes
+          → spelled_number (λ k. u k c) nodes ≡ spelled_number (λ k. v k c) full → full ≡ nodes_of bits f → spelled_number row nodes ≡ number bits (λ k. v (f k) c)
+      spelled_row row c bits f nodes full same there placed e =
+          spelled_same row (λ k. u k c) nodes (λ i d less. same _ (there i d less))
+          ∙ placed ∙ ap (spelled_number (λ k. v k c)) e ∙ spelled_is (λ k. v k c) bits f
 
       module _ (words : (c : ℕ) → IsKey (keys c)) where
         a_is : spelled_number (value_in sT.values) w.a ≡ (machine_at image keys (length turns)).a
         a_is =
-            spelled_row (value_in sT.values) (length turns) 16 (told.wired.at a_register_path (codes "out")) w.a tick_value told.wired.pins.a told.wired.nodes.a
+            spelled_row (value_in sT.values) (length turns) 16 (told.seen.wired.at a_register_path (codes "out")) w.a told.seen.full.a tick_value (readable_of s0.net w told.seen).nodes.a
+            ((own_values s0 w image old turns told keys).a (length turns)) told.seen.wired.pins.a
             ∙ (shows_at image keys (suc (length turns)) (own_wires s0 w image old turns told keys) (own_is s0 w image old turns told keys words (suc (length turns))) (length turns) (omega arith)).a
 
         pc_is : spelled_number (value_in sK.values) w.pc ≡ (machine_at image keys (suc (length turns))).pc
         pc_is =
-            spelled_row (value_in sK.values) (suc (length turns)) 15 (told.wired.at cpu_path (codes "pc")) w.pc tock_value told.wired.pins.pc told.wired.nodes.pc
+            spelled_row (value_in sK.values) (suc (length turns)) 15 (told.seen.wired.at cpu_path (codes "pc")) w.pc told.seen.full.pc tock_value (readable_of s0.net w told.seen).nodes.pc
+            ((own_values s0 w image old turns told keys).pc (suc (length turns))) told.seen.wired.pins.pc
             ∙ (shows_at image keys (suc (suc (length turns))) (own_wires s0 w image old turns told keys) (own_is s0 w image old turns told keys words (suc (suc (length turns)))) (suc (length turns)) (omega arith)).pc
 
         pub counted_more : (t t' : TallyState) (heard heard' address : ℕ) (hears : Bool) → AtMachine image t heard keys (length turns)
@@ -324,7 +341,7 @@ module _ (s0 sA sE : SimState) (w : Wiring) (image : List ℕ) (old key : ℕ) (
 
   pub told_set : WasTold sE w image key turns
   told_set = record {
-    wired = subst (λ m. IsWired m w) (sym netE) told.wired;
+    seen = subst (λ m. ShowsComputer m w) (sym netE) told.seen;
     ordered = subst (λ (m : Net). AreOrdered m.nodes m.blocks) (sym netE) told.ordered;
     image_words = told.image_words;
     key_words = told.key_words;
@@ -341,42 +358,41 @@ module _ (s0 sA sE : SimState) (w : Wiring) (image : List ℕ) (old key : ℕ) (
     set_inputs = own_inputs s0 w image old turns told keys
 
     abbrev set_values : ℕ → ℕ → Bool
-    set_values = (own_values s0 w image old turns told keys).0
+    set_values = (own_values s0 w image old turns told keys).u
 
     eval_value : (k : ℕ) → k < length s0.net.nodes → value_in sE.values k ≡ set_values k (length turns)
     eval_value k less =
         let goes = law s0.net set_inputs (length turns) set.now (set_runs set_inputs (own_runs s0 w image old turns told keys holds)) in
-        let held = subst (λ x. HoldsKey w.keyboard x (set_inputs.pin (length turns))) now ((comes_in s0.net w told.wired image told.image_words keys (suc (length turns))).pins (length turns) (omega arith)) in
+        let held = subst (λ x. HoldsKey w.keyboard x (set_inputs.pin (length turns))) now ((own_comes s0 w image old turns told keys (suc (length turns))).pins (length turns) (omega arith)) in
         let vals = (law s0.net set_inputs (length turns) (Eval ∷ set.now) goes.eval).now set_values
         (λ i pin. same_pins w.keyboard key (pins_of set.now) (set_inputs.pin (length turns)) set.pins held i)
-        ((own_values s0 w image old turns told keys).1 (suc (length turns))) in
+        ((own_values s0 w image old turns told keys).own (suc (length turns))) in
         stE.values (Eval ∷ set.now) refl set_values (subst (λ m. AreCallValues m (Eval ∷ set.now) set_values) (sym netE) vals) k (subst (λ (m : Net). k < length m.nodes) (sym netE) less)
         ∙ ap (set_values k) goes.eval.cycle
 
-    pub passes_parts : ((c : ℕ) → IsKey (keys c)) → (before : Option (List ℕ)) (pending : List ℕ) (now' : Option (List ℕ)) (pending' : List ℕ) (answer : Put)
-        → Passes before pending now' pending' (wired_text (value_in sE.values) w.parts) answer → PassesParts image keys (length turns) before pending now' pending' answer
-    passes_parts words before pending now' pending' answer passes = record {
-      text = wired_text (value_in sE.values) w.parts;
+    pub passes_parts : ((c : ℕ) → IsKey (keys c)) → (parts : List WiredPart) → w.parts ≡ Some parts → (before : Option (List ℕ)) (pending : List ℕ) (now' : Option (List ℕ)) (pending' : List ℕ) (answer : Put)
+        → Passes before pending now' pending' (wired_text (value_in sE.values) parts) answer → PassesParts image keys (length turns) before pending now' pending' answer
+    passes_parts words parts has before pending now' pending' answer passes = record {
+      text = wired_text (value_in sE.values) parts;
       wires = own_wires s0 w image old turns told keys;
       behaves = own_is s0 w image old turns told keys words (suc (length turns));
       shows = (
-        told.wired.pins.places,
-        told.wired.pins.all_places,
-        text_same (value_in sE.values) (λ k. set_values k (length turns)) (length s0.net.nodes) w.parts eval_value told.wired.nodes.outputs
-            ∙ ap (wired_text (λ k. set_values k (length turns))) told.wired.pins.parts
-            ∙ text_is set_values (length turns) told.wired.at told.wired.pins.places,
+        told.seen.wired.pins.places,
+        told.seen.wired.pins.all_places,
+        text_same (value_in sE.values) (λ k. set_values k (length turns)) (length s0.net.nodes) parts eval_value ((readable_of s0.net w told.seen).nodes.outputs parts has)
+            ∙ (own_values s0 w image old turns told keys).lines parts has (length turns),
       );
       passes = passes;
     }
 
 -- ---- the start
 
-pub followed_none : (g : GateMachine) → IsWired g.sim.net g.wiring → AreOrdered g.sim.net.nodes g.sim.net.blocks → ((a : ℕ) → slice_index g.image a < 65536) → StandsFor g.sim (Load g.wiring.rom 0 g.image ∷ [])
+pub followed_none : (g : GateMachine) → ShowsComputer g.sim.net g.wiring → AreOrdered g.sim.net.nodes g.sim.net.blocks → ((a : ℕ) → slice_index g.image a < 65536) → StandsFor g.sim (Load g.wiring.rom 0 g.image ∷ [])
     → HoldsKey g.wiring.keyboard g.key (λ k. false) → IsKey g.key → g.moves ≡ 0 → g.heard ≡ 0 → ((pc : ℕ → ℕ) → pc 0 ≡ 0 → HasTallied g.tally pc 0) → HasFollowed g []
-followed_none g wired ordered small stands held word moves heard tallied =
+followed_none g seen' ordered small stands held word moves heard tallied =
     followed g [] (λ k d less. absurd (omega (arith, less))) moves
     (record {
-      wired = wired;
+      seen = seen';
       ordered = ordered;
       image_words = small;
       key_words = λ k d less. absurd (omega (arith, less));

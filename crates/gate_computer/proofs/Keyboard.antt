@@ -7,7 +7,7 @@ use Rattle.gate_sim.specs.Calls.{Call, pins_of}
 use Rattle.gate_computer.specs.Inner.Told.{HoldsKey, HoldsPart, ChangesPin}
 
 -- a node is one of these, or none of them
-find : (nodes : List ℕ) (k : ℕ) → ((j : ℕ) × (j < length nodes) × (slice_index nodes j ≡ k)) ⊎ ((j : ℕ) → j < length nodes → slice_index nodes j ≢ k)
+pub find : (nodes : List ℕ) (k : ℕ) → ((j : ℕ) × (j < length nodes) × (slice_index nodes j ≡ k)) ⊎ ((j : ℕ) → j < length nodes → slice_index nodes j ≢ k)
 find [] k = inr (λ j less e. absurd (omega (arith, less)))
 find (node ∷ nodes) k =
     elim (cases_eq node k) [

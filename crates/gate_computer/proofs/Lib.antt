@@ -4,6 +4,7 @@ pub mod Keyboard
 pub mod Numbers
 pub mod Own
 pub mod Outputs
+pub mod Simple
 pub mod Following
 pub mod Counting
 pub mod Standing

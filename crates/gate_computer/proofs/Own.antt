@@ -34,6 +34,15 @@ use Rattle.gate_computer.specs.Inner.Readable.{IsReadable}
 use Rattle.gate_computer.proofs.Paths.{rom_is, keyboard_is, rom_stands, main_stands, screen_stands, keyboard_stands}
 use Rattle.gate_computer.proofs.Keyboard.{Apart, at_pin, held_by}
 
+-- ---- what comes from outside, by a wiring
+
+-- the image is loaded, and the pins of the keyboard hold these keys
+abbrev pub key_inputs : Wiring → List ℕ → (ℕ → ℕ) → Inputs
+key_inputs w image keys = record { pin = λ c. at_pin w.keyboard 0 (has_bit (keys c)); loaded = λ b a. after_load w.rom 0 image b a 0 }
+
+pub comes_in : (w : Wiring) (image : List ℕ) (keys : ℕ → ℕ) (n : ℕ) → Apart w.keyboard → ComesIn w image keys n (key_inputs w image keys)
+comes_in w image keys n apart = record { loaded = λ b a. refl; pins = λ c less. held_by w.keyboard (keys c) apart }
+
 -- ---- lists of nodes
 
 wide_row : (n : ℕ) (f : ℕ → ℕ) (nodes : List ℕ) → nodes ≡ nodes_of n f → length nodes ≡ n
@@ -166,13 +175,7 @@ module _ (net : Net) (w : Wiring) (wired : IsWired net w) where
       }
 
     -- a history with these keys, and its values
-    abbrev pub inputs_for : (ℕ → ℕ) → Inputs
-    inputs_for keys = record { pin = λ c. at_pin w.keyboard 0 (has_bit (keys c)); loaded = λ b a. after_load w.rom 0 image b a 0 }
-
-    pub comes_in : (keys : ℕ → ℕ) (n : ℕ) → ComesIn w image keys n (inputs_for keys)
-    comes_in keys n = record { loaded = λ b a. refl; pins = λ c less. held_by w.keyboard (keys c) keys_apart }
-
     pub behaves : AreOrdered net.nodes net.blocks → (keys : ℕ → ℕ) → ((c : ℕ) → IsKey (keys c)) → (m : ℕ) → (wires : List ℕ → Histories) × IsComputer image keys m wires
     behaves ordered keys words m =
-        let v = values_of net ordered (inputs_for keys) in
-        (wires_of v.0, is_computer keys m (λ c less. words c) (inputs_for keys) (comes_in keys m) v.0 (v.1 m))
+        let v = values_of net ordered (key_inputs w image keys) in
+        (wires_of v.0, is_computer keys m (λ c less. words c) (key_inputs w image keys) (comes_in w image keys m keys_apart) v.0 (v.1 m))

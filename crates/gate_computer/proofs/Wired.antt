@@ -3,6 +3,7 @@ use Rattle.std.proofs.Common.{◌≡◌, ◌<◌, ℕ, zero, suc, Bool, true, fa
 use Rattle.std.specs.Prelude.{IsSome, slice_get, codes, if◌then◌else◌}
 use Rattle.std.specs.List.{All}
 use Rattle.std.specs.Str.{bytes_eq}
+use Rattle.std.proofs.lemmas.Option.{same_Some}
 use Rattle.std.proofs.lemmas.List.Elements.{All-head, All-tail, All-drop, All-same}
 use Rattle.hdl_tree.specs.declared.library.Entry.{Entry}
 use Rattle.hdl_tree.specs.declared.ends.End.TheVariants as ends
@@ -51,7 +52,7 @@ cpu_long at = refl
 
 -- ---- what holds of each part of a directory
 
-some_is : {A : Type 0} (o : Option A) (a : A) → o ≡ Some a → IsSome o
+pub some_is : {A : Type 0} (o : Option A) (a : A) → o ≡ Some a → IsSome o
 some_is o a e = subst (λ x. IsSome x) (sym e) refl
 
 abbrev OutsHold : (ℕ → Type 0) → PartAt → Type 0
@@ -182,7 +183,7 @@ module _ (net : Net) (pins : List PinAt) (parts : List PartAt) (flat : IsFlat ch
       a = told.a ∙ ap outs_in a_first ∙ a_outs (flat.at a_register_path);
       places = flat.tree;
       all_places = flat.listed;
-      parts = told.wired ∙ ap (λ (l : List PartAt). map (wired_part shipped_chips) l) flat.parts ∙ all_wired chips flat.at flat.block flat.tree found;
+      parts = told.wired ∙ ap Some (ap (λ (l : List PartAt). map (wired_part shipped_chips) l) flat.parts ∙ all_wired chips flat.at flat.block flat.tree found);
     }
 
     number_is : (o : Option ℕ) (a b : ℕ) → o ≡ Some a → o ≡ Some b → a ≡ b
@@ -204,7 +205,7 @@ module _ (net : Net) (pins : List PinAt) (parts : List PartAt) (flat : IsFlat ch
           (All-drop IsThere 32 (told_at cpu_path cpu_tree).outs (first_all IsThere (codes "CPU") parts (told_at cpu_path cpu_tree) flat.parts_there cpu_first));
       a = All-same IsThere w.a (told_at a_register_path a_register_tree).outs (told.a ∙ ap outs_in a_first)
           (first_all IsThere (codes "ARegister") parts (told_at a_register_path a_register_tree) flat.parts_there a_first);
-      outputs = λ i part e. wired_all IsThere shipped_chips parts flat.parts_there i part (sym (ap (λ (l : List WiredPart). slice_get l i) told.wired) ∙ e);
+      outputs = λ all is i part e. wired_all IsThere shipped_chips parts flat.parts_there i part (ap (λ (l : List WiredPart). slice_get l i) (same_Some (map (wired_part shipped_chips) parts) all (sym told.wired ∙ is)) ∙ e);
     }
 
     pub is_wired : IsWired net w

@@ -2,6 +2,7 @@ pub mod Computer
 pub mod Laws
 pub mod Parts
 pub mod Wiring
+pub mod Simple
 pub mod Followed
 pub mod Nodes
 pub mod Elaborated

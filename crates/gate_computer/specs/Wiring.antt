@@ -44,7 +44,7 @@ pub record TellsPins (w : Wiring) (at : List ℕ → Wires ℕ) : Type 0 where
   pub a : w.a ≡ nodes_of 16 (at a_register_path (codes "out"))
   pub places : List PartIn
   pub all_places : AreComputerParts places
-  pub parts : w.parts ≡ map (part_at at) places
+  pub parts : w.parts ≡ Some (map (part_at at) places)
 
 pub record TellsBlocks (w : Wiring) (block : List ℕ → ℕ) : Type 0 where
   pub rom : w.rom ≡ block rom_path
@@ -61,7 +61,7 @@ pub record HasOwnPins (net : Net) (at : List ℕ → Wires ℕ) : Type 0 where
 pub record HasNodes (net : Net) (w : Wiring) : Type 0 where
   pub pc : All (λ node. node < length net.nodes) w.pc
   pub a : All (λ node. node < length net.nodes) w.a
-  pub outputs : (i : ℕ) (part : WiredPart) → slice_get w.parts i ≡ Some part → All (λ node. node < length net.nodes) part.outputs
+  pub outputs : (parts : List WiredPart) → w.parts ≡ Some parts → (i : ℕ) (part : WiredPart) → slice_get parts i ≡ Some part → All (λ node. node < length net.nodes) part.outputs
 
 -- The netlist is that of the Computer, with some numbering of its bits, and the wiring tells the nodes and blocks that this gives.
 pub record IsWired (net : Net) (w : Wiring) : Type 0 where

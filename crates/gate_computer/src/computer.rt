@@ -1,10 +1,10 @@
 //! The Computer made of gates, moved by keys.
 
-ghost use Rattle.std.specs.Prelude.{◌≡◌, ◌<◌, ◌≤◌, ◌+◌, ◌^◌, ◌++◌, ◌∷◌, [], ℕ, List, suc, if◌then◌else◌, length, slice_index, IfOk};
+ghost use Rattle.std.specs.Prelude.{◌≡◌, ◌<◌, ◌≤◌, ◌+◌, ◌^◌, ◌++◌, ◌∷◌, [], ℕ, List, suc, if◌then◌else◌, length, slice_index, IfOk, IsSome};
 ghost use Rattle.word16.specs.Memory.{keyboard};
 ghost use Rattle.machine_io.specs.History.{Turn, turn};
 ghost use Rattle.machine_io.specs.declared.machine.Moved.TheVariants.{Acted};
-ghost use Rattle.gate_computer.specs.Wiring.{IsWired};
+ghost use Rattle.gate_computer.specs.Simple.{ShowsComputer};
 ghost use Rattle.outer_world.specs.Held.{HaveSameSink, pending, sink_of};
 ghost use Rattle.outer_world.specs.Written.{CountsPut};
 ghost use Rattle.simulation.specs.System.{IsKey};
@@ -13,7 +13,7 @@ ghost use Rattle.image_map.specs.Turns.{HoldsKeys};
 ghost use Rattle.gate_computer.specs.Followed.{HasFollowed, PassesParts, image_in, word_in};
 
 use crate::reading::{hears_key, number_at, set_keyboard};
-use crate::showing::put_parts;
+use crate::showing::{put_parts, told_parts};
 use crate::wiring::{WiredComputer, Wiring};
 use gate_sim::Sim;
 use image_map::{Image, Tally};
@@ -66,11 +66,12 @@ impl GateComputer {
         wired: WiredComputer,
         image: Image,
     ) -> Result<GateComputer, AllocError>
-        requires wired { IsWired wired.net wired.wiring }
+        requires shows { ShowsComputer wired.net wired.wiring }
         requires mapped { IsMapped image }
         ensures image { IfOk result (λ g. image_in g ≡ image) }
         ensures moves { IfOk result (λ g. g.moves ≡ 0) }
         ensures stands { IfOk result (λ g. HasFollowed g []) }
+        ensures wiring { IfOk result (λ g. g.wiring ≡ wired.wiring) }
     {
         let Image { words, map } = image;
         let WiredComputer { net, wiring } = wired;
@@ -96,6 +97,7 @@ impl GateComputer {
         ensures image { image_in self.new ≡ image_in self.old }
         ensures moves { self.new.moves ≡ self.old.moves + 1 }
         ensures stands { (turns : List Turn) → HasFollowed self.old turns → HasFollowed self.new (turns ++ turn key Acted ∷ []) }
+        ensures wiring { self.new.wiring ≡ self.old.wiring }
     {
         set_keyboard(
             &mut self.sim,
@@ -119,8 +121,9 @@ impl GateComputer {
     }
 
     /// Puts the outputs of all parts in the cycle that comes next, in which the keyboard holds a key: a line for each part, depth first in the order of
-    /// the texts, with its chip's name, a space, and the bits of its outputs. Only the pins of the keyboard change.
+    /// the texts, with its chip's name, a space, and the bits of its outputs. Only the pins of the keyboard change. The netlist is not simplified.
     pub fn put_nets<S: Sink>(&mut self, key: u16, out: &mut Pieces<'_, S>) -> Put
+        requires { IsSome self.old.wiring.parts }
         ensures image { image_in self.new ≡ image_in self.old }
         ensures moves { self.new.moves ≡ self.old.moves }
         ensures stands { (turns : List Turn) → HasFollowed self.old turns
@@ -141,7 +144,7 @@ impl GateComputer {
         );
         self.key = key;
         self.sim.eval();
-        put_parts(&self.sim, self.wiring.parts.as_slice(), out)
+        put_parts(&self.sim, told_parts(&self.wiring), out)
     }
 
     /// The number of cycles so far.

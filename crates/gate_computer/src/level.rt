@@ -11,6 +11,7 @@ use std::alloc::AllocError;
 impl Level for GateComputer {
     ghost use Rattle.machine_io.specs.declared.machine.Moved.TheVariants.{Acted};
     ghost use Rattle.image_map.specs.declared.map.Image.{Image};
+    ghost use Rattle.gate_computer.specs.declared.wiring.Wiring.{Wiring};
 
     type Point = Point;
 
@@ -27,9 +28,9 @@ impl Level for GateComputer {
 
     ghost sure = { true };
 
-    ghost Program = { Image };
+    ghost Program = { Image × Wiring };
 
-    ghost program = { λ g. image_in g };
+    ghost program = { λ g. (image_in g, g.wiring) };
 
     fn step(&mut self, key: u16) -> Result<Moved, AllocError> {
         self.cycle(key);

@@ -1,7 +1,8 @@
 //! The Computer made of gates (book, chapter 5), moved by keys, one cycle a key, and what is seen of it.
 //!
 //! The definitions are in `specs/`: `Computer` (its behaviours, with an image and keys, and what is seen of one), `Laws` (it is seen as the
-//! instruction machine is), `Wiring` (the Computer as a netlist, and where its pins are in it), `Parts` (the lines of its parts),
+//! instruction machine is), `Wiring` (the Computer as a netlist, and where its pins are in it), `Simple` (the
+//! same, simplified), `Parts` (the lines of its parts),
 //! `Elaborated` (what elaboration asks of the Computer), `Nodes` (how many nodes it needs) and `Followed` (the behaviours that a `GateComputer` stands for).
 #![tactic(auto)]
 
@@ -12,6 +13,7 @@ mod level;
 mod prepare;
 mod reading;
 mod showing;
+mod simplified;
 mod wire;
 mod wiring;
 

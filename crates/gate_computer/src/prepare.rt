@@ -1,21 +1,45 @@
 //! The Computer made of gates at its start.
 
-ghost use Rattle.std.specs.Prelude.{◌≡◌, [], IfOk};
+ghost use Rattle.std.specs.Prelude.{◌≡◌, [], false, IfOk, IsSome};
 ghost use Rattle.image_map.specs.Map.{IsMapped};
 ghost use Rattle.gate_computer.specs.Followed.{HasFollowed, image_in};
+ghost use Rattle.gate_computer.specs.Simple.{ShowsComputer};
 
 use crate::computer::GateComputer;
+use crate::simplified::{simple_computer, simple_shows, whole_shows};
 use crate::wire::build_computer;
+use crate::wiring::WiredComputer;
 use image_map::Image;
 use std::alloc::{AllocError, Global};
 
-/// The Computer made of gates at its start, with an image and its map. It has all its memory from here on.
-pub fn prepare_gates(alloc: Global, image: Image) -> Result<GateComputer, AllocError>
+// The computer, simplified where that is asked for.
+fn computer_for(alloc: Global, simplify: bool) -> Result<WiredComputer, AllocError>
+    ensures shows { IfOk result (λ wired. ShowsComputer wired.net wired.wiring) }
+    ensures parts { IfOk result (λ wired. simplify ≡ false → IsSome wired.wiring.parts) }
+{
+    let whole = build_computer(alloc)?;
+    if !simplify {
+        whole_shows(&whole);
+        return Ok(whole);
+    }
+    let simple = simple_computer(alloc, &whole)?;
+    simple_shows(&whole, &simple);
+    Ok(simple)
+}
+
+/// The Computer made of gates at its start, with an image and its map. It has all its memory from here on. Where its netlist is simplified, its parts
+/// can not be shown.
+pub fn prepare_gates(
+    alloc: Global,
+    image: Image,
+    simplify: bool,
+) -> Result<GateComputer, AllocError>
     requires { IsMapped image }
     ensures image { IfOk result (λ g. image_in g ≡ image) }
     ensures moves { IfOk result (λ g. g.moves ≡ 0) }
     ensures stands { IfOk result (λ g. HasFollowed g []) }
+    ensures parts { IfOk result (λ g. simplify ≡ false → IsSome g.wiring.parts) }
 {
-    let wired = build_computer(alloc)?;
+    let wired = computer_for(alloc, simplify)?;
     GateComputer::new(alloc, wired, image)
 }

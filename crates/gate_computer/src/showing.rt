@@ -1,6 +1,6 @@
 //! The lines that show the outputs of the Computer's parts.
 
-ghost use Rattle.std.specs.Prelude.{◌≡◌, ◌<◌, map, length, slice_get, ℕ, Some};
+ghost use Rattle.std.specs.Prelude.{◌≡◌, ◌<◌, map, length, slice_get, ℕ, IsSome, Some};
 ghost use Rattle.std.specs.List.{All};
 ghost use Rattle.outer_world.specs.Held.{HaveSameSink, pending, sink_of};
 ghost use Rattle.outer_world.specs.Written.{CountsPut, Passes};
@@ -9,7 +9,7 @@ ghost use Rattle.gate_computer.specs.declared.wiring.WiredPart.{WiredPart};
 ghost use Rattle.gate_computer.specs.Parts.{digit};
 ghost use Rattle.gate_computer.specs.Inner.Reading.{ArePartsThere, wired_line, wired_text};
 
-use crate::wiring::WiredPart;
+use crate::wiring::{WiredPart, Wiring};
 use gate_sim::Sim;
 use outer_world::{Pieces, Put, Sink};
 
@@ -50,6 +50,17 @@ fn put_part<S: Sink>(sim: &Sim, part: &WiredPart, out: &mut Pieces<'_, S>) -> Pu
         Put::Failed => return Put::Failed,
     }
     out.put(b"\n")
+}
+
+/// The parts that a wiring tells.
+pub fn told_parts(wiring: &Wiring) -> &[WiredPart]
+    requires { IsSome wiring.now.parts }
+    ensures { wiring.now.parts ≡ Some result.now }
+{
+    match &wiring.parts {
+        Some(parts) => parts.as_slice(),
+        None => unreachable!(),
+    }
 }
 
 /// Puts the lines of the parts.

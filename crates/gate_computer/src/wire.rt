@@ -1,6 +1,6 @@
 //! The wiring of the Computer, from the directory of its netlist.
 
-ghost use Rattle.std.specs.Prelude.{◌≡◌, IfOk};
+ghost use Rattle.std.specs.Prelude.{◌≡◌, ◌-◌, ◌<◌, ◌^◌, IfOk, IsSome, length};
 ghost use Rattle.hack_cpu.specs.Library.{shipped_chips};
 ghost use Rattle.hdl_elab.specs.Elaborated.{IsElaborated};
 ghost use Rattle.gate_computer.specs.Computer.{chips, computer};
@@ -18,7 +18,7 @@ use std::alloc::{AllocError, Global};
 // The outputs of the CPU are outM, writeM, addressM and pc: so many bits stand before those of the pc.
 const BEFORE_PC: usize = 32;
 
-fn list_from(alloc: Global, nodes: &[u32]) -> Result<List<u32>, AllocError>
+pub(crate) fn list_from(alloc: Global, nodes: &[u32]) -> Result<List<u32>, AllocError>
     ensures { IfOk result (λ list. list ≡ nodes.now) }
 {
     Ok(List::of(Vec::from_slice(alloc, nodes)?))
@@ -39,7 +39,7 @@ fn wiring_of(alloc: Global, library: &Library, parts: &[PartAt]) -> Result<Wirin
         rom: block_named(parts, b"ROM32K"),
         main: block_named(parts, b"RAM16K"),
         screen: block_named(parts, b"Screen"),
-        parts: wire_parts(alloc, library, parts)?,
+        parts: Some(wire_parts(alloc, library, parts)?),
     })
 }
 
@@ -51,7 +51,9 @@ pub fn wire_computer(
 ) -> Result<WiredComputer, AllocError>
     requires library { library.now.entries ≡ shipped_chips }
     requires elaborated { IsElaborated chips computer elab }
-    ensures { IfOk result (λ wired. IsWired wired.net wired.wiring) }
+    ensures wired { IfOk result (λ wired. IsWired wired.net wired.wiring) }
+    ensures parts { IfOk result (λ wired. IsSome wired.wiring.parts) }
+    ensures few { IfOk result (λ wired. length wired.net.nodes < 2 ^ 32 - 1) }
 {
     let wiring = wiring_of(alloc, library, elab.parts.as_slice())?;
     Ok(WiredComputer {
@@ -62,7 +64,9 @@ pub fn wire_computer(
 
 /// The Computer of the shipped chips as a netlist, its memories as blocks, with its wiring.
 pub fn build_computer(alloc: Global) -> Result<WiredComputer, AllocError>
-    ensures { IfOk result (λ wired. IsWired wired.net wired.wiring) }
+    ensures wired { IfOk result (λ wired. IsWired wired.net wired.wiring) }
+    ensures parts { IfOk result (λ wired. IsSome wired.wiring.parts) }
+    ensures few { IfOk result (λ wired. length wired.net.nodes < 2 ^ 32 - 1) }
 {
     let library = library(alloc)?;
     let name = Name::from_bytes(alloc, b"Computer")?;

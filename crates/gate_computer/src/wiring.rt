@@ -26,8 +26,8 @@ pub struct Wiring {
     pub main: u32,
     /// The block of the screen.
     pub screen: u32,
-    /// The parts, depth first in the order of the texts.
-    pub parts: List<WiredPart>,
+    /// The parts, depth first in the order of the texts; where the netlist is simplified, none are told.
+    pub parts: Option<List<WiredPart>>,
 }
 
 /// The Computer as a netlist.

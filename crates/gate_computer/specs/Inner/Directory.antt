@@ -75,4 +75,4 @@ pub record IsToldBy (entries : List Entry) (parts : List PartAt) (w : Wiring) : 
   pub rom : block_named (codes "ROM32K") parts ≡ Some w.rom
   pub main : block_named (codes "RAM16K") parts ≡ Some w.main
   pub screen : block_named (codes "Screen") parts ≡ Some w.screen
-  pub wired : w.parts ≡ map (wired_part entries) parts
+  pub wired : w.parts ≡ Some (map (wired_part entries) parts)

@@ -13,7 +13,7 @@ use Rattle.gate_sim.specs.Stands.{StandsFor}
 use Rattle.gate_sim.specs.Cycles.{Runs}
 use Rattle.gate_computer.specs.declared.wiring.Wiring.{Wiring}
 use Rattle.image_map.specs.Turns.{HoldsKeys}
-use Rattle.gate_computer.specs.Wiring.{IsWired}
+use Rattle.gate_computer.specs.Simple.{ShowsComputer}
 
 -- the pins of the keyboard hold the bits of a key, and every other pin is 0
 pub record HoldsKey (keyboard : List ℕ) (key : ℕ) (pin : ℕ → Bool) : Type 0 where
@@ -25,10 +25,10 @@ pub record ComesIn (w : Wiring) (image : List ℕ) (keys : ℕ → ℕ) (n : ℕ
   pub loaded : (b a : ℕ) → h.loaded b a ≡ after_load w.rom 0 image b a 0
   pub pins : (c : ℕ) → c < n → HoldsKey w.keyboard (keys c) (h.pin c)
 
--- The netlist is that of the Computer; image and keys are words. The calls that the simulator was told go through the cycles of the turns, and the
+-- The netlist shows the Computer; image and keys are words. The calls that the simulator was told go through the cycles of the turns, and the
 -- pins hold this key.
 pub record WasTold (sim : SimState) (w : Wiring) (image : List ℕ) (key : ℕ) (turns : List Turn) : Type 0 where
-  pub wired : IsWired sim.net w
+  pub seen : ShowsComputer sim.net w
   pub ordered : AreOrdered sim.net.nodes sim.net.blocks
   pub image_words : (a : ℕ) → slice_index image a < 65536
   pub key_words : All (λ t. IsKey t.key) turns

@@ -1,4 +1,4 @@
-use Rattle.std.proofs.Common.{◌≤◌, ◌-◌, drop, length, length-drop, arith, ap, ◌∙◌}
+use Rattle.std.proofs.Common.{◌≤◌, ◌-◌, Some, drop, length, length-drop, arith, ap, ◌∙◌}
 use Rattle.std.proofs.lemmas.List.{take_all}
 use Rattle.gate_computer.proofs.wire.wiring_of.Goals as goal
 
@@ -14,5 +14,5 @@ returns c = record {
   rom = c.block_named.ensures;
   main = c.block_named-2.ensures;
   screen = c.block_named-3.ensures;
-  wired = c.in_ok-wire_parts.ensures;
+  wired = ap Some c.in_ok-wire_parts.ensures;
 }

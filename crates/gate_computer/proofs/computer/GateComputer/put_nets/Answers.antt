@@ -39,5 +39,5 @@ returns-clause-passes g c turns h keys words holds now =
     let after = g.S.Sink.written c.put_parts.new.out.sink.now in
     subst (λ (s : GateMachine). PassesParts s.image keys (length turns) before (pending c.args.out.now) after (pending c.put_parts.new.out) c.put_parts.result) c.self.view_is
     (passes_parts c.self.inside.sim c.set_keyboard.new.sim c.eval.new.self c.self.inside.wiring c.self.inside.image c.self.inside.key c.args.key turns netA netE (omega arith) f.told set (c.eval.ensures.stands set.now set.stands)
-    keys holds now words before (pending c.args.out.now) after (pending c.put_parts.new.out) c.put_parts.result
-    (subst (λ l. Passes before (pending c.args.out.now) after (pending c.put_parts.new.out) (wired_text (value_in c.eval.new.self.values) l) c.put_parts.result) c.as_slice-2.ensures c.put_parts.ensures.passes))
+    keys holds now words c.told_parts.result.now c.told_parts.ensures before (pending c.args.out.now) after (pending c.put_parts.new.out) c.put_parts.result
+    c.put_parts.ensures.passes)

@@ -1,0 +1,31 @@
+-- The netlist of the Computer, simplified, and what shows the Computer: its own netlist, or that one. (The book, chapters 1 and 5.)
+use Rattle.std.specs.Prelude.{◌≡◌, ◌⊎◌, ◌++◌, ℕ, List, None, length}
+use Rattle.netlist.specs.Net.{Net}
+use Rattle.netlist.specs.Order.{AreOrdered}
+use Rattle.net_simplify.specs.Simplified.{IsSimplified}
+use Rattle.gate_computer.specs.declared.wiring.Wiring.{Wiring}
+use Rattle.gate_computer.specs.Wiring.{IsWired}
+
+-- the nodes that are kept: the pins of the keyboard, the pins pc of the CPU, and what A holds
+abbrev pub kept_nodes : Wiring → List ℕ
+kept_nodes w = w.keyboard ++ (w.pc ++ w.a)
+
+-- The netlist is what the simplifier gives for the whole one and the nodes that are kept. The wiring tells the places of these, and the same
+-- blocks; of parts it tells nothing.
+pub record IsSimpleOf (whole : Net) (full : Wiring) (net : Net) (w : Wiring) : Type 0 where
+  pub simplified : IsSimplified whole net (kept_nodes full) (kept_nodes w)
+  pub keyboard : length w.keyboard ≡ length full.keyboard
+  pub pc : length w.pc ≡ length full.pc
+  pub a : length w.a ≡ length full.a
+  pub rom : w.rom ≡ full.rom
+  pub main : w.main ≡ full.main
+  pub screen : w.screen ≡ full.screen
+  pub parts : w.parts ≡ None
+
+-- The netlist with its wiring shows the Computer: it is that of the Computer itself, or it is simplified from that.
+pub record ShowsComputer (net : Net) (w : Wiring) : Type 0 where
+  pub whole : Net
+  pub full : Wiring
+  pub wired : IsWired whole full
+  pub ordered : AreOrdered whole.nodes whole.blocks
+  pub shown : ((net ≡ whole) × (w ≡ full)) ⊎ IsSimpleOf whole full net w
