@@ -37,13 +37,15 @@ use Rattle.jack_names.specs.FaultOrder.{IsFirstFault}
 use Rattle.jack_names.specs.NameFaults.{IsWellNamed}
 use Rattle.jack_names.proofs.Found.{finds_first, finds_none}
 use Rattle.jack_names.proofs.Searched.{all_faults}
-use Rattle.jack_os.specs.System.{SystemLaw}
+use Rattle.jack_os.specs.System.{AreFilesOf, SystemLaw}
+use Rattle.tower.specs.Sources.{system_beside}
+use Rattle.tower.proofs.Beside.{some_beside}
 use Rattle.jack_places.specs.Rising.{FirstLaw}
-use Rattle.command_line.specs.Line.{Line, Source, asm, chip, compile, exec, of_classes, of_file, show, test, vm}
+use Rattle.command_line.specs.Line.{Line, Source, asm, chip, compile, exec, of_classes, of_file, show, soak, test, vm}
 use Rattle.command_line.specs.declared.request.SourceKind.{SourceKind}
 use Rattle.command_line.specs.declared.request.SourceKind.TheVariants as kinds
 use Rattle.nand_cli.specs.Answer.{Prints}
-use Rattle.command_laws.specs.Answered.{AnsweredLaw, ChipAnsweredLaw, ClassesAnsweredLaw, FileAnsweredLaw, FolderAnsweredLaw, HasAnswer, IsWellFolder, VmAnsweredLaw}
+use Rattle.command_laws.specs.Answered.{AnsweredLaw, ChipAnsweredLaw, ClassesAnsweredLaw, FileAnsweredLaw, FolderAnsweredLaw, HasAnswer, IsWellFolder, SoakAnsweredLaw, VmAnsweredLaw}
 use Rattle.nand_cli.specs.Commands.Chip.{unknown_chip}
 use Rattle.nand_cli.specs.Commands.Exec.{form_of}
 use Rattle.nand_cli.specs.Commands.Vm.{HasProgram, VmRefuses, unread as vm_unread, without_code}
@@ -185,36 +187,37 @@ named_or_fault : (own os : List ClassFile) (o : Option NameDiagnostic) → all_f
 named_or_fault own os None e = inl ((finds_none own os).0 e)
 named_or_fault own os (Some told) e = inr (told, (finds_first own os told).0 e)
 
-module _ (first : FirstLaw) (the_system : SystemLaw) (files : Files) (folder : List ℕ) where
-  os : List ClassFile
-  os = the_system.classes
-
+module _ (first : FirstLaw) (the_system : SystemLaw) (files : Files) (source : Source) where
   abbrev WellOrRefused : Type 0
-  WellOrRefused = IsWellFolder files folder ⊎ ((line : List ℕ) × FolderIsRefused (Some files) folder line)
+  WellOrRefused = IsWellFolder files source ⊎ ((line : List ℕ) × FolderIsRefused (Some files) source line)
 
-  by_names : (own : List ClassFile) → HasClasses (Some files) folder own → IsWellNamed own the_system.classes ⊎ ((told : NameDiagnostic) × IsFirstFault own the_system.classes told) → WellOrRefused
-  by_names own has (inl well) = inl (own, the_system.classes, has, the_system.are, well)
-  by_names own has (inr (told, h)) =
-      inr (name_line folder told, meaningless own has (the_system.classes, told, the_system.are, first own the_system.classes told (spelled_own (Some files) folder own has) h, refl))
+  by_names : (own os : List ClassFile) → HasClasses (Some files) source.folder own → AreFilesOf (system_beside source.replace own) os
+      → IsWellNamed own os ⊎ ((told : NameDiagnostic) × IsFirstFault own os told) → WellOrRefused
+  by_names own os has are (inl well) = inl (own, os, has, are, well)
+  by_names own os has are (inr (told, h)) =
+      inr (name_line source.folder told, meaningless own has (os, told, are, first own os told (spelled_own (Some files) source.folder own has) h, refl))
 
-  by_classes : ((own : List ClassFile) × HasClasses (Some files) folder own) ⊎ ((line : List ℕ) × IsUnread SpellsFile RefusesClass (codes ".jack") (Some files) folder line) → WellOrRefused
-  by_classes (inl (own, has)) = by_names own has (named_or_fault own the_system.classes (all_faults own the_system.classes) refl)
+  by_classes : ((own : List ClassFile) × HasClasses (Some files) source.folder own) ⊎ ((line : List ℕ) × IsUnread SpellsFile RefusesClass (codes ".jack") (Some files) source.folder line) → WellOrRefused
+  by_classes (inl (own, has)) =
+      let beside = some_beside source.replace own the_system.classes the_system.are in
+      by_names own beside.0 has beside.1 (named_or_fault own beside.0 (all_faults own beside.0) refl)
   by_classes (inr (line, h)) = inr (line, unread h)
 
 pub folder_answered : FirstLaw → SystemLaw → ClassLaw → FolderAnsweredLaw
-folder_answered first the_system law files folder = by_classes first the_system files folder (folder_read SpellsFile RefusesClass (file_read law) files (codes ".jack") folder)
+folder_answered first the_system law files source = by_classes first the_system files source (folder_read SpellsFile RefusesClass (file_read law) files (codes ".jack") source.folder)
 
 pub compile_answered : FolderAnsweredLaw → (there : List ℕ → Bool) (files : Files) (source : Source) → HasAnswer there files (of_classes source compile)
-compile_answered law there files source = elim (law files source.folder) [
+compile_answered law there files source = elim (law files source) [
   | inl (own, os, has, are, well) ↦ inl (files_text (take (length own) (files_meant own os)), [], ((own, os, has, are, well, refl), refl))
   | inr (line, h) ↦ inr (inl ([], [], line, (refl, h, refl)))
 ]
 
 -- ---- each line
 
-pub answered : ClassesAnsweredLaw → FileAnsweredLaw → VmAnsweredLaw → ChipAnsweredLaw → AnsweredLaw
-answered for_classes for_file for_vm for_chip there files (of_classes source work) other = for_classes there files source work
-answered for_classes for_file for_vm for_chip there files (of_file path work) other = for_file there files path work
-answered for_classes for_file for_vm for_chip there files (vm folder bare) other = for_vm there files folder bare
-answered for_classes for_file for_vm for_chip there files (chip name) other = for_chip there files name
-answered for_classes for_file for_vm for_chip there files (test path gates) other = absurd other
+pub answered : ClassesAnsweredLaw → FileAnsweredLaw → VmAnsweredLaw → ChipAnsweredLaw → SoakAnsweredLaw → AnsweredLaw
+answered for_classes for_file for_vm for_chip for_soak there files (of_classes source work) other = for_classes there files source work
+answered for_classes for_file for_vm for_chip for_soak there files (of_file path work) other = for_file there files path work
+answered for_classes for_file for_vm for_chip for_soak there files (vm folder bare) other = for_vm there files folder bare
+answered for_classes for_file for_vm for_chip for_soak there files (chip name) other = for_chip there files name
+answered for_classes for_file for_vm for_chip for_soak there files (test path gates) other = absurd other
+answered for_classes for_file for_vm for_chip for_soak there files (soak seed count) other = for_soak there files seed count

@@ -31,7 +31,7 @@ use Rattle.jack_parser.specs.Spelled.{ClassLaw, SpellsClass}
 use Rattle.command_line.specs.declared.request.SourceKind.TheVariants as kinds
 use Rattle.source_files.proofs.Once.{never_both, never_unread, one_fault, one_folder, one_refusal, one_source}
 use Rattle.source_files.specs.Sources.{IsFaulty, SpellsAt}
-use Rattle.command_line.specs.Line.{asm, exec, of_file, show}
+use Rattle.command_line.specs.Line.{Source, asm, exec, of_file, show}
 use Rattle.command_line.specs.declared.request.SourceKind.{SourceKind}
 use Rattle.command_laws.specs.Exact.{ChipExactLaw, FileExactLaw, IsExact, VmExactLaw}
 use Rattle.hack_asm.specs.Language.{RefusesWords, SpellsWords}
@@ -60,9 +60,9 @@ pub not_missing : (there : List ℕ → Bool) (files : Files) (folder : List ℕ
 not_missing there files folder is (gone, empty) = let no : ⊥ = cc in no
 
 -- without a key script only the folder can be missing
-pub not_lacking : (there : List ℕ → Bool) (files : Files) (folder : List ℕ) → there folder ≡ true → LacksFolder (Some files) there folder ⊎ LacksScript files folder None → ⊥
-not_lacking there files folder has (inl gone) = not_missing there files folder has gone
-not_lacking there files folder has (inr (core, means, built, none)) = none
+pub not_lacking : (there : List ℕ → Bool) (files : Files) (source : Source) → there source.folder ≡ true → LacksFolder (Some files) there source.folder ⊎ LacksScript files source None → ⊥
+not_lacking there files source has (inl gone) = not_missing there files source.folder has gone
+not_lacking there files source has (inr (core, means, built, none)) = none
 
 -- ---- `asm` and `exec`
 

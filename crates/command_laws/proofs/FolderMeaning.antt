@@ -21,8 +21,9 @@ each_text files folder [] (c ∷ own) h = absurd h
 each_text files folder (n ∷ names) [] h = absurd h
 
 pub folder_means : ProgramLaw → FolderMeansLaw
-folder_means law files folder (own, os, (names, are, spelled), system_is, well) =
+folder_means law files source (own, os, (names, are, spelled), system_is, well) =
+    let folder = source.folder in
     let few : length own ≤ 256 = subst (λ (n : ℕ). n ≤ 256) (sym (as_many (Some files) folder names own spelled)) are.1 in
-    let p = law own os few (each_text (Some files) folder names own spelled) system_is well in
+    let p = law source.replace own os few (each_text (Some files) folder names own spelled) system_is well in
     let has : HasClasses (Some files) folder own = (names, are, spelled) in
     (p.0, (p.1.0, subst (λ (cs : List ClassFile). HasClasses (Some files) folder cs) (sym p.1.1) has, p.1.2))

@@ -10,6 +10,8 @@ pub mod Listing
 pub mod PartsListed
 pub mod ProgramAnswered
 pub mod RunExactly
+pub mod SoakAnswered
+pub mod SoakExactly
 pub mod TextsOnce
 pub mod VmDoes
 pub mod VmExactly

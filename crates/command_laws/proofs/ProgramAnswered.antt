@@ -70,6 +70,12 @@ use Rattle.tower.proofs.Computers.{computer as computer_follows, is_mapped, link
 use Rattle.image_map.proofs.Tallying.{place_first}
 use Rattle.tower.proofs.VmRuns.{follows}
 use Rattle.command_line.specs.Line.{Source, build, compile, map_image, of_classes, run}
+use Rattle.command_line.specs.declared.request.MapFormat.{MapFormat}
+use Rattle.command_line.specs.declared.request.MapFormat.TheVariants as formats
+use Rattle.jack_debug.specs.MapText as placed
+use Rattle.vm_debug.specs.Places.{the_places}
+use Rattle.vm_debug.proofs.CorePlaces.{core_places}
+use Rattle.nand_cli.specs.Commands.Map.{HavePlaces}
 use Rattle.command_line.specs.declared.request.RunLevel.{RunLevel}
 use Rattle.command_line.specs.declared.request.RunLevel.TheVariants as levels
 use Rattle.command_line.specs.declared.request.Shown.{Shown}
@@ -343,6 +349,7 @@ level_report laws core resolved f code words n (levels.Jack shown) = jack_report
 level_report laws core resolved f code words n (levels.Vm shown) = vm_report laws core resolved f code words n shown
 level_report laws core resolved f code words n (levels.Hack shown) = hack_report laws core resolved f code words n shown
 level_report laws core resolved f code words n (levels.Gates (Words shown)) = words_report laws core resolved f code words n shown
+level_report laws core resolved f code words n (levels.Simplified shown) = words_report laws core resolved f code words n shown
 level_report laws core resolved f code words n (levels.Gates Nets) = nets_report laws core resolved f code words n shows.Nothing
 
 -- ---- the line
@@ -354,9 +361,9 @@ keys_by text (inr (fault, h)) = inr (key_message fault, (fault, h, refl))
 keys_read : KeyLaw → AllRead (λ (name text : List ℕ) (ls : List KeyLine). SpellsLines text ls) RefusesKeys
 keys_read law name text = keys_by text (law text)
 
-module _ (laws : Laws) (there : List ℕ → Bool) (files : Files) (source : Source) (core : Core) (means : FolderMeans (Some files) source.folder core) where
+module _ (laws : Laws) (there : List ℕ → Bool) (files : Files) (source : Source) (core : Core) (means : FolderMeans (Some files) source core) where
   resolved_here : IsResolvedCore core
-  resolved_here = folder_resolved laws.names (Some files) source.folder core means
+  resolved_here = folder_resolved laws.names (Some files) source core means
 
   build_answer : HasAnswer there files (of_classes source build)
   build_answer = elim (fits_or_told laws core resolved_here source.folder) [
@@ -364,11 +371,23 @@ module _ (laws : Laws) (there : List ℕ → Bool) (files : Files) (source : Sou
     | inr (line, h) ↦ inr (inl ([], [], line, (refl, unbuilt core means h, refl)))
   ]
 
-  map_answer : HasAnswer there files (of_classes source map_image)
-  map_answer = elim (fits_or_told laws core resolved_here source.folder) [
-    | inl f ↦
-        let b = image_for f.linked in
-        inl (map_text (names_of core) b.map, [], ((core, b, (means, is_image core f), covered core b (is_image core f), rising core b (is_image core f), refl), refl))
+  -- the map of a program that fits
+  map_text_of : Fits core → (format : MapFormat) → HasAnswer there files (of_classes source (map_image format))
+  map_text_of f formats.Points =
+      let b = image_for f.linked in
+      inl (map_text (names_of core) b.map, [], ((core, b, (means, is_image core f), (covered core b (is_image core f), rising core b (is_image core f)), refl), refl))
+  map_text_of f formats.Places =
+      let (own, has, (os, shipped, is)) = means in
+      let b = image_for f.linked in
+      let places = the_places own os f.linked b.map in
+      let built = is_image core f in
+      let meant = core_places own os core built.linked b.map places resolved_here is.program built.links (ap (λ (q : Image). q.map) built.is_image) (f.linked, f.links, refl) in
+      let have : HavePlaces source.replace own places = record { os = os; core = core; image = b; shipped = shipped; program = is; is_image = built; are = (f.linked, f.links, refl); meant = meant } in
+      inl (placed.map_text places, [], ((places, (own, has, have), (covered core b (is_image core f), rising core b (is_image core f)), refl), refl))
+
+  map_answer : (format : MapFormat) → HasAnswer there files (of_classes source (map_image format))
+  map_answer format = elim (fits_or_told laws core resolved_here source.folder) [
+    | inl f ↦ map_text_of f format
     | inr (line, h) ↦ inr (inl ([], [], line, (refl, unbuilt core means h, refl)))
   ]
 
@@ -394,32 +413,32 @@ module _ (laws : Laws) (there : List ℕ → Bool) (files : Files) (source : Sou
 
 -- ---- the folder
 
-module _ (laws : Laws) (files : Files) (folder : List ℕ) where
+module _ (laws : Laws) (files : Files) (source : Source) where
   abbrev MeansOrNot : Type 0
-  MeansOrNot = ((core : Core) × FolderMeans (Some files) folder core) ⊎ ((line : List ℕ) × FolderIsRefused (Some files) folder line)
+  MeansOrNot = ((core : Core) × FolderMeans (Some files) source core) ⊎ ((line : List ℕ) × FolderIsRefused (Some files) source line)
 
-  by_classes : IsWellFolder files folder ⊎ ((line : List ℕ) × FolderIsRefused (Some files) folder line) → MeansOrNot
-  by_classes (inl well) = inl (laws.programs files folder well)
+  by_classes : IsWellFolder files source ⊎ ((line : List ℕ) × FolderIsRefused (Some files) source line) → MeansOrNot
+  by_classes (inl well) = inl (laws.programs files source well)
   by_classes (inr refused) = inr refused
 
   means_or_not : MeansOrNot
-  means_or_not = by_classes (laws.folders files folder)
+  means_or_not = by_classes (laws.folders files source)
 
 module _ (laws : Laws) (there : List ℕ → Bool) (files : Files) (source : Source) where
-  build_by : MeansOrNot laws files source.folder → HasAnswer there files (of_classes source build)
+  build_by : MeansOrNot laws files source → HasAnswer there files (of_classes source build)
   build_by (inl (core, means)) = build_answer laws there files source core means
   build_by (inr (line, h)) = inr (inl ([], [], line, (refl, without_program h, refl)))
 
-  map_by : MeansOrNot laws files source.folder → HasAnswer there files (of_classes source map_image)
-  map_by (inl (core, means)) = map_answer laws there files source core means
-  map_by (inr (line, h)) = inr (inl ([], [], line, (refl, without_program h, refl)))
+  map_by : (format : MapFormat) → MeansOrNot laws files source → HasAnswer there files (of_classes source (map_image format))
+  map_by format (inl (core, means)) = map_answer laws there files source core means format
+  map_by format (inr (line, h)) = inr (inl ([], [], line, (refl, without_program h, refl)))
 
-  any_run : (level : RunLevel) (cycles : ℕ) (keys : Option (List ℕ)) → MeansOrNot laws files source.folder → HasAnswer there files (of_classes source (run level cycles keys))
+  any_run : (level : RunLevel) (cycles : ℕ) (keys : Option (List ℕ)) → MeansOrNot laws files source → HasAnswer there files (of_classes source (run level cycles keys))
   any_run level cycles keys (inl (core, means)) = run_by laws there files source core means level cycles keys
   any_run level cycles keys (inr (line, h)) = inr (inl ([], [], line, (refl, run_without_program h, refl)))
 
 pub classes_answered : Laws → ClassesAnsweredLaw
 classes_answered laws there files source compile = compile_answered laws.folders there files source
-classes_answered laws there files source build = build_by laws there files source (means_or_not laws files source.folder)
-classes_answered laws there files source map_image = map_by laws there files source (means_or_not laws files source.folder)
-classes_answered laws there files source (run level cycles keys) = any_run laws there files source level cycles keys (means_or_not laws files source.folder)
+classes_answered laws there files source build = build_by laws there files source (means_or_not laws files source)
+classes_answered laws there files source (map_image format) = map_by laws there files source format (means_or_not laws files source)
+classes_answered laws there files source (run level cycles keys) = any_run laws there files source level cycles keys (means_or_not laws files source)

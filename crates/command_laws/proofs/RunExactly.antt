@@ -33,8 +33,9 @@ use Rattle.jack_compiler.specs.Files.{files_of, program_files}
 use Rattle.jack_tree.specs.Syntax.{ClassFile}
 use Rattle.jack_tree.specs.Seen.{the_file}
 use Rattle.jack_parser.specs.Spelled.{ClassLaw}
-use Rattle.jack_os.specs.System.{system}
-use Rattle.jack_os.proofs.SystemTexts.{one_list, seen_files}
+use Rattle.jack_os.proofs.SystemTexts.{seen_files}
+use Rattle.tower.specs.Sources.{system_beside}
+use Rattle.tower.proofs.Beside.{one_beside}
 use Rattle.command_line.specs.Line.{Source, of_classes, run}
 use Rattle.command_line.specs.declared.request.RunLevel.{RunLevel}
 use Rattle.command_line.specs.declared.request.RunLevel.TheVariants as levels
@@ -66,24 +67,24 @@ use Rattle.command_laws.proofs.VmExactly.{one_vm_text}
 -- ---- the program of classes
 
 module _ (own own' : List ClassFile) (same : own ≡ own') where
-  one_wrong : (folder line line' : List ℕ) → IsMeaningless folder own line → IsMeaningless folder own' line' → line ≡ line'
-  one_wrong folder line line' (os, t, are, first, e) (os', u, are', first', d) =
-      e ∙ ap (name_line folder) (one_by_place own own' os os' u same (one_list system os os' are are') first' t first) ∙ sym d
+  one_wrong : (source : Source) (line line' : List ℕ) → IsMeaningless source own line → IsMeaningless source own' line' → line ≡ line'
+  one_wrong source line line' (os, t, are, first, e) (os', u, are', first', d) =
+      e ∙ ap (name_line source.folder) (one_by_place own own' os os' u same (one_beside source.replace own own' os os' same are are') first' t first) ∙ sym d
 
 -- ---- the program of a folder
 
-module _ (law : ClassLaw) (files : Files) (folder : List ℕ) where
-  pub one_meaning : (core core' : Core) → FolderMeans (Some files) folder core → FolderMeans (Some files) folder core' → SameProgram core core'
-  one_meaning core core' (cs, has, means) (ds, has', means') = one_program cs ds core core' (one_list_of_classes law files folder (map the_file cs) (map the_file ds) has has') means means'
+module _ (law : ClassLaw) (files : Files) (source : Source) where
+  pub one_meaning : (core core' : Core) → FolderMeans (Some files) source core → FolderMeans (Some files) source core' → SameProgram core core'
+  one_meaning core core' (cs, has, means) (ds, has', means') = one_program source.replace cs ds core core' (one_list_of_classes law files source.folder (map the_file cs) (map the_file ds) has has') means means'
 
-  pub one_folder_line : (line line' : List ℕ) → FolderIsRefused (Some files) folder line → FolderIsRefused (Some files) folder line' → line ≡ line'
-  one_folder_line line line' (unread h) (unread k) = one_refusal SpellsFile RefusesClass (λ (c : ClassFile). c) (class_once law) files folder (codes ".jack") line line' h k
-  one_folder_line line line' (unread h) (meaningless own has k) = absurd (never_unread_classes law files folder own line has h)
-  one_folder_line line line' (meaningless own has h) (unread k) = absurd (never_unread_classes law files folder own line' has k)
-  one_folder_line line line' (meaningless own has h) (meaningless own' has' k) = one_wrong own own' (one_list_of_classes law files folder own own' has has') folder line line' h k
+  pub one_folder_line : (line line' : List ℕ) → FolderIsRefused (Some files) source line → FolderIsRefused (Some files) source line' → line ≡ line'
+  one_folder_line line line' (unread h) (unread k) = one_refusal SpellsFile RefusesClass (λ (c : ClassFile). c) (class_once law) files source.folder (codes ".jack") line line' h k
+  one_folder_line line line' (unread h) (meaningless own has k) = absurd (never_unread_classes law files source.folder own line has h)
+  one_folder_line line line' (meaningless own has h) (unread k) = absurd (never_unread_classes law files source.folder own line' has k)
+  one_folder_line line line' (meaningless own has h) (meaningless own' has' k) = one_wrong own own' (one_list_of_classes law files source.folder own own' has has') source line line' h k
 
-  pub never_refused : (core : Core) (line : List ℕ) → FolderMeans (Some files) folder core → FolderIsRefused (Some files) folder line → ⊥
-  never_refused core line (cs, has, (os, are, is)) k = never_meaningless law files folder (map the_file cs) (map the_file os) line has (seen_files system os are) is.well_named k
+  pub never_refused : (core : Core) (line : List ℕ) → FolderMeans (Some files) source core → FolderIsRefused (Some files) source line → ⊥
+  never_refused core line (cs, has, (os, are, is)) k = never_meaningless law files source (map the_file cs) (map the_file os) line has (seen_files (system_beside source.replace (map the_file cs)) os are) is.well_named k
 
 -- ---- its image
 
@@ -91,7 +92,7 @@ module _ (core core' : Core) (same : SameProgram core core') where
   pub one_list_of_files : files_of core ≡ files_of core'
   one_list_of_files = λ i. program_files (same.program i) (same.names i) (same.classes i)
 
-  linked_here : (r : Result Linked LinkFault) → Links false (files_of core') r → Links false (files_of core) r
+  pub linked_here : (r : Result Linked LinkFault) → Links false (files_of core') r → Links false (files_of core) r
   linked_here r h = subst (λ (fs : List File). Links false fs r) (sym one_list_of_files) h
 
   pub one_image_of : (p q : Image) → IsImageOf core p → IsImageOf core' q → p ≡ q
@@ -274,34 +275,35 @@ one_report (levels.Jack shown) core core' code n text text' one same h k =
 one_report (levels.Vm shown) core core' code n text text' one same h k = one_vm_report core core' code n shown text text' same h k
 one_report (levels.Hack shown) core core' code n text text' one same h k = one_hack_report core core' code n shown text text' same h k
 one_report (levels.Gates (Words shown)) core core' code n text text' one same h k = one_gates_report core core' code n shown text text' same h k
+one_report (levels.Simplified shown) core core' code n text text' one same h k = one_gates_report core core' code n shown text text' same h k
 one_report (levels.Gates Nets) core core' code n text text' one same h k = absurd one
 
 -- ---- the line
 
-module _ (jack_law : ClassLaw) (key_law : KeyLaw) (files : Files) (folder : List ℕ) (level : RunLevel) (cycles : ℕ) (keys : Option (List ℕ)) where
-  run_prints : ShowsOneText level → (out out' : List ℕ) → RunPrints (Some files) folder level cycles keys out → RunPrints (Some files) folder level cycles keys out' → out ≡ out'
+module _ (jack_law : ClassLaw) (key_law : KeyLaw) (files : Files) (source : Source) (level : RunLevel) (cycles : ℕ) (keys : Option (List ℕ)) where
+  run_prints : ShowsOneText level → (out out' : List ℕ) → RunPrints (Some files) source level cycles keys out → RunPrints (Some files) source level cycles keys out' → out ≡ out'
   run_prints one out out' (core, ls, means, built, has, is) (core', ms, means', built', has', is') =
-      let same = one_meaning jack_law files folder core core' means means' in
+      let same = one_meaning jack_law files source core core' means means' in
       let lines = one_list_of_keys key_law files keys ls ms has has' in
       one_report level core core' (code_at ls) cycles out out' one same is (subst (λ (x : List Line). IsReport level core' (code_at x) cycles out') (sym lines) is')
 
-  run_refuses : (line line' : List ℕ) → RunRefuses (Some files) folder keys line → RunRefuses (Some files) folder keys line' → line ≡ line'
-  run_refuses line line' (without_program h) (without_program k) = one_folder_line jack_law files folder line line' h k
-  run_refuses line line' (without_program h) (unbuilt core means k) = absurd (never_refused jack_law files folder core line means h)
-  run_refuses line line' (without_program h) (without_script core means built k) = absurd (never_refused jack_law files folder core line means h)
-  run_refuses line line' (unbuilt core means h) (without_program k) = absurd (never_refused jack_law files folder core line' means k)
-  run_refuses line line' (unbuilt core means h) (unbuilt core' means' k) = one_build_line core core' (one_meaning jack_law files folder core core' means means') folder line line' h k
+  run_refuses : (line line' : List ℕ) → RunRefuses (Some files) source keys line → RunRefuses (Some files) source keys line' → line ≡ line'
+  run_refuses line line' (without_program h) (without_program k) = one_folder_line jack_law files source line line' h k
+  run_refuses line line' (without_program h) (unbuilt core means k) = absurd (never_refused jack_law files source core line means h)
+  run_refuses line line' (without_program h) (without_script core means built k) = absurd (never_refused jack_law files source core line means h)
+  run_refuses line line' (unbuilt core means h) (without_program k) = absurd (never_refused jack_law files source core line' means k)
+  run_refuses line line' (unbuilt core means h) (unbuilt core' means' k) = one_build_line core core' (one_meaning jack_law files source core core' means means') source.folder line line' h k
   run_refuses line line' (unbuilt core means h) (without_script core' means' built k) =
-      absurd (never_unbuilt core' core (one_meaning jack_law files folder core' core means' means) built.0 h.0 h.1 built.1 h.2 h.3)
-  run_refuses line line' (without_script core means built h) (without_program k) = absurd (never_refused jack_law files folder core line' means k)
+      absurd (never_unbuilt core' core (one_meaning jack_law files source core' core means' means) built.0 h.0 h.1 built.1 h.2 h.3)
+  run_refuses line line' (without_script core means built h) (without_program k) = absurd (never_refused jack_law files source core line' means k)
   run_refuses line line' (without_script core means built h) (unbuilt core' means' k) =
-      absurd (never_unbuilt core core' (one_meaning jack_law files folder core core' means means') built.0 k.0 k.1 built.1 k.2 k.3)
+      absurd (never_unbuilt core core' (one_meaning jack_law files source core core' means means') built.0 k.0 k.1 built.1 k.2 k.3)
   run_refuses line line' (without_script core means built h) (without_script core' means' built' k) = one_script_line key_law files keys line line' h k
 
-  run_apart : (out line : List ℕ) → RunPrints (Some files) folder level cycles keys out → RunRefuses (Some files) folder keys line → ⊥
-  run_apart out line (core, ls, means, built, has, is) (without_program k) = never_refused jack_law files folder core line means k
+  run_apart : (out line : List ℕ) → RunPrints (Some files) source level cycles keys out → RunRefuses (Some files) source keys line → ⊥
+  run_apart out line (core, ls, means, built, has, is) (without_program k) = never_refused jack_law files source core line means k
   run_apart out line (core, ls, means, built, has, is) (unbuilt core' means' k) =
-      never_unbuilt core core' (one_meaning jack_law files folder core core' means means') built.0 k.0 k.1 built.1 k.2 k.3
+      never_unbuilt core core' (one_meaning jack_law files source core core' means means') built.0 k.0 k.1 built.1 k.2 k.3
   run_apart out line (core, ls, means, built, has, is) (without_script core' means' built' k) = never_scripted key_law files keys ls line has k
 
   -- a key script that is not there
@@ -313,24 +315,24 @@ module _ (jack_law : ClassLaw) (key_law : KeyLaw) (files : Files) (folder : List
   no_script None line gone refused = gone
   no_script (Some path) line gone refused = none_refused RefusesKeys files path line gone refused
 
-  never_printed : (there : List ℕ → Bool) (out : List ℕ) → there folder ≡ true → LacksFolder (Some files) there folder ⊎ LacksScript files folder keys → RunPrints (Some files) folder level cycles keys out → ⊥
-  never_printed there out has (inl gone) h = not_missing there files folder has gone
+  never_printed : (there : List ℕ → Bool) (out : List ℕ) → there source.folder ≡ true → LacksFolder (Some files) there source.folder ⊎ LacksScript files source keys → RunPrints (Some files) source level cycles keys out → ⊥
+  never_printed there out has (inl gone) h = not_missing there files source.folder has gone
   never_printed there out has (inr (core, means, built, gone)) (core', ls, means', built', keyed, is) = no_keys keys ls gone keyed
 
-  never_run_refused : (there : List ℕ → Bool) (line : List ℕ) → there folder ≡ true → LacksFolder (Some files) there folder ⊎ LacksScript files folder keys → RunRefuses (Some files) folder keys line → ⊥
-  never_run_refused there line has (inl gone) h = not_missing there files folder has gone
-  never_run_refused there line has (inr (core, means, built, gone)) (without_program k) = never_refused jack_law files folder core line means k
+  never_run_refused : (there : List ℕ → Bool) (line : List ℕ) → there source.folder ≡ true → LacksFolder (Some files) there source.folder ⊎ LacksScript files source keys → RunRefuses (Some files) source keys line → ⊥
+  never_run_refused there line has (inl gone) h = not_missing there files source.folder has gone
+  never_run_refused there line has (inr (core, means, built, gone)) (without_program k) = never_refused jack_law files source core line means k
   never_run_refused there line has (inr (core, means, built, gone)) (unbuilt core' means' k) =
-      never_unbuilt core core' (one_meaning jack_law files folder core core' means means') built.0 k.0 k.1 built.1 k.2 k.3
+      never_unbuilt core core' (one_meaning jack_law files source core core' means means') built.0 k.0 k.1 built.1 k.2 k.3
   never_run_refused there line has (inr (core, means, built, gone)) (without_script core' means' built' k) = no_script keys line gone k
 
 pub run_exact : ClassLaw → KeyLaw → (files : Files) (source : Source) (level : RunLevel) (cycles : ℕ) (keys : Option (List ℕ)) → IsExact files (of_classes source (run level cycles keys))
 run_exact jack_law key_law files source level cycles keys = record {
-  prints = λ one out err out' err' h k. (run_prints jack_law key_law files source.folder level cycles keys one out out' h.0 k.0, h.1 ∙ sym k.1);
-  refuses = λ out before told out' before' told' h k. (h.0 ∙ sym k.0, run_refuses jack_law key_law files source.folder level cycles keys told told' h.1 k.1, h.2 ∙ sym k.2);
-  apart = λ out err out' before told h k. run_apart jack_law key_law files source.folder level cycles keys out told h.0 k.1;
+  prints = λ one out err out' err' h k. (run_prints jack_law key_law files source level cycles keys one out out' h.0 k.0, h.1 ∙ sym k.1);
+  refuses = λ out before told out' before' told' h k. (h.0 ∙ sym k.0, run_refuses jack_law key_law files source level cycles keys told told' h.1 k.1, h.2 ∙ sym k.2);
+  apart = λ out err out' before told h k. run_apart jack_law key_law files source level cycles keys out told h.0 k.1;
   lacking = λ there has gone out before told. (
-    λ h. never_printed jack_law key_law files source.folder level cycles keys there out has gone h.0,
-    λ k. never_run_refused jack_law key_law files source.folder level cycles keys there told has gone k.1,
+    λ h. never_printed jack_law key_law files source level cycles keys there out has gone h.0,
+    λ k. never_run_refused jack_law key_law files source level cycles keys there told has gone k.1,
   );
 }

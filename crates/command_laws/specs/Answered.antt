@@ -5,8 +5,9 @@ use Rattle.outer_world.specs.Files.{Files}
 use Rattle.jack_tree.specs.Syntax.{ClassFile}
 use Rattle.jack_core.specs.declared.program.Core.{Core}
 use Rattle.jack_names.specs.NameFaults.{IsWellNamed}
-use Rattle.jack_os.specs.System.{AreFilesOf, system}
-use Rattle.command_line.specs.Line.{ClassWork, FileWork, IsNoTest, Line, Source, chip, of_classes, of_file, vm}
+use Rattle.jack_os.specs.System.{AreFilesOf}
+use Rattle.tower.specs.Sources.{system_beside}
+use Rattle.command_line.specs.Line.{ClassWork, FileWork, IsNoTest, Line, Source, chip, of_classes, of_file, soak, vm}
 use Rattle.nand_cli.specs.Answer.{Lacks, Prints, Refuses}
 use Rattle.nand_cli.specs.JackFolder.{FolderIsRefused, FolderMeans, HasClasses}
 
@@ -30,19 +31,23 @@ VmAnsweredLaw = (there : List ℕ → Bool) (files : Files) (folder : List ℕ) 
 abbrev pub ChipAnsweredLaw : Type 0
 ChipAnsweredLaw = (there : List ℕ → Bool) (files : Files) (name : List ℕ) → HasAnswer there files (chip name)
 
+abbrev pub SoakAnsweredLaw : Type 0
+SoakAnsweredLaw = (there : List ℕ → Bool) (files : Files) (seed count : ℕ) → HasAnswer there files (soak seed count)
+
 -- ---- folders of classes
 
--- The folder has classes that are well named with those of the operating system.
-abbrev pub IsWellFolder : Files → List ℕ → Type 0
-IsWellFolder files folder = (own os : List ClassFile) × HasClasses (Some files) folder own × AreFilesOf system os × IsWellNamed own os
+-- The folder has classes that are well named with those of the operating system beside them.
+abbrev pub IsWellFolder : Files → Source → Type 0
+IsWellFolder files source =
+    (own os : List ClassFile) × HasClasses (Some files) source.folder own × AreFilesOf (system_beside source.replace own) os × IsWellNamed own os
 
 -- The law of folders: over known files each is such a one, or it is refused.
 abbrev pub FolderAnsweredLaw : Type 0
-FolderAnsweredLaw = (files : Files) (folder : List ℕ) → IsWellFolder files folder ⊎ ((line : List ℕ) × FolderIsRefused (Some files) folder line)
+FolderAnsweredLaw = (files : Files) (source : Source) → IsWellFolder files source ⊎ ((line : List ℕ) × FolderIsRefused (Some files) source line)
 
 -- The law of meanings: such a folder means a program.
 abbrev pub FolderMeansLaw : Type 0
-FolderMeansLaw = (files : Files) (folder : List ℕ) → IsWellFolder files folder → (core : Core) × FolderMeans (Some files) folder core
+FolderMeansLaw = (files : Files) (source : Source) → IsWellFolder files source → (core : Core) × FolderMeans (Some files) source core
 
 -- ---- each line
 

@@ -4,7 +4,7 @@ use Rattle.std.specs.Prelude.{◌≡◌, ℕ, Bool, true, List, Some}
 use Rattle.outer_world.specs.Files.{Files}
 use Rattle.jack_core.specs.declared.program.Core.{Core}
 use Rattle.tower.specs.OneProgram.{SameProgram}
-use Rattle.command_line.specs.Line.{ClassWork, FileWork, IsNoTest, Line, Source, chip, of_classes, of_file, run, vm}
+use Rattle.command_line.specs.Line.{ClassWork, FileWork, IsNoTest, Line, Source, chip, of_classes, of_file, run, soak, vm}
 use Rattle.command_line.specs.declared.request.RunLevel.{RunLevel}
 use Rattle.command_line.specs.declared.request.RunLevel.TheVariants.{Gates}
 use Rattle.command_line.specs.declared.request.Shown.TheVariants.{Nets}
@@ -49,10 +49,13 @@ VmExactLaw = (files : Files) (folder : List ℕ) (bare : Bool) → IsExact files
 abbrev pub ChipExactLaw : Type 0
 ChipExactLaw = (files : Files) (name : List ℕ) → IsExact files (chip name)
 
+abbrev pub SoakExactLaw : Type 0
+SoakExactLaw = (files : Files) (seed count : ℕ) → IsExact files (soak seed count)
+
 -- The law of exactness. Of a script it is not claimed: what is seen of its chip is told as values of some netlist of it.
 abbrev pub ExactLaw : Type 0
 ExactLaw = (files : Files) (line : Line) → IsNoTest line → IsExact files line
 
 -- A folder whose files are known means at most one program.
 abbrev pub OneProgramLaw : Type 0
-OneProgramLaw = (files : Files) (folder : List ℕ) (core core' : Core) → FolderMeans (Some files) folder core → FolderMeans (Some files) folder core' → SameProgram core core'
+OneProgramLaw = (files : Files) (source : Source) (core core' : Core) → FolderMeans (Some files) source core → FolderMeans (Some files) source core' → SameProgram core core'

@@ -1,5 +1,5 @@
 //! Over known files a line has at most one answer.
-ghost use Rattle.command_laws.specs.Exact.{ChipExactLaw, ClassesExactLaw, ExactLaw, FileExactLaw, OneProgramLaw, VmExactLaw};
+ghost use Rattle.command_laws.specs.Exact.{ChipExactLaw, ClassesExactLaw, ExactLaw, FileExactLaw, OneProgramLaw, SoakExactLaw, VmExactLaw};
 
 /// Law: over known files a line that reads the Jack classes of a folder prints one text or is refused with one line, and not both.
 pub fn classes_exact_law()
@@ -33,6 +33,15 @@ pub fn chip_exact_law()
     ensures { ChipExactLaw }
 {}
 
+/// Law: so does a line of `soak`.
+pub fn soak_exact_law()
+    ensures { SoakExactLaw }
+{
+    jack_parser::class_law();
+    soak_program::one_text_law();
+    classes_exact_law();
+}
+
 /// Law: over known files each line has one answer: it prints one thing or is refused for one thing, and not both.
 pub fn exact_law()
     ensures { ExactLaw }
@@ -41,6 +50,7 @@ pub fn exact_law()
     file_exact_law();
     vm_exact_law();
     chip_exact_law();
+    soak_exact_law();
 }
 
 /// Law: a folder whose files are known means at most one program.

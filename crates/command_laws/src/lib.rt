@@ -7,10 +7,11 @@ mod images;
 mod total;
 
 pub use exact::{
-    chip_exact_law, classes_exact_law, exact_law, file_exact_law, one_program_law, vm_exact_law,
+    chip_exact_law, classes_exact_law, exact_law, file_exact_law, one_program_law, soak_exact_law,
+    vm_exact_law,
 };
 pub use images::vm_does_law;
 pub use total::{
     answered_law, chip_answered_law, classes_answered_law, file_answered_law, folder_answered_law,
-    folder_means_law, vm_answered_law,
+    folder_means_law, soak_answered_law, vm_answered_law,
 };

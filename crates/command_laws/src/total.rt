@@ -1,5 +1,5 @@
 //! Over known files a line has an answer.
-ghost use Rattle.command_laws.specs.Answered.{AnsweredLaw, ChipAnsweredLaw, ClassesAnsweredLaw, FileAnsweredLaw, FolderAnsweredLaw, FolderMeansLaw, VmAnsweredLaw};
+ghost use Rattle.command_laws.specs.Answered.{AnsweredLaw, ChipAnsweredLaw, ClassesAnsweredLaw, FileAnsweredLaw, FolderAnsweredLaw, FolderMeansLaw, SoakAnsweredLaw, VmAnsweredLaw};
 
 /// Law: over known files a line that reads one file prints a text or is refused, or its file is not there.
 pub fn file_answered_law()
@@ -54,6 +54,14 @@ pub fn classes_answered_law()
     folder_means_law();
 }
 
+/// Law: a line of `soak` prints a summary or is refused.
+pub fn soak_answered_law()
+    ensures { SoakAnsweredLaw }
+{
+    soak_program::one_text_law();
+    classes_answered_law();
+}
+
 /// Law: over known files each line that is no test script has an answer.
 pub fn answered_law()
     ensures { AnsweredLaw }
@@ -62,4 +70,5 @@ pub fn answered_law()
     file_answered_law();
     vm_answered_law();
     chip_answered_law();
+    soak_answered_law();
 }

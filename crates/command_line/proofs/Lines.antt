@@ -12,13 +12,15 @@ use Rattle.clap.specs.declared.Error.{Error}
 use Rattle.clap.proofs.OnLiterals.{clap_on_literals}
 use Rattle.machine_io.specs.declared.report.Show.{Show}
 use Rattle.machine_io.specs.declared.report.Show.TheVariants as shows
-use Rattle.command_line.specs.Table.{run_command, table, test_command, vm_command}
+use Rattle.command_line.specs.Table.{map_command, run_command, soak_command, source_command, table, test_command, vm_command}
+use Rattle.command_line.specs.declared.request.MapFormat.{MapFormat}
+use Rattle.command_line.specs.declared.request.MapFormat.TheVariants as formats
 use Rattle.command_line.specs.declared.request.RunLevel.{RunLevel}
 use Rattle.command_line.specs.declared.request.RunLevel.TheVariants as levels
 use Rattle.command_line.specs.declared.request.Shown.{Shown}
 use Rattle.command_line.specs.declared.request.Shown.TheVariants.{Words, Nets}
 use Rattle.command_line.specs.declared.request.SourceKind.{SourceKind}
-use Rattle.command_line.specs.Line.{AreOneLine, ClassWork, FileWork, HasClassWork, HasFileWork, HasValues, IsInRange, IsLine, IsReading, Line, NumberIn, Source, asm, build, chip, class_command, of_classes, command_of, compile, exec, of_file, file_command, flag_word, kind_of as source_kind, level_word, map_image, run, show, shown_at, shown_word, test, vm}
+use Rattle.command_line.specs.Line.{AreOneLine, ClassWork, FileWork, HasClassWork, HasFileWork, HasValues, IsFormatOf, is_simplified, IsInRange, IsLine, IsReading, Line, NumberIn, ReadsFormat, Source, asm, build, chip, class_command, of_classes, command_of, compile, exec, of_file, file_command, flag_word, format_number, kind_of as source_kind, level_word, map_image, run, show, shown_at, shown_word, soak, test, vm}
 
 -- ---- the names of the commands, which differ in their first letter or in their second
 
@@ -36,7 +38,7 @@ Differ t u = nat_eq (letters t) (letters u) ≡ false
 no_class : (name : Text) → Differ name (codes "compile") → Differ name (codes "build") → Differ name (codes "map") → Differ name (codes "run") → (work : ClassWork) → name ≡ class_command work → ⊥
 no_class name c b m r compile e = apart name (codes "compile") c e
 no_class name c b m r build e = apart name (codes "build") b e
-no_class name c b m r map_image e = apart name (codes "map") m e
+no_class name c b m r (map_image format) e = apart name (codes "map") m e
 no_class name c b m r (run level cycles keys) e = apart name (codes "run") r e
 
 no_file : (name : Text) → Differ name (codes "asm") → Differ name (codes "exec") → Differ name (codes "show") → (work : FileWork) → name ≡ file_command work → ⊥
@@ -60,6 +62,7 @@ of_classes_alone w (of_file path work) e = no_file_class work w e
 of_classes_alone w (vm folder bare) e = no_class (codes "vm") refl refl refl refl w e
 of_classes_alone w (chip name) e = no_class (codes "chip") refl refl refl refl w e
 of_classes_alone w (test path gates) e = no_class (codes "test") refl refl refl refl w e
+of_classes_alone w (soak seed count) e = no_class (codes "soak") refl refl refl refl w e
 
 -- nor is that of a work with one file
 abbrev IsOfFile : Line → Type 0
@@ -72,22 +75,33 @@ of_file_alone w (of_file path work) e = tt
 of_file_alone w (vm folder bare) e = no_file (codes "vm") refl refl refl w e
 of_file_alone w (chip name) e = no_file (codes "chip") refl refl refl w e
 of_file_alone w (test path gates) e = no_file (codes "test") refl refl refl w e
+of_file_alone w (soak seed count) e = no_file (codes "soak") refl refl refl w e
 
 -- ---- the matches of a command are those of its own lines only
 
--- each line but one of `chip` has a path
-pub no_path : (name : Text) (rows : List Row) → first_of (codes "path") rows ≡ None → nat_eq (letters name) (letters (codes "chip")) ≡ false → (l : Line) → ¬ IsReading name rows l
-no_path name rows none other (of_classes source work) h = let gone = h.1.0 in let no : ⊥ = cc in no
-no_path name rows none other (of_file path work) h = let gone = h.1.0 in let no : ⊥ = cc in no
-no_path name rows none other (vm folder bare) h = let gone = h.1.0 in let no : ⊥ = cc in no
-no_path name rows none other (chip chosen) h = apart name (codes "chip") other h.0
-no_path name rows none other (test path gates) h = let gone = h.1.0 in let no : ⊥ = cc in no
+-- each line but one of `chip` and one of `soak` has a path
+pub no_path : (name : Text) (rows : List Row) → first_of (codes "path") rows ≡ None → Differ name (codes "chip") → Differ name (codes "soak") → (l : Line) → ¬ IsReading name rows l
+no_path name rows none other apart_too (of_classes source work) h = let gone = h.1.0 in let no : ⊥ = cc in no
+no_path name rows none other apart_too (of_file path work) h = let gone = h.1.0 in let no : ⊥ = cc in no
+no_path name rows none other apart_too (vm folder bare) h = let gone = h.1.0 in let no : ⊥ = cc in no
+no_path name rows none other apart_too (chip chosen) h = apart name (codes "chip") other h.0
+no_path name rows none other apart_too (test path gates) h = let gone = h.1.0 in let no : ⊥ = cc in no
+no_path name rows none other apart_too (soak seed count) h = apart name (codes "soak") apart_too h.0
 
 pub no_classes : (work : ClassWork) (rows : List Row) → first_of (codes "path") rows ≡ None → (l : Line) → ¬ IsReading (class_command work) rows l
-no_classes compile rows none = no_path (codes "compile") rows none refl
-no_classes build rows none = no_path (codes "build") rows none refl
-no_classes map_image rows none = no_path (codes "map") rows none refl
-no_classes (run level cycles keys) rows none = no_path (codes "run") rows none refl
+no_classes compile rows none = no_path (codes "compile") rows none refl refl
+no_classes build rows none = no_path (codes "build") rows none refl refl
+no_classes (map_image format) rows none = no_path (codes "map") rows none refl refl
+no_classes (run level cycles keys) rows none = no_path (codes "run") rows none refl refl
+
+-- each line of a work with classes says whether they replace
+pub no_replace : (work : ClassWork) (rows : List Row) → ((replace : Bool) → ¬ (first_of (codes "replace") rows ≡ Some (flag_word replace))) → (l : Line) → ¬ IsReading (class_command work) rows l
+no_replace work rows none (of_classes source other) h = none source.replace h.1.1
+no_replace work rows none (of_file path other) h = no_file_class other work (sym h.0)
+no_replace work rows none (vm folder bare) h = no_class (codes "vm") refl refl refl refl work (sym h.0)
+no_replace work rows none (chip name) h = no_class (codes "chip") refl refl refl refl work (sym h.0)
+no_replace work rows none (test path gates) h = no_class (codes "test") refl refl refl refl work (sym h.0)
+no_replace work rows none (soak seed count) h = no_class (codes "soak") refl refl refl refl work (sym h.0)
 
 pub no_exec : (rows : List Row) → ((cycles from to : ℕ) → ¬ HasFileWork rows [] (exec cycles from to)) → (l : Line) → ¬ IsReading (codes "exec") rows l
 no_exec rows none (of_file path (exec c f t)) h = none c f t h.1.1
@@ -116,20 +130,34 @@ no_run rows none (of_classes source (run level n keys)) h = none level n keys h.
 no_run rows none (of_file path work) h = no_file (codes "run") refl refl refl work h.0
 no_run rows none l h = apart (codes "run") (command_of l) refl h.0
 
+pub no_map : (rows : List Row) → ((format : MapFormat) → ¬ NumberIn rows (codes "format") 2 (format_number format)) → (l : Line) → ¬ IsReading (codes "map") rows l
+no_map rows none (of_classes source (map_image format)) h = none format h.1.2
+no_map rows none (of_classes source compile) h = apart (codes "map") (codes "compile") refl h.0
+no_map rows none (of_classes source build) h = apart (codes "map") (codes "build") refl h.0
+no_map rows none (of_classes source (run level n keys)) h = apart (codes "map") (codes "run") refl h.0
+no_map rows none (of_file path work) h = no_file (codes "map") refl refl refl work h.0
+no_map rows none l h = apart (codes "map") (command_of l) refl h.0
+
 pub no_chip : (rows : List Row) → first_of (codes "name") rows ≡ None → (l : Line) → ¬ IsReading (codes "chip") rows l
 no_chip rows none (chip name) h = let gone = h.1 in let no : ⊥ = cc in no
 no_chip rows none (of_classes source work) h = no_class (codes "chip") refl refl refl refl work h.0
 no_chip rows none (of_file path work) h = no_file (codes "chip") refl refl refl work h.0
 no_chip rows none l h = apart (codes "chip") (command_of l) refl h.0
 
+pub no_soak : (rows : List Row) → ((seed count : ℕ) → ¬ HasValues rows (soak seed count)) → (l : Line) → ¬ IsReading (codes "soak") rows l
+no_soak rows none (soak seed count) h = none seed count h.1
+no_soak rows none (of_classes source work) h = no_class (codes "soak") refl refl refl refl work h.0
+no_soak rows none (of_file path work) h = no_file (codes "soak") refl refl refl work h.0
+no_soak rows none l h = apart (codes "soak") (command_of l) refl h.0
+
 -- ---- the table
 
 pub table_is_free : is_simple_and_free table ≡ true
-unfolding clap_on_literals run_command test_command vm_command
+unfolding clap_on_literals map_command run_command soak_command source_command test_command vm_command
 table_is_free = refl
 
 pub table_is_simple : is_simple table ≡ true
-unfolding clap_on_literals run_command test_command vm_command
+unfolding clap_on_literals map_command run_command soak_command source_command test_command vm_command
 table_is_simple = refl
 
 -- the matches are those of a line
@@ -164,13 +192,14 @@ pub in_range : (ws : List Text) (l : Line) → IsLine ws l → IsInRange l
 in_range ws (of_classes source (run level n keys)) (free, name, rows, found, (named, values)) = values.2.1.2.small
 in_range ws (of_classes source compile) h = tt
 in_range ws (of_classes source build) h = tt
-in_range ws (of_classes source map_image) h = tt
+in_range ws (of_classes source (map_image format)) h = tt
 in_range ws (of_file path (exec c f t)) (free, name, rows, found, (named, values)) = (values.1.0.2.small, values.1.1.2.small, values.1.2.2.small)
 in_range ws (of_file path asm) h = tt
 in_range ws (of_file path (show kind)) h = tt
 in_range ws (vm folder bare) h = tt
 in_range ws (chip name) h = tt
 in_range ws (test path gates) h = tt
+in_range ws (soak seed count) (free, name, rows, found, (named, values)) = (values.0.2.small, values.1.2.small)
 
 -- ---- words are at most one line
 
@@ -209,12 +238,26 @@ same_shown (Words s) Nets e = absurd (nets_apart s e)
 same_shown s u e = absurd (apart (shown_word s) (shown_word u) refl e)
 
 -- so do those for the levels
-same_level : (l m : RunLevel) → level_word l ≡ level_word m → shown_at l ≡ shown_at m → l ≡ m
-same_level (levels.Jack s) (levels.Jack u) e f = cc
-same_level (levels.Vm s) (levels.Vm u) e f = cc
-same_level (levels.Hack s) (levels.Hack u) e f = cc
-same_level (levels.Gates s) (levels.Gates u) e f = cc
-same_level l m e f = absurd (apart (level_word l) (level_word m) refl e)
+same_level : (l m : RunLevel) → level_word l ≡ level_word m → shown_at l ≡ shown_at m → is_simplified l ≡ is_simplified m → l ≡ m
+same_level (levels.Jack s) (levels.Jack u) e f g = cc
+same_level (levels.Vm s) (levels.Vm u) e f g = cc
+same_level (levels.Hack s) (levels.Hack u) e f g = cc
+same_level (levels.Gates s) (levels.Gates u) e f g = cc
+same_level (levels.Simplified s) (levels.Simplified u) e f g = cc
+same_level (levels.Gates s) (levels.Simplified u) e f g = absurd (let no : ⊥ = cc in no)
+same_level (levels.Simplified s) (levels.Gates u) e f g = absurd (let no : ⊥ = cc in no)
+same_level l m e f g = absurd (apart (level_word l) (level_word m) refl e)
+
+-- the form that has the number that is read
+pub reads_format : (rows : List Row) (n : ℕ) (r : Option MapFormat) → NumberIn rows (codes "format") 2 n → IsFormatOf n r → ReadsFormat rows r
+reads_format rows n (Some format) is e = subst (NumberIn rows (codes "format") 2) e is
+reads_format rows n None is none = λ format h. none format (same_number rows (codes "format") 2 n (format_number format) is h)
+
+same_format : (f g : MapFormat) → format_number f ≡ format_number g → f ≡ g
+same_format formats.Points formats.Points e = refl
+same_format formats.Places formats.Places e = refl
+same_format formats.Points formats.Places e = let no : ⊥ = cc in absurd no
+same_format formats.Places formats.Points e = let no : ⊥ = cc in absurd no
 
 same_flag : (b c : Bool) → flag_word b ≡ flag_word c → b ≡ c
 same_flag true true e = refl
@@ -226,17 +269,19 @@ same_kind p q i j path e f =
     let both : Some i ≡ Some j = sym e ∙ ap source_kind path ∙ f in
     let kind : i ≡ j = cc in kind
 
-same_source : (s u : Source) → s.folder ≡ u.folder → s.replace ≡ false → u.replace ≡ false → s ≡ u
-same_source s u e f g = λ i. record { folder = e i; replace = (f ∙ sym g) i }
+same_source : (s u : Source) → s.folder ≡ u.folder → s.replace ≡ u.replace → s ≡ u
+same_source s u e f = λ i. record { folder = e i; replace = f i }
 
 same_class_work : (rows : List Row) (v w : ClassWork) → HasClassWork rows v → HasClassWork rows w → class_command v ≡ class_command w → v ≡ w
 same_class_work rows compile compile h k e = refl
 same_class_work rows build build h k e = refl
-same_class_work rows map_image map_image h k e = refl
+same_class_work rows (map_image f) (map_image g) h k e = ap map_image (same_format f g (same_number rows (codes "format") 2 (format_number f) (format_number g) h k))
 same_class_work rows (run l c js) (run m d ks) h k e =
     let shown : shown_at l ≡ shown_at m =
     same_shown (shown_at l) (shown_at m) (same_word rows (codes "show") (shown_word (shown_at l)) (shown_word (shown_at m)) h.3 k.3) in
-    let level : l ≡ m = same_level l m (same_word rows (codes "level") (level_word l) (level_word m) h.0 k.0) shown in
+    let simple : is_simplified l ≡ is_simplified m =
+    same_flag (is_simplified l) (is_simplified m) (same_word rows (codes "simplify") (flag_word (is_simplified l)) (flag_word (is_simplified m)) h.4 k.4) in
+    let level : l ≡ m = same_level l m (same_word rows (codes "level") (level_word l) (level_word m) h.0 k.0) shown simple in
     let cycles : c ≡ d = same_number rows (codes "cycles") 1000000000 c d h.1 k.1 in
     let keys : js ≡ ks = sym h.2 ∙ k.2 in
     cc
@@ -254,7 +299,9 @@ same_file_work rows p q v w path h k e = absurd (apart (file_command v) (file_co
 
 same_values : (rows : List Row) (l m : Line) → HasValues rows l → HasValues rows m → command_of l ≡ command_of m → l ≡ m
 same_values rows (of_classes s v) (of_classes u w) h k e =
-    let source : s ≡ u = same_source s u (same_word rows (codes "path") s.folder u.folder h.0 k.0) h.1 k.1 in
+    let replace : s.replace ≡ u.replace =
+    same_flag s.replace u.replace (same_word rows (codes "replace") (flag_word s.replace) (flag_word u.replace) h.1 k.1) in
+    let source : s ≡ u = same_source s u (same_word rows (codes "path") s.folder u.folder h.0 k.0) replace in
     let work : v ≡ w = same_class_work rows v w h.2 k.2 e in
     cc
 same_values rows (of_file p v) (of_file q w) h k e =
@@ -270,6 +317,10 @@ same_values rows (test p b) (test q c) h k e =
     let gates : b ≡ c = same_flag b c (same_word rows (codes "gates") (flag_word b) (flag_word c) h.1 k.1) in
     cc
 same_values rows (chip p) (chip q) h k e = ap chip (same_word rows (codes "name") p q h k)
+same_values rows (soak s n) (soak u m) h k e =
+    let seed : s ≡ u = same_number rows (codes "seed") 1000000 s u h.0 k.0 in
+    let count : n ≡ m = same_number rows (codes "count") 1000 n m h.1 k.1 in
+    cc
 same_values rows (of_classes s v) m h k e = absurd (of_classes_alone v m (sym e))
 same_values rows l (of_classes u w) h k e = absurd (of_classes_alone w l e)
 same_values rows (of_file p v) m h k e = absurd (of_file_alone v m (sym e))

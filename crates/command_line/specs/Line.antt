@@ -9,6 +9,8 @@ use Rattle.clap.specs.Faults.{fault_of}
 use Rattle.clap.specs.declared.parser.matches.ArgMatches.{ArgMatches}
 use Rattle.command_line.specs.Table.{table}
 use Rattle.machine_io.specs.declared.report.Show.TheVariants as shows
+use Rattle.command_line.specs.declared.request.MapFormat.{MapFormat}
+use Rattle.command_line.specs.declared.request.MapFormat.TheVariants as formats
 use Rattle.command_line.specs.declared.request.RunLevel.{RunLevel}
 use Rattle.command_line.specs.declared.request.RunLevel.TheVariants as levels
 use Rattle.command_line.specs.declared.request.Shown.{Shown}
@@ -26,7 +28,7 @@ use Rattle.command_line.specs.declared.request.Request.TheVariants as request
 -- ---- the lines, by what they read
 
 -- Where the Jack classes of a program are read: a folder, and whether its classes take the place of those of the operating system that have their
--- names. No word asks for that yet.
+-- names.
 pub record Source : Type 0 where
   pub folder : Text
   pub replace : Bool
@@ -35,7 +37,7 @@ pub record Source : Type 0 where
 pub data ClassWork : Type 0 where
   compile : ClassWork
   build : ClassWork
-  map_image : ClassWork
+  map_image : (format : MapFormat) → ClassWork
   run : (level : RunLevel) (cycles : ℕ) (keys : Option Text) → ClassWork
 
 -- What is done with one file: the commands `asm`, `exec` and `show`.
@@ -51,6 +53,7 @@ pub data Line : Type 0 where
   vm : (folder : Text) (bare : Bool) → Line
   chip : (name : Text) → Line
   test : (path : Text) (gates : Bool) → Line
+  soak : (seed count : ℕ) → Line
 
 -- The key script of a work with classes, where it has one.
 abbrev pub script_of : ClassWork → Option Text
@@ -80,6 +83,12 @@ level_word (levels.Jack words) = codes "jack"
 level_word (levels.Vm words) = codes "vm"
 level_word (levels.Hack words) = codes "hack"
 level_word (levels.Gates shown) = codes "gates"
+level_word (levels.Simplified words) = codes "gates"
+
+-- The netlist is simplified: at level gates alone, where no parts are shown.
+abbrev pub is_simplified : RunLevel → Bool
+is_simplified (levels.Simplified words) = true
+is_simplified level = false
 
 -- What is shown after the report of a level: words of the memory, and at level gates alone the outputs of parts in their place.
 abbrev pub shown_at : RunLevel → Shown
@@ -87,6 +96,7 @@ shown_at (levels.Jack words) = Words words
 shown_at (levels.Vm words) = Words words
 shown_at (levels.Hack words) = Words words
 shown_at (levels.Gates shown) = shown
+shown_at (levels.Simplified words) = Words words
 
 -- the words for what is shown after a report
 abbrev pub shown_word : Shown → Text
@@ -109,11 +119,16 @@ kind_of path =
     else if ends_with nat_eq path (codes ".hdl") then Some kinds.Hdl
     else None
 
+-- the numbers of the forms of a map
+abbrev pub format_number : MapFormat → ℕ
+format_number formats.Points = 1
+format_number formats.Places = 2
+
 -- the command of a line
 abbrev pub class_command : ClassWork → Text
 class_command compile = codes "compile"
 class_command build = codes "build"
-class_command map_image = codes "map"
+class_command (map_image format) = codes "map"
 class_command (run level cycles keys) = codes "run"
 
 abbrev pub file_command : FileWork → Text
@@ -127,13 +142,16 @@ command_of (of_file path work) = file_command work
 command_of (vm folder bare) = codes "vm"
 command_of (chip name) = codes "chip"
 command_of (test path gates) = codes "test"
+command_of (soak seed count) = codes "soak"
 
 -- The matches beside the folder are those of the work, and so of a work with one file.
 abbrev pub HasClassWork : List Row → ClassWork → Type 0
+HasClassWork rows (map_image format) = NumberIn rows (codes "format") 2 (format_number format)
 HasClassWork rows (run level cycles keys) =
     (first_of (codes "level") rows ≡ Some (level_word level))
     × NumberIn rows (codes "cycles") 1000000000 cycles
     × (first_of (codes "keys") rows ≡ keys) × (first_of (codes "show") rows ≡ Some (shown_word (shown_at level)))
+    × (first_of (codes "simplify") rows ≡ Some (flag_word (is_simplified level)))
 HasClassWork rows work = Unit {0}
 
 abbrev pub HasFileWork : List Row → Text → FileWork → Type 0
@@ -143,14 +161,16 @@ HasFileWork rows path (exec cycles from to) =
     × NumberIn rows (codes "from") 32767 from × NumberIn rows (codes "to") 32767 to
 HasFileWork rows path (show kind) = kind_of path ≡ Some kind
 
--- The matches of a command are those of the line, beside its name. No word asks to replace a class of the operating system.
+-- The matches of a command are those of the line, beside its name.
 abbrev pub HasValues : List Row → Line → Type 0
 HasValues rows (of_classes source work) =
-    (first_of (codes "path") rows ≡ Some source.folder) × (source.replace ≡ false) × HasClassWork rows work
+    (first_of (codes "path") rows ≡ Some source.folder) × (first_of (codes "replace") rows ≡ Some (flag_word source.replace))
+    × HasClassWork rows work
 HasValues rows (of_file path work) = (first_of (codes "path") rows ≡ Some path) × HasFileWork rows path work
 HasValues rows (vm folder bare) = (first_of (codes "path") rows ≡ Some folder) × (first_of (codes "bare") rows ≡ Some (flag_word bare))
 HasValues rows (chip name) = first_of (codes "name") rows ≡ Some name
 HasValues rows (test path gates) = (first_of (codes "path") rows ≡ Some path) × (first_of (codes "gates") rows ≡ Some (flag_word gates))
+HasValues rows (soak seed count) = NumberIn rows (codes "seed") 1000000 seed × NumberIn rows (codes "count") 1000 count
 
 -- The matches of the command `name` are those of the line: the table says which matches a command has.
 abbrev pub IsReading : Text → List Row → Line → Type 0
@@ -175,6 +195,7 @@ AreOneLine = (words : List Text) (line other : Line) → IsLine words line → I
 abbrev pub IsInRange : Line → Type 0
 IsInRange (of_classes source (run level cycles keys)) = cycles ≤ 1000000000
 IsInRange (of_file path (exec cycles from to)) = (cycles ≤ 1000000000) × (from ≤ 32767) × (to ≤ 32767)
+IsInRange (soak seed count) = (seed ≤ 1000000) × (count ≤ 1000)
 IsInRange line = Unit {0}
 
 -- ---- the code's side
@@ -186,7 +207,7 @@ source_of source = record { folder = source.folder.now; replace = source.replace
 abbrev pub class_work_of : CodeClassWork → ClassWork
 class_work_of class_work.Compile = compile
 class_work_of class_work.Build = build
-class_work_of class_work.Map = map_image
+class_work_of (class_work.Map format) = map_image format
 class_work_of (class_work.Run r) = run r.level r.cycles (option_map (λ keys. keys.now) r.keys)
 
 abbrev pub file_work_of : CodeFileWork → FileWork
@@ -201,6 +222,7 @@ line_of (request.File path work) = of_file path.now (file_work_of work)
 line_of (request.Vm folder bare) = vm folder.now bare
 line_of (request.Chip name) = chip name.now
 line_of (request.Test path gates) = test path.now gates
+line_of (request.Soak seed count) = soak seed count
 
 -- the matches of a command, as rows
 abbrev pub rows_in : ArgMatches → List Row
@@ -216,6 +238,16 @@ abbrev pub ReadsNumber : List Row → Text → ℕ → Option ℕ → Type 0
 ReadsNumber rows id most (Some n) = NumberIn rows id most n
 ReadsNumber rows id most None = (n : ℕ) → ¬ NumberIn rows id most n
 
+-- the same of the form of a map
+abbrev pub ReadsFormat : List Row → Option MapFormat → Type 0
+ReadsFormat rows (Some format) = NumberIn rows (codes "format") 2 (format_number format)
+ReadsFormat rows None = (format : MapFormat) → ¬ NumberIn rows (codes "format") 2 (format_number format)
+
+-- the form that has this number
+abbrev pub IsFormatOf : ℕ → Option MapFormat → Type 0
+IsFormatOf number (Some format) = number ≡ format_number format
+IsFormatOf number None = (format : MapFormat) → ¬ (number ≡ format_number format)
+
 -- the same of what is shown
 abbrev pub ReadsShown : List Row → Option Shown → Type 0
 ReadsShown rows (Some shown) = first_of (codes "show") rows ≡ Some (shown_word shown)
@@ -225,15 +257,16 @@ ReadsShown rows None = (shown : Shown) → ¬ (first_of (codes "show") rows ≡ 
 abbrev pub HasLevel : List Row → RunLevel → Type 0
 HasLevel rows level =
     (first_of (codes "level") rows ≡ Some (level_word level)) × (first_of (codes "show") rows ≡ Some (shown_word (shown_at level)))
+    × (first_of (codes "simplify") rows ≡ Some (flag_word (is_simplified level)))
 
 abbrev pub ReadsLevel : List Row → Option RunLevel → Type 0
 ReadsLevel rows (Some level) = HasLevel rows level
 ReadsLevel rows None = (level : RunLevel) → ¬ HasLevel rows level
 
--- the level that has this word and shows this
-abbrev pub IsLevelOf : Text → Shown → Option RunLevel → Type 0
-IsLevelOf word shown (Some level) = (word ≡ level_word level) × (shown ≡ shown_at level)
-IsLevelOf word shown None = (level : RunLevel) → ¬ ((word ≡ level_word level) × (shown ≡ shown_at level))
+-- the level that has this word and shows this, simplified or not
+abbrev pub IsLevelOf : Text → Shown → Bool → Option RunLevel → Type 0
+IsLevelOf word shown simplify (Some level) = (word ≡ level_word level) × (shown ≡ shown_at level) × (simplify ≡ is_simplified level)
+IsLevelOf word shown simplify None = (level : RunLevel) → ¬ ((word ≡ level_word level) × (shown ≡ shown_at level) × (simplify ≡ is_simplified level))
 
 abbrev pub ReadsFlag : List Row → Text → Option Bool → Type 0
 ReadsFlag rows id (Some stands) = first_of id rows ≡ Some (flag_word stands)

@@ -36,6 +36,10 @@ path_command name = command name (word_rule (codes "path") ∷ [])
 
 -- ---- the rows
 
+-- a row with a path, which takes `--replace`
+unfoldable pub source_command : Text → Shape
+source_command name = command name (word_rule (codes "path") ∷ flag_rule (codes "replace") ∷ [])
+
 -- `asm F`
 abbrev pub asm_command : Shape
 asm_command = path_command (codes "asm")
@@ -54,23 +58,25 @@ vm_command = command (codes "vm") (word_rule (codes "path") ∷ flag_rule (codes
 abbrev pub show_command : Shape
 show_command = path_command (codes "show")
 
--- `run D --level L --cycles N [--keys F] [--show W]`
+-- `run D --level L --cycles N [--keys F] [--show W] [--replace] [--simplify]`
 unfoldable pub run_command : Shape
 run_command = command (codes "run")
     (word_rule (codes "path") ∷ option_rule (codes "level") ∷ option_rule (codes "cycles")
-    ∷ extra_rule (codes "keys") ∷ default_rule (codes "show") (codes "none") ∷ [])
+    ∷ extra_rule (codes "keys") ∷ default_rule (codes "show") (codes "none") ∷ flag_rule (codes "replace")
+    ∷ flag_rule (codes "simplify") ∷ [])
 
--- `compile D`
+-- `compile D [--replace]`
 abbrev pub compile_command : Shape
-compile_command = path_command (codes "compile")
+compile_command = source_command (codes "compile")
 
--- `build D`
+-- `build D [--replace]`
 abbrev pub build_command : Shape
-build_command = path_command (codes "build")
+build_command = source_command (codes "build")
 
--- `map D`
-abbrev pub map_command : Shape
-map_command = path_command (codes "map")
+-- `map D [--format K] [--replace]`
+unfoldable pub map_command : Shape
+map_command = command (codes "map")
+    (word_rule (codes "path") ∷ default_rule (codes "format") (codes "2") ∷ flag_rule (codes "replace") ∷ [])
 
 -- `chip NAME`
 abbrev pub chip_command : Shape
@@ -79,6 +85,10 @@ chip_command = command (codes "chip") (word_rule (codes "name") ∷ [])
 -- `test F [--gates]`
 unfoldable pub test_command : Shape
 test_command = command (codes "test") (word_rule (codes "path") ∷ flag_rule (codes "gates") ∷ [])
+
+-- `soak SEED N`
+unfoldable pub soak_command : Shape
+soak_command = command (codes "soak") (word_rule (codes "seed") ∷ word_rule (codes "count") ∷ [])
 
 -- ---- the table
 
@@ -93,5 +103,5 @@ bare_table = record {
 abbrev pub table : App
 table = record bare_table {
   top = record bare_table.top { is_leaf = false };
-  subs = asm_command ∷ exec_command ∷ vm_command ∷ show_command ∷ run_command ∷ compile_command ∷ build_command ∷ map_command ∷ chip_command ∷ test_command ∷ [];
+  subs = asm_command ∷ exec_command ∷ vm_command ∷ show_command ∷ run_command ∷ compile_command ∷ build_command ∷ map_command ∷ chip_command ∷ test_command ∷ soak_command ∷ [];
 }

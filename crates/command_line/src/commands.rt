@@ -2,7 +2,7 @@
 ghost use Rattle.std.specs.Prelude.{◌≡◌, ◌∷◌, [], IfOk, false, codes};
 ghost use Rattle.clap.specs.Words.{app_of, rule_of, shape_of, with_subcommand};
 ghost use Rattle.clap.specs.declared.builder.Command.TheViews.{out-Command as fields_of};
-ghost use Rattle.command_line.specs.Table.{asm_command, bare_table, build_command, chip_command, command, compile_command, default_rule, exec_command, extra_rule, flag_rule, map_command, option_rule, path_command, run_command, show_command, test_command, vm_command, word_rule};
+ghost use Rattle.command_line.specs.Table.{asm_command, bare_table, build_command, chip_command, command, compile_command, default_rule, exec_command, extra_rule, flag_rule, map_command, option_rule, path_command, run_command, show_command, soak_command, source_command, test_command, vm_command, word_rule};
 ghost use Rattle.command_line.specs.Table as table;
 
 use clap::{Arg, ArgAction, Command};
@@ -64,6 +64,17 @@ fn path_only<'a>(alloc: Global, name: &'a str) -> Result<Command<'a>, AllocError
     word_only(alloc, name, "path")
 }
 
+// A command with a path, which takes `--replace`.
+#[tactic(auto, unfolding(crate::specs::Table::source_command))]
+fn source<'a>(alloc: Global, name: &'a str) -> Result<Command<'a>, AllocError>
+    ensures shape { IfOk result (λ c. shape_of c ≡ source_command name.now) }
+    ensures local { IfOk result (λ c. (fields_of c).has_globals ≡ false) }
+{
+    Command::new(alloc, name)
+        .arg(word(alloc, "path"))?
+        .arg(flag(alloc, "replace"))
+}
+
 fn exec<'a>(alloc: Global) -> Result<Command<'a>, AllocError>
     ensures shape { IfOk result (λ c. shape_of c ≡ exec_command) }
     ensures local { IfOk result (λ c. (fields_of c).has_globals ≡ false) }
@@ -103,7 +114,9 @@ fn run<'a>(alloc: Global) -> Result<Command<'a>, AllocError>
 {
     run_needed(alloc)?
         .arg(extra(alloc, "keys"))?
-        .arg(default(alloc, "show", "none"))
+        .arg(default(alloc, "show", "none"))?
+        .arg(flag(alloc, "replace"))?
+        .arg(flag(alloc, "simplify"))
 }
 
 #[tactic(auto, unfolding(crate::specs::Table::test_command))]
@@ -114,6 +127,27 @@ fn test<'a>(alloc: Global) -> Result<Command<'a>, AllocError>
     Command::new(alloc, "test")
         .arg(word(alloc, "path"))?
         .arg(flag(alloc, "gates"))
+}
+
+#[tactic(auto, unfolding(crate::specs::Table::soak_command))]
+fn soak<'a>(alloc: Global) -> Result<Command<'a>, AllocError>
+    ensures shape { IfOk result (λ c. shape_of c ≡ soak_command) }
+    ensures local { IfOk result (λ c. (fields_of c).has_globals ≡ false) }
+{
+    Command::new(alloc, "soak")
+        .arg(word(alloc, "seed"))?
+        .arg(word(alloc, "count"))
+}
+
+#[tactic(auto, unfolding(crate::specs::Table::map_command))]
+fn map<'a>(alloc: Global) -> Result<Command<'a>, AllocError>
+    ensures shape { IfOk result (λ c. shape_of c ≡ map_command) }
+    ensures local { IfOk result (λ c. (fields_of c).has_globals ≡ false) }
+{
+    Command::new(alloc, "map")
+        .arg(word(alloc, "path"))?
+        .arg(default(alloc, "format", "2"))?
+        .arg(flag(alloc, "replace"))
 }
 
 // The table without its commands.
@@ -146,25 +180,37 @@ fn with_sources<'a>(alloc: Global, top: Command<'a>) -> Result<Command<'a>, Allo
     with_path(alloc, top.subcommand(vm(alloc)?)?, "show")
 }
 
+// Adds a command with a path, which takes `--replace`.
+fn with_source<'a>(
+    alloc: Global,
+    top: Command<'a>,
+    name: &'a str,
+) -> Result<Command<'a>, AllocError>
+    ensures { IfOk result (λ c. app_of c ≡ with_subcommand (app_of top.entry) (source_command name.now)) }
+{
+    top.subcommand(source(alloc, name)?)
+}
+
 // Adds `compile` and `build`.
 fn with_compilers<'a>(alloc: Global, top: Command<'a>) -> Result<Command<'a>, AllocError>
     ensures { IfOk result (λ c. app_of c ≡ with_subcommand (with_subcommand (app_of top.entry) compile_command) build_command) }
 {
-    with_path(alloc, with_path(alloc, top, "compile")?, "build")
+    with_source(alloc, with_source(alloc, top, "compile")?, "build")
 }
 
 // Adds `map` and `chip`.
 fn with_printers<'a>(alloc: Global, top: Command<'a>) -> Result<Command<'a>, AllocError>
     ensures { IfOk result (λ c. app_of c ≡ with_subcommand (with_subcommand (app_of top.entry) map_command) chip_command) }
 {
-    with_path(alloc, top, "map")?.subcommand(word_only(alloc, "chip", "name")?)
+    top.subcommand(map(alloc)?)?
+        .subcommand(word_only(alloc, "chip", "name")?)
 }
 
-// Adds `test`.
+// Adds `test` and `soak`.
 fn with_scripts<'a>(alloc: Global, top: Command<'a>) -> Result<Command<'a>, AllocError>
-    ensures { IfOk result (λ c. app_of c ≡ with_subcommand (app_of top.entry) test_command) }
+    ensures { IfOk result (λ c. app_of c ≡ with_subcommand (with_subcommand (app_of top.entry) test_command) soak_command) }
 {
-    top.subcommand(test(alloc)?)
+    top.subcommand(test(alloc)?)?.subcommand(soak(alloc)?)
 }
 
 /// The table of the commands that work.

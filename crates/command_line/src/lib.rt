@@ -10,4 +10,6 @@ mod reader;
 mod request;
 
 pub use reader::{LineError, one_line_law, read};
-pub use request::{ClassWork, Exec, FileWork, Request, Run, RunLevel, Shown, Source, SourceKind};
+pub use request::{
+    ClassWork, Exec, FileWork, MapFormat, Request, Run, RunLevel, Shown, Source, SourceKind,
+};

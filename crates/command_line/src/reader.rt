@@ -1,12 +1,12 @@
 //! The line that words are.
-ghost use Rattle.std.specs.Prelude.{◌≡◌, ◌≤◌, ℕ, List, Some, IfOk, MatchOption, MatchResult, codes, map, option_map, string_bytes};
+ghost use Rattle.std.specs.Prelude.{◌≡◌, ◌≤◌, ℕ, List, Some, true, false, IfOk, MatchOption, MatchResult, codes, map, option_map, string_bytes};
 ghost use Rattle.clap.specs.Words.{Row, Text, first_of, subcommand_rows_of};
-ghost use Rattle.command_line.specs.Line.{AreOneLine, HasClassWork, IsInRange, IsLine, IsNoLine, IsLevelOf, IsReading, Line, Reads, ReadsFlag, ReadsLevel, ReadsNumber, ReadsShown, class_command, class_work_of, kind_of, line_of, rows_in};
+ghost use Rattle.command_line.specs.Line.{AreOneLine, HasClassWork, IsFormatOf, IsInRange, IsLine, IsNoLine, IsLevelOf, IsReading, Line, Reads, ReadsFlag, ReadsFormat, ReadsLevel, ReadsNumber, ReadsShown, class_command, class_work_of, kind_of, line_of, rows_in};
 
 use crate::commands::table;
 use crate::number::number;
 use crate::request::{
-    ClassWork, Exec, FileWork, Request, Run, RunLevel, Shown, Source, SourceKind,
+    ClassWork, Exec, FileWork, MapFormat, Request, Run, RunLevel, Shown, Source, SourceKind,
 };
 use clap::ArgMatches;
 use clap::error::ErrorKind;
@@ -17,6 +17,12 @@ use thiserror::Error;
 const MOST_CYCLES: u32 = 1_000_000_000;
 
 const MOST_ADDRESS: u32 = 32_767;
+
+const MOST_FORMAT: u32 = 2;
+
+const MOST_SEED: u32 = 1_000_000;
+
+const MOST_COUNT: u32 = 1_000;
 
 /// Why words give no request.
 #[derive(Clone, Copy, Debug, PartialEq, Eq, Error)]
@@ -147,8 +153,8 @@ fn shown_in(matches: &ArgMatches<'_>) -> Option<Shown>
 }
 
 // The level of a word, at which this is shown.
-fn level_of(word: &str, shown: Shown) -> Option<RunLevel>
-    ensures { IsLevelOf word.now shown result }
+fn plain_level(word: &str, shown: Shown) -> Option<RunLevel>
+    ensures { IsLevelOf word.now shown false result }
 {
     match (word, shown) {
         ("jack", Shown::Words(show)) => Some(RunLevel::Jack(show)),
@@ -159,7 +165,28 @@ fn level_of(word: &str, shown: Shown) -> Option<RunLevel>
     }
 }
 
-// The level, by the values of `--level` and `--show`.
+// The same with a netlist that is simplified.
+fn simple_level(word: &str, shown: Shown) -> Option<RunLevel>
+    ensures { IsLevelOf word.now shown true result }
+{
+    match (word, shown) {
+        ("gates", Shown::Words(show)) => Some(RunLevel::Simplified(show)),
+        _ => None,
+    }
+}
+
+// Either of them.
+fn level_of(word: &str, shown: Shown, simplify: bool) -> Option<RunLevel>
+    ensures { IsLevelOf word.now shown simplify result }
+{
+    if simplify {
+        simple_level(word, shown)
+    } else {
+        plain_level(word, shown)
+    }
+}
+
+// The level, by the values of `--level`, `--show` and `--simplify`.
 fn level_in(matches: &ArgMatches<'_>) -> Option<RunLevel>
     ensures { ReadsLevel (rows_in matches.now) result }
 {
@@ -169,7 +196,10 @@ fn level_in(matches: &ArgMatches<'_>) -> Option<RunLevel>
     let Some(word) = text_in(matches, "level") else {
         return None;
     };
-    level_of(word, shown)
+    let Some(simplify) = flag_in(matches, "simplify") else {
+        return None;
+    };
+    level_of(word, shown, simplify)
 }
 
 // A work with the classes of a folder, whose other values are read.
@@ -178,10 +208,10 @@ fn with_classes<'a>(matches: &ArgMatches<'a>, work: ClassWork<'a>) -> Option<Req
     ensures { Reads (class_command (class_work_of work.entry)) (rows_in matches.now) result }
 {
     let folder = text_in(matches, "path")?;
-    let source = Source {
-        folder,
-        replace: false,
+    let Some(replace) = flag_in(matches, "replace") else {
+        return None;
     };
+    let source = Source { folder, replace };
     Some(Request::Classes { source, work })
 }
 
@@ -203,6 +233,36 @@ fn run<'a>(matches: &ArgMatches<'a>) -> Option<Request<'a>>
     with_classes(matches, ClassWork::Run(run))
 }
 
+// The form of a map that has this number.
+fn format_of(number: u32) -> Option<MapFormat>
+    ensures { IsFormatOf number result }
+{
+    match number {
+        1 => Some(MapFormat::Points),
+        2 => Some(MapFormat::Places),
+        _ => None,
+    }
+}
+
+// The form of a map, by the value of `--format`.
+fn format_in(matches: &ArgMatches<'_>) -> Option<MapFormat>
+    ensures { ReadsFormat (rows_in matches.now) result }
+{
+    let Some(number) = number_in(matches, "format", MOST_FORMAT) else {
+        return None;
+    };
+    format_of(number)
+}
+
+fn map<'a>(matches: &ArgMatches<'a>) -> Option<Request<'a>>
+    ensures { Reads (codes "map") (rows_in matches.now) result }
+{
+    let Some(format) = format_in(matches) else {
+        return None;
+    };
+    with_classes(matches, ClassWork::Map(format))
+}
+
 fn chip<'a>(matches: &ArgMatches<'a>) -> Option<Request<'a>>
     ensures { Reads (codes "chip") (rows_in matches.now) result }
 {
@@ -220,6 +280,18 @@ fn test<'a>(matches: &ArgMatches<'a>) -> Option<Request<'a>>
     Some(Request::Test { path, gates })
 }
 
+fn soak<'a>(matches: &ArgMatches<'a>) -> Option<Request<'a>>
+    ensures { Reads (codes "soak") (rows_in matches.now) result }
+{
+    let Some(seed) = number_in(matches, "seed", MOST_SEED) else {
+        return None;
+    };
+    let Some(count) = number_in(matches, "count", MOST_COUNT) else {
+        return None;
+    };
+    Some(Request::Soak { seed, count })
+}
+
 // The request of a command and its matches.
 fn reading<'a>(name: &str, matches: &ArgMatches<'a>) -> Option<Request<'a>>
     ensures { Reads name.now (rows_in matches.now) result }
@@ -232,9 +304,10 @@ fn reading<'a>(name: &str, matches: &ArgMatches<'a>) -> Option<Request<'a>>
         "run" => run(matches),
         "compile" => with_classes(matches, ClassWork::Compile),
         "build" => with_classes(matches, ClassWork::Build),
-        "map" => with_classes(matches, ClassWork::Map),
+        "map" => map(matches),
         "chip" => chip(matches),
         "test" => test(matches),
+        "soak" => soak(matches),
         _ => None,
     }
 }

@@ -7,7 +7,7 @@ use machine_io::Show;
 pub struct Source<'a> {
     /// Their folder.
     pub folder: &'a str,
-    /// Whether they take the place of the classes of the operating system that have their names; no word asks for it yet.
+    /// Whether they take the place of the classes of the operating system that have their names, but for Sys: `--replace`.
     pub replace: bool,
 }
 
@@ -53,9 +53,11 @@ pub enum RunLevel {
     Hack(Show),
     /// The computer made of gates, the only one that has parts.
     Gates(Shown),
+    /// The same with its netlist simplified, of which no parts are shown: `--simplify`.
+    Simplified(Show),
 }
 
-/// `run D --level L --cycles N [--keys F] [--show W]`: the report of a run of a program.
+/// `run D --level L --cycles N [--keys F] [--show W] [--replace] [--simplify]`: the report of a run of a program.
 #[derive(Clone, Copy, Debug, PartialEq, Eq)]
 pub struct Run<'a> {
     /// The level, with what is shown after the report.
@@ -66,15 +68,24 @@ pub struct Run<'a> {
     pub keys: Option<&'a str>,
 }
 
+/// The forms of a map.
+#[derive(Clone, Copy, Debug, PartialEq, Eq)]
+pub enum MapFormat {
+    /// Form 1: the control points of the image, its commits and its shared routines.
+    Points,
+    /// Form 2: besides, where each point stands in the source, and the variables of subroutines and classes.
+    Places,
+}
+
 /// What is done with the Jack classes of a source.
 #[derive(Clone, Copy, Debug, PartialEq, Eq)]
 pub enum ClassWork<'a> {
-    /// `compile D`: the VM text of a folder's own classes.
+    /// `compile D [--replace]`: the VM text of a folder's own classes.
     Compile,
-    /// `build D`: the image of a folder's program, as `.hack` text.
+    /// `build D [--replace]`: the image of a folder's program, as `.hack` text.
     Build,
-    /// `map D`: the map of that image.
-    Map,
+    /// `map D [--format K] [--replace]`: the map of that image, in form 2 unless form 1 is asked for.
+    Map(MapFormat),
     Run(Run<'a>),
 }
 
@@ -114,5 +125,10 @@ pub enum Request<'a> {
     Test {
         path: &'a str,
         gates: bool,
+    },
+    /// `soak SEED N`: the summary of the programs that are generated from a seed, at most 1,000,000, as far as a number of them, at most 1,000.
+    Soak {
+        seed: u32,
+        count: u32,
     },
 }

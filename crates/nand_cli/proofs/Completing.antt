@@ -1,5 +1,5 @@
 -- A line with which nothing is wrong is not refused, and a call in which nothing failed completes.
-use Rattle.std.proofs.Common.{◌≡◌, ◌⊎◌, ◌++◌, inl, inr, ℕ, false, List, Option, Some, Err, map, refl, sym, ◌∙◌, subst, arith}
+use Rattle.std.proofs.Common.{◌≡◌, ◌⊎◌, ◌++◌, inl, inr, ℕ, Bool, true, false, List, Option, Some, Err, map, refl, sym, ◌∙◌, subst, arith}
 use Rattle.outer_world.specs.Faults.{Rose}
 use Rattle.outer_world.specs.Files.{Files}
 use Rattle.outer_world.specs.Refusals.{Message}
@@ -13,24 +13,28 @@ use Rattle.jack_meaning.specs.Text.{Program}
 use Rattle.jack_core.specs.declared.program.Core.{Core}
 use Rattle.jack_core.specs.Texts.{the_program}
 use Rattle.jack_names.specs.Meaning.{program_meaning, program_names}
-use Rattle.jack_os.specs.System.{system}
-use Rattle.jack_os.proofs.SystemTexts.{one_list, seen_files}
+use Rattle.jack_tree.specs.Syntax.{ClassFile}
+use Rattle.jack_names.specs.NameFaults.{IsWellNamed}
+use Rattle.jack_os.specs.System.{AreFilesOf}
+use Rattle.jack_os.proofs.SystemTexts.{seen_files}
 use Rattle.os_named.specs.Laws.{SystemNamedLaw}
 use Rattle.jack_compiler.specs.Files.{files_of, program_files}
 use Rattle.jack_compiler.specs.Resolved.{IsResolvedCore}
 use Rattle.tower.specs.Budget.{BudgetLaw, IsBudget}
 use Rattle.tower.specs.Image.{Builds}
 use Rattle.tower.specs.Program.{class_names}
+use Rattle.tower.specs.Sources.{system_beside}
+use Rattle.tower.proofs.Beside.{one_beside}
 use Rattle.tower.specs.Resolved.{ResolvedLaw}
 use Rattle.tower.specs.Messages.{build_message}
 use Rattle.tower.specs.declared.building.BuildError.{BuildError}
 use Rattle.tower.specs.declared.building.BuildError.TheVariants as building
-use Rattle.command_line.specs.Line.{IsLine, Line, build, chip, compile, map_image, of_classes, of_file, run, test, vm}
+use Rattle.command_line.specs.Line.{IsLine, Line, Source, build, chip, compile, map_image, of_classes, of_file, run, soak, test, vm}
 use Rattle.command_line.proofs.Lines.{one_line}
 use Rattle.nand_cli.specs.Answer.{Ends, Promises, WordsEnd}
 use Rattle.nand_cli.specs.Commands.Build.{BuildRefuses, unbuilt, without_program}
 use Rattle.nand_cli.specs.Commands.Run.{RunRefuses, unbuilt as run_unbuilt, without_program as run_without_program, without_script}
-use Rattle.nand_cli.specs.Complete.{Completes, IsDoneOrWanting, IsSoundFolder, IsSoundScript, IsUnrefused, NoneFailed, SoundLaw}
+use Rattle.nand_cli.specs.Complete.{Completes, HasRightNames, IsDoneOrWanting, IsSoundFolder, IsSoundScript, IsUnrefused, NoneFailed, SoundLaw}
 use Rattle.nand_cli.specs.JackFolder.{BuildIsRefused, FolderIsRefused, FolderMeans, files_meant}
 use Rattle.nand_cli.specs.Outside.{Outside}
 use Rattle.nand_cli.specs.declared.command.Status.{Status}
@@ -49,12 +53,18 @@ pub record Laws : Type 0 where
   pub budgets : BudgetLaw
   pub system : SystemNamedLaw
 
-module _ (laws : Laws) (files : Files) (folder : List ℕ) (sound : IsSoundFolder files folder) where
+-- right names are well named, since those of the whole operating system are right
+well_named : SystemNamedLaw → (replace : Bool) (own os : List ClassFile) → AreFilesOf (system_beside replace own) os → HasRightNames replace own os → IsWellNamed own os
+well_named law false own os are right = law.well own os are right
+well_named law true own os are right = right
+
+module _ (laws : Laws) (files : Files) (source : Source) (sound : IsSoundFolder files source) where
   abbrev law : ClassLaw
   law = laws.classes
 
-  never_refused : (line : List ℕ) → FolderIsRefused (Some files) folder line → ⊥
-  never_refused line k = never_meaningless law files folder sound.own sound.os line sound.spelled sound.shipped (laws.system.well sound.own sound.os sound.shipped sound.named) k
+  never_refused : (line : List ℕ) → FolderIsRefused (Some files) source line → ⊥
+  never_refused line k =
+      never_meaningless law files source sound.own sound.os line sound.spelled sound.shipped (well_named laws.system source.replace sound.own sound.os sound.shipped sound.named) k
 
   -- what the folder means is the program that is sound
   record IsMeant (core : Core) : Type 0 where
@@ -62,17 +72,18 @@ module _ (laws : Laws) (files : Files) (folder : List ℕ) (sound : IsSoundFolde
     compiled : files_of core ≡ files_meant sound.own sound.os
     resolved : IsResolvedCore core
 
-  meant : (core : Core) → FolderMeans (Some files) folder core → IsMeant core
+  meant : (core : Core) → FolderMeans (Some files) source core → IsMeant core
   meant core (ds, has, (os, are, is)) =
-      let mine = one_list_of_classes law files folder (map the_file ds) sound.own has sound.spelled in
-      let theirs = one_list system (map the_file os) sound.os (seen_files system os are) sound.shipped in
+      let mine = one_list_of_classes law files source.folder (map the_file ds) sound.own has sound.spelled in
+      let theirs = one_beside source.replace (map the_file ds) sound.own (map the_file os) sound.os mine
+      (seen_files (system_beside source.replace (map the_file ds)) os are) sound.shipped in
       let p = is.program ∙ (λ i. program_meaning (mine i) (theirs i)) in
       let n = is.names ∙ (λ i. program_names (mine i) (theirs i)) in
       let k = is.classes ∙ (λ i. class_names (mine i) ++ class_names (theirs i)) in
       record {
         program = p;
         compiled = λ i. program_files (p i) (n i) (k i);
-        resolved = folder_resolved laws.names (Some files) folder core (ds, has, (os, are, is));
+        resolved = folder_resolved laws.names (Some files) source core (ds, has, (os, are, is));
       }
 
   -- it has a computer
@@ -87,39 +98,40 @@ module _ (laws : Laws) (files : Files) (folder : List ℕ) (sound : IsSoundFolde
       let over = (laws.budgets.too_large core w is.resolved h words (subst (λ (p : Program). IsBudget p words) (sym is.program) budget)).1 in
       omega (arith, over, few)
 
-  never_unbuilt : (core : Core) (line : List ℕ) → FolderMeans (Some files) folder core → BuildIsRefused core folder line → ⊥
+  never_unbuilt : (core : Core) (line : List ℕ) → FolderMeans (Some files) source core → BuildIsRefused core source.folder line → ⊥
   never_unbuilt core line means (error, told, h, e, d) = built core error told (meant core means) h e
 
-  build_accepted : (line : List ℕ) → BuildRefuses (Some files) folder line → ⊥
+  build_accepted : (line : List ℕ) → BuildRefuses (Some files) source line → ⊥
   build_accepted line (without_program k) = never_refused line k
   build_accepted line (unbuilt core means k) = never_unbuilt core line means k
 
-  run_accepted : (keys : Option (List ℕ)) (line : List ℕ) → IsSoundScript files keys → RunRefuses (Some files) folder keys line → ⊥
+  run_accepted : (keys : Option (List ℕ)) (line : List ℕ) → IsSoundScript files keys → RunRefuses (Some files) source keys line → ⊥
   run_accepted keys line (lines, has) (run_without_program k) = never_refused line k
   run_accepted keys line (lines, has) (run_unbuilt core means k) = never_unbuilt core line means k
   run_accepted keys line (lines, has) (without_script core means computer k) = never_scripted laws.scripts files keys lines line has k
 
 pub sound_lines : Laws → SoundLaw
 sound_lines laws files (of_classes source compile) (sound, script) = record {
-  accepted = λ out before told h. never_refused laws files source.folder sound told h.1;
+  accepted = λ out before told h. never_refused laws files source sound told h.1;
   agrees = λ out before told h. h;
 }
 sound_lines laws files (of_classes source build) (sound, script) = record {
-  accepted = λ out before told h. build_accepted laws files source.folder sound told h.1;
+  accepted = λ out before told h. build_accepted laws files source sound told h.1;
   agrees = λ out before told h. h;
 }
-sound_lines laws files (of_classes source map_image) (sound, script) = record {
-  accepted = λ out before told h. build_accepted laws files source.folder sound told h.1;
+sound_lines laws files (of_classes source (map_image format)) (sound, script) = record {
+  accepted = λ out before told h. build_accepted laws files source sound told h.1;
   agrees = λ out before told h. h;
 }
 sound_lines laws files (of_classes source (run level cycles keys)) (sound, script) = record {
-  accepted = λ out before told h. run_accepted laws files source.folder sound keys told script h.1;
+  accepted = λ out before told h. run_accepted laws files source sound keys told script h.1;
   agrees = λ out before told h. h;
 }
 sound_lines laws files (of_file path work) sound = absurd sound
 sound_lines laws files (vm folder bare) sound = absurd sound
 sound_lines laws files (chip name) sound = absurd sound
 sound_lines laws files (test path gates) sound = absurd sound
+sound_lines laws files (soak seed count) sound = absurd sound
 
 -- ---- the call
 

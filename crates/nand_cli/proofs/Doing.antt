@@ -6,7 +6,7 @@ use Rattle.outer_world.specs.Written.{CountsPut, Puts}
 use Rattle.outer_world.specs.declared.sink.Put.{Put}
 use Rattle.outer_world.specs.declared.sink.Put.TheVariants as put
 use Rattle.outer_world.proofs.Passing.{Got-nothing}
-use Rattle.command_line.specs.Line.{IsNoTest, Line, chip, of_classes, of_file, test, vm}
+use Rattle.command_line.specs.Line.{IsNoTest, Line, chip, of_classes, of_file, soak, test, vm}
 use Rattle.source_files.specs.Loads.{CountsLoad, Loads, line_of}
 use Rattle.source_files.specs.declared.error.LoadError.{LoadError}
 use Rattle.source_files.specs.declared.error.LoadError.TheVariants as errors
@@ -22,6 +22,7 @@ misses_other files there unfailing (of_file path work) other may = (refl, refl, 
 misses_other files there unfailing (vm folder bare) other may = (refl, refl, may)
 misses_other files there unfailing (chip name) other may = (refl, refl, may)
 misses_other files there unfailing (test path gates) other may = absurd other
+misses_other files there unfailing (soak seed count) other may = (refl, refl, may)
 
 pub starves_other : (files : Option Files) (line : Line) → IsNoTest line → Starves files line [] []
 starves_other files (of_classes source work) other = (refl, refl)
@@ -29,6 +30,7 @@ starves_other files (of_file path work) other = (refl, refl)
 starves_other files (vm folder bare) other = (refl, refl)
 starves_other files (chip name) other = (refl, refl)
 starves_other files (test path gates) other = absurd other
+starves_other files (soak seed count) other = (refl, refl)
 
 pub cuts_other : (files : Option Files) (line : Line) (text : List ℕ) (n : ℕ) → IsNoTest line → Prints files line text [] → CutsOut files line (take n text) []
 cuts_other files (of_classes source work) text n other prints = (text, n, prints, refl, refl)
@@ -36,6 +38,7 @@ cuts_other files (of_file path work) text n other prints = (text, n, prints, ref
 cuts_other files (vm folder bare) text n other prints = (text, n, prints, refl, refl)
 cuts_other files (chip name) text n other prints = (text, n, prints, refl, refl)
 cuts_other files (test path gates) text n other prints = absurd other
+cuts_other files (soak seed count) text n other prints = (text, n, prints, refl, refl)
 
 -- nothing is put of what is not loaded
 pub nothing_put : {A : Type 0} (good : A → Type 0) (refused : List ℕ → Type 0) (missed : Type 0) (files : Option Files) (there : List ℕ → Bool) (unfailing : Type 0) (line : Line) (out err : Option (List ℕ)) (e : LoadError)

@@ -17,7 +17,9 @@ use Rattle.vm_link.specs.declared.linked.Linked.{Linked}
 use Rattle.tower.specs.VmRun.{VmEnds, vm_trace, vm_word}
 use Rattle.command_line.specs.declared.request.RunLevel.{RunLevel}
 use Rattle.command_line.specs.declared.request.RunLevel.TheVariants as levels
-use Rattle.nand_cli.specs.Commands.Gates.{gates_trace}
+use Rattle.command_line.specs.declared.request.Shown.{Shown}
+use Rattle.command_line.specs.declared.request.Shown.TheVariants.{Words}
+use Rattle.nand_cli.specs.Commands.Gates.{IsGatesReport, gates_trace}
 use Rattle.nand_cli.specs.Commands.Run.{EndsAt, IsReport, TellsAtMost, name_of, trace_in}
 use Rattle.nand_cli.specs.Inner.Reports.{Reports}
 use Rattle.nand_cli.specs.declared.failure.Failure.{Failure}
@@ -53,6 +55,13 @@ tells n level moves steps subroutine statement end rest text few e =
     let fifth = said_line (codes "end") (end_text end) in
     (level, moves, third ++ (fourth ++ (fifth ++ rest)), few, e ∙ first_two (said_line (codes "level") (level_name level)) (said_line (codes "moves") (decimal moves)) third fourth fifth rest)
 
+gates_few : (shown : Shown) (core : Core) (code : ℕ → ℕ) (n : ℕ) (text : List ℕ) → IsGatesReport core code n shown text → TellsAtMost n text
+gates_few shown core code n text h =
+    let behaviour = h.behaves (suc n) in
+    let told = h.reports (suc n) behaviour.0 (let near : n < suc n = omega arith in near) behaviour.1 in
+    let point = told.point in
+    tells n names.Gates n (steps (gates_trace h.image code behaviour.0) n) (name_of (names_of core) point.sub) point.number ends.Bound told.rest text (omega arith) told.is_text
+
 pub few : (level : RunLevel) (core : Core) (code : ℕ → ℕ) (n : ℕ) (text : List ℕ) → IsReport level core code n text → TellsAtMost n text
 few (levels.Jack show) core code n text (m, s, end, at, ends_so, e) =
     let point = point_in s in
@@ -66,11 +75,8 @@ few (levels.Hack show) core code n text h =
     let point = h.point in
     let word = run_word h.image.words code n in
     tells n names.Hack n (steps (trace_in h.image code) n) (name_of (names_of core) point.sub) point.number ends.Bound (shown_text show word) text (omega arith) h.reports
-few (levels.Gates shown) core code n text h =
-    let behaviour = h.behaves (suc n) in
-    let told = h.reports (suc n) behaviour.0 (let near : n < suc n = omega arith in near) behaviour.1 in
-    let point = told.point in
-    tells n names.Gates n (steps (gates_trace h.image code behaviour.0) n) (name_of (names_of core) point.sub) point.number ends.Bound told.rest text (omega arith) told.is_text
+few (levels.Gates shown) core code n text h = gates_few shown core code n text h
+few (levels.Simplified show) core code n text h = gates_few (Words show) core code n text h
 
 pub with_few : (level : RunLevel) (core : Core) (code : ℕ → ℕ) (n : ℕ) (out out' : Option (List ℕ)) (r : Result (Unit {0}) Failure)
     → Reports (IsReport level core code n) out out' r → Reports (λ text. IsReport level core code n text × TellsAtMost n text) out out' r

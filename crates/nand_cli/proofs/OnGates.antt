@@ -1,5 +1,6 @@
 -- The computer made of gates after its cycles, and its report.
-use Rattle.std.proofs.Common.{◌≡◌, ◌<◌, ◌++◌, ℕ, suc, List, [], Option, Result, Ok, Err, IfOk, refl, ap, ◌∙◌, sym, subst, append-nil}
+use Rattle.std.proofs.Common.{◌≡◌, ◌<◌, ◌++◌, ℕ, suc, false, List, [], Option, Result, Ok, Err, IfOk, refl, ap, ◌∙◌, sym, subst, append-nil}
+use Rattle.std.specs.Prelude.{IsSome}
 use Rattle.std.proofs.lemmas.List.Elements.{recursion_from_All}
 use Rattle.word16.specs.Memory.{keyboard}
 use Rattle.outer_world.specs.declared.sink.Put.{Put}
@@ -37,7 +38,7 @@ use Rattle.command_line.specs.declared.request.Shown.TheVariants.{Nets, Words}
 use Rattle.nand_cli.specs.Commands.Gates.{IsGatesReport, ReportsCycle, gates_trace, meaning_in}
 use Rattle.nand_cli.specs.Commands.Run.{name_of}
 use Rattle.nand_cli.specs.Inner.Parts.{finish_result}
-use Rattle.nand_cli.specs.Inner.Reports.{IsAtStart, PutsNets, PutsParts, Reports, gates_head, gates_text}
+use Rattle.nand_cli.specs.Inner.Reports.{IsAtStart, IsWholeAtStart, PutsNets, PutsParts, Reports, gates_head, gates_text}
 use Rattle.nand_cli.proofs.Driving.{last_acted}
 use Rattle.nand_cli.proofs.Reporting.{reports_by}
 use Rattle.nand_cli.proofs.Showing.{shown_same}
@@ -68,7 +69,7 @@ module _ (g : GateMachine) (code : ℕ → ℕ) (n : ℕ) (followed : HasFollowe
   moves_are : g.moves ≡ n
   moves_are = followed.counts ∙ moves_length code 0 n
 
-  shows_cycle : (m : ℕ) (wires : List ℕ → Histories) → n < m → IsComputer g.image code m wires → ShowsCycle g code wires n
+  pub shows_cycle : (m : ℕ) (wires : List ℕ → Histories) → n < m → IsComputer g.image code m wires → ShowsCycle g code wires n
   shows_cycle m wires near is =
       subst (λ k. ShowsCycle g code wires k) (moves_length code 0 n)
       (followed.shows code (keys_held code 0 n) m wires (subst (λ k. k < m) (sym (moves_length code 0 n)) near) is)
@@ -117,7 +118,7 @@ pub parts_there : (g : GateMachine) (turns : List Turn) (keys : ℕ → ℕ) (n 
     → (rest : List ℕ) × (wires : List ℕ → Histories) × IsComputer g.image keys (suc n) wires × ShowsParts wires n rest
 parts_there g turns keys n followed words =
     let behaviour = followed.behaves keys words (suc n) in
-    let pins = followed.told.wired.pins in
+    let pins = followed.told.seen.wired.pins in
     (parts_text behaviour.0 n pins.places, behaviour.0, behaviour.1, (pins.places, pins.all_places, refl))
 
 -- ---- the headline
@@ -168,6 +169,11 @@ pub prepared : {E : Type 0} (core : Core) (image : Image) (r : Result GateMachin
     → IfOk r (λ g. g.moves ≡ 0) → IfOk r (λ g. HasFollowed g []) → IfOk r (IsAtStart core)
 prepared core image (Ok g) is same moves stands = record { image = subst (IsImageOf core) (sym same) is; moves = moves; stands = stands }
 prepared core image (Err x) is same moves stands = tt
+
+pub prepared_whole : {E : Type 0} (core : Core) (image : Image) (r : Result GateMachine E) → IsImageOf core image → IfOk r (λ g. image_in g ≡ image)
+    → IfOk r (λ g. g.moves ≡ 0) → IfOk r (λ g. HasFollowed g []) → IfOk r (λ g. false ≡ false → IsSome g.wiring.parts) → IfOk r (IsWholeAtStart core)
+prepared_whole {E} core image (Ok g) is same moves stands parts = record { start = prepared {E = E} core image (Ok g) is same moves stands; parts = parts refl }
+prepared_whole {E} core image (Err x) is same moves stands parts = tt
 
 module _ (core : Core) (code : ℕ → ℕ) (n : ℕ) (resolved : IsResolvedCore core) (words : (c : ℕ) → IsKey (code c)) (old new : GateMachine) (at : IsAtStart core old) (same : image_in new ≡ image_in old) where
   own_image : IsImageOf core (image_in new)

@@ -6,8 +6,10 @@ use Rattle.key_script.specs.declared.lines.Line.{Line}
 use Rattle.jack_tree.specs.Syntax.{ClassFile}
 use Rattle.jack_parser.specs.Spelled.{ClassLaw}
 use Rattle.jack_names.specs.NameFaults.{IsWellNamed}
-use Rattle.jack_os.specs.System.{AreFilesOf, system}
-use Rattle.jack_os.proofs.SystemTexts.{one_list}
+use Rattle.jack_os.specs.System.{AreFilesOf}
+use Rattle.tower.specs.Sources.{system_beside}
+use Rattle.tower.proofs.Beside.{one_beside}
+use Rattle.command_line.specs.Line.{Source}
 use Rattle.source_files.specs.Sources.{IsUnread}
 use Rattle.source_files.proofs.Once.{never_both, never_unread, one_folder}
 use Rattle.jack_parser.specs.Language.{RefusesClass, SpellsFile}
@@ -24,8 +26,8 @@ same_list (x ∷ xs) = ap (λ ys. x ∷ ys) (same_list xs)
 -- ---- the program of classes
 
 module _ (own own' : List ClassFile) (same : own ≡ own') where
-  pub never_wrong : (folder line : List ℕ) (os : List ClassFile) → AreFilesOf system os → IsWellNamed own os → IsMeaningless folder own' line → ⊥
-  never_wrong folder line os are well (os', t, are', first, e) = none_by_place own own' os os' t same (one_list system os os' are are') first well
+  pub never_wrong : (source : Source) (line : List ℕ) (os : List ClassFile) → AreFilesOf (system_beside source.replace own) os → IsWellNamed own os → IsMeaningless source own' line → ⊥
+  never_wrong source line os are well (os', t, are', first, e) = none_by_place own own' os os' t same (one_beside source.replace own own' os os' same are are') first well
 
 -- ---- the classes of a folder
 
@@ -37,9 +39,12 @@ module _ (law : ClassLaw) (files : Files) (folder : List ℕ) where
   pub never_unread_classes : (own : List ClassFile) (line : List ℕ) → HasClasses (Some files) folder own → IsUnread SpellsFile RefusesClass (codes ".jack") (Some files) folder line → ⊥
   never_unread_classes own line has h = never_unread SpellsFile RefusesClass (λ (c : ClassFile). c) (class_once law) files folder (codes ".jack") own line has h
 
-  pub never_meaningless : (own os : List ClassFile) (line : List ℕ) → HasClasses (Some files) folder own → AreFilesOf system os → IsWellNamed own os → FolderIsRefused (Some files) folder line → ⊥
-  never_meaningless own os line has are well (unread k) = never_unread_classes own line has k
-  never_meaningless own os line has are well (meaningless own' has' k) = never_wrong own own' (one_list_of_classes own own' has has') folder line os are well k
+module _ (law : ClassLaw) (files : Files) (source : Source) where
+  pub never_meaningless : (own os : List ClassFile) (line : List ℕ) → HasClasses (Some files) source.folder own → AreFilesOf (system_beside source.replace own) os → IsWellNamed own os
+      → FolderIsRefused (Some files) source line → ⊥
+  never_meaningless own os line has are well (unread k) = never_unread_classes law files source.folder own line has k
+  never_meaningless own os line has are well (meaningless own' has' k) =
+      never_wrong own own' (one_list_of_classes law files source.folder own own' has has') source line os are well k
 
 -- ---- keys
 

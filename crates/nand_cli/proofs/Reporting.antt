@@ -73,7 +73,7 @@ reported_as P Q out out' (Err failure.Echo) more h = absurd h
 
 module _ (level : RunLevel) (files : Option Files) (there : List ℕ → Bool) (steady : Type 0) (source : Source) (n : ℕ) (keys : Option (List ℕ)) where
   -- with a report
-  pub answered : (core : Core) (lines : List Line) (out out' err : Option (List ℕ)) (r : Result (Unit {0}) Failure) → FolderMeans files source.folder core → IsBuilt core → HasKeys files keys lines
+  pub answered : (core : Core) (lines : List Line) (out out' err : Option (List ℕ)) (r : Result (Unit {0}) Failure) → FolderMeans files source core → IsBuilt core → HasKeys files keys lines
       → Reports (IsReport level core (code_at lines) n) out out' r → Does files there steady (of_classes source (run level n keys)) out out' err err r
   answered core lines out out' err (Ok u) means built has (text, is, got) = (text, [], ((core, lines, means, built, has, is), refl), got, Got-nothing err)
   answered core lines out out' err (Err failure.Out) means built has (text, is, part) = (take part.0 text, [], (text, part.0, ((core, lines, means, built, has, is), refl), refl, refl), part.1, Got-nothing err)
@@ -85,7 +85,7 @@ module _ (level : RunLevel) (files : Option Files) (there : List ℕ → Bool) (
       ([], [], (refl, refl), subst (λ now. Got out now []) (sym same) (Got-nothing out), Got-nothing err)
 
   -- of what is prepared for it
-  pub shown : (p : PreparedRun) (out out' err : Option (List ℕ)) (r : Result (Unit {0}) Failure) → IsPrepared files source.folder level n keys p
+  pub shown : (p : PreparedRun) (out out' err : Option (List ℕ)) (r : Result (Unit {0}) Failure) → IsPrepared files source level n keys p
       → Reports (λ text. IsReport (level_of p.machine) p.core (code_at p.keys) p.cycles text × TellsAtMost p.cycles text) out out' r → Does files there steady (of_classes source (run level n keys)) out out' err err r
   shown p out out' err r is h =
       let one = IsReport (level_of p.machine) p.core (code_at p.keys) p.cycles in
@@ -99,32 +99,32 @@ module _ (level : RunLevel) (files : Option Files) (there : List ℕ → Bool) (
   Missed = steady → IfSome files (λ told. Lacks there told (of_classes source (run level n keys)))
 
   abbrev Unprepared : LoadError → Type 0
-  Unprepared e = Loads (IsPrepared files source.folder level n keys) (RunRefuses files source.folder keys) Missed (Err e)
+  Unprepared e = Loads (IsPrepared files source level n keys) (RunRefuses files source keys) Missed (Err e)
 
-  pub without_jack : (e : LoadError) → Loads (FolderMeans files source.folder) (FolderIsRefused files source.folder) (steady → LacksFolder files there source.folder) (Err e) → Unprepared e
+  pub without_jack : (e : LoadError) → Loads (FolderMeans files source) (FolderIsRefused files source) (steady → LacksFolder files there source.folder) (Err e) → Unprepared e
   without_jack e h =
-      without (FolderMeans files source.folder) (FolderIsRefused files source.folder) (steady → LacksFolder files there source.folder) (IsPrepared files source.folder level n keys) (RunRefuses files source.folder keys) Missed e
+      without (FolderMeans files source) (FolderIsRefused files source) (steady → LacksFolder files there source.folder) (IsPrepared files source level n keys) (RunRefuses files source keys) Missed e
       (λ told k. without_program k) (λ k s. missing files there source.folder (of_classes source (run level n keys)) (λ told none. inl none) (k s)) h
 
-  pub without_image : (core : Core) (e : LoadError) → FolderMeans files source.folder core → Loads (IsImageOf core) (BuildIsRefused core source.folder) ⊥ (Err e) → Unprepared e
+  pub without_image : (core : Core) (e : LoadError) → FolderMeans files source core → Loads (IsImageOf core) (BuildIsRefused core source.folder) ⊥ (Err e) → Unprepared e
   without_image core e means h =
-      without (IsImageOf core) (BuildIsRefused core source.folder) ⊥ (IsPrepared files source.folder level n keys) (RunRefuses files source.folder keys) Missed e
+      without (IsImageOf core) (BuildIsRefused core source.folder) ⊥ (IsPrepared files source level n keys) (RunRefuses files source keys) Missed e
       (λ told k. unbuilt core means k) (λ k. absurd k) h
 
-  without_script_file : (told : Option Files) (core : Core) → FolderMeans told source.folder core → IsBuilt core → LacksKeys told keys → IfSome told (λ fs. Lacks there fs (of_classes source (run level n keys)))
+  without_script_file : (told : Option Files) (core : Core) → FolderMeans told source core → IsBuilt core → LacksKeys told keys → IfSome told (λ fs. Lacks there fs (of_classes source (run level n keys)))
   without_script_file None core means built lacks = tt
   without_script_file (Some fs) core means built lacks = inr (core, means, built, lacks)
 
-  pub without_keys : (core : Core) (e : LoadError) → FolderMeans files source.folder core → IsBuilt core
+  pub without_keys : (core : Core) (e : LoadError) → FolderMeans files source core → IsBuilt core
       → Loads (λ (k : Keys). HasKeys files keys k) (ScriptIsRefused files keys) (steady → LacksKeys files keys) (Err e) → Unprepared e
   without_keys core e means built h =
-      without (λ (k : Keys). HasKeys files keys k) (ScriptIsRefused files keys) (steady → LacksKeys files keys) (IsPrepared files source.folder level n keys) (RunRefuses files source.folder keys) Missed e
+      without (λ (k : Keys). HasKeys files keys k) (ScriptIsRefused files keys) (steady → LacksKeys files keys) (IsPrepared files source level n keys) (RunRefuses files source keys) Missed e
       (λ told k. without_script core means built k) (λ k s. without_script_file files core means built (k s)) h
 
   -- a line that is not prepared does nothing
   pub undone : (out err : Option (List ℕ)) (e : LoadError) → Unprepared e → Does files there steady (of_classes source (run level n keys)) out out err err (Err (failure.Unloaded e))
   undone out err e h =
-      nothing_put (IsPrepared files source.folder level n keys) (RunRefuses files source.folder keys) Missed files there steady (of_classes source (run level n keys)) out err e
+      nothing_put (IsPrepared files source level n keys) (RunRefuses files source keys) Missed files there steady (of_classes source (run level n keys)) out err e
       (λ told k. (refl, k, refl)) (λ k. k) h tt
 
 -- a fault of the shelf counts alike, whatever was to be loaded

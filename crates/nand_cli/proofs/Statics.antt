@@ -29,7 +29,7 @@ kept_over (Some name) n w e = absurd (let no : ⊥ = cc in no)
 kept_over None n w e = over_by n w (nat_lt 240 n) refl e
 
 -- no fault of a text is one of statics
-not_of_text : (twice label goto : Option (List ℕ)) (starts : Bool) (w : ℕ)
+pub not_of_text : (twice label goto : Option (List ℕ)) (starts : Bool) (w : ℕ)
     → option_or (option_map TwiceDefined twice) (option_or (option_map LabelTwice label) (option_or (option_map NoLabel goto) (if starts then None else Some NoSysInit))) ≡ Some (TooManyStatics w) → ⊥
 not_of_text (Some name) label goto starts w e = let no : ⊥ = cc in no
 not_of_text None (Some name) goto starts w e = let no : ⊥ = cc in no

@@ -10,3 +10,5 @@ pub mod Test
 pub mod Gates
 pub mod RunVm
 pub mod Run
+pub mod SoakLevels
+pub mod Soak

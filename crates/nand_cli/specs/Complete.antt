@@ -1,6 +1,6 @@
 -- Completeness: where nothing is wrong with the Jack classes that a line reads and with its key script, and no call of the outside fails, the line is
 -- done, but for want of memory. So is every line that is not refused. (The book, chapters 4 and 7 to 12.)
-use Rattle.std.specs.Prelude.{◌≡◌, ◌≤◌, ◌⊎◌, ℕ, false, List, Option, Some, length}
+use Rattle.std.specs.Prelude.{◌≡◌, ◌≤◌, ◌⊎◌, ℕ, Bool, true, false, List, Option, Some, length}
 use Rattle.hack_isa.specs.Machine.{image_words}
 use Rattle.outer_world.specs.Faults.{Rose}
 use Rattle.outer_world.specs.Files.{Files}
@@ -11,12 +11,13 @@ use Rattle.vm_link.specs.Sections.{Section, sections}
 use Rattle.jack_tree.specs.Syntax.{ClassFile}
 use Rattle.jack_meaning.specs.Text.{Program}
 use Rattle.jack_names.specs.Faults.{NameDiagnostic}
-use Rattle.jack_names.specs.NameFaults.{Spot, Fails}
+use Rattle.jack_names.specs.NameFaults.{Spot, Fails, IsWellNamed}
 use Rattle.jack_names.specs.Meaning.{program_meaning}
-use Rattle.jack_os.specs.System.{AreFilesOf, system}
+use Rattle.jack_os.specs.System.{AreFilesOf}
 use Rattle.key_script.specs.declared.lines.Line.{Line as KeyLine}
 use Rattle.tower.specs.Budget.{IsBudget}
-use Rattle.command_line.specs.Line.{Line, IsLine, of_classes, script_of}
+use Rattle.tower.specs.Sources.{system_beside}
+use Rattle.command_line.specs.Line.{Line, IsLine, Source, of_classes, script_of}
 use Rattle.nand_cli.specs.Answer.{Disagrees, Refuses}
 use Rattle.nand_cli.specs.Commands.Run.{HasKeys}
 use Rattle.nand_cli.specs.JackFolder.{HasClasses, files_meant}
@@ -44,15 +45,21 @@ HasSmallBudget program = (words : ℕ) × IsBudget program words × (words ≤ i
 abbrev pub HasNoNameFault : List ClassFile → List ClassFile → Type 0
 HasNoNameFault own os = (at : Spot) (told : NameDiagnostic) → told.shipped ≡ false → Fails own os at told → ⊥
 
+-- The names are right: of the folder, where the whole operating system stands beside it, whose names are right by its law; and where the folder's
+-- classes replace, of both.
+abbrev pub HasRightNames : Bool → List ClassFile → List ClassFile → Type 0
+HasRightNames false own os = HasNoNameFault own os
+HasRightNames true own os = IsWellNamed own os
+
 -- The folder has at most 256 Jack files, each of which spells a class within the limits of the language. With those of the
--- operating system, which there are by its law, no fault of its names is told, their program has at most 240 static words, and its budget is at
+-- operating system beside them, which there are by its law, the names are right, their program has at most 240 static words, and its budget is at
 -- most 32,768.
-pub record IsSoundFolder (files : Files) (folder : List ℕ) : Type 0 where
+pub record IsSoundFolder (files : Files) (source : Source) : Type 0 where
   pub own : List ClassFile
-  pub spelled : HasClasses (Some files) folder own
+  pub spelled : HasClasses (Some files) source.folder own
   pub os : List ClassFile
-  pub shipped : AreFilesOf system os
-  pub named : HasNoNameFault own os
+  pub shipped : AreFilesOf (system_beside source.replace own) os
+  pub named : HasRightNames source.replace own os
   pub statics : HasFewStatics (files_meant own os)
   pub budget : HasSmallBudget (program_meaning own os)
 
@@ -62,7 +69,7 @@ IsSoundScript files keys = (lines : List KeyLine) × HasKeys (Some files) keys l
 
 -- Nothing is wrong with the folder and the key script of a line that reads Jack classes: of `compile`, `build`, `map` or `run`.
 abbrev pub IsSound : Files → Line → Type 0
-IsSound files (of_classes source work) = IsSoundFolder files source.folder × IsSoundScript files (script_of work)
+IsSound files (of_classes source work) = IsSoundFolder files source × IsSoundScript files (script_of work)
 IsSound files line = ⊥
 
 -- A line is neither refused over the files nor ends with a difference.

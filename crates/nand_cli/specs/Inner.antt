@@ -1,3 +1,5 @@
 pub mod Parts
 pub mod Reports
 pub mod Prepared
+pub mod Placed
+pub mod SoakParts

@@ -11,13 +11,15 @@ use Rattle.jack_names.specs.Faults.{NameDiagnostic}
 use Rattle.jack_names.specs.FaultOrder.{IsFirstByPlace}
 use Rattle.jack_names.specs.Messages.{kind_word}
 use Rattle.jack_names.specs.Meaning.{program_meaning, program_names}
-use Rattle.jack_os.specs.System.{AreFilesOf, system}
+use Rattle.jack_os.specs.System.{AreFilesOf}
 use Rattle.jack_core.specs.declared.program.Core.{Core}
 use Rattle.jack_compiler.specs.Files.{program_files}
 use Rattle.image_map.specs.declared.map.Image.{Image}
 use Rattle.tower.specs.Image.{Builds, IsImageOf}
 use Rattle.tower.specs.Program.{Means, class_names}
+use Rattle.tower.specs.Sources.{system_beside}
 use Rattle.tower.specs.Messages.{build_message}
+use Rattle.command_line.specs.Line.{Source}
 use Rattle.tower.specs.declared.building.BuildError.{BuildError}
 use Rattle.jack_parser.specs.Language.{RefusesClass, SpellsFile}
 
@@ -26,8 +28,8 @@ abbrev pub HasClasses : Option Files → List ℕ → List ClassFile → Type 0
 HasClasses files folder own = FolderSpells SpellsFile (codes ".jack") files folder own
 
 -- The folder means this program.
-abbrev pub FolderMeans : Option Files → List ℕ → Core → Type 0
-FolderMeans files folder core = (classes : List Class) × HasClasses files folder (map the_file classes) × Means classes (Ok core)
+abbrev pub FolderMeans : Option Files → Source → Core → Type 0
+FolderMeans files source core = (classes : List Class) × HasClasses files source.folder (map the_file classes) × Means source.replace classes (Ok core)
 
 -- the VM files of the program that the folder's classes mean with those of the operating system: a file for each class, the folder's first
 abbrev pub files_meant : List ClassFile → List ClassFile → List File
@@ -43,14 +45,15 @@ name_line folder told =
     message_line (path_in (home_of folder told.shipped) told.file) (message told.place.line told.place.column (kind_word told.kind) told.name)
 
 -- The classes mean no program, and this line tells why: it tells the first fault of their names, by stage, file, place and kind.
-abbrev pub IsMeaningless : List ℕ → List ClassFile → List ℕ → Type 0
-IsMeaningless folder own line =
-    (os : List ClassFile) × (told : NameDiagnostic) × AreFilesOf system os × IsFirstByPlace own os told × (line ≡ name_line folder told)
+abbrev pub IsMeaningless : Source → List ClassFile → List ℕ → Type 0
+IsMeaningless source own line =
+    (os : List ClassFile) × (told : NameDiagnostic) × AreFilesOf (system_beside source.replace own) os × IsFirstByPlace own os told
+    × (line ≡ name_line source.folder told)
 
 -- The folder means no program, and this line tells why: its files are not read, or their classes mean none.
-pub data FolderIsRefused (files : Option Files) (folder line : List ℕ) : Type 0 where
-  unread : IsUnread SpellsFile RefusesClass (codes ".jack") files folder line → FolderIsRefused files folder line
-  meaningless : (own : List ClassFile) → HasClasses files folder own → IsMeaningless folder own line → FolderIsRefused files folder line
+pub data FolderIsRefused (files : Option Files) (source : Source) (line : List ℕ) : Type 0 where
+  unread : IsUnread SpellsFile RefusesClass (codes ".jack") files source.folder line → FolderIsRefused files source line
+  meaningless : (own : List ClassFile) → HasClasses files source.folder own → IsMeaningless source own line → FolderIsRefused files source line
 
 -- The program has no image, and this line tells why.
 abbrev pub BuildIsRefused : Core → List ℕ → List ℕ → Type 0

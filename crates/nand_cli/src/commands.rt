@@ -7,5 +7,6 @@ pub mod exec;
 pub mod map;
 pub mod run;
 pub mod show;
+pub mod soak;
 pub mod test;
 pub mod vm;

@@ -1,9 +1,10 @@
-//! The program that a folder's Jack files mean, its image, and why there is none.
+//! The program that a folder's Jack files mean, its image and its places, and why there is none.
 ghost use Rattle.std.specs.Prelude.{◌≡◌, ◌≤◌, IfOk, Ok, length, map};
 ghost use Rattle.jack_compiler.specs.Resolved.{IsResolvedCore};
 ghost use Rattle.jack_core.specs.declared.program.Core.{Core};
 ghost use Rattle.jack_tree.specs.Seen.{the_file};
 ghost use Rattle.image_map.specs.Map.{IsMapped};
+ghost use Rattle.command_line.specs.Line.{source_of};
 ghost use Rattle.tower.specs.Image.{IsImageOf};
 ghost use Rattle.tower.specs.Program.{Means};
 ghost use Rattle.tower.specs.Spelled.{AreSpelled};
@@ -11,12 +12,16 @@ ghost use Rattle.jack_names.specs.Messages.{name_message};
 ghost use Rattle.outer_world.specs.Files.{LacksFolder, path_in};
 ghost use Rattle.source_files.specs.Loads.{CountsLoad, Loads, Refused};
 ghost use Rattle.nand_cli.specs.Commands.Build.{BuildRefuses, FolderBuilds};
+ghost use Rattle.nand_cli.specs.Commands.Map.{FolderHasPlaces, HavePlaces};
 ghost use Rattle.nand_cli.specs.Inner.Parts.{TellsWrong};
+ghost use Rattle.nand_cli.specs.Inner.Placed.{AreRefused};
 ghost use Rattle.nand_cli.specs.declared.jack.BuiltProgram.{BuiltProgram};
 ghost use Rattle.nand_cli.specs.JackFolder.{BuildIsRefused, FolderIsRefused, FolderMeans, IsMeaningless, home_of};
 
+use command_line::Source;
 use image_map::Image;
 use jack_core::Core;
+use jack_debug::Places;
 use jack_names::NameFault;
 use jack_parser::JackLanguage;
 use jack_places::first_law;
@@ -24,7 +29,8 @@ use jack_tree::Class;
 use outer_world::Shelf;
 use source_files::{LoadError, load_folder, path_in};
 use std::alloc::Global;
-use tower::{ProgramError, build, program_of_classes};
+use tower::{ProgramError, build, classes_beside, program_of_classes};
+use vm_debug::program_places;
 
 /// A folder's program with its image.
 #[derive(Drop)]
@@ -66,34 +72,38 @@ pub fn not_meant(alloc: Global, folder: &str, error: ProgramError) -> LoadError
     }
 }
 
-// The program that the classes of a folder mean.
-fn program_of(alloc: Global, folder: &str, classes: &[Class]) -> Result<Core, LoadError>
+// The program that the classes of a source mean.
+fn program_of(alloc: Global, source: &Source<'_>, classes: &[Class]) -> Result<Core, LoadError>
     requires few { length classes.now ≤ 256 }
     requires spelled { AreSpelled classes.now }
-    ensures makes { Loads (λ (core : Core). Means classes.now (Ok core)) (IsMeaningless folder.now (map the_file classes.now)) ⊥ result }
+    ensures makes { Loads (λ (core : Core). Means source.now.replace classes.now (Ok core)) (IsMeaningless (source_of source.now) (map the_file classes.now)) ⊥ result }
     ensures resolved { IfOk result IsResolvedCore }
 {
     // The first fault of names is the first by its place.
     first_law();
-    match program_of_classes(alloc, classes) {
+    match program_of_classes(alloc, classes, source.replace) {
         Ok(core) => Ok(core),
-        Err(error) => Err(not_meant(alloc, folder, error)),
+        Err(error) => Err(not_meant(alloc, source.folder, error)),
     }
 }
 
-/// The program that the Jack files of a folder mean.
+/// The program that the Jack files of a source's folder mean.
 ///
 /// Otherwise the refusal of the files as they are read, else of the first name fault.
-pub fn load_jack<F: Shelf>(alloc: Global, folder: &str, shelf: &mut F) -> Result<Core, LoadError>
-    ensures loads { Loads (FolderMeans (F.files shelf.old) folder.now) (FolderIsRefused (F.files shelf.old) folder.now) (F.unfailing shelf.old → LacksFolder (F.files shelf.old) (F.there shelf.old) folder.now) result }
+pub fn load_jack<F: Shelf>(
+    alloc: Global,
+    source: &Source<'_>,
+    shelf: &mut F,
+) -> Result<Core, LoadError>
+    ensures loads { Loads (FolderMeans (F.files shelf.old) (source_of source.now)) (FolderIsRefused (F.files shelf.old) (source_of source.now)) (F.unfailing shelf.old → LacksFolder (F.files shelf.old) (F.there shelf.old) source.now.folder.now) result }
     ensures resolved { IfOk result IsResolvedCore }
     ensures counts { CountsLoad (F.faults shelf.old) (F.faults shelf.new) result }
     ensures kept { F.files shelf.new ≡ F.files shelf.old }
     ensures stays { F.there shelf.new ≡ F.there shelf.old }
     ensures keeps { F.unfailing shelf.old → F.unfailing shelf.new }
 {
-    let classes = load_folder(alloc, &JackLanguage, folder, ENDING, shelf)?;
-    program_of(alloc, folder, &classes)
+    let classes = load_folder(alloc, &JackLanguage, source.folder, ENDING, shelf)?;
+    program_of(alloc, source, &classes)
 }
 
 /// The image of a folder's program, or why there is none.
@@ -108,18 +118,46 @@ pub fn image_of(alloc: Global, folder: &str, core: &Core) -> Result<Image, LoadE
     }
 }
 
-/// The program that the Jack files of a folder mean, with its image, or why there is none.
+/// The program that the Jack files of a source's folder mean, with its image, or why there is none.
 pub fn load_built<F: Shelf>(
     alloc: Global,
-    folder: &str,
+    source: &Source<'_>,
     shelf: &mut F,
 ) -> Result<BuiltProgram, LoadError>
-    ensures loads { Loads (λ (p : BuiltProgram). FolderBuilds (F.files shelf.old) folder.now p.core p.image) (BuildRefuses (F.files shelf.old) folder.now) (F.unfailing shelf.old → LacksFolder (F.files shelf.old) (F.there shelf.old) folder.now) result }
+    ensures loads { Loads (λ (p : BuiltProgram). FolderBuilds (F.files shelf.old) (source_of source.now) p.core p.image) (BuildRefuses (F.files shelf.old) (source_of source.now)) (F.unfailing shelf.old → LacksFolder (F.files shelf.old) (F.there shelf.old) source.now.folder.now) result }
     ensures counts { CountsLoad (F.faults shelf.old) (F.faults shelf.new) result }
     ensures kept { F.files shelf.new ≡ F.files shelf.old }
     ensures stays { F.there shelf.new ≡ F.there shelf.old }
 {
-    let core = load_jack(alloc, folder, shelf)?;
-    let image = image_of(alloc, folder, &core)?;
+    let core = load_jack(alloc, source, shelf)?;
+    let image = image_of(alloc, source.folder, &core)?;
     Ok(BuiltProgram { core, image })
+}
+
+// The places of the program that the classes of a source mean. The operating system is read once more for them.
+fn places_of(alloc: Global, source: &Source<'_>, own: &[Class]) -> Result<Places, LoadError>
+    requires few { length own.now ≤ 256 }
+    requires spelled { AreSpelled own.now }
+    ensures { Loads (HavePlaces source.now.replace own.now) (AreRefused own.now (source_of source.now)) ⊥ result }
+{
+    let core = program_of(alloc, source, own)?;
+    let image = image_of(alloc, source.folder, &core)?;
+    let system = classes_beside(alloc, own, source.replace)?;
+    Ok(program_places(alloc, own, &system, &core, &image.map)?)
+}
+
+/// The places of the program that the Jack files of a source's folder mean, or why it has no image. The trees of its classes are
+/// kept until then.
+pub fn load_places<F: Shelf>(
+    alloc: Global,
+    source: &Source<'_>,
+    shelf: &mut F,
+) -> Result<Places, LoadError>
+    ensures loads { Loads (FolderHasPlaces (F.files shelf.old) (source_of source.now)) (BuildRefuses (F.files shelf.old) (source_of source.now)) (F.unfailing shelf.old → LacksFolder (F.files shelf.old) (F.there shelf.old) source.now.folder.now) result }
+    ensures counts { CountsLoad (F.faults shelf.old) (F.faults shelf.new) result }
+    ensures kept { F.files shelf.new ≡ F.files shelf.old }
+    ensures stays { F.there shelf.new ≡ F.there shelf.old }
+{
+    let own = load_folder(alloc, &JackLanguage, source.folder, ENDING, shelf)?;
+    places_of(alloc, source, &own)
 }

@@ -10,7 +10,7 @@ pub mod hack;
 pub mod jack;
 pub mod vm;
 
-use crate::levels::gates::gates_at_start;
+use crate::levels::gates::{gates_at_start, simple_at_start};
 use crate::levels::hack::hack_at_start;
 use crate::levels::vm::vm_at_start;
 use command_line::{RunLevel, Shown};
@@ -29,6 +29,7 @@ pub enum Machine {
     Vm(Vm, Show),
     Hack(HackLevel, Show),
     Gates(GateComputer, Shown),
+    Simplified(GateComputer, Show),
 }
 
 /// The machine of a level at its start, with a program that is built.
@@ -48,6 +49,9 @@ pub fn machine_at_start(
         RunLevel::Jack(show) => Ok(Machine::Jack(alloc, show)),
         RunLevel::Vm(show) => Ok(Machine::Vm(vm_at_start(alloc, core, image)?, show)),
         RunLevel::Hack(show) => Ok(Machine::Hack(hack_at_start(alloc, core, image)?, show)),
+        RunLevel::Simplified(show) => {
+            Ok(Machine::Simplified(simple_at_start(alloc, core, image)?, show))
+        }
         RunLevel::Gates(shown) => Ok(Machine::Gates(gates_at_start(alloc, core, image)?, shown)),
     }
 }

@@ -15,8 +15,10 @@ use Rattle.tower.specs.Resolved.{ResolvedLaw}
 use Rattle.tower.specs.Image.{ComputerLaw}
 use Rattle.tower.specs.VmRun.{MakesMoves, VmFollows, VmLaw, vm_trace, vm_word}
 use Rattle.gate_computer.specs.Laws.{SeenLaw}
-use Rattle.soak_laws.proofs.Resolved.{resolved}
-use Rattle.soak_outcome.specs.Levels.{no_keys, View, AreAlike, gates_trace, gates_view, hack_view, after_steps, meaning_in, IsJustAfter, AtFirst, BehindCommit}
+use Rattle.nand_cli.specs.Commands.Gates.{meaning_in}
+use Rattle.nand_cli.specs.Commands.SoakLevels.{no_keys, View, AreAlike, silent_trace, gates_view, hack_view, after_steps, IsJustAfter, AtFirst, BehindCommit}
+use Rattle.nand_cli.specs.Commands.Soak.{soak_files, soak_source}
+use Rattle.nand_cli.proofs.FolderResolved.{folder_resolved}
 use Rattle.soak_outcome.specs.Laws.{AgreeLaw}
 use Rattle.soak_outcome.proofs.Silent.{AreZero, heard_zero, found, tame_there}
 use Rattle.soak_outcome.proofs.Commits.{next_commit, counted, counts}
@@ -109,11 +111,11 @@ same_state core m v w h k =
 module _ (resolved_law : ResolvedLaw) (computer : ComputerLaw) (vm_law : VmLaw) (seen : SeenLaw) where
   pub agree : AgreeLaw
   agree seed number text core image is_program means is_image n k wires long behaves tame most bound is_gap fits =
-      let right = resolved resolved_law text means.0 core means.1 means.2 in
+      let right = folder_resolved resolved_law (Some (soak_files text)) soak_source core means in
       let same = seen image.words (the_map image.map) no_keys k wires behaves n long in
       let alike : AreAlike (gates_view image n wires) (hack_view image n) = record { words = λ a d. same.words a d.1; point = same.counts.point_is } in
       let t = run_trace image.words (the_map image.map) no_keys in
-      let m = steps (gates_trace image wires) n in
+      let m = steps (silent_trace image wires) n in
       let count : steps t n ≡ m = sym same.counts.steps_are in
       let silent : AreZero (heard_keys t n) = heard_zero t (λ c. refl) n in
       let follows = computer core image right is_image no_keys keys_are n in

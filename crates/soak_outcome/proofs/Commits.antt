@@ -1,7 +1,7 @@
 -- The commits of a run, one after another.
 use Rattle.std.proofs.Common.{◌≡◌, ◌<◌, ◌+◌, ℕ, zero, suc, Bool, true, false, cond, refl, sym, ap, subst, ◌∙◌, arith, add-zero}
 use Rattle.simulation.specs.Trace.{Trace, steps}
-use Rattle.soak_outcome.specs.Levels.{IsJustAfter, AtFirst, BehindCommit}
+use Rattle.nand_cli.specs.Commands.SoakLevels.{IsJustAfter, AtFirst, BehindCommit}
 
 -- the first commit from n on, where one is counted in d moves
 pub record NextCommit (t : Trace) (n d : ℕ) : Type 0 where

@@ -3,7 +3,7 @@ use Rattle.std.proofs.Common.{◌≡◌, ℕ, zero, suc, Bool, true, false, List
 use Rattle.std.specs.Prelude.{option_and_then, option_map, if◌then◌else◌}
 use Rattle.simulation.specs.System.{System, Listening, keys_heard, first_key, other_keys, step_from, run_of, Tame}
 use Rattle.simulation.specs.Trace.{Trace, heard_keys}
-use Rattle.soak_outcome.specs.Levels.{after_steps}
+use Rattle.nand_cli.specs.Commands.SoakLevels.{after_steps}
 
 abbrev pub AreZero : List ℕ → Type 0
 AreZero [] = Unit {0}

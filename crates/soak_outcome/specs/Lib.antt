@@ -1,4 +1,3 @@
 pub mod Fits
-pub mod Levels
-pub mod Summary
 pub mod Laws
+pub mod Unrefused

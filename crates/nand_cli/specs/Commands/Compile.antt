@@ -4,15 +4,18 @@ use Rattle.outer_world.specs.Files.{Files}
 use Rattle.vm_tree.specs.Printed.{files_text}
 use Rattle.jack_tree.specs.Syntax.{ClassFile}
 use Rattle.jack_names.specs.NameFaults.{IsWellNamed}
-use Rattle.jack_os.specs.System.{AreFilesOf, system}
+use Rattle.jack_os.specs.System.{AreFilesOf}
+use Rattle.tower.specs.Sources.{system_beside}
+use Rattle.command_line.specs.Line.{Source}
 use Rattle.nand_cli.specs.JackFolder.{FolderIsRefused, HasClasses, files_meant}
 
 -- The folder means a program with the operating system, and this is the text of the VM files of the folder's own classes, in order of file name, each
 -- behind a line with its name. Every subroutine of them is there, called or not.
-abbrev pub CompilePrints : Option Files → List ℕ → List ℕ → Type 0
-CompilePrints files folder out =
-    (own os : List ClassFile) × HasClasses files folder own × AreFilesOf system os × IsWellNamed own os × (out ≡ files_text (take (length own) (files_meant own os)))
+abbrev pub CompilePrints : Option Files → Source → List ℕ → Type 0
+CompilePrints files source out =
+    (own os : List ClassFile) × HasClasses files source.folder own × AreFilesOf (system_beside source.replace own) os × IsWellNamed own os
+    × (out ≡ files_text (take (length own) (files_meant own os)))
 
 -- The folder means no program, and this line tells why. (What is not linked may have too many statics or be too large.)
-abbrev pub CompileRefuses : Option Files → List ℕ → List ℕ → Type 0
-CompileRefuses files folder line = FolderIsRefused files folder line
+abbrev pub CompileRefuses : Option Files → Source → List ℕ → Type 0
+CompileRefuses files source line = FolderIsRefused files source line

@@ -26,8 +26,10 @@ use Rattle.image_map.specs.Map.{the_map}
 use Rattle.image_map.specs.declared.map.Image.{Image}
 use Rattle.tower.specs.Image.{IsImageOf}
 use Rattle.image_map.specs.Computer.{run_trace, run_word}
+use Rattle.command_line.specs.Line.{Source}
 use Rattle.command_line.specs.declared.request.RunLevel.{RunLevel}
 use Rattle.command_line.specs.declared.request.RunLevel.TheVariants as levels
+use Rattle.command_line.specs.declared.request.Shown.TheVariants.{Words}
 use Rattle.nand_cli.specs.Commands.Gates.{IsGatesReport, meaning_in}
 use Rattle.nand_cli.specs.Commands.RunVm.{IsVmReport}
 use Rattle.nand_cli.specs.JackFolder.{BuildIsRefused, FolderIsRefused, FolderMeans, IsBuilt}
@@ -94,12 +96,14 @@ pub record IsHackReport (core : Core) (code : ℕ → ℕ) (n : ℕ) (show : Sho
   pub gap : IsGap (the_program core) most
   pub follows : Follows (meaning_in core) (start (the_program core)) (trace_in image code) (run_word image.words code) most n
 
--- The report of n moves of a program at a level, with what is shown there.
+-- The report of n moves of a program at a level, with what is shown there. It is the same whether the netlist of the computer made of gates is
+-- simplified or not.
 abbrev pub IsReport : RunLevel → Core → (ℕ → ℕ) → ℕ → List ℕ → Type 0
 IsReport (levels.Jack show) core code n text = IsJackReport core code n show text
 IsReport (levels.Vm show) core code n text = IsVmReport core code n show text
 IsReport (levels.Hack show) core code n text = IsHackReport core code n show text
 IsReport (levels.Gates shown) core code n text = IsGatesReport core code n shown text
+IsReport (levels.Simplified show) core code n text = IsGatesReport core code n (Words show) text
 
 -- The text tells of so many moves at most.
 abbrev pub TellsAtMost : ℕ → List ℕ → Type 0
@@ -110,19 +114,19 @@ TellsAtMost n text =
 -- ---- the line
 
 -- The folder means a program that has an image, and this is its report at the level, under the keys of the script.
-abbrev pub RunPrints : Option Files → List ℕ → RunLevel → ℕ → Option (List ℕ) → List ℕ → Type 0
-RunPrints files folder level cycles keys out =
-    (core : Core) × (lines : List Line) × FolderMeans files folder core × IsBuilt core × HasKeys files keys lines
+abbrev pub RunPrints : Option Files → Source → RunLevel → ℕ → Option (List ℕ) → List ℕ → Type 0
+RunPrints files source level cycles keys out =
+    (core : Core) × (lines : List Line) × FolderMeans files source core × IsBuilt core × HasKeys files keys lines
     × IsReport level core (code_at lines) cycles out
 
 -- The run is refused, at whatever level, and this line tells why: the folder means no program, or its program has no image, or, where it has
 -- one, the key script is refused.
-pub data RunRefuses (files : Option Files) (folder : List ℕ) (keys : Option (List ℕ)) (line : List ℕ) : Type 0 where
-  without_program : FolderIsRefused files folder line → RunRefuses files folder keys line
-  unbuilt : (core : Core) → FolderMeans files folder core → BuildIsRefused core folder line → RunRefuses files folder keys line
-  without_script : (core : Core) → FolderMeans files folder core → IsBuilt core → ScriptIsRefused files keys line → RunRefuses files folder keys line
+pub data RunRefuses (files : Option Files) (source : Source) (keys : Option (List ℕ)) (line : List ℕ) : Type 0 where
+  without_program : FolderIsRefused files source line → RunRefuses files source keys line
+  unbuilt : (core : Core) → FolderMeans files source core → BuildIsRefused core source.folder line → RunRefuses files source keys line
+  without_script : (core : Core) → FolderMeans files source core → IsBuilt core → ScriptIsRefused files keys line → RunRefuses files source keys line
 
 -- The folder means a program that has an image, and the file of the key script is not there.
-abbrev pub LacksScript : Files → List ℕ → Option (List ℕ) → Type 0
-LacksScript files folder keys =
-    (core : Core) × FolderMeans (Some files) folder core × IsBuilt core × LacksKeys (Some files) keys
+abbrev pub LacksScript : Files → Source → Option (List ℕ) → Type 0
+LacksScript files source keys =
+    (core : Core) × FolderMeans (Some files) source core × IsBuilt core × LacksKeys (Some files) keys

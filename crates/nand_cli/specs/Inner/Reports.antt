@@ -1,5 +1,5 @@
 -- What reporting a run says.
-use Rattle.std.specs.Prelude.{◌≡◌, ◌++◌, ℕ, suc, List, [], Option, Some, Result, Ok, Err, length}
+use Rattle.std.specs.Prelude.{◌≡◌, ◌++◌, ℕ, suc, List, [], Option, Some, Result, Ok, Err, IsSome, length}
 use Rattle.outer_world.specs.Faults.{Rose}
 use Rattle.outer_world.specs.Written.{Got, GotPart, Puts}
 use Rattle.outer_world.specs.declared.point.Point.{Point}
@@ -114,6 +114,11 @@ pub record IsAtStart (core : Core) (g : GateMachine) : Type 0 where
   pub image : IsImageOf core (gates_image g)
   pub moves : g.moves ≡ 0
   pub stands : GatesFollowed g []
+
+-- The same, and its netlist is not simplified: its parts can be shown.
+pub record IsWholeAtStart (core : Core) (g : GateMachine) : Type 0 where
+  pub start : IsAtStart core g
+  pub parts : IsSome g.wiring.parts
 
 -- what is read of it
 abbrev pub gates_reading : GateMachine → Reading Point

@@ -22,6 +22,6 @@ pub fn answer_build<F: Shelf, O: Sink>(
     ensures kept { F.files shelf.new ≡ F.files shelf.old }
     ensures stays { F.there shelf.new ≡ F.there shelf.old }
 {
-    let program = load_built(alloc, source.folder, shelf)?;
+    let program = load_built(alloc, source, shelf)?;
     finished(write_hack(program.image.words.as_slice(), out))
 }

@@ -21,18 +21,18 @@ use std::alloc::Global;
 use tower::compile_classes;
 use vm_tree::{Program, print_files};
 
-// The VM files of the program that the classes of a folder mean.
-fn compiled(alloc: Global, folder: &str, classes: &[Class]) -> Result<Program, LoadError>
+// The VM files of the program that the classes of a source mean.
+fn compiled(alloc: Global, source: &Source<'_>, classes: &[Class]) -> Result<Program, LoadError>
     requires few { length classes.now ≤ 256 }
     requires spelled { AreSpelled classes.now }
-    ensures makes { Loads (λ (files : List File). AreCompiled classes.now files) (IsMeaningless folder.now (map the_file classes.now)) ⊥ result }
+    ensures makes { Loads (λ (files : List File). AreCompiled source.now.replace classes.now files) (IsMeaningless (source_of source.now) (map the_file classes.now)) ⊥ result }
     ensures named { IfOk result (AreNamed classes.now) }
 {
     // The first fault of names is the first by its place.
     first_law();
-    match compile_classes(alloc, classes) {
+    match compile_classes(alloc, classes, source.replace) {
         Ok(files) => Ok(files),
-        Err(error) => Err(not_meant(alloc, folder, error)),
+        Err(error) => Err(not_meant(alloc, source.folder, error)),
     }
 }
 
@@ -49,6 +49,6 @@ pub fn answer_compile<F: Shelf, O: Sink>(
     ensures stays { F.there shelf.new ≡ F.there shelf.old }
 {
     let classes = load_folder(alloc, &JackLanguage, source.folder, ENDING, shelf)?;
-    let files = compiled(alloc, source.folder, &classes)?;
+    let files = compiled(alloc, source, &classes)?;
     finished(print_files(&files.as_slice()[..classes.len()], out))
 }

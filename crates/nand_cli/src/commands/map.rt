@@ -1,13 +1,15 @@
-//! The command `map`: the map of the image of a folder's program.
+//! The command `map`: the map of the image of a folder's program, in either form.
 ghost use Rattle.std.specs.Prelude.{◌≡◌, List, ℕ, IfOk, Option, map};
 ghost use Rattle.command_line.specs.Line.{map_image, of_classes, source_of};
+ghost use Rattle.command_line.specs.declared.request.MapFormat.TheVariants.{Places, Points};
 ghost use Rattle.nand_cli.specs.Inner.Parts.{Counts, Does};
 
 use crate::failure::{Failure, finished};
-use crate::jack::load_built;
-use command_line::Source;
+use crate::jack::{load_built, load_places};
+use command_line::{MapFormat, Source};
 use image_map::show_map;
 use jack_core::Subroutine;
+use jack_debug::print_map;
 use outer_world::{Shelf, Sink};
 use std::alloc::{AllocError, Global};
 
@@ -22,19 +24,54 @@ fn names<'a>(alloc: Global, subroutines: &'a [Subroutine]) -> Result<Vec<&'a str
     Ok(names)
 }
 
-/// Does a line of `map`; err is left as it is.
-pub fn answer_map<F: Shelf, O: Sink>(
+// Does a line of `map` in the first form.
+fn answer_points<F: Shelf, O: Sink>(
     alloc: Global,
     source: &Source<'_>,
     shelf: &mut F,
     out: &mut O,
 ) -> Result<(), Failure>
-    ensures does { (err : Option (List ℕ)) → Does (F.files shelf.old) (F.there shelf.old) (F.unfailing shelf.old) (of_classes (source_of source.now) map_image) (O.written out.old) (O.written out.new) err err result }
+    ensures does { (err : Option (List ℕ)) → Does (F.files shelf.old) (F.there shelf.old) (F.unfailing shelf.old) (of_classes (source_of source.now) (map_image Points)) (O.written out.old) (O.written out.new) err err result }
     ensures counts { (err : ℕ) → Counts (F.faults shelf.old) (F.faults shelf.new) (O.faults out.old) (O.faults out.new) err err result }
     ensures kept { F.files shelf.new ≡ F.files shelf.old }
     ensures stays { F.there shelf.new ≡ F.there shelf.old }
 {
-    let program = load_built(alloc, source.folder, shelf)?;
+    let program = load_built(alloc, source, shelf)?;
     let names = names(alloc, &program.core.subroutines)?;
     finished(show_map(&names, &program.image.map, out))
+}
+
+// Does a line of `map` in the second form.
+fn answer_places<F: Shelf, O: Sink>(
+    alloc: Global,
+    source: &Source<'_>,
+    shelf: &mut F,
+    out: &mut O,
+) -> Result<(), Failure>
+    ensures does { (err : Option (List ℕ)) → Does (F.files shelf.old) (F.there shelf.old) (F.unfailing shelf.old) (of_classes (source_of source.now) (map_image Places)) (O.written out.old) (O.written out.new) err err result }
+    ensures counts { (err : ℕ) → Counts (F.faults shelf.old) (F.faults shelf.new) (O.faults out.old) (O.faults out.new) err err result }
+    ensures kept { F.files shelf.new ≡ F.files shelf.old }
+    ensures stays { F.there shelf.new ≡ F.there shelf.old }
+{
+    let places = load_places(alloc, source, shelf)?;
+    finished(print_map(&places, out))
+}
+
+/// Does a line of `map`; err is left as it is.
+pub fn answer_map<F: Shelf, O: Sink>(
+    alloc: Global,
+    source: &Source<'_>,
+    format: MapFormat,
+    shelf: &mut F,
+    out: &mut O,
+) -> Result<(), Failure>
+    ensures does { (err : Option (List ℕ)) → Does (F.files shelf.old) (F.there shelf.old) (F.unfailing shelf.old) (of_classes (source_of source.now) (map_image format)) (O.written out.old) (O.written out.new) err err result }
+    ensures counts { (err : ℕ) → Counts (F.faults shelf.old) (F.faults shelf.new) (O.faults out.old) (O.faults out.new) err err result }
+    ensures kept { F.files shelf.new ≡ F.files shelf.old }
+    ensures stays { F.there shelf.new ≡ F.there shelf.old }
+{
+    match format {
+        MapFormat::Points => answer_points(alloc, source, shelf, out),
+        MapFormat::Places => answer_places(alloc, source, shelf, out),
+    }
 }

@@ -12,7 +12,7 @@ ghost use Rattle.nand_cli.specs.Inner.Reports.{CountsReport, IsPut, Reports};
 
 use crate::failure::Failure;
 use crate::jack::{image_of, load_jack};
-use crate::levels::gates::report_gates;
+use crate::levels::gates::{report_gates, report_words};
 use crate::levels::hack::report_hack;
 use crate::levels::jack::report_jack;
 use crate::levels::vm::report_vm;
@@ -60,9 +60,9 @@ pub fn prepare_run<F: Shelf>(
     request: &Run<'_>,
     shelf: &mut F,
 ) -> Result<PreparedRun, LoadError>
-    ensures loads { Loads (IsPrepared (F.files shelf.old) source.now.folder.now request.now.level
+    ensures loads { Loads (IsPrepared (F.files shelf.old) (source_of source.now) request.now.level
         request.now.cycles (option_map (λ keys. keys.now) request.now.keys))
-        (RunRefuses (F.files shelf.old) source.now.folder.now
+        (RunRefuses (F.files shelf.old) (source_of source.now)
         (option_map (λ keys. keys.now) request.now.keys))
         (F.unfailing shelf.old → IfSome (F.files shelf.old)
         (λ told. Lacks (F.there shelf.old) told
@@ -72,7 +72,7 @@ pub fn prepare_run<F: Shelf>(
     ensures kept { F.files shelf.new ≡ F.files shelf.old }
     ensures stays { F.there shelf.new ≡ F.there shelf.old }
 {
-    let core = load_jack(alloc, source.folder, shelf)?;
+    let core = load_jack(alloc, source, shelf)?;
     let image = image_of(alloc, source.folder, &core)?;
     let keys = load_keys(alloc, request.keys, shelf)?;
     let machine = machine_at_start(alloc, &core, image, request.level)?;
@@ -105,6 +105,9 @@ impl PreparedRun {
             Machine::Vm(mut vm, show) => report_vm(&mut vm, &core, &keys, cycles, show, out),
             Machine::Hack(mut hack, show) => {
                 report_hack(&mut hack, &core, &keys, cycles, show, out)
+            }
+            Machine::Simplified(mut computer, show) => {
+                report_words(&mut computer, &core, &keys, cycles, show, out)
             }
             Machine::Gates(mut computer, shown) => {
                 report_gates(&mut computer, &core, &keys, cycles, shown, out)

@@ -1,5 +1,5 @@
 //! Level gates: the computer made of gates with the image of a program.
-ghost use Rattle.std.specs.Prelude.{◌≡◌, ℕ, [], IfOk};
+ghost use Rattle.std.specs.Prelude.{◌≡◌, ℕ, [], IfOk, IsSome};
 ghost use Rattle.jack_core.specs.Texts.{names_of};
 ghost use Rattle.jack_compiler.specs.Resolved.{IsResolvedCore};
 ghost use Rattle.key_script.specs.Codes.{code_at};
@@ -9,7 +9,7 @@ ghost use Rattle.simulation.specs.System.{IsKey};
 ghost use Rattle.image_map.specs.Map.{IsMapped};
 ghost use Rattle.tower.specs.Image.{IsImageOf};
 ghost use Rattle.nand_cli.specs.Commands.Gates.{IsGatesReport};
-ghost use Rattle.nand_cli.specs.Inner.Reports.{CountsReport, IsAtStart, IsPut, PutsNets, Reports, gates_head};
+ghost use Rattle.nand_cli.specs.Inner.Reports.{CountsReport, IsAtStart, IsPut, IsWholeAtStart, PutsNets, Reports, gates_head};
 
 use crate::failure::{Failure, finished};
 use crate::report::{head_of, report};
@@ -26,13 +26,22 @@ use std::alloc::{AllocError, Global};
 pub fn gates_at_start(alloc: Global, core: &Core, image: Image) -> Result<GateComputer, AllocError>
     requires image { IsImageOf core.now image }
     requires mapped { IsMapped image }
-    ensures { IfOk result (IsAtStart core.now) }
+    ensures { IfOk result (IsWholeAtStart core.now) }
 {
-    prepare_gates(alloc, image)
+    prepare_gates(alloc, image, false)
 }
 
-// The report with words of the memory.
-fn report_words<O: Sink>(
+/// The same with its netlist simplified.
+pub fn simple_at_start(alloc: Global, core: &Core, image: Image) -> Result<GateComputer, AllocError>
+    requires image { IsImageOf core.now image }
+    requires mapped { IsMapped image }
+    ensures { IfOk result (IsAtStart core.now) }
+{
+    prepare_gates(alloc, image, true)
+}
+
+/// Moves the computer from its start, simplified or not, and puts its report with words of the memory. It wants no memory.
+pub fn report_words<O: Sink>(
     computer: &mut GateComputer,
     core: &Core,
     keys: &Keys,
@@ -60,7 +69,8 @@ fn put_nets<O: Sink>(
     key: u16,
     out: &mut Pieces<'_, O>,
 ) -> Put
-    requires { pending out.old ≡ [] }
+    requires whole { IsSome computer.old.wiring.parts }
+    requires empty { pending out.old ≡ [] }
     ensures same_sink { HaveSameSink out.old out.new }
     ensures put { PutsNets computer.old key (gates_head computer.old (names_of core.now) end)
         (O.written (sink_of out.old)) (O.written (sink_of out.new)) result }
@@ -84,6 +94,7 @@ fn show_nets<O: Sink>(
     key: u16,
     out: &mut O,
 ) -> Put
+    requires { IsSome computer.old.wiring.parts }
     ensures put { PutsNets computer.old key (gates_head computer.old (names_of core.now) end)
         (O.written out.old) (O.written out.new) result }
     ensures counts { CountsPut (O.faults out.old) (O.faults out.new) result }
@@ -102,7 +113,7 @@ fn report_nets<O: Sink>(
 ) -> Result<(), Failure>
     requires resolved { IsResolvedCore core.now }
     requires words { (c : ℕ) → IsKey (code_at keys.now c) }
-    requires start { IsAtStart core.now computer.old }
+    requires start { IsWholeAtStart core.now computer.old }
     ensures reports { Reports (IsGatesReport core.now (code_at keys.now) cycles Shown.Nets)
         (O.written out.old) (O.written out.new) result }
     ensures counts { CountsReport (O.faults out.old) (O.faults out.new) result }
@@ -114,7 +125,7 @@ fn report_nets<O: Sink>(
     finished(show_nets(computer, core, end, key, out))
 }
 
-/// Moves the computer from its start, and puts its report. It wants no memory.
+/// Moves the computer from its start, which is not simplified, and puts its report. It wants no memory.
 pub fn report_gates<O: Sink>(
     computer: &mut GateComputer,
     core: &Core,
@@ -125,7 +136,7 @@ pub fn report_gates<O: Sink>(
 ) -> Result<(), Failure>
     requires resolved { IsResolvedCore core.now }
     requires words { (c : ℕ) → IsKey (code_at keys.now c) }
-    requires start { IsAtStart core.now computer.old }
+    requires start { IsWholeAtStart core.now computer.old }
     ensures reports { Reports (IsGatesReport core.now (code_at keys.now) cycles shown)
         (O.written out.old) (O.written out.new) result }
     ensures counts { CountsReport (O.faults out.old) (O.faults out.new) result }

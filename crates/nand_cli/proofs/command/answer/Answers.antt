@@ -29,3 +29,9 @@ returns-in-Test-clause-does g c = rw c.in-Test.is c.answer_test.ensures.does
 
 pub returns-in-Test-clause-counts : goal.returns-in-Test-clause-counts
 returns-in-Test-clause-counts g c = c.answer_test.ensures.counts
+
+pub returns-in-Soak-clause-does : goal.returns-in-Soak-clause-does
+returns-in-Soak-clause-does g c = rw c.in-Soak.is (c.answer_soak.ensures.does (g.E.Sink.written c.args.err.now))
+
+pub returns-in-Soak-clause-counts : goal.returns-in-Soak-clause-counts
+returns-in-Soak-clause-counts g c = c.answer_soak.ensures.counts (g.E.Sink.faults c.args.err.now)

@@ -1,5 +1,6 @@
+use Rattle.command_line.specs.Line.{source_of}
 use Rattle.nand_cli.proofs.Means.{not_meant}
 use Rattle.nand_cli.proofs.jack.program_of.Goals as goal
 
 pub returns-in-Err-clause-makes : goal.returns-in-Err-clause-makes
-returns-in-Err-clause-makes c = not_meant c.first_law.ensures c.args.folder.now c.args.classes.now c.in-Err.error c.not_meant.result c.requires.spelled c.in-Err.ensures.program c.not_meant.ensures
+returns-in-Err-clause-makes c = not_meant c.first_law.ensures (source_of c.args.source.now) c.args.classes.now c.in-Err.error c.not_meant.result c.requires.spelled c.in-Err.ensures.program c.not_meant.ensures

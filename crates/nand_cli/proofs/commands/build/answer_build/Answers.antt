@@ -14,9 +14,10 @@ returns-in_err-program-clause-does g c = λ err.
     let p = err_from_is_err_and c.from_residual.result c.from_residual.ensures.1 in
     let files = g.F.Shelf.files c.args.shelf.now in
     let folder = c.args.source.now.folder.now in
+    let source = source_of c.args.source.now in
     let there = g.F.Shelf.there c.args.shelf.now in
     let steady = g.F.Shelf.unfailing c.args.shelf.now in
-    rw (p.1, p.2) (nothing_put (λ (b : BuiltProgram). FolderBuilds files folder b.core b.image) (BuildRefuses files folder) (steady → LacksFolder files there folder) files there steady (of_classes (source_of c.args.source.now) build) (g.O.Sink.written c.args.out.now) err _
+    rw (p.1, p.2) (nothing_put (λ (b : BuiltProgram). FolderBuilds files source b.core b.image) (BuildRefuses files source) (steady → LacksFolder files there folder) files there steady (of_classes (source_of c.args.source.now) build) (g.O.Sink.written c.args.out.now) err _
     (λ line k. (refl, k, refl)) (λ k s. missing files there folder (of_classes (source_of c.args.source.now) build) (λ told none. inl none) (k s)) c.in_err-program.ensures.loads tt)
 
 pub returns-in_err-program-clause-counts : goal.returns-in_err-program-clause-counts

@@ -47,14 +47,14 @@ returns-in_err-files-clause-does g c = λ err.
     let folder = c.args.source.now.folder.now in
     let P : List Class → Type 0 = λ classes. HasTrees files folder classes in
     let classes = c.deref.result.now in
-    rw (p.1, p.2) (nothing_put (λ (compiled : List File). AreCompiled classes compiled) (IsMeaningless folder (map the_file classes)) ⊥ files (g.F.Shelf.there c.args.shelf.now) (g.F.Shelf.unfailing c.args.shelf.now) (of_classes (source_of c.args.source.now) compile) (g.O.Sink.written c.args.out.now) err _
+    rw (p.1, p.2) (nothing_put (λ (compiled : List File). AreCompiled c.args.source.now.replace classes compiled) (IsMeaningless (source_of c.args.source.now) (map the_file classes)) ⊥ files (g.F.Shelf.there c.args.shelf.now) (g.F.Shelf.unfailing c.args.shelf.now) (of_classes (source_of c.args.source.now) compile) (g.O.Sink.written c.args.out.now) err _
     (λ line k. (refl, meaningless (map the_file classes) (seen_classes files folder classes (subst P (sym c.deref.ensures.value) c.in_ok-classes.ensures.loads)) k, refl)) (λ h. absurd h) c.in_err-files.ensures.makes tt)
 
 pub returns-in_err-files-clause-counts : goal.returns-in_err-files-clause-counts
 returns-in_err-files-clause-counts g c = λ err.
     let p = err_from_is_err_and c.from_residual-in_err-files.result c.from_residual-in_err-files.ensures.1 in
     let classes = c.deref.result.now in
-    rw (p.1, p.2) (unmade_counts (λ (compiled : List File). AreCompiled classes compiled) (IsMeaningless c.args.source.now.folder.now (map the_file classes)) _ _ _ _ err c.in_err-files.ensures.makes c.in_ok-classes.ensures.counts)
+    rw (p.1, p.2) (unmade_counts (λ (compiled : List File). AreCompiled c.args.source.now.replace classes compiled) (IsMeaningless (source_of c.args.source.now) (map the_file classes)) _ _ _ _ err c.in_err-files.ensures.makes c.in_ok-classes.ensures.counts)
 
 pub returns-clause-does : goal.returns-clause-does
 returns-clause-does g c = λ err.
@@ -66,4 +66,4 @@ returns-clause-does g c = λ err.
     let text : files_text (take c.len.result c.as_slice.result.now) ≡ files_text (take (length classes) c.in_ok-files.files) =
     ap (λ (n : ℕ). files_text (take n c.as_slice.result.now)) as_many ∙ ap (λ (compiled : List File). files_text (take (length classes) compiled)) c.as_slice.ensures in
     rw (c.finished.ensures) (done_by files (g.F.Shelf.there c.args.shelf.now) (g.F.Shelf.unfailing c.args.shelf.now) (of_classes (source_of c.args.source.now) compile) (files_text (take c.len.result c.as_slice.result.now)) _ _ err c.print_files.result
-    (subst (λ (t : List ℕ). CompilePrints files folder t) (sym text) (compiled_prints files folder classes c.in_ok-files.files (subst P (sym c.deref.ensures.value) c.in_ok-classes.ensures.loads) c.in_ok-files.ensures.makes), refl) c.print_files.ensures.put tt)
+    (subst (λ (t : List ℕ). CompilePrints files (source_of c.args.source.now) t) (sym text) (compiled_prints files (source_of c.args.source.now) classes c.in_ok-files.files (subst P (sym c.deref.ensures.value) c.in_ok-classes.ensures.loads) c.in_ok-files.ensures.makes), refl) c.print_files.ensures.put tt)

@@ -14,7 +14,7 @@ returns-in-Failed-clause-put g c turns followed keys words holds now =
       wires = wires;
       behaves = behaves;
       shows = shows;
-      puts = put_failed _ _ _ _ _ c.requires (two_cut _ _ _ _ head rest (handed_as _ _ _ _ _ _ _ c.head_of.ensures c.in-Failed.ensures.passes));
+      puts = put_failed _ _ _ _ _ c.requires.empty (two_cut _ _ _ _ head rest (handed_as _ _ _ _ _ _ _ c.head_of.ensures c.in-Failed.ensures.passes));
     }
 
 pub returns-in-Done-put_nets-clause-put : goal.returns-in-Done-put_nets-clause-put
@@ -26,7 +26,7 @@ returns-in-Done-put_nets-clause-put g c turns followed keys words holds now =
       wires = parts.wires;
       behaves = parts.behaves;
       shows = parts.shows;
-      puts = put_finished _ _ _ _ _ _ _ c.requires
+      puts = put_finished _ _ _ _ _ _ _ c.requires.empty
           (handed_more _ _ _ _ _ _ head parts.text _ _ refl (handed_as _ _ _ _ _ _ _ c.head_of.ensures c.in-Done.ensures.passes) parts.passes) c.finish.ensures.put;
     }
 
@@ -39,6 +39,6 @@ returns-in-Failed-put_nets-clause-put g c turns followed keys words holds now =
       wires = parts.wires;
       behaves = parts.behaves;
       shows = parts.shows;
-      puts = put_failed _ _ _ _ _ c.requires
+      puts = put_failed _ _ _ _ _ c.requires.empty
           (handed_more _ _ _ _ _ _ head parts.text _ _ refl (handed_as _ _ _ _ _ _ _ c.head_of.ensures c.in-Done.ensures.passes) parts.passes);
     }

@@ -1,20 +1,19 @@
 -- What is seen of one program at the four levels, where no key is ever held, and whether it is the same. (The book, chapters 4, 5 and 7 to 11.)
-use Rattle.std.specs.Prelude.{◌≡◌, ◌≤◌, ℕ, zero, suc, true, List, Option, Some, option_and_then}
+use Rattle.std.specs.Prelude.{◌≡◌, ◌≤◌, ℕ, suc, true, List, Option, Some}
 use Rattle.outer_world.specs.declared.point.Point.{Point}
 use Rattle.simulation.specs.System.{System, IsData}
 use Rattle.simulation.specs.Trace.{Trace, steps, point_at}
 use Rattle.jack_meaning.specs.Meaning.{State, start}
-use Rattle.jack_meaning.specs.Level.{meaning_of}
 use Rattle.jack_core.specs.declared.program.Core.{Core}
 use Rattle.jack_core.specs.Texts.{the_program}
 use Rattle.vm_link.specs.declared.linked.Linked.{Linked}
 use Rattle.hdl_tree.specs.Behaviour.{Histories}
 use Rattle.hack_cpu.specs.Computer.{word_at}
 use Rattle.image_map.specs.declared.map.Image.{Image}
-use Rattle.image_map.specs.Map.{the_map}
-use Rattle.image_map.specs.Computer.{run_trace, run_word}
+use Rattle.image_map.specs.Computer.{run_word}
 use Rattle.tower.specs.VmRun.{IsVmCodeOf, MakesMoves, vm_trace, vm_word}
-use Rattle.gate_computer.specs.Computer.{trace_shown}
+use Rattle.nand_cli.specs.Commands.Gates.{gates_trace, meaning_in}
+use Rattle.nand_cli.specs.Commands.Run.{state_after, trace_in}
 
 -- no key is held
 abbrev pub no_keys : ℕ → ℕ
@@ -32,24 +31,20 @@ pub record AreAlike (v w : View) : Type 0 where
 
 -- ---- gates and hack, at cycle n
 
-abbrev pub gates_trace : Image → (List ℕ → Histories) → Trace
-gates_trace image wires = trace_shown image.words (the_map image.map) no_keys wires
+abbrev pub silent_trace : Image → (List ℕ → Histories) → Trace
+silent_trace image wires = gates_trace image no_keys wires
 
 abbrev pub gates_view : Image → ℕ → (List ℕ → Histories) → View
-gates_view image n wires = record { word = word_at wires n; point = point_at (gates_trace image wires) n }
+gates_view image n wires = record { word = word_at wires n; point = point_at (silent_trace image wires) n }
 
 abbrev pub hack_view : Image → ℕ → View
-hack_view image n = record { word = run_word image.words no_keys n; point = point_at (run_trace image.words (the_map image.map) no_keys) n }
+hack_view image n = record { word = run_word image.words no_keys n; point = point_at (trace_in image no_keys) n }
 
 -- ---- jack, after m steps
 
 -- the state after m steps; none where one of them is missing
 abbrev pub after_steps : {S : Type 0} → System S → S → ℕ → Option S
-after_steps system first zero = Some first
-after_steps system first (suc m) = option_and_then (system.step 0) (after_steps system first m)
-
-abbrev pub meaning_in : Core → System State
-meaning_in core = meaning_of (the_program core).subroutines
+after_steps system first m = state_after system no_keys first m
 
 pub record IsAtJack (core : Core) (m : ℕ) (v : View) : Type 0 where
   pub state : State
@@ -75,8 +70,12 @@ pub record IsAtVm (core : Core) (bound m : ℕ) (v : View) : Type 0 where
 
 -- ---- all four
 
+-- What is seen at level gates is what the three other levels show: hack at cycle n, jack after m steps, and vm after its m-th commit.
+pub record AreLevelsAlike (core : Core) (image : Image) (n bound m : ℕ) (v : View) : Type 0 where
+  pub at_hack : AreAlike v (hack_view image n)
+  pub at_jack : IsAtJack core m v
+  pub at_vm : IsAtVm core bound m v
+
 -- What this behaviour of the Computer shows at cycle n is what the other levels show, after as many steps as were counted.
-pub record Agree (core : Core) (image : Image) (n bound : ℕ) (wires : List ℕ → Histories) : Type 0 where
-  pub at_hack : AreAlike (gates_view image n wires) (hack_view image n)
-  pub at_jack : IsAtJack core (steps (gates_trace image wires) n) (gates_view image n wires)
-  pub at_vm : IsAtVm core bound (steps (gates_trace image wires) n) (gates_view image n wires)
+abbrev pub Agree : Core → Image → ℕ → ℕ → (List ℕ → Histories) → Type 0
+Agree core image n bound wires = AreLevelsAlike core image n bound (steps (silent_trace image wires) n) (gates_view image n wires)

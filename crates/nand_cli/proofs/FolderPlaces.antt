@@ -1,0 +1,101 @@
+-- The places of a folder's classes, or why they have none.
+use Rattle.std.proofs.Common.{◌≡◌, ◌<◌, ◌≤◌, ◌+◌, ◌^◌, inl, inr, ℕ, suc, Bool, List, [], ◌∷◌, Vec, Global, Option, Result, Ok, Err, codes, length, map, refl, ap, subst, arith}
+use Rattle.outer_world.specs.Files.{Files, LacksFolder}
+use Rattle.source_files.specs.Loads.{CountsLoad, Loads}
+use Rattle.source_files.specs.Sources.{IsUnread}
+use Rattle.source_files.specs.declared.error.LoadError.{LoadError}
+use Rattle.source_files.specs.declared.error.LoadError.TheVariants as errors
+use Rattle.source_files.proofs.Told.{without}
+use Rattle.jack_tree.specs.declared.tree.Class.{Class}
+use Rattle.jack_tree.specs.Syntax.{ClassFile}
+use Rattle.jack_tree.specs.Seen.{the_file}
+use Rattle.jack_os.specs.System.{AreClassesOf, SpellsClass, Texts}
+use Rattle.jack_os.proofs.SystemTexts.{one_list, seen_files}
+use Rattle.jack_core.specs.declared.program.Core.{Core}
+use Rattle.jack_debug.specs.declared.places.Places.{Places}
+use Rattle.image_map.specs.declared.map.Image.{Image}
+use Rattle.jack_compiler.specs.Resolved.{IsResolvedCore}
+use Rattle.vm_debug.specs.Program.{ArePlacesOfClasses}
+use Rattle.vm_debug.proofs.CorePlaces.{core_places}
+use Rattle.tower.specs.Image.{IsImageOf}
+use Rattle.tower.specs.Program.{IsProgramOf, Means}
+use Rattle.tower.specs.Sources.{system_beside}
+use Rattle.tower.proofs.Beside.{few_beside}
+use Rattle.command_line.specs.Line.{Source}
+use Rattle.jack_parser.specs.Language.{RefusesClass}
+use Rattle.nand_cli.specs.Commands.Build.{BuildRefuses, unbuilt, without_program}
+use Rattle.nand_cli.specs.Commands.Map.{FolderHasPlaces, HavePlaces}
+use Rattle.nand_cli.specs.Inner.Placed.{AreRefused}
+use Rattle.nand_cli.specs.JackFolder.{BuildIsRefused, IsMeaningless, meaningless, unread}
+use Rattle.nand_cli.proofs.Spelling.{HasTrees, seen_classes, seen_unread}
+
+-- ---- the operating system has few classes
+
+as_many : (fs : Texts) (cs : List Class) → AreClassesOf fs cs → length cs ≡ length fs
+as_many [] [] h = refl
+as_many (f ∷ fs) (c ∷ cs) h = ap suc (as_many fs cs h.1)
+as_many [] (c ∷ cs) h = absurd h
+as_many (f ∷ fs) [] h = absurd h
+
+pub few_all : (replace : Bool) (own os : List Class) → length own ≤ 256 → AreClassesOf (system_beside replace (map the_file own)) os → length own + length os < 2 ^ 32
+few_all replace own os few are =
+    let size = as_many (system_beside replace (map the_file own)) os are in omega (arith, few, size, few_beside replace (map the_file own))
+
+-- ---- the places
+
+pub have_places : (replace : Bool) (own os : List Class) (core : Core) (image : Image) (places : Places) → Means replace own (Ok core) → IsResolvedCore core
+    → AreClassesOf (system_beside replace (map the_file own)) os → IsImageOf core image → ArePlacesOfClasses own os core image.map places → HavePlaces replace own places
+have_places replace own os core image places (others, are_others, is) resolved are built placed =
+    let system = system_beside replace (map the_file own) in
+    let same : map the_file others ≡ map the_file os = one_list system (map the_file others) (map the_file os) (seen_files system others are_others) (seen_files system os are) in
+    let program : IsProgramOf (map the_file own) (map the_file os) core = subst (λ (fs : List ClassFile). IsProgramOf (map the_file own) fs core) same is in
+    record {
+      os = os;
+      core = core;
+      image = image;
+      shipped = are;
+      program = program;
+      is_image = built;
+      are = placed;
+      meant = core_places own os core built.linked image.map places resolved program.program built.links (ap (λ (q : Image). q.map) built.is_image) placed;
+    }
+
+module _ (own : List Class) (source : Source) where
+  -- what the classes say of loading their places
+  abbrev pub LoadsPlaces : Result Places LoadError → Type 0
+  LoadsPlaces r = Loads (HavePlaces source.replace own) (AreRefused own source) ⊥ r
+
+  pub places_meaningless : (e : LoadError) → Loads (λ (core : Core). Means source.replace own (Ok core)) (IsMeaningless source (map the_file own)) ⊥ (Err e) → LoadsPlaces (Err e)
+  places_meaningless e h =
+      without (λ (core : Core). Means source.replace own (Ok core)) (IsMeaningless source (map the_file own)) ⊥ (HavePlaces source.replace own) (AreRefused own source) ⊥ e (λ line k. inl k) (λ k. k) h
+
+  pub places_unbuilt : (core : Core) (e : LoadError) → Means source.replace own (Ok core) → Loads (IsImageOf core) (BuildIsRefused core source.folder) ⊥ (Err e) → LoadsPlaces (Err e)
+  places_unbuilt core e means h =
+      without (IsImageOf core) (BuildIsRefused core source.folder) ⊥ (HavePlaces source.replace own) (AreRefused own source) ⊥ e (λ line k. inr (core, means, k)) (λ k. k) h
+
+-- ---- of a folder
+
+module _ (files : Option Files) (source : Source) (there : List ℕ → Bool) (steady : Type 0) where
+  abbrev pub LoadsFolder : Result Places LoadError → Type 0
+  LoadsFolder r = Loads (FolderHasPlaces files source) (BuildRefuses files source) (steady → LacksFolder files there source.folder) r
+
+  pub without_trees : (e : LoadError) → Loads (λ (classes : Vec Class Global). HasTrees files source.folder classes.items) (IsUnread SpellsClass RefusesClass (codes ".jack") files source.folder) (steady → LacksFolder files there source.folder) (Err e) → LoadsFolder (Err e)
+  without_trees e h =
+      without (λ (classes : Vec Class Global). HasTrees files source.folder classes.items) (IsUnread SpellsClass RefusesClass (codes ".jack") files source.folder) (steady → LacksFolder files there source.folder)
+      (FolderHasPlaces files source) (BuildRefuses files source) (steady → LacksFolder files there source.folder) e (λ line k. without_program (unread (seen_unread files source.folder line k))) (λ k. k) h
+
+  refused : (own : List Class) (line : List ℕ) → HasTrees files source.folder own → AreRefused own source line → BuildRefuses files source line
+  refused own line has (inl k) = without_program (meaningless (map the_file own) (seen_classes files source.folder own has) k)
+  refused own line has (inr (core, means, k)) = unbuilt core (own, seen_classes files source.folder own has, means) k
+
+  pub folder_placed : (own : List Class) (r : Result Places LoadError) → HasTrees files source.folder own → LoadsPlaces own source r → LoadsFolder r
+  folder_placed own (Ok places) has h = (own, seen_classes files source.folder own has, h)
+  folder_placed own (Err (errors.Refused r)) has h = refused own _ has h
+  folder_placed own (Err errors.Failed) has h = absurd h
+  folder_placed own (Err errors.Memory) has h = tt
+
+pub places_counts : (own : List Class) (source : Source) (r : Result Places LoadError) (shelf shelf' : ℕ) → LoadsPlaces own source r → shelf' ≡ shelf → CountsLoad shelf shelf' r
+places_counts own source (Ok places) shelf shelf' h same = same
+places_counts own source (Err (errors.Refused r)) shelf shelf' h same = same
+places_counts own source (Err errors.Failed) shelf shelf' h same = absurd h
+places_counts own source (Err errors.Memory) shelf shelf' h same = same
