@@ -15,19 +15,22 @@ _nand() {
     [ "$before" = "=" ] && before=${COMP_WORDS[COMP_CWORD - 2]}
     COMPREPLY=()
     if [ "$COMP_CWORD" -eq 1 ]; then
-        mapfile -t COMPREPLY < <(compgen -W "asm exec vm run compile build map chip test show" -- "$word")
+        mapfile -t COMPREPLY < <(compgen -W "asm exec vm run compile build map chip test show soak" -- "$word")
         return
     fi
     case $before in
     --level) words="jack vm hack gates" ;;
     --show) words="none heap screen nets" ;;
+    --format) words="1 2" ;;
     --cycles | --from | --to) return ;;
     esac
     if [ -z "$words" ] && [[ $word == -* ]]; then
         case $command in
         exec) words="--cycles --from --to" ;;
-        run) words="--level --cycles --keys --show" ;;
+        run) words="--level --cycles --keys --show --replace --simplify" ;;
         vm) words="--bare" ;;
+        map) words="--format --replace" ;;
+        compile | build) words="--replace" ;;
         test) words="--gates" ;;
         esac
         [ -z "$words" ] && return

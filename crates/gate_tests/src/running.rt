@@ -1,6 +1,6 @@
 //! Images on the Computer made of gates.
 
-ghost use Rattle.std.specs.Prelude.{◌≡◌, ◌<◌, ◌≤◌, IfOk, length};
+ghost use Rattle.std.specs.Prelude.{◌≡◌, ◌<◌, ◌≤◌, false, IfOk, IsSome, length};
 
 use gate_computer::{GateComputer, build_computer, prepare_gates};
 use image_map::{Image, ImageMap, PointRange};
@@ -8,11 +8,12 @@ use outer_world::{List, MemorySink, Pieces, Point, Put};
 use std::alloc::{AllocError, Global};
 use std::test::*;
 
-// The computer at its start with an image, of which each address has one point.
-fn computer_of(alloc: Global, words: &[u16]) -> Result<GateComputer, AllocError>
+// The computer at its start with an image, of which each address has one point; simplified or not.
+fn computer_of(alloc: Global, words: &[u16], simplify: bool) -> Result<GateComputer, AllocError>
     requires some { 0 < length words.now }
     requires few { length words.now ≤ 100 }
-    ensures { IfOk result (λ computer. computer.moves ≡ 0) }
+    ensures moves { IfOk result (λ computer. computer.moves ≡ 0) }
+    ensures parts { IfOk result (λ computer. simplify ≡ false → IsSome computer.wiring.parts) }
 {
     let mut points = List::new(alloc);
     points.push(PointRange {
@@ -28,7 +29,7 @@ fn computer_of(alloc: Global, words: &[u16]) -> Result<GateComputer, AllocError>
         statics: List::new(alloc),
     };
     let words = List::of(Vec::from_slice(alloc, words)?);
-    prepare_gates(alloc, Image { words, map })
+    prepare_gates(alloc, Image { words, map }, simplify)
 }
 
 // One cycle for each key.
@@ -54,7 +55,7 @@ fn has_its_nodes_and_blocks(rt: HostRuntime) -> Result<(), Fail> {
 // `@21`, `D=A`, `@0`, `M=D`, `@4`, `0;JMP`.
 #[test]
 fn puts_a_word_into_main_memory(rt: HostRuntime) -> Result<(), Fail> {
-    let mut computer = computer_of(rt.alloc(), &[21, 0xEC10, 0, 0xE308, 4, 0xEA87])?;
+    let mut computer = computer_of(rt.alloc(), &[21, 0xEC10, 0, 0xE308, 4, 0xEA87], false)?;
     press(&mut computer, &[0, 0, 0]);
     assert!(rt; computer.word_at(0) == 0);
     computer.cycle(0);
@@ -63,10 +64,24 @@ fn puts_a_word_into_main_memory(rt: HostRuntime) -> Result<(), Fail> {
     Ok(())
 }
 
-// `@24576`, `D=M`, `@16384`, `M=D`, `@0`, `0;JMP`: the key of the eighth cycle stands on the screen after the tenth.
+// `@24576`, `D=M`, `@16384`, `M=D`, `@0`, `0;JMP`.
+const KEY_TO_SCREEN: &[u16] = &[24576, 0xFC10, 16384, 0xE308, 0, 0xEA87];
+
+// The key of the eighth cycle stands on the screen after the tenth.
 #[test]
 fn puts_a_key_on_the_screen(rt: HostRuntime) -> Result<(), Fail> {
-    let mut computer = computer_of(rt.alloc(), &[24576, 0xFC10, 16384, 0xE308, 0, 0xEA87])?;
+    let mut computer = computer_of(rt.alloc(), KEY_TO_SCREEN, false)?;
+    press(&mut computer, &[65, 66, 67, 68, 69, 70, 71, 72, 73, 74]);
+    assert!(rt; computer.word_at(16384) == 72);
+    assert!(rt; computer.word_at(0) == 0);
+    assert!(rt; computer.heard() == 2);
+    Ok(())
+}
+
+// The same on the computer whose netlist is simplified.
+#[test]
+fn puts_a_key_on_the_screen_simplified(rt: HostRuntime) -> Result<(), Fail> {
+    let mut computer = computer_of(rt.alloc(), KEY_TO_SCREEN, true)?;
     press(&mut computer, &[65, 66, 67, 68, 69, 70, 71, 72, 73, 74]);
     assert!(rt; computer.word_at(16384) == 72);
     assert!(rt; computer.word_at(0) == 0);
@@ -83,7 +98,7 @@ fn contains(text: &[u8], line: &[u8]) -> bool
 // Before the first cycle the instruction memory gives the word at address 0, and the keyboard the key.
 #[test]
 fn shows_the_outputs_of_its_parts(rt: HostRuntime) -> Result<(), Fail> {
-    let mut computer = computer_of(rt.alloc(), &[21, 0xEC10])?;
+    let mut computer = computer_of(rt.alloc(), &[21, 0xEC10], false)?;
     let mut out = MemorySink::new(rt.alloc(), 200_000, Vec::new(rt.alloc()))?;
     let mut pieces = Pieces::new(&mut out);
     assert!(rt; matches!(computer.put_nets(65, &mut pieces), Put::Done));

@@ -31,7 +31,7 @@ pub fn program_of(alloc: Global, text: &[u8]) -> Result<Core, Fail>
     ensures there { IfOk result (λ core. CallsAreThere (the_program core)) }
 {
     let own = only(alloc, "Main.jack", text)?;
-    match program_of_classes(alloc, &own) {
+    match program_of_classes(alloc, &own, false) {
         Ok(core) => Ok(core),
         Err(_) => Err(Fail::from("the class is a program")),
     }

@@ -19,7 +19,7 @@ use tower::{ProgramError, build, prepare_hack, program_of_classes};
 fn no_class_is_there_twice(rt: HostRuntime) -> Result<(), Fail> {
     let alloc = rt.alloc();
     let own = only(alloc, "Math.jack", b"class Math { }")?;
-    match program_of_classes(alloc, &own) {
+    match program_of_classes(alloc, &own, false) {
         Err(ProgramError::Name(fault)) => {
             assert!(rt; fault.kind == NameKind::ClassTwice);
             Ok(())

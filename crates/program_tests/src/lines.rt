@@ -6,8 +6,11 @@ mod failing;
 mod folders;
 mod fronts;
 mod limits;
+mod mapping;
+mod replacing;
 mod running;
 mod showing;
+mod soaking;
 mod translating;
 mod wired;
 

@@ -40,7 +40,7 @@ fn unknown_variable(rt: HostRuntime) -> Result<(), Fail> {
         rt.alloc(),
         b"class Main { function void main() { let x = 1; return; } }",
     )?;
-    match program_of_classes(rt.alloc(), &own) {
+    match program_of_classes(rt.alloc(), &own, false) {
         Err(ProgramError::Name(fault)) => {
             assert!(rt; fault.kind == NameKind::UnknownVariable);
             assert!(rt;
@@ -69,7 +69,7 @@ fn method_and_static(rt: HostRuntime) -> Result<(), Fail> {
         function void main() { var Main m; let m = 16384;
             while (n < 3) { let n = n + 1; do m.add(n); } return; } }",
     )?;
-    let core = program_of_classes(rt.alloc(), &own)
+    let core = program_of_classes(rt.alloc(), &own, false)
         .ok()
         .ok_or("the class is a program")?;
     assert!(rt; core.subroutines.len() == 63);
@@ -93,7 +93,7 @@ fn class_compiled(rt: HostRuntime) -> Result<(), Fail> {
         rt.alloc(),
         b"class Main { function void main() { } function int two() { return 2; } }",
     )?;
-    let files = compile_classes(rt.alloc(), &own)
+    let files = compile_classes(rt.alloc(), &own, false)
         .ok()
         .ok_or("the class is a program")?;
     let first = files
@@ -126,6 +126,6 @@ fn many_operators(rt: HostRuntime) -> Result<(), Fail> {
     }
     text.push_str("; return; } }")?;
     let own = only(rt.alloc(), text.as_bytes())?;
-    assert!(rt; program_of_classes(rt.alloc(), &own).is_ok());
+    assert!(rt; program_of_classes(rt.alloc(), &own, false).is_ok());
     Ok(())
 }

@@ -1,6 +1,6 @@
 //! Texts that are lines, and texts that are none. The words of a text stand apart by single spaces, and two spaces have an
 //! empty word between them.
-use command_line::{ClassWork, FileWork, Request, RunLevel, Shown, Source, SourceKind};
+use command_line::{ClassWork, FileWork, MapFormat, Request, RunLevel, Shown, Source, SourceKind};
 use machine_io::Show;
 
 // Lines of `exec`, each with its path, its cycles and its two addresses.
@@ -76,10 +76,15 @@ pub(super) const EXECS: &[(&str, &str, u32, u16, u16)] = &[
     ("exec a --cycles 1 --from 2 --to 3 --", "a", 1, 2, 3),
 ];
 
-// The folders of Jack classes, whose classes replace none of the operating system.
+// The folders of Jack classes, whose classes replace none of the operating system, and one whose classes do.
 pub(super) const PROG: Source<'static> = Source {
     folder: "prog",
     replace: false,
+};
+
+const REPLACING: Source<'static> = Source {
+    folder: "prog",
+    replace: true,
 };
 
 const DASHED: Source<'static> = Source {
@@ -160,6 +165,18 @@ pub(super) const RUNS: &[(&str, RunLevel, u32, Option<&str>)] = &[
         RunLevel::Gates(Shown::Nets),
         9,
         Some("k"),
+    ),
+    (
+        "run prog --level gates --cycles 9 --simplify",
+        RunLevel::Simplified(Show::Nothing),
+        9,
+        None,
+    ),
+    (
+        "run --simplify prog --show screen --level gates --cycles 9",
+        RunLevel::Simplified(Show::Screen),
+        9,
+        None,
     ),
 ];
 
@@ -309,11 +326,54 @@ pub(super) const LINES: &[(&str, Request<'static>)] = &[
         "map prog",
         Request::Classes {
             source: PROG,
-            work: ClassWork::Map,
+            work: ClassWork::Map(MapFormat::Places),
+        },
+    ),
+    (
+        "map prog --format 2",
+        Request::Classes {
+            source: PROG,
+            work: ClassWork::Map(MapFormat::Places),
+        },
+    ),
+    (
+        "map --format=01 prog",
+        Request::Classes {
+            source: PROG,
+            work: ClassWork::Map(MapFormat::Points),
+        },
+    ),
+    (
+        "compile prog --replace",
+        Request::Classes {
+            source: REPLACING,
+            work: ClassWork::Compile,
+        },
+    ),
+    (
+        "build --replace prog",
+        Request::Classes {
+            source: REPLACING,
+            work: ClassWork::Build,
+        },
+    ),
+    (
+        "map prog --replace --format 1",
+        Request::Classes {
+            source: REPLACING,
+            work: ClassWork::Map(MapFormat::Points),
         },
     ),
     ("chip Not", Request::Chip { name: "Not" }),
     ("chip map", Request::Chip { name: "map" }),
+    ("soak 1 0", Request::Soak { seed: 1, count: 0 }),
+    (
+        "soak 0001000000 1000",
+        Request::Soak {
+            seed: 1_000_000,
+            count: 1_000,
+        },
+    ),
 ];
 
 // Texts that are no lines.
@@ -331,8 +391,10 @@ pub(super) const NO_LINES: &[&str] = &[
     "a.asm --cycles 1 --from 2 --to 3",
     "--cycles 1 exec a --from 2 --to 3",
     "builds prog",
-    "build prog --replace",
-    "soak 1 2",
+    "build prog --replace --replace",
+    "build prog --replace=true",
+    "vm prog --replace",
+    "show a.jack --replace",
     // a path too few, too many
     "exec",
     "exec --cycles 1 --from 2 --to 3",
@@ -419,10 +481,26 @@ pub(super) const NO_LINES: &[&str] = &[
     "build a b",
     "build a --bare",
     "map",
-    "map a --format 1",
+    "map a b",
+    "map a --format",
+    "map a --format 0",
+    "map a --format 3",
+    "map a --format x",
+    "map a --format 1 --format 2",
+    "build a --format 1",
     "chip",
     "chip Not And",
     "chips Not",
+    "soak",
+    "soak 1",
+    "soak 1 2 3",
+    "soak 1001 1001",
+    "soak 1000001 0",
+    "soak 1 -1",
+    "soak +1 1",
+    "soak one 1",
+    "soak 1 2 --cycles 3",
+    "Soak 1 2",
     // other runs
     "run prog",
     "run prog --level jack",
@@ -436,6 +514,13 @@ pub(super) const NO_LINES: &[&str] = &[
     "run prog --level jack --cycles 1 --show nets",
     "run prog --level hack --cycles 1 --show nets",
     "run prog --level gates --cycles 1 --show net",
+    "run prog --level hack --cycles 1 --simplify",
+    "run prog --level jack --cycles 1 --simplify",
+    "run prog --level vm --cycles 1 --simplify",
+    "run prog --level gates --cycles 1 --simplify --show nets",
+    "run prog --level gates --cycles 1 --simplify --simplify",
+    "run prog --level gates --cycles 1 --simplify=true",
+    "build prog --simplify",
     "run prog --level  --cycles 1",
     "run prog --level jack --level jack --cycles 1",
     "run prog --level jack --cycles +1",

@@ -60,7 +60,12 @@ const CASES: &[Case<'static>] = &[
             ("prog/Main.jack", MAIN),
             ("prog/Math.jack", "class Math { }"),
         ],
-        lines: &["compile prog", "build prog", "map prog"],
+        lines: &[
+            "compile prog",
+            "build prog",
+            "map prog",
+            "map prog --format 1",
+        ],
         fails: NONE,
         status: Status::Refused,
         out: "",
@@ -95,7 +100,7 @@ fn a_program_is_built(rt: HostRuntime) -> Result<(), Fail> {
     assert_eq!(rt; image.out.bytes().len(), 6_088 * 17);
     let begun = b"0000000100000000\n1110110000010000\n0000000000000000\n1110001100001000\n";
     assert!(rt; image.out.bytes().starts_with(begun.as_slice()));
-    let map = outcome_of(alloc, files_of(alloc, FOLDER)?, "map prog", NONE)?;
+    let map = outcome_of(alloc, files_of(alloc, FOLDER)?, "map prog --format 1", NONE)?;
     assert_eq!(rt; map.status, Status::Done);
     let begun = b"map 1\npoint 0 21 start 1\npoint 21 23 start 2\npoint 23 ";
     assert!(rt; map.out.bytes().starts_with(begun.as_slice()));
@@ -108,7 +113,7 @@ fn a_program_is_built(rt: HostRuntime) -> Result<(), Fail> {
 fn an_added_return_has_a_point(rt: HostRuntime) -> Result<(), Fail> {
     let alloc = rt.alloc();
     let files = files_of(alloc, &[("prog/Main.jack", MAIN)])?;
-    let map = outcome_of(alloc, files, "map prog", NONE)?;
+    let map = outcome_of(alloc, files, "map prog --format 1", NONE)?;
     let mut points = 0u32;
     for line in map.out.bytes().split(|byte| *byte == b'\n') {
         if line.starts_with(b"point ") && line.ends_with(b" Main.main 1") {

@@ -105,10 +105,18 @@ const LEVELS: &[(&str, u32)] = &[
     ("gates", 100_000),
 ];
 
-fn each_shows(rt: &impl Abort, alloc: Global, rows: &[(&str, &[usize])]) -> Result<(), Fail> {
+// A netlist that is simplified has them too.
+const SIMPLIFIED: &[(&str, u32)] = &[("gates --simplify", 100_000)];
+
+fn each_shows(
+    rt: &impl Abort,
+    alloc: Global,
+    rows: &[(&str, &[usize])],
+    levels: &[(&str, u32)],
+) -> Result<(), Fail> {
     for (row, (body, columns)) in rows.iter().enumerate() {
         let text = class_of(alloc, body)?;
-        for (level, cycles) in LEVELS {
+        for (level, cycles) in levels {
             let files = files_of(alloc, &[("prog/Main.jack", text.as_str())])?;
             let words = format!(in alloc; "{level} --cycles {cycles}")?;
             shows(rt, alloc, row, files, &words, columns)?;
@@ -237,12 +245,17 @@ fn the_stack_gets_full(rt: HostRuntime) -> Result<(), Fail> {
 
 #[test]
 fn all_levels_have_one_screen(rt: HostRuntime) -> Result<(), Fail> {
-    each_shows(&rt, rt.alloc(), SCREENS)
+    each_shows(&rt, rt.alloc(), SCREENS, LEVELS)
 }
 
 #[test]
 fn all_levels_compute_alike(rt: HostRuntime) -> Result<(), Fail> {
-    each_shows(&rt, rt.alloc(), COMPUTED)
+    each_shows(&rt, rt.alloc(), COMPUTED, LEVELS)
+}
+
+#[test]
+fn simplified_gates_have_that_screen(rt: HostRuntime) -> Result<(), Fail> {
+    each_shows(&rt, rt.alloc(), SCREENS, SIMPLIFIED)
 }
 
 #[test]

@@ -100,6 +100,7 @@ const CALLS: &[(&str, u64, Status)] = &[
     ("compile three", 4, Status::Done),
     ("build three", 4, Status::Done),
     ("map three", 4, Status::Done),
+    ("map three --format 1", 4, Status::Done),
     ("run three --level jack --cycles 0", 4, Status::Done),
     ("run three --level vm --cycles 0", 4, Status::Done),
     // the key script too
@@ -336,6 +337,7 @@ const LONG: &[(&str, Repeated<'static>, &str)] = &[
     ),
     ("p/Main.jack", EMPTY_MAIN, "build p"),
     ("p/Main.jack", EMPTY_MAIN, "map p"),
+    ("p/Main.jack", EMPTY_MAIN, "map p --format 1"),
     (
         "p/Main.jack",
         EMPTY_MAIN,

@@ -12,7 +12,8 @@ const REPORTS: &[(&str, &str, &str)] = &[(
     "level gates\nmoves 0\nsteps 0\npoint start 1\nend bound\n",
 )];
 
-// Behind the first line the reports of a class Main with these statements are the same at the two levels of the computer.
+// Behind the first line the reports of a class Main with these statements are the same at the two levels of the computer; and with a netlist that is
+// simplified it is the same report.
 fn reports_alike(rt: &impl Abort, alloc: Global, body: &str, further: &str) -> Result<(), Fail> {
     let text = class_of(alloc, body)?;
     let files = [("prog/Main.jack", text.as_str())];
@@ -20,6 +21,8 @@ fn reports_alike(rt: &impl Abort, alloc: Global, body: &str, further: &str) -> R
     let hack = outcome_of(alloc, files_of(alloc, &files)?, &line, NONE)?;
     let line = format!(in alloc; "run prog --level gates {further}")?;
     let gates = outcome_of(alloc, files_of(alloc, &files)?, &line, NONE)?;
+    let line = format!(in alloc; "run prog --level gates --simplify {further}")?;
+    let simple = outcome_of(alloc, files_of(alloc, &files)?, &line, NONE)?;
     assert_eq!(rt; hack.status, Status::Done, "{line}");
     assert_eq!(rt; gates.status, Status::Done, "{line}");
     assert!(rt; hack.out.bytes().starts_with(b"level hack\n"), "{line}");
@@ -28,6 +31,8 @@ fn reports_alike(rt: &impl Abort, alloc: Global, body: &str, further: &str) -> R
         gates.out.bytes().get(12..) == hack.out.bytes().get(11..),
         "{line}"
     );
+    assert_eq!(rt; simple.status, Status::Done, "{line}");
+    assert!(rt; simple.out.bytes() == gates.out.bytes(), "{line}");
     Ok(())
 }
 
