@@ -1,5 +1,5 @@
 -- Words of 16 bits: numbers below 65,536. (The book, chapter 2: two's complement, and sums modulo 2^16.)
-use Rattle.std.specs.Prelude.{ℕ, ◌+◌, ◌-◌, ◌*◌, ◌/◌, ◌%◌, ◌^◌, Bool, nat_lt, nat_eq, ℤ, pos, negsuc, int_lt, if◌then◌else◌, List, [], ◌∷◌, map}
+use Rattle.std.specs.Prelude.{ℕ, ◌+◌, ◌-◌, ◌*◌, ◌/◌, ◌%◌, ◌^◌, Bool, nat_lt, nat_eq, ℤ, pos, negsuc, ◌+ℤ◌, ◌≤ℤ◌, ◌<ℤ◌, int_lt, if◌then◌else◌, List, [], ◌∷◌, map}
 use Rattle.std.specs.List.{range_with_len}
 
 -- sum, difference and negation modulo 65,536
@@ -19,6 +19,22 @@ word_not w = 65535 - w
 -- the signed reading of a word: w below 32,768, else w - 65,536
 abbrev pub signed_value : ℕ → ℤ
 signed_value w = if nat_lt w 32768 then pos w else negsuc (65535 - w)
+
+-- twice the word, modulo 65,536: each bit goes one place up
+abbrev pub word_shl : ℕ → ℕ
+word_shl w = word_add w w
+
+-- each bit goes one place down, and the top bit, the sign, stays too
+abbrev pub word_shr : ℕ → ℕ
+word_shr w = if nat_lt w 32768 then w / 2 else 32768 + w / 2
+
+-- one place to the left, or to the right
+abbrev pub word_shift : Bool → ℕ → ℕ
+word_shift left w = if left then word_shl w else word_shr w
+
+-- half of a whole number, rounded down: the greatest whole number of which twice is at most that number
+abbrev pub IsHalf : ℤ → ℤ → Type 0
+IsHalf half whole = ((half +ℤ half) ≤ℤ whole) × (whole <ℤ (half +ℤ (half +ℤ pos 2)))
 
 -- true is -1, each of its bits 1; false is 0. (Chapter 7.)
 abbrev pub truth : Bool → ℕ

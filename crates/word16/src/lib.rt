@@ -2,7 +2,7 @@
 #![tactic(auto)]
 
 ghost use Rattle.std.specs.Prelude.{◌≡◌, ◌<◌, ◌<ℤ◌, ◌↔◌, IsTrue, bit_and, bit_or};
-ghost use Rattle.word16.specs.Words.{word_add, word_sub, word_neg, word_not, signed_value, truth, word_eq, word_lt, word_gt, has_bit, bit_list, number_of};
+ghost use Rattle.word16.specs.Words.{word_add, word_sub, word_neg, word_not, word_shl, word_shr, IsHalf, signed_value, truth, word_eq, word_lt, word_gt, has_bit, bit_list, number_of};
 
 mod memory;
 
@@ -34,6 +34,23 @@ pub fn not(w: u16) -> u16
     ensures { result ≡ word_not w }
 {
     !w
+}
+
+/// Twice the word, modulo 65,536: each bit one place up.
+pub fn shl(w: u16) -> u16
+    ensures { result ≡ word_shl w }
+{
+    w.wrapping_add(w)
+}
+
+/// The word whose signed reading is half of that of `w`, rounded down: each bit one place down, the sign stays.
+#[tactic(auto, using(crate::proofs::Halves::halved))]
+pub fn shr(w: u16) -> u16
+    ensures word { result ≡ word_shr w }
+    ensures half { IsHalf (signed_value result) (signed_value w) }
+{
+    let half = w / 2;
+    if w < 32768 { half } else { 32768 + half }
 }
 
 /// The bits that both words have.
