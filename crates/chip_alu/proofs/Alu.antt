@@ -58,7 +58,7 @@ split_step : (b : Bool) (x y p q t : ℕ) → q ≡ 256 * p → t ≡ x + 256 * 
 split_step true x y p q t e h = omega arith
 split_step false x y p q t e h = omega arith
 
-number_split : (n : ℕ) (f : ℕ → Bool) (k : ℕ) → k ≡ 8 + n → number k f ≡ number 8 f + 256 * number n (λ i. f (8 + i))
+pub number_split : (n : ℕ) (f : ℕ → Bool) (k : ℕ) → k ≡ 8 + n → number k f ≡ number 8 f + 256 * number n (λ i. f (8 + i))
 number_split zero f k e = let e' : k ≡ 8 = omega arith in ap (λ x. number x f) e' ∙ omega arith
 number_split (suc n) f zero e = absurd (omega arith)
 number_split (suc n) f (suc k) e =
@@ -66,7 +66,7 @@ number_split (suc n) f (suc k) e =
     let p : 2 ^ k ≡ 256 * 2 ^ n = ap (λ x. 2 ^ x) e' ∙ pow-add 2 8 n in
     ap (λ x. number k f + cond x (2 ^ k) 0) (ap f e') ∙ split_step (f (8 + n)) (number 8 f) (number n (λ i. f (8 + i))) (2 ^ n) (2 ^ k) (number k f) p (number_split n f k e')
 
-both_zero : (x y : ℕ) → not (not (eqb x 0) || not (eqb y 0)) ≡ eqb (x + 256 * y) 0
+pub both_zero : (x y : ℕ) → not (not (eqb x 0) || not (eqb y 0)) ≡ eqb (x + 256 * y) 0
 both_zero zero zero = refl
 both_zero zero (suc y) =
     let ne : zero + 256 * suc y ≢ 0 = omega arith in
@@ -77,7 +77,7 @@ both_zero (suc x) y =
     let ne' : suc x ≢ 0 = omega arith in
     rw (ne_eqb (suc x) 0 ne', ne_eqb (suc x + 256 * y) 0 ne)
 
-top_bit : (b : Bool) (x : ℕ) → x < 32768 → b ≡ ltb 32767 (x + cond b 32768 0)
+pub top_bit : (b : Bool) (x : ℕ) → x < 32768 → b ≡ ltb 32767 (x + cond b 32768 0)
 top_bit true x h = grind (arith, nat_tests)
 top_bit false x h = grind (arith, nat_tests)
 

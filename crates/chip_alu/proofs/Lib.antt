@@ -1,3 +1,4 @@
 pub mod Adders
 pub mod Alu
 pub mod Rows
+pub mod Shifts

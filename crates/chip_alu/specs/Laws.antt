@@ -1,11 +1,11 @@
--- What the chips from HalfAdder to the ALU do: each is its function, in every behaviour of its tree. (The book, chapter 2.)
+-- What the chips from HalfAdder to the ALU and Shift do: each is its function, in every behaviour of its tree. (The book, chapter 2.)
 use Rattle.std.specs.Prelude.{◌≡◌, ℕ, ◌+◌, ◌*◌, Bool, true, cond, ◌==◌, nat_lt, [], ◌∷◌}
-use Rattle.word16.specs.Words.{word_add}
+use Rattle.word16.specs.Words.{word_add, word_shift}
 use Rattle.hack_isa.specs.Table.{preset, combine}
 use Rattle.hdl_tree.specs.Writable.{all, chip_can}
 use Rattle.hdl_tree.specs.Behaviour.{Histories}
 use Rattle.chip_basic.specs.Laws.{Always, bit, word}
-use Rattle.chip_alu.specs.Trees.{HasAluChips, half_adder_tree, full_adder_tree, add16_tree, inc16_tree, alu_tree}
+use Rattle.chip_alu.specs.Trees.{HasAluChips, half_adder_tree, full_adder_tree, add16_tree, inc16_tree, alu_tree, shift_tree}
 
 -- a bit as a number
 abbrev pub digit : Bool → ℕ
@@ -35,6 +35,10 @@ pub record AluWorks (w : Histories) (c : ℕ) : Type 0 where
 abbrev pub AluLaw : Type 0
 AluLaw = Always HasAluChips alu_tree AluWorks
 
+-- to the left where left is 1, else to the right
+abbrev pub ShiftLaw : Type 0
+ShiftLaw = Always HasAluChips shift_tree (λ w c. word w "out" c ≡ word_shift (bit w "left" c) (word w "in" c))
+
 -- each of these chips keeps the rules of texts, so that its printed form spells it
 abbrev pub AluTextsLaw : Type 0
-AluTextsLaw = all chip_can (half_adder_tree ∷ full_adder_tree ∷ add16_tree ∷ inc16_tree ∷ alu_tree ∷ []) ≡ true
+AluTextsLaw = all chip_can (half_adder_tree ∷ full_adder_tree ∷ add16_tree ∷ inc16_tree ∷ alu_tree ∷ shift_tree ∷ []) ≡ true

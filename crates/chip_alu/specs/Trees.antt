@@ -3,7 +3,7 @@ use Rattle.std.specs.Prelude.{◌≡◌, ℕ, suc, true, false, List, [], ◌∷
 use Rattle.hdl_tree.specs.declared.tree.Part.{Part}
 use Rattle.hdl_tree.specs.declared.tree.Chip.{Chip}
 use Rattle.hdl_tree.specs.Chips.{Chips, find_chip}
-use Rattle.chip_basic.specs.Hdl.{pin, bus, wire, wire_to, wire_bit, bit_wire, bits_wire, constant, bit_constant, part, chip, each, numbered_name, shipped_entry}
+use Rattle.chip_basic.specs.Hdl.{pin, bus, wire, wire_to, wire_bit, bit_wire, bits_wire, bit_wire_bit, bits_wire_bits, constant, bit_constant, part, chip, each, numbered_name, shipped_entry}
 use Rattle.chip_basic.specs.Trees.{HasBasicChips}
 
 -- ---- adders
@@ -71,6 +71,14 @@ alu_test =
 unfoldable pub alu_tree : Chip
 alu_tree = chip "ALU" (bus "x" 16 ∷ bus "y" 16 ∷ pin "zx" ∷ pin "nx" ∷ pin "zy" ∷ pin "ny" ∷ pin "f" ∷ pin "no" ∷ []) (bus "out" 16 ∷ pin "zr" ∷ pin "ng" ∷ []) (alu_inputs ++ (alu_output ++ alu_test))
 
+-- ---- shifts
+
+-- One place to the left, where a 0 comes in below, or to the right, where the top bit stays too. (It is no chip of the book.)
+unfoldable pub shift_tree : Chip
+shift_tree = chip "Shift" (bus "in" 16 ∷ pin "left" ∷ []) (bus "out" 16 ∷ []) (
+    part "Mux16" (bits_wire_bits "a" 0 14 "in" 1 15 ∷ bit_wire_bit "a" 15 "in" 15 ∷ bit_constant "b" 0 false ∷ bits_wire_bits "b" 1 15 "in" 0 14 ∷ wire "sel" "left" ∷ wire "out" "out" ∷ [])
+    ∷ [])
+
 -- ---- what a library has
 
 -- the library has these chips too, under their names, each as it is shipped
@@ -81,3 +89,4 @@ pub record HasAluChips (library : Chips) : Type 0 where
   pub add16 : find_chip library (codes "Add16") ≡ Some (shipped_entry add16_tree)
   pub inc16 : find_chip library (codes "Inc16") ≡ Some (shipped_entry inc16_tree)
   pub alu : find_chip library (codes "ALU") ≡ Some (shipped_entry alu_tree)
+  pub shift : find_chip library (codes "Shift") ≡ Some (shipped_entry shift_tree)

@@ -1,6 +1,6 @@
 //! What the chips do.
 
-ghost use Rattle.chip_alu.specs.Laws.{HalfAdderLaw, FullAdderLaw, Add16Law, Inc16Law, AluLaw, AluTextsLaw};
+ghost use Rattle.chip_alu.specs.Laws.{HalfAdderLaw, FullAdderLaw, Add16Law, Inc16Law, AluLaw, ShiftLaw, AluTextsLaw};
 
 /// HalfAdder gives the two binary digits of `a + b`.
 pub fn half_adder_law()
@@ -25,6 +25,11 @@ pub fn inc16_law()
 /// The ALU is that of the instruction table, with `zr` where `out` is 0 and `ng` where it is below 0.
 pub fn alu_law()
     ensures { AluLaw }
+{}
+
+/// Shift gives the word one place to the left where `left` is 1, else one place to the right, where the sign stays.
+pub fn shift_law()
+    ensures { ShiftLaw }
 {}
 
 /// Each of these chips can be written as a text.

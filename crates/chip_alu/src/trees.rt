@@ -1,10 +1,11 @@
-//! The trees of the chips from HalfAdder to the ALU.
+//! The trees of the chips from HalfAdder to the ALU, and of Shift.
 ghost use Rattle.std.specs.Prelude.{◌≡◌, ◌<◌, ◌++◌, ◌∷◌, [], suc, IfOk};
 ghost use Rattle.chip_basic.specs.Hdl.{each};
-ghost use Rattle.chip_alu.specs.Trees.{half_adder_tree, full_adder_tree, add_bit, add16_tree, inc16_tree, alu_inputs, alu_output, alu_test, alu_tree};
+ghost use Rattle.chip_alu.specs.Trees.{half_adder_tree, full_adder_tree, add_bit, add16_tree, inc16_tree, alu_inputs, alu_output, alu_test, alu_tree, shift_tree};
 
 use chip_basic::{
-    add_part, bit_constant, bit_wire, bits_wire, bus, chip, constant, numbered, pin, wire, wire_bit,
+    add_part, bit_constant, bit_wire, bit_wire_bit, bits_wire, bits_wire_bits, bus, chip, constant,
+    numbered, pin, wire, wire_bit,
 };
 use hdl_tree::{Chip, List, Part};
 use std::alloc::{AllocError, Global};
@@ -348,6 +349,34 @@ pub fn alu_tree(alloc: Global) -> Result<Chip, AllocError>
             pin(b"no"),
         ],
         &[bus(b"out", 16), pin(b"zr"), pin(b"ng")],
+        parts,
+    )
+}
+
+/// The tree of Shift.
+#[tactic(auto, unfolding(crate::specs::Trees::shift_tree))]
+pub fn shift_tree(alloc: Global) -> Result<Chip, AllocError>
+    ensures { IfOk result (λ chip. chip ≡ shift_tree) }
+{
+    let mut parts = List::new(alloc);
+    add_part(
+        alloc,
+        &mut parts,
+        b"Mux16",
+        &[
+            bits_wire_bits(b"a", (0, 14), b"in", (1, 15)),
+            bit_wire_bit(b"a", 15, b"in", 15),
+            bit_constant(b"b", 0, false),
+            bits_wire_bits(b"b", (1, 15), b"in", (0, 14)),
+            wire(b"sel", b"left"),
+            wire(b"out", b"out"),
+        ],
+    )?;
+    chip(
+        alloc,
+        b"Shift",
+        &[bus(b"in", 16), pin(b"left")],
+        &[bus(b"out", 16)],
         parts,
     )
 }

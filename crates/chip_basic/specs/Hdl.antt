@@ -57,6 +57,14 @@ bit_wire pin bit net = connect (codes pin) (Some (Bit bit)) (codes net) None
 abbrev pub bits_wire : String → ℕ → ℕ → String → Connection
 bits_wire pin first last net = connect (codes pin) (Some (Bits first last)) (codes net) None
 
+-- `pin[bit]=net[net_bit]`
+abbrev pub bit_wire_bit : String → ℕ → String → ℕ → Connection
+bit_wire_bit pin bit net net_bit = connect (codes pin) (Some (Bit bit)) (codes net) (Some (Bit net_bit))
+
+-- `pin[first..last]=net[net_first..net_last]`
+abbrev pub bits_wire_bits : String → ℕ → ℕ → String → ℕ → ℕ → Connection
+bits_wire_bits pin first last net net_first net_last = connect (codes pin) (Some (Bits first last)) (codes net) (Some (Bits net_first net_last))
+
 -- `pin[..]=true` and `pin[..]=false`
 abbrev pub fixed_connection : List ℕ → Option Subscript → Bool → Connection
 fixed_connection pin bits value = record { pin = record { name = pin; subscript = bits }; source = Constant value }

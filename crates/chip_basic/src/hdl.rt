@@ -135,6 +135,33 @@ pub fn bits_wire<'a>(pin: &'a [u8], first: u8, last: u8, net: &'a [u8]) -> Joint
     }
 }
 
+/// `pin[bit]=net[net_bit]`
+pub fn bit_wire_bit<'a>(pin: &'a [u8], bit: u8, net: &'a [u8], net_bit: u8) -> Joint<'a>
+    ensures { result ≡ connect pin.now (Some (Bit bit)) net.now (Some (Bit net_bit)) }
+{
+    Joint {
+        pin,
+        bits: Some(Subscript::Bit(bit)),
+        origin: Origin::Net(net, Some(Subscript::Bit(net_bit))),
+    }
+}
+
+/// `pin[bits.0..bits.1]=net[net_bits.0..net_bits.1]`
+pub fn bits_wire_bits<'a>(
+    pin: &'a [u8],
+    bits: (u8, u8),
+    net: &'a [u8],
+    net_bits: (u8, u8),
+) -> Joint<'a>
+    ensures { result ≡ connect pin.now (Some (Bits bits.0 bits.1)) net.now (Some (Bits net_bits.0 net_bits.1)) }
+{
+    Joint {
+        pin,
+        bits: Some(Subscript::Bits(bits.0, bits.1)),
+        origin: Origin::Net(net, Some(Subscript::Bits(net_bits.0, net_bits.1))),
+    }
+}
+
 /// `pin=true` or `pin=false`
 pub fn constant<'a>(pin: &'a [u8], value: bool) -> Joint<'a>
     ensures { result ≡ fixed_connection pin.now None value }

@@ -1,26 +1,29 @@
 -- The CPU.
-use Rattle.std.proofs.Common.{◌≡◌, ℕ, zero, suc, ◌+◌, ◌<◌, ◌%◌, Bool, true, false, cond, eqb, ltb, List, [], ◌∷◌, Some, refl, sym, ap, ap₂, ◌∙◌, arith, lit<, zero-add}
+use Rattle.std.proofs.Common.{◌≡◌, ℕ, zero, suc, ◌+◌, ◌*◌, ◌<◌, ◌%◌, Bool, true, false, cond, eqb, ltb, List, [], ◌∷◌, Some, refl, sym, ap, ap₂, ◌∙◌, arith, lit<, zero-add}
 use Rattle.std.specs.Prelude.{not, ◌&&◌, ◌||◌, codes, slice_get}
+use Rattle.word16.specs.Words.{word_shift}
 use Rattle.hack_isa.specs.Table.{preset, combine}
 use Rattle.hdl_tree.specs.declared.tree.Part.{Part}
 use Rattle.hdl_tree.specs.declared.library.Entry.{Entry}
 use Rattle.hdl_tree.specs.Memory.{number, before}
 use Rattle.hdl_tree.specs.Chips.{Chips, end_of, find_chip, parts_of}
 use Rattle.hdl_tree.specs.Behaviour.{Histories, World, Works, IsBehaviour}
-use Rattle.chip_basic.specs.Hdl.{shipped_entry, wire, wire_bit, part}
-use Rattle.chip_basic.specs.Trees.{not_tree, and_tree, or_tree, mux16_tree}
+use Rattle.chip_basic.specs.Hdl.{shipped_entry, wire, wire_to, wire_bit, part}
+use Rattle.chip_basic.specs.Trees.{not_tree, and_tree, or_tree, mux16_tree, or8way_tree}
 use Rattle.chip_basic.specs.Laws.{word}
 use Rattle.chip_basic.proofs.Inside.{PartOf, part_of, whole_joined}
 use Rattle.chip_basic.proofs.Gates.{not_works, and_works, or_works}
-use Rattle.chip_basic.proofs.Numbers.{number_same, number_below}
+use Rattle.chip_basic.proofs.Numbers.{number_same, number_below, some_number}
 use Rattle.chip_basic.proofs.Words.{mux16_works}
-use Rattle.chip_alu.specs.Trees.{alu_tree}
-use Rattle.chip_alu.proofs.Alu.{alu_works}
+use Rattle.chip_basic.proofs.Ways.{or8way_works}
+use Rattle.chip_alu.specs.Trees.{alu_tree, shift_tree}
+use Rattle.chip_alu.proofs.Alu.{alu_works, number_split, both_zero, top_bit}
+use Rattle.chip_alu.proofs.Shifts.{shift_works}
 use Rattle.chip_memory.specs.Trees.{a_register_tree, d_register_tree, pc_tree}
 use Rattle.chip_memory.proofs.Registers.{a_register_works, d_register_works}
 use Rattle.chip_memory.proofs.Counter.{pc_works}
 use Rattle.hack_cpu.specs.Trees.{HasComputerChips, cpu_tree}
-use Rattle.hack_cpu.specs.Cpu.{CpuWorks, a_held, d_held, pc_held, op, result, jumps_on}
+use Rattle.hack_cpu.specs.Cpu.{CpuWorks, a_held, d_held, pc_held, op, a_or_m, computed, shifted, is_shift, result, jumps_on}
 
 pub low15 : (f : ℕ → Bool) → number 15 f ≡ number 16 f % 32768
 low15 f = by (f 15) (number 15 f) (number_below 15 f)
@@ -45,7 +48,7 @@ pc_step : (reset reset' load load' inc : Bool) (x x' out : ℕ) → reset ≡ re
 pc_step reset reset' load load' inc x x' out e1 e2 e3 e4 = rw e3 (cc)
 
 abbrev alu_piece : Part
-alu_piece = part "ALU" (wire "x" "valueD" ∷ wire "y" "valueAOrM" ∷ wire_bit "zx" "instruction" 11 ∷ wire_bit "nx" "instruction" 10 ∷ wire_bit "zy" "instruction" 9 ∷ wire_bit "ny" "instruction" 8 ∷ wire_bit "f" "instruction" 7 ∷ wire_bit "no" "instruction" 6 ∷ wire "out" "result" ∷ wire "out" "outM" ∷ wire "zr" "isZero" ∷ wire "ng" "isNegative" ∷ [])
+alu_piece = part "ALU" (wire "x" "valueD" ∷ wire "y" "valueAOrM" ∷ wire_bit "zx" "instruction" 11 ∷ wire_bit "nx" "instruction" 10 ∷ wire_bit "zy" "instruction" 9 ∷ wire_bit "ny" "instruction" 8 ∷ wire_bit "f" "instruction" 7 ∷ wire_bit "no" "instruction" 6 ∷ wire "out" "computed" ∷ [])
 
 module _ (world : World) (library : Chips) (has : HasComputerChips library) (n : ℕ) (w : List ℕ → Histories) (h : IsBehaviour world library (shipped_entry cpu_tree) n w) where
   -- ---- in one cycle
@@ -100,7 +103,7 @@ module _ (world : World) (library : Chips) (has : HasComputerChips library) (n :
         let j = p.outside.joined in
         sym (number_same 16 _ _ (λ k le. whole_joined c (shipped_entry a_register_tree) (w []) (w (3 ∷ [])) (codes "out") (codes "valueA") j.1.1.0 k le))
 
-    y_is : word (w []) "valueAOrM" c ≡ cond (op w c 12) (word (w []) "inM" c) (a_held w c)
+    y_is : word (w []) "valueAOrM" c ≡ a_or_m w c
     unfolding end_of cpu_tree mux16_tree
     y_is =
         let p = piece 4 _ (shipped_entry mux16_tree) refl has.memories.computing.basic.mux16 in
@@ -123,9 +126,9 @@ module _ (world : World) (library : Chips) (has : HasComputerChips library) (n :
     unfolding end_of cpu_tree
     alu_part = piece 7 _ (shipped_entry alu_tree) refl has.memories.computing.alu
 
-    v_inside : word (w (7 ∷ [])) "out" c ≡ result w c
+    computed_inside : word (w (7 ∷ [])) "out" c ≡ computed w c
     unfolding end_of cpu_tree alu_tree
-    v_inside =
+    computed_inside =
         let j = alu_part.outside.joined in
         let x = number_same 16 _ _ (λ k le. whole_joined c (shipped_entry alu_tree) (w []) (w (7 ∷ [])) (codes "x") (codes "valueD") j.0 k le) ∙ x_is in
         let y = number_same 16 _ _ (λ k le. whole_joined c (shipped_entry alu_tree) (w []) (w (7 ∷ [])) (codes "y") (codes "valueAOrM") j.1.0 k le) ∙ y_is in
@@ -137,21 +140,110 @@ module _ (world : World) (library : Chips) (has : HasComputerChips library) (n :
         let e6 : w (7 ∷ []) (codes "no") 0 c ≡ op w c 6 = j.1.1.1.1.1.1.1.0 0 (lit< tt) in
         (alu_works world library has.memories.computing c (λ path. w (7 ∷ path)) alu_part.inside).out ∙ same_alu _ _ _ _ _ _ _ _ _ _ _ _ _ _ _ _ x y e1 e2 e3 e4 e5 e6
 
-    v_is : word (w []) "result" c ≡ result w c
+    computed_is : word (w []) "computed" c ≡ computed w c
     unfolding end_of cpu_tree alu_tree
-    v_is = sym (number_same 16 _ _ (λ k le. whole_joined c (shipped_entry alu_tree) (w []) (w (7 ∷ [])) (codes "out") (codes "result") alu_part.outside.joined.1.1.1.1.1.1.1.1.0 k le)) ∙ v_inside
+    computed_is = sym (number_same 16 _ _ (λ k le. whole_joined c (shipped_entry alu_tree) (w []) (w (7 ∷ [])) (codes "out") (codes "computed") alu_part.outside.joined.1.1.1.1.1.1.1.1.0 k le)) ∙ computed_inside
+
+    -- the shift
+    is_shift_is : w [] (codes "isShift") 0 c ≡ is_shift w c
+    unfolding end_of cpu_tree not_tree and_tree
+    is_shift_is =
+        let b = has.memories.computing.basic in
+        let p18 = piece 18 _ (shipped_entry not_tree) refl b.not in
+        let p19 = piece 19 _ (shipped_entry and_tree) refl b.and in
+        let p20 = piece 20 _ (shipped_entry and_tree) refl b.and in
+        let j18 = p18.outside.joined in
+        let j19 = p19.outside.joined in
+        let j20 = p20.outside.joined in
+        let e18 : w [] (codes "noBit14") 0 c ≡ not (op w c 14) = cc (not_works world library b c (λ path. w (18 ∷ path)) p18.inside, j18.0 0 (lit< tt), j18.1.0 0 (lit< tt)) in
+        let e19 : w [] (codes "bit13Alone") 0 c ≡ (w [] (codes "noBit14") 0 c && op w c 13) = cc (and_works world library b c (λ path. w (19 ∷ path)) p19.inside, j19.0 0 (lit< tt), j19.1.0 0 (lit< tt), j19.1.1.0 0 (lit< tt)) in
+        let e20 : w [] (codes "isShift") 0 c ≡ (op w c 15 && w [] (codes "bit13Alone") 0 c) = cc (and_works world library b c (λ path. w (20 ∷ path)) p20.inside, j20.0 0 (lit< tt), j20.1.0 0 (lit< tt), j20.1.1.0 0 (lit< tt)) in
+        e20 ∙ ap (λ x. op w c 15 && x) (e19 ∙ ap (λ x. x && op w c 13) e18)
+
+    operand_is : word (w []) "shiftOperand" c ≡ cond (op w c 10) (d_held w c) (a_or_m w c)
+    unfolding end_of cpu_tree mux16_tree
+    operand_is =
+        let p = piece 21 _ (shipped_entry mux16_tree) refl has.memories.computing.basic.mux16 in
+        let j = p.outside.joined in
+        let a = number_same 16 _ _ (λ k le. whole_joined c (shipped_entry mux16_tree) (w []) (w (21 ∷ [])) (codes "a") (codes "valueAOrM") j.0 k le) ∙ y_is in
+        let b = number_same 16 _ _ (λ k le. whole_joined c (shipped_entry mux16_tree) (w []) (w (21 ∷ [])) (codes "b") (codes "valueD") j.1.0 k le) ∙ x_is in
+        let s : w (21 ∷ []) (codes "sel") 0 c ≡ op w c 10 = j.1.1.0 0 (lit< tt) in
+        let o = number_same 16 _ _ (λ k le. whole_joined c (shipped_entry mux16_tree) (w []) (w (21 ∷ [])) (codes "out") (codes "shiftOperand") j.1.1.1.0 k le) in
+        sym o ∙ mux16_works world library has.memories.computing.basic c (λ path. w (21 ∷ path)) p.inside ∙ ap (λ x. cond x (word (w (21 ∷ [])) "b" c) (word (w (21 ∷ [])) "a" c)) s ∙ ap₂ (λ x y. cond (op w c 10) x y) b a
+
+    shifted_is : word (w []) "shifted" c ≡ shifted w c
+    unfolding end_of cpu_tree shift_tree
+    shifted_is =
+        let p = piece 22 _ (shipped_entry shift_tree) refl has.memories.computing.shift in
+        let j = p.outside.joined in
+        let i = number_same 16 _ _ (λ k le. whole_joined c (shipped_entry shift_tree) (w []) (w (22 ∷ [])) (codes "in") (codes "shiftOperand") j.0 k le) ∙ operand_is in
+        let l : w (22 ∷ []) (codes "left") 0 c ≡ op w c 11 = j.1.0 0 (lit< tt) in
+        let o = number_same 16 _ _ (λ k le. whole_joined c (shipped_entry shift_tree) (w []) (w (22 ∷ [])) (codes "out") (codes "shifted") j.1.1.0 k le) in
+        sym o ∙ shift_works world library has.memories.computing c (λ path. w (22 ∷ path)) p.inside ∙ ap₂ (λ x y. word_shift x y) l i
+
+    -- the result, which comes out of part 23
+    v_inside : word (w (23 ∷ [])) "out" c ≡ result w c
+    unfolding end_of cpu_tree mux16_tree
+    v_inside =
+        let p = piece 23 _ (shipped_entry mux16_tree) refl has.memories.computing.basic.mux16 in
+        let j = p.outside.joined in
+        let a = number_same 16 _ _ (λ k le. whole_joined c (shipped_entry mux16_tree) (w []) (w (23 ∷ [])) (codes "a") (codes "computed") j.0 k le) ∙ computed_is in
+        let b = number_same 16 _ _ (λ k le. whole_joined c (shipped_entry mux16_tree) (w []) (w (23 ∷ [])) (codes "b") (codes "shifted") j.1.0 k le) ∙ shifted_is in
+        let s : w (23 ∷ []) (codes "sel") 0 c ≡ is_shift w c = j.1.1.0 0 (lit< tt) ∙ is_shift_is in
+        mux16_works world library has.memories.computing.basic c (λ path. w (23 ∷ path)) p.inside ∙ ap (λ x. cond x (word (w (23 ∷ [])) "b" c) (word (w (23 ∷ [])) "a" c)) s ∙ ap₂ (λ x y. cond (is_shift w c) x y) b a
+
+    v_is : word (w []) "result" c ≡ result w c
+    unfolding end_of cpu_tree mux16_tree
+    v_is =
+        let j = (piece 23 _ (shipped_entry mux16_tree) refl has.memories.computing.basic.mux16).outside.joined in
+        sym (number_same 16 _ _ (λ k le. whole_joined c (shipped_entry mux16_tree) (w []) (w (23 ∷ [])) (codes "out") (codes "result") j.1.1.1.0 k le)) ∙ v_inside
 
     out_is : word (w []) "outM" c ≡ result w c
-    unfolding end_of cpu_tree alu_tree
-    out_is = sym (number_same 16 _ _ (λ k le. whole_joined c (shipped_entry alu_tree) (w []) (w (7 ∷ [])) (codes "out") (codes "outM") alu_part.outside.joined.1.1.1.1.1.1.1.1.1.0 k le)) ∙ v_inside
+    unfolding end_of cpu_tree mux16_tree
+    out_is =
+        let j = (piece 23 _ (shipped_entry mux16_tree) refl has.memories.computing.basic.mux16).outside.joined in
+        sym (number_same 16 _ _ (λ k le. whole_joined c (shipped_entry mux16_tree) (w []) (w (23 ∷ [])) (codes "out") (codes "outM") j.1.1.1.1.0 k le)) ∙ v_inside
+
+    -- whether some bit of a half of the result is 1
+    half : (place : ℕ) (half_net out : List ℕ) (from : ℕ) → slice_get (parts_of library (shipped_entry cpu_tree)) place ≡ Some (part "Or8Way" (wire_to "in" half_net ∷ wire_to "out" out ∷ [])) → ((k : ℕ) → k < 8 → w [] half_net k c ≡ w (23 ∷ []) (codes "out") (from + k) c) →
+        w [] out 0 c ≡ not (eqb (number 8 (λ k. w (23 ∷ []) (codes "out") (from + k) c)) 0)
+    unfolding end_of cpu_tree or8way_tree
+    half place half_net out from e same =
+        let p = piece place _ (shipped_entry or8way_tree) e has.memories.computing.basic.or8way in
+        let j = p.outside.joined in
+        let a : number 8 (λ k. w (place ∷ []) (codes "in") k c) ≡ number 8 (λ k. w (23 ∷ []) (codes "out") (from + k) c) =
+        number_same 8 _ _ (λ k le. whole_joined c (shipped_entry or8way_tree) (w []) (w (place ∷ [])) (codes "in") half_net j.0 k le ∙ same k le) in
+        sym (j.1.0 0 (lit< tt)) ∙ or8way_works world library has.memories.computing.basic c (λ path. w (place ∷ path)) p.inside ∙ some_number 8 (λ k. w (place ∷ []) (codes "in") k c) ∙ ap (λ x. not (eqb x 0)) a
 
     zr_is : w [] (codes "isZero") 0 c ≡ eqb (result w c) 0
-    unfolding end_of cpu_tree alu_tree
-    zr_is = sym (alu_part.outside.joined.1.1.1.1.1.1.1.1.1.1.0 0 (lit< tt)) ∙ (alu_works world library has.memories.computing c (λ path. w (7 ∷ path)) alu_part.inside).zr ∙ ap (λ x. eqb x 0) v_inside
+    unfolding end_of cpu_tree mux16_tree or_tree not_tree
+    zr_is =
+        let basic = has.memories.computing.basic in
+        let j = (piece 23 _ (shipped_entry mux16_tree) refl basic.mux16).outside.joined in
+        let low : (k : ℕ) → k < 8 → w [] (codes "lowHalf") k c ≡ w (23 ∷ []) (codes "out") (0 + k) c = λ k le.
+        ap (λ x. w [] (codes "lowHalf") x c) (sym (zero-add k)) ∙ sym (j.1.1.1.1.1.0 k le) in
+        let high : (k : ℕ) → k < 8 → w [] (codes "highHalf") k c ≡ w (23 ∷ []) (codes "out") (8 + k) c = λ k le.
+        ap (λ x. w [] (codes "highHalf") x c) (sym (zero-add k)) ∙ sym (j.1.1.1.1.1.1.0 k le) in
+        let l = half 24 (codes "lowHalf") (codes "someLow") 0 refl low in
+        let m = half 25 (codes "highHalf") (codes "someHigh") 8 refl high in
+        let q = piece 26 _ (shipped_entry or_tree) refl basic.or in
+        let r = piece 27 _ (shipped_entry not_tree) refl basic.not in
+        let jq = q.outside.joined in
+        let jr = r.outside.joined in
+        let e : w [] (codes "isZero") 0 c ≡ not (w [] (codes "someLow") 0 c || w [] (codes "someHigh") 0 c) =
+        cc (or_works world library basic c (λ path. w (26 ∷ path)) q.inside, not_works world library basic c (λ path. w (27 ∷ path)) r.inside, jq.0 0 (lit< tt), jq.1.0 0 (lit< tt), jq.1.1.0 0 (lit< tt), jr.0 0 (lit< tt), jr.1.0 0 (lit< tt)) in
+        let x = number 8 (λ k. w (23 ∷ []) (codes "out") (0 + k) c) in
+        let y = number 8 (λ k. w (23 ∷ []) (codes "out") (8 + k) c) in
+        let s : x + 256 * y ≡ word (w (23 ∷ [])) "out" c = sym (number_split 8 (λ k. w (23 ∷ []) (codes "out") k c) 16 refl) in
+        e ∙ ap₂ (λ a b. not (a || b)) l m ∙ both_zero x y ∙ ap (λ z. eqb z 0) (s ∙ v_inside)
 
     ng_is : w [] (codes "isNegative") 0 c ≡ ltb 32767 (result w c)
-    unfolding end_of cpu_tree alu_tree
-    ng_is = sym (alu_part.outside.joined.1.1.1.1.1.1.1.1.1.1.1.0 0 (lit< tt)) ∙ (alu_works world library has.memories.computing c (λ path. w (7 ∷ path)) alu_part.inside).ng ∙ ap (λ x. ltb 32767 x) v_inside
+    unfolding end_of cpu_tree mux16_tree
+    ng_is =
+        let j = (piece 23 _ (shipped_entry mux16_tree) refl has.memories.computing.basic.mux16).outside.joined in
+        sym (j.1.1.1.1.1.1.1.0 0 (lit< tt))
+        ∙ top_bit (w (23 ∷ []) (codes "out") 15 c) (number 15 (λ k. w (23 ∷ []) (codes "out") k c)) (number_below 15 (λ k. w (23 ∷ []) (codes "out") k c))
+        ∙ ap (λ x. ltb 32767 x) v_inside
 
     jump_is : w [] (codes "jump") 0 c ≡ jumps_on w c (result w c)
     unfolding end_of cpu_tree or_tree not_tree and_tree

@@ -1,7 +1,8 @@
 -- One cycle is one step.
-use Rattle.std.proofs.Common.{◌≡◌, ℕ, zero, suc, ◌+◌, ◌<◌, ◌%◌, Bool, true, false, cond, eqb, ltb, List, [], ◌∷◌, refl, sym, ap, ◌∙◌, arith, lit<}
+use Rattle.std.proofs.Common.{◌≡◌, ℕ, zero, suc, ◌+◌, ◌<◌, ◌%◌, Bool, true, false, cond, eqb, ltb, List, [], ◌∷◌, refl, sym, ap, ap₂, ◌∙◌, arith, lit<}
 use Rattle.std.specs.Prelude.{not, ◌&&◌, ◌||◌, codes, slice_index}
 use Rattle.std.proofs.lemmas.Bool.{ltb-true}
+use Rattle.word16.specs.Words.{word_shift}
 use Rattle.hack_isa.specs.Table.{instr_of}
 use Rattle.hack_isa.specs.Machine.{Machine, read, perform, step, machine_at}
 use Rattle.hdl_tree.specs.declared.library.Entry.{Entry}
@@ -167,7 +168,11 @@ module _ (image : List ℕ) (keys : ℕ → ℕ) (entries : List Entry) (has : H
 
     v_is : result (λ path. w (0 ∷ path)) c ≡ v
     unfolding v f
-    v_is = same_alu _ _ _ _ (f 11) (f 11) (f 10) (f 10) (f 9) (f 9) (f 8) (f 8) (f 7) (f 7) (f 6) (f 6) earlier.d (three_same (f 12) (f 12) _ _ _ _ refl read_is earlier.a) refl refl refl refl refl refl
+    v_is =
+        let held = three_same (f 12) (f 12) _ _ _ _ refl read_is earlier.a in
+        ap₂ (λ x y. cond (f 15 && (not (f 14) && f 13)) x y)
+        (ap (λ x. word_shift (f 11) x) (three_same (f 10) (f 10) _ _ _ _ refl earlier.d held))
+        (same_alu _ _ _ _ (f 11) (f 11) (f 10) (f 10) (f 9) (f 9) (f 8) (f 8) (f 7) (f 7) (f 6) (f 6) earlier.d held refl refl refl refl refl refl)
 
     abbrev after : Machine
     after = step image (keys c) s

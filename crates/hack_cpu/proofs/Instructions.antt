@@ -3,9 +3,10 @@ use Rattle.std.proofs.Common.{◌≡◌, ℕ, ◌+◌, ◌<◌, ◌/◌, ◌%◌
 use Rattle.std.proofs.lemmas.Bool.{lt-ltb, ltb-true}
 use Rattle.std.proofs.lemmas.Bool.Decides.{nat_tests}
 use Rattle.std.specs.Prelude.{not, ◌&&◌, ◌||◌}
-use Rattle.word16.specs.Words.{has_bit}
-use Rattle.hack_isa.specs.Table.{preset, combine, alu_out, instr_of}
+use Rattle.word16.specs.Words.{has_bit, word_shift}
+use Rattle.hack_isa.specs.Table.{preset, combine, alu_out, is_shift, shift_of, instr_of}
 use Rattle.hack_isa.specs.Machine.{Machine, read, write, jumps, perform}
+use Rattle.hack_isa.specs.declared.Instr.{Instr}
 use Rattle.hack_isa.specs.declared.Instr.TheVariants.{Address, Compute}
 use Rattle.hdl_tree.specs.Memory.{number}
 use Rattle.chip_basic.proofs.Numbers.{digit, bit_of_number, number_below}
@@ -124,39 +125,84 @@ module _ (f : ℕ → Bool) where
           or_false false = refl
       by false false s z = rw (s, z) refl
 
+  -- what comes of a word whose top bit is 0 needs no result
+  with_top : (b t : Bool) (x y : ℕ) (g : ℕ → ℕ) (z : ℕ) → cond b (g (cond t x y)) z ≡ cond b (g (cond (b && t) x y)) z
+  with_top true t x y g z = refl
+  with_top false t x y g z = refl
+
   module _ (key : ℕ) (s : Machine) where
-    -- the output, of D, and of A or M
+    -- what the ALU gives, of D, and of A or M
+    abbrev by_alu : ℕ
+    by_alu = combine (f 7) (f 6) (preset (f 11) (f 10) s.d) (preset (f 9) (f 8) (cond (f 12) (read s.memory key s.a) s.a))
+
+    -- what a shift gives, of D, or of A or M
+    abbrev by_shift : ℕ
+    by_shift = word_shift (f 11) (cond (f 10) s.d (cond (f 12) (read s.memory key s.a) s.a))
+
     abbrev pub output : ℕ
-    output = combine (f 7) (f 6) (preset (f 11) (f 10) s.d) (preset (f 9) (f 8) (cond (f 12) (read s.memory key s.a) s.a))
+    output = cond (f 15 && (not (f 14) && f 13)) by_shift by_alu
 
     abbrev out : ℕ
     out = alu_out (number 16 f / 64 % 64) s.d (cond (has_bit (number 16 f) 12) (read s.memory key s.a) s.a)
 
-    out_is : out ≡ output
+    out_is : out ≡ by_alu
     out_is = comp s.d (cond (has_bit (number 16 f) 12) (read s.memory key s.a) s.a) ∙ ap (λ b. combine (f 7) (f 6) (preset (f 11) (f 10) s.d) (preset (f 9) (f 8) (cond b (read s.memory key s.a) s.a))) (op_is f 12 (lit< tt))
+
+    abbrev held : ℕ
+    held = cond (has_bit (number 16 f) 10) s.d (cond (has_bit (number 16 f) 12 && not (has_bit (number 16 f) 10)) (read s.memory key s.a) s.a)
+
+    m_of_d : (d m : Bool) (x y z : ℕ) → cond d x (cond (m && not d) y z) ≡ cond d x (cond m y z)
+    m_of_d true m x y z = refl
+    m_of_d false true x y z = refl
+    m_of_d false false x y z = refl
+
+    held_is : held ≡ cond (f 10) s.d (cond (f 12) (read s.memory key s.a) s.a)
+    held_is =
+        m_of_d (has_bit (number 16 f) 10) (has_bit (number 16 f) 12) s.d (read s.memory key s.a) s.a
+        ∙ ap₂ (λ d m. cond d s.d (cond m (read s.memory key s.a) s.a)) (op_is f 10 (lit< tt)) (op_is f 12 (lit< tt))
+
+    -- what comes of the word, if it is a shift or not
+    abbrev value : Bool → ℕ
+    value t = cond t (word_shift (has_bit (number 16 f) 11) held) out
+
+    value_is : value (is_shift (number 16 f)) ≡ cond (not (f 14) && f 13) by_shift by_alu
+    value_is =
+        let t : is_shift (number 16 f) ≡ (not (f 14) && f 13) = ap₂ (λ a b. not a && b) (op_is f 14 (lit< tt)) (op_is f 13 (lit< tt)) in
+        let v : word_shift (has_bit (number 16 f) 11) held ≡ by_shift = ap₂ (λ l x. word_shift l x) (op_is f 11 (lit< tt)) held_is in
+        ap₂ (λ b x. cond b x out) t v ∙ ap (λ x. cond (not (f 14) && f 13) by_shift x) out_is
 
     abbrev next : Machine
     next = perform (instr_of (number 16 f)) key s
 
-    by_a : (b : Bool) → (perform (cond b (Address (number 16 f)) (Compute (has_bit (number 16 f) 12) (number 16 f / 64 % 64) (number 16 f / 8 % 8) (number 16 f % 8))) key s).a ≡ cond b (number 16 f) (cond (has_bit (number 16 f / 8 % 8) 2) out s.a)
-    by_a true = refl
-    by_a false = refl
+    abbrev instr_by : Bool → Bool → Instr
+    instr_by b t = cond b (Address (number 16 f)) (cond t (shift_of (number 16 f)) (Compute (has_bit (number 16 f) 12) (number 16 f / 64 % 64) (number 16 f / 8 % 8) (number 16 f % 8)))
 
-    by_d : (b : Bool) → (perform (cond b (Address (number 16 f)) (Compute (has_bit (number 16 f) 12) (number 16 f / 64 % 64) (number 16 f / 8 % 8) (number 16 f % 8))) key s).d ≡ cond b s.d (cond (has_bit (number 16 f / 8 % 8) 1) out s.d)
-    by_d true = refl
-    by_d false = refl
+    by_a : (b t : Bool) → (perform (instr_by b t) key s).a ≡ cond b (number 16 f) (cond (has_bit (number 16 f / 8 % 8) 2) (value t) s.a)
+    by_a true t = refl
+    by_a false true = refl
+    by_a false false = refl
 
-    by_pc : (b : Bool) → (perform (cond b (Address (number 16 f)) (Compute (has_bit (number 16 f) 12) (number 16 f / 64 % 64) (number 16 f / 8 % 8) (number 16 f % 8))) key s).pc ≡ cond b ((s.pc + 1) % 32768) (cond (jumps (number 16 f % 8) out) (s.a % 32768) ((s.pc + 1) % 32768))
-    by_pc true = refl
-    by_pc false = refl
+    by_d : (b t : Bool) → (perform (instr_by b t) key s).d ≡ cond b s.d (cond (has_bit (number 16 f / 8 % 8) 1) (value t) s.d)
+    by_d true t = refl
+    by_d false true = refl
+    by_d false false = refl
 
-    by_memory : (b : Bool) (x : ℕ) → (perform (cond b (Address (number 16 f)) (Compute (has_bit (number 16 f) 12) (number 16 f / 64 % 64) (number 16 f / 8 % 8) (number 16 f % 8))) key s).memory x ≡ cond b (s.memory x) (cond (has_bit (number 16 f / 8 % 8) 0) (write s.memory s.a out x) (s.memory x))
-    by_memory true x = refl
-    by_memory false x = at (has_bit (number 16 f / 8 % 8) 0) (write s.memory s.a out) s.memory x
+    by_pc : (b t : Bool) → (perform (instr_by b t) key s).pc ≡ cond b ((s.pc + 1) % 32768) (cond (jumps (number 16 f % 8) (value t)) (s.a % 32768) ((s.pc + 1) % 32768))
+    by_pc true t = refl
+    by_pc false true = refl
+    by_pc false false = refl
+
+    by_memory : (b t : Bool) (x : ℕ) → (perform (instr_by b t) key s).memory x ≡ cond b (s.memory x) (cond (has_bit (number 16 f / 8 % 8) 0) (write s.memory s.a (value t) x) (s.memory x))
+    by_memory true t x = refl
+    by_memory false t x = written_by t
       where
-        at : (b : Bool) (g k : ℕ → ℕ) (x : ℕ) → (cond b g k) x ≡ cond b (g x) (k x)
-        at true g k x = refl
-        at false g k x = refl
+        at : (b : Bool) (g k : ℕ → ℕ) → (cond b g k) x ≡ cond b (g x) (k x)
+        at true g k = refl
+        at false g k = refl
+
+        written_by : (t : Bool) → (perform (instr_by false t) key s).memory x ≡ cond (has_bit (number 16 f / 8 % 8) 0) (write s.memory s.a (value t) x) (s.memory x)
+        written_by true = at (has_bit (number 16 f / 8 % 8) 0) (write s.memory s.a (value true)) s.memory
+        written_by false = at (has_bit (number 16 f / 8 % 8) 0) (write s.memory s.a (value false)) s.memory
 
     turned : (b : Bool) (x y : ℕ) → cond (not b) x y ≡ cond b y x
     turned true x y = refl
@@ -167,15 +213,25 @@ module _ (f : ℕ → Bool) where
 
     pub a_next : next.a ≡ cond (f 15) (cond (f 5) output s.a) (number 16 f)
     unfolding instr_of
-    a_next = by_a (ltb (number 16 f) 32768) ∙ by_top _ _ ∙ ap₂ (λ b v. cond (f 15) (cond b v s.a) (number 16 f)) dest_a out_is
+    a_next =
+        by_a (ltb (number 16 f) 32768) (is_shift (number 16 f)) ∙ by_top _ _
+        ∙ ap₂ (λ b v. cond (f 15) (cond b v s.a) (number 16 f)) dest_a value_is
+        ∙ with_top (f 15) (not (f 14) && f 13) by_shift by_alu (λ v. cond (f 5) v s.a) (number 16 f)
 
     pub d_next : next.d ≡ cond (f 15) (cond (f 4) output s.d) s.d
     unfolding instr_of
-    d_next = by_d (ltb (number 16 f) 32768) ∙ by_top _ _ ∙ ap₂ (λ b v. cond (f 15) (cond b v s.d) s.d) dest_d out_is
+    d_next =
+        by_d (ltb (number 16 f) 32768) (is_shift (number 16 f)) ∙ by_top _ _
+        ∙ ap₂ (λ b v. cond (f 15) (cond b v s.d) s.d) dest_d value_is
+        ∙ with_top (f 15) (not (f 14) && f 13) by_shift by_alu (λ v. cond (f 4) v s.d) s.d
 
     pub pc_next : next.pc ≡ cond (f 15) (cond ((ltb 32767 output && f 2) || ((eqb output 0 && f 1) || (not (eqb output 0 || ltb 32767 output) && f 0))) (s.a % 32768) ((s.pc + 1) % 32768)) ((s.pc + 1) % 32768)
     unfolding instr_of
-    pc_next = by_pc (ltb (number 16 f) 32768) ∙ by_top _ _ ∙ ap (λ b. cond (f 15) (cond b (s.a % 32768) ((s.pc + 1) % 32768)) ((s.pc + 1) % 32768)) (ap (jumps (number 16 f % 8)) out_is ∙ jump output)
+    pc_next =
+        by_pc (ltb (number 16 f) 32768) (is_shift (number 16 f)) ∙ by_top _ _
+        ∙ ap (λ v. cond (f 15) (cond (jumps (number 16 f % 8) v) (s.a % 32768) ((s.pc + 1) % 32768)) ((s.pc + 1) % 32768)) value_is
+        ∙ with_top (f 15) (not (f 14) && f 13) by_shift by_alu (λ v. cond (jumps (number 16 f % 8) v) (s.a % 32768) ((s.pc + 1) % 32768)) ((s.pc + 1) % 32768)
+        ∙ ap (λ b. cond (f 15) (cond b (s.a % 32768) ((s.pc + 1) % 32768)) ((s.pc + 1) % 32768)) (jump output)
 
     same_place : (x y : ℕ) → eqb x y ≡ eqb y x
     same_place x y = grind (arith, nat_tests)
@@ -191,4 +247,7 @@ module _ (f : ℕ → Bool) where
     pub memory_next : (x : ℕ) → x < 24576 → next.memory x ≡ cond (f 15) (cond (f 3) (cond (eqb (s.a % 32768) x) output (s.memory x)) (s.memory x)) (s.memory x)
     unfolding instr_of
     memory_next x small =
-        by_memory (ltb (number 16 f) 32768) x ∙ by_top _ _ ∙ ap₂ (λ b v. cond (f 15) (cond b v (s.memory x)) (s.memory x)) dest_m (ap (λ v. write s.memory s.a v x) out_is ∙ written x output small)
+        by_memory (ltb (number 16 f) 32768) (is_shift (number 16 f)) x ∙ by_top _ _
+        ∙ ap₂ (λ b v. cond (f 15) (cond b (write s.memory s.a v x) (s.memory x)) (s.memory x)) dest_m value_is
+        ∙ with_top (f 15) (not (f 14) && f 13) by_shift by_alu (λ v. cond (f 3) (write s.memory s.a v x) (s.memory x)) (s.memory x)
+        ∙ ap (λ v. cond (f 15) (cond (f 3) v (s.memory x)) (s.memory x)) (written x output small)

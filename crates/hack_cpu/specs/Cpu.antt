@@ -1,7 +1,7 @@
 -- What the CPU does in a cycle, in the words of its pins and of what its registers hold. (The book, chapter 5.)
 use Rattle.std.specs.Prelude.{◌≡◌, ℕ, ◌+◌, ◌%◌, ◌<◌, ◌==◌, nat_lt, Bool, cond, not, ◌&&◌, ◌||◌, if◌then◌else◌, List, [], ◌∷◌, codes}
 use Rattle.std.specs.Str.{bytes_eq}
-use Rattle.word16.specs.Words.{word_add}
+use Rattle.word16.specs.Words.{word_add, word_shift}
 use Rattle.hack_isa.specs.Table.{preset, combine}
 use Rattle.hdl_tree.specs.Memory.{number, before}
 use Rattle.hdl_tree.specs.declared.tree.Part.{Part}
@@ -25,9 +25,24 @@ pc_held wires c = word (wires (17 ∷ [])) "out" c
 abbrev pub op : (List ℕ → Histories) → ℕ → ℕ → Bool
 op wires c k = wires [] (codes "instruction") k c
 
+-- A, or where bit 12 is 1 M
+abbrev pub a_or_m : (List ℕ → Histories) → ℕ → ℕ
+a_or_m wires c = cond (op wires c 12) (word (wires []) "inM" c) (a_held wires c)
+
 -- what the ALU gives: of D, and of A or M
+abbrev pub computed : (List ℕ → Histories) → ℕ → ℕ
+computed wires c = combine (op wires c 7) (op wires c 6) (preset (op wires c 11) (op wires c 10) (d_held wires c)) (preset (op wires c 9) (op wires c 8) (a_or_m wires c))
+
+-- what a shift gives: of D where bit 10 is 1, else of A or M, and to the left where bit 11 is 1
+abbrev pub shifted : (List ℕ → Histories) → ℕ → ℕ
+shifted wires c = word_shift (op wires c 11) (cond (op wires c 10) (d_held wires c) (a_or_m wires c))
+
+-- bits 15, 14 and 13 are 1, 0 and 1: the instruction is a shift
+abbrev pub is_shift : (List ℕ → Histories) → ℕ → Bool
+is_shift wires c = op wires c 15 && (not (op wires c 14) && op wires c 13)
+
 abbrev pub result : (List ℕ → Histories) → ℕ → ℕ
-result wires c = combine (op wires c 7) (op wires c 6) (preset (op wires c 11) (op wires c 10) (d_held wires c)) (preset (op wires c 9) (op wires c 8) (cond (op wires c 12) (word (wires []) "inM" c) (a_held wires c)))
+result wires c = cond (is_shift wires c) (shifted wires c) (computed wires c)
 
 -- whether the instruction jumps on this result
 abbrev pub jumps_on : (List ℕ → Histories) → ℕ → ℕ → Bool

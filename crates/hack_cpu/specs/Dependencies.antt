@@ -9,7 +9,7 @@ use Rattle.hdl_check.specs.Locations.{IsFaultless}
 use Rattle.hdl_behaviours.specs.Levels.{Pairs, pairs_of}
 use Rattle.hdl_behaviours.specs.Laws.{IsLoopless}
 use Rattle.chip_basic.specs.Trees.{nand_tree, not_tree, and_tree, or_tree, xor_tree, mux_tree, dmux_tree, not16_tree, and16_tree, or16_tree, mux16_tree, or8way_tree, mux4way16_tree, mux8way16_tree, dmux4way_tree, dmux8way_tree}
-use Rattle.chip_alu.specs.Trees.{half_adder_tree, full_adder_tree, add16_tree, inc16_tree, alu_tree}
+use Rattle.chip_alu.specs.Trees.{half_adder_tree, full_adder_tree, add16_tree, inc16_tree, alu_tree, shift_tree}
 use Rattle.hack_cpu.specs.Library.{shipped_chips}
 
 -- each of the outputs with each of the inputs
@@ -35,7 +35,7 @@ by_address name = (codes name, on "out" "address" ∷ [])
 -- chips that are not told have no such output: DFF, Bit, the registers, PC, Keyboard and Computer
 unfoldable pub dependencies : List (List ℕ × Pairs)
 dependencies =
-    map keeps_nothing (nand_tree ∷ not_tree ∷ and_tree ∷ or_tree ∷ xor_tree ∷ mux_tree ∷ dmux_tree ∷ not16_tree ∷ and16_tree ∷ or16_tree ∷ mux16_tree ∷ or8way_tree ∷ mux4way16_tree ∷ mux8way16_tree ∷ dmux4way_tree ∷ dmux8way_tree ∷ half_adder_tree ∷ full_adder_tree ∷ add16_tree ∷ inc16_tree ∷ alu_tree ∷ [])
+    map keeps_nothing (nand_tree ∷ not_tree ∷ and_tree ∷ or_tree ∷ xor_tree ∷ mux_tree ∷ dmux_tree ∷ not16_tree ∷ and16_tree ∷ or16_tree ∷ mux16_tree ∷ or8way_tree ∷ mux4way16_tree ∷ mux8way16_tree ∷ dmux4way_tree ∷ dmux8way_tree ∷ half_adder_tree ∷ full_adder_tree ∷ add16_tree ∷ inc16_tree ∷ alu_tree ∷ shift_tree ∷ [])
     ++ (by_address "RAM8" ∷ by_address "RAM64" ∷ by_address "RAM512" ∷ by_address "RAM4K" ∷ by_address "RAM16K" ∷ by_address "Screen" ∷ by_address "ROM32K" ∷ by_address "Memory"
     ∷ (codes "CPU", on "outM" "inM" ∷ on "outM" "instruction" ∷ on "writeM" "instruction" ∷ []) ∷ [])
 

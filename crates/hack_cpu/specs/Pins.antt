@@ -66,6 +66,7 @@ computing_faces =
     ∷ face "Add16" (word "a" ∷ word "b" ∷ []) (word "out" ∷ [])
     ∷ face "Inc16" (word "in" ∷ []) (word "out" ∷ [])
     ∷ face "ALU" (word "x" ∷ word "y" ∷ bit "zx" ∷ bit "nx" ∷ bit "zy" ∷ bit "ny" ∷ bit "f" ∷ bit "no" ∷ []) (word "out" ∷ bit "zr" ∷ bit "ng" ∷ [])
+    ∷ face "Shift" (word "in" ∷ bit "left" ∷ []) (word "out" ∷ [])
     ∷ []
 
 abbrev pub memory_faces : List Face

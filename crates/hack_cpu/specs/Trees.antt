@@ -28,10 +28,10 @@ cpu_registers =
     ∷ part "DRegister" (wire "in" "result" ∷ wire "load" "loadD" ∷ wire "out" "valueD" ∷ [])
     ∷ []
 
--- the result, and whether it is written to M
+-- what the ALU gives, and whether the result is written to M
 abbrev pub cpu_result : List Part
 cpu_result =
-    part "ALU" (wire "x" "valueD" ∷ wire "y" "valueAOrM" ∷ wire_bit "zx" "instruction" 11 ∷ wire_bit "nx" "instruction" 10 ∷ wire_bit "zy" "instruction" 9 ∷ wire_bit "ny" "instruction" 8 ∷ wire_bit "f" "instruction" 7 ∷ wire_bit "no" "instruction" 6 ∷ wire "out" "result" ∷ wire "out" "outM" ∷ wire "zr" "isZero" ∷ wire "ng" "isNegative" ∷ [])
+    part "ALU" (wire "x" "valueD" ∷ wire "y" "valueAOrM" ∷ wire_bit "zx" "instruction" 11 ∷ wire_bit "nx" "instruction" 10 ∷ wire_bit "zy" "instruction" 9 ∷ wire_bit "ny" "instruction" 8 ∷ wire_bit "f" "instruction" 7 ∷ wire_bit "no" "instruction" 6 ∷ wire "out" "computed" ∷ [])
     ∷ part "And" (wire_bit "a" "instruction" 15 ∷ wire_bit "b" "instruction" 3 ∷ wire "out" "writeM" ∷ [])
     ∷ []
 
@@ -49,8 +49,24 @@ cpu_jump =
     ∷ part "PC" (wire "in" "valueA" ∷ wire "load" "jump" ∷ constant "inc" true ∷ wire "reset" "reset" ∷ bits_wire "out" 0 14 "pc" ∷ [])
     ∷ []
 
+-- The shift, which the book's CPU has not: of D where bit 10 is 1, else of A or M. The result is that of the shift where bits 15, 14 and 13 are 1, 0
+-- and 1, and else that of the ALU; whether it is 0 or negative is told by the result.
+abbrev pub cpu_shift : List Part
+cpu_shift =
+    part "Not" (wire_bit "in" "instruction" 14 ∷ wire "out" "noBit14" ∷ [])
+    ∷ part "And" (wire "a" "noBit14" ∷ wire_bit "b" "instruction" 13 ∷ wire "out" "bit13Alone" ∷ [])
+    ∷ part "And" (wire_bit "a" "instruction" 15 ∷ wire "b" "bit13Alone" ∷ wire "out" "isShift" ∷ [])
+    ∷ part "Mux16" (wire "a" "valueAOrM" ∷ wire "b" "valueD" ∷ wire_bit "sel" "instruction" 10 ∷ wire "out" "shiftOperand" ∷ [])
+    ∷ part "Shift" (wire "in" "shiftOperand" ∷ wire_bit "left" "instruction" 11 ∷ wire "out" "shifted" ∷ [])
+    ∷ part "Mux16" (wire "a" "computed" ∷ wire "b" "shifted" ∷ wire "sel" "isShift" ∷ wire "out" "result" ∷ wire "out" "outM" ∷ bits_wire "out" 0 7 "lowHalf" ∷ bits_wire "out" 8 15 "highHalf" ∷ bits_wire "out" 15 15 "isNegative" ∷ [])
+    ∷ part "Or8Way" (wire "in" "lowHalf" ∷ wire "out" "someLow" ∷ [])
+    ∷ part "Or8Way" (wire "in" "highHalf" ∷ wire "out" "someHigh" ∷ [])
+    ∷ part "Or" (wire "a" "someLow" ∷ wire "b" "someHigh" ∷ wire "out" "some" ∷ [])
+    ∷ part "Not" (wire "in" "some" ∷ wire "out" "isZero" ∷ [])
+    ∷ []
+
 unfoldable pub cpu_tree : Chip
-cpu_tree = chip "CPU" (bus "inM" 16 ∷ bus "instruction" 16 ∷ pin "reset" ∷ []) (bus "outM" 16 ∷ pin "writeM" ∷ bus "addressM" 15 ∷ bus "pc" 15 ∷ []) (cpu_registers ++ (cpu_result ++ cpu_jump))
+cpu_tree = chip "CPU" (bus "inM" 16 ∷ bus "instruction" 16 ∷ pin "reset" ∷ []) (bus "outM" 16 ∷ pin "writeM" ∷ bus "addressM" 15 ∷ bus "pc" 15 ∷ []) (cpu_registers ++ (cpu_result ++ (cpu_jump ++ cpu_shift)))
 
 -- ---- Memory and the Computer
 

@@ -6,7 +6,7 @@ ghost use Rattle.chip_basic.specs.Hdl.{shipped_entry};
 ghost use Rattle.hack_cpu.specs.Library.{basic_chips, computing_chips, memory_chips, computer_chips, shipped_chips};
 
 use crate::trees::{computer_tree, cpu_tree, keyboard_tree, memory_tree, rom_tree};
-use chip_alu::{add16_tree, alu_tree, full_adder_tree, half_adder_tree, inc16_tree};
+use chip_alu::{add16_tree, alu_tree, full_adder_tree, half_adder_tree, inc16_tree, shift_tree};
 use chip_basic::{
     and_tree, and16_tree, dmux_tree, dmux4way_tree, dmux8way_tree, mux_tree, mux4way16_tree,
     mux8way16_tree, mux16_tree, nand_tree, not_tree, not16_tree, or_tree, or8way_tree, or16_tree,
@@ -65,6 +65,7 @@ fn add_computing_entries(alloc: Global, entries: &mut Vec<Entry>) -> Result<(), 
     add_shipped(alloc, entries, add16_tree(alloc)?)?;
     add_shipped(alloc, entries, inc16_tree(alloc)?)?;
     add_shipped(alloc, entries, alu_tree(alloc)?)?;
+    add_shipped(alloc, entries, shift_tree(alloc)?)?;
     Ok(())
 }
 

@@ -68,7 +68,7 @@ const CPU: &[Row<'static>] = &[
             Link::Wire(b"out", b"valueD"),
         ],
     },
-    // the result, and whether it is written to M
+    // what the ALU gives, and whether the result is written to M
     Row {
         chip: b"ALU",
         links: &[
@@ -80,10 +80,7 @@ const CPU: &[Row<'static>] = &[
             Link::WireBit(b"ny", b"instruction", 8),
             Link::WireBit(b"f", b"instruction", 7),
             Link::WireBit(b"no", b"instruction", 6),
-            Link::Wire(b"out", b"result"),
-            Link::Wire(b"out", b"outM"),
-            Link::Wire(b"zr", b"isZero"),
-            Link::Wire(b"ng", b"isNegative"),
+            Link::Wire(b"out", b"computed"),
         ],
     },
     Row {
@@ -167,6 +164,86 @@ const CPU: &[Row<'static>] = &[
             Link::Wire(b"reset", b"reset"),
             Link::BitsWire(b"out", 0, 14, b"pc"),
         ],
+    },
+    // the shift, and the result
+    Row {
+        chip: b"Not",
+        links: &[
+            Link::WireBit(b"in", b"instruction", 14),
+            Link::Wire(b"out", b"noBit14"),
+        ],
+    },
+    Row {
+        chip: b"And",
+        links: &[
+            Link::Wire(b"a", b"noBit14"),
+            Link::WireBit(b"b", b"instruction", 13),
+            Link::Wire(b"out", b"bit13Alone"),
+        ],
+    },
+    Row {
+        chip: b"And",
+        links: &[
+            Link::WireBit(b"a", b"instruction", 15),
+            Link::Wire(b"b", b"bit13Alone"),
+            Link::Wire(b"out", b"isShift"),
+        ],
+    },
+    Row {
+        chip: b"Mux16",
+        links: &[
+            Link::Wire(b"a", b"valueAOrM"),
+            Link::Wire(b"b", b"valueD"),
+            Link::WireBit(b"sel", b"instruction", 10),
+            Link::Wire(b"out", b"shiftOperand"),
+        ],
+    },
+    Row {
+        chip: b"Shift",
+        links: &[
+            Link::Wire(b"in", b"shiftOperand"),
+            Link::WireBit(b"left", b"instruction", 11),
+            Link::Wire(b"out", b"shifted"),
+        ],
+    },
+    Row {
+        chip: b"Mux16",
+        links: &[
+            Link::Wire(b"a", b"computed"),
+            Link::Wire(b"b", b"shifted"),
+            Link::Wire(b"sel", b"isShift"),
+            Link::Wire(b"out", b"result"),
+            Link::Wire(b"out", b"outM"),
+            Link::BitsWire(b"out", 0, 7, b"lowHalf"),
+            Link::BitsWire(b"out", 8, 15, b"highHalf"),
+            Link::BitsWire(b"out", 15, 15, b"isNegative"),
+        ],
+    },
+    Row {
+        chip: b"Or8Way",
+        links: &[
+            Link::Wire(b"in", b"lowHalf"),
+            Link::Wire(b"out", b"someLow"),
+        ],
+    },
+    Row {
+        chip: b"Or8Way",
+        links: &[
+            Link::Wire(b"in", b"highHalf"),
+            Link::Wire(b"out", b"someHigh"),
+        ],
+    },
+    Row {
+        chip: b"Or",
+        links: &[
+            Link::Wire(b"a", b"someLow"),
+            Link::Wire(b"b", b"someHigh"),
+            Link::Wire(b"out", b"some"),
+        ],
+    },
+    Row {
+        chip: b"Not",
+        links: &[Link::Wire(b"in", b"some"), Link::Wire(b"out", b"isZero")],
     },
 ];
 
