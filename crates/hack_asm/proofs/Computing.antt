@@ -1,7 +1,8 @@
--- The ALU gives for each row of the table of comp what its text says.
-use Rattle.std.proofs.Common.{◌≡◌, ℕ, sym, ◌∙◌, arith}
+-- The instruction of each row of the table of comp gives what its text says.
+use Rattle.std.proofs.Common.{◌≡◌, ℕ, true, false, refl, sym, ◌∙◌, arith}
 use Rattle.std.proofs.lemmas.Nat.{and_comm, or_comm}
 use Rattle.word16.specs.Words.{word_add}
+use Rattle.hack_isa.specs.Table.{instr_of}
 use Rattle.hack_isa.proofs.Operations.{alu_0, alu_2, alu_7, alu_12, alu_13, alu_14, alu_15, alu_19, alu_21, alu_31, alu_42, alu_48, alu_49, alu_50, alu_51, alu_55, alu_58, alu_63}
 use Rattle.hack_asm.specs.declared.token.Letter.TheVariants.{Zero, One, A, D, M}
 use Rattle.hack_asm.specs.declared.token.Operator.TheVariants.{Plus, Minus, And, Or}
@@ -15,6 +16,7 @@ sums : (x y : ℕ) → word_add x y ≡ word_add y x
 sums x y = omega arith
 
 pub rows_compute : (c : Comp) → Computes c (find_row c)
+unfolding instr_of
 rows_compute (comp.Alone Zero) = λ h w. sym (alu_42 h.d h.a w.d w.a)
 rows_compute (comp.Alone One) = λ h w. sym (alu_63 h.d h.a w.d w.a)
 rows_compute (comp.Alone A) = λ h w. sym (alu_48 h.d h.a w.d w.a)
@@ -130,3 +132,13 @@ rows_compute (comp.Pair M Or One) = tt
 rows_compute (comp.Pair M Or A) = tt
 rows_compute (comp.Pair M Or D) = λ h w. sym (alu_21 h.d h.m w.d w.m) ∙ or_comm h.d h.m
 rows_compute (comp.Pair M Or M) = tt
+rows_compute (comp.Shifted Zero true) = tt
+rows_compute (comp.Shifted Zero false) = tt
+rows_compute (comp.Shifted One true) = tt
+rows_compute (comp.Shifted One false) = tt
+rows_compute (comp.Shifted A true) = λ h w. refl
+rows_compute (comp.Shifted A false) = λ h w. refl
+rows_compute (comp.Shifted D true) = λ h w. refl
+rows_compute (comp.Shifted D false) = λ h w. refl
+rows_compute (comp.Shifted M true) = λ h w. refl
+rows_compute (comp.Shifted M false) = λ h w. refl

@@ -13,7 +13,7 @@ use Rattle.hack_asm.specs.declared.lines.Dest.{Dest}
 use Rattle.hack_asm.specs.declared.lines.Dest.TheVariants as dest
 use Rattle.hack_asm.specs.declared.lines.Compute.{Compute}
 use Rattle.hack_asm.specs.Tokens.{tokens_of, finish}
-use Rattle.hack_asm.specs.Grammar.{Said, Letter', Operator', Several, Jump, Number, Name, LineEnd, assembly, whole}
+use Rattle.hack_asm.specs.Grammar.{Said, Letter', Operator', Shift', Several, Jump, Number, Name, LineEnd, assembly, whole}
 use Rattle.hack_asm.specs.Trees.{AsmTree, Symbol, Address, Item, Line, number, symbol, label, address, compute, branch, operation_tree, comp_tree, bare_tree, assigned_tree, jump_tree, compute_tree, address_tree, item_tree, line_tree, lines_tree, text_tree, Spells}
 
 -- the parts of a tree
@@ -58,6 +58,10 @@ abbrev the_operator : Said → Operator
 the_operator (Operator' op) = op
 the_operator _ = Plus
 
+abbrev the_side : Said → Bool
+the_side (Shift' left) = left
+the_side _ = false
+
 abbrev the_number : Said → ℕ
 the_number (Number n) = n
 the_number (Several n) = n
@@ -96,9 +100,13 @@ pair_from x t = comp.Pair x (the_operator (leaf (one (into t)))) (the_letter (le
 abbrev under_from : AsmTree → Comp
 under_from t = comp.Under (cond (is_left t) prefix.Minus prefix.Not) (the_letter (leaf (two (into t))))
 
+-- a computation with something behind its letter
+abbrev more_from : Letter → AsmTree → Comp
+more_from x t = cond (is_left t) (pair_from x (into t)) (comp.Shifted x (the_side (leaf (into t))))
+
 -- a computation, from its letter and its core
 abbrev comp_by : Option Letter → AsmTree → Comp
-comp_by (Some x) t = cond (is_present (two t)) (pair_from x (into (two t))) (comp.Alone x)
+comp_by (Some x) t = cond (is_present (two t)) (more_from x (into (two t))) (comp.Alone x)
 comp_by None t = under_from t
 
 abbrev comp_from : AsmTree → Comp
@@ -112,13 +120,14 @@ pair_back x Or y = refl
 
 comp_back : (c : Comp) → comp_from (comp_tree c) ≡ c
 comp_back (comp.Alone x) = λ i. comp_by (letter_back x Absent i) (core_back x Absent i)
-comp_back (comp.Pair x op y) = (λ i. comp_by (letter_back x (Present (operation_tree op y)) i) (core_back x (Present (operation_tree op y)) i)) ∙ pair_back x op y
+comp_back (comp.Pair x op y) = (λ i. comp_by (letter_back x (Present (Left (operation_tree op y))) i) (core_back x (Present (Left (operation_tree op y))) i)) ∙ pair_back x op y
+comp_back (comp.Shifted x left) = λ i. comp_by (letter_back x (Present (Right (Leaf (Shift' left)))) i) (core_back x (Present (Right (Leaf (Shift' left)))) i)
 comp_back (comp.Under prefix.Minus y) = refl
 comp_back (comp.Under prefix.Not y) = refl
 
 -- behind a first letter: an assignment, an operation, or nothing
 abbrev bare_by : Option Letter → AsmTree → Option Letter × Comp
-bare_by (Some x) t = cond (is_present (two t)) (cond (is_left (into (two t))) (Some x, comp_from (two (into (into (two t))))) (None, pair_from x (into (into (two t))))) (None, comp.Alone x)
+bare_by (Some x) t = cond (is_present (two t)) (cond (is_left (into (two t))) (Some x, comp_from (two (into (into (two t))))) (None, more_from x (into (into (two t))))) (None, comp.Alone x)
 bare_by None t = (None, under_from t)
 
 abbrev bare_from : AsmTree → Option Letter × Comp
@@ -127,7 +136,8 @@ bare_from t = bare_by (letter_from t) (core t)
 bare_back : (d : Option Letter) (c : Comp) → bare_from (bare_tree d c) ≡ (d, c)
 bare_back None (comp.Alone x) = λ i. bare_by (letter_back x Absent i) (core_back x Absent i)
 bare_back None (comp.Pair x op y) =
-    (λ i. bare_by (letter_back x (Present (Right (operation_tree op y))) i) (core_back x (Present (Right (operation_tree op y))) i)) ∙ (λ i. (None, pair_back x op y i))
+    (λ i. bare_by (letter_back x (Present (Right (Left (operation_tree op y)))) i) (core_back x (Present (Right (Left (operation_tree op y)))) i)) ∙ (λ i. (None, pair_back x op y i))
+bare_back None (comp.Shifted x left) = λ i. bare_by (letter_back x (Present (Right (Right (Leaf (Shift' left))))) i) (core_back x (Present (Right (Right (Leaf (Shift' left))))) i)
 bare_back None (comp.Under prefix.Minus y) = refl
 bare_back None (comp.Under prefix.Not y) = refl
 bare_back (Some x) c =

@@ -1,6 +1,6 @@
 -- A computation is entered by its first letter.
 use Rattle.std.proofs.Common.{◌≡◌, ℕ, Bool, true, false, cond, List, [], ◌∷◌, Option, Some, None, refl, sym, ap, subst, ◌∙◌}
-use Rattle.std.specs.Prelude.{◌||◌}
+use Rattle.std.specs.Prelude.{◌&&◌, ◌||◌}
 use Rattle.scan_text.specs.declared.Place.{Place}
 use Rattle.grammar.specs.declared.Fault.{Fault}
 use Rattle.grammar.specs.Rules.{seq, choice, begins, Skip, Leaf, Pair, Left, Right, Absent, Present, enters, next, Reads, marked, worded, both, left, passed, taken, Stops, second, in_left, in_option}
@@ -14,9 +14,9 @@ use Rattle.hack_asm.specs.declared.token.Role.TheVariants as role
 use Rattle.hack_asm.specs.declared.words.Before.{Before}
 use Rattle.hack_asm.specs.declared.words.Before.TheVariants.{Sum, Join}
 use Rattle.hack_asm.specs.Tokens.{Word}
-use Rattle.hack_asm.specs.Grammar.{Said, Letter', Operator', Part, assembly, letter_role, role_said, operator_role, is_zero, is_one, is_a, is_d, is_m, by_letter, some_letter, operation, adds, meets, assigns, assignment, after_letter, comp, sign, unary, assignment_part, several_role, is_several, Several}
+use Rattle.hack_asm.specs.Grammar.{Said, Letter', Operator', Shift', Part, assembly, letter_role, role_said, operator_role, is_zero, is_one, is_a, is_d, is_m, by_letter, some_letter, operation, shift, shifts, shift_role, behind, is_register, adds, meets, assigns, assignment, after_letter, comp, sign, unary, assignment_part, several_role, is_several, Several}
 use Rattle.hack_asm.specs.Trees.{AsmTree, branch, other, operation_tree}
-use Rattle.hack_asm.specs.Before.{letter_by, letter_next, operator_by, operator_next, assigns_next, several_by, several_next, suits}
+use Rattle.hack_asm.specs.Before.{letter_by, letter_next, operator_by, operator_next, shift_by, shift_next, assigns_next, several_by, several_next, suits}
 use Rattle.grammar.proofs.Entered.{firm, entered, skip, skip_stops}
 
 abbrev pub R : Place → Part → List Word → AsmTree → List Word → Type 0
@@ -38,6 +38,7 @@ letter_at (role.Letter y) w ws x us e h =
 letter_at (role.Operator op) w ws x us e h = absurd cc
 letter_at (role.Several n) w ws x us e h = absurd cc
 letter_at (role.Jump n) w ws x us e h = absurd cc
+letter_at (role.Shift n) w ws x us e h = absurd cc
 letter_at role.Plain w ws x us e h = absurd cc
 
 pub letter_comes : (ts : List Word) (x : Letter) (us : List Word) → letter_next ts ≡ Some (x, us) → Comes (role.Letter x) ts us
@@ -49,6 +50,7 @@ no_letter_by p (role.Letter y) ws h = absurd cc
 no_letter_by p (role.Operator op) ws h = refl
 no_letter_by p (role.Several n) ws h = refl
 no_letter_by p (role.Jump n) ws h = refl
+no_letter_by p (role.Shift n) ws h = refl
 no_letter_by p role.Plain ws h = refl
 
 pub no_letter : (p : Letter → Bool) (ts : List Word) → letter_next ts ≡ None → next (λ t. letter_role p t.role) ts ≡ false
@@ -119,6 +121,7 @@ operated_at x (role.Letter y) w ws op b us e h = absurd cc
 operated_at x (role.Operator op') w ws op b us e h = operated_by x op' w ws op b us (adds x op') (meets x op') refl refl e h
 operated_at x (role.Several n) w ws op b us e h = absurd cc
 operated_at x (role.Jump n) w ws op b us e h = absurd cc
+operated_at x (role.Shift n) w ws op b us e h = absurd cc
 operated_at x role.Plain w ws op b us e h = absurd cc
 
 operated : (x : Letter) (ts : List Word) (op : Operator) (b : Before) (us : List Word) → operator_next x ts ≡ Some (op, b, us) → Operated x op b ts us
@@ -208,11 +211,88 @@ no_operator_at x (role.Letter y) ws h = refl
 no_operator_at x (role.Operator op) ws h = no_operator_by x op ws (adds x op) (meets x op) refl refl h
 no_operator_at x (role.Several n) ws h = refl
 no_operator_at x (role.Jump n) ws h = refl
+no_operator_at x (role.Shift n) ws h = refl
 no_operator_at x role.Plain ws h = refl
 
 pub no_operator : (end : Place) (x : Letter) (ts : List Word) → operator_next x ts ≡ None → enters (assembly end) (operation x) ts ≡ false
 no_operator end x [] h = refl
 no_operator end x (w ∷ ws) h = no_operator_at x w.role ws h
+
+-- Shifts
+
+record Shifted (x : Letter) (side : Bool) (ts us : List Word) : Type 0 where
+  comes : Comes (role.Shift side) ts us
+  register : is_register x ≡ true
+
+shifted_by : (x : Letter) (r : Bool) (l : Bool) (w : Word) (ws us : List Word) (side : Bool) → is_register x ≡ r → w.role ≡ role.Shift l → cond {A = Option (Bool × List Word)} r (Some (l, ws)) None ≡ Some (side, us) → Shifted x side (w ∷ ws) us
+shifted_by x true l w ws us side r e h =
+    let p : (l, ws) ≡ (side, us) = cc in
+    record {
+      comes = record { token = w; is = ap (λ (q : Bool × List Word). w ∷ q.1) p; role = e ∙ ap (λ (q : Bool × List Word). role.Shift q.0) p };
+      register = r;
+    }
+shifted_by x false l w ws us side r e h = absurd cc
+
+shifted_at : (x : Letter) (r : Role) (w : Word) (ws us : List Word) (side : Bool) → w.role ≡ r → shift_by x r ws ≡ Some (side, us) → Shifted x side (w ∷ ws) us
+shifted_at x (role.Letter y) w ws us side e h = absurd cc
+shifted_at x (role.Operator op) w ws us side e h = absurd cc
+shifted_at x (role.Several n) w ws us side e h = absurd cc
+shifted_at x (role.Jump n) w ws us side e h = absurd cc
+shifted_at x (role.Shift l) w ws us side e h = shifted_by x (is_register x) l w ws us side refl e h
+shifted_at x role.Plain w ws us side e h = absurd cc
+
+shifted : (x : Letter) (ts us : List Word) (side : Bool) → shift_next x ts ≡ Some (side, us) → Shifted x side ts us
+shifted x [] us side h = absurd cc
+shifted x (w ∷ ws) us side h = shifted_at x w.role w ws us side refl h
+
+shift_test : (x : Letter) (t : Word) (side : Bool) → is_register x ≡ true → t.role ≡ role.Shift side → shifts x t ≡ true
+shift_test x t side r e = ap (λ (b : Bool). b && shift_role t.role) r ∙ ap shift_role e
+
+pub shift_reads : (end : Place) (x : Letter) (ts us : List Word) (side : Bool) → shift_next x ts ≡ Some (side, us) → R end (shift x) ts (Leaf (Shift' side)) us
+shift_reads end x ts us side e =
+    let c = shifted x ts us side e in
+    let t = c.comes.token in
+    let i = shift_test x t side c.register c.comes.role in
+    subst (λ (l : List Word). R end (shift x) l (Leaf (Shift' side)) us) (sym c.comes.is)
+    (subst (λ (s : Said). R end (shift x) (t ∷ us) (Leaf s) us) (ap role_said c.comes.role) (worded i refl))
+
+no_shift_by : (x : Letter) (r : Bool) (l : Bool) (ws : List Word) → is_register x ≡ r → cond {A = Option (Bool × List Word)} r (Some (l, ws)) None ≡ None → (is_register x && true) ≡ false
+no_shift_by x true l ws r h = absurd cc
+no_shift_by x false l ws r h = rw r refl
+
+neither : (b : Bool) → (b && false) ≡ false
+neither true = refl
+neither false = refl
+
+no_shift_at : (x : Letter) (r : Role) (ws : List Word) → shift_by x r ws ≡ None → (is_register x && shift_role r) ≡ false
+no_shift_at x (role.Letter y) ws h = neither (is_register x)
+no_shift_at x (role.Operator op) ws h = neither (is_register x)
+no_shift_at x (role.Several n) ws h = neither (is_register x)
+no_shift_at x (role.Jump n) ws h = neither (is_register x)
+no_shift_at x (role.Shift l) ws h = no_shift_by x (is_register x) l ws refl h
+no_shift_at x role.Plain ws h = neither (is_register x)
+
+no_shift : (x : Letter) (ts : List Word) → shift_next x ts ≡ None → next (shifts x) ts ≡ false
+no_shift x [] h = refl
+no_shift x (w ∷ ws) h = no_shift_at x w.role ws h
+
+-- What stands behind a letter: an operation, a shift, or neither
+
+module _ (end : Place) (x : Letter) where
+  pub operation_behind : {ts us : List Word} {t : AsmTree} → R end (operation x) ts t us → R end (behind x) ts (Left t) us
+  operation_behind p = left (entered Word (Unit {0}) (Unit {0}) Said (assembly end) p refl) p
+
+  pub operation_behind_stops : {ts : List Word} {f : Fault} → enters (assembly end) (operation x) ts ≡ true → F end (operation x) ts f → F end (behind x) ts f
+  operation_behind_stops i p = in_left i p
+
+  pub operation_behind_enters : (ts : List Word) → enters (assembly end) (operation x) ts ≡ true → enters (assembly end) (behind x) ts ≡ true
+  operation_behind_enters ts i = next_left (begins (assembly end).opens (operation x)) (shifts x) ts i
+
+  pub shift_behind : (ts us : List Word) (side : Bool) → enters (assembly end) (operation x) ts ≡ false → shift_next x ts ≡ Some (side, us) → R end (behind x) ts (Right (Leaf (Shift' side))) us
+  shift_behind ts us side i e = skip i refl (shift_reads end x ts us side e)
+
+  pub none_behind : (ts : List Word) → enters (assembly end) (operation x) ts ≡ false → shift_next x ts ≡ None → enters (assembly end) (behind x) ts ≡ false
+  none_behind ts i e = next_right (begins (assembly end).opens (operation x)) (shifts x) ts false i (no_shift x ts e)
 
 -- Destinations
 
@@ -243,26 +323,26 @@ module _ (end : Place) (x : Letter) where
   pub to_register : {ts us vs : List Word} {t : AsmTree} → assigns_next x ts ≡ Some us → R end comp us t vs → R end (after_letter x) ts (Present (Left (Pair Skip t))) vs
   to_register {ts = ts} {us = us} {vs = vs} {t = t} e p =
       let c = assigns_comes x ts us e in
-      let q : R end (choice (assignment x) (operation x)) (c.token ∷ us) (Left (Pair Skip t)) vs = left c.assigns (both (marked c.assigns) p) in
+      let q : R end (choice (assignment x) (behind x)) (c.token ∷ us) (Left (Pair Skip t)) vs = left c.assigns (both (marked c.assigns) p) in
       subst (λ (l : List Word). R end (after_letter x) l (Present (Left (Pair Skip t))) vs) (sym c.is) (taken (entered Word (Unit {0}) (Unit {0}) Said (assembly end) q refl) q)
 
   pub to_register_stops : {ts us : List Word} {f : Fault} → assigns_next x ts ≡ Some us → F end comp us f → F end (after_letter x) ts f
   to_register_stops {ts = ts} {us = us} {f = f} e p =
       let c = assigns_comes x ts us e in
-      let q : F end (choice (assignment x) (operation x)) (c.token ∷ us) f = in_left c.assigns (second (marked c.assigns) p) in
-      subst (λ (l : List Word). F end (after_letter x) l f) (sym c.is) (in_option (next_left (assigns x) (begins (assembly end).opens (operation x)) (c.token ∷ us) c.assigns) q)
+      let q : F end (choice (assignment x) (behind x)) (c.token ∷ us) f = in_left c.assigns (second (marked c.assigns) p) in
+      subst (λ (l : List Word). F end (after_letter x) l f) (sym c.is) (in_option (next_left (assigns x) (begins (assembly end).opens (behind x)) (c.token ∷ us) c.assigns) q)
 
-  pub operated_after : {ts us : List Word} {t : AsmTree} → assigns_next x ts ≡ None → R end (operation x) ts t us → R end (after_letter x) ts (Present (Right t)) us
-  operated_after {ts = ts} {us = us} {t = t} e p =
-      let q : R end (choice (assignment x) (operation x)) ts (Right t) us = skip (no_assigns x ts e) refl p in
+  pub continued_after : {ts us : List Word} {t : AsmTree} → assigns_next x ts ≡ None → R end (behind x) ts t us → R end (after_letter x) ts (Present (Right t)) us
+  continued_after {ts = ts} {us = us} {t = t} e p =
+      let q : R end (choice (assignment x) (behind x)) ts (Right t) us = skip (no_assigns x ts e) refl p in
       taken (entered Word (Unit {0}) (Unit {0}) Said (assembly end) q refl) q
 
-  pub operated_after_stops : {ts : List Word} {f : Fault} → assigns_next x ts ≡ None → enters (assembly end) (operation x) ts ≡ true → F end (operation x) ts f → F end (after_letter x) ts f
-  operated_after_stops {ts = ts} {f = f} e i p =
-      in_option (next_right (assigns x) (begins (assembly end).opens (operation x)) ts true (no_assigns x ts e) i) (skip_stops (no_assigns x ts e) refl p)
+  pub continued_after_stops : {ts : List Word} {f : Fault} → assigns_next x ts ≡ None → enters (assembly end) (behind x) ts ≡ true → F end (behind x) ts f → F end (after_letter x) ts f
+  continued_after_stops {ts = ts} {f = f} e i p =
+      in_option (next_right (assigns x) (begins (assembly end).opens (behind x)) ts true (no_assigns x ts e) i) (skip_stops (no_assigns x ts e) refl p)
 
-  pub none_after : {ts : List Word} → assigns_next x ts ≡ None → enters (assembly end) (operation x) ts ≡ false → R end (after_letter x) ts Absent ts
-  none_after {ts = ts} e i = passed (next_right (assigns x) (begins (assembly end).opens (operation x)) ts false (no_assigns x ts e) i)
+  pub none_after : {ts : List Word} → assigns_next x ts ≡ None → enters (assembly end) (behind x) ts ≡ false → R end (after_letter x) ts Absent ts
+  none_after {ts = ts} e i = passed (next_right (assigns x) (begins (assembly end).opens (behind x)) ts false (no_assigns x ts e) i)
 
 -- Several letters of a destination
 
@@ -273,6 +353,7 @@ several_at (role.Several m) w ws n us e h =
     let p : (m, ws) ≡ (n, us) = cc in
     record { token = w; is = ap (λ (q : ℕ × List Word). w ∷ q.1) p; role = e ∙ ap (λ (q : ℕ × List Word). role.Several q.0) p }
 several_at (role.Jump m) w ws n us e h = absurd cc
+several_at (role.Shift m) w ws n us e h = absurd cc
 several_at role.Plain w ws n us e h = absurd cc
 
 pub several_comes : (ts : List Word) (n : ℕ) (us : List Word) → several_next ts ≡ Some (n, us) → Comes (role.Several n) ts us
@@ -284,6 +365,7 @@ no_several_by (role.Letter y) ws h = refl
 no_several_by (role.Operator op) ws h = refl
 no_several_by (role.Several m) ws h = absurd cc
 no_several_by (role.Jump m) ws h = refl
+no_several_by (role.Shift m) ws h = refl
 no_several_by role.Plain ws h = refl
 
 pub no_several : (ts : List Word) → several_next ts ≡ None → next is_several ts ≡ false

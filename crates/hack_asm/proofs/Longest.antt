@@ -1,8 +1,9 @@
 -- Each token of an assembly text is the longest that begins where it begins, and what may stand between tokens is passed over.
-use Rattle.std.proofs.Common.{◌≡◌, ℕ, suc, ◌-◌, Bool, true, cond, List, [], ◌∷◌, ◌++◌, length, take, refl, ap, ◌∙◌, arith}
+use Rattle.std.proofs.Common.{◌≡◌, ℕ, suc, ◌-◌, Bool, true, cond, List, [], ◌∷◌, ◌++◌, length, take, drop, refl, sym, subst, ap, ◌∙◌, arith}
 use Rattle.std.specs.Prelude.{◌==◌, ◌||◌, codes}
 use Rattle.std.specs.List.{All}
 use Rattle.std.specs.Char.{is_ascii_alphabetic}
+use Rattle.std.specs.Str.{bytes_eq}
 use Rattle.std.proofs.lemmas.List.Elements.{All-cons, All-head}
 use Rattle.std.proofs.lemmas.Bool.Decides.{nat_tests}
 use Rattle.scan_text.specs.declared.Place.{Place}
@@ -15,14 +16,18 @@ use Rattle.grammar.specs.Longest.{IsLongestMatch, IsOver}
 use Rattle.grammar.proofs.Bytes.{account_of, test_of, contains, contained, run_account, run_test}
 use Rattle.grammar.proofs.InLine.{blank_is_cut, comment_is_cut, passes_between}
 use Rattle.grammar.proofs.Longest as longest
-use Rattle.grammar.proofs.Longest.{IsCut, Reaches, cut_if, reaches_if, front_run, run_is_cut, byte_is_cut, run_reached, no_digit, limited_is_cut, limited_reaches, over_begins, none_over, limited_refuses, end_is_cut}
+use Rattle.grammar.proofs.Longest.{IsCut, Reaches, cut_if, reaches_if, front_run, run_is_cut, byte_is_cut, run_reached, no_digit, limited_is_cut, limited_reaches, over_begins, none_over, limited_refuses, end_is_cut, front_is}
+use Rattle.grammar.proofs.Spaced.{take_none}
 use Rattle.hack_asm.specs.declared.token.Kind.TheVariants.{Sign, Number}
-use Rattle.hack_asm.specs.Tokens.{Word, made_word, word_of, number_piece, symbol_piece, line_end_token, piece, is_letter, is_symbol_byte, is_sign}
-use Rattle.hack_asm.specs.OneToken.{IsOne, ASymbol, ANumber, ASign, ALineFeed, AReturnAndLineFeed}
+use Rattle.hack_asm.specs.Tokens.{Word, made_word, word_of, number_piece, symbol_piece, line_end_token, piece, is_letter, is_symbol_byte, is_sign, begins_left_shift, begins_right_shift, shift_piece}
+use Rattle.hack_asm.specs.OneToken.{IsOne, ASymbol, ANumber, ASign, ALeftShift, ARightShift, ALineFeed, AReturnAndLineFeed}
 
 -- the pieces that are left when the tests before them fail
+abbrev right_or : List ℕ → Piece Word
+right_or all = cond (begins_right_shift all) (word_of (Sign 62) 1 all) (line_end_piece line_end_token all)
+
 abbrev comment_or : ℕ → List ℕ → Piece Word
-comment_or b all = cond (b == 47) (comment_piece all) (line_end_piece line_end_token all)
+comment_or b all = cond (b == 47) (comment_piece all) (shift_piece all)
 
 abbrev sign_or : ℕ → List ℕ → Piece Word
 sign_or b all = cond (is_sign b) (word_of (Sign b) 0 all) (comment_or b all)
@@ -59,6 +64,14 @@ sign_is_no_blank b s e = grind (arith, nat_tests, s, e)
 sign_is_no_letter : (b : ℕ) → is_sign b ≡ true → is_letter b ≡ true → ⊥
 sign_is_no_letter b s l = grind (arith, nat_tests, s, l)
 
+shift_cut : (all : List ℕ) → IsCut IsOne IsBetweenInLine (IsOver 32767) all (shift_piece all)
+shift_cut all =
+    cut_if IsOne IsBetweenInLine (IsOver 32767) all (begins_left_shift all) (word_of (Sign 60) 1 all) (right_or all)
+    (λ e. let h = front_is (codes "<<") all e in (h.0, subst (λ (l : List ℕ). IsOne l (drop 2 all)) (sym h.1) ALeftShift))
+    (λ e. cut_if IsOne IsBetweenInLine (IsOver 32767) all (begins_right_shift all) (word_of (Sign 62) 1 all) (line_end_piece line_end_token all)
+    (λ f. let h = front_is (codes ">>") all f in (h.0, subst (λ (l : List ℕ). IsOne l (drop 2 all)) (sym h.1) ARightShift))
+    (λ f. end_is_cut Word IsOne IsBetweenInLine (IsOver 32767) line_end_token (λ behind. ALineFeed) (λ behind. AReturnAndLineFeed) all))
+
 cut : (bs : List ℕ) → IsCut IsOne IsBetweenInLine (IsOver 32767) bs (piece bs)
 cut [] = tt
 cut (b ∷ bs) =
@@ -68,8 +81,8 @@ cut (b ∷ bs) =
     (λ d. limited_is_cut IsOne IsBetweenInLine (number all) b bs d (λ behind. ANumber (All-cons (λ c. is_digit c ≡ true) b (digits bs) d (front_run is_digit bs))))
     (λ d. cut_if IsOne IsBetweenInLine (IsOver 32767) all (is_letter b) (symbol_piece all) (sign_or b all) (λ l. run_is_cut IsOne is_symbol_byte b bs (letter_in_symbol b l) (λ behind. ASymbol (account_of (is_ascii_alphabetic b) marks b l) (run_account is_ascii_alphabetic marks (front is_symbol_byte bs) (front_run is_symbol_byte bs))))
     (λ l. cut_if IsOne IsBetweenInLine (IsOver 32767) all (is_sign b) (word_of (Sign b) 0 all) (comment_or b all) (λ s. byte_is_cut IsOne b bs (ASign (contains signs b s)))
-    (λ s. cut_if IsOne IsBetweenInLine (IsOver 32767) all (b == 47) (comment_piece all) (line_end_piece line_end_token all) (λ s. comment_is_cut Word IsOne (IsOver 32767) b bs s)
-    (λ s. end_is_cut Word IsOne IsBetweenInLine (IsOver 32767) line_end_token (λ behind. ALineFeed) (λ behind. AReturnAndLineFeed) all)))))
+    (λ s. cut_if IsOne IsBetweenInLine (IsOver 32767) all (b == 47) (comment_piece all) (shift_piece all) (λ s. comment_is_cut Word IsOne (IsOver 32767) b bs s)
+    (λ s. shift_cut all)))))
 
 reaches : (xs rest : List ℕ) → IsOne xs rest → Reaches (length xs) (piece (xs ++ rest))
 reaches xs rest (ASymbol {b} {bs} h i) =
@@ -93,6 +106,14 @@ reaches xs rest (ASign {b} h) =
     (λ e. reaches_if 1 (is_digit b) (number_piece all) (symbol_or b all) (λ d. let no = no_digit is_sign refl b d in absurd (cc (s, no)))
     (λ d. reaches_if 1 (is_letter b) (symbol_piece all) (sign_or b all) (λ l. absurd (sign_is_no_letter b s l))
     (λ l. reaches_if 1 (is_sign b) (word_of (Sign b) 0 all) (comment_or b all) (λ e. omega arith) (λ e. absurd (cc (s, e))))))
+reaches xs rest ALeftShift =
+    let all = 60 ∷ 60 ∷ rest in
+    let here : begins_left_shift all ≡ true = ap (λ (l : List ℕ). bytes_eq (60 ∷ 60 ∷ l) (codes "<<")) (take_none rest) in
+    reaches_if 2 (begins_left_shift all) (word_of (Sign 60) 1 all) (right_or all) (λ e. omega arith) (λ e. absurd (cc (here, e)))
+reaches xs rest ARightShift =
+    let all = 62 ∷ 62 ∷ rest in
+    let here : begins_right_shift all ≡ true = ap (λ (l : List ℕ). bytes_eq (62 ∷ 62 ∷ l) (codes ">>")) (take_none rest) in
+    reaches_if 2 (begins_right_shift all) (word_of (Sign 62) 1 all) (line_end_piece line_end_token all) (λ e. omega arith) (λ e. absurd (cc (here, e)))
 reaches xs rest ALineFeed = omega arith
 reaches xs rest AReturnAndLineFeed = omega arith
 

@@ -1,5 +1,5 @@
 -- The rows that the assembler looks up by letters are those of the texts.
-use Rattle.std.proofs.Common.{◌≡◌, refl}
+use Rattle.std.proofs.Common.{◌≡◌, true, false, refl}
 use Rattle.hack_asm.specs.declared.token.Letter.TheVariants.{Zero, One, A, D, M}
 use Rattle.hack_asm.specs.declared.token.Operator.TheVariants.{Plus, Minus, And, Or}
 use Rattle.hack_asm.specs.declared.lines.Prefix.TheVariants as prefix
@@ -124,3 +124,13 @@ found (comp.Pair M Or One) = refl
 found (comp.Pair M Or A) = refl
 found (comp.Pair M Or D) = refl
 found (comp.Pair M Or M) = refl
+found (comp.Shifted Zero true) = refl
+found (comp.Shifted Zero false) = refl
+found (comp.Shifted One true) = refl
+found (comp.Shifted One false) = refl
+found (comp.Shifted A true) = refl
+found (comp.Shifted A false) = refl
+found (comp.Shifted D true) = refl
+found (comp.Shifted D false) = refl
+found (comp.Shifted M true) = refl
+found (comp.Shifted M false) = refl

@@ -1,5 +1,5 @@
 -- Each computation that a text spells has a row of the table of comp.
-use Rattle.std.proofs.Common.{◌≡◌, Bool, true, List, [], ◌∷◌, Option, Some, None, is_some, refl, ap, sym, subst}
+use Rattle.std.proofs.Common.{◌≡◌, Bool, true, false, List, [], ◌∷◌, Option, Some, None, is_some, refl, ap, sym, subst}
 use Rattle.std.specs.List.{AllByRecursion}
 use Rattle.grammar.specs.Rules.{Rule, mark, word, end, seq, choice, option, repeat, name, within, Tree, Skip, Node, Leaf, Pair, Left, Right, Absent, Present, NoMore, More, Rules, Reads, marked, worded, at_end, both, left, right, passed, taken, ended, again, named, inside}
 use Rattle.hack_asm.specs.Tokens.{Word, finish}
@@ -61,6 +61,7 @@ letter_held p y (role.Letter z) h e = subst (λ (x : Letter). p x ≡ true) (sym
 letter_held p y (role.Operator op) h e = absurd cc
 letter_held p y (role.Several n) h e = absurd cc
 letter_held p y (role.Jump n) h e = absurd cc
+letter_held p y (role.Shift n) h e = absurd cc
 letter_held p y role.Plain h e = absurd cc
 
 abbrev the_operator : Said → Operator
@@ -72,6 +73,7 @@ operator_held p op (role.Letter z) h e = absurd cc
 operator_held p op (role.Operator o) h e = subst (λ (x : Operator). p x ≡ true) (sym (ap the_operator e)) h
 operator_held p op (role.Several n) h e = absurd cc
 operator_held p op (role.Jump n) h e = absurd cc
+operator_held p op (role.Shift n) h e = absurd cc
 operator_held p op role.Plain h e = absurd cc
 
 abbrev HasOne : Comp → Type 0
@@ -206,6 +208,16 @@ not_found A h = refl
 not_found D h = refl
 not_found M h = refl
 
+shift_found : (x : Letter) (side : Bool) → is_register x ≡ true → HasOne (comps.Shifted x side)
+shift_found Zero side h = absurd cc
+shift_found One side h = absurd cc
+shift_found A true h = refl
+shift_found A false h = refl
+shift_found D true h = refl
+shift_found D false h = refl
+shift_found M true h = refl
+shift_found M false h = refl
+
 module _ (g : Rules Word (Unit {0}) (Unit {0}) Said) where
   operation_found : (x : Letter) (op : Operator) (y : Letter) → Shaped g (assembly.operation x) (operation_tree op y) → HasOne (comps.Pair x op y)
   operation_found x Plus y h = sum_found x y (operator_held (adds x) Plus h.0.0.role h.0.1 h.0.2) (letter_held (sums x) y h.1.0.role h.1.1 h.1.2)
@@ -218,20 +230,30 @@ module _ (g : Rules Word (Unit {0}) (Unit {0}) Said) where
   comp_found (comps.Under prefix.Minus y) h = minus_found y (letter_held is_not_zero y h.1.0.role h.1.1 h.1.2)
   comp_found (comps.Under prefix.Not y) h = not_found y (letter_held is_register y h.1.0.role h.1.1 h.1.2)
   comp_found (comps.Pair Zero op y) h = operation_found Zero op y h.1
+  comp_found (comps.Shifted Zero side) h = shift_found Zero side h.1.1
   comp_found (comps.Pair One op y) h = operation_found One op y h.1
+  comp_found (comps.Shifted One side) h = shift_found One side h.1.1
   comp_found (comps.Pair A op y) h = operation_found A op y h.1
+  comp_found (comps.Shifted A side) h = shift_found A side refl
   comp_found (comps.Pair D op y) h = operation_found D op y h.1
+  comp_found (comps.Shifted D side) h = shift_found D side refl
   comp_found (comps.Pair M op y) h = operation_found M op y h.1
+  comp_found (comps.Shifted M side) h = shift_found M side refl
 
   bare_found : (d : Option Letter) (c : Comp) → Shaped g (assembly.by_letter assembly.after_letter assembly.unary) (bare_tree d c) → HasOne c
   bare_found None (comps.Alone x) h = alone_found x
   bare_found None (comps.Under prefix.Minus y) h = minus_found y (letter_held is_not_zero y h.1.0.role h.1.1 h.1.2)
   bare_found None (comps.Under prefix.Not y) h = not_found y (letter_held is_register y h.1.0.role h.1.1 h.1.2)
   bare_found None (comps.Pair Zero op y) h = operation_found Zero op y h.1
+  bare_found None (comps.Shifted Zero side) h = shift_found Zero side h.1.1
   bare_found None (comps.Pair One op y) h = operation_found One op y h.1
+  bare_found None (comps.Shifted One side) h = shift_found One side h.1.1
   bare_found None (comps.Pair A op y) h = operation_found A op y h.1
+  bare_found None (comps.Shifted A side) h = shift_found A side refl
   bare_found None (comps.Pair D op y) h = operation_found D op y h.1
+  bare_found None (comps.Shifted D side) h = shift_found D side refl
   bare_found None (comps.Pair M op y) h = operation_found M op y h.1
+  bare_found None (comps.Shifted M side) h = shift_found M side refl
   bare_found (Some Zero) c h = comp_found c h.1.1
   bare_found (Some One) c h = comp_found c h.1.1
   bare_found (Some A) c h = comp_found c h.1.1

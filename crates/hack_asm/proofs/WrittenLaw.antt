@@ -1,6 +1,6 @@
 -- Written assembly means the words of its instructions.
-use Rattle.std.proofs.Common.{◌≡◌, ℕ, suc, ◌*◌, ◌<◌, ◌≤◌, Bool, false, List, [], ◌∷◌, ◌++◌, Option, Some, None, Ok, map, length, refl, sym, ap, ◌∙◌, inl, arith, length-append, append_assoc}
-use Rattle.std.specs.Prelude.{decimal}
+use Rattle.std.proofs.Common.{◌≡◌, ℕ, suc, ◌+◌, ◌*◌, ◌<◌, ◌≤◌, Bool, true, false, List, [], ◌∷◌, ◌++◌, Option, Some, None, Ok, is_some, map, length, refl, sym, ap, ◌∙◌, inl, arith, length-append, append_assoc}
+use Rattle.std.specs.Prelude.{decimal, ◌&&◌}
 use Rattle.std.proofs.lemmas.Fmt.{length-decimal-le}
 use Rattle.scan_text.specs.declared.Place.{Place}
 use Rattle.scan_text.specs.Text.{start, step, walk}
@@ -14,8 +14,8 @@ use Rattle.hack_asm.specs.declared.lines.Compute.{Compute}
 use Rattle.hack_asm.specs.Tokens.{Word, made_word, piece, line_end_token, ends, close, finish}
 use Rattle.hack_asm.specs.Grammar as assembly
 use Rattle.hack_asm.specs.Trees.{line_tree, lines_tree}
-use Rattle.hack_asm.specs.Comps.{comp_text, text_in}
-use Rattle.hack_asm.specs.Written.{IsSpelled, AreSpelled, WrittenMeans, destinations, jumps, instr_text, asm_text}
+use Rattle.hack_asm.specs.Comps.{computations, entry, text_in}
+use Rattle.hack_asm.specs.Written.{IsSpelled, AreSpelled, WrittenMeans, destinations, jumps, computed_text, instr_text, asm_text}
 use Rattle.grammar.proofs.Entered.{skip, entered}
 use Rattle.grammar.proofs.LinePieces.{close_none, cut_within}
 use Rattle.hack_asm.proofs.Letters.{R}
@@ -54,12 +54,12 @@ address_lined n small = record {
   word = refl;
 }
 
-module _ (m : Bool) (comp dest jump : ℕ) (c : Computes m comp (comp_text m comp)) (d : Goes dest (text_in destinations dest)) (j : Jumps jump (text_in jumps jump)) where
+module _ (i : Instr) (bare dest jump : ℕ) (is_text : instr_text i ≡ computed_text bare dest jump) (is_word : word_of i ≡ bare + dest * 8 + jump) (c : Computes bare (text_in computations bare)) (d : Goes dest (text_in destinations dest)) (j : Jumps jump (text_in jumps jump)) where
   abbrev comp_at : Place → Place
   comp_at at = walk at (text_in destinations dest)
 
   abbrev jump_at : Place → Place
-  jump_at at = walk (comp_at at) (comp_text m comp)
+  jump_at at = walk (comp_at at) (text_in computations bare)
 
   abbrev compute_end : Place → Place
   compute_end at = walk (jump_at at) (text_in jumps jump)
@@ -73,17 +73,18 @@ module _ (m : Bool) (comp dest jump : ℕ) (c : Computes m comp (comp_text m com
   abbrev compute_spelled : Compute
   compute_spelled = record { dest = d.spelled; comp = c.spelled; jump = j.spelled }
 
-  bytes : (bs : List ℕ) → instr_text (instr.Compute m comp dest jump) ++ bs ≡ text_in destinations dest ++ (comp_text m comp ++ (text_in jumps jump ++ 10 ∷ bs))
+  bytes : (bs : List ℕ) → instr_text i ++ bs ≡ text_in destinations dest ++ (text_in computations bare ++ (text_in jumps jump ++ 10 ∷ bs))
   bytes bs =
-      append_assoc (text_in destinations dest) (comp_text m comp ++ (text_in jumps jump ++ 10 ∷ [])) bs
+      ap (λ (l : List ℕ). l ++ bs) is_text
+      ∙ append_assoc (text_in destinations dest) (text_in computations bare ++ (text_in jumps jump ++ 10 ∷ [])) bs
       ∙ ap (λ (l : List ℕ). text_in destinations dest ++ l)
-      (append_assoc (comp_text m comp) (text_in jumps jump ++ 10 ∷ []) bs
-      ∙ ap (λ (l : List ℕ). comp_text m comp ++ l) (append_assoc (text_in jumps jump) (10 ∷ []) bs))
+      (append_assoc (text_in computations bare) (text_in jumps jump ++ 10 ∷ []) bs
+      ∙ ap (λ (l : List ℕ). text_in computations bare ++ l) (append_assoc (text_in jumps jump) (10 ∷ []) bs))
 
-  compute_cut : (last : Option Word) (at : Place) (bs : List ℕ) (ts : List Word) → the_cut (Some (line_end_token (compute_end at))) (step (compute_end at) 10) bs ≡ Ok ts → the_cut last at (instr_text (instr.Compute m comp dest jump) ++ bs) ≡ Ok (d.tokens at (comp_tokens at ts))
+  compute_cut : (last : Option Word) (at : Place) (bs : List ℕ) (ts : List Word) → the_cut (Some (line_end_token (compute_end at))) (step (compute_end at) 10) bs ≡ Ok ts → the_cut last at (instr_text i ++ bs) ≡ Ok (d.tokens at (comp_tokens at ts))
   compute_cut last at bs ts e =
       ap (the_cut last at) (bytes bs)
-      ∙ d.cut last at (comp_text m comp ++ (text_in jumps jump ++ 10 ∷ bs)) (comp_tokens at ts)
+      ∙ d.cut last at (text_in computations bare ++ (text_in jumps jump ++ 10 ∷ bs)) (comp_tokens at ts)
       (λ l. c.cut l (comp_at at) (text_in jumps jump ++ 10 ∷ bs) (jump_tokens at ts) (j.apart bs)
       (λ k. j.cut k (jump_at at) bs (line_end_token (compute_end at) ∷ ts)
       (λ h. line_end_cut h (compute_end at) bs ts e)))
@@ -96,7 +97,7 @@ module _ (m : Bool) (comp dest jump : ℕ) (c : Computes m comp (comp_text m com
       skip begins.blank refl
       (both (skip begins.label refl (skip begins.address refl (both part (j.reads end (jump_at at) (compute_end at) ts)))) (marked refl))
 
-  compute_lined : Lined (instr.Compute m comp dest jump)
+  compute_lined : Lined i
   compute_lined = record {
     direct = computed compute_spelled;
     ends_at = compute_end;
@@ -107,13 +108,30 @@ module _ (m : Bool) (comp dest jump : ℕ) (c : Computes m comp (comp_text m com
         let a = d.short in
         let b = c.short in
         let e = j.short in
-        omega (arith, a, b, e, length-append (text_in destinations dest) (comp_text m comp ++ (text_in jumps jump ++ 10 ∷ [])), length-append (comp_text m comp) (text_in jumps jump ++ 10 ∷ []), length-append (text_in jumps jump) (10 ∷ []));
-    word = λ i. word_of (instr.Compute (c.row_is i).0 (c.row_is i).1 (d.bits_are i) (j.bits_are i));
+        let same = ap length is_text in
+        omega (arith, a, b, e, same, length-append (text_in destinations dest) (text_in computations bare ++ (text_in jumps jump ++ 10 ∷ [])), length-append (text_in computations bare) (text_in jumps jump ++ 10 ∷ []), length-append (text_in jumps jump) (10 ∷ []));
+    word = (λ z. c.row_is z + d.bits_are z * 8 + j.bits_are z) ∙ sym is_word;
   }
+
+shift_has : (m side d : Bool) → (d && m) ≡ false → is_some (entry computations (word_of (instr.Shift m side d 0 0))) ≡ true
+shift_has true side true h = absurd (cc h)
+shift_has true true false h = refl
+shift_has true false false h = refl
+shift_has false true true h = refl
+shift_has false false true h = refl
+shift_has false true false h = refl
+shift_has false false false h = refl
 
 lined : (i : Instr) → IsSpelled i → Lined i
 lined (instr.Address n) h = address_lined n h
-lined (instr.Compute m comp dest jump) h = compute_lined m comp dest jump (computes m comp h.0) (goes dest h.1) (jumps_by jump h.2)
+lined (instr.Compute m comp dest jump) h =
+    let bare = word_of (instr.Compute m comp 0 0) in
+    let is : word_of (instr.Compute m comp dest jump) ≡ bare + dest * 8 + jump = omega arith in
+    compute_lined (instr.Compute m comp dest jump) bare dest jump refl is (computes bare h.1) (goes dest h.0.1) (jumps_by jump h.0.2)
+lined (instr.Shift m side d dest jump) h =
+    let bare = word_of (instr.Shift m side d 0 0) in
+    let is : word_of (instr.Shift m side d dest jump) ≡ bare + dest * 8 + jump = omega arith in
+    compute_lined (instr.Shift m side d dest jump) bare dest jump refl is (computes bare (shift_has m side d h.0)) (goes dest h.1) (jumps_by jump h.2)
 
 -- the lines of some instructions
 record AllLined (is : List Instr) (last : Option Word) (at : Place) : Type 0 where

@@ -21,15 +21,15 @@ use Rattle.hack_asm.specs.declared.words.Before.{Before}
 use Rattle.hack_asm.specs.declared.words.Before.TheVariants.{Sum, Join}
 use Rattle.hack_asm.specs.Roles.{role_of}
 use Rattle.hack_asm.specs.Tokens.{Word, made_word, word_of, line_end_token, piece}
-use Rattle.hack_asm.specs.Grammar.{Said, Letter', is_sign, is_line_end, jump_role, role_said, is_register, is_not_zero, some_letter, maybe_operation, after_letter, unary, comp, operation, assignment_part, jump}
+use Rattle.hack_asm.specs.Grammar.{Said, Letter', assembly, is_sign, is_line_end, jump_role, role_said, is_register, is_not_zero, some_letter, maybe_behind, after_letter, unary, comp, operation, assignment_part, jump}
 use Rattle.hack_asm.specs.Trees.{comp_tree, unary_tree, assigned_tree, operation_tree, jump_tree}
-use Rattle.hack_asm.specs.Before.{letter_next, operator_next, operator_by, assigns_next, several_next, several_by, suits}
-use Rattle.hack_asm.specs.Comps.{Texts, computations, memory_computations, entry, or_nothing, text_in, comp_table, comp_text, meaning}
+use Rattle.hack_asm.specs.Before.{letter_next, operator_next, operator_by, shift_next, assigns_next, several_next, several_by, suits}
+use Rattle.hack_asm.specs.Comps.{Texts, computations, entry, or_nothing, text_in, meaning}
 use Rattle.hack_asm.specs.Program.{register_bit, dest_bits, jump_bits}
 use Rattle.hack_asm.specs.Written.{destinations, jumps}
-use Rattle.grammar.proofs.Entered.{skip}
-use Rattle.hack_asm.proofs.Letters.{R, with_letter, without_letter, operates, operator_enters, no_operator, to_register, operated_after, none_after, several_assigned, bare_assigned}
-use Rattle.hack_asm.proofs.WrittenText.{the_cut, token_cut, Apart, letter_byte, letter_token, letter_cut, sign_token, operator_byte, operator_cut, operator_apart}
+use Rattle.grammar.proofs.Entered.{skip, entered}
+use Rattle.hack_asm.proofs.Letters.{R, with_letter, without_letter, operates, operator_enters, no_operator, operation_behind, operation_behind_enters, shift_behind, none_behind, to_register, continued_after, none_after, several_assigned, bare_assigned}
+use Rattle.hack_asm.proofs.WrittenText.{the_cut, token_cut, Apart, letter_byte, letter_token, letter_cut, sign_token, operator_byte, operator_cut, operator_apart, shift_byte, shift_token, shift_cut, shift_apart}
 
 -- a computation may begin with the next token, and no other line
 pub record Begins (ts : List Word) : Type 0 where
@@ -40,11 +40,12 @@ pub record Begins (ts : List Word) : Type 0 where
 -- a computation does not go on with the next token
 pub record Shut (ts : List Word) : Type 0 where
   pub operators : (x : Letter) → operator_next x ts ≡ None
+  pub shifts : (x : Letter) → shift_next x ts ≡ None
   pub equals : (x : Letter) → assigns_next x ts ≡ None
 
 -- Computations
 
-pub record Computes (m : Bool) (bits : ℕ) (text : List ℕ) : Type 0 where
+pub record Computes (word : ℕ) (text : List ℕ) : Type 0 where
   pub spelled : Comp
   pub tokens : Place → List Word → List Word
   pub cut : (last : Option Word) (at : Place) (bs : List ℕ) (ts : List Word) → Apart bs → ((l : Option Word) → the_cut l (walk at text) bs ≡ Ok ts) → the_cut last at (text ++ bs) ≡ Ok (tokens at ts)
@@ -52,7 +53,7 @@ pub record Computes (m : Bool) (bits : ℕ) (text : List ℕ) : Type 0 where
   pub after : (end at : Place) (us : List Word) → Shut us → R end comp (tokens at us) (comp_tree spelled) us
   pub begins : (at : Place) (us : List Word) → Begins (tokens at us)
   pub short : length text ≤ 3
-  pub row_is : meaning spelled ≡ (m, bits)
+  pub row_is : meaning spelled ≡ word
 
 letter_comes : (x : Letter) (at : Place) (us : List Word) → letter_next (letter_token x at ∷ us) ≡ Some (x, us)
 letter_comes Zero at us = refl
@@ -91,13 +92,13 @@ no_equals D t ts h = ap (λ (b : Bool). cond b (Some ts) None) h
 no_equals M t ts h = ap (λ (b : Bool). cond b (Some ts) None) h
 
 -- a letter alone
-alone : (x : Letter) → Computes (meaning (comps.Alone x)).0 (meaning (comps.Alone x)).1 (letter_byte x ∷ [])
+alone : (x : Letter) → Computes (meaning (comps.Alone x)) (letter_byte x ∷ [])
 alone x = record {
   spelled = comps.Alone x;
   tokens = λ at ts. letter_token x at ∷ ts;
   cut = λ last at bs ts a e. letter_cut x bs last at ts a e;
-  bare = λ end at us s. bare_assigned end (letter_alone x at us) (with_letter end after_letter unary (letter_comes x at us) (none_after end x (s.equals x) (no_operator end x us (s.operators x))));
-  after = λ end at us s. with_letter end maybe_operation unary (letter_comes x at us) (passed (no_operator end x us (s.operators x)));
+  bare = λ end at us s. bare_assigned end (letter_alone x at us) (with_letter end after_letter unary (letter_comes x at us) (none_after end x (s.equals x) (none_behind end x us (no_operator end x us (s.operators x)) (s.shifts x))));
+  after = λ end at us s. with_letter end maybe_behind unary (letter_comes x at us) (passed (none_behind end x us (no_operator end x us (s.operators x)) (s.shifts x)));
   begins = λ at us. letter_begins x at us;
   short = omega arith;
   row_is = refl;
@@ -129,7 +130,7 @@ operation_reads : (x : Letter) (op : Operator) (y : Letter) (b : Before) → ((u
 operation_reads x op y b h s end at us =
     operates end x op b _ (letter_token y (third_at x op at) ∷ us) us y (operator_comes x op b (second_at x at) (letter_token y (third_at x op at) ∷ us) (h _)) (letter_reads (suits b) y end (third_at x op at) us s)
 
-pair : (x : Letter) (op : Operator) (y : Letter) (b : Before) → ((us : List Word) → operator_by x (role.Operator op) us ≡ Some (op, b, us)) → suits b y ≡ true → Computes (meaning (comps.Pair x op y)).0 (meaning (comps.Pair x op y)).1 (letter_byte x ∷ operator_byte op ∷ letter_byte y ∷ [])
+pair : (x : Letter) (op : Operator) (y : Letter) (b : Before) → ((us : List Word) → operator_by x (role.Operator op) us ≡ Some (op, b, us)) → suits b y ≡ true → Computes (meaning (comps.Pair x op y)) (letter_byte x ∷ operator_byte op ∷ letter_byte y ∷ [])
 pair x op y b h s = record {
   spelled = comps.Pair x op y;
   tokens = λ at ts. letter_token x at ∷ behind_first x op y at ts;
@@ -137,12 +138,41 @@ pair x op y b h s = record {
       letter_cut x (operator_byte op ∷ letter_byte y ∷ bs) last at _ (operator_apart op (letter_byte y ∷ bs))
       (λ l. operator_cut op (letter_byte y ∷ bs) l (second_at x at) _
       (λ k. letter_cut y bs k (third_at x op at) ts a e));
-  bare = λ end at us t. bare_assigned end (letter_alone x at _) (with_letter end after_letter unary (letter_comes x at _) (operated_after end x (operator_no_equals x op (second_at x at) _) (operation_reads x op y b h s end at us)));
-  after = λ end at us t. with_letter end maybe_operation unary (letter_comes x at _) (taken (operator_enters end x op b (behind_first x op y at us) _ (operator_comes x op b (second_at x at) (letter_token y (third_at x op at) ∷ us) (h _))) (operation_reads x op y b h s end at us));
+  bare = λ end at us t. bare_assigned end (letter_alone x at _) (with_letter end after_letter unary (letter_comes x at _) (continued_after end x (operator_no_equals x op (second_at x at) _) (operation_behind end x (operation_reads x op y b h s end at us))));
+  after = λ end at us t. with_letter end maybe_behind unary (letter_comes x at _) (taken (operation_behind_enters end x (behind_first x op y at us) (operator_enters end x op b (behind_first x op y at us) _ (operator_comes x op b (second_at x at) (letter_token y (third_at x op at) ∷ us) (h _)))) (operation_behind end x (operation_reads x op y b h s end at us)));
   begins = λ at us. letter_begins x at _;
   short = omega arith;
   row_is = refl;
 }
+
+-- a register and a shift
+no_operator_shift : (x : Letter) (side : Bool) (at : Place) (us : List Word) → operator_next x (shift_token side at ∷ us) ≡ None
+no_operator_shift x true at us = refl
+no_operator_shift x false at us = refl
+
+no_equals_shift : (x : Letter) (side : Bool) (at : Place) (us : List Word) → assigns_next x (shift_token side at ∷ us) ≡ None
+no_equals_shift x true at us = no_equals x (shift_token true at) us refl
+no_equals_shift x false at us = no_equals x (shift_token false at) us refl
+
+shift_comes : (x : Letter) (side : Bool) (at : Place) (us : List Word) → is_register x ≡ true → shift_next x (shift_token side at ∷ us) ≡ Some (side, us)
+shift_comes x true at us r = ap (λ (b : Bool). cond {A = Option (Bool × List Word)} b (Some (true, us)) None) r
+shift_comes x false at us r = ap (λ (b : Bool). cond {A = Option (Bool × List Word)} b (Some (false, us)) None) r
+
+shifted : (x : Letter) (side : Bool) → is_register x ≡ true → Computes (meaning (comps.Shifted x side)) (letter_byte x ∷ shift_byte side ∷ shift_byte side ∷ [])
+shifted x side r =
+    let reads = λ (end at : Place) (us : List Word). shift_behind end x (shift_token side (second_at x at) ∷ us) us side (no_operator end x (shift_token side (second_at x at) ∷ us) (no_operator_shift x side (second_at x at) us)) (shift_comes x side (second_at x at) us r) in
+    record {
+      spelled = comps.Shifted x side;
+      tokens = λ at ts. letter_token x at ∷ shift_token side (second_at x at) ∷ ts;
+      cut = λ last at bs ts a e.
+          letter_cut x (shift_byte side ∷ shift_byte side ∷ bs) last at _ (shift_apart side (shift_byte side ∷ bs))
+          (λ l. shift_cut side bs l (second_at x at) ts e);
+      bare = λ end at us s. bare_assigned end (letter_alone x at _) (with_letter end after_letter unary (letter_comes x at _) (continued_after end x (no_equals_shift x side (second_at x at) us) (reads end at us)));
+      after = λ end at us s. with_letter end maybe_behind unary (letter_comes x at _) (taken (entered Word (Unit {0}) (Unit {0}) Said (assembly end) (reads end at us) refl) (reads end at us));
+      begins = λ at us. letter_begins x at _;
+      short = omega arith;
+      row_is = refl;
+    }
 
 -- a letter behind `-` or `!`
 abbrev prefix_byte : Prefix → ℕ
@@ -173,7 +203,7 @@ unary_reads : (p : Prefix) (y : Letter) (end at next_at : Place) (us : List Word
 unary_reads prefix.Minus y end at next_at us h = left refl (both (marked refl) (letter_reads is_not_zero y end next_at us h))
 unary_reads prefix.Not y end at next_at us h = skip refl refl (both (marked refl) (letter_reads is_register y end next_at us h))
 
-under : (p : Prefix) (y : Letter) → may_follow p y ≡ true → Computes (meaning (comps.Under p y)).0 (meaning (comps.Under p y)).1 (prefix_byte p ∷ letter_byte y ∷ [])
+under : (p : Prefix) (y : Letter) → may_follow p y ≡ true → Computes (meaning (comps.Under p y)) (prefix_byte p ∷ letter_byte y ∷ [])
 under p y h = record {
   spelled = comps.Under p y;
   tokens = λ at ts. sign_token (prefix_byte p) at ∷ letter_token y (walk at (prefix_byte p ∷ [])) ∷ ts;
@@ -181,7 +211,7 @@ under p y h = record {
       token_cut (prefix_byte p) [] (letter_byte y ∷ bs) (Sign (prefix_byte p)) last at _ (prefix_piece p (letter_byte y ∷ bs))
       (λ l. letter_cut y bs l (walk at (prefix_byte p ∷ [])) ts a e);
   bare = λ end at us s. bare_assigned end (prefix_alone p at _) (without_letter end after_letter unary (prefix_no_letter p at _) refl (unary_reads p y end at _ us h));
-  after = λ end at us s. without_letter end maybe_operation unary (prefix_no_letter p at _) refl (unary_reads p y end at _ us h);
+  after = λ end at us s. without_letter end maybe_behind unary (prefix_no_letter p at _) refl (unary_reads p y end at _ us h);
   begins = λ at us. prefix_begins p at _;
   short = omega arith;
   row_is = refl;
@@ -200,8 +230,8 @@ in_table : (P : ℕ → List ℕ → Type 0) (rows : Texts) (bits : ℕ) → Hol
 in_table P [] bits p h = absurd cc
 in_table P (row ∷ rows) bits p h = in_row P row.0 row.1 rows bits (nat_eq bits row.0) refl p.0 (in_table P rows bits p.1) h
 
-plain_rows : Hold (Computes false) computations
-plain_rows = (
+rows_compute : Hold Computes computations
+rows_compute = (
   alone Zero,
   (
     alone One,
@@ -233,7 +263,61 @@ plain_rows = (
                               pair D Minus A (Sum D) (λ us. refl) refl,
                               (
                                 pair A Minus D (Sum A) (λ us. refl) refl,
-                                (pair D And A (Join D) (λ us. refl) refl, (pair D Or A (Join D) (λ us. refl) refl, tt)),
+                                (
+                                  pair D And A (Join D) (λ us. refl) refl,
+                                  (
+                                    pair D Or A (Join D) (λ us. refl) refl,
+                                    (
+                                      alone M,
+                                      (
+                                        under prefix.Not M refl,
+                                        (
+                                          under prefix.Minus M refl,
+                                          (
+                                            pair M Plus One (Sum M) (λ us. refl) refl,
+                                            (
+                                              pair M Minus One (Sum M) (λ us. refl) refl,
+                                              (
+                                                pair D Plus M (Sum D) (λ us. refl) refl,
+                                                (
+                                                  pair D Minus M (Sum D) (λ us. refl) refl,
+                                                  (
+                                                    pair M Minus D (Sum M) (λ us. refl) refl,
+                                                    (
+                                                      pair D And M (Join D) (λ us. refl) refl,
+                                                      (
+                                                        pair D Or M (Join D) (λ us. refl) refl,
+                                                        (
+                                                          shifted D true refl,
+                                                          (
+                                                            shifted D false refl,
+                                                            (
+                                                              shifted A true refl,
+                                                              (
+                                                                shifted A false refl,
+                                                                (
+                                                                  shifted M true refl,
+                                                                  (
+                                                                    shifted M false refl,
+                                                                    tt,
+                                                                  ),
+                                                                ),
+                                                              ),
+                                                            ),
+                                                          ),
+                                                        ),
+                                                      ),
+                                                    ),
+                                                  ),
+                                                ),
+                                              ),
+                                            ),
+                                          ),
+                                        ),
+                                      ),
+                                    ),
+                                  ),
+                                ),
                               ),
                             ),
                           ),
@@ -251,36 +335,8 @@ plain_rows = (
   ),
 )
 
-memory_rows : Hold (Computes true) memory_computations
-memory_rows = (
-  alone M,
-  (
-    under prefix.Not M refl,
-    (
-      under prefix.Minus M refl,
-      (
-        pair M Plus One (Sum M) (λ us. refl) refl,
-        (
-          pair M Minus One (Sum M) (λ us. refl) refl,
-          (
-            pair D Plus M (Sum D) (λ us. refl) refl,
-            (
-              pair D Minus M (Sum D) (λ us. refl) refl,
-              (
-                pair M Minus D (Sum M) (λ us. refl) refl,
-                (pair D And M (Join D) (λ us. refl) refl, (pair D Or M (Join D) (λ us. refl) refl, tt)),
-              ),
-            ),
-          ),
-        ),
-      ),
-    ),
-  ),
-)
-
-pub computes : (m : Bool) (bits : ℕ) → is_some (entry (comp_table m) bits) ≡ true → Computes m bits (comp_text m bits)
-computes true bits h = in_table (Computes true) memory_computations bits memory_rows h
-computes false bits h = in_table (Computes false) computations bits plain_rows h
+pub computes : (word : ℕ) → is_some (entry computations word) ≡ true → Computes word (text_in computations word)
+computes word h = in_table Computes computations word rows_compute h
 
 below_eight : (P : ℕ → Type 0) → P 0 → P 1 → P 2 → P 3 → P 4 → P 5 → P 6 → P 7 → (n : ℕ) → n < 8 → P n
 below_eight P a b c d e f g h zero lt = a
@@ -374,7 +430,7 @@ no_jump = record {
   tokens = λ at ts. ts;
   apart = λ bs. record { symbol = refl; number = refl };
   cut = λ last at bs ts e. e last;
-  shut = λ at ended_at us. record { operators = λ x. refl; equals = λ x. no_equals x (line_end_token ended_at) us refl };
+  shut = λ at ended_at us. record { operators = λ x. refl; shifts = λ x. refl; equals = λ x. no_equals x (line_end_token ended_at) us refl };
   reads = λ end at ended_at us. passed refl;
   short = omega arith;
   bits_are = refl;
@@ -388,7 +444,7 @@ jumping c d n piece_is role_is small = record {
   cut = λ last at bs ts e.
       token_cut 59 [] (74 ∷ c ∷ d ∷ 10 ∷ bs) (Sign 59) last at _ refl
       (λ l. token_cut 74 (c ∷ d ∷ []) (10 ∷ bs) Symbol l (walk at (59 ∷ [])) ts (piece_is bs) e);
-  shut = λ at ended_at us. record { operators = λ x. refl; equals = λ x. no_equals x (sign_token 59 at) _ refl };
+  shut = λ at ended_at us. record { operators = λ x. refl; shifts = λ x. refl; equals = λ x. no_equals x (sign_token 59 at) _ refl };
   reads = λ end at ended_at us.
       subst (λ (s : Said). R end (option jump) (sign_token 59 at ∷ made_word Symbol (74 ∷ c ∷ d ∷ []) (walk at (59 ∷ [])) ∷ line_end_token ended_at ∷ us) (Present (Pair Skip (Leaf s))) (line_end_token ended_at ∷ us))
       (ap role_said role_is) (taken refl (both (marked refl) (worded (ap jump_role role_is) refl)));

@@ -1,13 +1,16 @@
 -- How written assembly is cut into tokens.
 use Rattle.std.proofs.Common.{◌≡◌, ℕ, suc, ◌+◌, ◌*◌, ◌-◌, ◌/◌, ◌%◌, ◌<◌, ◌≤◌, ◌^◌, Bool, true, false, cond, List, [], ◌∷◌, ◌++◌, Option, Some, Result, Ok, length, take, min, refl, ap, ◌∙◌, arith, le-leb, le-ltb, ne_eqb, length-append}
-use Rattle.std.specs.Prelude.{◌&&◌, ◌||◌, ◌==◌, nat_lt, nat_le, decimal as numeral}
+use Rattle.std.specs.Prelude.{◌&&◌, ◌||◌, ◌==◌, nat_lt, nat_le, codes, decimal as numeral}
+use Rattle.std.specs.Str.{bytes_eq}
 use Rattle.std.proofs.lemmas.Fmt.{decimal_by_steps}
 use Rattle.scan_text.specs.declared.Place.{Place}
 use Rattle.scan_text.specs.Text.{step, walk, front, is_digit, digits, decimal, capped_count}
 use Rattle.grammar.specs.declared.Fault.{Fault}
 use Rattle.grammar.specs.declared.Fault.TheVariants.{Range}
 use Rattle.grammar.specs.Cutting.{Piece, Wrong, cut, cut_by, with_token}
+use Rattle.grammar.specs.Lines.{line_end_piece}
 use Rattle.grammar.proofs.LinePieces.{cut_past}
+use Rattle.grammar.proofs.Spaced.{take_none}
 use Rattle.hack_asm.specs.declared.token.Kind.{Kind}
 use Rattle.hack_asm.specs.declared.token.Kind.TheVariants.{Sign, Number, Symbol}
 use Rattle.hack_asm.specs.declared.token.Letter.{Letter}
@@ -98,6 +101,32 @@ operator_apart Plus bs = record { symbol = refl; number = refl }
 operator_apart Minus bs = record { symbol = refl; number = refl }
 operator_apart And bs = record { symbol = refl; number = refl }
 operator_apart Or bs = record { symbol = refl; number = refl }
+
+-- Shifts
+
+abbrev pub shift_byte : Bool → ℕ
+shift_byte left = cond left 60 62
+
+abbrev pub shift_token : Bool → Place → Word
+shift_token left at = made_word (Sign (shift_byte left)) (shift_byte left ∷ shift_byte left ∷ []) at
+
+-- the piece that begins with two bytes, by the rest of a front of them
+abbrev left_piece_of : List ℕ → List ℕ → Piece Word
+left_piece_of l all = cond (bytes_eq (60 ∷ 60 ∷ l) (codes "<<")) (word_of (Sign 60) 1 all) (cond (bytes_eq (60 ∷ 60 ∷ l) (codes ">>")) (word_of (Sign 62) 1 all) (line_end_piece line_end_token all))
+
+abbrev right_piece_of : List ℕ → List ℕ → Piece Word
+right_piece_of l all = cond (bytes_eq (62 ∷ 62 ∷ l) (codes "<<")) (word_of (Sign 60) 1 all) (cond (bytes_eq (62 ∷ 62 ∷ l) (codes ">>")) (word_of (Sign 62) 1 all) (line_end_piece line_end_token all))
+
+shift_piece_is : (left : Bool) (bs : List ℕ) → piece (shift_byte left ∷ shift_byte left ∷ bs) ≡ word_of (Sign (shift_byte left)) 1 (shift_byte left ∷ shift_byte left ∷ bs)
+shift_piece_is true bs = ap (λ (l : List ℕ). left_piece_of l (60 ∷ 60 ∷ bs)) (take_none bs)
+shift_piece_is false bs = ap (λ (l : List ℕ). right_piece_of l (62 ∷ 62 ∷ bs)) (take_none bs)
+
+pub shift_cut : (left : Bool) (bs : List ℕ) (last : Option Word) (at : Place) (ts : List Word) → ((l : Option Word) → the_cut l (walk at (shift_byte left ∷ shift_byte left ∷ [])) bs ≡ Ok ts) → the_cut last at (shift_byte left ∷ shift_byte left ∷ bs) ≡ Ok (shift_token left at ∷ ts)
+shift_cut left bs last at ts e = token_cut (shift_byte left) (shift_byte left ∷ []) bs (Sign (shift_byte left)) last at ts (shift_piece_is left bs) e
+
+pub shift_apart : (left : Bool) (bs : List ℕ) → Apart (shift_byte left ∷ bs)
+shift_apart true bs = record { symbol = refl; number = refl }
+shift_apart false bs = record { symbol = refl; number = refl }
 
 -- Numbers
 

@@ -10,11 +10,12 @@ use Rattle.hack_asm.specs.declared.token.Operator.{Operator}
 use Rattle.hack_asm.specs.declared.token.Role.{Role}
 use Rattle.hack_asm.specs.declared.token.Role.TheVariants as role
 use Rattle.hack_asm.specs.declared.token.Token as declared
+use Rattle.hack_asm.specs.declared.lines.Behind.{Behind}
 use Rattle.hack_asm.specs.declared.words.Before.{Before}
 use Rattle.hack_asm.specs.declared.words.Before.TheVariants.{Sum, Join, Negation, Inversion}
 use Rattle.hack_asm.specs.Tokens.{Word, view}
-use Rattle.hack_asm.specs.Grammar.{Said, assembly, sums, joins, adds, meets, is_not_zero, is_register, operation, assigns}
-use Rattle.hack_asm.specs.Trees.{operation_tree}
+use Rattle.hack_asm.specs.Grammar.{Said, assembly, sums, joins, adds, meets, is_not_zero, is_register, operation, behind, assigns}
+use Rattle.hack_asm.specs.Trees.{operation_tree, behind_tree}
 
 -- the letters that may come, by what stands before them
 abbrev pub suits : Before → Letter → Bool
@@ -50,6 +51,15 @@ abbrev pub operator_next : Letter → List Word → Option (Operator × Before �
 operator_next x [] = None
 operator_next x (t ∷ ts) = operator_by x t.role ts
 
+-- a shift behind a register
+abbrev pub shift_by : Letter → Role → List Word → Option (Bool × List Word)
+shift_by x (role.Shift left) ts = if is_register x then Some (left, ts) else None
+shift_by x _ ts = None
+
+abbrev pub shift_next : Letter → List Word → Option (Bool × List Word)
+shift_next x [] = None
+shift_next x (t ∷ ts) = shift_by x t.role ts
+
 -- `=` behind a register
 abbrev pub assigns_next : Letter → List Word → Option (List Word)
 assigns_next x [] = None
@@ -60,3 +70,9 @@ abbrev pub Operates : Place → Letter → List declared.Token → Result (Optio
 Operates end x ts (Ok None) = enters (assembly end) (operation x) (map view ts) ≡ false
 Operates end x ts (Ok (Some r)) = Reads Word (Unit {0}) (Unit {0}) Said (assembly end) tt (operation x) (map view ts) (operation_tree r.0 r.1) tt (map view r.2.now)
 Operates end x ts (Err e) = (enters (assembly end) (operation x) (map view ts) ≡ true) × Halt (Stops Word (Unit {0}) (Unit {0}) Said (assembly end) tt (operation x) (map view ts)) e
+
+-- What stands behind a letter was read, an operator and a letter or a shift; or nothing does; or memory ran out or it stops.
+abbrev pub Continues : Place → Letter → List declared.Token → Result (Option (Behind × Bor (List declared.Token))) ReadError → Type 0
+Continues end x ts (Ok None) = enters (assembly end) (behind x) (map view ts) ≡ false
+Continues end x ts (Ok (Some r)) = Reads Word (Unit {0}) (Unit {0}) Said (assembly end) tt (behind x) (map view ts) (behind_tree r.0) tt (map view r.1.now)
+Continues end x ts (Err e) = (enters (assembly end) (behind x) (map view ts) ≡ true) × Halt (Stops Word (Unit {0}) (Unit {0}) Said (assembly end) tt (behind x) (map view ts)) e

@@ -22,6 +22,7 @@ pub data Said : Type 0 where
   Operator' : Operator → Said
   Several : ℕ → Said
   Jump : ℕ → Said
+  Shift' : Bool → Said
   Number : ℕ → Said
   Name : List ℕ → Place → Said
 
@@ -80,6 +81,10 @@ operator_role p _ = false
 abbrev pub is_operator : (Operator → Bool) → Word → Bool
 is_operator p t = operator_role p t.role
 
+abbrev pub shift_role : Role → Bool
+shift_role (role.Shift left) = true
+shift_role _ = false
+
 -- what they say
 
 abbrev pub number_said : Kind → Said
@@ -91,6 +96,7 @@ role_said (role.Letter x) = Letter' x
 role_said (role.Operator op) = Operator' op
 role_said (role.Several bits) = Several bits
 role_said (role.Jump bits) = Jump bits
+role_said (role.Shift left) = Shift' left
 role_said role.Plain = LineEnd
 
 abbrev pub number : Word → Said
@@ -200,25 +206,36 @@ operation x = choice
     (seq (word (is_operator (adds x)) free word_meaning) (some_letter (sums x)))
     (seq (word (is_operator (meets x)) free word_meaning) (some_letter (joins x)))
 
+-- a shift of a register, which is not the book's
+abbrev pub shifts : Letter → Word → Bool
+shifts x t = is_register x && shift_role t.role
+
+abbrev pub shift : Letter → Part
+shift x = word (shifts x) free word_meaning
+
+-- what may stand behind the first letter of a computation
+abbrev pub behind : Letter → Part
+behind x = choice (operation x) (shift x)
+
 -- one of the letters, and what stands behind it
 abbrev pub by_letter : (Letter → Part) → Part → Part
-by_letter behind other =
-    choice (seq (letter Zero) (behind Zero))
-    (choice (seq (letter One) (behind One))
-    (choice (seq (letter A) (behind A))
-    (choice (seq (letter D) (behind D))
-    (choice (seq (letter M) (behind M))
+by_letter rest other =
+    choice (seq (letter Zero) (rest Zero))
+    (choice (seq (letter One) (rest One))
+    (choice (seq (letter A) (rest A))
+    (choice (seq (letter D) (rest D))
+    (choice (seq (letter M) (rest M))
     other))))
 
 -- `-` and a letter, or `!` and a register
 abbrev pub unary : Part
 unary = choice (seq (sign 45) (some_letter is_not_zero)) (seq (sign 33) (some_letter is_register))
 
-abbrev pub maybe_operation : Letter → Part
-maybe_operation x = option (operation x)
+abbrev pub maybe_behind : Letter → Part
+maybe_behind x = option (behind x)
 
 abbrev pub comp : Part
-comp = by_letter maybe_operation unary
+comp = by_letter maybe_behind unary
 
 -- a register may be the destination
 abbrev pub assigns : Letter → Word → Bool
@@ -228,7 +245,7 @@ abbrev pub assignment : Letter → Part
 assignment x = seq (mark (Sign 61) (assigns x)) comp
 
 abbrev pub after_letter : Letter → Part
-after_letter x = option (choice (assignment x) (operation x))
+after_letter x = option (choice (assignment x) (behind x))
 
 -- a computation, with or without its destination: which it is shows only behind the first letter
 abbrev pub assignment_part : Part

@@ -1,12 +1,10 @@
 -- What the lines of an assembly text mean: symbols have their addresses, and each instruction is a word. (The book, chapter 6: the
 -- first pass enters the labels into a table of symbols, the second one the variables.)
-use Rattle.std.specs.Prelude.{ℕ, ◌+◌, ◌-◌, ◌%◌, Bool, true, false, List, [], ◌∷◌, ◌++◌, Option, Some, None, Result, Ok, Err, if◌then◌else◌, codes, length, nat_lt, nat_eq, is_some}
+use Rattle.std.specs.Prelude.{ℕ, ◌+◌, ◌-◌, ◌*◌, ◌%◌, Bool, true, false, List, [], ◌∷◌, ◌++◌, Option, Some, None, Result, Ok, Err, if◌then◌else◌, codes, length, nat_lt, nat_eq, is_some}
 use Rattle.std.specs.Str.{bytes_eq}
 use Rattle.hack_isa.specs.Machine.{image_words}
 use Rattle.word16.specs.Memory.{screen, keyboard}
 use Rattle.scan_text.specs.declared.Place.{Place}
-use Rattle.hack_isa.specs.Table.{word_of}
-use Rattle.hack_isa.specs.declared.Instr.TheVariants as instr
 use Rattle.hack_asm.specs.declared.token.Letter.{Letter}
 use Rattle.hack_asm.specs.declared.token.Letter.TheVariants.{A, D, M}
 use Rattle.hack_asm.specs.declared.lines.Dest.{Dest}
@@ -16,7 +14,7 @@ use Rattle.hack_asm.specs.Comps.{meaning}
 use Rattle.hack_asm.specs.Faults.{Wrong, Range, LabelTwice, TooLarge, TooManyVariables}
 use Rattle.hack_asm.specs.Trees.{Line, Symbol, number, symbol, label, address, compute}
 
--- The word of a computation: its row of the table of comp, where it goes, and its jump (chapter 4)
+-- The word of a computation: that of its row of the table of comp, with where it goes, and its jump (chapter 4)
 
 abbrev pub register_bit : Letter → ℕ
 register_bit A = 4
@@ -35,7 +33,7 @@ jump_bits None = 0
 jump_bits (Some bits) = bits % 8
 
 abbrev pub compute_word : Compute → ℕ
-compute_word c = word_of (instr.Compute (meaning c.comp).0 (meaning c.comp).1 (dest_bits c.dest) (jump_bits c.jump))
+compute_word c = meaning c.comp + dest_bits c.dest * 8 + jump_bits c.jump
 
 -- Symbols
 

@@ -1,7 +1,8 @@
--- The tokens of an assembly text: signs, decimal numbers, symbols and line ends, with blanks, tabs and comments between them. (The
+-- The tokens of an assembly text: signs, of which `<<` and `>>` are not the book's, decimal numbers, symbols and line ends, with blanks, tabs and comments between them. (The
 -- book, chapter 6.)
-use Rattle.std.specs.Prelude.{ℕ, suc, ◌-◌, Bool, true, false, List, [], Option, Some, None, Result, ◌==◌, ◌||◌, if◌then◌else◌, length, take, nat_lt, min}
+use Rattle.std.specs.Prelude.{ℕ, suc, ◌-◌, Bool, true, false, List, [], Option, Some, None, Result, ◌==◌, ◌||◌, if◌then◌else◌, codes, length, take, nat_lt, min}
 use Rattle.std.specs.Char.{is_ascii_alphabetic}
+use Rattle.std.specs.Str.{bytes_eq}
 use Rattle.scan_text.specs.declared.Place.{Place}
 use Rattle.scan_text.specs.Text.{start, walk, first, front, is_digit, digits, decimal, capped_count}
 use Rattle.grammar.specs.declared.Fault.{Fault}
@@ -36,6 +37,13 @@ is_symbol_byte b = is_letter b || is_digit b
 abbrev pub is_sign : ℕ → Bool
 is_sign b = b == 64 || b == 40 || b == 41 || b == 61 || b == 59 || b == 43 || b == 45 || b == 33 || b == 38 || b == 124
 
+-- `<<` and `>>` are one token each; a `<` or `>` alone begins none
+abbrev pub begins_left_shift : List ℕ → Bool
+begins_left_shift bs = bytes_eq (take 2 bs) (codes "<<")
+
+abbrev pub begins_right_shift : List ℕ → Bool
+begins_right_shift bs = bytes_eq (take 2 bs) (codes ">>")
+
 -- a token of a kind and these bytes
 abbrev pub made_word : Kind → List ℕ → Place → Word
 made_word kind text at = record { kind = kind; role = role_of text; text = text; place = at }
@@ -57,6 +65,13 @@ symbol_piece bs = word_of Symbol (length (front is_symbol_byte bs) - 1) bs
 abbrev pub line_end_token : Place → Word
 line_end_token = made_word LineEnd []
 
+-- a shift, or else a line end
+abbrev pub shift_piece : List ℕ → Piece Word
+shift_piece bs =
+    if begins_left_shift bs then word_of (Sign 60) 1 bs
+    else (if begins_right_shift bs then word_of (Sign 62) 1 bs
+    else line_end_piece line_end_token bs)
+
 -- what begins at the first byte
 abbrev pub piece_at : Option ℕ → List ℕ → Piece Word
 piece_at None bs = Passed 0
@@ -66,7 +81,7 @@ piece_at (Some b) bs =
     else (if is_letter b then symbol_piece bs
     else (if is_sign b then word_of (Sign b) 0 bs
     else (if b == 47 then comment_piece bs
-    else line_end_piece line_end_token bs))))
+    else shift_piece bs))))
 
 abbrev pub piece : List ℕ → Piece Word
 piece bs = piece_at (first bs) bs

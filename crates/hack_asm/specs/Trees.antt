@@ -5,7 +5,7 @@ use Rattle.grammar.specs.declared.Fault.{Fault}
 use Rattle.grammar.specs.Rules.{Tree, Skip, Leaf, Pair, Left, Right, Absent, Present, NoMore, tree_of_list}
 use Rattle.grammar.specs.Texts.{Spelled, Refused}
 use Rattle.hack_asm.specs.Tokens.{tokens_of, finish}
-use Rattle.hack_asm.specs.Grammar.{Said, Letter', Operator', Several, Jump, Number, Name, assembly, whole}
+use Rattle.hack_asm.specs.Grammar.{Said, Letter', Operator', Shift', Several, Jump, Number, Name, assembly, whole}
 use Rattle.hack_asm.specs.declared.token.Letter.{Letter}
 use Rattle.hack_asm.specs.declared.token.Letter.TheVariants.{Zero, One, A, D, M}
 use Rattle.hack_asm.specs.declared.token.Operator.{Operator}
@@ -14,6 +14,8 @@ use Rattle.hack_asm.specs.declared.lines.Prefix.{Prefix}
 use Rattle.hack_asm.specs.declared.lines.Prefix.TheVariants as prefix
 use Rattle.hack_asm.specs.declared.lines.Comp.{Comp}
 use Rattle.hack_asm.specs.declared.lines.Comp.TheVariants as comp
+use Rattle.hack_asm.specs.declared.lines.Behind.{Behind}
+use Rattle.hack_asm.specs.declared.lines.Behind.TheVariants as behinds
 use Rattle.hack_asm.specs.declared.lines.Dest.{Dest}
 use Rattle.hack_asm.specs.declared.lines.Dest.TheVariants as dest
 use Rattle.hack_asm.specs.declared.lines.Compute.{Compute}
@@ -83,15 +85,26 @@ abbrev pub unary_tree : Prefix → Letter → AsmTree
 unary_tree prefix.Minus y = Left (Pair Skip (Leaf (Letter' y)))
 unary_tree prefix.Not y = Right (Pair Skip (Leaf (Letter' y)))
 
+abbrev pub behind_tree : Behind → AsmTree
+behind_tree (behinds.Operation op y) = Left (operation_tree op y)
+behind_tree (behinds.Shift left) = Right (Leaf (Shift' left))
+
+-- a computation whose first letter something stands behind
+abbrev pub comp_of : Letter → Behind → Comp
+comp_of x (behinds.Operation op y) = comp.Pair x op y
+comp_of x (behinds.Shift left) = comp.Shifted x left
+
 abbrev pub comp_tree : Comp → AsmTree
 comp_tree (comp.Alone x) = branch x Absent
-comp_tree (comp.Pair x op y) = branch x (Present (operation_tree op y))
+comp_tree (comp.Pair x op y) = branch x (Present (behind_tree (behinds.Operation op y)))
+comp_tree (comp.Shifted x left) = branch x (Present (behind_tree (behinds.Shift left)))
 comp_tree (comp.Under p y) = other (unary_tree p y)
 
 -- a computation that may have had one register as its destination
 abbrev pub bare_tree : Option Letter → Comp → AsmTree
 bare_tree None (comp.Alone x) = branch x Absent
-bare_tree None (comp.Pair x op y) = branch x (Present (Right (operation_tree op y)))
+bare_tree None (comp.Pair x op y) = branch x (Present (Right (behind_tree (behinds.Operation op y))))
+bare_tree None (comp.Shifted x left) = branch x (Present (Right (behind_tree (behinds.Shift left))))
 bare_tree None (comp.Under p y) = other (unary_tree p y)
 bare_tree (Some x) c = branch x (Present (Left (Pair Skip (comp_tree c))))
 

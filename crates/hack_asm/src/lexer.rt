@@ -1,12 +1,12 @@
 //! The tokens of an assembly text.
 
-ghost use Rattle.std.specs.Prelude.{◌≡◌, true, map, Some, Result, IfOk};
+ghost use Rattle.std.specs.Prelude.{◌≡◌, ◌≤◌, true, length, map, Some, Result, IfOk};
 ghost use Rattle.scan_text.specs.Text.{first, is_digit};
 ghost use Rattle.scan_text.specs.View.{left_bytes};
 ghost use Rattle.grammar.specs.Cutting.{NextBy};
 ghost use Rattle.grammar.specs.Reading.{Gives};
 ghost use Rattle.hack_asm.specs.Roles.{role_of};
-ghost use Rattle.hack_asm.specs.Tokens.{view, tokens_of, finish, is_letter, is_symbol_byte, is_sign, word_of, number_piece, symbol_piece};
+ghost use Rattle.hack_asm.specs.Tokens.{view, tokens_of, finish, is_letter, is_symbol_byte, is_sign, begins_left_shift, begins_right_shift, shift_piece, word_of, number_piece, symbol_piece};
 
 use crate::token::{Kind, Letter, Operator, Role, Token};
 use grammar::{Fault, LineCutter, LineToken, ReadError, comment, cut_lines, line_end};
@@ -45,6 +45,8 @@ fn role_of(text: &[u8]) -> Role
         b"JNE" => Role::Jump(0b101),
         b"JLE" => Role::Jump(0b110),
         b"JMP" => Role::Jump(0b111),
+        b"<<" => Role::Shift(true),
+        b">>" => Role::Shift(false),
         _ => Role::Plain,
     }
 }
@@ -126,6 +128,47 @@ fn sign<'a>(scan: &mut Scan<'a>, byte: u8) -> Result<Option<Token<'a>>, Fault>
     }))
 }
 
+fn begins_left_shift(bytes: &[u8]) -> bool
+    ensures { result ≡ begins_left_shift bytes.now }
+{
+    bytes.starts_with(b"<<")
+}
+
+fn begins_right_shift(bytes: &[u8]) -> bool
+    ensures { result ≡ begins_right_shift bytes.now }
+{
+    bytes.starts_with(b">>")
+}
+
+// A token of two bytes, of which both are this one.
+fn shift<'a>(scan: &mut Scan<'a>, byte: u8) -> Result<Option<Token<'a>>, Fault>
+    requires { 2 ≤ length (left_bytes scan.old) }
+    ensures { NextBy view (word_of (Kind.Sign byte) 1 (left_bytes scan.old)) scan.old result scan.new }
+{
+    let place = scan.place();
+    let text = scan.skip(2);
+    let role = role_of(text);
+    Ok(Some(Token {
+        kind: Kind::Sign(byte),
+        role,
+        text,
+        place,
+    }))
+}
+
+// A shift, or else a line end.
+fn shift_or_line_end<'a>(scan: &mut Scan<'a>) -> Result<Option<Token<'a>>, Fault>
+    ensures { NextBy view (shift_piece (left_bytes scan.old)) scan.old result scan.new }
+{
+    if begins_left_shift(scan.rest()) {
+        return shift(scan, b'<');
+    }
+    if begins_right_shift(scan.rest()) {
+        return shift(scan, b'>');
+    }
+    line_end(scan)
+}
+
 impl<'a> LineToken for Token<'a> {
     ghost use Rattle.hack_asm.specs.Tokens.{Word, view, piece, line_end_token, ends};
 
@@ -171,7 +214,7 @@ impl<'a> LineCutter<'a> for Token<'a> {
         if byte == b'/' {
             return comment(scan);
         }
-        line_end(scan)
+        shift_or_line_end(scan)
     }
 }
 

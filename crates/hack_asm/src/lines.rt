@@ -14,6 +14,15 @@ pub enum Comp {
     Alone(Letter),
     Pair(Letter, Operator, Letter),
     Under(Prefix, Letter),
+    /// A register, one place to the left or else to the right.
+    Shifted(Letter, bool),
+}
+
+/// What stands behind the first letter of a computation, if anything does.
+#[derive(Clone, Copy, Debug)]
+pub enum Behind {
+    Operation(Operator, Letter),
+    Shift(bool),
 }
 
 /// Where a computation goes: to one register at most, or to several, told by their bits.

@@ -1,11 +1,10 @@
 //! From the lines of a program to its words.
 
 ghost use Rattle.std.specs.Prelude.{◌≡◌, ◌≤◌, ◌<◌, ◌+◌, ◌-◌, ◌^◌, map, Ok, Err, Some, None, IfOk, OnOk, [], length, option_map};
-ghost use Rattle.hack_isa.specs.Table.{word_of};
 ghost use Rattle.hack_asm.specs.Faults.{Yields};
 ghost use Rattle.hack_asm.specs.Entered.{table_of};
 ghost use Rattle.hack_asm.specs.Comps.{meaning};
-ghost use Rattle.hack_asm.specs.Inner.Rows.{alone_row, under_row, both_row, sum_row, difference_row, pair_row};
+ghost use Rattle.hack_asm.specs.Inner.Rows.{row, shift_row, alone_row, under_row, both_row, sum_row, difference_row, pair_row};
 ghost use Rattle.hack_asm.specs.Trees.{line_of, symbol_of};
 ghost use Rattle.hack_asm.specs.Inner.Steps.{enter_line, variable_line};
 ghost use Rattle.hack_asm.specs.Program.{register_bit, dest_bits, jump_bits, compute_word, size, first_past, is_past, address_word, labels, is_instruction, used_symbol, variables, word_in, words, program};
@@ -14,86 +13,96 @@ use crate::fault::AsmFault;
 use crate::lines::{Address, Comp, Compute, Dest, Item, Prefix, Symbol};
 use crate::symbols::Symbols;
 use crate::token::{Letter, Operator};
-use hack_isa::{IMAGE_WORDS, Instr, encode};
+use hack_isa::IMAGE_WORDS;
 use scan_text::Place;
 use std::alloc::{AllocError, Global};
 
 // What a computation would have that the table of comp has not: the grammar spells none.
-const NO_ROW: (bool, u8) = (false, 0);
+const NO_ROW: u16 = 57344;
 
-fn alone_row(x: Letter) -> (bool, u8)
+// The word of a computation, by the bit a and the six bits of the ALU.
+fn row(memory: bool, bits: u8) -> u16
+    requires { bits < 64 }
+    ensures row { result ≡ row memory bits }
+    ensures fits { result ≤ 65472 }
+{
+    let m: u16 = if memory { 4096 } else { 0 };
+    57344 + m + bits as u16 * 64
+}
+
+fn alone_row(x: Letter) -> u16
     ensures row { result ≡ alone_row x }
-    ensures six { result.1 < 64 }
+    ensures fits { result ≤ 65472 }
 {
     match x {
-        Letter::Zero => (false, 0b101010),
-        Letter::One => (false, 0b111111),
-        Letter::D => (false, 0b001100),
-        Letter::A => (false, 0b110000),
-        Letter::M => (true, 0b110000),
+        Letter::Zero => row(false, 0b101010),
+        Letter::One => row(false, 0b111111),
+        Letter::D => row(false, 0b001100),
+        Letter::A => row(false, 0b110000),
+        Letter::M => row(true, 0b110000),
     }
 }
 
-fn under_row(prefix: Prefix, x: Letter) -> (bool, u8)
+fn under_row(prefix: Prefix, x: Letter) -> u16
     ensures row { result ≡ under_row prefix x }
-    ensures six { result.1 < 64 }
+    ensures fits { result ≤ 65472 }
 {
     match (prefix, x) {
-        (Prefix::Minus, Letter::One) => (false, 0b111010),
-        (Prefix::Minus, Letter::D) => (false, 0b001111),
-        (Prefix::Minus, Letter::A) => (false, 0b110011),
-        (Prefix::Minus, Letter::M) => (true, 0b110011),
-        (Prefix::Not, Letter::D) => (false, 0b001101),
-        (Prefix::Not, Letter::A) => (false, 0b110001),
-        (Prefix::Not, Letter::M) => (true, 0b110001),
+        (Prefix::Minus, Letter::One) => row(false, 0b111010),
+        (Prefix::Minus, Letter::D) => row(false, 0b001111),
+        (Prefix::Minus, Letter::A) => row(false, 0b110011),
+        (Prefix::Minus, Letter::M) => row(true, 0b110011),
+        (Prefix::Not, Letter::D) => row(false, 0b001101),
+        (Prefix::Not, Letter::A) => row(false, 0b110001),
+        (Prefix::Not, Letter::M) => row(true, 0b110001),
         _ => NO_ROW,
     }
 }
 
 // D with A or with M, in either order.
-fn both_row(x: Letter, y: Letter, bits: u8) -> (bool, u8)
+fn both_row(x: Letter, y: Letter, bits: u8) -> u16
     requires { bits < 64 }
     ensures row { result ≡ both_row x y bits }
-    ensures six { result.1 < 64 }
+    ensures fits { result ≤ 65472 }
 {
     match (x, y) {
-        (Letter::D, Letter::A) | (Letter::A, Letter::D) => (false, bits),
-        (Letter::D, Letter::M) | (Letter::M, Letter::D) => (true, bits),
+        (Letter::D, Letter::A) | (Letter::A, Letter::D) => row(false, bits),
+        (Letter::D, Letter::M) | (Letter::M, Letter::D) => row(true, bits),
         _ => NO_ROW,
     }
 }
 
-fn sum_row(x: Letter, y: Letter) -> (bool, u8)
+fn sum_row(x: Letter, y: Letter) -> u16
     ensures row { result ≡ sum_row x y }
-    ensures six { result.1 < 64 }
+    ensures fits { result ≤ 65472 }
 {
     match (x, y) {
-        (Letter::D, Letter::One) | (Letter::One, Letter::D) => (false, 0b011111),
-        (Letter::A, Letter::One) | (Letter::One, Letter::A) => (false, 0b110111),
-        (Letter::M, Letter::One) | (Letter::One, Letter::M) => (true, 0b110111),
+        (Letter::D, Letter::One) | (Letter::One, Letter::D) => row(false, 0b011111),
+        (Letter::A, Letter::One) | (Letter::One, Letter::A) => row(false, 0b110111),
+        (Letter::M, Letter::One) | (Letter::One, Letter::M) => row(true, 0b110111),
         _ => both_row(x, y, 0b000010),
     }
 }
 
-fn difference_row(x: Letter, y: Letter) -> (bool, u8)
+fn difference_row(x: Letter, y: Letter) -> u16
     ensures row { result ≡ difference_row x y }
-    ensures six { result.1 < 64 }
+    ensures fits { result ≤ 65472 }
 {
     match (x, y) {
-        (Letter::D, Letter::One) => (false, 0b001110),
-        (Letter::A, Letter::One) => (false, 0b110010),
-        (Letter::M, Letter::One) => (true, 0b110010),
-        (Letter::D, Letter::A) => (false, 0b010011),
-        (Letter::D, Letter::M) => (true, 0b010011),
-        (Letter::A, Letter::D) => (false, 0b000111),
-        (Letter::M, Letter::D) => (true, 0b000111),
+        (Letter::D, Letter::One) => row(false, 0b001110),
+        (Letter::A, Letter::One) => row(false, 0b110010),
+        (Letter::M, Letter::One) => row(true, 0b110010),
+        (Letter::D, Letter::A) => row(false, 0b010011),
+        (Letter::D, Letter::M) => row(true, 0b010011),
+        (Letter::A, Letter::D) => row(false, 0b000111),
+        (Letter::M, Letter::D) => row(true, 0b000111),
         _ => NO_ROW,
     }
 }
 
-fn pair_row(x: Letter, op: Operator, y: Letter) -> (bool, u8)
+fn pair_row(x: Letter, op: Operator, y: Letter) -> u16
     ensures row { result ≡ pair_row x op y }
-    ensures six { result.1 < 64 }
+    ensures fits { result ≤ 65472 }
 {
     match op {
         Operator::Plus => sum_row(x, y),
@@ -103,16 +112,33 @@ fn pair_row(x: Letter, op: Operator, y: Letter) -> (bool, u8)
     }
 }
 
-// The bit a and the six bits of a computation.
+// A register, one place to the left or to the right.
+fn shift_row(x: Letter, left: bool) -> u16
+    ensures row { result ≡ shift_row x left }
+    ensures fits { result ≤ 65472 }
+{
+    match (x, left) {
+        (Letter::D, true) => 0b1010110000000000,
+        (Letter::D, false) => 0b1010010000000000,
+        (Letter::A, true) => 0b1010100000000000,
+        (Letter::A, false) => 0b1010000000000000,
+        (Letter::M, true) => 0b1011100000000000,
+        (Letter::M, false) => 0b1011000000000000,
+        _ => NO_ROW,
+    }
+}
+
+// The word of a computation, without destination and jump.
 #[tactic(auto, using(crate::proofs::Rows::found))]
-fn comp_row(comp: Comp) -> (bool, u8)
+fn comp_row(comp: Comp) -> u16
     ensures row { result ≡ meaning comp }
-    ensures six { result.1 < 64 }
+    ensures fits { result ≤ 65472 }
 {
     match comp {
         Comp::Alone(x) => alone_row(x),
         Comp::Pair(x, op, y) => pair_row(x, op, y),
         Comp::Under(prefix, x) => under_row(prefix, x),
+        Comp::Shifted(x, left) => shift_row(x, left),
     }
 }
 
@@ -142,13 +168,7 @@ fn jump_bits(jump: Option<u8>) -> u8
 fn compute_word(compute: &Compute) -> u16
     ensures { result ≡ compute_word compute.now }
 {
-    let (memory, comp) = comp_row(compute.comp);
-    encode(&Instr::Compute {
-        memory,
-        comp,
-        dest: dest_bits(compute.dest),
-        jump: jump_bits(compute.jump),
-    })
+    comp_row(compute.comp) + dest_bits(compute.dest) as u16 * 8 + jump_bits(compute.jump) as u16
 }
 
 // Enters the label of a line, or counts its instruction.

@@ -4,16 +4,16 @@ ghost use Rattle.std.specs.Prelude.{◌≡◌, map};
 ghost use Rattle.grammar.specs.Reading.{ParsesBy};
 ghost use Rattle.hack_asm.specs.Tokens.{view};
 ghost use Rattle.hack_asm.specs.Grammar.{assembly, unary, comp, by_letter, after_letter, assignment_part, compute, label, address, content, line};
-ghost use Rattle.hack_asm.specs.Trees.{unary_tree, comp_tree, bare_tree, assigned_tree, compute_tree, symbol_of, address_of, address_tree, item_of, item_tree, line_of, line_tree};
-ghost use Rattle.hack_asm.specs.Before.{Operates};
+ghost use Rattle.hack_asm.specs.Trees.{unary_tree, comp_of, comp_tree, bare_tree, assigned_tree, compute_tree, symbol_of, address_of, address_tree, item_of, item_tree, line_of, line_tree};
+ghost use Rattle.hack_asm.specs.Before.{Operates, Continues};
 ghost use Rattle.grammar.specs.Rules.{Leaf, Pair, Skip};
 ghost use Rattle.hack_asm.specs.Grammar.{Name};
 
-use crate::lines::{Address, Comp, Compute, Dest, Item, Prefix, Symbol};
+use crate::lines::{Address, Behind, Comp, Compute, Dest, Item, Prefix, Symbol};
 use crate::token::{Letter, Operator, Token};
 use crate::words::{
     Before, assigns, counts, ends, first_letter, jump, letter, line_end, number, operator, several,
-    sign, stands, symbol,
+    shift, sign, stands, symbol,
 };
 use grammar::ReadError;
 use scan_text::Place;
@@ -31,6 +31,32 @@ fn operation<'a>(
     };
     let (second, rest) = letter(rest, end, before)?;
     Ok(Some((op, second, rest)))
+}
+
+// What stands behind a letter, if an operator or a shift comes that may stand there.
+fn behind<'a>(
+    tokens: &'a [Token<'a>],
+    end: Place,
+    first: Letter,
+) -> Result<Option<(Behind, &'a [Token<'a>])>, ReadError>
+    ensures { Continues end first tokens.now result }
+{
+    if let Some((op, second, rest)) = operation(tokens, end, first)? {
+        return Ok(Some((Behind::Operation(op, second), rest)));
+    }
+    let Some((left, rest)) = shift(tokens, first) else {
+        return Ok(None);
+    };
+    Ok(Some((Behind::Shift(left), rest)))
+}
+
+fn comp_of(first: Letter, behind: Behind) -> Comp
+    ensures { result ≡ comp_of first behind }
+{
+    match behind {
+        Behind::Operation(op, second) => Comp::Pair(first, op, second),
+        Behind::Shift(left) => Comp::Shifted(first, left),
+    }
 }
 
 fn unary<'a>(
@@ -56,8 +82,8 @@ fn comp<'a>(tokens: &'a [Token<'a>], end: Place) -> Result<(Comp, &'a [Token<'a>
         let ((prefix, second), rest) = unary(tokens, end)?;
         return Ok((Comp::Under(prefix, second), rest));
     };
-    match operation(rest, end, first)? {
-        Some((op, second, rest)) => Ok((Comp::Pair(first, op, second), rest)),
+    match behind(rest, end, first)? {
+        Some((behind, rest)) => Ok((comp_of(first, behind), rest)),
         None => Ok((Comp::Alone(first), rest)),
     }
 }
@@ -77,8 +103,8 @@ fn bare<'a>(
         let (comp, rest) = comp(rest, end)?;
         return Ok(((Some(first), comp), rest));
     }
-    match operation(rest, end, first)? {
-        Some((op, second, rest)) => Ok(((None, Comp::Pair(first, op, second)), rest)),
+    match behind(rest, end, first)? {
+        Some((behind, rest)) => Ok(((None, comp_of(first, behind)), rest)),
         None => Ok(((None, Comp::Alone(first)), rest)),
     }
 }

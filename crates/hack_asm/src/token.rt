@@ -1,6 +1,6 @@
 use scan_text::Place;
 
-/// What a token is. A sign is told by its byte.
+/// What a token is. A sign is told by its byte, `<<` and `>>` by the byte that stands twice.
 #[derive(Clone, Copy, Debug, PartialEq, Eq)]
 pub enum Kind {
     Sign(u8),
@@ -28,13 +28,14 @@ pub enum Operator {
 }
 
 /// What a token can be in an instruction, by its bytes: a letter, an operator, several letters of a destination, told
-/// by their bits, or a jump, told by its bits.
+/// by their bits, a jump, told by its bits, or a shift, which is one to the left or not.
 #[derive(Clone, Copy, Debug, PartialEq, Eq)]
 pub enum Role {
     Letter(Letter),
     Operator(Operator),
     Several(u8),
     Jump(u8),
+    Shift(bool),
     Plain,
 }
 

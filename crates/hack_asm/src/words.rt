@@ -5,7 +5,7 @@ ghost use Rattle.grammar.specs.Reading.{ParsesBy, PassesBy, Gives, word_at, mark
 ghost use Rattle.grammar.specs.Rules.{Leaf, next, word};
 ghost use Rattle.hack_asm.specs.Tokens.{view};
 ghost use Rattle.hack_asm.specs.Grammar.{assembly, Letter', Jump, Number, Name, is_sign, sign, is_line_end, line_end, is_symbol, symbol, name, is_number, number, is_jump, is_letter, some_letter, free, word_meaning, is_register, adds, meets};
-ghost use Rattle.hack_asm.specs.Before.{suits, letter_next, several_next, operator_next, assigns_next};
+ghost use Rattle.hack_asm.specs.Before.{suits, letter_next, several_next, operator_next, shift_next, assigns_next};
 
 use crate::lines::Symbol;
 use crate::token::{Kind, Letter, Operator, Role, Token};
@@ -281,6 +281,23 @@ fn is_register(letter: Letter) -> bool
     ensures { result ≡ is_register letter }
 {
     matches!(letter, Letter::A | Letter::D | Letter::M)
+}
+
+/// The shift that comes behind a register, and what is left behind it.
+pub fn shift<'a>(tokens: &'a [Token<'a>], first: Letter) -> Option<(bool, &'a [Token<'a>])>
+    ensures { option_map (λ r. (r.0, map view r.1.now)) result ≡ shift_next first (map view tokens.now) }
+{
+    let Some((token, rest)) = tokens.split_first() else {
+        return None;
+    };
+    let Role::Shift(left) = token.role else {
+        return None;
+    };
+    if is_register(first) {
+        Some((left, rest))
+    } else {
+        None
+    }
 }
 
 /// What is left behind `=`, where that comes behind a register.

@@ -2,68 +2,56 @@
 
 ghost use Rattle.std.specs.Prelude.{◌≡◌, ◌≤◌, [], length};
 ghost use Rattle.hack_isa.specs.Machine.{image_words};
+ghost use Rattle.hack_isa.specs.Table.{word_of};
 ghost use Rattle.outer_world.specs.Held.{HaveSameSink, pending, sink_of};
 ghost use Rattle.outer_world.specs.Written.{CountsPut, Passes, Puts};
-ghost use Rattle.hack_asm.specs.Comps.{computations, memory_computations, text_in, comp_text};
-ghost use Rattle.hack_asm.specs.Written.{destinations, jumps, instr_text, asm_text, AreSpelled, WrittenMeans};
+ghost use Rattle.hack_asm.specs.Comps.{computations, text_in};
+ghost use Rattle.hack_asm.specs.Written.{destinations, jumps, computed_text, instr_text, asm_text, AreSpelled, WrittenMeans};
 
 use hack_isa::Instr;
 use itoa::Buffer;
 use outer_world::{Pieces, Put, Sink};
 
-// A computation with A.
-fn plain_text(comp: u8) -> &'static [u8]
-    ensures { result.now ≡ text_in computations comp }
+// The text of a computation, by its word without destination and jump.
+fn comp_text(word: u32) -> &'static [u8]
+    ensures { result.now ≡ text_in computations word }
 {
-    match comp {
-        0b101010 => b"0",
-        0b111111 => b"1",
-        0b111010 => b"-1",
-        0b001100 => b"D",
-        0b110000 => b"A",
-        0b001101 => b"!D",
-        0b110001 => b"!A",
-        0b001111 => b"-D",
-        0b110011 => b"-A",
-        0b011111 => b"D+1",
-        0b110111 => b"A+1",
-        0b001110 => b"D-1",
-        0b110010 => b"A-1",
-        0b000010 => b"D+A",
-        0b010011 => b"D-A",
-        0b000111 => b"A-D",
-        0b000000 => b"D&A",
-        0b010101 => b"D|A",
+    match word {
+        0b1110101010000000 => b"0",
+        0b1110111111000000 => b"1",
+        0b1110111010000000 => b"-1",
+        0b1110001100000000 => b"D",
+        0b1110110000000000 => b"A",
+        0b1110001101000000 => b"!D",
+        0b1110110001000000 => b"!A",
+        0b1110001111000000 => b"-D",
+        0b1110110011000000 => b"-A",
+        0b1110011111000000 => b"D+1",
+        0b1110110111000000 => b"A+1",
+        0b1110001110000000 => b"D-1",
+        0b1110110010000000 => b"A-1",
+        0b1110000010000000 => b"D+A",
+        0b1110010011000000 => b"D-A",
+        0b1110000111000000 => b"A-D",
+        0b1110000000000000 => b"D&A",
+        0b1110010101000000 => b"D|A",
+        0b1111110000000000 => b"M",
+        0b1111110001000000 => b"!M",
+        0b1111110011000000 => b"-M",
+        0b1111110111000000 => b"M+1",
+        0b1111110010000000 => b"M-1",
+        0b1111000010000000 => b"D+M",
+        0b1111010011000000 => b"D-M",
+        0b1111000111000000 => b"M-D",
+        0b1111000000000000 => b"D&M",
+        0b1111010101000000 => b"D|M",
+        0b1010110000000000 => b"D<<",
+        0b1010010000000000 => b"D>>",
+        0b1010100000000000 => b"A<<",
+        0b1010000000000000 => b"A>>",
+        0b1011100000000000 => b"M<<",
+        0b1011000000000000 => b"M>>",
         _ => b"",
-    }
-}
-
-// A computation with M.
-fn memory_text(comp: u8) -> &'static [u8]
-    ensures { result.now ≡ text_in memory_computations comp }
-{
-    match comp {
-        0b110000 => b"M",
-        0b110001 => b"!M",
-        0b110011 => b"-M",
-        0b110111 => b"M+1",
-        0b110010 => b"M-1",
-        0b000010 => b"D+M",
-        0b010011 => b"D-M",
-        0b000111 => b"M-D",
-        0b000000 => b"D&M",
-        0b010101 => b"D|M",
-        _ => b"",
-    }
-}
-
-fn comp_text(memory: bool, comp: u8) -> &'static [u8]
-    ensures { result.now ≡ comp_text memory comp }
-{
-    if memory {
-        memory_text(comp)
-    } else {
-        plain_text(comp)
     }
 }
 
@@ -97,6 +85,33 @@ fn jump_text(jump: u8) -> &'static [u8]
     }
 }
 
+// The word of a computation of the ALU, without destination and jump.
+fn word_of_compute(memory: bool, comp: u8) -> u32
+    ensures { result ≡ word_of (Instr.Compute memory comp 0 0) }
+{
+    let m: u32 = if memory { 4096 } else { 0 };
+    57344 + m + comp as u32 * 64
+}
+
+// The word of a shift, without destination and jump.
+fn word_of_shift(memory: bool, left: bool, of_d: bool) -> u32
+    ensures { result ≡ word_of (Instr.Shift memory left of_d 0 0) }
+{
+    let m: u32 = if memory { 4096 } else { 0 };
+    let l: u32 = if left { 2048 } else { 0 };
+    let d: u32 = if of_d { 1024 } else { 0 };
+    40960 + m + l + d
+}
+
+// A computation, by its word without destination and jump, with those.
+fn put_computed<S: Sink>(word: u32, dest: u8, jump: u8, out: &mut Pieces<'_, S>) -> Put
+    ensures same_sink { HaveSameSink out.old out.new }
+    ensures passes { Passes (S.written (sink_of out.old)) (pending out.old) (S.written (sink_of out.new)) (pending out.new) (computed_text word dest jump) result }
+    ensures counts { CountsPut (S.faults (sink_of out.old)) (S.faults (sink_of out.new)) result }
+{
+    out.put_all(&[dest_text(dest), comp_text(word), jump_text(jump), b"\n"])
+}
+
 // The line of an instruction.
 fn put_instr<S: Sink>(instr: &Instr, out: &mut Pieces<'_, S>) -> Put
     ensures same_sink { HaveSameSink out.old out.new }
@@ -113,12 +128,20 @@ fn put_instr<S: Sink>(instr: &Instr, out: &mut Pieces<'_, S>) -> Put
             comp,
             dest,
             jump,
-        } => out.put_all(&[
-            dest_text(dest),
-            comp_text(memory, comp),
-            jump_text(jump),
-            b"\n",
-        ]),
+        } => {
+            let word = word_of_compute(memory, comp);
+            put_computed(word, dest, jump, out)
+        }
+        Instr::Shift {
+            memory,
+            left,
+            of_d,
+            dest,
+            jump,
+        } => {
+            let word = word_of_shift(memory, left, of_d);
+            put_computed(word, dest, jump, out)
+        }
     }
 }
 
@@ -151,7 +174,7 @@ fn put_all_asm<S: Sink>(instrs: &[Instr], out: &mut Pieces<'_, S>) -> Put
 }
 
 /// Writes instructions in assembly, one a line: `@n`, or `dest=comp;jump` without the parts that are absent, the letters of a
-/// destination in the order A, D, M. Each computation is to be one of the book's table.
+/// destination in the order A, D, M. Each computation is to be one of the table of comp.
 pub fn write_asm<S: Sink>(instrs: &[Instr], out: &mut S) -> Put
     requires spelled { AreSpelled instrs.now }
     requires few { length instrs.now ≤ image_words }

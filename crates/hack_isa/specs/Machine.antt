@@ -1,10 +1,10 @@
 -- The Hack machine: its state, one step, and a run. (The book, chapters 4 and 5.)
 use Rattle.std.specs.Prelude.{ℕ, zero, suc, ◌+◌, ◌%◌, Bool, nat_lt, nat_eq, if◌then◌else◌, ◌&&◌, List, [], ◌∷◌, slice_index}
 use Rattle.word16.specs.Memory.{keyboard}
-use Rattle.word16.specs.Words.{has_bit}
+use Rattle.word16.specs.Words.{has_bit, word_shift}
 use Rattle.hack_isa.specs.Table.{alu_out, instr_of}
 use Rattle.hack_isa.specs.declared.Instr.{Instr}
-use Rattle.hack_isa.specs.declared.Instr.TheVariants.{Address, Compute}
+use Rattle.hack_isa.specs.declared.Instr.TheVariants.{Address, Compute, Shift}
 
 -- how many words instruction memory has: no image is longer
 abbrev pub image_words : ℕ
@@ -33,17 +33,22 @@ unfoldable pub jumps : ℕ → ℕ → Bool
 jumps jump out =
     if nat_lt 32767 out then has_bit jump 2 else if nat_eq out 0 then has_bit jump 1 else has_bit jump 0
 
--- one instruction
+-- where a result goes: into A, D and M, as dest asks; and by the result the next instruction is that at A, or the one behind
+abbrev pub with_result : ℕ → ℕ → ℕ → Machine → Machine
+with_result out dest jump s = record {
+  a = if has_bit dest 2 then out else s.a;
+  d = if has_bit dest 1 then out else s.d;
+  pc = if jumps jump out then s.a % 32768 else (s.pc + 1) % 32768;
+  memory = if has_bit dest 0 then write s.memory s.a out else s.memory;
+}
+
+-- one instruction: the result is what the ALU gives of D, and of A or M; or it is D, A or M, one place to the left or to the right
 abbrev pub perform : Instr → ℕ → Machine → Machine
 perform (Address n) key s = record s { a = n; pc = (s.pc + 1) % 32768 }
 perform (Compute m comp dest jump) key s =
-    let out = alu_out comp s.d (if m then read s.memory key s.a else s.a) in
-    record {
-      a = if has_bit dest 2 then out else s.a;
-      d = if has_bit dest 1 then out else s.d;
-      pc = if jumps jump out then s.a % 32768 else (s.pc + 1) % 32768;
-      memory = if has_bit dest 0 then write s.memory s.a out else s.memory;
-    }
+    with_result (alu_out comp s.d (if m then read s.memory key s.a else s.a)) dest jump s
+perform (Shift m left d dest jump) key s =
+    with_result (word_shift left (if d then s.d else (if m then read s.memory key s.a else s.a))) dest jump s
 
 -- the instruction at the program counter; words past the image are 0
 abbrev pub fetch : List ℕ → Machine → Instr

@@ -1,8 +1,8 @@
-//! The Hack instruction set: the ALU, and instructions as words. (The book, chapters 2 and 4.)
+//! The Hack instruction set: the ALU, and instructions as words. (The book, chapters 2 and 4; shifts are not the book's.)
 #![tactic(auto)]
 
 ghost use Rattle.std.specs.Prelude.{◌≡◌, ◌<◌, ◌≤◌, ◌<ℤ◌, ◌↔◌, ◌^◌, ℕ, IsTrue};
-ghost use Rattle.hack_isa.specs.Table.{preset, combine, alu_out, DecodesBack, WellFormed, word_of, instr_of};
+ghost use Rattle.hack_isa.specs.Table.{preset, combine, alu_out, DecodesBack, WellFormed, word_of, shift_of, instr_of};
 
 use word16::bit;
 
@@ -23,6 +23,19 @@ pub enum Instr {
         /// Where the output goes: A is bit 2, D is bit 1, M is bit 0.
         dest: u8,
         /// Where it jumps, by the output: below 0 is bit 2, 0 is bit 1, above 0 is bit 0.
+        jump: u8,
+    },
+    /// `dest=X<<;jump` or `dest=X>>;jump`, as the fields of the word `101 a l d 0000 ddd jjj`.
+    Shift {
+        /// The bit `a`: M is shifted, not A.
+        memory: bool,
+        /// The bit `l`: to the left, else to the right.
+        left: bool,
+        /// The bit `d`: D is shifted, neither A nor M; `memory` is false then.
+        of_d: bool,
+        /// Where the output goes, as that of a computation.
+        dest: u8,
+        /// Where it jumps, by the output, as by that of a computation.
         jump: u8,
     },
 }
@@ -79,10 +92,39 @@ pub fn encode(instr: &Instr) -> u16
             let m: u16 = if memory { 4096 } else { 0 };
             57344 + m + comp as u16 * 64 + dest as u16 * 8 + jump as u16
         }
+        Instr::Shift {
+            memory,
+            left,
+            of_d,
+            dest,
+            jump,
+        } => {
+            let m: u16 = if memory { 4096 } else { 0 };
+            let l: u16 = if left { 2048 } else { 0 };
+            let d: u16 = if of_d { 1024 } else { 0 };
+            40960 + m + l + d + dest as u16 * 8 + jump as u16
+        }
     }
 }
 
-/// The instruction of a word; each word is one. Where the top bit is 1, the next two bits are not looked at.
+// A shift, by the bits of its word.
+#[tactic(auto, using(crate::proofs::RoundTrip::never_both))]
+fn decode_shift(word: u16) -> Instr
+    ensures instr { result ≡ shift_of word }
+    ensures well_formed { WellFormed result }
+{
+    let of_d = bit(word, 10);
+    Instr::Shift {
+        memory: bit(word, 12) && !of_d,
+        left: bit(word, 11),
+        of_d,
+        dest: (word / 8 % 8) as u8,
+        jump: (word % 8) as u8,
+    }
+}
+
+/// The instruction of a word; each word is one. Where the top bit is 1 it is a shift if the next two bits are 0 and 1, and
+/// else these two are not looked at.
 #[tactic(auto, unfolding(crate::specs::Table::instr_of))]
 pub fn decode(word: u16) -> Instr
     ensures instr { result ≡ instr_of word }
@@ -90,6 +132,8 @@ pub fn decode(word: u16) -> Instr
 {
     if word < 32768 {
         Instr::Address(word)
+    } else if !bit(word, 14) && bit(word, 13) {
+        decode_shift(word)
     } else {
         Instr::Compute {
             memory: bit(word, 12),

@@ -3,9 +3,9 @@
 
 ghost use Rattle.std.specs.Prelude.{if◌then◌else◌, ◌≡◌, ◌+◌, ◌<◌, ◌≤◌, ◌%◌, ◌^◌, ◌++◌, [], ◌∷◌, ℕ, List, length, IfOk, slice_index};
 ghost use Rattle.word16.specs.Memory.{keyboard};
-ghost use Rattle.word16.specs.Words.{has_bit};
+ghost use Rattle.word16.specs.Words.{has_bit, word_shift};
 ghost use Rattle.hack_isa.specs.Table.{instr_of};
-ghost use Rattle.hack_isa.specs.Machine.{read, write, jumps, step, start, image_words};
+ghost use Rattle.hack_isa.specs.Machine.{read, write, jumps, with_result, step, start, image_words};
 ghost use Rattle.hack_machine.specs.Loaded.{LoadedMachine, HasRun, RunsThroughCycles, machine_of, words_of};
 ghost use Rattle.hack_machine.specs.Changes.{Change, Press, PutA, PutD, PutPc, PutWord, after, HasChanged};
 ghost use Rattle.hack_machine.specs.Turns.{HasTaken};
@@ -53,6 +53,18 @@ fn operand(ram: &[u16], key: u16, memory: bool, a: u16) -> u16
     }
 }
 
+// What is shifted: D, or what the ALU takes beside it.
+fn shift_operand(ram: &[u16], key: u16, memory: bool, of_d: bool, a: u16, d: u16) -> u16
+    requires { length ram.now ≡ keyboard }
+    ensures { result ≡ (if of_d then d else (if memory then read (words_of ram.now) key a else a)) }
+{
+    if of_d {
+        d
+    } else {
+        operand(ram, key, memory, a)
+    }
+}
+
 #[tactic(auto, using(crate::proofs::Memory::stored))]
 fn write_at(ram: &mut Vec<u16>, a: u16, v: u16)
     requires { length ram.old.items ≡ keyboard }
@@ -96,6 +108,13 @@ fn holds(jump: u8, out: u16) -> bool
     } else {
         bit(jump, 0)
     }
+}
+
+// One place to the left or to the right.
+fn shifted(left: bool, w: u16) -> u16
+    ensures { result ≡ word_shift left w }
+{
+    if left { word16::shl(w) } else { word16::shr(w) }
 }
 
 fn landing(jump: u8, out: u16, a: u16, next: u16) -> u16
@@ -145,6 +164,21 @@ impl Hack {
         }
     }
 
+    // Where a result goes, and which instruction is next by it.
+    #[inline(always)]
+    fn put_result(&mut self, out: u16, dest: u8, jump: u8)
+        ensures image { self.new.image ≡ self.old.image }
+        ensures moves { self.new.moves ≡ self.old.moves }
+        ensures state { machine_of self.new ≡ with_result out dest jump (machine_of self.old) }
+    {
+        let at = self.a;
+        let next = (self.pc + 1) % 32768;
+        store(&mut self.ram, dest, at, out);
+        self.d = chosen(dest, 1, out, self.d);
+        self.a = chosen(dest, 2, out, at);
+        self.pc = landing(jump, out, at, next);
+    }
+
     // One instruction, which is not counted yet.
     #[inline(always)]
     #[tactic(auto, unfolding(hack_isa::specs::Machine::step))]
@@ -153,11 +187,10 @@ impl Hack {
         ensures moves { self.new.moves ≡ self.old.moves }
         ensures step { machine_of self.new ≡ step self.old.image key (machine_of self.old) }
     {
-        let next = (self.pc + 1) % 32768;
         match self.fetch() {
             Instr::Address(n) => {
                 self.a = n;
-                self.pc = next;
+                self.pc = (self.pc + 1) % 32768;
             }
             Instr::Compute {
                 memory,
@@ -165,12 +198,18 @@ impl Hack {
                 dest,
                 jump,
             } => {
-                let at = self.a;
-                let (out, _, _) = alu(self.d, operand(&self.ram, key, memory, at), comp);
-                store(&mut self.ram, dest, at, out);
-                self.d = chosen(dest, 1, out, self.d);
-                self.a = chosen(dest, 2, out, at);
-                self.pc = landing(jump, out, at, next);
+                let (out, _, _) = alu(self.d, operand(&self.ram, key, memory, self.a), comp);
+                self.put_result(out, dest, jump);
+            }
+            Instr::Shift {
+                memory,
+                left,
+                of_d,
+                dest,
+                jump,
+            } => {
+                let held = shift_operand(&self.ram, key, memory, of_d, self.a, self.d);
+                self.put_result(shifted(left, held), dest, jump);
             }
         }
     }
