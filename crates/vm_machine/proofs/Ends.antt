@@ -5,7 +5,7 @@ use Rattle.word16.specs.Words.{word_add}
 use Rattle.simulation.specs.System.{IdlesAtEnd}
 use Rattle.machine_io.specs.declared.machine.Stray.{Stray}
 use Rattle.vm_tree.specs.declared.command.Operation.{Operation}
-use Rattle.vm_tree.specs.declared.command.Operation.TheVariants.{Add, Sub, Neg, Eq, Gt, Lt, And, Or, Not}
+use Rattle.vm_tree.specs.declared.command.Operation.TheVariants.{Add, Sub, Neg, Eq, Gt, Lt, And, Or, Not, ShiftLeft, ShiftRight}
 use Rattle.vm_tree.specs.declared.command.Segment.{Segment}
 use Rattle.vm_tree.specs.declared.command.Segment.TheVariants as segment
 use Rattle.vm_link.specs.declared.linked.Step.{Step}
@@ -55,6 +55,8 @@ module _ (key : ℕ) (s : State) (f : Frame) (below : List Frame) where
   operate_goes And = joined_goes _
   operate_goes Or = joined_goes _
   operate_goes Not = turned_goes _
+  operate_goes ShiftLeft = turned_goes _
+  operate_goes ShiftRight = turned_goes _
 
   load_goes : (a : ℕ) → Goes (load key a s f below)
   load_goes a = if_goes (nat_lt a 2048) _ _ refl (if_goes (nat_lt a 24576) _ _ refl (if_goes (nat_eq a 24576) _ _ refl refl))

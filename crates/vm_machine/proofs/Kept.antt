@@ -7,11 +7,12 @@ use Rattle.std.proofs.lemmas.Grind.{reverse_onto}
 use Rattle.std.proofs.lemmas.Option.{slice_get_within}
 use Rattle.std.proofs.lemmas.Nat.{or_lt, and_le_l}
 use Rattle.std.proofs.lemmas.Bool.{ltb-false, ltb-true}
-use Rattle.word16.specs.Words.{word_add, word_sub, word_neg, word_not, signed_value, truth}
+use Rattle.std.proofs.lemmas.Bool.Decides.{nat_tests}
+use Rattle.word16.specs.Words.{word_add, word_sub, word_neg, word_not, word_shl, word_shr, signed_value, truth}
 use Rattle.machine_io.specs.declared.machine.Stray.{Stray}
 use Rattle.machine_io.specs.declared.machine.Stray.TheVariants as stray
 use Rattle.vm_tree.specs.declared.command.Operation.{Operation}
-use Rattle.vm_tree.specs.declared.command.Operation.TheVariants.{Add, Sub, Neg, Eq, Gt, Lt, And, Or, Not}
+use Rattle.vm_tree.specs.declared.command.Operation.TheVariants.{Add, Sub, Neg, Eq, Gt, Lt, And, Or, Not, ShiftLeft, ShiftRight}
 use Rattle.vm_tree.specs.declared.command.Segment.{Segment}
 use Rattle.vm_tree.specs.declared.command.Segment.TheVariants as segment
 use Rattle.vm_link.specs.declared.linked.Step.{Step}
@@ -141,6 +142,8 @@ module _ (l : Linked) where
     operate_good And = joined_good bit_and (λ x y hx hy. omega (arith, and_le_l x y, hx))
     operate_good Or = joined_good bit_or (λ x y hx hy. or_lt 16 x y hx hy)
     operate_good Not = turned_good word_not (λ x hx. omega arith)
+    operate_good ShiftLeft = turned_good word_shl (λ x hx. omega arith)
+    operate_good ShiftRight = turned_good word_shr (λ x hx. grind (arith, nat_tests))
 
     load_good : (a : ℕ) → Good (load key a s f below)
     load_good a = if_good (nat_lt a 2048) _ _ tt (if_good (nat_lt a 24576) _ _ (pushed_good false (slice_index s.words (a - 2048)) (index_word s.words (a - 2048) m.words))

@@ -6,7 +6,7 @@ use Rattle.machine_io.specs.declared.machine.Moved.TheVariants as moved
 use Rattle.machine_io.specs.declared.machine.Stray.{Stray}
 use Rattle.machine_io.specs.declared.machine.Stray.TheVariants as stray
 use Rattle.vm_tree.specs.declared.command.Operation.{Operation}
-use Rattle.vm_tree.specs.declared.command.Operation.TheVariants.{Add, Sub, Neg, Eq, Gt, Lt, And, Or, Not}
+use Rattle.vm_tree.specs.declared.command.Operation.TheVariants.{Add, Sub, Neg, Eq, Gt, Lt, And, Or, Not, ShiftLeft, ShiftRight}
 use Rattle.vm_machine.specs.State.{Frame, State, words_in_use}
 use Rattle.vm_machine.specs.Step.{Outcome, Acts, Strays, Full, after, goes, on_top, on_two, operate, fit_outcome}
 use Rattle.vm_machine.specs.Moves.{Makes, Words, state_of}
@@ -89,6 +89,8 @@ module _ (s : State) (f : Frame) (below : List Frame) where
   pub operates_none : (o : Operation) → None ≡ slice_get f.values 0 → operate o s f below ≡ Strays stray.Values
   operates_none Neg e = top_none f.values _ e
   operates_none Not e = top_none f.values _ e
+  operates_none ShiftLeft e = top_none f.values _ e
+  operates_none ShiftRight e = top_none f.values _ e
   operates_none Add e = none_first f.values _ e
   operates_none Sub e = none_first f.values _ e
   operates_none Eq e = none_first f.values _ e
@@ -100,6 +102,8 @@ module _ (s : State) (f : Frame) (below : List Frame) where
   pub operates_few : (o : Operation) → takes_one o ≡ false → None ≡ slice_get f.values 1 → operate o s f below ≡ Strays stray.Values
   operates_few Neg t e = absurd (cc t)
   operates_few Not t e = absurd (cc t)
+  operates_few ShiftLeft t e = absurd (cc t)
+  operates_few ShiftRight t e = absurd (cc t)
   operates_few Add t e = two_none f.values _ e
   operates_few Sub t e = two_none f.values _ e
   operates_few Eq t e = two_none f.values _ e
@@ -111,6 +115,8 @@ module _ (s : State) (f : Frame) (below : List Frame) where
   pub operates_one : (o : Operation) (x y : ℕ) → takes_one o ≡ true → Some y ≡ slice_get f.values 0 → operate o s f below ≡ goes s below (after f (word_of o x y ∷ drop 1 f.values))
   operates_one Neg x y t e = top_some f.values y _ e
   operates_one Not x y t e = top_some f.values y _ e
+  operates_one ShiftLeft x y t e = top_some f.values y _ e
+  operates_one ShiftRight x y t e = top_some f.values y _ e
   operates_one Add x y t e = absurd (cc t)
   operates_one Sub x y t e = absurd (cc t)
   operates_one Eq x y t e = absurd (cc t)
@@ -123,6 +129,8 @@ module _ (s : State) (f : Frame) (below : List Frame) where
       → operate o s f below ≡ goes s below (after f (word_of o x y ∷ drop 2 f.values))
   operates_two Neg x y t e e' = absurd (cc t)
   operates_two Not x y t e e' = absurd (cc t)
+  operates_two ShiftLeft x y t e e' = absurd (cc t)
+  operates_two ShiftRight x y t e e' = absurd (cc t)
   operates_two Add x y t e e' = two_some f.values x y _ e e'
   operates_two Sub x y t e e' = two_some f.values x y _ e e'
   operates_two Eq x y t e e' = two_some f.values x y _ e e'

@@ -1,9 +1,9 @@
 -- What the machine makes of a command, and of an operation.
 use Rattle.std.specs.Prelude.{ℕ, Bool, true, false, bit_and, bit_or, List}
 use Rattle.machine_io.specs.declared.machine.Moved.{Moved}
-use Rattle.word16.specs.Words.{word_add, word_sub, word_neg, word_not, word_eq, word_lt, word_gt}
+use Rattle.word16.specs.Words.{word_add, word_sub, word_neg, word_not, word_shl, word_shr, word_eq, word_lt, word_gt}
 use Rattle.vm_tree.specs.declared.command.Operation.{Operation}
-use Rattle.vm_tree.specs.declared.command.Operation.TheVariants.{Add, Sub, Neg, Eq, Gt, Lt, And, Or, Not}
+use Rattle.vm_tree.specs.declared.command.Operation.TheVariants.{Add, Sub, Neg, Eq, Gt, Lt, And, Or, Not, ShiftLeft, ShiftRight}
 use Rattle.vm_machine.specs.State.{Frame, State}
 use Rattle.vm_machine.specs.Step.{Outcome, fit_outcome}
 use Rattle.vm_machine.specs.Moves.{Makes, state_of}
@@ -18,6 +18,8 @@ Performs command old answer new =
 abbrev pub takes_one : Operation → Bool
 takes_one Neg = true
 takes_one Not = true
+takes_one ShiftLeft = true
+takes_one ShiftRight = true
 takes_one Add = false
 takes_one Sub = false
 takes_one Eq = false
@@ -37,3 +39,5 @@ word_of Lt x y = word_lt x y
 word_of And x y = bit_and x y
 word_of Or x y = bit_or x y
 word_of Not x y = word_not y
+word_of ShiftLeft x y = word_shl y
+word_of ShiftRight x y = word_shr y

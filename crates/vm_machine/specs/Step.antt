@@ -1,9 +1,9 @@
 -- What each command does. (The book, chapters 7 and 8.)
 use Rattle.std.specs.Prelude.{ℕ, ◌+◌, ◌-◌, Bool, true, false, nat_lt, nat_eq, if◌then◌else◌, List, [], ◌∷◌, length, Option, Some, None, slice_get, slice_index, slice_set, take, drop, reverse, replicate, unwrap_or, bit_and, bit_or}
 use Rattle.word16.specs.Memory.{heap, keyboard, heap_and_screen_size}
-use Rattle.word16.specs.Words.{word_add, word_sub, word_neg, word_not, word_eq, word_lt, word_gt}
+use Rattle.word16.specs.Words.{word_add, word_sub, word_neg, word_not, word_shl, word_shr, word_eq, word_lt, word_gt}
 use Rattle.vm_tree.specs.declared.command.Operation.{Operation}
-use Rattle.vm_tree.specs.declared.command.Operation.TheVariants.{Add, Sub, Neg, Eq, Gt, Lt, And, Or, Not}
+use Rattle.vm_tree.specs.declared.command.Operation.TheVariants.{Add, Sub, Neg, Eq, Gt, Lt, And, Or, Not, ShiftLeft, ShiftRight}
 use Rattle.vm_tree.specs.declared.command.Segment.{Segment}
 use Rattle.vm_tree.specs.declared.command.Segment.TheVariants as segment
 use Rattle.vm_link.specs.declared.linked.Step.{Step}
@@ -62,7 +62,7 @@ unary_outcome op s f below = on_top f.values (λ x values. goes s below (after f
 abbrev pub binary_outcome : (ℕ → ℕ → ℕ) → State → Frame → List Frame → Outcome
 binary_outcome op s f below = on_two f.values (λ x y values. goes s below (after f (op x y ∷ values)))
 
--- Sums, differences and negation modulo 65,536. Words are compared by their signed readings, and true is -1.
+-- Sums, differences and negation modulo 65,536. Words are compared by their signed readings, and true is -1. (Shifts are not the book's.)
 abbrev pub operate : Operation → State → Frame → List Frame → Outcome
 operate Add s f below = binary_outcome word_add s f below
 operate Sub s f below = binary_outcome word_sub s f below
@@ -73,6 +73,8 @@ operate Lt s f below = binary_outcome word_lt s f below
 operate And s f below = binary_outcome bit_and s f below
 operate Or s f below = binary_outcome bit_or s f below
 operate Not s f below = unary_outcome word_not s f below
+operate ShiftLeft s f below = unary_outcome word_shl s f below
+operate ShiftRight s f below = unary_outcome word_shr s f below
 
 -- the word at an address is pushed: that of heap or screen, and at the keyboard's address the key
 abbrev pub load : ℕ → ℕ → State → Frame → List Frame → Outcome

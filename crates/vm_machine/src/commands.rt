@@ -55,6 +55,8 @@ fn takes_one(o: Operation) -> bool
     match o {
         Operation::Neg => true,
         Operation::Not => true,
+        Operation::ShiftLeft => true,
+        Operation::ShiftRight => true,
         _ => false,
     }
 }
@@ -72,6 +74,8 @@ fn word_of(o: Operation, x: u16, y: u16) -> u16
         Operation::And => word16::and(x, y),
         Operation::Or => word16::or(x, y),
         Operation::Not => word16::not(y),
+        Operation::ShiftLeft => word16::shl(y),
+        Operation::ShiftRight => word16::shr(y),
     }
 }
 

@@ -72,6 +72,8 @@ operation_named operation.Lt = refl
 operation_named operation.And = refl
 operation_named operation.Or = refl
 operation_named operation.Not = refl
+operation_named operation.ShiftLeft = refl
+operation_named operation.ShiftRight = refl
 
 segment_named : (g : Segment) → is_text_of_name (segment_text g) ≡ true
 segment_named segment.Argument = refl
@@ -146,6 +148,8 @@ module _ (end : Place) where
   command_read (command.Operate operation.And) h at ts = both (left refl (worded refl refl)) (marked refl)
   command_read (command.Operate operation.Or) h at ts = both (left refl (worded refl refl)) (marked refl)
   command_read (command.Operate operation.Not) h at ts = both (left refl (worded refl refl)) (marked refl)
+  command_read (command.Operate operation.ShiftLeft) h at ts = both (left refl (worded refl refl)) (marked refl)
+  command_read (command.Operate operation.ShiftRight) h at ts = both (left refl (worded refl refl)) (marked refl)
   command_read (command.Push g i) h at ts = both (push_read end _ refl (both (marked refl) (location_read true g i _ _ _ (may_all g) (leb-true i (most_of g) h)))) (marked refl)
   command_read (command.Pop g i) h at ts = both (pop_read end _ refl (both (marked refl) (location_read false g i _ _ _ (and_parts _ _ h).0 (leb-true i (most_of g) (and_parts _ _ h).1)))) (marked refl)
   command_read (command.Label l) h at ts = both (label_read end _ refl (both (marked refl) (worded refl refl))) (marked refl)

@@ -25,7 +25,8 @@ abbrev pub operations : List (List ℕ × Role)
 operations =
     (codes "add", role.Operation operation.Add) ∷ (codes "sub", role.Operation operation.Sub) ∷ (codes "neg", role.Operation operation.Neg)
     ∷ (codes "eq", role.Operation operation.Eq) ∷ (codes "gt", role.Operation operation.Gt) ∷ (codes "lt", role.Operation operation.Lt)
-    ∷ (codes "and", role.Operation operation.And) ∷ (codes "or", role.Operation operation.Or) ∷ (codes "not", role.Operation operation.Not) ∷ []
+    ∷ (codes "and", role.Operation operation.And) ∷ (codes "or", role.Operation operation.Or) ∷ (codes "not", role.Operation operation.Not)
+    ∷ (codes "shiftleft", role.Operation operation.ShiftLeft) ∷ (codes "shiftright", role.Operation operation.ShiftRight) ∷ []
 
 -- operations and segments
 abbrev pub operation_role_of : List ℕ → Role

@@ -75,6 +75,12 @@ fn operation_role_of(text: &[u8]) -> Role
     if text == b"not".as_slice() {
         return Role::Operation(Operation::Not);
     }
+    if text == b"shiftleft".as_slice() {
+        return Role::Operation(Operation::ShiftLeft);
+    }
+    if text == b"shiftright".as_slice() {
+        return Role::Operation(Operation::ShiftRight);
+    }
     segment_role_of(text)
 }
 

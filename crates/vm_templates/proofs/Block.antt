@@ -1,16 +1,16 @@
 -- Instructions that follow one another without a jump, as a function of A, D and the memory.
-use Rattle.std.proofs.Common.{◌≡◌, ℕ, zero, suc, ◌+◌, ◌<◌, ◌≤◌, ◌%◌, Bool, true, false, List, [], ◌∷◌, ◌++◌, length, take, drop, refl, ap, ◌∙◌, sym, subst, arith, ◌≢◌}
+use Rattle.std.proofs.Common.{◌≡◌, ℕ, zero, suc, ◌+◌, ◌<◌, ◌≤◌, ◌%◌, Bool, true, false, List, [], ◌∷◌, ◌++◌, length, take, drop, ◌⊎◌, inl, inr, refl, ap, ◌∙◌, sym, subst, arith, ◌≢◌}
 use Rattle.std.specs.Prelude.{nat_eq, if◌then◌else◌, slice_index}
 use Rattle.std.proofs.lemmas.Grind.{common_steps}
 use Rattle.std.proofs.lemmas.Bool.Decides.{nat_tests}
-use Rattle.word16.specs.Words.{has_bit}
+use Rattle.word16.specs.Words.{has_bit, word_shift}
 use Rattle.hack_isa.specs.Table.{alu_out, instr_of}
 use Rattle.hack_isa.specs.declared.Instr.{Instr}
-use Rattle.hack_isa.specs.declared.Instr.TheVariants.{Address, Compute}
+use Rattle.hack_isa.specs.declared.Instr.TheVariants.{Address, Compute, Shift}
 use Rattle.hack_isa.specs.Machine.{Machine, read, write, jumps, perform, fetch, step}
 use Rattle.simulation.specs.System.{IsData, IsKey}
 use Rattle.vm_templates.specs.Computer.{Stands}
-use Rattle.vm_templates.specs.Going.{IsDataWrite, IsKeyRead, Quiet, Hears, Reaches, Does, arrived, further}
+use Rattle.vm_templates.specs.Going.{IsDataWrite, IsKeyRead, MayReadKey, Quiet, Hears, Reaches, Does, arrived, further}
 use Rattle.hack_isa.proofs.Operations.{alu_48}
 use Rattle.vm_templates.proofs.Alu.{comp_value, comp_is, comp_small}
 
@@ -31,6 +31,9 @@ do_instr (Address n) x = record x { a = n }
 do_instr (Compute m comp dest jump) x =
     let out = comp_value comp x.d (if m then x.m x.a else x.a) in
     record { a = if has_bit dest 2 then out else x.a; d = if has_bit dest 1 then out else x.d; m = if has_bit dest 0 then put x.m x.a out else x.m }
+do_instr (Shift m left d dest jump) x =
+    let out = word_shift left (if d then x.d else (if m then x.m x.a else x.a)) in
+    record { a = if has_bit dest 2 then out else x.a; d = if has_bit dest 1 then out else x.d; m = if has_bit dest 0 then put x.m x.a out else x.m }
 
 abbrev pub do_block : List Instr → Data → Data
 do_block [] x = x
@@ -40,10 +43,11 @@ abbrev pub when : Bool → Type 0 → Type 0
 when true p = p
 when false p = Unit {0}
 
--- no jump; memory is read below the keyboard, and written below the data
+-- no jump, and no shift of D; memory is read below the keyboard, and written below the data
 abbrev pub SafeAt : Instr → Data → Type 0
 SafeAt (Address n) x = n < 65536
 SafeAt (Compute m comp dest jump) x = (jump ≡ 0) × when m (x.a < 24576) × when (has_bit dest 0) (x.a < 2048)
+SafeAt (Shift m left d dest jump) x = (jump ≡ 0) × (d ≡ false) × when m (x.a < 24576) × when (has_bit dest 0) (x.a < 2048)
 
 abbrev pub Safe : List Instr → Data → Type 0
 Safe [] x = Unit {0}
@@ -88,6 +92,10 @@ pub put_words : (b : Bool) (m : ℕ → ℕ) (k v : ℕ) → v < 65536 → ((j :
 put_words true m k v hv hm j = choice_word (nat_eq j k) v (m j) hv (hm j)
 put_words false m k v hv hm j = hm j
 
+shift_small : (left : Bool) (v : ℕ) → v < 65536 → word_shift left v < 65536
+shift_small true v h = omega arith
+shift_small false v h = grind (arith, nat_tests)
+
 pub do_words : (i : Instr) (x : Data) → SafeAt i x → AreWords x → AreWords (do_instr i x)
 do_words (Address n) x h w = record { a_word = h; d_word = w.d_word; m_words = w.m_words }
 do_words (Compute m comp dest jump) x h w =
@@ -98,9 +106,20 @@ do_words (Compute m comp dest jump) x h w =
       d_word = choice_word (has_bit dest 1) out x.d small w.d_word;
       m_words = put_words (has_bit dest 0) x.m x.a out small w.m_words;
     }
+do_words (Shift m left d dest jump) x h w =
+    let held = if d then x.d else (if m then x.m x.a else x.a) in
+    let small : word_shift left held < 65536 = shift_small left held (choice_word d x.d _ w.d_word (operand_word m x w)) in
+    record {
+      a_word = choice_word (has_bit dest 2) (word_shift left held) x.a small w.a_word;
+      d_word = choice_word (has_bit dest 1) (word_shift left held) x.d small w.d_word;
+      m_words = put_words (has_bit dest 0) x.m x.a (word_shift left held) small w.m_words;
+    }
 
 after_out : (m : Bool) (comp dest jump key pc : ℕ) (x : Data) (out p : ℕ) (mem : ℕ → ℕ) → alu_out comp x.d (if m then read x.m key x.a else x.a) ≡ out → jumps jump out ≡ false → (pc + 1) % 32768 ≡ p → (if has_bit dest 0 then write x.m x.a out else x.m) ≡ mem → (let after : Machine = record { a = if has_bit dest 2 then out else x.a; d = if has_bit dest 1 then out else x.d; pc = p; memory = mem } in perform (Compute m comp dest jump) key (at pc x) ≡ after)
 after_out m comp dest jump key pc x out p mem e j n w = rw (e, j, n, w)
+
+after_shift : (m left d : Bool) (dest jump key pc : ℕ) (x : Data) (out p : ℕ) (mem : ℕ → ℕ) → word_shift left (if d then x.d else (if m then read x.m key x.a else x.a)) ≡ out → jumps jump out ≡ false → (pc + 1) % 32768 ≡ p → (if has_bit dest 0 then write x.m x.a out else x.m) ≡ mem → (let after : Machine = record { a = if has_bit dest 2 then out else x.a; d = if has_bit dest 1 then out else x.d; pc = p; memory = mem } in perform (Shift m left d dest jump) key (at pc x) ≡ after)
+after_shift m left d dest jump key pc x out p mem e j n w = rw (e, j, n, w)
 
 -- the machine does what `do_instr` says
 perform_is : (i : Instr) (key pc : ℕ) (x : Data) → SafeAt i x → AreWords x → perform i key (at pc x) ≡ at ((pc + 1) % 32768) (do_instr i x)
@@ -110,6 +129,15 @@ perform_is (Compute m comp dest jump) key pc x s w =
     let v = sym (comp_is comp x.d _ w.d_word (operand_word m x w)) in
     let j : (out : ℕ) → jumps jump out ≡ false = λ out. subst (λ n. jumps n out ≡ false) (sym s.0) (no_jump out) in
     after_out m comp dest jump key pc x _ _ _ (ap (λ y. alu_out comp x.d y) o ∙ v) (j _) refl (memory_is (has_bit dest 0) x.m x.a _ s.2)
+perform_is (Shift m left d dest jump) key pc x s w =
+    let o = operand_is m x.m key x.a s.2 in
+    let j : (out : ℕ) → jumps jump out ≡ false = λ out. subst (λ n. jumps n out ≡ false) (sym s.0) (no_jump out) in
+    after_shift m left d dest jump key pc x _ _ _ (ap (λ y. word_shift left (if d then x.d else y)) o) (j _) refl (memory_is (has_bit dest 0) x.m x.a _ s.3)
+
+-- of a shift that is none of D, what may read is M
+of_m : (m d : Bool) → d ≡ false → (m ≡ true) ⊎ (d ≡ true) → m ≡ true
+of_m m d e (inl h) = h
+of_m m d e (inr h) = absurd (cc (e, h))
 
 step_is : (image : List ℕ) (key : ℕ) (s : Machine) → step image key s ≡ perform (fetch image s) key s
 unfolding step
@@ -128,16 +156,18 @@ module _ (image : List ℕ) (inside : ℕ → Type 0) where
   not_data : (i : Instr) (pc : ℕ) (x : Data) → SafeAt i x → IsDataWrite i (at pc x) → ⊥
   not_data (Address n) pc x s b = b
   not_data (Compute m comp dest jump) pc x s b = let low = subst (λ v. when v (x.a < 2048)) b.0 s.2 in omega (arith, low, b.1)
+  not_data (Shift m left d dest jump) pc x s b = let low = subst (λ v. when v (x.a < 2048)) b.0 s.3 in omega (arith, low, b.1)
 
-  not_key : (i : Instr) (pc : ℕ) (x : Data) → SafeAt i x → IsKeyRead i (at pc x) → ⊥
+  not_key : (i : Instr) (pc : ℕ) (x : Data) → SafeAt i x → MayReadKey i (at pc x) → ⊥
   not_key (Address n) pc x s b = b
   not_key (Compute m comp dest jump) pc x s b = let low = subst (λ v. when v (x.a < 24576)) b.0 s.1 in omega (arith, low, b.1)
+  not_key (Shift m left d dest jump) pc x s b = let low = subst (λ v. when v (x.a < 24576)) (of_m m d s.1 b.0) s.2 in omega (arith, low, b.1)
 
   quiet_at : (i : Instr) (pc : ℕ) (x : Data) → instr_of (slice_index image pc) ≡ i → SafeAt i x → inside pc → Quiet image inside (at pc x)
   quiet_at i pc x f s p = record {
     place = p;
     no_write = λ b. not_data i pc x s (subst (λ c. IsDataWrite c (at pc x)) f b);
-    no_key = λ b. not_key i pc x s (subst (λ c. IsKeyRead c (at pc x)) f b);
+    no_key = λ b. not_key i pc x s (subst (λ c. MayReadKey c (at pc x)) f b);
   }
 
   -- a block, and what follows it
@@ -163,7 +193,7 @@ module _ (image : List ℕ) (inside : ℕ → Type 0) where
       arrived (record {
         place = sym e';
         write = λ b. not_data i pc x s.0 (subst (λ c. IsDataWrite c (at pc x)) st.0 b);
-        no_key = λ b. not_key i pc x s.0 (subst (λ c. IsKeyRead c (at pc x)) st.0 b);
+        no_key = λ b. not_key i pc x s.0 (subst (λ c. MayReadKey c (at pc x)) st.0 b);
         leads = λ key small. subst goal (sym (step_at i key pc x st.0 s.0 w)) (subst (λ k. goal (at ((k + 1) % 32768) (do_instr i x))) e' g);
       })
   whole {goal} (i ∷ j ∷ is) n x pc last l st s w e h p g =
@@ -180,25 +210,28 @@ module _ (image : List ℕ) (inside : ℕ → Type 0) where
   abbrev pub IsJump : Instr → Data → ℕ → ℕ → Type 0
   IsJump (Address n) x pc to = ⊥
   IsJump (Compute m comp dest jump) x pc to = (m ≡ false) × (dest ≡ 0) × ((if jumps jump (comp_value comp x.d x.a) then x.a % 32768 else (pc + 1) % 32768) ≡ to)
+  IsJump (Shift m left d dest jump) x pc to = ⊥
 
   jump_is : (i : Instr) (key pc to : ℕ) (x : Data) → IsJump i x pc to → AreWords x → perform i key (at pc x) ≡ at to x
   jump_is (Address n) key pc to x j w = absurd j
   jump_is (Compute m comp dest jump) key pc to x j w =
       let v : alu_out comp x.d x.a ≡ comp_value comp x.d x.a = sym (comp_is comp x.d x.a w.d_word w.a_word) in
       rw (j.0, j.1, v, j.2)
+  jump_is (Shift m left d dest jump) key pc to x j w = absurd j
 
   jump_step : (i : Instr) (key pc to : ℕ) (x : Data) → instr_of (slice_index image pc) ≡ i → IsJump i x pc to → AreWords x → step image key (at pc x) ≡ at to x
   unfolding step
   jump_step i key pc to x f j w = ap (λ c. perform c key (at pc x)) f ∙ jump_is i key pc to x j w
 
-  jump_quiet : (i : Instr) (pc to : ℕ) (x : Data) → IsJump i x pc to → (IsDataWrite i (at pc x) → ⊥) × (IsKeyRead i (at pc x) → ⊥)
+  jump_quiet : (i : Instr) (pc to : ℕ) (x : Data) → IsJump i x pc to → (IsDataWrite i (at pc x) → ⊥) × (MayReadKey i (at pc x) → ⊥)
   jump_quiet (Address n) pc to x j = ((λ b. b), (λ b. b))
   jump_quiet (Compute m comp dest jump) pc to x j = ((λ b. let e : false ≡ true = subst (λ n. has_bit n 0 ≡ true) j.1 b.0 in cc), (λ b. let e = b.0 in let f = j.0 in cc))
+  jump_quiet (Shift m left d dest jump) pc to x j = absurd j
 
   pub jump : {goal : Machine → Type 0} (i : Instr) (x : Data) (pc to n : ℕ) → instr_of (slice_index image pc) ≡ i → IsJump i x pc to → AreWords x → inside pc → Reaches image (Quiet image inside) goal n (at to x) → Reaches image (Quiet image inside) goal (suc n) (at pc x)
   jump {goal} i x pc to n f j w p r =
       let q = jump_quiet i pc to x j in
-      further (record { place = p; no_write = λ b. q.0 (subst (λ c. IsDataWrite c (at pc x)) f b); no_key = λ b. q.1 (subst (λ c. IsKeyRead c (at pc x)) f b) })
+      further (record { place = p; no_write = λ b. q.0 (subst (λ c. IsDataWrite c (at pc x)) f b); no_key = λ b. q.1 (subst (λ c. MayReadKey c (at pc x)) f b) })
       (λ key small. subst (Reaches image (Quiet image inside) goal n) (sym (jump_step i key pc to x f j w)) r)
 
   pub last_jump : {goal : Machine → Type 0} (i : Instr) (x : Data) (pc to n : ℕ) → instr_of (slice_index image pc) ≡ i → IsJump i x pc to → AreWords x → goal (at to x) → Does image inside pc ⊥ goal n (at pc x)
@@ -207,7 +240,7 @@ module _ (image : List ℕ) (inside : ℕ → Type 0) where
       arrived (record {
         place = refl;
         write = λ b. q.0 (subst (λ c. IsDataWrite c (at pc x)) f b);
-        no_key = λ b. q.1 (subst (λ c. IsKeyRead c (at pc x)) f b);
+        no_key = λ b. q.1 (subst (λ c. MayReadKey c (at pc x)) f b);
         leads = λ key small. subst goal (sym (jump_step i key pc to x f j w)) g;
       })
 
@@ -243,7 +276,7 @@ read_any image inside {goal} x pc n f other w near p go =
     (record {
       place = p;
       no_write = λ b. let b' = subst (λ c. IsDataWrite c (at pc x)) f b in let no : false ≡ true = b'.0 in cc;
-      no_key = λ b. let b' = subst (λ c. IsKeyRead c (at pc x)) f b in other b'.1;
+      no_key = λ b. let b' = subst (λ c. MayReadKey c (at pc x)) f b in other b'.1;
     })
     (λ key small.
     let value = read_word x.m key x.a small w.m_words in
@@ -265,7 +298,7 @@ store_last image inside {goal} x pc n f a w g =
     arrived (record {
       place = refl;
       write = λ b. let b' = subst (λ c. IsDataWrite c (at pc x)) f b in subst IsData low b'.1;
-      no_key = λ b. let b' = subst (λ c. IsKeyRead c (at pc x)) f b in let no : false ≡ true = b'.0 in cc;
+      no_key = λ b. let b' = subst (λ c. MayReadKey c (at pc x)) f b in let no : false ≡ true = b'.0 in cc;
       leads = λ key small. subst goal (sym (stores image x pc key f w ∙ ap (λ m. let after : Machine = record { a = x.a; d = x.d; pc = (pc + 1) % 32768; memory = m } in after) same)) g;
     })
 
@@ -274,7 +307,7 @@ pub store_anywhere : (image : List ℕ) (inside : ℕ → Type 0) (x : Data) (pc
 store_anywhere image inside x pc n f = arrived (record {
   place = refl;
   write = λ b. tt;
-  no_key = λ b. let b' = subst (λ c. IsKeyRead c (at pc x)) f b in let no : false ≡ true = b'.0 in cc;
+  no_key = λ b. let b' = subst (λ c. MayReadKey c (at pc x)) f b in let no : false ≡ true = b'.0 in cc;
   leads = λ key small. tt;
 })
 

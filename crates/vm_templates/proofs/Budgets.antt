@@ -1,7 +1,7 @@
 -- A command may take at least as many steps as words.
 use Rattle.std.proofs.Common.{◌≤◌, arith}
 use Rattle.vm_tree.specs.declared.command.Operation.{Operation}
-use Rattle.vm_tree.specs.declared.command.Operation.TheVariants.{Add, Sub, Neg, Eq, Gt, Lt, And, Or, Not}
+use Rattle.vm_tree.specs.declared.command.Operation.TheVariants.{Add, Sub, Neg, Eq, Gt, Lt, And, Or, Not, ShiftLeft, ShiftRight}
 use Rattle.vm_link.specs.declared.linked.Step.TheVariants.{Operate, Push, Pop, Goto, IfGoto, Function, Call, Return}
 use Rattle.vm_templates.specs.Budgets.{operation_words, operation_steps, TakesStepsForWords}
 
@@ -12,6 +12,8 @@ operation_within And = omega arith
 operation_within Or = omega arith
 operation_within Neg = omega arith
 operation_within Not = omega arith
+operation_within ShiftLeft = omega arith
+operation_within ShiftRight = omega arith
 operation_within Eq = omega arith
 operation_within Gt = omega arith
 operation_within Lt = omega arith

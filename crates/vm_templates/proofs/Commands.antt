@@ -1,9 +1,10 @@
 -- How the computer goes through the commands without a jump, from their place in the image.
-use Rattle.std.proofs.Common.{◌≡◌, ◌≢◌, ℕ, suc, ◌+◌, ◌-◌, ◌<◌, ◌≤◌, ◌%◌, true, List, [], ◌∷◌, length, take, drop, refl, ◌∙◌, sym, subst, arith}
+use Rattle.std.proofs.Common.{◌≡◌, ◌≢◌, ℕ, suc, ◌+◌, ◌-◌, ◌<◌, ◌≤◌, ◌%◌, Bool, true, false, List, [], ◌∷◌, length, take, drop, refl, ◌∙◌, sym, subst, arith}
 use Rattle.std.proofs.lemmas.Bool.Decides.{nat_tests}
 use Rattle.hack_isa.specs.Machine.{Machine}
+use Rattle.word16.specs.Words.{word_shift}
 use Rattle.hack_isa.specs.declared.Instr.{Instr}
-use Rattle.hack_isa.specs.declared.Instr.TheVariants.{Compute}
+use Rattle.hack_isa.specs.declared.Instr.TheVariants.{Compute, Shift}
 use Rattle.simulation.specs.System.{IsData, IsKey}
 use Rattle.vm_templates.specs.Templates.{push_d, push_constant, push_word, push_at, push_first, pop_word, pop_at, pop_first, join, turn}
 use Rattle.vm_templates.specs.declared.instructions.TheConstants.{D_IS_M, M_IS_D}
@@ -12,7 +13,7 @@ use Rattle.vm_templates.specs.Going.{Does, DoesHearing}
 use Rattle.vm_templates.specs.Effects.{IsKept, Pushed, Joined, Turned, Stored}
 use Rattle.vm_templates.proofs.Alu.{comp_value}
 use Rattle.vm_templates.proofs.Block.{Data, AreWords, at, do_block, block_words, Safe, whole, block, from_place, up_to, within, hear, read_any, store_last, store_anywhere, put, put_words}
-use Rattle.vm_templates.proofs.Straight.{push_d_does, push_constant_does, push_word_does, push_at_does, push_first_does, pop_word_does, join_does, turn_does}
+use Rattle.vm_templates.proofs.Straight.{push_d_does, push_constant_does, push_word_does, push_at_does, push_first_does, pop_word_does, join_does, turn_does, shift_does}
 
 -- The command stands at `here`, and its last instruction at `last`.
 module _ (image : List ℕ) (inside : ℕ → Type 0) (here last : ℕ) (fits : last < 32768) (places : (k : ℕ) → here ≤ k → k < last → inside k) (x : Data) (w : AreWords x) where
@@ -56,6 +57,11 @@ module _ (image : List ℕ) (inside : ℕ → Type 0) (here last : ℕ) (fits : 
       → {goal : Machine → Type 0} → ((y : Data) → AreWords y → Turned x.m y.m (comp_value comp x.d (x.m (x.m 0 - 1))) → Next goal y) → Does image inside last ⊥ goal 2 (at here x)
   turn_goes comp st e low high go =
       goes (turn (Compute true comp 1 0)) 2 (λ y. Turned x.m y.m (comp_value comp x.d (x.m (x.m 0 - 1)))) refl st e (turn_does x comp low high) go
+
+  pub shift_goes : (left : Bool) → Stands image here (turn (Shift true left false 1 0)) → here + 2 ≡ last → 257 ≤ x.m 0 → x.m 0 ≤ 2048
+      → {goal : Machine → Type 0} → ((y : Data) → AreWords y → Turned x.m y.m (word_shift left (x.m (x.m 0 - 1))) → Next goal y) → Does image inside last ⊥ goal 2 (at here x)
+  shift_goes left st e low high go =
+      goes (turn (Shift true left false 1 0)) 2 (λ y. Turned x.m y.m (word_shift left (x.m (x.m 0 - 1)))) refl st e (shift_does x left low high) go
 
   -- A push of the word whose address the instructions before the last five have put in A.
   module _ (front : List Instr) (n address : ℕ) (len : length front ≡ n) (begins : Stands image here front) (pushes : Stands image (here + n) (D_IS_M ∷ push_d)) (e : here + n + 4 ≡ last) (a_is : (do_block front x).a ≡ address) (m_is : (do_block front x).m ≡ x.m) (safe : Safe front x) where

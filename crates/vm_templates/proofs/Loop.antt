@@ -9,7 +9,7 @@ use Rattle.simulation.specs.System.{System, Idles, IdlesAtEnd}
 use Rattle.vm_templates.specs.Computer.{HasLoop}
 use Rattle.image_map.specs.Map.{Map}
 use Rattle.image_map.specs.Computer.{reads_key, in_loop, hack_system}
-use Rattle.vm_templates.specs.Going.{IsKeyRead}
+use Rattle.vm_templates.specs.Going.{MayReadKey}
 use Rattle.vm_templates.specs.Laws.{LoopsIdle}
 use Rattle.vm_templates.proofs.Keys.{not_heard, false_if}
 
@@ -72,10 +72,10 @@ module _ (image : List ℕ) (map : Map) (loop : ℕ) (h : HasLoop image map loop
   quiet_at : (s : Machine) → At loop s → (map.commits s.pc ≡ false) × (reads_key (slice_index image s.pc) s.a ≡ false)
   quiet_at s (inl e) =
       let i = ap (λ p. instr_of (slice_index image p)) e ∙ h.stands.0 in
-      (ap map.commits e ∙ h.commits.0, not_heard (slice_index image s.pc) s (λ r. subst (λ c. IsKeyRead c s) i r))
+      (ap map.commits e ∙ h.commits.0, not_heard (slice_index image s.pc) s (λ r. subst (λ c. MayReadKey c s) i r))
   quiet_at s (inr e) =
       let i = ap (λ p. instr_of (slice_index image p)) e.0 ∙ h.stands.1.0 in
-      (ap map.commits e.0 ∙ h.commits.1, not_heard (slice_index image s.pc) s (λ r. let n : false ≡ true = (subst (λ c. IsKeyRead c s) i r).0 in cc))
+      (ap map.commits e.0 ∙ h.commits.1, not_heard (slice_index image s.pc) s (λ r. let n : false ≡ true = (subst (λ c. MayReadKey c s) i r).0 in cc))
 
   idles_at : (s s' : Machine) (key : ℕ) → At loop s → step image key s ≡ s' → Idles sys s s'
   idles_at s s' key (inl e) r =

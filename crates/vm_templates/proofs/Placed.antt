@@ -1,14 +1,14 @@
 -- Where instructions stand.
 use Rattle.std.proofs.Common.{◌≡◌, ℕ, zero, suc, ◌+◌, ◌<◌, ◌≤◌, inl, inr, List, [], ◌∷◌, ◌++◌, length, take, drop, true, false, Some, refl, ap, ◌∙◌, subst, arith}
-use Rattle.std.specs.Prelude.{slice_index, slice_get, map, All}
+use Rattle.std.specs.Prelude.{Bool, if◌then◌else◌, slice_index, slice_get, map, All}
 use Rattle.std.proofs.lemmas.Bool.{cases_lt, le-ltb, lt-ltb}
 use Rattle.std.proofs.lemmas.Option.{get_or_from_slice_get, slice_get_within}
 use Rattle.hack_isa.specs.Table.{WellFormed, word_of, instr_of}
 use Rattle.hack_isa.specs.declared.Instr.{Instr}
-use Rattle.hack_isa.specs.declared.Instr.TheVariants.{Address, Compute}
+use Rattle.hack_isa.specs.declared.Instr.TheVariants.{Address, Compute, Shift}
 use Rattle.hack_isa.proofs.RoundTrip.{encoded}
 use Rattle.vm_templates.specs.declared.shape.Shape.{Shape}
-use Rattle.vm_templates.specs.declared.shape.Shape.TheVariants.{PushConstant, PushAt, PushFirst, PushWord, PopAt, PopFirst, PopWord, Add, Sub, And, Or, Neg, Not, Eq, Gt, Lt, Goto, IfGoto, Call, Function, Return}
+use Rattle.vm_templates.specs.declared.shape.Shape.TheVariants.{PushConstant, PushAt, PushFirst, PushWord, PopAt, PopFirst, PopWord, Add, Sub, And, Or, Neg, Not, ShiftLeft, ShiftRight, Eq, Gt, Lt, Goto, IfGoto, Call, Function, Return}
 use Rattle.vm_templates.specs.declared.routines.Routine.{Routine}
 use Rattle.vm_templates.specs.declared.routines.Routine.TheVariants as routine
 use Rattle.vm_templates.specs.declared.routines.Routines.{Routines}
@@ -60,10 +60,15 @@ stand_from instrs (i ∷ is) here fit same =
 pub all_stand : (instrs : List Instr) → All WellFormed instrs → Stands (map word_of instrs) 0 instrs
 all_stand instrs fit = stand_from instrs instrs 0 fit (λ k l. let z : 0 + k ≡ k = omega arith in ap (slice_get instrs) z)
 
+at_most : (b : Bool) (n : ℕ) → (if b then n else 0) ≤ n
+at_most true n = omega arith
+at_most false n = omega arith
+
 word_small : (i : Instr) → WellFormed i → word_of i < 65536
 word_small (Address n) h = omega arith
 word_small (Compute true c d j) h = omega arith
 word_small (Compute false c d j) h = omega arith
+word_small (Shift m left d c j) h = let small = h.1 in let few = h.2 in omega (arith, small, few, at_most m 4096, at_most left 2048, at_most d 1024)
 
 pub all_words : (instrs : List Instr) → All WellFormed instrs → (k : ℕ) → slice_index (map word_of instrs) k < 65536
 all_words [] fit k = omega arith
@@ -84,6 +89,8 @@ size_is at here And = refl
 size_is at here Or = refl
 size_is at here Neg = refl
 size_is at here Not = refl
+size_is at here ShiftLeft = refl
+size_is at here ShiftRight = refl
 size_is at here Eq = refl
 size_is at here Gt = refl
 size_is at here Lt = refl
@@ -130,6 +137,8 @@ fits at here And l f h = search arith
 fits at here Or l f h = search arith
 fits at here Neg l f h = search arith
 fits at here Not l f h = search arith
+fits at here ShiftLeft l f h = search arith
+fits at here ShiftRight l f h = search arith
 fits at here Eq l f h = search arith
 fits at here Gt l f h = search arith
 fits at here Lt l f h = search arith

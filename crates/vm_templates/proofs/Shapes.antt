@@ -1,5 +1,5 @@
 -- The effect of each command, from where it stands.
-use Rattle.std.proofs.Common.{true, ◌≡◌, ◌≢◌, inl, inr, None, ℕ, suc, ◌+◌, ◌-◌, ◌*◌, ◌<◌, ◌≤◌, ◌%◌, List, [], ◌∷◌, take, refl, sym, subst, ap, ◌∙◌, arith}
+use Rattle.std.proofs.Common.{true, false, ◌≡◌, ◌≢◌, inl, inr, None, ℕ, suc, ◌+◌, ◌-◌, ◌*◌, ◌<◌, ◌≤◌, ◌%◌, List, [], ◌∷◌, take, refl, sym, subst, ap, ◌∙◌, arith}
 use Rattle.std.specs.Prelude.{if◌then◌else◌, nat_eq, bit_and, bit_or}
 use Rattle.std.proofs.lemmas.Bool.Decides.{nat_tests}
 use Rattle.std.proofs.lemmas.Nat.{and_comm}
@@ -8,7 +8,7 @@ use Rattle.word16.specs.Words.{word_add, word_sub}
 use Rattle.hack_isa.specs.Machine.{Machine}
 use Rattle.simulation.specs.System.{IsData}
 use Rattle.vm_templates.specs.declared.shape.Shape.{Shape}
-use Rattle.vm_templates.specs.declared.shape.Shape.TheVariants.{PushConstant, PushAt, PushFirst, PushWord, PopAt, PopFirst, PopWord, Add, Sub, And, Or, Neg, Not, Eq, Gt, Lt, Goto, IfGoto, Call, Function, Return}
+use Rattle.vm_templates.specs.declared.shape.Shape.TheVariants.{PushConstant, PushAt, PushFirst, PushWord, PopAt, PopFirst, PopWord, Add, Sub, And, Or, Neg, Not, ShiftLeft, ShiftRight, Eq, Gt, Lt, Goto, IfGoto, Call, Function, Return}
 use Rattle.hack_isa.specs.declared.Instr.TheVariants.{Compute}
 use Rattle.vm_templates.specs.declared.routines.Routines.{Routines}
 use Rattle.vm_templates.specs.Templates.{join, push_at, push_first, pop_at, pop_first, size, routine_of}
@@ -20,7 +20,7 @@ use Rattle.vm_templates.specs.Effects.{Pushed, Joined, Stored, HasWords}
 use Rattle.vm_templates.specs.Commands.{HasValues, HasRoom, address_at, topmost, second, Ready, PushesFrom, PopsTo, MayStore, Effect, next, IsAt, IsInside, last_of, Goes, After, CommandsGo}
 use Rattle.vm_templates.proofs.Placed.{size_some}
 use Rattle.vm_templates.proofs.Block.{Data, AreWords, at, within, from_place, up_to}
-use Rattle.vm_templates.proofs.Commands.{push_constant_goes, push_word_goes, push_at_goes, push_first_goes, pop_word_goes, join_goes, turn_goes, push_key_goes, push_any_goes, push_ends_goes, ready_at, ready_first, pop_to_goes, pop_any_goes}
+use Rattle.vm_templates.proofs.Commands.{push_constant_goes, push_word_goes, push_at_goes, push_first_goes, pop_word_goes, join_goes, turn_goes, shift_goes, push_key_goes, push_any_goes, push_ends_goes, ready_at, ready_first, pop_to_goes, pop_any_goes}
 use Rattle.vm_templates.proofs.Compare.{eq_goes, gt_goes, lt_goes}
 use Rattle.vm_templates.proofs.Calls.{go_to_goes, if_go_to_goes, function_goes, call_goes, return_goes}
 
@@ -140,6 +140,14 @@ module _ (image : List ℕ) (rs : Routines) (inside : ℕ → Type 0) (s : Machi
       let w = data_words s here.words in
       let low = here.low in
       turn_goes image inside s.pc last (omega arith) places x w 49 here.stands (omega arith) ready.0 ready.1 (λ y wy p. after Not (Effect Not s.pc) ((last + 1) % 32768) y wy (ends_at 3 e) p)
+  command_goes ShiftLeft none here e ready =
+      let w = data_words s here.words in
+      let low = here.low in
+      shift_goes image inside s.pc last (omega arith) places x w true here.stands (omega arith) ready.0 ready.1 (λ y wy p. after ShiftLeft (Effect ShiftLeft s.pc) ((last + 1) % 32768) y wy (ends_at 3 e) p)
+  command_goes ShiftRight none here e ready =
+      let w = data_words s here.words in
+      let low = here.low in
+      shift_goes image inside s.pc last (omega arith) places x w false here.stands (omega arith) ready.0 ready.1 (λ y wy p. after ShiftRight (Effect ShiftRight s.pc) ((last + 1) % 32768) y wy (ends_at 3 e) p)
   command_goes Eq none here e ready = absurd (cc none)
   command_goes Gt none here e ready = absurd (cc none)
   command_goes Lt none here e ready = absurd (cc none)
@@ -251,6 +259,8 @@ module _ (image : List ℕ) (rs : Routines) (s : Machine) where
   goes_by Or here ready = alone Or refl here ready
   goes_by Neg here ready = alone Neg refl here ready
   goes_by Not here ready = alone Not refl here ready
+  goes_by ShiftLeft here ready = alone ShiftLeft refl here ready
+  goes_by ShiftRight here ready = alone ShiftRight refl here ready
   goes_by Eq here ready =
       let inside : ℕ → Type 0 = IsInside rs s.pc Eq in
       let back : ℕ = (s.pc + 4) % 32768 in

@@ -1,7 +1,8 @@
 -- The commands without a jump.
-use Rattle.std.proofs.Common.{ℕ, true, ◌+◌, ◌-◌, ◌<◌, ◌≤◌, ◌%◌, arith}
+use Rattle.std.proofs.Common.{ℕ, Bool, true, false, ◌+◌, ◌-◌, ◌<◌, ◌≤◌, ◌%◌, arith}
 use Rattle.std.proofs.lemmas.Bool.Decides.{nat_tests}
-use Rattle.hack_isa.specs.declared.Instr.TheVariants.{Compute}
+use Rattle.word16.specs.Words.{word_shift}
+use Rattle.hack_isa.specs.declared.Instr.TheVariants.{Compute, Shift}
 use Rattle.vm_templates.specs.Templates.{push_d, push_constant, push_word, push_at, push_first, pop_word, join, turn}
 use Rattle.vm_templates.specs.Effects.{Pushed, Joined, Turned, Stored}
 use Rattle.vm_templates.proofs.Alu.{comp_value}
@@ -32,3 +33,6 @@ module _ (x : Data) where
 
   pub turn_does : (comp : ℕ) → 257 ≤ x.m 0 → x.m 0 ≤ 2048 → Turned x.m (do_block (turn (Compute true comp 1 0)) x).m (comp_value comp x.d (x.m (x.m 0 - 1))) × Safe (turn (Compute true comp 1 0)) x
   turn_does comp low high = (record { top = grind (arith, nat_tests); same = λ k e. grind (arith, nat_tests) }, search arith)
+
+  pub shift_does : (left : Bool) → 257 ≤ x.m 0 → x.m 0 ≤ 2048 → Turned x.m (do_block (turn (Shift true left false 1 0)) x).m (word_shift left (x.m (x.m 0 - 1))) × Safe (turn (Shift true left false 1 0)) x
+  shift_does left low high = (record { top = grind (arith, nat_tests); same = λ k e. grind (arith, nat_tests) }, search arith)

@@ -1,11 +1,11 @@
 -- What the instructions of each command do: from where, to where, and what they change.
 use Rattle.std.specs.Prelude.{◌≡◌, ◌≢◌, ◌⊎◌, ℕ, ◌+◌, ◌-◌, ◌<◌, ◌≤◌, ◌%◌, if◌then◌else◌, nat_eq, bit_and, bit_or, List, Option, None, Some}
 use Rattle.word16.specs.Memory.{heap, keyboard}
-use Rattle.word16.specs.Words.{word_add, word_sub, word_neg, word_not}
+use Rattle.word16.specs.Words.{word_add, word_sub, word_neg, word_not, word_shl, word_shr}
 use Rattle.hack_isa.specs.Machine.{Machine, image_words}
 use Rattle.simulation.specs.System.{IsData}
 use Rattle.vm_templates.specs.declared.shape.Shape.{Shape}
-use Rattle.vm_templates.specs.declared.shape.Shape.TheVariants.{PushConstant, PushAt, PushFirst, PushWord, PopAt, PopFirst, PopWord, Add, Sub, And, Or, Neg, Not, Eq, Gt, Lt, Goto, IfGoto, Call, Function, Return}
+use Rattle.vm_templates.specs.declared.shape.Shape.TheVariants.{PushConstant, PushAt, PushFirst, PushWord, PopAt, PopFirst, PopWord, Add, Sub, And, Or, Neg, Not, ShiftLeft, ShiftRight, Eq, Gt, Lt, Goto, IfGoto, Call, Function, Return}
 use Rattle.vm_templates.specs.declared.routines.Routine.{Routine}
 use Rattle.vm_templates.specs.declared.routines.Routines.{Routines}
 use Rattle.vm_templates.specs.Templates.{template, size, routine_code, routine_size, routine_at, routine_of}
@@ -57,6 +57,8 @@ Ready (PopFirst base) m = HasValues 1 m × (256 ≤ m base) × (m base < keyboar
 Ready (PopWord address) m = HasValues 1 m
 Ready Neg m = HasValues 1 m
 Ready Not m = HasValues 1 m
+Ready ShiftLeft m = HasValues 1 m
+Ready ShiftRight m = HasValues 1 m
 Ready (Goto target) m = Unit {0}
 Ready (IfGoto target) m = HasValues 1 m
 Ready (Call target arguments) m = HasRoom 5 m
@@ -97,6 +99,8 @@ Effect And here m after = Joined m after (bit_and (second m) (topmost m))
 Effect Or here m after = Joined m after (bit_or (second m) (topmost m))
 Effect Neg here m after = Turned m after (word_neg (topmost m))
 Effect Not here m after = Turned m after (word_not (topmost m))
+Effect ShiftLeft here m after = Turned m after (word_shl (topmost m))
+Effect ShiftRight here m after = Turned m after (word_shr (topmost m))
 Effect Eq here m after = Joined m after (equal (second m) (topmost m))
 Effect Gt here m after = Joined m after (greater (second m) (topmost m))
 Effect Lt here m after = Joined m after (less (second m) (topmost m))

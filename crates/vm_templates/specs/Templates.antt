@@ -6,11 +6,11 @@ use Rattle.hack_isa.specs.declared.Instr.{Instr}
 use Rattle.hack_isa.specs.declared.Instr.TheVariants.{Address}
 use Rattle.image_map.specs.Computer.{endless_loop}
 use Rattle.vm_templates.specs.declared.shape.Shape.{Shape}
-use Rattle.vm_templates.specs.declared.shape.Shape.TheVariants.{PushConstant, PushAt, PushFirst, PushWord, PopAt, PopFirst, PopWord, Add, Sub, And, Or, Neg, Not, Eq, Gt, Lt, Goto, IfGoto, Call, Function, Return}
+use Rattle.vm_templates.specs.declared.shape.Shape.TheVariants.{PushConstant, PushAt, PushFirst, PushWord, PopAt, PopFirst, PopWord, Add, Sub, And, Or, Neg, Not, ShiftLeft, ShiftRight, Eq, Gt, Lt, Goto, IfGoto, Call, Function, Return}
 use Rattle.vm_templates.specs.declared.routines.Routine.{Routine}
 use Rattle.vm_templates.specs.declared.routines.Routine.TheVariants as routine
 use Rattle.vm_templates.specs.declared.routines.Routines.{Routines}
-use Rattle.vm_templates.specs.declared.instructions.TheConstants.{D_IS_A, D_IS_NOT_A, D_IS_M, A_IS_M, M_IS_D, M_IS_0, M_IS_MINUS_1, AM_IS_M_MINUS_1, AM_IS_M_PLUS_1, A_IS_A_MINUS_1, A_IS_M_MINUS_1, D_IS_M_PLUS_1, MD_IS_M_PLUS_1, A_IS_D_PLUS_M, D_IS_D_PLUS_M, D_IS_D_AND_M, D_IS_D_OR_M, D_IS_D_MINUS_M, D_IS_M_MINUS_D, A_IS_D_MINUS_A, M_IS_D_PLUS_M, M_IS_M_MINUS_D, M_IS_D_AND_M, M_IS_D_OR_M, M_IS_MINUS_M, M_IS_NOT_M, JUMP, IF_D_LESS, IF_D_GREATER, IF_D_EQUAL, IF_D_NOT_LESS, IF_D_NOT_EQUAL}
+use Rattle.vm_templates.specs.declared.instructions.TheConstants.{D_IS_A, D_IS_NOT_A, D_IS_M, A_IS_M, M_IS_D, M_IS_0, M_IS_MINUS_1, AM_IS_M_MINUS_1, AM_IS_M_PLUS_1, A_IS_A_MINUS_1, A_IS_M_MINUS_1, D_IS_M_PLUS_1, MD_IS_M_PLUS_1, A_IS_D_PLUS_M, D_IS_D_PLUS_M, D_IS_D_AND_M, D_IS_D_OR_M, D_IS_D_MINUS_M, D_IS_M_MINUS_D, A_IS_D_MINUS_A, M_IS_D_PLUS_M, M_IS_M_MINUS_D, M_IS_D_AND_M, M_IS_D_OR_M, M_IS_MINUS_M, M_IS_NOT_M, M_IS_M_SHIFTED_LEFT, M_IS_M_SHIFTED_RIGHT, JUMP, IF_D_LESS, IF_D_GREATER, IF_D_EQUAL, IF_D_NOT_LESS, IF_D_NOT_EQUAL}
 
 -- D goes on the stack
 abbrev pub push_d : List Instr
@@ -212,6 +212,8 @@ template at here And = join M_IS_D_AND_M
 template at here Or = join M_IS_D_OR_M
 template at here Neg = turn M_IS_MINUS_M
 template at here Not = turn M_IS_NOT_M
+template at here ShiftLeft = turn M_IS_M_SHIFTED_LEFT
+template at here ShiftRight = turn M_IS_M_SHIFTED_RIGHT
 template at here Eq = compare_by at.equal ((here + 4) % 32768)
 template at here Gt = compare_by at.greater ((here + 4) % 32768)
 template at here Lt = compare_by at.less ((here + 4) % 32768)
@@ -236,6 +238,8 @@ size And = 5
 size Or = 5
 size Neg = 3
 size Not = 3
+size ShiftLeft = 3
+size ShiftRight = 3
 size Eq = 4
 size Gt = 4
 size Lt = 4

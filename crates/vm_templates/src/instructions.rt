@@ -210,6 +210,24 @@ pub const M_IS_NOT_M: Instr = Instr::Compute {
     jump: 0,
 };
 
+/// `M=M<<`
+pub const M_IS_M_SHIFTED_LEFT: Instr = Instr::Shift {
+    memory: true,
+    left: true,
+    of_d: false,
+    dest: 1,
+    jump: 0,
+};
+
+/// `M=M>>`
+pub const M_IS_M_SHIFTED_RIGHT: Instr = Instr::Shift {
+    memory: true,
+    left: false,
+    of_d: false,
+    dest: 1,
+    jump: 0,
+};
+
 /// `0;JMP`
 pub const JUMP: Instr = Instr::Compute {
     memory: false,

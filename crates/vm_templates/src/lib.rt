@@ -20,7 +20,7 @@ pub const START_SIZE: u16 = 23;
 mod tests {
     use crate::instructions::{
         AM_IS_M_MINUS_1, D_IS_M, D_IS_NOT_A, IF_D_NOT_EQUAL, IF_D_NOT_LESS, JUMP, M_IS_D_OR_M,
-        M_IS_M_MINUS_D, M_IS_NOT_M,
+        M_IS_M_MINUS_D, M_IS_M_SHIFTED_LEFT, M_IS_M_SHIFTED_RIGHT, M_IS_NOT_M,
     };
     use hack_isa::encode;
 
@@ -33,6 +33,8 @@ mod tests {
         assert_eq!(rt; encode(&M_IS_M_MINUS_D), 0b1111_0001_1100_1000);
         assert_eq!(rt; encode(&M_IS_D_OR_M), 0b1111_0101_0100_1000);
         assert_eq!(rt; encode(&M_IS_NOT_M), 0b1111_1100_0100_1000);
+        assert_eq!(rt; encode(&M_IS_M_SHIFTED_LEFT), 0b1011_1000_0000_1000);
+        assert_eq!(rt; encode(&M_IS_M_SHIFTED_RIGHT), 0b1011_0000_0000_1000);
         assert_eq!(rt; encode(&IF_D_NOT_LESS), 0b1110_0011_0000_0011);
         assert_eq!(rt; encode(&IF_D_NOT_EQUAL), 0b1110_0011_0000_0101);
         assert_eq!(rt; encode(&JUMP), 0b1110_1010_1000_0111);

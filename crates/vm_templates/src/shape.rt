@@ -23,6 +23,8 @@ pub enum Shape {
     Or,
     Neg,
     Not,
+    ShiftLeft,
+    ShiftRight,
     Eq,
     Gt,
     Lt,

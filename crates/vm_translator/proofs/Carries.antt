@@ -1,7 +1,7 @@
 -- Each command's instructions carry the memory to the next state.
 use Rattle.std.proofs.Common.{◌≡◌, ℕ, Option, ◌+◌, ◌≤◌, Bool, false, List, ◌∷◌, length, refl, ap, ◌∙◌, subst, arith}
 use Rattle.std.specs.Prelude.{nat_eq, bit_and, bit_or, int_lt}
-use Rattle.word16.specs.Words.{word_add, word_sub, word_neg, word_not, signed_value, truth}
+use Rattle.word16.specs.Words.{word_add, word_sub, word_neg, word_not, word_shl, word_shr, signed_value, truth}
 use Rattle.vm_tree.specs.declared.command.Operation.{Operation}
 use Rattle.vm_tree.specs.declared.command.Operation.TheVariants as operation
 use Rattle.vm_link.specs.declared.linked.Linked.{Linked}
@@ -100,6 +100,8 @@ module _ (address : Option ℕ → ℕ → ℕ) (l : Linked) (v : State) (f : Fr
   operate_carries operation.Or heard v' to acts = join_carries shape.Or bit_or heard v' tt (λ r. r) (λ t p. p) to acts
   operate_carries operation.Neg heard v' to acts = turn_carries shape.Neg word_neg heard v' tt (λ r. r) (λ t p. p) to acts
   operate_carries operation.Not heard v' to acts = turn_carries shape.Not word_not heard v' tt (λ r. r) (λ t p. p) to acts
+  operate_carries operation.ShiftLeft heard v' to acts = turn_carries shape.ShiftLeft word_shl heard v' tt (λ r. r) (λ t p. p) to acts
+  operate_carries operation.ShiftRight heard v' to acts = turn_carries shape.ShiftRight word_shr heard v' tt (λ r. r) (λ t p. p) to acts
   operate_carries operation.Eq heard v' to acts = join_carries shape.Eq (λ x y. truth (nat_eq x y)) heard v' tt (λ r. r) (λ t p. joined_equal m t (second m) (topmost m) p) to acts
   operate_carries operation.Gt heard v' to acts = join_carries shape.Gt (λ x y. truth (int_lt (signed_value y) (signed_value x))) heard v' tt (λ r. r) (λ t p. joined_greater m t (second m) (topmost m) p) to acts
   operate_carries operation.Lt heard v' to acts = join_carries shape.Lt (λ x y. truth (int_lt (signed_value x) (signed_value y))) heard v' tt (λ r. r) (λ t p. joined_less m t (second m) (topmost m) p) to acts

@@ -62,6 +62,8 @@ operation_quiet operation.Lt m h = h
 operation_quiet operation.And m h = h
 operation_quiet operation.Or m h = h
 operation_quiet operation.Not m h = h
+operation_quiet operation.ShiftLeft m h = h
+operation_quiet operation.ShiftRight m h = h
 
 from_quiet : (base i : ℕ) (m : ℕ → ℕ) → MayStore (push_from base i) m → ⊥
 from_quiet base zero m h = h

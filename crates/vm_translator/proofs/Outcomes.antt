@@ -5,7 +5,7 @@ use Rattle.word16.specs.Words.{word_add}
 use Rattle.machine_io.specs.declared.machine.Stray.{Stray}
 use Rattle.machine_io.specs.declared.machine.Stray.TheVariants as stray
 use Rattle.vm_tree.specs.declared.command.Operation.{Operation}
-use Rattle.vm_tree.specs.declared.command.Operation.TheVariants.{Add, Sub, Neg, Eq, Gt, Lt, And, Or, Not}
+use Rattle.vm_tree.specs.declared.command.Operation.TheVariants.{Add, Sub, Neg, Eq, Gt, Lt, And, Or, Not, ShiftLeft, ShiftRight}
 use Rattle.vm_tree.specs.declared.command.Segment.{Segment}
 use Rattle.vm_tree.specs.declared.command.Segment.TheVariants as segment
 use Rattle.vm_link.specs.declared.linked.Step.{Step}
@@ -83,6 +83,8 @@ module _ (key : ℕ) (s : State) (f : Frame) (below : List Frame) where
   operate_allowed And = joined_allowed _
   operate_allowed Or = joined_allowed _
   operate_allowed Not = turned_allowed _
+  operate_allowed ShiftLeft = turned_allowed _
+  operate_allowed ShiftRight = turned_allowed _
 
   load_allowed : (x : ℕ) → Allowed true true (load key x s f below)
   load_allowed x = if_allowed true true (nat_lt x 2048) _ _ refl (if_allowed true true (nat_lt x 24576) _ _ tt (if_allowed true true (nat_eq x 24576) _ _ refl refl))

@@ -10,7 +10,7 @@ use Rattle.std.proofs.lemmas.List.Elements.{filter_map-append}
 use Rattle.std.proofs.lemmas.List.Folds.{list_any-append}
 use Rattle.outer_world.specs.declared.point.Point.{Point}
 use Rattle.hack_isa.specs.declared.Instr.{Instr}
-use Rattle.hack_isa.specs.declared.Instr.TheVariants.{Address, Compute}
+use Rattle.hack_isa.specs.declared.Instr.TheVariants.{Address, Compute, Shift}
 use Rattle.hack_isa.specs.Table.{WellFormed, word_of}
 use Rattle.vm_tree.specs.declared.command.Segment.TheVariants as segment
 use Rattle.vm_link.specs.declared.linked.Code.{Code}
@@ -53,6 +53,7 @@ use Rattle.vm_translator.proofs.Covered.{in_range, no_point, past_ranges, chain_
 well_formed : (i : Instr) → IsPlain i → WellFormed i
 well_formed (Address n) p = p
 well_formed (Compute m c d j) p = p.0
+well_formed (Shift m left d dest jump) p = p
 
 abbrev pub words : Linked → List ℕ
 words l = map word_of (image_of l)

@@ -4,10 +4,10 @@ use Rattle.std.specs.Prelude.{All, not}
 use Rattle.std.specs.List.{flat_map, list_any, list_all}
 use Rattle.std.proofs.lemmas.Bool.{and_parts, or_parts, ltb-true, lt-ltb, le-ltb, cases_Bool, cases_eq, cases_lt, eqb-false}
 use Rattle.hack_isa.specs.declared.Instr.{Instr}
-use Rattle.hack_isa.specs.declared.Instr.TheVariants.{Address, Compute}
+use Rattle.hack_isa.specs.declared.Instr.TheVariants.{Address, Compute, Shift}
 use Rattle.vm_templates.specs.declared.shape.Shape.{Shape}
 use Rattle.vm_templates.specs.declared.shape.Shape.TheVariants as shape
-use Rattle.vm_templates.specs.declared.instructions.TheConstants.{D_IS_A, D_IS_NOT_A, D_IS_M, A_IS_M, M_IS_D, M_IS_MINUS_1, A_IS_M_MINUS_1, A_IS_D_PLUS_M, D_IS_D_PLUS_M, D_IS_D_AND_M, D_IS_D_OR_M, D_IS_M_MINUS_D, M_IS_D_PLUS_M, M_IS_M_MINUS_D, M_IS_D_AND_M, M_IS_D_OR_M, M_IS_MINUS_M, M_IS_NOT_M, JUMP, IF_D_LESS, IF_D_GREATER, IF_D_EQUAL, IF_D_NOT_LESS, IF_D_NOT_EQUAL}
+use Rattle.vm_templates.specs.declared.instructions.TheConstants.{D_IS_A, D_IS_NOT_A, D_IS_M, A_IS_M, M_IS_D, M_IS_MINUS_1, A_IS_M_MINUS_1, A_IS_D_PLUS_M, D_IS_D_PLUS_M, D_IS_D_AND_M, D_IS_D_OR_M, D_IS_M_MINUS_D, M_IS_D_PLUS_M, M_IS_M_MINUS_D, M_IS_D_AND_M, M_IS_D_OR_M, M_IS_MINUS_M, M_IS_NOT_M, M_IS_M_SHIFTED_LEFT, M_IS_M_SHIFTED_RIGHT, JUMP, IF_D_LESS, IF_D_GREATER, IF_D_EQUAL, IF_D_NOT_LESS, IF_D_NOT_EQUAL}
 use Rattle.vm_templates.specs.declared.routines.Routine.{Routine}
 use Rattle.vm_templates.specs.declared.routines.Routine.TheVariants as routine
 use Rattle.vm_templates.specs.declared.routines.Routines.{Routines}
@@ -43,6 +43,11 @@ use Rattle.vm_translator.proofs.Laid.{Each, each_all, each_both, each_of}
 abbrev is_plain : Instr → Bool
 is_plain (Address n) = nat_lt n 32768
 is_plain (Compute memory comp dest jump) = nat_lt comp 64 && (nat_lt dest 8 && (nat_lt jump 8 && is_spelled memory comp))
+is_plain (Shift memory left d dest jump) = not (d && memory) && (nat_lt dest 8 && nat_lt jump 8)
+
+none_of : (b : Bool) → not b ≡ true → b ≡ false
+none_of true e = absurd (cc e)
+none_of false e = refl
 
 plain : (i : Instr) → is_plain i ≡ true → IsPlain i
 plain (Address n) e = ltb-true n 32768 e
@@ -51,6 +56,10 @@ plain (Compute memory comp dest jump) e =
     let b = and_parts _ _ a.1 in
     let c = and_parts _ _ b.1 in
     ((ltb-true comp 64 a.0, ltb-true dest 8 b.0, ltb-true jump 8 c.0), c.1)
+plain (Shift memory left d dest jump) e =
+    let a = and_parts _ _ e in
+    let b = and_parts _ _ a.1 in
+    (none_of (d && memory) a.0, ltb-true dest 8 b.0, ltb-true jump 8 b.1)
 
 plain_all : (is : List Instr) → list_all is_plain is ≡ true → Each IsPlain is
 unfolding Each
@@ -154,6 +163,8 @@ plain_template rs here shape.And h f w = plain_all (join M_IS_D_AND_M) refl
 plain_template rs here shape.Or h f w = plain_all (join M_IS_D_OR_M) refl
 plain_template rs here shape.Neg h f w = plain_all (turn M_IS_MINUS_M) refl
 plain_template rs here shape.Not h f w = plain_all (turn M_IS_NOT_M) refl
+plain_template rs here shape.ShiftLeft h f w = plain_all (turn M_IS_M_SHIFTED_LEFT) refl
+plain_template rs here shape.ShiftRight h f w = plain_all (turn M_IS_M_SHIFTED_RIGHT) refl
 plain_template rs here shape.Eq h f w = plain_compare_by rs.equal ((here + 4) % 32768) f (omega arith)
 plain_template rs here shape.Gt h f w = plain_compare_by rs.greater ((here + 4) % 32768) f (omega arith)
 plain_template rs here shape.Lt h f w = plain_compare_by rs.less ((here + 4) % 32768) f (omega arith)
@@ -173,6 +184,8 @@ numbered_operation operation.Lt = tt
 numbered_operation operation.And = tt
 numbered_operation operation.Or = tt
 numbered_operation operation.Not = tt
+numbered_operation operation.ShiftLeft = tt
+numbered_operation operation.ShiftRight = tt
 
 numbered_from : (base i : ℕ) → base < 32768 → IsNumbered (push_from base i)
 numbered_from base zero h = h

@@ -34,6 +34,8 @@ operation_between operation.Lt = record { some = omega arith; within = omega ari
 operation_between operation.And = record { some = omega arith; within = omega arith }
 operation_between operation.Or = record { some = omega arith; within = omega arith }
 operation_between operation.Not = record { some = omega arith; within = omega arith }
+operation_between operation.ShiftLeft = record { some = omega arith; within = omega arith }
+operation_between operation.ShiftRight = record { some = omega arith; within = omega arith }
 
 from_between : (base i : ℕ) → IsBetween (size (push_from base i)) 9
 from_between base zero = record { some = omega arith; within = omega arith }
@@ -108,6 +110,8 @@ routine_to to (step.Operate o) = compared o
     compared operation.And = refl
     compared operation.Or = refl
     compared operation.Not = refl
+    compared operation.ShiftLeft = refl
+    compared operation.ShiftRight = refl
 routine_to to (step.Push g i) = pushed_none g i
   where
     from_none : (base i : ℕ) → routine_of (push_from base i) ≡ None
@@ -158,6 +162,8 @@ shared_is (step.Operate o) = compared o
     compared operation.And = refl
     compared operation.Or = refl
     compared operation.Not = refl
+    compared operation.ShiftLeft = refl
+    compared operation.ShiftRight = refl
 shared_is (step.Push g i) = refl
 shared_is (step.Pop g i) = refl
 shared_is (step.Goto p) = refl
@@ -177,6 +183,8 @@ operation_cycles operation.Lt = omega arith
 operation_cycles operation.And = omega arith
 operation_cycles operation.Or = omega arith
 operation_cycles operation.Not = omega arith
+operation_cycles operation.ShiftLeft = omega arith
+operation_cycles operation.ShiftRight = omega arith
 
 cycles_for : (to : ℕ) (s : Step) → cycles_of (size (shape_of to s)) (routine_for s) ≤ most_steps s
 cycles_for to (step.Operate o) = operation_cycles o

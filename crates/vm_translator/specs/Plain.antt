@@ -2,7 +2,7 @@
 use Rattle.std.specs.Prelude.{◌≡◌, ◌<◌, ℕ, Bool, true, not, List, [], ◌∷◌, nat_eq, ◌&&◌, ◌||◌}
 use Rattle.std.specs.List.{list_any}
 use Rattle.hack_isa.specs.declared.Instr.{Instr}
-use Rattle.hack_isa.specs.declared.Instr.TheVariants.{Address, Compute}
+use Rattle.hack_isa.specs.declared.Instr.TheVariants.{Address, Compute, Shift}
 use Rattle.hack_isa.specs.Table.{WellFormed}
 
 abbrev pub stands_among : List ℕ → ℕ → Bool
@@ -24,3 +24,4 @@ is_spelled memory comp = stands_among comps_of_a comp || (not memory && stands_a
 abbrev pub IsPlain : Instr → Type 0
 IsPlain (Address n) = n < 32768
 IsPlain (Compute memory comp dest jump) = WellFormed (Compute memory comp dest jump) × (is_spelled memory comp ≡ true)
+IsPlain (Shift memory left d dest jump) = WellFormed (Shift memory left d dest jump)

@@ -24,6 +24,8 @@ operation_shape operation.Lt = shape.Lt
 operation_shape operation.And = shape.And
 operation_shape operation.Or = shape.Or
 operation_shape operation.Not = shape.Not
+operation_shape operation.ShiftLeft = shape.ShiftLeft
+operation_shape operation.ShiftRight = shape.ShiftRight
 
 -- of a segment that begins where a register points: its first word has instructions of its own
 abbrev pub push_from : ℕ → ℕ → Shape

@@ -10,7 +10,8 @@ use vm_templates::instructions::{
     AM_IS_M_PLUS_1, D_IS_A, D_IS_D_AND_M, D_IS_D_MINUS_M, D_IS_D_OR_M, D_IS_D_PLUS_M, D_IS_M,
     D_IS_M_MINUS_D, D_IS_M_PLUS_1, D_IS_NOT_A, IF_D_EQUAL, IF_D_GREATER, IF_D_LESS, IF_D_NOT_EQUAL,
     IF_D_NOT_LESS, JUMP, M_IS_0, M_IS_D, M_IS_D_AND_M, M_IS_D_OR_M, M_IS_D_PLUS_M, M_IS_M_MINUS_D,
-    M_IS_MINUS_1, M_IS_MINUS_M, M_IS_NOT_M, MD_IS_M_PLUS_1,
+    M_IS_M_SHIFTED_LEFT, M_IS_M_SHIFTED_RIGHT, M_IS_MINUS_1, M_IS_MINUS_M, M_IS_NOT_M,
+    MD_IS_M_PLUS_1,
 };
 use vm_templates::{ENDLESS_LOOP, Routine, Routines, Shape};
 
@@ -447,6 +448,8 @@ pub fn template(
         Shape::Or => join(out, M_IS_D_OR_M),
         Shape::Neg => turn(out, M_IS_MINUS_M),
         Shape::Not => turn(out, M_IS_NOT_M),
+        Shape::ShiftLeft => turn(out, M_IS_M_SHIFTED_LEFT),
+        Shape::ShiftRight => turn(out, M_IS_M_SHIFTED_RIGHT),
         Shape::Eq => compare_by(out, at.equal, (here + 4) % 32768),
         Shape::Gt => compare_by(out, at.greater, (here + 4) % 32768),
         Shape::Lt => compare_by(out, at.less, (here + 4) % 32768),

@@ -29,6 +29,8 @@ fn operated(operation: Operation) -> Shape
         Operation::And => Shape::And,
         Operation::Or => Shape::Or,
         Operation::Not => Shape::Not,
+        Operation::ShiftLeft => Shape::ShiftLeft,
+        Operation::ShiftRight => Shape::ShiftRight,
     }
 }
 
@@ -179,7 +181,9 @@ pub fn step_size(step: Step) -> u32
     ensures small { result < 262144 }
 {
     match step {
-        Step::Operate(Operation::Neg | Operation::Not) => 3,
+        Step::Operate(
+            Operation::Neg | Operation::Not | Operation::ShiftLeft | Operation::ShiftRight,
+        ) => 3,
         Step::Operate(Operation::Eq | Operation::Gt | Operation::Lt) => 4,
         Step::Operate(_) => 5,
         Step::Push(segment, index) => push_size(segment, index),

@@ -21,6 +21,8 @@ operation_text operation.Lt = codes "lt"
 operation_text operation.And = codes "and"
 operation_text operation.Or = codes "or"
 operation_text operation.Not = codes "not"
+operation_text operation.ShiftLeft = codes "shiftleft"
+operation_text operation.ShiftRight = codes "shiftright"
 
 abbrev pub segment_text : Segment → List ℕ
 segment_text segment.Argument = codes "argument"

@@ -13,6 +13,8 @@ pub enum Operation {
     And,
     Or,
     Not,
+    ShiftLeft,
+    ShiftRight,
 }
 
 /// Where a value is pushed from or popped to.

@@ -21,6 +21,8 @@ fn operation_text(operation: Operation) -> &'static str
         Operation::And => "and",
         Operation::Or => "or",
         Operation::Not => "not",
+        Operation::ShiftLeft => "shiftleft",
+        Operation::ShiftRight => "shiftright",
     }
 }
 
