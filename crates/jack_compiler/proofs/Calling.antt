@@ -13,7 +13,7 @@ use Rattle.vm_tree.specs.declared.command.Segment.TheVariants as segment
 use Rattle.vm_tree.specs.declared.command.Operation.TheVariants as operation
 use Rattle.vm_link.specs.Sections.{Section, called_name, calls, stands_in, is_named}
 use Rattle.vm_link.specs.Faults.{first_of, lacking}
-use Rattle.jack_meaning.specs.Text.{Variable, Argument, Local, Static, Sign, Minus, Complement, Operator, Plus, Subtract, And, Or, Less, Greater, Equal, Expression, Literal, Value, Name, This, Field, Unary, Binary, Load, Call, Open, Expressions, NoMore, More, Statement, Let, LetField, LetThis, Store, Do, If, While, Return, Text, End, Next, Kind, Constructor, Function, Method, Subroutine}
+use Rattle.jack_meaning.specs.Text.{Variable, Argument, Local, Static, Sign, Minus, Complement, ShiftLeft, ShiftRight, Operator, Plus, Subtract, And, Or, Less, Greater, Equal, Expression, Literal, Value, Name, This, Field, Unary, Binary, Load, Call, Open, Expressions, NoMore, More, Statement, Let, LetField, LetThis, Store, Do, If, While, Return, Text, End, Next, Kind, Constructor, Function, Method, Subroutine}
 use Rattle.jack_compiler.specs.Templates.{Numbers, first_number, no_else}
 use Rattle.jack_meaning.specs.Linked as called_in
 use Rattle.jack_compiler.specs.Fits.{Scope, IsBody, IsClosed}
@@ -64,6 +64,8 @@ module _ (around : Around) (K : List ℕ → Type 0) where
   sign_calls : (o : Sign) → Of K (called_name (sign_command o))
   sign_calls Minus = tt
   sign_calls Complement = tt
+  sign_calls ShiftLeft = tt
+  sign_calls ShiftRight = tt
 
   operator_calls : (o : Operator) → Of K (called_name (operator_command o))
   operator_calls Plus = tt

@@ -12,7 +12,7 @@ use Rattle.vm_link.specs.declared.linked.Code.{Code}
 use Rattle.vm_link.specs.Sections.{Section, label}
 use Rattle.vm_link.specs.Faults.{words_before}
 use Rattle.vm_link.specs.Resolved.{code_of, number_in, place_in}
-use Rattle.jack_meaning.specs.Text.{Variable, Argument, Local, Static, Sign, Minus, Complement, Operator, Plus, Subtract, And, Or, Less, Greater, Equal, Expression, Literal, Value, Name, This, Field, Unary, Binary, Load, Call, Open, Expressions, NoMore, More, Statement, Let, LetField, LetThis, Store, Do, If, While, Return, Text, End, Next, Subroutine}
+use Rattle.jack_meaning.specs.Text.{Variable, Argument, Local, Static, Sign, Minus, Complement, ShiftLeft, ShiftRight, Operator, Plus, Subtract, And, Or, Less, Greater, Equal, Expression, Literal, Value, Name, This, Field, Unary, Binary, Load, Call, Open, Expressions, NoMore, More, Statement, Let, LetField, LetThis, Store, Do, If, While, Return, Text, End, Next, Subroutine}
 use Rattle.jack_compiler.specs.Templates.{Numbers, quiet, commit, count, literal_code, push_variable, pop_variable, sign_step, operator_step, load_code, store_code, expression_code, arguments_code, statement_code, text_code, first_number, no_else}
 use Rattle.jack_compiler.specs.Fits.{Scope, IsThere, IsWhole, AreWhole, IsFresh, IsFreshText}
 use Rattle.jack_compiler.specs.Lines as lines
@@ -169,6 +169,8 @@ module _ (subs : List Subroutine) (first numbers : Numbers) (around : Around) (k
   sign_codes : (n : ℕ) (o : Sign) → Are (lines.commit n (sign_command o) ∷ []) (commit n (sign_step o) ∷ [])
   sign_codes n Minus = record { is = refl }
   sign_codes n Complement = record { is = refl }
+  sign_codes n ShiftLeft = record { is = refl }
+  sign_codes n ShiftRight = record { is = refl }
 
   operator_codes : (n : ℕ) (o : Operator) → Are (lines.commit n (operator_command o) ∷ []) (commit n (operator_step o) ∷ [])
   operator_codes n Plus = record { is = refl }

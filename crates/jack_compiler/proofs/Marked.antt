@@ -10,7 +10,7 @@ use Rattle.vm_tree.specs.declared.command.Line.{Line}
 use Rattle.vm_tree.specs.declared.command.Command.{Command}
 use Rattle.vm_tree.specs.declared.command.Command.TheVariants as command
 use Rattle.vm_link.specs.Sections.{label, target}
-use Rattle.jack_meaning.specs.Text.{Variable, Argument, Local, Static, Sign, Minus, Complement, Operator, Plus, Subtract, And, Or, Less, Greater, Equal, Expression, Literal, Value, Name, This, Field, Unary, Binary, Load, Call, Open, Expressions, NoMore, More, Statement, Let, LetField, LetThis, Store, Do, If, While, Return, Text, End, Next}
+use Rattle.jack_meaning.specs.Text.{Variable, Argument, Local, Static, Sign, Minus, Complement, ShiftLeft, ShiftRight, Operator, Plus, Subtract, And, Or, Less, Greater, Equal, Expression, Literal, Value, Name, This, Field, Unary, Binary, Load, Call, Open, Expressions, NoMore, More, Statement, Let, LetField, LetThis, Store, Do, If, While, Return, Text, End, Next}
 use Rattle.jack_compiler.specs.Templates.{first_number, no_else}
 use Rattle.jack_compiler.specs.Lines.{Around, quiet, commit, if_true, if_false, if_end, while_exp, while_do, while_end, into_if, into_else, into_while, out_of_while, literal_lines, sign_command, operator_command, push_variable, pop_variable, load_lines, store_lines, expression_lines, arguments_lines, statement_lines, text_lines, ifs_of, ifs_in, whiles_of, whiles_in}
 
@@ -161,6 +161,8 @@ pop_plain around (Static k) = record { no_label = refl; no_target = refl }
 sign_plain : (o : Sign) → IsPlain (sign_command o)
 sign_plain Minus = record { no_label = refl; no_target = refl }
 sign_plain Complement = record { no_label = refl; no_target = refl }
+sign_plain ShiftLeft = record { no_label = refl; no_target = refl }
+sign_plain ShiftRight = record { no_label = refl; no_target = refl }
 
 operator_plain : (o : Operator) → IsPlain (operator_command o)
 operator_plain Plus = record { no_label = refl; no_target = refl }

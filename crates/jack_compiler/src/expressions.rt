@@ -36,6 +36,8 @@ fn sign_command(sign: Sign) -> Command
     match sign {
         Sign::Minus => Command::Operate(Operation::Neg),
         Sign::Complement => Command::Operate(Operation::Not),
+        Sign::ShiftLeft => Command::Operate(Operation::ShiftLeft),
+        Sign::ShiftRight => Command::Operate(Operation::ShiftRight),
     }
 }
 

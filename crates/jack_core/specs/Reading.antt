@@ -1,6 +1,6 @@
 -- What the expressions of the code stand for: those of the meaning.
 use Rattle.std.specs.Prelude.{ℕ, List, [], ◌∷◌, get_or, take, drop, reverse}
-use Rattle.jack_meaning.specs.Text.{Argument, Local, Static, Minus, Complement, Plus, Subtract, And, Or, Less, Greater, Equal, Literal, Value, Name, This, Field, Unary, Binary, Load, Call, NoMore, More}
+use Rattle.jack_meaning.specs.Text.{Argument, Local, Static, Minus, Complement, ShiftLeft, ShiftRight, Plus, Subtract, And, Or, Less, Greater, Equal, Literal, Value, Name, This, Field, Unary, Binary, Load, Call, NoMore, More}
 use Rattle.jack_meaning.specs.Text.{Variable as AVariable, Sign as ASign, Operator as AnOperator, Expression as AnExpression, Expressions}
 use Rattle.jack_core.specs.declared.tree.Variable.{Variable}
 use Rattle.jack_core.specs.declared.tree.Sign.{Sign}
@@ -18,6 +18,8 @@ the_variable (Variable.Static k) = Static k
 abbrev pub the_sign : Sign → ASign
 the_sign Sign.Minus = Minus
 the_sign Sign.Complement = Complement
+the_sign Sign.ShiftLeft = ShiftLeft
+the_sign Sign.ShiftRight = ShiftRight
 
 abbrev pub the_operator : Operator → AnOperator
 the_operator Operator.Plus = Plus

@@ -12,11 +12,13 @@ pub enum Variable {
     Static(u32),
 }
 
-/// The operators before a term: `-` and `~`.
+/// The operators before a term: `-` and `~`, and `^` and `#`.
 #[derive(Clone, Copy, PartialEq, Eq, Debug)]
 pub enum Sign {
     Minus,
     Complement,
+    ShiftLeft,
+    ShiftRight,
 }
 
 /// The operators between terms: `+ - & | < > =`.

@@ -105,7 +105,7 @@ cut (b ∷ bs) o =
     cut_if IsOne IsBetween (IsOver 32767) all (is_letter b) (word_piece all) (symbol_or b all)
     (λ l. run_is_cut IsOne is_name_byte b bs (letter_in_name b l) (λ rest. AWord (letter_is b l) (name_run bs)))
     (λ l. cut_if IsOne IsBetween (IsOver 32767) all (is_sign b) (symbol_piece b all) (number_or b all)
-    (λ s. byte_is_cut IsOne b bs (ASymbol (contains (codes "{}()[].,;+-*/&|<>=~") b s) (begins_none b bs o).1))
+    (λ s. byte_is_cut IsOne b bs (ASymbol (contains (codes "{}()[].,;+-*/&|<>=~^#") b s) (begins_none b bs o).1))
     (λ s. cut_if IsOne IsBetween (IsOver 32767) all (is_digit b) (number_piece all) (text_or b all)
     (λ d. limited_is_cut IsOne IsBetween (integer all) b bs d (λ rest. AnInteger (All-cons (λ c. is_digit c ≡ true) b (digits bs) d (front_run is_digit bs))))
     (λ d. cut_if IsOne IsBetween (IsOver 32767) all (b == 34) (text_piece all) (Wrong Grammar)
@@ -130,7 +130,7 @@ reaches xs rest (AnInteger {d} {ds} a) =
     )
 reaches xs rest (ASymbol {b} c slash) =
     let all = b ∷ rest in
-    let s : is_sign b ≡ true = contained (codes "{}()[].,;+-*/&|<>=~") b c in (
+    let s : is_sign b ≡ true = contained (codes "{}()[].,;+-*/&|<>=~^#") b c in (
       none_begins b rest (no_blank is_sign b s refl refl refl refl, slash),
       reaches_if 1 (is_letter b) (word_piece all) (symbol_or b all) (λ e. absurd (sign_is_no_letter b s e))
           (λ l. reaches_if 1 (is_sign b) (symbol_piece b all) (number_or b all) (λ e. omega arith) (λ e. absurd (cc (s, e)))),

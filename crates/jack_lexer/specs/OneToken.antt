@@ -16,5 +16,5 @@ IsInText b = ((b ≡ 9) ⊎ ((32 ≤ b) × (b ≤ 126))) × (b ≡ 34 → ⊥)
 pub data IsOne : List ℕ → List ℕ → Type 0 where
   AWord : {b : ℕ} {bs behind : List ℕ} → IsNameStart b → All (λ c. IsNameStart c ⊎ (is_ascii_digit c ≡ true)) bs → IsOne (b ∷ bs) behind
   AnInteger : {d : ℕ} {ds behind : List ℕ} → All (λ c. is_ascii_digit c ≡ true) (d ∷ ds) → IsOne (d ∷ ds) behind
-  ASymbol : {b : ℕ} {behind : List ℕ} → Contains (codes "{}()[].,;+-*/&|<>=~") b → (b ≡ 47 → OpensComment behind → ⊥) → IsOne (b ∷ []) behind
+  ASymbol : {b : ℕ} {behind : List ℕ} → Contains (codes "{}()[].,;+-*/&|<>=~^#") b → (b ≡ 47 → OpensComment behind → ⊥) → IsOne (b ∷ []) behind
   AString : (bs : List ℕ) {behind : List ℕ} → All IsInText bs → IsOne (34 ∷ (bs ++ 34 ∷ [])) behind

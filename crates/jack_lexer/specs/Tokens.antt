@@ -25,11 +25,12 @@ is_quote b = b == 34
 abbrev pub is_text_byte : ℕ → Bool
 is_text_byte b = (b == 9 || (nat_le 32 b && nat_le b 126)) && (if is_quote b then false else true)
 
--- { } ( ) [ ] . , ; + - * / & | < > = ~
+-- { } ( ) [ ] . , ; + - * / & | < > = ~, and ^ #, which are not the book's
 abbrev pub is_sign : ℕ → Bool
 is_sign b =
     b == 123 || b == 125 || b == 40 || b == 41 || b == 91 || b == 93 || b == 46 || b == 44 || b == 59
     || b == 43 || b == 45 || b == 42 || b == 47 || b == 38 || b == 124 || b == 60 || b == 62 || b == 61 || b == 126
+    || b == 94 || b == 35
 
 -- a token of the n + 1 bytes at the front
 abbrev pub token_of : Kind → ℕ → List ℕ → Piece Word

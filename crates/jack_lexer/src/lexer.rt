@@ -55,6 +55,8 @@ fn is_sign(byte: u8) -> bool
             | b'>'
             | b'='
             | b'~'
+            | b'^'
+            | b'#'
     )
 }
 

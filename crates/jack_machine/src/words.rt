@@ -12,6 +12,8 @@ pub(crate) fn sign(sign: Sign, x: u16) -> u16
     match sign {
         Sign::Minus => word16::neg(x),
         Sign::Complement => word16::not(x),
+        Sign::ShiftLeft => word16::shl(x),
+        Sign::ShiftRight => word16::shr(x),
     }
 }
 

@@ -1,6 +1,6 @@
 -- Small programs and where their steps lead, and what the bounds of a run and of a program are for small ones, by computation.
 use Rattle.std.specs.Prelude.{◌≡◌, ℕ, ◌-◌, true, false, List, [], ◌∷◌, slice_index, Some, option_map}
-use Rattle.jack_meaning.specs.Text.{Argument, Local, Static, Minus, Complement, Plus, Subtract, Less, Expression, Literal, Value, Name, This, Unary, Binary, Load, Call, Open, NoMore, More, Statement, Let, LetField, LetThis, Store, Do, If, While, Return, text_of, Constructor, Function, Method, Subroutine, Class, Program}
+use Rattle.jack_meaning.specs.Text.{Argument, Local, Static, Minus, Complement, ShiftLeft, ShiftRight, Plus, Subtract, Less, Expression, Literal, Value, Name, This, Unary, Binary, Load, Call, Open, NoMore, More, Statement, Let, LetField, LetThis, Store, Do, If, While, Return, text_of, Constructor, Function, Method, Subroutine, Class, Program}
 use Rattle.jack_meaning.specs.Meaning.{Frame, State, Outcome, Stray, Done, step, point_of}
 use Rattle.jack_meaning.specs.StackWords.{stack_words}
 use Rattle.jack_meaning.specs.Linked.{IsLinked}
@@ -82,6 +82,10 @@ chooses =
 -- let s[0] = ~32767;
 abbrev pub inverts : Program
 inverts = main 16384 (s_at 2 0 (Unary Complement (Literal 32767)) ∷ Return 3 (Literal 0) ∷ [])
+
+-- let s[0] = ^5; let s[1] = #(-5);
+abbrev pub shifts : Program
+shifts = main 16384 (s_at 2 0 (Unary ShiftLeft (Literal 5)) ∷ s_at 3 1 (Unary ShiftRight (Unary Minus (Literal 5))) ∷ Return 4 (Literal 0) ∷ [])
 
 -- let s[0] = 20000 < (-20000); let s[1] = (-20000) < 20000;
 abbrev pub compares : Program
@@ -206,6 +210,9 @@ pub record RowsLaw : Type 0 where
   pub choice : IsAt chooses [] 23 (0, 2) 16384 1
   pub complement_choice : IsAt chooses [] 23 (0, 2) 16385 1
   pub inverse : IsAt inverts [] 15 (0, 2) 16384 32768
+  -- half of -5 is rounded down to -3
+  pub shifted_left : IsAt shifts [] 21 (0, 2) 16384 10
+  pub shifted_right : IsAt shifts [] 21 (0, 2) 16385 65533
   -- -20000 is below 20000, though their difference is not a word
   pub not_less : IsAt compares [] 24 (0, 2) 16384 0
   pub less : IsAt compares [] 24 (0, 2) 16385 65535

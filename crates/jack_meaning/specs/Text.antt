@@ -8,9 +8,9 @@ pub data Variable : Type 0 where
   Local : ℕ → Variable
   Static : ℕ → Variable
 
--- - and ~ before a term
+-- - and ~ before a term, and the shifts ^ and #, which are not the book's
 pub data Sign : Type 0 where
-  Minus Complement : Sign
+  Minus Complement ShiftLeft ShiftRight : Sign
 
 -- + - & | < > =
 pub data Operator : Type 0 where

@@ -139,6 +139,8 @@ by_object s (Some x) args n a = by_variable (s.variable x.text) args n a
 signed : (o : tree.Sign) (x : meaning.Expression) (n : ℕ) → Single x n → Single (meaning.Unary (plain.sign_meaning o) x) (1 + n)
 signed tree.Negate x n a = wider _ (n + 1) (1 + n) (omega arith) (close (part.Unary Sign.Minus) (x ∷ []) n _ refl refl a)
 signed tree.Not x n a = wider _ (n + 1) (1 + n) (omega arith) (close (part.Unary Sign.Complement) (x ∷ []) n _ refl refl a)
+signed tree.ShiftLeft x n a = wider _ (n + 1) (1 + n) (omega arith) (close (part.Unary Sign.ShiftLeft) (x ∷ []) n _ refl refl a)
+signed tree.ShiftRight x n a = wider _ (n + 1) (1 + n) (omega arith) (close (part.Unary Sign.ShiftRight) (x ∷ []) n _ refl refl a)
 
 -- an operator between two
 module _ (s : Standing) (x y : meaning.Expression) (m n : ℕ) (a : Single x m) (b : Single y n) where

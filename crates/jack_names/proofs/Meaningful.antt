@@ -69,6 +69,8 @@ constant_same s (constant.This at) = refl
 sign_same : (o : Sign) → meant.sign_meant o ≡ plain.sign_meaning (the_sign o)
 sign_same sign.Minus = refl
 sign_same sign.Not = refl
+sign_same sign.ShiftLeft = refl
+sign_same sign.ShiftRight = refl
 
 binary_same : (s : Scope) (o : Operator) (a b : meaning.Expression) → meant.binary_meant s o a b ≡ plain.binary_meaning (the_standing s) (the_operator o) a b
 binary_same s operator.Plus a b = refl

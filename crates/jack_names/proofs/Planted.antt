@@ -124,6 +124,8 @@ operator_tree tree.Equal = (operator.Equal, refl)
 sign_tree : (o : tree.Sign) → (p : Sign) × (the_sign p ≡ o)
 sign_tree tree.Negate = (sign.Minus, refl)
 sign_tree tree.Not = (sign.Not, refl)
+sign_tree tree.ShiftLeft = (sign.ShiftLeft, refl)
+sign_tree tree.ShiftRight = (sign.ShiftRight, refl)
 
 constant_tree : (c : tree.Constant) → (d : Constant) × (the_constant d ≡ c)
 unfolding name_tree

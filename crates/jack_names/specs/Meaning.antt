@@ -47,6 +47,8 @@ constant_meaning s (tree.This at) = meaning.This
 abbrev pub sign_meaning : tree.Sign → meaning.Sign
 sign_meaning tree.Negate = meaning.Minus
 sign_meaning tree.Not = meaning.Complement
+sign_meaning tree.ShiftLeft = meaning.ShiftLeft
+sign_meaning tree.ShiftRight = meaning.ShiftRight
 
 abbrev pub binary_meaning : Standing → tree.Operator → meaning.Expression → meaning.Expression → meaning.Expression
 binary_meaning s tree.Plus a b = meaning.Binary meaning.Plus a b

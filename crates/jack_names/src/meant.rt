@@ -171,6 +171,8 @@ fn sign_meant(sign: Sign) -> CoreSign
     match sign {
         Sign::Minus => CoreSign::Minus,
         Sign::Not => CoreSign::Complement,
+        Sign::ShiftLeft => CoreSign::ShiftLeft,
+        Sign::ShiftRight => CoreSign::ShiftRight,
     }
 }
 

@@ -10,7 +10,7 @@ use Rattle.jack_tree.specs.declared.token.Keyword.TheVariants as keyword
 use Rattle.jack_tree.specs.declared.token.Kind.{Kind}
 use Rattle.jack_tree.specs.declared.token.Kind.TheVariants as kind
 use Rattle.jack_tree.specs.Tokens.{Word}
-use Rattle.jack_tree.specs.Syntax.{Name, Operator, Plus, Minus, Times, Divide, And, Or, Less, Greater, Equal, Sign, Negate, Not, Constant, Integer, String, True, False, Null, This, Expression, Terms, Operations, NoOperation, Then, Term, Value, Variable, Element, Called, Group, Unary, Calls, Expressions, NoExpression, More}
+use Rattle.jack_tree.specs.Syntax.{Name, Operator, Plus, Minus, Times, Divide, And, Or, Less, Greater, Equal, Sign, Negate, Not, ShiftLeft, ShiftRight, Constant, Integer, String, True, False, Null, This, Expression, Terms, Operations, NoOperation, Then, Term, Value, Variable, Element, Called, Group, Unary, Calls, Expressions, NoExpression, More}
 use Rattle.jack_parser.specs.declared.counts.Counted.TheVariants as counted
 use Rattle.jack_parser.specs.declared.counts.Counts.{Counts}
 use Rattle.jack_parser.specs.declared.words.Start.TheVariants as starts
@@ -77,14 +77,20 @@ operator_ends Equal at t = refl
 sign_front : (s : Sign) (vs : Tokens) (ts us : List Word) → Front (sign_tokens s ++ vs) ts us → Front (sign_said s ∷ vs) ts us
 sign_front Negate vs ts us h = h
 sign_front Not vs ts us h = h
+sign_front ShiftLeft vs ts us h = h
+sign_front ShiftRight vs ts us h = h
 
 sign_negates : (s : Sign) (t : Word) → negates (record t { kind = said_kind (sign_said s) }) ≡ true
 sign_negates Negate t = refl
 sign_negates Not t = refl
+sign_negates ShiftLeft t = refl
+sign_negates ShiftRight t = refl
 
 sign_starts : (s : Sign) → start_by (said_kind (sign_said s)) ≡ starts.Negation
 sign_starts Negate = refl
 sign_starts Not = refl
+sign_starts ShiftLeft = refl
+sign_starts ShiftRight = refl
 
 constant_front : (c : Constant) (ts us : List Word) → Front (constant_tokens c) ts us → Front (trees.constant_said c ∷ []) ts us
 constant_front (Integer n) ts us h = h
@@ -160,6 +166,8 @@ term_first (Called (Calls (Some o) f es)) ts us h = next_by term_opens true _ _ 
 term_first (Group e) ts us h = next_by term_opens true _ _ ts us h (λ t. refl)
 term_first (Unary Negate t) ts us h = next_by term_opens true _ _ ts us h (λ t. refl)
 term_first (Unary Not t) ts us h = next_by term_opens true _ _ ts us h (λ t. refl)
+term_first (Unary ShiftLeft t) ts us h = next_by term_opens true _ _ ts us h (λ t. refl)
+term_first (Unary ShiftRight t) ts us h = next_by term_opens true _ _ ts us h (λ t. refl)
 
 pub expression_first : (e : Expression) (ts us : List Word) → Front (expression_tokens e) ts us → next term_opens ts ≡ true
 expression_first (Terms t os) ts us h = let p = front_split (term_tokens t) (operations_tokens os) ts us h in term_first t ts p.0 p.1

@@ -5,7 +5,7 @@ use Rattle.scan_text.specs.declared.Place.{Place}
 use Rattle.grammar.specs.Rules.{Tree, NoMore, tree_of_list}
 use Rattle.jack_tree.specs.declared.token.Keyword.TheVariants as keyword
 use Rattle.jack_tree.specs.declared.token.Kind.TheVariants as kind
-use Rattle.jack_tree.specs.Syntax.{Name, Operator, Plus, Minus, Times, Divide, And, Or, Less, Greater, Equal, Sign, Negate, Not, Constant, Integer, String, True, False, Null, This, Expression, Terms, Operations, NoOperation, Then, Term, Value, Variable, Element, Called, Group, Unary, Call, Calls, Expressions, NoExpression, More, Statement, Let, If, IfElse, While, Do, Return, Statements, End, Next, ValueType, Int, Char, Boolean, Object, Names, Scope, Static, Field, ClassVariables, Locals, Parameter, Form, Constructor, Function, Method, Subroutine, Class}
+use Rattle.jack_tree.specs.Syntax.{Name, Operator, Plus, Minus, Times, Divide, And, Or, Less, Greater, Equal, Sign, Negate, Not, ShiftLeft, ShiftRight, Constant, Integer, String, True, False, Null, This, Expression, Terms, Operations, NoOperation, Then, Term, Value, Variable, Element, Called, Group, Unary, Call, Calls, Expressions, NoExpression, More, Statement, Let, If, IfElse, While, Do, Return, Statements, End, Next, ValueType, Int, Char, Boolean, Object, Names, Scope, Static, Field, ClassVariables, Locals, Parameter, Form, Constructor, Function, Method, Subroutine, Class}
 use Rattle.jack_parser.specs.Grammar.{Said, Fixed, Placed}
 use Rattle.jack_parser.proofs.PlainTrees.{name_said, operator_byte, operator_said, sign_byte, sign_said, constant_said, expression_tree, operations_tree, term_tree, front_said, invoked_tree, arguments_tree, further_tree, index_tree, value_tree, statement_tree, statements_tree, type_said, result_said, form_said, next_name_tree, names_tree, declared_tree, scoped, variables_tree, locals_tree, parameter_tree, next_parameter_tree, parameters_tree, subroutine_tree, whole_tree}
 
@@ -66,11 +66,13 @@ operator_same o p at there e =
     (sym (operator_there o) ∙ ap operator_back b ∙ operator_there p, q)
 
 abbrev sign_back : ℕ → Sign
-sign_back b = if b == 45 then Negate else Not
+sign_back b = if b == 45 then Negate else (if b == 126 then Not else (if b == 94 then ShiftLeft else ShiftRight))
 
 sign_there : (s : Sign) → sign_back (sign_byte s) ≡ s
 sign_there Negate = refl
 sign_there Not = refl
+sign_there ShiftLeft = refl
+sign_there ShiftRight = refl
 
 sign_same : (s t : Sign) → sign_said s ≡ sign_said t → s ≡ t
 sign_same s t e = let b : sign_byte s ≡ sign_byte t = cc in sym (sign_there s) ∙ ap sign_back b ∙ sign_there t

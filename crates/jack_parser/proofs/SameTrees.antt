@@ -52,6 +52,8 @@ operator_same operator.Equal at = refl
 sign_same : (s : Sign) → code.sign_said s ≡ sign_said (the_sign s)
 sign_same sign.Minus = refl
 sign_same sign.Not = refl
+sign_same sign.ShiftLeft = refl
+sign_same sign.ShiftRight = refl
 
 constant_same : (c : Constant) → code.constant_leaf_said c ≡ constant_said (the_constant c)
 constant_same (constant.Integer n) = refl

@@ -65,6 +65,8 @@ operator_seen operator.Equal at = refl
 sign_seen : (s : Sign) → sign_said s ∷ [] ≡ sign_tokens (the_sign s)
 sign_seen sign.Minus = refl
 sign_seen sign.Not = refl
+sign_seen sign.ShiftLeft = refl
+sign_seen sign.ShiftRight = refl
 
 constant_seen : (c : Constant) → constant_leaf_said c ∷ [] ≡ constant_tokens (the_constant c)
 constant_seen (constant.Integer n) = refl

@@ -94,9 +94,9 @@ any_sign is k = false
 abbrev pub is_operator : ℕ → Bool
 is_operator b = b == 43 || b == 45 || b == 42 || b == 47 || b == 38 || b == 124 || b == 60 || b == 62 || b == 61
 
--- - ~
+-- - ~, and ^ #, which are not the book's
 abbrev pub is_unary : ℕ → Bool
-is_unary b = b == 45 || b == 126
+is_unary b = b == 45 || b == 126 || b == 94 || b == 35
 
 abbrev pub operates : Word → Bool
 operates t = any_sign is_operator t.kind

@@ -1,6 +1,6 @@
 -- The limits that this reader of the language has: at most 256 levels, one in another; at most 16,384 statics and fields in a class,
 -- parameters and locals in a subroutine, arguments in a call; strings of at most 16,384 bytes. A statement is a level round its parts, and
--- so are `(` and `[` round what is in them (a call's `(` with nothing in it is none), and `-` or `~` round its term. The levels begin anew
+-- so are `(` and `[` round what is in them (a call's `(` with nothing in it is none), and a sign round its term. The levels begin anew
 -- in each subroutine.
 use Rattle.std.specs.Prelude.{ℕ, ◌+◌, ◌<◌, ◌≤◌, List, [], ◌∷◌, Option, Some, None, length}
 use Rattle.jack_tree.specs.Syntax.{Constant, String, Expression, Terms, Operations, NoOperation, Then, Term, Value, Variable, Element, Called, Group, Unary, Call, Calls, Expressions, NoExpression, More, Statement, Let, If, IfElse, While, Do, Return, Statements, End, Next, Names, Scope, Static, Field, ClassVariables, Subroutine, Class}

@@ -1,9 +1,9 @@
--- Two classes and their texts, by computation.
+-- Three classes and their texts, by computation.
 use Rattle.std.specs.Prelude.{◌≡◌, ℕ, ◌++◌, List, [], ◌∷◌, Some, None, codes}
 use Rattle.scan_text.specs.declared.Place.{Place}
 use Rattle.jack_tree.specs.declared.token.Keyword.TheVariants as keyword
 use Rattle.jack_tree.specs.declared.token.Kind.TheVariants as kind
-use Rattle.jack_tree.specs.Syntax.{Name, Plus, Minus, Times, Divide, And, Or, Less, Greater, Equal, Negate, Not, Integer, String, True, False, Null, This, Terms, NoOperation, Then, Value, Variable, Element, Called, Group, Unary, Calls, NoExpression, More, Let, If, IfElse, While, Do, Return, End, Next, Int, Char, Boolean, Object, Static, Field, Constructor, Function, Method, Class}
+use Rattle.jack_tree.specs.Syntax.{Name, Plus, Minus, Times, Divide, And, Or, Less, Greater, Equal, Negate, Not, ShiftLeft, ShiftRight, Integer, String, True, False, Null, This, Terms, NoOperation, Then, Value, Variable, Element, Called, Group, Unary, Calls, NoExpression, More, Let, If, IfElse, While, Do, Return, End, Next, Int, Char, Boolean, Object, Static, Field, Constructor, Function, Method, Class}
 use Rattle.jack_parser.specs.Grammar.{Fixed, Placed}
 use Rattle.jack_parser.specs.Spelling.{Tokens, ◌·◌, key, key_at, symbol, symbol_at, class_tokens}
 use Rattle.jack_parser.specs.Spelled.{SpellsClass}
@@ -100,7 +100,31 @@ large = record {
   } ∷ [];
 }
 
+-- a text with both shifts: before a variable, twice in a row, and before an expression in parentheses
+abbrev pub shifts_text : List ℕ
+shifts_text = codes "class C { function int f ( int x ) { return ^ x + # # ( ^ 1 ) ; } }"
+
+-- its class
+abbrev pub shifts : Class
+shifts = record {
+  name = name_at (codes "C") 7;
+  variables = [];
+  subroutines = record {
+    form = Function;
+    result = Some Int;
+    name = name_at (codes "f") 24;
+    parameters = record { type = Int; name = name_at (codes "x") 32 } ∷ [];
+    locals = [];
+    statements =
+        Next (Return (at 38) (Some (Terms (Unary ShiftLeft (Variable (name_at (codes "x") 47)))
+        (Then Plus (at 49) (Unary ShiftRight (Unary ShiftRight (Group (Terms (Unary ShiftLeft (Value (Integer 1))) NoOperation)))) NoOperation))))
+        End;
+    close = at 65;
+  } ∷ [];
+}
+
 pub record RowsLaw : Type 0 where
   pub tokens : class_tokens small ≡ small_tokens
   pub spelled : SpellsClass small_text small
   pub large_spelled : SpellsClass large_text large
+  pub shifts_spelled : SpellsClass shifts_text shifts

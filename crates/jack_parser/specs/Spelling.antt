@@ -7,7 +7,7 @@ use Rattle.jack_tree.specs.declared.token.Keyword.TheVariants as keyword
 use Rattle.jack_tree.specs.declared.token.Kind.{Kind}
 use Rattle.jack_tree.specs.declared.token.Kind.TheVariants as kind
 use Rattle.jack_tree.specs.Tokens.{Word}
-use Rattle.jack_tree.specs.Syntax.{Name, Operator, Plus, Minus, Times, Divide, And, Or, Less, Greater, Equal, Sign, Negate, Not, Constant, Integer, String, True, False, Null, This, Expression, Terms, Operations, NoOperation, Then, Term, Value, Variable, Element, Called, Group, Unary, Call, Calls, Expressions, NoExpression, More, Statement, Let, If, IfElse, While, Do, Return, Statements, End, Next, ValueType, Int, Char, Boolean, Object, Names, Scope, Static, Field, ClassVariables, Locals, Parameter, Form, Constructor, Function, Method, Subroutine, Class}
+use Rattle.jack_tree.specs.Syntax.{Name, Operator, Plus, Minus, Times, Divide, And, Or, Less, Greater, Equal, Sign, Negate, Not, ShiftLeft, ShiftRight, Constant, Integer, String, True, False, Null, This, Expression, Terms, Operations, NoOperation, Then, Term, Value, Variable, Element, Called, Group, Unary, Call, Calls, Expressions, NoExpression, More, Statement, Let, If, IfElse, While, Do, Return, Statements, End, Next, ValueType, Int, Char, Boolean, Object, Names, Scope, Static, Field, ClassVariables, Locals, Parameter, Form, Constructor, Function, Method, Subroutine, Class}
 use Rattle.jack_parser.specs.Grammar.{Said, Fixed, Placed, without_quotes}
 
 -- ---- What a token says: Fixed its kind (which tells a keyword, a symbol and an integer), Placed its text and its place too.
@@ -76,6 +76,8 @@ operator_tokens o at = symbol_at (operator_text o) at
 abbrev pub sign_tokens : Sign → Tokens
 sign_tokens Negate = symbol (codes "-")
 sign_tokens Not = symbol (codes "~")
+sign_tokens ShiftLeft = symbol (codes "^")
+sign_tokens ShiftRight = symbol (codes "#")
 
 abbrev pub constant_tokens : Constant → Tokens
 constant_tokens (Integer n) = Fixed (kind.Integer n) ∷ []

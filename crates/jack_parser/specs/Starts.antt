@@ -11,7 +11,7 @@ use Rattle.jack_parser.specs.declared.words.Start.TheVariants as starts
 
 abbrev pub start_by : Kind → Start
 start_by (kind.Keyword k) = if is_value k then starts.Constant else starts.Other
-start_by (kind.Symbol b) = if b == 40 then starts.Group else (if b == 45 || b == 126 then starts.Negation else starts.Other)
+start_by (kind.Symbol b) = if b == 40 then starts.Group else (if b == 45 || b == 126 || b == 94 || b == 35 then starts.Negation else starts.Other)
 start_by (kind.Integer n) = starts.Constant
 start_by kind.Text = starts.Constant
 start_by kind.Identifier = starts.Name

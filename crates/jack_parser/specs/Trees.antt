@@ -43,6 +43,8 @@ operator_said o at = Placed (kind.Symbol (operator_byte o)) [] at
 abbrev pub sign_byte : Sign → ℕ
 sign_byte sign.Minus = 45
 sign_byte sign.Not = 126
+sign_byte sign.ShiftLeft = 94
+sign_byte sign.ShiftRight = 35
 
 abbrev pub sign_said : Sign → Said
 sign_said s = Fixed (kind.Symbol (sign_byte s))

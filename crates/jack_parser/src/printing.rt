@@ -82,6 +82,8 @@ fn sign_byte(sign: Sign) -> u8
     match sign {
         Sign::Minus => b'-',
         Sign::Not => b'~',
+        Sign::ShiftLeft => b'^',
+        Sign::ShiftRight => b'#',
     }
 }
 

@@ -176,6 +176,8 @@ fn sign_of(byte: u8) -> Option<Sign>
     match byte {
         b'-' => Some(Sign::Minus),
         b'~' => Some(Sign::Not),
+        b'^' => Some(Sign::ShiftLeft),
+        b'#' => Some(Sign::ShiftRight),
         _ => None,
     }
 }
@@ -341,7 +343,7 @@ pub fn start_at(tokens: &[Token]) -> Start
         Kind::Integer(_) | Kind::Text => Start::Constant,
         Kind::Identifier => Start::Name,
         Kind::Symbol(b'(') => Start::Group,
-        Kind::Symbol(b'-' | b'~') => Start::Negation,
+        Kind::Symbol(b'-' | b'~' | b'^' | b'#') => Start::Negation,
         _ => Start::Other,
     }
 }
@@ -356,7 +358,7 @@ pub fn term_begins(tokens: &[Token]) -> bool
     match token.kind {
         Kind::Keyword(Keyword::True | Keyword::False | Keyword::Null | Keyword::This) => true,
         Kind::Integer(_) | Kind::Text | Kind::Identifier => true,
-        Kind::Symbol(b'(' | b'-' | b'~') => true,
+        Kind::Symbol(b'(' | b'-' | b'~' | b'^' | b'#') => true,
         _ => false,
     }
 }

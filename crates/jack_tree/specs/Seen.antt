@@ -25,7 +25,7 @@ use Rattle.jack_tree.specs.declared.tree.Locals as locals
 use Rattle.jack_tree.specs.declared.tree.Parameter as parameters
 use Rattle.jack_tree.specs.declared.tree.Subroutine as subroutines
 use Rattle.jack_tree.specs.declared.tree.Class as classes
-use Rattle.jack_tree.specs.Syntax.{Name, Operator, Plus, Minus, Times, Divide, And, Or, Less, Greater, Equal, Sign, Negate, Not, Constant, Integer, String, True, False, Null, This, Expression, Terms, Operations, NoOperation, Then, Term, Value, Variable, Element, Called, Group, Unary, Call, Calls, Expressions, NoExpression, More, Statement, Let, If, IfElse, While, Do, Return, Statements, End, Next, ValueType, Int, Char, Boolean, Object, Names, Scope, Static, Field, ClassVariables, Locals, Parameter, Form, Constructor, Function, Method, Subroutine, Class, ClassFile}
+use Rattle.jack_tree.specs.Syntax.{Name, Operator, Plus, Minus, Times, Divide, And, Or, Less, Greater, Equal, Sign, Negate, Not, ShiftLeft, ShiftRight, Constant, Integer, String, True, False, Null, This, Expression, Terms, Operations, NoOperation, Then, Term, Value, Variable, Element, Called, Group, Unary, Call, Calls, Expressions, NoExpression, More, Statement, Let, If, IfElse, While, Do, Return, Statements, End, Next, ValueType, Int, Char, Boolean, Object, Names, Scope, Static, Field, ClassVariables, Locals, Parameter, Form, Constructor, Function, Method, Subroutine, Class, ClassFile}
 
 abbrev pub the_name : names.Name → Name
 the_name n = record { text = n.text; place = n.place }
@@ -44,6 +44,8 @@ the_operator operator.Equal = Equal
 abbrev pub the_sign : signs.Sign → Sign
 the_sign sign.Minus = Negate
 the_sign sign.Not = Not
+the_sign sign.ShiftLeft = ShiftLeft
+the_sign sign.ShiftRight = ShiftRight
 
 abbrev pub the_constant : constants.Constant → Constant
 the_constant (constant.Integer n) = Integer n

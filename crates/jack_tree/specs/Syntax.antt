@@ -13,9 +13,9 @@ pub record Name : Type 0 where
 pub data Operator : Type 0 where
   Plus Minus Times Divide And Or Less Greater Equal : Operator
 
--- unaryOp: - ~
+-- unaryOp: - ~, and the shifts ^ and #, which are not the book's
 pub data Sign : Type 0 where
-  Negate Not : Sign
+  Negate Not ShiftLeft ShiftRight : Sign
 
 -- integerConstant, stringConstant, keywordConstant
 pub data Constant : Type 0 where

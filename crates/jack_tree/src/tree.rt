@@ -24,11 +24,13 @@ pub enum Operator {
     Equal,
 }
 
-/// The operators before a term: `-` and `~`.
+/// The operators before a term: `-` and `~`, and `^` and `#`.
 #[derive(Clone, Copy, Debug, PartialEq, Eq)]
 pub enum Sign {
     Minus,
     Not,
+    ShiftLeft,
+    ShiftRight,
 }
 
 /// A term of one token that is no name.

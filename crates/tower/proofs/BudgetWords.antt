@@ -8,7 +8,7 @@ use Rattle.vm_link.specs.declared.linked.Code.{Code}
 use Rattle.vm_translator.specs.Places.{words_of}
 use Rattle.vm_translator.specs.Shapes.{step_size}
 use Rattle.vm_translator.proofs.Sums.{size_few}
-use Rattle.jack_meaning.specs.Text.{Variable, Argument, Local, Static, Sign, Minus, Complement, Operator, Plus, Subtract, And, Or, Less, Greater, Equal, Expression, Literal, Value, Name, This, Field, Unary, Binary, Load, Call, Open, Expressions, NoMore, More, Statement, Let, LetField, LetThis, Store, Do, If, While, Return, Text, End, Next, Kind, Constructor, Function, Method, Subroutine}
+use Rattle.jack_meaning.specs.Text.{Variable, Argument, Local, Static, Sign, Minus, Complement, ShiftLeft, ShiftRight, Operator, Plus, Subtract, And, Or, Less, Greater, Equal, Expression, Literal, Value, Name, This, Field, Unary, Binary, Load, Call, Open, Expressions, NoMore, More, Statement, Let, LetField, LetThis, Store, Do, If, While, Return, Text, End, Next, Kind, Constructor, Function, Method, Subroutine}
 use Rattle.jack_compiler.specs.Templates.{Numbers, arguments_code, commit, count, expression_code, first_number, load_code, no_else, object_code, operator_step, pop_variable, push_variable, quiet, sign_step, statement_code, store_code, subroutine_code, text_code}
 use Rattle.tower.specs.Budget.{arguments_words, expression_words, operator_words, statement_words, subroutine_words, text_words}
 
@@ -31,6 +31,8 @@ pop_within numbers (Static k) = size_few 0 (command.Pop segment.Static (numbers.
 sign_within : (o : Sign) → step_size (sign_step o) ≤ 3
 sign_within Minus = omega arith
 sign_within Complement = omega arith
+sign_within ShiftLeft = omega arith
+sign_within ShiftRight = omega arith
 
 operator_within : (o : Operator) → step_size (operator_step o) ≤ operator_words o
 operator_within Plus = omega arith

@@ -4,7 +4,7 @@ use Rattle.std.proofs.lemmas.List.{length-append}
 use Rattle.std.specs.List.{flat_map}
 use Rattle.scan_text.specs.declared.Place.{Place}
 use Rattle.jack_tree.specs.Tokens.{Word}
-use Rattle.jack_tree.specs.Syntax.{Name, Operator, Plus, Minus, Times, Divide, And, Or, Less, Greater, Equal, Sign, Negate, Not, Constant, Integer, String, True, False, Null, This, Expression, Terms, Operations, NoOperation, Then, Term, Value, Variable, Element, Called, Group, Unary, Call, Calls, Expressions, NoExpression, More, Statement, Let, If, IfElse, While, Do, Return, Statements, End, Next, ValueType, Int, Char, Boolean, Object, ClassVariables, Locals, Parameter, Subroutine, Class}
+use Rattle.jack_tree.specs.Syntax.{Name, Operator, Plus, Minus, Times, Divide, And, Or, Less, Greater, Equal, Sign, Negate, Not, ShiftLeft, ShiftRight, Constant, Integer, String, True, False, Null, This, Expression, Terms, Operations, NoOperation, Then, Term, Value, Variable, Element, Called, Group, Unary, Call, Calls, Expressions, NoExpression, More, Statement, Let, If, IfElse, While, Do, Return, Statements, End, Next, ValueType, Int, Char, Boolean, Object, ClassVariables, Locals, Parameter, Subroutine, Class}
 use Rattle.jack_parser.specs.Limits.{IsShort, KeepsIn, OperationsKeepIn, TermKeepsIn, CallKeepsIn, ArgumentsKeepIn, ExpressionsKeepIn, IndexKeepsIn, ValueKeepsIn, PartsKeepIn, StatementsKeepIn, SubroutineKeeps, SubroutinesKeep, KeepsLimits}
 use Rattle.jack_tree.specs.declared.token.Keyword.TheVariants as keyword
 use Rattle.jack_parser.specs.Spelling.{Tokens, Say, key, name, symbol, symbol_at, condition_tokens, in_braces, operator_tokens, sign_tokens, constant_tokens, expression_tokens, operations_tokens, term_tokens, call_tokens, arguments_tokens, further_tokens, index_tokens, value_tokens, statement_tokens, statements_tokens, type_tokens, names_tokens, scope_tokens, form_tokens, result_tokens, variables_tokens, locals_tokens, parameter_tokens, parameters_tokens, subroutine_tokens, class_tokens}
@@ -26,6 +26,8 @@ operator_one Equal at = refl
 sign_one : (o : Sign) → length (sign_tokens o) ≡ 1
 sign_one Negate = refl
 sign_one Not = refl
+sign_one ShiftLeft = refl
+sign_one ShiftRight = refl
 
 constant_long : (c : Constant) → IsShort c → constant_length c ≤ 40000 * length (constant_tokens c)
 constant_long (Integer n) h = omega arith

@@ -13,7 +13,7 @@ use Rattle.vm_link.specs.declared.linked.LinkedFunction.{LinkedFunction}
 use Rattle.vm_translator.specs.Shapes.{step_size}
 use Rattle.vm_translator.specs.Places.{address_of, base_of, placed_code, placed_from, words_in, words_of}
 use Rattle.vm_translator.specs.Image.{entries_of, entry_range, is_entry}
-use Rattle.jack_meaning.specs.Text.{Variable, Argument, Local, Static, Sign, Minus, Complement, Operator, Plus, Subtract, And, Or, Less, Greater, Equal, Expression, Literal, Value, Name, This, Field, Unary, Binary, Load, Call, Open, Expressions, NoMore, More, Statement, Let, LetField, LetThis, Store, Do, If, While, Return, Text, End, Next, Kind, Constructor, Function, Method, Subroutine, Program}
+use Rattle.jack_meaning.specs.Text.{Variable, Argument, Local, Static, Sign, Minus, Complement, ShiftLeft, ShiftRight, Operator, Plus, Subtract, And, Or, Less, Greater, Equal, Expression, Literal, Value, Name, This, Field, Unary, Binary, Load, Call, Open, Expressions, NoMore, More, Statement, Let, LetField, LetThis, Store, Do, If, While, Return, Text, End, Next, Kind, Constructor, Function, Method, Subroutine, Program}
 use Rattle.jack_meaning.specs.Meaning.{subroutine_at}
 use Rattle.jack_compiler.specs.Templates.{Numbers, quiet, commit, literal_code, load_code, store_code, expression_code, arguments_code, first_number, no_else, statement_code, text_code, object_code, push_variable, pop_variable, sign_step, operator_step}
 use Rattle.jack_compiler.specs.Linked.{IsLinkedProgram}
@@ -50,6 +50,8 @@ store_plain n = (refl, (refl, (refl, (refl, tt))))
 sign_plain : (o : Sign) → is_entry (sign_step o) ≡ false
 sign_plain Minus = refl
 sign_plain Complement = refl
+sign_plain ShiftLeft = refl
+sign_plain ShiftRight = refl
 
 operator_plain : (o : Operator) → is_entry (operator_step o) ≡ false
 operator_plain Plus = refl

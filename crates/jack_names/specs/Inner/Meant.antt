@@ -68,6 +68,8 @@ constant_meant s (constant.This at) = meaning.This
 abbrev pub sign_meant : Sign → meaning.Sign
 sign_meant sign.Minus = meaning.Minus
 sign_meant sign.Not = meaning.Complement
+sign_meant sign.ShiftLeft = meaning.ShiftLeft
+sign_meant sign.ShiftRight = meaning.ShiftRight
 
 abbrev pub binary_meant : Scope → Operator → meaning.Expression → meaning.Expression → meaning.Expression
 binary_meant s operator.Plus a b = meaning.Binary meaning.Plus a b

@@ -3,7 +3,7 @@ use Rattle.std.proofs.Common.{List, [], Result, Ok, Err, refl, arith}
 use Rattle.grammar.specs.declared.Fault.{Fault}
 use Rattle.jack_tree.specs.Tokens.{Word}
 use Rattle.jack_lexer.specs.Tokens.{tokens_of}
-use Rattle.jack_parser.specs.Rows.{small_text, large_text}
+use Rattle.jack_parser.specs.Rows.{small_text, large_text, shifts_text}
 use Rattle.jack_parser.proofs.laws.rows_law.Goals as goal
 
 abbrev tokens_in : Result (List Word) Fault → List Word
@@ -51,6 +51,23 @@ returns c = record {
           },
           tt,
         ),
+      );
+    };
+  };
+  shifts_spelled = record {
+    tokens = tokens_in (tokens_of shifts_text);
+    cut = refl;
+    say = (refl, ((refl, refl, refl), (refl, (refl, (refl, ((refl, refl, refl), (refl, (refl, ((refl, refl, refl), (refl, (refl, ((refl, refl, refl), (refl, ((refl, refl, refl), ((refl, refl, refl), (refl, (refl, (refl, (refl, (refl, (refl, (refl, ((refl, refl, refl), (refl, tt))))))))))))))))))))))));
+    limits = record {
+      statics = omega arith;
+      fields = omega arith;
+      subroutines = (
+        record {
+          parameters = omega arith;
+          locals = omega arith;
+          statements = (omega arith, ((omega arith, tt), ((omega arith, (omega arith, (omega arith, ((omega arith, tt), tt)))), tt)), tt);
+        },
+        tt,
       );
     };
   };
