@@ -17,9 +17,9 @@ use Rattle.os_laws.proofs.Comparing.{below_one, not_less}
 use Rattle.os_laws.proofs.HeapCalls.{free_law}
 use Rattle.os_laws.proofs.Runs.{Call, over, run}
 use Rattle.os_functions.specs.Calls.{routine_number, CallsNext, Returns, Refuses}
-use Rattle.os_functions.specs.MemoryLaws.{NewLaw, NewErrorLaw, NewAsksLaw, DisposeLaw, ArrayLaws, free_number}
+use Rattle.os_functions.specs.MemoryLaws.{NewLaw, NewErrorLaw, NewAsksLaw, DisposeLaw, ArrayLaws}
 use Rattle.os_functions.proofs.Pieces.{in_call, tail, returns_value, erring, refuses_by}
-use Rattle.os_functions.proofs.MemoryRoutines.{is_new_array, is_dispose_array, is_alloc, is_deAlloc, is_free}
+use Rattle.os_functions.proofs.MemoryRoutines.{is_new_array, is_dispose_array, is_alloc, is_deAlloc}
 use Rattle.os_functions.proofs.Named.{numbered, is_error, system_error, number_of, own_number}
 use Rattle.os_functions.proofs.Texts.{new_array_body, dispose_array_body}
 use Rattle.os_functions.proofs.Ways.{Way, way_then, way_of_run, way_of_call, returns, opened, returns_by, comes_to}

@@ -20,12 +20,13 @@ use Rattle.os_laws.proofs.LawsMade.{few_steps}
 use Rattle.os_laws.proofs.Multiplying as multiplying
 use Rattle.os_laws.proofs.Quotients as quotients
 use Rattle.os_laws.proofs.Runs.{Call, over, run}
-use Rattle.os_functions.specs.Calls.{routine_number, static_number, CallsNext, Leaves, Refuses}
+use Rattle.os_functions.specs.Calls.{routine_number, HasStatics, CallsNext, Leaves, Refuses}
 use Rattle.os_functions.specs.CursorLaws.{cell_address, with_cursor, MoveLaw, MoveErrorLaw, CursorLaws}
 use Rattle.os_functions.proofs.Named.{numbered, is_error, system_error, number_of, own_number, first_static}
 use Rattle.os_functions.proofs.Pieces.{in_call, tail, returns_value, erring, refuses_by}
 use Rattle.os_functions.proofs.PixelFacts.{in_cells, off_cells, one_more}
-use Rattle.os_functions.proofs.OutputRoutines.{is_cursor, is_multiply, is_divide, is_cursor_place, is_cursor_right}
+use Rattle.os_functions.proofs.OutputRoutines.{is_cursor, is_multiply, is_divide}
+use Rattle.os_functions.proofs.Statics.{same_place, same_right}
 use Rattle.os_functions.proofs.Texts.{cursor_body}
 use Rattle.os_functions.proofs.Ways.{Way, way_then, way_of_run, way_of_call, returns, opened, returns_by}
 
@@ -198,13 +199,13 @@ module _ {core : Core} (p : IsShipped core) (s : State) (row column : ℕ) (hr :
         returns_by subs s g (row ∷ column ∷ []) c (16 + (m + (3 + (n + 9)))) (at_text subs g s.words place right row column after End).frame after s.words 5 0 End whole,
       )
 
-  same_cursor : after ≡ with_cursor p ss row column
-  same_cursor =
-      ap (λ k. slice_set (slice_set ss k (cell_address row column)) right (word_eq (column % 2) 1)) (is_cursor_place core p)
-      ∙ ap (λ k. slice_set (slice_set ss (static_number p (codes "Output") (codes "place")) (cell_address row column)) k (word_eq (column % 2) 1)) (is_cursor_right core p)
+  same_cursor : (h : HasStatics p) → after ≡ with_cursor h ss row column
+  same_cursor h =
+      ap (λ k. slice_set (slice_set ss k (cell_address row column)) right (word_eq (column % 2) 1)) (same_place h)
+      ∙ ap (λ k. slice_set (slice_set ss h.place (cell_address row column)) k (word_eq (column % 2) 1)) (same_right h)
 
-  pub move_law : Leaves c 1300 0 (with_cursor p s.statics row column) s.words
-  move_law = subst (λ statics. Leaves c 1300 0 statics s.words) same_cursor moved
+  pub move_law : (h : HasStatics p) → Leaves c 1300 0 (with_cursor h s.statics row column) s.words
+  move_law h = subst (λ statics. Leaves c 1300 0 statics s.words) (same_cursor h) moved
 
 -- ---- no cell
 
@@ -233,6 +234,6 @@ module _ {core : Core} (p : IsShipped core) (s : State) where
 
 pub law : CursorLaws
 law = record {
-  move = λ p s row column hr hc c. move_law p s row column hr hc c;
+  move = λ p s h row column hr hc c. move_law p s row column hr hc c h;
   move_error = λ p s. move_error_law p s;
 }

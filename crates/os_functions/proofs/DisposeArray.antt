@@ -16,16 +16,17 @@ use Rattle.os_laws.proofs.Basics.{enters, frame_with}
 use Rattle.os_laws.proofs.Comparing.{below_one, not_less}
 use Rattle.os_laws.proofs.HeapCalls.{free_law}
 use Rattle.os_laws.proofs.Runs.{Call, over, run}
-use Rattle.os_functions.specs.Calls.{routine_number, CallsNext, Returns, Refuses}
-use Rattle.os_functions.specs.MemoryLaws.{NewLaw, NewErrorLaw, NewAsksLaw, DisposeLaw, ArrayLaws, free_number}
+use Rattle.os_functions.specs.Calls.{routine_number, HasStatics, CallsNext, Returns, Refuses}
+use Rattle.os_functions.specs.MemoryLaws.{NewLaw, NewErrorLaw, NewAsksLaw, DisposeLaw, ArrayLaws}
 use Rattle.os_functions.proofs.Pieces.{in_call, tail, returns_value, erring, refuses_by}
-use Rattle.os_functions.proofs.MemoryRoutines.{is_new_array, is_dispose_array, is_alloc, is_deAlloc, is_free}
+use Rattle.os_functions.proofs.MemoryRoutines.{is_new_array, is_dispose_array, is_alloc, is_deAlloc}
 use Rattle.os_functions.proofs.Named.{numbered, is_error, system_error, number_of, own_number}
+use Rattle.os_functions.proofs.Statics.{same_free}
 use Rattle.os_functions.proofs.Texts.{new_array_body, dispose_array_body}
 use Rattle.os_functions.proofs.Ways.{Way, way_then, way_of_run, way_of_call, returns, opened, returns_by, comes_to}
 use Rattle.os_functions.proofs.ArrayRuns.{giving_back, gives_back, disposed, with_frames, has_heap, holds, keeps}
 
-module _ {core : Core} (p : IsShipped core) (s : State) (d : Deallocating (the_subroutines core) s (routine_number p (codes "Array") (codes "dispose")) (free_number p s)) where
+module _ {core : Core} (p : IsShipped core) (h : HasStatics p) (s : State) (d : Deallocating (the_subroutines core) s (routine_number p (codes "Array") (codes "dispose")) h.free) where
   abbrev subs : List Subroutine
   subs = the_subroutines core
 
@@ -52,13 +53,13 @@ module _ {core : Core} (p : IsShipped core) (s : State) (d : Deallocating (the_s
       way_of_run subs below 1 (record { frame = new_frame subs g (o ∷ []); statics = s.statics; words = s.words }) (at (giving_back subs 0 [] [] deAlloc_at o) s.statics s.words)
       (ap (λ (z : Frame). run subs 1 (record { frame = z; statics = s.statics; words = s.words })) (enters subs g _ (o ∷ []) (is_dispose_array core p)) ∙ gives_back subs g s.statics s.words deAlloc_at o)
 
-  abbrev inner : Deallocating subs middle deAlloc_at (free_number p s)
+  abbrev inner : Deallocating subs middle deAlloc_at h.free
   inner = record {
     parts = d.parts;
     front = d.front;
     block = d.block;
     back = d.back;
-    heap = has_heap s middle.frames (free_number p s) d.parts (d.front ++ d.block ∷ d.back) d.heap;
+    heap = has_heap s middle.frames h.free d.parts (d.front ++ d.block ∷ d.back) d.heap;
     call = record {
       top = (at (giving_back subs 0 [] [] deAlloc_at o) s.statics s.words).frame;
       caller = (at (Next (Do 1 Open) (tail (dispose_array_body deAlloc_at))) s.statics s.words).frame;
@@ -68,12 +69,12 @@ module _ {core : Core} (p : IsShipped core) (s : State) (d : Deallocating (the_s
     };
   }
 
-  is_asked : subroutine_at subs deAlloc_at ≡ deAlloc_meaning (own_number core p 3) (free_number p s)
-  is_asked = ap (subroutine_at subs) (sym (numbered core p (codes "Memory") (codes "deAlloc"))) ∙ is_deAlloc core p ∙ ap (λ (k : ℕ). deAlloc_meaning (own_number core p 3) k) (is_free core p)
+  is_asked : subroutine_at subs deAlloc_at ≡ deAlloc_meaning (own_number core p 3) h.free
+  is_asked = ap (subroutine_at subs) (sym (numbered core p (codes "Memory") (codes "deAlloc"))) ∙ is_deAlloc core p ∙ ap (λ (k : ℕ). deAlloc_meaning (own_number core p 3) k) (same_free h)
 
-  pub made_old : (s' : State) × Returns subs s 18 s' × Freed d.call (free_number p s) (d.front ++ d.back) s'
+  pub made_old : (s' : State) × Returns subs s 18 s' × Freed d.call h.free (d.front ++ d.back) s'
   made_old =
-      let (t, back, got) = free_law subs middle deAlloc_at (own_number core p 3) (free_number p s) is_asked inner in
+      let (t, back, got) = free_law subs middle deAlloc_at (own_number core p 3) h.free is_asked inner in
       let behind : Call = at (Next (Do 1 (Value 0)) (tail (dispose_array_body deAlloc_at))) t.statics t.words in
       let same : t ≡ over below behind = ap (λ (fs : List Frame). with_frames t fs) got.frames in
       let inside = subst (λ (z : State). Way subs (suc (length below)) 13 middle z) same (way_of_call subs (suc (length below)) 13 middle t (omega arith) (returns subs 13 middle t back)) in
@@ -86,7 +87,7 @@ module _ {core : Core} (p : IsShipped core) (s : State) (d : Deallocating (the_s
         returns_by subs s g (o ∷ []) d.call 16 (at End t.statics t.words).frame t.statics t.words 2 0 End whole,
         record {
           frames = refl;
-          heap = holds t last.frames (free_number p s) (d.front ++ d.back) got.heap;
-          keeps = keeps (free_number p s) (d.front ++ d.back) middle t s.frames last.frames got.keeps;
+          heap = holds t last.frames h.free (d.front ++ d.back) got.heap;
+          keeps = keeps h.free (d.front ++ d.back) middle t s.frames last.frames got.keeps;
         },
       )

@@ -1,4 +1,5 @@
 pub mod Named
+pub mod Statics
 pub mod Ways
 pub mod Texts
 pub mod Pieces
@@ -18,5 +19,13 @@ pub mod ScreenRoutines
 pub mod OutputRoutines
 pub mod PixelFacts
 pub mod ScreenRuns
+pub mod DrawRuns
+pub mod DrawFacts
+pub mod DrawLoops
+pub mod DrawPixels
+pub mod PrintRuns
 pub mod ScreenMade
 pub mod CursorMade
+pub mod PrintMade
+pub mod ErrorRuns
+pub mod ErrorMade

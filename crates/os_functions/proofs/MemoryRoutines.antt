@@ -8,7 +8,7 @@ use Rattle.jack_tree.specs.Syntax.{ClassFile}
 use Rattle.jack_os.proofs.SystemTexts.{system_classes}
 use Rattle.os_laws.specs.Kernel.{multiply_meaning, divide_meaning, alloc_meaning, deAlloc_meaning}
 use Rattle.os_laws.specs.Names.{IsShipped, statics_in}
-use Rattle.os_functions.specs.Calls.{routine_number, static_number, static_from}
+use Rattle.os_functions.specs.Calls.{routine_number}
 use Rattle.os_functions.proofs.Named.{leads, shipped, statics_joined, system_error, own_number, number_of, first_static}
 use Rattle.os_functions.proofs.Texts.{routine, peek_body, poke_body, new_array_body, dispose_array_body}
 
@@ -24,12 +24,6 @@ module _ (core : Core) (p : IsShipped core) where
 
   pub is_deAlloc : subroutine_at (the_subroutines core) (routine_number p (codes "Memory") (codes "deAlloc")) ≡ deAlloc_meaning (own_number core p 3) (first_static core p 3)
   is_deAlloc = leads core p 3 4 (refl, refl)
-
-  pub is_free : first_static core p 3 ≡ static_number p (codes "Memory") (codes "free")
-  is_free =
-      statics_joined p.own (take 3 system_classes)
-      ∙ (let e : statics_in p.own + 0 ≡ statics_in p.own + 0 + 0 + 0 = omega arith in e)
-      ∙ ap (λ (os : List ClassFile). static_from (statics_in p.own) os (codes "Memory") (codes "free")) (sym (shipped core p))
 
   pub is_new_array : subroutine_at (the_subroutines core) (routine_number p (codes "Array") (codes "new"))
       ≡ routine Function (own_number core p 0) 1 0 (new_array_body (system_error p) (number_of core p (codes "Memory") (codes "alloc")))

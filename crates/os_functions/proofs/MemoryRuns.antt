@@ -1,6 +1,7 @@
 -- Functions of Memory: each straight piece of their runs is a computation.
-use Rattle.std.proofs.Common.{◌≡◌, ◌⊎◌, inl, inr, ℕ, zero, suc, ◌+◌, ◌-◌, ◌<◌, ◌≤◌, true, false, nat_lt, nat_eq, List, [], ◌∷◌, Some, codes, option_and_then, refl, sym, ap, ◌∙◌, arith}
+use Rattle.std.proofs.Common.{◌≡◌, ◌≢◌, ◌⊎◌, inl, inr, ⊎_elim, ℕ, zero, suc, ◌+◌, ◌-◌, ◌<◌, ◌≤◌, true, false, nat_lt, nat_eq, List, [], ◌∷◌, length, Some, codes, option_and_then, refl, sym, ap, ◌∙◌, arith}
 use Rattle.std.specs.Prelude.{slice_set}
+use Rattle.std.proofs.lemmas.Bool.{cases_lt}
 use Rattle.std.proofs.lemmas.Bool.Decides.{nat_tests}
 use Rattle.word16.specs.Words.{word_add}
 use Rattle.jack_core.specs.declared.program.Core.{Core}
@@ -12,7 +13,7 @@ use Rattle.os_laws.specs.Calls.{after, given_back}
 use Rattle.os_laws.specs.Heap.{word_at}
 use Rattle.os_laws.specs.Names.{IsShipped}
 use Rattle.os_laws.proofs.Basics.{frame_with, enters}
-use Rattle.os_laws.proofs.Runs.{Call, over, run, next_at, run_over}
+use Rattle.os_laws.proofs.Runs.{Call, over, run, next_at, run_before, run_over}
 use Rattle.os_laws.proofs.Searching.{Reaches}
 use Rattle.os_laws.proofs.Walking.{here}
 use Rattle.os_functions.specs.Calls.{routine_number, CallsNext, Gives, Leaves}
@@ -118,13 +119,43 @@ module _ {core : Core} (p : IsShipped core) (s : State) where
       let g = memory_number (codes "poke") in
       (4, omega arith, over (c.caller ∷ c.below) (at_text subs g s.statics s.words (storing subs 0 [] [] a v) (a ∷ v ∷ [])), called_then (codes "poke") (a ∷ v ∷ []) c 3 _ keys (stores_there a v), strays_store subs g s.statics s.words (c.caller ∷ c.below) (keys 4) a v w h)
 
+  abbrev first : Call
+  first = record { frame = new_frame subs (memory_number (codes "peek")) (24576 ∷ []); statics = s.statics; words = s.words }
+
+  abbrev loading_key : Call
+  loading_key = at_text subs (memory_number (codes "peek")) s.statics s.words (loading subs 0 [] [] 24576) (24576 ∷ [])
+
+  -- from the load on
+  by_key : (c : CallsNext p (codes "Memory") (codes "peek") s (24576 ∷ [])) (keys : ℕ → ℕ) (n : ℕ) (t : State) → after subs (keys_behind 3 keys) n (over (c.caller ∷ c.below) loading_key) ≡ Some t
+      → after subs keys (3 + n) s ≡ Some t
+  by_key c keys n t e =
+      after_split subs 3 n keys s ∙ ap (option_and_then (after subs (keys_behind 3 keys) n)) (called_then (codes "peek") (24576 ∷ []) c 2 loading_key keys (loads_there 24576)) ∙ e
+
+  -- a state with more frames
+  deeper : (c : CallsNext p (codes "Memory") (codes "peek") s (24576 ∷ [])) (d : Call) → length (over (c.caller ∷ c.below) d).frames ≢ length s.frames
+  deeper c d e = let deep : length s.frames ≡ suc (length c.below) = ap length c.frames in omega (arith, deep, e)
+
+  key_before : (c : CallsNext p (codes "Memory") (codes "peek") s (24576 ∷ [])) (keys : ℕ → ℕ) (j : ℕ) → 0 < j → j < 5 → (t : State) × (after subs keys j s ≡ Some t) × (length t.frames ≢ length s.frames)
+  key_before c keys zero low high = absurd (omega (arith, low))
+  key_before c keys (suc j) low high =
+      ⊎_elim
+      (λ (l : j < 3).
+      let r = run_before subs 2 j first loading_key (loads_there 24576) (omega (arith, l)) in
+      (over (c.caller ∷ c.below) r.0, called_then (codes "peek") (24576 ∷ []) c j r.0 keys r.1, deeper c r.0))
+      (λ (g : 3 ≤ j).
+      let e : 4 ≡ suc j = omega (arith, g, high) in
+      let d : Call = at_text subs (memory_number (codes "peek")) s.statics s.words (Next (Return 1 (Value (keys 3))) End) (24576 ∷ []) in
+      (over (c.caller ∷ c.below) d, ap (λ i. after subs keys i s) (sym e) ∙ by_key c keys 1 (over (c.caller ∷ c.below) d) refl, deeper c d))
+      (cases_lt j 3)
+
   -- the key of the fourth step
   pub peek_key_law : PeekKeyLaw p s
-  peek_key_law c keys =
-      let g = memory_number (codes "peek") in
-      after_split subs 3 2 keys s
-      ∙ ap (option_and_then (after subs (keys_behind 3 keys) 2)) (called_then (codes "peek") (24576 ∷ []) c 2 (at_text subs g s.statics s.words (loading subs 0 [] [] 24576) (24576 ∷ [])) keys (loads_there 24576))
-      ∙ refl
+  peek_key_law c keys = record {
+    some = omega arith;
+    leads = by_key c keys 2 _ refl;
+    there = sym (ap length c.frames);
+    before = λ j low high. key_before c keys j low high;
+  }
 
 pub law : MemoryLaws
 law = record {

@@ -16,16 +16,17 @@ use Rattle.os_laws.proofs.Basics.{enters, frame_with}
 use Rattle.os_laws.proofs.Comparing.{below_one, not_less}
 use Rattle.os_laws.proofs.HeapCalls.{free_law}
 use Rattle.os_laws.proofs.Runs.{Call, over, run}
-use Rattle.os_functions.specs.Calls.{routine_number, CallsNext, Returns, Refuses}
-use Rattle.os_functions.specs.MemoryLaws.{NewLaw, NewErrorLaw, NewAsksLaw, DisposeLaw, ArrayLaws, free_number}
+use Rattle.os_functions.specs.Calls.{routine_number, HasStatics, CallsNext, Returns, Refuses}
+use Rattle.os_functions.specs.MemoryLaws.{NewLaw, NewErrorLaw, NewAsksLaw, DisposeLaw, ArrayLaws}
 use Rattle.os_functions.proofs.Pieces.{in_call, tail, returns_value, erring, refuses_by}
-use Rattle.os_functions.proofs.MemoryRoutines.{is_new_array, is_dispose_array, is_alloc, is_deAlloc, is_free}
+use Rattle.os_functions.proofs.MemoryRoutines.{is_new_array, is_dispose_array, is_alloc, is_deAlloc}
 use Rattle.os_functions.proofs.Named.{numbered, is_error, system_error, number_of, own_number}
+use Rattle.os_functions.proofs.Statics.{same_free}
 use Rattle.os_functions.proofs.Texts.{new_array_body, dispose_array_body}
 use Rattle.os_functions.proofs.Ways.{Way, way_then, way_of_run, way_of_call, returns, opened, returns_by, comes_to}
 use Rattle.os_functions.proofs.ArrayRuns.{asking, asks, with_frames, has_heap, holds, keeps, at_one, asking_frame, waiting_frame}
 
-module _ {core : Core} (p : IsShipped core) (s : State) (a : Allocating (the_subroutines core) s (routine_number p (codes "Array") (codes "new")) (free_number p s)) where
+module _ {core : Core} (p : IsShipped core) (h : HasStatics p) (s : State) (a : Allocating (the_subroutines core) s (routine_number p (codes "Array") (codes "new")) h.free) where
   abbrev subs : List Subroutine
   subs = the_subroutines core
 
@@ -46,28 +47,28 @@ module _ {core : Core} (p : IsShipped core) (s : State) (a : Allocating (the_sub
       way_of_run subs below 5 (record { frame = new_frame subs g (a.size ∷ []); statics = s.statics; words = s.words })
       (record { frame = asking_frame p s alloc_at a.size; statics = s.statics; words = s.words })
       (ap (λ (z : Frame). run subs 5 (record { frame = z; statics = s.statics; words = s.words })) (enters subs g _ (a.size ∷ []) (is_new_array core p))
-      ∙ asks subs g s.statics s.words (system_error p) alloc_at a.size (at_one p s a.size a.low (let h : a.size < 32768 = omega (arith, a.high) in h)))
+      ∙ asks subs g s.statics s.words (system_error p) alloc_at a.size (at_one p s a.size a.low (let l : a.size < 32768 = omega (arith, a.high) in l)))
 
   -- the call of Memory.alloc
-  abbrev inner : Allocating subs middle alloc_at (free_number p s)
+  abbrev inner : Allocating subs middle alloc_at h.free
   inner = record {
     size = a.size;
     low = a.low;
     high = a.high;
     parts = a.parts;
     live = a.live;
-    heap = has_heap s (asking_frame p s alloc_at a.size ∷ below) (free_number p s) a.parts a.live a.heap;
+    heap = has_heap s (asking_frame p s alloc_at a.size ∷ below) h.free a.parts a.live a.heap;
     k = a.k;
     fit = a.fit;
     call = record { top = asking_frame p s alloc_at a.size; caller = waiting_frame p s a.size; below = below; frames = refl; calls = refl };
   }
 
-  is_asked : subroutine_at subs alloc_at ≡ alloc_meaning (own_number core p 3) (system_error p) (free_number p s)
-  is_asked = ap (subroutine_at subs) (sym (numbered core p (codes "Memory") (codes "alloc"))) ∙ is_alloc core p ∙ ap (λ (k : ℕ). alloc_meaning (own_number core p 3) (system_error p) k) (is_free core p)
+  is_asked : subroutine_at subs alloc_at ≡ alloc_meaning (own_number core p 3) (system_error p) h.free
+  is_asked = ap (subroutine_at subs) (sym (numbered core p (codes "Memory") (codes "alloc"))) ∙ is_alloc core p ∙ ap (λ (k : ℕ). alloc_meaning (own_number core p 3) (system_error p) k) (same_free h)
 
-  pub made_new : (n : ℕ) × (n ≤ 67 + 18 * a.k) × (s' : State) × Returns subs s n s' × Allocated a.call (free_number p s) a.size a.live s'
+  pub made_new : (n : ℕ) × (n ≤ 67 + 18 * a.k) × (s' : State) × Returns subs s n s' × Allocated a.call h.free a.size a.live s'
   made_new =
-      let (n, few, t, back, got) = allocating.law subs middle alloc_at (own_number core p 3) (system_error p) (free_number p s) is_asked inner in
+      let (n, few, t, back, got) = allocating.law subs middle alloc_at (own_number core p 3) (system_error p) h.free is_asked inner in
       let end : Frame = (in_call g 0 t.statics t.words End (a.size ∷ []) []).frame in
       let same : t ≡ record { frames = (in_call g 0 t.statics t.words (returns_value 3 got.place End) (a.size ∷ []) []).frame ∷ below; statics = t.statics; words = t.words } =
       ap (λ (fs : List Frame). with_frames t fs) got.frames in
@@ -84,7 +85,7 @@ module _ {core : Core} (p : IsShipped core) (s : State) (a : Allocating (the_sub
           frames = refl;
           low = got.low;
           high = got.high;
-          heap = holds t last.frames (free_number p s) _ got.heap;
-          keeps = keeps (free_number p s) a.live middle t s.frames last.frames got.keeps;
+          heap = holds t last.frames h.free _ got.heap;
+          keeps = keeps h.free a.live middle t s.frames last.frames got.keeps;
         },
       )

@@ -8,9 +8,9 @@ use Rattle.jack_tree.specs.Syntax.{ClassFile}
 use Rattle.jack_os.proofs.SystemTexts.{system_classes}
 use Rattle.os_laws.specs.Kernel.{multiply_meaning, divide_meaning, alloc_meaning, deAlloc_meaning}
 use Rattle.os_laws.specs.Names.{IsShipped, statics_in}
-use Rattle.os_functions.specs.Calls.{routine_number, static_number, static_from}
+use Rattle.os_functions.specs.Calls.{routine_number}
 use Rattle.os_functions.proofs.Named.{leads, shipped, statics_joined, system_error, own_number, number_of, first_static}
-use Rattle.os_functions.proofs.Texts.{routine, cursor_body}
+use Rattle.os_functions.proofs.Texts.{routine, cursor_body, draw_body, line_body, back_body, print_body}
 
 module _ (core : Core) (p : IsShipped core) where
   pub is_multiply : subroutine_at (the_subroutines core) (routine_number p (codes "Math") (codes "multiply")) ≡ multiply_meaning (own_number core p 2)
@@ -23,14 +23,22 @@ module _ (core : Core) (p : IsShipped core) where
       ≡ routine Function (own_number core p 4) 2 0 (cursor_body (system_error p) (number_of core p (codes "Math") (codes "multiply")) (number_of core p (codes "Math") (codes "divide")) (first_static core p 4 + 1) (first_static core p 4 + 1 + 1))
   is_cursor = leads core p 4 2 (refl, refl)
 
-  pub is_cursor_place : first_static core p 4 + 1 ≡ static_number p (codes "Output") (codes "place")
-  is_cursor_place =
-      ap (λ k. k + 1) (statics_joined p.own (take 4 system_classes))
-      ∙ (let e : statics_in p.own + 1 + 1 ≡ statics_in p.own + 0 + 0 + 0 + 1 + 1 = omega arith in e)
-      ∙ ap (λ (os : List ClassFile). static_from (statics_in p.own) os (codes "Output") (codes "place")) (sym (shipped core p))
+  abbrev place : ℕ
+  place = first_static core p 4 + 1
 
-  pub is_cursor_right : first_static core p 4 + 1 + 1 ≡ static_number p (codes "Output") (codes "right")
-  is_cursor_right =
-      ap (λ k. k + 1 + 1) (statics_joined p.own (take 4 system_classes))
-      ∙ (let e : statics_in p.own + 1 + 1 + 1 ≡ statics_in p.own + 0 + 0 + 0 + 1 + 1 + 1 = omega arith in e)
-      ∙ ap (λ (os : List ClassFile). static_from (statics_in p.own) os (codes "Output") (codes "right")) (sym (shipped core p))
+  abbrev right : ℕ
+  right = first_static core p 4 + 1 + 1
+
+  pub is_draw : subroutine_at (the_subroutines core) (routine_number p (codes "Output") (codes "draw")) ≡ routine Function (own_number core p 4) 1 8 (draw_body (first_static core p 4) place right)
+  is_draw = leads core p 4 9 (refl, refl)
+
+  pub is_line : subroutine_at (the_subroutines core) (routine_number p (codes "Output") (codes "println")) ≡ routine Function (own_number core p 4) 0 0 (line_body place right)
+  is_line = leads core p 4 7 (refl, refl)
+
+  pub is_back : subroutine_at (the_subroutines core) (routine_number p (codes "Output") (codes "backSpace")) ≡ routine Function (own_number core p 4) 0 0 (back_body (number_of core p (codes "Output") (codes "draw")) place right)
+  is_back = leads core p 4 8 (refl, refl)
+
+  pub is_print : subroutine_at (the_subroutines core) (routine_number p (codes "Output") (codes "printChar"))
+      ≡ routine Function (own_number core p 4) 1 0
+      (print_body (number_of core p (codes "Output") (codes "println")) (number_of core p (codes "Output") (codes "backSpace")) (number_of core p (codes "Output") (codes "draw")) place right)
+  is_print = leads core p 4 3 (refl, refl)

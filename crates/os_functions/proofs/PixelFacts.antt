@@ -14,10 +14,10 @@ use Rattle.os_functions.proofs.StringFacts.{this_word}
 
 -- ---- a bit that is set
 
-set_here : (w k : ℕ) → bit (bit_or w (2 ^ k)) k ≡ 1
+pub set_here : (w k : ℕ) → bit (bit_or w (2 ^ k)) k ≡ 1
 set_here w k = bit_at_or w (2 ^ k) k ∙ ap (max (bit w k)) (bit_at-pow_same k) ∙ (let e : max (bit w k) 1 ≡ 1 = omega (arith, bit_at-lt w k) in e)
 
-set_beside : (w k i : ℕ) → i ≢ k → bit (bit_or w (2 ^ k)) i ≡ bit w i
+pub set_beside : (w k i : ℕ) → i ≢ k → bit (bit_or w (2 ^ k)) i ≡ bit w i
 set_beside w k i d = bit_at_or w (2 ^ k) i ∙ ap (max (bit w i)) (bit_at-pow_other k i d) ∙ (let e : max (bit w i) 0 ≡ bit w i = omega arith in e)
 
 -- ---- a bit that is cleared
@@ -107,6 +107,9 @@ in_rows y h = omega (arith, masked 8 y 65280 refl (omega arith) (omega (arith, h
 
 pub in_cells : (x : ℕ) → x < 64 → bit_and x 65472 ≡ 0
 in_cells x h = omega (arith, masked 6 x 65472 refl (omega arith) (omega (arith, h)), h)
+
+pub and_rows : (x : ℕ) → x < 65536 → bit_and x 65504 + x % 32 ≡ x
+and_rows x h = masked 5 x 65504 refl (omega arith) h
 
 off_columns : (x : ℕ) → 512 ≤ x → x < 65536 → 0 < bit_and x 65024
 off_columns x h w = omega (arith, masked 9 x 65024 refl (omega arith) w, h)

@@ -14,13 +14,14 @@ use Rattle.os_laws.proofs.Basics.{enters, frame_with}
 use Rattle.os_laws.proofs.Runs.{Call, over, run}
 use Rattle.os_laws.proofs.Searching.{Reaches}
 use Rattle.os_laws.proofs.Walking.{here}
-use Rattle.os_functions.specs.Calls.{routine_number, static_number, CallsNext, Leaves, Refuses}
-use Rattle.os_functions.specs.ScreenLaws.{pixel_address, IsPainted, colour, PixelLaw, PixelErrorLaw, ScreenLaws}
+use Rattle.os_functions.specs.Calls.{routine_number, HasStatics, CallsNext, Leaves, Refuses}
+use Rattle.os_functions.specs.ScreenLaws.{pixel_address, IsPainted, colour, InitLaw, ColourLaw, PixelLaw, PixelErrorLaw, ScreenLaws}
 use Rattle.os_functions.proofs.Named.{numbered, is_error, system_error, number_of, own_number, first_static}
-use Rattle.os_functions.proofs.Pieces.{in_call, tail, returns_value, erring, refuses_by}
+use Rattle.os_functions.proofs.Pieces.{in_call, tail, returns_value, erring, leaves_by, refuses_by}
 use Rattle.os_functions.proofs.PixelFacts.{painted_black, painted_white, low_address, high_address, in_columns, in_rows, off_screen}
-use Rattle.os_functions.proofs.ScreenRoutines.{is_pixel, is_paint, is_place, is_bit, is_black}
-use Rattle.os_functions.proofs.ScreenRuns.{at_text, places, bits, paints_black, paints_white, painted, paint_call, bit_call, place_call, pixel_begins, pixel_middle, pixel_done, pixel_ends, pixel_refused}
+use Rattle.os_functions.proofs.ScreenRoutines.{is_pixel, is_paint, is_place, is_bit, is_init, is_set_colour}
+use Rattle.os_functions.proofs.ScreenRuns.{at_text, places, bits, paints_black, paints_white, painted, colour_begun, colour_set, paint_call, bit_call, place_call, pixel_begins, pixel_middle, pixel_done, pixel_ends, pixel_refused}
+use Rattle.os_functions.proofs.Statics.{same_black}
 use Rattle.os_functions.proofs.Texts.{routine, pixel_body, paint_body, place_body, bit_body}
 use Rattle.os_functions.proofs.Ways.{Way, way_then, way_of_run, opened, returns_by, inner_leaf}
 
@@ -170,10 +171,22 @@ module _ {core : Core} (p : IsShipped core) (s : State) (x y : ℕ) (hx : x < 51
       let ws' = slice_set ws (a - 2048) (bit_or (word_at ws a) b) in
       (ws', subst (λ v. IsPainted s.words x y v ws') (is_one m) (painted_black s.words x y hx hy long word), drawn ws' 13 (omega arith) (paints_by ws' 11 (paints_black subs paint_at ss ws black a b m e reached)))
 
-  pub pixel_law : (words : List ℕ) × IsPainted s.words x y (colour p s) words × Leaves c 320 0 s.statics words
-  pixel_law = by_colour (slice_index s.statics (static_number p (codes "Screen") (codes "black"))) (ap (slice_index s.statics) (is_black core p))
+  pub pixel_law : (h : HasStatics p) → (words : List ℕ) × IsPainted s.words x y (colour p s h) words × Leaves c 320 0 s.statics words
+  pixel_law h = by_colour (slice_index s.statics h.black) (ap (slice_index s.statics) (same_black h))
 
 module _ {core : Core} (p : IsShipped core) (s : State) where
+  pub init_law : InitLaw p s
+  init_law h c =
+      subst (λ k. Leaves c 5 0 (slice_set s.statics k 65535) s.words) (same_black h)
+      (leaves_by p s (codes "Screen") (codes "init") [] c 3 5 (omega arith) _ (is_init core p) 0 (slice_set s.statics (first_static core p 5) 65535) s.words 2 0 End [] []
+      (colour_begun (the_subroutines core) (routine_number p (codes "Screen") (codes "init")) s.statics s.words (first_static core p 5)))
+
+  pub colour_law : ColourLaw p s
+  colour_law h v c =
+      subst (λ k. Leaves c 5 0 (slice_set s.statics k v) s.words) (same_black h)
+      (leaves_by p s (codes "Screen") (codes "setColor") (v ∷ []) c 3 5 (omega arith) _ (is_set_colour core p) 0 (slice_set s.statics (first_static core p 5) v) s.words 2 0 End (v ∷ []) []
+      (colour_set (the_subroutines core) (routine_number p (codes "Screen") (codes "setColor")) s.statics s.words (first_static core p 5) v))
+
   pub pixel_error_law : PixelErrorLaw p s
   pixel_error_law x y wx wy h c =
       let subs = the_subroutines core in
@@ -188,6 +201,8 @@ module _ {core : Core} (p : IsShipped core) (s : State) where
 
 pub law : ScreenLaws
 law = record {
-  pixel = λ p s x y hx hy long word c. pixel_law p s x y hx hy long word c;
+  init = λ p s. init_law p s;
+  set_colour = λ p s. colour_law p s;
+  pixel = λ p s h x y hx hy long word c. pixel_law p s x y hx hy long word c h;
   pixel_error = λ p s. pixel_error_law p s;
 }

@@ -8,9 +8,9 @@ use Rattle.jack_tree.specs.Syntax.{ClassFile}
 use Rattle.jack_os.proofs.SystemTexts.{system_classes}
 use Rattle.os_laws.specs.Kernel.{multiply_meaning, divide_meaning, alloc_meaning, deAlloc_meaning}
 use Rattle.os_laws.specs.Names.{IsShipped, statics_in}
-use Rattle.os_functions.specs.Calls.{routine_number, static_number, static_from}
+use Rattle.os_functions.specs.Calls.{routine_number}
 use Rattle.os_functions.proofs.Named.{leads, shipped, statics_joined, system_error, own_number, number_of, first_static}
-use Rattle.os_functions.proofs.Texts.{routine, pixel_body, paint_body, place_body, bit_body}
+use Rattle.os_functions.proofs.Texts.{routine, init_body, colour_body, pixel_body, paint_body, place_body, bit_body}
 
 module _ (core : Core) (p : IsShipped core) where
   pub is_pixel : subroutine_at (the_subroutines core) (routine_number p (codes "Screen") (codes "drawPixel"))
@@ -26,8 +26,8 @@ module _ (core : Core) (p : IsShipped core) where
   pub is_bit : subroutine_at (the_subroutines core) (routine_number p (codes "Screen") (codes "bit")) ≡ routine Function (own_number core p 5) 1 1 bit_body
   is_bit = leads core p 5 10 (refl, refl)
 
-  pub is_black : first_static core p 5 ≡ static_number p (codes "Screen") (codes "black")
-  is_black =
-      statics_joined p.own (take 5 system_classes)
-      ∙ (let e : statics_in p.own + 4 ≡ statics_in p.own + 0 + 0 + 0 + 1 + 3 = omega arith in e)
-      ∙ ap (λ (os : List ClassFile). static_from (statics_in p.own) os (codes "Screen") (codes "black")) (sym (shipped core p))
+  pub is_init : subroutine_at (the_subroutines core) (routine_number p (codes "Screen") (codes "init")) ≡ routine Function (own_number core p 5) 0 0 (init_body (first_static core p 5))
+  is_init = leads core p 5 0 (refl, refl)
+
+  pub is_set_colour : subroutine_at (the_subroutines core) (routine_number p (codes "Screen") (codes "setColor")) ≡ routine Function (own_number core p 5) 1 0 (colour_body (first_static core p 5))
+  is_set_colour = leads core p 5 2 (refl, refl)

@@ -10,11 +10,19 @@ use Rattle.os_laws.specs.Numbers.{bit}
 use Rattle.os_laws.proofs.Runs.{Call, run, run_then}
 use Rattle.os_laws.proofs.Searching.{Reaches}
 use Rattle.os_functions.proofs.Pieces.{in_call, tail, returns_value, erring}
-use Rattle.os_functions.proofs.Texts.{pixel_body, paint_body, place_body, place_loop, bit_body, bit_loop}
+use Rattle.os_functions.proofs.Texts.{init_body, colour_body, pixel_body, paint_body, place_body, place_loop, bit_body, bit_loop}
 
 module _ (subs : List Subroutine) (g : ℕ) (ss ws : List ℕ) where
   abbrev pub at_text : Text → List ℕ → List ℕ → Call
   at_text t xs ls = in_call g 0 ss ws t xs ls
+
+  -- ---- the colour
+
+  pub colour_begun : (black : ℕ) → run subs 3 (at_text (init_body black) [] []) ≡ Some (in_call g 0 (slice_set ss black 65535) ws (returns_value 2 0 End) [] [])
+  colour_begun black = refl
+
+  pub colour_set : (black v : ℕ) → run subs 3 (at_text (colour_body black) (v ∷ []) []) ≡ Some (in_call g 0 (slice_set ss black v) ws (returns_value 2 0 End) (v ∷ []) [])
+  colour_set black v = refl
 
   -- ---- the word of a pixel
 

@@ -8,7 +8,7 @@ use Rattle.jack_tree.specs.Syntax.{ClassFile}
 use Rattle.jack_os.proofs.SystemTexts.{system_classes}
 use Rattle.os_laws.specs.Kernel.{multiply_meaning, divide_meaning, alloc_meaning, deAlloc_meaning}
 use Rattle.os_laws.specs.Names.{IsShipped, statics_in}
-use Rattle.os_functions.specs.Calls.{routine_number, static_number, static_from}
+use Rattle.os_functions.specs.Calls.{routine_number}
 use Rattle.os_functions.proofs.Named.{leads, shipped, statics_joined, system_error, own_number, number_of, first_static}
 use Rattle.os_functions.proofs.Texts.{routine, length_body, char_at_body, set_char_body, append_body, erase_body}
 

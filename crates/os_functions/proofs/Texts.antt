@@ -1,6 +1,6 @@
 -- The routines' texts as the meaning reads them: names are numbers, statements have their numbers.
 use Rattle.std.specs.Prelude.{ℕ, true, false, List, [], ◌∷◌}
-use Rattle.jack_meaning.specs.Text.{Argument, Local, Static, Minus, Complement, Plus, Subtract, And, Or, Less, Greater, Equal, Expression, Literal, Name, This, Field, Unary, Binary, Load, Call, NoMore, More, Statement, Let, LetField, Store, Do, If, While, Return, Text, End, text_of, Kind, Function, Method, Subroutine}
+use Rattle.jack_meaning.specs.Text.{Argument, Local, Static, Minus, Complement, Plus, Subtract, And, Or, Less, Greater, Equal, Expression, Literal, Name, This, Field, Unary, Binary, Load, Call, NoMore, More, Statement, Let, LetField, Store, Do, If, While, Return, Text, End, Next, text_of, Kind, Function, Method, Subroutine}
 
 abbrev argument : ℕ → Expression
 argument k = Name (Argument k)
@@ -106,6 +106,12 @@ erase_body error =
 
 -- ---- Screen
 
+abbrev pub init_body : ℕ → Text
+init_body black = text_of (Let 1 (Static black) (Literal 65535) ∷ Return 2 (Literal 0) ∷ [])
+
+abbrev pub colour_body : ℕ → Text
+colour_body black = text_of (Let 1 (Static black) (argument 0) ∷ Return 2 (Literal 0) ∷ [])
+
 -- (x & ~511) | (y & ~255)
 abbrev is_off : Expression
 is_off = Binary Or (Binary And (argument 0) (Unary Complement (Literal 511))) (Binary And (argument 1) (Unary Complement (Literal 255)))
@@ -173,3 +179,201 @@ cursor_body error multiply divide place right =
     ∷ Return 5 (Literal 0)
     ∷ []
     )
+
+-- ---- Output: a character drawn
+
+abbrev static : ℕ → Expression
+static k = Name (Static k)
+
+-- let this local variable = itself and a number more; twice itself; one less
+abbrev pub adds : ℕ → ℕ → ℕ → Statement
+adds n k v = Let n (Local k) (Binary Plus (local k) (Literal v))
+
+abbrev pub doubles : ℕ → ℕ → Statement
+doubles n k = Let n (Local k) (Binary Plus (local k) (local k))
+
+abbrev pub counts_down : ℕ → ℕ → Statement
+counts_down n k = Let n (Local k) (Binary Subtract (local k) (Literal 1))
+
+-- the locals are glyph, word, other, pixel, dots, dot, rows, columns
+abbrev draw_end : Text
+draw_end = text_of (Return 32 (Literal 0) ∷ [])
+
+abbrev pub row_turn : Text
+row_turn =
+    text_of (
+    If 22 false (Binary And (local 4) (local 5)) (text_of (Store 23 (local 1) (Literal 0) (Binary Or (Load (local 1) (Literal 0)) (local 3)) ∷ [])) End
+    ∷ adds 24 1 32
+    ∷ doubles 25 5
+    ∷ counts_down 26 6
+    ∷ []
+    )
+
+abbrev pub column_turn : ℕ → Text
+column_turn place =
+    text_of (
+    Let 18 (Local 4) (Load (local 0) (Literal 0))
+    ∷ Let 19 (Local 1) (Binary Plus (static place) (Literal 32))
+    ∷ Let 20 (Local 6) (Literal 7)
+    ∷ While 21 (local 6) row_turn
+    ∷ If 27 false (Binary And (local 5) (Literal 16384)) (text_of (Let 28 (Local 5) (Literal 1) ∷ adds 29 0 1 ∷ [])) End
+    ∷ doubles 30 3
+    ∷ counts_down 31 7
+    ∷ []
+    )
+
+abbrev pub columns_loop : ℕ → Text
+columns_loop place = Next (While 17 (local 7) (column_turn place)) draw_end
+
+-- a loop over the rows of a column, and what comes behind it in a column
+abbrev pub row_text : Text → Text
+row_text rest = Next (While 21 (local 6) row_turn) rest
+
+abbrev pub column_end : Text → Text
+column_end rest =
+    Next (If 27 false (Binary And (local 5) (Literal 16384)) (text_of (Let 28 (Local 5) (Literal 1) ∷ adds 29 0 1 ∷ [])) End)
+    (Next (doubles 30 3) (Next (counts_down 31 7) rest))
+
+abbrev pub rows_loop : ℕ → Text
+rows_loop place = row_text (column_end (columns_loop place))
+
+abbrev pub clear_turn : Text
+clear_turn = text_of (Store 12 (local 1) (Literal 0) (Binary And (Load (local 1) (Literal 0)) (local 2)) ∷ adds 13 1 32 ∷ counts_down 14 6 ∷ [])
+
+abbrev pub clear_text : Text → Text
+clear_text rest = Next (While 11 (local 6) clear_turn) rest
+
+abbrev pub clear_loop : ℕ → Text
+clear_loop place = clear_text (Next (Let 15 (Local 5) (Literal 1)) (Next (Let 16 (Local 7) (Literal 5)) (columns_loop place)))
+
+-- behind the choice of the code
+abbrev pub glyph_text : ℕ → ℕ → ℕ → Text
+glyph_text font place right =
+    Next (Let 3 (Local 0) (Binary Plus (Binary Plus (Binary Plus (static font) (argument 0)) (argument 0)) (argument 0)))
+    (Next (Let 4 (Local 2) (Unary Complement (Literal 255)))
+    (Next (Let 5 (Local 3) (Literal 1))
+    (Next (If 6 false (static right) (text_of (Let 7 (Local 2) (Literal 255) ∷ Let 8 (Local 3) (Literal 256) ∷ [])) End)
+    (Next (Let 9 (Local 1) (static place))
+    (Next (Let 10 (Local 6) (Literal 11)) (clear_loop place))))))
+
+abbrev pub draw_body : ℕ → ℕ → ℕ → Text
+draw_body font place right =
+    Next (If 1 false (Binary Or (Binary Less (argument 0) (Literal 32)) (Binary Greater (argument 0) (Literal 126))) (text_of (Let 2 (Argument 0) (Literal 127) ∷ [])) End)
+    (glyph_text font place right)
+
+-- ---- Output: where the cursor goes
+
+abbrev pub line_body : ℕ → ℕ → Text
+line_body place right =
+    text_of (
+    Let 1 (Static place) (Binary Plus (Binary And (static place) (Unary Complement (Literal 31))) (Literal 352))
+    ∷ Let 2 (Static right) (Literal 0)
+    ∷ If 3 false (Binary Greater (static place) (Literal 24479)) (text_of (Let 4 (Static place) (Literal 16384) ∷ [])) End
+    ∷ Return 5 (Literal 0)
+    ∷ []
+    )
+
+-- (place & 31) = 31
+abbrev is_last_word : ℕ → Expression
+is_last_word place = Binary Equal (Binary And (static place) (Literal 31)) (Literal 31)
+
+abbrev pub back_body : ℕ → ℕ → ℕ → Text
+back_body draw place right =
+    text_of (
+    If 1 true (static right) (text_of (Let 2 (Static right) (Literal 0) ∷ []))
+    (text_of (
+    If 3 false (Binary Greater (static place) (Literal 16384))
+    (text_of (
+    Let 4 (Static right) (Literal 65535)
+    ∷ Let 5 (Static place) (Binary Subtract (static place) (Literal 1))
+    ∷ If 6 false (is_last_word place) (text_of (Let 7 (Static place) (Binary Subtract (static place) (Literal 320)) ∷ [])) End
+    ∷ []
+    )) End
+    ∷ []
+    ))
+    ∷ Do 8 (Call draw (More (Literal 32) NoMore))
+    ∷ Return 9 (Literal 0)
+    ∷ []
+    )
+
+-- behind the drawing of a character
+abbrev pub moves_on : ℕ → ℕ → ℕ → Text
+moves_on line place right =
+    text_of (
+    Let 6 (Static right) (Unary Complement (static right))
+    ∷ If 7 false (Unary Complement (static right))
+    (text_of (
+    If 8 true (is_last_word place) (text_of (Do 9 (Call line NoMore) ∷ [])) (text_of (Let 10 (Static place) (Binary Plus (static place) (Literal 1)) ∷ []))
+    ∷ []
+    )) End
+    ∷ Return 11 (Literal 0)
+    ∷ []
+    )
+
+abbrev pub print_body : ℕ → ℕ → ℕ → ℕ → ℕ → Text
+print_body line back draw place right =
+    text_of (
+    If 1 true (Binary Equal (argument 0) (Literal 128)) (text_of (Do 2 (Call line NoMore) ∷ []))
+    (text_of (
+    If 3 true (Binary Equal (argument 0) (Literal 129)) (text_of (Do 4 (Call back NoMore) ∷ []))
+    (text_of (
+    Do 5 (Call draw (More (argument 0) NoMore))
+    ∷ Let 6 (Static right) (Unary Complement (static right))
+    ∷ If 7 false (Unary Complement (static right))
+    (text_of (
+    If 8 true (is_last_word place) (text_of (Do 9 (Call line NoMore) ∷ [])) (text_of (Let 10 (Static place) (Binary Plus (static place) (Literal 1)) ∷ []))
+    ∷ []
+    )) End
+    ∷ []
+    ))
+    ∷ []
+    ))
+    ∷ Return 11 (Literal 0)
+    ∷ []
+    )
+
+-- ---- Output: a number printed
+
+abbrev digit_of : ℕ → Expression → ℕ → Expression
+digit_of digit rest unit = Call digit (More (argument 0) (More rest (More (Literal unit) NoMore)))
+
+abbrev pub int_body : ℕ → ℕ → Text
+int_body print digit =
+    text_of (
+    If 1 true (Binary Less (argument 0) (Literal 0)) (text_of (Do 2 (Call print (More (Literal 45) NoMore)) ∷ [])) (text_of (Let 3 (Argument 0) (Unary Minus (argument 0)) ∷ []))
+    ∷ Let 4 (Local 0) (digit_of digit (argument 0) 10000)
+    ∷ Let 5 (Local 0) (digit_of digit (local 0) 1000)
+    ∷ Let 6 (Local 0) (digit_of digit (local 0) 100)
+    ∷ Let 7 (Local 0) (digit_of digit (local 0) 10)
+    ∷ Do 8 (Call print (More (Binary Subtract (Literal 48) (local 0)) NoMore))
+    ∷ Return 9 (Literal 0)
+    ∷ []
+    )
+
+-- rest > -unit
+abbrev is_smaller : Expression → Expression
+is_smaller rest = Binary Greater rest (Unary Minus (argument 2))
+
+abbrev digit_turn : Text
+digit_turn = text_of (Let 5 (Argument 1) (Binary Plus (argument 1) (argument 2)) ∷ adds 6 0 1 ∷ [])
+
+abbrev pub digit_loop : ℕ → Text
+digit_loop print = text_of (While 4 (Unary Complement (is_smaller (argument 1))) digit_turn ∷ Do 7 (Call print (More (local 0) NoMore)) ∷ Return 8 (argument 1) ∷ [])
+
+abbrev pub digit_body : ℕ → Text
+digit_body print = Next (If 1 false (is_smaller (argument 0)) (text_of (Return 2 (argument 1) ∷ [])) End) (Next (Let 3 (Local 0) (Literal 48)) (digit_loop print))
+
+-- ---- Sys
+
+abbrev pub halt_loop : Text
+halt_loop = text_of (While 1 (Literal 65535) End ∷ [])
+
+abbrev pub halt_body : Text
+halt_body = text_of (While 1 (Literal 65535) End ∷ Return 2 (Literal 0) ∷ [])
+
+abbrev prints : ℕ → ℕ → ℕ → Statement
+prints n print c = Do n (Call print (More (Literal c) NoMore))
+
+abbrev pub sys_error_body : ℕ → ℕ → ℕ → Text
+sys_error_body print int halt =
+    text_of (prints 1 print 69 ∷ prints 2 print 82 ∷ prints 3 print 82 ∷ Do 4 (Call int (More (argument 0) NoMore)) ∷ Do 5 (Call halt NoMore) ∷ Return 6 (Literal 0) ∷ [])

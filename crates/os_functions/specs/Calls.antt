@@ -18,23 +18,43 @@ use Rattle.os_laws.specs.Names.{IsShipped, statics_in}
 abbrev pub routine_number : {core : Core} → IsShipped core → List ℕ → List ℕ → ℕ
 routine_number p class name = in_class (subroutine_number (p.own ++ p.os)) (class_number (p.own ++ p.os) class) name
 
-abbrev static_of : Slot → ℕ
-static_of (slot.Static k) = k
-static_of _ = 0
+-- the number of a variable that is a static
+abbrev static_of : Slot → Option ℕ
+static_of (slot.Static k) = Some k
+static_of _ = None
 
-abbrev slot_number : Option Declared → ℕ
-slot_number None = 0
+abbrev slot_number : Option Declared → Option ℕ
+slot_number None = None
 slot_number (Some d) = static_of d.slot
 
--- the number of a static of one of these classes, before whose statics stand n others
-abbrev pub static_from : ℕ → List ClassFile → List ℕ → List ℕ → ℕ
-static_from n [] class name = 0
+-- The number of a static of one of these classes, before whose statics stand n others; none where no class has this name, or the class no such static.
+abbrev pub static_from : ℕ → List ClassFile → List ℕ → List ℕ → Option ℕ
+static_from n [] class name = None
 static_from n (c ∷ cs) class name =
     if bytes_eq class c.class.name.text then slot_number (find_value name (member_slots (λ x. None) 0 n c.class.variables)) else static_from (n + static_count c.class.variables) cs class name
 
--- the number of a static of one of the system's classes, whose statics come behind those of the folder's
-abbrev pub static_number : {core : Core} → IsShipped core → List ℕ → List ℕ → ℕ
-static_number p class name = static_from (statics_in p.own) p.os class name
+-- One of the system's classes has this static, with this number: the system's statics come behind those of the folder's classes.
+abbrev pub IsStatic : {core : Core} → IsShipped core → List ℕ → List ℕ → ℕ → Type 0
+IsStatic p class name k = static_from (statics_in p.own) p.os class name ≡ Some k
+
+-- the numbers of the statics of which laws speak (each is there: StaticLaws)
+pub record HasStatics {core : Core} (p : IsShipped core) : Type 0 where
+  pub free : ℕ
+  pub font : ℕ
+  pub place : ℕ
+  pub right : ℕ
+  pub black : ℕ
+  pub is_free : IsStatic p (codes "Memory") (codes "free") free
+  pub is_font : IsStatic p (codes "Output") (codes "font") font
+  pub is_place : IsStatic p (codes "Output") (codes "place") place
+  pub is_right : IsStatic p (codes "Output") (codes "right") right
+  pub is_black : IsStatic p (codes "Screen") (codes "black") black
+
+pub record StaticLaws : Type 0 where
+  -- the shipped texts declare them
+  pub there : {core : Core} (p : IsShipped core) → HasStatics p
+  -- and each has a number of its own
+  pub apart : {core : Core} (p : IsShipped core) (h : HasStatics p) → (h.free < h.font) × (h.font < h.place) × (h.place < h.right) × (h.right < h.black)
 
 -- The next step of the state is a call of this routine with these values.
 abbrev pub CallsNext : {core : Core} → IsShipped core → List ℕ → List ℕ → State → List ℕ → Type 0

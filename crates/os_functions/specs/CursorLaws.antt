@@ -5,22 +5,21 @@ use Rattle.word16.specs.Words.{truth}
 use Rattle.jack_core.specs.declared.program.Core.{Core}
 use Rattle.jack_meaning.specs.Meaning.{State}
 use Rattle.os_laws.specs.Names.{IsShipped}
-use Rattle.os_functions.specs.Calls.{static_number, CallsNext, Leaves, Refuses}
+use Rattle.os_functions.specs.Calls.{HasStatics, CallsNext, Leaves, Refuses}
 
 -- the address of the top word of a cell: a row of cells has 11 rows of 32 words
 abbrev pub cell_address : ℕ → ℕ → ℕ
 cell_address row column = screen + 11 * 32 * row + column / 2
 
 -- the static `place` is the top word of this cell, and `right` tells whether it is the upper half of the word
-abbrev pub with_cursor : {core : Core} → IsShipped core → List ℕ → ℕ → ℕ → List ℕ
-with_cursor p statics row column =
-    slice_set (slice_set statics (static_number p (codes "Output") (codes "place")) (cell_address row column)) (static_number p (codes "Output") (codes "right")) (truth (nat_eq (column % 2) 1))
+abbrev pub with_cursor : {core : Core} {p : IsShipped core} → HasStatics p → List ℕ → ℕ → ℕ → List ℕ
+with_cursor h statics row column = slice_set (slice_set statics h.place (cell_address row column)) h.right (truth (nat_eq (column % 2) 1))
 
 module _ {core : Core} (p : IsShipped core) (s : State) where
   -- Only the two statics change.
   abbrev pub MoveLaw : Type 0
   MoveLaw =
-      (row column : ℕ) → row < 23 → column < 64 → (c : CallsNext p (codes "Output") (codes "moveCursor") s (row ∷ column ∷ [])) → Leaves c 1300 0 (with_cursor p s.statics row column) s.words
+      (h : HasStatics p) (row column : ℕ) → row < 23 → column < 64 → (c : CallsNext p (codes "Output") (codes "moveCursor") s (row ∷ column ∷ [])) → Leaves c 1300 0 (with_cursor h s.statics row column) s.words
 
   abbrev pub MoveErrorLaw : Type 0
   MoveErrorLaw =

@@ -4,3 +4,5 @@ pub mod MemoryLaws
 pub mod StringLaws
 pub mod ScreenLaws
 pub mod CursorLaws
+pub mod PrintLaws
+pub mod ErrorLaws

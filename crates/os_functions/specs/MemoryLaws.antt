@@ -1,16 +1,16 @@
 -- Functions of Memory, and arrays (book, chapter 12).
-use Rattle.std.specs.Prelude.{◌≡◌, ◌≤◌, ◌<◌, ◌+◌, ◌-◌, ◌*◌, ◌^◌, ◌⊎◌, ℕ, List, [], ◌∷◌, ◌++◌, Some, codes, slice_set}
+use Rattle.std.specs.Prelude.{◌≡◌, ◌≤◌, ◌<◌, ◌+◌, ◌-◌, ◌*◌, ◌^◌, ◌⊎◌, ℕ, List, [], ◌∷◌, ◌++◌, length, Some, codes, slice_set}
 use Rattle.word16.specs.Memory.{heap, keyboard}
 use Rattle.jack_core.specs.Texts.{the_subroutines}
 use Rattle.jack_core.specs.declared.program.Core.{Core}
 use Rattle.jack_meaning.specs.Text.{Subroutine}
 use Rattle.jack_meaning.specs.Meaning.{State, Stray, step}
-use Rattle.os_laws.specs.Calls.{ComesToCall, after, given_back}
+use Rattle.os_laws.specs.Calls.{Stops, ComesToCall, after, given_back}
 use Rattle.os_laws.specs.Heap.{word_at}
 use Rattle.os_laws.specs.HeapCalls.{Allocated, Freed}
 use Rattle.os_laws.specs.KernelCalls.{Allocating, AllocatingNothing, Deallocating}
 use Rattle.os_laws.specs.Names.{IsShipped}
-use Rattle.os_functions.specs.Calls.{routine_number, static_number, CallsNext, Returns, Gives, Leaves, Refuses}
+use Rattle.os_functions.specs.Calls.{routine_number, HasStatics, CallsNext, Returns, Gives, Leaves, Refuses}
 
 -- Within so many steps there is none: it would be at an address outside the memory.
 abbrev pub StraysAt : List Subroutine → State → ℕ → ℕ → Type 0
@@ -22,7 +22,9 @@ module _ {core : Core} (p : IsShipped core) (s : State) where
   PeekLaw = (a : ℕ) → heap ≤ a → a < keyboard → (c : CallsNext p (codes "Memory") (codes "peek") s (a ∷ [])) → Gives c 5 (word_at s.words a)
 
   abbrev pub PeekKeyLaw : Type 0
-  PeekKeyLaw = (c : CallsNext p (codes "Memory") (codes "peek") s (keyboard ∷ [])) (keys : ℕ → ℕ) → after (the_subroutines core) keys 5 s ≡ Some (given_back s c.caller c.below (keys 3))
+  PeekKeyLaw =
+      (c : CallsNext p (codes "Memory") (codes "peek") s (keyboard ∷ [])) (keys : ℕ → ℕ)
+      → Stops (the_subroutines core) keys s (length s.frames) 5 (given_back s c.caller c.below (keys 3))
 
   abbrev pub PeekElsewhereLaw : Type 0
   PeekElsewhereLaw = (a : ℕ) → (a < heap) ⊎ (keyboard < a) → a < 2 ^ 16 → CallsNext p (codes "Memory") (codes "peek") s (a ∷ []) → StraysAt (the_subroutines core) s 3 a
@@ -36,14 +38,11 @@ module _ {core : Core} (p : IsShipped core) (s : State) where
 
   -- ---- arrays: blocks of the heap
 
-  abbrev pub free_number : ℕ
-  free_number = static_number p (codes "Memory") (codes "free")
-
   -- A new array is a new block, where some free part is long enough.
   abbrev pub NewLaw : Type 0
   NewLaw =
-      (a : Allocating (the_subroutines core) s (routine_number p (codes "Array") (codes "new")) free_number)
-      → (n : ℕ) × (n ≤ 67 + 18 * a.k) × (s' : State) × Returns (the_subroutines core) s n s' × Allocated a.call free_number a.size a.live s'
+      (h : HasStatics p) (a : Allocating (the_subroutines core) s (routine_number p (codes "Array") (codes "new")) h.free)
+      → (n : ℕ) × (n ≤ 67 + 18 * a.k) × (s' : State) × Returns (the_subroutines core) s n s' × Allocated a.call h.free a.size a.live s'
 
   -- one of a size below 1 is refused
   abbrev pub NewErrorLaw : Type 0
@@ -58,8 +57,8 @@ module _ {core : Core} (p : IsShipped core) (s : State) where
   -- An array that is a live block is one no more.
   abbrev pub DisposeLaw : Type 0
   DisposeLaw =
-      (d : Deallocating (the_subroutines core) s (routine_number p (codes "Array") (codes "dispose")) free_number)
-      → (s' : State) × Returns (the_subroutines core) s 18 s' × Freed d.call free_number (d.front ++ d.back) s'
+      (h : HasStatics p) (d : Deallocating (the_subroutines core) s (routine_number p (codes "Array") (codes "dispose")) h.free)
+      → (s' : State) × Returns (the_subroutines core) s 18 s' × Freed d.call h.free (d.front ++ d.back) s'
 
 pub record MemoryLaws : Type 0 where
   pub peek : {core : Core} (p : IsShipped core) (s : State) → PeekLaw p s

@@ -6,6 +6,9 @@ ghost use Rattle.os_functions.specs.MemoryLaws.{MemoryLaws, ArrayLaws};
 ghost use Rattle.os_functions.specs.StringLaws.{StringLaws};
 ghost use Rattle.os_functions.specs.ScreenLaws.{ScreenLaws};
 ghost use Rattle.os_functions.specs.CursorLaws.{CursorLaws};
+ghost use Rattle.os_functions.specs.PrintLaws.{PrintLaws};
+ghost use Rattle.os_functions.specs.ErrorLaws.{ErrorLaws};
+ghost use Rattle.os_functions.specs.Calls.{StaticLaws};
 
 /// Math gives the distance from 0, the lesser, the greater and the root.
 pub fn math_laws()
@@ -40,4 +43,19 @@ pub fn screen_laws()
 /// The cursor goes to a cell.
 pub fn cursor_laws()
     ensures { CursorLaws }
+{}
+
+/// Characters are drawn in the cell of the cursor, which goes on.
+pub fn print_laws()
+    ensures { PrintLaws }
+{}
+
+/// The statics of which the laws speak are there.
+pub fn static_laws()
+    ensures { StaticLaws }
+{}
+
+/// An error prints its number, and then the program stands still.
+pub fn error_laws()
+    ensures { ErrorLaws }
 {}

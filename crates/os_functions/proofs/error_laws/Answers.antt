@@ -1,0 +1,5 @@
+use Rattle.os_functions.proofs.ErrorMade.{law}
+use Rattle.os_functions.proofs.error_laws.Goals as goal
+
+pub returns : goal.returns
+returns c = law
