@@ -37,10 +37,10 @@ module _ (law : ClassLaw) (files : Files) (source : Source) where
       e ∙ ap (λ (x : Image). image_text x.words) (one_image_of core core' same p q builds.1 builds'.1) ∙ sym d
 
   -- the program and the image that places are made of
-  built_of : (own : List Class) (places : Places) → HasClasses (Some files) source.folder (map the_file own) → HavePlaces source.replace own places → (core : Core) × (image : Image) × FolderBuilds (Some files) source core image
+  pub built_of : (own : List Class) (places : Places) → HasClasses (Some files) source.folder (map the_file own) → HavePlaces source.replace own places → (core : Core) × (image : Image) × FolderBuilds (Some files) source core image
   built_of own places has h = (h.core, h.image, ((own, has, (h.os, h.shipped, h.program)), h.is_image))
 
-  one_places : (places places' : Places) → FolderHasPlaces (Some files) source places → FolderHasPlaces (Some files) source places' → places ≡ places'
+  pub one_places : (places places' : Places) → FolderHasPlaces (Some files) source places → FolderHasPlaces (Some files) source places' → places ≡ places'
   one_places places places' (own, has, h) (own', has', k) =
       let owns : map the_file own ≡ map the_file own' = one_list_of_classes law files source.folder (map the_file own) (map the_file own') has has' in
       let systems : map the_file h.os ≡ map the_file k.os = one_beside source.replace (map the_file own) (map the_file own') (map the_file h.os) (map the_file k.os) owns
@@ -63,13 +63,13 @@ module _ (law : ClassLaw) (files : Files) (source : Source) where
       ∙ ap (λ (ns : List (List ℕ)). map_text ns q.map) same.names
       ∙ sym d
 
-  one_line : (line line' : List ℕ) → BuildRefuses (Some files) source line → BuildRefuses (Some files) source line' → line ≡ line'
+  pub one_line : (line line' : List ℕ) → BuildRefuses (Some files) source line → BuildRefuses (Some files) source line' → line ≡ line'
   one_line line line' (without_program h) (without_program k) = one_folder_line law files source line line' h k
   one_line line line' (without_program h) (unbuilt core means k) = absurd (never_refused law files source core line means h)
   one_line line line' (unbuilt core means h) (without_program k) = absurd (never_refused law files source core line' means k)
   one_line line line' (unbuilt core means h) (unbuilt core' means' k) = one_build_line core core' (one_meaning law files source core core' means means') source.folder line line' h k
 
-  built_apart : (out line : List ℕ) → BuildPrints (Some files) source out → BuildRefuses (Some files) source line → ⊥
+  pub built_apart : (out line : List ℕ) → BuildPrints (Some files) source out → BuildRefuses (Some files) source line → ⊥
   built_apart out line (core, p, builds, e) (without_program k) = never_refused law files source core line builds.0 k
   built_apart out line (core, p, builds, e) (unbuilt core' means' k) =
       never_unbuilt core core' (one_meaning law files source core core' builds.0 means') p k.0 k.1 builds.1 k.2 k.3

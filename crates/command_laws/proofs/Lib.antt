@@ -1,6 +1,8 @@
 pub mod Answered
 pub mod BuildExactly
 pub mod CompileExactly
+pub mod DebugAnswered
+pub mod DebugExactly
 pub mod Exactly
 pub mod FolderAnswered
 pub mod FolderMeaning
@@ -15,3 +17,4 @@ pub mod SoakExactly
 pub mod TextsOnce
 pub mod VmDoes
 pub mod VmExactly
+pub mod WalkThere

@@ -1,5 +1,5 @@
 -- A line that reads the classes of a folder has an answer.
-use Rattle.std.specs.Prelude.{◌-◌, ◌^◌, get_or, min, nat_eq, nat_le, option_and_then}
+use Rattle.std.specs.Prelude.{◌-◌, ◌^◌, get_or, min, nat_eq, nat_le, if◌then◌else◌, option_and_then}
 use Rattle.std.specs.List.{AllByRecursion}
 use Rattle.std.specs.Option.{option_or}
 use Rattle.std.proofs.Common.{◌≡◌, ◌≢◌, ◌≤◌, ◌<◌, ◌++◌, ◌⊎◌, inl, inr, ℕ, zero, suc, Bool, true, false, List, [], ◌∷◌, Option, Some, None, Ok, Err, length, map, refl, sym, ◌∙◌, ap, subst, arith}
@@ -11,7 +11,7 @@ use Rattle.outer_world.specs.declared.point.Point.{Point}
 use Rattle.hack_isa.specs.Machine.{image_words}
 use Rattle.hack_isa.specs.Table.{word_of}
 use Rattle.hack_isa.specs.declared.Instr.{Instr}
-use Rattle.hack_isa.specs.declared.Instr.TheVariants.{Address, Compute}
+use Rattle.hack_isa.specs.declared.Instr.TheVariants.{Address, Compute, Shift}
 use Rattle.hack_asm.specs.Image.{image_text}
 use Rattle.key_script.specs.Codes.{code_at}
 use Rattle.key_script.specs.Faults.{key_message}
@@ -69,7 +69,7 @@ use Rattle.tower.specs.declared.building.BuildError.TheVariants as errors
 use Rattle.tower.proofs.Computers.{computer as computer_follows, is_mapped, linked_bare}
 use Rattle.image_map.proofs.Tallying.{place_first}
 use Rattle.tower.proofs.VmRuns.{follows}
-use Rattle.command_line.specs.Line.{Source, build, compile, map_image, of_classes, run}
+use Rattle.command_line.specs.Line.{Source, build, map_image, of_classes, run}
 use Rattle.command_line.specs.declared.request.MapFormat.{MapFormat}
 use Rattle.command_line.specs.declared.request.MapFormat.TheVariants as formats
 use Rattle.jack_debug.specs.MapText as placed
@@ -80,7 +80,7 @@ use Rattle.command_line.specs.declared.request.RunLevel.{RunLevel}
 use Rattle.command_line.specs.declared.request.RunLevel.TheVariants as levels
 use Rattle.command_line.specs.declared.request.Shown.{Shown}
 use Rattle.command_line.specs.declared.request.Shown.TheVariants.{Nets, Words}
-use Rattle.command_laws.specs.Answered.{ClassesAnsweredLaw, FolderAnsweredLaw, FolderMeansLaw, HasAnswer, IsWellFolder}
+use Rattle.command_laws.specs.Answered.{FolderAnsweredLaw, FolderMeansLaw, HasAnswer, IsWellFolder}
 use Rattle.nand_cli.specs.JackFolder.{BuildIsRefused, FolderIsRefused, FolderMeans}
 use Rattle.key_script.specs.Language.{RefusesKeys}
 use Rattle.nand_cli.specs.Commands.Build.{unbuilt, without_program}
@@ -88,7 +88,6 @@ use Rattle.nand_cli.specs.Commands.Gates.{ComesAfter, IsGatesReport, gates_trace
 use Rattle.nand_cli.specs.Commands.Run.{EndsAt, HasKeys, IsHackReport, IsJackReport, IsReport, state_after, trace_in, unbuilt as run_unbuilt, without_program as run_without_program, without_script}
 use Rattle.nand_cli.specs.Commands.RunVm.{IsVmReport}
 use Rattle.nand_cli.proofs.Covering.{covered}
-use Rattle.command_laws.proofs.Answered.{compile_answered}
 use Rattle.command_laws.proofs.FolderAnswered.{AllRead, at_path}
 use Rattle.nand_cli.proofs.FolderResolved.{folder_resolved}
 use Rattle.nand_cli.proofs.KeyWords.{keys_are_words}
@@ -157,10 +156,15 @@ module _ (core : Core) (f : Fits core) where
   first_point code = place_first (points_of f.linked) mapped.covers.mapped mapped.covers.covers mapped.covers.some
 
 -- the words of an image
+at_most : (b : Bool) (n : ℕ) → (if b then n else 0) ≤ n
+at_most true n = omega arith
+at_most false n = omega arith
+
 one_word : (i : Instr) → IsPlain i → word_of i < 65536
 one_word (Address n) h = omega (arith, h)
 one_word (Compute true comp dest jump) h = let a = h.0.0 in let b = h.0.1 in let d = h.0.2 in omega (arith, a, b, d)
 one_word (Compute false comp dest jump) h = let a = h.0.0 in let b = h.0.1 in let d = h.0.2 in omega (arith, a, b, d)
+one_word (Shift memory left of_d dest jump) h = let b = h.1 in let d = h.2 in omega (arith, b, d, at_most memory 4096, at_most left 2048, at_most of_d 1024)
 
 each_word : (is : List Instr) → AllByRecursion IsPlain is → AllByRecursion (λ w. w < 65536) (map word_of is)
 each_word [] h = tt
@@ -283,7 +287,7 @@ module _ (laws : Laws) (core : Core) (resolved : IsResolvedCore core) (f : Fits 
     },
   )
 
-  behaves : (m : ℕ) → (wires : List ℕ → Histories) × IsComputer (image_for f.linked).words code m wires
+  pub behaves : (m : ℕ) → (wires : List ℕ → Histories) × IsComputer (image_for f.linked).words code m wires
   behaves m =
       let l = f.linked in
       let plain = plain_image l f.few (all_ready l f.few (sound_if false (files_of core) l f.links)) in
@@ -358,7 +362,7 @@ keys_by : (text : List ℕ) → SomeReading (List KeyLine) (SpellsLines text) (R
 keys_by text (inl h) = inl h
 keys_by text (inr (fault, h)) = inr (key_message fault, (fault, h, refl))
 
-keys_read : KeyLaw → AllRead (λ (name text : List ℕ) (ls : List KeyLine). SpellsLines text ls) RefusesKeys
+pub keys_read : KeyLaw → AllRead (λ (name text : List ℕ) (ls : List KeyLine). SpellsLines text ls) RefusesKeys
 keys_read law name text = keys_by text (law text)
 
 module _ (laws : Laws) (there : List ℕ → Bool) (files : Files) (source : Source) (core : Core) (means : FolderMeans (Some files) source core) where
@@ -414,31 +418,25 @@ module _ (laws : Laws) (there : List ℕ → Bool) (files : Files) (source : Sou
 -- ---- the folder
 
 module _ (laws : Laws) (files : Files) (source : Source) where
-  abbrev MeansOrNot : Type 0
+  abbrev pub MeansOrNot : Type 0
   MeansOrNot = ((core : Core) × FolderMeans (Some files) source core) ⊎ ((line : List ℕ) × FolderIsRefused (Some files) source line)
 
   by_classes : IsWellFolder files source ⊎ ((line : List ℕ) × FolderIsRefused (Some files) source line) → MeansOrNot
   by_classes (inl well) = inl (laws.programs files source well)
   by_classes (inr refused) = inr refused
 
-  means_or_not : MeansOrNot
+  pub means_or_not : MeansOrNot
   means_or_not = by_classes (laws.folders files source)
 
 module _ (laws : Laws) (there : List ℕ → Bool) (files : Files) (source : Source) where
-  build_by : MeansOrNot laws files source → HasAnswer there files (of_classes source build)
+  pub build_by : MeansOrNot laws files source → HasAnswer there files (of_classes source build)
   build_by (inl (core, means)) = build_answer laws there files source core means
   build_by (inr (line, h)) = inr (inl ([], [], line, (refl, without_program h, refl)))
 
-  map_by : (format : MapFormat) → MeansOrNot laws files source → HasAnswer there files (of_classes source (map_image format))
+  pub map_by : (format : MapFormat) → MeansOrNot laws files source → HasAnswer there files (of_classes source (map_image format))
   map_by format (inl (core, means)) = map_answer laws there files source core means format
   map_by format (inr (line, h)) = inr (inl ([], [], line, (refl, without_program h, refl)))
 
-  any_run : (level : RunLevel) (cycles : ℕ) (keys : Option (List ℕ)) → MeansOrNot laws files source → HasAnswer there files (of_classes source (run level cycles keys))
+  pub any_run : (level : RunLevel) (cycles : ℕ) (keys : Option (List ℕ)) → MeansOrNot laws files source → HasAnswer there files (of_classes source (run level cycles keys))
   any_run level cycles keys (inl (core, means)) = run_by laws there files source core means level cycles keys
   any_run level cycles keys (inr (line, h)) = inr (inl ([], [], line, (refl, run_without_program h, refl)))
-
-pub classes_answered : Laws → ClassesAnsweredLaw
-classes_answered laws there files source compile = compile_answered laws.folders there files source
-classes_answered laws there files source build = build_by laws there files source (means_or_not laws files source)
-classes_answered laws there files source (map_image format) = map_by laws there files source format (means_or_not laws files source)
-classes_answered laws there files source (run level cycles keys) = any_run laws there files source level cycles keys (means_or_not laws files source)

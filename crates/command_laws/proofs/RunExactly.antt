@@ -139,13 +139,23 @@ module _ (core core' : Core) (same : SameProgram core core') where
 -- ---- keys
 
 module _ (law : KeyLaw) (files : Files) where
-  one_list_of_keys : (path : Option (List ℕ)) (ls ms : List Line) → HasKeys (Some files) path ls → HasKeys (Some files) path ms → ls ≡ ms
+  pub one_list_of_keys : (path : Option (List ℕ)) (ls ms : List Line) → HasKeys (Some files) path ls → HasKeys (Some files) path ms → ls ≡ ms
   one_list_of_keys None ls ms h k = h ∙ sym k
   one_list_of_keys (Some path) ls ms h k = one_source (λ (name text : List ℕ) (keys : List Line). SpellsLines text keys) RefusesKeys (λ (keys : List Line). keys) (keys_once law) files [] path ls ms h k
 
-  one_script_line : (path : Option (List ℕ)) (line line' : List ℕ) → ScriptIsRefused (Some files) path line → ScriptIsRefused (Some files) path line' → line ≡ line'
+  pub one_script_line : (path : Option (List ℕ)) (line line' : List ℕ) → ScriptIsRefused (Some files) path line → ScriptIsRefused (Some files) path line' → line ≡ line'
   one_script_line None line line' h k = absurd h
   one_script_line (Some path) line line' h k = one_fault (λ (name text : List ℕ) (keys : List Line). SpellsLines text keys) RefusesKeys (λ (keys : List Line). keys) (keys_once law) files path line line' h k
+
+-- a key script that is not there
+module _ (files : Files) where
+  pub no_keys : (path : Option (List ℕ)) (ls : List Line) → LacksKeys (Some files) path → HasKeys (Some files) path ls → ⊥
+  no_keys None ls gone has = gone
+  no_keys (Some path) ls gone has = no_source SpellsLines files path ls gone has
+
+  pub no_script : (path : Option (List ℕ)) (line : List ℕ) → LacksKeys (Some files) path → ScriptIsRefused (Some files) path line → ⊥
+  no_script None line gone refused = gone
+  no_script (Some path) line gone refused = none_refused RefusesKeys files path line gone refused
 
 -- ---- the report at the level of the meaning
 
@@ -306,25 +316,16 @@ module _ (jack_law : ClassLaw) (key_law : KeyLaw) (files : Files) (source : Sour
       never_unbuilt core core' (one_meaning jack_law files source core core' means means') built.0 k.0 k.1 built.1 k.2 k.3
   run_apart out line (core, ls, means, built, has, is) (without_script core' means' built' k) = never_scripted key_law files keys ls line has k
 
-  -- a key script that is not there
-  no_keys : (path : Option (List ℕ)) (ls : List Line) → LacksKeys (Some files) path → HasKeys (Some files) path ls → ⊥
-  no_keys None ls gone has = gone
-  no_keys (Some path) ls gone has = no_source SpellsLines files path ls gone has
-
-  no_script : (path : Option (List ℕ)) (line : List ℕ) → LacksKeys (Some files) path → ScriptIsRefused (Some files) path line → ⊥
-  no_script None line gone refused = gone
-  no_script (Some path) line gone refused = none_refused RefusesKeys files path line gone refused
-
   never_printed : (there : List ℕ → Bool) (out : List ℕ) → there source.folder ≡ true → LacksFolder (Some files) there source.folder ⊎ LacksScript files source keys → RunPrints (Some files) source level cycles keys out → ⊥
   never_printed there out has (inl gone) h = not_missing there files source.folder has gone
-  never_printed there out has (inr (core, means, built, gone)) (core', ls, means', built', keyed, is) = no_keys keys ls gone keyed
+  never_printed there out has (inr (core, means, built, gone)) (core', ls, means', built', keyed, is) = no_keys files keys ls gone keyed
 
   never_run_refused : (there : List ℕ → Bool) (line : List ℕ) → there source.folder ≡ true → LacksFolder (Some files) there source.folder ⊎ LacksScript files source keys → RunRefuses (Some files) source keys line → ⊥
   never_run_refused there line has (inl gone) h = not_missing there files source.folder has gone
   never_run_refused there line has (inr (core, means, built, gone)) (without_program k) = never_refused jack_law files source core line means k
   never_run_refused there line has (inr (core, means, built, gone)) (unbuilt core' means' k) =
       never_unbuilt core core' (one_meaning jack_law files source core core' means means') built.0 k.0 k.1 built.1 k.2 k.3
-  never_run_refused there line has (inr (core, means, built, gone)) (without_script core' means' built' k) = no_script keys line gone k
+  never_run_refused there line has (inr (core, means, built, gone)) (without_script core' means' built' k) = no_script files keys line gone k
 
 pub run_exact : ClassLaw → KeyLaw → (files : Files) (source : Source) (level : RunLevel) (cycles : ℕ) (keys : Option (List ℕ)) → IsExact files (of_classes source (run level cycles keys))
 run_exact jack_law key_law files source level cycles keys = record {

@@ -1,6 +1,8 @@
 -- From the matches of `clap` to lines.
 use Rattle.std.proofs.Common.{◌≡◌, ◌≢◌, ◌+◌, ◌*◌, [], ℕ, Bool, List, Option, Some, None, true, false, refl, sym, ◌∙◌, ap, subst, codes, inl, inr, nat_eq, slice_index}
 use Rattle.std.proofs.lemmas.Bool.{eqb-false}
+use Rattle.std.specs.Borrow.{Bor}
+use Rattle.std.specs.Prelude.{MatchOption}
 use Rattle.std.specs.Str.Parse.{digits_value}
 use Rattle.clap.specs.Kinds.{HasKind, Kinds}
 use Rattle.clap.specs.Walk.{Row, Text, first_of}
@@ -12,7 +14,8 @@ use Rattle.clap.specs.declared.Error.{Error}
 use Rattle.clap.proofs.OnLiterals.{clap_on_literals}
 use Rattle.machine_io.specs.declared.report.Show.{Show}
 use Rattle.machine_io.specs.declared.report.Show.TheVariants as shows
-use Rattle.command_line.specs.Table.{map_command, run_command, soak_command, source_command, table, test_command, vm_command}
+use Rattle.command_line.specs.Point.{before, behind}
+use Rattle.command_line.specs.Table.{debug_command, map_command, run_command, soak_command, source_command, table, test_command, vm_command}
 use Rattle.command_line.specs.declared.request.MapFormat.{MapFormat}
 use Rattle.command_line.specs.declared.request.MapFormat.TheVariants as formats
 use Rattle.command_line.specs.declared.request.RunLevel.{RunLevel}
@@ -20,7 +23,7 @@ use Rattle.command_line.specs.declared.request.RunLevel.TheVariants as levels
 use Rattle.command_line.specs.declared.request.Shown.{Shown}
 use Rattle.command_line.specs.declared.request.Shown.TheVariants.{Words, Nets}
 use Rattle.command_line.specs.declared.request.SourceKind.{SourceKind}
-use Rattle.command_line.specs.Line.{AreOneLine, ClassWork, FileWork, HasClassWork, HasFileWork, HasValues, IsFormatOf, is_simplified, IsInRange, IsLine, IsReading, Line, NumberIn, ReadsFormat, Source, asm, build, chip, class_command, of_classes, command_of, compile, exec, of_file, file_command, flag_word, format_number, kind_of as source_kind, level_word, map_image, run, show, shown_at, shown_word, soak, test, vm}
+use Rattle.command_line.specs.Line.{AreOneLine, ClassWork, FileWork, HasClassWork, HasFileWork, HasValues, IsFormatOf, is_simplified, IsInRange, IsLine, IsPointWord, IsReading, Line, NumberIn, PointIn, ReadsFormat, ReadsPoint, Source, asm, build, chip, class_command, of_classes, command_of, compile, debug, exec, of_file, file_command, flag_word, format_number, kind_of as source_kind, level_word, map_image, run, show, shown_at, shown_word, soak, test, vm}
 
 -- ---- the names of the commands, which differ in their first letter or in their second
 
@@ -35,11 +38,12 @@ abbrev Differ : Text → Text → Type 0
 Differ t u = nat_eq (letters t) (letters u) ≡ false
 
 -- a name that is none of a work with classes, and one that is none of a work with one file
-no_class : (name : Text) → Differ name (codes "compile") → Differ name (codes "build") → Differ name (codes "map") → Differ name (codes "run") → (work : ClassWork) → name ≡ class_command work → ⊥
-no_class name c b m r compile e = apart name (codes "compile") c e
-no_class name c b m r build e = apart name (codes "build") b e
-no_class name c b m r (map_image format) e = apart name (codes "map") m e
-no_class name c b m r (run level cycles keys) e = apart name (codes "run") r e
+no_class : (name : Text) → Differ name (codes "compile") → Differ name (codes "build") → Differ name (codes "map") → Differ name (codes "run") → Differ name (codes "debug") → (work : ClassWork) → name ≡ class_command work → ⊥
+no_class name c b m r d compile e = apart name (codes "compile") c e
+no_class name c b m r d build e = apart name (codes "build") b e
+no_class name c b m r d (map_image format) e = apart name (codes "map") m e
+no_class name c b m r d (run level cycles keys) e = apart name (codes "run") r e
+no_class name c b m r d (debug sub number cycles keys) e = apart name (codes "debug") d e
 
 no_file : (name : Text) → Differ name (codes "asm") → Differ name (codes "exec") → Differ name (codes "show") → (work : FileWork) → name ≡ file_command work → ⊥
 no_file name a x s asm e = apart name (codes "asm") a e
@@ -48,9 +52,9 @@ no_file name a x s (show kind) e = apart name (codes "show") s e
 
 -- the command of a work with classes is that of no other line
 no_file_class : (v : FileWork) (w : ClassWork) → file_command v ≡ class_command w → ⊥
-no_file_class asm w e = no_class (codes "asm") refl refl refl refl w e
-no_file_class (exec cycles from to) w e = no_class (codes "exec") refl refl refl refl w e
-no_file_class (show kind) w e = no_class (codes "show") refl refl refl refl w e
+no_file_class asm w e = no_class (codes "asm") refl refl refl refl refl w e
+no_file_class (exec cycles from to) w e = no_class (codes "exec") refl refl refl refl refl w e
+no_file_class (show kind) w e = no_class (codes "show") refl refl refl refl refl w e
 
 abbrev IsOfClasses : Line → Type 0
 IsOfClasses (of_classes source work) = Unit {0}
@@ -59,10 +63,10 @@ IsOfClasses line = ⊥
 of_classes_alone : (w : ClassWork) (l : Line) → command_of l ≡ class_command w → IsOfClasses l
 of_classes_alone w (of_classes source work) e = tt
 of_classes_alone w (of_file path work) e = no_file_class work w e
-of_classes_alone w (vm folder bare) e = no_class (codes "vm") refl refl refl refl w e
-of_classes_alone w (chip name) e = no_class (codes "chip") refl refl refl refl w e
-of_classes_alone w (test path gates) e = no_class (codes "test") refl refl refl refl w e
-of_classes_alone w (soak seed count) e = no_class (codes "soak") refl refl refl refl w e
+of_classes_alone w (vm folder bare) e = no_class (codes "vm") refl refl refl refl refl w e
+of_classes_alone w (chip name) e = no_class (codes "chip") refl refl refl refl refl w e
+of_classes_alone w (test path gates) e = no_class (codes "test") refl refl refl refl refl w e
+of_classes_alone w (soak seed count) e = no_class (codes "soak") refl refl refl refl refl w e
 
 -- nor is that of a work with one file
 abbrev IsOfFile : Line → Type 0
@@ -93,35 +97,36 @@ no_classes compile rows none = no_path (codes "compile") rows none refl refl
 no_classes build rows none = no_path (codes "build") rows none refl refl
 no_classes (map_image format) rows none = no_path (codes "map") rows none refl refl
 no_classes (run level cycles keys) rows none = no_path (codes "run") rows none refl refl
+no_classes (debug sub number cycles keys) rows none = no_path (codes "debug") rows none refl refl
 
 -- each line of a work with classes says whether they replace
 pub no_replace : (work : ClassWork) (rows : List Row) → ((replace : Bool) → ¬ (first_of (codes "replace") rows ≡ Some (flag_word replace))) → (l : Line) → ¬ IsReading (class_command work) rows l
 no_replace work rows none (of_classes source other) h = none source.replace h.1.1
 no_replace work rows none (of_file path other) h = no_file_class other work (sym h.0)
-no_replace work rows none (vm folder bare) h = no_class (codes "vm") refl refl refl refl work (sym h.0)
-no_replace work rows none (chip name) h = no_class (codes "chip") refl refl refl refl work (sym h.0)
-no_replace work rows none (test path gates) h = no_class (codes "test") refl refl refl refl work (sym h.0)
-no_replace work rows none (soak seed count) h = no_class (codes "soak") refl refl refl refl work (sym h.0)
+no_replace work rows none (vm folder bare) h = no_class (codes "vm") refl refl refl refl refl work (sym h.0)
+no_replace work rows none (chip name) h = no_class (codes "chip") refl refl refl refl refl work (sym h.0)
+no_replace work rows none (test path gates) h = no_class (codes "test") refl refl refl refl refl work (sym h.0)
+no_replace work rows none (soak seed count) h = no_class (codes "soak") refl refl refl refl refl work (sym h.0)
 
 pub no_exec : (rows : List Row) → ((cycles from to : ℕ) → ¬ HasFileWork rows [] (exec cycles from to)) → (l : Line) → ¬ IsReading (codes "exec") rows l
 no_exec rows none (of_file path (exec c f t)) h = none c f t h.1.1
-no_exec rows none (of_classes source work) h = no_class (codes "exec") refl refl refl refl work h.0
+no_exec rows none (of_classes source work) h = no_class (codes "exec") refl refl refl refl refl work h.0
 no_exec rows none l h = apart (codes "exec") (command_of l) refl h.0
 
 pub no_show : (rows : List Row) → ((path : Text) (kind : SourceKind) → first_of (codes "path") rows ≡ Some path → ¬ (source_kind path ≡ Some kind)) → (l : Line) → ¬ IsReading (codes "show") rows l
 no_show rows none (of_file path (show kind)) h = none path kind h.1.0 h.1.1
-no_show rows none (of_classes source work) h = no_class (codes "show") refl refl refl refl work h.0
+no_show rows none (of_classes source work) h = no_class (codes "show") refl refl refl refl refl work h.0
 no_show rows none l h = apart (codes "show") (command_of l) refl h.0
 
 pub no_vm : (rows : List Row) → ((bare : Bool) → ¬ (first_of (codes "bare") rows ≡ Some (flag_word bare))) → (l : Line) → ¬ IsReading (codes "vm") rows l
 no_vm rows none (vm folder bare) h = none bare h.1.1
-no_vm rows none (of_classes source work) h = no_class (codes "vm") refl refl refl refl work h.0
+no_vm rows none (of_classes source work) h = no_class (codes "vm") refl refl refl refl refl work h.0
 no_vm rows none (of_file path work) h = no_file (codes "vm") refl refl refl work h.0
 no_vm rows none l h = apart (codes "vm") (command_of l) refl h.0
 
 pub no_test : (rows : List Row) → ((gates : Bool) → ¬ (first_of (codes "gates") rows ≡ Some (flag_word gates))) → (l : Line) → ¬ IsReading (codes "test") rows l
 no_test rows none (test path gates) h = none gates h.1.1
-no_test rows none (of_classes source work) h = no_class (codes "test") refl refl refl refl work h.0
+no_test rows none (of_classes source work) h = no_class (codes "test") refl refl refl refl refl work h.0
 no_test rows none (of_file path work) h = no_file (codes "test") refl refl refl work h.0
 no_test rows none l h = apart (codes "test") (command_of l) refl h.0
 
@@ -135,29 +140,35 @@ no_map rows none (of_classes source (map_image format)) h = none format h.1.2
 no_map rows none (of_classes source compile) h = apart (codes "map") (codes "compile") refl h.0
 no_map rows none (of_classes source build) h = apart (codes "map") (codes "build") refl h.0
 no_map rows none (of_classes source (run level n keys)) h = apart (codes "map") (codes "run") refl h.0
+no_map rows none (of_classes source (debug sub k n keys)) h = apart (codes "map") (codes "debug") refl h.0
 no_map rows none (of_file path work) h = no_file (codes "map") refl refl refl work h.0
 no_map rows none l h = apart (codes "map") (command_of l) refl h.0
 
+pub no_debug : (rows : List Row) → ((sub : Text) (number n : ℕ) (keys : Option Text) → ¬ HasClassWork rows (debug sub number n keys)) → (l : Line) → ¬ IsReading (codes "debug") rows l
+no_debug rows none (of_classes source (debug sub number n keys)) h = none sub number n keys h.1.2
+no_debug rows none (of_file path work) h = no_file (codes "debug") refl refl refl work h.0
+no_debug rows none l h = apart (codes "debug") (command_of l) refl h.0
+
 pub no_chip : (rows : List Row) → first_of (codes "name") rows ≡ None → (l : Line) → ¬ IsReading (codes "chip") rows l
 no_chip rows none (chip name) h = let gone = h.1 in let no : ⊥ = cc in no
-no_chip rows none (of_classes source work) h = no_class (codes "chip") refl refl refl refl work h.0
+no_chip rows none (of_classes source work) h = no_class (codes "chip") refl refl refl refl refl work h.0
 no_chip rows none (of_file path work) h = no_file (codes "chip") refl refl refl work h.0
 no_chip rows none l h = apart (codes "chip") (command_of l) refl h.0
 
 pub no_soak : (rows : List Row) → ((seed count : ℕ) → ¬ HasValues rows (soak seed count)) → (l : Line) → ¬ IsReading (codes "soak") rows l
 no_soak rows none (soak seed count) h = none seed count h.1
-no_soak rows none (of_classes source work) h = no_class (codes "soak") refl refl refl refl work h.0
+no_soak rows none (of_classes source work) h = no_class (codes "soak") refl refl refl refl refl work h.0
 no_soak rows none (of_file path work) h = no_file (codes "soak") refl refl refl work h.0
 no_soak rows none l h = apart (codes "soak") (command_of l) refl h.0
 
 -- ---- the table
 
 pub table_is_free : is_simple_and_free table ≡ true
-unfolding clap_on_literals map_command run_command soak_command source_command test_command vm_command
+unfolding clap_on_literals debug_command map_command run_command soak_command source_command test_command vm_command
 table_is_free = refl
 
 pub table_is_simple : is_simple table ≡ true
-unfolding clap_on_literals map_command run_command soak_command source_command test_command vm_command
+unfolding clap_on_literals debug_command map_command run_command soak_command source_command test_command vm_command
 table_is_simple = refl
 
 -- the matches are those of a line
@@ -190,6 +201,7 @@ fault_line a ws e is fails other l (free, name, rows, found, reading) =
 
 pub in_range : (ws : List Text) (l : Line) → IsLine ws l → IsInRange l
 in_range ws (of_classes source (run level n keys)) (free, name, rows, found, (named, values)) = values.2.1.2.small
+in_range ws (of_classes source (debug sub number n keys)) (free, name, rows, found, (named, values)) = (values.2.0.2.numbered.small, values.2.1.2.small)
 in_range ws (of_classes source compile) h = tt
 in_range ws (of_classes source build) h = tt
 in_range ws (of_classes source (map_image format)) h = tt
@@ -221,6 +233,25 @@ same_number rows id most n m (text, e, h) (other, f, k) =
 
 same_word : (rows : List Row) (id text other : Text) → first_of id rows ≡ Some text → first_of id rows ≡ Some other → text ≡ other
 same_word rows id text other e f = cc
+
+-- a word is that of one statement
+same_sub : (rows : List Row) (sub sub' : Text) (k k' : ℕ) → PointIn rows sub k → PointIn rows sub' k' → sub ≡ sub'
+same_sub rows sub sub' k k' (word, e, h) (other, f, j) =
+    let same : word ≡ other = cc in
+    h.is_sub ∙ ap (before 58) same ∙ sym j.is_sub
+
+same_statement : (rows : List Row) (sub sub' : Text) (k k' : ℕ) → PointIn rows sub k → PointIn rows sub' k' → k ≡ k'
+same_statement rows sub sub' k k' (word, e, h) (other, f, j) =
+    let same : word ≡ other = cc in
+    sym h.numbered.value ∙ ap (λ w. digits_value 10 (behind 58 w)) same ∙ j.numbered.value
+
+-- the statement that is read
+pub reads_point : (rows : List Row) (word : Text) (r : Option (Bor Text × ℕ)) → first_of (codes "break") rows ≡ Some word
+    → MatchOption r ((sub : List ℕ) (k : ℕ) → ¬ IsPointWord word sub k) (λ p. IsPointWord word p.0.now p.1) → ReadsPoint rows r
+reads_point rows word (Some p) e h = (word, e, h)
+reads_point rows word None e none = λ sub k (other, f, h).
+    let same : other ≡ word = cc in
+    none sub k (subst (λ w. IsPointWord w sub k) same h)
 
 -- the words for what is shown differ in their first two letters
 nets_apart : (s : Show) → shown_word (Words s) ≡ shown_word Nets → ⊥
@@ -282,6 +313,12 @@ same_class_work rows (run l c js) (run m d ks) h k e =
     let simple : is_simplified l ≡ is_simplified m =
     same_flag (is_simplified l) (is_simplified m) (same_word rows (codes "simplify") (flag_word (is_simplified l)) (flag_word (is_simplified m)) h.4 k.4) in
     let level : l ≡ m = same_level l m (same_word rows (codes "level") (level_word l) (level_word m) h.0 k.0) shown simple in
+    let cycles : c ≡ d = same_number rows (codes "cycles") 1000000000 c d h.1 k.1 in
+    let keys : js ≡ ks = sym h.2 ∙ k.2 in
+    cc
+same_class_work rows (debug s a c js) (debug t b d ks) h k e =
+    let sub : s ≡ t = same_sub rows s t a b h.0 k.0 in
+    let number : a ≡ b = same_statement rows s t a b h.0 k.0 in
     let cycles : c ≡ d = same_number rows (codes "cycles") 1000000000 c d h.1 k.1 in
     let keys : js ≡ ks = sym h.2 ∙ k.2 in
     cc

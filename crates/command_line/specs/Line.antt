@@ -1,5 +1,6 @@
 -- The command lines: which words are a line, and what the line asks for.
 use Rattle.std.specs.Prelude.{◌≡◌, ◌≤◌, ℕ, Bool, true, false, List, [], Option, Some, None, codes, nat_eq, option_map, if◌then◌else◌}
+use Rattle.std.specs.Borrow.{Bor}
 use Rattle.std.specs.List.{ends_with}
 use Rattle.std.specs.Str.Parse.{IsNumeral, digits_value}
 use Rattle.clap.specs.Walk.{Row, Text, first_of, rows_of}
@@ -7,6 +8,7 @@ use Rattle.clap.specs.Matches.{found_of}
 use Rattle.clap.specs.Simple.{subcommand_of}
 use Rattle.clap.specs.Faults.{fault_of}
 use Rattle.clap.specs.declared.parser.matches.ArgMatches.{ArgMatches}
+use Rattle.command_line.specs.Point.{IsSubroutine, before, behind}
 use Rattle.command_line.specs.Table.{table}
 use Rattle.machine_io.specs.declared.report.Show.TheVariants as shows
 use Rattle.command_line.specs.declared.request.MapFormat.{MapFormat}
@@ -33,12 +35,13 @@ pub record Source : Type 0 where
   pub folder : Text
   pub replace : Bool
 
--- What is done with the Jack classes of a source: the commands `compile`, `build`, `map` and `run`.
+-- What is done with the Jack classes of a source: the commands `compile`, `build`, `map`, `run` and `debug`.
 pub data ClassWork : Type 0 where
   compile : ClassWork
   build : ClassWork
   map_image : (format : MapFormat) → ClassWork
   run : (level : RunLevel) (cycles : ℕ) (keys : Option Text) → ClassWork
+  debug : (sub : Text) (number cycles : ℕ) (keys : Option Text) → ClassWork
 
 -- What is done with one file: the commands `asm`, `exec` and `show`.
 pub data FileWork : Type 0 where
@@ -58,6 +61,7 @@ pub data Line : Type 0 where
 -- The key script of a work with classes, where it has one.
 abbrev pub script_of : ClassWork → Option Text
 script_of (run level cycles keys) = keys
+script_of (debug sub number cycles keys) = keys
 script_of work = None
 
 -- The line is that of no test script, which alone is read as it goes.
@@ -76,6 +80,16 @@ pub record IsNumber (text : List ℕ) (most n : ℕ) : Type 0 where
 -- The value that stands for `id` in the matches is the number n.
 abbrev pub NumberIn : List Row → Text → ℕ → ℕ → Type 0
 NumberIn rows id most n = (text : Text) × (first_of id rows ≡ Some text) × IsNumber text most n
+
+-- The word of the statement of this number in the subroutine of this name: a colon stands between them.
+pub record IsPointWord (word sub : Text) (number : ℕ) : Type 0 where
+  pub is_sub : sub ≡ before 58 word
+  pub named : IsSubroutine sub
+  pub numbered : IsNumber (behind 58 word) 1000000000 number
+
+-- The value of `--break` in the matches is the word of this statement.
+abbrev pub PointIn : List Row → Text → ℕ → Type 0
+PointIn rows sub number = (word : Text) × (first_of (codes "break") rows ≡ Some word) × IsPointWord word sub number
 
 -- the words of the levels at which a program can be run
 abbrev pub level_word : RunLevel → Text
@@ -130,6 +144,7 @@ class_command compile = codes "compile"
 class_command build = codes "build"
 class_command (map_image format) = codes "map"
 class_command (run level cycles keys) = codes "run"
+class_command (debug sub number cycles keys) = codes "debug"
 
 abbrev pub file_command : FileWork → Text
 file_command asm = codes "asm"
@@ -152,6 +167,8 @@ HasClassWork rows (run level cycles keys) =
     × NumberIn rows (codes "cycles") 1000000000 cycles
     × (first_of (codes "keys") rows ≡ keys) × (first_of (codes "show") rows ≡ Some (shown_word (shown_at level)))
     × (first_of (codes "simplify") rows ≡ Some (flag_word (is_simplified level)))
+HasClassWork rows (debug sub number cycles keys) =
+    PointIn rows sub number × NumberIn rows (codes "cycles") 1000000000 cycles × (first_of (codes "keys") rows ≡ keys)
 HasClassWork rows work = Unit {0}
 
 abbrev pub HasFileWork : List Row → Text → FileWork → Type 0
@@ -194,6 +211,7 @@ AreOneLine = (words : List Text) (line other : Line) → IsLine words line → I
 -- The numbers of a line are within their ranges.
 abbrev pub IsInRange : Line → Type 0
 IsInRange (of_classes source (run level cycles keys)) = cycles ≤ 1000000000
+IsInRange (of_classes source (debug sub number cycles keys)) = (number ≤ 1000000000) × (cycles ≤ 1000000000)
 IsInRange (of_file path (exec cycles from to)) = (cycles ≤ 1000000000) × (from ≤ 32767) × (to ≤ 32767)
 IsInRange (soak seed count) = (seed ≤ 1000000) × (count ≤ 1000)
 IsInRange line = Unit {0}
@@ -209,6 +227,7 @@ class_work_of class_work.Compile = compile
 class_work_of class_work.Build = build
 class_work_of (class_work.Map format) = map_image format
 class_work_of (class_work.Run r) = run r.level r.cycles (option_map (λ keys. keys.now) r.keys)
+class_work_of (class_work.Debug d) = debug d.sub.now d.number d.cycles (option_map (λ keys. keys.now) d.keys)
 
 abbrev pub file_work_of : CodeFileWork → FileWork
 file_work_of file_work.Asm = asm
@@ -237,6 +256,11 @@ Reads name rows None = (line : Line) → ¬ IsReading name rows line
 abbrev pub ReadsNumber : List Row → Text → ℕ → Option ℕ → Type 0
 ReadsNumber rows id most (Some n) = NumberIn rows id most n
 ReadsNumber rows id most None = (n : ℕ) → ¬ NumberIn rows id most n
+
+-- the same of a statement
+abbrev pub ReadsPoint : List Row → Option (Bor Text × ℕ) → Type 0
+ReadsPoint rows (Some (sub, number)) = PointIn rows sub.now number
+ReadsPoint rows None = (sub : Text) (number : ℕ) → ¬ PointIn rows sub number
 
 -- the same of the form of a map
 abbrev pub ReadsFormat : List Row → Option MapFormat → Type 0

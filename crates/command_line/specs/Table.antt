@@ -90,6 +90,12 @@ test_command = command (codes "test") (word_rule (codes "path") ∷ flag_rule (c
 unfoldable pub soak_command : Shape
 soak_command = command (codes "soak") (word_rule (codes "seed") ∷ word_rule (codes "count") ∷ [])
 
+-- `debug D --break SUB:K --cycles N [--keys F] [--replace]`
+unfoldable pub debug_command : Shape
+debug_command = command (codes "debug")
+    (word_rule (codes "path") ∷ option_rule (codes "break") ∷ option_rule (codes "cycles") ∷ extra_rule (codes "keys")
+    ∷ flag_rule (codes "replace") ∷ [])
+
 -- ---- the table
 
 -- `nand` without its commands: the words begin with a command's name, and one must stand
@@ -103,5 +109,5 @@ bare_table = record {
 abbrev pub table : App
 table = record bare_table {
   top = record bare_table.top { is_leaf = false };
-  subs = asm_command ∷ exec_command ∷ vm_command ∷ show_command ∷ run_command ∷ compile_command ∷ build_command ∷ map_command ∷ chip_command ∷ test_command ∷ soak_command ∷ [];
+  subs = asm_command ∷ exec_command ∷ vm_command ∷ show_command ∷ run_command ∷ compile_command ∷ build_command ∷ map_command ∷ chip_command ∷ test_command ∷ soak_command ∷ debug_command ∷ [];
 }

@@ -2,7 +2,7 @@
 ghost use Rattle.std.specs.Prelude.{◌≡◌, ◌∷◌, [], IfOk, false, codes};
 ghost use Rattle.clap.specs.Words.{app_of, rule_of, shape_of, with_subcommand};
 ghost use Rattle.clap.specs.declared.builder.Command.TheViews.{out-Command as fields_of};
-ghost use Rattle.command_line.specs.Table.{asm_command, bare_table, build_command, chip_command, command, compile_command, default_rule, exec_command, extra_rule, flag_rule, map_command, option_rule, path_command, run_command, show_command, soak_command, source_command, test_command, vm_command, word_rule};
+ghost use Rattle.command_line.specs.Table.{asm_command, bare_table, build_command, chip_command, command, compile_command, debug_command, default_rule, exec_command, extra_rule, flag_rule, map_command, option_rule, path_command, run_command, show_command, soak_command, source_command, test_command, vm_command, word_rule};
 ghost use Rattle.command_line.specs.Table as table;
 
 use clap::{Arg, ArgAction, Command};
@@ -150,6 +150,27 @@ fn map<'a>(alloc: Global) -> Result<Command<'a>, AllocError>
         .arg(flag(alloc, "replace"))
 }
 
+// The cells of `debug` that must stand.
+fn debug_needed<'a>(alloc: Global) -> Result<Command<'a>, AllocError>
+    ensures shape { IfOk result (λ c. shape_of c ≡ command (codes "debug") (word_rule (codes "path") ∷ option_rule (codes "break") ∷ option_rule (codes "cycles") ∷ [])) }
+    ensures local { IfOk result (λ c. (fields_of c).has_globals ≡ false) }
+{
+    Command::new(alloc, "debug")
+        .arg(word(alloc, "path"))?
+        .arg(option(alloc, "break"))?
+        .arg(option(alloc, "cycles"))
+}
+
+#[tactic(auto, unfolding(crate::specs::Table::debug_command))]
+fn debug<'a>(alloc: Global) -> Result<Command<'a>, AllocError>
+    ensures shape { IfOk result (λ c. shape_of c ≡ debug_command) }
+    ensures local { IfOk result (λ c. (fields_of c).has_globals ≡ false) }
+{
+    debug_needed(alloc)?
+        .arg(extra(alloc, "keys"))?
+        .arg(flag(alloc, "replace"))
+}
+
 // The table without its commands.
 fn bare<'a>(alloc: Global) -> Command<'a>
     ensures { app_of result ≡ bare_table }
@@ -191,6 +212,13 @@ fn with_source<'a>(
     top.subcommand(source(alloc, name)?)
 }
 
+// Adds `run`.
+fn with_run<'a>(alloc: Global, top: Command<'a>) -> Result<Command<'a>, AllocError>
+    ensures { IfOk result (λ c. app_of c ≡ with_subcommand (app_of top.entry) run_command) }
+{
+    top.subcommand(run(alloc)?)
+}
+
 // Adds `compile` and `build`.
 fn with_compilers<'a>(alloc: Global, top: Command<'a>) -> Result<Command<'a>, AllocError>
     ensures { IfOk result (λ c. app_of c ≡ with_subcommand (with_subcommand (app_of top.entry) compile_command) build_command) }
@@ -213,11 +241,20 @@ fn with_scripts<'a>(alloc: Global, top: Command<'a>) -> Result<Command<'a>, Allo
     top.subcommand(test(alloc)?)?.subcommand(soak(alloc)?)
 }
 
+// Adds `debug`.
+fn with_debug<'a>(alloc: Global, top: Command<'a>) -> Result<Command<'a>, AllocError>
+    ensures { IfOk result (λ c. app_of c ≡ with_subcommand (app_of top.entry) debug_command) }
+{
+    top.subcommand(debug(alloc)?)
+}
+
 /// The table of the commands that work.
 pub fn table<'a>(alloc: Global) -> Result<Command<'a>, AllocError>
     ensures { IfOk result (λ c. app_of c ≡ table.table) }
 {
-    let programs = with_sources(alloc, with_machine(alloc, bare(alloc))?)?.subcommand(run(alloc)?)?;
+    let sources = with_sources(alloc, with_machine(alloc, bare(alloc))?)?;
+    let programs = with_run(alloc, sources)?;
     let printers = with_printers(alloc, with_compilers(alloc, programs)?)?;
-    with_scripts(alloc, printers)
+    let scripts = with_scripts(alloc, printers)?;
+    with_debug(alloc, scripts)
 }

@@ -6,10 +6,12 @@
 
 mod commands;
 mod number;
+mod point;
 mod reader;
 mod request;
 
 pub use reader::{LineError, one_line_law, read};
 pub use request::{
-    ClassWork, Exec, FileWork, MapFormat, Request, Run, RunLevel, Shown, Source, SourceKind,
+    ClassWork, DebugRun, Exec, FileWork, MapFormat, Request, Run, RunLevel, Shown, Source,
+    SourceKind,
 };

@@ -1,12 +1,14 @@
 //! The line that words are.
 ghost use Rattle.std.specs.Prelude.{◌≡◌, ◌≤◌, ℕ, List, Some, true, false, IfOk, MatchOption, MatchResult, codes, map, option_map, string_bytes};
 ghost use Rattle.clap.specs.Words.{Row, Text, first_of, subcommand_rows_of};
-ghost use Rattle.command_line.specs.Line.{AreOneLine, HasClassWork, IsFormatOf, IsInRange, IsLine, IsNoLine, IsLevelOf, IsReading, Line, Reads, ReadsFlag, ReadsFormat, ReadsLevel, ReadsNumber, ReadsShown, class_command, class_work_of, kind_of, line_of, rows_in};
+ghost use Rattle.command_line.specs.Line.{AreOneLine, HasClassWork, IsFormatOf, IsInRange, IsLine, IsNoLine, IsLevelOf, IsReading, Line, Reads, ReadsFlag, ReadsFormat, ReadsLevel, ReadsNumber, ReadsPoint, ReadsShown, class_command, class_work_of, kind_of, line_of, rows_in};
 
 use crate::commands::table;
 use crate::number::number;
+use crate::point::point;
 use crate::request::{
-    ClassWork, Exec, FileWork, MapFormat, Request, Run, RunLevel, Shown, Source, SourceKind,
+    ClassWork, DebugRun, Exec, FileWork, MapFormat, Request, Run, RunLevel, Shown, Source,
+    SourceKind,
 };
 use clap::ArgMatches;
 use clap::error::ErrorKind;
@@ -292,6 +294,35 @@ fn soak<'a>(matches: &ArgMatches<'a>) -> Option<Request<'a>>
     Some(Request::Soak { seed, count })
 }
 
+// The value of `--break`: a statement.
+fn point_in<'a>(matches: &ArgMatches<'a>) -> Option<(&'a str, u32)>
+    ensures { ReadsPoint (rows_in matches.now) result }
+{
+    let Some(text) = text_in(matches, "break") else {
+        return None;
+    };
+    point(text)
+}
+
+fn debug<'a>(matches: &ArgMatches<'a>) -> Option<Request<'a>>
+    ensures { Reads (codes "debug") (rows_in matches.now) result }
+{
+    let Some((sub, number)) = point_in(matches) else {
+        return None;
+    };
+    let Some(cycles) = number_in(matches, "cycles", MOST_CYCLES) else {
+        return None;
+    };
+    let keys = text_in(matches, "keys");
+    let debug = DebugRun {
+        sub,
+        number,
+        cycles,
+        keys,
+    };
+    with_classes(matches, ClassWork::Debug(debug))
+}
+
 // The request of a command and its matches.
 fn reading<'a>(name: &str, matches: &ArgMatches<'a>) -> Option<Request<'a>>
     ensures { Reads name.now (rows_in matches.now) result }
@@ -305,6 +336,7 @@ fn reading<'a>(name: &str, matches: &ArgMatches<'a>) -> Option<Request<'a>>
         "compile" => with_classes(matches, ClassWork::Compile),
         "build" => with_classes(matches, ClassWork::Build),
         "map" => map(matches),
+        "debug" => debug(matches),
         "chip" => chip(matches),
         "test" => test(matches),
         "soak" => soak(matches),

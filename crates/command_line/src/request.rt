@@ -77,6 +77,19 @@ pub enum MapFormat {
     Places,
 }
 
+/// `debug D --break SUB:K --cycles N [--keys F] [--replace]`: what the computer made of gates shows where it comes to a statement.
+#[derive(Clone, Copy, Debug, PartialEq, Eq)]
+pub struct DebugRun<'a> {
+    /// The name of the statement's subroutine, as `Main.main`; or `start`.
+    pub sub: &'a str,
+    /// The number of the statement, at most 1,000,000,000.
+    pub number: u32,
+    /// How many cycles are made at most, at most 1,000,000,000.
+    pub cycles: u32,
+    /// The file of the key script, if there is one.
+    pub keys: Option<&'a str>,
+}
+
 /// What is done with the Jack classes of a source.
 #[derive(Clone, Copy, Debug, PartialEq, Eq)]
 pub enum ClassWork<'a> {
@@ -87,6 +100,7 @@ pub enum ClassWork<'a> {
     /// `map D [--format K] [--replace]`: the map of that image, in form 2 unless form 1 is asked for.
     Map(MapFormat),
     Run(Run<'a>),
+    Debug(DebugRun<'a>),
 }
 
 /// What is done with one file.

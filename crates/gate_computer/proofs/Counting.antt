@@ -74,18 +74,18 @@ abbrev table_of : Bool → List (List ℕ × ℕ)
 table_of blocks =
     (codes "Nand", 1) ∷ (codes "Not", 1) ∷ (codes "And", 2) ∷ (codes "Or", 3) ∷ (codes "Xor", 4) ∷ (codes "Mux", 4) ∷ (codes "DMux", 5) ∷ (codes "Not16", 16) ∷ (codes "And16", 32) ∷ (codes "Or16", 48) ∷ (codes "Mux16", 64)
     ∷ (codes "Or8Way", 21) ∷ (codes "Mux4Way16", 192) ∷ (codes "Mux8Way16", 448) ∷ (codes "DMux4Way", 15) ∷ (codes "DMux8Way", 35)
-    ∷ (codes "HalfAdder", 6) ∷ (codes "FullAdder", 15) ∷ (codes "Add16", 231) ∷ (codes "Inc16", 231) ∷ (codes "ALU", 741)
+    ∷ (codes "HalfAdder", 6) ∷ (codes "FullAdder", 15) ∷ (codes "Add16", 231) ∷ (codes "Inc16", 231) ∷ (codes "ALU", 741) ∷ (codes "Shift", 64)
     ∷ (codes "DFF", 1) ∷ (codes "Bit", 5) ∷ (codes "Register", 80) ∷ (codes "ARegister", 80) ∷ (codes "DRegister", 80) ∷ (codes "PC", 503)
     ∷ (codes "RAM8", if blocks then 16 else 1123) ∷ (codes "RAM64", if blocks then 16 else 9467) ∷ (codes "RAM512", if blocks then 16 else 76219) ∷ (codes "RAM4K", if blocks then 16 else 610235)
     ∷ (codes "RAM16K", if blocks then 16 else 2441147) ∷ (codes "Screen", if blocks then 16 else 1220539)
-    ∷ (codes "ROM32K", 16) ∷ (codes "Keyboard", 16) ∷ (codes "CPU", 1558) ∷ (codes "Memory", if blocks then 184 else 3661838) ∷ (codes "Computer", if blocks then 1758 else 3663412) ∷ []
+    ∷ (codes "ROM32K", 16) ∷ (codes "Keyboard", 16) ∷ (codes "CPU", 1801) ∷ (codes "Memory", if blocks then 184 else 3661838) ∷ (codes "Computer", if blocks then 2001 else 3663655) ∷ []
 
 all_told : (blocks : Bool) → all (is_told (chips_in shipped_chips blocks) (table_of blocks)) shipped_chips ≡ true
 unfolding opened
 all_told true = refl
 all_told false = refl
 
-computer_told : (blocks : Bool) → diagnostic_in (chips_in shipped_chips blocks) (table_of blocks) (parts_of (chips_in shipped_chips blocks) computer) ≡ (if blocks then 1758 else 3663412)
+computer_told : (blocks : Bool) → diagnostic_in (chips_in shipped_chips blocks) (table_of blocks) (parts_of (chips_in shipped_chips blocks) computer) ≡ (if blocks then 2001 else 3663655)
 unfolding opened
 computer_told true = refl
 computer_told false = refl
@@ -95,8 +95,8 @@ unfolding opened
 count_by blocks tree n e = omega (arith, e)
 
 computer_count : (blocks : Bool) (tree : List PartIn) → IsTree (chips_in shipped_chips blocks) computer tree → node_count (chips_in shipped_chips blocks) computer tree ≡ computer_nodes blocks
-computer_count true tree is = count_by true tree 1758 (nodes_in (chips_in shipped_chips true) (table_of true) (all_told true) 0 _ tree is ∙ computer_told true)
-computer_count false tree is = count_by false tree 3663412 (nodes_in (chips_in shipped_chips false) (table_of false) (all_told false) 0 _ tree is ∙ computer_told false)
+computer_count true tree is = count_by true tree 2001 (nodes_in (chips_in shipped_chips true) (table_of true) (all_told true) 0 _ tree is ∙ computer_told true)
+computer_count false tree is = count_by false tree 3663655 (nodes_in (chips_in shipped_chips false) (table_of false) (all_told false) 0 _ tree is ∙ computer_told false)
 
 -- ---- no shipped chip needs more
 

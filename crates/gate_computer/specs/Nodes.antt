@@ -9,10 +9,10 @@ use Rattle.hdl_elab.specs.Faults.{IsFaultOf, IsFine}
 use Rattle.hack_cpu.specs.Library.{shipped_chips}
 use Rattle.gate_computer.specs.Computer.{computer}
 
--- The bit of its input, the output bits of the ends in it and the two constants are 1,761 where the memories are blocks, and 3,663,415 where they are
+-- The bit of its input, the output bits of the ends in it and the two constants are 2,004 where the memories are blocks, and 3,663,658 where they are
 -- made of gates.
 abbrev pub computer_nodes : Bool → ℕ
-computer_nodes blocks = if blocks then 1761 else 3663415
+computer_nodes blocks = if blocks then 2004 else 3663658
 
 -- With blocks and with memories of gates: the Computer needs so many nodes, no shipped chip needs more, and so nothing is wrong with any, neither a
 -- fault of the texts nor a loop nor too many nodes. Want of memory is left.

@@ -175,6 +175,13 @@ impl GateComputer {
         self.tally.point()
     }
 
+    /// The address of the instruction of the cycle that comes next.
+    pub fn pc(&self) -> u16
+        ensures { result ≡ self.now.tally.at }
+    {
+        self.tally.at()
+    }
+
     /// The word at an address of main memory or of the screen.
     pub fn word_at(&self, a: u16) -> u16
         requires { a < keyboard }

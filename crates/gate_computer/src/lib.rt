@@ -16,6 +16,7 @@ mod showing;
 mod simplified;
 mod wire;
 mod wiring;
+mod words;
 
 pub use computer::GateComputer;
 pub use laws::{buildable_law, gates_law, nodes_law, seen_law};

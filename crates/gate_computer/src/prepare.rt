@@ -1,6 +1,6 @@
 //! The Computer made of gates at its start.
 
-ghost use Rattle.std.specs.Prelude.{◌≡◌, [], false, IfOk, IsSome};
+ghost use Rattle.std.specs.Prelude.{◌≡◌, [], false, true, IfOk, IsSome, None};
 ghost use Rattle.image_map.specs.Map.{IsMapped};
 ghost use Rattle.gate_computer.specs.Followed.{HasFollowed, image_in};
 ghost use Rattle.gate_computer.specs.Simple.{ShowsComputer};
@@ -16,6 +16,7 @@ use std::alloc::{AllocError, Global};
 fn computer_for(alloc: Global, simplify: bool) -> Result<WiredComputer, AllocError>
     ensures shows { IfOk result (λ wired. ShowsComputer wired.net wired.wiring) }
     ensures parts { IfOk result (λ wired. simplify ≡ false → IsSome wired.wiring.parts) }
+    ensures simple { IfOk result (λ wired. simplify ≡ true → wired.wiring.parts ≡ None) }
 {
     let whole = build_computer(alloc)?;
     if !simplify {
@@ -27,8 +28,8 @@ fn computer_for(alloc: Global, simplify: bool) -> Result<WiredComputer, AllocErr
     Ok(simple)
 }
 
-/// The Computer made of gates at its start, with an image and its map. It has all its memory from here on. Where its netlist is simplified, its parts
-/// can not be shown.
+/// The Computer made of gates at its start, with an image and its map. It has all its memory from here on. Where its netlist is simplified, its wiring
+/// tells no parts, and they can not be shown.
 pub fn prepare_gates(
     alloc: Global,
     image: Image,
@@ -39,6 +40,7 @@ pub fn prepare_gates(
     ensures moves { IfOk result (λ g. g.moves ≡ 0) }
     ensures stands { IfOk result (λ g. HasFollowed g []) }
     ensures parts { IfOk result (λ g. simplify ≡ false → IsSome g.wiring.parts) }
+    ensures simple { IfOk result (λ g. simplify ≡ true → g.wiring.parts ≡ None) }
 {
     let wired = computer_for(alloc, simplify)?;
     GateComputer::new(alloc, wired, image)

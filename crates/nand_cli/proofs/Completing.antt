@@ -29,10 +29,11 @@ use Rattle.tower.specs.Resolved.{ResolvedLaw}
 use Rattle.tower.specs.Messages.{build_message}
 use Rattle.tower.specs.declared.building.BuildError.{BuildError}
 use Rattle.tower.specs.declared.building.BuildError.TheVariants as building
-use Rattle.command_line.specs.Line.{IsLine, Line, Source, build, chip, compile, map_image, of_classes, of_file, run, soak, test, vm}
+use Rattle.command_line.specs.Line.{IsLine, Line, Source, build, chip, compile, debug, map_image, of_classes, of_file, run, soak, test, vm}
 use Rattle.command_line.proofs.Lines.{one_line}
 use Rattle.nand_cli.specs.Answer.{Ends, Promises, WordsEnd}
 use Rattle.nand_cli.specs.Commands.Build.{BuildRefuses, unbuilt, without_program}
+use Rattle.nand_cli.specs.Commands.Debug.{DebugRefuses, IsSoundStatement, without_image, without_point, without_script as debug_without_script}
 use Rattle.nand_cli.specs.Commands.Run.{RunRefuses, unbuilt as run_unbuilt, without_program as run_without_program, without_script}
 use Rattle.nand_cli.specs.Complete.{Completes, HasRightNames, IsDoneOrWanting, IsSoundFolder, IsSoundScript, IsUnrefused, NoneFailed, SoundLaw}
 use Rattle.nand_cli.specs.JackFolder.{BuildIsRefused, FolderIsRefused, FolderMeans, files_meant}
@@ -110,21 +111,30 @@ module _ (laws : Laws) (files : Files) (source : Source) (sound : IsSoundFolder 
   run_accepted keys line (lines, has) (run_unbuilt core means k) = never_unbuilt core line means k
   run_accepted keys line (lines, has) (without_script core means computer k) = never_scripted laws.scripts files keys lines line has k
 
+  debug_accepted : (sub : List ℕ) (number : ℕ) (keys : Option (List ℕ)) (line : List ℕ) → IsSoundScript files keys → IsSoundStatement files source sub number → DebugRefuses (Some files) source sub number keys line → ⊥
+  debug_accepted sub number keys line script point (without_image k) = build_accepted line k
+  debug_accepted sub number keys line script point (without_point places here none e) = none (point places here)
+  debug_accepted sub number keys line (lines, has) point (debug_without_script places here there k) = never_scripted laws.scripts files keys lines line has k
+
 pub sound_lines : Laws → SoundLaw
-sound_lines laws files (of_classes source compile) (sound, script) = record {
+sound_lines laws files (of_classes source compile) (sound, script, point) = record {
   accepted = λ out before told h. never_refused laws files source sound told h.1;
   agrees = λ out before told h. h;
 }
-sound_lines laws files (of_classes source build) (sound, script) = record {
+sound_lines laws files (of_classes source build) (sound, script, point) = record {
   accepted = λ out before told h. build_accepted laws files source sound told h.1;
   agrees = λ out before told h. h;
 }
-sound_lines laws files (of_classes source (map_image format)) (sound, script) = record {
+sound_lines laws files (of_classes source (map_image format)) (sound, script, point) = record {
   accepted = λ out before told h. build_accepted laws files source sound told h.1;
   agrees = λ out before told h. h;
 }
-sound_lines laws files (of_classes source (run level cycles keys)) (sound, script) = record {
+sound_lines laws files (of_classes source (run level cycles keys)) (sound, script, point) = record {
   accepted = λ out before told h. run_accepted laws files source sound keys told script h.1;
+  agrees = λ out before told h. h;
+}
+sound_lines laws files (of_classes source (debug sub number cycles keys)) (sound, script, point) = record {
+  accepted = λ out before told h. debug_accepted laws files source sound sub number keys told script point h.1;
   agrees = λ out before told h. h;
 }
 sound_lines laws files (of_file path work) sound = absurd sound

@@ -1,6 +1,6 @@
 -- The computer made of gates after its cycles, and its report.
-use Rattle.std.proofs.Common.{◌≡◌, ◌<◌, ◌++◌, ℕ, suc, false, List, [], Option, Result, Ok, Err, IfOk, refl, ap, ◌∙◌, sym, subst, append-nil}
-use Rattle.std.specs.Prelude.{IsSome}
+use Rattle.std.proofs.Common.{◌≡◌, ◌<◌, ◌++◌, ℕ, suc, false, true, List, [], Option, Result, Ok, Err, IfOk, refl, ap, ◌∙◌, sym, subst, append-nil}
+use Rattle.std.specs.Prelude.{IsSome, None}
 use Rattle.std.proofs.lemmas.List.Elements.{recursion_from_All}
 use Rattle.word16.specs.Memory.{keyboard}
 use Rattle.outer_world.specs.declared.sink.Put.{Put}
@@ -38,7 +38,7 @@ use Rattle.command_line.specs.declared.request.Shown.TheVariants.{Nets, Words}
 use Rattle.nand_cli.specs.Commands.Gates.{IsGatesReport, ReportsCycle, gates_trace, meaning_in}
 use Rattle.nand_cli.specs.Commands.Run.{name_of}
 use Rattle.nand_cli.specs.Inner.Parts.{finish_result}
-use Rattle.nand_cli.specs.Inner.Reports.{IsAtStart, IsWholeAtStart, PutsNets, PutsParts, Reports, gates_head, gates_text}
+use Rattle.nand_cli.specs.Inner.Reports.{IsAtStart, IsSimpleAtStart, IsWholeAtStart, PutsNets, PutsParts, Reports, gates_head, gates_text}
 use Rattle.nand_cli.proofs.Driving.{last_acted}
 use Rattle.nand_cli.proofs.Reporting.{reports_by}
 use Rattle.nand_cli.proofs.Showing.{shown_same}
@@ -174,6 +174,11 @@ pub prepared_whole : {E : Type 0} (core : Core) (image : Image) (r : Result Gate
     → IfOk r (λ g. g.moves ≡ 0) → IfOk r (λ g. HasFollowed g []) → IfOk r (λ g. false ≡ false → IsSome g.wiring.parts) → IfOk r (IsWholeAtStart core)
 prepared_whole {E} core image (Ok g) is same moves stands parts = record { start = prepared {E = E} core image (Ok g) is same moves stands; parts = parts refl }
 prepared_whole {E} core image (Err x) is same moves stands parts = tt
+
+pub prepared_simple : {E : Type 0} (core : Core) (image : Image) (r : Result GateMachine E) → IsImageOf core image → IfOk r (λ g. image_in g ≡ image)
+    → IfOk r (λ g. g.moves ≡ 0) → IfOk r (λ g. HasFollowed g []) → IfOk r (λ g. true ≡ true → g.wiring.parts ≡ None) → IfOk r (IsSimpleAtStart core)
+prepared_simple {E} core image (Ok g) is same moves stands parts = record { start = prepared {E = E} core image (Ok g) is same moves stands; parts = parts refl }
+prepared_simple {E} core image (Err x) is same moves stands parts = tt
 
 module _ (core : Core) (code : ℕ → ℕ) (n : ℕ) (resolved : IsResolvedCore core) (words : (c : ℕ) → IsKey (code c)) (old new : GateMachine) (at : IsAtStart core old) (same : image_in new ≡ image_in old) where
   own_image : IsImageOf core (image_in new)

@@ -5,9 +5,10 @@ use Rattle.std.specs.List.{AllByRecursion}
 use Rattle.std.proofs.lemmas.List.Elements.{recursion_from_All}
 use Rattle.std.proofs.lemmas.Bool.Decides.{nat_tests}
 use Rattle.hack_isa.specs.Machine.{image_words}
+use Rattle.hack_isa.specs.Table.{word_of}
 use Rattle.hack_isa.specs.declared.Instr.{Instr}
-use Rattle.hack_isa.specs.declared.Instr.TheVariants.{Address, Compute}
-use Rattle.hack_asm.specs.Comps.{Texts, comp_table, computations, entry, memory_computations}
+use Rattle.hack_isa.specs.declared.Instr.TheVariants.{Address, Compute, Shift}
+use Rattle.hack_asm.specs.Comps.{computations, entry}
 use Rattle.hack_asm.specs.Written.{AreSpelled, IsSpelled}
 use Rattle.source_files.specs.Loads.{Loads, TellsOf}
 use Rattle.source_files.specs.declared.error.LoadError.{LoadError}
@@ -56,23 +57,25 @@ untranslated bare folder program l coding.Memory e links large tells =
 same_number : (a b : ℕ) → nat_eq a b ≡ true → a ≡ b
 same_number a b h = grind (arith, nat_tests, h)
 
-entered_by : (rows : Texts) (m n : ℕ) (b rest : Bool) → nat_eq n m ≡ b → is_some (entry rows m) ≡ true → (rest ≡ true → is_some (entry rows n) ≡ true) → (b || rest) ≡ true → is_some (entry rows n) ≡ true
-entered_by rows m n true rest e h k both = subst (λ j. is_some (entry rows j) ≡ true) (sym (same_number n m e)) h
-entered_by rows m n false rest e h k both = k both
+-- the table of comp has a row of this computation
+abbrev HasRow : Bool → ℕ → Type 0
+HasRow memory comp = is_some (entry computations (word_of (Compute memory comp 0 0))) ≡ true
 
--- what stands among numbers that a table has stands in the table
-entered : (rows : Texts) (ns : List ℕ) (n : ℕ) → AllByRecursion (λ k. is_some (entry rows k) ≡ true) ns → stands_among ns n ≡ true → is_some (entry rows n) ≡ true
-entered rows [] n h k = absurd (let bad : ⊥ = cc in bad)
-entered rows (m ∷ ns) n h k = entered_by rows m n (nat_eq n m) (stands_among ns n) refl h.0 (entered rows ns n h.1) k
+entered_by : (memory : Bool) (m n : ℕ) (b rest : Bool) → nat_eq n m ≡ b → HasRow memory m → (rest ≡ true → HasRow memory n) → (b || rest) ≡ true → HasRow memory n
+entered_by memory m n true rest e h k both = subst (HasRow memory) (sym (same_number n m e)) h
+entered_by memory m n false rest e h k both = k both
 
-all_of_a : AllByRecursion (λ k. is_some (entry computations k) ≡ true) comps_of_a
-all_of_a = (refl, (refl, (refl, (refl, (refl, (refl, (refl, (refl, (refl, (refl, tt))))))))))
+-- what stands among numbers that the table has stands in the table
+entered : (memory : Bool) (ns : List ℕ) (n : ℕ) → AllByRecursion (HasRow memory) ns → stands_among ns n ≡ true → HasRow memory n
+entered memory [] n h k = absurd (let bad : ⊥ = cc in bad)
+entered memory (m ∷ ns) n h k = entered_by memory m n (nat_eq n m) (stands_among ns n) refl h.0 (entered memory ns n h.1) k
 
-all_of_d : AllByRecursion (λ k. is_some (entry computations k) ≡ true) comps_of_d
+all_of_a : (memory : Bool) → AllByRecursion (HasRow memory) comps_of_a
+all_of_a true = (refl, (refl, (refl, (refl, (refl, (refl, (refl, (refl, (refl, (refl, tt))))))))))
+all_of_a false = (refl, (refl, (refl, (refl, (refl, (refl, (refl, (refl, (refl, (refl, tt))))))))))
+
+all_of_d : AllByRecursion (HasRow false) comps_of_d
 all_of_d = (refl, (refl, (refl, (refl, (refl, (refl, (refl, (refl, tt))))))))
-
-all_of_m : AllByRecursion (λ k. is_some (entry memory_computations k) ≡ true) comps_of_a
-all_of_m = (refl, (refl, (refl, (refl, (refl, (refl, (refl, (refl, (refl, (refl, tt))))))))))
 
 either : (b c : Bool) → (b || c) ≡ true → (b ≡ true) ⊎ (c ≡ true)
 either true c h = inl refl
@@ -82,16 +85,17 @@ first_of_both : (b : Bool) → (b || false) ≡ true → b ≡ true
 first_of_both true h = refl
 first_of_both false h = h
 
-in_table : (memory : Bool) (comp : ℕ) → is_spelled memory comp ≡ true → is_some (entry (comp_table memory) comp) ≡ true
-in_table true comp h = entered memory_computations comps_of_a comp all_of_m (first_of_both (stands_among comps_of_a comp) h)
+in_table : (memory : Bool) (comp : ℕ) → is_spelled memory comp ≡ true → HasRow memory comp
+in_table true comp h = entered true comps_of_a comp (all_of_a true) (first_of_both (stands_among comps_of_a comp) h)
 in_table false comp h = elim (either (stands_among comps_of_a comp) (stands_among comps_of_d comp) h) [
-  | inl k ↦ entered computations comps_of_a comp all_of_a k
-  | inr k ↦ entered computations comps_of_d comp all_of_d k
+  | inl k ↦ entered false comps_of_a comp (all_of_a false) k
+  | inr k ↦ entered false comps_of_d comp all_of_d k
 ]
 
 spelled : (i : Instr) → IsPlain i → IsSpelled i
 spelled (Address n) h = h
-spelled (Compute memory comp dest jump) h = (in_table memory comp h.1, h.0.1, h.0.2)
+spelled (Compute memory comp dest jump) h = (h.0, in_table memory comp h.1)
+spelled (Shift memory left d dest jump) h = h
 
 all_spelled : (is : List Instr) → AllByRecursion IsPlain is → AreSpelled is
 all_spelled [] h = tt

@@ -12,3 +12,4 @@ pub mod RunVm
 pub mod Run
 pub mod SoakLevels
 pub mod Soak
+pub mod Debug

@@ -17,8 +17,9 @@ use Rattle.jack_os.specs.System.{AreFilesOf}
 use Rattle.key_script.specs.declared.lines.Line.{Line as KeyLine}
 use Rattle.tower.specs.Budget.{IsBudget}
 use Rattle.tower.specs.Sources.{system_beside}
-use Rattle.command_line.specs.Line.{Line, IsLine, Source, of_classes, script_of}
+use Rattle.command_line.specs.Line.{ClassWork, Line, IsLine, Source, debug, of_classes, script_of}
 use Rattle.nand_cli.specs.Answer.{Disagrees, Refuses}
+use Rattle.nand_cli.specs.Commands.Debug.{IsSoundStatement}
 use Rattle.nand_cli.specs.Commands.Run.{HasKeys}
 use Rattle.nand_cli.specs.JackFolder.{HasClasses, files_meant}
 use Rattle.nand_cli.specs.Outside.{Outside}
@@ -67,9 +68,14 @@ pub record IsSoundFolder (files : Files) (source : Source) : Type 0 where
 abbrev pub IsSoundScript : Files → Option (List ℕ) → Type 0
 IsSoundScript files keys = (lines : List KeyLine) × HasKeys (Some files) keys lines
 
--- Nothing is wrong with the folder and the key script of a line that reads Jack classes: of `compile`, `build`, `map` or `run`.
+-- The statement of a line of `debug` is one of the program.
+abbrev pub IsSoundPoint : Files → Source → ClassWork → Type 0
+IsSoundPoint files source (debug sub number cycles keys) = IsSoundStatement files source sub number
+IsSoundPoint files source work = Unit {0}
+
+-- Nothing is wrong with the folder, the key script and the statement of a line that reads Jack classes: of `compile`, `build`, `map`, `run` or `debug`.
 abbrev pub IsSound : Files → Line → Type 0
-IsSound files (of_classes source work) = IsSoundFolder files source × IsSoundScript files (script_of work)
+IsSound files (of_classes source work) = IsSoundFolder files source × IsSoundScript files (script_of work) × IsSoundPoint files source work
 IsSound files line = ⊥
 
 -- A line is neither refused over the files nor ends with a difference.

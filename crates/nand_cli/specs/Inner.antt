@@ -3,3 +3,4 @@ pub mod Reports
 pub mod Prepared
 pub mod Placed
 pub mod SoakParts
+pub mod Debugging

@@ -3,6 +3,7 @@ pub mod asm;
 pub mod build;
 pub mod chip;
 pub mod compile;
+pub mod debug;
 pub mod exec;
 pub mod map;
 pub mod run;

@@ -72,8 +72,8 @@ pub fn not_meant(alloc: Global, folder: &str, error: ProgramError) -> LoadError
     }
 }
 
-// The program that the classes of a source mean.
-fn program_of(alloc: Global, source: &Source<'_>, classes: &[Class]) -> Result<Core, LoadError>
+/// The program that the classes of a source mean.
+pub fn program_of(alloc: Global, source: &Source<'_>, classes: &[Class]) -> Result<Core, LoadError>
     requires few { length classes.now ≤ 256 }
     requires spelled { AreSpelled classes.now }
     ensures makes { Loads (λ (core : Core). Means source.now.replace classes.now (Ok core)) (IsMeaningless (source_of source.now) (map the_file classes.now)) ⊥ result }

@@ -8,6 +8,7 @@ ghost use Rattle.nand_cli.specs.Inner.Prepared.{IsAtItsStart, level_of};
 pub mod gates;
 pub mod hack;
 pub mod jack;
+pub mod stop;
 pub mod vm;
 
 use crate::levels::gates::{gates_at_start, simple_at_start};

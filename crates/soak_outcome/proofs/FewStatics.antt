@@ -9,7 +9,7 @@ use Rattle.vm_tree.specs.declared.command.Operation.TheVariants as operation
 use Rattle.vm_link.specs.Faults.{file_words, static_words, words_before, words_of_lines}
 use Rattle.vm_link.specs.Reached.{Keeps, dropped, kept, none}
 use Rattle.vm_link.specs.Sections.{Section}
-use Rattle.jack_meaning.specs.Text.{Variable, Argument, Local, Static, Sign, Minus, Complement, Operator, Plus, Subtract, And, Or, Less, Greater, Equal, Expression, Literal, Value, Name, This, Field, Unary, Binary, Load, Call, Open, Expressions, NoMore, More, Statement, Let, LetField, LetThis, Store, Do, If, While, Return, Text, End, Next, Kind, Constructor, Function, Method, Subroutine, Class, Program}
+use Rattle.jack_meaning.specs.Text.{Variable, Argument, Local, Static, Sign, Minus, Complement, ShiftLeft, ShiftRight, Operator, Plus, Subtract, And, Or, Less, Greater, Equal, Expression, Literal, Value, Name, This, Field, Unary, Binary, Load, Call, Open, Expressions, NoMore, More, Statement, Let, LetField, LetThis, Store, Do, If, While, Return, Text, End, Next, Kind, Constructor, Function, Method, Subroutine, Class, Program}
 use Rattle.jack_meaning.specs.Meaning.{subroutine_at}
 use Rattle.jack_compiler.specs.Templates.{Numbers, count, first_number, no_else}
 use Rattle.jack_compiler.specs.Fits.{Scope, without_object, IsThere, IsWhole, AreWhole, IsFresh, IsFreshText, IsBody, scope_of}
@@ -34,6 +34,8 @@ module _ (n : ℕ) where
   sign_few : (m : ℕ) (o : Sign) → words_of_lines (commit m (sign_command o) ∷ []) ≤ n
   sign_few m Minus = omega arith
   sign_few m Complement = omega arith
+  sign_few m ShiftLeft = omega arith
+  sign_few m ShiftRight = omega arith
 
   operator_few : (m : ℕ) (o : Operator) → words_of_lines (commit m (operator_command o) ∷ []) ≤ n
   operator_few m Plus = omega arith

@@ -9,7 +9,7 @@ use Rattle.command_line.specs.Line.{Source}
 use Rattle.command_line.specs.declared.request.RunLevel.{RunLevel}
 use Rattle.command_line.specs.declared.request.RunLevel.TheVariants as levels
 use Rattle.nand_cli.specs.Commands.Run.{HasKeys}
-use Rattle.nand_cli.specs.Inner.Reports.{IsAtStart, IsHackAtStart, IsVmAtStart, IsWholeAtStart}
+use Rattle.nand_cli.specs.Inner.Reports.{IsHackAtStart, IsSimpleAtStart, IsVmAtStart, IsWholeAtStart}
 use Rattle.nand_cli.specs.JackFolder.{FolderMeans, IsBuilt}
 use Rattle.nand_cli.specs.declared.levels.Machine.{Machine}
 use Rattle.nand_cli.specs.declared.levels.Machine.TheVariants as machines
@@ -29,7 +29,7 @@ IsAtItsStart core (machines.Jack alloc show) = Unit {0}
 IsAtItsStart core (machines.Vm vm show) = IsVmAtStart core vm
 IsAtItsStart core (machines.Hack h show) = IsHackAtStart core h
 IsAtItsStart core (machines.Gates g shown) = IsWholeAtStart core g
-IsAtItsStart core (machines.Simplified g show) = IsAtStart core g
+IsAtItsStart core (machines.Simplified g show) = IsSimpleAtStart core g
 
 -- It has all the memory that a run wants: each machine but that of level jack.
 abbrev pub WantsNoMemory : Machine → Type 0

@@ -1,5 +1,5 @@
 -- What reporting a run says.
-use Rattle.std.specs.Prelude.{◌≡◌, ◌++◌, ℕ, suc, List, [], Option, Some, Result, Ok, Err, IsSome, length}
+use Rattle.std.specs.Prelude.{◌≡◌, ◌++◌, ℕ, suc, List, [], Option, None, Some, Result, Ok, Err, IsSome, length}
 use Rattle.outer_world.specs.Faults.{Rose}
 use Rattle.outer_world.specs.Written.{Got, GotPart, Puts}
 use Rattle.outer_world.specs.declared.point.Point.{Point}
@@ -119,6 +119,11 @@ pub record IsAtStart (core : Core) (g : GateMachine) : Type 0 where
 pub record IsWholeAtStart (core : Core) (g : GateMachine) : Type 0 where
   pub start : IsAtStart core g
   pub parts : IsSome g.wiring.parts
+
+-- The same, and its netlist is a simplified one: only such a netlist shows the Computer with a wiring that tells no parts.
+pub record IsSimpleAtStart (core : Core) (g : GateMachine) : Type 0 where
+  pub start : IsAtStart core g
+  pub parts : g.wiring.parts ≡ None
 
 -- what is read of it
 abbrev pub gates_reading : GateMachine → Reading Point

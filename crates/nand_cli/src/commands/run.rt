@@ -33,8 +33,12 @@ pub struct PreparedRun {
     machine: Machine,
 }
 
-// The keys of a run; without a script no key is ever pressed.
-fn load_keys<F: Shelf>(alloc: Global, path: Option<&str>, shelf: &mut F) -> Result<Keys, LoadError>
+/// The keys of a run; without a script no key is ever pressed.
+pub fn load_keys<F: Shelf>(
+    alloc: Global,
+    path: Option<&str>,
+    shelf: &mut F,
+) -> Result<Keys, LoadError>
     ensures loads { Loads (λ (keys : Keys). HasKeys (F.files shelf.old)
         (option_map (λ path. path.now) path.entry) keys)
         (ScriptIsRefused (F.files shelf.old) (option_map (λ path. path.now) path.entry))

@@ -9,7 +9,7 @@ ghost use Rattle.simulation.specs.System.{IsKey};
 ghost use Rattle.image_map.specs.Map.{IsMapped};
 ghost use Rattle.tower.specs.Image.{IsImageOf};
 ghost use Rattle.nand_cli.specs.Commands.Gates.{IsGatesReport};
-ghost use Rattle.nand_cli.specs.Inner.Reports.{CountsReport, IsAtStart, IsPut, IsWholeAtStart, PutsNets, Reports, gates_head};
+ghost use Rattle.nand_cli.specs.Inner.Reports.{CountsReport, IsAtStart, IsPut, IsSimpleAtStart, IsWholeAtStart, PutsNets, Reports, gates_head};
 
 use crate::failure::{Failure, finished};
 use crate::report::{head_of, report};
@@ -35,7 +35,7 @@ pub fn gates_at_start(alloc: Global, core: &Core, image: Image) -> Result<GateCo
 pub fn simple_at_start(alloc: Global, core: &Core, image: Image) -> Result<GateComputer, AllocError>
     requires image { IsImageOf core.now image }
     requires mapped { IsMapped image }
-    ensures { IfOk result (IsAtStart core.now) }
+    ensures { IfOk result (IsSimpleAtStart core.now) }
 {
     prepare_gates(alloc, image, true)
 }

@@ -1,4 +1,4 @@
-use Rattle.command_laws.proofs.ProgramAnswered.{classes_answered}
+use Rattle.command_laws.proofs.DebugAnswered.{classes_answered}
 use Rattle.command_laws.proofs.total.classes_answered_law.Goals as goal
 
 pub returns : goal.returns

@@ -11,3 +11,6 @@ returns-in-Map-clause-does g c = rw c.in-Map.is c.answer_map.ensures.does
 
 pub returns-in-Run-clause-does : goal.returns-in-Run-clause-does
 returns-in-Run-clause-does g c = rw c.in-Run.is c.answer_run.ensures.does
+
+pub returns-in-Debug-clause-does : goal.returns-in-Debug-clause-does
+returns-in-Debug-clause-does g c = rw c.in-Debug.is c.answer_debug.ensures.does

@@ -21,7 +21,9 @@ pub returns-in-Hack-clause-reports : goal.returns-in-Hack-clause-reports
 returns-in-Hack-clause-reports g c = rw c.in-Hack.is (with_few (levels.Hack c.in-Hack.show) c.args.self.core (code_at c.args.self.keys) c.args.self.cycles (g.O.Sink.written c.args.out.now) (g.O.Sink.written c.report_hack.new.out) c.report_hack.result c.report_hack.ensures.reports)
 
 pub report_words-requires-clause-start : goal.report_words-requires-clause-start
-report_words-requires-clause-start g c = subst (IsAtItsStart c.args.self.core) c.in-Simplified.is c.requires.start
+report_words-requires-clause-start g c =
+    let simple = subst (IsAtItsStart c.args.self.core) c.in-Simplified.is c.requires.start in
+    simple.start
 
 pub returns-in-Simplified-clause-reports : goal.returns-in-Simplified-clause-reports
 returns-in-Simplified-clause-reports g c = rw c.in-Simplified.is (with_few (levels.Simplified c.in-Simplified.show) c.args.self.core (code_at c.args.self.keys) c.args.self.cycles (g.O.Sink.written c.args.out.now) (g.O.Sink.written c.report_words.new.out) c.report_words.result c.report_words.ensures.reports)

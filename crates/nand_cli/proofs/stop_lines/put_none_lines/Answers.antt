@@ -1,0 +1,18 @@
+use Rattle.std.proofs.Common.{List, ℕ, take, subst}
+use Rattle.outer_world.specs.Written.{Passes}
+use Rattle.outer_world.specs.declared.sink.Put.TheVariants as put
+use Rattle.outer_world.proofs.Passing.{Puts-failed, Puts-finished}
+use Rattle.nand_cli.specs.Commands.Debug.{none_text}
+use Rattle.nand_cli.proofs.stop_lines.put_none_lines.Goals as goal
+
+pub returns-in-Done-clause-put : goal.returns-in-Done-clause-put
+returns-in-Done-clause-put g c =
+    let P : List ℕ → Type 0 = λ p. Passes (g.S.Sink.written c.args.out.now.sink.now) p (g.S.Sink.written c.put_none.new.out.sink.now) (take c.put_none.new.out.len c.put_none.new.out.buffer)
+    (none_text c.args.moves c.args.steps) put.Done in
+    Puts-finished _ _ _ _ _ _ (subst P c.requires c.in-Done.ensures.passes) c.finish.ensures.put
+
+pub returns-in-Failed-clause-put : goal.returns-in-Failed-clause-put
+returns-in-Failed-clause-put g c =
+    let P : List ℕ → Type 0 = λ p. Passes (g.S.Sink.written c.args.out.now.sink.now) p (g.S.Sink.written c.put_none.new.out.sink.now) (take c.put_none.new.out.len c.put_none.new.out.buffer)
+    (none_text c.args.moves c.args.steps) put.Failed in
+    Puts-failed _ _ _ _ (subst P c.requires c.in-Failed.ensures.passes)
