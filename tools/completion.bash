@@ -5,7 +5,7 @@
 # Commands, their options, the words of --level and --show, and the names of the shipped chips; else files and folders, of which those
 # come first that the command reads.
 _nand_chips="Nand Not And Or Xor Mux DMux Not16 And16 Or16 Mux16 Or8Way Mux4Way16 Mux8Way16 DMux4Way DMux8Way
-    HalfAdder FullAdder Add16 Inc16 ALU DFF Bit Register RAM8 RAM64 RAM512 RAM4K RAM16K PC
+    HalfAdder FullAdder Add16 Inc16 ALU Shift DFF Bit Register RAM8 RAM64 RAM512 RAM4K RAM16K PC
     ROM32K Screen Keyboard ARegister DRegister Memory CPU Computer"
 
 _nand() {
@@ -15,14 +15,14 @@ _nand() {
     [ "$before" = "=" ] && before=${COMP_WORDS[COMP_CWORD - 2]}
     COMPREPLY=()
     if [ "$COMP_CWORD" -eq 1 ]; then
-        mapfile -t COMPREPLY < <(compgen -W "asm exec vm run compile build map chip test show soak" -- "$word")
+        mapfile -t COMPREPLY < <(compgen -W "asm exec vm run compile build map chip test show soak debug" -- "$word")
         return
     fi
     case $before in
     --level) words="jack vm hack gates" ;;
     --show) words="none heap screen nets" ;;
     --format) words="1 2" ;;
-    --cycles | --from | --to) return ;;
+    --cycles | --from | --to | --break) return ;;
     esac
     if [ -z "$words" ] && [[ $word == -* ]]; then
         case $command in
@@ -32,6 +32,7 @@ _nand() {
         map) words="--format --replace" ;;
         compile | build) words="--replace" ;;
         test) words="--gates" ;;
+        debug) words="--break --cycles --keys --replace" ;;
         esac
         [ -z "$words" ] && return
     fi

@@ -51,6 +51,7 @@ const CHIPS: &[(&str, usize)] = &[
     ("Add16", 16),
     ("Inc16", 1),
     ("ALU", 15),
+    ("Shift", 1),
     ("DFF", 0),
     ("Bit", 2),
     ("Register", 16),
@@ -65,7 +66,7 @@ const CHIPS: &[(&str, usize)] = &[
     ("Screen", 4),
     ("ROM32K", 0),
     ("Keyboard", 0),
-    ("CPU", 18),
+    ("CPU", 28),
     ("Memory", 8),
     ("Computer", 3),
 ];

@@ -47,7 +47,7 @@ fn press(computer: &mut GateComputer, keys: &[u16])
 #[test]
 fn has_its_nodes_and_blocks(rt: HostRuntime) -> Result<(), Fail> {
     let wired = build_computer(rt.alloc())?;
-    assert!(rt; wired.net.nodes().len() == 1761);
+    assert!(rt; wired.net.nodes().len() == 2004);
     assert!(rt; wired.net.blocks().len() == 3);
     Ok(())
 }

@@ -36,6 +36,12 @@ const PROGRAMS: &[(&str, bool, &[u16])] = &[
         false,
         &[16384, 24576, 15, 16, 17, 16, 32767, 7, 57534],
     ),
+    // shifts of registers, with blanks between tokens
+    (
+        "D=D<<\nD = D >>\nA=A>>\nM=M<<\nD>>;JLT\n",
+        false,
+        &[44048, 42000, 40992, 47112, 41988],
+    ),
     ("// a\r\n// b\r\n", false, &[]),
     (ADD, true, ADD_WORDS),
     // CRLF, empty lines, and no line end behind the last word
@@ -57,6 +63,11 @@ const REFUSED: &[(&str, bool, &str)] = &[
     ("D=D+0", false, "1:5: Grammar"),
     ("AA=D", false, "1:1: Grammar"),
     ("D\r", false, "1:2: Grammar"),
+    // one `<` begins no token, only a register is shifted, and by one place
+    ("D=D<", false, "1:4: Grammar"),
+    ("D=1<<", false, "1:4: Grammar"),
+    ("D=D<<1", false, "1:6: Grammar"),
+    ("D=D<<<<", false, "1:6: Grammar"),
     ("D / A", false, "1:3: Grammar"),
     ("D;JXX\n40000", false, "2:1: Range 40000"),
     ("(A", false, "1:3: Grammar"),
@@ -221,6 +232,18 @@ fn compute(memory: bool, comp: u8, dest: u8, jump: u8) -> Instr
     }
 }
 
+fn shift(memory: bool, left: bool, of_d: bool, dest: u8, jump: u8) -> Instr
+    ensures { result ≡ Instr.Shift memory left of_d dest jump }
+{
+    Instr::Shift {
+        memory,
+        left,
+        of_d,
+        dest,
+        jump,
+    }
+}
+
 #[test]
 fn written(rt: HostRuntime) -> Result<(), Fail> {
     let alloc = rt.alloc();
@@ -232,10 +255,12 @@ fn written(rt: HostRuntime) -> Result<(), Fail> {
         compute(false, 0b101010, 0, 0b111),
         compute(true, 0b010101, 0b111, 0b100),
         compute(false, 0b000111, 0b011, 0b011),
+        shift(false, true, true, 0b010, 0),
+        shift(true, false, false, 0, 0b001),
     ];
     let mut out = MemorySink::new(alloc, 1_000, Vec::new(alloc))?;
     assert!(rt; matches!(write_asm(&instrs, &mut out), Put::Done));
-    let text = b"@0\n@32767\nD=A\nAM=M-1\n0;JMP\nADM=D|M;JLT\nDM=A-D;JGE\n";
+    let text = b"@0\n@32767\nD=A\nAM=M-1\n0;JMP\nADM=D|M;JLT\nDM=A-D;JGE\nD=D<<\nM>>;JGT\n";
     assert_eq!(rt; out.bytes(), text.as_slice());
     let words = words(alloc, out.bytes(), false)?;
     let mut encoded = Vec::new(alloc);

@@ -1,7 +1,7 @@
 use hack_isa::{Instr, alu, decode, encode};
 use std::test::*;
 
-// words, their instructions, and the words of these again, where bits 14 and 13 are set
+// words, their instructions, and the words of these again, where bits that mean nothing are as they are written
 const WORDS: &[(u16, Instr, u16)] = &[
     // the program of chapter 4 that puts 2 + 3 into the word 0: @2, D=A, @3, D=D+A, @0, M=D
     (2, Instr::Address(2), 2),
@@ -56,6 +56,74 @@ const WORDS: &[(u16, Instr, u16)] = &[
             jump: 0,
         },
         0b1111_1100_1010_1000,
+    ),
+    // D=D<<, D=D>>, A=A>> and M=M<<
+    (
+        44048,
+        Instr::Shift {
+            memory: false,
+            left: true,
+            of_d: true,
+            dest: 0b010,
+            jump: 0,
+        },
+        44048,
+    ),
+    (
+        42000,
+        Instr::Shift {
+            memory: false,
+            left: false,
+            of_d: true,
+            dest: 0b010,
+            jump: 0,
+        },
+        42000,
+    ),
+    (
+        40992,
+        Instr::Shift {
+            memory: false,
+            left: false,
+            of_d: false,
+            dest: 0b100,
+            jump: 0,
+        },
+        40992,
+    ),
+    (
+        47112,
+        Instr::Shift {
+            memory: true,
+            left: true,
+            of_d: false,
+            dest: 0b001,
+            jump: 0,
+        },
+        47112,
+    ),
+    // in a shift bits 9 to 6 change nothing, and in one of D bit 12
+    (
+        0b1010_1111_1101_0000,
+        Instr::Shift {
+            memory: false,
+            left: true,
+            of_d: true,
+            dest: 0b010,
+            jump: 0,
+        },
+        44048,
+    ),
+    (
+        0b1011_1100_0001_0000,
+        Instr::Shift {
+            memory: false,
+            left: true,
+            of_d: true,
+            dest: 0b010,
+            jump: 0,
+        },
+        44048,
     ),
     // 0;JMP
     (

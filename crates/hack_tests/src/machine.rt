@@ -89,6 +89,57 @@ const CASES: &[Case<'static>] = &[
             },
         ],
     },
+    // M=M>>, D=M>>;JLT: -5 to -3, whose half is -2, below 0, so that it jumps to 5; and there D=D<<
+    Case {
+        image: &[45064, 45076, 0, 0, 0, 44048],
+        registers: (5, 0, 0),
+        words: &[(5, 65531)],
+        looks: &[
+            Look {
+                steps: 1,
+                key: 0,
+                registers: (5, 0, 1),
+                words: &[(5, 65533)],
+                seen: &[],
+            },
+            Look {
+                steps: 1,
+                key: 0,
+                registers: (5, 65534, 5),
+                words: &[(5, 65533)],
+                seen: &[],
+            },
+            Look {
+                steps: 1,
+                key: 0,
+                registers: (5, 65532, 6),
+                words: &[(5, 65533)],
+                seen: &[],
+            },
+        ],
+    },
+    // D=M<< at the keyboard's address: twice the key; D=D>> with the bit of M beside that of D: no key
+    Case {
+        image: &[47120, 46096],
+        registers: (24576, 0, 0),
+        words: &[],
+        looks: &[
+            Look {
+                steps: 1,
+                key: 65,
+                registers: (24576, 130, 1),
+                words: &[],
+                seen: &[],
+            },
+            Look {
+                steps: 1,
+                key: 3,
+                registers: (24576, 65, 2),
+                words: &[],
+                seen: &[],
+            },
+        ],
+    },
 ];
 
 // The machine of an image, with what is put from outside.

@@ -150,6 +150,41 @@ const CASES: &[Case<'static>] = &[
             words: &[(2048, 0), (2049, 65534), (2051, 65532)],
         }],
     },
+    // let s = 16384; let s[0] = ^5; let s[1] = #(-5); return; the half of -5 is rounded down to -3
+    Case {
+        main: Main {
+            locals: 1,
+            body: &[
+                Written::Let(1, 0, &[Part::Literal(16384)]),
+                Written::Store(
+                    2,
+                    S,
+                    &[Part::Literal(0)],
+                    &[Part::Literal(5), Part::Unary(Sign::ShiftLeft)],
+                ),
+                Written::Store(
+                    3,
+                    S,
+                    &[Part::Literal(1)],
+                    &[
+                        Part::Literal(5),
+                        Part::Unary(Sign::Minus),
+                        Part::Unary(Sign::ShiftRight),
+                    ],
+                ),
+            ],
+            turns: &[],
+            last: 4,
+            method: ZERO,
+        },
+        looks: &[Look {
+            bound: 100,
+            end: End::Done,
+            moves: 21,
+            point: None,
+            words: &[(16384, 10), (16385, 65533)],
+        }],
+    },
     // two keys: let s = 16384; let i = 24576; let s[0] = i[0]; let s[1] = i[0]; return;
     Case {
         main: Main {

@@ -26,6 +26,13 @@ const PRINTED: &[(&str, &[(u64, u32)], Put, &str)] = &[
         Put::Done,
         "class A {\nfunction void f ( ) {\nif ( ~ a [ 1 ] ) {\ndo b . g ( 1 , \"s t\" ) ;\n}\nelse {\nlet a [ 0 ] = - 2 ;\n}\n}\n}\n",
     ),
+    // shifts
+    (
+        "class A{function int f(int x){return ^x+##(1);}}",
+        &[],
+        Put::Done,
+        "class A {\nfunction int f ( int x ) {\nreturn ^ x + # # ( 1 ) ;\n}\n}\n",
+    ),
     // the first call fails after three bytes
     ("class C { }", &[(1, 3)], Put::Failed, "cla"),
 ];

@@ -6,7 +6,7 @@ use std::alloc::Global;
 use std::test::*;
 
 // a text, and its tokens: kinds, slices and places
-const TEXT: &[u8] = b"let /* a */ x1=\"a /* \";// b\r\n32767/_";
+const TEXT: &[u8] = b"let /* a */ x1=\"a /* \";// b\r\n32767/_^#";
 
 const TOKENS: &[(Kind, &[u8], (u32, u32))] = &[
     (Kind::Keyword(Keyword::Let), b"let", (1, 1)),
@@ -17,6 +17,8 @@ const TOKENS: &[(Kind, &[u8], (u32, u32))] = &[
     (Kind::Integer(32767), b"32767", (2, 1)),
     (Kind::Symbol(b'/'), b"/", (2, 6)),
     (Kind::Identifier, b"_", (2, 7)),
+    (Kind::Symbol(b'^'), b"^", (2, 8)),
+    (Kind::Symbol(b'#'), b"#", (2, 9)),
 ];
 
 // texts, and their faults, or nothing where they have none
@@ -28,7 +30,7 @@ const FAULTS: &[(&[u8], &str)] = &[
     (b"let \"a\n\"", "1:5: Grammar"),
     (b"\"\xe4\"", "1:1: Grammar"),
     (b"\"\t\"", ""),
-    (b"a #", "1:3: Grammar"),
+    (b"a @", "1:3: Grammar"),
     (b"/* \xe4 **/ //\xe4", ""),
 ];
 
@@ -49,7 +51,7 @@ fn texts(rt: HostRuntime) -> Result<(), Fail> {
     let alloc = rt.alloc();
     let (tokens, end) = cut(alloc, TEXT)?;
     assert_eq!(rt; tokens.len(), TOKENS.len());
-    assert_eq!(rt; (end.line, end.column), (2, 8));
+    assert_eq!(rt; (end.line, end.column), (2, 10));
     for (number, token) in tokens.iter().enumerate() {
         let found = (
             token.kind,

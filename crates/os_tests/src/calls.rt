@@ -2,7 +2,7 @@
 use crate::drawing::{Program, all_draw, draws};
 use std::test::Fail;
 
-const CALLS: [Program; 12] = [
+const CALLS: [Program; 13] = [
     // math abs min max
     Program {
         body: "let s[0] = (Math.abs(0)) = 0; let s[1] = (Math.abs(1)) = 1; let s[2] = (Math.abs(2)) = 2;
@@ -50,6 +50,15 @@ let s[13] = (12345 * 6789) = (-10339);",
         moves: 1_000_000,
         keys: "",
         rows: "0..1: 0..224
+",
+    },
+    // shifts: twice the word, and its half, rounded down
+    Program {
+        body: "let s[0] = ^5 = 10; let s[1] = #5 = 2; let s[2] = #(-5) = (-3); let s[3] = ^32767 = (-2);
+let s[4] = ^(~32767) = 0; let s[5] = #(~32767) = (-16384); let s[6] = #(-1) = (-1); let s[7] = ##12 + ^#7 = 9;",
+        moves: 1_000_000,
+        keys: "",
+        rows: "0..1: 0..128
 ",
     },
     // math divide

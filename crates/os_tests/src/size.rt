@@ -20,6 +20,8 @@ fn operation_words(operation: Operation) -> u64
         Operation::Or => 5,
         Operation::Neg => 3,
         Operation::Not => 3,
+        Operation::ShiftLeft => 3,
+        Operation::ShiftRight => 3,
         Operation::Eq => 4,
         Operation::Gt => 4,
         Operation::Lt => 4,

@@ -1,6 +1,7 @@
 //! Runs over a shelf and sinks in memory.
 mod building;
 mod computing;
+mod debugging;
 mod executing;
 mod failing;
 mod folders;

@@ -37,6 +37,24 @@ fn word_of(instr: Instr) -> Result<u16, Fail> {
                 jump,
             }))
         }
+        Instr::Shift {
+            memory,
+            left,
+            of_d,
+            dest,
+            jump,
+        } => {
+            if of_d && memory || dest >= 8 || jump >= 8 {
+                return Err(Fail::from("bits past an instruction"));
+            }
+            Ok(encode(&Instr::Shift {
+                memory,
+                left,
+                of_d,
+                dest,
+                jump,
+            }))
+        }
     }
 }
 

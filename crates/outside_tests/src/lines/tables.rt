@@ -1,6 +1,8 @@
 //! Texts that are lines, and texts that are none. The words of a text stand apart by single spaces, and two spaces have an
 //! empty word between them.
-use command_line::{ClassWork, FileWork, MapFormat, Request, RunLevel, Shown, Source, SourceKind};
+use command_line::{
+    ClassWork, DebugRun, FileWork, MapFormat, Request, RunLevel, Shown, Source, SourceKind,
+};
 use machine_io::Show;
 
 // Lines of `exec`, each with its path, its cycles and its two addresses.
@@ -182,6 +184,54 @@ pub(super) const RUNS: &[(&str, RunLevel, u32, Option<&str>)] = &[
 
 // The other lines, and what they ask for.
 pub(super) const LINES: &[(&str, Request<'static>)] = &[
+    (
+        "debug prog --break Main.main:3 --cycles 5",
+        Request::Classes {
+            source: PROG,
+            work: ClassWork::Debug(DebugRun {
+                sub: "Main.main",
+                number: 3,
+                cycles: 5,
+                keys: None,
+            }),
+        },
+    ),
+    (
+        "debug prog --keys k --cycles=1000000000 --break=start:0001000000000",
+        Request::Classes {
+            source: PROG,
+            work: ClassWork::Debug(DebugRun {
+                sub: "start",
+                number: 1_000_000_000,
+                cycles: 1_000_000_000,
+                keys: Some("k"),
+            }),
+        },
+    ),
+    (
+        "debug prog --replace --break A.b:1 --cycles 7",
+        Request::Classes {
+            source: REPLACING,
+            work: ClassWork::Debug(DebugRun {
+                sub: "A.b",
+                number: 1,
+                cycles: 7,
+                keys: None,
+            }),
+        },
+    ),
+    (
+        "debug prog --break _A1.b_2:0 --cycles 0",
+        Request::Classes {
+            source: PROG,
+            work: ClassWork::Debug(DebugRun {
+                sub: "_A1.b_2",
+                number: 0,
+                cycles: 0,
+                keys: None,
+            }),
+        },
+    ),
     (
         "asm a.asm",
         Request::File {
@@ -395,6 +445,22 @@ pub(super) const NO_LINES: &[&str] = &[
     "build prog --replace=true",
     "vm prog --replace",
     "show a.jack --replace",
+    // a statement that is none
+    "debug prog --break Main.main --cycles 5",
+    "debug prog --break Main.main: --cycles 5",
+    "debug prog --break Main.main:x --cycles 5",
+    "debug prog --break Main.main:1:1 --cycles 5",
+    "debug prog --break Main.main:1000000001 --cycles 5",
+    "debug prog --break main:1 --cycles 5",
+    "debug prog --break .main:1 --cycles 5",
+    "debug prog --break Main.:1 --cycles 5",
+    "debug prog --break Main.1main:1 --cycles 5",
+    "debug prog --break A.b.c:1 --cycles 5",
+    "debug prog --break Start:1 --cycles 5",
+    "debug prog --cycles 5",
+    "debug prog --break Main.main:1",
+    "debug prog --break Main.main:1 --cycles 5 --level gates",
+    "debug prog --break Main.main:1 --cycles 5 --simplify",
     // a path too few, too many
     "exec",
     "exec --cycles 1 --from 2 --to 3",

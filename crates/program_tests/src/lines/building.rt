@@ -26,6 +26,12 @@ const DONE: &[(&str, &str, &str, &str)] = &[
         "// file Main.vm\nfunction Main.main 0\npush constant 0\nreturn\nfunction Main.f 0\npush argument 0\nneg\nreturn\n",
     ),
     (
+        "prog/Main.jack",
+        "class Main { function void main() { } function int f(int n) { return ^-#n; } }",
+        "compile prog",
+        "// file Main.vm\nfunction Main.main 0\npush constant 0\nreturn\nfunction Main.f 0\npush argument 0\nshiftright\nneg\nshiftleft\nreturn\n",
+    ),
+    (
         "a",
         "",
         "chip Not",

@@ -42,6 +42,13 @@ const COMPUTED: &[(&str, &[usize])] = &[
         "var Array s; let s = 16384; let s[0] = 2+3*4; let s[1] = 2+(3*4); return;",
         &[2, 4, 17, 18, 19],
     ),
+    // shifts: to the left and, rounded down, to the right
+    (
+        "var Array s; let s = 16384; let s[0] = ^5; let s[1] = #(-5); return;",
+        &[
+            1, 3, 16, 18, 19, 20, 21, 22, 23, 24, 25, 26, 27, 28, 29, 30, 31,
+        ],
+    ),
     // a comparison is that of the numbers, also where their difference is none
     (
         "var Array s; let s = 16384; let s[0] = 20000 < (-20000); let s[1] = (-20000) < 20000; return;",

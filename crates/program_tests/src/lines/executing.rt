@@ -38,6 +38,20 @@ const DONE: &[(&str, &str, &str, &str)] = &[
         "exec Add.asm --cycles 5 --from 0 --to 1",
         "0 0\n1 0\n",
     ),
+    // shifts by one place, to the left and to the right, where the signed reading is halved and rounded down
+    (
+        "a.asm",
+        "@5\nD=A\nD=D<<\n@0\nM=D\nM=M<<\n@5\nD=-A\nD=D>>\n@1\nM=D",
+        "exec a.asm --cycles 11 --from 0 --to 1",
+        "0 20\n1 -3\n",
+    ),
+    // bits 9 to 6 of the word of D=D<< change nothing
+    (
+        "a.hack",
+        "0000000000000101\n1110110000010000\n1010111111010000\n0000000000000000\n1110001100001000\n",
+        "exec a.hack --cycles 5 --from 0 --to 0",
+        "0 10\n",
+    ),
     // words are read as signed
     (
         "a.asm",

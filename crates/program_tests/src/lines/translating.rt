@@ -11,10 +11,10 @@ use std::test::Fail;
 
 // every command of a text
 const EACH: &str =
-    "function Sys.init 0\npush constant 2048\npop pointer 1\npush constant 7\npush constant 5\nadd\npop that 0\npush constant 7\npush constant 5\nsub\npop that 1\npush constant 7\nneg\npop that 2\npush constant 5\npush constant 5\neq\npop that 3\npush constant 7\npush constant 5\ngt\npop that 4\npush constant 7\npush constant 5\nlt\npop that 5\npush constant 12\npush constant 10\nand\npop that 6\npush constant 12\npush constant 10\nor\npop that 7\npush constant 12\nnot\npop that 8\npush constant 3\npop temp 6\npush temp 6\npop that 9\npush constant 4\npop static 2\npush static 2\npop that 10\npush constant 2060\npop pointer 0\npush pointer 0\npop that 11\npush constant 9\npop this 1\npush this 1\npop that 12\npush constant 20\npush constant 22\ncall Sys.sum 2\npop that 14\npush constant 0\nif-goto PASSED\npush constant 1\npop that 15\nlabel PASSED\npush constant 2\nif-goto TAKEN\npush constant 1\npop that 16\nlabel TAKEN\nlabel END\ngoto END\nfunction Sys.sum 1\npush argument 0\npush argument 1\nadd\npop local 0\npush local 0\npop argument 1\npush argument 1\nreturn\n";
+    "function Sys.init 0\npush constant 2048\npop pointer 1\npush constant 7\npush constant 5\nadd\npop that 0\npush constant 7\npush constant 5\nsub\npop that 1\npush constant 7\nneg\npop that 2\npush constant 5\npush constant 5\neq\npop that 3\npush constant 7\npush constant 5\ngt\npop that 4\npush constant 7\npush constant 5\nlt\npop that 5\npush constant 12\npush constant 10\nand\npop that 6\npush constant 12\npush constant 10\nor\npop that 7\npush constant 12\nnot\npop that 8\npush constant 3\npop temp 6\npush temp 6\npop that 9\npush constant 4\npop static 2\npush static 2\npop that 10\npush constant 2060\npop pointer 0\npush pointer 0\npop that 11\npush constant 9\npop this 1\npush this 1\npop that 12\npush constant 20\npush constant 22\ncall Sys.sum 2\npop that 14\npush constant 0\nif-goto PASSED\npush constant 1\npop that 15\nlabel PASSED\npush constant 2\nif-goto TAKEN\npush constant 1\npop that 16\nlabel TAKEN\npush constant 20000\nshiftleft\npop that 17\npush constant 5\nneg\nshiftright\npop that 18\nlabel END\ngoto END\nfunction Sys.sum 1\npush argument 0\npush argument 1\nadd\npop local 0\npush local 0\npop argument 1\npush argument 1\nreturn\n";
 
 const EACH_WORDS: &str =
-    "2048 12\n2049 2\n2050 -7\n2051 -1\n2052 -1\n2053 0\n2054 8\n2055 14\n2056 -13\n2057 3\n2058 4\n2059 2060\n2060 9\n2061 9\n2062 42\n2063 1\n2064 0\n";
+    "2048 12\n2049 2\n2050 -7\n2051 -1\n2052 -1\n2053 0\n2054 8\n2055 14\n2056 -13\n2057 3\n2058 4\n2059 2060\n2060 9\n2061 9\n2062 42\n2063 1\n2064 0\n2065 -25536\n2066 -3\n";
 
 const SUM: &str =
     "@7\nD=A\n@0\nAM=M+1\nA=A-1\nM=D\n@8\nD=A\n@0\nAM=M+1\nA=A-1\nM=D\n@0\nAM=M-1\nD=M\nA=A-1\nM=D+M\n";
@@ -68,7 +68,7 @@ const PROGRAMS: &[(&[(&str, &str)], &str, &str)] = &[
     ),
     (
         &[("v/Sys.vm", EACH)],
-        "exec a.asm --cycles 3000 --from 2048 --to 2064",
+        "exec a.asm --cycles 3000 --from 2048 --to 2066",
         EACH_WORDS,
     ),
     (
