@@ -1,4 +1,14 @@
+pub mod Marking
 pub mod Past
 pub mod Standing
 pub mod Exist
 pub mod Cycles
+pub mod Few
+pub mod Lanes
+pub mod Counting
+pub mod Passing
+pub mod Plainly
+pub mod Refreshing
+pub mod Taking
+pub mod Placing
+pub mod Fields

@@ -1,6 +1,6 @@
 -- For which calls a simulator stands after each call.
 use Rattle.std.proofs.Common.{◌≡◌, ◌≢◌, ℕ, ◌<◌, Bool, true, false, List, [], ◌∷◌, length, set, Some, None, Option, Vec, refl, ap, sym, ◌∙◌, subst, ne_eqb, eq-eqb, inl, inr, get_or-set_same, get_or-set_other}
-use Rattle.std.specs.Prelude.{slice_get, nat_eq}
+use Rattle.std.specs.Prelude.{slice_get, nat_eq, nat_lt, ◌&&◌, ◌⊎◌}
 use Rattle.std.specs.Global.{Global}
 use Rattle.std.proofs.lemmas.Option.{same_Some, none-some}
 use Rattle.std.proofs.lemmas.Bool.{cases_eq, false≢true}
@@ -18,11 +18,13 @@ use Rattle.gate_sim.specs.Values.{written_before}
 use Rattle.gate_sim.specs.Stands.{Keeps, IsFresh, StandsFor}
 use Rattle.gate_sim.specs.State.{SimState}
 use Rattle.netlist.proofs.Plain.{written_same}
+use Rattle.gate_sim.specs.Inner.Evaluated.{IsEvaluated}
+use Rattle.gate_sim.proofs.Marking.{marks_new, marks_set, marks_load, marks_after}
 use Rattle.gate_sim.proofs.Past.{past_tick, values_tick, past_fewer, cycle_grows}
 
 -- other values, as they stand after the same calls
-pub keeps_values : (s : SimState) (calls : List Call) (values : List Bool) (fresh : Bool) → Keeps s calls → Keeps (record s { values = values; fresh = fresh }) calls
-keeps_values s calls values fresh keeps = record { pins = keeps.pins; flips = keeps.flips; words = keeps.words; fixed = keeps.fixed; writes = keeps.writes }
+pub keeps_values : (s : SimState) (calls : List Call) (values : List Bool) (fresh : Bool) (written : List Bool) (whole : Bool) → Keeps s calls → Keeps (record s { values = values; fresh = fresh; written = written; whole = whole }) calls
+keeps_values s calls values fresh written whole keeps = record { pins = keeps.pins; flips = keeps.flips; words = keeps.words; fixed = keeps.fixed; writes = keeps.writes }
 
 pub keeps_eval : (s : SimState) (calls : List Call) → Keeps s calls → Keeps s (Eval ∷ calls)
 keeps_eval s calls keeps = record { pins = keeps.pins; flips = keeps.flips; words = keeps.words; fixed = keeps.fixed; writes = keeps.writes }
@@ -46,8 +48,8 @@ keeps_set s calls node bit pin inside keeps = record {
   writes = keeps.writes;
 }
 
-pub keeps_take : (s : SimState) (calls : List Call) (start : List Bool) (memory : List (Vec ℕ Global)) → ((k : ℕ) → slice_get s.net.nodes k ≡ Some Pin → value_in start k ≡ value_in s.start k) → ((k i : ℕ) → slice_get s.net.nodes k ≡ Some (Flip i) → value_in start k ≡ value_in s.fixed k) → ((b a : ℕ) → word_at memory b a ≡ after_write (write_at s.writes b) a (word_at s.memory b a)) → Keeps s calls → Keeps (record s { start = start; memory = memory; fresh = false }) (Tock ∷ calls)
-keeps_take s calls start memory pins flips words keeps = record {
+pub keeps_take : (s : SimState) (calls : List Call) (start : List Bool) (memory : List (Vec ℕ Global)) (written : List Bool) → ((k : ℕ) → slice_get s.net.nodes k ≡ Some Pin → value_in start k ≡ value_in s.start k) → ((k i : ℕ) → slice_get s.net.nodes k ≡ Some (Flip i) → value_in start k ≡ value_in s.fixed k) → ((b a : ℕ) → word_at memory b a ≡ after_write (write_at s.writes b) a (word_at s.memory b a)) → Keeps s calls → Keeps (record s { start = start; memory = memory; fresh = false; written = written }) (Tock ∷ calls)
+keeps_take s calls start memory written pins flips words keeps = record {
   pins = λ k there. pins k there ∙ keeps.pins k there;
   flips = λ v past k i there. flips k i there ∙ keeps.fixed v past k i there;
   words = λ v past b a.
@@ -69,11 +71,12 @@ pub fresh_tick : (s : SimState) (calls : List Call) → IsFresh s calls → IsFr
 fresh_tick s calls fresh v are k less = fresh v (past_tick s.net calls v are.0, are.1) k less
 
 -- after an evaluation
-pub stands_after : (s : SimState) (calls : List Call) → evaluated_calls calls ≡ Some calls → Keeps s calls → IsFresh s calls → StandsFor s calls
-stands_after s calls last keeps fresh = record {
+pub stands_after : (s : SimState) (calls : List Call) → evaluated_calls calls ≡ Some calls → IsEvaluated s → Keeps s calls → IsFresh s calls → StandsFor s calls
+stands_after s calls last is keeps fresh = record {
   keeps = keeps;
   values = λ earlier e. subst (IsFresh s) (same_Some calls earlier (sym last ∙ e)) fresh;
   fresh = λ e. fresh;
+  marks = marks_after s calls is;
 }
 
 pub stands_set : (s : SimState) (calls : List Call) (node : ℕ) (bit : Bool) → slice_get s.net.nodes node ≡ Some Pin → node < length s.start → StandsFor s calls → StandsFor (record s { start = set s.start node bit; fresh = false }) (Set node bit ∷ calls)
@@ -81,10 +84,11 @@ stands_set s calls node bit pin inside stands = record {
   keeps = keeps_set s calls node bit pin inside stands.keeps;
   values = stands.values;
   fresh = λ e. absurd (false≢true e);
+  marks = marks_set s calls node bit pin stands.marks;
 }
 
-keeps_load : (s : SimState) (calls : List Call) (block from : ℕ) (words : List ℕ) (memory : List (Vec ℕ Global)) → ((b a : ℕ) → word_at memory b a ≡ after_load block from words b a (word_at s.memory b a)) → Keeps s calls → Keeps (record s { memory = memory; fresh = false }) (Load block from words ∷ calls)
-keeps_load s calls block from words memory put keeps = record {
+keeps_load : (s : SimState) (calls : List Call) (block from : ℕ) (words : List ℕ) (memory : List (Vec ℕ Global)) (written : List Bool) → ((b a : ℕ) → word_at memory b a ≡ after_load block from words b a (word_at s.memory b a)) → Keeps s calls → Keeps (record s { memory = memory; fresh = false; written = written }) (Load block from words ∷ calls)
+keeps_load s calls block from words memory written put keeps = record {
   pins = keeps.pins;
   flips = keeps.flips;
   words = λ v past b a. put b a ∙ ap (after_load block from words b a) (keeps.words v past b a);
@@ -92,11 +96,12 @@ keeps_load s calls block from words memory put keeps = record {
   writes = keeps.writes;
 }
 
-pub stands_load : (s : SimState) (calls : List Call) (block from : ℕ) (words : List ℕ) (memory : List (Vec ℕ Global)) → ((b a : ℕ) → word_at memory b a ≡ after_load block from words b a (word_at s.memory b a)) → StandsFor s calls → StandsFor (record s { memory = memory; fresh = false }) (Load block from words ∷ calls)
-stands_load s calls block from words memory put stands = record {
-  keeps = keeps_load s calls block from words memory put stands.keeps;
+pub stands_load : (s : SimState) (calls : List Call) (block from : ℕ) (words : List ℕ) (memory : List (Vec ℕ Global)) (written : List Bool) → ((b a : ℕ) → word_at memory b a ≡ after_load block from words b a (word_at s.memory b a)) → ((b : ℕ) → value_in written b ≡ true → ((nat_eq block b && nat_lt 0 (length words)) ≡ true) ⊎ (value_in s.written b ≡ true)) → StandsFor s calls → StandsFor (record s { memory = memory; fresh = false; written = written }) (Load block from words ∷ calls)
+stands_load s calls block from words memory written put marked stands = record {
+  keeps = keeps_load s calls block from words memory written put stands.keeps;
   values = stands.values;
   fresh = λ e. absurd (false≢true e);
+  marks = marks_load s calls block from words memory written marked stands.marks;
 }
 
 -- a simulator before the first call
@@ -111,4 +116,5 @@ stands_new s start fixed writes memory fresh = record {
   };
   values = λ earlier e. absurd (none-some earlier e);
   fresh = λ e. absurd (false≢true (sym fresh ∙ e));
+  marks = marks_new s;
 }

@@ -1,5 +1,5 @@
 -- The calls of a simulator, the newest first. (The book, chapters 1 to 3, and the appendix on test scripts.)
-use Rattle.std.specs.Prelude.{ℕ, suc, if◌then◌else◌, nat_eq, Bool, true, false, List, [], ◌∷◌, Option, Some, None}
+use Rattle.std.specs.Prelude.{ℕ, suc, if◌then◌else◌, nat_eq, nat_lt, Bool, true, false, ◌&&◌, ◌||◌, List, [], ◌∷◌, length, Option, Some, None}
 
 -- Words are put into a block from an address on. A pin is set. The nodes are evaluated. At a tick they are evaluated, and what the
 -- flip-flops and the blocks take in is fixed. At a tock they take in what was fixed, and the nodes are evaluated.
@@ -54,3 +54,21 @@ evaluated_calls (Set node bit ∷ calls) = evaluated_calls calls
 evaluated_calls (Eval ∷ calls) = Some (Eval ∷ calls)
 evaluated_calls (Tick ∷ calls) = Some (Tick ∷ calls)
 evaluated_calls (Tock ∷ calls) = Some (Tock ∷ calls)
+
+-- the pin was set since the last evaluation
+abbrev pub was_set : List Call → ℕ → Bool
+was_set [] k = false
+was_set (Load block from words ∷ calls) k = was_set calls k
+was_set (Set node bit ∷ calls) k = nat_eq node k || was_set calls k
+was_set (Eval ∷ calls) k = false
+was_set (Tick ∷ calls) k = false
+was_set (Tock ∷ calls) k = false
+
+-- words were put into the block since the last evaluation
+abbrev pub was_put : List Call → ℕ → Bool
+was_put [] b = false
+was_put (Load block from words ∷ calls) b = (nat_eq block b && nat_lt 0 (length words)) || was_put calls b
+was_put (Set node bit ∷ calls) b = was_put calls b
+was_put (Eval ∷ calls) b = false
+was_put (Tick ∷ calls) b = false
+was_put (Tock ∷ calls) b = false

@@ -9,6 +9,7 @@ use Rattle.gate_sim.specs.Calls.{Call, cycle_of, pins_of, evaluated_calls}
 use Rattle.gate_sim.specs.Calls.Call.{Tock}
 use Rattle.gate_sim.specs.Values.{ArePast, AreValues, words_of, written_before}
 use Rattle.gate_sim.specs.State.{SimState}
+use Rattle.gate_sim.specs.Marks.{AreMarksRight}
 
 -- its pins, the states of its flip-flops, its words, and what the next tock takes are those that the calls lead to
 pub record Keeps (s : SimState) (calls : List Call) : Type 0 where
@@ -27,3 +28,4 @@ pub record StandsFor (s : SimState) (calls : List Call) : Type 0 where
   pub keeps : Keeps s calls
   pub values : (earlier : List Call) → evaluated_calls calls ≡ Some earlier → IsFresh s earlier
   pub fresh : s.fresh ≡ true → IsFresh s calls
+  pub marks : AreMarksRight s calls

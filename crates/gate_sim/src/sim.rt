@@ -1,6 +1,6 @@
 //! The simulator.
 
-ghost use Rattle.std.specs.Prelude.{◌≡◌, ◌≤◌, ◌+◌, ℕ, ◌<◌, ◌∷◌, [], Bool, true, false, List, length, IfOk, Some, None, slice_get, MatchOption};
+ghost use Rattle.std.specs.Prelude.{◌≡◌, ◌≤◌, ◌+◌, ◌-◌, ◌||◌, ℕ, ◌<◌, ◌∷◌, [], Bool, true, false, List, length, IfOk, Some, None, is_some, slice_get, MatchOption};
 ghost use Rattle.netlist.specs.Present.{value_in};
 ghost use Rattle.netlist.specs.Words.{word_at};
 ghost use Rattle.netlist.specs.Steps.{write_at};
@@ -10,28 +10,28 @@ ghost use Rattle.gate_sim.specs.Calls.{Call, cycle_of, evaluated_calls};
 ghost use Rattle.gate_sim.specs.Calls.Call.{Load, Set, Eval, Tick, Tock};
 ghost use Rattle.gate_sim.specs.Values.{ArePast, AreValues, words_of};
 ghost use Rattle.gate_sim.specs.Cycles.{CyclesLaw, StartLaw};
+ghost use Rattle.gate_sim.specs.Rows.{RowsLaw};
+ghost use Rattle.gate_sim.specs.Touched.{AreFewSteps};
 ghost use Rattle.gate_sim.specs.Stands.{Keeps, IsFresh, StandsFor};
+ghost use Rattle.gate_sim.specs.Inner.Evaluated.{IsEvaluated, taken_by};
 
-use netlist::{
-    BlockWrite, FlipFlop, Netlist, Run, fix_states, fix_writes, flip_flops, put_all, runs_of,
-    store, sweep_runs, take_states, zeros,
-};
+use crate::packed::Packed;
+use netlist::{BlockWrite, Netlist, Steps, put_all, store, zeros};
 use std::alloc::{AllocError, Global};
-use std::marker::Model;
+use std::marker::{Brand, Model};
+use std::sync::ledger::{Blank, Ledger};
 
 /// A netlist with its present state: inputs and states, the values of the last evaluation, what the next tock takes, and the words in the
-/// blocks.
+/// blocks. So that an evaluation takes only what is touched: whether the values are those of now, which blocks were written since, and
+/// whether nothing was evaluated yet.
 #[derive(Drop)]
 pub struct Sim {
-    net: Netlist,
-    runs: Vec<Run>,
-    flip_flops: Vec<FlipFlop>,
-    start: Vec<bool>,
-    values: Vec<bool>,
-    fixed: Vec<bool>,
+    packed: Packed,
     writes: Vec<Option<BlockWrite>>,
     memory: Vec<Vec<u16>>,
     fresh: bool,
+    written: Vec<bool>,
+    whole: bool,
 }
 
 impl Model for Sim {
@@ -40,9 +40,9 @@ impl Model for Sim {
 
     ghost Value = { SimState };
 
-    ghost view = { λ sim. record { net = sim.net; start = sim.start.items; values = sim.values.items; fixed = sim.fixed.items; writes = sim.writes.items; memory = sim.memory.items; fresh = sim.fresh } };
+    ghost view = { λ sim. record { net = sim.packed.net; start = sim.packed.start; values = sim.packed.values; fixed = sim.packed.fixed; writes = sim.writes.items; memory = sim.memory.items; fresh = sim.fresh; written = sim.written.items; whole = sim.whole } };
 
-    ghost invariant = { λ sim. SimFits sim.net sim.runs.items sim.flip_flops.items sim.start.items sim.values.items sim.fixed.items sim.writes.items sim.memory.items };
+    ghost invariant = { λ sim. SimFits sim.packed.net sim.packed.start sim.packed.values sim.writes.items sim.memory.items sim.fresh sim.written.items sim.whole };
 }
 
 fn all_false(alloc: Global, n: usize) -> Result<Vec<bool>, AllocError>
@@ -59,30 +59,42 @@ fn no_writes(alloc: Global, n: usize) -> Result<Vec<Option<BlockWrite>>, AllocEr
     vec![in alloc; None; n]
 }
 
+// The blocks that are written at a tock.
+fn mark_writes(writes: &[Option<BlockWrite>], written: &mut [bool])
+    requires { length written.old ≡ length writes.now }
+    ensures { (b : ℕ) → value_in written.new b ≡ (value_in written.old b || is_some (write_at writes.now b)) }
+{
+    for b in 0..writes.len() {
+        written[b] = written[b] | writes[b].is_some();
+    }
+}
+
+// No block was written.
+fn clear(written: &mut [bool])
+    ensures { (b : ℕ) → value_in written.new b ≡ false }
+{
+    for b in 0..written.len() {
+        written[b] = false;
+    }
+}
+
 impl Sim {
-    /// A simulator that was told nothing: inputs, states and words are 0. Fails only where memory is wanted.
+    /// A simulator that got no calls: inputs, states and words are 0. Fails only where memory is wanted.
     pub fn new(alloc: Global, net: Netlist) -> Result<Sim, AllocError>
         ensures net { IfOk result (λ sim. sim.net ≡ net) }
         ensures stands { IfOk result (λ sim. StandsFor sim []) }
     {
-        let n = net.nodes().len();
-        let runs = runs_of(alloc, net.nodes())?;
-        let flip_flops = flip_flops(alloc, net.nodes())?;
-        let start = all_false(alloc, n)?;
-        let values = all_false(alloc, n)?;
-        let fixed = all_false(alloc, n)?;
         let writes = no_writes(alloc, net.blocks().len())?;
         let memory = zeros(alloc, net.blocks())?;
+        let written = all_false(alloc, net.blocks().len())?;
+        let packed = Packed::new(alloc, net)?;
         Ok(Sim {
-            net,
-            runs,
-            flip_flops,
-            start,
-            values,
-            fixed,
+            packed,
             writes,
             memory,
             fresh: false,
+            written,
+            whole: true,
         })
     }
 
@@ -93,6 +105,8 @@ impl Sim {
         ensures stands { (calls : List Call) → StandsFor self.old calls → StandsFor self.new (Load block from words.now ∷ calls) }
     {
         put_all(&mut self.memory, block as usize, from as usize, words);
+        let written = self.written[block as usize] | !words.is_empty();
+        self.written[block as usize] = written;
         self.fresh = false;
     }
 
@@ -102,26 +116,25 @@ impl Sim {
         ensures net { self.new.net ≡ self.old.net }
         ensures stands { (calls : List Call) → StandsFor self.old calls → StandsFor self.new (Set node bit ∷ calls) }
     {
-        self.start[node as usize] = bit;
+        self.packed.set(node, bit);
         self.fresh = false;
     }
 
-    // Evaluates, where the values aren't those of an evaluation now.
-    fn refresh(&mut self)
+    // Evaluates what is touched, where the values aren't those of an evaluation now.
+    fn refresh<L: Ledger>(&mut self, steps: &mut Steps<L>)
         ensures net { self.new.net ≡ self.old.net }
         ensures fresh { self.new.fresh ≡ true }
+        ensures evaluated { IsEvaluated self.new }
         ensures keeps { (calls : List Call) → Keeps self.old calls → Keeps self.new calls }
         ensures values { (calls : List Call) → Keeps self.old calls → (self.old.fresh ≡ true → IsFresh self.old calls) → IsFresh self.new calls }
+        ensures counted { steps.old ≤ steps.new }
+        ensures few { steps.new ≤ steps.old + taken_by self.old self.new.values }
     {
         if !self.fresh {
-            sweep_runs(
-                self.net.nodes(),
-                self.net.blocks(),
-                &self.runs,
-                &self.start,
-                &self.memory,
-                &mut self.values,
-            );
+            self.packed
+                .follow(&self.memory, &self.written, self.whole, steps);
+            clear(&mut self.written);
+            self.whole = false;
             self.fresh = true;
         }
     }
@@ -131,14 +144,10 @@ impl Sim {
         ensures net { self.new.net ≡ self.old.net }
         ensures keeps { (calls : List Call) → Keeps self.old calls → IsFresh self.old calls → Keeps self.new (Tick ∷ calls) }
         ensures values { (calls : List Call) → IsFresh self.old calls → IsFresh self.new (Tick ∷ calls) }
+        ensures evaluated { IsEvaluated self.old → IsEvaluated self.new }
     {
-        fix_states(
-            &self.flip_flops,
-            self.net.nodes(),
-            &self.values,
-            &mut self.fixed,
-        );
-        fix_writes(self.net.blocks(), &self.values, &mut self.writes);
+        self.packed.fix_writes(&mut self.writes);
+        self.packed.fix_states();
     }
 
     // Takes what was fixed.
@@ -146,14 +155,13 @@ impl Sim {
         ensures net { self.new.net ≡ self.old.net }
         ensures fresh { self.new.fresh ≡ false }
         ensures keeps { (calls : List Call) → Keeps self.old calls → Keeps self.new (Tock ∷ calls) }
+        ensures values { self.new.values ≡ self.old.values }
+        ensures whole { self.new.whole ≡ self.old.whole }
+        ensures written { (b : ℕ) → value_in self.new.written b ≡ (value_in self.old.written b || is_some (write_at self.old.writes b)) }
     {
-        take_states(
-            &self.flip_flops,
-            self.net.nodes(),
-            &self.fixed,
-            &mut self.start,
-        );
-        store(self.net.blocks(), &self.writes, &mut self.memory);
+        store(self.packed.net().blocks(), &self.writes, &mut self.memory);
+        mark_writes(&self.writes, &mut self.written);
+        self.packed.take_states();
         self.fresh = false;
     }
 
@@ -162,7 +170,28 @@ impl Sim {
         ensures net { self.new.net ≡ self.old.net }
         ensures stands { (calls : List Call) → StandsFor self.old calls → StandsFor self.new (Eval ∷ calls) }
     {
-        self.refresh();
+        self.eval_uncounted::<Brand>(Blank::new(1));
+    }
+
+    /// Evaluates the chip, and counts the gates and bits of words that it evaluates.
+    pub fn eval_steps<L: Ledger>(&mut self, steps: &mut Steps<L>)
+        ensures net { self.new.net ≡ self.old.net }
+        ensures stands { (calls : List Call) → StandsFor self.old calls → StandsFor self.new (Eval ∷ calls) }
+        ensures counted { steps.old ≤ steps.new }
+        ensures few { (calls : List Call) → StandsFor self.old calls → AreFewSteps self.old.net calls Eval (steps.new - steps.old) }
+    {
+        self.refresh(steps);
+    }
+
+    fn eval_uncounted<L: Ledger>(&mut self, blank: Blank)
+        requires name { blank.name ≡ L.name }
+        requires parts { blank.parts ≡ L.parts }
+        requires some { 0 < blank.parts }
+        ensures net { self.new.net ≡ self.old.net }
+        ensures stands { (calls : List Call) → StandsFor self.old calls → StandsFor self.new (Eval ∷ calls) }
+    {
+        let mut steps = Steps::<L>::new(blank);
+        self.eval_steps(&mut steps);
     }
 
     /// Evaluates the chip and fixes the next states.
@@ -170,8 +199,29 @@ impl Sim {
         ensures net { self.new.net ≡ self.old.net }
         ensures stands { (calls : List Call) → StandsFor self.old calls → StandsFor self.new (Tick ∷ calls) }
     {
-        self.refresh();
+        self.tick_uncounted::<Brand>(Blank::new(1));
+    }
+
+    /// Evaluates the chip and fixes the next states, and counts the gates and bits of words that it evaluates.
+    pub fn tick_steps<L: Ledger>(&mut self, steps: &mut Steps<L>)
+        ensures net { self.new.net ≡ self.old.net }
+        ensures stands { (calls : List Call) → StandsFor self.old calls → StandsFor self.new (Tick ∷ calls) }
+        ensures counted { steps.old ≤ steps.new }
+        ensures few { (calls : List Call) → StandsFor self.old calls → AreFewSteps self.old.net calls Tick (steps.new - steps.old) }
+    {
+        self.refresh(steps);
         self.fix();
+    }
+
+    fn tick_uncounted<L: Ledger>(&mut self, blank: Blank)
+        requires name { blank.name ≡ L.name }
+        requires parts { blank.parts ≡ L.parts }
+        requires some { 0 < blank.parts }
+        ensures net { self.new.net ≡ self.old.net }
+        ensures stands { (calls : List Call) → StandsFor self.old calls → StandsFor self.new (Tick ∷ calls) }
+    {
+        let mut steps = Steps::<L>::new(blank);
+        self.tick_steps(&mut steps);
     }
 
     /// Takes the states that were fixed and evaluates.
@@ -179,8 +229,29 @@ impl Sim {
         ensures net { self.new.net ≡ self.old.net }
         ensures stands { (calls : List Call) → StandsFor self.old calls → StandsFor self.new (Tock ∷ calls) }
     {
+        self.tock_uncounted::<Brand>(Blank::new(1));
+    }
+
+    /// Takes the states that were fixed and evaluates, and counts the gates and bits of words that it evaluates.
+    pub fn tock_steps<L: Ledger>(&mut self, steps: &mut Steps<L>)
+        ensures net { self.new.net ≡ self.old.net }
+        ensures stands { (calls : List Call) → StandsFor self.old calls → StandsFor self.new (Tock ∷ calls) }
+        ensures counted { steps.old ≤ steps.new }
+        ensures few { (calls : List Call) → StandsFor self.old calls → AreFewSteps self.old.net calls Tock (steps.new - steps.old) }
+    {
         self.take();
-        self.refresh();
+        self.refresh(steps);
+    }
+
+    fn tock_uncounted<L: Ledger>(&mut self, blank: Blank)
+        requires name { blank.name ≡ L.name }
+        requires parts { blank.parts ≡ L.parts }
+        requires some { 0 < blank.parts }
+        ensures net { self.new.net ≡ self.old.net }
+        ensures stands { (calls : List Call) → StandsFor self.old calls → StandsFor self.new (Tock ∷ calls) }
+    {
+        let mut steps = Steps::<L>::new(blank);
+        self.tock_steps(&mut steps);
     }
 
     /// A tick and a tock.
@@ -192,13 +263,23 @@ impl Sim {
         self.tock();
     }
 
+    /// A tick and a tock, and counts the gates and bits of words that they evaluate.
+    pub fn cycle_steps<L: Ledger>(&mut self, steps: &mut Steps<L>)
+        ensures net { self.new.net ≡ self.old.net }
+        ensures stands { (calls : List Call) → StandsFor self.old calls → StandsFor self.new (Tock ∷ Tick ∷ calls) }
+        ensures few { (calls : List Call) → StandsFor self.old calls → (a : ℕ) × (b : ℕ) × (steps.new ≡ steps.old + (a + b)) × AreFewSteps self.old.net calls Tick a × AreFewSteps self.old.net (Tick ∷ calls) Tock b }
+    {
+        self.tick_steps(steps);
+        self.tock_steps(steps);
+    }
+
     /// The value of a node at the last evaluation.
     pub fn get(&self, node: u32) -> bool
         requires { node < length self.now.net.nodes }
         ensures stored { result ≡ value_in self.now.values node }
         ensures told { (calls earlier : List Call) (v : ℕ → ℕ → Bool) → StandsFor self.now calls → evaluated_calls calls ≡ Some earlier → AreValues self.now.net earlier v → result ≡ v node (cycle_of earlier) }
     {
-        self.values[node as usize]
+        self.packed.value(node)
     }
 
     /// The word at an address of a block now.
@@ -214,7 +295,7 @@ impl Sim {
     pub fn values_law(&self)
         ensures { (calls : List Call) → (v : ℕ → ℕ → Bool) × AreValues self.now.net calls v }
     {
-        let _ = self.net.nodes();
+        let _ = self.packed.net().nodes();
     }
 }
 
@@ -222,4 +303,9 @@ impl Sim {
 pub fn cycles_law()
     ensures start { StartLaw }
     ensures cycles { CyclesLaw }
+{}
+
+/// What is touched in small netlists.
+pub fn touched_law()
+    ensures { RowsLaw }
 {}

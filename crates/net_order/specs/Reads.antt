@@ -4,6 +4,7 @@ use Rattle.netlist.specs.declared.node.Node.{Node}
 use Rattle.netlist.specs.declared.node.Node.TheVariants.{Pin, Nand, Flip, Word, Zero}
 use Rattle.netlist.specs.declared.node.Block.{Block}
 use Rattle.netlist.specs.Order.{HasInputs}
+pub use Rattle.netlist.specs.Reads.{address_in, reads_of}
 
 -- ---- what there is to read, of n nodes
 
@@ -21,18 +22,6 @@ pub record AreClosed (nodes : List Node) (blocks : List Block) : Type 0 where
   pub by_blocks : (b : ℕ) (block : Block) → slice_get blocks b ≡ Some block → HasInputs (length nodes) block
 
 -- ---- reads within a cycle
-
-abbrev pub address_in : Option Block → List ℕ
-address_in None = []
-address_in (Some block) = block.address
-
--- what a node reads within the cycle: a Nand its inputs, a bit of a block's word the block's address, and a pin, a flip-flop or Zero nothing
-abbrev pub reads_of : List Block → Node → List ℕ
-reads_of blocks Pin = []
-reads_of blocks (Nand i j) = i ∷ j ∷ []
-reads_of blocks (Flip i) = []
-reads_of blocks (Word block bit) = address_in (slice_get blocks block)
-reads_of blocks Zero = []
 
 abbrev pub reads_by : List Block → Option Node → List ℕ
 reads_by blocks None = []

@@ -1,19 +1,21 @@
--- The lists of a simulator fit its netlist.
-use Rattle.std.specs.Prelude.{◌≡◌, ℕ, Bool, List, length, Option, Vec}
+-- The lists of a simulator fit its netlist, and its values are settled. Each gate has the value that it has over the values that are stored,
+-- and so has each bit of a block that was not written.
+use Rattle.std.specs.Prelude.{◌≡◌, ℕ, Bool, true, false, List, length, Option, Vec}
 use Rattle.std.specs.Global.{Global}
 use Rattle.netlist.specs.declared.step.BlockWrite.{BlockWrite}
-use Rattle.netlist.specs.declared.step.FlipFlop.{FlipFlop}
 use Rattle.netlist.specs.Net.{Net}
-use Rattle.netlist.specs.declared.runs.Run.{Run}
-use Rattle.netlist.specs.Runs.{AreRuns}
-use Rattle.netlist.specs.Words.{HasWords}
-use Rattle.netlist.specs.Steps.{AreFlipFlops, AreWrites}
+use Rattle.netlist.specs.Order.{AreOrdered}
+use Rattle.netlist.specs.Words.{HasWords, word_at}
+use Rattle.netlist.specs.Present.{IsRow, value_in}
+use Rattle.netlist.specs.Settled.{AreSettled}
+use Rattle.netlist.specs.Steps.{AreWrites}
 
-pub record SimFits (net : Net) (runs : List Run) (flip_flops : List FlipFlop) (start values fixed : List Bool) (writes : List (Option BlockWrite)) (memory : List (Vec ℕ Global)) : Type 0 where
-  pub are_runs : AreRuns net.nodes runs
-  pub are_flip_flops : AreFlipFlops net.nodes flip_flops
-  pub start_long : length start ≡ length net.nodes
-  pub values_long : length values ≡ length net.nodes
-  pub fixed_long : length fixed ≡ length net.nodes
+pub record SimFits (net : Net) (start values : List Bool) (writes : List (Option BlockWrite)) (memory : List (Vec ℕ Global)) (fresh : Bool) (written : List Bool) (whole : Bool) : Type 0 where
+  pub ordered : AreOrdered net.nodes net.blocks
   pub are_writes : AreWrites net.blocks writes
   pub has_words : HasWords net.blocks memory
+  pub written_long : length written ≡ length net.blocks
+  pub settled : whole ≡ false → AreSettled net.nodes net.blocks (value_in written) (word_at memory) (value_in values)
+  pub passed : fresh ≡ true → IsRow net.nodes net.blocks (value_in start) (word_at memory) (value_in values)
+  pub begun : fresh ≡ true → whole ≡ false
+  pub unwritten : fresh ≡ true → (b : ℕ) → value_in written b ≡ false

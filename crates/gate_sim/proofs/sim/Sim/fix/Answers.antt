@@ -1,35 +1,49 @@
-use Rattle.std.proofs.Common.{◌≡◌, Some, length, arith, refl, sym, subst, ap, ◌∙◌}
-use Rattle.std.specs.Prelude.{slice_get}
+use Rattle.std.proofs.Common.{◌∷◌, sym, subst, ap, ◌∙◌, arith}
 use Rattle.std.proofs.lemmas.List.{take_at}
-use Rattle.netlist.specs.declared.node.Node.TheVariants.{Flip}
-use Rattle.netlist.specs.Order.{AreOrdered, HasInputs}
-use Rattle.netlist.specs.Present.{value_in}
-use Rattle.netlist.specs.Steps.{after_write, write_at}
+use Rattle.netlist.specs.Steps.{AreWrites, after_write, write_at}
 use Rattle.gate_sim.specs.contracts.sim.Sim.{the_view}
+use Rattle.gate_sim.specs.Calls.Call.{Tick}
 use Rattle.gate_sim.specs.Stands.{Keeps, IsFresh}
+use Rattle.gate_sim.specs.Inner.Evaluated.{IsEvaluated}
+use Rattle.gate_sim.proofs.Fields.{fits_fixed, keeps_fixed, evaluated_fixed}
+use Rattle.gate_sim.proofs.Refreshing.{over}
 use Rattle.gate_sim.proofs.Standing.{keeps_fix, fresh_tick}
 use Rattle.gate_sim.proofs.sim.Sim.fix.Goals as goal
 
-pub fix_states-requires-clause-inputs : goal.fix_states-requires-clause-inputs
-fix_states-requires-clause-inputs c =
-    let ordered : AreOrdered c.nodes.result.now c.self.inside.net.blocks = rw c.nodes.ensures.value c.nodes.ensures.ordered in
-    λ k i there. ordered.fit k (Flip i) there
+pub invariant_of-self : goal.invariant_of-self
+invariant_of-self c =
+    let fits = c.self.invariant in
+    let writes = take_at c.fix_writes.new.writes _ _ (omega arith) in
+    fits_fixed c.self.inside.packed _ c.fix_states.ensures.state _ c.self.inside.memory.items c.self.inside.fresh c.self.inside.written.items c.self.inside.whole
+    (record {
+      ordered = fits.ordered;
+      are_writes = subst (AreWrites c.self.inside.packed.net.blocks) (sym writes) c.fix_writes.ensures.inside;
+      has_words = fits.has_words;
+      written_long = fits.written_long;
+      settled = fits.settled;
+      passed = fits.passed;
+      begun = fits.begun;
+      unwritten = fits.unwritten;
+    })
 
 pub returns-clause-keeps : goal.returns-clause-keeps
 returns-clause-keeps c calls keeps fresh =
+    let s = the_view c.self.inside in
     let kept = subst (λ s. Keeps s calls) (sym c.self.view_is) keeps in
     let fresh' = subst (λ s. IsFresh s calls) (sym c.self.view_is) fresh in
-    let fixed = take_at c.fix_states.new.fixed _ _ (omega arith) in
     let writes = take_at c.fix_writes.new.writes _ _ (omega arith) in
-    keeps_fix _ calls _ _ c.nodes.ensures.ordered
-    (λ k i there. ap (λ l. value_in l k) fixed ∙ c.fix_states.ensures k i (rw c.nodes.ensures.value there) ∙ ap (λ l. value_in l i) c.deref-2.ensures.value)
-    (λ b a old. ap (λ l. after_write (write_at l b) a old) writes ∙ c.fix_writes.ensures.words b a old ∙ (rw (c.blocks-2.ensures.value, c.deref-3.ensures.value) refl))
-    kept fresh'
+    keeps_fixed c.self.inside.packed _ c.fix_states.ensures.state s _ (Tick ∷ calls)
+    (keeps_fix s calls _ _ c.self.invariant.ordered c.fix_states.ensures.flips
+    (λ b a old. ap (λ l. after_write (write_at l b) a old) writes ∙ c.fix_writes.ensures.words b a old)
+    kept fresh')
 
 pub returns-clause-values : goal.returns-clause-values
-returns-clause-values c calls fresh = fresh_tick (the_view c.self.inside) calls (subst (λ s. IsFresh s calls) (sym c.self.view_is) fresh)
+returns-clause-values c calls fresh =
+    let s = the_view c.self.inside in
+    subst (λ x. IsFresh (over s x) (Tick ∷ calls)) (sym c.fix_states.ensures.state) (fresh_tick s calls (subst (λ s. IsFresh s calls) (sym c.self.view_is) fresh))
 
-pub fix_writes-requires-clause-inputs : goal.fix_writes-requires-clause-inputs
-fix_writes-requires-clause-inputs c b block there =
-    let same = subst (λ l. slice_get l b ≡ Some block) c.blocks-2.ensures.value there in
-    subst (λ n. HasInputs n block) (sym c.self.invariant.values_long ∙ ap length (sym c.deref-3.ensures.value)) (c.nodes.ensures.ordered.read b block same)
+pub returns-clause-evaluated : goal.returns-clause-evaluated
+returns-clause-evaluated c is =
+    let s = the_view c.self.inside in
+    let old = subst IsEvaluated (sym c.self.view_is) is in
+    evaluated_fixed c.self.inside.packed _ c.fix_states.ensures.state s _ (record { ordered = old.ordered; begun = old.begun; unwritten = old.unwritten; row = old.row })

@@ -1,0 +1,228 @@
+//! A netlist with the values of its nodes, sixteen side by side.
+
+ghost use Rattle.std.specs.Prelude.{◌≡◌, ◌≤◌, ◌+◌, ℕ, ◌<◌, Bool, false, length, IfOk, Some, slice_get, slice_index, slice_set, vec_len};
+ghost use Rattle.std.specs.List.{count_by};
+ghost use Rattle.netlist.specs.Present.{IsRow, value_in};
+ghost use Rattle.netlist.specs.Settled.{AreSettled};
+ghost use Rattle.netlist.specs.Steps.{AreWrites, after_write, write_at};
+ghost use Rattle.netlist.specs.Touched.{is_other};
+ghost use Rattle.netlist.specs.Value.{written_in};
+ghost use Rattle.netlist.specs.Words.{HasWords, word_at};
+ghost use Rattle.netlist.specs.Inner.Taken.{is_taken};
+ghost use Rattle.netlist.specs.declared.node.Node.TheVariants.{Flip, Pin};
+ghost use Rattle.gate_sim.specs.Inner.Plans.{IsPlan};
+ghost use Rattle.gate_sim.specs.Inner.Slots.{slot_at};
+ghost use Rattle.gate_sim.specs.Inner.Takes.{AreTakes};
+
+use crate::leaving::{fix_states, fix_writes, set_bit, take_states};
+use crate::pass::{pass_all, value_of};
+use crate::plain::plan_of;
+use crate::plan::{Lane, Op, Plan, Slot, Take};
+use crate::stretches::{Stretch, stretches_of};
+use netlist::{BlockWrite, Netlist, Steps};
+use std::alloc::{AllocError, Global};
+use std::marker::Model;
+use std::sync::ledger::Ledger;
+
+/// A netlist with the values of its nodes, the inputs and the states of its flip-flops, and the states that the next tock takes.
+#[derive(Drop)]
+pub(crate) struct Packed {
+    net: Netlist,
+    ops: Vec<Op>,
+    lanes: Vec<u32>,
+    places: Vec<Lane>,
+    takes: Vec<Take>,
+    stretches: Vec<Stretch>,
+    slots: Vec<Slot>,
+    start: Vec<u16>,
+    fixed: Vec<u16>,
+}
+
+impl Model for Packed {
+    ghost use Rattle.gate_sim.specs.Inner.PackedState.{PackedState, PackedFits};
+    ghost use Rattle.gate_sim.specs.Inner.Slots.{bits_of, values_of};
+
+    ghost Value = { PackedState };
+
+    ghost view = { λ p. record { net = p.net; values = values_of p.places.items p.slots.items; start = bits_of p.places.items p.start.items; fixed = bits_of p.places.items p.fixed.items } };
+
+    ghost invariant = { λ p. PackedFits p.net p.ops.items p.lanes.items p.places.items p.takes.items p.slots.items p.start.items p.fixed.items };
+}
+
+fn blank_slots(alloc: Global, n: usize) -> Result<Vec<Slot>, AllocError>
+    ensures length { IfOk result (λ v. length v.items ≡ n) }
+    ensures value { IfOk result (λ v. (q : ℕ) → slot_at v.items q
+        ≡ record { value = 0; change = 0 }) }
+{
+    vec![in alloc; Slot {
+        value: 0,
+        change: 0
+    }; n]
+}
+
+fn no_words(alloc: Global, n: usize) -> Result<Vec<u16>, AllocError>
+    ensures length { IfOk result (λ v. length v.items ≡ n) }
+    ensures value { IfOk result (λ v. (q : ℕ) → slice_index v.items q ≡ 0) }
+{
+    vec![in alloc; 0u16; n]
+}
+
+// A netlist over a plan, where all values are 0.
+fn packed_of(
+    net: Netlist,
+    plan: Plan,
+    stretches: Vec<Stretch>,
+    slots: Vec<Slot>,
+    start: Vec<u16>,
+    fixed: Vec<u16>,
+) -> Packed
+    requires plan { IsPlan net.nodes net.blocks plan.ops.items plan.lanes.items plan.places.items }
+    requires takes { AreTakes net.nodes (length plan.ops.items) plan.lanes.items plan.places.items
+        plan.takes.items }
+    requires slots { length slots.items ≡ vec_len plan.ops }
+    requires blank { (q : ℕ) → slot_at slots.items q ≡ record { value = 0; change = 0 } }
+    requires start { length start.items ≡ vec_len plan.ops }
+    requires no_start { (q : ℕ) → slice_index start.items q ≡ 0 }
+    requires fixed { length fixed.items ≡ vec_len plan.ops }
+    requires no_fixed { (q : ℕ) → slice_index fixed.items q ≡ 0 }
+    ensures net { result.net ≡ net }
+    ensures start { (k : ℕ) → value_in result.start k ≡ false }
+    ensures fixed { (k : ℕ) → value_in result.fixed k ≡ false }
+{
+    Packed {
+        net,
+        ops: plan.ops,
+        lanes: plan.lanes,
+        places: plan.places,
+        takes: plan.takes,
+        stretches,
+        slots,
+        start,
+        fixed,
+    }
+}
+
+impl Packed {
+    /// A netlist whose nodes all have the value 0. Fails only where memory is wanted.
+    pub(crate) fn new(alloc: Global, net: Netlist) -> Result<Packed, AllocError>
+        ensures net { IfOk result (λ packed. packed.net ≡ net) }
+        ensures start { IfOk result (λ packed. (k : ℕ) → value_in packed.start k ≡ false) }
+        ensures fixed { IfOk result (λ packed. (k : ℕ) → value_in packed.fixed k ≡ false) }
+    {
+        let plan = plan_of(alloc, net.nodes(), net.blocks())?;
+        let n = plan.ops.len();
+        let stretches = stretches_of(alloc, &plan.ops)?;
+        let slots = blank_slots(alloc, n)?;
+        let start = no_words(alloc, n)?;
+        let fixed = no_words(alloc, n)?;
+        Ok(packed_of(net, plan, stretches, slots, start, fixed))
+    }
+
+    /// The netlist.
+    pub(crate) fn net(&self) -> &Netlist
+        ensures { result.now ≡ self.now.net }
+    {
+        &self.net
+    }
+
+    /// Gives each node its value. Only the gates and bits of words are evaluated of which an input, or the block, changed; all of them where
+    /// `whole` says that nothing was evaluated before.
+    pub(crate) fn follow<L: Ledger>(
+        &mut self,
+        memory: &[Vec<u16>],
+        written: &[bool],
+        whole: bool,
+        steps: &mut Steps<L>,
+    )
+        requires written { length written.now ≡ length self.old.net.blocks }
+        requires words { HasWords self.old.net.blocks memory.now }
+        requires settled { whole ≡ false → AreSettled self.old.net.nodes self.old.net.blocks
+            (value_in written.now) (word_at memory.now) (value_in self.old.values) }
+        ensures state { self.new ≡ record self.old { values = self.new.values } }
+        ensures row { IsRow self.old.net.nodes self.old.net.blocks (value_in self.old.start)
+            (word_at memory.now) (value_in self.new.values) }
+        ensures more { steps.old ≤ steps.new }
+        ensures counted { steps.new ≤ steps.old
+            + count_by (is_taken whole self.old.net.blocks
+            (λ k. is_other (value_in self.old.values k) (value_in self.new.values k))
+            (value_in written.now)) self.old.net.nodes }
+    {
+        let nodes = self.net.nodes();
+        pass_all(
+            nodes,
+            self.net.blocks(),
+            &self.ops,
+            &self.lanes,
+            &self.places,
+            &self.stretches,
+            &self.start,
+            memory,
+            written,
+            whole,
+            &mut self.slots,
+            steps,
+        );
+    }
+
+    /// The value of a node.
+    pub(crate) fn value(&self, node: u32) -> bool
+        requires { node < length self.now.net.nodes }
+        ensures { result ≡ value_in self.now.values node }
+    {
+        value_of(&self.places, &self.slots, node)
+    }
+
+    /// Sets an input.
+    pub(crate) fn set(&mut self, node: u32, bit: bool)
+        requires { node < length self.old.net.nodes }
+        ensures state { self.new ≡ record self.old { start = self.new.start } }
+        ensures start { self.new.start ≡ slice_set self.old.start node bit }
+        ensures inside { node < length self.old.start }
+    {
+        set_bit(&self.places, &mut self.start, node, bit);
+    }
+
+    /// Fixes for each flip-flop the value of its input.
+    pub(crate) fn fix_states(&mut self)
+        ensures state { self.new ≡ record self.old { fixed = self.new.fixed } }
+        ensures flips { (k i : ℕ) → slice_get self.old.net.nodes k ≡ Some (Flip i)
+            → value_in self.new.fixed k ≡ value_in self.old.values i }
+    {
+        fix_states(
+            self.net.nodes(),
+            &self.lanes,
+            &self.places,
+            &self.takes,
+            &self.slots,
+            &mut self.fixed,
+        );
+    }
+
+    /// Takes the states that were fixed.
+    pub(crate) fn take_states(&mut self)
+        ensures state { self.new ≡ record self.old { start = self.new.start } }
+        ensures pins { (k : ℕ) → slice_get self.old.net.nodes k ≡ Some Pin
+            → value_in self.new.start k ≡ value_in self.old.start k }
+        ensures flips { (k i : ℕ) → slice_get self.old.net.nodes k ≡ Some (Flip i)
+            → value_in self.new.start k ≡ value_in self.old.fixed k }
+    {
+        take_states(
+            self.net.nodes(),
+            &self.lanes,
+            &self.places,
+            &self.takes,
+            &self.fixed,
+            &mut self.start,
+        );
+    }
+
+    /// What each block takes in.
+    pub(crate) fn fix_writes(&self, writes: &mut [Option<BlockWrite>])
+        requires { length writes.old ≡ length self.now.net.blocks }
+        ensures inside { AreWrites self.now.net.blocks writes.new }
+        ensures words { (b a old : ℕ) → after_write (write_at writes.new b) a old
+            ≡ written_in (slice_get self.now.net.blocks b) (value_in self.now.values) a old }
+    {
+        fix_writes(self.net.blocks(), &self.places, &self.slots, writes);
+    }
+}
