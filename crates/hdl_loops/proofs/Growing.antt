@@ -356,7 +356,7 @@ absent_last (e ∷ es) k v h = absent_by e es (insert_entry same_bit es k v) k v
 pub left_kept : (hs : List Hop) (a b : Tree) (x : BitAt) → KeepsMarks a b → IsLeft hs a x → IsLeft hs b x
 left_kept hs a b x keeps left p h e f = keeps.marks h.to.name.now h.to.bit (left p h e f)
 
--- the hops that leave a bit and stand behind those still to come were followed
+-- the hops that leave a bit and stand after those still to come were followed
 abbrev pub IsLeftPast : List Hop → Tree → BitAt → Option ℕ → Type 0
 IsLeftPast hs t x o = (q : ℕ) (h : Hop) → slice_get hs q ≡ Some h → bit h.from ≡ x → IsPast o q → is_marked t (bit h.to) ≡ true
 

@@ -20,7 +20,7 @@ use Rattle.hdl_loops.specs.Inner.Knowing.{Leap, leap_of, leaps_of, leap_by, leap
 use Rattle.hdl_loops.specs.declared.hops.Hop.{Hop}
 use Rattle.hdl_loops.specs.declared.known.Known.{Known}
 use Rattle.hdl_loops.proofs.Lists.{In, in_left, in_right, in_either, in_gather, gathered, get_in, in_get, in_map, mapped}
-use Rattle.hdl_loops.proofs.Places.{place_found}
+use Rattle.hdl_loops.proofs.Placing.{place_found}
 
 -- ---- joints
 

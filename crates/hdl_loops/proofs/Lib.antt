@@ -1,7 +1,6 @@
 pub mod Widths
 pub mod PinsOf
-pub mod Finding
-pub mod Places
+pub mod Placing
 pub mod Lists
 pub mod Growing
 pub mod Linking

@@ -1,4 +1,4 @@
--- A loop that is told is one of the chip that was asked for.
+-- A loop that is reported is one of the chip that was asked for.
 use Rattle.std.proofs.Common.{◌≡◌, ℕ, ◌<◌, List, Option, Some, None, Bool, length, subst, ◌∙◌}
 use Rattle.std.specs.Prelude.{slice_get, MatchOption}
 use Rattle.std.specs.declared.vec.Vec.{Vec}

@@ -20,7 +20,7 @@ use Rattle.hdl_loops.specs.declared.known.Known.{Known}
 use Rattle.hdl_loops.proofs.Ends.{end_clear, end_depends}
 use Rattle.hdl_loops.proofs.Hopping.{tie_there, graph_hops, graph_has}
 use Rattle.hdl_loops.proofs.Lists.{In}
-use Rattle.hdl_loops.proofs.Places.{place_found, place_there}
+use Rattle.hdl_loops.proofs.Placing.{place_found, place_there}
 
 pub inner_fits : (chips : Chips) (chip : Entry) (i : ℕ) (inner : Entry) → inner_chip chips chip i ≡ Some inner → TreeFits chips chip → TreeFits chips inner
 inner_fits chips chip i inner found fit q c h = fit (i ∷ q) c (part_at chips chip i q inner c found h)

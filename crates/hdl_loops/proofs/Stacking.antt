@@ -19,7 +19,7 @@ use Rattle.hdl_loops.specs.declared.known.Known.{Known}
 use Rattle.hdl_loops.proofs.Growing.{get_kept, get_last, get_cases, length_more}
 use Rattle.hdl_loops.proofs.Nesting.{parts_nest, not_zero}
 use Rattle.hdl_loops.proofs.Noting.{done_still}
-use Rattle.hdl_loops.proofs.Places.{place_found}
+use Rattle.hdl_loops.proofs.Placing.{place_found}
 use Rattle.hdl_loops.proofs.Trips.{loop_out}
 
 -- ---- lists

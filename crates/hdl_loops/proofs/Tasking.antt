@@ -1,4 +1,4 @@
--- What is still to be told of a circle, as it is told.
+-- What is still to be reported of a circle, as it is reported.
 use Rattle.std.proofs.Common.{◌≡◌, ℕ, zero, suc, ◌+◌, ◌<◌, ◌≤◌, true, List, [], ◌∷◌, ◌++◌, ◌-◌, length, reverse, Option, Some, None, refl, sym, ap, subst, ◌∙◌, arith}
 use Rattle.std.specs.Prelude.{slice_get}
 use Rattle.std.proofs.lemmas.Option.{slice_get_within}
@@ -64,7 +64,7 @@ circle_goes chips known chip n b depth ws told is lt linked hops =
     (way_goes chips known chip (IsLoop chips chip) [] (bit_at [] n b) (bit_at [] n b) (add_name [] n) depth
     (λ names deep. subst (IsLoop chips chip) (sym (told_all (n ∷ names))) (trip_loop chips chip n b names deep)) ws lt linked hops)
 
--- a way that was told is told again by nothing
+-- a way that was reported is reported again by nothing
 pub told_goes : (chips : Chips) (told : Told) (p : Passage) (d : ℕ) (ts : List Task) (right : Names → Type 0) (chip : Entry) → slice_get chips.entries p.chip ≡ Some chip → AreTold chips told → was_passed told p.chip p.through.input.now p.through.bit p.through.output.now p.through.out ≡ true → Goes chips right (tasks.Pass p d ∷ ts) (names_of told) → Goes chips right ts (names_of told)
 told_goes chips told p d ts right chip there are was goes =
     let r = are p.chip p.through.input.now p.through.bit p.through.output.now p.through.out was chip there in
@@ -141,7 +141,7 @@ pass_pos ks p d ts = let two = room_two ks in let pos : 0 < power (room ks) d = 
 pub from_top : {A : Type 0} (old init : List A) (x : A) → old ≡ init ++ x ∷ [] → reverse old ≡ x ∷ reverse init
 from_top old init x e = ap (λ v. reverse v) e ∙ reverse-append init (x ∷ [])
 
--- the hops behind the first n
+-- the hops after the first n
 abbrev pub skip : ℕ → List Hop → List Hop
 skip zero ws = ws
 skip (suc n) [] = []

@@ -1,4 +1,4 @@
--- Names that are told one after another, each once.
+-- Names that are reported one after another, each once.
 use Rattle.std.proofs.Common.{◌≡◌, ℕ, Bool, true, false, ◌||◌, List, [], ◌∷◌, ◌++◌, refl, sym, ap, ap₂, ◌∙◌, append_assoc, append-nil}
 use Rattle.std.specs.Prelude.{if◌then◌else◌}
 use Rattle.std.specs.Str.{bytes_eq}
@@ -32,7 +32,7 @@ told_step told seen xs x false false e f same rest =
 told_step told seen xs x true false e f same rest = absurd (let h : true ≡ false = sym e ∙ (same x ∙ f) in cc)
 told_step told seen xs x false true e f same rest = absurd (let h : false ≡ true = sym e ∙ (same x ∙ f) in cc)
 
--- what is told is what was told, and then what is not among it
+-- what is reported is what was reported, and then what is not among it
 told_once : (xs told seen : Names) → ((y : List ℕ) → is_among y told ≡ is_among y seen) → add_names told xs ≡ told ++ once_more seen xs
 told_once [] told seen same = sym (append-nil told)
 told_once (x ∷ xs) told seen same = told_step told seen xs x (is_among x told) (is_among x seen) refl refl same (told_once xs)
@@ -44,7 +44,7 @@ pub told_append : (xs told ys : Names) → add_names told (xs ++ ys) ≡ add_nam
 told_append [] told ys = refl
 told_append (x ∷ xs) told ys = told_append xs (add_name told x) ys
 
--- what is told stays
+-- what is reported stays
 
 stays_one : (x y : List ℕ) (told : Names) → is_among x told ≡ true → is_among x (add_name told y) ≡ true
 stays_one x y told h = by (is_among y told)
@@ -72,7 +72,7 @@ pub now_told : (xs told : Names) → AllAmong xs (add_names told xs)
 now_told [] told = tt
 now_told (x ∷ xs) told = (stays_told x xs (add_name told x) (now_one x told), now_told xs (add_name told x))
 
--- what is told is not told again
+-- what is reported is not reported again
 pub told_before : (xs told : Names) → AllAmong xs told → add_names told xs ≡ told
 told_before [] told h = refl
 told_before (x ∷ xs) told h = ap (λ (b : Bool). add_names (if b then told else told ++ x ∷ []) xs) h.0 ∙ told_before xs told h.1

@@ -9,28 +9,17 @@ ghost use Rattle.hdl_plans.specs.Loops.{IsLoop};
 ghost use Rattle.hdl_loops.specs.Inner.Hops.{NoRound};
 ghost use Rattle.hdl_loops.specs.Inner.Looked.{LooksRight, TellsLoop};
 ghost use Rattle.hdl_loops.specs.Inner.Stacked.{IsStack, IsEntered, weight};
-ghost use Rattle.hdl_loops.specs.Inner.Knowing.{place_of, AreHops, AreKnown, IsKnown, IsDone, Notes, Nests, PartsDone, StaysKnown, KnowNothing, NestsAt};
+ghost use Rattle.hdl_loops.specs.Inner.Knowing.{ArePlaces, AreHops, AreKnown, IsKnown, IsDone, Notes, Nests, PartsDone, StaysKnown, KnowNothing, NestsAt};
 
 use crate::circle::circle_in;
 use crate::graph::graph_of;
 use crate::hops::Hop;
 use crate::known::{Known, known_of};
 use crate::names::nets_of;
+use crate::places::{place, places_of};
+use hdl_check::Table;
 use hdl_tree::{Body, Entry, Library, Name, Part, find_end};
 use std::alloc::{AllocError, Global};
-
-/// The place of the chip of this name.
-pub(crate) fn place(entries: &[Entry], name: &[u8]) -> Option<usize>
-    ensures value { result ≡ place_of entries.now name.now }
-    ensures found { MatchOption result (find_entry entries.now name.now ≡ None) (λ k. (k < length entries.now) × (find_entry entries.now name.now ≡ slice_get entries.now k)) }
-{
-    for (k, entry) in entries.iter().enumerate() {
-        if name == entry.name.as_bytes() {
-            return Some(k);
-        }
-    }
-    None
-}
 
 /// The parts of a chip; an end has none.
 pub(crate) fn parts_of<'a>(blocks: bool, entry: &'a Entry) -> &'a [Part]
@@ -92,22 +81,31 @@ fn loop_in<'a>(
     }
 }
 
-/// Looks at a chip that is no end, behind those of its parts.
+/// Looks at a chip that is no end, after those of its parts.
 fn look_at<'a>(
     alloc: Global,
     entries: &'a [Entry],
+    places: &Table<'a, usize>,
     blocks: bool,
     known: &[Option<Known<'a>>],
     entry: &'a Entry,
     depth: usize,
 ) -> Result<Look<'a>, AllocError>
+    requires placed { ArePlaces places.now entries.now }
     requires no_end { end_of blocks entry.now ≡ None }
     requires right { AreKnown (chips_in entries.now blocks) known.now }
     requires done { PartsDone (chips_in entries.now blocks) known.now entry.now }
     requires nests { Nests depth (chips_in entries.now blocks) entry.now }
     ensures { IfOk result (LooksRight (chips_in entries.now blocks) known.now entry.now) }
 {
-    let hops = graph_of(alloc, entries, blocks, known, parts_of(blocks, entry))?;
+    let hops = graph_of(
+        alloc,
+        entries,
+        places,
+        blocks,
+        known,
+        parts_of(blocks, entry),
+    )?;
     let list = hops.as_slice();
     match loop_in(alloc, entries, blocks, known, entry, list, depth)? {
         Some(nets) => Ok(Look::Loop(nets)),
@@ -143,11 +141,13 @@ fn note<'a>(known: &mut [Option<Known<'a>>], k: usize, inside: Known<'a>)
 fn find_here<'a>(
     alloc: Global,
     entries: &'a [Entry],
+    places: &Table<'a, usize>,
     blocks: bool,
     known: &mut [Option<Known<'a>>],
     k: usize,
     depth: usize,
 ) -> Result<Option<Vec<Name>>, AllocError>
+    requires placed { ArePlaces places.now entries.now }
     requires long { length known.old ≡ length entries.now }
     requires there { k < length entries.now }
     requires right { AreKnown (chips_in entries.now blocks) known.old }
@@ -159,7 +159,7 @@ fn find_here<'a>(
     ensures done { IfOk result (λ r. r ≡ None → IsKnown known.new k) }
     ensures told { IfOk result (λ r. (chip : Entry) → slice_get entries.now k ≡ Some chip → TellsLoop (chips_in entries.now blocks) chip r) }
 {
-    match look_at(alloc, entries, blocks, known, &entries[k], depth)? {
+    match look_at(alloc, entries, places, blocks, known, &entries[k], depth)? {
         Look::Loop(nets) => Ok(Some(nets)),
         Look::Fine(inside) => {
             note(known, k, inside);
@@ -168,19 +168,22 @@ fn find_here<'a>(
     }
 }
 
-/// Puts the chip of a part on the stack, unless there is none, it is known, or it is an end.
-fn enter(
+/// Puts the chip of a part on the stack, unless there is no such chip, it is known, or it is an
+/// end.
+fn enter<'a>(
     entries: &[Entry],
+    places: &Table<'a, usize>,
     blocks: bool,
     known: &[Option<Known>],
-    part: &Part,
+    part: &'a Part,
     depth: usize,
     stack: &mut Vec<Frame>,
 ) -> Result<(), AllocError>
+    requires placed { ArePlaces places.now entries.now }
     requires long { length known.now ≡ length entries.now }
     ensures { OnOk result (IsEntered (chips_in entries.now blocks) known.now part.now depth stack.old.items stack.new.items) }
 {
-    let Some(k) = place(entries, part.chip.as_bytes()) else {
+    let Some(k) = place(places, part.chip.as_bytes()) else {
         return Ok(());
     };
     if is_known(known, k) {
@@ -201,11 +204,13 @@ fn enter(
 fn step<'a>(
     alloc: Global,
     entries: &'a [Entry],
+    places: &Table<'a, usize>,
     blocks: bool,
     known: &mut [Option<Known<'a>>],
     top: usize,
     stack: &mut Vec<Frame>,
 ) -> Result<Option<Vec<Name>>, AllocError>
+    requires placed { ArePlaces places.now entries.now }
     requires long { length known.old ≡ length entries.now }
     requires right { AreKnown (chips_in entries.now blocks) known.old }
     requires some { 0 < length stack.old.items }
@@ -226,10 +231,18 @@ fn step<'a>(
             depth: frame.depth,
         })?;
         let part = &parts[frame.next];
-        enter(entries, blocks, known, part, frame.depth - 1, stack)?;
+        enter(entries, places, blocks, known, part, frame.depth - 1, stack)?;
         return Ok(None);
     }
-    find_here(alloc, entries, blocks, known, frame.chip, frame.depth)
+    find_here(
+        alloc,
+        entries,
+        places,
+        blocks,
+        known,
+        frame.chip,
+        frame.depth,
+    )
 }
 
 /// The nets of a loop in chip k, in which chips nest less deep than this; none, and the chip is known, if it is no end. The chips on the
@@ -237,11 +250,13 @@ fn step<'a>(
 fn find_in<'a>(
     alloc: Global,
     entries: &'a [Entry],
+    places: &Table<'a, usize>,
     blocks: bool,
     known: &mut [Option<Known<'a>>],
     k: usize,
     depth: usize,
 ) -> Result<Option<Vec<Name>>, AllocError>
+    requires placed { ArePlaces places.now entries.now }
     requires long { length known.old ≡ length entries.now }
     requires there { k < length entries.now }
     requires right { AreKnown (chips_in entries.now blocks) known.old }
@@ -260,7 +275,7 @@ fn find_in<'a>(
         depth,
     })?;
     while !stack.is_empty() {
-        if let Some(nets) = step(alloc, entries, blocks, known, k, &mut stack)? {
+        if let Some(nets) = step(alloc, entries, places, blocks, known, k, &mut stack)? {
             return Ok(Some(nets));
         }
     }
@@ -289,9 +304,9 @@ fn nothing_known<'a>(alloc: Global, n: usize) -> Result<Vec<Option<Known<'a>>>, 
     Ok(known)
 }
 
-/// Looks for a loop of the chip of this name, which has no other fault. None is answered only where it has none, and nets
-/// only where it has a loop with these nets, each once and named as in the outermost chip that has a name for it. Only want
-/// of memory is an error.
+/// Looks for a loop of the chip of this name, which has no other fault. None is answered only where it has no loop, and
+/// nets only where it has a loop with these nets, each once. Nets are named as in the outermost chip that has a name for
+/// them. Only want of memory is an error.
 pub fn find_loop(
     alloc: Global,
     library: &Library,
@@ -303,9 +318,18 @@ pub fn find_loop(
     ensures told { IfOk result (λ r. MatchOption r (Unit {0}) (λ nets. (entry : Entry) × (find_chip (chips_in library.now.entries blocks) top.now ≡ Some entry) × (IsLoop (chips_in library.now.entries blocks) entry nets.items))) }
 {
     let entries = library.entries.as_slice();
-    let Some(k) = place(entries, top.as_bytes()) else {
+    let places = places_of(alloc, entries)?;
+    let Some(k) = place(&places, top.as_bytes()) else {
         return Ok(None);
     };
     let mut known = nothing_known(alloc, entries.len())?;
-    find_in(alloc, entries, blocks, &mut known, k, entries.len())
+    find_in(
+        alloc,
+        entries,
+        &places,
+        blocks,
+        &mut known,
+        k,
+        entries.len(),
+    )
 }

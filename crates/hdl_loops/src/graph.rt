@@ -3,12 +3,13 @@
 ghost use Rattle.std.specs.Prelude.{◌≡◌, ◌<◌, ◌++◌, OnOk, IfOk, length};
 ghost use Rattle.hdl_check.specs.Whole.{chips_in};
 ghost use Rattle.hdl_loops.specs.Inner.Ties.{tie_of, ties_of, gather};
-ghost use Rattle.hdl_loops.specs.Inner.Knowing.{leads_through, leaps_of, leap_by, leaps_from, leaps_through, part_leaps};
+ghost use Rattle.hdl_loops.specs.Inner.Knowing.{ArePlaces, leads_through, leaps_of, leap_by, leaps_from, leaps_through, part_leaps};
 
-use crate::find::place;
 use crate::hops::{Dependency, Hop};
 use crate::joint::{Joint, joints_of};
 use crate::known::{Known, crosses};
+use crate::places::place;
+use hdl_check::Table;
 use hdl_tree::{Entry, Part};
 use std::alloc::{AllocError, Global};
 
@@ -99,14 +100,16 @@ fn hops_through<'a>(
 fn hops_of_part<'a>(
     alloc: Global,
     entries: &[Entry],
+    places: &Table<'a, usize>,
     blocks: bool,
     known: &[Option<Known<'a>>],
     part: &'a Part,
     hops: &mut Vec<Hop<'a>>,
 ) -> Result<(), AllocError>
+    requires { ArePlaces places.now entries.now }
     ensures { OnOk result (leaps_of hops.new.items ≡ leaps_of hops.old.items ++ part_leaps (chips_in entries.now blocks) known.now part.now) }
 {
-    match place(entries, part.chip.as_bytes()) {
+    match place(places, part.chip.as_bytes()) {
         None => Ok(()),
         Some(k) => {
             let joints = joints_of(alloc, &entries[k], part)?;
@@ -119,15 +122,17 @@ fn hops_of_part<'a>(
 pub(crate) fn graph_of<'a>(
     alloc: Global,
     entries: &[Entry],
+    places: &Table<'a, usize>,
     blocks: bool,
     known: &[Option<Known<'a>>],
     parts: &'a [Part],
 ) -> Result<Vec<Hop<'a>>, AllocError>
+    requires { ArePlaces places.now entries.now }
     ensures { IfOk result (λ v. leaps_of v.items ≡ gather (part_leaps (chips_in entries.now blocks) known.now) parts.now) }
 {
     let mut hops = Vec::new(alloc);
     for part in parts {
-        hops_of_part(alloc, entries, blocks, known, part, &mut hops)?;
+        hops_of_part(alloc, entries, places, blocks, known, part, &mut hops)?;
     }
     Ok(hops)
 }

@@ -135,7 +135,7 @@ fn turn_all<'a>(alloc: Global, hops: &[Hop<'a>]) -> Result<Vec<Hop<'a>>, AllocEr
     Ok(turned)
 }
 
-/// How many bits these pins have; of so many that is no matter, fewer.
+/// How many bits these pins have; past the greatest number it is fewer, which does not matter.
 fn count_bits(pins: &[Pin]) -> u64 {
     let mut count: u64 = 0;
     for pin in pins {

@@ -26,7 +26,7 @@ impl<'a> Leaving<'a> {
         }
     }
 
-    /// Enters hop k, behind those before it.
+    /// Enters hop k, after those before it.
     fn add(&mut self, hops: &[Hop<'a>], k: usize) -> Result<(), AllocError>
         requires there { k < length hops.now }
         requires linked { IsLinked hops.now self.old k }

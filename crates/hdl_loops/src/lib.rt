@@ -1,12 +1,12 @@
 //! Loops of bits (book, chapter 3 and appendix 2), found chip by chip: no chip is made flat.
 //!
-//! Each chip is looked at once, behind the chips of its parts. `graph` lists the hops of its own graph, each from a bit of the chip through
+//! Each chip is looked at once, after the chips of its parts. `graph` lists the hops of its own graph, each from a bit of the chip through
 //! one part to a bit of the chip: `joint` lists what the part's connections join, and `known` says which outputs of its chip depend on which
-//! inputs. `circle` finds a circle of hops, or sees that there is none: `ranks` that rise along each hop show that. `tree` lists what is
-//! reached from a bit, and by which ways, along the hops that by `leaving` leave what is reached; `pairs` does so for each bit of some pins.
-//! `search` only proposes a circle, so that it is found quickly. `find` goes through the chips. `names` goes along a circle and through the
-//! parts, and `told` keeps the nets that it passes. What is proved is each answer: that there is no loop, or that the nets are a loop's.
-//! There is no other but want of memory.
+//! inputs. `circle` finds a circle of hops, or sees that there is no circle: `ranks` that rise along each hop show that. `tree` lists what
+//! is reached from a bit, and by which ways, along the hops that by `leaving` leave what is reached; `pairs` does so for each bit of some
+//! pins. `search` only proposes a circle, so that it is found quickly. `find` goes through the chips. `names` goes along a circle and
+//! through the parts, and `told` keeps the nets that it passes. What is proved is each answer: that there is no loop, or that the nets are a
+//! loop's. There is no other but want of memory.
 #![tactic(auto)]
 
 mod circle;
@@ -18,6 +18,7 @@ mod known;
 mod leaving;
 mod names;
 mod pairs;
+mod places;
 mod ranks;
 mod search;
 mod told;

@@ -41,7 +41,8 @@ fn way_through<'a>(
     }
 }
 
-/// What is still to be told: a net, the nets of a way through a chip in which chips nest less deep than this, or no more of such a way.
+/// What is still to be reported: a net, or the nets of a way through a chip in which chips nest less deep than this. Or no more of such
+/// a way.
 #[derive(Clone, Copy, Debug)]
 pub enum Task<'a> {
     Net(&'a [u8]),
@@ -76,7 +77,8 @@ fn put_way<'a>(way: &[Hop<'a>], depth: usize, tasks: &mut Vec<Task<'a>>) -> Resu
     Ok(())
 }
 
-/// Puts what a way through a chip passes on the stack, unless it is told, or the chip is an end.
+/// Puts what a way through a chip passes on the stack, unless it is reported, or the chip is an
+/// end.
 fn pass<'a>(
     alloc: Global,
     entries: &'a [Entry],

@@ -1,4 +1,4 @@
-//! The nets that are told.
+//! The nets that are reported.
 
 ghost use Rattle.std.specs.Prelude.{◌≡◌, [], OnOk, IfOk, map};
 ghost use Rattle.hdl_loops.specs.Inner.Told.{names_of, was_passed, add_name, NotesOne};
@@ -15,7 +15,7 @@ pub struct Passage<'a> {
     pub through: Dependency<'a>,
 }
 
-/// The nets that are told, in order, and the ways that are.
+/// The nets that are reported, in order, and the ways that are.
 #[derive(Drop)]
 pub struct Told<'a> {
     names: IndexSet<&'a [u8]>,
@@ -23,7 +23,7 @@ pub struct Told<'a> {
 }
 
 impl<'a> Told<'a> {
-    /// None is told yet.
+    /// None is reported yet.
     pub(crate) fn new(alloc: Global) -> Told<'a>
         ensures names { names_of result ≡ [] }
         ensures passed { result.passed.keys ≡ [] }
@@ -34,7 +34,7 @@ impl<'a> Told<'a> {
         }
     }
 
-    /// Tells a net, unless it is told.
+    /// Reports a net, unless it is reported.
     pub(crate) fn add(&mut self, name: &'a [u8]) -> Result<(), AllocError>
         ensures names { OnOk result (names_of self.new ≡ add_name (names_of self.old) name.now) }
         ensures passed { OnOk result (self.new.passed.keys ≡ self.old.passed.keys) }
@@ -45,14 +45,14 @@ impl<'a> Told<'a> {
         }
     }
 
-    /// Whether this way is told.
+    /// Whether this way is reported.
     pub(crate) fn has_passed(&self, passage: &Passage<'a>) -> bool
         ensures { result ≡ was_passed self.now passage.now.chip passage.now.through.input.now passage.now.through.bit passage.now.through.output.now passage.now.through.out }
     {
         self.passed.contains(passage)
     }
 
-    /// Notes that this way is told.
+    /// Notes that this way is reported.
     pub(crate) fn note(&mut self, passage: Passage<'a>) -> Result<(), AllocError>
         ensures names { OnOk result (names_of self.new ≡ names_of self.old) }
         ensures passed { OnOk result (NotesOne self.old self.new passage.entry) }
@@ -63,7 +63,7 @@ impl<'a> Told<'a> {
         }
     }
 
-    /// The names that are told.
+    /// The names that are reported.
     pub(crate) fn copied(&self, alloc: Global) -> Result<Vec<Name>, AllocError>
         ensures { IfOk result (λ v. v.items ≡ names_of self.now) }
     {

@@ -149,7 +149,7 @@ impl<'a> Tree<'a> {
         Ok(tree)
     }
 
-    /// The hops that reach the bits, each behind the one that it goes on from.
+    /// The hops that reach the bits, each after the one that it goes on from.
     pub(crate) fn reached(&self) -> &[Node<'a>]
         ensures { result.now ≡ self.now.nodes.items }
     {

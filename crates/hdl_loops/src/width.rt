@@ -21,7 +21,7 @@ pub(crate) fn first_bit(subscript: Option<Subscript>) -> u32
     }
 }
 
-/// How many bits are taken of so many.
+/// How many bits are taken of this many.
 pub(crate) fn count_bits(subscript: Option<Subscript>, width: u32) -> u32
     requires { width < 257 }
     ensures value { result ≡ count_of subscript width }

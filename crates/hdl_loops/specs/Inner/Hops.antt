@@ -28,7 +28,7 @@ HasHop hs x y = (p : ℕ) × (h : Hop) × (slice_get hs p ≡ Some h) × (bit h.
 abbrev pub turn : Hop → Hop
 turn h = record { from = h.to; chip = h.chip; through = h.through; to = h.from }
 
--- hops that lead, one behind another, from one bit to another
+-- hops that lead, one after another, from one bit to another
 abbrev pub Linked : BitAt → List Hop → BitAt → Type 0
 Linked x [] y = x ≡ y
 Linked x (h ∷ ws) y = (bit h.from ≡ x) × Linked (bit h.to) ws y

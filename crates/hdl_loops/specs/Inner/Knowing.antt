@@ -6,6 +6,9 @@ use Rattle.hdl_tree.specs.declared.library.Entry.{Entry}
 use Rattle.hdl_tree.specs.declared.ends.End.{End}
 use Rattle.hdl_tree.specs.Chips.{Chips, end_of, find_chip, parts_of}
 use Rattle.hdl_tree.specs.Behaviour.{chip_at, inner_chip}
+use Rattle.hdl_check.specs.Inner.Entered.{Finds}
+use Rattle.hdl_check.specs.Inner.Progress.{numbered_entries}
+use Rattle.hdl_check.specs.declared.table.Table.{Table}
 use Rattle.hdl_plans.specs.Loops.{BitAt, bit_at, reaches_out}
 use Rattle.hdl_plans.specs.Ways.{Way, Depends, OwnCircle, TreeFits}
 use Rattle.hdl_loops.specs.Inner.Hops.{bit, input_of, output_of, HasHop, IsWay}
@@ -84,6 +87,10 @@ next_place (Some k) = Some (suc k)
 abbrev pub place_of : List Entry → List ℕ → Option ℕ
 place_of [] name = None
 place_of (e ∷ es) name = if bytes_eq name e.name then Some 0 else next_place (place_of es name)
+
+-- the table finds the chips in their places
+abbrev pub ArePlaces : Table ℕ → List Entry → Type 0
+ArePlaces places entries = Finds places (numbered_entries 0 entries)
 
 abbrev pub ties_for : Option Entry → Part → List Tie
 ties_for None part = []

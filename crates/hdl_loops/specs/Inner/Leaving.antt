@@ -15,7 +15,7 @@ abbrev pub IsFrom : Option ℕ → ℕ → Type 0
 IsFrom None q = ⊥
 IsFrom (Some p) q = q ≤ p
 
--- this place is behind all that are still to come
+-- this place is after all that are still to come
 abbrev pub IsPast : Option ℕ → ℕ → Type 0
 IsPast None q = Unit {0}
 IsPast (Some p) q = p < q

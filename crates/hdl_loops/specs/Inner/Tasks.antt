@@ -1,4 +1,4 @@
--- What is still to be told of a circle, in order.
+-- What is still to be reported of a circle, in order.
 use Rattle.std.specs.Prelude.{◌≡◌, ℕ, zero, suc, ◌+◌, ◌<◌, true, List, [], ◌∷◌, length, Option, Some, None, slice_get}
 use Rattle.hdl_tree.specs.declared.library.Entry.{Entry}
 use Rattle.hdl_tree.specs.Chips.{Chips}
@@ -32,25 +32,25 @@ pub record TripThrough (chips : Chips) (p : Passage) (names : List (List ℕ)) :
   pub there : slice_get chips.entries p.chip ≡ Some chip
   pub trip : Trip chips chip (input_of p.through) (output_of p.through) names
 
--- there is one all of whose nets are told
+-- there is one all of whose nets are reported
 abbrev pub PassTold : Chips → Passage → List (List ℕ) → Type 0
 PassTold chips p told = (chip : Entry) → slice_get chips.entries p.chip ≡ Some chip → TripAmong chips chip p.through.input.now p.through.bit p.through.output.now p.through.out told
 
--- whichever ways are told, what is told in the end is right
+-- whichever ways are reported, what is reported in the end is right
 abbrev pub Goes : (chips : Chips) (right : List (List ℕ) → Type 0) → List Task → List (List ℕ) → Type 0
 Goes chips right [] told = right told
 Goes chips right (tasks.Net n ∷ ts) told = Goes chips right ts (add_name told n.now)
 Goes chips right (tasks.Pass p d ∷ ts) told = (names : List (List ℕ)) → TripThrough chips p names → Goes chips right ts (add_names told names)
 Goes chips right (tasks.Passed p ∷ ts) told = PassTold chips p told × Goes chips right ts told
 
--- what comes next is told, if nothing more of a way is
+-- what comes next is reported, if nothing more of a way is
 abbrev pub IsSure : Chips → List Task → List (List ℕ) → Type 0
 IsSure chips [] told = Unit {0}
 IsSure chips (tasks.Net n ∷ ts) told = Unit {0}
 IsSure chips (tasks.Pass p d ∷ ts) told = Unit {0}
 IsSure chips (tasks.Passed p ∷ ts) told = PassTold chips p told
 
--- a step on: what is told in the end is those of a loop, if it was before
+-- a step on: what is reported in the end is those of a loop, if it was before
 abbrev pub GoesOn : Chips → List Task → List (List ℕ) → List Task → List (List ℕ) → Type 0
 GoesOn chips ts told us more = (chip : Entry) → Goes chips (IsLoop chips chip) ts told → Goes chips (IsLoop chips chip) us more
 

@@ -41,7 +41,7 @@ ties_by inner pin (source.Constant b) = []
 abbrev pub ties_in : Entry → Connection → List Tie
 ties_in inner conn = ties_by inner conn.pin conn.source
 
--- what f gives for each item, one behind another
+-- what f gives for each item, one after another
 abbrev pub gather : {A B : Type 0} → (A → List B) → List A → List B
 gather f [] = []
 gather f (x ∷ xs) = f x ++ gather f xs

@@ -1,4 +1,4 @@
--- Ways whose nets are told.
+-- Ways whose nets are reported.
 use Rattle.std.specs.Prelude.{◌≡◌, ℕ, ◌+◌, ◌<◌, Bool, true, List, [], ◌∷◌, ◌++◌, ◌||◌, ◌&&◌, map, length, Some, nat_eq, nat_lt, slice_get, if◌then◌else◌}
 use Rattle.std.specs.Str.{bytes_eq}
 use Rattle.std.specs.List.{list_any}
@@ -58,7 +58,7 @@ pub record DeepTrip (chips : Chips) (chip : Entry) (x y : BitAt) (names : List (
   pub head : nat_lt 0 (length (head_of trip.over y).path) ≡ true
   pub last : nat_lt 0 (length (last_of x trip.over).path) ≡ true
 
--- ---- what is told
+-- ---- what is reported
 
 -- one name more, unless it is there
 abbrev pub add_name : List (List ℕ) → List ℕ → List (List ℕ)
@@ -89,6 +89,6 @@ NotesOne old new p = (chip : ℕ) (n : List ℕ) (b : ℕ) (m : List ℕ) (k : �
 abbrev pub TripAmong : Chips → Entry → List ℕ → ℕ → List ℕ → ℕ → List (List ℕ) → Type 0
 TripAmong chips chip n b m k told = (names : List (List ℕ)) × (Trip chips chip (bit_at [] n b) (bit_at [] m k) names) × AllAmong names told
 
--- each way that is noted is one, and its nets are told
+-- each way that is noted is a way, and its nets are reported
 abbrev pub AreTold : Chips → Told → Type 0
 AreTold chips told = (place : ℕ) (n : List ℕ) (b : ℕ) (m : List ℕ) (k : ℕ) → was_passed told place n b m k ≡ true → (chip : Entry) → slice_get chips.entries place ≡ Some chip → TripAmong chips chip n b m k (names_of told)

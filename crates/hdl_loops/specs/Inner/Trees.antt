@@ -19,7 +19,7 @@ is_marked t x = is_some (place_in t x)
 abbrev pub IsReached : Tree → BitAt → Type 0
 IsReached t x = (bit t.root ≡ x) ⊎ (is_marked t x ≡ true)
 
--- a hop from this bit stands behind the hop in a place, or at the root
+-- a hop from this bit stands after the hop in a place, or at the root
 abbrev pub Behind : List Node → BitAt → Option ℕ → BitAt → Type 0
 Behind nodes root None x = root ≡ x
 Behind nodes root (Some i) x = (node : Node) × (slice_get nodes i ≡ Some node) × (bit node.hop.to ≡ x)
@@ -29,7 +29,7 @@ abbrev pub Comes : Tree → Option ℕ → BitAt → Type 0
 Comes t None x = bit t.root ≡ x
 Comes t (Some i) x = place_in t x ≡ Some i
 
--- the hop in place j is in the list, and stands behind an earlier one
+-- the hop in place j is in the list, and stands after an earlier one
 abbrev pub IsBefore : Option ℕ → ℕ → Type 0
 IsBefore None j = Unit {0}
 IsBefore (Some i) j = i < j

@@ -1,23 +1,40 @@
 -- The place of the chip of a name.
-use Rattle.std.proofs.Common.{◌≡◌, ℕ, zero, suc, ◌<◌, Bool, true, false, cond, List, [], ◌∷◌, Option, Some, None, refl, ap, ◌∙◌, arith, length}
+use Rattle.std.proofs.Common.{◌≡◌, ℕ, suc, ◌+◌, Bool, true, false, cond, List, [], ◌∷◌, Option, Some, None, refl, ap, ◌∙◌, arith}
 use Rattle.std.specs.Prelude.{slice_get}
 use Rattle.std.specs.Str.{bytes_eq}
 use Rattle.hdl_tree.specs.declared.library.Entry.{Entry}
 use Rattle.hdl_tree.specs.Chips.{find_entry}
+use Rattle.hdl_check.specs.Tables.{find_value}
+use Rattle.hdl_check.specs.Inner.Progress.{numbered_entries}
 use Rattle.hdl_loops.specs.Inner.Knowing.{place_of, next_place}
 
-pub place_at : (es : List Entry) (name : List ℕ) (k : ℕ) (e : Entry) → slice_get es k ≡ Some e → bytes_eq name e.name ≡ true → ((j : ℕ) → j < k → (x : Entry) → slice_get es j ≡ Some x → bytes_eq name x.name ≡ false) → place_of es name ≡ Some k
-place_at [] name k e h t before = absurd cc
-place_at (x ∷ xs) name zero e h t before =
-    let same : x ≡ e = cc in
-    ap (λ (b : Bool). cond b (Some 0) (next_place (place_of xs name))) (ap (λ (v : Entry). bytes_eq name v.name) same ∙ t)
-place_at (x ∷ xs) name (suc k) e h t before =
-    ap (λ (b : Bool). cond b (Some 0) (next_place (place_of xs name))) (before 0 (omega arith) x refl) ∙ ap next_place (place_at xs name k e h t (λ j lt y g. before (suc j) (omega arith) y g))
+-- the places as the table has them, from n on
+moved : ℕ → Option ℕ → Option ℕ
+moved n None = None
+moved n (Some k) = Some (n + k)
 
-pub place_none : (es : List Entry) (name : List ℕ) → ((j : ℕ) → j < length es → (x : Entry) → slice_get es j ≡ Some x → bytes_eq name x.name ≡ false) → place_of es name ≡ None
-place_none [] name before = refl
-place_none (x ∷ xs) name before =
-    ap (λ (b : Bool). cond b (Some 0) (next_place (place_of xs name))) (before 0 (omega arith) x refl) ∙ ap next_place (place_none xs name (λ j lt y g. before (suc j) (omega (arith, lt)) y g))
+moved_next : (n : ℕ) (o : Option ℕ) → moved (suc n) o ≡ moved n (next_place o)
+unfolding moved
+moved_next n None = refl
+moved_next n (Some k) = let same : suc n + k ≡ n + suc k = omega arith in ap Some same
+
+moved_by : (b : Bool) (n : ℕ) (o p : Option ℕ) → o ≡ moved (suc n) p → cond b (Some n) o ≡ moved n (cond b (Some 0) (next_place p))
+unfolding moved
+moved_by true n o p h = let same : n ≡ n + 0 = omega arith in ap Some same
+moved_by false n o p h = h ∙ moved_next n p
+
+numbered : (es : List Entry) (name : List ℕ) (n : ℕ) → find_value name (numbered_entries n es) ≡ moved n (place_of es name)
+unfolding moved
+numbered [] name n = refl
+numbered (e ∷ es) name n = moved_by (bytes_eq name e.name) n (find_value name (numbered_entries (suc n) es)) (place_of es name) (numbered es name (suc n))
+
+moved_none : (o : Option ℕ) → moved 0 o ≡ o
+unfolding moved
+moved_none None = refl
+moved_none (Some k) = let same : 0 + k ≡ k = omega arith in ap Some same
+
+pub place_numbered : (es : List Entry) (name : List ℕ) → find_value name (numbered_entries 0 es) ≡ place_of es name
+place_numbered es name = numbered es name 0 ∙ moved_none (place_of es name)
 
 next_by : (xs : List Entry) (x : Entry) (o p : Option ℕ) (found : Option Entry) (k : ℕ) → o ≡ p → next_place p ≡ Some k → ((j : ℕ) → o ≡ Some j → found ≡ slice_get xs j) → found ≡ slice_get (x ∷ xs) k
 next_by xs x o None found k e h go = absurd cc

@@ -1,0 +1,15 @@
+use Rattle.std.proofs.Common.{◌≡◌, ℕ, ◌++◌, List, length}
+use Rattle.hdl_check.specs.Tables.{find_value}
+use Rattle.hdl_check.specs.Inner.Entered.{table_of}
+use Rattle.std.proofs.Common.{◌+◌}
+use Rattle.hdl_check.specs.Inner.Progress.{numbered_entries}
+use Rattle.hdl_loops.proofs.places.places_of.Given as goal
+
+abbrev pub invariant-loop-entry : goal.invariant-loop-entry
+invariant-loop-entry l = record {
+  left : (x : List ℕ) → find_value x (table_of l.places ++ numbered_entries l.k l.rest) ≡ find_value x (numbered_entries 0 l.entries);
+  many : l.k + length l.rest ≡ length l.entries;
+}
+
+abbrev pub decreases-loop-entry : goal.decreases-loop-entry
+decreases-loop-entry l = length l.rest
