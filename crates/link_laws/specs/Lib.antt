@@ -1,0 +1,3 @@
+pub mod First
+pub mod Linking
+pub mod Rows
