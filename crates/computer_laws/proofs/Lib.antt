@@ -1,0 +1,4 @@
+pub mod Memory
+pub mod Mapped
+pub mod Down
+pub mod Cycle
