@@ -1,0 +1,4 @@
+pub mod Drivers
+pub mod Bits
+pub mod Values
+pub mod Same
