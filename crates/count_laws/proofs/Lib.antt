@@ -1,0 +1,4 @@
+mod Sections
+mod Tokens
+mod VmFiles
+mod Programs

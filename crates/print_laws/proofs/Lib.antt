@@ -1,0 +1,5 @@
+mod Moves
+mod Expressions
+mod Classes
+mod Limits
+pub mod Reprinted
