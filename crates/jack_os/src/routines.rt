@@ -128,7 +128,7 @@ const DIVIDE: Sketch = Sketch {
 };
 
 /// `Math.divide`: long division of the magnitudes, bit by bit from the top. q is the quotient and r the remainder so far, and s
-/// tells whether the signs differ. With h added, words compare as numbers without sign.
+/// says whether the signs differ. With h added, words compare as numbers without sign.
 pub fn divide(alloc: Global) -> Result<Subroutine, AllocError>
     ensures { IfOk result (λ s. the_subroutine s ≡ routines.divide) }
 {
@@ -169,7 +169,7 @@ const N: TermSketch = Variable("n");
 // `c[0]`, the length of the part at c
 const LENGTH: TermSketch = Element("c", &One(ZERO));
 
-// `c[1]`, the part behind it
+// `c[1]`, the part after it
 const NEXT: ExpressionSketch = One(Element("c", &One(ONE)));
 
 // `return c + 1;`
@@ -225,8 +225,8 @@ const ALLOC: Sketch = Sketch {
     ],
 };
 
-/// `Memory.alloc`: a block of so many words, the upper end of the first free part that is long enough, or all of it, where the rest
-/// would be shorter than two words. The words of the block are as they were.
+/// `Memory.alloc`: a block of this many words, the upper end of the first free part that is long enough. It is all of that part,
+/// where the rest would be shorter than two words. The words of the block are as they were.
 pub fn alloc_block(alloc: Global) -> Result<Subroutine, AllocError>
     ensures { IfOk result (λ s. the_subroutine s ≡ routines.alloc) }
 {

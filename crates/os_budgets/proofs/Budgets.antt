@@ -29,7 +29,7 @@ titles_of text = class_names (main_alone (class_in text)) ++ class_names system_
 abbrev files_of : List ℕ → List File
 files_of text = files_of_program (program_of text) (names_of text) (titles_of text)
 
--- the class in it is right, its names are, and it has so many words
+-- the class in it is right, its names are, and it has this many words
 record Computes (text : List ℕ) (words static : ℕ) : Type 0 where
   spells : is_spelled text ≡ true
   named : all_faults (main_alone (class_in text)) system_classes ≡ None

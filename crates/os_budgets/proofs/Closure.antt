@@ -1,5 +1,5 @@
--- The linked subroutines of a program and its budget, by computation: the list is found by a search of which nothing is proved but that it stays
--- within what is linked, and tested.
+-- The linked subroutines of a program and its budget, by computation. The list is found by a search, of which nothing is proved but that it
+-- stays within what is linked, and tested.
 use Rattle.std.proofs.Common.{◌≡◌, ◌≢◌, ◌<◌, ◌+◌, ◌==◌, ◌&&◌, ℕ, zero, suc, Bool, true, false, not, List, [], ◌∷◌, ◌++◌, drop, map, length, get_or, sym, ap, ◌∙◌, subst, arith}
 use Rattle.std.specs.Prelude.{sum_by}
 use Rattle.std.specs.List.{All, AllByRecursion, AllPairs, Contains, list_any}
@@ -44,7 +44,7 @@ abbrev pub entered : Bool → ℕ → List ℕ → List ℕ
 entered true g fs = fs
 entered false g fs = g ∷ fs
 
--- what is found from these on, in so many steps
+-- what is found from these on, in this many steps
 abbrev pub search : ℕ → List Row → List ℕ → List ℕ → List ℕ
 search zero t todo fs = fs
 search (suc n) t [] fs = fs
@@ -67,7 +67,7 @@ is_right t first words fs = is_in fs first && (every (λ g. every (is_in fs) (ro
 abbrev by_rows : ℕ → List Row → ℕ → ℕ → Bool
 by_rows n t first words = is_right t first words (search n t (first ∷ []) [])
 
--- the budget is so many words
+-- the budget is this many words
 abbrev pub has_budget : ℕ → Program → ℕ → Bool
 has_budget n p words = by_rows n (rows p) p.init words
 
@@ -170,7 +170,7 @@ module _ (p : Program) where
       by_found words (search n (rows p) (p.init ∷ []) [])
       (found_all (rows p) (IsLinked p) calls_linked n (p.init ∷ []) [] (All-cons (IsLinked p) p.init [] init (All-nil (IsLinked p))) (All-nil (IsLinked p))) h
 
-  -- ---- every subroutine behind the first
+  -- ---- every subroutine after the first
 
   covered_at : (fs : List ℕ) (at : ℕ) (ss : List Subroutine) → covers fs at ss ≡ true → (k : ℕ) → k < length ss → is_in fs (at + k) ≡ true
   covered_at fs at [] h k near = absurd (omega (arith, near))

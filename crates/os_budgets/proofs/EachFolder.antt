@@ -1,4 +1,4 @@
--- What a program has of words besides those of its folder: at most those of all the system's subroutines, since a linked subroutine is one
+-- What a program has of words besides those of its folder is at most those of all the system's subroutines. For a linked subroutine is one
 -- of the program's, and each is counted once.
 use Rattle.std.proofs.Common.{◌≡◌, ◌≢◌, ◌<◌, ◌≤◌, ◌+◌, ◌-◌, ◌⊎◌, ◌++◌, ℕ, zero, suc, List, [], ◌∷◌, length, map, get_or, inl, inr, refl, sym, ap, ◌∙◌, subst, arith}
 use Rattle.std.specs.Prelude.{sum_by}

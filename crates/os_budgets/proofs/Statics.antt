@@ -123,7 +123,7 @@ by_rows n ss count words first t = is_right ss count words first t (search n t f
 abbrev by_sections : ℕ → List Section → ℕ → ℕ → Bool
 by_sections n ss count words = by_rows n ss count words (as_list (position ss sys_init)) (rows ss)
 
--- the files have so many static words
+-- the files have this many static words
 abbrev pub has_statics : ℕ → List File → ℕ → Bool
 has_statics n files words = by_sections n (sections false files) (length files) words
 

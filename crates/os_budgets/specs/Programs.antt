@@ -30,8 +30,8 @@ files_with c os = program_files (program_with c os) (program_names (main_alone c
 abbrev pub HasStatics : List File → ℕ → Type 0
 HasStatics files words = (kept : List Section) × AreKept false (sections false files) kept × (words ≡ words_before kept (length files))
 
--- A text of Main.jack and the operating system: each spells one class or list of classes, they are well named together, the budget of their
--- program is so many words, and no others, and it has so many static words.
+-- A text of Main.jack and the operating system. Each spells one class or list of classes, and they are well named together. The budget of
+-- their program is this number of words, and no other, and it has this number of static words.
 pub record HasWords (text : List ℕ) (words statics : ℕ) : Type 0 where
   pub class : Class
   pub spelled : SpellsClass text class

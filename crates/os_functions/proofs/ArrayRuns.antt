@@ -1,28 +1,23 @@
 -- Arrays: calls of Memory.alloc and Memory.deAlloc within calls.
-use Rattle.std.proofs.Common.{◌≡◌, ℕ, suc, ◌+◌, ◌*◌, ◌-◌, ◌<◌, ◌≤◌, List, [], ◌∷◌, ◌++◌, length, Some, codes, refl, sym, ap, ◌∙◌, subst, arith}
+use Rattle.std.proofs.Common.{◌≡◌, ℕ, ◌<◌, ◌≤◌, List, [], ◌∷◌, Some, codes, refl, sym, subst, arith}
 use Rattle.word16.specs.Words.{word_lt}
 use Rattle.jack_core.specs.declared.program.Core.{Core}
 use Rattle.jack_core.specs.Texts.{the_subroutines}
-use Rattle.jack_meaning.specs.Text.{Value, Literal, Call as Calling, Open, NoMore, More, Do, Return, Text, End, Next, Subroutine}
-use Rattle.jack_meaning.specs.Meaning.{Frame, State, subroutine_at, new_frame}
-use Rattle.os_laws.specs.Calls.{NextCall, ComesToCall, given_back}
+use Rattle.jack_meaning.specs.Text.{Value, Call as Calling, Open, NoMore, More, Do, Return, Text, End, Next, Subroutine}
+use Rattle.jack_meaning.specs.Meaning.{Frame, State}
+use Rattle.os_laws.specs.Calls.{ComesToCall}
 use Rattle.os_laws.specs.Heap.{Block}
-use Rattle.os_laws.specs.HeapCalls.{HasRoom, HasHeap, Holds, KeepsOthers, Allocated, Freed}
-use Rattle.os_laws.specs.KernelCalls.{Allocating, AllocatingNothing, Deallocating}
-use Rattle.os_laws.specs.Kernel.{alloc_meaning, deAlloc_meaning}
+use Rattle.os_laws.specs.HeapCalls.{HasHeap, Holds, KeepsOthers}
 use Rattle.os_laws.specs.Names.{IsShipped}
-use Rattle.os_laws.proofs.Allocating as allocating
-use Rattle.os_laws.proofs.Basics.{enters, frame_with}
 use Rattle.os_laws.proofs.Comparing.{below_one, not_less}
-use Rattle.os_laws.proofs.HeapCalls.{free_law}
-use Rattle.os_laws.proofs.Runs.{Call, over, run}
-use Rattle.os_functions.specs.Calls.{routine_number, CallsNext, Returns, Refuses}
-use Rattle.os_functions.specs.MemoryLaws.{NewLaw, NewErrorLaw, NewAsksLaw, DisposeLaw, ArrayLaws}
+use Rattle.os_laws.proofs.Runs.{run}
+use Rattle.os_functions.specs.Calls.{routine_number}
+use Rattle.os_functions.specs.MemoryLaws.{NewErrorLaw, NewAsksLaw}
 use Rattle.os_functions.proofs.Pieces.{in_call, tail, returns_value, erring, refuses_by}
-use Rattle.os_functions.proofs.MemoryRoutines.{is_new_array, is_dispose_array, is_alloc, is_deAlloc}
-use Rattle.os_functions.proofs.Named.{numbered, is_error, system_error, number_of, own_number}
+use Rattle.os_functions.proofs.MemoryRoutines.{is_new_array}
+use Rattle.os_functions.proofs.Named.{numbered, is_error, system_error, number_of}
 use Rattle.os_functions.proofs.Texts.{new_array_body, dispose_array_body}
-use Rattle.os_functions.proofs.Ways.{Way, way_then, way_of_run, way_of_call, returns, opened, returns_by, comes_to}
+use Rattle.os_functions.proofs.Ways.{comes_to}
 
 module _ (subs : List Subroutine) (g : ℕ) (ss ws : List ℕ) where
   -- a text that is at a call of this number with this value
@@ -41,7 +36,7 @@ module _ (subs : List Subroutine) (g : ℕ) (ss ws : List ℕ) where
   pub gives_back : (deAlloc o : ℕ) → run subs 1 (in_call g o ss ws (dispose_array_body deAlloc) (o ∷ []) []) ≡ Some (in_call g o ss ws (giving_back deAlloc o) (o ∷ []) [])
   gives_back deAlloc o = refl
 
-  -- behind the call
+  -- after the call
   pub disposed : (deAlloc o : ℕ) → run subs 2 (in_call g o ss ws (Next (Do 1 (Value 0)) (tail (dispose_array_body deAlloc))) (o ∷ []) []) ≡ Some (in_call g o ss ws (returns_value 2 0 End) (o ∷ []) [])
   disposed deAlloc o = refl
 

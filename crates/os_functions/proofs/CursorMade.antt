@@ -1,27 +1,25 @@
 -- The cursor moved: calls of Math.multiply and Math.divide within a call.
-use Rattle.std.proofs.Common.{◌≡◌, ◌⊎◌, inl, inr, ⊎_elim, ℕ, zero, suc, ◌+◌, ◌-◌, ◌*◌, ◌/◌, ◌%◌, ◌<◌, ◌≤◌, Bool, true, false, nat_eq, nat_lt, bit_and, bit_or, List, [], ◌∷◌, length, Some, codes, pos, refl, sym, ap, ◌∙◌, subst, arith}
-use Rattle.std.specs.Prelude.{slice_set, int_div}
+use Rattle.std.proofs.Common.{◌≡◌, ◌⊎◌, inl, inr, ⊎_elim, ℕ, suc, ◌+◌, ◌*◌, ◌/◌, ◌%◌, ◌<◌, ◌≤◌, true, nat_lt, bit_and, bit_or, List, [], ◌∷◌, length, Some, codes, refl, sym, ap, ◌∙◌, subst, arith}
+use Rattle.std.specs.Prelude.{slice_set}
 use Rattle.std.proofs.lemmas.Bool.{cases_lt}
 use Rattle.std.proofs.lemmas.Bool.Decides.{nat_tests}
 use Rattle.std.proofs.lemmas.Nat.{and_mask, le_or_l, le_or_r}
-use Rattle.word16.specs.Words.{word_add, word_eq, word_lt, word_gt, truth, signed_value}
+use Rattle.word16.specs.Words.{word_add, word_eq, word_lt, word_gt}
 use Rattle.jack_core.specs.declared.program.Core.{Core}
 use Rattle.jack_core.specs.Texts.{the_subroutines}
-use Rattle.jack_meaning.specs.Text.{Argument, Static, Plus, Equal, And, Expression, Literal, Value, Name, Binary, Open, Call as Calling, NoMore, More, Let, Return, Text, End, Next, Function, Subroutine}
+use Rattle.jack_meaning.specs.Text.{Argument, Static, Plus, Equal, And, Expression, Literal, Value, Name, Binary, Open, Call as Calling, NoMore, More, Let, Return, Text, End, Next, Subroutine}
 use Rattle.jack_meaning.specs.Meaning.{Frame, State, subroutine_at, new_frame}
-use Rattle.os_laws.specs.Calls.{NextCall}
 use Rattle.os_laws.specs.Kernel.{multiply_meaning, divide_meaning}
 use Rattle.os_laws.specs.KernelCalls.{Multiplying, Dividing}
 use Rattle.os_laws.specs.Names.{IsShipped}
-use Rattle.os_laws.specs.Numbers.{product, quotient, multiply_steps, bits_from}
+use Rattle.os_laws.specs.Numbers.{product, quotient, multiply_steps}
 use Rattle.os_laws.proofs.Basics.{enters}
 use Rattle.os_laws.proofs.Comparing.{less, not_less, negative, not_negative}
-use Rattle.os_laws.proofs.LawsMade.{few_steps}
 use Rattle.os_laws.proofs.Multiplying as multiplying
 use Rattle.os_laws.proofs.Quotients as quotients
 use Rattle.os_laws.proofs.Runs.{Call, over, run}
-use Rattle.os_functions.specs.Calls.{routine_number, HasStatics, CallsNext, Leaves, Refuses}
-use Rattle.os_functions.specs.CursorLaws.{cell_address, with_cursor, MoveLaw, MoveErrorLaw, CursorLaws}
+use Rattle.os_functions.specs.Calls.{routine_number, HasStatics, CallsNext, Leaves}
+use Rattle.os_functions.specs.CursorLaws.{cell_address, with_cursor, MoveErrorLaw, CursorLaws}
 use Rattle.os_functions.proofs.Named.{numbered, is_error, system_error, number_of, own_number, first_static}
 use Rattle.os_functions.proofs.Pieces.{in_call, tail, returns_value, erring, refuses_by}
 use Rattle.os_functions.proofs.PixelFacts.{in_cells, off_cells, one_more}

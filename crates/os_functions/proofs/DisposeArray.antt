@@ -1,29 +1,24 @@
 -- An array is given back: a call of Memory.deAlloc within a call.
-use Rattle.std.proofs.Common.{◌≡◌, ℕ, suc, ◌+◌, ◌*◌, ◌-◌, ◌<◌, ◌≤◌, List, [], ◌∷◌, ◌++◌, length, Some, codes, refl, sym, ap, ◌∙◌, subst, arith}
-use Rattle.word16.specs.Words.{word_lt}
+use Rattle.std.proofs.Common.{◌≡◌, ℕ, suc, List, [], ◌∷◌, ◌++◌, length, codes, refl, sym, ap, ◌∙◌, subst, arith}
 use Rattle.jack_core.specs.declared.program.Core.{Core}
 use Rattle.jack_core.specs.Texts.{the_subroutines}
-use Rattle.jack_meaning.specs.Text.{Value, Literal, Call as Calling, Open, NoMore, More, Do, Return, Text, End, Next, Subroutine}
+use Rattle.jack_meaning.specs.Text.{Value, Open, Do, Text, End, Next, Subroutine}
 use Rattle.jack_meaning.specs.Meaning.{Frame, State, subroutine_at, new_frame}
-use Rattle.os_laws.specs.Calls.{NextCall, ComesToCall, given_back}
-use Rattle.os_laws.specs.Heap.{Block}
-use Rattle.os_laws.specs.HeapCalls.{HasRoom, HasHeap, Holds, KeepsOthers, Allocated, Freed}
-use Rattle.os_laws.specs.KernelCalls.{Allocating, AllocatingNothing, Deallocating}
-use Rattle.os_laws.specs.Kernel.{alloc_meaning, deAlloc_meaning}
+use Rattle.os_laws.specs.Calls.{given_back}
+use Rattle.os_laws.specs.HeapCalls.{Freed}
+use Rattle.os_laws.specs.KernelCalls.{Deallocating}
+use Rattle.os_laws.specs.Kernel.{deAlloc_meaning}
 use Rattle.os_laws.specs.Names.{IsShipped}
-use Rattle.os_laws.proofs.Allocating as allocating
-use Rattle.os_laws.proofs.Basics.{enters, frame_with}
-use Rattle.os_laws.proofs.Comparing.{below_one, not_less}
+use Rattle.os_laws.proofs.Basics.{enters}
 use Rattle.os_laws.proofs.HeapCalls.{free_law}
 use Rattle.os_laws.proofs.Runs.{Call, over, run}
-use Rattle.os_functions.specs.Calls.{routine_number, HasStatics, CallsNext, Returns, Refuses}
-use Rattle.os_functions.specs.MemoryLaws.{NewLaw, NewErrorLaw, NewAsksLaw, DisposeLaw, ArrayLaws}
-use Rattle.os_functions.proofs.Pieces.{in_call, tail, returns_value, erring, refuses_by}
-use Rattle.os_functions.proofs.MemoryRoutines.{is_new_array, is_dispose_array, is_alloc, is_deAlloc}
-use Rattle.os_functions.proofs.Named.{numbered, is_error, system_error, number_of, own_number}
+use Rattle.os_functions.specs.Calls.{routine_number, HasStatics, Returns}
+use Rattle.os_functions.proofs.Pieces.{in_call, tail, returns_value}
+use Rattle.os_functions.proofs.MemoryRoutines.{is_dispose_array, is_deAlloc}
+use Rattle.os_functions.proofs.Named.{numbered, number_of, own_number}
 use Rattle.os_functions.proofs.Statics.{same_free}
-use Rattle.os_functions.proofs.Texts.{new_array_body, dispose_array_body}
-use Rattle.os_functions.proofs.Ways.{Way, way_then, way_of_run, way_of_call, returns, opened, returns_by, comes_to}
+use Rattle.os_functions.proofs.Texts.{dispose_array_body}
+use Rattle.os_functions.proofs.Ways.{Way, way_then, way_of_run, way_of_call, returns, opened, returns_by}
 use Rattle.os_functions.proofs.ArrayRuns.{giving_back, gives_back, disposed, with_frames, has_heap, holds, keeps}
 
 module _ {core : Core} (p : IsShipped core) (h : HasStatics p) (s : State) (d : Deallocating (the_subroutines core) s (routine_number p (codes "Array") (codes "dispose")) h.free) where

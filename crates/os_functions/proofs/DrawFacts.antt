@@ -1,8 +1,9 @@
 -- The pixels of a cell while a character is drawn.
-use Rattle.std.proofs.Common.{◌≡◌, ◌≢◌, ◌⊎◌, inl, inr, ⊎_elim, ℕ, zero, suc, ◌+◌, ◌-◌, ◌*◌, ◌/◌, ◌%◌, ◌^◌, ◌<◌, ◌≤◌, min, bit_and, bit_or, List, length, refl, sym, ap, ◌∙◌, arith}
+use Rattle.std.proofs.Common.{◌≡◌, ◌≢◌, ◌⊎◌, inl, inr, ⊎_elim, ℕ, zero, suc, ◌+◌, ◌-◌, ◌*◌, ◌^◌, ◌<◌, ◌≤◌, min, bit_and, bit_or, List, length, refl, sym, ap, ◌∙◌, arith}
 use Rattle.std.specs.Prelude.{slice_set}
 use Rattle.std.proofs.lemmas.Bool.{cases_lt}
 use Rattle.std.proofs.lemmas.List.{length-set}
+use Rattle.std.proofs.lemmas.Nat.{and_le_l, or_of_16, pow_below}
 use Rattle.std.proofs.lemmas.Nat.Bits.{bit_at-lt, bit_at_and}
 use Rattle.os_laws.specs.Heap.{word_at}
 use Rattle.os_laws.specs.Numbers.{bit}
@@ -63,6 +64,24 @@ module _ (ws : List ℕ) (long : length ws ≡ 22528) (at : ℕ) (low : 16384 �
   stored_other : (w b : ℕ) → 2048 ≤ b → b ≢ at → word_at (stored_at w) b ≡ word_at ws b
   stored_other w b h d = other_word ws at b w (omega (arith, low)) h d
 
+  -- a word that is stored, of 16 bits where the one there is: all are words of 16 bits still
+  changed_small : (w b : ℕ) → (word_at ws at < 65536 → w < 65536) → 2048 ≤ b → word_at ws b < 65536 → word_at (stored_at w) b < 65536
+  changed_small w b small h was =
+      ⊎_elim
+      (λ (e : b ≡ at).
+      let f : word_at (stored_at w) b ≡ w = ap (word_at (stored_at w)) e ∙ stored_here w in
+      let g : word_at ws b ≡ word_at ws at = ap (word_at ws) e in
+      let s = small (omega (arith, g, was)) in
+      omega (arith, f, s))
+      (λ (d : b ≢ at). let f = stored_other w b h d in omega (arith, f, was))
+      (same_or_not b at)
+
+  and_small : (other b : ℕ) → 2048 ≤ b → word_at ws b < 65536 → word_at (stored_at (bit_and (word_at ws at) other)) b < 65536
+  and_small other b h was = changed_small (bit_and (word_at ws at) other) b (λ s. let l = and_le_l (word_at ws at) other in omega (arith, l, s)) h was
+
+  or_small : (n b : ℕ) → n < 16 → 2048 ≤ b → word_at ws b < 65536 → word_at (stored_at (bit_or (word_at ws at) (2 ^ n))) b < 65536
+  or_small n b few h was = changed_small (bit_or (word_at ws at) (2 ^ n)) b (λ s. or_of_16 (word_at ws at) (2 ^ n) s (pow_below n 16 few)) h was
+
   -- one bit set
   bit_set : (n : ℕ) → bit (word_at (stored_at (bit_or (word_at ws at) (2 ^ n))) at) n ≡ 1
   bit_set n = ap (λ w. bit w n) (stored_here (bit_or (word_at ws at) (2 ^ n))) ∙ set_here (word_at ws at) n
@@ -110,13 +129,14 @@ pub record Keeps (first : List ℕ) (top q : ℕ) (ws : List ℕ) : Type 0 where
   pub long : length ws ≡ 22528
   pub heap : (b : ℕ) → 2048 ≤ b → b < 16384 → word_at ws b ≡ word_at first b
   pub outside : (b m : ℕ) → 2048 ≤ b → m < 16 → IsOutside top q b m → bit (word_at ws b) m ≡ bit (word_at first b) m
+  pub words : (b : ℕ) → 2048 ≤ b → word_at first b < 65536 → word_at ws b < 65536
 
 -- the first t rows of the cell are white
 pub record IsCleared (first : List ℕ) (top q : ℕ) (ws : List ℕ) (t : ℕ) : Type 0 where
   pub keeps : Keeps first top q ws
   pub blank : (k r : ℕ) → k < 8 → r < t → bit (word_at ws (top + 32 * r)) (q + k) ≡ 0
 
--- no dot is drawn here, where the first i columns are, and j dots of the next one: a dot of row r stands at the row r + 1 of the cell
+-- no dot is drawn here, where the first i columns are, and j dots of the next one; A dot of row r stands at the row r + 1 of the cell
 abbrev pub IsBlank : ℕ → ℕ → ℕ → ℕ → Type 0
 IsBlank i j k r = (i < k) ⊎ (((k ≡ i) × (j < r)) ⊎ ((r ≡ 0) ⊎ (8 ≤ r)))
 
@@ -136,7 +156,7 @@ module _ (first : List ℕ) (top q glyph : ℕ) (cell : IsCell top q glyph) wher
 
   pub none_cleared : length first ≡ 22528 → IsCleared first top q first 0
   none_cleared long = record {
-    keeps = record { long = long; heap = λ b l h. refl; outside = λ b m l h o. refl };
+    keeps = record { long = long; heap = λ b l h. refl; outside = λ b m l h o. refl; words = λ b l h. h };
     blank = λ k r h l. absurd (omega (arith, l));
   }
 
@@ -151,6 +171,7 @@ module _ (first : List ℕ) (top q glyph : ℕ) (cell : IsCell top q glyph) wher
           long = stored_long ws long at low high (bit_and (word_at ws at) other);
           heap = λ b l h. stored_other ws long at low high (bit_and (word_at ws at) other) b l (λ e. omega (arith, e, h, low)) ∙ was.keeps.heap b l h;
           outside = λ b m l h o. bits_kept ws long at low high q other mask b m l h (⊎_elim (λ d. inl (d t ht)) (λ e. inr e) o) ∙ was.keeps.outside b m l h o;
+          words = λ b l h. and_small ws long at low high other b l (was.keeps.words b l h);
         };
         blank = λ k r hk hr.
             ⊎_elim
@@ -243,11 +264,14 @@ module _ (first : List ℕ) (top q glyph : ℕ) (cell : IsCell top q glyph) wher
     dot_black one =
         let low = low_row (j + 1) in
         let high = high_row (j + 1) (omega (arith, hj)) in
+        let in_word : q + i < 16 =
+        ⊎_elim (λ (e : q ≡ 0). let l : q + i < 16 = omega (arith, e, hi) in l) (λ (e : q ≡ 8). let l : q + i < 16 = omega (arith, e, hi) in l) cell.half in
         record {
           keeps = record {
             long = stored_long ws was.keeps.long here low high (bit_or (word_at ws here) (2 ^ (q + i)));
             heap = λ b l h. stored_other ws was.keeps.long here low high (bit_or (word_at ws here) (2 ^ (q + i))) b l (λ e. omega (arith, e, h, low)) ∙ was.keeps.heap b l h;
             outside = λ b m l h o. kept b m l (other_outside b m o) ∙ was.keeps.outside b m l h o;
+            words = λ b l h. or_small ws was.keeps.long here low high (q + i) b in_word l (was.keeps.words b l h);
           };
           dots = λ k r hk hr o.
               ⊎_elim (λ (l : k < i). old k r hk hr (inl l))

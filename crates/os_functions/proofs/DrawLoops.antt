@@ -9,14 +9,14 @@ use Rattle.word16.specs.Words.{word_add, word_sub, word_lt, word_gt}
 use Rattle.jack_meaning.specs.Text.{End, Subroutine}
 use Rattle.os_laws.specs.Heap.{word_at}
 use Rattle.os_laws.specs.Numbers.{bit}
-use Rattle.os_laws.proofs.Comparing.{less, not_less, negative, not_negative}
+use Rattle.os_laws.proofs.Comparing.{less, not_less}
 use Rattle.os_laws.proofs.Runs.{Call, run, run_then}
 use Rattle.os_laws.proofs.Walking.{here}
-use Rattle.os_functions.specs.PrintLaws.{glyph_dot, shown_code}
+use Rattle.os_functions.specs.PrintLaws.{shown_code}
 use Rattle.os_functions.proofs.Pieces.{in_call, returns_value}
 use Rattle.os_functions.proofs.PixelFacts.{one_more}
 use Rattle.os_functions.proofs.StringFacts.{negative_below}
-use Rattle.os_functions.proofs.Texts.{draw_body, glyph_text, clear_loop}
+use Rattle.os_functions.proofs.Texts.{draw_body, glyph_text}
 use Rattle.os_functions.proofs.DrawRuns.{at_text, locals, left_half, right_half, at_clear, clear_row, all_clear, at_column, at_row, column_begins, row_white, row_black, left_column_ends, right_column_ends, all_drawn, has_glyph, has_none}
 use Rattle.os_functions.proofs.DrawFacts.{IsMask, left_mask, right_mask, IsCell, IsCleared, IsDrawnTo, low_row, high_row, none_cleared, row_cleared, none_drawn, column_drawn, dot_white, dot_black}
 
@@ -57,7 +57,8 @@ module _ (subs : List Subroutine) (g : ℕ) (ss : List ℕ) (place c : ℕ) (fir
   abbrev dots_of : ℕ → ℕ
   dots_of i = word_at first (glyph + i / 2)
 
-  -- at the loop over the rows of column i, where so many columns are to come, at its row j, where so many rows are
+  -- at the loop over the rows of column i, where this many columns are to come, at its row j, where this many rows
+  -- are
   abbrev row_at : ℕ → ℕ → List ℕ → ℕ → ℕ → Call
   row_at i columns ws j m = at_row subs g ss place c other ws (glyph + i / 2) (top + 32 * (j + 1)) (2 ^ (q + i)) (dots_of i) (2 ^ (7 * (i % 2) + j)) m columns
 
@@ -111,7 +112,7 @@ module _ (subs : List Subroutine) (g : ℕ) (ss : List ℕ) (place c : ℕ) (fir
   small_pixel : (i : ℕ) → i < 5 → q + i < 15
   small_pixel i h = ⊎_elim (λ (e : q ≡ 0). let l : q + i < 15 = omega (arith, e, h) in l) (λ (e : q ≡ 8). let l : q + i < 15 = omega (arith, e, h) in l) cell.half
 
-  -- behind the rows of a column
+  -- after the rows of a column
   module _ (ws : List ℕ) (i m : ℕ) (hi : i < 5) (hm : m < 65535) where
     abbrev gl : ℕ
     gl = glyph + i / 2
@@ -193,7 +194,7 @@ module _ (subs : List Subroutine) (g : ℕ) (ss : List ℕ) (place c : ℕ) (fir
 -- ---- the whole, from the code on
 
 module _ (subs : List Subroutine) (g : ℕ) (ss : List ℕ) (font place right : ℕ) (first : List ℕ) (long : length first ≡ 22528) (top q glyph : ℕ) (cell : IsCell top q glyph) (at : slice_index ss place ≡ top) where
-  -- the half of the word that the static tells
+  -- the half of the word that the static names
   abbrev IsHalf : ℕ → Type 0
   IsHalf v = ((v ≡ 0) × (q ≡ 0)) ⊎ ((m : ℕ) × (v ≡ suc m) × (q ≡ 8))
 

@@ -104,4 +104,5 @@ module _ (row column glyph : ℕ) (hr : row < 23) (hc : column < 64) (low : 2048
       cell = λ i j hi hj. in_cell i j hi hj;
       others = λ x y hx hy o. d.keeps.outside (pixel_address x y) (x % 16) (omega arith) (omega arith) (outside x y hx hy o);
       heap = λ a l h. d.keeps.heap a l h;
+      each = λ a l h. d.keeps.words a l h;
     }

@@ -1,5 +1,5 @@
 -- A character drawn: each straight piece of its runs is a computation.
-use Rattle.std.proofs.Common.{◌≡◌, ℕ, zero, suc, ◌-◌, bit_and, bit_or, List, [], ◌∷◌, Some, refl}
+use Rattle.std.proofs.Common.{◌≡◌, ℕ, suc, ◌-◌, bit_and, bit_or, List, [], ◌∷◌, Some, refl}
 use Rattle.std.specs.Prelude.{slice_index, slice_set}
 use Rattle.word16.specs.Words.{word_add, word_sub, word_lt, word_gt}
 use Rattle.jack_meaning.specs.Text.{Local, Value, Name, Literal, Load, Binary, And, Or, Let, Store, Text, End, Next, Subroutine}
@@ -27,7 +27,7 @@ module _ (subs : List Subroutine) (g : ℕ) (ss : List ℕ) (place c : ℕ) wher
       → run subs 23 (at_text ws (glyph_text font place right) (locals 0 0 0 0 0 0 0 0)) ≡ Some (at_text ws (clear_loop place) (locals glyph a 255 256 0 0 11 0))
   right_half ws font right f g1 g2 glyph a m hf h1 h2 h3 hr ha = rw (hf, h1, h2, h3, hr, ha) refl
 
-  -- ---- a statement, whatever comes behind
+  -- ---- a statement, whatever comes after
 
   word_moves : (t : Text) (ws : List ℕ) (glyph word other pixel dots dot rows columns word' : ℕ) → word_add word 32 ≡ word'
       → run subs 4 (at_text ws (Next (adds 24 1 32) t) (locals glyph word other pixel dots dot rows columns)) ≡ Some (at_text ws t (locals glyph word' other pixel dots dot rows columns))
@@ -41,7 +41,7 @@ module _ (subs : List Subroutine) (g : ℕ) (ss : List ℕ) (place c : ℕ) wher
       → run subs 4 (at_text ws (Next (counts_down 26 6) t) (locals glyph word other pixel dots dot (suc m) columns)) ≡ Some (at_text ws t (locals glyph word other pixel dots dot m' columns))
   rows_count t ws glyph word other pixel dots dot columns m m' h = rw h refl
 
-  -- ---- a row is cleared, whatever comes behind
+  -- ---- a row is cleared, whatever comes after
 
   module _ (rest : Text) where
     abbrev clear_store : ℕ → ℕ → Text
@@ -103,7 +103,7 @@ module _ (subs : List Subroutine) (g : ℕ) (ss : List ℕ) (place c : ℕ) wher
         run_then subs 4 8 s0 s1 s3 (word_moves t1 ws glyph word other pixel dots dot (suc m) columns word' hw)
         (run_then subs 4 4 s1 s2 s3 (dot_doubles t2 ws glyph word' other pixel dots dot (suc m) columns dot' hd) (rows_count (row_text rest) ws glyph word' other pixel dots dot' columns m m' hm))
 
-    -- ---- behind the rows of a column
+    -- ---- after the rows of a column
 
     abbrev column_moves : Text
     column_moves = Next (doubles 30 3) (Next (counts_down 31 7) rest)

@@ -1,37 +1,112 @@
 -- An error: three letters and the number are printed by calls within calls, and then the endless loop is called.
-use Rattle.std.proofs.Common.{◌≡◌, ◌≢◌, ◌⊎◌, inl, inr, ⊎_elim, ℕ, zero, suc, ◌+◌, ◌-◌, ◌*◌, ◌/◌, ◌%◌, ◌<◌, ◌≤◌, true, false, nat_eq, nat_lt, List, [], ◌∷◌, ◌++◌, length, Some, option_and_then, codes, refl, sym, ap, ◌∙◌, subst, arith}
+use Rattle.std.proofs.Common.{◌≡◌, ◌≢◌, ⊎_elim, ℕ, zero, suc, ◌+◌, ◌-◌, ◌*◌, ◌/◌, ◌%◌, ◌<◌, ◌≤◌, true, false, nat_eq, nat_lt, List, [], ◌∷◌, ◌++◌, length, Some, option_and_then, codes, refl, sym, ap, ◌∙◌, subst, arith, append_assoc}
 use Rattle.std.specs.Prelude.{slice_index, slice_set, if◌then◌else◌}
+use Rattle.std.specs.Prelude.{decimal}
+use Rattle.std.proofs.lemmas.Fmt.{decimal_digit, decimal_step}
 use Rattle.std.proofs.lemmas.Bool.{cases_lt}
 use Rattle.std.proofs.lemmas.Bool.Decides.{nat_tests}
 use Rattle.std.proofs.lemmas.List.{set-set, set-get_or}
-use Rattle.word16.specs.Words.{word_sub, word_neg, word_lt, word_gt, truth}
+use Rattle.word16.specs.Words.{word_sub, word_neg, word_gt, truth}
 use Rattle.jack_core.specs.declared.program.Core.{Core}
 use Rattle.jack_core.specs.Texts.{the_subroutines}
-use Rattle.jack_meaning.specs.Text.{Local, Value, Open, Call as Calling, NoMore, Let, Do, Text, End, Next, Function, Subroutine}
+use Rattle.jack_meaning.specs.Text.{Local, Value, Open, Let, Do, Text, End, Next, Function, Subroutine}
 use Rattle.jack_meaning.specs.Meaning.{Frame, State, Acts, step, subroutine_at, new_frame, filled_text, with_top}
-use Rattle.jack_os.proofs.SystemTexts.{system_classes}
 use Rattle.os_laws.specs.Calls.{NextCall, after}
 use Rattle.os_laws.specs.Names.{IsShipped}
 use Rattle.os_laws.proofs.Basics.{enters}
-use Rattle.os_laws.proofs.Comparing.{not_negative}
+use Rattle.os_laws.proofs.Comparing.{negative, not_negative}
 use Rattle.os_laws.proofs.Runs.{Call, over, run, run_then, next_at, run_over}
 use Rattle.os_functions.specs.Calls.{routine_number, HasStatics, CallsNext}
 use Rattle.os_functions.specs.CursorLaws.{cell_address, with_cursor}
-use Rattle.os_functions.specs.ErrorLaws.{StandsStill, ShowsText, IsBehind, HasFont, decimal, HaltLaw, ErrorLaw, ErrorLaws}
+use Rattle.os_functions.specs.ErrorLaws.{StandsStill, ShowsText, IsBehind, shown_number, HaltLaw, IntLaw, ErrorLaw}
 use Rattle.os_functions.specs.PrintLaws.{IsCursorAt, HasGlyph, IsDrawn, row_after, column_after, shown_code}
 use Rattle.os_functions.proofs.DrawLoops.{shown}
-use Rattle.os_functions.proofs.ErrorRuns.{is_smaller, is_not_smaller, at_digit, no_digit, digit_begins, digit_shown, tens, digit_done, at_int, from_thousand, from_hundred, from_ten, from_one, asks_digit, has_digit, asks_one, int_begins, int_thousand, int_hundred, int_ten, int_one, int_done, at_error, error_tail, asks_letter, has_letter, first_letter, second_letter, third_letter, asks_number, number_begins, asks_halt, number_done, in_loop, loops}
+use Rattle.os_functions.proofs.ErrorRuns.{is_smaller, is_not_smaller, at_digit, no_digit, digit_begins, digit_shown, up_to, up_to_10, up_to_100, up_to_1000, up_to_10000, counted, digit_done, at_int, from_thousand, from_hundred, from_ten, from_one, asks_digit, has_digit, asks_one, int_begins, asks_minus, has_minus, minus_begins, minus_done, int_thousand, int_hundred, int_ten, int_one, int_done, at_error, error_tail, asks_letter, has_letter, first_letter, second_letter, third_letter, asks_number, number_begins, asks_halt, number_done, loops}
 use Rattle.os_functions.proofs.Named.{leads, numbered, number_of, own_number}
 use Rattle.os_functions.proofs.Pieces.{in_call, tail, returns_value}
 use Rattle.os_functions.proofs.PrintMade.{stands, font_kept, turned, print_law}
 use Rattle.os_functions.proofs.Texts.{routine, int_body, digit_body, digit_loop, halt_body, sys_error_body}
 use Rattle.os_functions.proofs.Ways.{Way, way_then, way_of_run, way_of_call, after_split, keys_behind, opened, returns_by, inner_leaf}
 
-one_digit : (n : ℕ) → n < 10 → decimal n ≡ (48 + n) ∷ []
-one_digit n h = let t : nat_lt n 10 ≡ true = grind (arith, nat_tests) in ap (λ b. if b then (48 + n) ∷ [] else (48 + n / 10) ∷ (48 + n % 10) ∷ []) t
+-- ---- texts one after the other
 
-two_digits : (n : ℕ) → 10 ≤ n → decimal n ≡ (48 + n / 10) ∷ (48 + n % 10) ∷ []
-two_digits n h = let t : nat_lt n 10 ≡ false = grind (arith, nat_tests) in ap (λ b. if b then (48 + n) ∷ [] else (48 + n / 10) ∷ (48 + n % 10) ∷ []) t
+behind_join : (row column : ℕ) (xs : List ℕ) (row1 column1 : ℕ) (ys : List ℕ) (row2 column2 : ℕ) → IsBehind row column xs row1 column1 → IsBehind row1 column1 ys row2 column2 → IsBehind row column (xs ++ ys) row2 column2
+behind_join row column [] row1 column1 ys row2 column2 a b = subst (λ r. IsBehind r column ys row2 column2) (sym a.0) (subst (λ c. IsBehind row1 c ys row2 column2) (sym a.1) b)
+behind_join row column (x ∷ xs) row1 column1 ys row2 column2 a b = behind_join (row_after row column) (column_after column) xs row1 column1 ys row2 column2 a b
+
+shows_join : (font : ℕ) (ws : List ℕ) (row column : ℕ) (xs ws1 : List ℕ) (row1 column1 : ℕ) (ys ws2 : List ℕ) → IsBehind row column xs row1 column1 → ShowsText font ws row column xs ws1 → ShowsText font ws1 row1 column1 ys ws2
+    → ShowsText font ws row column (xs ++ ys) ws2
+shows_join font ws row column [] ws1 row1 column1 ys ws2 a s t =
+    subst (λ r. ShowsText font ws r column ys ws2) (sym a.0) (subst (λ c. ShowsText font ws row1 c ys ws2) (sym a.1) (subst (λ (l : List ℕ). ShowsText font l row1 column1 ys ws2) s t))
+shows_join font ws row column (x ∷ xs) ws1 row1 column1 ys ws2 a s t = (s.0, s.1, shows_join font s.0 (row_after row column) (column_after column) xs ws1 row1 column1 ys ws2 a s.2 t)
+
+-- ---- digits, as printInt takes them
+
+abbrev digit_of : ℕ → ℕ → List ℕ
+digit_of n unit = if nat_lt n unit then [] else (48 + n / unit % 10) ∷ []
+
+abbrev digits : ℕ → List ℕ
+digits n = digit_of n 10000 ++ (digit_of n 1000 ++ (digit_of n 100 ++ (digit_of n 10 ++ (48 + n % 10) ∷ [])))
+
+is_less : (a b : ℕ) → a < b → nat_lt a b ≡ true
+is_less a b h = grind (arith, nat_tests)
+
+is_not_less : (a b : ℕ) → b ≤ a → nat_lt a b ≡ false
+is_not_less a b h = grind (arith, nat_tests)
+
+no_digit_of : (n unit : ℕ) → n < unit → digit_of n unit ≡ []
+no_digit_of n unit h = ap (λ b. if b then [] else (48 + n / unit % 10) ∷ []) (is_less n unit h)
+
+one_digit_of : (n unit v : ℕ) → unit ≤ n → n / unit % 10 ≡ v → digit_of n unit ≡ (48 + v) ∷ []
+one_digit_of n unit v h e = ap (λ b. if b then [] else (48 + n / unit % 10) ∷ []) (is_not_less n unit h) ∙ ap (λ (z : ℕ). (48 + z) ∷ []) e
+
+-- they are those of the decimal
+all_digits : (n : ℕ) (a b c d : List ℕ) → digit_of n 10000 ≡ a → digit_of n 1000 ≡ b → digit_of n 100 ≡ c → digit_of n 10 ≡ d → digits n ≡ a ++ (b ++ (c ++ (d ++ (48 + n % 10) ∷ [])))
+all_digits n a b c d ha hb hc hd =
+    ap (λ z. z ++ (digit_of n 1000 ++ (digit_of n 100 ++ (digit_of n 10 ++ (48 + n % 10) ∷ [])))) ha ∙ ap (λ z. a ++ (z ++ (digit_of n 100 ++ (digit_of n 10 ++ (48 + n % 10) ∷ [])))) hb
+    ∙ ap (λ z. a ++ (b ++ (z ++ (digit_of n 10 ++ (48 + n % 10) ∷ [])))) hc ∙ ap (λ z. a ++ (b ++ (c ++ (z ++ (48 + n % 10) ∷ [])))) hd
+
+one_of : (n : ℕ) → n < 10 → digits n ≡ (48 + n) ∷ []
+one_of n h =
+    all_digits n [] [] [] [] (no_digit_of n 10000 (omega (arith, h))) (no_digit_of n 1000 (omega (arith, h))) (no_digit_of n 100 (omega (arith, h))) (no_digit_of n 10 h)
+    ∙ ap (λ (z : ℕ). (48 + z) ∷ []) (let e : n % 10 ≡ n = omega (arith, h) in e)
+
+-- from one length to the next
+module _ (n : ℕ) (low : 10 ≤ n) (few : n < 100000) where
+  unit_kept : (unit : ℕ) → unit ≡ 10 → digit_of n 10 ≡ (48 + n / 10 % 10) ∷ []
+  unit_kept unit e = one_digit_of n 10 (n / 10 % 10) low refl
+
+  up_10 : digit_of n 100 ≡ digit_of (n / 10) 10
+  up_10 = ⊎_elim (λ (l : n < 100). no_digit_of n 100 l ∙ sym (no_digit_of (n / 10) 10 (omega (arith, l)))) (λ (g : 100 ≤ n). one_digit_of n 100 (n / 100 % 10) g refl ∙ sym (one_digit_of (n / 10) 10 (n / 100 % 10) (omega (arith, g)) (omega arith))) (cases_lt n 100)
+
+  up_100 : digit_of n 1000 ≡ digit_of (n / 10) 100
+  up_100 = ⊎_elim (λ (l : n < 1000). no_digit_of n 1000 l ∙ sym (no_digit_of (n / 10) 100 (omega (arith, l)))) (λ (g : 1000 ≤ n). one_digit_of n 1000 (n / 1000 % 10) g refl ∙ sym (one_digit_of (n / 10) 100 (n / 1000 % 10) (omega (arith, g)) (omega arith))) (cases_lt n 1000)
+
+  up_1000 : digit_of n 10000 ≡ digit_of (n / 10) 1000
+  up_1000 =
+      ⊎_elim (λ (l : n < 10000). no_digit_of n 10000 l ∙ sym (no_digit_of (n / 10) 1000 (omega (arith, l)))) (λ (g : 10000 ≤ n). one_digit_of n 10000 (n / 10000 % 10) g refl ∙ sym (one_digit_of (n / 10) 1000 (n / 10000 % 10) (omega (arith, g)) (omega arith)))
+      (cases_lt n 10000)
+
+  one_more_digit : digits n ≡ digits (n / 10) ++ (48 + n % 10) ∷ []
+  one_more_digit =
+      all_digits n (digit_of (n / 10) 1000) (digit_of (n / 10) 100) (digit_of (n / 10) 10) ((48 + n / 10 % 10) ∷ []) up_1000 up_100 up_10 (unit_kept 10 refl)
+      ∙ sym
+      (ap (λ z. z ++ (48 + n % 10) ∷ [])
+      (all_digits (n / 10) [] (digit_of (n / 10) 1000) (digit_of (n / 10) 100) (digit_of (n / 10) 10) (no_digit_of (n / 10) 10000 (omega (arith, few))) refl refl refl)
+      ∙ append_assoc (digit_of (n / 10) 1000) (digit_of (n / 10) 100 ++ (digit_of (n / 10) 10 ++ (48 + n / 10 % 10) ∷ [])) ((48 + n % 10) ∷ [])
+      ∙ ap (λ z. digit_of (n / 10) 1000 ++ z)
+      (append_assoc (digit_of (n / 10) 100) (digit_of (n / 10) 10 ++ (48 + n / 10 % 10) ∷ []) ((48 + n % 10) ∷ [])
+      ∙ ap (λ z. digit_of (n / 10) 100 ++ z) (append_assoc (digit_of (n / 10) 10) ((48 + n / 10 % 10) ∷ []) ((48 + n % 10) ∷ []))))
+
+-- by as many steps as there may be digits
+digits_by : (k n : ℕ) → n < 100000 → n < 10 + k → digits n ≡ decimal n
+digits_by zero n few h = one_of n (omega (arith, h)) ∙ sym (decimal_digit n (omega (arith, h)))
+digits_by (suc k) n few h =
+    ⊎_elim (λ (l : n < 10). one_of n l ∙ sym (decimal_digit n l))
+    (λ (g : 10 ≤ n). one_more_digit n g few ∙ ap (λ z. z ++ (48 + n % 10) ∷ []) (digits_by k (n / 10) (omega (arith, few)) (omega (arith, h, g))) ∙ sym (decimal_step n g (omega (arith, few)))) (cases_lt n 10)
+
+digits_are : (n : ℕ) → n < 100000 → digits n ≡ decimal n
+digits_are n few = digits_by n n few (omega arith)
 
 -- ---- one cursor after another
 
@@ -45,7 +120,7 @@ module _ {core : Core} (p : IsShipped core) (h : HasStatics p) (ss : List ℕ) w
       ap (λ (l : List ℕ). slice_set l h.right v') (turned p h (slice_set ss h.place a) a' v) ∙ set-set (slice_set (slice_set ss h.place a) h.place a') h.right v v' ∙ ap (λ (l : List ℕ). slice_set l h.right v') (set-set ss h.place a a')
 
   -- the cursor is set to where it is
-  unmoved : (row column : ℕ) → IsCursorAt h ss row column → with_cursor h ss row column ≡ ss
+  pub unmoved : (row column : ℕ) → IsCursorAt h ss row column → with_cursor h ss row column ≡ ss
   unmoved row column at =
       ap (λ (l : List ℕ). slice_set l h.right (truth (nat_eq (column % 2) 1))) (ap (slice_set ss h.place) (sym at.place) ∙ set-get_or ss h.place 0) ∙ ap (slice_set ss h.right) (sym at.right) ∙ set-get_or ss h.right 0
 
@@ -55,7 +130,7 @@ module _ (core : Core) (p : IsShipped core) where
   abbrev output_number : List ℕ → ℕ
   output_number name = number_of core p (codes "Output") name
 
-  abbrev print_at : ℕ
+  abbrev pub print_at : ℕ
   print_at = output_number (codes "printChar")
 
   abbrev int_at : ℕ
@@ -81,8 +156,8 @@ module _ (core : Core) (p : IsShipped core) where
 
 -- ---- standing still
 
--- a state behind which it stands still
-still_behind : (subs : List Subroutine) (s t : State) (m most : ℕ) (ss ws : List ℕ) → ((keys : ℕ → ℕ) → after subs keys m s ≡ Some t) → length s.frames ≤ length t.frames → StandsStill subs t 1 ss ws → m + 1 ≤ most → StandsStill subs s most ss ws
+-- a state after which it stands still
+pub still_behind : (subs : List Subroutine) (s t : State) (m most : ℕ) (ss ws : List ℕ) → ((keys : ℕ → ℕ) → after subs keys m s ≡ Some t) → length s.frames ≤ length t.frames → StandsStill subs t 1 ss ws → m + 1 ≤ most → StandsStill subs s most ss ws
 still_behind subs s t m most ss ws leads deep still enough = (m + still.0, (let few = still.1 in omega (arith, few, enough)), there)
   where
     there : (keys : ℕ → ℕ) (n : ℕ) → m + still.0 ≤ n → (u : State) × (after subs keys n s ≡ Some u) × (length s.frames < length u.frames) × (u.statics ≡ ss) × (u.words ≡ ws)
@@ -122,7 +197,7 @@ module _ {core : Core} (p : IsShipped core) (h : HasStatics p) (base : List ℕ)
   abbrev font : ℕ
   font = slice_index base h.font
 
-  abbrev cursor : ℕ → ℕ → List ℕ
+  abbrev pub cursor : ℕ → ℕ → List ℕ
   cursor row column = with_cursor h base row column
 
   glyph_inside : (k : ℕ) → k < 65536 → (2048 ≤ font + 3 * shown_code k) × (font + 3 * shown_code k + 3 ≤ 16384)
@@ -152,13 +227,13 @@ module _ {core : Core} (p : IsShipped core) (h : HasStatics p) (base : List ℕ)
   column_small : (column : ℕ) → column_after column < 64
   column_small column = omega arith
 
-  print_way : (below : List Frame) (f waits : Frame) (ws : List ℕ) (row column k : ℕ) → row < 23 → column < 64 → k < 128 → length ws ≡ 22528
+  print_any_way : (below : List Frame) (f waits : Frame) (ws : List ℕ) (row column k : ℕ) → row < 23 → column < 64 → k < 65536 → k ≢ 128 → k ≢ 129 → length ws ≡ 22528
       → step subs 0 (record { frames = f ∷ below; statics = cursor row column; words = ws })
       ≡ Acts false (record { frames = new_frame subs (print_at core p) (k ∷ []) ∷ waits ∷ below; statics = cursor row column; words = ws })
       → (n : ℕ) × (n ≤ 1800) × (ws' : List ℕ) × IsDrawn ws row column (font + 3 * shown_code k) ws'
       × Way subs (suc (length below)) n (record { frames = f ∷ below; statics = cursor row column; words = ws })
       (record { frames = record waits { text = filled_text 0 waits.text } ∷ below; statics = cursor (row_after row column) (column_after column); words = ws' })
-  print_way below f waits ws row column k hr hc small long calls =
+  print_any_way below f waits ws row column k hr hc small no_line no_back long calls =
       let s1 : State = record { frames = f ∷ below; statics = cursor row column; words = ws } in
       let c1 : CallsNext p (codes "Output") (codes "printChar") s1 (k ∷ []) = record {
         top = f;
@@ -169,11 +244,20 @@ module _ {core : Core} (p : IsShipped core) (h : HasStatics p) (base : List ℕ)
       } in
       let glyph = font + 3 * shown_code k in
       let at = stands p h base row column room hr hc in
-      let has : HasGlyph h s1 k glyph = record { place = ap (λ z. z + 3 * shown_code k) (font_kept p h base row column room); inside = glyph_inside k (omega (arith, small)); words = long } in
-      let (ws', is, (n, few, back)) = print_law p s1 h row column k glyph (omega (arith, small)) (λ e. omega (arith, e, small)) (λ e. omega (arith, e, small)) at has c1 in
+      let has : HasGlyph h s1 k glyph = record { place = ap (λ z. z + 3 * shown_code k) (font_kept p h base row column room); inside = glyph_inside k small; words = long } in
+      let (ws', is, (n, few, back)) = print_law p s1 h row column k glyph small no_line no_back at has c1 in
       let same = twice p h base row column (row_after row column) (column_after column) in
       let s2 : List ℕ → State = λ ss. record { frames = record waits { text = filled_text 0 waits.text } ∷ below; statics = ss; words = ws' } in
       (n, few, ws', is, subst (λ (ss : List ℕ). Way subs (suc (length below)) n s1 (s2 ss)) same (way_of_call subs (suc (length below)) n s1 (s2 (with_cursor h (cursor row column) (row_after row column) (column_after column))) (omega arith) back))
+
+  print_way : (below : List Frame) (f waits : Frame) (ws : List ℕ) (row column k : ℕ) → row < 23 → column < 64 → k < 128 → length ws ≡ 22528
+      → step subs 0 (record { frames = f ∷ below; statics = cursor row column; words = ws })
+      ≡ Acts false (record { frames = new_frame subs (print_at core p) (k ∷ []) ∷ waits ∷ below; statics = cursor row column; words = ws })
+      → (n : ℕ) × (n ≤ 1800) × (ws' : List ℕ) × IsDrawn ws row column (font + 3 * shown_code k) ws'
+      × Way subs (suc (length below)) n (record { frames = f ∷ below; statics = cursor row column; words = ws })
+      (record { frames = record waits { text = filled_text 0 waits.text } ∷ below; statics = cursor (row_after row column) (column_after column); words = ws' })
+  print_way below f waits ws row column k hr hc small long calls =
+      print_any_way below f waits ws row column k hr hc (omega (arith, small)) (λ e. omega (arith, e, small)) (λ e. omega (arith, e, small)) long calls
 
   -- ---- one digit within a call
 
@@ -200,75 +284,41 @@ module _ {core : Core} (p : IsShipped core) (h : HasStatics p) (base : List ℕ)
       (routine Function (own_number core p 4) 3 1 (digit_body (print_at core p))) 6 2 rest (tail (digit_body (print_at core p))) (at_digit subs (digit_at core p) ss ws (print_at core p) End n rest unit 0).frame (is_digit core p) refl
       (no_digit subs (digit_at core p) ss ws (print_at core p) n rest unit small)
 
-  tens_way : (below : List Frame) (ws : List ℕ) (row column n : ℕ) → row < 23 → column < 64 → length ws ≡ 22528 → 10 ≤ n → n < 100 → (r : ℕ) (t : Text)
-      → (m : ℕ) × (m ≤ 1960) × (ws' : List ℕ) × IsDrawn ws row column (font + 3 * shown_code (48 + n / 10)) ws'
-      × Way subs (suc (length below)) m (over below (int_call (cursor row column) ws (asks 7 (word_neg n) (word_neg n) 10 t) (word_neg n) r))
-      (over below (int_call (cursor (row_after row column) (column_after column)) ws' (has 7 (word_neg (n % 10)) t) (word_neg n) r))
-  tens_way below ws row column n hr hc long low high r t =
+  digit_way : (below : List Frame) (ws : List ℕ) (row column n unit q d : ℕ) → row < 23 → column < 64 → length ws ≡ 22528 → n ≤ 32768 → unit ≤ n → d < unit → up_to unit q d ≤ n → q < 10 → (k r : ℕ) (t : Text)
+      → (m : ℕ) × (m ≤ 1960) × (ws' : List ℕ) × IsDrawn ws row column (font + 3 * shown_code (48 + q)) ws'
+      × Way subs (suc (length below)) m (over below (int_call (cursor row column) ws (asks k (word_neg n) (word_neg (up_to unit q d)) unit t) (word_neg n) r))
+      (over below (int_call (cursor (row_after row column) (column_after column)) ws' (has k (word_neg d) t) (word_neg n) r))
+  digit_way below ws row column n unit q d hr hc long high low rest most few_units k r t =
       let g = digit_at core p in
       let print = print_at core p in
       let n' = word_neg n in
-      let q = n / 10 in
-      let d = n % 10 in
-      let values = digit_values n' n' 10 in
+      let u = up_to unit q d in
+      let values = digit_values n' (word_neg u) unit in
       let ss = cursor row column in
       let ss' = cursor (row_after row column) (column_after column) in
-      let top : Frame = (int_call ss ws (asks 7 n' n' 10 t) n' r).frame in
-      let waits : Frame = (int_call ss ws (waiting 7 t) n' r).frame in
+      let top : Frame = (int_call ss ws (asks k n' (word_neg u) unit t) n' r).frame in
+      let waits : Frame = (int_call ss ws (waiting k t) n' r).frame in
       let s1 : State = record { frames = top ∷ below; statics = ss; words = ws } in
       let c1 : NextCall subs s1 g values = record { top = top; caller = waits; below = below; frames = refl; calls = refl } in
       let under : List Frame = waits ∷ below in
       let least = suc (length under) in
-      let parts : n ≡ 10 * q + d = omega arith in
-      let few_tens : q < 10 = omega (arith, high) in
-      let first : Call = at_digit subs g ss ws print (digit_body print) n' n' 10 0 in
-      let shows : Call = at_digit subs g ss ws print (digit_shown subs g ss ws print (48 + q)) n' (word_neg d) 10 (48 + q) in
+      let first : Call = at_digit subs g ss ws print (digit_body print) n' (word_neg u) unit 0 in
+      let shows : Call = at_digit subs g ss ws print (digit_shown subs g ss ws print (48 + q)) n' (word_neg d) unit (48 + q) in
       let ran : run subs (7 + (14 * q + 7)) first ≡ Some shows =
-      run_then subs 7 (14 * q + 7) first (at_digit subs g ss ws print (digit_loop print) n' n' 10 48) shows (digit_begins subs g ss ws print n' n' 10 (is_not_smaller n 10 low (omega (arith, high))))
-      (ap (λ (z : ℕ). run subs (14 * q + 7) (at_digit subs g ss ws print (digit_loop print) n' (word_neg z) 10 48)) parts ∙ tens subs g ss ws print n' q d 48 (omega arith) (omega (arith, high)) (omega (arith, few_tens))) in
+      run_then subs 7 (14 * q + 7) first (at_digit subs g ss ws print (digit_loop print) n' (word_neg u) unit 48) shows (digit_begins subs g ss ws print n' (word_neg u) unit (is_not_smaller n unit low high))
+      (counted subs g ss ws print n' unit q d 48 rest (omega (arith, most, high)) (omega (arith, low, high)) (omega (arith, few_units))) in
       let begins : Way subs least (7 + (14 * q + 7)) (opened subs s1 g values c1) (over under shows) =
       way_of_run subs under (7 + (14 * q + 7)) (record { frame = new_frame subs g values; statics = ss; words = ws }) shows
       (ap (λ (z : Frame). run subs (7 + (14 * q + 7)) (record { frame = z; statics = ss; words = ws })) (enters subs g _ values (is_digit core p)) ∙ ran) in
-      let asked : Frame = (at_digit subs g ss ws print (Next (Do 7 Open) (tail (tail (digit_loop print)))) n' (word_neg d) 10 (48 + q)).frame in
-      let (k, few, ws', is, way) = print_way under shows.frame asked ws row column (48 + q) hr hc (omega (arith, few_tens)) long refl in
-      let done : Call = at_digit subs g ss' ws' print (Next (Do 7 (Value 0)) (tail (tail (digit_loop print)))) n' (word_neg d) 10 (48 + q) in
-      let last : Call = at_digit subs g ss' ws' print (returns_value 8 (word_neg d) End) n' (word_neg d) 10 (48 + q) in
-      let ends : Way subs least 2 (over under done) (over under last) = way_of_run subs under 2 done last (digit_done subs g ss' ws' print n' (word_neg d) 10 (48 + q)) in
-      let whole = way_then subs least (7 + (14 * q + 7)) (k + 2) (opened subs s1 g values c1) (over under shows) (over under last) begins (way_then subs least k 2 (over under shows) (over under done) (over under last) way ends) in
-      let count = 7 + (14 * q + 7) + (k + 2) in
-      let back = returns_by subs s1 g values c1 count (at_digit subs g ss' ws' print End n' (word_neg d) 10 (48 + q)).frame ss' ws' 8 (word_neg d) End whole in
-      (suc (suc count), omega (arith, few, few_tens), ws', is, way_of_call subs (suc (length below)) (suc (suc count)) s1 (over below (int_call ss' ws' (has 7 (word_neg d) t) n' r)) (omega arith) back)
-
-  -- ---- a number within a call
-
-  -- up to the last two digits
-  to_tens : (below : List Frame) (ss ws : List ℕ) (n : ℕ) → n < 100
-      → Way subs (suc (length below)) 46 (over below (int_call ss ws (int_body (print_at core p) (digit_at core p)) n 0)) (over below (int_call ss ws (asks 7 (word_neg n) (word_neg n) 10 (from_one subs (int_at core p) [] [] (print_at core p) (digit_at core p))) (word_neg n) (word_neg n)))
-  to_tens below ss ws n small =
-      let g = int_at core p in
-      let print = print_at core p in
-      let digit = digit_at core p in
-      let n' = word_neg n in
-      let d = suc (length below) in
-      let t1 = from_thousand subs g [] [] print digit in
-      let t2 = from_hundred subs g [] [] print digit in
-      let t3 = from_ten subs g [] [] print digit in
-      let t4 = from_one subs g [] [] print digit in
-      let a0 = int_call ss ws (int_body print digit) n 0 in
-      let a1 = int_call ss ws (asks 4 n' n' 10000 t1) n' 0 in
-      let b1 = int_call ss ws (has 4 n' t1) n' 0 in
-      let a2 = int_call ss ws (asks 5 n' n' 1000 t2) n' n' in
-      let b2 = int_call ss ws (has 5 n' t2) n' n' in
-      let a3 = int_call ss ws (asks 6 n' n' 100 t3) n' n' in
-      let b3 = int_call ss ws (has 6 n' t3) n' n' in
-      let a4 = int_call ss ws (asks 7 n' n' 10 t4) n' n' in
-      way_then subs d 10 36 (over below a0) (over below a1) (over below a4) (way_of_run subs below 10 a0 a1 (int_begins subs g ss ws print digit n n' (not_negative n (omega (arith, small))) refl))
-      (way_then subs d 8 28 (over below a1) (over below b1) (over below a4) (none_way below ss ws 4 n' n' 10000 0 t1 (is_smaller n 10000 (omega (arith, small)) (omega arith)))
-      (way_then subs d 4 24 (over below b1) (over below a2) (over below a4) (way_of_run subs below 4 b1 a2 (int_thousand subs g ss ws print digit n' n' 0))
-      (way_then subs d 8 16 (over below a2) (over below b2) (over below a4) (none_way below ss ws 5 n' n' 1000 n' t2 (is_smaller n 1000 (omega (arith, small)) (omega arith)))
-      (way_then subs d 4 12 (over below b2) (over below a3) (over below a4) (way_of_run subs below 4 b2 a3 (int_hundred subs g ss ws print digit n' n' n'))
-      (way_then subs d 8 4 (over below a3) (over below b3) (over below a4) (none_way below ss ws 6 n' n' 100 n' t3 (is_smaller n 100 small (omega arith)))
-      (way_of_run subs below 4 b3 a4 (int_ten subs g ss ws print digit n' n' n')))))))
+      let asked : Frame = (at_digit subs g ss ws print (Next (Do 7 Open) (tail (tail (digit_loop print)))) n' (word_neg d) unit (48 + q)).frame in
+      let (i, few, ws', is, way) = print_way under shows.frame asked ws row column (48 + q) hr hc (omega (arith, few_units)) long refl in
+      let done : Call = at_digit subs g ss' ws' print (Next (Do 7 (Value 0)) (tail (tail (digit_loop print)))) n' (word_neg d) unit (48 + q) in
+      let last : Call = at_digit subs g ss' ws' print (returns_value 8 (word_neg d) End) n' (word_neg d) unit (48 + q) in
+      let ends : Way subs least 2 (over under done) (over under last) = way_of_run subs under 2 done last (digit_done subs g ss' ws' print n' (word_neg d) unit (48 + q)) in
+      let whole = way_then subs least (7 + (14 * q + 7)) (i + 2) (opened subs s1 g values c1) (over under shows) (over under last) begins (way_then subs least i 2 (over under shows) (over under done) (over under last) way ends) in
+      let count = 7 + (14 * q + 7) + (i + 2) in
+      let back = returns_by subs s1 g values c1 count (at_digit subs g ss' ws' print End n' (word_neg d) unit (48 + q)).frame ss' ws' 8 (word_neg d) End whole in
+      (suc (suc count), omega (arith, few, few_units), ws', is, way_of_call subs (suc (length below)) (suc (suc count)) s1 (over below (int_call ss' ws' (has k (word_neg d) t) n' r)) (omega arith) back)
 
   -- the last digit
   last_way : (below : List Frame) (ws : List ℕ) (row column n' d r : ℕ) → row < 23 → column < 64 → length ws ≡ 22528 → d < 10
@@ -298,60 +348,259 @@ module _ {core : Core} (p : IsShipped core) (h : HasStatics p) (base : List ℕ)
             (way_then subs least k 2 (over below b) (over below c) (over below e) way (way_of_run subs below 2 c e (int_done subs g ss' ws' print digit n' (word_neg d)))),
       )
 
-  -- what a number's digits leave: the words and the cell behind them
+  -- ---- pieces of a run that show texts
+
+  -- what a text leaves: the words and the cell after it
   abbrev Shown : List ℕ → ℕ → ℕ → List ℕ → List ℕ → ℕ → ℕ → Type 0
   Shown ws row column text ws' row' column' = IsBehind row column text row' column' × ShowsText font ws row column text ws'
 
-  digits_way : (below : List Frame) (ws : List ℕ) (row column n : ℕ) → row < 23 → column < 64 → length ws ≡ 22528 → n < 100
-      → (m : ℕ) × (m ≤ 3820) × (ws' : List ℕ) × (row' : ℕ) × (column' : ℕ) × Shown ws row column (decimal n) ws' row' column' × (rest : ℕ)
-      × Way subs (suc (length below)) m (over below (int_call (cursor row column) ws (int_body (print_at core p) (digit_at core p)) n 0)) (over below (int_call (cursor row' column') ws' (returns_value 9 0 End) (word_neg n) rest))
-  digits_way below ws row column n hr hc long small =
+  pub record Shows (most least : ℕ) (s : State) (to : List ℕ → ℕ → ℕ → State) (text ws : List ℕ) (row column : ℕ) : Type 0 where
+    pub n : ℕ
+    pub few : n ≤ most
+    pub ws' : List ℕ
+    pub row' : ℕ
+    pub column' : ℕ
+    pub behind : IsBehind row column text row' column'
+    pub shown : ShowsText font ws row column text ws'
+    pub rows : row' < 23
+    pub columns : column' < 64
+    pub long : length ws' ≡ 22528
+    pub way : Way subs least n s (to ws' row' column')
+
+  pub joined_at : (a b least : ℕ) (s : State) (to to' : List ℕ → ℕ → ℕ → State) (xs ys ws : List ℕ) (row column : ℕ) (f : Shows a least s to xs ws row column)
+      → Shows b least (to f.ws' f.row' f.column') to' ys f.ws' f.row' f.column' → Shows (a + b) least s to' (xs ++ ys) ws row column
+  joined_at a b least s to to' xs ys ws row column f e =
+      let few1 = f.few in
+      let few2 = e.few in
+      record {
+        n = f.n + e.n;
+        few = omega (arith, few1, few2);
+        ws' = e.ws';
+        row' = e.row';
+        column' = e.column';
+        behind = behind_join row column xs f.row' f.column' ys e.row' e.column' f.behind e.behind;
+        shown = shows_join font ws row column xs f.ws' f.row' f.column' ys e.ws' f.behind f.shown e.shown;
+        rows = e.rows;
+        columns = e.columns;
+        long = e.long;
+        way = way_then subs least f.n e.n s (to f.ws' f.row' f.column') (to' e.ws' e.row' e.column') f.way e.way;
+      }
+
+  joined : (a b least : ℕ) (s : State) (to to' : List ℕ → ℕ → ℕ → State) (xs ys ws : List ℕ) (row column : ℕ) → Shows a least s to xs ws row column
+      → ((ws1 : List ℕ) (row1 column1 : ℕ) → row1 < 23 → column1 < 64 → length ws1 ≡ 22528 → Shows b least (to ws1 row1 column1) to' ys ws1 row1 column1)
+      → Shows (a + b) least s to' (xs ++ ys) ws row column
+  joined a b least s to to' xs ys ws row column f g = joined_at a b least s to to' xs ys ws row column f (g f.ws' f.row' f.column' f.rows f.columns f.long)
+
+  -- nothing is shown
+  silent : (n least : ℕ) (s : State) (to : List ℕ → ℕ → ℕ → State) (ws : List ℕ) (row column : ℕ) → row < 23 → column < 64 → length ws ≡ 22528 → Way subs least n s (to ws row column) → Shows n least s to [] ws row column
+  silent n least s to ws row column hr hc long way =
+      record { n = n; few = omega arith; ws' = ws; row' = row; column' = column; behind = (refl, refl); shown = refl; rows = hr; columns = hc; long = long; way = way }
+
+  -- one character is
+  single : (n most least k : ℕ) (s : State) (to : List ℕ → ℕ → ℕ → State) (ws ws' : List ℕ) (row column : ℕ) → n ≤ most → IsDrawn ws row column (font + 3 * shown_code k) ws' → length ws ≡ 22528
+      → Way subs least n s (to ws' (row_after row column) (column_after column)) → Shows most least s to (k ∷ []) ws row column
+  single n most least k s to ws ws' row column few is long way =
+      record {
+        n = n;
+        few = few;
+        ws' = ws';
+        row' = row_after row column;
+        column' = column_after column;
+        behind = (refl, refl);
+        shown = (ws', is, refl);
+        rows = row_small row column;
+        columns = column_small column;
+        long = is.same_length ∙ long;
+        way = way;
+      }
+
+  -- a call of printChar
+  pub print_any : (below : List Frame) (f waits : Frame) (ws : List ℕ) (row column k : ℕ) → row < 23 → column < 64 → k < 65536 → k ≢ 128 → k ≢ 129 → length ws ≡ 22528
+      → step subs 0 (record { frames = f ∷ below; statics = cursor row column; words = ws })
+      ≡ Acts false (record { frames = new_frame subs (print_at core p) (k ∷ []) ∷ waits ∷ below; statics = cursor row column; words = ws })
+      → Shows 1800 (suc (length below)) (record { frames = f ∷ below; statics = cursor row column; words = ws })
+      (λ ws' row' column'. record { frames = record waits { text = filled_text 0 waits.text } ∷ below; statics = cursor row' column'; words = ws' }) (k ∷ []) ws row column
+  print_any below f waits ws row column k hr hc small no_line no_back long calls =
+      let (n, few, ws', is, way) = print_any_way below f waits ws row column k hr hc small no_line no_back long calls in
+      single n 1800 (suc (length below)) k (record { frames = f ∷ below; statics = cursor row column; words = ws })
+      (λ ws' row' column'. record { frames = record waits { text = filled_text 0 waits.text } ∷ below; statics = cursor row' column'; words = ws' }) ws ws' row column few is long way
+
+  -- the texts of printInt after its calls of digit
+  abbrev behind_thousand : Text
+  behind_thousand = from_thousand subs (int_at core p) [] [] (print_at core p) (digit_at core p)
+
+  abbrev behind_hundred : Text
+  behind_hundred = from_hundred subs (int_at core p) [] [] (print_at core p) (digit_at core p)
+
+  abbrev behind_ten : Text
+  behind_ten = from_ten subs (int_at core p) [] [] (print_at core p) (digit_at core p)
+
+  abbrev behind_one : Text
+  behind_one = from_one subs (int_at core p) [] [] (print_at core p) (digit_at core p)
+
+  abbrev stands_at : List Frame → Text → ℕ → ℕ → List ℕ → ℕ → ℕ → State
+  stands_at below t n r ws row column = over below (int_call (cursor row column) ws t n r)
+
+  -- a call of digit, where the rest is this many units and d
+  stage : (below : List Frame) (ws : List ℕ) (row column n unit q d rest k r : ℕ) (t : Text) → row < 23 → column < 64 → length ws ≡ 22528 → n ≤ 32768 → unit ≤ 32768 → d < unit → up_to unit q d ≡ rest → rest ≤ n → q < 10
+      → (n < unit → rest ≡ d) → (n / unit % 10 ≡ q)
+      → Shows 1960 (suc (length below)) (stands_at below (asks k (word_neg n) (word_neg rest) unit t) (word_neg n) r ws row column) (stands_at below (has k (word_neg d) t) (word_neg n) r) (digit_of n unit) ws row column
+  stage below ws row column n unit q d rest k r t hr hc long high big low is most few none value =
+      let n' = word_neg n in
+      let least = suc (length below) in
+      ⊎_elim
+      (λ (l : n < unit).
+      let from = stands_at below (asks k n' (word_neg rest) unit t) n' r ws row column in
+      let to = stands_at below (has k (word_neg d) t) n' r in
+      let way : Way subs least 8 from (to ws row column) =
+      subst (λ (z : ℕ). Way subs least 8 from (stands_at below (has k (word_neg z) t) n' r ws row column)) (none l) (none_way below (cursor row column) ws k n' (word_neg rest) unit r t (is_smaller n unit l big)) in
+      subst (λ text. Shows 1960 least from to text ws row column) (sym (no_digit_of n unit l))
+      (record { n = 8; few = omega arith; ws' = ws; row' = row; column' = column; behind = (refl, refl); shown = refl; rows = hr; columns = hc; long = long; way = way }))
+      (λ (l : unit ≤ n).
+      let from = stands_at below (asks k n' (word_neg rest) unit t) n' r ws row column in
+      let to = stands_at below (has k (word_neg d) t) n' r in
+      let (m, enough, ws', drawn, way) = digit_way below ws row column n unit q d hr hc long high l low (omega (arith, is, most)) few k r t in
+      subst (λ text. Shows 1960 least from to text ws row column) (sym (one_digit_of n unit q l value))
+      (single m 1960 least (48 + q) from to ws ws' row column enough drawn long
+      (subst (λ (z : ℕ). Way subs least m (stands_at below (asks k n' (word_neg z) unit t) n' r ws row column) (to ws' (row_after row column) (column_after column))) is way)))
+      (cases_lt n unit)
+
+  -- the digits, from the first call of digit on
+  digits_shown : (below : List Frame) (ws : List ℕ) (row column n : ℕ) → row < 23 → column < 64 → length ws ≡ 22528 → n ≤ 32768
+      → (rest : ℕ) × Shows 9658 (suc (length below)) (stands_at below (asks 4 (word_neg n) (word_neg n) 10000 behind_thousand) (word_neg n) 0 ws row column) (stands_at below (returns_value 9 0 End) (word_neg n) rest) (digits n) ws row column
+  digits_shown below ws row column n hr hc long high =
       let g = int_at core p in
       let print = print_at core p in
       let digit = digit_at core p in
       let n' = word_neg n in
+      let r1 = n % 10000 in
+      let r2 = r1 % 1000 in
+      let r3 = r2 % 100 in
+      let r4 = r3 % 10 in
       let least = suc (length below) in
-      let t4 = from_one subs g [] [] print digit in
-      let ss = cursor row column in
+      let w1 = word_neg r1 in
+      let w2 = word_neg r2 in
+      let w3 = word_neg r3 in
+      let w4 = word_neg r4 in
+      let a1 = stands_at below (asks 4 n' n' 10000 behind_thousand) n' 0 in
+      let b1 = stands_at below (has 4 w1 behind_thousand) n' 0 in
+      let a2 = stands_at below (asks 5 n' w1 1000 behind_hundred) n' w1 in
+      let b2 = stands_at below (has 5 w2 behind_hundred) n' w1 in
+      let a3 = stands_at below (asks 6 n' w2 100 behind_ten) n' w2 in
+      let b3 = stands_at below (has 6 w3 behind_ten) n' w2 in
+      let a4 = stands_at below (asks 7 n' w3 10 behind_one) n' w3 in
+      let b4 = stands_at below (has 7 w4 behind_one) n' w3 in
+      let e = stands_at below (returns_value 9 0 End) n' w4 in
+      let t4 : List ℕ = (48 + n % 10) ∷ [] in
+      let t3 : List ℕ = digit_of n 10 ++ t4 in
+      let t2 : List ℕ = digit_of n 100 ++ t3 in
+      let t1 : List ℕ = digit_of n 1000 ++ t2 in
+      let last : (ws1 : List ℕ) (row1 column1 : ℕ) → row1 < 23 → column1 < 64 → length ws1 ≡ 22528 → Shows 1806 least (b4 ws1 row1 column1) e t4 ws1 row1 column1 =
+      λ ws1 row1 column1 hr1 hc1 long1.
+      let (m, few, ws', is, way) = last_way below ws1 row1 column1 n' r4 w3 hr1 hc1 long1 (omega arith) in
+      subst (λ (v : ℕ). Shows 1806 least (b4 ws1 row1 column1) e ((48 + v) ∷ []) ws1 row1 column1) (let f : r4 ≡ n % 10 = omega arith in f)
+      (single m 1806 least (48 + r4) (b4 ws1 row1 column1) e ws1 ws' row1 column1 few is long1 way) in
+      let tens : (ws1 : List ℕ) (row1 column1 : ℕ) → row1 < 23 → column1 < 64 → length ws1 ≡ 22528 → Shows 3766 least (a4 ws1 row1 column1) e t3 ws1 row1 column1 =
+      λ ws1 row1 column1 hr1 hc1 long1.
+      joined 1960 1806 least (a4 ws1 row1 column1) b4 e (digit_of n 10) t4 ws1 row1 column1
+      (stage below ws1 row1 column1 n 10 (r3 / 10) r4 r3 7 w3 behind_one hr1 hc1 long1 high (omega arith) (omega arith) (up_to_10 (r3 / 10) r4 ∙ (let f : 10 * (r3 / 10) + r4 ≡ r3 = omega arith in f)) (omega arith) (omega arith) (λ l. omega (arith, l)) (omega arith)) last in
+      let from_b3 : (ws1 : List ℕ) (row1 column1 : ℕ) → row1 < 23 → column1 < 64 → length ws1 ≡ 22528 → Shows 3770 least (b3 ws1 row1 column1) e t3 ws1 row1 column1 =
+      λ ws1 row1 column1 hr1 hc1 long1.
+      joined 4 3766 least (b3 ws1 row1 column1) a4 e [] t3 ws1 row1 column1
+      (silent 4 least (b3 ws1 row1 column1) a4 ws1 row1 column1 hr1 hc1 long1 (way_of_run subs below 4 _ _ (int_ten subs g (cursor row1 column1) ws1 print digit n' w3 w2))) tens in
+      let hundreds : (ws1 : List ℕ) (row1 column1 : ℕ) → row1 < 23 → column1 < 64 → length ws1 ≡ 22528 → Shows 5730 least (a3 ws1 row1 column1) e t2 ws1 row1 column1 =
+      λ ws1 row1 column1 hr1 hc1 long1.
+      joined 1960 3770 least (a3 ws1 row1 column1) b3 e (digit_of n 100) t3 ws1 row1 column1
+      (stage below ws1 row1 column1 n 100 (r2 / 100) r3 r2 6 w2 behind_ten hr1 hc1 long1 high (omega arith) (omega arith) (up_to_100 (r2 / 100) r3 ∙ (let f : 100 * (r2 / 100) + r3 ≡ r2 = omega arith in f)) (omega arith) (omega arith) (λ l. omega (arith, l)) (omega arith)) from_b3 in
+      let from_b2 : (ws1 : List ℕ) (row1 column1 : ℕ) → row1 < 23 → column1 < 64 → length ws1 ≡ 22528 → Shows 5734 least (b2 ws1 row1 column1) e t2 ws1 row1 column1 =
+      λ ws1 row1 column1 hr1 hc1 long1.
+      joined 4 5730 least (b2 ws1 row1 column1) a3 e [] t2 ws1 row1 column1
+      (silent 4 least (b2 ws1 row1 column1) a3 ws1 row1 column1 hr1 hc1 long1 (way_of_run subs below 4 _ _ (int_hundred subs g (cursor row1 column1) ws1 print digit n' w2 w1))) hundreds in
+      let thousands : (ws1 : List ℕ) (row1 column1 : ℕ) → row1 < 23 → column1 < 64 → length ws1 ≡ 22528 → Shows 7694 least (a2 ws1 row1 column1) e t1 ws1 row1 column1 =
+      λ ws1 row1 column1 hr1 hc1 long1.
+      joined 1960 5734 least (a2 ws1 row1 column1) b2 e (digit_of n 1000) t2 ws1 row1 column1
+      (stage below ws1 row1 column1 n 1000 (r1 / 1000) r2 r1 5 w1 behind_hundred hr1 hc1 long1 high (omega arith) (omega arith) (up_to_1000 (r1 / 1000) r2 ∙ (let f : 1000 * (r1 / 1000) + r2 ≡ r1 = omega arith in f)) (omega arith) (omega arith) (λ l. omega (arith, l)) (omega arith)) from_b2 in
+      let from_b1 : (ws1 : List ℕ) (row1 column1 : ℕ) → row1 < 23 → column1 < 64 → length ws1 ≡ 22528 → Shows 7698 least (b1 ws1 row1 column1) e t1 ws1 row1 column1 =
+      λ ws1 row1 column1 hr1 hc1 long1.
+      joined 4 7694 least (b1 ws1 row1 column1) a2 e [] t1 ws1 row1 column1
+      (silent 4 least (b1 ws1 row1 column1) a2 ws1 row1 column1 hr1 hc1 long1 (way_of_run subs below 4 _ _ (int_thousand subs g (cursor row1 column1) ws1 print digit n' w1 0))) thousands in (
+        w4,
+        joined 1960 7698 least (a1 ws row column) b1 e (digit_of n 10000) t1 ws row column
+            (stage below ws row column n 10000 (n / 10000) r1 n 4 0 behind_thousand hr hc long high (omega arith) (omega arith) (up_to_10000 (n / 10000) r1 ∙ (let f : 10000 * (n / 10000) + r1 ≡ n = omega arith in f)) (omega arith) (omega (arith, high)) (λ l. omega (arith, l)) (omega (arith, high))) from_b1,
+      )
+
+  -- the whole of printInt
+  int_shown : (below : List Frame) (ws : List ℕ) (row column n : ℕ) → row < 23 → column < 64 → length ws ≡ 22528 → n < 65536
+      → (n' : ℕ) × (rest : ℕ) × Shows 11500 (suc (length below)) (stands_at below (int_body (print_at core p) (digit_at core p)) n 0 ws row column) (stands_at below (returns_value 9 0 End) n' rest) (shown_number n) ws row column
+  int_shown below ws row column n hr hc long small =
+      let g = int_at core p in
+      let print = print_at core p in
+      let digit = digit_at core p in
+      let least = suc (length below) in
+      let a0 = stands_at below (int_body print digit) n 0 in
+      ⊎_elim
+      (λ (l : n < 32768).
+      let n' = word_neg n in
+      let (rest, shows) = digits_shown below ws row column n hr hc long (omega (arith, l)) in
+      let e = stands_at below (returns_value 9 0 End) n' rest in
+      let f : Way subs least 10 (a0 ws row column) (stands_at below (asks 4 n' n' 10000 behind_thousand) n' 0 ws row column) = way_of_run subs below 10 _ _ (int_begins subs g (cursor row column) ws print digit n n' (not_negative n l) refl) in
+      let few = shows.few in
+      let whole : Shows 11500 least (a0 ws row column) e (digits n) ws row column = record {
+        n = 10 + shows.n;
+        few = omega (arith, few);
+        ws' = shows.ws';
+        row' = shows.row';
+        column' = shows.column';
+        behind = shows.behind;
+        shown = shows.shown;
+        rows = shows.rows;
+        columns = shows.columns;
+        long = shows.long;
+        way = way_then subs least 10 shows.n (a0 ws row column) (stands_at below (asks 4 n' n' 10000 behind_thousand) n' 0 ws row column) (e shows.ws' shows.row' shows.column') f shows.way;
+      } in
+      let same : shown_number n ≡ digits n = ap (λ b. if b then decimal n else 45 ∷ decimal (65536 - n)) (is_less n 32768 l) ∙ sym (digits_are n (omega (arith, l))) in
+      (n', rest, subst (λ text. Shows 11500 least (a0 ws row column) e text ws row column) (sym same) whole))
+      (λ (l : 32768 ≤ n).
+      let m = 65536 - n in
+      let neg : word_neg m ≡ n = omega (arith, l, small) in
+      let asks_it : Call = int_call (cursor row column) ws (asks_minus subs g [] [] print digit) n 0 in
+      let waits : Call = int_call (cursor row column) ws (Next (Do 2 Open) (tail (int_body print digit))) n 0 in
+      let (i, short, ws1, drawn, way1) = print_way below asks_it.frame waits.frame ws row column 45 hr hc (omega arith) long refl in
       let row1 = row_after row column in
       let column1 = column_after column in
-      let a0 = int_call ss ws (int_body print digit) n 0 in
-      let a4 = int_call ss ws (asks 7 n' n' 10 t4) n' n' in
-      let begins = to_tens below ss ws n small in
-      ⊎_elim
-      (λ (l : n < 10).
-      let one : decimal n ≡ (48 + n) ∷ [] = one_digit n l in
-      let (k, few, ws', is, way) = last_way below ws row column n' n n' hr hc long l in
-      let b4 = int_call ss ws (has 7 n' t4) n' n' in
-      let e = int_call (cursor row1 column1) ws' (returns_value 9 0 End) n' n' in
-      let none = none_way below ss ws 7 n' n' 10 n' t4 (is_smaller n 10 l (omega arith)) in (
-        46 + (8 + k),
-        omega (arith, few),
-        ws',
-        row1,
-        column1,
-        subst (λ text. Shown ws row column text ws' row1 column1) (sym one) ((refl, refl), (ws', is, refl)),
-        n',
-        way_then subs least 46 (8 + k) (over below a0) (over below a4) (over below e) begins (way_then subs least 8 k (over below a4) (over below b4) (over below e) none way),
-      ))
-      (λ (l : 10 ≤ n).
-      let two : decimal n ≡ (48 + n / 10) ∷ (48 + n % 10) ∷ [] = two_digits n l in
-      let (j, short, ws1, is1, way1) = tens_way below ws row column n hr hc long l small n' t4 in
-      let (k, few, ws', is, way) = last_way below ws1 row1 column1 n' (n % 10) n' (row_small row column) (column_small column) (is1.same_length ∙ long) (omega arith) in
-      let row2 = row_after row1 column1 in
-      let column2 = column_after column1 in
-      let b4 = int_call (cursor row1 column1) ws1 (has 7 (word_neg (n % 10)) t4) n' n' in
-      let e = int_call (cursor row2 column2) ws' (returns_value 9 0 End) n' (word_neg (n % 10)) in (
-        46 + (j + k),
-        omega (arith, few, short),
-        ws',
-        row2,
-        column2,
-        subst (λ text. Shown ws row column text ws' row2 column2) (sym two) ((refl, refl), (ws1, is1, (ws', is, refl))),
-        word_neg (n % 10),
-        way_then subs least 46 (j + k) (over below a0) (over below a4) (over below e) begins (way_then subs least j k (over below a4) (over below b4) (over below e) way1 way),
-      ))
-      (cases_lt n 10)
+      let long1 = drawn.same_length ∙ long in
+      let (rest, shows) = digits_shown below ws1 row1 column1 m (row_small row column) (column_small column) long1 (omega (arith, l)) in
+      let e = stands_at below (returns_value 9 0 End) n rest in
+      let has_it : Call = int_call (cursor row1 column1) ws1 (has_minus subs g [] [] print digit) n 0 in
+      let first : State = over below (int_call (cursor row1 column1) ws1 (asks 4 n n 10000 behind_thousand) n 0) in
+      let final : State = e shows.ws' shows.row' shows.column' in
+      let few = shows.few in
+      let last_way : Way subs least shows.n first final =
+      subst (λ (z : ℕ). Way subs least shows.n (over below (int_call (cursor row1 column1) ws1 (asks 4 z z 10000 behind_thousand) z 0)) (stands_at below (returns_value 9 0 End) z rest shows.ws' shows.row' shows.column')) neg shows.way in
+      let whole : Shows 11500 least (a0 ws row column) e (45 ∷ digits m) ws row column = record {
+        n = 5 + (i + (4 + shows.n));
+        few = omega (arith, few, short);
+        ws' = shows.ws';
+        row' = shows.row';
+        column' = shows.column';
+        behind = shows.behind;
+        shown = (ws1, drawn, shows.shown);
+        rows = shows.rows;
+        columns = shows.columns;
+        long = shows.long;
+        way = way_then subs least 5 (i + (4 + shows.n)) (a0 ws row column) (over below asks_it) final (way_of_run subs below 5 _ _ (minus_begins subs g (cursor row column) ws print digit n (negative n l)))
+            (way_then subs least i (4 + shows.n) (over below asks_it) (over below has_it) final way1 (way_then subs least 4 shows.n (over below has_it) first final (way_of_run subs below 4 _ _ (minus_done subs g (cursor row1 column1) ws1 print digit n)) last_way));
+      } in
+      let same : shown_number n ≡ 45 ∷ digits m = ap (λ b. if b then decimal n else 45 ∷ decimal (65536 - n)) (is_not_less n 32768 l) ∙ ap (λ (z : List ℕ). 45 ∷ z) (sym (digits_are m (omega (arith, l)))) in
+      (n, rest, subst (λ text. Shows 11500 least (a0 ws row column) e text ws row column) (sym same) whole))
+      (cases_lt n 32768)
+
+  digits_way : (below : List Frame) (ws : List ℕ) (row column n : ℕ) → row < 23 → column < 64 → length ws ≡ 22528 → n < 65536
+      → (m : ℕ) × (m ≤ 11500) × (ws' : List ℕ) × (row' : ℕ) × (column' : ℕ) × Shown ws row column (shown_number n) ws' row' column' × (n' : ℕ) × (rest : ℕ)
+      × Way subs (suc (length below)) m (over below (int_call (cursor row column) ws (int_body (print_at core p) (digit_at core p)) n 0)) (over below (int_call (cursor row' column') ws' (returns_value 9 0 End) n' rest))
+  digits_way below ws row column n hr hc long small =
+      let (n', rest, shows) = int_shown below ws row column n hr hc long small in
+      (shows.n, shows.few, shows.ws', shows.row', shows.column', (shows.behind, shows.shown), n', rest, shows.way)
 
   -- ---- the error's own text
 
@@ -380,8 +629,8 @@ module _ {core : Core} (p : IsShipped core) (h : HasStatics p) (base : List ℕ)
       print_way below (error_call (cursor row column) ws n (letter n k c)).frame (error_call (cursor row column) ws n (Next (Do (suc k) Open) (left_of n (suc k)))).frame ws row column c hr hc small long refl
 
   -- the call of printInt
-  number_way : (below : List Frame) (ws : List ℕ) (row column n : ℕ) → row < 23 → column < 64 → length ws ≡ 22528 → n < 100
-      → (m : ℕ) × (m ≤ 3822) × (ws' : List ℕ) × (row' : ℕ) × (column' : ℕ) × Shown ws row column (decimal n) ws' row' column'
+  number_way : (below : List Frame) (ws : List ℕ) (row column n : ℕ) → row < 23 → column < 64 → length ws ≡ 22528 → n < 65536
+      → (m : ℕ) × (m ≤ 11502) × (ws' : List ℕ) × (row' : ℕ) × (column' : ℕ) × Shown ws row column (shown_number n) ws' row' column'
       × Way subs (suc (length below)) m (over below (error_call (cursor row column) ws n (numbering n))) (over below (error_call (cursor row' column') ws' n (Next (Do 4 (Value 0)) (left_of n 4))))
   number_way below ws row column n hr hc long small =
       let g = int_at core p in
@@ -393,17 +642,17 @@ module _ {core : Core} (p : IsShipped core) (h : HasStatics p) (base : List ℕ)
       let under : List Frame = waits ∷ below in
       let least = suc (length under) in
       let first : Call = int_call ss ws (int_body (print_at core p) (digit_at core p)) n 0 in
-      let (m, few, ws', row', column', is, rest, way) = digits_way under ws row column n hr hc long small in
+      let (m, few, ws', row', column', is, n', rest, way) = digits_way under ws row column n hr hc long small in
       let ss' = cursor row' column' in
-      let last : Call = int_call ss' ws' (returns_value 9 0 End) (word_neg n) rest in
+      let last : Call = int_call ss' ws' (returns_value 9 0 End) n' rest in
       let start : opened subs s1 g (n ∷ []) c1 ≡ over under first = ap (λ (z : Frame). record { frames = z ∷ under; statics = ss; words = ws }) (enters subs g _ (n ∷ []) (is_int core p)) in
       let whole = subst (λ (z : State). Way subs least m z (over under last)) (sym start) way in
-      let back = returns_by subs s1 g (n ∷ []) c1 m (int_call ss' ws' End (word_neg n) rest).frame ss' ws' 9 0 End whole in
+      let back = returns_by subs s1 g (n ∷ []) c1 m (int_call ss' ws' End n' rest).frame ss' ws' 9 0 End whole in
       (suc (suc m), omega (arith, few), ws', row', column', is, way_of_call subs (suc (length below)) (suc (suc m)) s1 (over below (error_call ss' ws' n (Next (Do 4 (Value 0)) (left_of n 4)))) (omega arith) back)
 
   -- from the beginning of the text to the endless loop
-  error_way : (below : List Frame) (ws : List ℕ) (row column n : ℕ) → row < 23 → column < 64 → length ws ≡ 22528 → n < 100
-      → (m : ℕ) × (m ≤ 9230) × (ws' : List ℕ) × (row' : ℕ) × (column' : ℕ) × Shown ws row column (codes "ERR" ++ decimal n) ws' row' column'
+  error_way : (below : List Frame) (ws : List ℕ) (row column n : ℕ) → row < 23 → column < 64 → length ws ≡ 22528 → n < 65536
+      → (m : ℕ) × (m ≤ 16911) × (ws' : List ℕ) × (row' : ℕ) × (column' : ℕ) × Shown ws row column (codes "ERR" ++ shown_number n) ws' row' column'
       × Way subs (suc (length below)) m (over below (error_call (cursor row column) ws n (sys_error_body (print_at core p) (int_at core p) (halt_at core p)))) (over below (error_call (cursor row' column') ws' n (halting n)))
   error_way below ws row column n hr hc long small =
       let g = routine_number p (codes "Sys") (codes "error") in
@@ -479,7 +728,26 @@ module _ {core : Core} (p : IsShipped core) (s : State) where
         frames = refl;
         calls = ap (λ (k : ℕ). Acts false (with_top t (waits.frame ∷ below) (new_frame subs k []))) (sym (numbered core p (codes "Sys") (codes "halt")));
       } in
-      (ws', row', column', is.0, is.1, still_behind subs s t (suc m) 10000 ss' ws' leads (omega (arith, deep)) (halt_law p t halts) (omega (arith, few)))
+      (ws', row', column', is.0, is.1, still_behind subs s t (suc m) 20000 ss' ws' leads (omega (arith, deep)) (halt_law p t halts) (omega (arith, few)))
 
-pub law : ErrorLaws
-law = record { halt = λ p s. halt_law p s; error = λ p s. error_law p s }
+  pub int_law : IntLaw p s
+  int_law h row column n small at has c =
+      let subs = the_subroutines core in
+      let g = routine_number p (codes "Output") (codes "printInt") in
+      let below : List Frame = c.caller ∷ c.below in
+      let base = s.statics in
+      let f = int_at core p in
+      let print = print_at core p in
+      let digit = digit_at core p in
+      let least = suc (length below) in
+      let (m, few, ws', row', column', is, n', rest, way) = digits_way p h base at.room has.inside below s.words row column n at.rows at.columns has.words small in
+      let ss' = with_cursor h base row' column' in
+      let first : Call = in_call f 0 (with_cursor h base row column) s.words (int_body print digit) (n ∷ []) (0 ∷ []) in
+      let last : Call = in_call f 0 ss' ws' (returns_value 9 0 End) (n' ∷ []) (rest ∷ []) in
+      let same : g ≡ f = numbered core p (codes "Output") (codes "printInt") in
+      let start : opened subs s g (n ∷ []) c ≡ over below first =
+      ap (λ (k : ℕ). record { frames = new_frame subs k (n ∷ []) ∷ below; statics = base; words = s.words }) same
+      ∙ ap (λ (z : Frame). record { frames = z ∷ below; statics = base; words = s.words }) (enters subs f _ (n ∷ []) (is_int core p))
+      ∙ ap (λ (ss : List ℕ). record { frames = first.frame ∷ below; statics = ss; words = s.words }) (sym (unmoved p h base row column at)) in
+      let whole = subst (λ (z : State). Way subs least m z (over below last)) (sym start) way in
+      (ws', row', column', is.0, is.1, (suc (suc m), omega (arith, few), returns_by subs s g (n ∷ []) c m (in_call f 0 ss' ws' End (n' ∷ []) (rest ∷ [])).frame ss' ws' 9 0 End whole))

@@ -1,7 +1,8 @@
--- A number printed, an error told, the endless loop: each straight piece of their runs is a computation.
+-- A number printed, an error reported, the endless loop: each straight piece of their runs is a
+-- computation.
 use Rattle.std.proofs.Common.{◌≡◌, false, ℕ, zero, suc, ◌+◌, ◌-◌, ◌*◌, ◌<◌, ◌≤◌, List, [], ◌∷◌, Some, refl, ap, ◌∙◌, arith}
 use Rattle.word16.specs.Words.{word_add, word_sub, word_neg, word_lt, word_gt}
-use Rattle.jack_meaning.specs.Text.{Local, Value, Call as Calling, NoMore, More, Let, Do, If, Text, End, Next, Expression, Subroutine}
+use Rattle.jack_meaning.specs.Text.{Local, Value, Call as Calling, NoMore, More, Let, Do, If, Text, End, Next, Subroutine}
 use Rattle.os_laws.proofs.Comparing.{less_shifted, not_less_shifted}
 use Rattle.os_laws.proofs.Runs.{Call, run, run_then}
 use Rattle.os_functions.proofs.Pieces.{in_call, tail, returns_value}
@@ -19,6 +20,27 @@ is_smaller n u h k =
 pub is_not_smaller : (n u : ℕ) → u ≤ n → n ≤ 32768 → word_gt (word_neg n) (word_neg u) ≡ 0
 is_not_smaller n u h k =
     ap (λ z. word_lt (word_neg u) z) (negated n k) ∙ ap (λ z. word_lt z (word_add (32768 - n) 32768)) (negated u (omega (arith, h, k))) ∙ not_less_shifted (32768 - u) (32768 - n) (omega (arith, h, k)) (omega arith)
+
+-- a number of this many units, and a rest
+abbrev pub up_to : ℕ → ℕ → ℕ → ℕ
+up_to unit zero d = d
+up_to unit (suc q) d = up_to unit q d + unit
+
+pub up_to_10 : (q d : ℕ) → up_to 10 q d ≡ 10 * q + d
+up_to_10 zero d = omega arith
+up_to_10 (suc q) d = omega (arith, up_to_10 q d)
+
+pub up_to_100 : (q d : ℕ) → up_to 100 q d ≡ 100 * q + d
+up_to_100 zero d = omega arith
+up_to_100 (suc q) d = omega (arith, up_to_100 q d)
+
+pub up_to_1000 : (q d : ℕ) → up_to 1000 q d ≡ 1000 * q + d
+up_to_1000 zero d = omega arith
+up_to_1000 (suc q) d = omega (arith, up_to_1000 q d)
+
+pub up_to_10000 : (q d : ℕ) → up_to 10000 q d ≡ 10000 * q + d
+up_to_10000 zero d = omega arith
+up_to_10000 (suc q) d = omega (arith, up_to_10000 q d)
 
 module _ (subs : List Subroutine) (g : ℕ) (ss ws : List ℕ) where
   -- ---- one digit
@@ -43,19 +65,20 @@ module _ (subs : List Subroutine) (g : ℕ) (ss ws : List ℕ) where
     digit_ends : (n rest unit c : ℕ) → word_gt rest (word_neg unit) ≡ 65535 → run subs 7 (at_digit (digit_loop print) n rest unit c) ≡ Some (at_digit (digit_shown c) n rest unit c)
     digit_ends n rest unit c h = rw h refl
 
-    -- the tens are counted
-    pub tens : (n q d c : ℕ) → d < 10 → 10 * q + d < 100 → c + q < 1000 → run subs (14 * q + 7) (at_digit (digit_loop print) n (word_neg (10 * q + d)) 10 c) ≡ Some (at_digit (digit_shown (c + q)) n (word_neg d) 10 (c + q))
-    tens n zero d c h few small =
-        ap (λ (z : ℕ). run subs 7 (at_digit (digit_loop print) n (word_neg z) 10 c)) (let e : 10 * 0 + d ≡ d = omega arith in e) ∙ digit_ends n (word_neg d) 10 c (is_smaller d 10 h (omega arith))
-        ∙ ap (λ (z : ℕ). Some (at_digit (digit_shown z) n (word_neg d) 10 z)) (let e : c ≡ c + 0 = omega arith in e)
-    tens n (suc q) d c h few small =
+    -- the units are counted
+    pub counted : (n unit q d c : ℕ) → d < unit → up_to unit q d ≤ 32768 → unit ≤ 32768 → c + q < 1000
+        → run subs (14 * q + 7) (at_digit (digit_loop print) n (word_neg (up_to unit q d)) unit c) ≡ Some (at_digit (digit_shown (c + q)) n (word_neg d) unit (c + q))
+    counted n unit zero d c h few most small =
+        digit_ends n (word_neg d) unit c (is_smaller d unit h most) ∙ ap (λ (z : ℕ). Some (at_digit (digit_shown z) n (word_neg d) unit z)) (let e : c ≡ c + 0 = omega arith in e)
+    counted n unit (suc q) d c h few most small =
+        let u = up_to unit q d in
         let count : 14 * suc q + 7 ≡ 14 + (14 * q + 7) = omega arith in
         let turn =
-        digit_turn n (word_neg (10 * suc q + d)) 10 c (word_neg (10 * q + d)) (c + 1) (is_not_smaller (10 * suc q + d) 10 (omega arith) (omega (arith, few)))
-        (let e : word_add (word_neg (10 * suc q + d)) 10 ≡ word_neg (10 * q + d) = omega (arith, few) in e) (let e : word_add c 1 ≡ c + 1 = omega (arith, small) in e) in
-        ap (λ k. run subs k (at_digit (digit_loop print) n (word_neg (10 * suc q + d)) 10 c)) count
-        ∙ run_then subs 14 (14 * q + 7) _ _ _ turn (tens n q d (c + 1) h (omega (arith, few)) (omega (arith, few, small)))
-        ∙ ap (λ (z : ℕ). Some (at_digit (digit_shown z) n (word_neg d) 10 z)) (let e : c + 1 + q ≡ c + suc q = omega arith in e)
+        digit_turn n (word_neg (u + unit)) unit c (word_neg u) (c + 1) (is_not_smaller (u + unit) unit (omega arith) few)
+        (let e : word_add (word_neg (u + unit)) unit ≡ word_neg u = omega (arith, few, h) in e) (let e : word_add c 1 ≡ c + 1 = omega (arith, small) in e) in
+        ap (λ k. run subs k (at_digit (digit_loop print) n (word_neg (u + unit)) unit c)) count
+        ∙ run_then subs 14 (14 * q + 7) _ _ _ turn (counted n unit q d (c + 1) h (omega (arith, few)) most (omega (arith, small)))
+        ∙ ap (λ (z : ℕ). Some (at_digit (digit_shown z) n (word_neg d) unit z)) (let e : c + 1 + q ≡ c + suc q = omega arith in e)
 
     pub digit_done : (n rest unit c : ℕ) → run subs 2 (at_digit (Next (Do 7 (Value 0)) (tail (tail (digit_loop print)))) n rest unit c) ≡ Some (at_digit (returns_value 8 rest End) n rest unit c)
     digit_done n rest unit c = refl
@@ -66,7 +89,7 @@ module _ (subs : List Subroutine) (g : ℕ) (ss ws : List ℕ) where
     abbrev pub at_int : Text → ℕ → ℕ → Call
     at_int t n rest = in_call g 0 ss ws t (n ∷ []) (rest ∷ [])
 
-    -- behind the first k statements
+    -- after the first k statements
     abbrev pub from_thousand : Text
     from_thousand = tail (tail (int_body print digit))
 
@@ -79,7 +102,7 @@ module _ (subs : List Subroutine) (g : ℕ) (ss ws : List ℕ) where
     abbrev pub from_one : Text
     from_one = tail from_ten
 
-    -- at a call of digit, and behind it
+    -- at a call of digit, and after it
     abbrev pub asks_digit : ℕ → ℕ → ℕ → ℕ → Text → Text
     asks_digit k n rest unit t = Next (Let k (Local 0) (Calling digit (More (Value n) (More (Value rest) (More (Value unit) NoMore))))) t
 
@@ -91,6 +114,19 @@ module _ (subs : List Subroutine) (g : ℕ) (ss ws : List ℕ) where
 
     pub int_begins : (n n' : ℕ) → word_lt n 0 ≡ 0 → word_neg n ≡ n' → run subs 10 (at_int (int_body print digit) n 0) ≡ Some (at_int (asks_digit 4 n' n' 10000 from_thousand) n' 0)
     int_begins n n' h e = rw (h, e) refl
+
+    -- a minus is printed first where the number is below 0
+    abbrev pub asks_minus : Text
+    asks_minus = Next (Do 2 (Calling print (More (Value 45) NoMore))) (tail (int_body print digit))
+
+    abbrev pub has_minus : Text
+    has_minus = Next (Do 2 (Value 0)) (tail (int_body print digit))
+
+    pub minus_begins : (n : ℕ) → word_lt n 0 ≡ 65535 → run subs 5 (at_int (int_body print digit) n 0) ≡ Some (at_int asks_minus n 0)
+    minus_begins n h = rw h refl
+
+    pub minus_done : (n : ℕ) → run subs 4 (at_int has_minus n 0) ≡ Some (at_int (asks_digit 4 n n 10000 from_thousand) n 0)
+    minus_done n = refl
 
     pub int_thousand : (n rest r : ℕ) → run subs 4 (at_int (has_digit 4 rest from_thousand) n r) ≡ Some (at_int (asks_digit 5 n rest 1000 from_hundred) n rest)
     int_thousand n rest r = refl
@@ -152,7 +188,7 @@ module _ (subs : List Subroutine) (g : ℕ) (ss ws : List ℕ) where
   loop_turn : run subs 2 in_loop ≡ Some in_loop
   loop_turn = refl
 
-  -- behind the first step of a turn
+  -- after the first step of a turn
   abbrev halfway : Call
   halfway = in_call g 0 ss ws (Next (If 1 false (Value 65535) halt_loop End) (tail halt_body)) [] []
 

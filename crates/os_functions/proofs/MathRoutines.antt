@@ -1,15 +1,12 @@
 -- What stands at the numbers to which the names of the routines lead, by computation from the shipped texts: Math.
-use Rattle.std.proofs.Common.{◌≡◌, ℕ, ◌+◌, List, ◌++◌, take, codes, refl, sym, ap, ◌∙◌}
+use Rattle.std.proofs.Common.{◌≡◌, codes, refl}
 use Rattle.jack_core.specs.declared.program.Core.{Core}
 use Rattle.jack_core.specs.Texts.{the_subroutines}
-use Rattle.jack_meaning.specs.Text.{Function, Method}
+use Rattle.jack_meaning.specs.Text.{Function}
 use Rattle.jack_meaning.specs.Meaning.{subroutine_at}
-use Rattle.jack_tree.specs.Syntax.{ClassFile}
-use Rattle.jack_os.proofs.SystemTexts.{system_classes}
-use Rattle.os_laws.specs.Kernel.{multiply_meaning, divide_meaning, alloc_meaning, deAlloc_meaning}
-use Rattle.os_laws.specs.Names.{IsShipped, statics_in}
+use Rattle.os_laws.specs.Names.{IsShipped}
 use Rattle.os_functions.specs.Calls.{routine_number}
-use Rattle.os_functions.proofs.Named.{leads, shipped, statics_joined, system_error, own_number, number_of, first_static}
+use Rattle.os_functions.proofs.Named.{leads, system_error, own_number}
 use Rattle.os_functions.proofs.Texts.{routine, abs_body, min_body, max_body, root_body}
 
 module _ (core : Core) (p : IsShipped core) where

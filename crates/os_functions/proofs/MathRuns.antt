@@ -1,5 +1,5 @@
 -- Functions of Math: each straight piece of their runs is a computation.
-use Rattle.std.proofs.Common.{◌≡◌, ◌⊎◌, ⊎_elim, inl, inr, ℕ, zero, suc, ◌+◌, ◌-◌, ◌*◌, ◌^◌, ◌<◌, ◌≤◌, Bool, true, false, nat_lt, nat_abs, List, [], ◌∷◌, Some, codes, refl, sym, ap, ◌∙◌, subst, arith, mul-le-mul}
+use Rattle.std.proofs.Common.{◌≡◌, ◌⊎◌, ⊎_elim, inl, inr, ℕ, zero, suc, ◌+◌, ◌-◌, ◌*◌, ◌<◌, ◌≤◌, Bool, true, false, nat_lt, List, [], ◌∷◌, Some, codes, refl, sym, ap, ◌∙◌, arith, mul-le-mul}
 use Rattle.std.specs.Prelude.{int_lt, if◌then◌else◌}
 use Rattle.std.proofs.lemmas.Bool.{cases_lt}
 use Rattle.std.proofs.lemmas.Bool.Decides.{nat_tests}
@@ -11,7 +11,7 @@ use Rattle.jack_meaning.specs.Meaning.{State}
 use Rattle.os_laws.specs.Names.{IsShipped}
 use Rattle.os_laws.proofs.Comparing.{negative, not_negative, less, not_less}
 use Rattle.os_laws.proofs.Runs.{Call, run, run_then}
-use Rattle.os_functions.specs.Calls.{routine_number, CallsNext, Gives, Refuses}
+use Rattle.os_functions.specs.Calls.{routine_number, CallsNext, Gives}
 use Rattle.os_functions.specs.MathLaws.{absolute, lesser, greater, IsRoot, AbsLaw, MinLaw, MaxLaw, SqrtLaw, SqrtErrorLaw, MathLaws, MathRows}
 use Rattle.os_functions.proofs.Texts.{abs_body, min_body, max_body, root_body, root_loop}
 use Rattle.os_functions.proofs.Pieces.{in_call, tail, returns_value, erring, gives_by, refuses_by}

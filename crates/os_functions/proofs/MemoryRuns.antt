@@ -6,18 +6,17 @@ use Rattle.std.proofs.lemmas.Bool.Decides.{nat_tests}
 use Rattle.word16.specs.Words.{word_add}
 use Rattle.jack_core.specs.declared.program.Core.{Core}
 use Rattle.jack_core.specs.Texts.{the_subroutines}
-use Rattle.jack_meaning.specs.Text.{Value, Argument, Name, Literal, Load, Store, Return, Text, End, Next, Subroutine}
-use Rattle.jack_meaning.specs.Meaning.{Frame, State, Acts, Stray, step, new_frame}
-use Rattle.jack_meaning.specs.Level.{next_of}
-use Rattle.os_laws.specs.Calls.{after, given_back}
+use Rattle.jack_meaning.specs.Text.{Value, Load, Store, Return, Text, End, Next, Subroutine}
+use Rattle.jack_meaning.specs.Meaning.{Frame, State, Stray, step, new_frame}
+use Rattle.os_laws.specs.Calls.{after}
 use Rattle.os_laws.specs.Heap.{word_at}
 use Rattle.os_laws.specs.Names.{IsShipped}
-use Rattle.os_laws.proofs.Basics.{frame_with, enters}
+use Rattle.os_laws.proofs.Basics.{enters}
 use Rattle.os_laws.proofs.Runs.{Call, over, run, next_at, run_before, run_over}
 use Rattle.os_laws.proofs.Searching.{Reaches}
 use Rattle.os_laws.proofs.Walking.{here}
-use Rattle.os_functions.specs.Calls.{routine_number, CallsNext, Gives, Leaves}
-use Rattle.os_functions.specs.MemoryLaws.{StraysAt, PeekLaw, PeekKeyLaw, PeekElsewhereLaw, PokeLaw, PokeElsewhereLaw, MemoryLaws}
+use Rattle.os_functions.specs.Calls.{routine_number, CallsNext}
+use Rattle.os_functions.specs.MemoryLaws.{PeekLaw, PeekKeyLaw, PeekElsewhereLaw, PokeLaw, PokeElsewhereLaw, MemoryLaws}
 use Rattle.os_functions.proofs.Pieces.{in_call, tail, returns_value, gives_by, leaves_by}
 use Rattle.os_functions.proofs.MemoryRoutines.{is_peek, is_poke}
 use Rattle.os_functions.proofs.Texts.{peek_body, poke_body}

@@ -37,7 +37,7 @@ routine_in c k = get_or c.class.subroutines k multiply
 abbrev pub number_in : List ClassFile → List ℕ → List ℕ → ℕ
 number_in all class name = in_class (subroutine_number all) (class_number all class) name
 
--- there are so many classes, and so many routines in the i-th
+-- there are this many classes, and this many routines in the i-th
 abbrev pub IsThere : ℕ → ℕ → Type 0
 IsThere i k = (nat_lt i 8 ≡ true) × (nat_lt k (length (class_at i).class.subroutines) ≡ true)
 
@@ -47,7 +47,7 @@ eight = refl
 below : (a b : ℕ) → nat_lt a b ≡ true → a < b
 below a b h = grind (arith, nat_tests)
 
--- its meaning behind these classes of a folder
+-- its meaning after these classes of a folder
 abbrev meaning_by : List ClassFile → ℕ → ℕ → Class → Subroutine → meaning.Subroutine
 meaning_by all own statics c t = subroutine_meaning (standing all own statics c t) (field_count c.variables) t
 

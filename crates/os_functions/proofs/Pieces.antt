@@ -3,7 +3,7 @@ use Rattle.std.proofs.Common.{◌≡◌, ℕ, suc, ◌≤◌, List, [], ◌∷�
 use Rattle.jack_core.specs.declared.program.Core.{Core}
 use Rattle.jack_core.specs.Texts.{the_subroutines}
 use Rattle.jack_meaning.specs.Text.{Value, Call as Calling, Open, NoMore, More, Do, Return, Text, End, Next, Subroutine}
-use Rattle.jack_meaning.specs.Meaning.{Frame, State, subroutine_at, new_frame}
+use Rattle.jack_meaning.specs.Meaning.{State, subroutine_at}
 use Rattle.os_laws.specs.Calls.{ComesToCall}
 use Rattle.os_laws.specs.Names.{IsShipped}
 use Rattle.os_laws.proofs.Basics.{frame_with}

@@ -1,9 +1,9 @@
--- One bit of a word is set or cleared; what masks tell.
-use Rattle.std.proofs.Common.{◌≡◌, ◌≢◌, ◌⊎◌, inl, inr, ⊎_elim, ℕ, zero, suc, ◌+◌, ◌-◌, ◌*◌, ◌/◌, ◌%◌, ◌^◌, ◌<◌, ◌≤◌, min, max, bit_and, bit_or, List, length, refl, sym, ap, ◌∙◌, arith}
+-- One bit of a word is set or cleared; what masks say.
+use Rattle.std.proofs.Common.{◌≡◌, ◌≢◌, ◌⊎◌, inl, inr, ⊎_elim, ℕ, zero, suc, ◌+◌, ◌-◌, ◌*◌, ◌%◌, ◌^◌, ◌<◌, ◌≤◌, min, max, bit_and, bit_or, List, length, refl, sym, ap, ◌∙◌, arith}
 use Rattle.std.specs.Prelude.{slice_set}
 use Rattle.std.proofs.lemmas.Bool.{cases_lt}
 use Rattle.std.proofs.lemmas.List.{length-set}
-use Rattle.std.proofs.lemmas.Nat.{and_comm, and_mask, and-not, le_or_l, le_or_r, pow_below, pow_pos, pow_apart}
+use Rattle.std.proofs.lemmas.Nat.{and_comm, and_le_l, and_mask, and-not, le_or_l, le_or_r, or_of_16, pow_below, pow_pos, pow_apart}
 use Rattle.std.proofs.lemmas.Nat.Bits.{and_pow, bit_at-lt, bit_at-pow_same, bit_at-pow_other, bit_at_above, bit_at_and, bit_at_or}
 use Rattle.word16.specs.Words.{word_not}
 use Rattle.os_laws.specs.Heap.{word_at}
@@ -25,12 +25,12 @@ set_beside w k i d = bit_at_or w (2 ^ k) i ∙ ap (max (bit w i)) (bit_at-pow_ot
 same_and : (k : ℕ) → bit_and (2 ^ k) (2 ^ k) ≡ 2 ^ k
 same_and k = and_pow (2 ^ k) k ∙ ap (λ b. b * 2 ^ k) (bit_at-pow_same k) ∙ (let e : 1 * 2 ^ k ≡ 2 ^ k = omega arith in e)
 
-is_zero : (b q : ℕ) → 0 < q → b < 2 → b * q ≡ 0 → b ≡ 0
+pub is_zero : (b q : ℕ) → 0 < q → b < 2 → b * q ≡ 0 → b ≡ 0
 is_zero zero q h l e = refl
 is_zero (suc zero) q h l e = absurd (let f : 1 * q ≡ q = omega arith in omega (arith, e, f, h))
 is_zero (suc (suc b)) q h l e = absurd (omega (arith, l))
 
-is_one : (b q : ℕ) → 0 < q → b < 2 → b * q ≡ q → b ≡ 1
+pub is_one : (b q : ℕ) → 0 < q → b < 2 → b * q ≡ q → b ≡ 1
 is_one zero q h l e = absurd (let f : 0 * q ≡ 0 = omega arith in omega (arith, e, f, h))
 is_one (suc zero) q h l e = refl
 is_one (suc (suc b)) q h l e = absurd (omega (arith, l))
@@ -75,22 +75,23 @@ module _ (ws : List ℕ) (x y : ℕ) (hx : x < 512) (hy : y < 256) (long : lengt
   pub high_address : at_pixel < 24576
   high_address = omega (arith, hx, hy)
 
-  painted_by : (w colour : ℕ) → bit w (x % 16) ≡ colour → ((k : ℕ) → k ≢ x % 16 → bit w k ≡ bit (word_at ws at_pixel) k) → IsPainted ws x y colour (slice_set ws (at_pixel - 2048) w)
-  painted_by w colour here beside =
+  painted_by : (w colour : ℕ) → w < 65536 → bit w (x % 16) ≡ colour → ((k : ℕ) → k ≢ x % 16 → bit w k ≡ bit (word_at ws at_pixel) k) → IsPainted ws x y colour (slice_set ws (at_pixel - 2048) w)
+  painted_by w colour small here beside =
       let there = this_word ws at_pixel w long low_address high_address in
       record {
         same_length = length-set ws (at_pixel - 2048) w;
         others = λ a low d. other_word ws at_pixel a w low_address low d;
         here = ap (λ z. bit z (x % 16)) there ∙ here;
         beside = λ k d. ap (λ z. bit z k) there ∙ beside k d;
+        word = omega (arith, there, small);
       }
 
   pub painted_black : IsPainted ws x y 1 (slice_set ws (at_pixel - 2048) (bit_or (word_at ws at_pixel) (2 ^ (x % 16))))
-  painted_black = painted_by (bit_or (word_at ws at_pixel) (2 ^ (x % 16))) 1 (set_here (word_at ws at_pixel) (x % 16)) (λ k d. set_beside (word_at ws at_pixel) (x % 16) k d)
+  painted_black = painted_by (bit_or (word_at ws at_pixel) (2 ^ (x % 16))) 1 (or_of_16 (word_at ws at_pixel) (2 ^ (x % 16)) word (pow_below (x % 16) 16 (omega arith))) (set_here (word_at ws at_pixel) (x % 16)) (λ k d. set_beside (word_at ws at_pixel) (x % 16) k d)
 
   pub painted_white : IsPainted ws x y 0 (slice_set ws (at_pixel - 2048) (bit_and (word_at ws at_pixel) (word_not (2 ^ (x % 16)))))
   painted_white =
-      painted_by (bit_and (word_at ws at_pixel) (word_not (2 ^ (x % 16)))) 0 (clear_here (x % 16) (omega arith) (word_at ws at_pixel))
+      painted_by (bit_and (word_at ws at_pixel) (word_not (2 ^ (x % 16)))) 0 (let l = and_le_l (word_at ws at_pixel) (word_not (2 ^ (x % 16))) in omega (arith, l, word)) (clear_here (x % 16) (omega arith) (word_at ws at_pixel))
       (λ k d. clear_beside (x % 16) (omega arith) (word_at ws at_pixel) k word d)
 
 -- ---- masks of the bits from the n-th on
@@ -111,10 +112,10 @@ in_cells x h = omega (arith, masked 6 x 65472 refl (omega arith) (omega (arith, 
 pub and_rows : (x : ℕ) → x < 65536 → bit_and x 65504 + x % 32 ≡ x
 and_rows x h = masked 5 x 65504 refl (omega arith) h
 
-off_columns : (x : ℕ) → 512 ≤ x → x < 65536 → 0 < bit_and x 65024
+pub off_columns : (x : ℕ) → 512 ≤ x → x < 65536 → 0 < bit_and x 65024
 off_columns x h w = omega (arith, masked 9 x 65024 refl (omega arith) w, h)
 
-off_rows : (y : ℕ) → 256 ≤ y → y < 65536 → 0 < bit_and y 65280
+pub off_rows : (y : ℕ) → 256 ≤ y → y < 65536 → 0 < bit_and y 65280
 off_rows y h w = omega (arith, masked 8 y 65280 refl (omega arith) w, h)
 
 pub off_cells : (x : ℕ) → 64 ≤ x → x < 65536 → 0 < bit_and x 65472

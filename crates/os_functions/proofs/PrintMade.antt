@@ -9,25 +9,27 @@ use Rattle.word16.specs.Words.{word_add, word_sub, word_gt, truth}
 use Rattle.jack_core.specs.declared.program.Core.{Core}
 use Rattle.jack_core.specs.Texts.{the_subroutines}
 use Rattle.jack_meaning.specs.Text.{Value, Literal, Open, Call as Calling, NoMore, Do, Return, Text, End, Next, Function, Subroutine}
-use Rattle.jack_meaning.specs.Meaning.{Frame, State, Acts, step, subroutine_at, new_frame, filled_text}
+use Rattle.jack_meaning.specs.Meaning.{Frame, State, Acts, step, subroutine_at, new_frame, filled_text, with_top}
+use Rattle.os_laws.specs.Heap.{word_at}
 use Rattle.os_laws.specs.Names.{IsShipped}
 use Rattle.os_laws.proofs.Basics.{enters}
 use Rattle.os_laws.proofs.Comparing.{less, not_less}
 use Rattle.os_laws.proofs.Runs.{Call, over, run}
 use Rattle.os_functions.specs.Calls.{routine_number, HasStatics, CallsNext, Leaves}
 use Rattle.os_functions.specs.CursorLaws.{cell_address, with_cursor}
-use Rattle.os_functions.specs.PrintLaws.{IsCursorAt, HasGlyph, IsDrawn, row_after, column_after, row_before, column_before, shown_code, Draws, PrintLaw, LineLaw, PrintLineLaw, BackLaw, PrintLaws}
-use Rattle.os_functions.proofs.DrawFacts.{IsDrawnTo}
+use Rattle.os_functions.specs.PrintLaws.{IsCursorAt, HasGlyph, IsDrawn, row_after, column_after, row_before, column_before, shown_code, PrintLaw, LineLaw, PrintLineLaw, BackLaw, PrintBackLaw, PixelBehindLaw, PrintLaws}
+use Rattle.os_functions.specs.ScreenLaws.{pixel_address, IsPainted, colour}
 use Rattle.os_functions.proofs.DrawLoops.{drawn}
 use Rattle.os_functions.proofs.DrawPixels.{even_or_odd, cell_of, is_drawn}
 use Rattle.os_functions.proofs.Named.{numbered, number_of, own_number, first_static}
 use Rattle.os_functions.proofs.OutputRoutines.{is_draw, is_line, is_back, is_print}
 use Rattle.os_functions.proofs.Pieces.{in_call, returns_value, leaves_by}
 use Rattle.os_functions.proofs.PixelFacts.{and_rows}
-use Rattle.os_functions.proofs.PrintRuns.{line_at, line_ends, line_turns, print_at, print_end, draws, has_drawn, to_draw, moves_right, moves_next, to_line, line_done, to_new_line, back_at, draws_space, space_done, back_left, back_stays, back_word, back_row}
+use Rattle.os_functions.proofs.PrintRuns.{line_at, line_ends, line_turns, print_at, print_end, draws, has_drawn, to_draw, moves_right, moves_next, to_line, line_done, to_new_line, to_back, back_at, draws_space, space_done, back_left, back_stays, back_word, back_row}
+use Rattle.os_functions.proofs.ScreenMade.{pixel_law}
 use Rattle.os_functions.proofs.Statics.{same_font, same_place, same_right, apart}
 use Rattle.os_functions.proofs.Texts.{routine, draw_body, line_body, back_body, print_body, moves_on}
-use Rattle.os_functions.proofs.Ways.{Way, way_then, way_of_run, opened, returns_by, inner_leaf}
+use Rattle.os_functions.proofs.Ways.{Way, way_then, way_of_run, way_of_call, opened, returns_by, inner_leaf}
 
 -- ---- the cursor's statics
 
@@ -451,8 +453,9 @@ module _ {core : Core} (p : IsShipped core) (h : HasStatics p) (g : ℕ) (ss ws 
       (even_or_odd column)
 
 module _ {core : Core} (p : IsShipped core) (s : State) where
-  pub back_law : BackLaw p s
-  back_law h row column glyph at has c =
+  back_drawn : (h : HasStatics p) (row column glyph : ℕ) → IsCursorAt h s.statics row column → HasGlyph h s 32 glyph → (c : CallsNext p (codes "Output") (codes "backSpace") s [])
+      → (words : List ℕ) × IsDrawn s.words (row_before row column) (column_before row column) glyph words × Leaves c 1400 0 (with_cursor h s.statics (row_before row column) (column_before row column)) words
+  back_drawn h row column glyph at has c =
       let subs = the_subroutines core in
       let g = routine_number p (codes "Output") (codes "backSpace") in
       let below : List Frame = c.caller ∷ c.below in
@@ -478,6 +481,56 @@ module _ {core : Core} (p : IsShipped core) (s : State) where
       let whole = way_then subs d n (m + 2) first (over below asks) (over below last) begins (way_then subs d m 2 (over below asks) (over below done) (over below last) way ends) in
       (ws, is, (suc (suc (n + (m + 2))), omega (arith, few, short), returns_by subs s g [] c (n + (m + 2)) (back_at subs g ws h.place h.right ss' End).frame ss' ws 9 0 End whole))
 
+  pub back_law : BackLaw p s
+  back_law h row column glyph at has c = let (ws, is, (n, few, back)) = back_drawn h row column glyph at has c in (ws, is, (n, omega (arith, few), back))
+
+module _ {core : Core} (p : IsShipped core) (s : State) where
+  print_back_law : PrintBackLaw p s
+  print_back_law h row column glyph at has c =
+      let subs = the_subroutines core in
+      let g = routine_number p (codes "Output") (codes "printChar") in
+      let line = line_number p h in
+      let back = back_number p h in
+      let below : List Frame = c.caller ∷ c.below in
+      let d = suc (length below) in
+      let first = opened subs s g (129 ∷ []) c in
+      let ss' = with_cursor h s.statics (row_before row column) (column_before row column) in
+      let end = print_end subs g s.words h.place h.right 129 line in
+      let asks : Call = print_at subs g s.words h.place h.right 129 line s.statics (Next (Do 4 (Calling back NoMore)) end) in
+      let waits : Call = print_at subs g s.words h.place h.right 129 line s.statics (Next (Do 4 Open) end) in
+      let begins : Way subs d 8 first (over below asks) =
+      way_of_run subs below 8 (record { frame = new_frame subs g (129 ∷ []); statics = s.statics; words = s.words }) asks
+      (ap (λ (z : Frame). run subs 8 (record { frame = z; statics = s.statics; words = s.words })) (enters subs g _ (129 ∷ []) (has_print p h)) ∙ to_back subs g s.words h.place h.right s.statics line back (draw_at p h)) in
+      let s1 : State = over below asks in
+      let c1 : CallsNext p (codes "Output") (codes "backSpace") s1 [] = record {
+        top = asks.frame;
+        caller = waits.frame;
+        below = below;
+        frames = refl;
+        calls = ap (λ (k : ℕ). Acts false (with_top s1 (waits.frame ∷ below) (new_frame subs k []))) (sym (numbered core p (codes "Output") (codes "backSpace")));
+      } in
+      let has1 : HasGlyph h s1 32 glyph = record { place = has.place; inside = has.inside; words = has.words } in
+      let (ws, is, (n, few, returns)) = back_drawn p s1 h row column glyph at has1 c1 in
+      let done : Call = print_at subs g ws h.place h.right 129 line ss' (Next (Do 4 (Value 0)) (print_end subs g ws h.place h.right 129 line)) in
+      let last : Call = print_at subs g ws h.place h.right 129 line ss' (returns_value 11 0 End) in
+      let way : Way subs d n s1 (over below done) = way_of_call subs d n s1 (over below done) (omega arith) returns in
+      let ends : Way subs d 2 (over below done) (over below last) = way_of_run subs below 2 done last (line_done subs g ws h.place h.right 129 line ss' 4) in
+      let whole = way_then subs d 8 (n + 2) first s1 (over below last) begins (way_then subs d n 2 s1 (over below done) (over below last) way ends) in
+      (ws, is, (suc (suc (8 + (n + 2))), omega (arith, few), returns_by subs s g (129 ∷ []) c (8 + (n + 2)) (print_at subs g ws h.place h.right 129 line ss' End).frame ss' ws 11 0 End whole))
+
+  pixel_behind_law : PixelBehindLaw p s
+  pixel_behind_law h row column k glyph x y small no_line no_back at has hx hy word c =
+      let (ws, is, leaves) = print_law p s h row column k glyph small no_line no_back at has c in (
+        ws,
+        is,
+        leaves,
+        λ t same d.
+            let there : word_at ws (pixel_address x y) < 65536 = is.each (pixel_address x y) (omega arith) word in
+            let at_t : word_at t.words (pixel_address x y) ≡ word_at ws (pixel_address x y) = ap (λ (l : List ℕ). word_at l (pixel_address x y)) same in
+            subst (λ (l : List ℕ). (words' : List ℕ) × IsPainted l x y (colour p t h) words' × Leaves d 320 0 t.statics words') same
+            (pixel_law p t x y hx hy (ap length same ∙ is.same_length ∙ has.words) (omega (arith, at_t, there)) d h),
+      )
+
 pub law : PrintLaws
 law = record {
   stands = λ p h statics row column hr hc room. stands p h statics row column room hr hc;
@@ -485,4 +538,6 @@ law = record {
   line = λ p s. line_law p s;
   print_line = λ p s. print_line_law p s;
   back = λ p s. back_law p s;
+  print_back = λ p s. print_back_law p s;
+  pixel_behind = λ p s. pixel_behind_law p s;
 }

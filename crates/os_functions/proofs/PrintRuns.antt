@@ -1,5 +1,5 @@
 -- The cursor goes on: each straight piece of the runs is a computation.
-use Rattle.std.proofs.Common.{◌≡◌, ℕ, suc, ◌+◌, bit_and, List, [], ◌∷◌, true, false, nat_eq, Some, refl}
+use Rattle.std.proofs.Common.{◌≡◌, ℕ, bit_and, List, [], ◌∷◌, true, false, nat_eq, Some, refl}
 use Rattle.std.specs.Prelude.{slice_index, slice_set}
 use Rattle.word16.specs.Words.{word_add, word_sub, word_gt}
 use Rattle.jack_meaning.specs.Text.{Value, Call as Calling, NoMore, More, Do, Return, Literal, Text, End, Next, Subroutine}
@@ -57,6 +57,9 @@ module _ (subs : List Subroutine) (g : ℕ) (ws : List ℕ) (place right : ℕ) 
 
   pub to_new_line : (ss : List ℕ) (line back draw : ℕ) → run subs 4 (print_at 128 line ss (print_body line back draw place right)) ≡ Some (print_at 128 line ss (Next (Do 2 (Calling line NoMore)) (print_end 128 line)))
   to_new_line ss line back draw = refl
+
+  pub to_back : (ss : List ℕ) (line back draw : ℕ) → run subs 8 (print_at 129 line ss (print_body line back draw place right)) ≡ Some (print_at 129 line ss (Next (Do 4 (Calling back NoMore)) (print_end 129 line)))
+  to_back ss line back draw = refl
 
   -- ---- backSpace
 

@@ -1,26 +1,26 @@
 -- A pixel drawn: calls of Screen's own routines within a call.
-use Rattle.std.proofs.Common.{◌≡◌, ◌⊎◌, inl, inr, ⊎_elim, ℕ, zero, suc, ◌+◌, ◌-◌, ◌*◌, ◌/◌, ◌%◌, ◌^◌, ◌<◌, ◌≤◌, Bool, true, false, nat_eq, bit_and, bit_or, List, [], ◌∷◌, length, Some, codes, refl, sym, ap, ◌∙◌, subst, arith}
+use Rattle.std.proofs.Common.{◌≡◌, ℕ, zero, suc, ◌+◌, ◌-◌, ◌*◌, ◌/◌, ◌%◌, ◌^◌, ◌<◌, ◌≤◌, Bool, false, nat_eq, bit_and, bit_or, List, [], ◌∷◌, length, Some, codes, refl, sym, ap, ◌∙◌, subst, arith}
 use Rattle.std.specs.Prelude.{slice_index, slice_set, if◌then◌else◌}
 use Rattle.std.proofs.lemmas.Bool.Decides.{nat_tests}
 use Rattle.std.proofs.lemmas.Nat.{pow_below}
 use Rattle.word16.specs.Words.{word_not}
 use Rattle.jack_core.specs.declared.program.Core.{Core}
 use Rattle.jack_core.specs.Texts.{the_subroutines}
-use Rattle.jack_meaning.specs.Text.{Argument, Value, Name, Open, Call as Calling, NoMore, More, Do, Text, End, Next, Function, Subroutine}
+use Rattle.jack_meaning.specs.Text.{Argument, Value, Name, Open, Do, Text, End, Next, Function, Subroutine}
 use Rattle.jack_meaning.specs.Meaning.{Frame, State, subroutine_at, new_frame}
 use Rattle.os_laws.specs.Heap.{word_at}
 use Rattle.os_laws.specs.Names.{IsShipped}
-use Rattle.os_laws.proofs.Basics.{enters, frame_with}
-use Rattle.os_laws.proofs.Runs.{Call, over, run}
+use Rattle.os_laws.proofs.Basics.{enters}
+use Rattle.os_laws.proofs.Runs.{over, run}
 use Rattle.os_laws.proofs.Searching.{Reaches}
 use Rattle.os_laws.proofs.Walking.{here}
-use Rattle.os_functions.specs.Calls.{routine_number, HasStatics, CallsNext, Leaves, Refuses}
-use Rattle.os_functions.specs.ScreenLaws.{pixel_address, IsPainted, colour, InitLaw, ColourLaw, PixelLaw, PixelErrorLaw, ScreenLaws}
+use Rattle.os_functions.specs.Calls.{routine_number, HasStatics, CallsNext, Leaves}
+use Rattle.os_functions.specs.ScreenLaws.{pixel_address, IsPainted, colour, InitLaw, ColourLaw, PixelErrorLaw, ScreenLaws}
 use Rattle.os_functions.proofs.Named.{numbered, is_error, system_error, number_of, own_number, first_static}
-use Rattle.os_functions.proofs.Pieces.{in_call, tail, returns_value, erring, leaves_by, refuses_by}
+use Rattle.os_functions.proofs.Pieces.{in_call, tail, returns_value, leaves_by, refuses_by}
 use Rattle.os_functions.proofs.PixelFacts.{painted_black, painted_white, low_address, high_address, in_columns, in_rows, off_screen}
 use Rattle.os_functions.proofs.ScreenRoutines.{is_pixel, is_paint, is_place, is_bit, is_init, is_set_colour}
-use Rattle.os_functions.proofs.ScreenRuns.{at_text, places, bits, paints_black, paints_white, painted, colour_begun, colour_set, paint_call, bit_call, place_call, pixel_begins, pixel_middle, pixel_done, pixel_ends, pixel_refused}
+use Rattle.os_functions.proofs.ScreenRuns.{places, bits, paints_black, paints_white, painted, colour_begun, colour_set, paint_call, bit_call, place_call, pixel_begins, pixel_middle, pixel_done, pixel_ends, pixel_refused}
 use Rattle.os_functions.proofs.Statics.{same_black}
 use Rattle.os_functions.proofs.Texts.{routine, pixel_body, paint_body, place_body, bit_body}
 use Rattle.os_functions.proofs.Ways.{Way, way_then, way_of_run, opened, returns_by, inner_leaf}

@@ -1,10 +1,10 @@
 -- The routines of Screen that a pixel takes: each straight piece of their runs is a computation.
-use Rattle.std.proofs.Common.{◌≡◌, ◌⊎◌, inl, inr, ⊎_elim, ℕ, zero, suc, ◌+◌, ◌-◌, ◌*◌, ◌/◌, ◌%◌, ◌^◌, ◌<◌, ◌≤◌, bit_and, bit_or, List, [], ◌∷◌, Some, refl, sym, ap, ◌∙◌, subst, arith, mul-le-mul_left}
+use Rattle.std.proofs.Common.{◌≡◌, ◌⊎◌, ⊎_elim, ℕ, zero, suc, ◌+◌, ◌-◌, ◌*◌, ◌/◌, ◌%◌, ◌^◌, ◌<◌, ◌≤◌, bit_and, bit_or, List, [], ◌∷◌, Some, refl, sym, ap, ◌∙◌, arith, mul-le-mul_left}
 use Rattle.std.specs.Prelude.{slice_index, slice_set}
-use Rattle.std.proofs.lemmas.Nat.{and_comm, and_mask, and-not, pow_pos}
+use Rattle.std.proofs.lemmas.Nat.{and_mask, pow_pos}
 use Rattle.std.proofs.lemmas.Nat.Bits.{and_pow, bit_at-lt}
 use Rattle.word16.specs.Words.{word_add, word_sub, word_not}
-use Rattle.jack_meaning.specs.Text.{Argument, Local, Static, Complement, Plus, And, Or, Expression, Literal, Value, Name, Unary, Binary, Load, Call as Calling, NoMore, More, Store, Do, If, Return, Text, End, Next, Subroutine}
+use Rattle.jack_meaning.specs.Text.{Argument, Complement, And, Or, Expression, Literal, Value, Name, Unary, Binary, Load, Call as Calling, NoMore, More, Store, Do, Return, Text, End, Next, Subroutine}
 use Rattle.os_laws.specs.Heap.{word_at}
 use Rattle.os_laws.specs.Numbers.{bit}
 use Rattle.os_laws.proofs.Runs.{Call, run, run_then}

@@ -1,5 +1,5 @@
 -- The statics of which the laws speak, by computation from the shipped texts.
-use Rattle.std.proofs.Common.{◌≡◌, ℕ, ◌+◌, ◌<◌, List, ◌++◌, take, Some, codes, refl, sym, ap, ◌∙◌, subst, arith}
+use Rattle.std.proofs.Common.{◌≡◌, ℕ, ◌+◌, ◌<◌, List, take, Some, codes, sym, ap, ◌∙◌, arith}
 use Rattle.jack_core.specs.declared.program.Core.{Core}
 use Rattle.jack_tree.specs.Syntax.{ClassFile}
 use Rattle.jack_os.proofs.SystemTexts.{system_classes}

@@ -1,4 +1,4 @@
--- What a string's words are, before and behind a store.
+-- What a string's words are, before and after a store.
 use Rattle.std.proofs.Common.{◌≡◌, ◌≢◌, ◌⊎◌, inl, inr, ⊎_elim, ℕ, zero, suc, ◌+◌, ◌-◌, ◌<◌, ◌≤◌, true, false, nat_lt, List, [], ◌∷◌, ◌++◌, length, take, refl, sym, ap, ◌∙◌, subst, arith, length-append}
 use Rattle.std.specs.Prelude.{slice_index, slice_set}
 use Rattle.std.proofs.lemmas.Bool.{cases_lt}
@@ -152,7 +152,7 @@ module _ (ws : List ℕ) (o : ℕ) (text : List ℕ) (room : ℕ) (t : StringAt 
           each = append_text w h;
         }
 
-    -- the count behind the first store
+    -- the count after the first store
     pub append_count_kept : (w : ℕ) → n < room → word_at (stored ws (t.place + n) w) (o + 1) ≡ n
     append_count_kept w h = own n w 1 h (omega arith) ∙ t.count
 

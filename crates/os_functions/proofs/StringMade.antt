@@ -1,25 +1,25 @@
 -- The laws of strings.
-use Rattle.std.proofs.Common.{◌≡◌, ◌⊎◌, ⊎_elim, ℕ, suc, ◌+◌, ◌-◌, ◌<◌, ◌≤◌, true, false, nat_eq, bit_or, List, [], ◌∷◌, ◌++◌, length, Some, codes, refl, sym, ap, ◌∙◌, subst, arith}
+use Rattle.std.proofs.Common.{◌≡◌, ⊎_elim, ℕ, ◌+◌, ◌-◌, ◌<◌, ◌≤◌, true, false, nat_eq, bit_or, List, [], ◌∷◌, length, Some, codes, refl, sym, ap, ◌∙◌, subst, arith}
 use Rattle.std.proofs.lemmas.Bool.{cases_lt}
 use Rattle.std.proofs.lemmas.Bool.Decides.{nat_tests}
 use Rattle.word16.specs.Words.{word_add, word_sub, word_not, word_lt}
 use Rattle.jack_core.specs.declared.program.Core.{Core}
 use Rattle.jack_core.specs.Texts.{the_subroutines}
-use Rattle.jack_meaning.specs.Text.{End, Text, Subroutine}
-use Rattle.jack_meaning.specs.Meaning.{State}
+use Rattle.jack_meaning.specs.Text.{End, Function, Subroutine}
+use Rattle.jack_meaning.specs.Meaning.{State, subroutine_at}
 use Rattle.os_laws.specs.Heap.{word_at}
 use Rattle.os_laws.specs.Names.{IsShipped}
 use Rattle.os_laws.proofs.Comparing.{less, not_less, negative, not_negative}
 use Rattle.os_laws.proofs.Runs.{run, run_then}
 use Rattle.os_laws.proofs.Searching.{Reaches}
-use Rattle.os_functions.specs.Calls.{routine_number, Gives, Refuses}
-use Rattle.os_functions.specs.StringLaws.{StringAt, CallsString, StringLaws, LengthLaw, CharLaw, CharErrorLaw, SetCharLaw, SetCharErrorLaw, AppendLaw, AppendErrorLaw, EraseLaw, EraseErrorLaw, stored}
-use Rattle.os_functions.proofs.Pieces.{gives_by, leaves_by, refuses_by, tail, returns_value, erring}
-use Rattle.os_functions.proofs.Named.{is_error, system_error}
-use Rattle.os_functions.proofs.StringRoutines.{is_length, is_char_at, is_set_char, is_append, is_erase}
+use Rattle.os_functions.specs.Calls.{routine_number}
+use Rattle.os_functions.specs.StringLaws.{StringAt, StringLaws, LengthLaw, CharLaw, CharErrorLaw, SetCharLaw, SetCharErrorLaw, AppendLaw, AppendErrorLaw, EraseLaw, EraseErrorLaw, CodeLaw, stored}
+use Rattle.os_functions.proofs.Pieces.{gives_by, leaves_by, refuses_by, returns_value}
+use Rattle.os_functions.proofs.Named.{is_error, system_error, own_number}
+use Rattle.os_functions.proofs.StringRoutines.{is_length, is_char_at, is_set_char, is_append, is_erase, is_back_space, is_double_quote, is_new_line}
 use Rattle.os_functions.proofs.StringFacts.{at_place, at_count, at_most, at_character, negative_below, set_string, append_string, append_count_kept, erase_string}
 use Rattle.os_functions.proofs.StringRuns.{at_text, at_with, lengths, is_inside, is_elsewhere, reads, reads_character, writes, writes_character, counts, appends_character, append_refused, appends, counts_one_more, erase_refused, erases, erases_character}
-use Rattle.os_functions.proofs.Texts.{char_at_body, set_char_body, append_body, erase_body}
+use Rattle.os_functions.proofs.Texts.{routine, char_at_body, set_char_body, append_body, code_body}
 
 same_numbers : (a b : ℕ) → a ≡ b → nat_eq a b ≡ true
 same_numbers a b h = grind (arith, nat_tests)
@@ -169,6 +169,12 @@ module _ {core : Core} (p : IsShipped core) (s : State) (o : ℕ) (text : List �
       refuses_by p s (codes "String") (codes "eraseLastChar") (o ∷ []) c.call 5 7 (omega arith) _ (is_erase core p) error (is_error core p) o 18 (erases subs g o s.statics s.words) (o ∷ []) []
       (erase_refused subs g o s.statics s.words error (o + 1) (at_count s.words o text room t) none)
 
+-- ---- codes
+
+module _ {core : Core} (p : IsShipped core) (s : State) (name : List ℕ) (code class : ℕ) (is : subroutine_at (the_subroutines core) (routine_number p (codes "String") name) ≡ routine Function class 0 0 (code_body code)) where
+  code_law : CodeLaw p s name code
+  code_law c = gives_by p s (codes "String") name [] c 1 3 (omega arith) _ is 0 1 code code refl End [] [] refl
+
 pub law : StringLaws
 law = record {
   size = λ p s o text room. length_law p s o text room;
@@ -180,4 +186,7 @@ law = record {
   append_error = λ p s o text room. append_error_law p s o text room;
   erase = λ p s o text room. erase_law p s o text room;
   erase_error = λ p s o text room. erase_error_law p s o text room;
+  new_line = λ {core} p s. code_law p s (codes "newLine") 128 (own_number core p 6) (is_new_line core p);
+  back_space = λ {core} p s. code_law p s (codes "backSpace") 129 (own_number core p 6) (is_back_space core p);
+  double_quote = λ {core} p s. code_law p s (codes "doubleQuote") 34 (own_number core p 6) (is_double_quote core p);
 }

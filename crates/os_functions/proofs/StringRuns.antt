@@ -1,13 +1,13 @@
 -- Methods of strings: each straight piece of their runs is a computation.
-use Rattle.std.proofs.Common.{◌≡◌, ℕ, suc, ◌+◌, ◌-◌, ◌<◌, ◌≤◌, true, false, nat_eq, bit_or, List, [], ◌∷◌, Some, refl, sym, ap, ◌∙◌, arith}
+use Rattle.std.proofs.Common.{◌≡◌, ℕ, ◌-◌, true, false, nat_eq, bit_or, List, [], ◌∷◌, Some, refl}
 use Rattle.std.specs.Prelude.{slice_set}
 use Rattle.word16.specs.Words.{word_add, word_sub, word_not, word_lt}
 use Rattle.jack_meaning.specs.Text.{Argument, Complement, Plus, Subtract, Or, Less, Equal, Expression, Literal, Value, Name, This, Field, Unary, Binary, Load, LetField, Store, If, Return, Text, End, Next, Subroutine}
 use Rattle.os_laws.specs.Heap.{word_at}
 use Rattle.os_laws.proofs.Runs.{Call, run, run_then}
 use Rattle.os_laws.proofs.Searching.{Reaches}
-use Rattle.os_functions.proofs.Pieces.{in_call, tail, returns_value, erring}
-use Rattle.os_functions.proofs.Texts.{error_text, is_outside, length_body, char_at_body, set_char_body, append_body, erase_body}
+use Rattle.os_functions.proofs.Pieces.{in_call, returns_value, erring}
+use Rattle.os_functions.proofs.Texts.{error_text, is_outside, length_body, append_body, erase_body}
 
 module _ (subs : List Subroutine) (g o : ℕ) (ss ws : List ℕ) where
   -- a call of a method of the string at o, over these words

@@ -1,6 +1,6 @@
 -- The routines' texts as the meaning reads them: names are numbers, statements have their numbers.
-use Rattle.std.specs.Prelude.{ℕ, true, false, List, [], ◌∷◌}
-use Rattle.jack_meaning.specs.Text.{Argument, Local, Static, Minus, Complement, Plus, Subtract, And, Or, Less, Greater, Equal, Expression, Literal, Name, This, Field, Unary, Binary, Load, Call, NoMore, More, Statement, Let, LetField, Store, Do, If, While, Return, Text, End, Next, text_of, Kind, Function, Method, Subroutine}
+use Rattle.std.specs.Prelude.{ℕ, true, false, [], ◌∷◌}
+use Rattle.jack_meaning.specs.Text.{Argument, Local, Static, Minus, Complement, Plus, Subtract, And, Or, Less, Greater, Equal, Expression, Literal, Name, This, Field, Unary, Binary, Load, Call, NoMore, More, Statement, Let, LetField, Store, Do, If, While, Return, Text, End, Next, text_of, Kind, Subroutine}
 
 abbrev argument : ℕ → Expression
 argument k = Name (Argument k)
@@ -103,6 +103,9 @@ erase_body error =
     ∷ Return 4 (Literal 0)
     ∷ []
     )
+
+abbrev pub code_body : ℕ → Text
+code_body code = text_of (Return 1 (Literal code) ∷ [])
 
 -- ---- Screen
 
@@ -225,7 +228,7 @@ column_turn place =
 abbrev pub columns_loop : ℕ → Text
 columns_loop place = Next (While 17 (local 7) (column_turn place)) draw_end
 
--- a loop over the rows of a column, and what comes behind it in a column
+-- a loop over the rows of a column, and what comes after it in a column
 abbrev pub row_text : Text → Text
 row_text rest = Next (While 21 (local 6) row_turn) rest
 
@@ -246,7 +249,7 @@ clear_text rest = Next (While 11 (local 6) clear_turn) rest
 abbrev pub clear_loop : ℕ → Text
 clear_loop place = clear_text (Next (Let 15 (Local 5) (Literal 1)) (Next (Let 16 (Local 7) (Literal 5)) (columns_loop place)))
 
--- behind the choice of the code
+-- after the choice of the code
 abbrev pub glyph_text : ℕ → ℕ → ℕ → Text
 glyph_text font place right =
     Next (Let 3 (Local 0) (Binary Plus (Binary Plus (Binary Plus (static font) (argument 0)) (argument 0)) (argument 0)))
@@ -296,7 +299,7 @@ back_body draw place right =
     ∷ []
     )
 
--- behind the drawing of a character
+-- after the drawing of a character
 abbrev pub moves_on : ℕ → ℕ → ℕ → Text
 moves_on line place right =
     text_of (

@@ -1,7 +1,7 @@
 -- Ways from state to state under any keys, on which the frames never get too few; and calls that are made of them.
-use Rattle.std.proofs.Common.{◌≡◌, ◌≢◌, ◌⊎◌, ℕ, zero, suc, ◌+◌, ◌-◌, ◌<◌, ◌≤◌, false, List, [], ◌∷◌, length, Option, Some, None, option_and_then, refl, sym, ap, ◌∙◌, subst, arith, suc-add, ⊎_elim}
+use Rattle.std.proofs.Common.{◌≡◌, ◌≢◌, ℕ, zero, suc, ◌+◌, ◌-◌, ◌<◌, ◌≤◌, false, List, ◌∷◌, length, Option, Some, None, option_and_then, refl, sym, ap, ◌∙◌, arith, suc-add, ⊎_elim}
 use Rattle.std.proofs.lemmas.Bool.{cases_lt}
-use Rattle.jack_meaning.specs.Text.{Value, Return, Text, Next, Subroutine}
+use Rattle.jack_meaning.specs.Text.{Text, Subroutine}
 use Rattle.jack_meaning.specs.Meaning.{Frame, State, Acts, step, new_frame, with_top, subroutine_at, filled_text}
 use Rattle.jack_meaning.specs.Level.{next_of}
 use Rattle.os_laws.specs.Calls.{NextCall, ComesBack, ComesToCall, after, given_back}
@@ -10,7 +10,7 @@ use Rattle.os_laws.proofs.Runs.{Call, over, run, next_at, run_before, run_over, 
 use Rattle.os_laws.proofs.Returns.{returning, comes_back}
 use Rattle.os_functions.specs.Calls.{Returns}
 
--- the keys behind the first m
+-- the keys after the first m
 abbrev pub keys_behind : ℕ → (ℕ → ℕ) → (ℕ → ℕ)
 keys_behind zero keys = keys
 keys_behind (suc m) keys = keys_behind m (λ i. keys (suc i))
@@ -25,7 +25,8 @@ after_split subs zero n keys s = ap (λ k. after subs keys k s) (let z : 0 + n �
 after_split subs (suc m) n keys s =
     ap (λ k. after subs keys k s) (suc-add m n) ∙ split_behind subs m n (λ i. keys (suc i)) (λ t. after_split subs m n (λ i. keys (suc i)) t) (next_of (step subs (keys 0) s))
 
--- Under every key n steps lead from a state to another, and the states before the last have so many frames at least.
+-- Under every key n steps lead from a state to another, and the states before the last have this many frames at
+-- least.
 pub record Way (subs : List Subroutine) (least n : ℕ) (s s' : State) : Type 0 where
   pub leads : (keys : ℕ → ℕ) → after subs keys n s ≡ Some s'
   pub each : (keys : ℕ → ℕ) (j : ℕ) → j < n → (t : State) × (after subs keys j s ≡ Some t) × (least ≤ length t.frames)
@@ -68,14 +69,14 @@ returns subs n s s' c = record {
 }
 
 module _ (subs : List Subroutine) (s : State) (g : ℕ) (values : List ℕ) (c : NextCall subs s g values) where
-  -- the state behind the step that makes the call
+  -- the state after the step that makes the call
   abbrev pub opened : State
   opened = with_top s (c.caller ∷ c.below) (new_frame subs g values)
 
   deep : length s.frames ≡ suc (length c.below)
   deep = ap length c.frames
 
-  -- from the state behind it up to a `return` of a value
+  -- from the state after it up to a `return` of a value
   pub returns_by : (n : ℕ) (f : Frame) (ss ws : List ℕ) (k w : ℕ) (rest : Text)
       → Way subs (suc (suc (length c.below))) n opened (over (c.caller ∷ c.below) (record { frame = returning f k w rest; statics = ss; words = ws }))
       → Returns subs s (suc (suc n)) (record (given_back s c.caller c.below w) { statics = ss; words = ws })

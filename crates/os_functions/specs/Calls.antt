@@ -27,13 +27,14 @@ abbrev slot_number : Option Declared → Option ℕ
 slot_number None = None
 slot_number (Some d) = static_of d.slot
 
--- The number of a static of one of these classes, before whose statics stand n others; none where no class has this name, or the class no such static.
+-- The number of a static of one of these classes, before whose statics stand n others; none where no class has this name, or the class no such
+-- static.
 abbrev pub static_from : ℕ → List ClassFile → List ℕ → List ℕ → Option ℕ
 static_from n [] class name = None
 static_from n (c ∷ cs) class name =
     if bytes_eq class c.class.name.text then slot_number (find_value name (member_slots (λ x. None) 0 n c.class.variables)) else static_from (n + static_count c.class.variables) cs class name
 
--- One of the system's classes has this static, with this number: the system's statics come behind those of the folder's classes.
+-- One of the system's classes has this static, with this number: the system's statics come after those of the folder's classes.
 abbrev pub IsStatic : {core : Core} → IsShipped core → List ℕ → List ℕ → ℕ → Type 0
 IsStatic p class name k = static_from (statics_in p.own) p.os class name ≡ Some k
 
@@ -60,8 +61,8 @@ pub record StaticLaws : Type 0 where
 abbrev pub CallsNext : {core : Core} → IsShipped core → List ℕ → List ℕ → State → List ℕ → Type 0
 CallsNext {core} p class name s values = NextCall (the_subroutines core) s (routine_number p class name) values
 
--- Under every key, from the call on, n steps lead to this state, which has as many frames as the first one. Before the last of them there are more: the call has not
--- come back.
+-- Under every key, from the call on, n steps lead to this state, which has as many frames as the first one. Before the last of them there are more:
+-- the call has not come back.
 pub record Returns (subs : List Subroutine) (s : State) (n : ℕ) (s' : State) : Type 0 where
   pub some : 0 < n
   pub leads : (keys : ℕ → ℕ) → after subs keys n s ≡ Some s'
@@ -69,7 +70,7 @@ pub record Returns (subs : List Subroutine) (s : State) (n : ℕ) (s' : State) :
   pub inside : (keys : ℕ → ℕ) (j : ℕ) → 0 < j → j < n → (t : State) × (after subs keys j s ≡ Some t) × (length s.frames < length t.frames)
 
 module _ {subs : List Subroutine} {s : State} {g : ℕ} {values : List ℕ} (c : NextCall subs s g values) where
-  -- Within so many steps the call comes back with this value, and nothing else has changed.
+  -- Within this many steps the call comes back with this value, and nothing else has changed.
   abbrev pub Gives : ℕ → ℕ → Type 0
   Gives most w = (n : ℕ) × (n ≤ most) × Returns subs s n (given_back s c.caller c.below w)
 
@@ -77,6 +78,7 @@ module _ {subs : List Subroutine} {s : State} {g : ℕ} {values : List ℕ} (c :
   abbrev pub Leaves : ℕ → ℕ → List ℕ → List ℕ → Type 0
   Leaves most w statics words = (n : ℕ) × (n ≤ most) × Returns subs s n (record (given_back s c.caller c.below w) { statics = statics; words = words })
 
--- Within so many steps the call that was made calls Sys.error with this number; nothing else has changed.
+-- Within this many steps the call that was made calls Sys.error with this number; nothing else has
+-- changed.
 abbrev pub Refuses : {core : Core} (p : IsShipped core) {s : State} {g : ℕ} {values : List ℕ} → NextCall (the_subroutines core) s g values → ℕ → ℕ → Type 0
 Refuses p c most number = (n : ℕ) × (n ≤ most) × ComesToCall c (routine_number p (codes "Sys") (codes "error")) (number ∷ []) n

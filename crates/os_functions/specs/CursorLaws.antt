@@ -1,5 +1,5 @@
 -- The cursor: 23 rows of 64 cells, each 11 pixels high and 8 wide, two cells to a word of the screen (book, chapter 12).
-use Rattle.std.specs.Prelude.{◌≡◌, ◌≤◌, ◌<◌, ◌+◌, ◌*◌, ◌/◌, ◌%◌, ◌^◌, ◌⊎◌, ℕ, List, [], ◌∷◌, codes, nat_eq, slice_set}
+use Rattle.std.specs.Prelude.{◌≤◌, ◌<◌, ◌+◌, ◌*◌, ◌/◌, ◌%◌, ◌^◌, ◌⊎◌, ℕ, List, [], ◌∷◌, codes, nat_eq, slice_set}
 use Rattle.word16.specs.Memory.{screen}
 use Rattle.word16.specs.Words.{truth}
 use Rattle.jack_core.specs.declared.program.Core.{Core}
@@ -11,7 +11,7 @@ use Rattle.os_functions.specs.Calls.{HasStatics, CallsNext, Leaves, Refuses}
 abbrev pub cell_address : ℕ → ℕ → ℕ
 cell_address row column = screen + 11 * 32 * row + column / 2
 
--- the static `place` is the top word of this cell, and `right` tells whether it is the upper half of the word
+-- the static `place` is the top word of this cell, and `right` says whether it is the upper half of the word
 abbrev pub with_cursor : {core : Core} {p : IsShipped core} → HasStatics p → List ℕ → ℕ → ℕ → List ℕ
 with_cursor h statics row column = slice_set (slice_set statics h.place (cell_address row column)) h.right (truth (nat_eq (column % 2) 1))
 

@@ -5,4 +5,9 @@ pub mod StringLaws
 pub mod ScreenLaws
 pub mod CursorLaws
 pub mod PrintLaws
+pub mod RectangleLaws
+pub mod LineLaws
+pub mod CircleLaws
 pub mod ErrorLaws
+pub mod Font
+pub mod StartLaws

@@ -1,5 +1,5 @@
 -- Functions of Math (book, chapter 12).
-use Rattle.std.specs.Prelude.{◌≡◌, ◌≤◌, ◌<◌, ◌+◌, ◌*◌, ◌^◌, ℕ, List, [], ◌∷◌, codes, nat_abs, int_lt, if◌then◌else◌}
+use Rattle.std.specs.Prelude.{◌≡◌, ◌≤◌, ◌<◌, ◌+◌, ◌*◌, ◌^◌, ℕ, [], ◌∷◌, codes, nat_abs, int_lt, if◌then◌else◌}
 use Rattle.word16.specs.Words.{signed_value}
 use Rattle.jack_core.specs.declared.program.Core.{Core}
 use Rattle.jack_meaning.specs.Meaning.{State}

@@ -12,7 +12,7 @@ use Rattle.os_laws.specs.KernelCalls.{Allocating, AllocatingNothing, Deallocatin
 use Rattle.os_laws.specs.Names.{IsShipped}
 use Rattle.os_functions.specs.Calls.{routine_number, HasStatics, CallsNext, Returns, Gives, Leaves, Refuses}
 
--- Within so many steps there is none: it would be at an address outside the memory.
+-- Within this many steps there is no step: it would be at an address outside the memory.
 abbrev pub StraysAt : List Subroutine → State → ℕ → ℕ → Type 0
 StraysAt subs s most a = (keys : ℕ → ℕ) → (n : ℕ) × (n ≤ most) × (t : State) × (after subs keys n s ≡ Some t) × (step subs (keys n) t ≡ Stray a)
 

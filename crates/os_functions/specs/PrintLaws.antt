@@ -11,7 +11,7 @@ use Rattle.os_laws.specs.Names.{IsShipped}
 use Rattle.os_laws.specs.Numbers.{bit}
 use Rattle.os_functions.specs.Calls.{HasStatics, CallsNext, Leaves}
 use Rattle.os_functions.specs.CursorLaws.{cell_address, with_cursor}
-use Rattle.os_functions.specs.ScreenLaws.{pixel_address}
+use Rattle.os_functions.specs.ScreenLaws.{pixel_address, IsPainted, colour}
 
 -- the pixel of column x and row y: 1 is black
 abbrev pub pixel : List ℕ → ℕ → ℕ → ℕ
@@ -39,22 +39,24 @@ glyph_dot words glyph i j = bit (word_at words (glyph + i / 2)) (7 * (i % 2) + j
 abbrev pub cell_pixel : List ℕ → ℕ → ℕ → ℕ → ℕ
 cell_pixel words glyph i j = if nat_lt i 5 then (if nat_lt 0 j then (if nat_lt j 8 then glyph_dot words glyph i (j - 1) else 0) else 0) else 0
 
--- The three words of the character's glyph stand in the heap, three words behind each other from the static `font` on.
+-- The three words of the character's glyph stand in the heap. Glyphs follow each other, three words each, from the
+-- static `font` on.
 pub record HasGlyph {core : Core} {p : IsShipped core} (h : HasStatics p) (s : State) (c glyph : ℕ) : Type 0 where
   pub place : slice_index s.statics h.font + 3 * shown_code c ≡ glyph
   pub inside : (heap ≤ glyph) × (glyph + 3 ≤ screen)
   pub words : length s.words ≡ heap_and_screen_size
 
--- The cell shows the glyph. No other pixel has changed, and no word of the heap.
+-- The cell shows the glyph. No other pixel has changed, and no word of the heap. What was a word of 16 bits is one still.
 pub record IsDrawn (words : List ℕ) (row column glyph : ℕ) (words' : List ℕ) : Type 0 where
   pub same_length : length words' ≡ length words
   pub cell : (i j : ℕ) → i < 8 → j < 11 → pixel words' (8 * column + i) (11 * row + j) ≡ cell_pixel words glyph i j
   pub others : (x y : ℕ) → x < 512 → y < 256 → (x / 8 ≢ column) ⊎ (y / 11 ≢ row) → pixel words' x y ≡ pixel words x y
+  pub each : (a : ℕ) → heap ≤ a → word_at words a < 2 ^ 16 → word_at words' a < 2 ^ 16
   pub heap : (a : ℕ) → heap ≤ a → a < screen → word_at words' a ≡ word_at words a
 
 -- ---- where the cursor goes
 
--- one cell on: behind column 63 to the next row, and behind row 22 to row 0
+-- one cell on: after column 63 to the next row, and after row 22 to row 0
 abbrev pub row_after : ℕ → ℕ → ℕ
 row_after row column = (row + (column + 1) / 64) % 23
 
@@ -69,7 +71,8 @@ abbrev pub column_before : ℕ → ℕ → ℕ
 column_before row column = (64 * row + column - 1) % 64
 
 module _ {core : Core} (p : IsShipped core) (s : State) where
-  -- Within so many steps a character has been drawn in a cell, and the cursor has gone to another.
+  -- Within this many steps a character has been drawn in a cell, and the cursor has gone to
+  -- another.
   abbrev pub Draws : (h : HasStatics p) {g : ℕ} {values : List ℕ} → NextCall (the_subroutines core) s g values → ℕ → ℕ → ℕ → ℕ → ℕ → Type 0
   Draws h c glyph row column row' column' = (words : List ℕ) × IsDrawn s.words row column glyph words × Leaves c 1800 0 (with_cursor h s.statics row' column') words
 
@@ -98,6 +101,21 @@ module _ {core : Core} (p : IsShipped core) (s : State) where
       → (c : CallsNext p (codes "Output") (codes "backSpace") s [])
       → Draws h c glyph (row_before row column) (column_before row column) (row_before row column) (column_before row column)
 
+  -- backspace
+  abbrev pub PrintBackLaw : Type 0
+  PrintBackLaw =
+      (h : HasStatics p) (row column glyph : ℕ) → IsCursorAt h s.statics row column → HasGlyph h s 32 glyph
+      → (c : CallsNext p (codes "Output") (codes "printChar") s (129 ∷ []))
+      → Draws h c glyph (row_before row column) (column_before row column) (row_before row column) (column_before row column)
+
+  -- After a character a pixel can be drawn: wherever the words are those that printChar leaves, drawPixel has what it asks.
+  abbrev pub PixelBehindLaw : Type 0
+  PixelBehindLaw =
+      (h : HasStatics p) (row column k glyph x y : ℕ) → k < 2 ^ 16 → k ≢ 128 → k ≢ 129 → IsCursorAt h s.statics row column → HasGlyph h s k glyph
+      → x < 512 → y < 256 → word_at s.words (pixel_address x y) < 2 ^ 16 → (c : CallsNext p (codes "Output") (codes "printChar") s (k ∷ []))
+      → (words : List ℕ) × IsDrawn s.words row column glyph words × Leaves c 1800 0 (with_cursor h s.statics (row_after row column) (column_after column)) words
+      × ((t : State) → t.words ≡ words → (d : CallsNext p (codes "Screen") (codes "drawPixel") t (x ∷ y ∷ [])) → (words' : List ℕ) × IsPainted words x y (colour p t h) words' × Leaves d 320 0 t.statics words')
+
 pub record PrintLaws : Type 0 where
   -- moveCursor sets the cursor
   pub stands : {core : Core} (p : IsShipped core) (h : HasStatics p) (statics : List ℕ) (row column : ℕ) → row < 23 → column < 64 → (h.place < length statics) × (h.right < length statics)
@@ -106,3 +124,5 @@ pub record PrintLaws : Type 0 where
   pub line : {core : Core} (p : IsShipped core) (s : State) → LineLaw p s
   pub print_line : {core : Core} (p : IsShipped core) (s : State) → PrintLineLaw p s
   pub back : {core : Core} (p : IsShipped core) (s : State) → BackLaw p s
+  pub print_back : {core : Core} (p : IsShipped core) (s : State) → PrintBackLaw p s
+  pub pixel_behind : {core : Core} (p : IsShipped core) (s : State) → PixelBehindLaw p s

@@ -13,12 +13,13 @@ use Rattle.os_functions.specs.Calls.{HasStatics, CallsNext, Leaves, Refuses}
 abbrev pub pixel_address : ℕ → ℕ → ℕ
 pixel_address x y = screen + 32 * y + x / 16
 
--- That bit of that word has become 1 (black) or 0 (white), and nothing else has changed.
+-- That bit of that word has become 1 (black) or 0 (white), and nothing else has changed. The word is one of 16 bits still.
 pub record IsPainted (words : List ℕ) (x y colour : ℕ) (words' : List ℕ) : Type 0 where
   pub same_length : length words' ≡ length words
   pub others : (a : ℕ) → heap ≤ a → a ≢ pixel_address x y → word_at words' a ≡ word_at words a
   pub here : bit (word_at words' (pixel_address x y)) (x % 16) ≡ colour
   pub beside : (k : ℕ) → k ≢ x % 16 → bit (word_at words' (pixel_address x y)) k ≡ bit (word_at words (pixel_address x y)) k
+  pub word : word_at words' (pixel_address x y) < 2 ^ 16
 
 module _ {core : Core} (p : IsShipped core) (s : State) where
   -- 1 where the static `black` is true, and 0 where it is false

@@ -7,8 +7,8 @@ use Rattle.os_laws.specs.Heap.{word_at}
 use Rattle.os_laws.specs.Names.{IsShipped}
 use Rattle.os_functions.specs.Calls.{CallsNext, Gives, Leaves, Refuses}
 
--- At the address o the words have a string with these characters and room for so many. Its three words are the place of its characters, how many there are, and how
--- many there may be. They and the words of the characters lie in the heap, apart from each other.
+-- At the address o the words have a string with these characters and room for this many. Its three words are the place of its characters, how many
+-- there are, and how many there may be. They and the words of the characters lie in the heap, apart from each other.
 pub record StringAt (words : List ℕ) (o : ℕ) (text : List ℕ) (room : ℕ) : Type 0 where
   pub place : ℕ
   pub characters : word_at words o ≡ place
@@ -69,6 +69,10 @@ module _ {core : Core} (p : IsShipped core) (s : State) (o : ℕ) (text : List �
   abbrev pub EraseErrorLaw : Type 0
   EraseErrorLaw = length text ≡ 0 → (c : CallsString p s (codes "eraseLastChar") o [] text room) → Refuses p c.call 7 18
 
+-- a function that gives a character's code
+abbrev pub CodeLaw : {core : Core} → IsShipped core → State → List ℕ → ℕ → Type 0
+CodeLaw p s name code = (c : CallsNext p (codes "String") name s []) → Gives c 3 code
+
 pub record StringLaws : Type 0 where
   pub size : {core : Core} (p : IsShipped core) (s : State) (o : ℕ) (text : List ℕ) (room : ℕ) → LengthLaw p s o text room
   pub char : {core : Core} (p : IsShipped core) (s : State) (o : ℕ) (text : List ℕ) (room : ℕ) → CharLaw p s o text room
@@ -79,3 +83,7 @@ pub record StringLaws : Type 0 where
   pub append_error : {core : Core} (p : IsShipped core) (s : State) (o : ℕ) (text : List ℕ) (room : ℕ) → AppendErrorLaw p s o text room
   pub erase : {core : Core} (p : IsShipped core) (s : State) (o : ℕ) (text : List ℕ) (room : ℕ) → EraseLaw p s o text room
   pub erase_error : {core : Core} (p : IsShipped core) (s : State) (o : ℕ) (text : List ℕ) (room : ℕ) → EraseErrorLaw p s o text room
+  -- the codes of the keys newline and backspace, and of the double quote
+  pub new_line : {core : Core} (p : IsShipped core) (s : State) → CodeLaw p s (codes "newLine") 128
+  pub back_space : {core : Core} (p : IsShipped core) (s : State) → CodeLaw p s (codes "backSpace") 129
+  pub double_quote : {core : Core} (p : IsShipped core) (s : State) → CodeLaw p s (codes "doubleQuote") 34

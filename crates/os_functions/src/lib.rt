@@ -5,9 +5,13 @@ ghost use Rattle.os_functions.specs.MathLaws.{MathLaws, MathRows};
 ghost use Rattle.os_functions.specs.MemoryLaws.{MemoryLaws, ArrayLaws};
 ghost use Rattle.os_functions.specs.StringLaws.{StringLaws};
 ghost use Rattle.os_functions.specs.ScreenLaws.{ScreenLaws};
+ghost use Rattle.os_functions.specs.RectangleLaws.{RectangleLaws};
+ghost use Rattle.os_functions.specs.LineLaws.{LineLaws};
+ghost use Rattle.os_functions.specs.CircleLaws.{CircleLaws};
 ghost use Rattle.os_functions.specs.CursorLaws.{CursorLaws};
 ghost use Rattle.os_functions.specs.PrintLaws.{PrintLaws};
 ghost use Rattle.os_functions.specs.ErrorLaws.{ErrorLaws};
+ghost use Rattle.os_functions.specs.StartLaws.{StartLaws};
 ghost use Rattle.os_functions.specs.Calls.{StaticLaws};
 
 /// Math gives the distance from 0, the lesser, the greater and the root.
@@ -40,6 +44,21 @@ pub fn screen_laws()
     ensures { ScreenLaws }
 {}
 
+/// A rectangle drawn is the points between its corners; the screen cleared is white.
+pub fn rectangle_laws()
+    ensures { RectangleLaws }
+{}
+
+/// A line drawn is the points beside the true line.
+pub fn line_laws()
+    ensures { LineLaws }
+{}
+
+/// A circle drawn is the points not farther from the centre than the radius.
+pub fn circle_laws()
+    ensures { CircleLaws }
+{}
+
 /// The cursor goes to a cell.
 pub fn cursor_laws()
     ensures { CursorLaws }
@@ -58,4 +77,9 @@ pub fn static_laws()
 /// An error prints its number, and then the program stands still.
 pub fn error_laws()
     ensures { ErrorLaws }
+{}
+
+/// Each program comes to Main.main: the heap has the font alone, the screen is white and no key is read.
+pub fn start_laws()
+    ensures { StartLaws }
 {}

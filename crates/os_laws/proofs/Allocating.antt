@@ -221,7 +221,7 @@ module _ (subs : List Subroutine) (s : State) (g size class error free : ℕ) (l
         kept = λ a i. refl;
       })
 
-  -- or one behind another
+  -- or one after another
   from_later : word_at s.words c - n < 2 → (bs : List ℕ) (p : ℕ) → before ≡ bs ++ p ∷ [] → last_of 0 before ≡ p → Goal
   from_later little bs p shape last =
       let m = word_at s.words c - n in

@@ -1,4 +1,4 @@
--- Steps of expressions and statements, told by what they are made of. The laws do not use it: their texts are known, and run by computation. Laws of other
+-- Steps of expressions and statements, by what they are made of. The laws do not use it: their texts are known, and run by computation. Laws of other
 -- routines, with calls in them, are to stand on it.
 use Rattle.std.proofs.Common.{◌≡◌, ℕ, zero, ◌+◌, ◌-◌, ◌<◌, ◌≤◌, true, false, nat_lt, List, [], Some, option_and_then, refl, sym, ap, ◌∙◌, arith, add-one}
 use Rattle.std.specs.Prelude.{slice_index, slice_set}

@@ -1,4 +1,4 @@
--- The value in the place of an open call can be told from the text.
+-- The value in the place of an open call can be read off the text.
 use Rattle.std.proofs.Common.{◌≡◌, ℕ, Bool, true, false, nat_lt, nat_eq, List, [], ◌∷◌, length, refl, sym, ap, ◌∙◌, arith}
 use Rattle.std.specs.Prelude.{if◌then◌else◌, slice_set}
 use Rattle.word16.specs.Words.{word_add}
@@ -7,7 +7,7 @@ use Rattle.jack_meaning.specs.Expressions.{Move, Stands, Rewrites, Calls, Strays
 use Rattle.jack_meaning.specs.Meaning.{Frame, State, Outcome, Acts, Stray, view_of, filled_text, step_part, after_assignment, after_store, passed_over, after_return, new_frame, turn_of, step_first, step_frames}
 use Rattle.os_laws.specs.Calls.{NextCall, given_back}
 
--- where the part calls, the value that fills it can be told
+-- where the part calls, the value that fills it can be read off
 abbrev Told : {A : Type 0} → (ℕ → A → A) → Move A → Type 0
 Told fill Stands = Unit {0}
 Told fill (Rewrites b a) = Unit {0}
@@ -58,7 +58,8 @@ mutual
       (within_told filled_in filled_in (rewrite_first v es) (More e) _ (tolds v es) tt (λ u w es' q. let f : More (filled u e) (filled_in u es') ≡ More (filled w e) (filled_in w es') = q in cc f))
       (λ u w e' q. let f : More (filled u e') (filled_in u es) ≡ More (filled w e') (filled_in w es) = q in cc f)
 
--- where a step makes a frame more, the value that fills the text of the frame below it can be told
+-- where a step makes a frame more, the value that fills the text of the frame below it can be read
+-- off
 abbrev Deep : List Frame → Outcome → Type 0
 Deep below o = (heard : Bool) (t : State) (top caller : Frame) → o ≡ Acts heard t → t.frames ≡ top ∷ caller ∷ below → (u w : ℕ) → filled_text u caller.text ≡ filled_text w caller.text → u ≡ w
 
@@ -134,7 +135,7 @@ module _ (subs : List Subroutine) (s : State) (f : Frame) (below : List Frame) w
       (λ u w z q. let r : Next (If n false (filled u z) (turn_of n c a) End) rest ≡ Next (If n false (filled w z) (turn_of n c a) End) rest = q in cc r)
   first_deep (Next (Return n e) rest) = of_one e (λ e'. Next (Return n e') rest) _ (returned_deep (value_of e)) (λ u w a q. let r : Next (Return n (filled u a)) rest ≡ Next (Return n (filled w a)) rest = q in cc r)
 
--- The place of a call tells the value that it holds.
+-- The place of a call gives the value that it holds.
 pub filled_once : (subs : List Subroutine) (s : State) (g : ℕ) (values : List ℕ) (c : NextCall subs s g values) (u w : ℕ) → (given_back s c.caller c.below u).frames ≡ (given_back s c.caller c.below w).frames → u ≡ w
 filled_once subs s g values c u w e =
     let steps : step_frames subs 0 s s.frames ≡ step_frames subs 0 s (c.top ∷ c.below) = ap (step_frames subs 0 s) c.frames in

@@ -17,7 +17,7 @@ use Rattle.os_laws.specs.NameLaws.{NamedLaw}
 use Rattle.os_laws.proofs.Parts.{all_join}
 use Rattle.os_laws.proofs.Places.{NoneNamed, place}
 
--- what holds of each element, told by what stands before and behind it
+-- what holds of each element, by what stands before and after it
 each : {A : Type 0} (P : A → Type 0) (pre xs : List A) → ((front : List A) (a : A) (back : List A) → pre ++ xs ≡ front ++ a ∷ back → P a) → AllByRecursion P xs
 each P pre [] f = tt
 each P pre (x ∷ xs) f = (f pre x xs refl, each P (pre ++ x ∷ []) xs (λ front a back e. f front a back (sym (append_assoc pre (x ∷ []) xs) ∙ e)))

@@ -55,7 +55,7 @@ pub map_join : {A B : Type 0} (f : A → B) (xs ys : List A) → map f (xs ++ ys
 map_join f [] ys = refl
 map_join f (x ∷ xs) ys = ap (λ l. f x ∷ l) (map_join f xs ys)
 
--- parts behind others
+-- parts after others
 pub last_ones : (xs ys : List Part) → NoneOverlap (xs ++ ys) → NoneOverlap ys
 last_ones [] ys h = h
 last_ones (x ∷ xs) ys h = last_ones xs ys h.1

@@ -27,7 +27,7 @@ stays subs d (suc k) s = then_stays d (stays subs d k) (next_of (step subs 0 s))
 differs : (a b : ℕ) → nat_eq a b ≡ false → a ≢ b
 differs a b h e = grind (arith, nat_tests)
 
--- the first step, and those behind it
+-- the first step, and those after it
 split : (subs : List Subroutine) (d k : ℕ) (o : Option State) → then_stays d (stays subs d k) o ≡ true → (t : State) × (o ≡ Some t) × (length t.frames ≢ d) × (stays subs d k t ≡ true)
 split subs d k None h = absurd (cc h)
 split subs d k (Some t) h = split_with (nat_eq (length t.frames) d) refl h

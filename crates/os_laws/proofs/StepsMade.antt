@@ -31,7 +31,7 @@ after_first : (subs : List Subroutine) (n : ℕ) (o : Option State) (t : State) 
 after_first subs n None t e = absurd (none-some t e)
 after_first subs n (Some m) t e = (m, refl, e)
 
--- the steps behind the first m
+-- the steps after the first m
 after_rest : (subs : List Subroutine) (m n : ℕ) (s t u : State) → after subs no_key m s ≡ Some t → after subs no_key (m + n) s ≡ Some u → after subs no_key n t ≡ Some u
 after_rest subs zero n s t u p q = ap (after subs no_key n) (sym (some_is s t p)) ∙ ap (λ k. after subs no_key k s) (let e : n ≡ 0 + n = omega arith in e) ∙ q
 after_rest subs (suc m) n s t u p q =
@@ -76,7 +76,7 @@ goes_on old mid new frames n s' i answer st h g made same counted =
       core = same ∙ g.core;
     }
 
--- where so many frames are there, the steps have stopped, and elsewhere they go on
+-- where this many frames are there, the steps have stopped, and elsewhere they go on
 module _ (old new : Jack) (frames i : ℕ) (g : GoesOn old (i + 1) new) (n : ℕ) (s : State) (st : Stops (subs_of old) no_key (jack_state old) frames n s) (h : i < n) where
   as_before : i + 1 < n → length (jack_state new).frames ≢ frames
   as_before l e =

@@ -17,7 +17,7 @@ pub record Block : Type 0 where
   pub place : ℕ
   pub words : ℕ
 
--- The part of which a place is the first word: that word says how many words the part has.
+-- The part whose first word is at this place: that word says how many words the part has.
 abbrev pub part_at : List ℕ → ℕ → Part
 part_at words c = record { begin = c; size = word_at words c }
 
@@ -51,8 +51,8 @@ IsBlock words b = (1 ≤ b.place) × (1 ≤ b.words) × (b.words + 1 ≤ word_at
 abbrev pub parts_of : List ℕ → List ℕ → List Block → List Part
 parts_of words free live = map (part_at words) free ++ map (part_of words) live
 
--- The free parts are those that are linked from this address on, each of two words at least. They and the parts of the live blocks lie in the heap, and
--- no two of them overlap. (So no free part comes twice: DistinctLaw.)
+-- The free parts are those that are linked from this address on, each of two words at least. They and the parts of the live blocks lie in the heap,
+-- and no two of them overlap. (So no free part comes twice: DistinctLaw.)
 pub record HeapOf (words : List ℕ) (first : ℕ) (free : List ℕ) (live : List Block) : Type 0 where
   pub links : Links words first free
   pub long : AllByRecursion (λ c. 2 ≤ word_at words c) free
@@ -64,7 +64,7 @@ pub record HeapOf (words : List ℕ) (first : ℕ) (free : List ℕ) (live : Lis
 abbrev pub Heap : List ℕ → ℕ → List Block → Type 0
 Heap words first live = (free : List ℕ) × HeapOf words first free live
 
--- How many of these parts come before the first that has n words; none where no part has so many.
+-- How many of these parts come before the first that has n words; none where no part has as many.
 abbrev pub passed_block : List ℕ → ℕ → List ℕ → Option ℕ
 passed_block words n [] = None
 passed_block words n (c ∷ cs) = if nat_lt (word_at words c) n then option_map (λ k. suc k) (passed_block words n cs) else Some 0

@@ -11,7 +11,8 @@ pub record HasRoom (s : State) (free : ℕ) : Type 0 where
   pub static : free < length s.statics
   pub words : length s.words ≡ heap_and_screen_size
 
--- The state has a heap with these free parts and live blocks; its static `free` tells the first free part.
+-- The state has a heap with these free parts and live blocks; its static `free` points to the first free
+-- part.
 pub record HasHeap (s : State) (free : ℕ) (parts : List ℕ) (live : List Block) : Type 0 where
   pub room : HasRoom s free
   pub heap : HeapOf s.words (slice_index s.statics free) parts live
@@ -20,7 +21,7 @@ pub record HasHeap (s : State) (free : ℕ) (parts : List ℕ) (live : List Bloc
 abbrev pub Holds : State → ℕ → List Block → Type 0
 Holds s free live = (parts : List ℕ) × HasHeap s free parts live
 
--- The state has a heap of which no free part has a word more than this size.
+-- The state has a heap in which no free part has a word more than this size.
 pub record IsFull (s : State) (free size : ℕ) : Type 0 where
   pub parts : List ℕ
   pub live : List Block

@@ -33,7 +33,7 @@ pub record Laying (subs : List Subroutine) (s : State) (g free : ℕ) : Type 0 w
   pub room : HasRoom s free
   pub call : NextCall subs s g []
 
--- A call of alloc with a size from 1 to 14335, over a heap of which the free part behind the first k is the first that is long enough.
+-- A call of alloc with a size from 1 to 14335, over a heap in which the free part after the first k is the first that is long enough.
 pub record Allocating (subs : List Subroutine) (s : State) (g free : ℕ) : Type 0 where
   pub size : ℕ
   pub low : 1 ≤ size

@@ -1,4 +1,4 @@
--- The calls that the laws step on the machine, each told by its names, and what they leave.
+-- The calls that the laws step on the machine, each by its names, and what they leave.
 use Rattle.std.specs.Prelude.{◌≡◌, ◌≤◌, ◌<◌, ◌+◌, ◌*◌, ℕ, List, [], ◌∷◌, ◌++◌, Some, codes}
 use Rattle.machine_io.specs.Driven.{Goes}
 use Rattle.jack_meaning.specs.Text.{Subroutine}
@@ -44,7 +44,7 @@ pub record CallsDivideByZero (j : Jack) : Type 0 where
   pub errs : HasNoSys (names_in math)
   pub made : DividingByZero (the_subroutines j.core.now) (jack_state j) (number_of math)
 
--- The product stands in the call's place, and all else is as it was; it took so many steps.
+-- The product stands in the call's place, and all else is as it was; it took this many steps.
 pub record HasMultiplied (old : Jack) (n : ℕ) (new : Jack) : Type 0 where
   pub gives : (c : CallsMultiply old) → jack_state new ≡ given_back (jack_state old) c.made.call.caller c.made.call.below (product c.made.x c.made.y)
   pub steps : (c : CallsMultiply old) → n ≡ multiply_steps c.made.y

@@ -20,7 +20,7 @@ abbrev pub with_word : State → ℕ → ℕ → State
 with_word s a w = record s { words = slice_set s.words (a - heap) w }
 
 pub record RunRows : Type 0 where
-  -- behind `do Memory.init(); let x = Memory.alloc(3);` the block is in use
+  -- after `do Memory.init(); let x = Memory.alloc(3);` the block is in use
   pub uses : Uses kernel numbers (running (Next (Let 2 (Local 0) (Value 16381)) End) (2048 ∷ []) taken_memory) (three ∷ [])
   -- into the last word of a block in use, and into the screen
   pub last : (s : State) → StoresWell 0 (three ∷ []) s (with_word s 16383 7)

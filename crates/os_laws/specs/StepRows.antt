@@ -36,7 +36,7 @@ value_on_top (f ∷ fs) = value_in f.text
 abbrev pub value_back : State → ℕ
 value_back s = value_on_top s.frames
 
--- after so many steps the call has given this value
+-- after this many steps the call has given this value
 abbrev pub GivesIn : ℕ → State → ℕ → Type 0
 GivesIn n s w = option_map value_back (after kernel no_key n s) ≡ Some w
 

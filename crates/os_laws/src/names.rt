@@ -7,7 +7,7 @@ pub fn named_law()
     ensures { NamedLaw }
 {}
 
-/// The kernel's routines mean the texts of which the laws over the meaning speak.
+/// The kernel's routines mean the texts that the laws over the meaning speak of.
 pub fn kernel_law()
     ensures { KernelLaw }
 {}

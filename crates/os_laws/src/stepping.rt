@@ -8,7 +8,8 @@ ghost use Rattle.os_laws.specs.Inner.Stepping.{StopsAt, Comes};
 use jack_machine::Jack;
 use std::alloc::AllocError;
 
-/// Steps the machine under key 0 until it has so many frames, which it comes to within `most` steps; the number of steps.
+/// Steps the machine under key 0 until it has this many frames, which it comes to within `most` steps; the number of
+/// steps.
 pub(crate) fn step_until(machine: &mut Jack, frames: usize, most: u64) -> Result<u64, AllocError>
     requires stops { (n : ℕ) × (n ≤ most) × (s : State) × StopsAt machine.old frames n s }
     requires moves { machine.old.moves + most ≤ 2 ^ 63 }

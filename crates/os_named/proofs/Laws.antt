@@ -1,4 +1,4 @@
--- No name fault is told of the operating system.
+-- No name fault is reported of the operating system.
 use Rattle.std.proofs.Common.{◌≡◌, Bool, true, false, not, List, [], map, Option, Some, None, refl, sym, subst}
 use Rattle.jack_tree.specs.Syntax.{ClassFile}
 use Rattle.jack_names.specs.Tables.{first_of}
@@ -50,11 +50,11 @@ module _ (own : List ClassFile) where
   pub in_folder : InFolder (all_faults own system_classes)
   in_folder = uses D (has_main own system_classes) refl refl
 
-  -- The first fault is told of the folder.
+  -- The first fault is reported of the folder.
   pub first : (told : NameDiagnostic) → IsFirstFault own system_classes told → told.shipped ≡ false
   first told h = subst InFolder ((finds_first own system_classes told).1 h) in_folder
 
-  -- Where no fault is told of the folder none is told.
+  -- Where no fault is reported of the folder none is reported.
   pub well : ((at : Spot) (told : NameDiagnostic) → told.shipped ≡ false → Fails own system_classes at told → ⊥) → IsWellNamed own system_classes
   well never = by (all_faults own system_classes) refl
     where

@@ -3,7 +3,8 @@
 
 ghost use Rattle.os_named.specs.Laws.{SystemNamedLaw};
 
-/// Law: the first name fault of a program is told of its folder, and where none is told of the folder there is none.
+/// Law: the first name fault of a program is reported of its folder. Where none is reported of the folder, there is
+/// no fault.
 pub fn system_named_law()
     ensures { SystemNamedLaw }
 {}

@@ -36,7 +36,7 @@ abbrev pub row : List Jack → Jack
 row [] = NoMore
 row (x ∷ xs) = More x (row xs)
 
--- trees behind commas
+-- trees after commas
 abbrev pub more_of : List Jack → Jack
 more_of [] = NoMore
 more_of (x ∷ xs) = More (Pair Skip x) (more_of xs)

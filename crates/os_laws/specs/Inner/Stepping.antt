@@ -6,7 +6,7 @@ use Rattle.jack_machine.specs.declared.jack.Jack.{Jack}
 use Rattle.jack_meaning.specs.Meaning.{State}
 use Rattle.os_laws.specs.Calls.{Stops, no_key}
 
--- n steps under key 0 lead the machine to this state, the first that has so many frames
+-- n steps under key 0 lead the machine to this state, the first that has this many frames
 abbrev pub StopsAt : Jack → ℕ → ℕ → State → Type 0
 StopsAt j frames n s = Stops (the_subroutines j.core.now) no_key (jack_state j) frames n s
 

@@ -1,4 +1,4 @@
--- So many steps were made, and the frames have not been so many since.
+-- This many steps were made, and the frames have not been as many since.
 use Rattle.std.proofs.Common.{◌<◌, ℕ}
 use Rattle.jack_meaning.specs.Meaning.{State}
 use Rattle.os_laws.specs.Inner.Stepping.{StopsAt}

@@ -1,0 +1,16 @@
+pub mod Appended
+pub mod OwnCalls
+pub mod ValueMade
+pub mod Failing
+pub mod Allocations
+pub mod SettingRuns
+pub mod SettingMade
+pub mod NumbersMade
+pub mod Blocks
+pub mod MakingRuns
+pub mod MakingMade
+pub mod DisposingMade
+pub mod MakingLawsMade
+pub mod Paths
+pub mod KeysMade
+pub mod QuotesMade
