@@ -1,4 +1,5 @@
--- How many nodes a chip needs, by a table: where the count of each chip of a library is told by those of its parts, so is that of a whole tree.
+-- How many nodes a chip needs, by a table. Where the count of each chip of a library is given by those of its parts, so is that of a whole
+-- tree.
 use Rattle.std.proofs.Common.{◌≡◌, ◌+◌, ◌≤◌, ℕ, suc, Bool, true, false, List, [], ◌∷◌, ◌++◌, Some, refl, ap, ◌∙◌, arith}
 use Rattle.std.specs.Prelude.{unwrap_or, nat_eq, nat_lt, codes, slice_get, if◌then◌else◌}
 use Rattle.std.proofs.lemmas.Bool.Decides.{Decides-eqb, Decides-ltb}

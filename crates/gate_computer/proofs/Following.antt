@@ -49,7 +49,8 @@ use Rattle.gate_computer.specs.Inner.Reading.{wired_text}
 use Rattle.gate_computer.proofs.Outputs.{text_same}
 use Rattle.outer_world.specs.Written.{Passes}
 use Rattle.outer_world.specs.declared.sink.Put.{Put}
-use Rattle.gate_computer.specs.Inner.Told.{HoldsKey, ComesIn, WasTold, HasSet}
+use Rattle.gate_computer.specs.Calls.{HoldsKey, ComesIn, WasTold}
+use Rattle.gate_computer.specs.Inner.Told.{HasSet}
 use Rattle.gate_computer.proofs.Seen.{shows_at, seen}
 use Rattle.gate_computer.proofs.Paths.{main_stands, screen_stands}
 use Rattle.gate_computer.proofs.Keyboard.{same_pins}
@@ -161,7 +162,7 @@ module _ (sim : SimState) (w : Wiring) (image : List ℕ) (key : ℕ) (turns : L
       (block_is holds screen_path (shipped_entry screen_tree) 13 w.screen screen_stands.0 screen_stands.1 (own_values.screen ∙ told.seen.wired.blocks.screen) (a - 16384))
       ∙ (shows_at image keys (suc (length turns)) own_wires (own_is words (suc (length turns))) (length turns) (omega arith)).memory a near
 
--- ---- a history, from what was told and counted
+-- ---- a history, from what was given and counted
 
 pub followed : (g : GateMachine) (turns : List Turn) → All (λ t. t.answer ≡ Acted) turns → g.moves ≡ length turns → WasTold g.sim g.wiring g.image g.key turns
     → ((keys : ℕ → ℕ) → ((c : ℕ) → IsKey (keys c)) → HoldsKeys keys 0 turns → AtMachine g.image g.tally g.heard keys (length turns)) → HasFollowed g turns

@@ -4,7 +4,8 @@ use Rattle.std.specs.Prelude.{if◌then◌else◌, nat_eq, nat_lt, slice_index}
 use Rattle.std.proofs.lemmas.Bool.{cases_eq, cases_lt, lt-ltb, le-ltb}
 use Rattle.word16.specs.Words.{has_bit}
 use Rattle.gate_sim.specs.Calls.{Call, pins_of}
-use Rattle.gate_computer.specs.Inner.Told.{HoldsKey, HoldsPart, ChangesPin}
+use Rattle.gate_computer.specs.Calls.{HoldsKey}
+use Rattle.gate_computer.specs.Inner.Told.{HoldsPart, ChangesPin}
 
 -- a node is one of these, or none of them
 pub find : (nodes : List ℕ) (k : ℕ) → ((j : ℕ) × (j < length nodes) × (slice_index nodes j ≡ k)) ⊎ ((j : ℕ) → j < length nodes → slice_index nodes j ≢ k)

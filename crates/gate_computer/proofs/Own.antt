@@ -29,7 +29,7 @@ use Rattle.hack_cpu.specs.Computer.{outside}
 use Rattle.gate_computer.specs.declared.wiring.Wiring.{Wiring}
 use Rattle.gate_computer.specs.Computer.{chips, computer, IsComputer}
 use Rattle.gate_computer.specs.Wiring.{IsWired, rom_path, main_path, screen_path, keyboard_path}
-use Rattle.gate_computer.specs.Inner.Told.{ComesIn}
+use Rattle.gate_computer.specs.Calls.{ComesIn}
 use Rattle.gate_computer.specs.Inner.Readable.{IsReadable}
 use Rattle.gate_computer.proofs.Paths.{rom_is, keyboard_is, rom_stands, main_stands, screen_stands, keyboard_stands}
 use Rattle.gate_computer.proofs.Keyboard.{Apart, at_pin, held_by}
@@ -109,7 +109,7 @@ module _ (net : Net) (w : Wiring) (wired : IsWired net w) where
   pub screen_not_rom : w.rom ≢ w.screen
   screen_not_rom e = not_rom screen_path (shipped_entry screen_tree) 13 screen_stands.0 screen_stands.1 (e ∙ wired.blocks.screen)
 
-  -- ---- what can be told and read
+  -- ---- what can be set and read
 
   key_wide : length w.keyboard ≡ 16
   key_wide = wide_row 16 (wired.at keyboard_path (codes "out")) w.keyboard wired.pins.keyboard

@@ -1,6 +1,7 @@
--- A netlist that shows the Computer can be told keys and be read, and its history is one of the Computer.
-use Rattle.std.proofs.Common.{◌≡◌, ◌≢◌, ◌<◌, ◌≤◌, ◌+◌, ◌++◌, ℕ, zero, suc, Bool, List, [], ◌∷◌, length, Option, Some, None, refl, inl, inr, ap, ◌∙◌, sym, subst, arith}
-use Rattle.std.specs.Prelude.{map, slice_get, slice_index, MatchOption}
+-- A netlist that shows the Computer can be given keys and be read, and its history is one of the
+-- Computer.
+use Rattle.std.proofs.Common.{◌≡◌, ◌<◌, ◌≤◌, ◌+◌, ◌++◌, ℕ, zero, suc, Bool, List, [], ◌∷◌, length, Option, Some, None, refl, inl, inr, ap, ◌∙◌, sym, subst, arith}
+use Rattle.std.specs.Prelude.{map, slice_get, slice_index, true, IfOk, MatchOption, Result, Ok, Err}
 use Rattle.std.specs.Option.{option_map}
 use Rattle.std.specs.List.{All}
 use Rattle.std.proofs.lemmas.List.{get_or_default}
@@ -14,7 +15,7 @@ use Rattle.netlist.specs.Net.{Net}
 use Rattle.netlist.specs.Order.{AreOrdered}
 use Rattle.netlist.specs.Histories.{rank}
 use Rattle.netlist.specs.Folded.{HearAlike}
-use Rattle.netlist.specs.Value.{Inputs, AreValues, held_in, spelled_number}
+use Rattle.netlist.specs.Value.{AreValues, held_in, spelled_number}
 use Rattle.netlist.specs.Words.{after_load}
 use Rattle.netlist.proofs.Exist.{values_of}
 use Rattle.net_simplify.specs.Same.{HearSame, IsPinOf, shape}
@@ -24,7 +25,8 @@ use Rattle.gate_computer.specs.declared.wiring.Wiring.{Wiring}
 use Rattle.gate_computer.specs.declared.wiring.WiredPart.{WiredPart}
 use Rattle.gate_computer.specs.Parts.{parts_text}
 use Rattle.gate_computer.specs.Wiring.{IsWired, part_at}
-use Rattle.gate_computer.specs.Simple.{kept_nodes, IsSimpleOf, ShowsComputer}
+use Rattle.gate_computer.specs.Simple.{kept_nodes, IsSimpleComputer, IsSimpleOf, ShowsComputer}
+use Rattle.gate_computer.specs.Followed.{GateMachine, HasFollowed}
 use Rattle.gate_computer.specs.Inner.Readable.{IsReadable}
 use Rattle.gate_computer.specs.Inner.Reading.{wired_text}
 use Rattle.gate_computer.proofs.Keyboard.{Apart, at_pin, held_by, find}
@@ -69,7 +71,8 @@ room_too P (Some b) (Some b') e h = subst P (ap words_in e) h
 
 -- ---- the values of its history and of one of the Computer, under the same keys
 
--- Values of the whole netlist and of the one that is moved: pc and A, the words of the blocks and the lines of the parts that are told are the same.
+-- Values of the whole netlist and of the one that is moved. They are the same of pc and A, the words of the blocks and the lines of the parts that
+-- are listed.
 pub record Ran (whole net : Net) (full w : Wiring) (wired : IsWired whole full) (image : List ℕ) (keys : ℕ → ℕ) : Type 0 where
   pub v : ℕ → ℕ → Bool
   pub are : (n : ℕ) → AreValues whole (key_inputs full image keys) n v
@@ -206,6 +209,20 @@ module _ (whole net : Net) (full w : Wiring) (wired : IsWired whole full) (s : I
           screen = s.screen;
           lines = λ parts is c. absurd (let none = s.parts in let no : ⊥ = cc in no);
         }
+
+-- ---- a netlist whose wiring lists no parts
+
+-- It is simplified, since the wiring of the Computer's own lists them.
+simple_of : (net : Net) (w : Wiring) → ShowsComputer net w → w.parts ≡ None → IsSimpleComputer net w
+simple_of net w seen none = elim seen.shown [
+  | inl (e, f) ↦ absurd (let told = sym none ∙ ap (λ (x : Wiring). x.parts) f ∙ seen.wired.pins.parts in let no : ⊥ = cc in no)
+  | inr s ↦ record { whole = seen.whole; full = seen.full; wired = seen.wired; simple = s }
+]
+
+pub begins_simple : {E : Type 0} (simplify : Bool) (w : Wiring) (r : Result GateMachine E) → (simplify ≡ true → w.parts ≡ None) → IfOk r (λ g. HasFollowed g [])
+    → IfOk r (λ g. g.wiring ≡ w) → IfOk r (λ g. simplify ≡ true → IsSimpleComputer g.sim.net g.wiring)
+begins_simple simplify w (Ok g) none stands same = λ asked. simple_of g.sim.net g.wiring stands.told.seen (ap (λ (x : Wiring). x.parts) same ∙ none asked)
+begins_simple simplify w (Err x) none stands same = tt
 
 -- ---- a netlist that shows the Computer
 

@@ -1,4 +1,5 @@
--- Where the chips of a name stand in a chip, by a table: where those of each chip of a library are told by those of its parts, so are those of a whole tree.
+-- Where the chips of a name stand in a chip, by a table. Where those of each chip of a library are given by those of its parts, so are those of a
+-- whole tree.
 use Rattle.std.proofs.Common.{◌≡◌, ℕ, suc, Bool, true, false, List, [], ◌∷◌, ◌++◌, Some, refl, ap, sym, ◌∙◌}
 use Rattle.std.specs.Prelude.{◌&&◌, unwrap_or, map, codes, if◌then◌else◌}
 use Rattle.std.specs.Str.{bytes_eq}

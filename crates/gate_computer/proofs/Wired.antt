@@ -1,4 +1,4 @@
--- What the directory of the Computer's netlist tells is its wiring.
+-- What the directory of the Computer's netlist says is its wiring.
 use Rattle.std.proofs.Common.{◌≡◌, ◌<◌, ℕ, zero, suc, Bool, true, false, List, [], ◌∷◌, length, drop, map, Option, Some, refl, ap, sym, subst, ◌∙◌, arith}
 use Rattle.std.specs.Prelude.{IsSome, slice_get, codes, if◌then◌else◌}
 use Rattle.std.specs.List.{All}
@@ -210,6 +210,9 @@ module _ (net : Net) (pins : List PinAt) (parts : List PartAt) (flat : IsFlat ch
 
     pub is_wired : IsWired net w
     is_wired = record {
+      elab = record { net = net; pins = pins; parts = parts };
+      elaborated = flat;
+      is_net = refl;
       low = flat.low;
       high = flat.high;
       block = flat.block;

@@ -31,7 +31,7 @@ pub record IsComputer (image : List ℕ) (keys : ℕ → ℕ) (n : ℕ) (wires :
 abbrev pub state_at : (List ℕ → Histories) → ℕ → Machine
 state_at wires c = record { a = a_at wires c; d = d_at wires c; pc = pc_at wires c; memory = word_at wires c }
 
--- What a map counts of it. A step counts in a cycle whose pc is a commit; a key is heard in a cycle whose instruction, the image's at the pc, reads M
--- while A is the keyboard's address; the point of a cycle is that of its pc.
+-- What a map counts of it. A step counts in a cycle whose pc is a commit. A key is heard in a cycle whose instruction, the image's at the pc, reads M
+-- while A is the keyboard's address. The point of a cycle is that of its pc.
 abbrev pub trace_shown : List ℕ → Map → (ℕ → ℕ) → (List ℕ → Histories) → Trace
 trace_shown image map keys wires = trace_of (hack_system image map endless_loop) keys (state_at wires)

@@ -19,10 +19,10 @@ use Rattle.hack_cpu.specs.Computer.{pc_at, word_at}
 use Rattle.gate_computer.specs.declared.wiring.Wiring.{Wiring}
 use Rattle.gate_computer.specs.Computer.{IsComputer, trace_shown}
 use Rattle.gate_computer.specs.Parts.{ShowsParts}
-use Rattle.gate_computer.specs.Inner.Told.{WasTold}
+use Rattle.gate_computer.specs.Calls.{WasTold}
 
--- the simulator of its netlist with the wiring, the words of the image, what is counted, the key that the keyboard's pins hold, and how many cycles passed and
--- how many keys were heard
+-- its netlist's simulator with the wiring; the words of the image; what is counted; the key that the pins hold; the numbers of cycles passed and of
+-- keys heard
 pub record GateMachine : Type 0 where
   pub sim : SimState
   pub wiring : Wiring
@@ -52,8 +52,9 @@ pub record ShowsCycle (g : GateMachine) (keys : ℕ → ℕ) (wires : List ℕ �
   pub seen : point_at (trace_of_run g keys wires) n ≡ Some g.tally.point
   pub words : (a : ℕ) → a < keyboard → word_in g a ≡ word_at wires n a
 
--- It acted in each of these turns. Its simulator was told their keys, one in each cycle; and of every behaviour of the Computer that has its image, holds these
--- keys in its first cycles and goes on past them, it shows what is seen then. For all keys there are behaviours over any number of cycles.
+-- It acted in each of these turns. Its simulator was given their keys, one in each cycle. Take every behaviour of the Computer that has its image,
+-- holds these keys in its first cycles and goes on past them. It shows what is seen of that behaviour then. For all keys there are behaviours over
+-- any number of cycles.
 pub record HasFollowed (g : GateMachine) (turns : List Turn) : Type 0 where
   pub acted : All (λ t. t.answer ≡ Acted) turns
   pub counts : g.moves ≡ length turns

@@ -21,7 +21,7 @@ SeenLaw =
     (image : List ℕ) (map : Map) (keys : ℕ → ℕ) (m : ℕ) (wires : List ℕ → Histories) → IsComputer image keys m wires →
     (n : ℕ) → n < m → SeenAlike image map keys wires n
 
--- If the run of the instruction machine follows a meaning at cycle n, with at most `most` cycles a step, then so does every behaviour of the Computer
+-- Let the run of the instruction machine follow a meaning at cycle n, with at most `most` cycles a step. Then so does every behaviour of the Computer
 -- that is longer than n + most.
 abbrev pub GatesLaw : Type 0 → Type 0
 GatesLaw S =

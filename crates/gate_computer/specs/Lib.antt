@@ -3,6 +3,7 @@ pub mod Laws
 pub mod Parts
 pub mod Wiring
 pub mod Simple
+pub mod Calls
 pub mod Followed
 pub mod Nodes
 pub mod Elaborated

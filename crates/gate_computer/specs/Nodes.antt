@@ -9,13 +9,13 @@ use Rattle.hdl_elab.specs.Faults.{IsFaultOf, IsFine}
 use Rattle.hack_cpu.specs.Library.{shipped_chips}
 use Rattle.gate_computer.specs.Computer.{computer}
 
--- The bit of its input, the output bits of the ends in it and the two constants are 2,004 where the memories are blocks, and 3,663,658 where they are
--- made of gates.
+-- These are the bit of its input, the output bits of the ends in it and the two constants. They are 2,004 where the memories are blocks, and
+-- 3,663,658 where they are made of gates.
 abbrev pub computer_nodes : Bool → ℕ
 computer_nodes blocks = if blocks then 2004 else 3663658
 
--- With blocks and with memories of gates: the Computer needs so many nodes, no shipped chip needs more, and so nothing is wrong with any, neither a
--- fault of the texts nor a loop nor too many nodes. Want of memory is left.
+-- With blocks and with memories of gates: The Computer needs this many nodes, and no shipped chip needs more. So nothing is wrong with any, neither
+-- a fault of the texts nor a loop nor too many nodes. Want of memory is left.
 pub record NodesLaw : Type 0 where
   pub count : (blocks : Bool) (tree : List PartIn) → IsTree (chips_in shipped_chips blocks) computer tree → node_count (chips_in shipped_chips blocks) computer tree ≡ computer_nodes blocks
   pub most : (blocks : Bool) (i : ℕ) (entry : Entry) (tree : List PartIn) → slice_get shipped_chips i ≡ Some entry → IsTree (chips_in shipped_chips blocks) entry tree → node_count (chips_in shipped_chips blocks) entry tree ≤ computer_nodes blocks

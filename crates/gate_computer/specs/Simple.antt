@@ -10,8 +10,8 @@ use Rattle.gate_computer.specs.Wiring.{IsWired}
 abbrev pub kept_nodes : Wiring → List ℕ
 kept_nodes w = w.keyboard ++ (w.pc ++ w.a)
 
--- The netlist is what the simplifier gives for the whole one and the nodes that are kept. The wiring tells the places of these, and the same
--- blocks; of parts it tells nothing.
+-- The netlist is one that the simplifier may give for the whole one and the nodes that are kept: in normal form, and it shows the same. The wiring
+-- has the places of these, and the same blocks; of parts it has nothing.
 pub record IsSimpleOf (whole : Net) (full : Wiring) (net : Net) (w : Wiring) : Type 0 where
   pub simplified : IsSimplified whole net (kept_nodes full) (kept_nodes w)
   pub keyboard : length w.keyboard ≡ length full.keyboard
@@ -21,6 +21,13 @@ pub record IsSimpleOf (whole : Net) (full : Wiring) (net : Net) (w : Wiring) : T
   pub main : w.main ≡ full.main
   pub screen : w.screen ≡ full.screen
   pub parts : w.parts ≡ None
+
+-- The netlist with its wiring is one that the simplifier may give for that of the Computer itself.
+pub record IsSimpleComputer (net : Net) (w : Wiring) : Type 0 where
+  pub whole : Net
+  pub full : Wiring
+  pub wired : IsWired whole full
+  pub simple : IsSimpleOf whole full net w
 
 -- The netlist with its wiring shows the Computer: it is that of the Computer itself, or it is simplified from that.
 pub record ShowsComputer (net : Net) (w : Wiring) : Type 0 where

@@ -4,6 +4,8 @@ use Rattle.std.specs.List.{All}
 use Rattle.hdl_tree.specs.Behaviour.{Wires}
 use Rattle.netlist.specs.declared.node.Node.TheVariants.{Pin}
 use Rattle.netlist.specs.Net.{Net}
+use Rattle.hdl_elab.specs.Elaborated.{IsElaborated}
+use Rattle.hdl_elab.specs.declared.put.Elab.{Elab}
 use Rattle.hdl_nodes.specs.Numbering.{IsNumbering, nodes_of}
 use Rattle.hdl_flatten.specs.Trees.{PartIn}
 use Rattle.gate_computer.specs.declared.wiring.Wiring.{Wiring}
@@ -31,7 +33,7 @@ screen_path = 2 ∷ 4 ∷ []
 abbrev pub keyboard_path : List ℕ
 keyboard_path = 2 ∷ 5 ∷ []
 
--- ---- what the wiring tells, where `at` gives the node of each bit of each pin by path, and `block` the block of each memory
+-- ---- what the wiring has, where `at` gives the node of each bit of each pin by path, and `block` the block of each memory
 
 -- the part at a place: the name of its chip, and the nodes of its outputs
 abbrev pub part_at : (List ℕ → Wires ℕ) → PartIn → WiredPart
@@ -57,14 +59,17 @@ pub record HasOwnPins (net : Net) (at : List ℕ → Wires ℕ) : Type 0 where
   pub keys_apart : (j k : ℕ) → j < k → k < 16 → at keyboard_path (codes "out") j ≢ at keyboard_path (codes "out") k
   pub reset_apart : (k : ℕ) → k < 16 → at keyboard_path (codes "out") k ≢ at [] (codes "reset") 0
 
--- each node that the wiring tells is there
+-- each node that the wiring has is there
 pub record HasNodes (net : Net) (w : Wiring) : Type 0 where
   pub pc : All (λ node. node < length net.nodes) w.pc
   pub a : All (λ node. node < length net.nodes) w.a
   pub outputs : (parts : List WiredPart) → w.parts ≡ Some parts → (i : ℕ) (part : WiredPart) → slice_get parts i ≡ Some part → All (λ node. node < length net.nodes) part.outputs
 
--- The netlist is that of the Computer, with some numbering of its bits, and the wiring tells the nodes and blocks that this gives.
+-- The netlist is the elaborated one of the Computer, with some numbering of its bits, and the wiring has the nodes and blocks that this gives.
 pub record IsWired (net : Net) (w : Wiring) : Type 0 where
+  pub elab : Elab
+  pub elaborated : IsElaborated chips computer elab
+  pub is_net : net ≡ elab.net
   pub low : ℕ
   pub high : ℕ
   pub block : List ℕ → ℕ

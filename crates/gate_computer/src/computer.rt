@@ -23,7 +23,6 @@ use std::marker::Model;
 use word16::SCREEN;
 
 /// The simulator of the Computer, with an image in its instruction memory and the map of that image. A move is one cycle under a key.
-#[derive(Drop)]
 pub struct GateComputer {
     sim: Sim,
     wiring: Wiring,
@@ -34,6 +33,21 @@ pub struct GateComputer {
     key: u16,
     moves: u64,
     heard: u64,
+}
+
+// By hand, so that whoever drops a computer calls this.
+impl Drop for GateComputer {
+    fn drop(self) {
+        let GateComputer {
+            sim: _,
+            wiring: _,
+            image: _,
+            tally: _,
+            key: _,
+            moves: _,
+            heard: _,
+        } = self;
+    }
 }
 
 impl Model for GateComputer {
@@ -120,8 +134,9 @@ impl GateComputer {
         self.moves += 1;
     }
 
-    /// Puts the outputs of all parts in the cycle that comes next, in which the keyboard holds a key: a line for each part, depth first in the order of
-    /// the texts, with its chip's name, a space, and the bits of its outputs. Only the pins of the keyboard change. The netlist is not simplified.
+    /// Puts the outputs of all parts in the cycle that comes next, in which the keyboard holds a key. It puts a line for each part, depth first in
+    /// the order of the texts, with its chip's name, a space, and the bits of its outputs. Only the pins of the keyboard change. The netlist is not
+    /// simplified.
     pub fn put_nets<S: Sink>(&mut self, key: u16, out: &mut Pieces<'_, S>) -> Put
         requires { IsSome self.old.wiring.parts }
         ensures image { image_in self.new ≡ image_in self.old }

@@ -66,7 +66,8 @@ fn push_back(turned: &mut Vec<u32>, nodes: &[u32]) -> Result<(), AllocError>
     Ok(())
 }
 
-/// The nodes of the bits of pins, in order of declaration, of each pin the highest first; they are told with the lowest first.
+/// The nodes of the bits of pins, in order of declaration, of each pin the highest first; they are given with the lowest
+/// first.
 fn turn(alloc: Global, pins: &[Pin], nodes: &[u32]) -> Result<Vec<u32>, AllocError>
     requires { bit_count pins.now ≤ length nodes.now }
     ensures { IfOk result (λ v. v.items ≡ turned_nodes pins.now nodes.now) }

@@ -4,7 +4,7 @@ ghost use Rattle.gate_computer.specs.Elaborated.{BuildableLaw};
 ghost use Rattle.gate_computer.specs.Laws.{GatesLaw, SeenLaw};
 ghost use Rattle.gate_computer.specs.Nodes.{NodesLaw};
 
-/// Every behaviour of the Computer is seen as the instruction machine is: its counted steps, the keys heard, its control point and the words of main
+/// Every behaviour of the Computer is seen as the instruction machine is. Its counted steps, the keys heard, its control point and the words of main
 /// memory and screen are equal at each cycle.
 pub fn seen_law()
     ensures { SeenLaw }

@@ -1,9 +1,9 @@
 //! The Computer made of gates (book, chapter 5), moved by keys, one cycle a key, and what is seen of it.
 //!
-//! The definitions are in `specs/`: `Computer` (its behaviours, with an image and keys, and what is seen of one), `Laws` (it is seen as the
-//! instruction machine is), `Wiring` (the Computer as a netlist, and where its pins are in it), `Simple` (the
-//! same, simplified), `Parts` (the lines of its parts),
-//! `Elaborated` (what elaboration asks of the Computer), `Nodes` (how many nodes it needs) and `Followed` (the behaviours that a `GateComputer` stands for).
+//! The definitions are in `specs/`: `Computer` has its behaviours, with an image and keys, and what is seen of one, and `Laws` says that it is seen
+//! as the instruction machine is. `Wiring` has the Computer as a netlist, and where its pins are in it, and `Simple` the same, simplified. `Parts`
+//! has the lines of its parts, and `Elaborated` what elaboration asks of the Computer. `Nodes` says how many nodes it needs, and `Followed` which
+//! behaviours a `GateComputer` stands for.
 #![tactic(auto)]
 
 mod computer;

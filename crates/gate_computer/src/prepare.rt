@@ -3,7 +3,7 @@
 ghost use Rattle.std.specs.Prelude.{◌≡◌, [], false, true, IfOk, IsSome, None};
 ghost use Rattle.image_map.specs.Map.{IsMapped};
 ghost use Rattle.gate_computer.specs.Followed.{HasFollowed, image_in};
-ghost use Rattle.gate_computer.specs.Simple.{ShowsComputer};
+ghost use Rattle.gate_computer.specs.Simple.{IsSimpleComputer, ShowsComputer};
 
 use crate::computer::GateComputer;
 use crate::simplified::{simple_computer, simple_shows, whole_shows};
@@ -28,8 +28,8 @@ fn computer_for(alloc: Global, simplify: bool) -> Result<WiredComputer, AllocErr
     Ok(simple)
 }
 
-/// The Computer made of gates at its start, with an image and its map. It has all its memory from here on. Where its netlist is simplified, its wiring
-/// tells no parts, and they can not be shown.
+/// The Computer made of gates at its start, with an image and its map. It has all its memory from here on. Where it is asked for, its netlist is
+/// in normal form and shows the same; its wiring lists no parts then, and they can not be shown.
 pub fn prepare_gates(
     alloc: Global,
     image: Image,
@@ -40,7 +40,7 @@ pub fn prepare_gates(
     ensures moves { IfOk result (λ g. g.moves ≡ 0) }
     ensures stands { IfOk result (λ g. HasFollowed g []) }
     ensures parts { IfOk result (λ g. simplify ≡ false → IsSome g.wiring.parts) }
-    ensures simple { IfOk result (λ g. simplify ≡ true → g.wiring.parts ≡ None) }
+    ensures simple { IfOk result (λ g. simplify ≡ true → IsSimpleComputer g.sim.net g.wiring) }
 {
     let wired = computer_for(alloc, simplify)?;
     GateComputer::new(alloc, wired, image)

@@ -8,7 +8,8 @@ ghost use Rattle.netlist.specs.Value.{spelled_number};
 ghost use Rattle.gate_sim.specs.Calls.{Call, pins_of};
 ghost use Rattle.gate_sim.specs.Stands.{StandsFor};
 ghost use Rattle.image_map.specs.Computer.{reads_key};
-ghost use Rattle.gate_computer.specs.Inner.Told.{HoldsKey, HasSet, ChangesPin};
+ghost use Rattle.gate_computer.specs.Calls.{HoldsKey};
+ghost use Rattle.gate_computer.specs.Inner.Told.{HasSet, ChangesPin};
 
 use gate_sim::Sim;
 use word16::{KEYBOARD, bit};

@@ -52,7 +52,7 @@ fn put_part<S: Sink>(sim: &Sim, part: &WiredPart, out: &mut Pieces<'_, S>) -> Pu
     out.put(b"\n")
 }
 
-/// The parts that a wiring tells.
+/// The parts that a wiring lists.
 pub fn told_parts(wiring: &Wiring) -> &[WiredPart]
     requires { IsSome wiring.now.parts }
     ensures { wiring.now.parts ≡ Some result.now }

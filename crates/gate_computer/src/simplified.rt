@@ -1,4 +1,4 @@
-//! The Computer with its netlist simplified, which keeps the nodes that are told a key or read.
+//! The Computer with its netlist simplified, which keeps the nodes that get a key or are read.
 
 ghost use Rattle.std.specs.Prelude.{◌≡◌, ◌-◌, ◌<◌, ◌^◌, IfOk, length};
 ghost use Rattle.gate_computer.specs.Inner.Places.{HasPlaces};

@@ -15,7 +15,8 @@ use hdl_flatten::PartAt;
 use hdl_tree::{Library, List, Name};
 use std::alloc::{AllocError, Global};
 
-// The outputs of the CPU are outM, writeM, addressM and pc: so many bits stand before those of the pc.
+// The outputs of the CPU are outM, writeM, addressM and pc: this many bits stand before those of the
+// pc.
 const BEFORE_PC: usize = 32;
 
 pub(crate) fn list_from(alloc: Global, nodes: &[u32]) -> Result<List<u32>, AllocError>

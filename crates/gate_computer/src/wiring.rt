@@ -3,8 +3,8 @@
 use hdl_tree::{List, Name};
 use netlist::Netlist;
 
-/// A part of the Computer: the name of its chip, and the nodes of the bits of its outputs, pins in order of declaration, of each pin the highest bit
-/// first.
+/// A part of the Computer: the name of its chip, and the nodes of the bits of its outputs. Pins are in order of declaration, of each pin the highest
+/// bit first.
 #[derive(Drop)]
 pub struct WiredPart {
     pub chip: Name,
@@ -26,7 +26,8 @@ pub struct Wiring {
     pub main: u32,
     /// The block of the screen.
     pub screen: u32,
-    /// The parts, depth first in the order of the texts; where the netlist is simplified, none are told.
+    /// The parts, depth first in the order of the texts; where the netlist is simplified, none are
+    /// listed.
     pub parts: Option<List<WiredPart>>,
 }
 

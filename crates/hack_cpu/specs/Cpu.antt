@@ -41,6 +41,7 @@ shifted wires c = word_shift (op wires c 11) (cond (op wires c 10) (d_held wires
 abbrev pub is_shift : (List ℕ → Histories) → ℕ → Bool
 is_shift wires c = op wires c 15 && (not (op wires c 14) && op wires c 13)
 
+-- the result: what the shift gives where the instruction is one, else what the ALU gives
 abbrev pub result : (List ℕ → Histories) → ℕ → ℕ
 result wires c = cond (is_shift wires c) (shifted wires c) (computed wires c)
 

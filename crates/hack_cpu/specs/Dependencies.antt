@@ -32,7 +32,7 @@ on output input = (codes input, codes output)
 abbrev pub by_address : String → List ℕ × Pairs
 by_address name = (codes name, on "out" "address" ∷ [])
 
--- chips that are not told have no such output: DFF, Bit, the registers, PC, Keyboard and Computer
+-- chips that are not listed have no such output: DFF, Bit, the registers, PC, Keyboard and Computer
 unfoldable pub dependencies : List (List ℕ × Pairs)
 dependencies =
     map keeps_nothing (nand_tree ∷ not_tree ∷ and_tree ∷ or_tree ∷ xor_tree ∷ mux_tree ∷ dmux_tree ∷ not16_tree ∷ and16_tree ∷ or16_tree ∷ mux16_tree ∷ or8way_tree ∷ mux4way16_tree ∷ mux8way16_tree ∷ dmux4way_tree ∷ dmux8way_tree ∷ half_adder_tree ∷ full_adder_tree ∷ add16_tree ∷ inc16_tree ∷ alu_tree ∷ shift_tree ∷ [])

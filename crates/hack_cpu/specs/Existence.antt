@@ -12,8 +12,8 @@ use Rattle.hack_cpu.specs.Trees.{computer_tree}
 use Rattle.hack_cpu.specs.Library.{shipped_chips}
 use Rattle.hack_cpu.specs.Computer.{of_blocks, outside}
 
--- With blocks and with memories of gates, each shipped chip has a behaviour over any number of cycles, whatever comes in at its inputs, from
--- the keyboard and from the ROM.
+-- With blocks and with memories of gates, each shipped chip has a behaviour over any number of cycles. So it is whatever comes in at its
+-- inputs, from the keyboard and from the ROM.
 abbrev pub ExistenceLaw : Type 0
 ExistenceLaw =
     (blocks : Bool) (name : List ℕ) (entry : Entry) → find_chip (chips_in shipped_chips blocks) name ≡ Some entry →

@@ -19,7 +19,7 @@ pub record IsLibrary (entries : List Entry) : Type 0 where
   pub distinct : AreDistinct entries
   pub known : (k : ℕ) (entry : Entry) → slice_get entries k ≡ Some entry → (entry.shipped ≡ None) ⊎ IsShippedAs entry
 
--- No chips are such a library, and so are the shipped ones; and one with one more chip from a text, or with one more shipped chip, under a name
+-- No chips are such a library, and so are the shipped ones. So is one with one more chip from a text, or with one more shipped chip, under a name
 -- that no other has. So a chip from a text may have the name of a shipped one, which then is left out. The ends in such a library have their pins.
 pub record LibrariesLaw : Type 0 where
   pub empty : IsLibrary []

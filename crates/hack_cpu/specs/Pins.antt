@@ -113,8 +113,8 @@ end_face (ends.Block width) = (word "in" ∷ bit "load" ∷ bits width "address"
 abbrev pub HasEndPins : Chips → Type 0
 HasEndPins chips = (name : List ℕ) (chip : Entry) (e : End) → find_chip chips name ≡ Some chip → end_of chips.blocks chip ≡ Some e → ((face_of chip).inputs, (face_of chip).outputs) ≡ end_face e
 
--- The shipped chips are those of the table, with its pins; each is known by its own name, and no other has it. With blocks and with memories of gates, the ends of
--- the library have the pins of ends.
+-- The shipped chips are those of the table, with its pins; each is known by its own name, and no other has it. With blocks and with memories of
+-- gates, the ends of the library have the pins of ends.
 pub record PinsLaw : Type 0 where
   pub table : map face_of shipped_chips ≡ basic_faces ++ (computing_faces ++ (memory_faces ++ computer_faces))
   pub distinct : AreDistinct shipped_chips

@@ -15,7 +15,7 @@ keyboard_tree = builtin "Keyboard" [] (bus "out" 16 ∷ [])
 
 -- ---- the CPU
 
--- The registers A and D, and the inputs of the ALU. Without its top bit an instruction is loaded into A, else A and D are loaded with the result
+-- The registers A and D, and the inputs of the ALU. Without its top bit an instruction is loaded into A. Else A and D are loaded with the result
 -- where its bits 5 and 4 ask; where its bit 12 is 1, M stands for A.
 abbrev pub cpu_registers : List Part
 cpu_registers =
@@ -50,7 +50,7 @@ cpu_jump =
     ∷ []
 
 -- The shift, which the book's CPU has not: of D where bit 10 is 1, else of A or M. The result is that of the shift where bits 15, 14 and 13 are 1, 0
--- and 1, and else that of the ALU; whether it is 0 or negative is told by the result.
+-- and 1, and else that of the ALU. Whether it is 0 or negative depends on the result.
 abbrev pub cpu_shift : List Part
 cpu_shift =
     part "Not" (wire_bit "in" "instruction" 14 ∷ wire "out" "noBit14" ∷ [])

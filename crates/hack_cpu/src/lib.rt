@@ -1,5 +1,5 @@
-//! The Computer (book, chapter 5): the CPU, Memory and the Computer as trees, the library of all shipped chips, the law that each of them has
-//! a behaviour, and the law that one cycle of the Computer is one step of the instruction machine.
+//! The Computer (book, chapter 5): the CPU, Memory and the Computer as trees, and the library of all shipped chips. There is the law that
+//! each of them has a behaviour, and the law that one cycle of the Computer is one step of the instruction machine.
 #![tactic(auto)]
 
 mod laws;

@@ -19,7 +19,7 @@ use chip_memory::{
 use hdl_tree::{Chip, Entry, Library, List};
 use std::alloc::{AllocError, Global};
 
-// A chip under its own name, behind those that are there.
+// A chip under its own name, after those that are there.
 fn add_shipped(alloc: Global, entries: &mut Vec<Entry>, chip: Chip) -> Result<(), AllocError>
     ensures { IfOk result (λ _. entries.new.items ≡ entries.old.items ++ shipped_entry chip ∷ []) }
 {

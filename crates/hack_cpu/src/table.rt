@@ -51,7 +51,7 @@ fn joints_of<'a>(alloc: Global, links: &[Link<'a>]) -> Result<Vec<Joint<'a>>, Al
     Ok(joints)
 }
 
-// The part of a row, behind those that are there already.
+// The part of a row, after those that are there already.
 fn add_row(alloc: Global, parts: &mut List<Part>, row: &Row<'_>) -> Result<(), AllocError>
     ensures { IfOk result (λ _. parts.new ≡ parts.old ++ part_of row.now ∷ []) }
 {

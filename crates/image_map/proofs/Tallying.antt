@@ -41,7 +41,7 @@ has_point (r ∷ rs) at to k c a b =
     (λ l. (r.point, in_first r rs k first l))
     (λ l. let p = has_point rs r.to to k c.2 l b in (p.0, past_first r rs k first l ∙ p.1))
 
--- an address behind them has none
+-- an address after them has no point
 no_point : (rs : List PointRange) (at to k : ℕ) → Covers at rs to → to ≤ k → point_in rs k ≡ None
 no_point [] at to k e h = refl
 no_point (r ∷ rs) at to k c h =
@@ -49,7 +49,7 @@ no_point (r ∷ rs) at to k c h =
     let from : r.from ≤ k = let e = c.0 in let some = c.1 in omega (arith, e) in
     past_first r rs k from (omega arith) ∙ no_point rs r.to to k c.2 h
 
--- the address behind the last range
+-- the address after the last range
 pub mapped_to : (rs : List PointRange) (at end : ℕ) (r : PointRange) → Some r ≡ slice_get rs (length rs - 1) → Covers at rs end → r.to ≡ end
 mapped_to [] at end r e c = absurd (cc e)
 mapped_to (x ∷ []) at end r e c = let same : r ≡ x = cc e in ap (λ (z : PointRange). z.to) same ∙ c.2

@@ -1,5 +1,5 @@
--- The computer as a machine of the layers: an image, the points and commits of its addresses, and the endless loop at its end; and what is counted
--- of its run. (The book, chapters 4 and 5.)
+-- The computer as a machine of the layers, and what is counted of its run. It has an image, the points and commits of its addresses, and the
+-- endless loop at its end. (The book, chapters 4 and 5.)
 use Rattle.std.specs.Prelude.{ℕ, ◌+◌, Bool, true, nat_eq, ◌&&◌, ◌||◌, List, Some, slice_index}
 use Rattle.word16.specs.Memory.{keyboard}
 use Rattle.word16.specs.Words.{has_bit}
@@ -12,7 +12,8 @@ use Rattle.image_map.specs.Map.{Map}
 abbrev pub endless_loop : ℕ
 endless_loop = 21
 
--- The instruction reads M while A is the keyboard's address: bit 15 tells that it computes, bit 12 that it reads M.
+-- By its word the instruction may read M, while A is the keyboard's address: bit 15 says that it computes, bit 12 that
+-- it reads M. A shift of D with bit 12 counts too, though the bit means nothing there.
 abbrev pub reads_key : ℕ → ℕ → Bool
 reads_key instruction a = has_bit instruction 15 && (has_bit instruction 12 && nat_eq a keyboard)
 

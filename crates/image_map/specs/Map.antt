@@ -1,4 +1,4 @@
--- What the map of an image tells of each address, and the ranges that it tells it by. (The book, chapters 7, 8 and 11.)
+-- What the map of an image says of each address, and the ranges that it says it by. (The book, chapters 7, 8 and 11.)
 use Rattle.std.specs.Prelude.{◌≡◌, ◌<◌, ◌≤◌, ℕ, Bool, ◌&&◌, nat_le, nat_lt, nat_eq, List, [], ◌∷◌, Option, Some, None, length, if◌then◌else◌}
 use Rattle.std.specs.List.{list_any}
 use Rattle.outer_world.specs.declared.point.Point.{Point}

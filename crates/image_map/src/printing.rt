@@ -146,8 +146,8 @@ fn put_map<S: Sink>(names: &[&str], mapping: &ImageMap, out: &mut Pieces<'_, S>)
     }
 }
 
-/// Puts the map of an image: a line for each range of points, with the name of its subroutine, one for each commit, and one for each routine that
-/// commands share.
+/// Puts the map of an image. It has a line for each range of points, with the name of its subroutine, one for each commit, and one for each
+/// routine that commands share.
 pub fn show_map<S: Sink>(names: &[&str], mapping: &ImageMap, out: &mut S) -> Put
     ensures put { Puts (S.written out.old) (S.written out.new) (map_text (map (λ n. n.now) names.now) mapping.now) result }
     ensures counts { CountsPut (S.faults out.old) (S.faults out.new) result }

@@ -28,11 +28,11 @@ word_shl w = word_add w w
 abbrev pub word_shr : ℕ → ℕ
 word_shr w = if nat_lt w 32768 then w / 2 else 32768 + w / 2
 
--- one place to the left, or to the right
+-- one place to the left, or to the right (shifts are not the book's)
 abbrev pub word_shift : Bool → ℕ → ℕ
 word_shift left w = if left then word_shl w else word_shr w
 
--- half of a whole number, rounded down: the greatest whole number of which twice is at most that number
+-- half of a whole number, rounded down: the greatest whole number whose double is at most that number
 abbrev pub IsHalf : ℤ → ℤ → Type 0
 IsHalf half whole = ((half +ℤ half) ≤ℤ whole) × (whole <ℤ (half +ℤ (half +ℤ pos 2)))
 

@@ -37,7 +37,7 @@ abbrev pub outputs_of : Option Entry → List Pin
 outputs_of None = []
 outputs_of (Some chip) = chip.chip.outputs
 
--- nodes of the bits of pins, told with the lowest bit of each pin first, with the highest first
+-- nodes of the bits of pins, given with the lowest bit of each pin first, with the highest first
 abbrev pub turned_nodes : List Pin → List ℕ → List ℕ
 turned_nodes [] nodes = []
 turned_nodes (pin ∷ pins) nodes = reverse (take (pin_width pin) nodes) ++ turned_nodes pins (drop (pin_width pin) nodes)
@@ -67,7 +67,7 @@ pub record CanTell (entries : List Entry) (parts : List PartAt) : Type 0 where
   pub screen : IsSome (block_named (codes "Screen") parts)
   pub told : AreTold entries parts
 
--- The wiring tells what the directory does; the pc is the last of the outputs of the CPU, behind 32 bits of others.
+-- The wiring says what the directory does; the pc is the last of the outputs of the CPU, after 32 bits of others.
 pub record IsToldBy (entries : List Entry) (parts : List PartAt) (w : Wiring) : Type 0 where
   pub keyboard : w.keyboard ≡ outs_named (codes "Keyboard") parts
   pub pc : w.pc ≡ drop 32 (outs_named (codes "CPU") parts)

@@ -3,7 +3,8 @@ use Rattle.std.specs.Prelude.{◌≡◌, ℕ, List, None, length}
 use Rattle.gate_computer.specs.declared.wiring.Wiring.{Wiring}
 use Rattle.gate_computer.specs.Simple.{kept_nodes}
 
--- the kept nodes are at these places, in their order; the blocks are the same, and no parts are told
+-- the kept nodes are at these places, in their order; the blocks are the same, and no parts are
+-- listed
 pub record HasPlaces (w : Wiring) (places : List ℕ) (moved : Wiring) : Type 0 where
   pub nodes : kept_nodes moved ≡ places
   pub keyboard : length moved.keyboard ≡ length w.keyboard

@@ -1,4 +1,4 @@
--- What the computer of gates needs of its wiring, to tell its simulator keys and to read it.
+-- What the computer of gates needs of its wiring, to give its simulator keys and to read it.
 use Rattle.std.specs.Prelude.{◌≡◌, ◌≢◌, ℕ, ◌<◌, ◌≤◌, Some, length, slice_get, slice_index, MatchOption}
 use Rattle.std.specs.List.{All}
 use Rattle.netlist.specs.declared.node.Node.TheVariants.{Pin}
@@ -16,7 +16,7 @@ pub record IsReadable (net : Net) (w : Wiring) : Type 0 where
   pub main : (a : ℕ) → a < 16384 → MatchOption (slice_get net.blocks w.main) ⊥ (λ b. a < b.words)
   pub screen : (a : ℕ) → a < 8192 → MatchOption (slice_get net.blocks w.screen) ⊥ (λ b. a < b.words)
 
--- the wiring can be told and read, and no more steps were counted and no more keys heard than cycles passed
+-- the wiring can be set and read, and no more steps were counted and no more keys heard than cycles passed
 pub record IsKeptWell (net : Net) (w : Wiring) (steps heard moves : ℕ) : Type 0 where
   pub readable : IsReadable net w
   pub few_steps : steps ≤ moves

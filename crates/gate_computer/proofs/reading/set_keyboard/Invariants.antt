@@ -2,7 +2,8 @@
 use Rattle.std.proofs.Common.{◌≡◌, List}
 use Rattle.gate_sim.specs.Calls.{Call, pins_of}
 use Rattle.gate_sim.specs.Stands.{StandsFor}
-use Rattle.gate_computer.specs.Inner.Told.{HoldsKey, HoldsPart, HasSet}
+use Rattle.gate_computer.specs.Calls.{HoldsKey}
+use Rattle.gate_computer.specs.Inner.Told.{HoldsPart, HasSet}
 use Rattle.gate_computer.proofs.reading.set_keyboard.Given as goal
 
 abbrev pub invariant-loop-k : goal.invariant-loop-k

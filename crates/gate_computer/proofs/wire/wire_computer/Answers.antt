@@ -1,5 +1,5 @@
-use Rattle.std.proofs.Common.{◌<◌, ◌∙◌, Some, map, sym, subst, arith, true}
-use Rattle.gate_computer.specs.Inner.Directory.{CanTell, IsToldBy, wired_part}
+use Rattle.std.proofs.Common.{◌∙◌, sym, subst, arith, true}
+use Rattle.gate_computer.specs.Inner.Directory.{CanTell, IsToldBy}
 use Rattle.gate_computer.proofs.Counting.{nodes}
 use Rattle.gate_computer.proofs.Wired.{can_tell, is_wired, some_is}
 use Rattle.gate_computer.proofs.wire.wire_computer.Goals as goal

@@ -2,7 +2,7 @@ use Rattle.std.proofs.Common.{◌≤◌, ◌-◌, Some, drop, length, length-dro
 use Rattle.std.proofs.lemmas.List.{take_all}
 use Rattle.gate_computer.proofs.wire.wiring_of.Goals as goal
 
--- what stands behind the first 32 nodes
+-- what stands after the first 32 nodes
 pub returns : goal.returns
 returns c = record {
   keyboard = c.keyboard.view_is ∙ c.in_ok-keyboard.ensures ∙ c.outs_named.ensures;

@@ -6,7 +6,8 @@ use Rattle.gate_sim.specs.Calls.{pins_of}
 use Rattle.gate_sim.specs.Calls.Call.{Tick}
 use Rattle.image_map.specs.Computer.{reads_key}
 use Rattle.gate_computer.specs.contracts.computer.GateComputer.{the_view}
-use Rattle.gate_computer.specs.Inner.Told.{HoldsKey, HasSet}
+use Rattle.gate_computer.specs.Calls.{HoldsKey}
+use Rattle.gate_computer.specs.Inner.Told.{HasSet}
 use Rattle.gate_computer.specs.Inner.Readable.{IsReadable}
 use Rattle.gate_computer.specs.Followed.{HasFollowed}
 use Rattle.gate_computer.proofs.Following.{followed_more}

@@ -1,12 +1,10 @@
 use Rattle.std.proofs.Common.{◌∙◌, length, sym, subst, arith}
 use Rattle.outer_world.specs.Held.{pending}
-use Rattle.outer_world.specs.Written.{Passes}
-use Rattle.netlist.specs.Present.{value_in}
 use Rattle.gate_sim.specs.Calls.{pins_of}
 use Rattle.gate_computer.specs.contracts.computer.GateComputer.{the_view}
-use Rattle.gate_computer.specs.Inner.Told.{HoldsKey, HasSet}
+use Rattle.gate_computer.specs.Calls.{HoldsKey}
+use Rattle.gate_computer.specs.Inner.Told.{HasSet}
 use Rattle.gate_computer.specs.Inner.Readable.{IsReadable}
-use Rattle.gate_computer.specs.Inner.Reading.{wired_text}
 use Rattle.gate_computer.specs.Followed.{GateMachine, HasFollowed, PassesParts}
 use Rattle.gate_computer.proofs.Following.{first, followed, told_set, passes_parts}
 use Rattle.gate_computer.proofs.computer.GateComputer.put_nets.Goals as goal
