@@ -65,7 +65,7 @@ of_classes_alone w (of_classes source work) e = tt
 of_classes_alone w (of_file path work) e = no_file_class work w e
 of_classes_alone w (vm folder bare) e = no_class (codes "vm") refl refl refl refl refl w e
 of_classes_alone w (chip name) e = no_class (codes "chip") refl refl refl refl refl w e
-of_classes_alone w (test path gates) e = no_class (codes "test") refl refl refl refl refl w e
+of_classes_alone w (test path gates simplify) e = no_class (codes "test") refl refl refl refl refl w e
 of_classes_alone w (soak seed count) e = no_class (codes "soak") refl refl refl refl refl w e
 
 -- nor is that of a work with one file
@@ -78,7 +78,7 @@ of_file_alone w (of_classes source work) e = no_file_class w work (sym e)
 of_file_alone w (of_file path work) e = tt
 of_file_alone w (vm folder bare) e = no_file (codes "vm") refl refl refl w e
 of_file_alone w (chip name) e = no_file (codes "chip") refl refl refl w e
-of_file_alone w (test path gates) e = no_file (codes "test") refl refl refl w e
+of_file_alone w (test path gates simplify) e = no_file (codes "test") refl refl refl w e
 of_file_alone w (soak seed count) e = no_file (codes "soak") refl refl refl w e
 
 -- ---- the matches of a command are those of its own lines only
@@ -89,7 +89,7 @@ no_path name rows none other apart_too (of_classes source work) h = let gone = h
 no_path name rows none other apart_too (of_file path work) h = let gone = h.1.0 in let no : ⊥ = cc in no
 no_path name rows none other apart_too (vm folder bare) h = let gone = h.1.0 in let no : ⊥ = cc in no
 no_path name rows none other apart_too (chip chosen) h = apart name (codes "chip") other h.0
-no_path name rows none other apart_too (test path gates) h = let gone = h.1.0 in let no : ⊥ = cc in no
+no_path name rows none other apart_too (test path gates simplify) h = let gone = h.1.0 in let no : ⊥ = cc in no
 no_path name rows none other apart_too (soak seed count) h = apart name (codes "soak") apart_too h.0
 
 pub no_classes : (work : ClassWork) (rows : List Row) → first_of (codes "path") rows ≡ None → (l : Line) → ¬ IsReading (class_command work) rows l
@@ -105,7 +105,7 @@ no_replace work rows none (of_classes source other) h = none source.replace h.1.
 no_replace work rows none (of_file path other) h = no_file_class other work (sym h.0)
 no_replace work rows none (vm folder bare) h = no_class (codes "vm") refl refl refl refl refl work (sym h.0)
 no_replace work rows none (chip name) h = no_class (codes "chip") refl refl refl refl refl work (sym h.0)
-no_replace work rows none (test path gates) h = no_class (codes "test") refl refl refl refl refl work (sym h.0)
+no_replace work rows none (test path gates simplify) h = no_class (codes "test") refl refl refl refl refl work (sym h.0)
 no_replace work rows none (soak seed count) h = no_class (codes "soak") refl refl refl refl refl work (sym h.0)
 
 pub no_exec : (rows : List Row) → ((cycles from to : ℕ) → ¬ HasFileWork rows [] (exec cycles from to)) → (l : Line) → ¬ IsReading (codes "exec") rows l
@@ -125,10 +125,16 @@ no_vm rows none (of_file path work) h = no_file (codes "vm") refl refl refl work
 no_vm rows none l h = apart (codes "vm") (command_of l) refl h.0
 
 pub no_test : (rows : List Row) → ((gates : Bool) → ¬ (first_of (codes "gates") rows ≡ Some (flag_word gates))) → (l : Line) → ¬ IsReading (codes "test") rows l
-no_test rows none (test path gates) h = none gates h.1.1
+no_test rows none (test path gates simplify) h = none gates h.1.1
 no_test rows none (of_classes source work) h = no_class (codes "test") refl refl refl refl refl work h.0
 no_test rows none (of_file path work) h = no_file (codes "test") refl refl refl work h.0
 no_test rows none l h = apart (codes "test") (command_of l) refl h.0
+
+pub no_simple_test : (rows : List Row) → ((simplify : Bool) → ¬ (first_of (codes "simplify") rows ≡ Some (flag_word simplify))) → (l : Line) → ¬ IsReading (codes "test") rows l
+no_simple_test rows none (test path gates simplify) h = none simplify h.1.2
+no_simple_test rows none (of_classes source work) h = no_class (codes "test") refl refl refl refl refl work h.0
+no_simple_test rows none (of_file path work) h = no_file (codes "test") refl refl refl work h.0
+no_simple_test rows none l h = apart (codes "test") (command_of l) refl h.0
 
 pub no_run : (rows : List Row) → ((level : RunLevel) (n : ℕ) (keys : Option Text) → ¬ HasClassWork rows (run level n keys)) → (l : Line) → ¬ IsReading (codes "run") rows l
 no_run rows none (of_classes source (run level n keys)) h = none level n keys h.1.2
@@ -210,7 +216,7 @@ in_range ws (of_file path asm) h = tt
 in_range ws (of_file path (show kind)) h = tt
 in_range ws (vm folder bare) h = tt
 in_range ws (chip name) h = tt
-in_range ws (test path gates) h = tt
+in_range ws (test path gates simplify) h = tt
 in_range ws (soak seed count) (free, name, rows, found, (named, values)) = (values.0.2.small, values.1.2.small)
 
 -- ---- words are at most one line
@@ -349,9 +355,10 @@ same_values rows (vm p b) (vm q c) h k e =
     let folder : p ≡ q = same_word rows (codes "path") p q h.0 k.0 in
     let bare : b ≡ c = same_flag b c (same_word rows (codes "bare") (flag_word b) (flag_word c) h.1 k.1) in
     cc
-same_values rows (test p b) (test q c) h k e =
+same_values rows (test p b s) (test q c t) h k e =
     let path : p ≡ q = same_word rows (codes "path") p q h.0 k.0 in
     let gates : b ≡ c = same_flag b c (same_word rows (codes "gates") (flag_word b) (flag_word c) h.1 k.1) in
+    let simple : s ≡ t = same_flag s t (same_word rows (codes "simplify") (flag_word s) (flag_word t) h.2 k.2) in
     cc
 same_values rows (chip p) (chip q) h k e = ap chip (same_word rows (codes "name") p q h k)
 same_values rows (soak s n) (soak u m) h k e =

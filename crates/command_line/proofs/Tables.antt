@@ -1,4 +1,4 @@
--- The same table, told in another way.
+-- The same table, given in another way.
 use Rattle.std.proofs.Common.{◌≡◌, ◌∙◌, Result, Ok, Err, IfOk}
 use Rattle.clap.specs.Simple.{App}
 use Rattle.clap.specs.Words.{app_of}

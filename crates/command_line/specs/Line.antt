@@ -55,7 +55,7 @@ pub data Line : Type 0 where
   of_file : (path : Text) (work : FileWork) → Line
   vm : (folder : Text) (bare : Bool) → Line
   chip : (name : Text) → Line
-  test : (path : Text) (gates : Bool) → Line
+  test : (path : Text) (gates simplify : Bool) → Line
   soak : (seed count : ℕ) → Line
 
 -- The key script of a work with classes, where it has one.
@@ -66,7 +66,7 @@ script_of work = None
 
 -- The line is that of no test script, which alone is read as it goes.
 abbrev pub IsNoTest : Line → Type 0
-IsNoTest (test path gates) = ⊥
+IsNoTest (test path gates simplify) = ⊥
 IsNoTest line = Unit {0}
 
 -- ---- the words of a line
@@ -124,7 +124,7 @@ abbrev pub flag_word : Bool → Text
 flag_word true = codes "true"
 flag_word false = codes "false"
 
--- The kind of source that a path tells: `.vm` ends the path of a VM text, `.jack` that of a Jack class, `.hdl` that of a
+-- The kind of source that a path names: `.vm` ends the path of a VM text, `.jack` that of a Jack class, `.hdl` that of a
 -- chip, and no other path is that of a source.
 abbrev pub kind_of : Text → Option SourceKind
 kind_of path =
@@ -156,7 +156,7 @@ command_of (of_classes source work) = class_command work
 command_of (of_file path work) = file_command work
 command_of (vm folder bare) = codes "vm"
 command_of (chip name) = codes "chip"
-command_of (test path gates) = codes "test"
+command_of (test path gates simplify) = codes "test"
 command_of (soak seed count) = codes "soak"
 
 -- The matches beside the folder are those of the work, and so of a work with one file.
@@ -186,7 +186,9 @@ HasValues rows (of_classes source work) =
 HasValues rows (of_file path work) = (first_of (codes "path") rows ≡ Some path) × HasFileWork rows path work
 HasValues rows (vm folder bare) = (first_of (codes "path") rows ≡ Some folder) × (first_of (codes "bare") rows ≡ Some (flag_word bare))
 HasValues rows (chip name) = first_of (codes "name") rows ≡ Some name
-HasValues rows (test path gates) = (first_of (codes "path") rows ≡ Some path) × (first_of (codes "gates") rows ≡ Some (flag_word gates))
+HasValues rows (test path gates simplify) =
+    (first_of (codes "path") rows ≡ Some path) × (first_of (codes "gates") rows ≡ Some (flag_word gates))
+    × (first_of (codes "simplify") rows ≡ Some (flag_word simplify))
 HasValues rows (soak seed count) = NumberIn rows (codes "seed") 1000000 seed × NumberIn rows (codes "count") 1000 count
 
 -- The matches of the command `name` are those of the line: the table says which matches a command has.
@@ -195,7 +197,7 @@ IsReading name rows line = (name ≡ command_of line) × HasValues rows line
 
 -- The words are the line: `clap` reads them by the table without a fault, as a command of the table
 -- with its matches, and these are the line's. So words are no line where `clap` gives no matches, or
--- where a value in them is none that its cell allows.
+-- where a value in them is not one that its cell allows.
 abbrev pub IsLine : List Text → Line → Type 0
 IsLine words line =
     (fault_of table words ≡ []) × (name : Text) × (rows : List Row)
@@ -240,7 +242,7 @@ line_of (request.Classes source work) = of_classes (source_of source) (class_wor
 line_of (request.File path work) = of_file path.now (file_work_of work)
 line_of (request.Vm folder bare) = vm folder.now bare
 line_of (request.Chip name) = chip name.now
-line_of (request.Test path gates) = test path.now gates
+line_of (request.Test path gates simplify) = test path.now gates simplify
 line_of (request.Soak seed count) = soak seed count
 
 -- the matches of a command, as rows

@@ -11,7 +11,7 @@ IsNameByte b = (is_ascii_alphanumeric b ≡ true) ⊎ (b ≡ 95)
 abbrev pub IsName : List ℕ → Type 0
 IsName text = (0 < length text) × (is_ascii_digit (slice_index text 0) ≡ false) × All IsNameByte text
 
--- what stands before the first such byte of a text, and what stands behind it
+-- what stands before the first such byte of a text, and what stands after it
 abbrev pub before : ℕ → List ℕ → List ℕ
 before c text = before_first (λ b. b == c) text
 

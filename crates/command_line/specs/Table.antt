@@ -82,9 +82,10 @@ map_command = command (codes "map")
 abbrev pub chip_command : Shape
 chip_command = command (codes "chip") (word_rule (codes "name") ∷ [])
 
--- `test F [--gates]`
+-- `test F [--gates] [--simplify]`
 unfoldable pub test_command : Shape
-test_command = command (codes "test") (word_rule (codes "path") ∷ flag_rule (codes "gates") ∷ [])
+test_command = command (codes "test")
+    (word_rule (codes "path") ∷ flag_rule (codes "gates") ∷ flag_rule (codes "simplify") ∷ [])
 
 -- `soak SEED N`
 unfoldable pub soak_command : Shape

@@ -126,7 +126,8 @@ fn test<'a>(alloc: Global) -> Result<Command<'a>, AllocError>
 {
     Command::new(alloc, "test")
         .arg(word(alloc, "path"))?
-        .arg(flag(alloc, "gates"))
+        .arg(flag(alloc, "gates"))?
+        .arg(flag(alloc, "simplify"))
 }
 
 #[tactic(auto, unfolding(crate::specs::Table::soak_command))]

@@ -29,7 +29,7 @@ fn is_name(text: &[u8]) -> bool
     !text[0].is_ascii_digit() && are_name_bytes(text)
 }
 
-// What stands before the first `at`, and what stands behind it.
+// What stands before the first `at`, and what stands after it.
 fn cut(text: &str, at: char) -> (&str, &str)
     requires { at < 128 }
     ensures before { result.0.now ≡ before at text.now }
@@ -51,7 +51,7 @@ fn is_subroutine(text: &str) -> bool
     is_name(class.as_bytes()) && is_name(name.as_bytes())
 }
 
-/// The statement that a word tells: the name of its subroutine, and its number.
+/// The statement that a word names: the name of its subroutine, and its number.
 pub fn point(word: &str) -> Option<(&str, u32)>
     ensures { MatchOption result ((sub : List ℕ) (k : ℕ) → ¬ IsPointWord word.now sub k) (λ p. IsPointWord word.now p.0.now p.1) }
 {

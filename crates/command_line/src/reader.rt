@@ -110,7 +110,7 @@ fn vm<'a>(matches: &ArgMatches<'a>) -> Option<Request<'a>>
     Some(Request::Vm { folder, bare })
 }
 
-// The kind of source that a path tells.
+// The kind of source that a path names.
 fn kind_of(path: &str) -> Option<SourceKind>
     ensures { result ≡ kind_of path.now }
 {
@@ -279,7 +279,14 @@ fn test<'a>(matches: &ArgMatches<'a>) -> Option<Request<'a>>
     let Some(gates) = flag_in(matches, "gates") else {
         return None;
     };
-    Some(Request::Test { path, gates })
+    let Some(simplify) = flag_in(matches, "simplify") else {
+        return None;
+    };
+    Some(Request::Test {
+        path,
+        gates,
+        simplify,
+    })
 }
 
 fn soak<'a>(matches: &ArgMatches<'a>) -> Option<Request<'a>>

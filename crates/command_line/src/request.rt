@@ -109,7 +109,7 @@ pub enum FileWork {
     /// `asm F`: the words of an assembly file, as `.hack` text.
     Asm,
     Exec(Exec),
-    /// `show F`: the printed form of a source; its path tells the kind.
+    /// `show F`: the printed form of a source; its path decides the kind.
     Show(SourceKind),
 }
 
@@ -135,10 +135,12 @@ pub enum Request<'a> {
     Chip {
         name: &'a str,
     },
-    /// `test F [--gates]`: what a test script puts, with `gates` over memories made of gates.
+    /// `test F [--gates] [--simplify]`: what a test script puts, with `gates` over memories made of gates, with `simplify` over netlists that are
+    /// simplified.
     Test {
         path: &'a str,
         gates: bool,
+        simplify: bool,
     },
     /// `soak SEED N`: the summary of the programs that are generated from a seed, at most 1,000,000, as far as a number of them, at most 1,000.
     Soak {

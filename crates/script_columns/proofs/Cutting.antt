@@ -1,4 +1,4 @@
--- The first line of a text, and those behind it.
+-- The first line of a text, and those after it.
 use Rattle.std.proofs.Common.{◌≡◌, ℕ, zero, suc, ◌+◌, ◌<◌, ◌≤◌, Bool, true, false, List, [], ◌∷◌, length, get_or, take, drop, refl, sym, ap, arith, zero-add, drop-cons, nat_eq}
 use Rattle.std.specs.Prelude.{◌&&◌}
 use Rattle.std.proofs.Math.Seq.{drop-nil}
@@ -34,7 +34,7 @@ cut (c ∷ d ∷ rest) h =
     let more : IsCut (d ∷ rest) = cut (d ∷ rest) (omega arith) in
     either (nat_eq c 10) (IsCut (c ∷ d ∷ rest)) (at_feed c (d ∷ rest)) (λ e. either (nat_eq c 13 && nat_eq (front (d ∷ rest)) 10) (IsCut (c ∷ d ∷ rest)) (at_return c (d ∷ rest) e) (λ r. at_other c (d ∷ rest) e r more))
 
--- the lines behind the first
+-- the lines after the first
 pub past_cut : (text : List ℕ) → lines_of (drop (past_first text) text) ≡ drop 1 (lines_of text)
 past_cut [] = refl
 past_cut (c ∷ rest) = sym (ap (drop 1) (cut (c ∷ rest) (omega arith)))

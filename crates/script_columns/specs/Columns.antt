@@ -36,7 +36,7 @@ value_text Binary (Narrow word) = binary_text word
 value_text Decimal value = plain_text value
 value_text Text value = plain_text value
 
--- blanks stand before digits, and behind a text
+-- blanks stand before digits, and after a text
 abbrev pub filled_field : Format → List ℕ → List ℕ → List ℕ
 filled_field Binary gap text = gap ++ text
 filled_field Decimal gap text = gap ++ text
@@ -57,7 +57,8 @@ cell_text cell = column_text cell.layout (value_text cell.layout.format cell.val
 abbrev pub width : Layout → ℕ
 width layout = layout.left + layout.shown + layout.right
 
--- a name in the middle of so many places, the left side the shorter one; a longer name is cut at its end
+-- a name in the middle of this many places, the left side the shorter one; a longer name is cut at its
+-- end
 abbrev pub centred_text : ℕ → List ℕ → List ℕ
 centred_text places name =
     let free = places - length name in

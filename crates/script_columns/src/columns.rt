@@ -98,7 +98,7 @@ pub fn value_text(alloc: Global, format: Format, value: Value) -> Result<Vec<u8>
     }
 }
 
-// Appends a text in so many places: filled up with blanks, or its last characters.
+// Appends a text in this many places: filled up with blanks, or its last characters.
 fn push_placed(
     line: &mut Vec<u8>,
     format: Format,

@@ -79,7 +79,7 @@ pub fn past_line(text: &[u8]) -> usize
     text.len()
 }
 
-/// Where the lines behind so many of a text begin, or its end where it has no more lines.
+/// Where the lines after this many of a text begin, or its end where it has no more lines.
 pub fn past_lines(text: &[u8], count: u64) -> usize
     ensures within { result ≤ length text.now }
     ensures rest { lines_of (drop result text.now) ≡ drop count (lines_of text.now) }

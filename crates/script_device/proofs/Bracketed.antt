@@ -28,14 +28,14 @@ opens name rest = get_or-append_seam name 91 rest 0
 pub some_opens : (text name inside : List ℕ) → HasBrackets text name inside → OpensNowhere text → ⊥
 some_opens text name inside has none = none (length name) (ap (λ t. slice_index t (length name)) has.is ∙ opens name (inside ++ 93 ∷ []))
 
--- the last one stands behind the name
+-- the last one stands after the name
 place : (text name inside : List ℕ) (at : ℕ) → HasBrackets text name inside → OpensLast text at → length name ≡ at
 place text name inside at has last =
     let not_behind : length name < at → ⊥ = λ h. behind name inside at has.digits h (ap (λ t. slice_index t at) (sym has.is) ∙ last.opens) in
     let not_before : at < length name → ⊥ = λ h. last.last (length name) h (ap (λ t. slice_index t (length name)) has.is ∙ opens name (inside ++ 93 ∷ [])) in
     omega (arith, not_behind, not_before)
 
--- so the name and the digits are what stands before it and behind it
+-- so the name and the digits are what stands before it and after it
 pub name_before : (text name inside : List ℕ) (at : ℕ) → HasBrackets text name inside → OpensLast text at → name ≡ take at text
 name_before text name inside at has last = sym (take_at name (91 ∷ (inside ++ 93 ∷ [])) at (place text name inside at has last)) ∙ ap (take at) (sym has.is)
 

@@ -9,3 +9,7 @@ pub mod MachineNames
 pub mod Standings
 pub mod Moves
 pub mod Memories
+pub mod Moved
+pub mod Placed
+pub mod Keeping
+pub mod Named

@@ -49,7 +49,7 @@ NoWord text = (k : ℕ) → HasNumber text (codes "RAM") k → keyboard < k
 abbrev pub IsWordOf : List ℕ → code.Register → Type 0
 IsWordOf text r = (k : ℕ) × HasNumber text (codes "RAM") k × StandsAt k (register_of r)
 
--- what stands at the address that is told in brackets
+-- what stands at the address that is given in brackets
 pub word_found : (text name inside : List ℕ) (n : ℕ) → HasBrackets text name inside → name ≡ codes "RAM" → 0 < length inside → n ≡ min (number_after 0 inside) 4294967296 → (r : Option code.Register) → MatchOption r (keyboard < n) (λ x. StandsAt n (register_of x)) → MatchOption r (NoWord text) (IsWordOf text)
 word_found text name inside n has e some capped None past = λ k number. let w = word_of text name inside k has number in omega (arith, w.number, capped, past)
 word_found text name inside n has e some capped (Some x) at =
@@ -57,7 +57,7 @@ word_found text name inside n has e some capped (Some x) at =
     let exact : number_after 0 inside ≡ n = omega (arith, capped, below) in
     (n, subst (HasNumber text (codes "RAM")) exact (is_word text name inside has e some), at)
 
--- a word is found behind the names of the registers
+-- a word is found after the names of the registers
 pub register_found : (text : List ℕ) → (text ≡ codes "A" → ⊥) → (text ≡ codes "D" → ⊥) → (text ≡ codes "PC" → ⊥) → (r : Option code.Register) → MatchOption r (NoWord text) (IsWordOf text) → MatchOption r ((x : Register) → Means text x → ⊥) (λ x. Means text (register_of x))
 register_found text a d pc None none = no where
   no : (x : Register) → Means text x → ⊥

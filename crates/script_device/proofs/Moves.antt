@@ -16,11 +16,11 @@ use Rattle.script_device.specs.declared.probe.Probe.{Probe}
 use Rattle.script_device.specs.declared.device.Device as code
 use Rattle.script_device.specs.declared.device.Device.TheVariants as held
 use Rattle.script_device.specs.Machines as machines
-use Rattle.script_device.specs.Devices.{Device, HasRom, Source, CanSet, Means, SeesAll, after_eval, after_tick, after_tock, value_of, whole_memory, with_image}
+use Rattle.script_device.specs.Devices.{Device, HasRom, Source, CanSet, SeesAll, after_eval, after_tick, after_tock, value_of, whole_memory, with_image}
 use Rattle.script_device.specs.Devices.Device.{Empty, Chip, Machine}
 use Rattle.script_device.specs.Devices.Source.{TheTime, OfChip, OfMachine}
 use Rattle.script_device.specs.Inner.Driving.{HasMemory, SetsChip, SetsMachine}
-use Rattle.script_device.specs.Running.{CanSee, Finds, IsEvaluated, Stands, TellsMemory, TellsSet, probe_source, running_of}
+use Rattle.script_device.specs.Running.{CanSee, Finds, IsEvaluated, Stands, TellsMemory, TellsSet, running_of}
 use Rattle.script_device.proofs.Standings.{on_empty, on_chip, on_machine, still_evaluated}
 
 pub fits_of : (c : DrivenChip) (d : Device) → Stands (held.Chip c) d → FitsNet (chip_of c).net (chip_of c).directory

@@ -1,6 +1,6 @@
 -- What stands where the code's device stands.
 use Rattle.std.proofs.Common.{◌≡◌, ℕ, suc, List, [], ◌∷◌, refl, sym, subst, ◌∙◌}
-use Rattle.std.specs.Prelude.{Option, Some, None, MatchOption}
+use Rattle.std.specs.Prelude.{Option, Some, MatchOption}
 use Rattle.word16.specs.Words.{has_bit}
 use Rattle.gate_sim.specs.Calls.{Call, evaluated_calls}
 use Rattle.gate_sim.specs.Calls.Call.{Set}

@@ -1,4 +1,4 @@
--- Calls behind the last evaluation.
+-- Calls after the last evaluation.
 use Rattle.std.proofs.Common.{◌≡◌, ℕ, suc, Bool, cond, List, [], ◌∷◌, Some, sym, ap, ◌∙◌, subst}
 use Rattle.netlist.specs.Net.{Net}
 use Rattle.gate_sim.specs.Calls.{Call, cycle_of, evaluated_calls}

@@ -11,7 +11,7 @@ use Rattle.script_device.specs.Driven.{set_source, time_after, Sees, value_seen}
 use Rattle.script_device.specs.Machines.{RunningMachine}
 use Rattle.script_device.specs.Machines as machines
 
--- before the first load nothing; a chip, with what its simulator was told, the newest first; or the instruction machine
+-- before the first load nothing; a chip, with what its simulator got, the newest first; or the instruction machine
 pub data Device : Type 0 where
   Empty : Device
   Chip : LoadedChip → List Call → Device

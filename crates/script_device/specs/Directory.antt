@@ -1,6 +1,7 @@
 -- What of a chip that is loaded has a name. (The book, chapters 1 and 3.)
-use Rattle.std.specs.Prelude.{◌<◌, ◌≤◌, ◌≡◌, ℕ, List, [], ◌∷◌, Option, Some, None, IfSome, slice_get, length, map, if◌then◌else◌}
-use Rattle.std.specs.List.{All}
+use Rattle.std.specs.Prelude.{◌<◌, ◌≤◌, ◌≡◌, ℕ, List, [], ◌∷◌, ◌++◌, Option, Some, None, IfSome, unwrap_or, slice_get, length, map, if◌then◌else◌}
+use Rattle.std.specs.Option.{ForSome}
+use Rattle.std.specs.List.{All, flat_map}
 use Rattle.std.specs.Str.{bytes_eq}
 use Rattle.netlist.specs.Net.{Net}
 use Rattle.netlist.specs.declared.node.Node.TheVariants.{Pin}
@@ -37,7 +38,14 @@ HasOut d name nodes = (part : PartNodes) × (part_named d.parts name ≡ Some pa
 abbrev pub HasBlock : Directory → List ℕ → ℕ → Type 0
 HasBlock d name b = (part : PartNodes) × (part_named d.parts name ≡ Some part) × (part.block ≡ Some b)
 
--- ---- what it tells is there
+-- the nodes that have a name: those of its pins, and the outs of parts
+abbrev pub out_nodes : PartNodes → List ℕ
+out_nodes part = unwrap_or part.out []
+
+abbrev pub named_of : Directory → List ℕ
+named_of d = (flat_map (λ pin. pin.nodes) d.inputs ++ flat_map (λ pin. pin.nodes) d.outputs) ++ flat_map out_nodes d.parts
+
+-- ---- what it names is there
 
 -- at most sixteen nodes of the net
 abbrev pub IsBus : Net → List ℕ → Type 0
@@ -49,6 +57,12 @@ IsInput net nodes = (length nodes ≤ 16) × All (λ node. slice_get net.nodes n
 
 abbrev pub IsPart : Net → PartNodes → Type 0
 IsPart net part = IfSome part.out (IsBus net) × IfSome part.block (λ b. b < length net.blocks)
+
+-- each node that it names is such
+pub record OfNamed (P : ℕ → Type 0) (d : Directory) : Type 0 where
+  pub inputs : All (λ pin. All P pin.nodes) d.inputs
+  pub outputs : All (λ pin. All P pin.nodes) d.outputs
+  pub parts : All (λ part. ForSome part.out (All P)) d.parts
 
 pub record FitsNet (net : Net) (d : Directory) : Type 0 where
   pub inputs : All (λ pin. IsInput net pin.nodes) d.inputs

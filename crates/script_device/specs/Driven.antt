@@ -4,12 +4,12 @@ use Rattle.word16.specs.Words.{has_bit}
 use Rattle.netlist.specs.Value.{spelled_number}
 use Rattle.gate_sim.specs.Calls.{Call, cycle_of, is_ticked, evaluated_calls}
 use Rattle.gate_sim.specs.Calls.Call.{Load, Set}
-use Rattle.gate_sim.specs.Stands.{StandsFor}
 use Rattle.gate_sim.specs.Values.{AreValues, words_of}
 use Rattle.script_columns.specs.declared.layout.Value.{Value}
 use Rattle.script_columns.specs.declared.layout.Value.TheVariants.{Time, Wide, Narrow}
 use Rattle.script_device.specs.declared.chip.DrivenChip.{DrivenChip}
-use Rattle.script_device.specs.Directory.{LoadedChip, loaded_chip}
+use Rattle.script_device.specs.Directory.{LoadedChip, loaded_chip, named_of}
+use Rattle.script_device.specs.Simulated.{RunsNet, WasTold, net_of}
 use Rattle.script_device.specs.Variables.{Source}
 use Rattle.script_device.specs.Variables.Source.{Nodes, BlockWord}
 
@@ -25,15 +25,19 @@ set_source (BlockWord b a) word calls = Load b a (word ∷ []) ∷ calls
 
 -- what a chip that is driven is: its nodes and blocks, and their names
 abbrev pub chip_of : DrivenChip → LoadedChip
-chip_of chip = loaded_chip chip.sim.net chip.directory
+chip_of chip = loaded_chip (net_of chip.sim.frame) chip.directory
+
+-- with true a smaller netlist runs for it, in which no node is kept but the pins and what has a name; with false its own
+abbrev pub ChipRuns : Bool → DrivenChip → Type 0
+ChipRuns simplify chip = RunsNet simplify (named_of chip.directory) chip.sim.frame
 
 -- the cycles that are over
 abbrev pub time_of : DrivenChip → ℕ
 time_of chip = chip.cycle
 
--- a chip was told these calls: its simulator stands for them, and its time is theirs
+-- a chip got these calls: its simulator stands for them, and its time is theirs
 pub record IsDriven (chip : DrivenChip) (calls : List Call) : Type 0 where
-  pub stands : StandsFor chip.sim calls
+  pub stands : WasTold chip.sim calls
   pub cycle : chip.cycle ≡ cycle_of calls
   pub ticked : chip.ticked ≡ is_ticked calls
 
@@ -41,7 +45,7 @@ pub record IsDriven (chip : DrivenChip) (calls : List Call) : Type 0 where
 abbrev pub time_after : List Call → Value
 time_after calls = Time (cycle_of calls) (is_ticked calls)
 
--- v gives the values of the last evaluation, which came after the calls that were told up to it
+-- v gives the values of the last evaluation, which came after the calls up to it
 pub record Sees (chip : LoadedChip) (calls told : List Call) (v : ℕ → ℕ → Bool) : Type 0 where
   pub last : evaluated_calls calls ≡ Some told
   pub values : AreValues chip.net told v

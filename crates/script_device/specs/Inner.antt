@@ -2,3 +2,4 @@ pub mod Brackets
 pub mod Sources
 pub mod Registers
 pub mod Driving
+pub mod Naming

@@ -1,5 +1,7 @@
 pub mod Directory
 pub mod Variables
+pub mod Moved
+pub mod Simulated
 pub mod Driven
 pub mod Machines
 pub mod Devices

@@ -4,7 +4,7 @@ use Rattle.std.specs.declared.alloc.AllocError.{AllocError}
 use Rattle.gate_sim.specs.Calls.{Call, evaluated_calls}
 use Rattle.hack_machine.specs.Loaded.{machine_of}
 use Rattle.script_device.specs.Directory.{FitsNet}
-use Rattle.script_device.specs.Driven.{IsDriven, chip_of}
+use Rattle.script_device.specs.Driven.{ChipRuns, IsDriven, chip_of}
 use Rattle.script_device.specs.Driven as driven
 use Rattle.script_device.specs.declared.machine.ScriptMachine.{ScriptMachine}
 use Rattle.script_device.specs.declared.machine.Register as code_registers
@@ -61,6 +61,12 @@ abbrev pub TellsSet : Device → code_devices.Device → List ℕ → ℕ → Bo
 TellsSet device now text word true = (source : Source) × CanSet device text source × Stands now (after_set device source word)
 TellsSet device now text word false = ((source : Source) → CanSet device text source → ⊥) × Stands now device
 
+-- the netlist that runs for a chip is simplified, or its own
+abbrev pub DeviceRuns : Bool → code_devices.Device → Type 0
+DeviceRuns simplify code.Empty = Unit {0}
+DeviceRuns simplify (code.Chip c) = ChipRuns simplify c
+DeviceRuns simplify (code.Machine m) = Unit {0}
+
 -- ---- what is seen
 
 -- what the code's probe stands for
@@ -70,7 +76,7 @@ probe_source (probes.Bus nodes) = OfChip (Nodes nodes)
 probe_source (probes.Word block address) = OfChip (BlockWord block address)
 probe_source (probes.Register register) = OfMachine (register_of register)
 
--- the text means what the probe stands for, or there is none and it means nothing
+-- the text means what the probe stands for, or there is no probe and it means nothing
 abbrev pub Finds : Device → List ℕ → Option Probe → Type 0
 Finds device text None = (source : Source) → Means device text source → ⊥
 Finds device text (Some probe) = Means device text (probe_source probe)
@@ -86,7 +92,8 @@ abbrev pub TellsMemory : Device → Bool → Type 0
 TellsMemory device true = HasRom device
 TellsMemory device false = HasRom device → ⊥
 
--- the image was put into the instruction memory; there is none, or memory ran out, and the device is as it was
+-- the image was put into the instruction memory; or there is no such memory, or memory ran out, and the device
+-- is as it was
 abbrev pub TellsImage : Device → code_devices.Device → List ℕ → Result Bool AllocError → Type 0
 TellsImage device now image (Ok true) = (rom : HasRom device) × Stands now (with_image device rom image)
 TellsImage device now image (Ok false) = (HasRom device → ⊥) × Stands now device

@@ -59,7 +59,7 @@ pub fn brackets(text: &[u8]) -> Option<(&[u8], &[u8])>
     Some((&text[..at], inside))
 }
 
-/// The number of decimal digits; one over 4,294,967,296 is told as that.
+/// The number of decimal digits; one over 4,294,967,296 is given as that.
 pub fn capped_number(digits: &[u8]) -> u64
     ensures { result ≡ min (number_after 0 digits.now) 4294967296 }
 {

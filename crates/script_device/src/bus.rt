@@ -3,22 +3,21 @@
 ghost use Rattle.std.specs.Prelude.{◌≡◌, ◌<◌, ◌≤◌, ◌+◌, ◌*◌, ◌^◌, if◌then◌else◌, ℕ, Bool, List, Some, length, slice_get};
 ghost use Rattle.std.specs.List.{All};
 ghost use Rattle.netlist.specs.declared.node.Node.TheVariants.{Pin};
-ghost use Rattle.netlist.specs.Present.{value_in};
 ghost use Rattle.netlist.specs.Value.{spelled_number};
 ghost use Rattle.gate_sim.specs.Calls.{Call, cycle_of, evaluated_calls};
-ghost use Rattle.gate_sim.specs.Stands.{StandsFor};
 ghost use Rattle.gate_sim.specs.Values.{AreValues};
-ghost use Rattle.script_device.specs.Directory.{IsBus, IsInput};
+ghost use Rattle.script_device.specs.Directory.{IsInput};
+ghost use Rattle.script_device.specs.Simulated.{IsSeen, WasTold, net_of, stored_at};
 ghost use Rattle.script_device.specs.Driven.{set_nodes};
 
-use gate_sim::Sim;
+use crate::chip_sim::ChipSim;
 use word16::bit;
 
 /// Sets the nodes of an input to the low bits of a word.
-pub fn set_bus(sim: &mut Sim, nodes: &[u32], word: u16)
-    requires { IsInput sim.old.net nodes.now }
-    ensures net { sim.new.net ≡ sim.old.net }
-    ensures stands { (calls : List Call) → StandsFor sim.old calls → StandsFor sim.new (set_nodes 0 word nodes.now calls) }
+pub fn set_bus(sim: &mut ChipSim, nodes: &[u32], word: u16)
+    requires { IsInput (net_of sim.old.frame) nodes.now }
+    ensures frame { sim.new.frame ≡ sim.old.frame }
+    ensures stands { (calls : List Call) → WasTold sim.old calls → WasTold sim.new (set_nodes 0 word nodes.now calls) }
 {
     for (k, node) in nodes.iter().enumerate() {
         sim.set(*node, bit(word, k as u16));
@@ -34,9 +33,10 @@ fn doubled(number: u16, bit: bool) -> u16
 }
 
 // The word that stands on a bus.
-fn stored_word(sim: &Sim, nodes: &[u32]) -> u16
-    requires { IsBus sim.now.net nodes.now }
-    ensures { result ≡ spelled_number (value_in sim.now.values) nodes.now }
+fn stored_word(sim: &ChipSim, nodes: &[u32]) -> u16
+    requires wide { length nodes.now ≤ 16 }
+    requires seen { All (IsSeen sim.now.frame) nodes.now }
+    ensures { result ≡ spelled_number (stored_at sim.now) nodes.now }
 {
     let mut word = 0;
     for k in (0..nodes.len()).rev() {
@@ -46,9 +46,11 @@ fn stored_word(sim: &Sim, nodes: &[u32]) -> u16
 }
 
 /// The word that stood on a bus at the last evaluation.
-pub fn bus_word(sim: &Sim, nodes: &[u32]) -> u16
-    requires { IsBus sim.now.net nodes.now }
-    ensures { (calls told : List Call) (v : ℕ → ℕ → Bool) → StandsFor sim.now calls → evaluated_calls calls ≡ Some told → AreValues sim.now.net told v → result ≡ spelled_number (λ i. v i (cycle_of told)) nodes.now }
+pub fn bus_word(sim: &ChipSim, nodes: &[u32]) -> u16
+    requires wide { length nodes.now ≤ 16 }
+    requires seen { All (IsSeen sim.now.frame) nodes.now }
+    ensures { (calls told : List Call) (v : ℕ → ℕ → Bool) → WasTold sim.now calls → evaluated_calls calls ≡ Some told → AreValues (net_of sim.now.frame) told v → result ≡ spelled_number (λ i. v i (cycle_of told)) nodes.now }
 {
+    sim.stored_law();
     stored_word(sim, nodes)
 }

@@ -3,13 +3,13 @@
 ghost use Rattle.std.specs.Prelude.{◌≡◌, ◌≤◌, ◌<◌, ◌+◌, ◌^◌, ◌↔◌, ℕ, Bool, IfOk, IsTrue, List, MatchOption, codes, length, take};
 ghost use Rattle.gate_sim.specs.Calls.{Call};
 ghost use Rattle.script_device.specs.Directory.{FitsNet};
-ghost use Rattle.script_device.specs.Driven.{IsDriven, Sees, chip_of, time_of};
+ghost use Rattle.script_device.specs.Driven.{ChipRuns, IsDriven, Sees, chip_of, time_of};
 ghost use Rattle.script_device.specs.Devices as devices;
 ghost use Rattle.script_device.specs.Devices.{SeesAll, after_eval, after_tick, after_tock, value_of, whole_memory};
 ghost use Rattle.script_device.specs.Devices.Device.{Chip, Machine};
 ghost use Rattle.script_device.specs.Inner.Driving.{HasMemory, IsWhole, SetsChip, SetsMachine};
 ghost use Rattle.script_device.specs.Inner.Sources.{source_of};
-ghost use Rattle.script_device.specs.Running.{CanSee, Finds, Stands, TellsImage, TellsMemory, TellsSet, probe_source, running_of, steps_of};
+ghost use Rattle.script_device.specs.Running.{CanSee, DeviceRuns, Finds, Stands, TellsImage, TellsMemory, TellsSet, probe_source, running_of, steps_of};
 ghost use Rattle.script_device.specs.Machines.{RunningMachine};
 
 use crate::chip::DrivenChip;
@@ -87,6 +87,7 @@ fn set_variable(chip: &mut DrivenChip, text: &[u8], word: u16) -> bool
     requires { FitsNet (chip_of chip.old).net (chip_of chip.old).directory }
     ensures kept { chip_of chip.new ≡ chip_of chip.old }
     ensures time { time_of chip.new ≡ time_of chip.old }
+    ensures runs { (simplify : Bool) → ChipRuns simplify chip.old → ChipRuns simplify chip.new }
     ensures set { (calls : List Call) → IsDriven chip.old calls → SetsChip (chip_of chip.old) calls chip.new text.now word result }
 {
     match find_settable(chip.directory(), chip.sizes(), text) {
@@ -206,6 +207,7 @@ impl Device {
     pub fn set(&mut self, text: &[u8], word: u16) -> bool
         requires { (d : devices.Device) × Stands self.old d }
         ensures stands { (d : devices.Device) → Stands self.old d → TellsSet d self.new text.now word result }
+        ensures runs { (simplify : Bool) → DeviceRuns simplify self.old → DeviceRuns simplify self.new }
         ensures steps { steps_of self.new ≡ steps_of self.old }
     {
         match self {
@@ -218,6 +220,7 @@ impl Device {
     /// Evaluates a chip.
     pub fn eval(&mut self)
         ensures stands { (d : devices.Device) → Stands self.old d → Stands self.new (after_eval d) }
+        ensures runs { (simplify : Bool) → DeviceRuns simplify self.old → DeviceRuns simplify self.new }
         ensures steps { steps_of self.new ≡ steps_of self.old }
     {
         if let Device::Chip(chip) = self {
@@ -228,6 +231,7 @@ impl Device {
     /// A tick: of a chip, or marked in the time of the machine.
     pub fn tick(&mut self)
         ensures stands { (d : devices.Device) → Stands self.old d → Stands self.new (after_tick d) }
+        ensures runs { (simplify : Bool) → DeviceRuns simplify self.old → DeviceRuns simplify self.new }
         ensures steps { steps_of self.new ≡ steps_of self.old }
     {
         match self {
@@ -241,6 +245,7 @@ impl Device {
     pub fn tock(&mut self)
         requires { steps_of self.old + 1 < 2 ^ 63 }
         ensures stands { (d : devices.Device) → Stands self.old d → Stands self.new (after_tock d) }
+        ensures runs { (simplify : Bool) → DeviceRuns simplify self.old → DeviceRuns simplify self.new }
         ensures steps { steps_of self.new ≤ steps_of self.old + 1 }
     {
         match self {
@@ -260,10 +265,11 @@ impl Device {
         }
     }
 
-    /// Puts an image into the instruction memory of a chip, and 0 behind it, if it has one.
+    /// Puts an image into the instruction memory of a chip, and 0 after it, if it has one.
     pub fn load_rom(&mut self, alloc: Global, image: &[u16]) -> Result<bool, AllocError>
         requires { length image.now ≤ 32768 }
         ensures stands { (d : devices.Device) → Stands self.old d → TellsImage d self.new image.now result }
+        ensures runs { (simplify : Bool) → DeviceRuns simplify self.old → DeviceRuns simplify self.new }
         ensures steps { steps_of self.new ≡ steps_of self.old }
     {
         let Device::Chip(chip) = self else {

@@ -1,17 +1,19 @@
 //! What a script does to a chip, and what it sees of it.
 
-ghost use Rattle.std.specs.Prelude.{◌≡◌, ◌<◌, ◌≤◌, ◌+◌, ◌^◌, ℕ, suc, Bool, cond, List, [], ◌∷◌, Some, None, IfOk, MatchOption, length, slice_get};
+ghost use Rattle.std.specs.Prelude.{◌≡◌, ◌<◌, ◌≤◌, ◌+◌, ◌-◌, ◌^◌, ℕ, suc, Bool, true, false, cond, List, [], ◌∷◌, Some, None, IfOk, MatchOption, length, slice_get};
 ghost use Rattle.gate_sim.specs.Calls.{Call};
 ghost use Rattle.gate_sim.specs.Calls.Call.{Eval, Load, Tick, Tock};
 ghost use Rattle.gate_sim.specs.Values.{AreValues};
-ghost use Rattle.script_device.specs.Directory.{AreSizes, IsBus, IsInput, loaded_chip, part_named, pin_named};
-ghost use Rattle.script_device.specs.Driven.{Sees, IsDriven, bus_value, chip_of, value_seen, set_source, time_after, time_of};
+ghost use Rattle.script_device.specs.Directory.{AreSizes, IsBus, IsInput, OfNamed, loaded_chip, part_named, pin_named};
+ghost use Rattle.script_device.specs.Driven.{Sees, ChipRuns, IsDriven, bus_value, chip_of, value_seen, set_source, time_after, time_of};
+ghost use Rattle.script_device.specs.Variables.{Means};
 ghost use Rattle.script_device.specs.Variables.Source.{BlockWord, Nodes};
 
 use crate::bus::{bus_word, set_bus};
 use crate::chip::DrivenChip;
+use crate::chip_sim::ChipSim;
 use crate::directory::{Directory, PartNodes, PinNodes};
-use gate_sim::Sim;
+use crate::naming::named_nodes;
 use netlist::Netlist;
 use script_columns::Value;
 use std::alloc::{AllocError, Global};
@@ -49,7 +51,7 @@ fn next_cycle(cycle: u64, ticked: bool) -> u64
     if ticked { cycle + 1 } else { cycle }
 }
 
-// The number of a bus of so many bits.
+// The number of a bus of this many bits.
 fn bus_value(bits: usize, word: u16) -> Value
     ensures { result ≡ bus_value bits word }
 {
@@ -72,14 +74,39 @@ fn sizes_of(alloc: Global, net: &Netlist) -> Result<Vec<u32>, AllocError>
 }
 
 impl DrivenChip {
-    /// A chip that was told nothing: inputs, states and words are 0, and the time is 0.
+    /// A chip that got no calls: inputs, states and words are 0, and the time is 0.
     pub fn new(alloc: Global, net: Netlist, directory: Directory) -> Result<DrivenChip, AllocError>
+        requires { OfNamed (λ k. k < length net.nodes) directory }
         ensures chip { IfOk result (λ chip. chip_of chip ≡ loaded_chip net directory) }
         ensures driven { IfOk result (λ chip. IsDriven chip []) }
+        ensures runs { IfOk result (ChipRuns false) }
     {
         let sizes = sizes_of(alloc, &net)?;
         Ok(DrivenChip {
-            sim: Sim::new(alloc, net)?,
+            sim: ChipSim::new(alloc, net)?,
+            sizes,
+            cycle: 0,
+            ticked: false,
+            directory,
+        })
+    }
+
+    /// The same with a simulator whose netlist is simplified, and that shows the same.
+    pub fn simplified(
+        alloc: Global,
+        net: Netlist,
+        directory: Directory,
+    ) -> Result<DrivenChip, AllocError>
+        requires there { OfNamed (λ k. k < length net.nodes) directory }
+        requires few { length net.nodes < 2 ^ 32 - 1 }
+        ensures chip { IfOk result (λ chip. chip_of chip ≡ loaded_chip net directory) }
+        ensures driven { IfOk result (λ chip. IsDriven chip []) }
+        ensures runs { IfOk result (ChipRuns true) }
+    {
+        let sizes = sizes_of(alloc, &net)?;
+        let named = named_nodes(alloc, &directory)?;
+        Ok(DrivenChip {
+            sim: ChipSim::simplified(alloc, net, &named)?,
             sizes,
             cycle: 0,
             ticked: false,
@@ -92,6 +119,7 @@ impl DrivenChip {
         requires { IsInput (chip_of self.old).net nodes.now }
         ensures kept { chip_of self.new ≡ chip_of self.old }
         ensures time { time_of self.new ≡ time_of self.old }
+        ensures runs { (simplify : Bool) → ChipRuns simplify self.old → ChipRuns simplify self.new }
         ensures driven { (calls : List Call) → IsDriven self.old calls → IsDriven self.new (set_source (Nodes nodes.now) word calls) }
     {
         set_bus(&mut self.sim, nodes, word);
@@ -102,6 +130,7 @@ impl DrivenChip {
         requires { MatchOption (slice_get (chip_of self.old).net.blocks block) ⊥ (λ b. address < b.words) }
         ensures kept { chip_of self.new ≡ chip_of self.old }
         ensures time { time_of self.new ≡ time_of self.old }
+        ensures runs { (simplify : Bool) → ChipRuns simplify self.old → ChipRuns simplify self.new }
         ensures driven { (calls : List Call) → IsDriven self.old calls → IsDriven self.new (set_source (BlockWord block address) word calls) }
     {
         self.sim.load_block(block, address, &[word]);
@@ -112,6 +141,7 @@ impl DrivenChip {
         requires { MatchOption (slice_get (chip_of self.old).net.blocks block) ⊥ (λ b. length words.now ≤ b.words) }
         ensures kept { chip_of self.new ≡ chip_of self.old }
         ensures time { time_of self.new ≡ time_of self.old }
+        ensures runs { (simplify : Bool) → ChipRuns simplify self.old → ChipRuns simplify self.new }
         ensures driven { (calls : List Call) → IsDriven self.old calls → IsDriven self.new (Load block 0 words.now ∷ calls) }
     {
         self.sim.load_block(block, 0, words);
@@ -127,6 +157,7 @@ impl DrivenChip {
     /// Evaluates the chip.
     pub fn eval(&mut self)
         ensures kept { chip_of self.new ≡ chip_of self.old }
+        ensures runs { (simplify : Bool) → ChipRuns simplify self.old → ChipRuns simplify self.new }
         ensures time { time_of self.new ≡ time_of self.old }
         ensures driven { (calls : List Call) → IsDriven self.old calls → IsDriven self.new (Eval ∷ calls) }
     {
@@ -137,6 +168,7 @@ impl DrivenChip {
     pub fn tick(&mut self)
         ensures kept { chip_of self.new ≡ chip_of self.old }
         ensures time { time_of self.new ≡ time_of self.old }
+        ensures runs { (simplify : Bool) → ChipRuns simplify self.old → ChipRuns simplify self.new }
         ensures driven { (calls : List Call) → IsDriven self.old calls → IsDriven self.new (Tick ∷ calls) }
     {
         self.sim.tick();
@@ -148,6 +180,7 @@ impl DrivenChip {
         requires { time_of self.old + 1 < 2 ^ 64 }
         ensures kept { chip_of self.new ≡ chip_of self.old }
         ensures time { time_of self.new ≤ time_of self.old + 1 }
+        ensures runs { (simplify : Bool) → ChipRuns simplify self.old → ChipRuns simplify self.new }
         ensures driven { (calls : List Call) → IsDriven self.old calls → IsDriven self.new (Tock ∷ calls) }
     {
         self.sim.tock();
@@ -171,7 +204,8 @@ impl DrivenChip {
 
     /// What stood on nodes at the last evaluation.
     pub fn bus(&self, nodes: &[u32]) -> Value
-        requires { IsBus (chip_of self.now).net nodes.now }
+        requires bus { IsBus (chip_of self.now).net nodes.now }
+        requires named { (text : List ℕ) × Means (chip_of self.now) text (Nodes nodes.now) }
         ensures { (calls told : List Call) (v : ℕ → ℕ → Bool) → IsDriven self.now calls → Sees (chip_of self.now) calls told v → result ≡ value_seen (chip_of self.now) calls told v (Nodes nodes.now) }
     {
         bus_value(nodes.len(), bus_word(&self.sim, nodes))

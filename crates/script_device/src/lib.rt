@@ -5,10 +5,12 @@
 mod brackets;
 mod bus;
 mod chip;
+mod chip_sim;
 mod device;
 mod directory;
 mod driving;
 mod machine;
+mod naming;
 mod probe;
 mod registers;
 mod running;

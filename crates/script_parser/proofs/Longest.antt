@@ -95,7 +95,7 @@ word_taken (b ∷ bs) = let more = word_taken bs in front_by b (word_front bs) b
 word_whole : (bs : List ℕ) → word_front bs ++ drop (length (word_front bs)) bs ≡ bs
 word_whole bs = ap (λ (l : List ℕ). l ++ drop (length (word_front bs)) bs) (sym (word_taken bs).0) ∙ take-append-drop (length (word_front bs)) bs
 
--- a byte before a word and what stands behind it
+-- a byte before a word and what stands after it
 before : (b : ℕ) (w bs : List ℕ) → EndsNone b bs → w ++ drop (length w) bs ≡ bs → IsInWord w (drop (length w) bs) → IsInWord (b ∷ w) (drop (length w) bs)
 before b w bs h whole more = (h.0, λ s o. h.1 s (subst OpensComment whole o), more)
 

@@ -16,7 +16,7 @@ word_taken old new w more rest b m l p k t at =
     let role = k ∙ ap (λ (x : List ℕ). kind.Word (role_of x)) text in
     ((λ i. Ok (Some (record { kind = role i; text = text i; place = at i }))), record { rest = l ∙ ap (λ (j : ℕ). drop j (left_bytes old)) n; at = p ∙ ap (λ (j : ℕ). walk (place old) (take j (left_bytes old))) n })
 
--- a front and what is behind it are all bytes
+-- a front and what is after it are all bytes
 parts : (test : ℕ → Bool) (bs : List ℕ) → length (front test bs) + length (rest_behind test bs) ≡ length bs
 parts test [] = refl
 parts test (b ∷ bs) =

@@ -123,11 +123,11 @@ is_item t = is_word t && is_some (layout_of_word t.text)
 
 -- checks of tokens
 
--- the place of the digit of a word from which on there are so many bytes
+-- the place of the digit of a word from which on there are this many bytes
 abbrev pub place_in : Word → ℕ → Place
 place_in t n = record { line = t.place.line; column = t.place.column + (length t.text - n) }
 
--- the number of this place is past its limit; a value over 1,000,000,000 is told as that
+-- the number of this place is past its limit; a value over 1,000,000,000 is given as that
 abbrev pub too_large : Place → ℕ → Fault
 too_large at n = Range at (min n 1000000000)
 
@@ -170,7 +170,7 @@ number_fault t (number.Bits w) = None
 abbrev pub number_in : Word → Number
 number_in t = or_else (number.Bits 0) (number_of_word t.text)
 
--- a number is at most 65,535, and at most 32,768 behind a `-`
+-- a number is at most 65,535, and at most 32,768 after a `-`
 abbrev pub check_value : Nesting → Word → Result Nesting Fault
 check_value s t = unless s (number_fault t (number_in t))
 
@@ -341,7 +341,7 @@ commands_begin r = role_is role.Repeat r || acts r
 abbrev pub opens : Part → Word → Bool
 opens command t = passes commands_begin t
 
--- a script, and nothing behind it
+-- a script, and nothing after it
 abbrev pub whole : ScriptRule
 whole = seq commands end
 

@@ -1,4 +1,4 @@
--- What a refused test script tells. (The book, appendix 3.)
+-- The diagnostic of a refused test script. (The book, appendix 3.)
 use Rattle.std.specs.Prelude.{ℕ, List}
 use Rattle.outer_world.specs.Refusals.{Message}
 use Rattle.source_files.specs.Faults.{TellsFault}

@@ -19,7 +19,7 @@ abbrev pub at_end : {A : Type 0} → A → List ℕ → Option A
 at_end a [] = Some a
 at_end a (b ∷ bs) = None
 
--- what is behind this byte, if it comes next
+-- what is after this byte, if it comes next
 abbrev pub behind_byte : ℕ → List ℕ → Option (List ℕ)
 behind_byte c [] = None
 behind_byte c (b ∷ bs) = if b == c then Some bs else None
@@ -28,8 +28,8 @@ abbrev pub figure_with : ℕ → Option ℕ → Option Figure
 figure_with n None = None
 figure_with n (Some value) = Some (record { value = value; from_end = n })
 
--- The decimal number at the front, if digits stand there (one over 1,000,000,000 is told as 1,000,000,001), and how many bytes there
--- are from its first digit to the end of the word.
+-- The decimal number at the front, if digits stand there, and how many bytes there are from its first digit to the end of the word.
+-- A number over 1,000,000,000 is given as 1,000,000,001.
 abbrev pub figure : List ℕ → Option Figure
 figure bs = figure_with (length bs) (number_of bs)
 
@@ -70,7 +70,7 @@ abbrev pub binary : Option (List ℕ) → Option Number
 binary None = None
 binary (Some digits) = binary_number digits
 
--- behind a `%`: D and a decimal, or B and binary digits
+-- after a `%`: D and a decimal, or B and binary digits
 abbrev pub based_number : Option (List ℕ) → List ℕ → Option Number
 based_number None bs = binary (behind_byte 66 bs)
 based_number (Some digits) bs = decimal_number digits

@@ -49,12 +49,12 @@ step_said s = Fixed (kind.Word (role_of_step s))
 abbrev pub item_leaf : Item → Tree Said
 item_leaf i = Leaf (Shown i)
 
--- one item or more, and others behind them
+-- one item or more, and others after them
 abbrev pub items_with : List Item → Tree Said → Tree Said
 items_with [] more = more
 items_with (i ∷ is) more = Pair (item_leaf i) (tree_of_list item_leaf is more)
 
--- a word behind the one that begins the command
+-- a word after the one that begins the command
 abbrev pub named_tree : Placed → Tree Said
 named_tree f = Pair Skip (Leaf (Word' f))
 

@@ -16,7 +16,7 @@ pub struct Figure {
     pub from_end: usize,
 }
 
-/// The number of a `set`: a decimal, one behind a `-`, or the word of some binary digits.
+/// The number of a `set`: a decimal, one after a `-`, or the word of some binary digits.
 #[derive(Clone, Copy)]
 pub enum Number {
     Plain(Figure),

@@ -76,7 +76,7 @@ fn is_text_byte(byte: u8) -> bool
     !matches!(byte, b'"' | b'\n' | b'\r')
 }
 
-// A comment begins at a byte, with these bytes behind it.
+// A comment begins at a byte, with these bytes after it.
 fn begins_comment(byte: u8, behind: &[u8]) -> bool
     ensures { result ≡ begins_comment byte behind.now }
 {

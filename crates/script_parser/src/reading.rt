@@ -52,9 +52,9 @@ fn read(alloc: Global, text: &[u8]) -> Result<Vec<Command>, ReadError>
 
 /// The commands that a test script spells.
 ///
-/// Grammar where a text in quotes or a comment is not closed and where a rule of the grammar stops, Range past a limit: a count that
-/// comes, times those round it, to more than 1,000,000,000, the 257th level of repetitions, a decimal of a `set` over 65,535, or over 32,768
-/// behind `-`, a number of an item over 255, a text of more than 1,048,576 bytes (at 0:0).
+/// Grammar where a text in quotes or a comment is not closed and where a rule of the grammar stops. Range past a limit, which is a count
+/// that comes, times those round it, to more than 1,000,000,000, or the 257th level of repetitions. So is a decimal of a `set` over 65,535,
+/// or over 32,768 after `-`, and a number of an item over 255. So is a text of more than 1,048,576 bytes (at 0:0).
 pub fn parse_script(alloc: Global, text: &[u8]) -> Result<Script, ScriptFault>
     // What is read is spelled so, and what is spelled is read, unless memory runs out.
     ensures found { IfOk result (λ v. Spells text.now (commands_of v.items)) }

@@ -4,7 +4,7 @@ ghost use Rattle.std.specs.Prelude.{◌+◌, ◌≤◌, ◌^◌, length};
 
 use scan_text::Place;
 
-/// What a word is at the begin of a command; `load` also behind `ROM32K`. No word is reserved: anywhere else each is a plain one.
+/// What a word is at the begin of a command; `load` also after `ROM32K`. No word is reserved: anywhere else each is a plain one.
 #[derive(Clone, Copy, Debug, PartialEq, Eq)]
 pub enum Role {
     Plain,

@@ -53,7 +53,7 @@ pub enum Act {
     LoadRom(Placed, Placed),
 }
 
-/// A command: an act, or commands that are repeated so many times.
+/// A command: an act, or commands that are repeated this many times.
 #[derive(Drop)]
 pub enum Command {
     Act(Act),

@@ -29,7 +29,7 @@ pub fn grammar_fault(place: Place) -> ReadError
     ReadError::Fault(Fault::Grammar(place))
 }
 
-// The place of the digit of a word from which on there are so many bytes.
+// The place of the digit of a word from which on there are this many bytes.
 fn place_in(token: &Token, from_end: usize) -> Place
     ensures { result ≡ place_in (view token.now) from_end }
 {
@@ -98,7 +98,7 @@ fn is_ender(token: &Token) -> bool
     matches!(token.kind, Kind::Sign(b',' | b';' | b'!'))
 }
 
-// The word that a number is, which is at most 65,535, and at most 32,768 behind a `-`.
+// The word that a number is, which is at most 65,535, and at most 32,768 after a `-`.
 fn word_of(token: &Token, number: Number) -> Result<u16, ReadError>
     ensures { Within (number_fault (view token.now) number) (value_of number) result }
 {

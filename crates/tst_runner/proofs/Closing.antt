@@ -61,7 +61,7 @@ module _ (setting : Setting) (there : List ℕ → Bool) (unfailing : Type 0) (w
   abbrev Stops : List Act → Stop → Type 0
   Stops acts stop = StopsIn setting there unfailing w now e err' p at_first acts stop
 
-  -- the rest of a text went out behind its whole pieces, or some of it
+  -- the rest of a text went out after its whole pieces, or some of it
   rest_went : (text : List ℕ) → HasPassed w now p text → Got now now' p → Got w now' text
   rest_went text h k = Got-same w now' (take (whole text) text ++ p) text (ap (λ (x : List ℕ). take (whole text) text ++ x) h.rest ∙ take-append-drop (whole text) text) (Got-then w now now' (take (whole text) text) p h.went k)
 

@@ -8,7 +8,7 @@ use Rattle.tst_runner.specs.declared.standing.CompareFile.{CompareFile}
 use Rattle.tst_runner.specs.Standing.{Compared}
 use Rattle.tst_runner.specs.Inner.States.{AreFiles}
 
--- the line behind so many is there, and agrees
+-- the line after this many is there, and agrees
 abbrev pub AgreesAt : List (List ℕ) → ℕ → List ℕ → Type 0
 AgreesAt lines n line = (compared : List ℕ) × (slice_get lines n ≡ Some compared) × (agrees compared line ≡ true)
 
@@ -38,7 +38,7 @@ file-differs None file lines n line h e a = absurd h
 file-differs (Some c) file lines n line h e a =
     (c, refl, λ k. false≢true (sym a ∙ ap (λ ls. agrees_first ls line) (h.left ∙ ap (λ m. drop m c.lines) e) ∙ first-AgreesAt c.lines n line k), h.path)
 
--- the file behind its next line
+-- the file after its next line
 pub AreFiles-next : (compared : Option Compared) (file : CompareFile) (lines k : ℕ)
     → AreFiles (Some file) lines compared → k ≤ length (drop file.at file.text.items) → lines_of (drop k (drop file.at file.text.items)) ≡ drop 1 (lines_of (drop file.at file.text.items))
     → AreFiles (Some (record file { at = file.at + k })) (lines + 1) compared

@@ -84,31 +84,25 @@ module _ (from : Sources) (there : List ℕ → Bool) (first : List ℕ) (steady
 leads_then : {from : Sources} {names names' names'' : List (List ℕ)} {entries entries' entries'' : List Entry} → Leads from names entries names' entries' → Leads from names' entries' names'' entries'' → Leads from names entries names'' entries''
 leads_then h k = record { gathers = λ all g. h.gathers all (k.gathers all g); fails = λ line g. h.fails line (k.fails line g) }
 
-module _ (from : Sources) (first stack : List (List ℕ)) (entries slice : List Entry) (leads : Leads from first [] stack entries) (same : slice ≡ entries) where
-  -- the code finds the next name in a slice of the chips
-  pub to_next : (name : List ℕ) (origin : Origin) (others : List (List ℕ)) → IsNext from stack slice name origin others → Leads from first [] (name ∷ others) entries
-  to_next name origin others next = leads_then leads (subst (λ (es : List Entry). Leads from stack es (name ∷ others) es) same next.leads)
+module _ (from : Sources) (first stack : List (List ℕ)) (entries : List Entry) (leads : Leads from first [] stack entries) where
+  pub to_next : (name : List ℕ) (origin : Origin) (others : List (List ℕ)) → IsNext from stack entries name origin others → Leads from first [] (name ∷ others) entries
+  to_next name origin others next = leads_then leads next.leads
 
-  pub is_new : (name : List ℕ) (origin : Origin) (others : List (List ℕ)) → IsNext from stack slice name origin others → find_entry entries name ≡ None
-  is_new name origin others next = subst (λ (es : List Entry). find_entry es name ≡ None) same next.new
-
-  pub turn : (name : List ℕ) (origin : Origin) (others stack' : List (List ℕ)) (entry : Entry) (entries' : List Entry) → IsNext from stack slice name origin others → IsFound from name entry
+  pub turn : (name : List ℕ) (origin : Origin) (others stack' : List (List ℕ)) (entry : Entry) (entries' : List Entry) → IsNext from stack entries name origin others → IsFound from name entry
       → stack' ≡ needed_names from.blocks entry ++ others → entries' ≡ entries ++ entry ∷ [] → Leads from first [] stack' entries'
   turn name origin others stack' entry entries' next found pushed more =
-      let on : Leads from first [] (needed_names from.blocks entry ++ others) (entries ++ entry ∷ []) = past_found entry (is_new name origin others next) found (to_next name origin others next) in
+      let on : Leads from first [] (needed_names from.blocks entry ++ others) (entries ++ entry ∷ []) = past_found entry next.new found (to_next name origin others next) in
       let grown : Leads from first [] (needed_names from.blocks entry ++ others) entries' = subst (λ (es : List Entry). Leads from first [] (needed_names from.blocks entry ++ others) es) (sym more) on in
       subst (λ (names : List (List ℕ)). Leads from first [] names entries') (sym pushed) grown
 
-  pub fewer : (name : List ℕ) (origin : Origin) (others : List (List ℕ)) (entry : Entry) (entries' : List Entry) → IsNext from stack slice name origin others → IsFound from name entry
+  pub fewer : (name : List ℕ) (origin : Origin) (others : List (List ℕ)) (entry : Entry) (entries' : List Entry) → IsNext from stack entries name origin others → IsFound from name entry
       → entries' ≡ entries ++ entry ∷ [] → left entries' (candidates from.names from.shipped) < left entries (candidates from.names from.shipped)
   fewer name origin others entry entries' next found more =
       subst (λ (es : List Entry). left es (candidates from.names from.shipped) < left entries (candidates from.names from.shipped)) (sym more)
-      (fewer_left from entries name origin entry next.at (is_new name origin others next) (found_named from name entry found))
+      (fewer_left from entries name origin entry next.at next.new (found_named from name entry found))
 
-  pub all_taken : Leads from stack slice [] slice → Gather from first [] entries
-  all_taken last =
-      let done : Leads from stack entries [] entries = subst (λ (es : List Entry). Leads from stack es [] es) same last in
-      leads.gathers entries (done.gathers entries no_more)
+  pub all_taken : Leads from stack entries [] entries → Gather from first [] entries
+  all_taken last = leads.gathers entries (last.gathers entries no_more)
 
 pub gathered_loads : (setting : Setting) (from : Sources) (name : List ℕ) (missed : Type 0) (r : Result Library LoadError) → HasSources setting from
     → Loads (λ (library : Library). Gather from (name ∷ []) [] library.entries) (GatherFails from (name ∷ []) []) missed r → Loads (λ (library : Library). HasGathered setting name library.entries) (HasFailed setting name) missed r

@@ -1,13 +1,16 @@
 -- The first part of each chip.
-use Rattle.std.proofs.Common.{Bor, ◌≡◌, ◌<◌, ◌+◌, ℕ, List, [], ◌∷◌, ◌++◌, Bool, true, false, length, get_or, map, take, refl, sym, ap, subst, ◌∙◌, arith}
-use Rattle.std.specs.Prelude.{Option, Some, None, MatchOption, is_some, if◌then◌else◌}
+use Rattle.std.proofs.Common.{◌≡◌, ◌<◌, ◌+◌, ℕ, List, [], ◌∷◌, ◌++◌, Bool, true, false, cond, not, ◌||◌, length, get_or, map, take, refl, sym, ap, subst, ◌∙◌, arith}
+use Rattle.std.specs.Prelude.{Option, Some, None, is_some, if◌then◌else◌}
 use Rattle.std.specs.Str.{bytes_eq}
 use Rattle.std.specs.Cmp.Lexicographic.{bytes_decides}
 use Rattle.std.specs.List.{Contains}
 use Rattle.std.proofs.lemmas.List.{get_or-map, length-map, take_more}
 use Rattle.std.proofs.lemmas.List.Elements.{Contains-get_or}
+use Rattle.std.proofs.lemmas.Bool.Decides.{same_from_decides}
 use Rattle.hdl_tree.specs.declared.library.Entry.{Entry}
-use Rattle.hdl_check.specs.Tables.{first_of}
+use Rattle.hdl_tree.specs.Writable.{is_among}
+use Rattle.hdl_check.specs.Tables.{find_value, first_of, names_in, with_new}
+use Rattle.hdl_check.proofs.Entries.{found-append, found_among, one_next, stays}
 use Rattle.hdl_flatten.specs.declared.flat.PartAt.{PartAt}
 use Rattle.script_device.specs.declared.directory.PartNodes.{PartNodes}
 use Rattle.script_device.specs.Directory.{part_named}
@@ -57,8 +60,8 @@ first_old entries parts part old named first there name = by (bytes_eq part.chip
   by false other = first name ∙ sym (first_alone (first_part entries parts name))
 
 -- a part that is listed is among all
-pub is_among : {X Y : Type 0} (f : X → Y) (xs : List X) (k : ℕ) (d : X) → k < length xs → Contains (map f xs) (f (get_or xs k d))
-is_among f xs k d lt = subst (Contains (map f xs)) (get_or-map f xs k d (f d) lt) (Contains-get_or (map f xs) k (f d) (omega (arith, length-map xs f)))
+mapped_among : {X Y : Type 0} (f : X → Y) (xs : List X) (k : ℕ) (d : X) → k < length xs → Contains (map f xs) (f (get_or xs k d))
+mapped_among f xs k d lt = subst (Contains (map f xs)) (get_or-map f xs k d (f d) lt) (Contains-get_or (map f xs) k (f d) (omega (arith, length-map xs f)))
 
 -- ---- a loop's step
 
@@ -73,9 +76,42 @@ step_old entries parts k part old named lt is there first name =
     first_old entries (take k parts) part old named first there name ∙ ap (λ ps. first_part entries ps name) (sym more)
 
 pub new_among : (entries : List Entry) (parts : List PartAt) (k : ℕ) (part : PartAt) (new : PartNodes) → k < length parts → part ≡ get_or parts k part → new ≡ part_nodes entries part → Contains (map (part_nodes entries) parts) new
-new_among entries parts k part new lt is made = subst (Contains (map (part_nodes entries) parts)) (sym (made ∙ ap (part_nodes entries) is)) (is_among (part_nodes entries) parts k part lt)
+new_among entries parts k part new lt is made = subst (Contains (map (part_nodes entries) parts)) (sym (made ∙ ap (part_nodes entries) is)) (mapped_among (part_nodes entries) parts k part lt)
 
--- what the code found
-pub found : (r : Option (Bor PartNodes)) (parts : List PartNodes) (name : List ℕ) → is_some r ≡ true → MatchOption r (part_named parts name ≡ None) (λ part. part_named parts name ≡ Some part.now) → (old : PartNodes) × (part_named parts name ≡ Some old)
-found None parts name some is = absurd cc
-found (Some part) parts name some is = (part.now, is)
+-- ---- the names of the chips whose first parts are kept
+
+abbrev pub AreSeen : List (List ℕ × Unit {0}) → List PartNodes → Type 0
+AreSeen seen named = (name : List ℕ) → is_among name (names_in seen) ≡ is_some (part_named named name)
+
+pub seen_none : (seen : List (List ℕ × Unit {0})) → seen ≡ [] → AreSeen seen []
+seen_none seen none name = ap (λ (es : List (List ℕ × Unit {0})). is_among name (names_in es)) none
+
+flipped : (a b : List ℕ) → bytes_eq a b ≡ bytes_eq b a
+flipped a b = same_from_decides (bytes_eq a b) (bytes_eq b a) (bytes_decides a b) (λ e. sym ((bytes_decides b a).0 e), λ e. (bytes_decides b a).1 (sym e))
+
+some_first : {A : Type 0} (o : Option A) (b : Bool) (a : A) → is_some (first_of o (cond b (Some a) None)) ≡ (is_some o || b)
+some_first None true a = refl
+some_first None false a = refl
+some_first (Some x) b a = refl
+
+pub seen_more : (seen seen' : List (List ℕ × Unit {0})) (named : List PartNodes) (part : PartNodes) → seen' ≡ with_new seen part.chip tt → AreSeen seen named → AreSeen seen' (named ++ part ∷ [])
+seen_more seen seen' named part entered are name =
+    sym (found_among name seen')
+    ∙ ap is_some (one_next name part.chip seen' seen tt entered ∙ found-append name seen ((part.chip, tt) ∷ []))
+    ∙ some_first (find_value name seen) (bytes_eq name part.chip) tt
+    ∙ ap (λ (b : Bool). b || bytes_eq name part.chip) (found_among name seen ∙ are name)
+    ∙ ap (λ (b : Bool). is_some (part_named named name) || b) (flipped name part.chip)
+    ∙ sym (some_first (part_named named name) (bytes_eq part.chip name) part)
+    ∙ sym (ap is_some (named_more named part name))
+
+pub seen_same : (seen seen' : List (List ℕ × Unit {0})) (chip : List ℕ) (named : List PartNodes) → seen' ≡ with_new seen chip tt → is_among chip (names_in seen) ≡ true → AreSeen seen named → AreSeen seen' named
+seen_same seen seen' chip named entered there are = subst (λ (es : List (List ℕ × Unit {0})). AreSeen es named) (sym (entered ∙ sym (stays chip seen tt there))) are
+
+-- a part of a chip that was seen is kept
+pub seen_old : (new among : Bool) → new ≡ not among → new ≡ false → among ≡ true
+seen_old new true is h = refl
+seen_old new false is h = absurd (let bad : ⊥ = cc in bad)
+
+pub kept_part : (o : Option PartNodes) → is_some o ≡ true → (old : PartNodes) × (o ≡ Some old)
+kept_part None h = absurd (let bad : ⊥ = cc in bad)
+kept_part (Some part) h = (part, refl)

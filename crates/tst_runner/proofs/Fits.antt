@@ -1,5 +1,5 @@
 -- What a directory names is there.
-use Rattle.std.proofs.Common.{◌≡◌, ◌<◌, ◌≤◌, ℕ, zero, suc, List, [], ◌∷◌, ◌++◌, Bool, true, false, length, get_or, map, take, drop, refl, sym, subst, arith}
+use Rattle.std.proofs.Common.{◌≡◌, ◌<◌, ◌≤◌, ◌-◌, ◌^◌, ℕ, zero, suc, List, [], ◌∷◌, ◌++◌, Bool, true, false, length, get_or, map, take, drop, refl, sym, subst, arith}
 use Rattle.std.specs.Prelude.{Option, Some, None, IfSome, slice_get, codes, if◌then◌else◌}
 use Rattle.std.specs.Str.{bytes_eq}
 use Rattle.std.specs.List.{All, Contains}
@@ -15,6 +15,8 @@ use Rattle.hdl_flatten.specs.declared.flat.PartAt.{PartAt}
 use Rattle.hdl_elab.specs.declared.put.Elab.{Elab}
 use Rattle.hdl_elab.specs.Elaborated.{IsElaborated}
 use Rattle.hdl_elab.specs.Directory.{IsThere}
+use Rattle.hdl_elab.specs.Faults.{IsFine}
+use Rattle.hdl_flatten.specs.Trees.{node_count}
 use Rattle.hdl_elab.proofs.There.{all_there}
 use Rattle.script_device.specs.declared.directory.Directory.{Directory}
 use Rattle.script_device.specs.Directory.{FitsNet, IsBus, IsInput, IsPart}
@@ -96,3 +98,11 @@ fits chips entries narrow name top found e elaborated d is among =
       outputs = subst (All (λ pin. IsBus e.net pin.nodes)) (sym is.outputs) (outputs_fit top e there own);
       parts = λ k x lt. All-contains (IsPart e.net) (map (part_nodes entries) e.parts) (get_or d.parts k x) each (among k x lt);
     }
+
+-- ---- the number of nodes
+
+pub few_nodes : (chips : Chips) (top : Entry) (e : Elab) → IsFine chips top → IsElaborated chips top e → length e.net.nodes < 2 ^ 32 - 1
+few_nodes chips top e fine flat =
+    let count : length e.net.nodes ≡ node_count chips top flat.tree = flat.count in
+    let small : node_count chips top flat.tree ≤ 16777216 = fine.few flat.tree flat.listed in
+    omega (arith, count, small)

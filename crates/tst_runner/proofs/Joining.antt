@@ -3,7 +3,7 @@ use Rattle.std.proofs.Common.{◌≡◌, ◌<◌, ◌≤◌, ◌+◌, ℕ, zero,
 use Rattle.std.proofs.lemmas.List.{length-take, take_more}
 use Rattle.outer_world.specs.Texts.{joined_texts}
 
--- one more name behind others
+-- one more name after others
 pub joined_more : (names : List (List ℕ)) (name : List ℕ) → 0 < length names → joined_texts (names ++ name ∷ []) ≡ (joined_texts names ++ 44 ∷ []) ++ name
 joined_more [] name some = absurd (omega arith)
 joined_more (a ∷ []) name some = sym (append_assoc a (44 ∷ []) name)

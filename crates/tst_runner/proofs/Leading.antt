@@ -47,16 +47,6 @@ module _ {from : Sources} {first : List (List ℕ)} {before : List Entry} where
 pub leads_nowhere_else : (from : Sources) (names : List (List ℕ)) (entries : List Entry) → Leads from names entries names entries
 leads_nowhere_else from names entries = record { gathers = λ all g. g; fails = λ line g. g }
 
--- ---- what a search among chips tells
-
-pub found_some : (o : Option (Bor Entry)) (f : Option Entry) → is_some o ≡ true → MatchOption o (f ≡ None) (λ e. f ≡ Some e.now) → (e : Entry) × (f ≡ Some e)
-found_some None f t h = absurd (let bad : ⊥ = cc in bad)
-found_some (Some e) f t h = (e.now, h)
-
-pub found_none : (o : Option (Bor Entry)) (f : Option Entry) → is_some o ≡ false → MatchOption o (f ≡ None) (λ e. f ≡ Some e.now) → f ≡ None
-found_none None f t h = h
-found_none (Some e) f t h = absurd (let bad : ⊥ = cc in bad)
-
 -- ---- stacks of names
 
 pub on_pop : (from : Sources) (first : List (List ℕ)) (before entries : List Entry) (old new : List (List ℕ)) (name : List ℕ) → old ≡ new ++ name ∷ [] → Leads from first before (reverse old) entries → Leads from first before (name ∷ reverse new) entries

@@ -4,6 +4,7 @@ pub mod Firsts
 pub mod Fits
 pub mod Folders
 pub mod Leading
+pub mod Tabling
 pub mod Ending
 pub mod Images
 pub mod Finding

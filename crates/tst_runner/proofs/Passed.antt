@@ -44,7 +44,7 @@ HasPassed-cut a b c front text p n h went = record {
   went = Got-same a c _ _ (ap (λ y. take (whole front) front ++ take n (y ++ text)) h.rest ∙ front_and_more front text (whole front) n) (Got-then a b c _ _ h.went went);
 }
 
--- Where so many bytes of a text are left as make no whole piece, all whole pieces went.
+-- Where this many bytes of a text are left as make no whole piece, all whole pieces went.
 whole_went : (n : ℕ) (xs : List ℕ) → length (drop n xs) ≡ length xs % 4096 → (take n xs ≡ take (whole xs) xs) × (drop n xs ≡ drop (whole xs) xs)
 whole_went n xs e = elim (cases_lt n (length xs)) [
   | inl h ↦ let same : n ≡ whole xs = omega (arith, e, length-drop n xs) in (ap (λ k. take k xs) same, ap (λ k. drop k xs) same)

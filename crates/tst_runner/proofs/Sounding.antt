@@ -1,4 +1,4 @@
--- The chips that are gathered are such that they can be built: each has its own name, comes from a text or is a shipped one, and has no wide pin.
+-- The chips that are gathered are such that they can be built. Each has its own name, comes from a text or is a shipped one, and has no wide pin.
 use Rattle.std.proofs.Common.{◌≡◌, ◌≤◌, ◌++◌, ◌⊎◌, ℕ, Bool, true, false, List, [], ◌∷◌, Option, Some, None, Result, Ok, Err, refl, sym, ap, subst, ◌∙◌, inl, inr, arith}
 use Rattle.std.specs.Prelude.{IfOk, unwrap_or, ◌&&◌}
 use Rattle.std.specs.List.{All, AllByRecursion}

@@ -29,7 +29,7 @@ times_plus (suc m) n acts =
 pub times_next : (n : ℕ) (acts : List Act) → times n acts ++ acts ≡ times (n + 1) acts
 times_next n acts = ap (λ (x : List Act). times n acts ++ x) (sym (append-nil acts)) ∙ sym (times_plus n 1 acts)
 
--- of so many times some are over, one is there, and more come
+-- of this many times some are over, one is there, and more come
 pub times_at : (i n : ℕ) (acts : List Act) → i < n → (times i acts ++ acts) ++ times (n - (i + 1)) acts ≡ times n acts
 times_at i n acts lt =
     let e : (i + 1) + (n - (i + 1)) ≡ n = omega arith in
@@ -176,7 +176,7 @@ ran_cut {path} {blocks} {files} {files'} {there} {there'} {u} {u'} {o} {o'} {p} 
   keeps = h.keeps;
 }
 
--- how they ended, told otherwise
+-- how they ended, given otherwise
 pub ran_told : {path : List ℕ} {blocks : Bool} {files files' : Option Files} {there there' : List ℕ → Bool} {u u' : Type 0} {o o' : Option (List ℕ)} {p p' : List ℕ} {e e' : Option (List ℕ)} {acts : List Act} {state state' : State} (r r' : Result (Unit {0}) Stop)
     → r' ≡ r → Ran path blocks files files' there there' u u' o o' p p' e e' acts state state' r → Ran path blocks files files' there there' u u' o o' p p' e e' acts state state' r'
 ran_told {path} {blocks} {files} {files'} {there} {there'} {u} {u'} {o} {o'} {p} {p'} {e} {e'} {acts} {state} {state'} r r' is h =

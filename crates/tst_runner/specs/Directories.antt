@@ -15,7 +15,7 @@ use Rattle.script_device.specs.Directory.{part_named}
 abbrev pub pin_nodes : PinAt → PinNodes
 pin_nodes pin = record { name = pin.name; nodes = pin.nodes }
 
--- the nodes of the pin `out` among these pins, whose nodes stand one behind the other
+-- the nodes of the pin `out` among these pins, whose nodes stand one after the other
 abbrev pub out_among : List Pin → List ℕ → Option (List ℕ)
 out_among [] nodes = None
 out_among (pin ∷ pins) nodes = if bytes_eq pin.name (codes "out") then Some (take (pin_width pin) nodes) else out_among pins (drop (pin_width pin) nodes)

@@ -16,8 +16,8 @@ use Rattle.tst_runner.specs.Effects.{GoThrough, PutsLine, Differs, Faults}
 
 -- ---- what an act asks of the shelf
 
--- The act reads: a load asks for the names in the folder and then for texts, a compare-to for its file, and the load of an image for its file,
--- where there is an instruction memory. No other act does.
+-- The act reads. A load asks for the names in the folder and then for texts, and a compare-to for its file. The load of an image asks for its
+-- file, where there is an instruction memory. No other act does.
 abbrev pub Asks : Standing → Act → Type 0
 Asks s (acts.Step step) = ⊥
 Asks s (acts.Load file) = Unit {0}
@@ -61,9 +61,9 @@ module _ (setting : Setting) where
     pub acts : HasActs (done ++ act ∷ rest)
     pub comes : ComesTo done s
 
-  -- ---- the ends; what stands on err is told apart: what was put there before, and the line that tells the end
+  -- ---- the ends; what stands on err comes in two parts: what was put there before, and the message of the end
 
-  -- All acts are done. Nothing tells that.
+  -- All acts are done. No line reports that.
   pub record IsDone (out err : List ℕ) : Type 0 where
     pub acts : List Act
     pub are : HasActs acts
@@ -163,7 +163,7 @@ module _ (setting : Setting) where
     pub on_out : out ≡ take n (with_line r line).out
     pub on_err : err ≡ s.err
 
-  -- Or at the last piece, which is put where the script ends, before the line that tells it.
+  -- Or at the last piece, which is put where the script ends, before the message of it.
   pub record RestIsCut (out err : List ℕ) : Type 0 where
     pub t : Standing
     pub put : HasPut t

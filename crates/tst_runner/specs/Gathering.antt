@@ -64,7 +64,7 @@ IsRefused from name entries line =
     (find_entry entries name ≡ None) × (is_in_folder from name ≡ true)
     × ((text : List ℕ) × (fault : Fault) × HasFile from.files (path_of from name) text × Refuses text fault × (line ≡ message_line (path_of from name) (diagnostic_of fault)))
 
--- From these chips on, these names are taken one after another, and what they need before the names behind them; in the end all are there.
+-- From these chips on, these names are taken one after another, and what they need before the names after them; in the end all are there.
 pub data Gather (from : Sources) : List (List ℕ) → List Entry → List Entry → Type 0 where
   no_more : {entries : List Entry} → Gather from [] entries entries
   one_more : {name : List ℕ} {names : List (List ℕ)} {entries entries' all : List Entry} (next : List (List ℕ)) → IsTaken from name entries next entries' → Gather from (next ++ names) entries' all → Gather from (name ∷ names) entries all

@@ -1,3 +1,4 @@
+pub mod Tables
 pub mod Sound
 pub mod Columns
 pub mod States

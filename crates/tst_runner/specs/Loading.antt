@@ -34,7 +34,8 @@ pub record HasSources (setting : Setting) (from : Sources) : Type 0 where
   pub beside : from.folder ≡ folder setting
   pub listed : IfSome setting.files (λ told. IsListing told (folder setting) from.names)
 
--- From these chips on, the chip of this name has no fault; its netlist is in order, and what has a name in it is told by its directory.
+-- From these chips on, the chip of this name has no fault; its netlist is in order, and what has a name in it is given by its
+-- directory.
 pub record IsBuilt (setting : Setting) (entries : List Entry) (name : List ℕ) (chip : LoadedChip) : Type 0 where
   pub top : Entry
   pub found : find_entry entries name ≡ Some top
@@ -70,7 +71,8 @@ path_of_entry setting name (Some entry) = path_of_shipped setting name entry.shi
 abbrev pub path_of_text : Setting → List Entry → List ℕ → List ℕ
 path_of_text setting entries name = path_of_entry setting name (find_entry entries name)
 
--- What is told of a fault of the chip that is loaded, with the path of the text that has it. Want of memory is no refusal.
+-- What is reported of a fault of the chip that is loaded, with the path of the text that has it. Want of memory is no
+-- refusal.
 abbrev pub IsFaultLine : Setting → List Entry → List ℕ → ElaborationFault → List ℕ → Type 0
 IsFaultLine setting entries name faults.Memory line = ⊥
 IsFaultLine setting entries name (faults.Named fault) line = line ≡ message_line (path_of_text setting entries fault.chip) (named_message fault)
@@ -89,7 +91,8 @@ pub record IsFaulty (setting : Setting) (entries : List Entry) (name line : List
 abbrev pub IsUnknown : Setting → List Entry → List ℕ → List ℕ → Type 0
 IsUnknown setting entries name line = (find_entry entries name ≡ None) × (line ≡ message_line setting.path (message 0 0 (codes "UnknownChip") name))
 
--- The file is that of a chip, and this is the line that tells why it is not loaded: a text that is refused, or else no chip, or a fault of it.
+-- The file is that of a chip, and this is the message of why it is not loaded. That is a text that is refused, or else no chip, or a fault of
+-- it.
 abbrev pub IsNotLoaded : Setting → List ℕ → List ℕ → Type 0
 IsNotLoaded setting file line =
     (name : List ℕ) × (file ≡ file_of name)

@@ -33,8 +33,8 @@ setting = record { path = codes "t/a.tst"; files = None; blocks = true }
 abbrev pub Puts : List Act → List ℕ → List ℕ → Type 0
 Puts done out err = (s : Standing) × GoThrough setting at_first done s × (s.out ≡ out) × (s.err ≡ err)
 
--- Without an output list the bar alone is put; a tick before the first load does nothing to the time; acts in braces come as often as they are
--- repeated; another name than `time` is none.
+-- Without an output list the bar alone is put. A tick before the first load does nothing to the time. Acts in braces come as often as they are
+-- repeated, and another name than `time` is no item.
 pub record ScriptRowsLaw : Type 0 where
   pub bars : Puts (output ∷ output ∷ []) (codes "|\n|\n") []
   pub echoes : Puts (acts.Echo (codes "a") ∷ output ∷ acts.Echo (codes "b") ∷ []) (codes "|\n") (codes "a\nb\n")

@@ -13,11 +13,11 @@ use Rattle.tst_runner.specs.declared.script.ScriptError.TheVariants as errors
 use Rattle.tst_runner.specs.Setting.{Setting}
 use Rattle.tst_runner.specs.Ends.{HasCompared, IsDifferent, IsRefused, IsUnread, IsStarved, OutIsCut, EchoIsCut}
 
--- the line that tells a difference
+-- the line that reports a difference
 abbrev pub difference_line : Difference → List ℕ
 difference_line d = message_line d.path (message d.line 1 (codes "Differs") [])
 
--- What stands on out and on err after the call. The line that tells how a script ended is still to come, but none after a write fault.
+-- What stands on out and on err after the call. The message of how a script ended is still to come, but none after a write fault.
 module _ (setting : Setting) (there : List ℕ → Bool) (unfailing : Type 0) where
   abbrev pub Leaves : List ℕ → List ℕ → Result Verdict ScriptError → Type 0
   Leaves o e (Ok verdicts.Same) = HasCompared setting o e true
@@ -32,7 +32,7 @@ module _ (setting : Setting) (there : List ℕ → Bool) (unfailing : Type 0) wh
   abbrev pub Runs : Option (List ℕ) → Option (List ℕ) → Option (List ℕ) → Option (List ℕ) → Result Verdict ScriptError → Type 0
   Runs out out' err err' result = (o : List ℕ) × (e : List ℕ) × Leaves o e result × Got out out' o × Got err err' e
 
--- What it says of the counts of faults of shelf, out and err; where out fails behind a fault of the shelf, both have risen.
+-- What it says of the counts of faults of shelf, out and err; where out fails after a fault of the shelf, both have risen.
 abbrev pub CountsScript : ℕ → ℕ → ℕ → ℕ → ℕ → ℕ → Result Verdict ScriptError → Type 0
 CountsScript shelf shelf' out out' err err' (Err (errors.Unloaded loads.Failed)) = Rose shelf shelf' × (out' ≡ out) × (err' ≡ err)
 CountsScript shelf shelf' out out' err err' (Err errors.Out) = ((shelf' ≡ shelf) ⊎ Rose shelf shelf') × Rose out out' × (err' ≡ err)

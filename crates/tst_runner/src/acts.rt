@@ -1,6 +1,6 @@
 //! The acts of a script, one by one.
 
-ghost use Rattle.std.specs.Prelude.{◌≡◌, ◌<◌, ◌+◌, ◌^◌, ◌++◌, ◌∷◌, [], Bool, List, ℕ, Option, IfOk};
+ghost use Rattle.std.specs.Prelude.{◌≡◌, ◌<◌, ◌+◌, ◌^◌, ◌++◌, ◌∷◌, [], Bool, true, List, ℕ, Option, IfOk, OnOk};
 ghost use Rattle.std.specs.Str.Lossy.{utf8_lossy};
 ghost use Rattle.outer_world.specs.Files.{path_in};
 ghost use Rattle.outer_world.specs.Written.{CountsPut, Puts};
@@ -8,7 +8,7 @@ ghost use Rattle.outer_world.specs.Held.{HaveSameSink, pending, sink_of};
 ghost use Rattle.script_parser.specs.declared.tree.Act.TheVariants as acts;
 ghost use Rattle.script_device.specs.Devices as devices;
 ghost use Rattle.script_device.specs.Devices.{after_tock};
-ghost use Rattle.script_device.specs.Running.{Stands};
+ghost use Rattle.script_device.specs.Running.{DeviceRuns, Stands};
 ghost use Rattle.tst_runner.specs.Setting.{Setting, folder_of, setting_of};
 ghost use Rattle.tst_runner.specs.Standing.{Standing};
 ghost use Rattle.tst_runner.specs.Inner.Outlets.{HasPassed, PutsBehind};
@@ -26,14 +26,16 @@ use script_parser::{Act, Item, Placed, Step};
 use source_files::LoadError;
 use std::alloc::{AllocError, Global};
 
-/// A script: its path, and whether the memories of its chips are blocks.
+/// A script: its path, and whether the memories of its chips are blocks, and their netlists simplified.
 #[derive(Clone, Copy)]
 pub struct Script<'a> {
     pub path: &'a str,
     pub blocks: bool,
+    pub simplify: bool,
 }
 
-// No script comes to as many steps, nor to as many lines as a count tells; past them memory is said to be wanting.
+// No script comes to as many steps, nor to as many lines as a count can hold; past them memory is said to be
+// wanting.
 const MOST_STEPS: u64 = 1 << 62;
 
 // The refusal of a word that stands for nothing that is wanted.
@@ -79,7 +81,7 @@ fn compare(line: &[u8], state: &mut State) -> Result<(), Stop>
     Ok(())
 }
 
-// Hands on a text, behind those before it: whole pieces go out, and the rest is pending.
+// Hands on a text, after those before it: whole pieces go out, and the rest is pending.
 fn put_behind<O: Sink>(text: &[u8], out: &mut Pieces<'_, O>) -> Put
     ensures same_sink { HaveSameSink out.old out.new }
     ensures puts { (before : Option (List ℕ)) (front : List ℕ) → HasPassed before (O.written (sink_of out.old)) (pending out.old) front → PutsBehind before (O.written (sink_of out.new)) (pending out.new) front text.now result }
@@ -241,6 +243,7 @@ fn do_load<F: Shelf>(
     shelf: &mut F,
 ) -> Result<(), Stop>
     ensures does { (s : Standing) → IsState state.old s → Quietly (setting_of script.entry.path.now (F.files shelf.old) script.entry.blocks) (Misses (setting_of script.entry.path.now (F.files shelf.old) script.entry.blocks) (F.there shelf.old) (F.unfailing shelf.old) s (acts.Load file.now)) s (acts.Load file.now) state.new result }
+    ensures runs { OnOk result (DeviceRuns script.entry.simplify state.new.device) }
     ensures counts { (o e : ℕ) → CountsStop (F.faults shelf.old) (F.faults shelf.new) o o e e result }
     ensures kept { F.files shelf.new ≡ F.files shelf.old }
     ensures stays { F.there shelf.new ≡ F.there shelf.old }

@@ -1,6 +1,6 @@
 //! A chip that was gathered, built as a netlist with its directory.
 
-ghost use Rattle.std.specs.Prelude.{◌≡◌, ◌⊎◌, ℕ, Bool, List, [], ◌∷◌, Option, IfOk, codes, map};
+ghost use Rattle.std.specs.Prelude.{◌≡◌, ◌⊎◌, ◌-◌, ◌<◌, ◌^◌, ℕ, Bool, List, [], ◌∷◌, Option, IfOk, codes, length, map};
 ghost use Rattle.std.specs.List.{All, Contains};
 ghost use Rattle.outer_world.specs.Files.{Files, path_in};
 ghost use Rattle.outer_world.specs.Refusals.{message, message_line};
@@ -8,8 +8,11 @@ ghost use Rattle.outer_world.specs.Texts.{joined_texts};
 ghost use Rattle.source_files.specs.Loads.{Loads, Refused};
 ghost use Rattle.netlist.specs.Order.{AreOrdered};
 ghost use Rattle.gate_sim.specs.Calls.Call.{Eval};
+ghost use Rattle.hdl_check.specs.Whole.{AreDistinct};
 ghost use Rattle.script_device.specs.declared.chip.DrivenChip.{DrivenChip};
-ghost use Rattle.script_device.specs.Driven.{IsDriven, chip_of, time_of};
+ghost use Rattle.script_device.specs.declared.directory.Directory.{Directory};
+ghost use Rattle.script_device.specs.Directory.{FitsNet, loaded_chip};
+ghost use Rattle.script_device.specs.Driven.{ChipRuns, IsDriven, chip_of, time_of};
 ghost use Rattle.tst_runner.specs.Directories.{IsDirectory, part_nodes};
 ghost use Rattle.tst_runner.specs.Gathering.{file_of};
 ghost use Rattle.tst_runner.specs.Inner.Sound.{IsSound};
@@ -20,8 +23,9 @@ use crate::directories::{directory_of, entry_named};
 use crate::files::folder_of;
 use hdl_elab::{Elab, ElaborationFault, elaborate};
 use hdl_tree::{Entry, Library, Name};
+use netlist::Netlist;
 use outer_world::{Detail, Diagnostic};
-use script_device::DrivenChip;
+use script_device::{Directory, DrivenChip};
 use source_files::LoadError;
 use std::alloc::{AllocError, Global};
 
@@ -95,7 +99,7 @@ fn unknown(alloc: Global, path: &str, name: &Name) -> LoadError
     }
 }
 
-// The path of the text that has a fault of the chip of this name, and what the fault tells.
+// The path of the text that has a fault of the chip of this name, and its diagnostic.
 fn diagnostic_of(
     alloc: Global,
     path: &str,
@@ -126,13 +130,40 @@ fn diagnostic_of(
     }
 }
 
+// A chip that got no calls, its netlist simplified where that is asked for.
+fn driven_chip(
+    alloc: Global,
+    net: Netlist,
+    directory: Directory,
+    simplify: bool,
+) -> Result<DrivenChip, AllocError>
+    requires fits { FitsNet net directory }
+    requires few { length net.nodes < 2 ^ 32 - 1 }
+    ensures chip { IfOk result (λ chip. chip_of chip ≡ loaded_chip net directory) }
+    ensures driven { IfOk result (λ chip. IsDriven chip []) }
+    ensures runs { IfOk result (ChipRuns simplify) }
+{
+    if simplify {
+        DrivenChip::simplified(alloc, net, directory)
+    } else {
+        DrivenChip::new(alloc, net, directory)
+    }
+}
+
 // An elaborated chip with its directory, evaluated once.
 fn evaluated(
     alloc: Global,
     library: &Library,
     top: &Entry,
     e: Elab,
+    simplify: bool,
 ) -> Result<DrivenChip, AllocError>
+    requires distinct { AreDistinct library.now.entries }
+    requires fits { (d : Directory) → IsDirectory library.now.entries top.now e d
+        → All (Contains (map (part_nodes library.now.entries) e.parts)) d.parts
+        → FitsNet e.net d }
+    requires few { length e.net.nodes < 2 ^ 32 - 1 }
+    ensures runs { IfOk result (ChipRuns simplify) }
     ensures net { IfOk result (λ chip. (chip_of chip).net ≡ e.net) }
     ensures ordered { IfOk result (λ chip. AreOrdered (chip_of chip).net.nodes (chip_of chip).net.blocks) }
     ensures directory { IfOk result (λ chip. IsDirectory library.now.entries top.now e (chip_of chip).directory) }
@@ -143,32 +174,34 @@ fn evaluated(
     let directory = directory_of(alloc, library, top, &e)?;
     let Elab { net, .. } = e;
     let _ = net.nodes();
-    let mut chip = DrivenChip::new(alloc, net, directory)?;
+    let mut chip = driven_chip(alloc, net, directory, simplify)?;
     chip.eval();
     Ok(chip)
 }
 
-/// The chip of this name, told nothing but one evaluation.
+/// The chip of this name, after one evaluation alone, its netlist simplified where that is asked for.
 ///
-/// Otherwise the refusal of a name that no chip has, of the script at this path, or of a fault of the chip, of the text that has it; or want of
-/// memory.
+/// Otherwise the refusal of a name that no chip has, of the script at this path, or of a fault of the chip, of the text that has it. Or it is
+/// want of memory.
 pub fn build_chip(
     alloc: Global,
     path: &str,
     library: &Library,
     name: &Name,
     blocks: bool,
+    simplify: bool,
 ) -> Result<DrivenChip, LoadError>
     requires sound { IsSound library.now.entries }
     ensures loads { (files : Option Files) → Loads (λ (chip : DrivenChip). IsBuilt (setting_of path.now files blocks) library.now.entries name.now (chip_of chip)) (λ line. IsUnknown (setting_of path.now files blocks) library.now.entries name.now line ⊎ IsFaulty (setting_of path.now files blocks) library.now.entries name.now line) ⊥ result }
     ensures driven { IfOk result (λ chip. IsDriven chip (Eval ∷ [])) }
     ensures start { IfOk result (λ chip. time_of chip ≡ 0) }
+    ensures runs { IfOk result (ChipRuns simplify) }
 {
     let Some(top) = entry_named(library.entries.as_slice(), name.as_bytes()) else {
         return Err(unknown(alloc, path, name));
     };
     match elaborate(alloc, library, name, blocks) {
-        Ok(e) => Ok(evaluated(alloc, library, top, e)?),
+        Ok(e) => Ok(evaluated(alloc, library, top, e, simplify)?),
         Err(fault) => {
             let (text, told) = diagnostic_of(alloc, path, library, name, fault)?;
             Err(refused(alloc, text, told))

@@ -3,13 +3,16 @@
 ghost use Rattle.std.specs.Prelude.{◌≡◌, ℕ, List, None, Some, IfOk, MatchOption, drop, map, take};
 ghost use Rattle.std.specs.List.{All, Contains};
 ghost use Rattle.hdl_tree.specs.Chips.{find_entry, pin_width};
+ghost use Rattle.hdl_check.specs.Inner.Progress.{IsCatalog};
+ghost use Rattle.hdl_check.specs.Whole.{AreDistinct};
 ghost use Rattle.script_device.specs.Directory.{part_named};
 ghost use Rattle.tst_runner.specs.Directories.{IsDirectory, first_part, out_among, part_nodes, pin_nodes};
 
+use hdl_check::{Catalog, Table};
 use hdl_elab::Elab;
 use hdl_flatten::{PartAt, PinAt};
 use hdl_tree::{Entry, Library, List, Pin};
-use script_device::{Directory, PartNodes, PinNodes, part_named};
+use script_device::{Directory, PartNodes, PinNodes};
 use std::alloc::{AllocError, Global};
 
 fn copied(alloc: Global, nodes: &[u32]) -> Result<List<u32>, AllocError>
@@ -56,7 +59,7 @@ fn cut<T>(items: &[T], n: usize) -> (&[T], &[T])
     }
 }
 
-// The nodes of the pin `out` among these pins, whose nodes stand one behind the other.
+// The nodes of the pin `out` among these pins, whose nodes stand one after the other.
 fn out_among<'a>(pins: &[Pin], nodes: &'a [u32]) -> Option<&'a [u32]>
     ensures { MatchOption result (out_among pins.now nodes.now ≡ None) (λ out. out_among pins.now nodes.now ≡ Some out.now) }
 {
@@ -83,12 +86,18 @@ pub fn entry_named<'a>(entries: &'a [Entry], name: &[u8]) -> Option<&'a Entry>
     None
 }
 
-fn out_of(alloc: Global, library: &Library, part: &PartAt) -> Result<Option<List<u32>>, AllocError>
-    ensures { IfOk result (λ out. out ≡ (part_nodes library.now.entries part.now).out) }
+fn out_of<'a>(
+    alloc: Global,
+    catalog: &Catalog<'a>,
+    part: &'a PartAt,
+) -> Result<Option<List<u32>>, AllocError>
+    requires { IsCatalog catalog.now }
+    ensures { IfOk result (λ out. out ≡ (part_nodes catalog.now.entries.now part.now).out) }
 {
-    let Some(entry) = entry_named(library.entries.as_slice(), part.chip.as_bytes()) else {
+    let Some(k) = catalog.place(part.chip.as_bytes()) else {
         return Ok(None);
     };
+    let entry = &catalog.entries[k];
     match out_among(entry.chip.outputs.as_slice(), part.outs.as_slice()) {
         None => Ok(None),
         Some(nodes) => Ok(Some(copied(alloc, nodes)?)),
@@ -96,41 +105,64 @@ fn out_of(alloc: Global, library: &Library, part: &PartAt) -> Result<Option<List
 }
 
 /// A part that is listed, with the nodes of its pin `out`.
-pub fn part_nodes(alloc: Global, library: &Library, part: &PartAt) -> Result<PartNodes, AllocError>
-    ensures { IfOk result (λ p. p ≡ part_nodes library.now.entries part.now) }
+pub fn part_nodes<'a>(
+    alloc: Global,
+    catalog: &Catalog<'a>,
+    part: &'a PartAt,
+) -> Result<PartNodes, AllocError>
+    requires { IsCatalog catalog.now }
+    ensures { IfOk result (λ p. p ≡ part_nodes catalog.now.entries.now part.now) }
 {
     Ok(PartNodes {
         chip: part.chip.clone()?,
-        out: out_of(alloc, library, part)?,
+        out: out_of(alloc, catalog, part)?,
         block: part.block,
     })
 }
 
 /// Of each chip in it the first part, of parts depth first in text order.
-pub fn first_parts(
+pub fn first_parts<'a>(
     alloc: Global,
-    library: &Library,
-    parts: &[PartAt],
+    catalog: &Catalog<'a>,
+    parts: &'a [PartAt],
 ) -> Result<List<PartNodes>, AllocError>
-    ensures first { IfOk result (λ l. (name : List ℕ) → part_named l name ≡ first_part library.now.entries parts.now name) }
-    ensures among { IfOk result (λ l. All (Contains (map (part_nodes library.now.entries) parts.now)) l) }
+    requires { IsCatalog catalog.now }
+    ensures first { IfOk result (λ l. (name : List ℕ) → part_named l name ≡ first_part catalog.now.entries.now parts.now name) }
+    ensures among { IfOk result (λ l. All (Contains (map (part_nodes catalog.now.entries.now) parts.now)) l) }
 {
     let mut named = Vec::new(alloc);
+    let mut seen = Table::new(alloc);
     for part in parts {
-        if part_named(&named, part.chip.as_bytes()).is_none() {
-            named.push(part_nodes(alloc, library, part)?)?;
+        let new = seen.enter(part.chip.as_bytes(), ())?;
+        if new {
+            named.push(part_nodes(alloc, catalog, part)?)?;
         }
     }
     Ok(List::of(named))
 }
 
-/// What of an elaborated chip has a name.
+// The same among the chips of a library, which have different names.
+fn parts_named<'a>(
+    alloc: Global,
+    library: &'a Library,
+    parts: &'a [PartAt],
+) -> Result<List<PartNodes>, AllocError>
+    requires { AreDistinct library.now.entries }
+    ensures first { IfOk result (λ l. (name : List ℕ) → part_named l name ≡ first_part library.now.entries parts.now name) }
+    ensures among { IfOk result (λ l. All (Contains (map (part_nodes library.now.entries) parts.now)) l) }
+{
+    let catalog = Catalog::new(alloc, library, false)?;
+    first_parts(alloc, &catalog, parts)
+}
+
+/// What of an elaborated chip has a name. The chips of the library have different names.
 pub fn directory_of(
     alloc: Global,
     library: &Library,
     top: &Entry,
     e: &Elab,
 ) -> Result<Directory, AllocError>
+    requires { AreDistinct library.now.entries }
     ensures directory { IfOk result (λ d. IsDirectory library.now.entries top.now e.now d) }
     ensures among { IfOk result (λ d. All (Contains (map (part_nodes library.now.entries) e.now.parts)) d.parts) }
 {
@@ -138,6 +170,6 @@ pub fn directory_of(
     Ok(Directory {
         inputs: all_pins(alloc, inputs)?,
         outputs: all_pins(alloc, outputs)?,
-        parts: first_parts(alloc, library, e.parts.as_slice())?,
+        parts: parts_named(alloc, library, e.parts.as_slice())?,
     })
 }

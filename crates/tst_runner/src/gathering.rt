@@ -1,14 +1,16 @@
 //! The chips that a chip needs.
-ghost use Rattle.std.specs.Prelude.{◌≡◌, ◌++◌, ◌∷◌, [], false, true, ℕ, List, Option, Vec, IfOk, IfSome, MatchOption, OnOk, bytes_eq, map, reverse};
+ghost use Rattle.std.specs.Prelude.{◌≡◌, ◌++◌, ◌∷◌, [], ℕ, List, Option, Vec, IfOk, IfSome, MatchOption, OnOk, map, reverse};
 ghost use Rattle.std.specs.declared.alloc.Global.{Global};
-ghost use Rattle.outer_world.specs.Files.{Files, IsListing, LacksFile, LacksFolder, has_name, path_in};
+ghost use Rattle.outer_world.specs.Files.{Files, IsListing, LacksFile, LacksFolder, path_in};
 ghost use Rattle.source_files.specs.Loads.{CountsLoad, Loads};
 ghost use Rattle.source_files.specs.Sources.{IsFaulty, SpellsAt};
 ghost use Rattle.hdl_tree.specs.declared.library.Library.{Library};
+ghost use Rattle.hdl_names.specs.Names.{IsIndexed};
 ghost use Rattle.hack_cpu.specs.Library.{shipped_chips};
-ghost use Rattle.tst_runner.specs.Gathering.{Gather, GatherFails, IsFound, built_in, entry_of, file_of, needed_names};
+ghost use Rattle.tst_runner.specs.Gathering.{Gather, GatherFails, IsFound, built_in, entry_of, needed_names};
 ghost use Rattle.tst_runner.specs.Inner.Gathered.{IsNext, IsNowhere, IsOrigin, IsRefusedAt, Leads, LacksFileOf, sources_of};
 ghost use Rattle.tst_runner.specs.Inner.Sound.{IsSound};
+ghost use Rattle.tst_runner.specs.Inner.Tables.{ListsFiles};
 ghost use Rattle.tst_runner.specs.Loading.{HasFailed, HasGathered};
 ghost use Rattle.tst_runner.specs.Setting.{folder_of, setting_of};
 ghost use Rattle.hdl_parser.specs.Language.{RefusesHdl};
@@ -16,9 +18,12 @@ ghost use Rattle.hdl_parser.specs.Spells.{Spells};
 
 use crate::directories::entry_named;
 use crate::files::folder_of;
+use crate::tables::chip_files;
 use hack_cpu::{library, take_shipped};
+use hdl_check::Table;
+use hdl_names::NamedChips;
 use hdl_parser::HdlLanguage;
-use hdl_tree::{Body, Chip, Entry, Library, List, Name, Part, find_end};
+use hdl_tree::{Body, Chip, Entry, Library, Name, Part, find_end};
 use outer_world::{Listing, Shelf};
 use source_files::{LoadError, load, path_in};
 use std::alloc::{AllocError, Global};
@@ -58,33 +63,16 @@ fn names_in<F: Shelf>(
     }
 }
 
-// Whether a file is that of the chip of a name.
-fn is_file_of(file: &[u8], name: &[u8]) -> bool
-    ensures { result ≡ bytes_eq (file_of name.now) file.now }
-{
-    match file.strip_suffix(b".hdl") {
-        None => false,
-        Some(stem) => name == stem,
-    }
-}
-
-// The name in the folder that is that of the file of a chip.
-fn listed<'a>(names: &'a [outer_world::Name], name: &[u8]) -> Option<&'a outer_world::Name>
-    ensures { MatchOption result (has_name names.now (file_of name.now) ≡ false) (λ file. (has_name names.now (file_of name.now) ≡ true) × (file.now ≡ file_of name.now)) }
-{
-    for file in names {
-        if is_file_of(file.as_bytes(), name) {
-            return Some(file);
-        }
-    }
-    None
-}
-
 // Where the chip of a name is found, if it is anywhere.
-fn find_origin<'a>(places: &Places<'a>, name: &[u8]) -> Option<Origin<'a>>
-    ensures { (files : Option Files) → MatchOption result (IsNowhere (sources_of places.now files) name.now) (IsOrigin (sources_of places.now files) name.now) }
+fn find_origin<'a>(
+    places: &Places<'a>,
+    files: &Table<'a, &'a outer_world::Name>,
+    name: &[u8],
+) -> Option<Origin<'a>>
+    requires { ListsFiles places.now.names.now files.now }
+    ensures { (told : Option Files) → MatchOption result (IsNowhere (sources_of places.now told) name.now) (IsOrigin (sources_of places.now told) name.now) }
 {
-    if let Some(file) = listed(places.names, name) {
+    if let Some(file) = files.find(name) {
         return Some(Origin::File(file));
     }
     match entry_named(places.shipped, name) {
@@ -96,16 +84,19 @@ fn find_origin<'a>(places: &Places<'a>, name: &[u8]) -> Option<Origin<'a>>
 // The next name whose chip is to be found, and where that is: those of chips that are there, and those that are nowhere, are passed over.
 fn next_new<'a>(
     places: &Places<'a>,
-    entries: &[Entry],
+    files: &Table<'a, &'a outer_world::Name>,
+    gathered: &NamedChips,
     stack: &mut Vec<Name>,
 ) -> Option<(Name, Origin<'a>)>
-    ensures { (files : Option Files) → MatchOption result (Leads (sources_of places.now files) (reverse stack.old.items) entries.now [] entries.now) (λ next. IsNext (sources_of places.now files) (reverse stack.old.items) entries.now next.0 next.1 (reverse stack.new.items)) }
+    requires tabled { ListsFiles places.now.names.now files.now }
+    requires indexed { IsIndexed gathered.now }
+    ensures { (told : Option Files) → MatchOption result (Leads (sources_of places.now told) (reverse stack.old.items) gathered.now.entries [] gathered.now.entries) (λ next. IsNext (sources_of places.now told) (reverse stack.old.items) gathered.now.entries next.0 next.1 (reverse stack.new.items)) }
 {
     'names: while let Some(name) = stack.pop() {
-        if entry_named(entries, name.as_bytes()).is_some() {
+        if gathered.has(name.as_bytes()) {
             continue;
         }
-        if let Some(found) = find_origin(places, name.as_bytes()) {
+        if let Some(found) = find_origin(places, files, name.as_bytes()) {
             return Some((name, found));
         }
     }
@@ -209,7 +200,37 @@ fn push_needed(stack: &mut Vec<Name>, blocks: bool, entry: &Entry) -> Result<(),
 }
 
 // The chips that the chip of a name needs.
-fn gather_from<F: Shelf>(
+fn gather_from<'a, F: Shelf>(
+    alloc: Global,
+    places: &Places<'a>,
+    files: &Table<'a, &'a outer_world::Name>,
+    name: &Name,
+    shelf: &mut F,
+) -> Result<Library, LoadError>
+    requires shipped { places.now.shipped.now ≡ shipped_chips }
+    requires listed { IfSome (F.files shelf.old) (λ told. IsListing told places.now.folder.now places.now.names.now) }
+    requires tabled { ListsFiles places.now.names.now files.now }
+    ensures loads { Loads (λ (library : Library). Gather (sources_of places.now (F.files shelf.old)) (name.now ∷ []) [] library.entries) (GatherFails (sources_of places.now (F.files shelf.old)) (name.now ∷ []) []) (F.unfailing shelf.old → LacksFolder (F.files shelf.old) (F.there shelf.old) places.now.folder.now) result }
+    ensures counts { CountsLoad (F.faults shelf.old) (F.faults shelf.new) result }
+    ensures kept { F.files shelf.new ≡ F.files shelf.old }
+    ensures stays { F.there shelf.new ≡ F.there shelf.old }
+    ensures keeps { F.unfailing shelf.old → F.unfailing shelf.new }
+{
+    let mut gathered = NamedChips::new(alloc);
+    let mut stack = Vec::new(alloc);
+    stack.push(name.clone()?)?;
+    'chips: while let Some((name, found)) = next_new(places, files, &gathered, &mut stack) {
+        let entry = find(alloc, places, name, found, shelf)?;
+        push_needed(&mut stack, places.blocks, &entry)?;
+        gathered.push(alloc, entry)?;
+    }
+    Ok(Library {
+        entries: gathered.entries,
+    })
+}
+
+// The chips that the chip of a name needs, with a table of the files of chips in the folder.
+fn gather_in<F: Shelf>(
     alloc: Global,
     places: &Places<'_>,
     name: &Name,
@@ -223,15 +244,8 @@ fn gather_from<F: Shelf>(
     ensures stays { F.there shelf.new ≡ F.there shelf.old }
     ensures keeps { F.unfailing shelf.old → F.unfailing shelf.new }
 {
-    let mut entries = List::new(alloc);
-    let mut stack = Vec::new(alloc);
-    stack.push(name.clone()?)?;
-    'chips: while let Some((name, found)) = next_new(places, entries.as_slice(), &mut stack) {
-        let entry = find(alloc, places, name, found, shelf)?;
-        push_needed(&mut stack, places.blocks, &entry)?;
-        entries.push(entry)?;
-    }
-    Ok(Library { entries })
+    let files = chip_files(alloc, places.names)?;
+    gather_from(alloc, places, &files, name, shelf)
 }
 
 /// The chips that the chip of this name needs, by name: the files of the script's folder, read depth first in text order, each once, and else
@@ -261,5 +275,5 @@ pub fn gather<F: Shelf>(
         folder,
         names: &names,
     };
-    gather_from(alloc, &places, name, shelf)
+    gather_in(alloc, &places, name, shelf)
 }

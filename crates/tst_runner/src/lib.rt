@@ -14,6 +14,7 @@ mod loading;
 mod printing;
 mod script;
 mod standing;
+mod tables;
 
 pub use script::{ScriptError, Verdict, run_script};
 pub use standing::Difference;

@@ -1,8 +1,10 @@
 //! What a script loads.
 
-ghost use Rattle.std.specs.Prelude.{◌≡◌, IfSome};
+ghost use Rattle.std.specs.Prelude.{◌≡◌, IfOk, IfSome};
 ghost use Rattle.source_files.specs.Loads.{CountsLoad, Loads};
 ghost use Rattle.outer_world.specs.Files.{LacksFile, LacksFolder};
+ghost use Rattle.script_device.specs.Running.{DeviceRuns};
+ghost use Rattle.script_device.specs.Driven.{ChipRuns};
 ghost use Rattle.tst_runner.specs.Gathering.{file_of};
 ghost use Rattle.tst_runner.specs.Inner.Loaded.{ChipIsLoaded, MachineIsLoaded, StandsForLoaded};
 ghost use Rattle.tst_runner.specs.Inner.States.{IsNoDevice, LacksDevice};
@@ -27,6 +29,7 @@ fn load_chip<F: Shelf>(
     shelf: &mut F,
 ) -> Result<DrivenChip, LoadError>
     ensures loads { Loads (ChipIsLoaded (setting_of script.entry.path.now (F.files shelf.old) script.entry.blocks) (file_of name.now)) (IsNotLoaded (setting_of script.entry.path.now (F.files shelf.old) script.entry.blocks) (file_of name.now)) (F.unfailing shelf.old → LacksFolder (F.files shelf.old) (F.there shelf.old) (folder_of script.entry.path.now)) result }
+    ensures runs { IfOk result (ChipRuns script.entry.simplify) }
     ensures counts { CountsLoad (F.faults shelf.old) (F.faults shelf.new) result }
     ensures kept { F.files shelf.new ≡ F.files shelf.old }
     ensures stays { F.there shelf.new ≡ F.there shelf.old }
@@ -34,7 +37,14 @@ fn load_chip<F: Shelf>(
 {
     let name = Name::from_bytes(alloc, name)?;
     let library = gather(alloc, script.path, &name, script.blocks, shelf)?;
-    build_chip(alloc, script.path, &library, &name, script.blocks)
+    build_chip(
+        alloc,
+        script.path,
+        &library,
+        &name,
+        script.blocks,
+        script.simplify,
+    )
 }
 
 // The instruction machine with the image of a file.
@@ -64,6 +74,7 @@ pub fn load_device<F: Shelf>(
     shelf: &mut F,
 ) -> Result<Device, LoadError>
     ensures loads { Loads (StandsForLoaded (setting_of script.entry.path.now (F.files shelf.old) script.entry.blocks) file.now) (IsNoDevice (setting_of script.entry.path.now (F.files shelf.old) script.entry.blocks) file.now) (F.unfailing shelf.old → IfSome (F.files shelf.old) (LacksDevice (F.there shelf.old) (setting_of script.entry.path.now (F.files shelf.old) script.entry.blocks) file.now)) result }
+    ensures runs { IfOk result (DeviceRuns script.entry.simplify) }
     ensures counts { CountsLoad (F.faults shelf.old) (F.faults shelf.new) result }
     ensures kept { F.files shelf.new ≡ F.files shelf.old }
     ensures stays { F.there shelf.new ≡ F.there shelf.old }

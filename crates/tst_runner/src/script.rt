@@ -135,12 +135,13 @@ fn run_whole<F: Shelf, O: Sink, E: Sink>(
     run_into(alloc, script, commands, shelf, &mut outlet, err)
 }
 
-/// Does what the script at a path says: its output lines on out, its echoes on err, and how it ended. The line that tells that is not put.
-/// With `gates` the memories of chips are made of gates.
+/// Does what the script at a path says: its output lines on out, its echoes on err, and how it ended. The message of that is not put. With
+/// `gates` the memories of chips are made of gates, and with `simplify` the netlists that run are simplified: all that is put is the same.
 pub fn run_script<F: Shelf, O: Sink, E: Sink>(
     alloc: Global,
     path: &str,
     gates: bool,
+    simplify: bool,
     shelf: &mut F,
     out: &mut O,
     err: &mut E,
@@ -153,6 +154,7 @@ pub fn run_script<F: Shelf, O: Sink, E: Sink>(
     let script = Script {
         path,
         blocks: !gates,
+        simplify,
     };
     let commands = load(alloc, &ScriptLanguage, path, "", shelf)?;
     run_whole(alloc, script, &commands, shelf, out, err)

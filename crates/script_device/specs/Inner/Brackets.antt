@@ -1,4 +1,4 @@
--- A name with digits in brackets behind it. (The book, appendix 3.)
+-- A name with digits in brackets after it. (The book, appendix 3.)
 use Rattle.std.specs.Prelude.{◌≡◌, ◌<◌, ℕ, List, [], ◌∷◌, ◌++◌, length, slice_index}
 use Rattle.std.specs.List.{All}
 use Rattle.script_device.specs.Variables.{IsDigit}

@@ -13,7 +13,7 @@ source_of Time = TheTime
 source_of (Bus nodes) = OfChip (Nodes nodes.now)
 source_of (Word block address) = OfChip (BlockWord block address)
 
--- a block of so many words has one at an address
+-- a block of this many words has one at an address
 abbrev pub HasSize : List ℕ → ℕ → ℕ → Type 0
 HasSize sizes block address = MatchOption (slice_get sizes block) ⊥ (λ words. address < words)
 

@@ -15,7 +15,7 @@ form_of file = if ends_in (codes ".hack") file then Image else Assembly
 abbrev pub IsCompared : Setting → List ℕ → List ℕ → Type 0
 IsCompared setting file text = HasFile setting.files (path_of setting file) text × (length text ≤ 1048576)
 
--- It is too long, as this line tells.
+-- It is too long, as this line says.
 abbrev pub IsTooLong : Setting → List ℕ → List ℕ → Type 0
 IsTooLong setting file line =
     (text : List ℕ) × HasFile setting.files (path_of setting file) text × (1048577 ≤ length text) × (line ≡ message_line (path_of setting file) (message 0 0 (codes "Range") (decimal 1048577)))

@@ -40,7 +40,7 @@ pub record Leads (from : Sources) (names : List (List ℕ)) (entries : List Entr
   pub gathers : (all : List Entry) → Gather from names' entries' all → Gather from names entries all
   pub fails : (line : List ℕ) → GatherFails from names' entries' line → GatherFails from names entries line
 
--- Of these names this one is the next that is among no chips, and it is found there; the others are behind it.
+-- Of these names this one is the next that is among no chips, and it is found there; the others are after it.
 pub record IsNext (from : Sources) (names : List (List ℕ)) (entries : List Entry) (name : List ℕ) (origin : Origin) (others : List (List ℕ)) : Type 0 where
   pub leads : Leads from names entries (name ∷ others) entries
   pub new : find_entry entries name ≡ None

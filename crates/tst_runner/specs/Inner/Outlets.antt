@@ -16,7 +16,7 @@ pub record WentInPart (before now : Option (List ℕ)) (front text : List ℕ) :
   pub from : whole front ≤ n
   pub went : Got before now (take n text)
 
--- A text was put behind another that has passed: both have passed, or the sink failed.
+-- A text was put after another that has passed: both have passed, or the sink failed.
 abbrev pub PutsBehind : Option (List ℕ) → Option (List ℕ) → List ℕ → List ℕ → List ℕ → Put → Type 0
 PutsBehind before now rest text more put.Done = HasPassed before now rest (text ++ more)
 PutsBehind before now rest text more put.Failed = WentInPart before now text (text ++ more)

@@ -33,7 +33,8 @@ use Rattle.tst_runner.specs.Inner.Columns.{AreColumns}
 use Rattle.tst_runner.specs.Inner.Outlets.{HasPassed}
 use Rattle.script_device.specs.Running.{Stands}
 
--- The code's compare file, after so many lines: what is left of it are the lines that are still to come.
+-- The code's compare file, after this many lines: what is left of it are the lines that are still to
+-- come.
 pub record IsFile (file : CompareFile) (lines : ℕ) (compared : Compared) : Type 0 where
   pub path : file.path ≡ compared.path
   pub within : file.at ≤ length file.text.items
@@ -52,7 +53,7 @@ pub record IsState (state : State) (s : Standing) : Type 0 where
   pub compared : AreFiles state.compared state.lines s.compared
   pub lines : state.lines ≡ s.lines
 
--- Of a line that an act puts some went out, behind all whole pieces before it.
+-- Of a line that an act puts some went out, after all whole pieces before it.
 pub record PartWent (setting : Setting) (s : Standing) (act : Act) (before now : Option (List ℕ)) : Type 0 where
   pub r : Standing
   pub line : List ℕ
@@ -180,7 +181,7 @@ Compares r line state (Err stops.Out) = ⊥
 Compares r line state (Err stops.Err) = ⊥
 
 module _ (out out' err err' : Option (List ℕ)) (pending : List ℕ) where
-  -- Of a line some went out, behind all whole pieces before it.
+  -- Of a line some went out, after all whole pieces before it.
   pub record LineWent (r : Standing) (line : List ℕ) : Type 0 where
     pub n : ℕ
     pub from : whole r.out ≤ n

@@ -4,3 +4,6 @@ use Rattle.command_line.proofs.commands.run_needed.Goals as goal
 
 pub returns-clause-shape : goal.returns-clause-shape
 returns-clause-shape c = grind (arith, common_steps)
+
+pub returns-clause-local : goal.returns-clause-local
+returns-clause-local c = grind (arith, common_steps)

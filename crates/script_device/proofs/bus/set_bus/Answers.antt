@@ -1,15 +1,15 @@
 use Rattle.std.proofs.Common.{◌∷◌, get_or, take, sym, ap, subst, ◌∙◌}
 use Rattle.gate_sim.specs.Calls.Call.{Set}
-use Rattle.gate_sim.specs.Stands.{StandsFor}
+use Rattle.script_device.specs.Simulated.{WasTold}
 use Rattle.script_device.specs.Driven.{set_nodes}
 use Rattle.script_device.proofs.Buses.{set_more}
 use Rattle.script_device.proofs.bus.set_bus.Goals as goal
 
 pub loop-k-preserved : goal.loop-k-preserved
 loop-k-preserved c = record {
-  net = c.set.ensures.net ∙ c.loop-k.invariant.net;
+  frame = c.set.ensures.frame ∙ c.loop-k.invariant.frame;
   stands = λ calls st.
       let nodes = c.args.nodes.now in
       let e = ap (λ b. Set (get_or nodes c.loop-k.k 0) b ∷ set_nodes 0 c.args.word (take c.loop-k.k nodes) calls) c.bit.ensures ∙ sym (set_more c.args.word nodes c.loop-k.k calls c.loop-k-test.true) in
-      subst (λ cs. StandsFor c.set.new.self cs) e (c.set.ensures.stands _ (c.loop-k.invariant.stands calls st));
+      subst (λ cs. WasTold c.set.new.self cs) e (c.set.ensures.stands _ (c.loop-k.invariant.stands calls st));
 }

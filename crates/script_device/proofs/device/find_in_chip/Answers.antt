@@ -1,4 +1,4 @@
-use Rattle.std.proofs.Common.{◌≡◌, sym, subst}
+use Rattle.std.proofs.Common.{sym, subst}
 use Rattle.script_device.specs.Driven.{chip_of}
 use Rattle.script_device.specs.Devices.{Means}
 use Rattle.script_device.specs.Devices.Device.{Chip}

@@ -41,3 +41,9 @@ pub returns-in-Some-Time-clause-set : goal.returns-in-Some-Time-clause-set
 returns-in-Some-Time-clause-set c = λ calls driven.
     let m : CanSet (Chip (chip_of c.args.chip.now) calls) c.args.text.now TheTime = settable_as (chip_of c.args.chip.now) calls c.args.text.now c.find_settable.result c.in-Some-Time.field-0 _ c.in-Some-Time.is c.in-Some-Time.field-0-is (settable_in (chip_of c.args.chip.now) c.directory.result.now c.sizes.result.now calls c.args.text.now c.find_settable.result c.directory.ensures c.sizes.ensures c.find_settable.ensures) in
     absurd m
+
+pub returns-in-Some-Bus-clause-runs : goal.returns-in-Some-Bus-clause-runs
+returns-in-Some-Bus-clause-runs c = c.set_bus.ensures.runs
+
+pub returns-in-Some-Word-clause-runs : goal.returns-in-Some-Word-clause-runs
+returns-in-Some-Word-clause-runs c = c.set_word.ensures.runs

@@ -1,38 +1,48 @@
-use Rattle.std.proofs.Common.{◌≡◌, ◌<◌, ◌++◌, [], ◌∷◌, length, map, sym, ap, subst, ◌∙◌, arith}
+use Rattle.std.proofs.Common.{◌≡◌, ◌<◌, ◌++◌, [], ◌∷◌, List, ℕ, true, length, map, sym, ap, subst, ◌∙◌, arith}
 use Rattle.std.specs.Prelude.{Some}
 use Rattle.std.specs.List.{All, Contains}
 use Rattle.std.proofs.lemmas.List.Elements.{All-push}
+use Rattle.hdl_tree.specs.Writable.{is_among}
+use Rattle.hdl_check.specs.Tables.{names_in, with_new}
+use Rattle.hdl_check.specs.Inner.Entered.{table_of}
 use Rattle.script_device.specs.Directory.{part_named}
+use Rattle.script_device.specs.declared.directory.PartNodes.{PartNodes}
 use Rattle.tst_runner.specs.Directories.{part_nodes}
-use Rattle.tst_runner.proofs.Firsts.{found, new_among, step_new, step_old}
+use Rattle.tst_runner.proofs.Firsts.{AreSeen, kept_part, new_among, seen_more, seen_none, seen_old, seen_same, step_new, step_old}
 use Rattle.tst_runner.proofs.directories.first_parts.Goals as goal
-use Rattle.tst_runner.proofs.directories.first_parts.Goals.{then-is_none+in_ok-part_nodes+in_ok-push, else-is_none}
+use Rattle.tst_runner.proofs.directories.first_parts.Goals.{then-new+in_ok-part_nodes+in_ok-push, else-new}
 
 pub loop-part-preserved : goal.loop-part-preserved
 loop-part-preserved c =
-    let entries = c.args.library.now.entries in
+    let entries = c.args.catalog.now.entries.now in
     let parts = c.args.parts.now in
     let k = c.loop-part.part-index in
     let part = c.part-item.result in
     let named = c.loop-part.named.items in
+    let seen = table_of c.loop-part.seen in
     let lt : c.loop-part.part-index < length c.args.parts.now = omega arith in
-    elim c.if-is_none.branch [
-      | then-is_none+in_ok-part_nodes+in_ok-push w ↦
+    let entered : table_of c.enter.new.self ≡ with_new seen part.chip tt = c.in_ok-new.ensures.entered ∙ ap (λ (n : List ℕ). with_new seen n tt) c.as_bytes.ensures in
+    elim c.if-new.branch [
+      | then-new+in_ok-part_nodes+in_ok-push w ↦
           let new = w.in_ok-part_nodes.field-0 in
-          let e : c.if-is_none.named.items ≡ named ++ new ∷ [] = ap (λ v. v.items) w.named-is ∙ w.in_ok-push.ensures.items in
+          let e : c.if-new.named.items ≡ named ++ new ∷ [] = ap (λ v. v.items) w.named-is ∙ w.in_ok-push.ensures.items in
+          let made : new ≡ part_nodes entries part = w.in_ok-part_nodes.ensures in
+          let more : table_of c.enter.new.self ≡ with_new seen new.chip tt = entered ∙ ap (λ (p : PartNodes). with_new seen p.chip tt) (sym made) in
           record {
-            first = λ name. ap (λ parts. part_named parts name) e ∙ step_new entries parts k part new named lt c.part-item.is w.in_ok-part_nodes.ensures c.loop-part.invariant.first name;
-            among = subst (All (Contains (map (part_nodes entries) parts))) (sym e) (All-push (Contains (map (part_nodes entries) parts)) named new c.loop-part.invariant.among (new_among entries parts k part new lt c.part-item.is w.in_ok-part_nodes.ensures));
+            first = λ name. ap (λ parts. part_named parts name) e ∙ step_new entries parts k part new named lt c.part-item.is made c.loop-part.invariant.first name;
+            among = subst (All (Contains (map (part_nodes entries) parts))) (sym e) (All-push (Contains (map (part_nodes entries) parts)) named new c.loop-part.invariant.among (new_among entries parts k part new lt c.part-item.is made));
+            seen = subst (AreSeen (table_of c.enter.new.self)) (sym e) (seen_more seen (table_of c.enter.new.self) named new more c.loop-part.invariant.seen);
           }
-      | else-is_none w ↦
-          let e : c.if-is_none.named.items ≡ named = ap (λ v. v.items) w.named-is in
-          let old = found c.part_named.result c.deref.result.now c.as_bytes.result.now w.if-is_none.ensures c.part_named.ensures in
-          let there : part_named named part.chip ≡ Some old.0 = ap (λ parts. part_named parts part.chip) (sym c.deref.ensures.value) ∙ ap (part_named c.deref.result.now) (sym c.as_bytes.ensures) ∙ old.1 in
+      | else-new w ↦
+          let e : c.if-new.named.items ≡ named = ap (λ v. v.items) w.named-is in
+          let among : is_among part.chip (names_in seen) ≡ true = ap (λ (n : List ℕ). is_among n (names_in seen)) (sym c.as_bytes.ensures) ∙ seen_old c.in_ok-new.new (is_among c.as_bytes.result.now (names_in seen)) c.in_ok-new.ensures.new w.if-new.false in
+          let old = kept_part (part_named named part.chip) (sym (c.loop-part.invariant.seen part.chip) ∙ among) in
           record {
-            first = λ name. ap (λ parts. part_named parts name) e ∙ step_old entries parts k part old.0 named lt c.part-item.is there c.loop-part.invariant.first name;
+            first = λ name. ap (λ parts. part_named parts name) e ∙ step_old entries parts k part old.0 named lt c.part-item.is old.1 c.loop-part.invariant.first name;
             among = subst (All (Contains (map (part_nodes entries) parts))) (sym e) c.loop-part.invariant.among;
+            seen = subst (AreSeen (table_of c.enter.new.self)) (sym e) (seen_same seen (table_of c.enter.new.self) part.chip named entered among c.loop-part.invariant.seen);
           }
     ]
 
 pub returns-clause-among : goal.returns-clause-among
-returns-clause-among c = subst (All (Contains (map (part_nodes c.args.library.now.entries) c.args.parts.now))) (sym c.of.ensures) c.loop-part.invariant.among
+returns-clause-among c = subst (All (Contains (map (part_nodes c.args.catalog.now.entries.now) c.args.parts.now))) (sym c.of.ensures) c.loop-part.invariant.among

@@ -12,4 +12,4 @@ returns-clause-sound g c =
     let later = c.names_in.new.shelf in
     let from = sources_of places (g.F.Shelf.files later) in
     let name = c.args.name.now in
-    loads_sound from name (GatherFails from (name ∷ []) []) (g.F.Shelf.unfailing later → LacksFolder (g.F.Shelf.files later) (g.F.Shelf.there later) c.folder_of-folder.result.now) c.gather_from.result (c.as_slice.ensures ∙ c.in_ok-shipped.ensures) c.gather_from.ensures.loads
+    loads_sound from name (GatherFails from (name ∷ []) []) (g.F.Shelf.unfailing later → LacksFolder (g.F.Shelf.files later) (g.F.Shelf.there later) c.folder_of-folder.result.now) c.gather_in.result (c.as_slice.ensures ∙ c.in_ok-shipped.ensures) c.gather_in.ensures.loads

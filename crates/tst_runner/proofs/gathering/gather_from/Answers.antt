@@ -6,7 +6,7 @@ use Rattle.hdl_tree.specs.declared.library.Entry.{Entry}
 use Rattle.source_files.specs.Loads.{Loads}
 use Rattle.tst_runner.specs.Gathering.{IsFound}
 use Rattle.tst_runner.specs.Inner.Gathered.{IsRefusedAt, LacksFileOf, sources_of}
-use Rattle.tst_runner.proofs.Finding.{all_taken, fewer, is_new, to_next, turn, unfound}
+use Rattle.tst_runner.proofs.Finding.{all_taken, fewer, to_next, turn, unfound}
 use Rattle.tst_runner.proofs.gathering.gather_from.Goals as goal
 
 pub find-requires-clause-origin : goal.find-requires-clause-origin
@@ -29,9 +29,18 @@ returns-in_err-entry-clause-loads g c =
     let T : Option Files → Type 0 = λ files. Loads {A = Entry} (IsFound (sources_of places files) name) (IsRefusedAt (sources_of places files) name) (later → LacksFileOf (sources_of places files) name) (Err e) in
     let read = subst T c.chips.invariant.kept c.in_err-entry.ensures.loads in
     let next = c.in-Some.ensures told in
-    let leads = to_next from (first ∷ []) (reverse c.chips.stack.items) c.chips.entries c.as_slice.result.now c.chips.invariant.leads c.as_slice.ensures name found others next in
-    let new = is_new from (first ∷ []) (reverse c.chips.stack.items) c.chips.entries c.as_slice.result.now c.chips.invariant.leads c.as_slice.ensures name found others next in
-    rw (p.1, p.2) (unfound from there first steady later name others c.chips.entries e c.requires.listed c.chips.invariant.keeps leads new read)
+    let leads = to_next from (first ∷ []) (reverse c.chips.stack.items) c.chips.gathered.entries c.chips.invariant.leads name found others next in
+    rw (p.1, p.2) (unfound from there first steady later name others c.chips.gathered.entries e c.requires.listed c.chips.invariant.keeps leads next.new read)
+
+pub returns-in_err-push_needed-clause-loads : goal.returns-in_err-push_needed-clause-loads
+returns-in_err-push_needed-clause-loads g c =
+    let p = err_from_is_err_and c.from_residual-in_err-push_needed.result c.from_residual-in_err-push_needed.ensures.1 in
+    rw (p.1, p.2) tt
+
+pub returns-in_err-push_needed-clause-counts : goal.returns-in_err-push_needed-clause-counts
+returns-in_err-push_needed-clause-counts g c =
+    let p = err_from_is_err_and c.from_residual-in_err-push_needed.result c.from_residual-in_err-push_needed.ensures.1 in
+    rw (p.1, p.2) (c.in_ok-entry.ensures.counts ∙ c.chips.invariant.counts)
 
 pub chips-smaller : goal.chips-smaller
 chips-smaller g c =
@@ -39,8 +48,8 @@ chips-smaller g c =
     let from = sources_of c.args.places.now told in
     let entry = c.in_ok-entry.entry in
     let T : Option Files → Type 0 = λ files. IsFound (sources_of c.args.places.now files) c.in-Some.name entry in
-    fewer from (c.args.name.now ∷ []) (reverse c.chips.stack.items) c.chips.entries c.as_slice.result.now c.chips.invariant.leads c.as_slice.ensures c.in-Some.name c.in-Some.found (reverse c.next_new.new.stack.items) entry c.push-in-Some.new.self
-    (c.in-Some.ensures told) (subst T c.chips.invariant.kept c.in_ok-entry.ensures.loads) c.in_ok-push-2.ensures.ok
+    fewer from (c.args.name.now ∷ []) (reverse c.chips.stack.items) c.chips.gathered.entries c.chips.invariant.leads c.in-Some.name c.in-Some.found (reverse c.next_new.new.stack.items) entry c.push-in-Some.new.self.entries
+    (c.in-Some.ensures told) (subst T c.chips.invariant.kept c.in_ok-entry.ensures.loads) c.in_ok-push-2.ensures.pushed
 
 pub chips-preserved : goal.chips-preserved
 chips-preserved g c =
@@ -50,8 +59,9 @@ chips-preserved g c =
     let T : Option Files → Type 0 = λ files. IsFound (sources_of c.args.places.now files) c.in-Some.name entry in
     record {
       leads =
-          turn from (c.args.name.now ∷ []) (reverse c.chips.stack.items) c.chips.entries c.as_slice.result.now c.chips.invariant.leads c.as_slice.ensures c.in-Some.name c.in-Some.found (reverse c.next_new.new.stack.items) (reverse c.push_needed.new.stack.items) entry c.push-in-Some.new.self
-          (c.in-Some.ensures told) (subst T c.chips.invariant.kept c.in_ok-entry.ensures.loads) c.in_ok-push_needed.ensures c.in_ok-push-2.ensures.ok;
+          turn from (c.args.name.now ∷ []) (reverse c.chips.stack.items) c.chips.gathered.entries c.chips.invariant.leads c.in-Some.name c.in-Some.found (reverse c.next_new.new.stack.items) (reverse c.push_needed.new.stack.items) entry c.push-in-Some.new.self.entries
+          (c.in-Some.ensures told) (subst T c.chips.invariant.kept c.in_ok-entry.ensures.loads) c.in_ok-push_needed.ensures c.in_ok-push-2.ensures.pushed;
+      indexed = c.in_ok-push-2.ensures.indexed;
       counts = c.in_ok-entry.ensures.counts ∙ c.chips.invariant.counts;
       kept = c.in_ok-entry.ensures.kept ∙ c.chips.invariant.kept;
       stays = c.in_ok-entry.ensures.stays ∙ c.chips.invariant.stays;
@@ -61,4 +71,4 @@ chips-preserved g c =
 pub returns-clause-loads : goal.returns-clause-loads
 returns-clause-loads g c =
     let told = g.F.Shelf.files c.args.shelf.now in
-    all_taken (sources_of c.args.places.now told) (c.args.name.now ∷ []) (reverse c.chips.stack.items) c.chips.entries c.as_slice.result.now c.chips.invariant.leads c.as_slice.ensures (c.in_default.ensures told)
+    all_taken (sources_of c.args.places.now told) (c.args.name.now ∷ []) (reverse c.chips.stack.items) c.chips.gathered.entries c.chips.invariant.leads (c.in_default.ensures told)

@@ -1,12 +1,14 @@
 use Rattle.std.proofs.Common.{◌≡◌, ◌∷◌, []}
 use Rattle.std.specs.Prelude.{reverse}
 use Rattle.tst_runner.specs.Inner.Gathered.{Leads, sources_of}
+use Rattle.hdl_names.specs.Names.{IsIndexed}
 use Rattle.tst_runner.proofs.Ending.{candidates, left}
 use Rattle.tst_runner.proofs.gathering.gather_from.Given as goal
 
 abbrev pub invariant-chips : goal.invariant-chips
 invariant-chips g l = record {
-  leads : Leads (sources_of l.fn.places (g.F.Shelf.files l.fn.shelf)) (l.fn.name ∷ []) [] (reverse l.stack.items) l.entries;
+  leads : Leads (sources_of l.fn.places (g.F.Shelf.files l.fn.shelf)) (l.fn.name ∷ []) [] (reverse l.stack.items) l.gathered.entries;
+  indexed : IsIndexed l.gathered;
   counts : g.F.Shelf.faults l.shelf ≡ g.F.Shelf.faults l.fn.shelf;
   kept : g.F.Shelf.files l.shelf ≡ g.F.Shelf.files l.fn.shelf;
   stays : g.F.Shelf.there l.shelf ≡ g.F.Shelf.there l.fn.shelf;
@@ -14,4 +16,4 @@ invariant-chips g l = record {
 }
 
 abbrev pub decreases-chips : goal.decreases-chips
-decreases-chips g l = left l.entries (candidates l.places.names.now l.places.shipped.now)
+decreases-chips g l = left l.gathered.entries (candidates l.places.names.now l.places.shipped.now)

@@ -1,5 +1,7 @@
-use Rattle.std.proofs.Common.{sym, ◌∙◌}
+use Rattle.std.proofs.Common.{sym, ◌∙◌, subst}
 use Rattle.script_device.proofs.Buses.{set_cycle, set_ticked}
+use Rattle.script_device.specs.Directory.{named_of}
+use Rattle.script_device.specs.Simulated.{RunsNet}
 use Rattle.script_device.proofs.chip.DrivenChip.set_bus.Goals as goal
 
 pub returns-clause-driven : goal.returns-clause-driven
@@ -8,3 +10,6 @@ returns-clause-driven c = λ calls d. record {
   cycle = d.cycle ∙ sym (set_cycle 0 c.args.word c.args.nodes.now calls);
   ticked = d.ticked ∙ sym (set_ticked 0 c.args.word c.args.nodes.now calls);
 }
+
+pub returns-clause-runs : goal.returns-clause-runs
+returns-clause-runs c = λ simplify. subst (RunsNet simplify (named_of c.args.self.now.directory)) (sym c.set_bus.ensures.frame)
