@@ -72,7 +72,7 @@ module _ {A : Type 0} (spells : List ℕ → List ℕ → A → Type 0) (refuses
     | inr (inr gone) ↦ lacks gone
   ]
 
--- what is told of a fault
+-- what is reported of a fault
 told_of : {X : Type 0} (spells : X → Type 0) (refuses : Fault → Type 0) → SomeReading X spells refuses → ((x : X) × spells x) ⊎ ((told : Message) × ((fault : Fault) × refuses fault × (told ≡ diagnostic_of fault)))
 told_of spells refuses (inl h) = inl h
 told_of spells refuses (inr (fault, h)) = inr (diagnostic_of fault, (fault, h, refl))
@@ -219,5 +219,5 @@ answered for_classes for_file for_vm for_chip for_soak there files (of_classes s
 answered for_classes for_file for_vm for_chip for_soak there files (of_file path work) other = for_file there files path work
 answered for_classes for_file for_vm for_chip for_soak there files (vm folder bare) other = for_vm there files folder bare
 answered for_classes for_file for_vm for_chip for_soak there files (chip name) other = for_chip there files name
-answered for_classes for_file for_vm for_chip for_soak there files (test path gates) other = absurd other
+answered for_classes for_file for_vm for_chip for_soak there files (test path gates simplify) other = absurd other
 answered for_classes for_file for_vm for_chip for_soak there files (soak seed count) other = for_soak there files seed count

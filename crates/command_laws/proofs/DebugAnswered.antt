@@ -1,5 +1,5 @@
 -- A line of `debug` has an answer, and so has each line that reads the classes of a folder.
-use Rattle.std.proofs.Common.{◌≡◌, ◌<◌, ◌≤◌, ◌&&◌, ◌++◌, ◌∷◌, ◌⊎◌, inl, inr, ℕ, zero, suc, Bool, true, false, List, [], Option, Some, None, refl, sym, ◌∙◌, ap, subst, arith}
+use Rattle.std.proofs.Common.{◌≡◌, ◌<◌, ◌&&◌, ◌∷◌, ◌⊎◌, inl, inr, ℕ, zero, suc, Bool, true, false, List, [], Option, Some, None, refl, sym, ◌∙◌, ap, subst, arith}
 use Rattle.std.specs.Prelude.{slice_get}
 use Rattle.outer_world.specs.Files.{Files}
 use Rattle.outer_world.specs.Refusals.{message_line}
@@ -23,7 +23,6 @@ use Rattle.gate_computer.proofs.Seen.{same_trace, shows_at}
 use Rattle.jack_core.specs.Texts.{the_program}
 use Rattle.jack_core.specs.declared.program.Core.{Core}
 use Rattle.jack_compiler.specs.Resolved.{IsResolvedCore}
-use Rattle.jack_debug.specs.Text.{view_text}
 use Rattle.jack_debug.specs.Walk.{Walk, point_in}
 use Rattle.jack_debug.specs.declared.places.PlacedRange.{PlacedRange}
 use Rattle.jack_debug.specs.declared.places.Places.{Places}
@@ -35,7 +34,7 @@ use Rattle.vm_debug.specs.Program.{ArePlacesOf}
 use Rattle.command_line.specs.Line.{Source, build, compile, debug, map_image, of_classes, run}
 use Rattle.command_laws.specs.Answered.{ClassesAnsweredLaw, HasAnswer}
 use Rattle.nand_cli.specs.Commands.Build.{unbuilt, without_program}
-use Rattle.nand_cli.specs.Commands.Debug.{HasStatement, IsAt, IsDebugReport, ShowsNone, ShowsStop, no_point, none_text, stop_text, stopped, unstopped, without_image, without_point, without_script}
+use Rattle.nand_cli.specs.Commands.Debug.{HasStatement, IsAt, IsDebugReport, ShowsNone, ShowsStop, no_point, stopped, unstopped, without_image, without_point, without_script}
 use Rattle.nand_cli.specs.Commands.Gates.{InEach, gates_trace}
 use Rattle.nand_cli.specs.Commands.Map.{FolderHasPlaces, HavePlaces}
 use Rattle.nand_cli.specs.Commands.Run.{HasKeys}

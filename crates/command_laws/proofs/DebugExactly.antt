@@ -1,5 +1,5 @@
--- A line of `debug` tells one thing or is refused for one thing, and not both.
-use Rattle.std.proofs.Common.{◌≡◌, ◌≤◌, ◌<◌, ◌+◌, ◌++◌, ◌⊎◌, inl, inr, ℕ, suc, Bool, true, false, List, Option, Some, map, refl, sym, ◌∙◌, ap, subst, arith}
+-- A line of `debug` shows one thing or is refused for one thing, and not both.
+use Rattle.std.proofs.Common.{◌≡◌, ◌+◌, ◌++◌, ◌⊎◌, inl, inr, ℕ, suc, Bool, true, false, List, Option, Some, refl, sym, ◌∙◌, ap, subst, arith}
 use Rattle.std.specs.Prelude.{nat_lt}
 use Rattle.std.proofs.lemmas.Bool.Decides.{nat_tests}
 use Rattle.outer_world.specs.Files.{Files, LacksFolder}
@@ -13,7 +13,6 @@ use Rattle.hack_cpu.specs.Computer.{pc_at, word_at}
 use Rattle.jack_core.specs.declared.program.Core.{Core}
 use Rattle.jack_debug.specs.Text.{view_text}
 use Rattle.jack_debug.specs.declared.places.Places.{Places}
-use Rattle.jack_debug.specs.declared.seen.View.{View}
 use Rattle.jack_debug.proofs.Views.{walk_law}
 use Rattle.jack_parser.specs.Spelled.{ClassLaw}
 use Rattle.tower.specs.OneProgram.{SameProgram}
@@ -23,7 +22,6 @@ use Rattle.nand_cli.specs.Commands.Build.{BuildRefuses}
 use Rattle.nand_cli.specs.Commands.Debug.{DebugLacks, DebugPrints, DebugRefuses, HasStatement, IsDebugReport, StopsAt, TellsStop, none_text, stop_text, stopped, unstopped, without_image, without_point, without_script}
 use Rattle.nand_cli.specs.Commands.Gates.{gates_trace}
 use Rattle.nand_cli.specs.Commands.Map.{FolderHasPlaces}
-use Rattle.nand_cli.specs.Commands.Run.{HasKeys, LacksKeys, ScriptIsRefused}
 use Rattle.nand_cli.proofs.OneFolder.{never_scripted}
 use Rattle.command_laws.proofs.BuildExactly.{built_apart, built_of, one_line, one_places}
 use Rattle.command_laws.proofs.Exactly.{not_missing}

@@ -43,12 +43,12 @@ module _ (files : Files) (folder : List ℕ) where
 
 -- ---- the texts
 
--- A text of the file of each name is spelled, or it is refused and something is told of it.
+-- A text of the file of each name is spelled, or it is refused and something is reported of it.
 abbrev pub AllRead : {A : Type 0} → (List ℕ → List ℕ → A → Type 0) → (List ℕ → Message → Type 0) → Type 0
 AllRead {A} spells refuses = (name text : List ℕ) → ((a : A) × spells name text a) ⊎ ((told : Message) × refuses text told)
 
 module _ {A : Type 0} (spells : List ℕ → List ℕ → A → Type 0) (refuses : List ℕ → Message → Type 0) (all : AllRead spells refuses) (files : Files) where
-  -- a path has a source, or a line that tells why not, or no file
+  -- a path has a source, or a line that says why not, or no file
   abbrev pub IsAt : List ℕ → List ℕ → Type 0
   IsAt name path = ((a : A) × SpellsAt (spells name) (Some files) path a) ⊎ ((line : List ℕ) × IsFaulty refuses (Some files) path line) ⊎ (file_at files path ≡ None)
 

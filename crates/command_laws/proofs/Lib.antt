@@ -14,6 +14,7 @@ pub mod ProgramAnswered
 pub mod RunExactly
 pub mod SoakAnswered
 pub mod SoakExactly
+pub mod TestExactly
 pub mod TextsOnce
 pub mod VmDoes
 pub mod VmExactly

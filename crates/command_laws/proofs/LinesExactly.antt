@@ -20,5 +20,5 @@ exact for_classes for_file for_vm for_chip for_soak files (of_classes source wor
 exact for_classes for_file for_vm for_chip for_soak files (of_file path work) other = for_file files path work
 exact for_classes for_file for_vm for_chip for_soak files (vm folder bare) other = for_vm files folder bare
 exact for_classes for_file for_vm for_chip for_soak files (chip name) other = for_chip files name
-exact for_classes for_file for_vm for_chip for_soak files (test path gates) other = absurd other
+exact for_classes for_file for_vm for_chip for_soak files (test path gates simplify) other = absurd other
 exact for_classes for_file for_vm for_chip for_soak files (soak seed count) other = for_soak files seed count

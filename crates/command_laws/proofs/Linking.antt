@@ -234,7 +234,7 @@ some_kept false ss = kept_of (Reached ss) (reached_or_not ss) 0 ss
 
 -- ---- the answer
 
--- what is told of a fault, where there is one
+-- what is reported of a fault, where there is one
 abbrev IsTold : Option LinkFault → Type 0
 IsTold None = Unit {0}
 IsTold (Some f) = (told : Message) × (link_message f ≡ Some told)
@@ -265,7 +265,7 @@ told_kept : (files : ℕ) (ss ks : List Section) → IsTold (kept_fault files ss
 told_kept files ss ks =
     told_or _ _ (told_map NoFunction (λ name. (_, refl)) (first_of (no_function ss) ks)) (told_many (nat_lt 240 (words_before ks files)) (min (words_before ks files) (2 ^ 64 - 1)))
 
--- The program is linked, or it has a fault, of which this is told.
+-- The program is linked, or it has a fault, of which this is reported.
 abbrev pub IsLinkedOrTold : Bool → List File → Type 0
 IsLinkedOrTold bare files = ((l : Linked) × Links bare files (Ok l)) ⊎ ((f : LinkFault) × (told : Message) × Links bare files (Err f) × (link_message f ≡ Some told))
 

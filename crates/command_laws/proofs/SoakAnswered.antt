@@ -1,6 +1,5 @@
 -- A line of `soak` has an answer: whether the levels agree can be found out.
-use Rattle.std.proofs.Common.{◌≡◌, ◌≤◌, ◌<◌, ◌+◌, ◌%◌, ◌==◌, ◌↔◌, ◌⊎◌, inl, inr, ℕ, zero, suc, Bool, true, false, [], List, Option, Some, None, Ok, refl, sym, ◌∙◌, ap, subst, arith}
-use Rattle.std.specs.Prelude.{if◌then◌else◌}
+use Rattle.std.proofs.Common.{◌≡◌, ◌≤◌, ◌<◌, ◌+◌, ◌==◌, ◌↔◌, ◌⊎◌, inl, inr, ℕ, zero, suc, Bool, true, false, [], List, Option, Some, None, refl, sym, ap, subst, arith}
 use Rattle.std.proofs.lemmas.Bool.{cases_lt, eqb-false}
 use Rattle.std.proofs.lemmas.Bool.Decides.{Decides-eqb}
 use Rattle.outer_world.specs.Files.{Files}
@@ -18,7 +17,6 @@ use Rattle.vm_machine.specs.Step.{Outcome, Acts, Strays, Full, Done}
 use Rattle.vm_machine.specs.Level.{state_after}
 use Rattle.vm_machine.specs.Moves.{state_or}
 use Rattle.hdl_tree.specs.Behaviour.{Histories}
-use Rattle.hack_cpu.specs.Computer.{word_at}
 use Rattle.image_map.specs.declared.map.Image.{Image}
 use Rattle.image_map.specs.Map.{the_map}
 use Rattle.image_map.specs.Computer.{run_word}
@@ -28,10 +26,9 @@ use Rattle.tower.specs.Image.{IsImageOf}
 use Rattle.tower.specs.VmRun.{MakesMoves, outcome_at, vm_at, vm_trace, vm_word}
 use Rattle.soak_program.specs.Generator.{IsProgram, first_state}
 use Rattle.soak_program.specs.Laws.{OneTextLaw}
-use Rattle.command_line.specs.Line.{Source, of_classes, run, soak}
+use Rattle.command_line.specs.Line.{of_classes, run, soak}
 use Rattle.command_line.specs.declared.request.RunLevel.TheVariants.{Gates}
 use Rattle.command_line.specs.declared.request.Shown.TheVariants.{Words}
-use Rattle.nand_cli.specs.JackFolder.{FolderMeans}
 use Rattle.nand_cli.specs.Commands.Build.{BuildRefuses}
 use Rattle.nand_cli.specs.Commands.Build as building
 use Rattle.nand_cli.specs.Commands.Gates.{meaning_in}

@@ -1,28 +1,24 @@
 -- A line of `soak` prints one thing or is refused for one thing, and not both.
-use Rattle.std.proofs.Common.{◌≡◌, ◌≤◌, ◌<◌, ◌+◌, ◌%◌, ◌⊎◌, inl, inr, ℕ, zero, suc, Bool, true, false, List, Some, Ok, refl, sym, ◌∙◌, ap, subst, arith}
+use Rattle.std.proofs.Common.{◌≡◌, ◌≤◌, ◌<◌, ◌+◌, ◌%◌, ◌⊎◌, inl, inr, ℕ, zero, suc, Bool, true, false, List, Some, Ok, refl, sym, ◌∙◌, subst, arith}
 use Rattle.std.specs.Prelude.{if◌then◌else◌}
 use Rattle.std.proofs.lemmas.Bool.{cases_lt}
-use Rattle.outer_world.specs.Files.{Files}
-use Rattle.simulation.specs.Trace.{steps}
 use Rattle.jack_parser.specs.Spelled.{ClassLaw}
 use Rattle.jack_meaning.specs.Text.{Program}
 use Rattle.jack_meaning.specs.Level.{meaning_of}
 use Rattle.jack_meaning.specs.Meaning.{start}
 use Rattle.jack_core.specs.declared.program.Core.{Core}
-use Rattle.jack_core.specs.Texts.{the_program}
 use Rattle.image_map.specs.declared.map.Image.{Image}
 use Rattle.tower.specs.OneProgram.{SameProgram}
 use Rattle.gate_computer.specs.Computer.{IsComputer}
-use Rattle.hack_cpu.specs.Computer.{word_at}
 use Rattle.hdl_tree.specs.Behaviour.{Histories}
 use Rattle.soak_program.specs.Generator.{IsProgram}
 use Rattle.soak_program.specs.Laws.{OneTextLaw}
-use Rattle.command_line.specs.Line.{Source, build, of_classes, soak}
+use Rattle.command_line.specs.Line.{build}
 use Rattle.nand_cli.specs.JackFolder.{FolderMeans}
 use Rattle.nand_cli.specs.Commands.Build.{BuildRefuses}
-use Rattle.nand_cli.specs.Commands.Soak.{AreOutcomes, HasNoImage, HasOutcome, IsOutcome, IsSummary, More, None, Shows, SoakRefuses, cycles, most_moves, soak_files, soak_source, summary_text, word_sum}
-use Rattle.nand_cli.specs.Commands.SoakLevels.{Agree, AreLevelsAlike, IsAtJack, IsAtVm, View, after_steps, no_keys, silent_trace}
-use Rattle.command_laws.specs.Exact.{ClassesExactLaw, IsExact, SoakExactLaw}
+use Rattle.nand_cli.specs.Commands.Soak.{AreOutcomes, HasNoImage, HasOutcome, IsOutcome, IsSummary, More, None, Shows, SoakRefuses, cycles, most_moves, soak_files, soak_source, summary_text}
+use Rattle.nand_cli.specs.Commands.SoakLevels.{AreLevelsAlike, IsAtJack, IsAtVm, View, after_steps, no_keys}
+use Rattle.command_laws.specs.Exact.{ClassesExactLaw, SoakExactLaw}
 use Rattle.command_laws.proofs.RunExactly.{linked_here, one_image_of, one_meaning}
 
 -- ---- one text
@@ -140,7 +136,7 @@ module _ (class_law : ClassLaw) (text_law : OneTextLaw) (builds : ClassesExactLa
   one_of seed zero agree all sum None j below = absurd (omega (arith, below))
   one_of seed (suc i) agree all sum (More {m = m} {w = w} {agreed = b} h one) j below = by_place seed i j m w b one below (λ low. one_of seed i _ _ _ h j low) (cases_lt j i)
 
-  -- which is not told of a program without an image
+  -- which is not reported of a program without an image
   no_image_after : (seed i agree all sum j : ℕ) (line : List ℕ) → AreOutcomes seed i agree all sum → j < i → HasNoImage seed (suc j) line → ⊥
   no_image_after seed i agree all sum j line h below k =
       let (m, w, b, one) = one_of seed i agree all sum h j below in not_both seed (suc j) m w b line one k

@@ -1,7 +1,6 @@
 -- At an address with a point the words of a memory give a view; and the first number at which a test holds.
 use Rattle.std.proofs.Common.{◌≡◌, ◌≤◌, ◌<◌, ◌+◌, ◌-◌, ◌⊎◌, ◌∷◌, inl, inr, ℕ, zero, suc, Bool, true, false, List, [], Option, Some, None, map, refl, sym, ◌∙◌, ap, subst, arith}
-use Rattle.std.specs.Prelude.{nat_eq, nat_le, nat_lt, slice_get, if◌then◌else◌}
-use Rattle.std.proofs.lemmas.Bool.{ltb-true}
+use Rattle.std.specs.Prelude.{nat_le, slice_get, if◌then◌else◌}
 use Rattle.std.proofs.lemmas.Bool.Decides.{nat_tests}
 use Rattle.outer_world.specs.declared.point.Point.{Point}
 use Rattle.jack_debug.specs.declared.places.Places.{Places}

@@ -1,7 +1,8 @@
 //! Over known files a line has at most one answer.
-ghost use Rattle.command_laws.specs.Exact.{ChipExactLaw, ClassesExactLaw, ExactLaw, FileExactLaw, OneProgramLaw, SoakExactLaw, VmExactLaw};
+ghost use Rattle.command_laws.specs.Exact.{ChipExactLaw, ClassesExactLaw, ExactLaw, FileExactLaw, OneProgramLaw, SoakExactLaw, TestExactLaw, VmExactLaw};
 
-/// Law: over known files a line that reads the Jack classes of a folder prints one text or is refused with one line, and not both.
+/// Law: over known files a line that reads the Jack classes of a folder prints at most one text, is refused with at
+/// most one line, and not both. What `--show nets` prints is left open.
 pub fn classes_exact_law()
     ensures { ClassesExactLaw }
 {
@@ -42,7 +43,16 @@ pub fn soak_exact_law()
     classes_exact_law();
 }
 
-/// Law: over known files each line has one answer: it prints one thing or is refused for one thing, and not both.
+/// Law: over known files a test script prints at most one thing, is refused for at most one, but for the nets of a
+/// loop, and differs in at most one line. It is at most one of these.
+pub fn test_exact_law()
+    ensures { TestExactLaw }
+{
+    script_laws::script_exact_law();
+}
+
+/// Law: over known files a line that is no test script prints at most one thing, is refused for at most one, and not
+/// both. What `--show nets` prints is left open.
 pub fn exact_law()
     ensures { ExactLaw }
 {

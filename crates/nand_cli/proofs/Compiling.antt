@@ -1,5 +1,5 @@
 -- The VM files of a folder's classes, or why there are none.
-use Rattle.std.proofs.Common.{◌≡◌, List, ℕ, Option, Err, length, map, take, sym, ◌∙◌}
+use Rattle.std.proofs.Common.{◌≡◌, List, Option, Err, length, map, take, sym, ◌∙◌}
 use Rattle.std.proofs.lemmas.List.{length-map}
 use Rattle.jack_names.specs.Messages.{name_message}
 use Rattle.outer_world.specs.Files.{Files, path_in}

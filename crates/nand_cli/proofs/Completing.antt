@@ -140,7 +140,7 @@ sound_lines laws files (of_classes source (debug sub number cycles keys)) (sound
 sound_lines laws files (of_file path work) sound = absurd sound
 sound_lines laws files (vm folder bare) sound = absurd sound
 sound_lines laws files (chip name) sound = absurd sound
-sound_lines laws files (test path gates) sound = absurd sound
+sound_lines laws files (test path gates simplify) sound = absurd sound
 sound_lines laws files (soak seed count) sound = absurd sound
 
 -- ---- the call

@@ -1,5 +1,5 @@
 -- A line of `debug`: what its parts say.
-use Rattle.std.proofs.Common.{◌≡◌, ◌<◌, ◌≤◌, ◌++◌, inl, inr, ℕ, zero, suc, Bool, true, false, nat_lt, take, List, [], Option, Some, None, Result, Ok, Err, refl, sym, ap, ◌∙◌, subst, arith, map}
+use Rattle.std.proofs.Common.{◌≡◌, ◌<◌, ◌≤◌, ◌++◌, inl, inr, ℕ, Bool, true, false, nat_lt, take, List, [], Option, Some, None, Result, Ok, Err, refl, sym, ap, ◌∙◌, subst, arith}
 use Rattle.std.proofs.lemmas.Bool.{ltb-true}
 use Rattle.std.proofs.lemmas.Bool.Decides.{nat_tests}
 use Rattle.std.specs.Prelude.{IfSome}
@@ -21,7 +21,6 @@ use Rattle.hdl_tree.specs.Behaviour.{Histories}
 use Rattle.hack_cpu.specs.Computer.{pc_at, word_at}
 use Rattle.gate_computer.specs.Computer.{IsComputer}
 use Rattle.gate_computer.specs.Followed.{GateMachine, HasFollowed, image_in, word_in}
-use Rattle.jack_tree.specs.Seen.{the_file}
 use Rattle.jack_core.specs.Texts.{the_program}
 use Rattle.jack_core.specs.declared.program.Core.{Core}
 use Rattle.jack_compiler.specs.Resolved.{IsResolvedCore}
@@ -36,7 +35,7 @@ use Rattle.command_line.specs.Line.{Source, debug, of_classes}
 use Rattle.nand_cli.specs.Answer.{Lacks}
 use Rattle.nand_cli.specs.Commands.Build.{BuildRefuses}
 use Rattle.nand_cli.specs.Commands.Debug.{DebugPrints, DebugRefuses, HasStatement, IsAt, IsDebugReport, ShowsNone, ShowsStop, TellsStop, no_point, none_text, stop_text, stopped, unstopped, without_image, without_point, without_script}
-use Rattle.nand_cli.specs.Commands.Gates.{InEach, gates_trace}
+use Rattle.nand_cli.specs.Commands.Gates.{InEach}
 use Rattle.nand_cli.specs.Commands.Map.{FolderHasPlaces}
 use Rattle.nand_cli.specs.Commands.Run.{HasKeys, LacksKeys, ScriptIsRefused}
 use Rattle.nand_cli.specs.Inner.Debugging.{AnswersAt, FolderIsPlaced, HasComeTo, HasGone, IsPreparedDebug, LacksPoint, TellsDriven, TellsMachine}
@@ -46,7 +45,7 @@ use Rattle.nand_cli.specs.declared.commands.debug.PreparedDebug.{PreparedDebug}
 use Rattle.nand_cli.specs.declared.failure.Failure.{Failure}
 use Rattle.nand_cli.specs.declared.failure.Failure.TheVariants as failure
 use Rattle.nand_cli.specs.declared.placed.PlacedProgram.{PlacedProgram}
-use Rattle.nand_cli.proofs.Doing.{misses_other, nothing_put}
+use Rattle.nand_cli.proofs.Doing.{nothing_put}
 use Rattle.nand_cli.proofs.Meaning.{meant}
 use Rattle.nand_cli.proofs.Reporting.{reported_as, reports_by}
 use Rattle.nand_cli.proofs.Stopping.{at_is, is_at_so, seen_of}
@@ -115,7 +114,7 @@ module _ (core : Core) (image : Image) (places : Places) (resolved : IsResolvedC
 -- ---- the line
 
 module _ (files : Option Files) (there : List ℕ → Bool) (steady : Type 0) (source : Source) (sub : List ℕ) (number cycles : ℕ) (keys : Option (List ℕ)) where
-  -- what is told of a prepared line is what the line prints
+  -- what is reported of a prepared line is what the line prints
   pub prints : (p : PreparedDebug) (text : List ℕ) → IsPreparedDebug files source sub number keys p → TellsDriven p sub number cycles text → DebugPrints files source sub number cycles keys text
   prints p text is told =
       let have = is.here.2 in

@@ -14,14 +14,14 @@ use Rattle.nand_cli.specs.Answer.{CutsOut, Lacks, Misses, Prints, Refuses, Starv
 use Rattle.nand_cli.specs.Inner.Parts.{Counts, Does, finish_result}
 use Rattle.nand_cli.specs.declared.failure.Failure.TheVariants as failure
 
--- ---- all commands but `test` put nothing before the line that tells how they ended
+-- ---- all commands but `test` put nothing before the message of how they ended
 
 pub misses_other : (files : Option Files) (there : List ℕ → Bool) (unfailing : Type 0) (line : Line) → IsNoTest line → (unfailing → IfSome files (λ told. Lacks there told line)) → Misses files there unfailing line [] []
 misses_other files there unfailing (of_classes source work) other may = (refl, refl, may)
 misses_other files there unfailing (of_file path work) other may = (refl, refl, may)
 misses_other files there unfailing (vm folder bare) other may = (refl, refl, may)
 misses_other files there unfailing (chip name) other may = (refl, refl, may)
-misses_other files there unfailing (test path gates) other may = absurd other
+misses_other files there unfailing (test path gates simplify) other may = absurd other
 misses_other files there unfailing (soak seed count) other may = (refl, refl, may)
 
 pub starves_other : (files : Option Files) (line : Line) → IsNoTest line → Starves files line [] []
@@ -29,7 +29,7 @@ starves_other files (of_classes source work) other = (refl, refl)
 starves_other files (of_file path work) other = (refl, refl)
 starves_other files (vm folder bare) other = (refl, refl)
 starves_other files (chip name) other = (refl, refl)
-starves_other files (test path gates) other = absurd other
+starves_other files (test path gates simplify) other = absurd other
 starves_other files (soak seed count) other = (refl, refl)
 
 pub cuts_other : (files : Option Files) (line : Line) (text : List ℕ) (n : ℕ) → IsNoTest line → Prints files line text [] → CutsOut files line (take n text) []
@@ -37,7 +37,7 @@ cuts_other files (of_classes source work) text n other prints = (text, n, prints
 cuts_other files (of_file path work) text n other prints = (text, n, prints, refl, refl)
 cuts_other files (vm folder bare) text n other prints = (text, n, prints, refl, refl)
 cuts_other files (chip name) text n other prints = (text, n, prints, refl, refl)
-cuts_other files (test path gates) text n other prints = absurd other
+cuts_other files (test path gates simplify) text n other prints = absurd other
 cuts_other files (soak seed count) text n other prints = (text, n, prints, refl, refl)
 
 -- nothing is put of what is not loaded

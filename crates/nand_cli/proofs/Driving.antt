@@ -45,7 +45,7 @@ driven code image old new c n c' (ends.Stray s) by h first same law = let bad = 
 driven code image old new c n c' (ends.Full w) by h first same law = let bad = never_ends code old new c n c' (moved.Full w) by h in absurd (let no : ⊥ = cc in no)
 driven code image old new c n c' ends.Done by h first same law = let bad = never_ends code old new c n c' moved.Done by h in absurd (let no : ⊥ = cc in no)
 
--- where it stands is told without keys where they are those of no lines
+-- where it stands is given without keys where they are those of no lines
 pub without_keys : (image program : List ℕ) (lines : List Line) (n : ℕ) (m : Machine) → m ≡ machine_at image (code_at lines) n → image ≡ program → lines ≡ [] → m ≡ machine_at program (λ _. 0) n
 without_keys image program lines n m stands same none =
     stands ∙ ap (λ words. machine_at words (code_at lines) n) same ∙ ap (λ ls. machine_at program (code_at ls) n) none

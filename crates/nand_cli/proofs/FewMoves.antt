@@ -1,4 +1,4 @@
--- A report tells of as many moves at most as are asked for.
+-- A report has as many moves at most as are asked for.
 use Rattle.std.proofs.Common.{◌≡◌, ◌≤◌, ◌<◌, ◌++◌, ◌∷◌, ℕ, suc, List, Option, Result, codes, decimal, ◌∙◌, append_assoc, arith}
 use Rattle.jack_meaning.specs.Text.{Subroutine}
 use Rattle.jack_meaning.specs.Meaning.{State}

@@ -1,6 +1,6 @@
 -- The computer made of gates after its cycles, and its report.
 use Rattle.std.proofs.Common.{◌≡◌, ◌<◌, ◌++◌, ℕ, suc, false, true, List, [], Option, Result, Ok, Err, IfOk, refl, ap, ◌∙◌, sym, subst, append-nil}
-use Rattle.std.specs.Prelude.{IsSome, None}
+use Rattle.std.specs.Prelude.{IsSome}
 use Rattle.std.proofs.lemmas.List.Elements.{recursion_from_All}
 use Rattle.word16.specs.Memory.{keyboard}
 use Rattle.outer_world.specs.declared.sink.Put.{Put}
@@ -23,6 +23,7 @@ use Rattle.jack_meaning.specs.Meaning.{State, start}
 use Rattle.hdl_tree.specs.Behaviour.{Histories}
 use Rattle.hack_cpu.specs.Computer.{word_at}
 use Rattle.gate_computer.specs.Computer.{IsComputer}
+use Rattle.gate_computer.specs.Simple.{IsSimpleComputer}
 use Rattle.gate_computer.specs.Followed.{GateMachine, HasFollowed, ShowsCycle, image_in, word_in}
 use Rattle.gate_computer.specs.Parts.{ShowsParts, parts_text}
 use Rattle.image_map.specs.Map.{the_map}
@@ -176,15 +177,15 @@ prepared_whole {E} core image (Ok g) is same moves stands parts = record { start
 prepared_whole {E} core image (Err x) is same moves stands parts = tt
 
 pub prepared_simple : {E : Type 0} (core : Core) (image : Image) (r : Result GateMachine E) → IsImageOf core image → IfOk r (λ g. image_in g ≡ image)
-    → IfOk r (λ g. g.moves ≡ 0) → IfOk r (λ g. HasFollowed g []) → IfOk r (λ g. true ≡ true → g.wiring.parts ≡ None) → IfOk r (IsSimpleAtStart core)
-prepared_simple {E} core image (Ok g) is same moves stands parts = record { start = prepared {E = E} core image (Ok g) is same moves stands; parts = parts refl }
-prepared_simple {E} core image (Err x) is same moves stands parts = tt
+    → IfOk r (λ g. g.moves ≡ 0) → IfOk r (λ g. HasFollowed g []) → IfOk r (λ g. true ≡ true → IsSimpleComputer g.sim.net g.wiring) → IfOk r (IsSimpleAtStart core)
+prepared_simple {E} core image (Ok g) is same moves stands simple = record { start = prepared {E = E} core image (Ok g) is same moves stands; simple = simple refl }
+prepared_simple {E} core image (Err x) is same moves stands simple = tt
 
 module _ (core : Core) (code : ℕ → ℕ) (n : ℕ) (resolved : IsResolvedCore core) (words : (c : ℕ) → IsKey (code c)) (old new : GateMachine) (at : IsAtStart core old) (same : image_in new ≡ image_in old) where
   own_image : IsImageOf core (image_in new)
   own_image = subst (IsImageOf core) (sym same) at.image
 
-  -- it was driven, and this is told of it
+  -- it was driven, and this is reported of it
   abbrev pub IsToldOf : Show → List ℕ → Type 0
   IsToldOf show t = (end : End) × IsDriven code (HasFollowed old) old.moves n end (HasFollowed new) new.moves × (t ≡ gates_text new (names_of core) end show)
 

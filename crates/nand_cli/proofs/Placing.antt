@@ -1,5 +1,5 @@
 -- A folder's program with its image and its places.
-use Rattle.std.proofs.Common.{◌≡◌, ◌≤◌, inl, inr, ℕ, Bool, List, Vec, Global, Option, Result, Ok, Err, codes, length, map, refl, ap, subst}
+use Rattle.std.proofs.Common.{◌≡◌, inl, inr, ℕ, Bool, List, Vec, Global, Option, Result, Ok, Err, codes, map, refl, ap, subst}
 use Rattle.outer_world.specs.Files.{Files, LacksFolder}
 use Rattle.source_files.specs.Loads.{CountsLoad, Loads}
 use Rattle.source_files.specs.Sources.{IsUnread}

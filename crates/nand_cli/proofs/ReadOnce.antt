@@ -15,7 +15,7 @@ use Rattle.jack_parser.specs.Language.{RefusesClass, SpellsFile}
 use Rattle.key_script.specs.Language.{RefusesKeys}
 use Rattle.source_files.specs.Faults.{TellsFault}
 
--- ---- a first fault tells one thing
+-- ---- a first fault reports one thing
 
 pub one_told : {X : Type 0} (spells : X → Type 0) (refuses : List ℕ → Fault → Type 0) (text : List ℕ) (s t : Message) → OneReading X spells (refuses text) → TellsFault refuses text s → TellsFault refuses text t → s ≡ t
 one_told spells refuses text s t once (f, h, e) (g, k, d) = e ∙ ap diagnostic_of (once.one_fault f g h k) ∙ sym d

@@ -1,4 +1,4 @@
--- What is shown of words is told by those of heap and screen.
+-- What is shown of words is given by those of heap and screen.
 use Rattle.std.proofs.Common.{◌≡◌, ◌≤◌, ◌<◌, ◌+◌, ◌-◌, ◌*◌, ◌/◌, ◌%◌, ◌++◌, [], ◌∷◌, ℕ, zero, suc, Bool, false, List, map, refl, ◌∙◌, ap, arith}
 use Rattle.std.specs.List.{flat_map, range_with_len}
 use Rattle.word16.specs.Memory.{heap, keyboard}

@@ -1,5 +1,5 @@
--- The meaning after so many steps, as its machine comes there.
-use Rattle.std.proofs.Common.{◌≡◌, ◌<◌, ◌≤◌, ◌-◌, ◌⊎◌, ◌↔◌, ℕ, zero, suc, Bool, true, Option, Some, None, inl, inr, refl, sym, ap, subst, ◌∙◌, arith}
+-- The meaning after this many steps, as its machine comes there.
+use Rattle.std.proofs.Common.{◌≡◌, ◌<◌, ◌≤◌, ◌-◌, ◌⊎◌, ◌↔◌, ℕ, zero, suc, Bool, true, Some, None, inl, inr, refl, sym, ap, subst, ◌∙◌, arith}
 use Rattle.std.specs.Prelude.{option_and_then, slice_index}
 use Rattle.std.proofs.lemmas.Bool.{cases_lt}
 use Rattle.outer_world.specs.declared.point.Point.{Point}

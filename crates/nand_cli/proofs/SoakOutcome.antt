@@ -1,11 +1,9 @@
--- What is told of a program that ran at the four levels.
-use Rattle.std.proofs.Common.{◌≡◌, ◌<◌, ◌≤◌, ◌+◌, ◌↔◌, ℕ, zero, suc, Bool, true, false, List, [], Some, refl, sym, ap, subst, ◌∙◌, arith, lit<}
+-- What is reported of a program that ran at the four levels.
+use Rattle.std.proofs.Common.{◌≡◌, ◌<◌, ◌≤◌, ◌↔◌, ℕ, zero, suc, Bool, true, false, List, refl, sym, ap, subst, ◌∙◌, arith, lit<}
 use Rattle.std.specs.Prelude.{if◌then◌else◌}
 use Rattle.simulation.specs.System.{IsKey}
 use Rattle.simulation.specs.Trace.{Trace, steps}
 use Rattle.machine_io.specs.History.{moves_from}
-use Rattle.machine_io.specs.Reading.{Reading, ShowSame}
-use Rattle.outer_world.specs.declared.point.Point.{Point}
 use Rattle.hack_machine.specs.Loaded.{machine_of}
 use Rattle.hack_isa.specs.Machine.{Machine}
 use Rattle.jack_core.specs.declared.program.Core.{Core}
@@ -15,12 +13,12 @@ use Rattle.gate_computer.specs.Computer.{IsComputer}
 use Rattle.gate_computer.specs.Followed.{GateMachine, HasFollowed, image_in, word_in}
 use Rattle.tower.specs.Image.{IsImageOf}
 use Rattle.tower.specs.Mapped.{MappedMachine, StandsAt, image_in as hack_image}
-use Rattle.nand_cli.specs.Commands.Soak.{IsOutcome, Shows, cycles, most_moves, word_sum}
-use Rattle.nand_cli.specs.Commands.SoakLevels.{AreAlike, AreLevelsAlike, View, gates_view, hack_view, no_keys, silent_trace}
+use Rattle.nand_cli.specs.Commands.Soak.{IsOutcome, Shows, word_sum}
+use Rattle.nand_cli.specs.Commands.SoakLevels.{AreAlike, AreLevelsAlike, gates_view, hack_view, no_keys, silent_trace}
 use Rattle.nand_cli.specs.Inner.SoakParts.{view_in}
 use Rattle.nand_cli.proofs.OnGates.{shows_cycle}
 use Rattle.nand_cli.proofs.SoakSums.{same_sum}
-use Rattle.nand_cli.proofs.SoakViews.{IsViewOf, alike_back, levels_too, told_alike}
+use Rattle.nand_cli.proofs.SoakViews.{IsViewOf, alike_back, levels_too}
 
 pub keys_are : (c : ℕ) → IsKey (no_keys c)
 keys_are c = lit< tt

@@ -1,6 +1,5 @@
 -- Sums of words, and of outcomes.
-use Rattle.std.proofs.Common.{◌≡◌, ◌<◌, ◌≤◌, ◌+◌, ◌*◌, ◌%◌, ℕ, zero, suc, Bool, true, false, refl, sym, ap, ◌∙◌, arith}
-use Rattle.std.specs.Prelude.{if◌then◌else◌}
+use Rattle.std.proofs.Common.{◌≡◌, ◌<◌, ◌≤◌, ◌+◌, ◌%◌, ℕ, zero, suc, refl, sym, ap, ◌∙◌, arith}
 use Rattle.nand_cli.specs.Commands.Soak.{total, word_sum, words}
 
 pub words_are : words ≡ 22528

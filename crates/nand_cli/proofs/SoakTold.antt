@@ -1,5 +1,5 @@
--- What is told of generated programs, one after another.
-use Rattle.std.proofs.Common.{◌≡◌, ◌+◌, ◌%◌, ℕ, suc, Bool, true, false, List, [], Option, Some, Err, refl, sym, subst, add-one}
+-- What is reported of generated programs, one after another.
+use Rattle.std.proofs.Common.{◌≡◌, ◌+◌, ◌%◌, ℕ, suc, Bool, true, false, List, [], Some, Err, refl, sym, subst, add-one}
 use Rattle.std.specs.Prelude.{if◌then◌else◌}
 use Rattle.outer_world.specs.Files.{Files, LacksFolder}
 use Rattle.outer_world.specs.Plans.{NoneToCome, each_folder_there}
@@ -49,7 +49,7 @@ one_more seed before agree all sum m w x b h one e =
     let Q : ℕ → Type 0 = λ y. AreOutcomes seed (suc before) (agree + y) (all + m) ((sum + w) % 65536) in
     subst P (sym (add-one before)) (subst Q (sym e) more)
 
--- the same, told in another way
+-- the same, given in another way
 pub retold : (seed i agree all sum agree' all' sum' : ℕ) → AreOutcomes seed i agree all sum → agree' ≡ agree → all' ≡ all → sum' ≡ sum → AreOutcomes seed i agree' all' sum'
 retold seed i agree all sum agree' all' sum' h e f g =
     let P : ℕ → Type 0 = λ n. AreOutcomes seed i n all' sum' in

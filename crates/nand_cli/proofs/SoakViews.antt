@@ -1,5 +1,5 @@
 -- Two levels show the same where what is read of their machines is the same.
-use Rattle.std.proofs.Common.{◌≡◌, ◌↔◌, ℕ, Bool, true, false, Option, Some, refl, sym, ap, subst, ◌∙◌}
+use Rattle.std.proofs.Common.{◌≡◌, ◌↔◌, ℕ, Bool, true, Some, sym, ap, ◌∙◌}
 use Rattle.outer_world.specs.declared.point.Point.{Point}
 use Rattle.simulation.specs.System.{IsData}
 use Rattle.machine_io.specs.Reading.{Reading, ShowSame}

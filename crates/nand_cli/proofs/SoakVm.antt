@@ -1,10 +1,9 @@
--- The virtual machine on its way to the place behind a commit.
-use Rattle.std.proofs.Common.{◌≡◌, ◌<◌, ◌≤◌, ◌+◌, ◌-◌, ◌⊎◌, ◌↔◌, ℕ, zero, suc, Bool, true, false, cond, [], Some, None, Ok, inl, inr, refl, sym, ap, subst, ◌∙◌, arith}
+-- The virtual machine on its way to the place after a commit.
+use Rattle.std.proofs.Common.{◌≡◌, ◌<◌, ◌≤◌, ◌+◌, ◌-◌, ◌⊎◌, ℕ, zero, suc, Bool, true, false, [], Some, Ok, inl, inr, refl, sym, ap, subst, ◌∙◌, arith}
 use Rattle.std.specs.Prelude.{if◌then◌else◌, slice_index}
 use Rattle.std.proofs.lemmas.Bool.{cases_lt}
 use Rattle.outer_world.specs.declared.point.Point.{Point}
 use Rattle.simulation.specs.Trace.{Trace, point_at, steps}
-use Rattle.machine_io.specs.History.{moves_in}
 use Rattle.machine_io.specs.Reading.{Reading, ShowSame}
 use Rattle.machine_io.specs.declared.machine.Moved.{Moved}
 use Rattle.machine_io.specs.declared.machine.Moved.TheVariants as moved
@@ -23,7 +22,7 @@ use Rattle.nand_cli.specs.Inner.SoakParts.{IsBehindCommit, NeverComes}
 use Rattle.nand_cli.proofs.OnVm.{seen_at}
 use Rattle.nand_cli.proofs.SoakViews.{IsViewOf, from_alike, to_alike}
 
--- ---- the places behind commits of a trace
+-- ---- the places after commits of a trace
 
 pub counts : (t : Trace) (m k : ℕ) → IsJustAfter t m k → steps t k ≡ m
 counts t m k AtFirst = refl
@@ -65,7 +64,7 @@ module _ (t : Trace) where
   pub one_place : (m j k : ℕ) → IsJustAfter t m j → IsJustAfter t m k → j ≡ k
   one_place m j k h g = same_by m j k h g (cases_lt j k) (cases_lt k j)
 
-  -- the first place with so many steps is one
+  -- the first place with this many steps is one
   behind_by : (m j : ℕ) (b : Bool) → t.commits j ≡ b → steps t (suc j) ≡ m → (steps t j ≡ m → ⊥) → IsJustAfter t m (suc j)
   behind_by m j true e count before = subst (λ (n : ℕ). IsJustAfter t n (suc j)) count (BehindCommit j e)
   behind_by m j false e count before = absurd (before (sym (if_none (t.commits j) (steps t j) e) ∙ count))

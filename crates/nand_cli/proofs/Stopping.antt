@@ -1,19 +1,17 @@
 -- The computer made of gates on its way to a statement.
 use Rattle.std.proofs.Common.{◌≡◌, ◌<◌, ◌≤◌, ◌+◌, ◌++◌, ◌∷◌, ◌&&◌, ◌==◌, [], ℕ, zero, suc, Bool, true, false, nat_lt, List, Option, Some, None, refl, sym, ap, ◌∙◌, subst, arith, add-one}
-use Rattle.std.proofs.lemmas.Bool.{eqb-true, eq-eqb, ltb-true}
+use Rattle.std.proofs.lemmas.Bool.{ltb-true}
 use Rattle.std.proofs.lemmas.Bool.Decides.{nat_tests}
 use Rattle.std.proofs.lemmas.Slice.Eq.{bytes_eq-Decides}
 use Rattle.std.specs.Prelude.{◌↔◌, IsSome, IsTrue, if◌then◌else◌, slice_get}
-use Rattle.std.specs.Str.{bytes_eq}
 use Rattle.outer_world.specs.declared.point.Point.{Point}
 use Rattle.machine_io.specs.History.{Turn, moves_from, turn}
 use Rattle.machine_io.specs.declared.machine.Moved.TheVariants.{Acted}
 use Rattle.word16.specs.Memory.{keyboard}
-use Rattle.simulation.specs.Trace.{Trace, steps}
+use Rattle.simulation.specs.Trace.{steps}
 use Rattle.image_map.specs.declared.map.Image.{Image}
 use Rattle.hdl_tree.specs.Behaviour.{Histories}
 use Rattle.hack_cpu.specs.Computer.{pc_at, word_at}
-use Rattle.gate_computer.specs.Computer.{IsComputer}
 use Rattle.gate_computer.specs.Followed.{GateMachine, HasFollowed, image_in, word_in}
 use Rattle.jack_debug.specs.Walk.{name_of, point_in, sub_at}
 use Rattle.jack_debug.specs.declared.places.PlacedRange.{PlacedRange}

@@ -48,7 +48,8 @@ not_read words before after error s none kept stays out shelf quiet tells = reco
   stays = stays;
 }
 
--- ---- a line that is not done; the bytes and the count of faults of err are told before its line too
+-- ---- a line that is not done; the bytes and the count of faults of err are known before its line
+-- too
 
 module _ (words : List (List ℕ)) (before after : Outside) (line : Line) (is_line : IsLine words line) (between : Option (List ℕ)) (count : ℕ) where
   failure_answers : (why : Failure) (s : Status) → Does before.files before.there before.unfailing line before.out after.out before.err between (Err why)

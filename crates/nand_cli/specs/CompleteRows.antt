@@ -41,7 +41,7 @@ plus_a e = Binary Plus (local 0) e
 abbrev pub minus : Expression → Expression
 minus e = Unary Minus e
 
--- while (-a) { .. }, where `let i = ---(a + (a + (a + (a + (a + a)))));` stands so many times
+-- while (-a) { .. }, where `let i = ---(a + (a + (a + (a + (a + a)))));` stands this many times
 abbrev pub filling : ℕ → Statement
 filling n = While 1 (minus (local 0)) (text_of (replicate n (Let 2 (Local 1) (minus (minus (minus (plus_a (plus_a (plus_a (plus_a (plus_a (local 0))))))))))))
 

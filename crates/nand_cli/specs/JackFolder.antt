@@ -35,27 +35,29 @@ FolderMeans files source core = (classes : List Class) × HasClasses files sourc
 abbrev pub files_meant : List ClassFile → List ClassFile → List File
 files_meant own os = program_files (program_meaning own os) (program_names own os) (class_names own ++ class_names os)
 
--- The folder in which a file is told: a file of the operating system stands in `os`.
+-- The folder in which a file is reported: a file of the operating system stands in `os`.
 abbrev pub home_of : List ℕ → Bool → List ℕ
 home_of folder shipped = if shipped then codes "os" else folder
 
--- the line that tells a fault of a name: its file, its place, the word of its kind and the name
+-- the line that reports a fault of a name: its file, its place, the word of its kind and the name
 abbrev pub name_line : List ℕ → NameDiagnostic → List ℕ
 name_line folder told =
     message_line (path_in (home_of folder told.shipped) told.file) (message told.place.line told.place.column (kind_word told.kind) told.name)
 
--- The classes mean no program, and this line tells why: it tells the first fault of their names, by stage, file, place and kind.
+-- The classes mean no program, and this line says why: it reports the first fault of their names, by stage, file, place and
+-- kind.
 abbrev pub IsMeaningless : Source → List ClassFile → List ℕ → Type 0
 IsMeaningless source own line =
     (os : List ClassFile) × (told : NameDiagnostic) × AreFilesOf (system_beside source.replace own) os × IsFirstByPlace own os told
     × (line ≡ name_line source.folder told)
 
--- The folder means no program, and this line tells why: its files are not read, or their classes mean none.
+-- The folder means no program, and this line says why: its files are not read, or their classes mean no
+-- program.
 pub data FolderIsRefused (files : Option Files) (source : Source) (line : List ℕ) : Type 0 where
   unread : IsUnread SpellsFile RefusesClass (codes ".jack") files source.folder line → FolderIsRefused files source line
   meaningless : (own : List ClassFile) → HasClasses files source.folder own → IsMeaningless source own line → FolderIsRefused files source line
 
--- The program has no image, and this line tells why.
+-- The program has no image, and this line says why.
 abbrev pub BuildIsRefused : Core → List ℕ → List ℕ → Type 0
 BuildIsRefused core folder line =
     (error : BuildError) × (told : Message) × Builds core (Err error) × (build_message error ≡ Some told) × (line ≡ message_line folder told)

@@ -1,4 +1,4 @@
--- What is outside of a call, as far as it is told.
+-- What is outside of a call, as far as it is known.
 use Rattle.std.specs.Prelude.{ℕ, Bool, List, Option}
 use Rattle.outer_world.specs.Files.{Files}
 
@@ -7,7 +7,7 @@ pub record Outside : Type 1 where
   pub files : Option Files
   -- which folders are there
   pub there : List ℕ → Bool
-  -- no call of the shelf is planned to fail
+  -- no call of the shelf is set up to fail
   pub unfailing : Type 0
   -- the bytes on out and on err, where they are known
   pub out : Option (List ℕ)

@@ -1,4 +1,4 @@
-//! Why a line is not done, and the lines on err that tell of it.
+//! Why a line is not done, and its messages on err.
 ghost use Rattle.std.specs.Prelude.{◌≡◌};
 ghost use Rattle.outer_world.specs.Texts.{read_fault_line, usage_line, want_of_memory_line};
 ghost use Rattle.tst_runner.specs.Verdicts.{difference_line};
@@ -12,7 +12,7 @@ use source_files::{LoadError, Refusal};
 use std::alloc::{AllocError, AllocFailed};
 use tst_runner::Difference;
 
-/// Why a line is not done: what it needs is not loaded or made, a line differs from the one to compare it with, or out could not be written, or
+/// Why a line is not done. What it needs is not loaded or made, a line differs from the one to compare it with, or out could not be written, or
 /// an echo on err.
 #[derive(Drop)]
 pub enum Failure {
@@ -63,28 +63,28 @@ pub fn tell_refusal<E: Sink>(refusal: &Refusal, err: &mut E) -> Put
     refusal.diagnostic.put(refusal.path.as_str(), err)
 }
 
-/// Puts the line that tells of a line that differs.
+/// Puts the message of a line that differs.
 pub fn tell_difference<E: Sink>(difference: &Difference, err: &mut E) -> Put
     ensures { Says (E.faults err.old) (E.faults err.new) (E.written err.old) (E.written err.new) (difference_line difference.now) result }
 {
     difference.put(err)
 }
 
-/// Puts the line that tells that the words are none.
+/// Puts the line that says that the words are no line.
 pub fn tell_usage<E: Sink>(err: &mut E) -> Put
     ensures { Says (E.faults err.old) (E.faults err.new) (E.written err.old) (E.written err.new) usage_line result }
 {
     err.put(b"usage: nand COMMAND ARGUMENTS\n")
 }
 
-/// Puts the line that tells of a fault of the shelf.
+/// Puts the message of a fault of the shelf.
 pub fn tell_read_fault<E: Sink>(err: &mut E) -> Put
     ensures { Says (E.faults err.old) (E.faults err.new) (E.written err.old) (E.written err.new) read_fault_line result }
 {
     err.put(b"nand: read fault\n")
 }
 
-/// Puts the line that tells of want of memory.
+/// Puts the message of want of memory.
 pub fn tell_memory<E: Sink>(err: &mut E) -> Put
     ensures { Says (E.faults err.old) (E.faults err.new) (E.written err.old) (E.written err.new) want_of_memory_line result }
 {

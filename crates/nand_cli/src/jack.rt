@@ -1,4 +1,5 @@
-//! The program that a folder's Jack files mean, its image and its places, and why there is none.
+//! The program that a folder's Jack files mean, its image and its places, and why there is no
+//! program.
 ghost use Rattle.std.specs.Prelude.{◌≡◌, ◌≤◌, IfOk, Ok, length, map};
 ghost use Rattle.jack_compiler.specs.Resolved.{IsResolvedCore};
 ghost use Rattle.jack_core.specs.declared.program.Core.{Core};
@@ -42,10 +43,10 @@ pub struct BuiltProgram {
 /// The ending of the names of Jack files.
 pub const ENDING: &str = ".jack";
 
-// The folder in which the files of the operating system are told.
+// The folder in which the files of the operating system are reported.
 const SYSTEM: &str = "os";
 
-// The folder in which a file is told.
+// The folder in which a file is reported.
 fn home(folder: &str, shipped: bool) -> &str
     ensures { result.now ≡ home_of folder.now shipped }
 {
@@ -106,7 +107,7 @@ pub fn load_jack<F: Shelf>(
     program_of(alloc, source, &classes)
 }
 
-/// The image of a folder's program, or why there is none.
+/// The image of a folder's program, or why there is no image.
 pub fn image_of(alloc: Global, folder: &str, core: &Core) -> Result<Image, LoadError>
     requires { IsResolvedCore core.now }
     ensures loads { Loads (IsImageOf core.now) (BuildIsRefused core.now folder.now) ⊥ result }
@@ -118,7 +119,8 @@ pub fn image_of(alloc: Global, folder: &str, core: &Core) -> Result<Image, LoadE
     }
 }
 
-/// The program that the Jack files of a source's folder mean, with its image, or why there is none.
+/// The program that the Jack files of a source's folder mean, with its image, or why there is no
+/// program.
 pub fn load_built<F: Shelf>(
     alloc: Global,
     source: &Source<'_>,

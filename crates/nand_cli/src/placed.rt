@@ -40,8 +40,8 @@ fn placed_of(alloc: Global, source: &Source<'_>, own: &[Class]) -> Result<Placed
     Ok(PlacedProgram { image, places })
 }
 
-/// The program that the Jack files of a source's folder mean, with its image and its places, or why it has no image. The trees of its classes are kept until
-/// then.
+/// The program that the Jack files of a source's folder mean, with its image and its places, or why it has no image. The trees of its classes are
+/// kept until then.
 pub fn load_placed<F: Shelf>(
     alloc: Global,
     source: &Source<'_>,

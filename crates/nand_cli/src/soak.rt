@@ -23,7 +23,8 @@ use tower::{prepare_hack, prepare_vm};
 use vm_machine::Vm;
 use word16::{HEAP, KEYBOARD};
 
-/// What is told of a program: how many steps it made, the sum of its words to 16 bits, and whether all levels agree.
+/// What is reported of a program: how many steps it made, the sum of its words to 16 bits, and whether all levels
+/// agree.
 #[derive(Clone, Copy)]
 pub struct Outcome {
     pub steps: u32,
@@ -40,7 +41,7 @@ fn cycles() -> u64
     300_000
 }
 
-// How many moves the virtual machine may make until it is behind a commit.
+// How many moves the virtual machine may make until it is past a commit.
 #[tactic(auto, unfolding(crate::specs::Commands::Soak::most_moves))]
 fn most_moves() -> u64
     ensures value { result ≡ most_moves }
@@ -142,7 +143,8 @@ fn is_at_jack(alloc: Global, gates: &GateComputer, core: &Core, m: u32) -> Resul
     }
 }
 
-// Moves the virtual machine from its start to the place behind its m-th commit, if it comes there in so many moves.
+// Moves the virtual machine from its start to the place after its m-th commit, if it comes there in this many
+// moves.
 fn comes_behind(vm: &mut Vm, m: u64, bound: u64) -> bool
     requires start { HasTaken vm.old [] }
     requires few { bound ≤ 2 ^ 62 }
@@ -162,7 +164,7 @@ fn comes_behind(vm: &mut Vm, m: u64, bound: u64) -> bool
     vm.steps() == m
 }
 
-// Whether the virtual machine shows the same behind its m-th commit.
+// Whether the virtual machine shows the same after its m-th commit.
 fn is_at_vm(alloc: Global, gates: &GateComputer, core: &Core, m: u32) -> Result<bool, AllocError>
     requires resolved { IsResolvedCore core.now }
     requires built { (image : Image) × IsImageOf core.now image }
@@ -176,7 +178,7 @@ fn is_at_vm(alloc: Global, gates: &GateComputer, core: &Core, m: u32) -> Result<
     Ok(false)
 }
 
-// Whether the other levels show what is seen of the computer made of gates, after as many cycles, after m steps, and behind the m-th commit.
+// Whether the other levels show what is seen of the computer made of gates, after as many cycles, after m steps, and after the m-th commit.
 fn are_alike(
     alloc: Global,
     gates: &GateComputer,
@@ -199,7 +201,33 @@ fn are_alike(
     is_at_vm(alloc, gates, core, m)
 }
 
-/// What is told of a program with its image: it runs at level gates first, and then at each other level as far.
+// What is reported of the computer made of gates after its cycles, with its image once more.
+fn outcome_of(
+    alloc: Global,
+    gates: &GateComputer,
+    core: &Core,
+    image: Image,
+) -> Result<Outcome, AllocError>
+    requires resolved { IsResolvedCore core.now }
+    requires image { IsImageOf core.now image }
+    requires mapped { IsMapped image }
+    requires same { image_in gates.now ≡ image }
+    requires followed { HasFollowed gates.now (moves_from no_keys 0 cycles) }
+    requires few { gates.now.tally.steps ≤ 300000 }
+    ensures { IfOk result
+        (λ told. IsOutcome core.now cycles most_moves told.steps told.sum told.agrees) }
+{
+    let steps = gates.steps() as u32;
+    let agrees = are_alike(alloc, gates, core, image, steps)?;
+    Ok(Outcome {
+        steps,
+        sum: sum_of(gates),
+        agrees,
+    })
+}
+
+/// What is reported of a program with its image: it runs at level gates first, and then at each other level as
+/// far.
 pub fn outcome_at_levels(alloc: Global, core: &Core, image: Image) -> Result<Outcome, AllocError>
     requires resolved { IsResolvedCore core.now }
     requires image { IsImageOf core.now image }
@@ -209,11 +237,5 @@ pub fn outcome_at_levels(alloc: Global, core: &Core, image: Image) -> Result<Out
 {
     let copy = copy_of(alloc, &image)?;
     let gates = gates_after(alloc, image)?;
-    let steps = gates.steps() as u32;
-    let agrees = are_alike(alloc, &gates, core, copy, steps)?;
-    Ok(Outcome {
-        steps,
-        sum: sum_of(&gates),
-        agrees,
-    })
+    outcome_of(alloc, &gates, core, copy)
 }

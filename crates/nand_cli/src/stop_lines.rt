@@ -1,4 +1,4 @@
-//! The lines that tell where the computer of gates stopped.
+//! The lines that say where the computer of gates stopped.
 ghost use Rattle.std.specs.Prelude.{◌≡◌, [], codes, decimal, ◌++◌, ◌∷◌};
 ghost use Rattle.machine_io.specs.Report.{said_line};
 ghost use Rattle.outer_world.specs.Held.{HaveSameSink, pending, sink_of};

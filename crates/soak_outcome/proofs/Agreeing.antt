@@ -47,7 +47,7 @@ module _ (core : Core) where
   fewer : (ks : List ℕ) (m n : ℕ) → m ≤ n → T ks n → T ks m
   fewer ks m n h t j le = t j (omega (arith, h, le))
 
-  -- ---- The virtual machine comes behind its m-th commit
+  -- ---- The virtual machine comes after its m-th commit
 
   module _ (linked : Linked) (vm : (n : ℕ) → MakesMoves linked no_keys n → VmFollows (the_program core) linked no_keys n) (most : ℕ) (is_gap : IsGap (the_program core) most) where
     abbrev V : Trace

@@ -1,19 +1,19 @@
 -- A file of a program has at most as many static words as its class has statics.
-use Rattle.std.proofs.Common.{◌≡◌, ◌≤◌, ◌<◌, ◌+◌, ◌-◌, ◌++◌, ℕ, zero, suc, Bool, true, false, max, List, [], ◌∷◌, Err, Some, length, drop, get_or, refl, sym, ap, subst, ◌∙◌, arith}
-use Rattle.std.specs.Prelude.{◌==◌, nat_eq, if◌then◌else◌}
+use Rattle.std.proofs.Common.{◌≡◌, ◌≤◌, ◌<◌, ◌+◌, ◌-◌, ◌++◌, ℕ, zero, suc, Bool, true, false, max, List, [], ◌∷◌, length, drop, refl, subst, arith}
+use Rattle.std.specs.Prelude.{nat_eq, if◌then◌else◌}
 use Rattle.std.proofs.lemmas.Bool.{eqb-true}
 use Rattle.vm_tree.specs.declared.command.Line.{Line}
 use Rattle.vm_tree.specs.declared.command.Command.TheVariants as command
 use Rattle.vm_tree.specs.declared.command.Segment.TheVariants as segment
 use Rattle.vm_tree.specs.declared.command.Operation.TheVariants as operation
-use Rattle.vm_link.specs.Faults.{file_words, static_words, words_before, words_of_lines}
+use Rattle.vm_link.specs.Faults.{file_words, words_before, words_of_lines}
 use Rattle.vm_link.specs.Reached.{Keeps, dropped, kept, none}
 use Rattle.vm_link.specs.Sections.{Section}
 use Rattle.jack_meaning.specs.Text.{Variable, Argument, Local, Static, Sign, Minus, Complement, ShiftLeft, ShiftRight, Operator, Plus, Subtract, And, Or, Less, Greater, Equal, Expression, Literal, Value, Name, This, Field, Unary, Binary, Load, Call, Open, Expressions, NoMore, More, Statement, Let, LetField, LetThis, Store, Do, If, While, Return, Text, End, Next, Kind, Constructor, Function, Method, Subroutine, Class, Program}
 use Rattle.jack_meaning.specs.Meaning.{subroutine_at}
 use Rattle.jack_compiler.specs.Templates.{Numbers, count, first_number, no_else}
 use Rattle.jack_compiler.specs.Fits.{Scope, without_object, IsThere, IsWhole, AreWhole, IsFresh, IsFreshText, IsBody, scope_of}
-use Rattle.jack_compiler.specs.Lines.{Around, quiet, commit, if_false, if_end, into_if, into_else, into_while, out_of_while, push_variable, pop_variable, sign_command, operator_command, load_lines, store_lines, expression_lines, arguments_lines, statement_lines, text_lines, object_lines, subroutine_lines, ifs_of, ifs_in, whiles_of, whiles_in}
+use Rattle.jack_compiler.specs.Lines.{Around, quiet, commit, if_false, if_end, into_if, into_else, into_while, out_of_while, push_variable, pop_variable, sign_command, operator_command, load_lines, store_lines, expression_lines, arguments_lines, statement_lines, text_lines, object_lines, ifs_of, ifs_in, whiles_of, whiles_in}
 use Rattle.jack_compiler.specs.Lines as lines
 use Rattle.jack_compiler.specs.Files.{around_class, statics_before}
 use Rattle.jack_compiler.specs.Resolved.{IsResolvedSubroutine, named_in}

@@ -1,5 +1,5 @@
 -- A generated program is never too large.
-use Rattle.std.proofs.Common.{◌≡◌, ◌≤◌, ◌+◌, ℕ, List, [], ◌∷◌, ◌++◌, map, sym, subst, arith}
+use Rattle.std.proofs.Common.{◌≡◌, ◌≤◌, ◌+◌, ℕ, List, ◌++◌, map, sym, subst, arith}
 use Rattle.jack_tree.specs.Syntax.{Class, ClassFile}
 use Rattle.jack_tree.specs.Seen.{the_file}
 use Rattle.jack_parser.specs.PrintedClass.{PrintedClassLaw}

@@ -1,6 +1,5 @@
 -- No line of `soak` is refused.
-use Rattle.std.proofs.Common.{◌≡◌, ◌≤◌, ◌<◌, ◌+◌, ◌++◌, ℕ, zero, suc, false, List, [], ◌∷◌, Option, Some, Err, length, map, drop, refl, sym, ap, subst, ◌∙◌, arith, lit≤}
-use Rattle.outer_world.specs.Files.{Files}
+use Rattle.std.proofs.Common.{◌≡◌, ◌≤◌, ◌+◌, ◌++◌, ℕ, suc, false, List, Some, Err, length, map, drop, refl, sym, subst, arith, lit≤}
 use Rattle.outer_world.specs.Refusals.{Message}
 use Rattle.vm_link.specs.Faults.{words_before}
 use Rattle.vm_link.specs.Links.{Links, faulty, kept_faulty}
@@ -22,7 +21,7 @@ use Rattle.jack_compiler.specs.Files.{files_of, statics_before}
 use Rattle.jack_compiler.specs.Resolved.{IsResolvedCore, IsResolvedSubroutine}
 use Rattle.jack_compiler.proofs.Numbering.{files_long}
 use Rattle.jack_compiler.proofs.Resolving.{under}
-use Rattle.jack_compiler.proofs.Sectioned.{sections_are, sections_of}
+use Rattle.jack_compiler.proofs.Sectioned.{sections_are}
 use Rattle.tower.specs.Existence.{FilesMean}
 use Rattle.tower.specs.Image.{Builds}
 use Rattle.tower.specs.Messages.{build_message}

@@ -10,6 +10,6 @@ use Rattle.hack_asm.specs.declared.language.Form.TheVariants.{Assembly}
 abbrev pub AsmPrints : Option Files → List ℕ → List ℕ → Type 0
 AsmPrints files path out = (program : List ℕ) × SpellsAt (SpellsWords Assembly) files path program × (out ≡ image_text program)
 
--- The text means no program, and this line tells why.
+-- The text means no program, and this line says why.
 abbrev pub AsmRefuses : Option Files → List ℕ → List ℕ → Type 0
 AsmRefuses files path line = IsFaulty (RefusesWords Assembly) files path line

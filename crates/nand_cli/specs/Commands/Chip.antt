@@ -13,7 +13,7 @@ IsShipped name entry = find_entry shipped_chips name ≡ Some entry
 abbrev pub ChipPrints : List ℕ → List ℕ → Type 0
 ChipPrints name out = (entry : Entry) × IsShipped name entry × (out ≡ chip_text entry.chip)
 
--- what is told of a name that no shipped chip has
+-- what is reported of a name that no shipped chip has
 abbrev pub unknown_chip : List ℕ → Message
 unknown_chip name = message 0 0 (codes "UnknownChip") name
 

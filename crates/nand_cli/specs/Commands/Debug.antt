@@ -1,6 +1,6 @@
--- The command `debug`: where the computer made of gates comes to a statement of the Jack source, what its words say of the call there, and that this is
--- what the program means; and why the line is refused. (The book, chapters 1 to 5 and 7 to 12.)
-use Rattle.std.specs.Prelude.{◌≡◌, ◌⊎◌, ◌<◌, ◌≤◌, ◌++◌, ℕ, zero, suc, true, List, [], ◌∷◌, Option, Some, codes, decimal, slice_get}
+-- The command `debug`. It says where the computer made of gates comes to a statement of the Jack source, and what its words say of the call there. It
+-- says that this is what the program means, or why the line is refused. (The book, chapters 1 to 5 and 7 to 12.)
+use Rattle.std.specs.Prelude.{◌≡◌, ◌<◌, ◌≤◌, ◌++◌, ℕ, zero, suc, true, List, ◌∷◌, Option, Some, codes, decimal, slice_get}
 use Rattle.outer_world.specs.Files.{Files}
 use Rattle.outer_world.specs.Refusals.{Message, message, message_line}
 use Rattle.outer_world.specs.declared.point.Point.{Point}
@@ -59,18 +59,20 @@ module _ (places : Places) (sub : List ℕ) (number : ℕ) (image : Image) (code
     pub is_at : IsAt n
     pub not_before : (c : ℕ) → c < n → IsAt c → ⊥
 
--- ---- what is told
+-- ---- what is reported
 
--- The view is that of the state to which the program's meaning has come, by the steps counted up to cycle n of this behaviour and over the keys heard: where a
--- call of a subroutine is under way, its point, `this`, arguments, locals and statics, and the points of its callers, are those of the state.
+-- The view is that of the state to which the program's meaning has come, by the steps counted up to cycle n of this behaviour and over the keys
+-- heard. Its point is that of the state. Let a call of a subroutine be under way. Then the places know the subroutine, and `this`, arguments, locals
+-- and statics, and the points of its callers, are those of the state.
 pub record IsMeant (core : Core) (places : Places) (view : View) (t : Trace) (n : ℕ) : Type 0 where
   pub after : Listening State
   pub run : run_of (meaning_in core) (start (the_program core)) (heard_keys t n) (steps t n) ≡ Some after
-  pub is_view : (f g : Frame) (below : List Frame) (s : SubPlaces) → after.state.frames ≡ f ∷ g ∷ below → sub_at places f.subroutine ≡ Some s
-      → view ≡ view_of places (λ k. k) (the_program core) s after.state f (g ∷ below)
+  pub point : (meaning_in core).point after.state ≡ Some view.point
+  pub is_view : (f g : Frame) (below : List Frame) → after.state.frames ≡ f ∷ g ∷ below
+      → (s : SubPlaces) × (sub_at places f.subroutine ≡ Some s) × (view ≡ view_of places (λ k. k) (the_program core) s after.state f (g ∷ below))
 
--- This behaviour stops in cycle n, after so many steps; the view is what its words say there, whatever the program did; and where the run of the meaning is tame so
--- far, it is the view of the meaning.
+-- This behaviour stops in cycle n, after this many steps. The view is what its words say there, whatever the program did. Where the run of the
+-- meaning is tame so far, it is the view of the meaning.
 pub record ShowsStop (core : Core) (places : Places) (sub : List ℕ) (number : ℕ) (image : Image) (code : ℕ → ℕ) (n made : ℕ) (view : View) (wires : List ℕ → Histories) : Type 0 where
   pub stops : StopsAt places sub number image code wires n
   pub counted : steps (gates_trace image code wires) n ≡ made
@@ -78,7 +80,7 @@ pub record ShowsStop (core : Core) (places : Places) (sub : List ℕ) (number : 
   pub means : Tame (meaning_in core) (start (the_program core)) (heard_keys (gates_trace image code wires) n) (steps (gates_trace image code wires) n)
       → IsMeant core places view (gates_trace image code wires) n
 
--- This behaviour stops nowhere up to cycle n, before which there are so many steps.
+-- This behaviour stops nowhere up to cycle n, before which there are this many steps.
 pub record ShowsNone (places : Places) (sub : List ℕ) (number : ℕ) (image : Image) (code : ℕ → ℕ) (n made : ℕ) (wires : List ℕ → Histories) : Type 0 where
   pub never : (c : ℕ) → c ≤ n → IsAt places sub number image code wires c → ⊥
   pub counted : steps (gates_trace image code wires) n ≡ made
@@ -93,31 +95,34 @@ stop_text sub number moves made = said_line (codes "break") (sub ++ 32 ∷ decim
 abbrev pub none_text : ℕ → ℕ → List ℕ
 none_text moves made = said_line (codes "break") (codes "none") ++ made_text moves made
 
--- The text tells where the computer stops among so many cycles, and what it shows there; or that it does not stop.
+-- The text says where the computer stops among this many cycles, and what it shows there; or that it does not
+-- stop.
 pub data TellsStop (core : Core) (places : Places) (sub : List ℕ) (number : ℕ) (image : Image) (code : ℕ → ℕ) (cycles : ℕ) (text : List ℕ) : Type 0 where
   stopped : (n made : ℕ) (view : View) → n ≤ cycles → InEach image.words code n (ShowsStop core places sub number image code n made view)
       → text ≡ stop_text sub number n made ++ view_text view → TellsStop core places sub number image code cycles text
   unstopped : (made : ℕ) → InEach image.words code cycles (ShowsNone places sub number image code cycles made)
       → text ≡ none_text cycles made → TellsStop core places sub number image code cycles text
 
--- So it is in each behaviour of the Computer that has the image and these keys and goes on past that cycle; and there are behaviours over any number of cycles.
+-- So it is in each behaviour of the Computer that has the image and these keys and goes on past that cycle. There are behaviours over any number of
+-- cycles.
 pub record IsDebugReport (core : Core) (places : Places) (sub : List ℕ) (number : ℕ) (image : Image) (code : ℕ → ℕ) (cycles : ℕ) (text : List ℕ) : Type 0 where
   pub behaves : (m : ℕ) → (wires : List ℕ → Histories) × IsComputer image.words code m wires
   pub tells : TellsStop core places sub number image code cycles text
 
 -- ---- the line
 
--- The folder means a program that has an image and such a statement, and this is what is told of it, under the keys of the script.
+-- The folder means a program that has an image and such a statement, and this is what is reported of it, under the keys of the
+-- script.
 abbrev pub DebugPrints : Option Files → Source → List ℕ → ℕ → ℕ → Option (List ℕ) → List ℕ → Type 0
 DebugPrints files source sub number cycles keys out =
     (places : Places) × (here : FolderHasPlaces files source places) × HasStatement places sub number × (lines : List Line) × HasKeys files keys lines
     × IsDebugReport here.2.core places sub number here.2.image (code_at lines) cycles out
 
--- what is told of a statement that no point of the map has
+-- what is reported of a statement that no point of the map has
 abbrev pub no_point : List ℕ → ℕ → Message
 no_point sub number = message 0 0 (codes "NoPoint") (sub ++ 58 ∷ decimal number)
 
--- The line is refused, and this tells why: the folder has no image, or no point of its map is the statement's, or the key script is refused.
+-- The line is refused, and this says why: the folder has no image, or no point of its map is the statement's, or the key script is refused.
 pub data DebugRefuses (files : Option Files) (source : Source) (sub : List ℕ) (number : ℕ) (keys : Option (List ℕ)) (line : List ℕ) : Type 0 where
   without_image : BuildRefuses files source line → DebugRefuses files source sub number keys line
   without_point : (places : Places) → FolderHasPlaces files source places → (HasStatement places sub number → ⊥) → line ≡ message_line source.folder (no_point sub number)

@@ -14,13 +14,13 @@ use Rattle.hack_asm.specs.declared.language.Form.TheVariants.{Assembly, Image}
 abbrev pub form_of : List ℕ → Form
 form_of path = if ends_with nat_eq path (codes ".hack") then Image else Assembly
 
--- The file is that of a program, and these are the words from one address to another after so many cycles, words that are 0 among them, while
--- no key is pressed.
+-- The file is that of a program, and no key is pressed. These are the words from one address to another after this many cycles, words that
+-- are 0 among them.
 abbrev pub ExecPrints : Option Files → List ℕ → ℕ → ℕ → ℕ → List ℕ → Type 0
 ExecPrints files path cycles from to out =
     (program : List ℕ) × SpellsAt (SpellsWords (form_of path)) files path program
     × (out ≡ words_text (read (machine_at program (λ _. 0) cycles).memory 0) true from to)
 
--- The file is that of no program, and this line tells why.
+-- The file is that of no program, and this line says why.
 abbrev pub ExecRefuses : Option Files → List ℕ → List ℕ → Type 0
 ExecRefuses files path line = IsFaulty (RefusesWords (form_of path)) files path line

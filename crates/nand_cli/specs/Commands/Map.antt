@@ -30,7 +30,8 @@ RiseFrom least (a ∷ more) = (least ≤ a) × RiseFrom (suc a) more
 abbrev pub AreRising : List ℕ → Type 0
 AreRising addresses = RiseFrom 0 addresses
 
--- The points of an image are told in ranges, and then the routines that commands share: together they have each address once, rising.
+-- The points of an image are given in ranges, and then the routines that commands share: together they have each address once,
+-- rising.
 pub record HasEachAddress (image : Image) : Type 0 where
   pub mapped : ℕ
   pub points : Covers 0 image.map.points mapped
@@ -55,8 +56,8 @@ pub record HavePlaces (replace : Bool) (own : List Class) (places : Places) : Ty
 abbrev pub FolderHasPlaces : Option Files → Source → Places → Type 0
 FolderHasPlaces files source places = (own : List Class) × HasClasses files source.folder (map the_file own) × HavePlaces source.replace own places
 
--- The folder means a program, and this is the map of its image: in the first form its points, its commits and its routines, with the names of its
--- subroutines; in the second the places of its classes.
+-- The folder means a program, and this is the map of its image. The first form has its points, its commits and its routines, with the names of
+-- its subroutines. The second has the places of its classes.
 abbrev pub MapPrints : Option Files → Source → MapFormat → List ℕ → Type 0
 MapPrints files source formats.Points out =
     (core : Core) × (image : Image) × FolderBuilds files source core image × IsWholeMap image × (out ≡ map_text (names_of core) image.map)

@@ -37,12 +37,12 @@ use Rattle.key_script.specs.Language.{RefusesKeys}
 
 -- ---- the keys
 
--- The lines of the key script; without a script there are none.
+-- The lines of the key script; without a script there are no lines.
 abbrev pub HasKeys : Option Files → Option (List ℕ) → List Line → Type 0
 HasKeys files None lines = lines ≡ []
 HasKeys files (Some path) lines = SpellsAt Spells files path lines
 
--- There is a key script which spells no lines, and this line tells why.
+-- There is a key script which spells no lines, and this line says why.
 abbrev pub ScriptIsRefused : Option Files → Option (List ℕ) → List ℕ → Type 0
 ScriptIsRefused files None line = ⊥
 ScriptIsRefused files (Some path) line = IsFaulty RefusesKeys files path line
@@ -82,9 +82,9 @@ IsJackReport core code n show text =
 abbrev pub trace_in : Image → (ℕ → ℕ) → Trace
 trace_in image code = run_trace image.words (the_map image.map) code
 
--- The report of n cycles of the computer with the image of the program and its map: the steps and the point are those that the map counts in
--- its run, and the words are its own. Whatever the program does, that is what is told (`reports`). And this is the headline: where the meaning's
--- run is tame so far, the words and the point at cycle n are the meaning's after these steps over the keys heard, and where it has one more tame
+-- The report of n cycles of the computer with the image of the program and its map. The steps and the point are those that the map counts in its
+-- run, and the words are its own. Whatever the program does, that is what is reported (`reports`). And this is the headline. Where the meaning's
+-- run is tame so far, the words and the point at cycle n are the meaning's after these steps over the keys heard. Where it has one more tame
 -- step, the computer makes it within the gap of the program (`follows`).
 pub record IsHackReport (core : Core) (code : ℕ → ℕ) (n : ℕ) (show : Show) (text : List ℕ) : Type 0 where
   pub image : Image
@@ -105,7 +105,7 @@ IsReport (levels.Hack show) core code n text = IsHackReport core code n show tex
 IsReport (levels.Gates shown) core code n text = IsGatesReport core code n shown text
 IsReport (levels.Simplified show) core code n text = IsGatesReport core code n (Words show) text
 
--- The text tells of so many moves at most.
+-- The text reports this many moves at most.
 abbrev pub TellsAtMost : ℕ → List ℕ → Type 0
 TellsAtMost n text =
     (level : LevelName) × (moves : ℕ) × (rest : List ℕ) × (moves ≤ n)
@@ -119,7 +119,7 @@ RunPrints files source level cycles keys out =
     (core : Core) × (lines : List Line) × FolderMeans files source core × IsBuilt core × HasKeys files keys lines
     × IsReport level core (code_at lines) cycles out
 
--- The run is refused, at whatever level, and this line tells why: the folder means no program, or its program has no image, or, where it has
+-- The run is refused, at whatever level, and this line says why. The folder means no program, or its program has no image, or, where it has
 -- one, the key script is refused.
 pub data RunRefuses (files : Option Files) (source : Source) (keys : Option (List ℕ)) (line : List ℕ) : Type 0 where
   without_program : FolderIsRefused files source line → RunRefuses files source keys line

@@ -11,10 +11,10 @@ use Rattle.jack_core.specs.declared.program.Core.{Core}
 use Rattle.vm_link.specs.declared.linked.Linked.{Linked}
 use Rattle.tower.specs.VmRun.{IsVmCodeOf, MakesMoves, VmEnds, VmFollows, vm_trace, vm_word}
 
--- The report of n moves of the virtual machine with the code of the program, each a command other than a label: the moves made and how they end, the
--- commits among them, and the point and the words then. Whatever the program does, that is what is told (`reports`). And where the meaning's run is
--- tame so far, the words and the point are those of the meaning after these steps over the keys heard, and the end is that of the meaning
--- (`follows`).
+-- The report of n moves of the virtual machine with the code of the program, each a command other than a label. It has the moves made and how they
+-- end, the commits among them, and the point and the words then. Whatever the program does, that is what is reported (`reports`). And where the
+-- meaning's run is tame so far, the words and the point are those of the meaning after these steps over the keys heard. The end is that of the
+-- meaning (`follows`).
 pub record IsVmReport (core : Core) (code : ℕ → ℕ) (n : ℕ) (show : Show) (text : List ℕ) : Type 0 where
   pub linked : Linked
   pub is_code : IsVmCodeOf core linked

@@ -36,6 +36,6 @@ RefusesKind kinds.Vm text told = RefusesVm true text told
 RefusesKind kinds.Jack text told = RefusesClass text told
 RefusesKind kinds.Hdl text told = RefusesHdl text told
 
--- The source at a path is refused, and this line tells why.
+-- The source at a path is refused, and this line says why.
 abbrev pub ShowRefuses : Option Files → List ℕ → SourceKind → List ℕ → Type 0
 ShowRefuses files path kind line = IsFaulty (RefusesKind kind) files path line

@@ -1,4 +1,5 @@
--- The command `soak`: the summary of the programs that are generated from a seed, and why there is none. (The book has none; this one is the project's own.)
+-- The command `soak`: the summary of the programs that are generated from a seed, and why there is no summary. (The book has none; this one is the
+-- project's own.)
 use Rattle.std.specs.Prelude.{◌≡◌, ◌<◌, ◌+◌, ◌^◌, ◌%◌, ◌++◌, ◌↔◌, [], ◌∷◌, ℕ, zero, suc, Bool, false, IsTrue, List, Some, if◌then◌else◌, codes, decimal}
 use Rattle.outer_world.specs.Files.{Files}
 use Rattle.simulation.specs.Trace.{steps}
@@ -36,13 +37,15 @@ total f (suc n) = total f n + f n
 abbrev pub word_sum : (ℕ → ℕ) → ℕ
 word_sum word = total (λ i. word (2048 + i)) words % 65536
 
--- A behaviour of the Computer has m steps at cycle n, its words have this sum, and it is told whether the levels agree.
+-- A behaviour of the Computer has m steps at cycle n, its words have this sum, and it is known whether the levels
+-- agree.
 pub record Shows (core : Core) (image : Image) (n bound m sum : ℕ) (agreed : Bool) (wires : List ℕ → Histories) : Type 0 where
   pub counted : m ≡ steps (silent_trace image wires) n
   pub summed : sum ≡ word_sum (word_at wires n)
   pub told : IsTrue agreed ↔ Agree core image n bound wires
 
--- So it is with each behaviour of the Computer with the program's image that goes on past cycle n; and behaviours there are, over any number of cycles.
+-- So it is with each behaviour of the Computer with the program's image that goes on past cycle n; and behaviours there are, over any number of
+-- cycles.
 pub record IsOutcome (core : Core) (n bound m sum : ℕ) (agreed : Bool) : Type 0 where
   pub image : Image
   pub is_image : IsImageOf core image
@@ -67,7 +70,7 @@ pub record HasOutcome (seed number m sum : ℕ) (agreed : Bool) : Type 0 where
   pub means : FolderMeans (Some (soak_files text)) soak_source core
   pub outcome : IsOutcome core cycles most_moves m sum agreed
 
--- It has no image, as this line tells.
+-- It has no image, as this line says.
 pub record HasNoImage (seed number : ℕ) (line : List ℕ) : Type 0 where
   pub text : List ℕ
   pub generated : IsProgram seed number text
@@ -99,7 +102,7 @@ pub record IsSummary (seed count : ℕ) (text : List ℕ) : Type 0 where
 abbrev pub SoakPrints : ℕ → ℕ → List ℕ → Type 0
 SoakPrints seed count out = IsSummary seed count out
 
--- One of the programs has no image, and this line tells why; those before it have outcomes.
+-- One of the programs has no image, and this line says why; those before it have outcomes.
 pub record SoakRefuses (seed count : ℕ) (line : List ℕ) : Type 0 where
   pub before : ℕ
   pub agree : ℕ

@@ -58,7 +58,7 @@ pub data IsJustAfter (t : Trace) : ℕ → ℕ → Type 0 where
   AtFirst : IsJustAfter t 0 0
   BehindCommit : (k : ℕ) → t.commits k ≡ true → IsJustAfter t (steps t (suc k)) (suc k)
 
--- The machine comes there in at most so many moves.
+-- The machine comes there in at most this many moves.
 pub record IsAtVm (core : Core) (bound m : ℕ) (v : View) : Type 0 where
   pub linked : Linked
   pub is_code : IsVmCodeOf core linked

@@ -12,7 +12,7 @@ script_at files path gates = setting_of path files (not gates)
 abbrev pub TestPrints : Option Files → List ℕ → Bool → List ℕ → List ℕ → Type 0
 TestPrints files path gates out err = script.IsDone (script_at files path gates) out err
 
--- The script is refused: this stands on out and on err, and then this line tells why.
+-- The script is refused: this stands on out and on err, and then this line says why.
 abbrev pub TestRefuses : Option Files → List ℕ → Bool → List ℕ → List ℕ → List ℕ → Type 0
 TestRefuses files path gates out before line = script.IsRefused (script_at files path gates) out before line
 

@@ -26,7 +26,7 @@ VmPrints files folder bare text =
     (program : List File) × (linked : Linked) × HasProgram bare files folder program × Links bare program (Ok linked)
     × (length (image_of linked) ≤ image_words) × (text ≡ asm_text (image_of linked))
 
--- The program has no code, and this is told: it is not linked, or its image is past the limit.
+-- The program has no code, and this is reported: it is not linked, or its image is past the limit.
 abbrev pub HasNoCode : Bool → List File → Message → Type 0
 HasNoCode bare program told =
     ((fault : LinkFault) × Links bare program (Err fault) × (link_message fault ≡ Some told))
@@ -35,7 +35,7 @@ HasNoCode bare program told =
 abbrev pub IsNoCode : Bool → List ℕ → List File → List ℕ → Type 0
 IsNoCode bare folder program line = (told : Message) × HasNoCode bare program told × (line ≡ message_line folder told)
 
--- The folder is refused, and this line tells why: its files are not read, or their program has no code.
+-- The folder is refused, and this line says why: its files are not read, or their program has no code.
 pub data VmRefuses (files : Option Files) (folder : List ℕ) (bare : Bool) (line : List ℕ) : Type 0 where
   unread : IsUnread (SpellsVmFile bare) (RefusesVm bare) (codes ".vm") files folder line → VmRefuses files folder bare line
   without_code : (program : List File) → HasProgram bare files folder program → IsNoCode bare folder program line → VmRefuses files folder bare line

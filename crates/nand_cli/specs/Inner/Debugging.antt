@@ -12,7 +12,6 @@ use Rattle.image_map.specs.Map.{IsMapped}
 use Rattle.image_map.specs.declared.map.Image.{Image}
 use Rattle.hdl_tree.specs.Behaviour.{Histories}
 use Rattle.hack_cpu.specs.Computer.{pc_at}
-use Rattle.gate_computer.specs.Computer.{IsComputer}
 use Rattle.gate_computer.specs.Followed.{GateMachine, HasFollowed, image_in, word_in}
 use Rattle.jack_tree.specs.declared.tree.Class.{Class}
 use Rattle.jack_tree.specs.Seen.{the_file}
@@ -59,7 +58,7 @@ abbrev pub is_among : Places → List ℕ → ℕ → List PlacedRange → Bool
 is_among places sub number [] = false
 is_among places sub number (r ∷ rs) = if is_statement places sub number r.point then true else is_among places sub number rs
 
--- No point of the map is the statement's, and this line tells it.
+-- No point of the map is the statement's, and this line reports it.
 abbrev pub LacksPoint : Places → List ℕ → List ℕ → ℕ → List ℕ → Type 0
 LacksPoint places folder sub number line = (HasStatement places sub number → ⊥) × (line ≡ message_line folder (no_point sub number))
 
@@ -85,7 +84,8 @@ pub record HasGone (image : Image) (code : ℕ → ℕ) (n : ℕ) (g : GateMachi
   pub moves : g.moves ≡ n
   pub followed : HasFollowed g (moves_from code 0 n)
 
--- It has gone on to the first cycle in which it is at the statement, or, where there is none, through all of so many cycles.
+-- It has gone on to the first cycle in which it is at the statement, or, where there is no such cycle, through all of this
+-- many cycles.
 pub record HasComeTo (places : Places) (sub : List ℕ) (number : ℕ) (image : Image) (code : ℕ → ℕ) (cycles : ℕ) (found : Bool) (g : GateMachine) : Type 0 where
   pub n : ℕ
   pub few : n ≤ cycles
@@ -97,7 +97,7 @@ pub record HasComeTo (places : Places) (sub : List ℕ) (number : ℕ) (image : 
 
 -- ---- what is put
 
--- what is told of it there
+-- what is reported of it there
 abbrev pub TellsMachine : Places → List ℕ → ℕ → Bool → GateMachine → List ℕ → Type 0
 TellsMachine places sub number true g text =
     (view : View) × Walk places (word_in g) g.tally.at view × (text ≡ stop_text sub number g.moves g.tally.steps ++ view_text view)
@@ -105,7 +105,8 @@ TellsMachine places sub number false g text = text ≡ none_text g.moves g.tally
 
 -- ---- the line
 
--- All is there that the line needs: the places of the folder's program, which have the statement, the keys of the script, and the computer at its start.
+-- All is there that the line needs: the places of the folder's program, which have the statement, the keys of the script, and the computer at its
+-- start.
 pub record IsPreparedDebug (files : Option Files) (source : Source) (sub : List ℕ) (number : ℕ) (keys : Option (List ℕ)) (p : PreparedDebug) : Type 0 where
   pub here : FolderHasPlaces files source p.places
   pub resolved : IsResolvedCore here.2.core
@@ -122,7 +123,7 @@ pub record CanShow (p : PreparedDebug) : Type 0 where
   pub moves : p.computer.moves ≡ 0
   pub stands : HasFollowed p.computer []
 
--- what is told of it, after the drive
+-- what is reported of it, after the drive
 pub record TellsDriven (p : PreparedDebug) (sub : List ℕ) (number cycles : ℕ) (text : List ℕ) : Type 0 where
   pub found : Bool
   pub g : GateMachine

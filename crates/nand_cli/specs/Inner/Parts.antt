@@ -29,7 +29,7 @@ use Rattle.nand_cli.specs.declared.failure.Failure.TheVariants as failure
 
 -- ---- a line
 
--- What doing a line put on out and on err; the line that tells a failure is still to be put, but none after a write fault.
+-- What doing a line put on out and err; the message of a failure is still to be put, but none after a write fault.
 abbrev pub Leaves : Option Files → (List ℕ → Bool) → Type 0 → Line → List ℕ → List ℕ → Result (Unit {0}) Failure → Type 0
 Leaves files there unfailing line o e (Ok _) = Prints files line o e
 Leaves files there unfailing line o e (Err (failure.Unloaded (errors.Refused refusal))) = Refuses files line o e (line_of refusal)
@@ -65,12 +65,12 @@ end_result (Err scripts.Err) = Err failure.Echo
 
 -- ---- texts
 
--- Why classes mean no program is told, unless memory is wanting.
+-- Why classes mean no program is reported, unless memory is wanting.
 abbrev pub TellsWrong : List ℕ → ProgramError → LoadError → Type 0
 TellsWrong folder (programs.Name f) e = Refused (path_in (home_of folder f.shipped) f.file) (name_message f) e
 TellsWrong folder programs.Memory e = e ≡ errors.Memory
 
--- ---- what is told on err
+-- ---- what is reported on err
 
 -- What putting a text on err says of its count and its bytes.
 abbrev pub Says : ℕ → ℕ → Option (List ℕ) → Option (List ℕ) → List ℕ → Put → Type 0
@@ -82,12 +82,13 @@ abbrev pub told_status : Put → Status → Status
 told_status put.Done wanted = wanted
 told_status put.Failed wanted = status.WriteFault
 
--- What telling by a line says: the line was put and this is the status, or its putting failed.
+-- What reporting by a line says: the line was put and this is the status, or its putting failed.
 abbrev pub TellsBy : List ℕ → Status → ℕ → ℕ → Option (List ℕ) → Option (List ℕ) → Status → Type 0
 TellsBy line wanted faults faults' written written' s =
     (p : Put) × Says faults faults' written written' line p × (s ≡ told_status p wanted)
 
--- So words that are no line are told, and so is a failure. After a write fault nothing more is put.
+-- So words that are no line are reported, and so is a failure. After a write fault nothing more is
+-- put.
 abbrev pub TellsNoLine : LineError → ℕ → ℕ → Option (List ℕ) → Option (List ℕ) → Status → Type 0
 TellsNoLine no_line.Usage faults faults' written written' s = TellsBy usage_line status.Usage faults faults' written written' s
 TellsNoLine no_line.Memory faults faults' written written' s = TellsBy want_of_memory_line status.NoMemory faults faults' written written' s

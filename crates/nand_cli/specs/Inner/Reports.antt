@@ -1,10 +1,11 @@
 -- What reporting a run says.
-use Rattle.std.specs.Prelude.{◌≡◌, ◌++◌, ℕ, suc, List, [], Option, None, Some, Result, Ok, Err, IsSome, length}
+use Rattle.std.specs.Prelude.{◌≡◌, ◌++◌, ℕ, suc, List, [], Option, Some, Result, Ok, Err, IsSome, length}
 use Rattle.outer_world.specs.Faults.{Rose}
 use Rattle.outer_world.specs.Written.{Got, GotPart, Puts}
 use Rattle.outer_world.specs.declared.point.Point.{Point}
 use Rattle.outer_world.specs.declared.sink.Put.{Put}
 use Rattle.source_files.specs.declared.error.LoadError.TheVariants.{Memory}
+use Rattle.gate_computer.specs.Simple.{IsSimpleComputer}
 use Rattle.gate_computer.specs.Followed.{GateMachine, HasFollowed as GatesFollowed, image_in as gates_image, word_in}
 use Rattle.hack_machine.specs.Loaded.{machine_of}
 use Rattle.jack_meaning.specs.Meaning.{State, start}
@@ -120,10 +121,10 @@ pub record IsWholeAtStart (core : Core) (g : GateMachine) : Type 0 where
   pub start : IsAtStart core g
   pub parts : IsSome g.wiring.parts
 
--- The same, and its netlist is a simplified one: only such a netlist shows the Computer with a wiring that tells no parts.
+-- The same, and its netlist is one that the simplifier may give for that of the Computer itself.
 pub record IsSimpleAtStart (core : Core) (g : GateMachine) : Type 0 where
   pub start : IsAtStart core g
-  pub parts : g.wiring.parts ≡ None
+  pub simple : IsSimpleComputer g.sim.net g.wiring
 
 -- what is read of it
 abbrev pub gates_reading : GateMachine → Reading Point

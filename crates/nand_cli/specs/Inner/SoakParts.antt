@@ -10,7 +10,7 @@ use Rattle.nand_cli.specs.Commands.SoakLevels.{IsJustAfter, View, no_keys}
 abbrev pub view_in : GateMachine → View
 view_in g = record { word = word_in g; point = Some g.tally.point }
 
--- The virtual machine is just behind its m-th commit, to which it came in at most so many moves.
+-- The virtual machine is just after its m-th commit, to which it came in at most this many moves.
 pub record IsBehindCommit (vm : LoadedVm) (bound m : ℕ) : Type 0 where
   pub moves : ℕ
   pub few : moves ≤ bound
@@ -18,6 +18,6 @@ pub record IsBehindCommit (vm : LoadedVm) (bound m : ℕ) : Type 0 where
   pub behind : IsJustAfter (vm_trace vm.linked no_keys) m moves
   pub state : vm.state ≡ vm_at vm.linked no_keys moves
 
--- With this code it never comes there in so many moves.
+-- With this code it never comes there in this many moves.
 abbrev pub NeverComes : Linked → ℕ → ℕ → Type 0
 NeverComes linked bound m = (k : ℕ) → k ≤ bound → MakesMoves linked no_keys k → IsJustAfter (vm_trace linked no_keys) m k → ⊥

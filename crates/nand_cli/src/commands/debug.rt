@@ -1,4 +1,5 @@
-//! The command `debug`: a program is built and its keys are read, and then the computer made of gates runs it to a statement, and the view there is put.
+//! The command `debug`: a program is built and its keys are read, and then the computer made of gates runs it to a statement, and the view there is
+//! put.
 ghost use Rattle.std.specs.Prelude.{◌≡◌, ◌++◌, ◌∷◌, List, ℕ, Option, option_map, IfOk, IfSome, IsSome, true, decimal};
 ghost use Rattle.command_line.specs.Line.{debug, of_classes, source_of};
 ghost use Rattle.jack_debug.specs.Text.{view_text};
@@ -80,8 +81,8 @@ fn check_point(
     }
 }
 
-/// Reads and builds all that a line of `debug` needs: the program is built first, then the statement is looked for in its map, then the keys are read, and then
-/// the computer is put at its start.
+/// Reads and builds all that a line of `debug` needs. The program is built first, then the statement is looked for in its map. Then the keys are
+/// read, and then the computer is put at its start.
 ///
 /// Otherwise the refusal of the folder, else of the build, else of the statement, else of the key script; or the shelf failed, or memory was wanted.
 pub fn prepare_debug<F: Shelf>(
@@ -154,31 +155,32 @@ fn show_stop<O: Sink>(
 }
 
 impl PreparedDebug {
-    /// Runs the program to the statement, but so many cycles at most, and puts what is shown there; or that it did not come there.
+    /// Runs the program to the statement, but this many cycles at most, and puts what is shown there; or that it did not come
+    /// there.
     pub fn show<O: Sink>(
-        self,
+        &mut self,
         alloc: Global,
         request: &DebugRun<'_>,
         out: &mut O,
     ) -> Result<(), Failure>
-        requires { CanShow self }
+        requires { CanShow self.old }
         ensures reports { Reports
-            (TellsDriven self request.now.sub.now request.now.number request.now.cycles)
+            (TellsDriven self.old request.now.sub.now request.now.number request.now.cycles)
             (O.written out.old) (O.written out.new) result }
         ensures counts { CountsReport (O.faults out.old) (O.faults out.new) result }
     {
         let PreparedDebug {
             places,
             keys,
-            mut computer,
+            computer,
         } = self;
         let at = Statement {
-            places: &places,
+            places,
             sub: request.sub,
             number: request.number,
         };
-        let found = go_to(&mut computer, &keys, request.cycles, &at);
-        show_stop(alloc, &at, &computer, found, out)
+        let found = go_to(computer, keys, request.cycles, &at);
+        show_stop(alloc, &at, computer, found, out)
     }
 }
 
@@ -201,6 +203,6 @@ pub fn answer_debug<F: Shelf, O: Sink>(
     ensures kept { F.files shelf.new ≡ F.files shelf.old }
     ensures stays { F.there shelf.new ≡ F.there shelf.old }
 {
-    let prepared = prepare_debug(alloc, source, request, shelf)?;
+    let mut prepared = prepare_debug(alloc, source, request, shelf)?;
     prepared.show(alloc, request, out)
 }

@@ -16,7 +16,7 @@ use outer_world::{Shelf, Sink};
 use source_files::load;
 use std::alloc::{AllocError, Global};
 
-/// The form that the path of a file tells: `.hack` ends the path of an image, and any other is that of assembly.
+/// The form that the path of a file names: `.hack` ends the path of an image, and any other is that of assembly.
 pub fn form_of(path: &str) -> Form
     ensures { result ≡ form_of path.now }
 {
@@ -27,7 +27,7 @@ pub fn form_of(path: &str) -> Form
     }
 }
 
-// The instruction machine after so many cycles, each under its key.
+// The instruction machine after this many cycles, each under its key.
 fn machine_after<K: Keyboard>(
     alloc: Global,
     image: &[u16],

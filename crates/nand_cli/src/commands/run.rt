@@ -1,13 +1,15 @@
 //! The command `run`: a program is built and its keys are read, and then it is run and its report is put.
 ghost use Rattle.std.specs.Prelude.{◌≡◌, List, ℕ, Option, option_map, IfSome};
 ghost use Rattle.command_line.specs.Line.{of_classes, run, source_of};
+ghost use Rattle.jack_compiler.specs.Resolved.{IsResolvedCore};
 ghost use Rattle.key_script.specs.Codes.{code_at};
 ghost use Rattle.key_script.specs.declared.keys.Keys.{Keys};
+ghost use Rattle.simulation.specs.System.{IsKey};
 ghost use Rattle.source_files.specs.Loads.{CountsLoad, Loads};
 ghost use Rattle.nand_cli.specs.Answer.{Lacks};
 ghost use Rattle.nand_cli.specs.Commands.Run.{HasKeys, IsReport, LacksKeys, RunRefuses, ScriptIsRefused, TellsAtMost};
 ghost use Rattle.nand_cli.specs.Inner.Parts.{Counts, Does};
-ghost use Rattle.nand_cli.specs.Inner.Prepared.{IsPrepared, IsReady, WantsNoMemory, level_of};
+ghost use Rattle.nand_cli.specs.Inner.Prepared.{IsAtItsStart, IsPrepared, IsReady, WantsNoMemory, level_of};
 ghost use Rattle.nand_cli.specs.Inner.Reports.{CountsReport, IsPut, Reports};
 
 use crate::failure::Failure;
@@ -54,7 +56,7 @@ pub fn load_keys<F: Shelf>(
     }
 }
 
-/// Reads and builds all that a line of `run` needs: at each level the program is built first, then the keys are read, and then the machine is put at
+/// Reads and builds all that a line of `run` needs. At each level the program is built first, then the keys are read, and then the machine is put at
 /// its start.
 ///
 /// Otherwise the refusal of the folder, else of the build, else of the key script; or the shelf failed, or memory was wanted.
@@ -88,9 +90,40 @@ pub fn prepare_run<F: Shelf>(
     })
 }
 
+// Runs a machine from its start, with at most this many moves, and puts its report.
+fn report_machine<O: Sink>(
+    machine: &mut Machine,
+    core: &Core,
+    keys: &Keys,
+    cycles: u32,
+    out: &mut O,
+) -> Result<(), Failure>
+    requires resolved { IsResolvedCore core.now }
+    requires words { (c : ℕ) → IsKey (code_at keys.now c) }
+    requires start { IsAtItsStart core.now machine.old }
+    ensures reports { Reports
+        (λ text. IsReport (level_of machine.old) core.now (code_at keys.now) cycles text
+        × TellsAtMost cycles text) (O.written out.old) (O.written out.new) result }
+    ensures counts { CountsReport (O.faults out.old) (O.faults out.new) result }
+    ensures put { WantsNoMemory machine.old → IsPut result }
+{
+    match machine {
+        Machine::Jack(alloc, show) => report_jack(*alloc, core, keys, cycles, *show, out),
+        Machine::Vm(vm, show) => report_vm(vm, core, keys, cycles, *show, out),
+        Machine::Hack(hack, show) => report_hack(hack, core, keys, cycles, *show, out),
+        Machine::Simplified(computer, show) => {
+            report_words(computer, core, keys, cycles, *show, out)
+        }
+        Machine::Gates(computer, shown) => {
+            report_gates(computer, core, keys, cycles, *shown, out)
+        }
+    }
+}
+
 impl PreparedRun {
-    /// Runs the program, with at most so many moves as are asked for, and puts its report. No memory is wanted but at level jack, where each call of the program may want some.
-    pub fn show<O: Sink>(self, out: &mut O) -> Result<(), Failure>
+    /// Runs the program, with at most as many moves as are asked for, and puts its report. No memory is wanted but at level jack, where each call of
+    /// the program may want some.
+    pub fn show<O: Sink>(mut self, out: &mut O) -> Result<(), Failure>
         requires { IsReady self }
         ensures reports { Reports
             (λ text. IsReport (level_of self.machine) self.core (code_at self.keys) self.cycles text
@@ -98,25 +131,7 @@ impl PreparedRun {
         ensures counts { CountsReport (O.faults out.old) (O.faults out.new) result }
         ensures put { WantsNoMemory self.machine → IsPut result }
     {
-        let PreparedRun {
-            core,
-            keys,
-            cycles,
-            machine,
-        } = self;
-        match machine {
-            Machine::Jack(alloc, show) => report_jack(alloc, &core, &keys, cycles, show, out),
-            Machine::Vm(mut vm, show) => report_vm(&mut vm, &core, &keys, cycles, show, out),
-            Machine::Hack(mut hack, show) => {
-                report_hack(&mut hack, &core, &keys, cycles, show, out)
-            }
-            Machine::Simplified(mut computer, show) => {
-                report_words(&mut computer, &core, &keys, cycles, show, out)
-            }
-            Machine::Gates(mut computer, shown) => {
-                report_gates(&mut computer, &core, &keys, cycles, shown, out)
-            }
-        }
+        report_machine(&mut self.machine, &self.core, &self.keys, self.cycles, out)
     }
 }
 

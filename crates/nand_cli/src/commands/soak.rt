@@ -39,7 +39,7 @@ fn shelf_with(alloc: Global, text: Vec<u8>) -> Result<MemoryShelf, AllocError>
     Ok(MemoryShelf::new(files, Vec::new(alloc)))
 }
 
-// What is told of the program that a seed has at a number, or why it has no image.
+// What is reported of the program that a seed has at a number, or why it has no image.
 fn outcome_of(alloc: Global, seed: u32, number: u32) -> Result<Outcome, LoadError>
     ensures { Loads (λ (told : Outcome). HasOutcome seed number told.steps told.sum told.agrees) (HasNoImage seed number) ⊥ result }
 {
@@ -76,7 +76,7 @@ fn with_one(told: &Summary, one: &Outcome) -> Summary
     }
 }
 
-// What is told of the first programs of a seed, so many.
+// What is reported of the first programs of a seed, this many.
 fn summary_of(alloc: Global, seed: u32, count: u32) -> Result<Summary, LoadError>
     ensures { Loads (λ (told : Summary). AreOutcomes seed count told.agree told.steps told.sum) (SoakRefuses seed count) ⊥ result }
 {

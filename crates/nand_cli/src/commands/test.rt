@@ -21,19 +21,20 @@ fn ended(script: Result<Verdict, ScriptError>) -> Result<(), Failure>
     }
 }
 
-/// Does a line of `test`; the line that tells how it ended is not put.
+/// Does a line of `test`; the message of how it ended is not put.
 pub fn answer_test<F: Shelf, O: Sink, E: Sink>(
     alloc: Global,
     path: &str,
     gates: bool,
+    simplify: bool,
     shelf: &mut F,
     out: &mut O,
     err: &mut E,
 ) -> Result<(), Failure>
-    ensures does { Does (F.files shelf.old) (F.there shelf.old) (F.unfailing shelf.old) (test path.now gates) (O.written out.old) (O.written out.new) (E.written err.old) (E.written err.new) result }
+    ensures does { Does (F.files shelf.old) (F.there shelf.old) (F.unfailing shelf.old) (test path.now gates simplify) (O.written out.old) (O.written out.new) (E.written err.old) (E.written err.new) result }
     ensures counts { Counts (F.faults shelf.old) (F.faults shelf.new) (O.faults out.old) (O.faults out.new) (E.faults err.old) (E.faults err.new) result }
     ensures kept { F.files shelf.new ≡ F.files shelf.old }
     ensures stays { F.there shelf.new ≡ F.there shelf.old }
 {
-    ended(run_script(alloc, path, gates, shelf, out, err))
+    ended(run_script(alloc, path, gates, simplify, shelf, out, err))
 }

@@ -60,8 +60,8 @@ pub fn report_words<O: Sink>(
     report(computer, LevelName::Gates, core, keys, cycles, show, out)
 }
 
-// Puts the five lines of a report, and behind them the outputs of all parts in the cycle that comes next, from an empty buffer, which is empty again
-// after it.
+// Puts the five lines of a report, and after them the outputs of all parts in the cycle that comes next. It begins from an empty buffer, which is
+// empty again after it.
 fn put_nets<O: Sink>(
     computer: &mut GateComputer,
     core: &Core,

@@ -79,8 +79,8 @@ fn stops(between: bool, at: &Statement<'_>, computer: &GateComputer) -> bool
     between && at.is_at(computer.pc())
 }
 
-/// Moves a computer from its start, each cycle under its key, until it is at a statement and a step of the program's meaning has just ended, but so many cycles
-/// at most. Answers whether it is there.
+/// Moves a computer from its start, each cycle under its key, until it is at a statement and a step of the program's meaning has just ended. It makes
+/// at most this many cycles. Answers whether it is there.
 pub fn go_to(computer: &mut GateComputer, keys: &Keys, cycles: u32, at: &Statement<'_>) -> bool
     requires start { computer.old.moves ≡ 0 }
     requires stands { HasFollowed computer.old [] }

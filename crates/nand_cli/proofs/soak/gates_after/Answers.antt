@@ -1,4 +1,4 @@
-use Rattle.std.proofs.Common.{◌≡◌, ℕ, subst, ◌≤◌, ◌∙◌, sym, arith}
+use Rattle.std.proofs.Common.{ℕ, subst, arith}
 use Rattle.gate_computer.specs.Followed.{HasFollowed}
 use Rattle.machine_io.specs.History.{moves_from}
 use Rattle.nand_cli.specs.Commands.SoakLevels.{no_keys}

@@ -1,4 +1,4 @@
-use Rattle.std.proofs.Common.{◌≡◌, ◌↔◌, ℕ, true, subst, ◌∙◌, sym}
+use Rattle.std.proofs.Common.{◌≡◌, ℕ, subst, ◌∙◌}
 use Rattle.tower.specs.Mapped.{StandsAt, image_in}
 use Rattle.nand_cli.specs.Commands.Soak.{cycles}
 use Rattle.nand_cli.specs.Commands.SoakLevels.{hack_view, no_keys}

@@ -1,11 +1,11 @@
-use Rattle.std.proofs.Common.{◌≡◌, ◌↔◌, ℕ, true, false, refl, subst, ◌∙◌, sym}
+use Rattle.std.proofs.Common.{ℕ, subst, ◌∙◌}
 use Rattle.machine_io.specs.declared.driving.End.{End}
 use Rattle.machine_io.specs.declared.driving.End.TheVariants as ends
 use Rattle.jack_compiler.proofs.Calls.{calls_are_there}
 use Rattle.nand_cli.specs.Commands.SoakLevels.{no_keys}
 use Rattle.nand_cli.specs.Inner.Reports.{HasRun}
 use Rattle.nand_cli.specs.Inner.SoakParts.{view_in}
-use Rattle.nand_cli.proofs.SoakJack.{all_steps, fewer_steps, jack_reading}
+use Rattle.nand_cli.proofs.SoakJack.{all_steps, fewer_steps}
 use Rattle.nand_cli.proofs.SoakOutcome.{gates_seen}
 use Rattle.nand_cli.proofs.Stepping.{ran}
 use Rattle.nand_cli.proofs.soak.is_at_jack.Goals as goal

@@ -1,4 +1,4 @@
-use Rattle.std.proofs.Common.{ℕ, List, Option, Err, refl, subst, option_map, ◌∙◌}
+use Rattle.std.proofs.Common.{ℕ, Option, Err, subst, option_map, ◌∙◌}
 use Rattle.std.proofs.lemmas.Result.{err_from_is_err_and}
 use Rattle.key_script.specs.declared.keys.Keys.{Keys}
 use Rattle.command_line.specs.Line.{source_of}

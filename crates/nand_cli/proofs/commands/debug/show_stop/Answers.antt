@@ -1,9 +1,8 @@
-use Rattle.std.proofs.Common.{◌≡◌, ◌∙◌, List, ℕ, Bool, true, false, refl, sym, subst}
+use Rattle.std.proofs.Common.{ℕ, true, false, subst}
 use Rattle.jack_debug.specs.Walk.{Walk}
 use Rattle.gate_computer.specs.Followed.{word_in}
 use Rattle.outer_world.specs.Written.{Puts}
-use Rattle.nand_cli.specs.Commands.Debug.{none_text, stop_text}
-use Rattle.nand_cli.specs.Inner.Debugging.{TellsMachine}
+use Rattle.nand_cli.specs.Commands.Debug.{none_text}
 use Rattle.nand_cli.proofs.Debugging.{shown_none, shown_found}
 use Rattle.nand_cli.proofs.Reporting.{counts_by}
 use Rattle.nand_cli.proofs.commands.debug.show_stop.Goals as goal

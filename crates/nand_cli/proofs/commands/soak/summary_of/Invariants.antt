@@ -1,4 +1,4 @@
--- What is told of the programs so far.
+-- What is reported of the programs so far.
 use Rattle.std.proofs.Common.{◌≤◌, ◌*◌}
 use Rattle.nand_cli.specs.Commands.Soak.{AreOutcomes}
 use Rattle.nand_cli.proofs.commands.soak.summary_of.Given as goal

@@ -1,4 +1,4 @@
-use Rattle.std.proofs.Common.{◌≡◌, ◌≤◌, refl, sym, ◌∙◌, arith}
+use Rattle.std.proofs.Common.{◌≤◌, refl, sym, ◌∙◌, arith}
 use Rattle.key_script.specs.Codes.{code_at}
 use Rattle.gate_computer.specs.Followed.{image_in}
 use Rattle.nand_cli.proofs.Stopping.{answers, begun, come_to, ended, none_more}
