@@ -94,7 +94,7 @@ const PRINTED: &[(&str, &str)] = &[
     ),
 ];
 
-// Texts, and what is told of them: each kind of fault, at its place, or that it is a chip.
+// Texts, and what is reported of them: each kind of fault, at its place, or that it is a chip.
 const TEXTS: &[(&str, &str)] = &[
     ("", "1:1: Grammar"),
     ("CHIP", "1:5: Grammar"),
@@ -136,7 +136,7 @@ const TEXTS: &[(&str, &str)] = &[
     ("CHIP D { OUT q; BUILTIN DFF; }", "a chip"),
 ];
 
-// What is told of a text.
+// What is reported of a text.
 fn told_of(alloc: Global, text: &[u8]) -> Result<String, AllocError> {
     match parse(alloc, text) {
         Ok(_) => String::from_str(alloc, "a chip"),

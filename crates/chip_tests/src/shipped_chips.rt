@@ -16,7 +16,7 @@ fn parts_of(body: &Body) -> usize {
     }
 }
 
-// A chip that is shipped under its own name, made of so many parts.
+// A chip that is shipped under its own name, made of this many parts.
 fn is_shipped(entry: &Entry, name: &[u8], parts: usize) -> bool {
     let known = match &entry.shipped {
         Some(shipped) => shipped.as_bytes() == name,

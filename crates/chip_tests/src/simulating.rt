@@ -101,7 +101,8 @@ fn bits_in_each(alloc: Global) -> Result<List<List<bool>>, AllocError>
     Ok(pins)
 }
 
-// Of the words that are loaded at an address the last counts, and one past the words of the block is none.
+// Of the words that are loaded at an address the last counts, and one past the words of the block does
+// not.
 fn history(alloc: Global) -> Result<History, AllocError>
     ensures cycles { IfOk result (λ history. length history.pins ≡ 20) }
     ensures bits { IfOk result (λ history. All (λ bits. length bits ≡ 4) history.pins) }
@@ -236,6 +237,190 @@ fn words(rt: HostRuntime) -> Result<(), Fail> {
             sim.set(3, true);
             sim.eval();
             assert!(rt; !sim.get(5));
+        }
+    }
+    Ok(())
+}
+
+// Four lanes side by side: pins 0 to 7, flip-flops 8 to 11, two rows of Nands, 12 to 15 and 16 to 19, and two Nands by themselves.
+fn row_nodes(alloc: Global) -> Result<List<Node>, AllocError>
+    ensures { IfOk result (λ nodes. nodes ≡ Pin ∷ Pin ∷ Pin ∷ Pin ∷ Pin ∷ Pin ∷ Pin ∷ Pin ∷ Flip 16 ∷ Flip 17 ∷ Flip 18 ∷ Flip 19 ∷ Nand 0 8 ∷ Nand 1 9 ∷ Nand 2 10 ∷ Nand 3 11 ∷ Nand 12 4 ∷ Nand 13 5 ∷ Nand 14 6 ∷ Nand 15 7 ∷ Nand 16 17 ∷ Nand 20 18 ∷ []) }
+{
+    let nodes = vec![in alloc;
+        Node::Pin,
+        Node::Pin,
+        Node::Pin,
+        Node::Pin,
+        Node::Pin,
+        Node::Pin,
+        Node::Pin,
+        Node::Pin,
+        Node::Flip(16),
+        Node::Flip(17),
+        Node::Flip(18),
+        Node::Flip(19),
+        Node::Nand(0, 8),
+        Node::Nand(1, 9),
+        Node::Nand(2, 10),
+        Node::Nand(3, 11),
+        Node::Nand(12, 4),
+        Node::Nand(13, 5),
+        Node::Nand(14, 6),
+        Node::Nand(15, 7),
+        Node::Nand(16, 17),
+        Node::Nand(20, 18),
+    ]?;
+    Ok(List::of(nodes))
+}
+
+// The bits of pins and flip-flops, and what the next tock takes.
+#[derive(Clone, Copy)]
+struct RowState {
+    pins: u8,
+    flips: u8,
+    fixed: u8,
+}
+
+fn is_on(bits: u8, k: u8) -> bool {
+    k < 8 && bits >> k & 1 == 1
+}
+
+// The rows of Nands: of the lower pins and the flip-flops, and of these and the higher pins.
+fn first_row(state: RowState) -> u8 {
+    !(state.pins & state.flips) & 15
+}
+
+fn second_row(state: RowState) -> u8 {
+    !(first_row(state) & (state.pins / 16)) & 15
+}
+
+fn push_bits(bits: u8, n: u8, values: &mut Vec<bool>) -> Result<(), AllocError> {
+    for k in 0..n {
+        values.push(is_on(bits, k))?;
+    }
+    Ok(())
+}
+
+// The values of all nodes.
+fn row_values(state: RowState, values: &mut Vec<bool>) -> Result<(), AllocError> {
+    let second = second_row(state);
+    let alone = !(is_on(second, 0) & is_on(second, 1));
+    push_bits(state.pins, 8, values)?;
+    push_bits(state.flips, 4, values)?;
+    push_bits(first_row(state), 4, values)?;
+    push_bits(second, 4, values)?;
+    values.push(alone)?;
+    values.push(!(alone & is_on(second, 2)))?;
+    Ok(())
+}
+
+fn set_row_pins(sim: &mut Sim, pins: u8)
+    requires pin_0 { slice_get sim.old.net.nodes 0 ≡ Some Pin }
+    requires pin_1 { slice_get sim.old.net.nodes 1 ≡ Some Pin }
+    requires pin_2 { slice_get sim.old.net.nodes 2 ≡ Some Pin }
+    requires pin_3 { slice_get sim.old.net.nodes 3 ≡ Some Pin }
+    requires pin_4 { slice_get sim.old.net.nodes 4 ≡ Some Pin }
+    requires pin_5 { slice_get sim.old.net.nodes 5 ≡ Some Pin }
+    requires pin_6 { slice_get sim.old.net.nodes 6 ≡ Some Pin }
+    requires pin_7 { slice_get sim.old.net.nodes 7 ≡ Some Pin }
+    ensures { sim.new.net ≡ sim.old.net }
+{
+    sim.set(0, is_on(pins, 0));
+    sim.set(1, is_on(pins, 1));
+    sim.set(2, is_on(pins, 2));
+    sim.set(3, is_on(pins, 3));
+    sim.set(4, is_on(pins, 4));
+    sim.set(5, is_on(pins, 5));
+    sim.set(6, is_on(pins, 6));
+    sim.set(7, is_on(pins, 7));
+}
+
+// One of four calls that evaluate.
+fn call(sim: &mut Sim, state: RowState, which: u8) -> RowState
+    ensures { sim.new.net ≡ sim.old.net }
+{
+    let taken = RowState {
+        flips: state.fixed,
+        ..state
+    };
+    let fixed = RowState {
+        fixed: second_row(state),
+        ..state
+    };
+    if which == 0 {
+        sim.eval();
+        state
+    } else if which == 1 {
+        sim.tick();
+        fixed
+    } else if which == 2 {
+        sim.tock();
+        taken
+    } else {
+        sim.cycle();
+        RowState {
+            flips: fixed.fixed,
+            ..fixed
+        }
+    }
+}
+
+fn push_all_values(sim: &Sim, values: &mut Vec<bool>) -> Result<(), AllocError>
+    requires { length sim.now.net.nodes ≡ 22 }
+{
+    for node in 0..22 {
+        values.push(sim.get(node))?;
+    }
+    Ok(())
+}
+
+// Whether after each of many calls all nodes have the values that the rows have.
+fn rows_agree(alloc: Global, sim: &mut Sim) -> Result<bool, AllocError>
+    requires nodes { length sim.old.net.nodes ≡ 22 }
+    requires pin_0 { slice_get sim.old.net.nodes 0 ≡ Some Pin }
+    requires pin_1 { slice_get sim.old.net.nodes 1 ≡ Some Pin }
+    requires pin_2 { slice_get sim.old.net.nodes 2 ≡ Some Pin }
+    requires pin_3 { slice_get sim.old.net.nodes 3 ≡ Some Pin }
+    requires pin_4 { slice_get sim.old.net.nodes 4 ≡ Some Pin }
+    requires pin_5 { slice_get sim.old.net.nodes 5 ≡ Some Pin }
+    requires pin_6 { slice_get sim.old.net.nodes 6 ≡ Some Pin }
+    requires pin_7 { slice_get sim.old.net.nodes 7 ≡ Some Pin }
+{
+    let mut state = RowState {
+        pins: 0,
+        flips: 0,
+        fixed: 0,
+    };
+    let mut random = 1u32;
+    for _ in 0..500u32 {
+        random = random.wrapping_mul(1664525).wrapping_add(1013904223);
+        if random / 65536 % 4 != 0 {
+            let flipped = 1u8 << (random / 1048576 % 8);
+            state.pins = state.pins ^ flipped;
+        }
+        set_row_pins(sim, state.pins);
+        state = call(sim, state, (random / 16777216 % 4) as u8);
+        let mut simulated = Vec::new(alloc);
+        let mut expected = Vec::new(alloc);
+        push_all_values(sim, &mut simulated)?;
+        row_values(state, &mut expected)?;
+        if simulated != expected {
+            return Ok(false);
+        }
+    }
+    Ok(true)
+}
+
+// Rows are evaluated lane by lane right where some of their lanes are touched.
+#[test]
+fn rows(rt: HostRuntime) -> Result<(), Fail> {
+    let nodes = row_nodes(rt.alloc())?;
+    let blocks: List<Block> = List::new(rt.alloc());
+    match Netlist::new(nodes, blocks) {
+        Err(_) => assert!(rt; false),
+        Ok(net) => {
+            let mut sim = Sim::new(rt.alloc(), net)?;
+            assert!(rt; rows_agree(rt.alloc(), &mut sim)?);
         }
     }
     Ok(())

@@ -65,25 +65,40 @@ fn nodes_of(alloc: Global, pins: &[PinAt]) -> Result<Vec<u32>, AllocError> {
     Ok(nodes)
 }
 
-fn bench_of(alloc: Global, elab: Elab, inputs: usize) -> Result<Bench, Fail>
-    ensures pins { IfOk result (λ b. All (λ node. slice_get b.sim.net.nodes node ≡ Some Pin) b.inputs.items) }
-    ensures there { IfOk result (λ b. All (λ node. node < length b.sim.net.nodes) b.outputs.items) }
+// The nodes of the input bits and of the output bits.
+#[derive(Drop)]
+struct Ends {
+    inputs: Vec<u32>,
+    outputs: Vec<u32>,
+}
+
+// The first of these pins are the inputs.
+fn ends_of(alloc: Global, net: &Netlist, pins: &[PinAt], inputs: usize) -> Result<Ends, Fail>
+    ensures pins { IfOk result (λ ends. All (λ node. slice_get net.now.nodes node ≡ Some Pin) ends.inputs.items) }
+    ensures there { IfOk result (λ ends. All (λ node. node < length net.now.nodes) ends.outputs.items) }
 {
-    let pins = elab.pins.as_slice();
     if inputs > pins.len() {
         return Err(Fail::from("the inputs are pins"));
     }
     let (inputs, outputs) = pins.split_at(inputs);
     let inputs = nodes_of(alloc, inputs)?;
     let outputs = nodes_of(alloc, outputs)?;
-    if !are_pins(&elab.net, &inputs) || !are_there(&elab.net, &outputs) {
+    if !are_pins(net, &inputs) || !are_there(net, &outputs) {
         return Err(Fail::from("the nodes of pins are there"));
     }
+    Ok(Ends { inputs, outputs })
+}
+
+fn bench_of(alloc: Global, elab: Elab, inputs: usize) -> Result<Bench, Fail>
+    ensures pins { IfOk result (λ b. All (λ node. slice_get b.sim.net.nodes node ≡ Some Pin) b.inputs.items) }
+    ensures there { IfOk result (λ b. All (λ node. node < length b.sim.net.nodes) b.outputs.items) }
+{
+    let ends = ends_of(alloc, &elab.net, elab.pins.as_slice(), inputs)?;
     let sim = Sim::new(alloc, elab.net)?;
     Ok(Bench {
         sim,
-        inputs,
-        outputs,
+        inputs: ends.inputs,
+        outputs: ends.outputs,
     })
 }
 

@@ -18,7 +18,8 @@ pub fn shipped_library(alloc: Global) -> Result<Library, AllocError>
     library(alloc)
 }
 
-fn read(alloc: Global, text: &[u8]) -> Result<Chip, Fail> {
+/// The chip that a text spells.
+pub fn read(alloc: Global, text: &[u8]) -> Result<Chip, Fail> {
     match parse(alloc, text) {
         Ok(chip) => Ok(chip),
         Err(_) => Err(Fail::from("the text is a chip")),
@@ -55,8 +56,8 @@ pub fn add_text(alloc: Global, library: &mut Library, text: &[u8]) -> Result<(),
     )
 }
 
-// The shipped Nand.
-fn shipped_nand(alloc: Global) -> Result<Entry, AllocError>
+/// The shipped Nand.
+pub fn shipped_nand(alloc: Global) -> Result<Entry, AllocError>
     ensures { IfOk result (λ entry. IsShippedAs entry) }
 {
     let chip = nand_tree(alloc)?;

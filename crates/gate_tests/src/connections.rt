@@ -5,11 +5,12 @@ ghost use Rattle.std.specs.List.{All};
 ghost use Rattle.netlist.specs.declared.node.Node.TheVariants.{Pin};
 
 use crate::bench::{Bench, put_on_bench};
+use crate::checks::holds;
 use crate::chips::library_with;
 use std::test::*;
 
-// Bits of pins at the left and at the right, one or several; constants at one bit, at several, and at all of a pin; inputs that nothing
-// feeds and outputs that nothing reads; an output that goes to several places; nets of one bit and of several; bits of an output that nothing
+// Bits of pins at the left and at the right, one or several; constants at one bit, at several, and at all of a pin. Inputs that nothing feeds
+// and outputs that nothing reads; an output that goes to several places. Nets of one bit and of several; bits of an output that nothing
 // drives.
 const WIRED: &[u8] =
     b"CHIP Wired { IN a, b[3], c[4]; OUT inverted[16], some[3], one, chosen, bits[4], low, sum[16], any;
@@ -61,6 +62,6 @@ fn each_kind(rt: HostRuntime) -> Result<(), Fail> {
     let alloc = rt.alloc();
     let library = library_with(alloc, &[WIRED])?;
     let mut chip = put_on_bench(alloc, &library, b"Wired", false)?;
-    assert!(rt; follows_its_table(&mut chip));
+    holds(&rt, "Wired", follows_its_table(&mut chip));
     Ok(())
 }

@@ -5,9 +5,13 @@
 #[cfg(test)]
 mod bench;
 #[cfg(test)]
+mod checks;
+#[cfg(test)]
 mod chips;
 #[cfg(test)]
 mod connections;
+#[cfg(test)]
+mod deep;
 #[cfg(test)]
 mod memories;
 #[cfg(test)]
@@ -16,3 +20,5 @@ mod ordering;
 mod refusals;
 #[cfg(test)]
 mod running;
+#[cfg(test)]
+mod wide;

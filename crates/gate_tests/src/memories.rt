@@ -3,10 +3,14 @@
 ghost use Rattle.std.specs.Prelude.{◌≡◌, ◌<◌, Some, length, slice_get};
 ghost use Rattle.std.specs.List.{All};
 ghost use Rattle.netlist.specs.declared.node.Node.TheVariants.{Pin};
+ghost use Rattle.hack_cpu.specs.Libraries.{IsLibrary};
 
 use crate::bench::{Bench, put_on_bench};
+use crate::checks::holds;
 use crate::chips::{library_of_own, shipped_library};
-use std::test::*;
+use hdl_tree::Library;
+use std::alloc::Global;
+use std::test::Fail;
 
 // The next of numbers that look like chance.
 fn next_number(number: u64) -> u64 {
@@ -22,7 +26,7 @@ fn inputs_from(number: u64) -> u64 {
     address * 131072 + word
 }
 
-// Whether two chips with the inputs of a memory give the same in so many cycles of such inputs.
+// Whether two chips with the inputs of a memory give the same in this many cycles of such inputs.
 fn agree(one: &mut Bench, other: &mut Bench, cycles: u32) -> bool
     requires one_pins { All (λ node. slice_get one.old.sim.net.nodes node ≡ Some Pin) one.old.inputs.items }
     requires one_there { All (λ node. node < length one.old.sim.net.nodes) one.old.outputs.items }
@@ -53,29 +57,54 @@ const MEMORIES: &[(&str, u32)] = &[
     ("Screen", 100),
 ];
 
+// Whether a memory of gates gives the same as its block in this many cycles.
+fn agrees_with_its_block(
+    alloc: Global,
+    library: &Library,
+    name: &[u8],
+    cycles: u32,
+) -> Result<bool, Fail>
+    requires { IsLibrary library.now.entries }
+{
+    let mut gates = put_on_bench(alloc, library, name, false)?;
+    let mut block = put_on_bench(alloc, library, name, true)?;
+    Ok(agree(&mut gates, &mut block, cycles))
+}
+
 #[test]
 fn gates_agree_with_blocks(rt: HostRuntime) -> Result<(), Fail> {
     let alloc = rt.alloc();
     let library = shipped_library(alloc)?;
     for (name, cycles) in MEMORIES {
-        let mut gates = put_on_bench(alloc, &library, name.as_bytes(), false)?;
-        let mut block = put_on_bench(alloc, &library, name.as_bytes(), true)?;
-        assert!(rt; agree(&mut gates, &mut block, *cycles), "{name}");
+        let agrees = agrees_with_its_block(alloc, &library, name.as_bytes(), *cycles)?;
+        holds(&rt, name, agrees);
     }
     Ok(())
 }
 
+// The outputs of a chip at two inputs, and in the cycle after that.
+fn three_outputs(chip: &mut Bench, first: u64, second: u64) -> [u64; 3]
+    requires pins { All (λ node. slice_get chip.old.sim.net.nodes node ≡ Some Pin) chip.old.inputs.items }
+    requires there { All (λ node. node < length chip.old.sim.net.nodes) chip.old.outputs.items }
+{
+    let at_first = chip.try_inputs(first);
+    let at_second = chip.try_inputs(second);
+    [at_first, at_second, chip.next_cycle()]
+}
+
+fn outputs_of_own_ram8(alloc: Global) -> Result<[u64; 3], Fail> {
+    let library = library_of_own(alloc, OWN_RAM8)?;
+    let mut chip = put_on_bench(alloc, &library, b"RAM8", true)?;
+    Ok(three_outputs(&mut chip, 65537, 65536))
+}
+
+const OWN_RAM8: &[u8] =
+    b"CHIP RAM8 { IN in[16], load, address[3]; OUT out[16]; PARTS: Nand(a=in[0], b=load, out=out[0]); }";
+
 // A folder's RAM8 with parts, which keeps nothing, is elaborated by its text, also where the shipped memories are blocks.
 #[test]
 fn own_ram8(rt: HostRuntime) -> Result<(), Fail> {
-    let alloc = rt.alloc();
-    let library = library_of_own(
-        alloc,
-        b"CHIP RAM8 { IN in[16], load, address[3]; OUT out[16]; PARTS: Nand(a=in[0], b=load, out=out[0]); }",
-    )?;
-    let mut chip = put_on_bench(alloc, &library, b"RAM8", true)?;
-    assert!(rt; chip.try_inputs(65537) == 0);
-    assert!(rt; chip.try_inputs(65536) == 1);
-    assert!(rt; chip.next_cycle() == 1);
+    let outputs = outputs_of_own_ram8(rt.alloc())?;
+    holds(&rt, "own RAM8", outputs == [0, 1, 1]);
     Ok(())
 }

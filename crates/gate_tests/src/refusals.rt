@@ -1,8 +1,9 @@
 //! Why chips have no netlist.
 
-ghost use Rattle.std.specs.Prelude.{IfOk};
+ghost use Rattle.std.specs.Prelude.{IfOk, OnOk};
 ghost use Rattle.hack_cpu.specs.Libraries.{IsLibrary};
 
+use crate::checks::is_told;
 use crate::chips::{add_text, answer, library_with, shipped_library};
 use hdl_elab::ElaborationFault;
 use hdl_tree::{Library, Name};
@@ -30,8 +31,8 @@ fn fault_text(alloc: Global, fault: &ElaborationFault) -> Result<String, AllocEr
     }
 }
 
-// Why a chip has no netlist; nothing, if it has one.
-fn why_not(alloc: Global, library: &Library, name: &[u8], blocks: bool) -> Result<String, Fail>
+/// Why a chip has no netlist; nothing, if it has one.
+pub fn why_not(alloc: Global, library: &Library, name: &[u8], blocks: bool) -> Result<String, Fail>
     requires { IsLibrary library.now.entries }
 {
     match answer(alloc, library, name, blocks)? {
@@ -40,7 +41,7 @@ fn why_not(alloc: Global, library: &Library, name: &[u8], blocks: bool) -> Resul
     }
 }
 
-// The parts of a chip F, with memories as blocks, and what is told of it.
+// The parts of a chip F, with memories as blocks, and what is reported of it.
 const FAULTS: &[(&str, &str)] = &[
     // a fault of each kind
     ("Foo(in=a, out=out);", "F: UnknownChip Foo"),
@@ -80,41 +81,62 @@ const FAULTS: &[(&str, &str)] = &[
     ("Not(in=a, out=out);", ""),
 ];
 
+fn faults_table() -> &'static [(&'static str, &'static str)] {
+    FAULTS
+}
+
 // The chips beside F.
 const BAD: &[u8] = b"CHIP Bad { IN in; OUT out; PARTS: Foo(in=in, out=out); }";
 
 const TWICE: &[u8] =
     b"CHIP Twice { IN in; OUT out; PARTS: Not(in=in, out=m); Not(in=m, out=out); }";
 
+// What is reported of a chip F of these parts.
+fn fault_of(alloc: Global, parts: &str) -> Result<String, Fail> {
+    let text = format!(in alloc; "CHIP F {{ IN a, b[2]; OUT out; PARTS: {parts} }}")?;
+    let library = library_with(alloc, &[text.as_bytes(), BAD, TWICE])?;
+    why_not(alloc, &library, b"F", true)
+}
+
 #[test]
 fn faults(rt: HostRuntime) -> Result<(), Fail> {
-    let alloc = rt.alloc();
-    for (parts, told) in FAULTS {
-        let text = format!(in alloc; "CHIP F {{ IN a, b[2]; OUT out; PARTS: {parts} }}")?;
-        let library = library_with(alloc, &[text.as_bytes(), BAD, TWICE])?;
-        let why = why_not(alloc, &library, b"F", true)?;
-        assert_eq!(rt; why.as_str(), *told, "of {parts}");
+    for (parts, told) in faults_table() {
+        let fault = fault_of(rt.alloc(), parts)?;
+        is_told(&rt, parts, &fault, told);
     }
     Ok(())
 }
 
-// Forty chips, of which each chains two of the one before, behind the first.
+// Chip number `k` chains two of the one before.
+fn add_double(alloc: Global, library: &mut Library, k: u32) -> Result<(), Fail>
+    requires { IsLibrary library.old.entries }
+    ensures { OnOk result (IsLibrary library.new.entries) }
+{
+    let before = k.saturating_sub(1);
+    let text = format!(in alloc;
+        "CHIP C{k} {{ IN in; OUT out; PARTS: C{before}(in=in, out=x); C{before}(in=x, out=out); }}"
+    )?;
+    add_text(alloc, library, text.as_bytes())
+}
+
+// Forty chips after the first, each of which chains two of the one before.
 fn chained(alloc: Global, first: &[u8]) -> Result<Library, Fail>
     ensures { IfOk result (λ library. IsLibrary library.entries) }
 {
     let mut library = shipped_library(alloc)?;
     add_text(alloc, &mut library, first)?;
     for k in 1..41u32 {
-        let before = k - 1;
-        let text = format!(in alloc;
-            "CHIP C{k} {{ IN in; OUT out; PARTS: C{before}(in=in, out=x); C{before}(in=x, out=out); }}"
-        )?;
-        add_text(alloc, &mut library, text.as_bytes())?;
+        add_double(alloc, &mut library, k)?;
     }
     Ok(library)
 }
 
-// The first of the forty chips, and what is told of the last.
+fn fault_of_last(alloc: Global, first: &[u8]) -> Result<String, Fail> {
+    let library = chained(alloc, first)?;
+    why_not(alloc, &library, b"C40", false)
+}
+
+// The first of the forty chips, and what is reported of the last.
 const CHAINS: &[(&str, &str)] = &[
     (
         "CHIP C0 { IN in; OUT out; PARTS: Nand(a=in, b=in, out=out); }",
@@ -123,14 +145,12 @@ const CHAINS: &[(&str, &str)] = &[
     ("CHIP C0 { IN in; OUT out; PARTS: }", "Memory"),
 ];
 
-// They are told at once: no chip is expanded, and no directory begun.
+// They are reported at once: no chip is expanded, and no directory begun.
 #[test]
 fn forty_chips(rt: HostRuntime) -> Result<(), Fail> {
-    let alloc = rt.alloc();
     for (first, told) in CHAINS {
-        let library = chained(alloc, first.as_bytes())?;
-        let why = why_not(alloc, &library, b"C40", false)?;
-        assert_eq!(rt; why.as_str(), *told, "of {first}");
+        let fault = fault_of_last(rt.alloc(), first.as_bytes())?;
+        is_told(&rt, first, &fault, told);
     }
     Ok(())
 }

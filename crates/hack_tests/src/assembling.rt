@@ -44,7 +44,7 @@ const PROGRAMS: &[(&str, bool, &[u16])] = &[
     ),
     ("// a\r\n// b\r\n", false, &[]),
     (ADD, true, ADD_WORDS),
-    // CRLF, empty lines, and no line end behind the last word
+    // CRLF, empty lines, and no line end after the last word
     (
         "\r\n1000000000000001\r\n\n\n0111111111111110",
         true,
@@ -86,7 +86,8 @@ const REFUSED: &[(&str, bool, &str)] = &[
     ("01\n@", true, "2:1: Grammar"),
 ];
 
-// a line, how often it stands, whether these lines are an image or assembly, and what is told of them
+// a line, how often it stands, whether these lines are an image or assembly, and what is reported of
+// them
 const LINES: &[(&str, u32, bool, &str)] = &[
     ("0\n", 32_768, false, "32768 words, the last 60032"),
     ("0\n", 32_769, false, "TooLarge 32769"),
@@ -100,7 +101,7 @@ const LINES: &[(&str, u32, bool, &str)] = &[
     ("\n", 1_048_577, true, "0:0: Range 1048577"),
 ];
 
-// so many different symbols, and what is told of them
+// this many different symbols, and what is reported of them
 const SYMBOLS: [(u32, &str); 2] = [
     (16_368, "16368 words, the last 16383"),
     (16_369, "TooManyVariables 16369"),
@@ -117,7 +118,7 @@ fn told(alloc: Global, text: &[u8], is_image: bool) -> Result<String, Fail> {
     }
 }
 
-// A line, so many times.
+// A line, this many times.
 fn lines(alloc: Global, line: &str, count: u32) -> Result<Vec<u8>, AllocError> {
     let mut text = Vec::new(alloc);
     for _ in 0..count {
@@ -126,7 +127,7 @@ fn lines(alloc: Global, line: &str, count: u32) -> Result<Vec<u8>, AllocError> {
     Ok(text)
 }
 
-// A text of so many different symbols.
+// A text of this many different symbols.
 fn symbols(alloc: Global, count: u32) -> Result<Vec<u8>, AllocError> {
     let mut text = Vec::new(alloc);
     for n in 0..count {

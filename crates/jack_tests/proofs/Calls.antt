@@ -96,7 +96,7 @@ built_four k es (p ∷ ps) e c h =
 pub expression_four : (e : TheExpression) → AreOfFour e.parts.items → OfFour (calls (the_expression e))
 expression_four e c = (subst All (spells [] e) (built_four 1 [] e.parts.items e.one c tt)).0
 
--- a text and a statement behind it
+-- a text and a statement after it
 pub block_four : (ss : List Statement) (s : Statement) → OfFour (text_calls (the_block ss)) → OfFour (statement_calls (the_statement s)) → OfFour (text_calls (the_block (ss ++ s ∷ [])))
 block_four [] s h k = both_four (statement_calls (the_statement s)) [] k none_four
 block_four (t ∷ ss) s h k =

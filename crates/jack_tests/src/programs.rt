@@ -24,7 +24,7 @@ pub(super) enum Written<'a> {
     Return(u32, &'a [Part]),
 }
 
-/// The function Main.main: its number of locals, its first statements, its loops behind them, and the number of its last statement,
+/// The function Main.main: its number of locals, its first statements, its loops after them, and the number of its last statement,
 /// which is `return;`. A method Main.get of two arguments returns a value.
 #[derive(Clone, Copy)]
 pub(super) struct Main<'a> {
@@ -62,7 +62,7 @@ fn is_of_four(part: Part) -> bool
     }
 }
 
-// A part behind parts that leave so many values, and how many are left then.
+// A part after parts that leave this many values, and how many are left then.
 #[tactic(auto, using(crate::proofs::Heights::height_put, crate::proofs::Calls::push_four))]
 fn add_part(all: &mut Vec<Part>, values: usize, part: Part) -> Result<usize, Fail>
     requires values { height 0 all.old.items ≡ Some values }
@@ -157,7 +157,7 @@ fn main_body(alloc: Global, main: &Main<'_>) -> Result<Vec<Statement>, Fail>
     Ok(all)
 }
 
-// One more subroutine, with so many arguments and locals.
+// One more subroutine, with this many arguments and locals.
 #[tactic(auto, using(crate::proofs::Calls::so_more))]
 fn add_subroutine(
     alloc: Global,
@@ -246,7 +246,7 @@ pub(super) fn core(alloc: Global, main: &Main<'_>) -> Result<Core, Fail>
     })
 }
 
-/// 1 - 1 - 1 .., with so many operators.
+/// 1 - 1 - 1 .., with this many operators.
 pub(super) fn left_nested(alloc: Global, n: usize) -> Result<Vec<Part>, AllocError> {
     let mut parts = vec![in alloc; Part::Literal(1)]?;
     for _ in 0..n {
@@ -256,7 +256,7 @@ pub(super) fn left_nested(alloc: Global, n: usize) -> Result<Vec<Part>, AllocErr
     Ok(parts)
 }
 
-/// 1 - (1 - (1 - ..)), with so many operators.
+/// 1 - (1 - (1 - ..)), with this many operators.
 pub(super) fn right_nested(alloc: Global, n: usize) -> Result<Vec<Part>, AllocError> {
     let mut parts = vec![in alloc; Part::Literal(1)]?;
     for _ in 0..n {

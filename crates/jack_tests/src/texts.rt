@@ -57,7 +57,8 @@ const FAULTS: &[(&str, &str)] = &[
     ("class C {}", ""),
 ];
 
-// parts of texts, each so many times; and the faults of the texts, or nothing where they are classes
+// parts of texts, each this many times; and the faults of the texts, or nothing where they are
+// classes
 const LARGE: &[(&[(u32, &str)], &str)] = &[
     // 16,384 of each are the most, on all lines together; the place is that of the name, or of the argument
     (

@@ -1,8 +1,8 @@
 //! What programs draw, by their meaning and on the computer.
 //!
 //! The rows of a screen that are not white stand as `FIRST..END: A..B ..`: rows that are alike, and in each of them the columns of
-//! its black pixels. What is expected was told by a model in Python, which sets pixels and cells by the rules of docs/SYSTEM.md and
-//! shares nothing with the texts of the system.
+//! its black pixels. What is expected is worked out by a model in Python (tools/drawings), which sets pixels and cells by the
+//! rules of docs/SYSTEM.md and shares nothing with the texts of the system.
 ghost use Rattle.std.specs.Prelude.{◌<◌};
 
 use crate::programs::program_of;
@@ -83,7 +83,7 @@ fn is_halt(core: &Core, point: Point) -> bool {
     }
 }
 
-// Moves a machine until it has halted, which it does within so many moves.
+// Moves a machine until it has halted, which it does within this many moves.
 fn halts<L: Level<Point = Point>>(
     level: &mut L,
     core: &Core,

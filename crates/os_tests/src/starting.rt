@@ -32,7 +32,7 @@ fn no_keys(alloc: Global) -> Result<Keys, Fail> {
     Ok(read_keys(alloc, b"").ok().ok_or("no line is a script")?)
 }
 
-// After so many moves from its start the meaning is at this statement.
+// After this many moves from its start the meaning is at this statement.
 fn comes_to(
     rt: &impl Abort,
     alloc: Global,
@@ -77,4 +77,12 @@ fn the_system_starts(rt: HostRuntime) -> Result<(), Fail> {
     drive(&mut hack, &no_keys(alloc)?, 200_000)?;
     assert!(rt; hack.point() == Point { sub: 1, number: 1 });
     Ok(())
+}
+
+// The program begins after 1,735 steps, and six later stands at the loop. A round is six steps, and the last test two.
+#[test]
+fn wait_counts_down(rt: HostRuntime) -> Result<(), Fail> {
+    let main = b"class Main { function void main() { do Sys.wait(1000); return; } }";
+    let core = program_of(rt.alloc(), main.as_slice())?;
+    comes_to(&rt, rt.alloc(), &core, 7_743, "Sys.wait", 5)
 }

@@ -4,7 +4,7 @@ use std::fs::{Metadata, OpenOptions};
 use std::io;
 use std::rt::Files;
 
-/// These files, but for the names in a folder: each with a zero byte behind it.
+/// These files, but for the names in a folder: each with a zero byte after it.
 #[derive(Clone, Copy)]
 pub struct Entries<'a, R> {
     pub files: &'a R,

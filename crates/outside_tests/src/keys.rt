@@ -1,4 +1,4 @@
-//! Key scripts: the codes at moments, and the faults of texts that are none.
+//! Key scripts: the codes at moments, and the faults of texts that are no key scripts.
 use key_script::{KeyError, Keys, read_keys};
 use std::alloc::{AllocError, Global};
 use std::process::Abort;

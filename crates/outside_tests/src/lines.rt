@@ -24,7 +24,7 @@ fn is_line(alloc: Global, text: &str, request: Request<'_>) -> Result<bool, Allo
     Ok(answers(alloc, words_of(alloc, text)?, Ok(request)))
 }
 
-// The first of these lines of which `read` answers something else.
+// The first of these lines for which `read` answers something else.
 fn first_misread_exec(
     alloc: Global,
     lines: &[(&'static str, &str, u32, u16, u16)],
@@ -80,7 +80,7 @@ fn first_misread(
     Ok(None)
 }
 
-// The first of the texts that are no lines of which `read` does not answer so.
+// The first of the texts that are no lines for which `read` does not answer so.
 fn first_accepted(
     alloc: Global,
     texts: &[&'static str],

@@ -13,7 +13,7 @@ use outer_world::{MemorySink, Put, Sink};
 use std::alloc::AllocError;
 use std::test::Fail;
 
-// Makes so many moves, and then is full. Key 0 leads it astray, key 9 to its end.
+// Makes this many moves, and then is full. Key 0 leads it astray, key 9 to its end.
 #[derive(Drop)]
 struct Counter {
     room: u64,
@@ -192,7 +192,7 @@ fn word_of(a: u16) -> u16 {
 const WORDS: &[(u16, u16, bool, &str)] = &[
     (16, 19, true, "16 3\n17 0\n18 -1\n19 -32768\n"),
     (16, 18, false, "16 3\n18 -1\n"),
-    // from later to earlier there are none
+    // from later to earlier there are no moves
     (18, 16, true, ""),
 ];
 
@@ -229,7 +229,8 @@ fn the_screen_has_its_pixels(rt: HostRuntime) -> Result<(), Fail> {
     Ok(())
 }
 
-// What is shown, the end that is told, whether a sink of 1,000 bytes takes it all, and what it has then, or has at first.
+// What is shown, the end that is reported, whether a sink of 1,000 bytes takes it all, and what it has then, or has at
+// first.
 const REPORTS: &[(Show, End, Put, &str)] = &[
     (
         Show::Heap,
@@ -282,7 +283,7 @@ fn a_level_shows_its_words(rt: HostRuntime) -> Result<(), Fail> {
     let mut sink = MemorySink::new(rt.alloc(), 1000, Vec::new(rt.alloc()))?;
     assert_eq!(rt; show_level(&level, &mut sink), Put::Done);
     assert_eq!(rt; sink.bytes().len(), 0);
-    // behind the third move each word is 6
+    // after the third move each word is 6
     assert_eq!(rt; drive(&mut level, &Turning, 3)?, End::Bound);
     let mut sink = MemorySink::new(rt.alloc(), 200_000, Vec::new(rt.alloc()))?;
     assert_eq!(rt; show_level(&level, &mut sink), Put::Done);

@@ -71,7 +71,7 @@ const FILES: &[(&str, &str)] = &[
     ("Add.asm", "@2\n"),
 ];
 
-// Calls one behind the other, each a path and a limit, and what they answer. The third and the tenth fail.
+// Calls one after the other, each a path and a limit, and what they answer. The third and the tenth fail.
 const IN_MEMORY: &[(&str, Option<u32>, &str)] = &[
     ("prog", None, "Ball.jack Main.jack "),
     ("", None, "Add.asm program "),

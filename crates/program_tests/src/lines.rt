@@ -1,22 +1,33 @@
 //! Runs over a shelf and sinks in memory.
+
+/// The rows of a table: the cells of each stand apart by commas, and it ends with a semicolon.
+macro_rules! rows {
+    ($($($cell:expr),+;)*) => { &[$(($($cell),+)),*] };
+}
+
 mod building;
+mod checks;
 mod computing;
 mod debugging;
 mod executing;
 mod failing;
 mod folders;
 mod fronts;
+mod harness;
 mod limits;
 mod mapping;
 mod replacing;
 mod running;
+mod scripts;
 mod showing;
 mod soaking;
 mod translating;
 mod wired;
 
-use nand_cli::{Status, run};
-use outer_world::{MemoryShelf, MemorySink, Name};
+use checks::{begins_with, ended, ends_with, has_length, has_status};
+use harness::{Failures, NONE, file_of, outcome_of, outcome_over, outcome_with};
+use nand_cli::Status;
+use outer_world::Name;
 use std::alloc::{AllocError, Global};
 use std::process::Abort;
 use std::test::Fail;
@@ -36,89 +47,20 @@ struct Case<'a> {
     err: &'a str,
 }
 
-/// The calls of the shelf that fail, and the puts of out and err, with how many bytes they still take.
-#[derive(Clone, Copy)]
-struct Failures<'a> {
-    shelf: &'a [u64],
-    out: &'a [(u64, u32)],
-    err: &'a [(u64, u32)],
-}
-
-const NONE: Failures<'static> = Failures {
-    shelf: &[],
-    out: &[],
-    err: &[],
+/// No file and no line. Nothing fails, the line is done, and nothing is put. A row names what is else.
+const CASE: Case<'static> = Case {
+    files: &[],
+    lines: &[],
+    fails: NONE,
+    status: Status::Done,
+    out: "",
+    err: "",
 };
-
-#[derive(Drop)]
-struct Outcome {
-    status: Status,
-    out: MemorySink,
-    err: MemorySink,
-}
-
-fn files_of(alloc: Global, files: &[(&str, &str)]) -> Result<Vec<(Name, Vec<u8>)>, AllocError> {
-    let mut all = Vec::new(alloc);
-    for (path, text) in files {
-        let text = text.as_bytes().to_vec(alloc)?;
-        all.push((Name::new(alloc, path)?, text))?;
-    }
-    Ok(all)
-}
-
-// The words of a line, which stand apart by single spaces.
-fn words_in(alloc: Global, line: &str) -> Result<Vec<String>, AllocError> {
-    let mut words = Vec::new(alloc);
-    for word in line.split(' ') {
-        words.push(String::from_str(alloc, word)?)?;
-    }
-    Ok(words)
-}
-
-// What a call with these words does over these files.
-fn called(
-    alloc: Global,
-    files: Vec<(Name, Vec<u8>)>,
-    words: &[String],
-    fails: Failures<'_>,
-) -> Result<Outcome, AllocError> {
-    let mut shelf = MemoryShelf::new(files, fails.shelf.to_vec(alloc)?);
-    let mut out = MemorySink::new(alloc, 200_000, fails.out.to_vec(alloc)?)?;
-    let mut err = MemorySink::new(alloc, 1_000, fails.err.to_vec(alloc)?)?;
-    let status = run(alloc, words, &mut shelf, &mut out, &mut err);
-    Ok(Outcome { status, out, err })
-}
-
-// The same of a line.
-fn outcome_of(
-    alloc: Global,
-    files: Vec<(Name, Vec<u8>)>,
-    line: &str,
-    fails: Failures<'_>,
-) -> Result<Outcome, AllocError> {
-    called(alloc, files, &words_in(alloc, line)?, fails)
-}
-
-// A row's line ended so: by this status, with this on out and on err.
-fn ended(
-    rt: &impl Abort,
-    row: usize,
-    line: &str,
-    outcome: &Outcome,
-    status: Status,
-    out: &str,
-    err: &str,
-) {
-    assert_eq!(rt; outcome.err.bytes(), err.as_bytes(), "row {row}, {line}");
-    assert_eq!(rt; outcome.out.bytes(), out.as_bytes(), "row {row}, {line}");
-    assert_eq!(rt; outcome.status, status, "row {row}, {line}");
-}
 
 // Each line of a row's case ends as it says.
 fn ends(rt: &impl Abort, alloc: Global, row: usize, case: &Case<'_>) -> Result<(), Fail> {
     for line in case.lines {
-        let files = files_of(alloc, case.files)?;
-        let outcome = outcome_of(alloc, files, line, case.fails)?;
+        let outcome = outcome_of(alloc, case.files, line, case.fails)?;
         ended(rt, row, line, &outcome, case.status, case.out, case.err);
     }
     Ok(())
@@ -131,6 +73,20 @@ fn each_ends(rt: &impl Abort, alloc: Global, cases: &[Case<'_>]) -> Result<(), F
     Ok(())
 }
 
+// A row's line over these files ends so: by this status, with this on out and on err.
+fn line_ends(
+    rt: &impl Abort,
+    alloc: Global,
+    row: usize,
+    files: &[(&str, &str)],
+    line: &str,
+    (status, out, err): (Status, &str, &str),
+) -> Result<(), Fail> {
+    let outcome = outcome_of(alloc, files, line, NONE)?;
+    ended(rt, row, line, &outcome, status, out, err);
+    Ok(())
+}
+
 // A row's file stands alone, and this line is done and puts this.
 fn done(
     rt: &impl Abort,
@@ -140,10 +96,7 @@ fn done(
     line: &str,
     out: &str,
 ) -> Result<(), Fail> {
-    let files = files_of(alloc, &[file])?;
-    let outcome = outcome_of(alloc, files, line, NONE)?;
-    ended(rt, row, line, &outcome, Status::Done, out, "");
-    Ok(())
+    line_ends(rt, alloc, row, &[file], line, (Status::Done, out, ""))
 }
 
 fn each_is_done(
@@ -167,9 +120,7 @@ fn refused(
     err: &str,
 ) -> Result<(), Fail> {
     for line in lines {
-        let files = files_of(alloc, &[file])?;
-        let outcome = outcome_of(alloc, files, line, NONE)?;
-        ended(rt, row, line, &outcome, Status::Refused, "", err);
+        line_ends(rt, alloc, row, &[file], line, (Status::Refused, "", err))?;
     }
     Ok(())
 }
@@ -186,8 +137,8 @@ fn each_is_refused(
     Ok(())
 }
 
-/// A text with a long middle: so many times the same piece between two others, with its number and a further piece behind it where
-/// there is one.
+/// A text with a long middle: this many times the same piece between two others, with its number and a further piece after it
+/// where there is one.
 #[derive(Clone, Copy)]
 struct Long<'a> {
     front: &'a str,
@@ -196,6 +147,15 @@ struct Long<'a> {
     times: u32,
     back: &'a str,
 }
+
+/// Nothing, no time.
+const NO_TEXT: Long<'static> = Long {
+    front: "",
+    piece: "",
+    behind_number: None,
+    times: 0,
+    back: "",
+};
 
 fn text_of(alloc: Global, long: &Long<'_>) -> Result<Vec<u8>, Fail> {
     let mut text = long.front.as_bytes().to_vec(alloc)?;
@@ -210,19 +170,30 @@ fn text_of(alloc: Global, long: &Long<'_>) -> Result<Vec<u8>, Fail> {
     Ok(text)
 }
 
-// Each line of a case ends as it says, where a file with a long text stands beside the others.
+// Each line of a case ends as it says, where this file stands beside the others.
+fn ends_beside(
+    rt: &impl Abort,
+    alloc: Global,
+    row: usize,
+    file: (&str, &[u8]),
+    case: &Case<'_>,
+) -> Result<(), Fail> {
+    for line in case.lines {
+        let outcome = outcome_with(alloc, case.files, file, line, case.fails)?;
+        ended(rt, row, line, &outcome, case.status, case.out, case.err);
+    }
+    Ok(())
+}
+
+// The same where a file has a long text.
 fn each_long_ends(
     rt: &impl Abort,
     alloc: Global,
     rows: &[(&str, Long<'_>, Case<'_>)],
 ) -> Result<(), Fail> {
     for (row, (path, long, case)) in rows.iter().enumerate() {
-        for line in case.lines {
-            let mut files = files_of(alloc, case.files)?;
-            files.push((Name::new(alloc, path)?, text_of(alloc, long)?))?;
-            let outcome = outcome_of(alloc, files, line, case.fails)?;
-            ended(rt, row, line, &outcome, case.status, case.out, case.err);
-        }
+        let text = text_of(alloc, long)?;
+        ends_beside(rt, alloc, row, (*path, text.as_slice()), case)?;
     }
     Ok(())
 }
@@ -237,22 +208,24 @@ fn lines_in(text: &[u8]) -> u32 {
     lines
 }
 
+// A chip of two of this number.
+fn double_of(alloc: Global, below: u32) -> Result<(Name, Vec<u8>), AllocError> {
+    let number = below.saturating_add(1);
+    let path = format!(in alloc; "t/C{number}.hdl")?;
+    let text = format!(in alloc;
+        "CHIP C{number} {{ IN in; OUT out; PARTS: C{below}(in=in, out=n); C{below}(in=n, out=out); }}"
+    )?;
+    file_of(alloc, &path, &text)
+}
+
 // The chips C0.hdl to C40.hdl in the folder t: C0 has these parts, each other one two of the one before, from the input `in` to the
 // output `out`.
 fn doubled(alloc: Global, parts: &str) -> Result<Vec<(Name, Vec<u8>)>, Fail> {
     let mut files = Vec::new(alloc);
     let text = format!(in alloc; "CHIP C0 {{ IN in; OUT out; PARTS: {parts} }}")?;
-    files.push((
-        Name::new(alloc, "t/C0.hdl")?,
-        text.as_bytes().to_vec(alloc)?,
-    ))?;
+    files.push(file_of(alloc, "t/C0.hdl", &text)?)?;
     for below in 0..40u32 {
-        let number = below.saturating_add(1);
-        let path = format!(in alloc; "t/C{number}.hdl")?;
-        let text = format!(in alloc;
-            "CHIP C{number} {{ IN in; OUT out; PARTS: C{below}(in=in, out=n); C{below}(in=n, out=out); }}"
-        )?;
-        files.push((Name::new(alloc, &path)?, text.as_bytes().to_vec(alloc)?))?;
+        files.push(double_of(alloc, below)?)?;
     }
     Ok(files)
 }
@@ -295,17 +268,15 @@ fn shows(
     columns: &[usize],
 ) -> Result<(), Fail> {
     let line = format!(in alloc; "run prog --level {level} --show screen")?;
-    let outcome = outcome_of(alloc, files, &line, NONE)?;
+    let outcome = outcome_over(alloc, files, &line, NONE)?;
     let screen = screen_of(alloc, columns)?;
-    assert_eq!(rt; outcome.status, Status::Done, "row {row}, {line}");
-    assert!(rt;
-        outcome.out.bytes().ends_with(screen.as_bytes()),
-        "row {row}, {line}"
-    );
+    has_status(rt, row, &line, outcome.status, Status::Done);
+    ends_with(rt, row, &line, outcome.out.bytes(), screen.as_bytes());
     Ok(())
 }
 
-// A line whose second put takes ten bytes alone has put so many bytes, which are the first of what it puts else.
+// A line whose second put takes ten bytes alone has put this many bytes, which are the first of what it puts
+// else.
 fn is_cut(
     rt: &impl Abort,
     alloc: Global,
@@ -313,16 +284,16 @@ fn is_cut(
     line: &str,
     length: usize,
 ) -> Result<(), Fail> {
-    let whole = outcome_of(alloc, files_of(alloc, files)?, line, NONE)?;
+    let whole = outcome_of(alloc, files, line, NONE)?;
     let fails = Failures {
         out: &[(2, 10)],
         ..NONE
     };
-    let cut = outcome_of(alloc, files_of(alloc, files)?, line, fails)?;
-    assert_eq!(rt; cut.status, Status::WriteFault);
-    assert_eq!(rt; cut.out.bytes().len(), length);
-    assert_eq!(rt; cut.err.bytes().len(), 0);
-    assert!(rt; whole.out.bytes().starts_with(cut.out.bytes()));
+    let cut = outcome_of(alloc, files, line, fails)?;
+    has_status(rt, 0, line, cut.status, Status::WriteFault);
+    has_length(rt, 0, line, cut.out.bytes(), length);
+    has_length(rt, 0, line, cut.err.bytes(), 0);
+    begins_with(rt, 0, line, whole.out.bytes(), cut.out.bytes());
     Ok(())
 }
 

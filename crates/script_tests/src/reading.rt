@@ -71,7 +71,7 @@ fn write_act(out: &mut String, alloc: Global, act: &Act) -> Result<(), Fail> {
     Ok(())
 }
 
-// The commands, each behind a bar, and repeated ones in brackets.
+// The commands, each after a bar, and repeated ones in brackets.
 fn write_commands(out: &mut String, alloc: Global, commands: &[Command]) -> Result<(), Fail> {
     for command in commands {
         out.push_str("|")?;
@@ -182,7 +182,7 @@ fn faults(rt: HostRuntime) -> Result<(), Fail> {
             "repeat 50000 { repeat 50000 { } }",
             "1:23: Range 1000000000",
         ),
-        // a token that is none comes before what stands before it
+        // what begins no token comes before what stands before it
         ("foo; echo \"a\n\";", "1:11: Grammar"),
         ("foo; /* ", "1:6: Grammar"),
     ];

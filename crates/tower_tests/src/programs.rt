@@ -24,7 +24,7 @@ fn only(alloc: Global, text: &[u8]) -> Result<Vec<Class>, Fail>
     }
 }
 
-struct NoKeys;
+pub(crate) struct NoKeys;
 
 impl Keyboard for NoKeys {
     ghost code = { λ _ c. 0 };

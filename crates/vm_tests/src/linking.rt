@@ -5,7 +5,7 @@ use std::test::*;
 use vm_link::{Linked, Step};
 use vm_tree::{Operation, Segment};
 
-// programs that are not linked, and what is told of them
+// programs that are not linked, and what is reported of them
 const REFUSED: &[(&[FileRow<'static>], &str)] = &[
     (&[], "NoSysInit"),
     // a function that is not there
@@ -167,7 +167,7 @@ const LINKED: &[Case<'static>] = &[
     },
 ];
 
-// What is told of these files, which is nothing where they are linked.
+// What is reported of these files, which is nothing where they are linked.
 fn told(alloc: Global, files: &[FileRow<'_>]) -> Result<String, Fail> {
     match linked(alloc, files, false) {
         Ok(_) => Ok(String::new(alloc)),

@@ -88,7 +88,7 @@ fn go_on(machine: &mut Hack, steps: u16) -> Result<(), Fail> {
     Ok(())
 }
 
-// The machine with an image, after so many steps.
+// The machine with an image, after this many steps.
 fn machine(alloc: Global, words: &[u16], steps: u16) -> Result<Hack, Fail>
     requires { length words.now ≤ 32768 }
 {
@@ -97,7 +97,7 @@ fn machine(alloc: Global, words: &[u16], steps: u16) -> Result<Hack, Fail>
     Ok(machine)
 }
 
-// Functions, and after so many steps words at their addresses.
+// Functions, and after this many steps words at their addresses.
 struct Case<'a> {
     functions: &'a [FunctionRow<'a>],
     steps: u16,
@@ -213,7 +213,7 @@ fn comparison(alloc: Global) -> Result<Linked, Fail>
     }
 }
 
-// Its stack stays as it is behind its last command, also long after that.
+// Its stack stays as it is after its last command, also long after that.
 fn comparison_stays(rt: &impl Abort, alloc: Global) -> Result<(), Fail> {
     let linked = comparison(alloc)?;
     let Ok(coded) = coded(alloc, &linked) else {
@@ -230,8 +230,8 @@ fn comparison_stays(rt: &impl Abort, alloc: Global) -> Result<(), Fail> {
     Ok(())
 }
 
-// Sys.init with so many commands `neg` and then so many `add` has 58 + 3 * negs + 5 * adds words, 23 of them of the start and 34 of the
-// routine of calls; what is told of them.
+// Sys.init with `negs` commands `neg` and then `adds` commands `add` has 58 + 3 * negs + 5 * adds words. Of these 23 are of the start
+// and 34 of the routine of calls. Here stands what is reported of them.
 const IMAGES: [(u16, u16, &str); 2] = [(10900, 2, "32768 words"), (10902, 1, "TooLarge 32769")];
 
 fn operations(alloc: Global, negs: u16, adds: u16) -> Result<Vec<Written>, AllocError> {

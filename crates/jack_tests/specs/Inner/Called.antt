@@ -24,7 +24,7 @@ abbrev pub CallFour : List Subroutine → Type 0
 CallFour [] = Unit {0}
 CallFour (s ∷ ss) = OfFour (text_calls (the_block s.body.items)) × CallFour ss
 
--- so many such subroutines
+-- this many such subroutines
 pub record AreSo (n : ℕ) (subs : List Subroutine) : Type 0 where
   pub count : length subs ≡ n
   pub each : CallFour subs

@@ -1,5 +1,5 @@
-//! Texts that are lines, and texts that are none. The words of a text stand apart by single spaces, and two spaces have an
-//! empty word between them.
+//! Texts that are lines, and texts that are no lines. The words of a text stand apart by single spaces, and two spaces
+//! have an empty word between them.
 use command_line::{
     ClassWork, DebugRun, FileWork, MapFormat, Request, RunLevel, Shown, Source, SourceKind,
 };
@@ -445,7 +445,7 @@ pub(super) const NO_LINES: &[&str] = &[
     "build prog --replace=true",
     "vm prog --replace",
     "show a.jack --replace",
-    // a statement that is none
+    // a statement that is no statement of a program
     "debug prog --break Main.main --cycles 5",
     "debug prog --break Main.main: --cycles 5",
     "debug prog --break Main.main:x --cycles 5",

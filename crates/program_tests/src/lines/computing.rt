@@ -1,7 +1,7 @@
 //! Lines of `run` at the levels of the computer, beside the same at the level of the meaning.
-use super::{
-    Case, NONE, STORE, STORE_CLASS, class_of, each_ends, each_reports, files_of, outcome_of, shows,
-};
+use super::checks::{begins_with, ends_with, has_status};
+use super::harness::{NONE, files_of, outcome_of};
+use super::{CASE, Case, STORE, STORE_CLASS, class_of, each_ends, each_reports, shows};
 use nand_cli::Status;
 use std::alloc::Global;
 use std::process::Abort;
@@ -49,7 +49,7 @@ const COMPUTED: &[(&str, &[usize])] = &[
             1, 3, 16, 18, 19, 20, 21, 22, 23, 24, 25, 26, 27, 28, 29, 30, 31,
         ],
     ),
-    // a comparison is that of the numbers, also where their difference is none
+    // a comparison is that of the numbers, also where their difference is no word
     (
         "var Array s; let s = 16384; let s[0] = 20000 < (-20000); let s[1] = (-20000) < 20000; return;",
         &[
@@ -57,6 +57,10 @@ const COMPUTED: &[(&str, &[usize])] = &[
         ],
     ),
 ];
+
+fn computed_table() -> &'static [(&'static str, &'static [usize])] {
+    COMPUTED
+}
 
 // the moments do not rise
 const BAD_SCRIPT: &str = "5 65\n5 66\n";
@@ -67,39 +71,44 @@ const CASES: &[Case<'static>] = &[
     Case {
         files: &[("prog/Main.jack", STORE_CLASS), ("k.txt", BAD_SCRIPT)],
         lines: &["run prog --level hack --cycles 100 --keys k.txt"],
-        fails: NONE,
         status: Status::Refused,
-        out: "",
         err: "k.txt:2:1: NotRising\n",
+        ..CASE
     },
     // a fault of the class comes first
     Case {
         files: &[("prog/Main.jack", BAD_CLASS), ("k.txt", BAD_SCRIPT)],
         lines: &["run prog --level hack --cycles 100 --keys k.txt"],
-        fails: NONE,
         status: Status::Refused,
-        out: "",
         err: "prog/Main.jack:1:7: FileName A\n",
+        ..CASE
     },
     // and before a script that is not there
     Case {
         files: &[("prog/Main.jack", BAD_CLASS)],
         lines: &["run prog --level hack --cycles 100 --keys k.txt"],
-        fails: NONE,
         status: Status::Refused,
-        out: "",
         err: "prog/Main.jack:1:7: FileName A\n",
+        ..CASE
     },
 ];
+
+fn cases_table() -> &'static [Case<'static>] {
+    CASES
+}
 
 // 358 frames of 5 words stand, and the next one needs 5 more.
 fn stack_is_full(rt: &impl Abort, alloc: Global) -> Result<(), Fail> {
     let text = class_of(alloc, "do Main.main(); return;")?;
-    let files = files_of(alloc, &[("prog/Main.jack", text.as_str())])?;
-    let outcome = outcome_of(alloc, files, "run prog --level vm --cycles 1000000", NONE)?;
-    assert_eq!(rt; outcome.status, Status::Done);
-    assert!(rt; outcome.out.bytes().starts_with(b"level vm\n"));
-    assert!(rt; outcome.out.bytes().ends_with(b"end full 1795\n"));
+    let outcome = outcome_of(
+        alloc,
+        &[("prog/Main.jack", text.as_str())],
+        "run prog --level vm --cycles 1000000",
+        NONE,
+    )?;
+    has_status(rt, 0, "level vm", outcome.status, Status::Done);
+    begins_with(rt, 0, "level vm", outcome.out.bytes(), b"level vm\n");
+    ends_with(rt, 0, "level vm", outcome.out.bytes(), b"end full 1795\n");
     Ok(())
 }
 
@@ -203,7 +212,11 @@ const PICTURES: &[Picture<'static>] = &[
     },
 ];
 
-// The text of a screen whose rows begin so, and are white behind that.
+fn pictures_table() -> &'static [Picture<'static>] {
+    PICTURES
+}
+
+// The text of a screen whose rows begin so, and are white after that.
 fn screen_with(alloc: Global, rows: &[(usize, &str)]) -> Result<String, Fail> {
     let mut text = String::new(alloc);
     for row in 0..256usize {
@@ -222,18 +235,24 @@ fn screen_with(alloc: Global, rows: &[(usize, &str)]) -> Result<String, Fail> {
     Ok(text)
 }
 
+// A row's program draws its picture.
+fn draws(rt: &impl Abort, alloc: Global, row: usize, picture: &Picture<'_>) -> Result<(), Fail> {
+    let Picture { body, cycles, rows } = picture;
+    let body = format!(in alloc; "var Array s; let s = 16384; {body} return;")?;
+    let text = class_of(alloc, &body)?;
+    let files = [("prog/Main.jack", text.as_str())];
+    let line = format!(in alloc; "run prog --level hack --cycles {cycles} --show screen")?;
+    let outcome = outcome_of(alloc, &files, &line, NONE)?;
+    let screen = screen_with(alloc, rows)?;
+    has_status(rt, row, &body, outcome.status, Status::Done);
+    ends_with(rt, row, &body, outcome.out.bytes(), screen.as_bytes());
+    Ok(())
+}
+
 #[test]
 fn the_computer_draws(rt: HostRuntime) -> Result<(), Fail> {
-    let alloc = rt.alloc();
-    for Picture { body, cycles, rows } in PICTURES {
-        let body = format!(in alloc; "var Array s; let s = 16384; {body} return;")?;
-        let text = class_of(alloc, &body)?;
-        let files = files_of(alloc, &[("prog/Main.jack", text.as_str())])?;
-        let line = format!(in alloc; "run prog --level hack --cycles {cycles} --show screen")?;
-        let outcome = outcome_of(alloc, files, &line, NONE)?;
-        let screen = screen_with(alloc, rows)?;
-        assert_eq!(rt; outcome.status, Status::Done, "{body}");
-        assert!(rt; outcome.out.bytes().ends_with(screen.as_bytes()), "{body}");
+    for (row, picture) in pictures_table().iter().enumerate() {
+        draws(&rt, rt.alloc(), row, picture)?;
     }
     Ok(())
 }
@@ -242,7 +261,7 @@ fn the_computer_draws(rt: HostRuntime) -> Result<(), Fail> {
 fn runs_of_the_computer(rt: HostRuntime) -> Result<(), Fail> {
     let alloc = rt.alloc();
     each_reports(&rt, alloc, REPORTS)?;
-    each_ends(&rt, alloc, CASES)
+    each_ends(&rt, alloc, cases_table())
 }
 
 #[test]
@@ -257,7 +276,7 @@ fn all_levels_have_one_screen(rt: HostRuntime) -> Result<(), Fail> {
 
 #[test]
 fn all_levels_compute_alike(rt: HostRuntime) -> Result<(), Fail> {
-    each_shows(&rt, rt.alloc(), COMPUTED, LEVELS)
+    each_shows(&rt, rt.alloc(), computed_table(), LEVELS)
 }
 
 #[test]

@@ -1,5 +1,7 @@
 //! Lines of `debug`.
-use super::{Case, NONE, each_ends, files_of, outcome_of};
+use super::checks::{begins_with, ends_with, has_status};
+use super::harness::{NONE, outcome_of};
+use super::{CASE, Case, each_ends};
 use nand_cli::Status;
 use std::alloc::Global;
 use std::process::Abort;
@@ -66,13 +68,11 @@ const RETURN_LOST: &[(&str, &str)] = &[(
     "class Main { function void main() { var Array a; let a = 261; let a[0] = 32767; return; } }",
 )];
 
-// Lines that tell no cycle but that of the row, and lines that are refused.
+// Lines that report no cycle but that of the row, and lines that are refused.
 const CASES: &[Case<'static>] = &[
     Case {
         files: STEPS,
         lines: &["debug prog --break Main.f:3 --cycles 300000"],
-        fails: NONE,
-        status: Status::Done,
         out: "break Main.f 3
 moves 19946
 steps 1743
@@ -83,27 +83,23 @@ from Main.main 1
 from Sys.init 6
 from start 1
 ",
-        err: "",
+        ..CASE
     },
     // the start, at once
     Case {
         files: STEPS,
         lines: &["debug prog --break start:1 --cycles 0"],
-        fails: NONE,
-        status: Status::Done,
         out: "break start 1\nmoves 0\nsteps 0\n",
-        err: "",
+        ..CASE
     },
-    // never reached in so many cycles
+    // never reached in this many cycles
     Case {
         files: STEPS,
         lines: &["debug prog --break Main.f:3 --cycles 0"],
-        fails: NONE,
-        status: Status::Done,
         out: "break none\nmoves 0\nsteps 0\n",
-        err: "",
+        ..CASE
     },
-    // no such statement: told before the key script is read, and behind the build
+    // no such statement: reported before the key script is read, and after the build
     Case {
         files: STEPS,
         lines: &[
@@ -111,76 +107,60 @@ from start 1
             "debug prog --break Main.g:001 --cycles 5",
             "debug prog --break Main.g:1 --cycles 5 --keys none.txt",
         ],
-        fails: NONE,
         status: Status::Refused,
-        out: "",
         err: "prog:0:0: NoPoint Main.g:1\n",
+        ..CASE
     },
     Case {
         files: STEPS,
         lines: &["debug prog --break Main.f:9 --cycles 5"],
-        fails: NONE,
         status: Status::Refused,
-        out: "",
         err: "prog:0:0: NoPoint Main.f:9\n",
+        ..CASE
     },
     Case {
         files: STEPS,
         lines: &["debug prog --break Main.f:1 --cycles 5 --keys none.txt"],
-        fails: NONE,
         status: Status::ReadFault,
-        out: "",
         err: super::READ_FAULT,
+        ..CASE
     },
 ];
 
-// Files, a statement, how what is told behind the moves and the steps begins, and how it ends.
-const STOPS: &[(&[(&str, &str)], &str, &str, &str)] = &[
+fn cases_table() -> &'static [Case<'static>] {
+    CASES
+}
+
+// Files, a statement, how what stands after the moves and the steps begins, and how it ends.
+const STOPS: &[(&[(&str, &str)], &str, &str, &str)] = rows![
     // while the entry code runs the local is 0
-    (
-        STEPS,
-        "Main.f:1",
-        "argument x 3\nlocal y 0\nstatic t 0\n",
-        "from Main.main 1\nfrom Sys.init 6\nfrom start 1\n",
-    ),
+    STEPS, "Main.f:1", "argument x 3\nlocal y 0\nstatic t 0\n", "from Main.main 1\nfrom Sys.init 6\nfrom start 1\n";
     // three calls of one subroutine
-    (
-        DEEP,
-        "Main.down:2",
-        "argument n 0\nlocal more 0\nfrom Main.down 3\nfrom Main.down 3\n",
-        "from Main.down 3\nfrom Main.main 1\nfrom Sys.init 6\nfrom start 1\n",
-    ),
-    // a constructor before it has its memory, and behind
-    (
-        POINT,
-        "Point.new:0",
-        "this 0\nargument ax 5\nargument ay -6\nstatic count 0\nstatic unused 0\n",
-        "from Main.main 1\nfrom Sys.init 6\nfrom start 1\n",
-    ),
-    (
-        POINT,
-        "Point.new:4",
-        "this 1",
-        "\nargument ax 5\nargument ay -6\nstatic count 1\nstatic unused 0\nfrom Main.main 1\nfrom Sys.init 6\nfrom start 1\n",
-    ),
+    DEEP, "Main.down:2", "argument n 0\nlocal more 0\nfrom Main.down 3\nfrom Main.down 3\n",
+        "from Main.down 3\nfrom Main.main 1\nfrom Sys.init 6\nfrom start 1\n";
+    // a constructor before it has its memory, and after
+    POINT, "Point.new:0", "this 0\nargument ax 5\nargument ay -6\nstatic count 0\nstatic unused 0\n",
+        "from Main.main 1\nfrom Sys.init 6\nfrom start 1\n";
+    POINT, "Point.new:4", "this 1",
+        "\nargument ax 5\nargument ay -6\nstatic count 1\nstatic unused 0\nfrom Main.main 1\nfrom Sys.init 6\nfrom start 1\n";
     // a method, whose object has no name
-    (
-        POINT,
-        "Point.move:1",
-        "this 1",
-        "\nargument by 1\nstatic count 1\nstatic unused 0\nfrom Main.main 2\nfrom Sys.init 6\nfrom start 1\n",
-    ),
+    POINT, "Point.move:1", "this 1",
+        "\nargument by 1\nstatic count 1\nstatic unused 0\nfrom Main.main 2\nfrom Sys.init 6\nfrom start 1\n";
     // a stack that the program has overwritten
-    (LOCALS_MOVED, "Main.main:3", "local a ", "\nfrom ?\n"),
-    (
-        RETURN_LOST,
-        "Main.main:3",
-        "local a 261\n",
-        "local a 261\nfrom ?\n",
-    ),
+    LOCALS_MOVED, "Main.main:3", "local a ", "\nfrom ?\n";
+    RETURN_LOST, "Main.main:3", "local a 261\n", "local a 261\nfrom ?\n";
 ];
 
-// What stands behind the third line feed.
+fn stops_table() -> &'static [(
+    &'static [(&'static str, &'static str)],
+    &'static str,
+    &'static str,
+    &'static str,
+)] {
+    STOPS
+}
+
+// What stands after the third line feed.
 fn behind_counts(text: &[u8]) -> &[u8] {
     let mut feeds = 0u32;
     for (i, byte) in text.iter().enumerate() {
@@ -203,19 +183,19 @@ fn stops(
     end: &str,
 ) -> Result<(), Fail> {
     let line = format!(in alloc; "debug prog --break {at} --cycles 300000")?;
-    let outcome = outcome_of(alloc, files_of(alloc, files)?, &line, NONE)?;
-    assert_eq!(rt; outcome.status, Status::Done, "{line}");
+    let outcome = outcome_of(alloc, files, &line, NONE)?;
+    has_status(rt, 0, &line, outcome.status, Status::Done);
     let shown = behind_counts(outcome.out.bytes());
-    assert!(rt; shown.starts_with(begin.as_bytes()), "{line}");
-    assert!(rt; shown.ends_with(end.as_bytes()), "{line}");
+    begins_with(rt, 0, &line, shown, begin.as_bytes());
+    ends_with(rt, 0, &line, shown, end.as_bytes());
     Ok(())
 }
 
 #[test]
 fn statements_are_reached(rt: HostRuntime) -> Result<(), Fail> {
     let alloc = rt.alloc();
-    each_ends(&rt, alloc, CASES)?;
-    for (files, at, begin, end) in STOPS {
+    each_ends(&rt, alloc, cases_table())?;
+    for (files, at, begin, end) in stops_table() {
         stops(&rt, alloc, *files, *at, *begin, *end)?;
     }
     Ok(())

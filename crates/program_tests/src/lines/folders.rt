@@ -1,7 +1,6 @@
 //! Lines of `run` over folders of several classes.
-use super::{
-    Case, Long, NONE, each_long_ends, ends, files_of, outcome_of, refused, shows, text_of,
-};
+use super::harness::files_of;
+use super::{CASE, Case, Long, NO_TEXT, each_long_ends, line_ends, refused, shows, text_of};
 use nand_cli::Status;
 use outer_world::Name;
 use std::alloc::Global;
@@ -34,7 +33,7 @@ let a[11] = null;
 while (true) { }
 } }";
 
-// The bits of the words 0, 2, 4, 2, 3, 45, 2, 13, -1, 4, -1 and 0, one behind the other.
+// The bits of the words 0, 2, 4, 2, 3, 45, 2, 13, -1, 4, -1 and 0, one after the other.
 const BITS: &[usize] = &[
     17, 34, 49, 64, 65, 80, 82, 83, 85, 97, 112, 114, 115, 128, 129, 130, 131, 132, 133, 134, 135,
     136, 137, 138, 139, 140, 141, 142, 143, 146, 160, 161, 162, 163, 164, 165, 166, 167, 168, 169,
@@ -55,9 +54,9 @@ const LONG_SCREENS: &[(Long<'static>, &[&str], &[usize])] = &[
         Long {
             front: "class Main { function void main() { var Array a; let a = 16384; let a[0] = 0",
             piece: " + 1",
-            behind_number: None,
             times: 2_000,
             back: "; } }",
+            ..NO_TEXT
         },
         LEVELS,
         &[4, 6, 7, 8, 9, 10],
@@ -67,14 +66,18 @@ const LONG_SCREENS: &[(Long<'static>, &[&str], &[usize])] = &[
         Long {
             front: "class Main { function void main() { var Array a; let a = 16384; let a[0] = 3",
             piece: " * 1",
-            behind_number: None,
             times: 400,
             back: "; } }",
+            ..NO_TEXT
         },
         &["jack"],
         &[0, 1],
     ),
 ];
+
+fn long_screens_table() -> &'static [(Long<'static>, &'static [&'static str], &'static [usize])] {
+    LONG_SCREENS
+}
 
 // the computer has 240 static words, of which the system takes 5, and 32,768 words of code
 const FITTING: &[(&str, Long<'static>, Case<'static>)] = &[
@@ -88,12 +91,9 @@ const FITTING: &[(&str, Long<'static>, Case<'static>)] = &[
             back: "function void main() { let s234 = 1; } }",
         },
         Case {
-            files: &[],
             lines: &["run prog --level jack --cycles 0"],
-            fails: NONE,
-            status: Status::Done,
             out: "level jack\nmoves 0\nsteps 0\npoint start 1\nend bound\n",
-            err: "",
+            ..CASE
         },
     ),
     (
@@ -106,12 +106,9 @@ const FITTING: &[(&str, Long<'static>, Case<'static>)] = &[
             back: "function void main() { let s234 = 1; } }",
         },
         Case {
-            files: &[],
             lines: &["run prog --level vm --cycles 0"],
-            fails: NONE,
-            status: Status::Done,
             out: "level vm\nmoves 0\nsteps 0\npoint start 1\nend bound\n",
-            err: "",
+            ..CASE
         },
     ),
     (
@@ -124,12 +121,9 @@ const FITTING: &[(&str, Long<'static>, Case<'static>)] = &[
             back: "function void main() { let s234 = 1; } }",
         },
         Case {
-            files: &[],
             lines: &["run prog --level hack --cycles 0"],
-            fails: NONE,
-            status: Status::Done,
             out: "level hack\nmoves 0\nsteps 0\npoint start 1\nend bound\n",
-            err: "",
+            ..CASE
         },
     ),
     // a store takes at most 28 words beside those of its parts, and a load 18
@@ -138,17 +132,14 @@ const FITTING: &[(&str, Long<'static>, Case<'static>)] = &[
         Long {
             front: "class Main { function void main() { var Array a; var int i, j; ",
             piece: "let a[i] = j; ",
-            behind_number: None,
             times: 400,
             back: "} }",
+            ..NO_TEXT
         },
         Case {
-            files: &[],
             lines: &["run prog --level hack --cycles 0"],
-            fails: NONE,
-            status: Status::Done,
             out: "level hack\nmoves 0\nsteps 0\npoint start 1\nend bound\n",
-            err: "",
+            ..CASE
         },
     ),
     (
@@ -156,17 +147,14 @@ const FITTING: &[(&str, Long<'static>, Case<'static>)] = &[
         Long {
             front: "class Main { function void main() { var Array a; var int i, j; ",
             piece: "let i = a[j]; ",
-            behind_number: None,
             times: 480,
             back: "} }",
+            ..NO_TEXT
         },
         Case {
-            files: &[],
             lines: &["run prog --level hack --cycles 0"],
-            fails: NONE,
-            status: Status::Done,
             out: "level hack\nmoves 0\nsteps 0\npoint start 1\nend bound\n",
-            err: "",
+            ..CASE
         },
     ),
     // each character of a string has 18 words
@@ -175,22 +163,24 @@ const FITTING: &[(&str, Long<'static>, Case<'static>)] = &[
         Long {
             front: "class Main { function void main() { do Output.printString(\"",
             piece: "a",
-            behind_number: None,
             times: 1_000,
             back: "\"); } }",
+            ..NO_TEXT
         },
         Case {
-            files: &[],
             lines: &["run prog --level hack --cycles 0"],
-            fails: NONE,
-            status: Status::Done,
             out: "level hack\nmoves 0\nsteps 0\npoint start 1\nend bound\n",
-            err: "",
+            ..CASE
         },
     ),
 ];
 
-// what has no computer is run at no level; of the key script, whose moments do not rise or which is not there, nothing is told
+fn fitting_table() -> &'static [(&'static str, Long<'static>, Case<'static>)] {
+    FITTING
+}
+
+// what has no computer is run at no level; of the key script, whose moments do not rise or which is not there, nothing is
+// reported
 const UNBUILT: &[&str] = &[
     "run prog --level jack --keys prog/k.txt --cycles 0",
     "run prog --level vm --keys k.txt --cycles 0",
@@ -212,10 +202,9 @@ const TOO_LARGE: &[(&str, Long<'static>, Case<'static>)] = &[
         Case {
             files: SCRIPT,
             lines: UNBUILT,
-            fails: NONE,
             status: Status::Refused,
-            out: "",
             err: "prog:0:0: TooManyStatics 241\n",
+            ..CASE
         },
     ),
     // 46 words for each store
@@ -224,17 +213,16 @@ const TOO_LARGE: &[(&str, Long<'static>, Case<'static>)] = &[
         Long {
             front: "class Main { function void main() { var Array a; let a = 2048; ",
             piece: "let a[0] = 1; ",
-            behind_number: None,
             times: 3000,
             back: "} }",
+            ..NO_TEXT
         },
         Case {
             files: SCRIPT,
             lines: UNBUILT,
-            fails: NONE,
             status: Status::Refused,
-            out: "",
             err: "prog:0:0: TooLarge 144104\n",
+            ..CASE
         },
     ),
     // however many operators stand in a row, they are read, resolved and counted: 11 words for each sum, 18 for each product
@@ -243,17 +231,16 @@ const TOO_LARGE: &[(&str, Long<'static>, Case<'static>)] = &[
         Long {
             front: "class Main { function void main() { var Array a; let a = 16384; let a[0] = 0",
             piece: " + 1",
-            behind_number: None,
             times: 100_000,
             back: "; } }",
+            ..NO_TEXT
         },
         Case {
             files: SCRIPT,
             lines: UNBUILT,
-            fails: NONE,
             status: Status::Refused,
-            out: "",
             err: "prog:0:0: TooLarge 1106150\n",
+            ..CASE
         },
     ),
     (
@@ -261,237 +248,107 @@ const TOO_LARGE: &[(&str, Long<'static>, Case<'static>)] = &[
         Long {
             front: "class Main { function void main() { var Array a; let a = 16384; let a[0] = 3",
             piece: " * 1",
-            behind_number: None,
             times: 20_000,
             back: "; } }",
+            ..NO_TEXT
         },
         Case {
             files: SCRIPT,
             lines: UNBUILT,
-            fails: NONE,
             status: Status::Refused,
-            out: "",
             err: "prog:0:0: TooLarge 366416\n",
+            ..CASE
         },
     ),
 ];
 
+fn too_large_table() -> &'static [(&'static str, Long<'static>, Case<'static>)] {
+    TOO_LARGE
+}
+
 // texts of Main.jack, and their first fault in their names
-const REFUSED: &[(&str, &str)] = &[
-    ("class A { }", "1:7: FileName A"),
-    ("\nclass  main { }", "2:8: FileName main"),
-    (
-        "class Main { static int a; field int a; }",
-        "1:38: MemberTwice a",
-    ),
-    (
-        "class Main { function void main() { } method int main(int x) { } }",
-        "1:50: MemberTwice main",
-    ),
-    (
-        "class Main { function void f(int x, char x) { } }",
-        "1:42: VariableTwice x",
-    ),
-    (
-        "class Main { function void f(int a) { var int b, a; let c = 1; } }",
-        "1:50: VariableTwice a",
-    ),
-    ("class Main { }", "0:0: NoMain Main.main"),
-    (
-        "class Main { function void main(int a) { let b = 1; } }",
-        "0:0: NoMain Main.main",
-    ),
-    (
-        "class Main { method void main() { } }",
-        "0:0: NoMain Main.main",
-    ),
-    (
-        "class Main { function void main() { let a = 1; } }",
-        "1:41: UnknownVariable a",
-    ),
-    (
-        "class Main { function void main() { var Array a; let a[b] = 1; } }",
-        "1:56: UnknownVariable b",
-    ),
-    (
-        "class Main { function void main() { var int x; do x.f(); } }",
-        "1:51: UnknownClass x",
-    ),
-    (
-        "class Main { function void main() { do f(); } }",
-        "1:40: UnknownSubroutine f",
-    ),
-    (
-        "class Main { function void main() { return Main.g(1); } }",
-        "1:49: UnknownSubroutine g",
-    ),
-    (
-        "class Main {\n  function void main() {\n  do Main.f();\n  }\n  function void f(int a) { } }",
-        "3:11: ArgumentCount f",
-    ),
-    (
-        "class Main { function void main() { var Main m; do m.f(1); } method void f() { } }",
-        "1:54: ArgumentCount f",
-    ),
-    (
-        "class Main { function void main() { do Main.f(); } method void f() { } }",
-        "1:45: MethodByClass f",
-    ),
-    (
-        "class Main { method int f() { return 1; } function void main() { return 1 + Main.f(); } }",
-        "1:82: MethodByClass f",
-    ),
-    (
-        "class Main { function void main() { do f(); } function void f() { } }",
-        "1:40: FunctionByObject f",
-    ),
-    (
-        "class Main { function void main() { var Main m; do m.f(); } function void f() { } }",
-        "1:54: FunctionByObject f",
-    ),
-    (
-        "class Main { method void g() { do f(); } function void f() { } function void main() { } }",
-        "1:35: FunctionByObject f",
-    ),
-    (
-        "class Main { function void main() { return this; } }",
-        "1:44: ThisInFunction this",
-    ),
-    (
-        "class Main { function void main() { do Main.f(this); } function void f(Main m) { } }",
-        "1:47: ThisInFunction this",
-    ),
-    (
-        "class Main { field int x; function void main() { let x = 1; } }",
-        "1:54: FieldInFunction x",
-    ),
-    (
-        "class Main { field Main m; function void main() { do m.f(); } method void f() { } }",
-        "1:54: FieldInFunction m",
-    ),
-    (
-        "class Main { function void main() { do f(); } method void f() { } }",
-        "1:40: OwnInFunction f",
-    ),
-    (
-        "class Main { function int f() { return g(0); } method int g(int a) { } function void main() { } }",
-        "1:40: OwnInFunction g",
-    ),
+const REFUSED: &[(&str, &str)] = rows![
+    "class A { }", "1:7: FileName A";
+    "\nclass  main { }", "2:8: FileName main";
+    "class Main { static int a; field int a; }", "1:38: MemberTwice a";
+    "class Main { function void main() { } method int main(int x) { } }", "1:50: MemberTwice main";
+    "class Main { function void f(int x, char x) { } }", "1:42: VariableTwice x";
+    "class Main { function void f(int a) { var int b, a; let c = 1; } }", "1:50: VariableTwice a";
+    "class Main { }", "0:0: NoMain Main.main";
+    "class Main { function void main(int a) { let b = 1; } }", "0:0: NoMain Main.main";
+    "class Main { method void main() { } }", "0:0: NoMain Main.main";
+    "class Main { function void main() { let a = 1; } }", "1:41: UnknownVariable a";
+    "class Main { function void main() { var Array a; let a[b] = 1; } }", "1:56: UnknownVariable b";
+    "class Main { function void main() { var int x; do x.f(); } }", "1:51: UnknownClass x";
+    "class Main { function void main() { do f(); } }", "1:40: UnknownSubroutine f";
+    "class Main { function void main() { return Main.g(1); } }", "1:49: UnknownSubroutine g";
+    "class Main {\n  function void main() {\n  do Main.f();\n  }\n  function void f(int a) { } }",
+        "3:11: ArgumentCount f";
+    "class Main { function void main() { var Main m; do m.f(1); } method void f() { } }", "1:54: ArgumentCount f";
+    "class Main { function void main() { do Main.f(); } method void f() { } }", "1:45: MethodByClass f";
+    "class Main { method int f() { return 1; } function void main() { return 1 + Main.f(); } }",
+        "1:82: MethodByClass f";
+    "class Main { function void main() { do f(); } function void f() { } }", "1:40: FunctionByObject f";
+    "class Main { function void main() { var Main m; do m.f(); } function void f() { } }", "1:54: FunctionByObject f";
+    "class Main { method void g() { do f(); } function void f() { } function void main() { } }",
+        "1:35: FunctionByObject f";
+    "class Main { function void main() { return this; } }", "1:44: ThisInFunction this";
+    "class Main { function void main() { do Main.f(this); } function void f(Main m) { } }",
+        "1:47: ThisInFunction this";
+    "class Main { field int x; function void main() { let x = 1; } }", "1:54: FieldInFunction x";
+    "class Main { field Main m; function void main() { do m.f(); } method void f() { } }", "1:54: FieldInFunction m";
+    "class Main { function void main() { do f(); } method void f() { } }", "1:40: OwnInFunction f";
+    "class Main { function int f() { return g(0); } method int g(int a) { } function void main() { } }",
+        "1:40: OwnInFunction g";
     // at one place the least kind
-    (
-        "class Main { function void main() { do f(1); } method void f() { } }",
-        "1:40: ArgumentCount f",
-    ),
+    "class Main { function void main() { do f(1); } method void f() { } }", "1:40: ArgumentCount f";
     // what is declared, then Main.main, then what is used, each in the order of the text
-    ("class A { static int a, a; }", "1:7: FileName A"),
-    (
-        "class Main { function void main(int a) { return this; } static int b; }",
-        "1:57: Grammar",
-    ),
-    (
-        "class Main { function void main() { return this; } function void f() { var int a, a; } }",
-        "1:83: VariableTwice a",
-    ),
-    (
-        "class Main { function void main() { if (a) { let b = 1; } } }",
-        "1:41: UnknownVariable a",
-    ),
-    (
-        "class Main { function void main() { let a[this] = b; } }",
-        "1:41: UnknownVariable a",
-    ),
-    (
-        "class Main { function void main() { do Main.f(this, 1); } function void f(int a) { } }",
-        "1:45: ArgumentCount f",
-    ),
+    "class A { static int a, a; }", "1:7: FileName A";
+    "class Main { function void main(int a) { return this; } static int b; }", "1:57: Grammar";
+    "class Main { function void main() { return this; } function void f() { var int a, a; } }",
+        "1:83: VariableTwice a";
+    "class Main { function void main() { if (a) { let b = 1; } } }", "1:41: UnknownVariable a";
+    "class Main { function void main() { let a[this] = b; } }", "1:41: UnknownVariable a";
+    "class Main { function void main() { do Main.f(this, 1); } function void f(int a) { } }", "1:45: ArgumentCount f";
 ];
+
+fn refused_table() -> &'static [(&'static str, &'static str)] {
+    REFUSED
+}
 
 const EMPTY_MAIN: &str = "class Main { function void main() { } }";
 
 // another file, its text, the text of Main.jack, and the first fault
-const SECOND_REFUSED: &[(&str, &str, &str, &str)] = &[
-    (
-        "Sys.jack",
-        "class Sys { }",
-        EMPTY_MAIN,
-        "Sys.jack:1:7: ClassTwice Sys",
-    ),
-    (
-        "Sys.jack",
-        "// s\nclass  Sys { field int a, a; }",
-        EMPTY_MAIN,
-        "Sys.jack:2:8: ClassTwice Sys",
-    ),
-    (
-        "A.jack",
-        "class B { }",
-        EMPTY_MAIN,
-        "A.jack:1:7: FileName B",
-    ),
+const SECOND_REFUSED: &[(&str, &str, &str, &str)] = rows![
+    "Sys.jack", "class Sys { }", EMPTY_MAIN, "Sys.jack:1:7: ClassTwice Sys";
+    "Sys.jack", "// s\nclass  Sys { field int a, a; }", EMPTY_MAIN, "Sys.jack:2:8: ClassTwice Sys";
+    "A.jack", "class B { }", EMPTY_MAIN, "A.jack:1:7: FileName B";
     // what is declared in a later class comes before what is used in an earlier one
-    (
-        "Z.jack",
-        "class Z { field int a, a; }",
-        "class Main { function void main() { return this; } }",
-        "Z.jack:1:24: MemberTwice a",
-    ),
-    (
-        "Z.jack",
-        "class Z { function void f() { let a = 1; } }",
-        "class Main { }",
-        "Main.jack:0:0: NoMain Main.main",
-    ),
+    "Z.jack", "class Z { field int a, a; }", "class Main { function void main() { return this; } }",
+        "Z.jack:1:24: MemberTwice a";
+    "Z.jack", "class Z { function void f() { let a = 1; } }", "class Main { }", "Main.jack:0:0: NoMain Main.main";
     // the classes in order of file name
-    (
-        "A.jack",
-        "class A { function void f() { let a = 1; } }",
-        "class Main { function void main() { return this; } }",
-        "A.jack:1:35: UnknownVariable a",
-    ),
-    (
-        "Z.jack",
-        "class Z { function void f() { let a = 1; } }",
-        "class Main { function void main() { return this; } }",
-        "Main.jack:1:44: ThisInFunction this",
-    ),
-    (
-        "A.jack",
-        "class A { method void f() { } }",
-        "class Main { function void main() { do A.f(); } }",
-        "Main.jack:1:42: MethodByClass f",
-    ),
-    (
-        "A.jack",
-        "class A { function void f() { } }",
-        "class Main { function void main() { var A a; do a.f(); } }",
-        "Main.jack:1:51: FunctionByObject f",
-    ),
+    "A.jack", "class A { function void f() { let a = 1; } }", "class Main { function void main() { return this; } }",
+        "A.jack:1:35: UnknownVariable a";
+    "Z.jack", "class Z { function void f() { let a = 1; } }", "class Main { function void main() { return this; } }",
+        "Main.jack:1:44: ThisInFunction this";
+    "A.jack", "class A { method void f() { } }", "class Main { function void main() { do A.f(); } }",
+        "Main.jack:1:42: MethodByClass f";
+    "A.jack", "class A { function void f() { } }", "class Main { function void main() { var A a; do a.f(); } }",
+        "Main.jack:1:51: FunctionByObject f";
     // a text that is no class comes before all names
-    (
-        "Z.jack",
-        "class Z { ",
-        "class A { }",
-        "Z.jack:1:11: Grammar",
-    ),
-    (
-        "A.jack",
-        "class A { function int f() { return 32768; } }",
-        "class Main { function void main() { let ; } }",
-        "A.jack:1:37: Range 32768",
-    ),
-    (
-        "Math.jack",
-        "class Math { function int multiply(int a) { return a; } }",
-        "class Main { function int main() { return 2 * 3; } }",
-        "Math.jack:1:7: ClassTwice Math",
-    ),
-    (
-        "String.jack",
-        "class String { function String new(int n) { return n; } }",
-        "class Main { function void main() { var int x; let x = \"a\"; } }",
-        "String.jack:1:7: ClassTwice String",
-    ),
+    "Z.jack", "class Z { ", "class A { }", "Z.jack:1:11: Grammar";
+    "A.jack", "class A { function int f() { return 32768; } }", "class Main { function void main() { let ; } }",
+        "A.jack:1:37: Range 32768";
+    "Math.jack", "class Math { function int multiply(int a) { return a; } }",
+        "class Main { function int main() { return 2 * 3; } }", "Math.jack:1:7: ClassTwice Math";
+    "String.jack", "class String { function String new(int n) { return n; } }",
+        "class Main { function void main() { var int x; let x = \"a\"; } }", "String.jack:1:7: ClassTwice String";
 ];
+
+fn second_refused_table() -> &'static [(&'static str, &'static str, &'static str, &'static str)] {
+    SECOND_REFUSED
+}
 
 const NO_MAIN: &[&[(&str, &str)]] = &[&[], &[("prog/A.jack", "class A { }")]];
 
@@ -518,15 +375,7 @@ fn folder_is_refused(
     told: &str,
 ) -> Result<(), Fail> {
     let err = format!(in alloc; "prog/{told}\n")?;
-    let case = Case {
-        files,
-        lines: &[LINE],
-        fails: NONE,
-        status: Status::Refused,
-        out: "",
-        err: &err,
-    };
-    ends(rt, alloc, row, &case)
+    line_ends(rt, alloc, row, files, LINE, (Status::Refused, "", &err))
 }
 
 fn each_second_is_refused(
@@ -570,28 +419,28 @@ fn a_folder_of_classes_runs(rt: HostRuntime) -> Result<(), Fail> {
 
 #[test]
 fn a_long_expression_runs(rt: HostRuntime) -> Result<(), Fail> {
-    each_long_shows(&rt, rt.alloc(), LONG_SCREENS)
+    each_long_shows(&rt, rt.alloc(), long_screens_table())
 }
 
 #[test]
 fn programs_fit_the_computer(rt: HostRuntime) -> Result<(), Fail> {
-    each_long_ends(&rt, rt.alloc(), FITTING)
+    each_long_ends(&rt, rt.alloc(), fitting_table())
 }
 
 #[test]
 fn the_computer_has_limits(rt: HostRuntime) -> Result<(), Fail> {
-    each_long_ends(&rt, rt.alloc(), TOO_LARGE)
+    each_long_ends(&rt, rt.alloc(), too_large_table())
 }
 
 #[test]
 fn names_are_refused(rt: HostRuntime) -> Result<(), Fail> {
-    each_class_is_refused(&rt, rt.alloc(), REFUSED)
+    each_class_is_refused(&rt, rt.alloc(), refused_table())
 }
 
 #[test]
 fn a_second_class_is_refused(rt: HostRuntime) -> Result<(), Fail> {
     let alloc = rt.alloc();
-    each_second_is_refused(&rt, alloc, SECOND_REFUSED)?;
+    each_second_is_refused(&rt, alloc, second_refused_table())?;
     for (row, files) in NO_MAIN.iter().enumerate() {
         folder_is_refused(&rt, alloc, row, files, "Main.jack:0:0: NoMain Main.main")?;
     }

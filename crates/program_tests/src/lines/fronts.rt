@@ -1,9 +1,10 @@
-//! Fronts of texts: a text of each of the seven languages is broken off behind each of its bytes.
+//! Fronts of texts: a text of each of the seven languages is broken off after each of its bytes.
 //!
-//! Under each line of a text stands where its tokens and comments begin (`^`). Under that stands what the fronts are told that end in
-//! this line, from the one that has nothing of it on: `+` that they are taken, `<` Grammar at their last token, `>` Grammar at their end.
-//! A program in Python told the signs, by the grammars of docs/FORMATS.md; it shares nothing with the readers.
-use super::{NONE, ended, files_of, outcome_of};
+//! Under each line of a text stands where its tokens and comments begin (`^`). Under that stands what is reported of the fronts that end
+//! in this line, from the one that has nothing of it on: `+` that they are taken, `<` Grammar at their last token, `>` Grammar at their
+//! end. A program in Python made the signs, by the grammars of docs/FORMATS.md; it shares nothing with the readers.
+use super::checks::{ended, has_length, has_status};
+use super::harness::{NONE, files_of, outcome_over};
 use nand_cli::Status;
 use outer_world::Name;
 use std::alloc::Global;
@@ -142,7 +143,7 @@ fn last_column(marks: &str, length: usize) -> usize {
     column
 }
 
-// A text is taken, or told to have the fault Grammar at this place.
+// A text is taken, or reported to have the fault Grammar at this place.
 fn is_told(
     rt: &impl Abort,
     alloc: Global,
@@ -153,9 +154,9 @@ fn is_told(
     let Fronts { path, call, .. } = fronts;
     let mut files = files_of(alloc, fronts.beside)?;
     files.push((Name::new(alloc, path)?, text))?;
-    let outcome = outcome_of(alloc, files, call, NONE)?;
+    let outcome = outcome_over(alloc, files, call, NONE)?;
     let Some((line, column)) = place else {
-        assert_eq!(rt; outcome.status, Status::Done, "{call}");
+        has_status(rt, 0, call, outcome.status, Status::Done);
         return Ok(());
     };
     let err = format!(in alloc; "{path}:{line}:{column}: Grammar\n")?;
@@ -163,7 +164,7 @@ fn is_told(
     Ok(())
 }
 
-// The fronts that end in a line are told so, where this text stands before it.
+// This is reported of the fronts that end in a line, where this text stands before it.
 fn each_front_of_a_line(
     rt: &impl Abort,
     alloc: Global,
@@ -172,8 +173,14 @@ fn each_front_of_a_line(
     number: usize,
 ) -> Result<(), Fail> {
     let (line, marks, signs) = fronts.lines.get(number).ok_or("the line is there")?;
-    assert_eq!(rt; marks.len(), line.len(), "{line}");
-    assert_eq!(rt; signs.len(), line.len().saturating_add(1), "{line}");
+    has_length(rt, number, line, marks.as_bytes(), line.len());
+    has_length(
+        rt,
+        number,
+        line,
+        signs.as_bytes(),
+        line.len().saturating_add(1),
+    );
     let number = number.saturating_add(1);
     for (length, sign) in signs.as_bytes().iter().enumerate() {
         let mut text = before.to_vec(alloc)?;

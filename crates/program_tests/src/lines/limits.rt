@@ -1,15 +1,17 @@
 //! Hostile texts: each limit of a text at its number and past it, and empty files, by the lines that read them.
 //!
 //! The limits of an assembly text as a whole (bytes, words, variables) stand with the lines of `asm` and `exec`, those of a script with
-//! the lines of `test` (grading_tests).
-use super::{NONE, Outcome, doubled, ended, files_of, lines_in, outcome_of};
+//! the lines of `test` (`scripts.rt`).
+use super::checks::{ended, has_status, holds};
+use super::harness::{NONE, Outcome, file_of, outcome_of, outcome_over};
+use super::{doubled, line_ends, lines_in};
 use nand_cli::Status;
 use outer_world::Name;
 use std::alloc::{AllocError, Global};
 use std::process::Abort;
 use std::test::Fail;
 
-/// Parts of a text, each so many times.
+/// Parts of a text, each this many times.
 type Parts<'a> = &'a [(u32, &'a str)];
 
 // it stands beside each text
@@ -52,7 +54,7 @@ const ROWS: &[(&str, Parts<'static>, &str, Result<Parts<'static>, &str>)] = &[
         "show C.jack",
         Err("C.jack:1:293: Range 257\n"),
     ),
-    // a label at the last word of the code, and one behind it
+    // a label at the last word of the code, and one after it
     (
         "F.asm",
         &[(1, "@E\nD=A\n@0\nM=D\n"), (32_763, "0\n"), (1, "(E)\n0\n")],
@@ -120,6 +122,15 @@ const ROWS: &[(&str, Parts<'static>, &str, Result<Parts<'static>, &str>)] = &[
     ("x.jack", &[], "show x.jack", Err("x.jack:1:1: Grammar\n")),
 ];
 
+fn rows_table() -> &'static [(
+    &'static str,
+    Parts<'static>,
+    &'static str,
+    Result<Parts<'static>, &'static str>,
+)] {
+    ROWS
+}
+
 fn text_of_parts(alloc: Global, parts: Parts<'_>) -> Result<String, AllocError> {
     let mut text = String::new(alloc);
     for (times, part) in parts {
@@ -130,28 +141,33 @@ fn text_of_parts(alloc: Global, parts: Parts<'_>) -> Result<String, AllocError> 
     Ok(text)
 }
 
-fn each_limit(rt: &impl Abort, alloc: Global) -> Result<(), Fail> {
-    for (row, (path, parts, line, told)) in ROWS.iter().enumerate() {
-        let text = text_of_parts(alloc, parts)?;
-        let files = files_of(alloc, &[MAIN, (*path, text.as_str())])?;
-        let outcome = outcome_of(alloc, files, line, NONE)?;
-        match told {
-            Ok(out) => {
-                let out = text_of_parts(alloc, out)?;
-                ended(rt, row, line, &outcome, Status::Done, &out, "");
-            }
-            Err(err) => ended(rt, row, line, &outcome, Status::Refused, "", err),
+// A line that reads a row's text puts this, or the text is refused so.
+fn limit(
+    rt: &impl Abort,
+    alloc: Global,
+    row: usize,
+    (path, parts, line, told): (&str, Parts<'_>, &str, Result<Parts<'_>, &str>),
+) -> Result<(), Fail> {
+    let text = text_of_parts(alloc, parts)?;
+    let files = [MAIN, (path, text.as_str())];
+    match told {
+        Ok(out) => {
+            let out = text_of_parts(alloc, out)?;
+            line_ends(rt, alloc, row, &files, line, (Status::Done, &out, ""))
         }
+        Err(err) => line_ends(rt, alloc, row, &files, line, (Status::Refused, "", err)),
     }
-    Ok(())
 }
 
 #[test]
 fn texts_at_their_limits(rt: HostRuntime) -> Result<(), Fail> {
-    each_limit(&rt, rt.alloc())
+    for (row, limited) in rows_table().iter().enumerate() {
+        limit(&rt, rt.alloc(), row, *limited)?;
+    }
+    Ok(())
 }
 
-// Folders of so many empty classes, and how each line over them is refused.
+// Folders of this many empty classes, and how each line over them is refused.
 const FOLDERS: &[(u32, &str)] = &[
     (256, "prog/C0.jack:1:1: Grammar\n"),
     (257, "prog:0:0: Range 257\n"),
@@ -178,48 +194,50 @@ fn folders_at_their_limit(rt: HostRuntime) -> Result<(), Fail> {
     let alloc = rt.alloc();
     for (row, (count, err)) in FOLDERS.iter().enumerate() {
         for line in LINES {
-            let outcome = outcome_of(alloc, empty_classes(alloc, *count)?, line, NONE)?;
+            let outcome = outcome_over(alloc, empty_classes(alloc, *count)?, line, NONE)?;
             ended(&rt, row, line, &outcome, Status::Refused, "", err);
         }
     }
     Ok(())
 }
 
-// Chips that double, and what is told of a script that loads them: no chip is expanded before its nodes are counted, which are those of its
-// parts, its input, and two constants.
+// Chips that double, and what is reported of a script that loads them. No chip is expanded before its nodes are counted, which are those of
+// its parts, its input, and two constants.
 const DOUBLED: &[(&str, &str)] = &[
     ("load C4.hdl;", ""),
     ("load C24.hdl;", "t/C24.hdl:0:0: TooManyNodes 16777219\n"),
     ("load C40.hdl;", "t/C40.hdl:0:0: TooManyNodes 1000000000\n"),
 ];
 
+fn loads(rt: &impl Abort, alloc: Global, row: usize, script: &str, err: &str) -> Result<(), Fail> {
+    let mut files = doubled(alloc, "Nand(a=in, b=in, out=out);")?;
+    files.push(file_of(alloc, "t/a.tst", script)?)?;
+    let outcome = outcome_over(alloc, files, "test t/a.tst", NONE)?;
+    let status = if err.is_empty() {
+        Status::Done
+    } else {
+        Status::Refused
+    };
+    ended(rt, row, script, &outcome, status, "", err);
+    Ok(())
+}
+
 #[test]
 fn chips_at_their_limit(rt: HostRuntime) -> Result<(), Fail> {
-    let alloc = rt.alloc();
     for (row, (script, err)) in DOUBLED.iter().enumerate() {
-        let mut files = doubled(alloc, "Nand(a=in, b=in, out=out);")?;
-        let text = script.as_bytes().to_vec(alloc)?;
-        files.push((Name::new(alloc, "t/a.tst")?, text))?;
-        let outcome = outcome_of(alloc, files, "test t/a.tst", NONE)?;
-        let status = if err.is_empty() {
-            Status::Done
-        } else {
-            Status::Refused
-        };
-        ended(&rt, row, script, &outcome, status, "", err);
+        loads(&rt, rt.alloc(), row, script, err)?;
     }
     Ok(())
 }
 
-// What `vm v` does with a program of so many commands `neg`.
+// What `vm v` does with a program of this many commands `neg`.
 fn negated(alloc: Global, times: u32) -> Result<Outcome, Fail> {
     let parts = [
         (1, "function Sys.init 0\npush constant 1\n"),
         (times, "neg\n"),
     ];
     let text = text_of_parts(alloc, &parts)?;
-    let files = files_of(alloc, &[("v/Sys.vm", text.as_str())])?;
-    Ok(outcome_of(alloc, files, "vm v", NONE)?)
+    Ok(outcome_of(alloc, &[("v/Sys.vm", text.as_str())], "vm v", NONE)?)
 }
 
 // The words of a `neg`.
@@ -227,14 +245,14 @@ const NEG: u32 = 3;
 
 const CODE: u32 = 32_768;
 
-// The longest program of commands `neg` fits, and with one more the words are told.
+// The longest program of commands `neg` fits, and with one more the words are reported.
 fn code_has_a_limit(rt: &impl Abort, alloc: Global) -> Result<(), Fail> {
     let least = lines_in(negated(alloc, 0)?.out.bytes());
     let most = CODE.saturating_sub(least) / NEG;
     let words = least.saturating_add(NEG.saturating_mul(most));
     let fits = negated(alloc, most)?;
-    assert_eq!(rt; fits.status, Status::Done);
-    assert_eq!(rt; lines_in(fits.out.bytes()), words);
+    has_status(rt, 0, "vm v", fits.status, Status::Done);
+    holds(rt, 0, "vm v", lines_in(fits.out.bytes()) == words);
     let err = format!(in alloc; "v:0:0: TooLarge {}\n", words.saturating_add(NEG))?;
     let refused = negated(alloc, most.saturating_add(1))?;
     ended(rt, 0, "vm v", &refused, Status::Refused, "", &err);

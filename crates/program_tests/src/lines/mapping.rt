@@ -1,5 +1,6 @@
 //! Lines of `map` in the second form.
-use super::{NONE, files_of, outcome_of};
+use super::checks::{begins_with, ends_with, has_length, has_status, holds, is_equal};
+use super::harness::{NONE, outcome_of};
 use nand_cli::Status;
 use std::alloc::Global;
 use std::test::Fail;
@@ -54,8 +55,12 @@ const PROGRAM: &[(&str, &str)] = &[
     ),
 ];
 
-// Each point is at the first token of its statement: number 0 of a constructor at its name, and the added return of `grow` at the brace
-// that closes the body.
+fn program_table() -> &'static [(&'static str, &'static str)] {
+    PROGRAM
+}
+
+// Each point is at the first token of its statement. Number 0 of a constructor is at its name, and the added return of `grow` at the
+// brace that closes the body.
 const POINTS: &str = "map 2
 point 0 21 start 1 start 0 0
 point 21 23 start 2 start 0 0
@@ -91,10 +96,10 @@ var Zoo.grow left local 1
 var Zoo.grow more local 2
 ";
 
-// Zoo is the last class by name, behind those of the operating system. No code names `unused` and `open`, which have no word.
+// Zoo is the last class by name, after those of the operating system. No code names `unused` and `open`, which have no word.
 const CLASSES: &str = "field Zoo size 0\nfield Zoo age 1\nstatic Zoo count 16\n";
 
-// A line tells a subroutine of the folder or one of its variables.
+// A line names a subroutine of the folder or one of its variables.
 fn is_own(line: &[u8]) -> bool {
     line.starts_with(b"sub Main.")
         || line.starts_with(b"var Main.")
@@ -119,29 +124,20 @@ fn own_lines(alloc: Global, map: &[u8]) -> Result<Vec<u8>, Fail> {
 #[test]
 fn places_of_a_program(rt: HostRuntime) -> Result<(), Fail> {
     let alloc = rt.alloc();
-    let map = outcome_of(alloc, files_of(alloc, PROGRAM)?, "map prog", NONE)?;
-    assert_eq!(rt; map.status, Status::Done);
-    assert!(rt; map.out.bytes().starts_with(POINTS.as_bytes()));
+    let map = outcome_of(alloc, program_table(), "map prog", NONE)?;
+    has_status(&rt, 0, "map prog", map.status, Status::Done);
+    begins_with(&rt, 0, "map prog", map.out.bytes(), POINTS.as_bytes());
     let own = own_lines(alloc, map.out.bytes())?;
-    assert_eq!(rt; own.as_slice(), SUBROUTINES.as_bytes());
-    assert!(rt; map.out.bytes().ends_with(CLASSES.as_bytes()));
+    is_equal(&rt, 0, "map prog", &own, SUBROUTINES.as_bytes());
+    ends_with(&rt, 0, "map prog", map.out.bytes(), CLASSES.as_bytes());
     Ok(())
 }
 
-// The added return of a body without one is at its closing brace.
-#[test]
-fn places_of_an_empty_body(rt: HostRuntime) -> Result<(), Fail> {
-    let alloc = rt.alloc();
-    let map = outcome_of(alloc, files_of(alloc, EMPTY)?, "map prog --format 2", NONE)?;
-    assert_eq!(rt; map.status, Status::Done);
-    assert!(rt;
-        map.out
-            .bytes()
-            .starts_with(b"map 2\npoint 0 21 start 1 start 0 0\n")
-    );
+// How many lines of a map are a point at the closing brace of Main.main, and how many tell that subroutine.
+fn places_of_main(map: &[u8]) -> (u32, u32) {
     let mut points = 0u32;
     let mut subs = 0u32;
-    for line in map.out.bytes().split(|byte| *byte == b'\n') {
+    for line in map.split(|byte| *byte == b'\n') {
         if line.ends_with(b" Main.main 1 Main.jack 1 37") {
             points = points.saturating_add(1);
         }
@@ -149,10 +145,29 @@ fn places_of_an_empty_body(rt: HostRuntime) -> Result<(), Fail> {
             subs = subs.saturating_add(1);
         }
     }
-    assert_eq!(rt; points, 1);
-    assert_eq!(rt; subs, 1);
-    let usage = outcome_of(alloc, files_of(alloc, EMPTY)?, "map prog --format 3", NONE)?;
-    assert_eq!(rt; usage.status, Status::Usage);
-    assert!(rt; usage.out.bytes().is_empty());
+    (points, subs)
+}
+
+// The added return of a body without one is at its closing brace.
+#[test]
+fn places_of_an_empty_body(rt: HostRuntime) -> Result<(), Fail> {
+    let alloc = rt.alloc();
+    let line = "map prog --format 2";
+    let map = outcome_of(alloc, EMPTY, line, NONE)?;
+    has_status(&rt, 0, line, map.status, Status::Done);
+    let begun = b"map 2\npoint 0 21 start 1 start 0 0\n";
+    begins_with(&rt, 0, line, map.out.bytes(), begun);
+    let (points, subs) = places_of_main(map.out.bytes());
+    holds(&rt, 0, "one point is at the brace", points == 1);
+    holds(&rt, 0, "Main.main is there once", subs == 1);
+    Ok(())
+}
+
+#[test]
+fn there_is_no_third_format(rt: HostRuntime) -> Result<(), Fail> {
+    let line = "map prog --format 3";
+    let usage = outcome_of(rt.alloc(), EMPTY, line, NONE)?;
+    has_status(&rt, 0, line, usage.status, Status::Usage);
+    has_length(&rt, 0, line, usage.out.bytes(), 0);
     Ok(())
 }

@@ -1,5 +1,7 @@
 //! Lines with `--replace`: classes of the folder in the place of those of the operating system.
-use super::{Case, NONE, each_ends, files_of, outcome_of, shows};
+use super::checks::{has_status, is_equal};
+use super::harness::{NONE, files_of, outcome_of};
+use super::{CASE, Case, each_ends, shows};
 use nand_cli::Status;
 use std::alloc::Global;
 use std::process::Abort;
@@ -45,28 +47,25 @@ const REFUSED: &[Case<'static>] = &[
     Case {
         files: &[("prog/Main.jack", EMPTY), ("prog/Array.jack", ARRAY)],
         lines: PLAIN,
-        fails: NONE,
         status: Status::Refused,
-        out: "",
         err: "prog/Array.jack:1:7: ClassTwice Array\n",
+        ..CASE
     },
-    // a call that the language makes is told at the operator, and the folder's files come first
+    // a call that the language makes is reported at the operator, and the folder's files come first
     Case {
         files: &[("prog/Main.jack", PRODUCT), ("prog/Math.jack", NO_PRODUCT)],
         lines: REPLACING,
-        fails: NONE,
         status: Status::Refused,
-        out: "",
         err: "prog/Main.jack:1:58: UnknownSubroutine multiply\n",
+        ..CASE
     },
-    // a call of a text of the operating system is told there
+    // a call of a text of the operating system is reported there
     Case {
         files: &[("prog/Main.jack", PRODUCT), ("prog/Math.jack", FEW)],
         lines: REPLACING,
-        fails: NONE,
         status: Status::Refused,
-        out: "",
         err: "os/Screen.jack:45:33: UnknownSubroutine min\n",
+        ..CASE
     },
     Case {
         files: &[
@@ -74,19 +73,17 @@ const REFUSED: &[Case<'static>] = &[
             ("prog/Sys.jack", "class Sys { }"),
         ],
         lines: REPLACING,
-        fails: NONE,
         status: Status::Refused,
-        out: "",
         err: "prog/Sys.jack:1:7: ClassTwice Sys\n",
+        ..CASE
     },
     // the name of the class decides, and not that of the file
     Case {
         files: &[("prog/Main.jack", EMPTY), ("prog/A.jack", ARRAY)],
         lines: REPLACING,
-        fails: NONE,
         status: Status::Refused,
-        out: "",
         err: "prog/A.jack:1:7: FileName Array\n",
+        ..CASE
     },
     Case {
         files: &[
@@ -94,20 +91,21 @@ const REFUSED: &[Case<'static>] = &[
             ("prog/Array.jack", "class A { }"),
         ],
         lines: REPLACING,
-        fails: NONE,
         status: Status::Refused,
-        out: "",
         err: "prog/Array.jack:1:7: FileName A\n",
+        ..CASE
     },
 ];
+
+fn refused_table() -> &'static [Case<'static>] {
+    REFUSED
+}
 
 const DONE: &[Case<'static>] = &[Case {
     files: &[("prog/Main.jack", EMPTY), ("prog/Math.jack", SUMS)],
     lines: &["compile prog --replace"],
-    fails: NONE,
-    status: Status::Done,
     out: "// file Main.vm\nfunction Main.main 0\npush constant 0\nreturn\n// file Math.vm\nfunction Math.init 0\npush constant 0\nreturn\nfunction Math.multiply 0\npush argument 0\npush argument 1\nadd\nreturn\nfunction Math.divide 0\npush argument 0\nreturn\nfunction Math.min 0\npush argument 0\nreturn\nfunction Math.max 0\npush argument 1\nreturn\n",
-    err: "",
+    ..CASE
 }];
 
 const LEVELS: &[(&str, u32)] = &[
@@ -116,6 +114,10 @@ const LEVELS: &[(&str, u32)] = &[
     ("hack", 300_000),
     ("gates", 100_000),
 ];
+
+fn done_table() -> &'static [Case<'static>] {
+    DONE
+}
 
 const OWN_ARRAY: &[(&str, &str)] = &[
     (
@@ -150,8 +152,8 @@ fn each_level_shows(
 
 #[test]
 fn replaced_classes_are_tried(rt: HostRuntime) -> Result<(), Fail> {
-    each_ends(&rt, rt.alloc(), REFUSED)?;
-    each_ends(&rt, rt.alloc(), DONE)
+    each_ends(&rt, rt.alloc(), refused_table())?;
+    each_ends(&rt, rt.alloc(), done_table())
 }
 
 #[test]
@@ -170,14 +172,21 @@ fn own_products_at_all_levels(rt: HostRuntime) -> Result<(), Fail> {
 fn nothing_to_replace(rt: HostRuntime) -> Result<(), Fail> {
     let alloc = rt.alloc();
     let files = [("prog/Main.jack", PRODUCT)];
-    let plain = outcome_of(alloc, files_of(alloc, &files)?, "build prog", NONE)?;
-    let replacing = outcome_of(
-        alloc,
-        files_of(alloc, &files)?,
+    let plain = outcome_of(alloc, &files, "build prog", NONE)?;
+    let replacing = outcome_of(alloc, &files, "build prog --replace", NONE)?;
+    has_status(
+        &rt,
+        0,
         "build prog --replace",
-        NONE,
-    )?;
-    assert_eq!(rt; replacing.status, Status::Done);
-    assert!(rt; replacing.out.bytes() == plain.out.bytes());
+        replacing.status,
+        Status::Done,
+    );
+    is_equal(
+        &rt,
+        0,
+        "build prog --replace",
+        replacing.out.bytes(),
+        plain.out.bytes(),
+    );
     Ok(())
 }

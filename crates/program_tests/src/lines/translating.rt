@@ -1,7 +1,9 @@
 //! Lines of `vm`.
+use super::checks::{ended, has_length, has_status, holds};
+use super::harness::{Failures, NONE, outcome_of, outcome_over, outcome_with};
 use super::{
-    Case, Failures, Long, NONE, READ_FAULT, each_ends, each_is_done, each_is_refused,
-    each_long_ends, files_of, lines_in, outcome_of, text_of,
+    CASE, Case, Long, NO_TEXT, READ_FAULT, each_ends, each_is_done, each_is_refused,
+    each_long_ends, lines_in, text_of,
 };
 use nand_cli::Status;
 use outer_world::Name;
@@ -39,49 +41,27 @@ const STATICS: &[(&str, &str)] = &[
 ];
 
 // files of the folder v, a line that runs the program that `vm v` makes of them, and what it puts
-const PROGRAMS: &[(&[(&str, &str)], &str, &str)] = &[
+const PROGRAMS: &[(&[(&str, &str)], &str, &str)] = rows![
     // `call Sys.init 0` leaves SP at 261; 20,000 is not below -20,000, and -20,000 is below 20,000
-    (
-        &[(
-            "v/Sys.vm",
-            "function Sys.init 0\npush constant 20000\npush constant 20000\nneg\nlt\npop temp 0\npush constant 20000\nneg\npush constant 20000\nlt\npop temp 1\nlabel END\ngoto END\n",
-        )],
-        "exec a.asm --cycles 2000 --from 0 --to 6",
-        "0 261\n1 261\n2 256\n3 0\n4 0\n5 0\n6 -1\n",
-    ),
-    (
-        &[(
-            "v/Sys.vm",
-            "function Sys.init 0\ncall Sys.seven 0\npop temp 0\nlabel END\ngoto END\nfunction Sys.seven 0\npush constant 7\nreturn\n",
-        )],
-        "exec a.asm --cycles 2000 --from 0 --to 5",
-        "0 261\n1 261\n2 256\n3 0\n4 0\n5 7\n",
-    ),
+    &[( "v/Sys.vm", "function Sys.init 0\npush constant 20000\npush constant 20000\nneg\nlt\npop temp 0\npush constant 20000\nneg\npush constant 20000\nlt\npop temp 1\nlabel END\ngoto END\n", )],
+        "exec a.asm --cycles 2000 --from 0 --to 6", "0 261\n1 261\n2 256\n3 0\n4 0\n5 0\n6 -1\n";
+    &[( "v/Sys.vm", "function Sys.init 0\ncall Sys.seven 0\npop temp 0\nlabel END\ngoto END\nfunction Sys.seven 0\npush constant 7\nreturn\n", )],
+        "exec a.asm --cycles 2000 --from 0 --to 5", "0 261\n1 261\n2 256\n3 0\n4 0\n5 7\n";
     // the last of the 240 static words
-    (
-        &[(
-            "v/Sys.vm",
-            "function Sys.init 0\npush static 239\npop temp 2\nlabel END\ngoto END\n",
-        )],
-        "exec a.asm --cycles 2000 --from 0 --to 1",
-        "0 261\n1 261\n",
-    ),
-    (
-        &[("v/Sys.vm", EACH)],
-        "exec a.asm --cycles 3000 --from 2048 --to 2066",
-        EACH_WORDS,
-    ),
-    (
-        STATICS,
-        "exec a.asm --cycles 2000 --from 16 --to 17",
-        "16 3\n17 5\n",
-    ),
-    (
-        STATICS,
-        "exec a.asm --cycles 2000 --from 5 --to 6",
-        "5 3\n6 5\n",
-    ),
+    &[( "v/Sys.vm", "function Sys.init 0\npush static 239\npop temp 2\nlabel END\ngoto END\n", )],
+        "exec a.asm --cycles 2000 --from 0 --to 1", "0 261\n1 261\n";
+    &[("v/Sys.vm", EACH)], "exec a.asm --cycles 3000 --from 2048 --to 2066", EACH_WORDS;
+    STATICS, "exec a.asm --cycles 2000 --from 16 --to 17", "16 3\n17 5\n";
+    STATICS, "exec a.asm --cycles 2000 --from 5 --to 6", "5 3\n6 5\n";
 ];
+
+fn programs_table() -> &'static [(
+    &'static [(&'static str, &'static str)],
+    &'static str,
+    &'static str,
+)] {
+    PROGRAMS
+}
 
 const DONE: &[(&str, &str, &str, &str)] = &[
     (
@@ -102,58 +82,22 @@ const DONE: &[(&str, &str, &str, &str)] = &[
     ("v/Sys.vm", "", "vm w --bare", ""),
 ];
 
-const REFUSED: &[(&str, &str, &str, &str)] = &[
-    ("v/Sys.vm", "", "vm v", "v:0:0: NoSysInit\n"),
-    (
-        "v/Sys.vm",
-        "function Sys.init 0\npush static 240\nlabel E\ngoto E\n",
-        "vm v",
-        "v:0:0: TooManyStatics 241\n",
-    ),
-    (
-        "v/Sys.vm",
-        "function Sys.init 0\ncall A.f 0\n",
-        "vm v",
-        "v:0:0: NoFunction A.f\n",
-    ),
-    (
-        "v/Sys.vm",
-        "function Sys.init 0\ngoto X\n",
-        "vm v",
-        "v:0:0: NoLabel X\n",
-    ),
-    (
-        "v/Sys.vm",
-        "function Sys.init 0\nlabel X\nlabel X\n",
-        "vm v",
-        "v:0:0: LabelTwice X\n",
-    ),
-    (
-        "v/Sys.vm",
-        "function Sys.init 0\nfunction Sys.init 0\n",
-        "vm v",
-        "v:0:0: TwiceDefined Sys.init\n",
-    ),
-    (
-        "v/Sys.vm",
-        "pop constant 1\n",
-        "vm v",
-        "v/Sys.vm:1:1: Grammar\n",
-    ),
-    (
-        "v/Sys.vm",
-        "pop constant 1\n",
-        "vm v --bare",
-        "v/Sys.vm:1:5: Grammar\n",
-    ),
-    (
-        "v/Sys.vm",
-        "push pointer 2\n",
-        "vm v --bare",
-        "v/Sys.vm:1:14: Range 2\n",
-    ),
-    ("v/Sys.vm", "goto X\n", "vm --bare v", "v:0:0: NoLabel X\n"),
+const REFUSED: &[(&str, &str, &str, &str)] = rows![
+    "v/Sys.vm", "", "vm v", "v:0:0: NoSysInit\n";
+    "v/Sys.vm", "function Sys.init 0\npush static 240\nlabel E\ngoto E\n", "vm v", "v:0:0: TooManyStatics 241\n";
+    "v/Sys.vm", "function Sys.init 0\ncall A.f 0\n", "vm v", "v:0:0: NoFunction A.f\n";
+    "v/Sys.vm", "function Sys.init 0\ngoto X\n", "vm v", "v:0:0: NoLabel X\n";
+    "v/Sys.vm", "function Sys.init 0\nlabel X\nlabel X\n", "vm v", "v:0:0: LabelTwice X\n";
+    "v/Sys.vm", "function Sys.init 0\nfunction Sys.init 0\n", "vm v", "v:0:0: TwiceDefined Sys.init\n";
+    "v/Sys.vm", "pop constant 1\n", "vm v", "v/Sys.vm:1:1: Grammar\n";
+    "v/Sys.vm", "pop constant 1\n", "vm v --bare", "v/Sys.vm:1:5: Grammar\n";
+    "v/Sys.vm", "push pointer 2\n", "vm v --bare", "v/Sys.vm:1:14: Range 2\n";
+    "v/Sys.vm", "goto X\n", "vm --bare v", "v:0:0: NoLabel X\n";
 ];
+
+fn refused_table() -> &'static [(&'static str, &'static str, &'static str, &'static str)] {
+    REFUSED
+}
 
 const CASES: &[Case<'static>] = &[
     // the files are taken in order of name
@@ -163,19 +107,17 @@ const CASES: &[Case<'static>] = &[
             ("v/A-B.vm", "push constant 32768"),
         ],
         lines: &["vm v --bare"],
-        fails: NONE,
         status: Status::Refused,
-        out: "",
         err: "v/A-B.vm:1:15: Range 32768\n",
+        ..CASE
     },
     // a file with another ending
     Case {
         files: &[("v/B.vm", "pop constant 1"), ("v/A.jack", "function")],
         lines: &["vm v --bare"],
-        fails: NONE,
         status: Status::Refused,
-        out: "",
         err: "v/B.vm:1:5: Grammar\n",
+        ..CASE
     },
     // the listing, and the text
     Case {
@@ -183,38 +125,39 @@ const CASES: &[Case<'static>] = &[
         lines: &["vm v --bare"],
         fails: Failures {
             shelf: &[1],
-            out: &[],
-            err: &[],
+            ..NONE
         },
         status: Status::ReadFault,
-        out: "",
         err: READ_FAULT,
+        ..CASE
     },
     Case {
         files: &[("v/Sys.vm", "")],
         lines: &["vm v --bare"],
         fails: Failures {
             shelf: &[2],
-            out: &[],
-            err: &[],
+            ..NONE
         },
         status: Status::ReadFault,
-        out: "",
         err: READ_FAULT,
+        ..CASE
     },
     Case {
         files: &[("v/Sum.vm", "push constant 7")],
         lines: &["vm v --bare"],
         fails: Failures {
-            shelf: &[],
             out: &[(1, 4)],
-            err: &[],
+            ..NONE
         },
         status: Status::WriteFault,
         out: "@7\nD",
-        err: "",
+        ..CASE
     },
 ];
+
+fn cases_table() -> &'static [Case<'static>] {
+    CASES
+}
 
 // 6 words for each push, and 60 more, are past the limit
 const LONG: &[(&str, Long<'static>, Case<'static>)] = &[(
@@ -222,17 +165,15 @@ const LONG: &[(&str, Long<'static>, Case<'static>)] = &[(
     Long {
         front: "function Sys.init 0\n",
         piece: "push constant 7\n",
-        behind_number: None,
         times: 6000,
         back: "label END\ngoto END\n",
+        ..NO_TEXT
     },
     Case {
-        files: &[],
         lines: &["vm v"],
-        fails: NONE,
         status: Status::Refused,
-        out: "",
         err: "v:0:0: TooLarge 36060\n",
+        ..CASE
     },
 )];
 
@@ -240,9 +181,9 @@ const LONG: &[(&str, Long<'static>, Case<'static>)] = &[(
 const COMPARISONS: Long<'static> = Long {
     front: "function Sys.init 0\n",
     piece: "push constant 1\npush constant 2\nlt\npop temp 0\n",
-    behind_number: None,
     times: 950,
     back: "label E\ngoto E\n",
+    ..NO_TEXT
 };
 
 // Besides there are 23 words of the start, 1 of the function and 2 of the jump, and the routines of calls and of `lt` with 34 and 38.
@@ -251,9 +192,14 @@ const COMPARISONS_LINES: u32 = 950 * 21 + 98;
 fn comparisons_are_short(rt: &impl Abort, alloc: Global) -> Result<(), Fail> {
     let mut files = Vec::new(alloc);
     files.push((Name::new(alloc, "v/Sys.vm")?, text_of(alloc, &COMPARISONS)?))?;
-    let made = outcome_of(alloc, files, "vm v", NONE)?;
-    assert_eq!(rt; made.status, Status::Done);
-    assert_eq!(rt; lines_in(made.out.bytes()), COMPARISONS_LINES);
+    let made = outcome_over(alloc, files, "vm v", NONE)?;
+    has_status(rt, 0, "vm v", made.status, Status::Done);
+    holds(
+        rt,
+        0,
+        "vm v",
+        lines_in(made.out.bytes()) == COMPARISONS_LINES,
+    );
     Ok(())
 }
 
@@ -265,19 +211,15 @@ fn makes(
     line: &str,
     out: &str,
 ) -> Result<(), Fail> {
-    let made = outcome_of(alloc, files_of(alloc, files)?, "vm v", NONE)?;
-    assert_eq!(rt; made.status, Status::Done, "{line}: {out}");
-    assert_eq!(rt; made.err.bytes().len(), 0, "{line}: {out}");
-    let mut files = Vec::new(alloc);
-    files.push((Name::new(alloc, "a.asm")?, made.out.bytes().to_vec(alloc)?))?;
-    let shown = outcome_of(alloc, files, line, NONE)?;
-    assert_eq!(rt; shown.out.bytes(), out.as_bytes(), "{line}: {out}");
-    assert_eq!(rt; shown.status, Status::Done, "{line}: {out}");
-    assert_eq!(rt; shown.err.bytes().len(), 0, "{line}: {out}");
+    let made = outcome_of(alloc, files, "vm v", NONE)?;
+    has_status(rt, 0, line, made.status, Status::Done);
+    has_length(rt, 0, line, made.err.bytes(), 0);
+    let shown = outcome_with(alloc, &[], ("a.asm", made.out.bytes()), line, NONE)?;
+    ended(rt, 0, line, &shown, Status::Done, out, "");
     Ok(())
 }
 
-// So many empty files in the folder v.
+// This many empty files in the folder v.
 fn empty_files(alloc: Global, count: u32) -> Result<Vec<(Name, Vec<u8>)>, Fail> {
     let mut files = Vec::new(alloc);
     for number in 0..count {
@@ -294,10 +236,8 @@ fn folder_has_a_limit(rt: &impl Abort, alloc: Global) -> Result<(), Fail> {
         (257, Status::Refused, "v:0:0: Range 257\n"),
     ];
     for (count, status, err) in rows {
-        let outcome = outcome_of(alloc, empty_files(alloc, count)?, "vm v --bare", NONE)?;
-        assert_eq!(rt; outcome.status, status, "of {count}");
-        assert_eq!(rt; outcome.out.bytes().len(), 0, "of {count}");
-        assert_eq!(rt; outcome.err.bytes(), err.as_bytes(), "of {count}");
+        let outcome = outcome_over(alloc, empty_files(alloc, count)?, "vm v --bare", NONE)?;
+        ended(rt, count as usize, "vm v --bare", &outcome, status, "", err);
     }
     Ok(())
 }
@@ -305,7 +245,7 @@ fn folder_has_a_limit(rt: &impl Abort, alloc: Global) -> Result<(), Fail> {
 #[test]
 fn programs_are_made(rt: HostRuntime) -> Result<(), Fail> {
     let alloc = rt.alloc();
-    for (files, line, out) in PROGRAMS {
+    for (files, line, out) in programs_table() {
         makes(&rt, alloc, files, line, out)?;
     }
     comparisons_are_short(&rt, alloc)?;
@@ -315,8 +255,8 @@ fn programs_are_made(rt: HostRuntime) -> Result<(), Fail> {
 #[test]
 fn folders_are_not_translated(rt: HostRuntime) -> Result<(), Fail> {
     let alloc = rt.alloc();
-    each_is_refused(&rt, alloc, REFUSED)?;
-    each_ends(&rt, alloc, CASES)?;
+    each_is_refused(&rt, alloc, refused_table())?;
+    each_ends(&rt, alloc, cases_table())?;
     each_long_ends(&rt, alloc, LONG)?;
     folder_has_a_limit(&rt, alloc)
 }

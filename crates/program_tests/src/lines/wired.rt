@@ -1,5 +1,7 @@
 //! Lines of `run` at level gates, beside the same at the level of the instruction machine.
-use super::{NONE, STORE, STORE_CLASS, class_of, each_reports, files_of, outcome_of};
+use super::checks::{begins_with, has_status, holds, is_equal};
+use super::harness::{NONE, Outcome, outcome_of};
+use super::{STORE, STORE_CLASS, class_of, each_reports};
 use nand_cli::Status;
 use std::alloc::Global;
 use std::process::Abort;
@@ -12,27 +14,42 @@ const REPORTS: &[(&str, &str, &str)] = &[(
     "level gates\nmoves 0\nsteps 0\npoint start 1\nend bound\n",
 )];
 
-// Behind the first line the reports of a class Main with these statements are the same at the two levels of the computer; and with a netlist that is
+// What `run` does at a level with these further words.
+fn report_at(
+    alloc: Global,
+    files: &[(&str, &str)],
+    level: &str,
+    further: &str,
+) -> Result<Outcome, Fail> {
+    let line = format!(in alloc; "run prog --level {level} {further}")?;
+    Ok(outcome_of(alloc, files, &line, NONE)?)
+}
+
+// Reports of the levels gates and hack are the same behind their first lines.
+fn are_alike(gates: &[u8], hack: &[u8]) -> bool {
+    gates.get(12..) == hack.get(11..)
+}
+
+// After the first line the reports of a class Main with these statements are the same at the two levels of the computer. With a netlist that is
 // simplified it is the same report.
 fn reports_alike(rt: &impl Abort, alloc: Global, body: &str, further: &str) -> Result<(), Fail> {
     let text = class_of(alloc, body)?;
     let files = [("prog/Main.jack", text.as_str())];
-    let line = format!(in alloc; "run prog --level hack {further}")?;
-    let hack = outcome_of(alloc, files_of(alloc, &files)?, &line, NONE)?;
-    let line = format!(in alloc; "run prog --level gates {further}")?;
-    let gates = outcome_of(alloc, files_of(alloc, &files)?, &line, NONE)?;
-    let line = format!(in alloc; "run prog --level gates --simplify {further}")?;
-    let simple = outcome_of(alloc, files_of(alloc, &files)?, &line, NONE)?;
-    assert_eq!(rt; hack.status, Status::Done, "{line}");
-    assert_eq!(rt; gates.status, Status::Done, "{line}");
-    assert!(rt; hack.out.bytes().starts_with(b"level hack\n"), "{line}");
-    assert!(rt; gates.out.bytes().starts_with(b"level gates\n"), "{line}");
-    assert!(rt;
-        gates.out.bytes().get(12..) == hack.out.bytes().get(11..),
-        "{line}"
+    let hack = report_at(alloc, &files, "hack", further)?;
+    let gates = report_at(alloc, &files, "gates", further)?;
+    let simple = report_at(alloc, &files, "gates --simplify", further)?;
+    has_status(rt, 0, further, hack.status, Status::Done);
+    has_status(rt, 0, further, gates.status, Status::Done);
+    begins_with(rt, 0, further, hack.out.bytes(), b"level hack\n");
+    begins_with(rt, 0, further, gates.out.bytes(), b"level gates\n");
+    holds(
+        rt,
+        0,
+        further,
+        are_alike(gates.out.bytes(), hack.out.bytes()),
     );
-    assert_eq!(rt; simple.status, Status::Done, "{line}");
-    assert!(rt; simple.out.bytes() == gates.out.bytes(), "{line}");
+    has_status(rt, 0, further, simple.status, Status::Done);
+    is_equal(rt, 0, further, simple.out.bytes(), gates.out.bytes());
     Ok(())
 }
 
@@ -55,14 +72,14 @@ const PARTS: &[(&str, bool)] = &[
 
 // The parts are shown in the cycle that comes next.
 fn parts_are_shown(rt: &impl Abort, alloc: Global) -> Result<(), Fail> {
-    let files = files_of(alloc, &[("prog/Main.jack", STORE_CLASS)])?;
     let line = "run prog --level gates --cycles 0 --show nets";
-    let outcome = outcome_of(alloc, files, line, NONE)?;
+    let outcome = outcome_of(alloc, &[("prog/Main.jack", STORE_CLASS)], line, NONE)?;
     let text = outcome.out.bytes();
-    assert_eq!(rt; outcome.status, Status::Done);
-    assert!(rt; text.starts_with(b"level gates\nmoves 0\nsteps 0\npoint start 1\nend bound\nCPU "));
+    has_status(rt, 0, line, outcome.status, Status::Done);
+    let begun = b"level gates\nmoves 0\nsteps 0\npoint start 1\nend bound\nCPU ";
+    begins_with(rt, 0, line, text, begun);
     for (part, is_there) in PARTS {
-        assert_eq!(rt; has_line(text, part), *is_there, "{part}");
+        holds(rt, 0, part, has_line(text, part) == *is_there);
     }
     Ok(())
 }

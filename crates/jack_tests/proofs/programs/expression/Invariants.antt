@@ -1,4 +1,4 @@
--- So many values are left, and the calls are of the four subroutines.
+-- This many values are left, and the calls are of the four subroutines.
 use Rattle.std.proofs.Common.{◌≡◌, Some}
 use Rattle.jack_core.specs.Heights.{height}
 use Rattle.jack_tests.specs.Inner.Called.{AreOfFour}

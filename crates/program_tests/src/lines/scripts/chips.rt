@@ -1,9 +1,9 @@
 //! Scripts that drive chips.
-use super::{AND_HDL, Case, RAM64_OUT, RAM64_TST, WIRE_HDL};
-use nand_cli::Status;
+use super::super::Case;
+use super::{AND_HDL, RAM64_OUT, RAM64_TST, SCRIPT, WIRE_HDL};
 
 // scripts that stand alone, and what they put
-pub(super) const DRIVEN: &[(&str, &str)] = &[
+const DRIVEN: &[(&str, &str)] = &[
     // no command at all
     ("", ""),
     ("// nothing\n/* here */", ""),
@@ -64,13 +64,12 @@ pub(super) const DRIVEN: &[(&str, &str)] = &[
 ];
 
 // scripts with further files, and what comes of them
-pub(super) const CASES: &[Case<'static>] = &[
+const CASES: &[Case<'static>] = &[
     Case {
         files: &[("t/a.tst", RAM64_TST)],
-        words: "test t/a.tst --gates",
-        status: Status::Done,
+        lines: &["test t/a.tst --gates"],
         out: RAM64_OUT,
-        err: "",
+        ..SCRIPT
     },
     // a Not of the folder is used inside the shipped And
     Case {
@@ -81,10 +80,8 @@ pub(super) const CASES: &[Case<'static>] = &[
             ),
             ("t/Not.hdl", WIRE_HDL),
         ],
-        words: "test t/a.tst",
-        status: Status::Done,
         out: "| a | b |out|\n| 1 | 0 | 1 |\n| 1 | 1 | 0 |\n",
-        err: "",
+        ..SCRIPT
     },
     // a body that is built in is the shipped chip
     Case {
@@ -98,10 +95,8 @@ pub(super) const CASES: &[Case<'static>] = &[
                 "CHIP And { IN x; OUT y; BUILTIN Or; CLOCKED x; }",
             ),
         ],
-        words: "test t/a.tst",
-        status: Status::Done,
         out: "|out|\n| 1 |\n",
-        err: "",
+        ..SCRIPT
     },
     // a chip is known by its file
     Case {
@@ -116,10 +111,8 @@ pub(super) const CASES: &[Case<'static>] = &[
             ),
             ("t/And.hdl", AND_HDL),
         ],
-        words: "test t/a.tst",
-        status: Status::Done,
         out: "|out|\n| 1 |\n",
-        err: "",
+        ..SCRIPT
     },
     // a word of a block shows at once
     Case {
@@ -136,14 +129,12 @@ pub(super) const CASES: &[Case<'static>] = &[
                     PARTS: RAM8(in=in, load=load, address=address, out=out); }",
             ),
         ],
-        words: "test t/a.tst",
-        status: Status::Done,
         out: "|RAM8[|RAM8[]|\n\
             |   7 |    0 |\n\
             |   7 |    7 |\n\
             |  -5 |   -5 |\n\
             |   9 |    9 |\n",
-        err: "",
+        ..SCRIPT
     },
     // the first part of a chip
     Case {
@@ -159,10 +150,8 @@ pub(super) const CASES: &[Case<'static>] = &[
                     Not(in=m, out=out); DFF(in=in); }",
             ),
         ],
-        words: "test t/a.tst",
-        status: Status::Done,
         out: "|DFF|Not|\n| 0 | 1 |\n| 1 | 1 |\n| 1 | 0 |\n",
-        err: "",
+        ..SCRIPT
     },
     // a flip-flop is no loop
     Case {
@@ -173,9 +162,14 @@ pub(super) const CASES: &[Case<'static>] = &[
                 "CHIP L { IN a; OUT out; PARTS: DFF(in=x, out=x); }",
             ),
         ],
-        words: "test t/a.tst",
-        status: Status::Done,
-        out: "",
-        err: "",
+        ..SCRIPT
     },
 ];
+
+pub(super) fn driven() -> &'static [(&'static str, &'static str)] {
+    DRIVEN
+}
+
+pub(super) fn cases() -> &'static [Case<'static>] {
+    CASES
+}

@@ -1,9 +1,11 @@
 //! Scripts and chips that are refused, and words that are no line.
-use super::{Case, NOT_HDL};
+use super::super::harness::{Failures, NONE};
+use super::super::{Case, READ_FAULT, USAGE};
+use super::{NOT_HDL, SCRIPT};
 use nand_cli::Status;
 
 // scripts that stand alone and are refused: where and why
-pub(super) const REFUSED: &[(&str, &str)] = &[
+const REFUSED: &[(&str, &str)] = &[
     // an output is not set
     ("load And.hdl, set out 1;", "1:19: Name out"),
     // the chip that is loaded is no part
@@ -29,7 +31,7 @@ pub(super) const REFUSED: &[(&str, &str)] = &[
 ];
 
 // parts of a chip F with the inputs a and b[2] and the output out, and its fault
-pub(super) const FAULTY: &[(&str, &str)] = &[
+const FAULTY: &[(&str, &str)] = &[
     ("Foo(in=a, out=out);", "UnknownChip Foo"),
     ("Nand(a=a, q=a, out=out);", "UnknownPin q"),
     ("Nand(a=a, b=b, out=out);", "Width b"),
@@ -41,19 +43,8 @@ pub(super) const FAULTY: &[(&str, &str)] = &[
     ("F(a=a, out=out);", "Recursive F"),
 ];
 
-// words that are no line
-pub(super) const NO_LINES: &[&str] = &[
-    "test",
-    "test --gates",
-    "test t/a.tst t/a.tst",
-    "test t/a.tst --gates --gates",
-    "test t/a.tst --gates=1",
-    "test t/a.tst --gate",
-    "test --cycles 1 t/a.tst",
-];
-
 // scripts with further files, and what comes of them
-pub(super) const CASES: &[Case<'static>] = &[
+const CASES: &[Case<'static>] = &[
     // a signal goes in a circle
     Case {
         files: &[
@@ -63,10 +54,9 @@ pub(super) const CASES: &[Case<'static>] = &[
                 "CHIP L { IN a; OUT out; PARTS: Not(in=x, out=x); }",
             ),
         ],
-        words: "test t/a.tst",
         status: Status::Refused,
-        out: "",
         err: "t/L.hdl:0:0: Loop x\n",
+        ..SCRIPT
     },
     Case {
         files: &[
@@ -77,10 +67,10 @@ pub(super) const CASES: &[Case<'static>] = &[
             ),
             ("t/Not.hdl", NOT_HDL),
         ],
-        words: "test t/a.tst --gates",
+        lines: &["test t/a.tst --gates"],
         status: Status::Refused,
-        out: "",
         err: "t/L.hdl:0:0: Loop x\n",
+        ..SCRIPT
     },
     // the path is that of the text that has the fault
     Case {
@@ -95,10 +85,9 @@ pub(super) const CASES: &[Case<'static>] = &[
                 "CHIP F { IN a, b[2]; OUT out; PARTS: Nand(a=a, b=n, out=out); }",
             ),
         ],
-        words: "test t/a.tst",
         status: Status::Refused,
-        out: "",
         err: "t/F.hdl:0:0: Undriven n\n",
+        ..SCRIPT
     },
     // all texts are read before
     Case {
@@ -110,38 +99,34 @@ pub(super) const CASES: &[Case<'static>] = &[
             ),
             ("t/F.hdl", "CHIP F { IN a; OUT out; PARTS: Nand(a=a, b=a) }"),
         ],
-        words: "test t/a.tst",
         status: Status::Refused,
-        out: "",
         err: "t/F.hdl:1:47: Grammar\n",
+        ..SCRIPT
     },
     Case {
         files: &[
             ("t/a.tst", "load W.hdl;"),
             ("t/W.hdl", "CHIP W { IN a[17]; OUT out; PARTS: }"),
         ],
-        words: "test t/a.tst",
         status: Status::Refused,
-        out: "",
         err: "t/W.hdl:1:15: Range 17\n",
+        ..SCRIPT
     },
     Case {
         files: &[
             ("t/a.tst", "load B.hdl;"),
             ("t/B.hdl", "CHIP B { IN a; OUT out; BUILTIN Nor; }"),
         ],
-        words: "test t/a.tst",
         status: Status::Refused,
-        out: "",
         err: "t/B.hdl:0:0: UnknownChip Nor\n",
+        ..SCRIPT
     },
     // a chip that is nowhere
     Case {
         files: &[("t/a.tst", "echo \"a\"; load Foo.hdl;")],
-        words: "test t/a.tst",
         status: Status::Refused,
-        out: "",
         err: "a\nt/a.tst:0:0: UnknownChip Foo\n",
+        ..SCRIPT
     },
     // what was put stays
     Case {
@@ -152,28 +137,28 @@ pub(super) const CASES: &[Case<'static>] = &[
                     output;\n\
                     set q 1;",
         )],
-        words: "test t/a.tst",
         status: Status::Refused,
         out: "| a | b |\n| 0 | 0 |\n",
         err: "one\ntwo\nt/a.tst:4:5: Name q\n",
+        ..SCRIPT
     },
     Case {
         files: &[(
             "t/a.tst",
             "load And.hdl, output-list a, output-list a out q%D1.2.3;",
         )],
-        words: "test t/a.tst",
         status: Status::Refused,
         out: "| a |\n",
         err: "t/a.tst:1:48: Name q\n",
+        ..SCRIPT
     },
     // before the first load there is the time alone
     Case {
         files: &[("t/a.tst", "output-list time; set a 1;")],
-        words: "test t/a.tst",
         status: Status::Refused,
         out: "|tim|\n",
         err: "t/a.tst:1:23: Name a\n",
+        ..SCRIPT
     },
     Case {
         files: &[
@@ -186,10 +171,10 @@ pub(super) const CASES: &[Case<'static>] = &[
                 "CHIP W { IN in[16]; OUT out[16]; PARTS: RAM8(in=in, out=out); }",
             ),
         ],
-        words: "test t/a.tst",
         status: Status::Refused,
         out: "|RAM|\n",
         err: "t/a.tst:1:46: Name RAM8[8]\n",
+        ..SCRIPT
     },
     // it has no out
     Case {
@@ -200,9 +185,116 @@ pub(super) const CASES: &[Case<'static>] = &[
                 "CHIP W { IN a; OUT out; PARTS: HalfAdder(a=a, sum=out); }",
             ),
         ],
-        words: "test t/a.tst",
         status: Status::Refused,
-        out: "",
         err: "t/a.tst:1:25: Name HalfAdder[]\n",
+        ..SCRIPT
+    },
+    // words that are no line
+    Case {
+        files: &[("t/a.tst", "output;")],
+        lines: &[
+            "test",
+            "test --gates",
+            "test t/a.tst t/a.tst",
+            "test t/a.tst --gates --gates",
+            "test t/a.tst --gates=1",
+            "test t/a.tst --gate",
+            "test --simplify",
+            "test t/a.tst --simplify --simplify",
+            "test t/a.tst --simplify=1",
+            "test t/a.tst --simplified",
+            "test --cycles 1 t/a.tst",
+        ],
+        status: Status::Usage,
+        err: USAGE,
+        ..SCRIPT
     },
 ];
+
+// calls of the outside that fail
+const FAILING: &[Case<'static>] = &[
+    // the script is not read
+    Case {
+        files: &[("t/a.tst", "echo \"one\"; output; load And.hdl;")],
+        fails: Failures {
+            shelf: &[1],
+            ..NONE
+        },
+        status: Status::ReadFault,
+        err: READ_FAULT,
+        ..SCRIPT
+    },
+    // the folder of its chip is not, and what was put before stays
+    Case {
+        files: &[("t/a.tst", "echo \"one\"; output; load And.hdl;")],
+        fails: Failures {
+            shelf: &[2],
+            ..NONE
+        },
+        status: Status::ReadFault,
+        out: "|\n",
+        err: "one\nnand: read fault\n",
+        ..SCRIPT
+    },
+    // out fails where the lines are put, and nothing is put after that
+    Case {
+        files: &[("t/a.tst", "output, output;")],
+        fails: Failures {
+            out: &[(1, 3)],
+            ..NONE
+        },
+        status: Status::WriteFault,
+        out: "|\n|",
+        ..SCRIPT
+    },
+    // also where the first piece is put, and an echo would come after it
+    Case {
+        files: &[("t/a.tst", "repeat 3000 { output; } echo \"one\";")],
+        fails: Failures {
+            out: &[(1, 3)],
+            ..NONE
+        },
+        status: Status::WriteFault,
+        out: "|\n|",
+        ..SCRIPT
+    },
+    // err fails at an echo
+    Case {
+        files: &[("t/a.tst", "output; echo \"one\";")],
+        fails: Failures {
+            err: &[(1, 2)],
+            ..NONE
+        },
+        status: Status::WriteFault,
+        err: "on",
+        ..SCRIPT
+    },
+    // err fails at the message of the end
+    Case {
+        files: &[("t/a.tst", "output; load Foo.hdl;")],
+        fails: Failures {
+            err: &[(1, 5)],
+            ..NONE
+        },
+        status: Status::WriteFault,
+        out: "|\n",
+        err: "t/a.t",
+        ..SCRIPT
+    },
+];
+
+pub(super) fn refused() -> &'static [(&'static str, &'static str)] {
+    REFUSED
+}
+
+pub(super) fn faulty() -> &'static [(&'static str, &'static str)] {
+    FAULTY
+}
+
+pub(super) fn cases() -> &'static [Case<'static>] {
+    CASES
+}
+
+pub(super) fn failing() -> &'static [Case<'static>] {
+    FAILING
+}

@@ -1,23 +1,22 @@
 //! Scripts that drive the Computer and the instruction machine.
-use super::{ADD_ASM, ADD_HACK, COMPUTER_TST, Case, READ_FAULT};
+use super::super::{Case, READ_FAULT};
+use super::{ADD_ASM, ADD_HACK, COMPUTER_TST, SCRIPT};
 use nand_cli::Status;
 
 // scripts with further files, and what comes of them
-pub(super) const CASES: &[Case<'static>] = &[
+const CASES: &[Case<'static>] = &[
     Case {
         files: &[("t/a.tst", COMPUTER_TST), ("t/Add.hack", ADD_HACK)],
-        words: "test t/a.tst",
-        status: Status::Done,
         out: "| time |RAM16K[0|\n| 6    |      5 |\n",
-        err: "",
+        ..SCRIPT
     },
     // memory of gates has no words
     Case {
         files: &[("t/a.tst", COMPUTER_TST), ("t/Add.hack", ADD_HACK)],
-        words: "test t/a.tst --gates",
+        lines: &["test t/a.tst --gates"],
         status: Status::Refused,
-        out: "",
         err: "t/a.tst:1:66: Name RAM16K[0]\n",
+        ..SCRIPT
     },
     // a shorter image sets the words past it to 0
     Case {
@@ -31,13 +30,11 @@ pub(super) const CASES: &[Case<'static>] = &[
             ("t/Add.asm", ADD_ASM),
             ("t/b.asm", "@1\n@2\n"),
         ],
-        words: "test t/a.tst",
-        status: Status::Done,
         out: "|ROM32K[|ROM32K[|\n\
             | -5104 | -7416 |\n\
             |     2 |     0 |\n\
             |     2 |     3 |\n",
-        err: "",
+        ..SCRIPT
     },
     // each tock is a step, and a tick only marks the time
     Case {
@@ -50,15 +47,13 @@ pub(super) const CASES: &[Case<'static>] = &[
             ),
             ("t/Add.asm", ADD_ASM),
         ],
-        words: "test t/a.tst",
-        status: Status::Done,
         out: "|time | A  | D  | PC |RAM[|\n\
             | 0   |  0 |  0 |  0 |  0 |\n\
             | 0+  |  0 |  0 |  0 |  0 |\n\
             | 1   |  2 |  0 |  1 |  0 |\n\
             | 2   |  2 |  2 |  2 |  0 |\n\
             | 6   |  0 |  5 |  6 |  5 |\n",
-        err: "",
+        ..SCRIPT
     },
     // the low fifteen bits
     Case {
@@ -70,14 +65,12 @@ pub(super) const CASES: &[Case<'static>] = &[
             ),
             ("t/Add.hack", ADD_HACK),
         ],
-        words: "test t/a.tst",
-        status: Status::Done,
         out: "|  PC   |        PC        |\n\
             |  7232 | 0001110001000000 |\n\
             |  7233 | 0001110001000001 |\n\
             | 32767 | 0111111111111111 |\n\
             |     0 | 0000000000000000 |\n",
-        err: "",
+        ..SCRIPT
     },
     // the key that is held
     Case {
@@ -90,13 +83,11 @@ pub(super) const CASES: &[Case<'static>] = &[
             ),
             ("t/Key.asm", "@24576\nD=M\n@0\nM=D\n"),
         ],
-        words: "test t/a.tst",
-        status: Status::Done,
         out: "|RAM[2|RAM[0]|time |\n\
             |  65 |    0 |   0 |\n\
             |  65 |   65 |   4 |\n\
             |  -1 |   -1 |   8 |\n",
-        err: "",
+        ..SCRIPT
     },
     // each load starts anew
     Case {
@@ -109,73 +100,69 @@ pub(super) const CASES: &[Case<'static>] = &[
             ),
             ("t/Add.hack", ADD_HACK),
         ],
-        words: "test t/a.tst",
-        status: Status::Done,
         out: "| A | D |R|RAM|\n| 1 | 1 |5| 0 |\n| A | D |RAM|\n| 0 | 0 | 0 |\n",
-        err: "",
+        ..SCRIPT
     },
     Case {
         files: &[
             ("t/a.tst", "load Add.asm, output-list A; set RAM[24577] 0;"),
             ("t/Add.asm", ADD_ASM),
         ],
-        words: "test t/a.tst",
         status: Status::Refused,
         out: "| A |\n",
         err: "t/a.tst:1:34: Name RAM[24577]\n",
+        ..SCRIPT
     },
     Case {
         files: &[
             ("t/a.tst", "load Add.asm, output-list RAM[];"),
             ("t/Add.asm", ADD_ASM),
         ],
-        words: "test t/a.tst",
         status: Status::Refused,
-        out: "",
         err: "t/a.tst:1:27: Name RAM[]\n",
+        ..SCRIPT
     },
     Case {
         files: &[
             ("t/a.tst", "load Add.asm, set time 1;"),
             ("t/Add.asm", ADD_ASM),
         ],
-        words: "test t/a.tst",
         status: Status::Refused,
-        out: "",
         err: "t/a.tst:1:19: Name time\n",
+        ..SCRIPT
     },
     Case {
         files: &[
             ("t/a.tst", "load Add.asm; ROM32K load Add.asm;"),
             ("t/Add.asm", ADD_ASM),
         ],
-        words: "test t/a.tst",
         status: Status::Refused,
-        out: "",
         err: "t/a.tst:1:15: Name ROM32K\n",
+        ..SCRIPT
     },
     Case {
         files: &[("t/a.tst", "load Add.asm;")],
-        words: "test t/a.tst",
         status: Status::ReadFault,
-        out: "",
         err: READ_FAULT,
+        ..SCRIPT
     },
     Case {
         files: &[("t/a.tst", "load b.asm;"), ("t/b.asm", "@32768")],
-        words: "test t/a.tst",
         status: Status::Refused,
-        out: "",
         err: "t/b.asm:1:2: Range 32768\n",
+        ..SCRIPT
     },
     Case {
         files: &[
             ("t/a.tst", "load Computer.hdl; ROM32K load b.hack;"),
             ("t/b.hack", "0000000000000002"),
         ],
-        words: "test t/a.tst",
         status: Status::Refused,
-        out: "",
         err: "t/b.hack:1:16: Grammar\n",
+        ..SCRIPT
     },
 ];
+
+pub(super) fn cases() -> &'static [Case<'static>] {
+    CASES
+}

@@ -1,86 +1,43 @@
-//! Runs of scripts over a shelf and sinks in memory.
+//! Lines of `test`: scripts over a shelf and sinks in memory.
 mod chips;
 mod comparing;
 mod grading;
 mod machines;
 mod refusals;
 
-use nand_cli::{Status, run};
-use outer_world::{MemoryShelf, MemorySink, Name};
-use std::alloc::{AllocError, Global};
+use super::{CASE, Case, line_ends};
+use nand_cli::Status;
+use std::alloc::Global;
 use std::process::Abort;
 use std::test::Fail;
 
-const USAGE: &str = "usage: nand COMMAND ARGUMENTS\n";
-
-const READ_FAULT: &str = "nand: read fault\n";
-
-/// Files on the shelf, the words of a call, and what comes of it.
-#[derive(Clone, Copy)]
-struct Case<'a> {
-    files: &'a [(&'a str, &'a str)],
-    words: &'a str,
-    status: Status,
-    out: &'a str,
-    err: &'a str,
-}
-
-/// The calls of the shelf that fail, and the puts of out and err, with how many bytes they still take.
-#[derive(Clone, Copy)]
-struct Failures<'a> {
-    shelf: &'a [u64],
-    out: &'a [(u64, u32)],
-    err: &'a [(u64, u32)],
-}
-
-const NONE: Failures<'static> = Failures {
-    shelf: &[],
-    out: &[],
-    err: &[],
+// A case of the script `t/a.tst`.
+const SCRIPT: Case<'static> = Case {
+    lines: &["test t/a.tst"],
+    ..CASE
 };
 
-#[derive(Drop)]
-struct Outcome {
-    status: Status,
-    out: MemorySink,
-    err: MemorySink,
-}
-
-fn files_of(alloc: Global, files: &[(&str, &str)]) -> Result<Vec<(Name, Vec<u8>)>, AllocError> {
-    let mut all = Vec::new(alloc);
-    for (path, text) in files {
-        let text = text.as_bytes().to_vec(alloc)?;
-        all.push((Name::new(alloc, path)?, text))?;
+// Each line of a row's case ends as it says, and so it does where netlists are simplified.
+fn both_end(rt: &impl Abort, alloc: Global, row: usize, case: &Case<'_>) -> Result<(), Fail> {
+    let ending = (case.status, case.out, case.err);
+    for line in case.lines {
+        line_ends(rt, alloc, row, case.files, line, ending)?;
+        let simplified = format!(in alloc; "{line} --simplify")?;
+        line_ends(rt, alloc, row, case.files, &simplified, ending)?;
     }
-    Ok(all)
-}
-
-// What a call with these words, which stand apart by single spaces, does over these files.
-fn outcome_of(
-    alloc: Global,
-    files: Vec<(Name, Vec<u8>)>,
-    words: &str,
-    fails: Failures<'_>,
-) -> Result<Outcome, AllocError> {
-    let mut strings = Vec::new(alloc);
-    for word in words.split(' ') {
-        strings.push(String::from_str(alloc, word)?)?;
-    }
-    let mut shelf = MemoryShelf::new(files, fails.shelf.to_vec(alloc)?);
-    let mut out = MemorySink::new(alloc, 200_000, fails.out.to_vec(alloc)?)?;
-    let mut err = MemorySink::new(alloc, 1_000, fails.err.to_vec(alloc)?)?;
-    let status = run(alloc, &strings, &mut shelf, &mut out, &mut err);
-    Ok(Outcome { status, out, err })
-}
-
-// The call of a case ends as it says.
-fn ends(rt: &impl Abort, alloc: Global, case: &Case<'_>) -> Result<(), Fail> {
-    let files = files_of(alloc, case.files)?;
-    let outcome = outcome_of(alloc, files, case.words, NONE)?;
-    assert_eq!(rt; outcome.err.bytes(), case.err.as_bytes());
-    assert_eq!(rt; outcome.out.bytes(), case.out.as_bytes());
-    assert_eq!(rt; outcome.status, case.status);
     Ok(())
+}
+
+// The same of the script `t/a.tst` of these files.
+fn script_ends(
+    rt: &impl Abort,
+    alloc: Global,
+    row: usize,
+    files: &[(&str, &str)],
+    ending: (Status, &str, &str),
+) -> Result<(), Fail> {
+    line_ends(rt, alloc, row, files, "test t/a.tst", ending)?;
+    line_ends(rt, alloc, row, files, "test t/a.tst --simplify", ending)
 }
 
 // an And, and a script of its four cases

@@ -1,9 +1,10 @@
 //! Scripts with compare files.
-use super::{AND_HDL, AND_OUT, AND_STAR, AND_TST, AND_WRONG, Case, READ_FAULT};
+use super::super::{Case, READ_FAULT};
+use super::{AND_HDL, AND_OUT, AND_STAR, AND_TST, AND_WRONG, SCRIPT};
 use nand_cli::Status;
 
 // scripts that stand alone, and what they put
-pub(super) const DRIVEN: &[(&str, &str)] = &[
+const DRIVEN: &[(&str, &str)] = &[
     // a load forgets the list
     (
         "load And.hdl, output-list a, load Or.hdl, output;",
@@ -12,17 +13,16 @@ pub(super) const DRIVEN: &[(&str, &str)] = &[
 ];
 
 // scripts with further files, and what comes of them
-pub(super) const CASES: &[Case<'static>] = &[
+const CASES: &[Case<'static>] = &[
     Case {
         files: &[
             ("t/And.tst", AND_TST),
             ("t/And.hdl", AND_HDL),
             ("t/And.cmp", AND_OUT),
         ],
-        words: "test t/And.tst",
-        status: Status::Done,
+        lines: &["test t/And.tst"],
         out: AND_OUT,
-        err: "",
+        ..SCRIPT
     },
     // in the present folder
     Case {
@@ -31,10 +31,9 @@ pub(super) const CASES: &[Case<'static>] = &[
             ("And.hdl", AND_HDL),
             ("And.cmp", AND_OUT),
         ],
-        words: "test And.tst --gates",
-        status: Status::Done,
+        lines: &["test And.tst --gates"],
         out: AND_OUT,
-        err: "",
+        ..SCRIPT
     },
     // a star stands for any character
     Case {
@@ -43,28 +42,28 @@ pub(super) const CASES: &[Case<'static>] = &[
             ("t/And.hdl", AND_HDL),
             ("t/And.cmp", AND_STAR),
         ],
-        words: "test t/And.tst",
-        status: Status::Done,
+        lines: &["test t/And.tst"],
         out: AND_OUT,
-        err: "",
+        ..SCRIPT
     },
     // the shipped And: its third line differs
     Case {
         files: &[("t/And.tst", AND_TST), ("t/And.cmp", AND_WRONG)],
-        words: "test --gates t/And.tst",
+        lines: &["test --gates t/And.tst"],
         status: Status::Differs,
         out: "|   a   |   b   |  out  |\n\
             |   0   |   0   |   0   |\n\
             |   0   |   1   |   0   |\n",
         err: "t/And.cmp:3:1: Differs\n",
+        ..SCRIPT
     },
     // no compare file
     Case {
         files: &[("t/And.tst", AND_TST)],
-        words: "test t/And.tst",
+        lines: &["test t/And.tst"],
         status: Status::ReadFault,
-        out: "",
         err: READ_FAULT,
+        ..SCRIPT
     },
     // what was put before it stays
     Case {
@@ -72,18 +71,16 @@ pub(super) const CASES: &[Case<'static>] = &[
             "t/a.tst",
             "load And.hdl, output-list a; echo \"here\"; compare-to b.cmp; output;",
         )],
-        words: "test t/a.tst",
         status: Status::ReadFault,
         out: "| a |\n",
         err: "here\nnand: read fault\n",
+        ..SCRIPT
     },
     // no script
     Case {
-        files: &[],
-        words: "test t/a.tst",
         status: Status::ReadFault,
-        out: "",
         err: READ_FAULT,
+        ..SCRIPT
     },
     // without an output list the bar alone; a line that is too long
     Case {
@@ -91,10 +88,10 @@ pub(super) const CASES: &[Case<'static>] = &[
             ("t/a.tst", "compare-to a.cmp, output, output, output;"),
             ("t/a.cmp", "|\n||\n|\n"),
         ],
-        words: "test t/a.tst",
         status: Status::Differs,
         out: "|\n|\n",
         err: "t/a.cmp:2:1: Differs\n",
+        ..SCRIPT
     },
     // one that is too short
     Case {
@@ -105,10 +102,10 @@ pub(super) const CASES: &[Case<'static>] = &[
             ),
             ("t/a.cmp", "|in |\n| 0\n"),
         ],
-        words: "test t/a.tst",
         status: Status::Differs,
         out: "|in |\n| 0 |\n",
         err: "t/a.cmp:2:1: Differs\n",
+        ..SCRIPT
     },
     // one that is not there
     Case {
@@ -116,10 +113,10 @@ pub(super) const CASES: &[Case<'static>] = &[
             ("t/a.tst", "compare-to a.cmp, output, output;"),
             ("t/a.cmp", "|\n"),
         ],
-        words: "test t/a.tst",
         status: Status::Differs,
         out: "|\n|\n",
         err: "t/a.cmp:2:1: Differs\n",
+        ..SCRIPT
     },
     // lines that are left, and returns before line ends
     Case {
@@ -127,10 +124,8 @@ pub(super) const CASES: &[Case<'static>] = &[
             ("t/a.tst", "compare-to a.cmp, output, output;"),
             ("t/a.cmp", "|\r\n|\r\nmore"),
         ],
-        words: "test t/a.tst",
-        status: Status::Done,
         out: "|\n|\n",
-        err: "",
+        ..SCRIPT
     },
     // a last line without its end
     Case {
@@ -138,10 +133,8 @@ pub(super) const CASES: &[Case<'static>] = &[
             ("t/a.tst", "compare-to a.cmp, output, output;"),
             ("t/a.cmp", "|\n*"),
         ],
-        words: "test t/a.tst",
-        status: Status::Done,
         out: "|\n|\n",
-        err: "",
+        ..SCRIPT
     },
     // lines are compared from there on, and counted from the first
     Case {
@@ -149,10 +142,8 @@ pub(super) const CASES: &[Case<'static>] = &[
             ("t/a.tst", "output, compare-to a.cmp, output;"),
             ("t/a.cmp", "none\n|\n"),
         ],
-        words: "test t/a.tst",
-        status: Status::Done,
         out: "|\n|\n",
-        err: "",
+        ..SCRIPT
     },
     // the line of names is the first one
     Case {
@@ -163,9 +154,17 @@ pub(super) const CASES: &[Case<'static>] = &[
             ),
             ("t/a.cmp", "| b |\n"),
         ],
-        words: "test t/a.tst",
         status: Status::Differs,
         out: "| a |\n",
         err: "t/a.cmp:1:1: Differs\n",
+        ..SCRIPT
     },
 ];
+
+pub(super) fn driven() -> &'static [(&'static str, &'static str)] {
+    DRIVEN
+}
+
+pub(super) fn cases() -> &'static [Case<'static>] {
+    CASES
+}
