@@ -31,7 +31,7 @@ _nand() {
         vm) words="--bare" ;;
         map) words="--format --replace" ;;
         compile | build) words="--replace" ;;
-        test) words="--gates" ;;
+        test) words="--gates --simplify" ;;
         debug) words="--break --cycles --keys --replace" ;;
         esac
         [ -z "$words" ] && return

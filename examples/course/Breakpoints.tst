@@ -5,3 +5,4 @@ output-list in%B1.1.1 out%B1.1.1;
 breakpoint time 5,
 set in 0, eval, output;
 clear-breakpoints;
+clear-echo;
