@@ -1,4 +1,4 @@
--- Lists that are made from their places, behind others.
+-- Lists that are made from their places, after others.
 use Rattle.std.proofs.Common.{◌≡◌, ℕ, suc, ◌+◌, List, [], ◌∷◌, ◌++◌, sym, ap, ◌∙◌, add-one, append_assoc}
 use Rattle.hdl_tree.specs.declared.tree.Part.{Part}
 use Rattle.chip_basic.specs.Hdl.{each}

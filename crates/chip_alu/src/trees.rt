@@ -106,7 +106,7 @@ fn add_full_adder(alloc: Global, parts: &mut List<Part>, bit: u8) -> Result<(), 
     Ok(())
 }
 
-// The parts of the bits above the lowest, behind those that are there.
+// The parts of the bits above the lowest, after those that are there.
 fn add_full_adders(alloc: Global, parts: &mut List<Part>) -> Result<(), AllocError>
     ensures { IfOk result (λ _. parts.new ≡ parts.old ++ each 15 (λ i. add_bit (suc i))) }
 {
@@ -232,7 +232,7 @@ fn prepare_inputs(alloc: Global) -> Result<List<Part>, AllocError>
     Ok(parts)
 }
 
-// The parts that compute, behind those of the inputs.
+// The parts that compute, after those of the inputs.
 fn add_output(alloc: Global, parts: &mut List<Part>) -> Result<(), AllocError>
     requires { parts.old ≡ alu_inputs }
     ensures { IfOk result (λ _. parts.new ≡ alu_inputs ++ alu_output) }
@@ -291,7 +291,7 @@ fn add_output(alloc: Global, parts: &mut List<Part>) -> Result<(), AllocError>
     Ok(())
 }
 
-// The parts that look whether the output is 0, behind the others.
+// The parts that look whether the output is 0, after the others.
 fn add_test(alloc: Global, parts: &mut List<Part>) -> Result<(), AllocError>
     requires { parts.old ≡ alu_inputs ++ alu_output }
     ensures { IfOk result (λ _. parts.new ≡ alu_inputs ++ (alu_output ++ alu_test)) }

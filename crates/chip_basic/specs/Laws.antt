@@ -86,7 +86,8 @@ Mux4Way16Law = Always HasBasicChips mux4way16_tree (TakesWay 2)
 abbrev pub Mux8Way16Law : Type 0
 Mux8Way16Law = Always HasBasicChips mux8way16_tree (TakesWay 3)
 
--- of so many letters the one that sel numbers is in, and each other one is 0: in, where it is the one
+-- of this many letters the one that sel numbers is in, and each other one is 0: in, where it is the
+-- one
 abbrev pub GoesWay : ℕ → ℕ → Histories → ℕ → Type 0
 GoesWay ways n w c = (i : ℕ) → i < ways → w (letter i) 0 c ≡ (bit w "in" c && (bits n w "sel" c == i))
 

@@ -249,7 +249,7 @@ pub fn part(alloc: Global, chip: &[u8], joints: &[Joint<'_>]) -> Result<Part, Al
     })
 }
 
-/// The part `chip(joints);` behind those that are there already.
+/// The part `chip(joints);` after those that are there already.
 pub fn add_part(
     alloc: Global,
     parts: &mut List<Part>,

@@ -40,8 +40,8 @@ PcLaw = Always HasMemoryChips pc_tree (λ w c. word w "out" c ≡ before 0 c (λ
 abbrev pub of_gates : List Entry → Chips
 of_gates entries = record { entries = entries; blocks = false }
 
--- In each cycle of every behaviour of the chip of gates, its pins are those of a block of 2 ^ bits words, all 0 at the start: out is the word at
--- the address, which is the last one that was loaded there in a cycle before.
+-- In each cycle of every behaviour of the chip of gates, its pins are those of a block of 2 ^ bits words, all 0 at the start. Its out is the
+-- word at the address, which is the last one that was loaded there in a cycle before.
 abbrev pub IsBlock : ℕ → Chip → Type 0
 IsBlock bits chip = (world : World) (entries : List Entry) (n : ℕ) (wires : List ℕ → Histories) → HasMemoryChips (of_gates entries) → IsBehaviour world (of_gates entries) (shipped_entry chip) n wires → (c : ℕ) → c < n → BlockWorks c bits (wires [])
 

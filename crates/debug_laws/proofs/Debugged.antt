@@ -1,4 +1,4 @@
--- Behind a commit the words show the view of the meaning's state.
+-- After a commit the words show the view of the meaning's state.
 use Rattle.std.proofs.Common.{◌+◌}
 use Rattle.std.proofs.lemmas.Bool.{leb-true}
 use Rattle.jack_meaning.specs.StackWords.{stack_words}

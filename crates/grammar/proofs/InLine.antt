@@ -47,7 +47,7 @@ rest_by : (b : ℕ) (bs : List ℕ) (t : Bool) → (line_end (b ∷ bs) == 0) �
 rest_by b bs true e h = ((λ here. goes_on b bs e (subst (λ (l : List ℕ). EndsLine (b ∷ l)) (take-append-drop (length (line bs)) bs) here), h.0), h.1)
 rest_by b bs false e h = (tt, ends b bs e)
 
--- the rest of a line is in that line, which ends behind it
+-- the rest of a line is in that line, which ends after it
 rest : (bs : List ℕ) → IsRest (line bs) bs
 rest [] = (tt, AtEnd)
 rest (b ∷ bs) = rest_by b bs (line_end (b ∷ bs) == 0) refl (rest bs)
@@ -61,7 +61,7 @@ line_more : (b : ℕ) (bs : List ℕ) (t : Bool) → (line_end (b ∷ bs) == 0) 
 line_more b bs true e h = refl
 line_more b bs false e h = absurd (h (ends b bs e))
 
--- and what is in a line that ends behind it is the rest of that line
+-- and what is in a line that ends after it is the rest of that line
 pub line_is : (bs behind : List ℕ) → IsInLine bs behind → EndsLine behind → line (bs ++ behind) ≡ bs
 line_is [] behind h e = line_none behind e
 line_is (b ∷ bs) behind h e = line_more b (bs ++ behind) (line_end (b ∷ (bs ++ behind)) == 0) refl h.0 ∙ ap (λ (l : List ℕ). b ∷ l) (line_is bs behind h.1 e)

@@ -17,7 +17,7 @@ use Rattle.grammar.specs.Lines.{line_end_piece}
 use Rattle.grammar.proofs.Runs.{run_length, run_text}
 use Rattle.grammar.proofs.Spaced.{take_none, drop_none, drop_length, every, all_every, ten_digits, digit_by}
 
--- at least so many bytes are cut off, or a number is past its limit
+-- at least this many bytes are cut off, or a number is past its limit
 abbrev pub Reaches : {T : Type 0} → ℕ → Piece T → Type 0
 Reaches m (Passed n) = ⊥
 Reaches m (Token t n) = m ≤ suc n
@@ -96,7 +96,7 @@ run_reaches test (x ∷ xs) rest a =
     let more = run_reaches test xs rest (All-tail (λ c. test c ≡ true) x xs a) in
     subst (λ (t : Bool). suc (length xs) ≤ length (cond t (x ∷ front test (xs ++ rest)) [])) (sym (All-head (λ c. test c ≡ true) x xs a)) (omega (arith, more))
 
--- and is the run where the byte behind it is another
+-- and is the run where the byte after it is another
 pub run_ends : (test : ℕ → Bool) (xs : List ℕ) (c : ℕ) (rest : List ℕ) → Run test xs → test c ≡ false → front test (xs ++ c ∷ rest) ≡ xs
 run_ends test [] c rest a e = ap (λ (t : Bool). cond t (c ∷ front test rest) []) e
 run_ends test (x ∷ xs) c rest a e =
@@ -134,7 +134,7 @@ pub closes : (test : ℕ → Bool) (c : ℕ) (bs : List ℕ) → starts c (drop 
 closes test c [] e = absurd cc
 closes test c (b ∷ bs) e = closes_by test c b bs (test b) (closes test c bs) e
 
--- a run that is closed is the front, and the byte that closes it is behind it
+-- a run that is closed is the front, and the byte that closes it is after it
 pub closed_front : (test : ℕ → Bool) (c : ℕ) (bs rest : List ℕ) → Run test bs → test c ≡ false → front test ((bs ++ c ∷ []) ++ rest) ≡ bs
 closed_front test c bs rest a e = ap (front test) (append_assoc bs (c ∷ []) rest) ∙ run_ends test bs c rest a e
 
@@ -161,7 +161,7 @@ limited t bs = cond (nat_lt 32767 (capped_count (decimal 0 (digits bs)))) (Wrong
 past_limit : (n : ℕ) → nat_lt 32767 (capped_count n) ≡ true → 32767 < n
 past_limit n e = let past = ltb-true 32767 (capped_count n) e in omega (arith, past)
 
--- the value that is told
+-- the value that is reported
 told_value : (n : ℕ) → min (capped_count n) 1000000000 ≡ min n 1000000000
 told_value n = omega arith
 

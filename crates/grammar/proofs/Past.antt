@@ -40,7 +40,7 @@ leaves_blanks n at p [] rest e = leaves_same at p [] rest refl e
 leaves_blanks (suc n) at p (b ∷ bs) rest e = leaves_one at p b bs rest (leaves_blanks n (step at b) p bs rest e)
 leaves_blanks zero at p (b ∷ bs) rest e = leaves_by (blank (b ∷ bs)) at p b bs rest (λ n q. leaves_blanks n (step at b) p bs rest q) refl e
 
--- the cutting of what was found behind the blanks
+-- the cutting of what was found after the blanks
 abbrev cut_found : {T : Type 0} → (Place → List ℕ → Result (List T) Fault) → Result (Place × List ℕ) (Place × List ℕ) → Result (List T) Fault
 cut_found go (Ok x) = go x.0 x.1
 cut_found go (Err x) = Err (Grammar x.0)

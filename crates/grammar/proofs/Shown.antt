@@ -78,7 +78,7 @@ module _ {T S N V : Type 0} (g : Rules T S N V) (said : V → List ℕ) where
   text_listed tree a [] = refl
   text_listed tree a (x ∷ xs) = text_more (tree x) (tree_of_list tree xs NoMore) a ∙ ap (λ (t : List ℕ). printed_by g said (tree x) a ++ t) (text_listed tree a xs)
 
-  -- a whole text, and nothing behind it
+  -- a whole text, and nothing after it
   pub text_whole : (x : Tree V) (a : Rule T S N V) → printed_by g said (Pair x Skip) (seq a end) ≡ printed_by g said x a
   text_whole x a = text_two (leaves g x a) [] ∙ append-nil (printed_by g said x a)
 
@@ -119,7 +119,7 @@ module _ {T S N V K : Type 0} {told : Ghosts K} {g : Rules T S N V} {said : V �
     pub shows_both : {x y : Tree V} {m n : Rule T S N V} → Shows g said x m u a v b → Shows g said y n v b w c → Shows g said (Pair x y) (seq m n) u a w c
     shows_both {x} {y} {m} {n} k l = record { writes = writes_is (sym (text_pair g said x y m n)) (writes_then k.writes l.writes) }
 
--- What a loop over some things has shown behind a text.
+-- What a loop over some things has shown after a text.
 pub record ShowsEach {T S N V K X : Type 0} {told : Ghosts K} (g : Rules T S N V) (said : V → List ℕ) (before : List ℕ) (tree : X → Tree V) (rule : Rule T S N V) (xs : List X) (u : Put) (a : Pieces K told) (v : Put) (b : Pieces K told) : Type 0 where
   pub writes : Writes (before ++ texts g said tree rule xs) u a v b
 
@@ -134,7 +134,7 @@ take_whole (suc i) [] h = refl
 take_whole (suc i) (x ∷ xs) h = ap (λ (ys : List _). x ∷ ys) (take_whole i xs (omega arith))
 
 module _ {T S N V K X : Type 0} {told : Ghosts K} {g : Rules T S N V} {said : V → List ℕ} {tree : X → Tree V} {rule : Rule T S N V} {u : Put} {a : Pieces K told} where
-  -- it begins behind a text
+  -- it begins after a text
   pub each_after : {before : List ℕ} (xs : List X) {v : Put} {b : Pieces K told} → Writes before u a v b → ShowsEach g said before tree rule (take 0 xs) u a v b
   each_after {before} xs h = record { writes = writes_is (sym (append-nil before) ∙ ap (λ (l : List X). before ++ texts g said tree rule l) (sym (take_none xs))) h }
 
@@ -155,7 +155,7 @@ module _ {T S N V K X : Type 0} {told : Ghosts K} {g : Rules T S N V} {said : V 
   pub each_done : (xs : List X) {i : ℕ} {v : Put} {b : Pieces K told} → length xs ≤ i → ShowsEach g said [] tree rule (take i xs) u a v b → Shows g said (tree_of_list tree xs NoMore) (repeat rule) u a v b
   each_done xs {i} n k = record { writes = writes_is (ap (texts g said tree rule) (take_whole i xs n) ∙ sym (text_listed g said tree rule xs)) k.writes }
 
-  -- all of them behind a first part
+  -- all of them after a first part
   pub each_behind : {x : Tree V} {first : Rule T S N V} (xs : List X) {i : ℕ} {v : Put} {b : Pieces K told} → length xs ≤ i
       → ShowsEach g said (printed_by g said x first) tree rule (take i xs) u a v b → Shows g said (Pair x (tree_of_list tree xs NoMore)) (seq first (repeat rule)) u a v b
   each_behind {x} {first} xs {i} n k =

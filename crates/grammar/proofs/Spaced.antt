@@ -1,4 +1,4 @@
--- The text of a token with a blank behind it is cut as that token again: what is so in each language.
+-- The text of a token with a blank after it is cut as that token again: what is so in each language.
 use Rattle.std.proofs.Common.{◌≡◌, ℕ, zero, suc, ◌+◌, ◌-◌, ◌*◌, ◌/◌, ◌%◌, ◌^◌, ◌<◌, ◌≤◌, Bool, true, false, cond, List, [], ◌∷◌, ◌++◌, map, length, take, drop, append_assoc, length-append, Result, Ok, Err, Option, Some, None, refl, sym, ap, subst, ◌∙◌, arith, eqb-true}
 use Rattle.std.specs.Prelude as prelude
 use Rattle.std.specs.Prelude.{nat_lt, ◌==◌, ◌||◌, if◌then◌else◌}
@@ -89,7 +89,7 @@ no_blank is b h p q r s =
     let e13 = differs is b 13 h s in
     λ i. e32 i || e9 i || e10 i || e13 i
 
--- what is behind a token
+-- what is after a token
 abbrev pub gap : Bool → ℕ
 gap t = cond t 10 32
 
@@ -195,7 +195,7 @@ module _ {T : Type 0} (piece : List ℕ → Piece T) where
       ∙ ap (λ (p : Piece T). cut_by p last at (λ l n. cut (past_blanks piece) closes_with_nothing l n (step at c.first) tail)) c.cut_so
       ∙ ap (with_token token) (pending (past_blanks piece) closes_with_nothing (Some token) (length c.more) (step at c.first) tail ∙ ap (C (Some token) here) (drop_length c.more (gap t ∷ rest)) ∙ gap_passed t (Some token) here rest)
 
-  -- Good tokens stand so before a blank that their text, shown, is cut as a token that tells the same.
+  -- Good tokens stand so before a blank that their text, shown, is cut as a token that says the same.
   module _ {W : Type 0} (Good : T → Type 0) (shown : T → List ℕ) (ends_line : List ℕ → Bool) (again : T → Place → T) (told : T → W) where
     abbrev set_off : List ℕ → List ℕ
     set_off w = w ++ gap (ends_line w) ∷ []

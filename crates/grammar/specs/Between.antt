@@ -1,4 +1,4 @@
--- What may stand between tokens, without cutting: some bytes, and those that stand behind them. (The book: blanks and comments of chapters
+-- What may stand between tokens, without cutting: some bytes, and those that stand after them. (The book: blanks and comments of chapters
 -- 6, 7 and 10 and of appendices 2 and 3.)
 use Rattle.std.specs.Prelude.{◌≡◌, ℕ, List, [], ◌∷◌, ◌++◌, take}
 use Rattle.std.specs.List.{All, Contains}
@@ -9,7 +9,7 @@ pub data EndsLine : List ℕ → Type 0 where
   AtFeed : {bs : List ℕ} → EndsLine (10 ∷ bs)
   AtReturnAndFeed : {bs : List ℕ} → EndsLine (13 ∷ 10 ∷ bs)
 
--- no line ends before the end of some bytes, where others stand behind them
+-- no line ends before the end of some bytes, where others stand after them
 abbrev pub IsInLine : List ℕ → List ℕ → Type 0
 IsInLine [] behind = Unit {0}
 IsInLine (b ∷ bs) behind = (EndsLine (b ∷ (bs ++ behind)) → ⊥) × IsInLine bs behind

@@ -1,4 +1,4 @@
--- What a fault of a text tells.
+-- The diagnostic of a fault of a text.
 use Rattle.std.specs.Prelude.{[], decimal, codes}
 use Rattle.outer_world.specs.Refusals.{Message, message}
 use Rattle.grammar.specs.declared.Fault.{Fault}

@@ -2,8 +2,8 @@
 use Rattle.std.specs.Prelude.{List, [], ◌∷◌, ◌++◌}
 use Rattle.grammar.specs.Rules.{Rule, mark, seq, choice, option, repeat, name, within, Tree, Skip, Node, Leaf, Pair, Left, Right, Absent, Present, NoMore, More, Rules}
 
--- What the tokens of a tree say, by the rule that it was read by. A tree that doesn't fit the rule has none. body tells the rules that
--- have names.
+-- What the tokens of a tree say, by the rule that it was read by. A tree that doesn't fit the rule has no list. body gives the rules
+-- that have names.
 abbrev pub leaves_by : {T S N V : Type 0} → (N → Rule T S N V) → Tree V → Rule T S N V → List V
 leaves_by body Skip (mark v is) = v ∷ []
 leaves_by body Skip r = []

@@ -1,5 +1,5 @@
 -- Longest match, by a language's own account of what one token is and by one of what may stand between tokens. Both speak of no cutting:
--- they are relations of some bytes and those that stand behind them.
+-- they are relations of some bytes and those that stand after them.
 use Rattle.std.specs.Prelude.{◌≡◌, ℕ, suc, List, ◌∷◌, ◌++◌, drop, take, length, min, ◌<◌, ◌≤◌, ◌⊎◌}
 use Rattle.scan_text.specs.declared.Place.{Place}
 use Rattle.scan_text.specs.Text.{digits, decimal}
@@ -25,7 +25,7 @@ pub record RefusesPast {T : Type 0} (Past : List ℕ → (Place → Fault) → T
   pub only : (bs : List ℕ) (f : Place → Fault) → piece bs ≡ Wrong f → (f ≡ Grammar) ⊎ Past bs f
   pub all : (bs : List ℕ) (f : Place → Fault) → Past bs f → piece bs ≡ Wrong f
 
--- the number that begins there is past this limit, which is told with its value
+-- the number that begins there is past this limit, which is reported with its value
 abbrev pub IsOver : ℕ → List ℕ → (Place → Fault) → Type 0
 IsOver limit bs f = (limit < decimal 0 (digits bs)) × (f ≡ λ at. Range at (min (decimal 0 (digits bs)) 1000000000))
 

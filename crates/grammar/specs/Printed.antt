@@ -1,4 +1,4 @@
--- The printed form of a tree: its tokens with one space between them, and a line feed in its place behind `{`, `}` and `;`. The book
+-- The printed form of a tree: its tokens with one space between them, and a line feed in its place after `{`, `}` and `;`. The book
 -- lays down no layout; this one is the project's own.
 use Rattle.std.specs.Prelude.{◌≡◌, ◌||◌, ◌++◌, ◌∷◌, [], ℕ, Bool, List, Option, map, codes, if◌then◌else◌}
 use Rattle.std.specs.List.{flat_map}
@@ -12,11 +12,11 @@ use Rattle.outer_world.specs.Written.{CountsPut, Passes, Puts}
 use Rattle.grammar.specs.Rules.{Rule, Rules, Tree}
 use Rattle.grammar.specs.Leaves.{leaves}
 
--- a line feed stands behind the token
+-- a line feed stands after the token
 abbrev pub ends_line : List ℕ → Bool
 ends_line w = bytes_eq w (codes "{") || (bytes_eq w (codes "}") || bytes_eq w (codes ";"))
 
--- a token with what is behind it
+-- a token with what is after it
 abbrev pub set_off : List ℕ → List ℕ
 set_off w = w ++ (if ends_line w then 10 else 32) ∷ []
 
@@ -36,7 +36,7 @@ Ended put.Done before pending faults answer now faults' = Puts before now pendin
 Ended put.Failed before pending faults answer now faults' = (answer ≡ put.Failed) × (now ≡ before) × (faults' ≡ faults)
 
 module _ {S : Type 0} {told : Ghosts S} where
-  -- A text was put behind what was put before, where the answer so far is handed on.
+  -- A text was put after what was put before, where the answer so far is handed on.
   pub record Writes (text : List ℕ) (status : Put) (before : Pieces S told) (answer : Put) (after : Pieces S told) : Type 0 where
     pub same_sink : HaveSameSink before after
     pub wrote : Wrote text status (told.written (sink_of before)) (pending before) (told.faults (sink_of before)) answer (told.written (sink_of after)) (pending after) (told.faults (sink_of after))

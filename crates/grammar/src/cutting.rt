@@ -10,7 +10,7 @@ use crate::{Fault, ReadError, skip_blank};
 use scan_text::{Place, Scan};
 use std::alloc::Global;
 
-/// The longest text that is read has so many bytes.
+/// The longest text that is read has this many bytes.
 pub const MOST_BYTES: usize = 1_048_576;
 
 /// The fault of a longer text: Range at 0:0.

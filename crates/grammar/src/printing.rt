@@ -5,7 +5,7 @@ ghost use Rattle.grammar.specs.Printed.{Finishes, Writes, ends_line, set_off};
 
 use outer_world::{Pieces, Put, Sink};
 
-// A line feed stands behind the token.
+// A line feed stands after the token.
 fn ends_line(token: &[u8]) -> bool
     ensures { result ≡ ends_line token.now }
 {
@@ -18,7 +18,7 @@ fn ends_line(token: &[u8]) -> bool
     token == b";".as_slice()
 }
 
-/// Puts a token, and what sets it off from the next one: a line feed behind `{`, `}` and `;`, a space behind all others.
+/// Puts a token, and what sets it off from the next one: a line feed after `{`, `}` and `;`, a space after all others.
 pub fn put_token<S: Sink>(token: &[u8], status: Put, out: &mut Pieces<'_, S>) -> Put
     ensures { Writes (set_off token.now) status out.old result out.new }
 {

@@ -1,4 +1,4 @@
--- The trees of a computation by its first letter and what stands behind it.
+-- The trees of a computation by its first letter and what stands after it.
 use Rattle.std.proofs.Common.{◌≡◌, None, refl}
 use Rattle.grammar.specs.Rules.{Right, Present}
 use Rattle.hack_asm.specs.declared.token.Letter.{Letter}

@@ -72,7 +72,7 @@ abbrev the_symbol : Said → Symbol → Symbol
 the_symbol (Name text at) s = record { name = text; place = at }
 the_symbol _ s = s
 
--- the letter of a branch, what stands behind it, and the branch of no letter
+-- the letter of a branch, what stands after it, and the branch of no letter
 
 abbrev letter_from : AsmTree → Option Letter
 letter_from t = cond (is_left t) (Some Zero) (cond (is_left (into t)) (Some One) (cond (is_left (into (into t))) (Some A) (cond (is_left (into (into (into t)))) (Some D) (cond (is_left (into (into (into (into t))))) (Some M) None))))
@@ -100,7 +100,7 @@ pair_from x t = comp.Pair x (the_operator (leaf (one (into t)))) (the_letter (le
 abbrev under_from : AsmTree → Comp
 under_from t = comp.Under (cond (is_left t) prefix.Minus prefix.Not) (the_letter (leaf (two (into t))))
 
--- a computation with something behind its letter
+-- a computation with something after its letter
 abbrev more_from : Letter → AsmTree → Comp
 more_from x t = cond (is_left t) (pair_from x (into t)) (comp.Shifted x (the_side (leaf (into t))))
 
@@ -125,7 +125,7 @@ comp_back (comp.Shifted x left) = λ i. comp_by (letter_back x (Present (Right (
 comp_back (comp.Under prefix.Minus y) = refl
 comp_back (comp.Under prefix.Not y) = refl
 
--- behind a first letter: an assignment, an operation, or nothing
+-- after a first letter: an assignment, an operation, or nothing
 abbrev bare_by : Option Letter → AsmTree → Option Letter × Comp
 bare_by (Some x) t = cond (is_present (two t)) (cond (is_left (into (two t))) (Some x, comp_from (two (into (into (two t))))) (None, more_from x (into (into (two t))))) (None, comp.Alone x)
 bare_by None t = (None, under_from t)

@@ -27,7 +27,7 @@ the_cut last at bs = cut piece close last 0 at bs
 abbrev byte : Bool → ℕ
 byte b = if b then 49 else 48
 
--- the places behind a digit, behind four, and on the next line
+-- the places after a digit, after four, and on the next line
 
 abbrev on : Place → Place
 on at = record { line = at.line; column = at.column + 1 }
@@ -78,7 +78,7 @@ behind at = on_four (last_four at)
 abbrev word_tokens : ℕ → Place → List Token → List Token
 word_tokens w at ts = part_tokens w 12 at (part_tokens w 8 (second at) (part_tokens w 4 (third at) (part_tokens w 0 (last_four at) (made_token LineEnd (behind at) ∷ ts))))
 
--- the bytes of four bits of a word, from bit k on, and those behind the first four, the second four, and the third four
+-- the bytes of four bits of a word, from bit k on, and those after the first four, the second four, and the third four
 abbrev part_bytes : ℕ → ℕ → List ℕ → List ℕ
 part_bytes w k bs = byte (has_bit w (k + 3)) ∷ byte (has_bit w (k + 2)) ∷ byte (has_bit w (k + 1)) ∷ byte (has_bit w k) ∷ bs
 

@@ -25,7 +25,7 @@ R end r ts x us = Reads Word (Unit {0}) (Unit {0}) Said (assembly end) tt r ts x
 abbrev pub F : Place → Part → List Word → Fault → Type 0
 F end r ts f = Stops Word (Unit {0}) (Unit {0}) Said (assembly end) tt r ts f
 
--- a token of this role, and what is left behind it
+-- a token of this role, and what is left after it
 pub record Comes (r : Role) (ts us : List Word) : Type 0 where
   pub token : Word
   pub is : ts ≡ token ∷ us
@@ -92,7 +92,7 @@ module _ (end : Place) (behind : Letter → Part) (o : Part) where
 
 -- Operations
 
--- what an operator is behind a letter
+-- what an operator is after a letter
 data Opened (x : Letter) (op : Operator) : Before → Type 0 where
   sum : adds x op ≡ true → Opened x op (Sum x)
   join : adds x op ≡ false → meets x op ≡ true → Opened x op (Join x)
@@ -276,7 +276,7 @@ no_shift : (x : Letter) (ts : List Word) → shift_next x ts ≡ None → next (
 no_shift x [] h = refl
 no_shift x (w ∷ ws) h = no_shift_at x w.role ws h
 
--- What stands behind a letter: an operation, a shift, or neither
+-- What stands after a letter: an operation, a shift, or neither
 
 module _ (end : Place) (x : Letter) where
   pub operation_behind : {ts us : List Word} {t : AsmTree} → R end (operation x) ts t us → R end (behind x) ts (Left t) us
@@ -317,7 +317,7 @@ pub no_assigns : (x : Letter) (ts : List Word) → assigns_next x ts ≡ None �
 no_assigns x [] h = refl
 no_assigns x (w ∷ ws) h = no_assigns_by (assigns x w) ws h
 
--- What may stand behind a first letter
+-- What may stand after a first letter
 
 module _ (end : Place) (x : Letter) where
   pub to_register : {ts us vs : List Word} {t : AsmTree} → assigns_next x ts ≡ Some us → R end comp us t vs → R end (after_letter x) ts (Present (Left (Pair Skip t))) vs

@@ -28,7 +28,7 @@ pub read_image : (text : List ℕ) (r : Result (Vec ℕ Global) AsmFault) → If
 read_image text (Ok v) h k = h
 read_image text (Err e) h k = k
 
--- what is told of a text that is not that of a program
+-- what is reported of a text that is not that of a program
 pub told_why : (form : Form) (text : List ℕ) (fault : AsmFault) (e : TextError) → IsRefused form text fault → e ≡ text_error (asm_message fault) → IsWhy (TellsAsmFault form text) e
 told_why form text fault e h same = why_told (TellsAsmFault form text) (asm_message fault) e (λ t tells. (fault, h, tells)) same
 

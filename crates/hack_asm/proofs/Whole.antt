@@ -38,7 +38,7 @@ module _ (end : Place) (ts : List Word) (ls : List Line) where
   all_read (c ∷ cs) none along = absurd (omega arith)
 
 module _ (T S N V : Type 0) (g : Rules T S N V) where
-  -- what is left behind a rule is a back part of the tokens
+  -- what is left after a rule is a back part of the tokens
   suffix : {s s' : S} {r : Rule T S N V} {ts us : List T} {x : Tree V} → Reads T S N V g s r ts x s' us → (front : List T) × (ts ≡ front ++ us)
   suffix (marked {t = t} e) = (t ∷ [], refl)
   suffix (worded {t = t} e c) = (t ∷ [], refl)
@@ -64,7 +64,7 @@ module _ (end : Place) (cs ds : List Token) (at : ℕ) (t : AsmTree) (p : R end 
       let h = shorter Word (Unit {0}) (Unit {0}) Said (assembly end) (λ n. refl) p refl in
       omega (arith, h, length-map (drop at cs) view, length-map ds view)
 
-  -- what is left behind a line begins where the number of tokens that are left says
+  -- what is left after a line begins where the number of tokens that are left says
   pub line_next : at ≤ length cs → map view ds ≡ map view (drop (length cs - length ds) cs)
   line_next within =
       let tail = suffix Word (Unit {0}) (Unit {0}) Said (assembly end) p in

@@ -174,7 +174,7 @@ shifted x side r =
       row_is = refl;
     }
 
--- a letter behind `-` or `!`
+-- a letter after `-` or `!`
 abbrev prefix_byte : Prefix → ℕ
 prefix_byte prefix.Minus = 45
 prefix_byte prefix.Not = 33

@@ -24,7 +24,7 @@ suits (Join x) = joins x
 suits Negation = is_not_zero
 suits Inversion = is_register
 
--- the letter that comes, and what is left behind it
+-- the letter that comes, and what is left after it
 abbrev pub letter_by : Role → List Word → Option (Letter × List Word)
 letter_by (role.Letter x) ts = Some (x, ts)
 letter_by _ ts = None
@@ -42,7 +42,7 @@ abbrev pub several_next : List Word → Option (ℕ × List Word)
 several_next [] = None
 several_next (t ∷ ts) = several_by t.role ts
 
--- the operator that comes behind a letter
+-- the operator that comes after a letter
 abbrev pub operator_by : Letter → Role → List Word → Option (Operator × Before × List Word)
 operator_by x (role.Operator op) ts = if adds x op then Some (op, Sum x, ts) else (if meets x op then Some (op, Join x, ts) else None)
 operator_by x _ ts = None
@@ -51,7 +51,7 @@ abbrev pub operator_next : Letter → List Word → Option (Operator × Before �
 operator_next x [] = None
 operator_next x (t ∷ ts) = operator_by x t.role ts
 
--- a shift behind a register
+-- a shift after a register
 abbrev pub shift_by : Letter → Role → List Word → Option (Bool × List Word)
 shift_by x (role.Shift left) ts = if is_register x then Some (left, ts) else None
 shift_by x _ ts = None
@@ -60,18 +60,18 @@ abbrev pub shift_next : Letter → List Word → Option (Bool × List Word)
 shift_next x [] = None
 shift_next x (t ∷ ts) = shift_by x t.role ts
 
--- `=` behind a register
+-- `=` after a register
 abbrev pub assigns_next : Letter → List Word → Option (List Word)
 assigns_next x [] = None
 assigns_next x (t ∷ ts) = if assigns x t then Some ts else None
 
--- An operator and a letter were read behind a letter; or none begins there; or memory ran out or the operation stops.
+-- An operator and a letter were read after a letter; or none begins there; or memory ran out or the operation stops.
 abbrev pub Operates : Place → Letter → List declared.Token → Result (Option (Operator × Letter × Bor (List declared.Token))) ReadError → Type 0
 Operates end x ts (Ok None) = enters (assembly end) (operation x) (map view ts) ≡ false
 Operates end x ts (Ok (Some r)) = Reads Word (Unit {0}) (Unit {0}) Said (assembly end) tt (operation x) (map view ts) (operation_tree r.0 r.1) tt (map view r.2.now)
 Operates end x ts (Err e) = (enters (assembly end) (operation x) (map view ts) ≡ true) × Halt (Stops Word (Unit {0}) (Unit {0}) Said (assembly end) tt (operation x) (map view ts)) e
 
--- What stands behind a letter was read, an operator and a letter or a shift; or nothing does; or memory ran out or it stops.
+-- What stands after a letter was read, an operator and a letter or a shift; or nothing does; or memory ran out or it stops.
 abbrev pub Continues : Place → Letter → List declared.Token → Result (Option (Behind × Bor (List declared.Token))) ReadError → Type 0
 Continues end x ts (Ok None) = enters (assembly end) (behind x) (map view ts) ≡ false
 Continues end x ts (Ok (Some r)) = Reads Word (Unit {0}) (Unit {0}) Said (assembly end) tt (behind x) (map view ts) (behind_tree r.0) tt (map view r.1.now)

@@ -15,8 +15,8 @@ use Rattle.hack_asm.specs.declared.lines.Comp.TheVariants as comp
 abbrev pub Texts : Type 0
 Texts = List (ℕ × List ℕ)
 
--- The word of each computation, without destination and jump, with its text: 111, the bit a and six bits of the ALU. The last six are shifts, which are not
--- the book's: 101, the bit a, one for the left, and one for D.
+-- The word of each computation, without destination and jump, with its text: 111, the bit a and six bits of the ALU. The last six are shifts, which
+-- are not the book's: 101, the bit a, one for the left, and one for D.
 abbrev pub computations : Texts
 computations =
     (0b1110101010000000, codes "0") ∷ (0b1110111111000000, codes "1") ∷ (0b1110111010000000, codes "-1")

@@ -66,7 +66,7 @@ jump_role _ = false
 abbrev pub is_jump : Word → Bool
 is_jump t = jump_role t.role
 
--- the token is a letter or an operator of which this holds
+-- the token is a letter or an operator for which this holds
 abbrev pub letter_role : (Letter → Bool) → Role → Bool
 letter_role p (role.Letter x) = p x
 letter_role p _ = false
@@ -136,7 +136,7 @@ is_register x = is_a x || is_d x || is_m x
 abbrev pub is_not_zero : Letter → Bool
 is_not_zero x = is_one x || is_register x
 
--- The operators that may stand behind a letter: `+` and `-`, and `&` and `|`. Behind 1 there may be `+` only, and behind 0 none.
+-- The operators that may stand after a letter: `+` and `-`, and `&` and `|`. After 1 there may be `+` only, and after 0 none.
 abbrev pub adds : Letter → Operator → Bool
 adds Zero op = false
 adds One Plus = true
@@ -154,14 +154,14 @@ meets _ Minus = false
 meets _ And = true
 meets _ Or = true
 
--- The letters that may stand behind `&` or `|`, by the letter before: D joins A or M, and A and M join D.
+-- The letters that may stand after `&` or `|`, by the letter before: D joins A or M, and A and M join D.
 abbrev pub joins : Letter → Letter → Bool
 joins D y = is_a y || is_m y
 joins A y = is_d y
 joins M y = is_d y
 joins _ y = false
 
--- The letters that may stand behind `+` or `-`: those and 1; behind `1+` each register.
+-- The letters that may stand after `+` or `-`: those and 1; after `1+` each register.
 abbrev pub sums : Letter → Letter → Bool
 sums Zero y = false
 sums One y = is_register y
@@ -196,11 +196,11 @@ is M = is_m
 abbrev pub letter : Letter → Part
 letter x = mark (Letter' x) (is_letter (is x))
 
--- a letter of which this holds
+-- a letter for which this holds
 abbrev pub some_letter : (Letter → Bool) → Part
 some_letter p = word (is_letter p) free word_meaning
 
--- what may stand behind a letter: an operator and a letter
+-- what may stand after a letter: an operator and a letter
 abbrev pub operation : Letter → Part
 operation x = choice
     (seq (word (is_operator (adds x)) free word_meaning) (some_letter (sums x)))
@@ -213,11 +213,11 @@ shifts x t = is_register x && shift_role t.role
 abbrev pub shift : Letter → Part
 shift x = word (shifts x) free word_meaning
 
--- what may stand behind the first letter of a computation
+-- what may stand after the first letter of a computation
 abbrev pub behind : Letter → Part
 behind x = choice (operation x) (shift x)
 
--- one of the letters, and what stands behind it
+-- one of the letters, and what stands after it
 abbrev pub by_letter : (Letter → Part) → Part → Part
 by_letter rest other =
     choice (seq (letter Zero) (rest Zero))
@@ -247,7 +247,7 @@ assignment x = seq (mark (Sign 61) (assigns x)) comp
 abbrev pub after_letter : Letter → Part
 after_letter x = option (choice (assignment x) (behind x))
 
--- a computation, with or without its destination: which it is shows only behind the first letter
+-- a computation, with or without its destination: which it is shows only after the first letter
 abbrev pub assignment_part : Part
 assignment_part = choice (seq (word is_several free word_meaning) (seq (sign 61) comp)) (by_letter after_letter unary)
 

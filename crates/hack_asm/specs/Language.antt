@@ -1,5 +1,5 @@
--- What the text of a program of the instruction machine spells, assembly or the text of an image, and what a refused one tells. (The
--- book, chapters 4 and 6.)
+-- What the text of a program of the instruction machine spells, assembly or the text of an image, and the diagnostic of a refused
+-- one. (The book, chapters 4 and 6.)
 use Rattle.std.specs.Prelude.{◌≡◌, ℕ, List, [], Some, Result, Ok, Err, codes, decimal}
 use Rattle.outer_world.specs.Refusals.{Message, message}
 use Rattle.hack_asm.specs.Faults.{Wrong, Grammar, Range, LabelTwice, TooLarge, TooManyVariables}
@@ -15,7 +15,7 @@ abbrev pub MeansAs : Form → List ℕ → Result (List ℕ) Wrong → Type 0
 MeansAs Assembly text r = Means text r
 MeansAs Image text r = Holds text r
 
--- what is told of what is wrong
+-- the diagnostic of what is wrong
 abbrev pub wrong_message : Wrong → Message
 wrong_message (Grammar at) = message at.line at.column (codes "Grammar") []
 wrong_message (Range at value) = message at.line at.column (codes "Range") (decimal value)
@@ -36,6 +36,6 @@ abbrev pub IsRefused : Form → List ℕ → AsmFault → Type 0
 IsRefused Assembly text fault = IsNoAssembly text fault
 IsRefused Image text fault = IsNoImage text fault
 
--- Such a text is refused for a fault, and this is told of it; so RefusesWords too.
+-- Such a text is refused for a fault, and this is its diagnostic; so RefusesWords too.
 abbrev pub TellsAsmFault : Form → List ℕ → Message → Type 0
 TellsAsmFault form text told = (fault : AsmFault) × IsRefused form text fault × (asm_message fault ≡ Some told)

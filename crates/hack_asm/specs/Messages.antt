@@ -1,4 +1,4 @@
--- What a fault of a program in assembly tells. Want of memory tells nothing.
+-- The diagnostic of a fault of a program in assembly. Want of memory has none.
 use Rattle.std.specs.Prelude.{[], Option, Some, None, decimal, codes}
 use Rattle.outer_world.specs.Refusals.{Message, message}
 use Rattle.hack_asm.specs.declared.fault.AsmFault.{AsmFault}

@@ -1,5 +1,5 @@
--- What one token of an assembly text is, without cutting (book, chapter 6): a symbol, a number, a sign, `<<` or
--- `>>`, which are not the book's, or a line end.
+-- What one token of an assembly text is, without cutting (book, chapter 6). It is a symbol, a number, a sign,
+-- `<<` or `>>`, which are not the book's, or a line end.
 use Rattle.std.specs.Prelude.{◌≡◌, ℕ, true, List, [], ◌∷◌, codes, ◌⊎◌}
 use Rattle.std.specs.List.{All, Contains}
 use Rattle.std.specs.Char.{is_ascii_alphabetic, is_ascii_digit}

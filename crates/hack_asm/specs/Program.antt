@@ -101,7 +101,7 @@ used_symbol (Some (address (number n))) = None
 used_symbol (Some (address (symbol s))) = Some s
 used_symbol (Some (compute c)) = None
 
--- the first use of a label that stands behind all 32,768 words
+-- the first use of a label that stands after all 32,768 words
 abbrev pub is_past : Option ℕ → Bool
 is_past None = false
 is_past (Some n) = nat_eq n image_words

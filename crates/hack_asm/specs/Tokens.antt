@@ -1,5 +1,5 @@
--- The tokens of an assembly text: signs, of which `<<` and `>>` are not the book's, decimal numbers, symbols and line ends, with blanks, tabs and comments between them. (The
--- book, chapter 6.)
+-- The tokens of an assembly text: signs, of which `<<` and `>>` are not the book's, decimal numbers, symbols and line ends, with blanks, tabs and
+-- comments between them. (The book, chapter 6.)
 use Rattle.std.specs.Prelude.{ℕ, suc, ◌-◌, Bool, true, false, List, [], Option, Some, None, Result, ◌==◌, ◌||◌, if◌then◌else◌, codes, length, take, nat_lt, min}
 use Rattle.std.specs.Char.{is_ascii_alphabetic}
 use Rattle.std.specs.Str.{bytes_eq}

@@ -64,7 +64,7 @@ line_of l = option_map item_of l
 abbrev pub AsmTree : Type 0
 AsmTree = Tree Said
 
--- the branch of a letter, with what stands behind it, and that of no letter
+-- the branch of a letter, with what stands after it, and that of no letter
 abbrev pub branch : Letter → AsmTree → AsmTree
 branch Zero t = Left (Pair Skip t)
 branch One t = Right (Left (Pair Skip t))
@@ -89,7 +89,7 @@ abbrev pub behind_tree : Behind → AsmTree
 behind_tree (behinds.Operation op y) = Left (operation_tree op y)
 behind_tree (behinds.Shift left) = Right (Leaf (Shift' left))
 
--- a computation whose first letter something stands behind
+-- a computation whose first letter something stands after
 abbrev pub comp_of : Letter → Behind → Comp
 comp_of x (behinds.Operation op y) = comp.Pair x op y
 comp_of x (behinds.Shift left) = comp.Shifted x left

@@ -14,7 +14,7 @@ destinations =
     (0b000, []) ∷ (0b001, codes "M=") ∷ (0b010, codes "D=") ∷ (0b011, codes "DM=") ∷ (0b100, codes "A=")
     ∷ (0b101, codes "AM=") ∷ (0b110, codes "AD=") ∷ (0b111, codes "ADM=") ∷ []
 
--- the bits of a jump with its word behind `;`
+-- the bits of a jump with its word after `;`
 abbrev pub jumps : Texts
 jumps =
     (0b000, []) ∷ (0b001, codes ";JGT") ∷ (0b010, codes ";JEQ") ∷ (0b011, codes ";JGE") ∷ (0b100, codes ";JLT")

@@ -32,7 +32,7 @@ pub enum AsmFault {
 }
 
 impl AsmFault {
-    /// What the fault tells. Want of memory tells nothing.
+    /// The diagnostic of the fault. Want of memory has none.
     pub fn diagnostic(self) -> Option<Diagnostic>
         ensures { result ≡ asm_message self }
     {

@@ -7,7 +7,7 @@ ghost use Rattle.hack_asm.specs.OneHackToken.{IsOneHack, HasNoneBetween};
 ghost use Rattle.hack_asm.specs.OneToken.{IsOne};
 ghost use Rattle.hack_asm.specs.Tokens.{piece};
 
-/// What is cut off of an assembly text is one token, the longest that begins where it begins, and what is passed over is what may stand
+/// What is cut off of an assembly text is one token, the longest that begins where it begins. What is passed over is what may stand
 /// between tokens: no more and no less. None is missed. So it is of a `.hack` text, where nothing may stand between.
 pub fn longest_law()
     ensures asm { IsLongestMatch IsOne IsBetweenInLine (IsOver 32767) piece }

@@ -18,14 +18,14 @@ pub enum Comp {
     Shifted(Letter, bool),
 }
 
-/// What stands behind the first letter of a computation, if anything does.
+/// What stands after the first letter of a computation, if anything does.
 #[derive(Clone, Copy, Debug)]
 pub enum Behind {
     Operation(Operator, Letter),
     Shift(bool),
 }
 
-/// Where a computation goes: to one register at most, or to several, told by their bits.
+/// Where a computation goes: to one register at most, or to several, given by their bits.
 #[derive(Clone, Copy, Debug)]
 pub enum Dest {
     Register(Option<Letter>),
@@ -47,7 +47,7 @@ pub struct Symbol<'a> {
     pub place: Place,
 }
 
-/// What stands behind `@`.
+/// What stands after `@`.
 #[derive(Clone, Copy, Debug)]
 pub enum Address<'a> {
     Number(u16),

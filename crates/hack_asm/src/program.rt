@@ -247,7 +247,7 @@ fn is_past(address: Option<usize>) -> bool
     }
 }
 
-// The first use of a label that stands behind all 32,768 words.
+// The first use of a label that stands after all 32,768 words.
 fn first_past<'a>(symbols: &Symbols<'a>, lines: &[Option<Item<'a>>]) -> Option<Place>
     ensures { result ≡ first_past (table_of symbols.now) (map line_of lines.now) }
 {
@@ -332,7 +332,7 @@ fn words<'a>(
     Ok(words)
 }
 
-/// The words of a program, told by its lines.
+/// The words of a program, by its lines.
 pub fn assemble_lines<'a>(alloc: Global, lines: &[Option<Item<'a>>]) -> Result<Vec<u16>, AsmFault>
     ensures { Yields (λ v. v.items) result (program (map line_of lines.now)) }
 {

@@ -18,7 +18,7 @@ use crate::words::{
 use grammar::ReadError;
 use scan_text::Place;
 
-// An operator and a letter behind a letter, if an operator comes that may stand there.
+// An operator and a letter after a letter, if an operator comes that may stand there.
 fn operation<'a>(
     tokens: &'a [Token<'a>],
     end: Place,
@@ -33,7 +33,7 @@ fn operation<'a>(
     Ok(Some((op, second, rest)))
 }
 
-// What stands behind a letter, if an operator or a shift comes that may stand there.
+// What stands after a letter, if an operator or a shift comes that may stand there.
 fn behind<'a>(
     tokens: &'a [Token<'a>],
     end: Place,
@@ -182,7 +182,7 @@ fn item<'a>(tokens: &'a [Token<'a>], end: Place) -> Result<(Item<'a>, &'a [Token
     Ok((Item::Compute(compute), rest))
 }
 
-/// A line, and what is left behind it.
+/// A line, and what is left after it.
 pub fn line<'a>(
     tokens: &'a [Token<'a>],
     end: Place,

@@ -1,6 +1,6 @@
 use scan_text::Place;
 
-/// What a token is. A sign is told by its byte, `<<` and `>>` by the byte that stands twice.
+/// What a token is. A sign is given by its byte, `<<` and `>>` by the byte that stands twice.
 #[derive(Clone, Copy, Debug, PartialEq, Eq)]
 pub enum Kind {
     Sign(u8),
@@ -27,8 +27,8 @@ pub enum Operator {
     Or,
 }
 
-/// What a token can be in an instruction, by its bytes: a letter, an operator, several letters of a destination, told
-/// by their bits, a jump, told by its bits, or a shift, which is one to the left or not.
+/// What a token can be in an instruction, by its bytes. It is a letter, an operator, several letters of a destination
+/// (as their bits), a jump (as its bits), or a shift, which is one to the left or not.
 #[derive(Clone, Copy, Debug, PartialEq, Eq)]
 pub enum Role {
     Letter(Letter),

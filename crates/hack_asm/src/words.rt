@@ -210,7 +210,7 @@ pub fn ends(tokens: &[Token]) -> bool
     }
 }
 
-/// The letter that comes next, and what is left behind it.
+/// The letter that comes next, and what is left after it.
 pub fn first_letter<'a>(tokens: &'a [Token<'a>]) -> Option<(Letter, &'a [Token<'a>])>
     ensures { option_map (λ r. (r.0, map view r.1.now)) result ≡ letter_next (map view tokens.now) }
 {
@@ -223,7 +223,7 @@ pub fn first_letter<'a>(tokens: &'a [Token<'a>]) -> Option<(Letter, &'a [Token<'
     }
 }
 
-/// Several letters of a destination, told by their bits, and what is left behind them.
+/// Several letters of a destination, given by their bits, and what is left after them.
 pub fn several<'a>(tokens: &'a [Token<'a>]) -> Option<(u8, &'a [Token<'a>])>
     ensures { option_map (λ r. (r.0, map view r.1.now)) result ≡ several_next (map view tokens.now) }
 {
@@ -255,7 +255,7 @@ fn meets(first: Letter, op: Operator) -> bool
     }
 }
 
-/// The operator that comes behind a letter, what it is for the letter to come, and what is left behind it.
+/// The operator that comes after a letter, what it is for the letter to come, and what is left after it.
 pub fn operator<'a>(
     tokens: &'a [Token<'a>],
     first: Letter,
@@ -283,7 +283,7 @@ fn is_register(letter: Letter) -> bool
     matches!(letter, Letter::A | Letter::D | Letter::M)
 }
 
-/// The shift that comes behind a register, and what is left behind it.
+/// The shift that comes after a register, and what is left after it.
 pub fn shift<'a>(tokens: &'a [Token<'a>], first: Letter) -> Option<(bool, &'a [Token<'a>])>
     ensures { option_map (λ r. (r.0, map view r.1.now)) result ≡ shift_next first (map view tokens.now) }
 {
@@ -300,7 +300,7 @@ pub fn shift<'a>(tokens: &'a [Token<'a>], first: Letter) -> Option<(bool, &'a [T
     }
 }
 
-/// What is left behind `=`, where that comes behind a register.
+/// What is left after `=`, where that comes after a register.
 pub fn assigns<'a>(tokens: &'a [Token<'a>], first: Letter) -> Option<&'a [Token<'a>]>
     ensures { option_map (λ r. map view r.now) result ≡ assigns_next first (map view tokens.now) }
 {

@@ -33,7 +33,7 @@ unfoldable pub jumps : ℕ → ℕ → Bool
 jumps jump out =
     if nat_lt 32767 out then has_bit jump 2 else if nat_eq out 0 then has_bit jump 1 else has_bit jump 0
 
--- where a result goes: into A, D and M, as dest asks; and by the result the next instruction is that at A, or the one behind
+-- where a result goes: into A, D and M, as dest asks; and by the result the next instruction is that at A, or the one after
 abbrev pub with_result : ℕ → ℕ → ℕ → Machine → Machine
 with_result out dest jump s = record {
   a = if has_bit dest 2 then out else s.a;
@@ -42,7 +42,7 @@ with_result out dest jump s = record {
   memory = if has_bit dest 0 then write s.memory s.a out else s.memory;
 }
 
--- one instruction: the result is what the ALU gives of D, and of A or M; or it is D, A or M, one place to the left or to the right
+-- one instruction: the result is what the ALU gives of D, and of A or M; or D, A or M one place to the left or the right
 abbrev pub perform : Instr → ℕ → Machine → Machine
 perform (Address n) key s = record s { a = n; pc = (s.pc + 1) % 32768 }
 perform (Compute m comp dest jump) key s =

@@ -1,5 +1,5 @@
-//! The machine as a level: each of its moves is one instruction, its control point is the program counter, and
-//! without a map none of its moves is told to be a step of a program's meaning. Its program is its image.
+//! The machine as a level. Each of its moves is one instruction, and its control point is the program counter.
+//! Without a map none of its moves is reported as a step of a program's meaning. Its program is its image.
 ghost use Rattle.std.specs.Prelude.{true, List, ℕ};
 ghost use Rattle.hack_machine.specs.Loaded.{machine_of};
 ghost use Rattle.hack_machine.specs.Turns.{HasTaken};

@@ -1,4 +1,4 @@
--- What the plan of a text tells of a bit is a connection of the text.
+-- What the plan of a text says of a bit is a connection of the text.
 use Rattle.std.proofs.Common.{◌≡◌, ℕ, suc, ◌+◌, ◌-◌, ◌<◌, ◌⊎◌, inl, inr, Bool, true, false, cond, List, [], ◌∷◌, Option, Some, None, refl, sym, ap, subst, ◌∙◌, arith}
 use Rattle.std.specs.Prelude.{slice_get, unwrap_or}
 use Rattle.hdl_tree.specs.declared.tree.Selection.{Selection}

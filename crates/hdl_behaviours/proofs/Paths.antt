@@ -1,4 +1,4 @@
--- Paths told from within, and the bits that connections join.
+-- Paths given from within, and the bits that connections join.
 use Rattle.std.proofs.Common.{◌≡◌, Bool, ℕ, zero, suc, ◌+◌, ◌<◌, ◌⊎◌, inl, inr, List, [], ◌∷◌, ◌++◌, Option, Some, None, refl, sym, ap, subst, ◌∙◌, arith, append_assoc, append-nil}
 use Rattle.std.specs.Prelude.{slice_get}
 use Rattle.hdl_tree.specs.declared.tree.Selection.{Selection}

@@ -41,7 +41,7 @@ abbrev pub sweeps : ℕ → Chips → (List ℕ → Pairs) → List Part → Lis
 sweeps zero chips pairs parts levels = levels
 sweeps (suc n) chips pairs parts levels = sweeps n chips pairs parts (sweep chips pairs parts levels)
 
--- the levels after so many sweeps; the out of an end lies above the pins that reach it
+-- the levels after this many sweeps; the out of an end lies above the pins that reach it
 abbrev pub swept : ℕ → Chips → (List ℕ → Pairs) → Entry → List (List ℕ × Level)
 swept n chips pairs entry =
     elim (end_of chips.blocks entry) [ None ↦ sweeps n chips pairs (parts_of chips entry) (low_levels chips (parts_of chips entry)) | Some e ↦ (codes "out", record { rank = 1; from = reaching e }) ∷ [] ]

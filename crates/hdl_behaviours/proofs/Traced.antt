@@ -1,4 +1,5 @@
--- Nodes that read each other in a circle are outputs of ends: from each of them bits are traced back to the next, so that there is a way as long as one likes.
+-- Nodes that read each other in a circle are outputs of ends. From each of them bits are traced back to the next, so that there is a way as long as
+-- one likes.
 use Rattle.std.proofs.Common.{◌≡◌, ℕ, zero, suc, ◌+◌, ◌-◌, ◌<◌, ◌≤◌, ◌⊎◌, inl, inr, Bool, true, false, ◌&&◌, List, [], ◌∷◌, ◌++◌, length, Option, Some, None, refl, sym, ap, subst, ◌∙◌, arith, nat_eq}
 use Rattle.std.specs.Prelude.{slice_get, slice_index, is_some, nat_le, codes, if◌then◌else◌}
 use Rattle.std.specs.Str.{bytes_eq}

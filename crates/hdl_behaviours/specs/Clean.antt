@@ -25,7 +25,7 @@ abbrev pub is_earlier : Chips → Entry → Part → Option Entry → Bool
 is_earlier chips entry part None = false
 is_earlier chips entry part (Some inner) = nat_lt (place_of chips.entries inner.name) (place_of chips.entries entry.name)
 
--- part i is told rightly, and so is each of its connections
+-- the chip of part i is there and stands earlier, and none of the part's connections has a fault
 abbrev pub part_is_clean : Chips → Entry → ℕ → Option Part → Bool
 part_is_clean chips entry i None = true
 part_is_clean chips entry i (Some part) =

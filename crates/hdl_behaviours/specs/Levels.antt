@@ -1,5 +1,5 @@
--- Levels of the nets of a chip, which rise along each step within a cycle, and the inputs that a net depends on: where they do so for each chip of a
--- library, none has a loop, and no output depends on an input but as a table says. (The book, chapter 3 and appendix 2.)
+-- Levels of the nets of a chip, which rise along each step within a cycle, and the inputs that a net depends on. Let them do so for each chip of a
+-- library. Then none has a loop, and no output depends on an input but as a table says. (The book, chapter 3 and appendix 2.)
 use Rattle.std.specs.Prelude.{◌≡◌, ℕ, suc, Bool, true, false, ◌&&◌, ◌||◌, nat_lt, List, [], ◌∷◌, Option, Some, None, unwrap_or, slice_get, codes, if◌then◌else◌}
 use Rattle.std.specs.Str.{bytes_eq}
 use Rattle.hdl_tree.specs.declared.tree.Pin.{Pin}
@@ -36,7 +36,7 @@ pub record Level : Type 0 where
   pub rank : ℕ
   pub from : List (List ℕ)
 
--- the levels of the nets; an input that is not told has the lowest, and passes itself on
+-- the levels of the nets; an input that is not listed has the lowest, and passes itself on
 abbrev pub level_of : List (List ℕ × Level) → List ℕ → Level
 level_of levels name = unwrap_or (find_value name levels) (record { rank = 0; from = name ∷ [] })
 
@@ -114,7 +114,7 @@ passes_on levels pin = is_among pin.name (level_of levels pin.name).from
 abbrev pub is_told : List (List ℕ × Level) → Pairs → Pin → Bool
 is_told levels pairs pin = all (λ input. is_pair input pin.name pairs) (level_of levels pin.name).from
 
--- the levels rise along each step, and tell no way from an input to an output but the pairs of the chip
+-- the levels rise along each step, and list no way from an input to an output but the pairs of the chip
 abbrev pub is_levelled : Chips → (List ℕ → Pairs) → List (List ℕ × Level) → Entry → Bool
 is_levelled chips pairs levels entry =
     steps_rise chips pairs levels entry && (all (passes_on levels) entry.chip.inputs && all (is_told levels (pairs entry.name)) entry.chip.outputs)

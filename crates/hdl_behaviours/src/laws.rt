@@ -1,4 +1,4 @@
-//! Laws of behaviours and of loops, and what the two tests tell.
+//! Laws of behaviours and of loops, and what the two tests show.
 
 ghost use Rattle.hdl_behaviours.specs.Existence.{ExistLaw};
 ghost use Rattle.hdl_behaviours.specs.Laws.{CleanLaw, LevelLaw};

@@ -177,7 +177,7 @@ first_down chips distinct stages done k inner progress o new begun =
       ended = tt;
     }
 
--- ---- what the step tells
+-- ---- what the step says
 
 pub top_wrong : (chips : Chips) (stages : List Stage) (done top : ℕ) (frames : List Frame) (frame : Frame) (t : IsOnTop chips top stages done frames frame) (e : ElabFault) → Tells (PartsFail chips (names_of (frame ∷ t.below)) frame.entry.now) e → Tells (FailsInside chips [] top) e
 top_wrong chips stages done top frames frame t e h =

@@ -1,4 +1,4 @@
--- What a part and a chip tell.
+-- What a part and a chip say.
 use Rattle.std.proofs.Common.{◌≡◌, ℕ, ◌+◌, ◌<◌, ◌⊎◌, inl, inr, true, false, List, ◌∷◌, ◌++◌, take, Option, Some, None, is_some, Result, Ok, Err, refl, sym, ap, subst, ◌∙◌, arith}
 use Rattle.std.specs.Prelude.{slice_get, IfErr}
 use Rattle.hdl_tree.specs.declared.tree.Part.{Part}

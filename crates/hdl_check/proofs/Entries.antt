@@ -76,11 +76,11 @@ next_by x n es rest v false h = ap (find_value x) (append_assoc_one es rest (n, 
 pub entered_next : {V : Type 0} (x n : List ℕ) (es rest : List (List ℕ × V)) (v : V) → find_value x (with_new es n v ++ rest) ≡ find_value x (es ++ (n, v) ∷ rest)
 entered_next x n es rest v = next_by x n es rest v (is_among n (names_in es)) refl
 
--- a table that finds the same, with others behind it
+-- a table that finds the same, with others after it
 pub found_front : {V : Type 0} (x : List ℕ) (es fs rest : List (List ℕ × V)) → find_value x es ≡ find_value x fs → find_value x (es ++ rest) ≡ find_value x (fs ++ rest)
 found_front x es fs rest h = found-append x es rest ∙ ap (λ o. first_of o (find_value x rest)) h ∙ sym (found-append x fs rest)
 
--- a table after one more name, with others behind it
+-- a table after one more name, with others after it
 pub front_next : {V : Type 0} (x n : List ℕ) (new es rest : List (List ℕ × V)) (v : V) → new ≡ with_new es n v → find_value x (new ++ rest) ≡ find_value x (es ++ (n, v) ∷ rest)
 front_next x n new es rest v h = ap (λ t. find_value x (t ++ rest)) h ∙ entered_next x n es rest v
 

@@ -1,4 +1,4 @@
--- What the chip at the top tells.
+-- What the chip at the top says.
 use Rattle.std.proofs.Common.{◌≡◌, ℕ, Bool, List, [], ◌∷◌, Some, Err, sym, ap, subst, ◌∙◌}
 use Rattle.std.specs.Prelude.{slice_get}
 use Rattle.hdl_tree.specs.declared.library.Entry.{Entry}

@@ -7,7 +7,7 @@ use Rattle.hdl_tree.specs.Chips.{Chips, end_of, find_chip, parts_of}
 use Rattle.hdl_check.specs.declared.fault.NamedFault.{NamedFault}
 use Rattle.hdl_check.specs.Faults.{pin_fault, body_fault, part_fault, connection_fault_of}
 
--- a place: a pin, counted over inputs and outputs; the body; the chip name of a part; a place in the text of a part's chip; a
+-- a place: a pin, counted over inputs and outputs; the body; a part's chip name; a place in the text of a part's chip; a
 -- connection of a part
 pub data Location : Type 0 where
   AtPin : (k : ℕ) → Location

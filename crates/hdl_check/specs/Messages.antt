@@ -1,4 +1,5 @@
--- What a fault of a chip tells, beside the path of the chip's text: the word of its kind, and the name. It has no place.
+-- The diagnostic of a fault of a chip, beside the path of the chip's text: the word of its kind, and the name. It has no
+-- place.
 use Rattle.std.specs.Prelude.{ℕ, List, codes}
 use Rattle.outer_world.specs.Refusals.{Message, message}
 use Rattle.hdl_check.specs.declared.fault.FaultKind.{FaultKind}

@@ -26,7 +26,7 @@ pub record BitOf : Type 0 where
   pub name : List ℕ
   pub bit : ℕ
 
--- so many bits from the first on
+-- this many bits from the first on
 abbrev pub bits_of : List ℕ → ℕ → ℕ → List BitOf
 bits_of name first zero = []
 bits_of name first (suc n) = bits_of name first n ++ record { name = name; bit = first + n } ∷ []

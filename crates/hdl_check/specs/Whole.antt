@@ -1,4 +1,4 @@
--- The faults of a chip of a library, as an answer tells them.
+-- The faults of a chip of a library, as an answer has them.
 use Rattle.std.specs.Prelude.{◌≡◌, ℕ, Bool, List, [], ◌∷◌, Some, Result, Ok, Err, slice_get}
 use Rattle.hdl_tree.specs.declared.library.Entry.{Entry}
 use Rattle.hdl_tree.specs.Chips.{Chips, find_chip}
@@ -22,12 +22,12 @@ TopIsFaultless chips top = (entry : Entry) → find_chip chips top ≡ Some entr
 abbrev pub TopFails : Chips → List ℕ → NamedFault → Type 0
 TopFails chips top f = (entry : Entry) → find_chip chips top ≡ Some entry → IsFirstFault chips (entry.name ∷ []) entry f
 
--- the error tells such a fault, unless memory ran out
+-- the error is such a fault, unless memory ran out
 abbrev pub Tells : (NamedFault → Type 0) → ElabFault → Type 0
 Tells P errors.Memory = Unit {0}
 Tells P (errors.Named f) = P f
 
--- the answer tells this fault, unless memory ran out
+-- the answer is this fault, unless memory ran out
 abbrev pub IsToldBy : {A : Type 0} → NamedFault → Result A ElabFault → Type 0
 IsToldBy f (Ok a) = ⊥
 IsToldBy f (Err errors.Memory) = Unit {0}

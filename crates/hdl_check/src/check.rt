@@ -54,7 +54,7 @@ pub fn first_bit(subscript: Option<Subscript>) -> u32
     }
 }
 
-/// How many bits are taken of so many.
+/// How many bits are taken of this many.
 pub fn count_bits(subscript: Option<Subscript>, width: u32) -> u32
     requires { width < 257 }
     ensures value { result ≡ count_of subscript width }

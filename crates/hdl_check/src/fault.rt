@@ -22,8 +22,8 @@ pub enum FaultKind {
     UnknownPin,
     /// The two sides of a connection differ in bits, a subscript lies past its pin's width, or an internal net carries a subscript.
     Width,
-    /// A pin stands twice, a bit is driven twice, a part's output goes to an input or to a constant, or a part's input is fed from an
-    /// output of the chip.
+    /// A pin stands twice, or a bit is driven twice. A part's output goes to an input or to a constant, or a part's input is fed from
+    /// an output of the chip.
     Driven,
     /// A net that a part reads and nothing drives.
     Undriven,
@@ -62,7 +62,7 @@ impl fmt::Debug for NamedFault {
 }
 
 impl NamedFault {
-    /// What the fault tells, beside the path of its chip's text.
+    /// The diagnostic of the fault, beside the path of its chip's text.
     pub fn diagnostic(self) -> Diagnostic
         ensures { result ≡ named_message self }
     {

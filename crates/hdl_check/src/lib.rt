@@ -1,7 +1,7 @@
 //! Elaboration: the faults of a library of chips (book, appendix 2).
 //!
-//! Pass by pass: `catalog` makes tables of the names of chips and pins, `walk` goes through a chip's text and those of the chips in
-//! it, each once, depth first, by a stack of its own, `search` looks at pins and at a part's connections, and `check` at one of
+//! Pass by pass: `catalog` makes tables of the names of chips and pins. `walk` goes through a chip's text and those of the chips in
+//! it, each once, depth first, by a stack of its own. `search` looks at pins and at a part's connections, and `check` at one of
 //! these. The definitions are in `specs/`: `Faults` (what can be wrong with a pin, a part's chip or a connection), `Locations`
 //! (their order, and the first fault) and `Whole`.
 #![tactic(auto)]
@@ -15,7 +15,7 @@ mod stage;
 mod table;
 mod walk;
 
-// The passes behind this one go through the chips by the same tables.
+// The passes after this one go through the chips by the same tables.
 pub use catalog::Catalog;
 pub use check::{count_bits, first_bit};
 pub use table::Table;

@@ -88,7 +88,7 @@ impl<'a> Marks<'a> {
         }
     }
 
-    /// Whether one of so many bits from the first on is marked.
+    /// Whether one of this many bits from the first on is marked.
     pub(crate) fn has_some(&self, name: &'a [u8], first: u32, count: u32) -> bool
         requires { first + count < 2 ^ 32 }
         ensures { result ≡ some_marked self.now (bits_of name.now first count) }
@@ -101,7 +101,7 @@ impl<'a> Marks<'a> {
         false
     }
 
-    /// Marks so many bits from the first on.
+    /// Marks this many bits from the first on.
     pub(crate) fn mark_all(
         &mut self,
         name: &'a [u8],

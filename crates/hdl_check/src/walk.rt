@@ -224,7 +224,7 @@ fn new_stages(alloc: Global, n: usize) -> Result<Vec<Stage>, AllocError>
     vec![in alloc; Stage::New; n]
 }
 
-/// The first fault of chip k and of the chips in it; else the places of these chips, each behind those in it.
+/// The first fault of chip k and of the chips in it; else the places of these chips, each after those in it.
 pub(crate) fn check_all<'a>(
     alloc: Global,
     catalog: &Catalog<'a>,

@@ -46,7 +46,7 @@ pub bits_long : (name : List ℕ) (from n : ℕ) → length (bits_of name from n
 bits_long name from zero = refl
 bits_long name from (suc n) = omega (arith, length-append (bits_of name from n) (record { name = name; bit = from + n } ∷ []), bits_long name from n)
 
--- bit k of so many bits of one name
+-- bit k of this many bits of one name
 pub bit_is : (name : List ℕ) (from n k : ℕ) (b : BitOf) → slice_get (bits_of name from n) k ≡ Some b → b ≡ record { name = name; bit = from + k }
 bit_is name from zero k b e = absurd cc
 bit_is name from (suc n) k b e = by (bit_is name from n k b) (last_or (bits_of name from n) (record { name = name; bit = from + n }) b k e)

@@ -46,7 +46,7 @@ stands : (places : List ℕ) (k : ℕ) → StandsAt places k ⊎ StandsNowhere p
 stands [] k = inr (λ i lt e. absurd (omega arith))
 stands (p ∷ ps) k = stands_by p ps k (same_or_not p k) (stands ps k)
 
--- ---- so many numbers apart, each below their number, are all of them
+-- ---- this many numbers apart, each below their number, are all of them
 
 not_same : (a b : ℕ) (t : Bool) → eqb a b ≡ t → (a ≡ b → ⊥) → t ≡ false
 not_same a b true e ne = absurd (ne ((Decides-eqb a b).0 e))

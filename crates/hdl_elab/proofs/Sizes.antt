@@ -1,4 +1,4 @@
--- How many nodes a chip needs, as the code tells it.
+-- How many nodes a chip needs, as the code counts it.
 use Rattle.std.proofs.Common.{◌≡◌, ℕ, ◌<◌, ◌≤◌, List, Some, ap, arith}
 use Rattle.hdl_tree.specs.declared.library.Entry.{Entry}
 use Rattle.hdl_tree.specs.Chips.{Chips, find_chip}
@@ -11,7 +11,7 @@ use Rattle.hdl_elab.specs.Faults.{TopIsFaulty, TopIsFine}
 use Rattle.hdl_elab.specs.declared.fault.ElaborationFault.TheVariants.{TooManyNodes}
 use Rattle.hdl_elab.proofs.Trees.{one_tree}
 
--- what count tells of the chip of this name
+-- what count says of the chip of this name
 abbrev pub TopHasSize : Chips → List ℕ → Size → Type 0
 TopHasSize chips name size = (chip : Entry) → find_chip chips name ≡ Some chip → HasSize chips chip size
 

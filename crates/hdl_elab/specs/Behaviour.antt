@@ -16,8 +16,8 @@ use Rattle.hdl_elab.specs.Elaborated.{IsElaborated}
 abbrev pub HearsWorld : (world : World) (inputs : Inputs) (n : ℕ) (chips : Chips) (top : Entry) (e : Elab) → IsElaborated chips top e → Type 0
 HearsWorld world inputs n chips top e is = Hears world inputs n chips top is.block is.at
 
--- The directory shows these bits, where v gives the values of the nodes: each bit of a pin of the chip has the value of the node that the
--- pin has in the directory, the lowest first, and so has each output bit of a part.
+-- The directory shows these bits, where v gives the values of the nodes. Each bit of a pin of the chip has the value of the node that the
+-- pin has in the directory, the lowest first. So has each output bit of a part.
 pub record Shows (tree : List PartIn) (e : Elab) (v : ℕ → ℕ → Bool) (wires : List ℕ → Histories) : Type 0 where
   pub pins : (k bit node c : ℕ) (pin : PinAt) → slice_get e.pins k ≡ Some pin → slice_get pin.nodes bit ≡ Some node → wires [] pin.name bit c ≡ v node c
   pub parts : (k j node c : ℕ) (part : PartIn) (listed : PartAt) (b : BitOf) → slice_get tree k ≡ Some part → slice_get e.parts k ≡ Some listed → slice_get (all_bits part.chip.chip.outputs) j ≡ Some b → slice_get listed.outs j ≡ Some node → wires part.path b.name b.bit c ≡ v node c

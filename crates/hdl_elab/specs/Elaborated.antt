@@ -12,8 +12,8 @@ use Rattle.hdl_elab.specs.Moved.{IsMoved}
 abbrev pub flat_of : Elab → Flat
 flat_of e = record { nodes = e.net.nodes; blocks = e.net.blocks; pins = e.pins; parts = e.parts }
 
--- The chip is elaborated: the nodes and blocks of the netlist are those of the chip with the parts in it, and the directory tells which node
--- each bit of its pins and of its parts' outputs has.
+-- The chip is elaborated. The nodes and blocks of the netlist are those of the chip with the parts in it. The directory says which node each
+-- bit of its pins and of its parts' outputs has.
 abbrev pub IsElaborated : Chips → Entry → Elab → Type 0
 IsElaborated chips top e = IsFlat chips top (flat_of e)
 

@@ -17,7 +17,7 @@ most_nodes = 16777216
 abbrev pub NeedsFewNodes : Chips → Entry → Type 0
 NeedsFewNodes chips top = (tree : List PartIn) → IsTree chips top tree → node_count chips top tree ≤ most_nodes
 
--- the chip needs n nodes, which are too many; a number past 1,000,000,000 is told as that
+-- the chip needs n nodes, which are too many; a number past 1,000,000,000 is given as that
 pub record NeedsTooMany (chips : Chips) (top : Entry) (n : ℕ) : Type 0 where
   pub tree : List PartIn
   pub listed : IsTree chips top tree

@@ -1,4 +1,4 @@
--- What comes in at the ends of an elaborated chip, told by the directory. (The book, chapters 3 to 5.)
+-- What comes in at the ends of an elaborated chip, by the directory. (The book, chapters 3 to 5.)
 use Rattle.std.specs.Prelude.{◌≡◌, ℕ, ◌<◌, Bool, List, None, Some, slice_get, slice_index}
 use Rattle.hdl_tree.specs.declared.library.Entry.{Entry}
 use Rattle.hdl_tree.specs.declared.ends.End.{End}
@@ -15,7 +15,7 @@ use Rattle.hdl_elab.specs.declared.put.Elab.{Elab}
 use Rattle.hdl_elab.specs.Elaborated.{IsElaborated}
 use Rattle.hdl_elab.specs.Behaviour.{HearsWorld, ValuesBehave}
 
--- The output nodes of a keyboard are pins that spell its code in each of n cycles; the block of the instruction memory is loaded with its words,
+-- The output nodes of a keyboard are pins that spell its code in each of n cycles. The block of the instruction memory is loaded with its words,
 -- and that of a memory with zeros.
 abbrev pub ListedHears : World → Inputs → ℕ → End → PartAt → Type 0
 ListedHears world inputs n ends.Nand part = Unit {0}
@@ -35,8 +35,8 @@ HearingLaw =
     (world : World) (chips : Chips) (name : List ℕ) (top : Entry) (e : Elab) (is : IsElaborated chips top e) (inputs : Inputs) (n : ℕ) (tree : List PartIn) →
     EndsHavePins chips → find_chip chips name ≡ Some top → end_of chips.blocks top ≡ None → IsTree chips top tree → DirectoryHears world inputs n chips tree e → HearsWorld world inputs n chips top e is
 
--- Told by the directory alone: where the ends that it lists are given that, the values of the netlist, at the nodes that it names, are a behaviour
--- of the chip.
+-- By the directory alone: let the ends that it lists be given that. Then the values of the netlist, at the nodes that it names, are a behaviour of
+-- the chip.
 abbrev pub DirectoryLaw : Type 0
 DirectoryLaw =
     (world : World) (chips : Chips) (name : List ℕ) (top : Entry) (e : Elab) → IsElaborated chips top e → EndsHavePins chips → find_chip chips name ≡ Some top → end_of chips.blocks top ≡ None → (tree : List PartIn) → IsTree chips top tree →

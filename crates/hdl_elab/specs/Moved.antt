@@ -19,7 +19,7 @@ moved_pin places p = record { name = p.name; nodes = map (slice_index places) p.
 abbrev pub moved_part : List ℕ → PartAt → PartAt
 moved_part places p = record { chip = p.chip; outs = map (slice_index places) p.outs; block = p.block }
 
--- The flat chip with its nodes at other places, where the directory tells them.
+-- The flat chip with its nodes at other places, where the directory says.
 pub record IsMoved (flat : Flat) (e : Elab) : Type 0 where
   pub places : List ℕ
   pub renamed : IsRenamed (net_of flat) e.net places

@@ -1,4 +1,5 @@
--- Chips of which nothing is wrong in the text, and no bits go in a circle. (The book, chapter 3 and appendix 2.)
+-- Chips with nothing wrong in their texts, and no bits that go in a circle. (The book, chapter 3 and appendix
+-- 2.)
 use Rattle.std.specs.Prelude.{◌≡◌, ℕ, List, [], ◌∷◌, Some}
 use Rattle.hdl_tree.specs.declared.library.Entry.{Entry}
 use Rattle.hdl_tree.specs.Chips.{Chips, find_chip}

@@ -83,8 +83,9 @@ fn check_size(
     Ok(())
 }
 
-/// The chip of this name as a netlist, with its directory, or why it has none: the first fault of the texts, in text order, depth first; if
-/// there is none, a loop; and if there is none, that it needs more than 16,777,216 nodes. No chip is expanded before that is known.
+/// The chip of this name as a netlist, with its directory, or why it has none. That is the first fault of the texts, in text order, depth
+/// first. If there is none, it is a loop, and if there is none, that it needs more than 16,777,216 nodes. No chip is expanded before that
+/// is known.
 pub fn elaborate(
     alloc: Global,
     library: &Library,

@@ -20,7 +20,7 @@ pub enum ElaborationFault {
     /// These nets are a loop.
     #[error("a loop")]
     Loop(List<Name>),
-    /// The chip needs so many nodes; a number past 1,000,000,000 is told as that.
+    /// The chip needs this many nodes; a number past 1,000,000,000 is given as that.
     #[error("{0} nodes are too many")]
     TooManyNodes(u32),
 }

@@ -26,12 +26,14 @@ pub fn hearing_law()
     ensures { HearingLaw }
 {}
 
-/// Where the ends in the directory are given what the world gives, the values of the netlist, at the nodes that the directory names, are a behaviour of the chip.
+/// Where the ends in the directory are given what the world gives, the values of the netlist, at the nodes that the directory names, are a behaviour
+/// of the chip.
 pub fn directory_law()
     ensures { DirectoryLaw }
 {}
 
-/// Where a chip that is an end itself is given what the world gives it, the values of the netlist, at the nodes of its pins, are a behaviour of the chip.
+/// Let a chip that is an end itself be given what the world gives it. Then the values of the netlist, at the nodes of its pins, are a behaviour of
+/// the chip.
 pub fn end_alone_law()
     ensures { EndAloneLaw }
 {}

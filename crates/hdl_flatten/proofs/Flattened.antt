@@ -1,4 +1,4 @@
--- A chip whose nodes stand behind the constants and its input bits is flat.
+-- A chip whose nodes stand after the constants and its input bits is flat.
 use Rattle.std.proofs.Common.{◌≡◌, ℕ, zero, suc, ◌+◌, ◌<◌, ◌≤◌, ◌⊎◌, inl, inr, Bool, true, false, cond, codes, get_or, ◌&&◌, ◌||◌, nat_eq, take, List, [], ◌∷◌, ◌++◌, length, length-append, Option, Some, None, map, refl, sym, ap, subst, ◌∙◌, arith}
 use Rattle.std.specs.Str.{bytes_eq}
 use Rattle.std.specs.Prelude.{not, slice_get, slice_index, unwrap_or}

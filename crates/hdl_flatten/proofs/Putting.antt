@@ -1,4 +1,4 @@
--- Chips that are put one behind another.
+-- Chips that are put one after another.
 use Rattle.std.proofs.Common.{◌≡◌, ℕ, zero, suc, ◌+◌, ◌<◌, ◌≤◌, ◌⊎◌, inl, inr, Bool, true, false, cond, take, drop, get_or, Result, Ok, Err, OnOk, List, [], ◌∷◌, ◌++◌, length, length-append, Option, Some, None, map, refl, sym, ap, subst, ◌∙◌, arith}
 use Rattle.std.specs.Prelude.{slice_get, slice_index, slice_index_or}
 use Rattle.std.specs.List.{All}
@@ -448,7 +448,7 @@ block_small : (blocks : Bool) (name : Option (List ℕ)) (bits : ℕ) → end_of
 block_small blocks None bits h = absurd cc
 block_small blocks (Some name) bits h = small_named blocks name bits h
 
--- what was put stands, whatever comes behind
+-- what was put stands, whatever comes after
 there_in : {X : Type 0} (old xs new all : List X) → new ≡ old ++ xs → Longer new all → (k : ℕ) (x : X) → slice_get xs k ≡ Some x → slice_get all (length old + k) ≡ Some x
 there_in old xs new all e f k x h =
     ap (λ t. slice_get t (length old + k)) (f.longer ∙ ap (λ t. t ++ f.more) e ∙ assoc old xs f.more) ∙ get_behind old (xs ++ f.more) k ∙ get_front xs f.more k x h

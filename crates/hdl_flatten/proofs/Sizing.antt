@@ -45,7 +45,7 @@ nodes_sum a z c t o w e f = omega arith
 parts_sum : (a z t o w : ℕ) → z ≡ capped_count t → w ≡ t + o → capped_count (capped_count (capped_count (a + 1) + z) + o) ≡ capped_count (a + suc w)
 parts_sum a z t o w e f = omega arith
 
--- parts behind one another, added to a size
+-- parts after one another, added to a size
 pub record IsJoined (chips : Chips) (k : ℕ) (parts : List Part) (size sum : Size) : Type 0 where
   pub tree : List PartIn
   pub listed : AreListed chips k parts tree

@@ -85,7 +85,7 @@ slot_of chips plans n wires size i (y ∷ ps) (x ∷ xs) (q ∷ qs) (suc j) p e 
       fits = s.fits;
     }
 
--- the nodes of parts stand one behind another
+-- the nodes of parts stand one after another
 starts : (wires : List (BitOf × Fed)) (size : Size) (ps : List Part) (xs : List Plan) (qs : List PartPlan) (k : ℕ) (r : PartPlan) → ArePartPlans wires size ps xs qs → (all_sized size xs).nodes ≤ 16777216 → slice_get qs k ≡ Some r → size.nodes ≤ r.offset
 starts wires size [] xs [] k r are small e = absurd cc
 starts wires size [] xs (q ∷ qs) k r are small e = absurd are

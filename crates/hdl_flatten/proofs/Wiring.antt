@@ -57,7 +57,7 @@ kept_by name bit b v w es false e h = first_none (found_bit name bit es)
 pub kept : (b : BitOf) (v w : Origin) (es : List (BitOf × Origin)) → found_bit b.name b.bit es ≡ Some w → FindsMore es es ((b, v) ∷ [])
 kept b v w es h name bit = kept_by name bit b v w es (bytes_eq name b.name && nat_eq bit b.bit) refl h ∙ sym (found-append name bit es ((b, v) ∷ []))
 
--- nothing more, and more behind more
+-- nothing more, and more after more
 pub more_none : (es : List (BitOf × Origin)) → FindsMore es es []
 more_none es name bit = ap (found_bit name bit) (sym (nil_after es))
 

@@ -17,7 +17,7 @@ pub length_pins : (n : ℕ) → length (pins n) ≡ n
 length_pins zero = refl
 length_pins (suc n) = omega (arith, length-append (pins n) (nodes.Pin ∷ []), length_pins n)
 
--- ---- nodes behind those that are there
+-- ---- nodes after those that are there
 
 -- these nodes have words of no block, or each bit of the word of block m, which is the next, at its number
 abbrev AreNext : List Node → ℕ → ℕ → Type 0

@@ -20,7 +20,7 @@ use Rattle.hdl_flatten.specs.Trees.{PartIn, IsTree, all_bits, end_nodes, node_co
 
 -- ---- what nodes and blocks read is there
 
--- of so many nodes and blocks
+-- of this many nodes and blocks
 abbrev pub Reads : ℕ → ℕ → Node → Type 0
 Reads n m nodes.Pin = Unit {0}
 Reads n m (nodes.Nand i j) = (i < n) × (j < n)
@@ -82,10 +82,10 @@ pub record IsEndBlock (chips : Chips) (top : Entry) (block : List ℕ → ℕ) (
   pub there : chip_at chips top path ≡ Some chip
   pub its : block_at (end_of chips.blocks chip) (block path) ≡ Some b
 
--- The chip with the parts in it, as nodes and blocks: its bits have nodes, and it has no other nodes than it needs. The directory has its
--- pins, inputs first, and all its parts, depth first in text order, and the nodes that it tells are there. Each of the chip's input bits is a
--- pin of its own. Each node that is no pin and no constant is that of an output bit of an end; no two such bits have one node, and none has that of
--- an input bit of the chip. Each block is that of an end, of just one, and there are sixteen nodes for each.
+-- The chip with the parts in it, as nodes and blocks: its bits have nodes, and it has no other nodes than it needs. The directory has its pins,
+-- inputs first, and all its parts, depth first in text order, and the nodes that it names are there. Each of the chip's input bits is a pin of its
+-- own. Each node that is no pin and no constant is that of an output bit of an end. No two such bits have one node, and none has that of an input
+-- bit of the chip. Each block is that of an end, of just one, and there are sixteen nodes for each.
 pub record IsFlat (chips : Chips) (top : Entry) (flat : Flat) : Type 0 where
   pub tree : List PartIn
   pub listed : IsTree chips top tree

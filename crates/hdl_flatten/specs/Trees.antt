@@ -20,7 +20,7 @@ pub record PartIn : Type 0 where
 abbrev pub within : ℕ → List PartIn → List PartIn
 within i parts = map (λ p. record { path = i ∷ p.path; chip = p.chip }) parts
 
--- Parts depth first, in text order: each part, then what is in its chip, then the parts behind it. The first has number i.
+-- Parts depth first, in text order: each part, then what is in its chip, then the parts after it. The first has number i.
 pub data AreListed (chips : Chips) : ℕ → List Part → List PartIn → Type 0 where
   none : {i : ℕ} → AreListed chips i [] []
   next : {i : ℕ} {part : Part} {parts : List Part} {chip : Entry} {inner others : List PartIn} → find_chip chips part.chip ≡ Some chip → AreListed chips 0 (parts_of chips chip) inner → AreListed chips (suc i) parts others →
@@ -68,7 +68,8 @@ node_count chips chip tree = (bit_count chip.chip.inputs + (chip_nodes chips chi
 abbrev pub capped_count : ℕ → ℕ
 capped_count n = min n 1000000000
 
--- the chip needs so many nodes and has so many parts; what is more than 1,000,000,000 is told as that
+-- the chip needs this many nodes and has this many parts; what is more than 1,000,000,000 is given as
+-- that
 pub record HasSize (chips : Chips) (chip : Entry) (size : Size) : Type 0 where
   pub tree : List PartIn
   pub listed : IsTree chips chip tree

@@ -164,7 +164,7 @@ fn rom_block(alloc: Global, inputs: &[u32]) -> Result<Block, AllocError>
     })
 }
 
-/// Puts an end behind what is there; the nodes of its input bits are given.
+/// Puts an end after what is there; the nodes of its input bits are given.
 fn put_end(alloc: Global, end: End, inputs: &[u32], flat: &mut Growing) -> Result<(), AllocError>
     requires fed { IsEndFed end (length inputs.now) }
     requires few { length flat.old.blocks.items ≤ 16777216 }
@@ -192,7 +192,7 @@ fn block_of(end: Option<End>, number: usize) -> Option<u32>
     }
 }
 
-/// A part that is put next, where so many nodes and blocks are there.
+/// A part that is put next, where this many nodes and blocks are there.
 fn part_at<'a>(
     alloc: Global,
     catalog: &Catalog<'a>,
@@ -216,7 +216,7 @@ fn part_at<'a>(
     })
 }
 
-/// A chip of which some parts are put: where its nodes begin, the nodes of its input bits, and the parts that are to come.
+/// A chip with some of its parts put: where its nodes begin, the nodes of its input bits, and the parts that are to come.
 #[derive(Drop)]
 pub(crate) struct Unfinished<'b> {
     pub base: usize,
@@ -231,7 +231,7 @@ fn push<'b>(stack: &mut Vec<Unfinished<'b>>, chip: Unfinished<'b>) -> Result<(),
     Ok(())
 }
 
-/// Puts an end behind what is there, or begins a chip that has parts; the nodes of its input bits are given.
+/// Puts an end after what is there, or begins a chip that has parts; the nodes of its input bits are given.
 fn enter<'a, 'b>(
     alloc: Global,
     plan: &'b Plan<'a>,
@@ -296,7 +296,7 @@ fn step<'a, 'b>(
     enter(alloc, plan, nodes, flat, stack)
 }
 
-/// Puts a chip behind what is there; the nodes of its input bits are given.
+/// Puts a chip after what is there; the nodes of its input bits are given.
 fn put<'a>(
     alloc: Global,
     catalog: &Catalog<'a>,
@@ -386,7 +386,7 @@ fn directory<'a>(
     Ok(listed)
 }
 
-/// The nodes of n pins behind the constants.
+/// The nodes of n pins after the constants.
 fn input_nodes(alloc: Global, n: usize) -> Result<Vec<u32>, AllocError>
     requires { n ≤ 16777216 }
     ensures { IfOk result (λ v. v.items ≡ from_two n) }
@@ -407,7 +407,7 @@ fn begin(nodes: &mut Vec<Node>, n: usize) -> Result<(), AllocError>
     put_pins(nodes, n)
 }
 
-/// The constants, a pin for each input bit, and nothing behind them.
+/// The constants, a pin for each input bit, and nothing after them.
 fn begun(alloc: Global, n: usize) -> Result<Growing, AllocError>
     ensures nodes { IfOk result (λ flat. flat.nodes.items ≡ constants ++ pins n) }
     ensures blocks { IfOk result (λ flat. flat.blocks.items ≡ []) }

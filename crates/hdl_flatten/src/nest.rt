@@ -1,4 +1,4 @@
-//! The chips of a tree, each once, behind those in it.
+//! The chips of a tree, each once, after those in it.
 
 ghost use Rattle.std.specs.Prelude.{◌≡◌, ℕ, ◌+◌, ◌<◌, ◌++◌, ◌∷◌, [], OnOk, IfOk, IsSome, MatchOption, Some, None, length, slice_get, slice_set, replicate};
 ghost use Rattle.hdl_tree.specs.Chips.{find_entry, parts_of};
@@ -19,7 +19,7 @@ pub(crate) struct Nested {
     pub parts: Vec<usize>,
 }
 
-/// The chips of a tree, each once, behind those in it, and the place of the chip whose tree it is.
+/// The chips of a tree, each once, after those in it, and the place of the chip whose tree it is.
 #[derive(Drop)]
 pub(crate) struct Nest {
     pub chips: Vec<Nested>,
@@ -68,7 +68,7 @@ fn set_rank(ranks: &mut [Option<usize>], k: usize, rank: usize)
     ranks[k] = Some(rank);
 }
 
-/// The chips that stand, each behind those in it, and the place there of each chip of the library, if it stands.
+/// The chips that stand, each after those in it, and the place there of each chip of the library, if it stands.
 #[derive(Drop)]
 pub(crate) struct Search {
     pub ranks: Vec<Option<usize>>,
@@ -123,7 +123,7 @@ fn go_on<'a>(
     Ok(None)
 }
 
-/// The chip of a visit stands, behind all that stood.
+/// The chip of a visit stands, after all that stood.
 fn settle(search: &mut Search, visit: Visit<'_>) -> Result<(), AllocError>
     requires { visit.number < length search.old.ranks.items }
     ensures ranks { OnOk result (search.new.ranks.items ≡ slice_set search.old.ranks.items visit.entry.number (Some (length search.old.chips.items))) }

@@ -106,7 +106,7 @@ fn count_bits(pins: &[Pin]) -> u32
 }
 
 /// How many nodes a chip without faults needs and how many parts it has. No chip is expanded, so that a tree of more parts than can be
-/// listed is told at once.
+/// listed is reported at once.
 pub fn count(alloc: Global, library: &Library, top: &Name, blocks: bool) -> Result<Size, AllocError>
     requires distinct { AreDistinct library.now.entries }
     requires there { IsSome (find_entry library.now.entries top.now) }

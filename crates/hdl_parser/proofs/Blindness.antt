@@ -1,4 +1,4 @@
--- The rules of HDL look at no more of a token than what it tells, but for its place.
+-- The rules of HDL look at no more of a token than what it says, but for its place.
 use Rattle.std.proofs.Common.{◌≡◌, ℕ, Bool, true, false, cond, List, [], ◌∷◌, map, length, Ok, Err, Result, refl, sym, ap, subst, ◌∙◌}
 use Rattle.std.specs.Prelude.{nat_lt, ◌≤◌}
 use Rattle.std.specs.List.{flat_map}

@@ -201,7 +201,7 @@ body_read (made_of.Builtin n clocked) h rest e f =
     right refl refl (both (marked refl) (both (name_read n (sign 59 ∷ listing_words keyword.Clocked name_words clocked rest))
     (both (marked refl) (listing_read name name_words name_leaf name_can (λ m k r x. name_read m r) keyword.Clocked refl clocked (second_of (name_can n) (all name_can clocked) h) rest f))))
 
--- what stands behind the inputs is not `IN`, and what stands behind the outputs is not `OUT`
+-- what stands after the inputs is not `IN`, and what stands after the outputs is not `OUT`
 no_inputs_by : (ps : List Pin) (b : Body) (rest : List Word) → next (is_keyword keyword.In) (listing_words keyword.Out pin_words ps (body_words b rest)) ≡ false
 no_inputs_by [] (made_of.Parts ps) rest = refl
 no_inputs_by [] (made_of.Builtin n clocked) rest = refl

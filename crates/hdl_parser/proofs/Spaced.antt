@@ -1,4 +1,4 @@
--- The text of a token with a blank behind it is cut as that token again.
+-- The text of a token with a blank after it is cut as that token again.
 use Rattle.std.proofs.Common.{◌≡◌, ℕ, suc, ◌-◌, ◌≤◌, Bool, true, false, cond, List, [], ◌∷◌, ◌++◌, map, length, take, Ok, Option, Some, None, refl, sym, ap, subst, ◌∙◌, arith}
 use Rattle.std.specs.Prelude as prelude
 use Rattle.std.specs.Prelude.{not, ◌||◌, ◌&&◌, codes, if◌then◌else◌}
@@ -142,7 +142,7 @@ cut_again (kind.Number n) text at g t rest = digits_cut n g (prelude.decimal n) 
 cut_again kind.Dots text at g t rest = dots_cut t rest
 cut_again kind.Name text at g t rest = named_cut kind.Name text g t rest
 
--- what a token tells, but for its place
+-- what a token says, but for its place
 abbrev pub told_by : Kind → List ℕ → List ℕ
 told_by kind.Name text = text
 told_by k text = []

@@ -80,7 +80,7 @@ value_of k = 0
 abbrev pub free : ℕ → Word → Result ℕ Fault
 free least t = Ok least
 
--- the number of this place is past its limit; a value over 1,000,000,000 is told as that
+-- the number of this place is past its limit; a value over 1,000,000,000 is given as that
 abbrev pub too_large : Place → ℕ → Fault
 too_large at n = Range at (min n 1000000000)
 
@@ -92,7 +92,7 @@ check_width least t = if nat_lt 16 (value_of t.kind) then Err (too_large t.place
 abbrev pub check_index : ℕ → Word → Result ℕ Fault
 check_index least t = if nat_lt 15 (value_of t.kind) then Err (too_large t.place (value_of t.kind)) else Ok (value_of t.kind)
 
--- the index behind `..` is not below that before it
+-- the index after `..` is not below that before it
 abbrev pub check_last : ℕ → Word → Result ℕ Fault
 check_last least t =
     if nat_lt 15 (value_of t.kind) then Err (too_large t.place (value_of t.kind))
@@ -150,7 +150,7 @@ last = seq dots last_index
 abbrev pub range : HdlRule
 range = seq index (option last)
 
--- what was counted before a part is counted behind it again
+-- what was counted before a part is counted after it again
 abbrev pub anew : ℕ → Place → Result ℕ Fault
 anew least at = Ok 0
 
@@ -203,7 +203,7 @@ pins k = option (listing k pin)
 abbrev pub chip : HdlRule
 chip = seq (keyword_of keyword.Chip) (seq name (seq (symbol_of 123) (seq (pins keyword.In) (seq (pins keyword.Out) (seq body (symbol_of 125))))))
 
--- a chip, and nothing behind it
+-- a chip, and nothing after it
 abbrev pub whole : HdlRule
 whole = seq chip end
 

@@ -1,4 +1,4 @@
--- What a refused text of a chip tells. (The book, chapter 1 and appendix 2.)
+-- The diagnostic of a refused text of a chip. (The book, chapter 1 and appendix 2.)
 use Rattle.std.specs.Prelude.{ℕ, List}
 use Rattle.outer_world.specs.Refusals.{Message}
 use Rattle.source_files.specs.Faults.{TellsFault}

@@ -1,4 +1,4 @@
--- The printed form of a chip (book, appendix 2): its tokens with one space between them, and a line feed in its place behind `{`, `}`
+-- The printed form of a chip (book, appendix 2): its tokens with one space between them, and a line feed in its place after `{`, `}`
 -- and `;`. The book lays down no layout; this one is the project's own.
 use Rattle.std.specs.Prelude.{◌≡◌, ℕ, ◌≤◌, true, List, [], ◌∷◌, Ok, map, length, decimal, codes}
 use Rattle.std.specs.List.{flat_map}

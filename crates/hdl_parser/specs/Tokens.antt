@@ -64,7 +64,7 @@ kind_of (Some k) = kind.Keyword k
 abbrev pub word_kind : List ℕ → Kind
 word_kind text = kind_of (keyword_of text)
 
--- letters, digits and underscores, of which the first is no digit
+-- letters, digits and underscores, the first no digit
 abbrev pub word_piece : List ℕ → Piece Word
 word_piece bs =
     let text = front is_name_byte bs in

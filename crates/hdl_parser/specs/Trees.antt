@@ -33,7 +33,7 @@ truth false = keyword.False
 abbrev pub constant_said : Bool → Said
 constant_said b = Fixed (kind.Keyword (truth b))
 
--- one or more, with commas between them, and others behind them
+-- one or more, with commas between them, and others after them
 abbrev pub next_tree : {X : Type 0} → (X → Tree Said) → X → Tree Said
 next_tree tree x = Pair Skip (tree x)
 
@@ -41,7 +41,8 @@ abbrev pub row_with : {X : Type 0} → (X → Tree Said) → List X → Tree Sai
 row_with tree [] more = more
 row_with tree (x ∷ xs) more = Pair (tree x) (tree_of_list (next_tree tree) xs more)
 
--- a keyword, and one or more of a kind up to a semicolon; nothing stands where there are none
+-- a keyword, and one or more of a kind up to a semicolon; where there are none of the kind, nothing
+-- stands
 abbrev pub listing_tree : {X : Type 0} → (X → Tree Said) → List X → Tree Said
 listing_tree tree [] = Absent
 listing_tree tree (x ∷ xs) = Present (Pair Skip (Pair (row_with tree (x ∷ xs) NoMore) Skip))

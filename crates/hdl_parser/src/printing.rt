@@ -74,7 +74,7 @@ fn put_more_pins<S: Sink>(all: &[Pin], status: Put, out: &mut Pieces<'_, S>) -> 
     status
 }
 
-// The pins behind a keyword, where there are some.
+// The pins after a keyword, where there are some.
 fn put_pins<S: Sink>(word: Keyword, all: &[Pin], status: Put, out: &mut Pieces<'_, S>) -> Put
     ensures { Shows (pins_tree all.now) (pins word) status out.old result out.new }
 {
@@ -104,7 +104,7 @@ fn put_more_names<S: Sink>(all: &[Name], status: Put, out: &mut Pieces<'_, S>) -
     status
 }
 
-// The names behind `CLOCKED`, where there are some.
+// The names after `CLOCKED`, where there are some.
 fn put_clocked<S: Sink>(all: &[Name], status: Put, out: &mut Pieces<'_, S>) -> Put
     ensures { Shows (names_tree all.now) (option (listing Keyword.Clocked name)) status out.old result out.new }
 {
@@ -272,7 +272,7 @@ fn put_all<S: Sink>(chip: &Chip, out: &mut Pieces<'_, S>) -> Put
     put_rest(status, out)
 }
 
-/// Prints a chip: its tokens with one space between them, and a line feed in its place behind `{`, `}` and `;`. It takes no memory.
+/// Prints a chip: its tokens with one space between them, and a line feed in its place after `{`, `}` and `;`. It takes no memory.
 pub fn print<S: Sink>(chip: &Chip, out: &mut S) -> Put
     ensures put { Puts (S.written out.old) (S.written out.new) (chip_text chip.now) result }
     ensures counts { CountsPut (S.faults out.old) (S.faults out.new) result }

@@ -52,9 +52,9 @@ fn read(alloc: Global, text: &[u8]) -> Result<Chip, ReadError>
 
 /// The chip that a text spells.
 ///
-/// Grammar where a byte begins no token, where a comment is not closed, where a rule of the grammar stops, and at the second number
-/// of a subscript that is below the first. Range past a limit: a width over 16, an index over 15, a text of more than 1,048,576 bytes
-/// (at 0:0).
+/// Grammar where a byte begins no token, where a comment is not closed, and where a rule of the grammar stops. Grammar, too, at the
+/// second number of a subscript that is below the first. Range past a limit: a width over 16, an index over 15, a text of more than
+/// 1,048,576 bytes (at 0:0).
 pub fn parse(alloc: Global, text: &[u8]) -> Result<Chip, HdlFault>
     // What is read is spelled so, and what is spelled is read, unless memory runs out.
     ensures found { IfOk result (Spells text.now) }

@@ -73,7 +73,7 @@ fn pin_list<'a>(
     Ok((pins, rest))
 }
 
-// The pins behind this keyword, if it comes.
+// The pins after this keyword, if it comes.
 #[tactic(auto, using(crate::proofs::Exits::hdl_exits))]
 fn pins<'a>(
     alloc: Global,
@@ -117,7 +117,7 @@ fn name_list<'a>(
     Ok((names, rest))
 }
 
-// The names behind `CLOCKED`, if it comes.
+// The names after `CLOCKED`, if it comes.
 #[tactic(auto, using(crate::proofs::Exits::hdl_exits))]
 fn clocked<'a>(
     alloc: Global,
@@ -136,7 +136,7 @@ fn clocked<'a>(
     Ok((names, rest))
 }
 
-// The index behind `..`, if that comes.
+// The index after `..`, if that comes.
 #[tactic(auto, using(crate::proofs::Exits::hdl_exits))]
 fn last<'a>(
     tokens: &'a [Token<'a>],

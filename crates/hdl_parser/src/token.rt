@@ -18,8 +18,8 @@ pub enum Keyword {
     False,
 }
 
-/// What a token is. A symbol of one byte is told by its byte, `..` is `Dots`, a number is told by its value, where one over
-/// 1,000,000,000 is 1,000,000,001.
+/// What a token is. A symbol of one byte is given by its byte, `..` is `Dots`, a number is given by its value, where one
+/// over 1,000,000,000 is 1,000,000,001.
 #[derive(Clone, Copy, Debug, PartialEq, Eq)]
 pub enum Kind {
     Keyword(Keyword),

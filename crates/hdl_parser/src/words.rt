@@ -72,7 +72,7 @@ pub fn keyword<'a>(
     }
 }
 
-/// `..` behind the index `first`.
+/// `..` after the index `first`.
 pub fn dots<'a>(
     tokens: &'a [Token<'a>],
     end: Place,
@@ -141,7 +141,7 @@ pub fn index<'a>(tokens: &'a [Token<'a>], end: Place) -> Result<(u8, &'a [Token<
     Ok((n as u8, rest))
 }
 
-/// An index behind `..`, at most 15 and at least `first`.
+/// An index after `..`, at most 15 and at least `first`.
 pub fn last_index<'a>(
     tokens: &'a [Token<'a>],
     end: Place,

@@ -50,7 +50,8 @@ reaches_out ends.Keyboard name = false
 reaches_out ends.Rom name = bytes_eq name (codes "address")
 reaches_out (ends.Block bits) name = bytes_eq name (codes "address")
 
--- Within a cycle one bit feeds another: a net or pin the input of a part, the output of a part a net or pin, the pin of an end its out.
+-- Within a cycle one bit feeds another. A net or pin feeds the input of a part, the output of a part a net or pin, and the pin of an
+-- end its out.
 pub data Feeds (chips : Chips) (top : Entry) : BitAt → BitAt → Type 0 where
   down : {path : List ℕ} {i k : ℕ} {conn : Connection} {w : Selection} → IsJoint chips top path i conn w k true → Feeds chips top (outside_bit path w k) (inside_bit path i conn k)
   up : {path : List ℕ} {i k : ℕ} {conn : Connection} {w : Selection} → IsJoint chips top path i conn w k false → Feeds chips top (inside_bit path i conn k) (outside_bit path w k)
@@ -64,7 +65,7 @@ pub record IsCircle (chips : Chips) (top : Entry) (bits : List BitAt) : Type 0 w
   pub some : 0 < length bits
   pub feeds : (k : ℕ) (x y : BitAt) → slice_get bits k ≡ Some x → next_bit bits k ≡ Some y → Feeds chips top x y
 
--- A bit of a circle is outermost where the bits before and behind it lie in parts of its chip: there the way goes up no further.
+-- A bit of a circle is outermost where the bits before and after it lie in parts of its chip: there the way goes up no further.
 abbrev pub is_peak : BitAt → BitAt → BitAt → Bool
 is_peak before bit behind = if nat_lt (length bit.path) (length before.path) then nat_lt (length bit.path) (length behind.path) else false
 

@@ -14,7 +14,7 @@ step_nets chips chip (i ∷ []) (j ∷ []) n b m k f = peaks (bit_at [] n b) f.d
 step_nets chips chip (i ∷ []) (j ∷ l ∷ q) n b m k f = []
 step_nets chips chip (i ∷ l ∷ p) q n b m k f = []
 
--- a bit of the chip is told, a bit of a part's pin has a name further out
+-- a bit of the chip is given, a bit of a part's pin has a name further out
 abbrev pub own_net : List ℕ → List ℕ → List (List ℕ)
 own_net [] name = name ∷ []
 own_net (i ∷ p) name = []

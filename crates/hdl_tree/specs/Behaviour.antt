@@ -1,5 +1,5 @@
--- What a chip does: a behaviour gives each bit of each pin and net of the chip and of all parts
--- in it its value in each cycle, so that connections join equal bits and each end does its work. (The book, chapters 1 to 3, and appendix 2.)
+-- What a chip does. A behaviour gives each bit of each pin and net of the chip and of all parts in it its value in each cycle. In it
+-- connections join equal bits and each end does its work. (The book, chapters 1 to 3, and appendix 2.)
 use Rattle.std.specs.Prelude.{◌≡◌, ℕ, zero, suc, ◌+◌, ◌<◌, ◌^◌, Bool, true, false, not, cond, ◌&&◌, ◌||◌, ◌==◌, nat_le, List, [], ◌∷◌, ◌++◌, Option, Some, None, slice_get, codes}
 use Rattle.std.specs.Str.{bytes_eq}
 use Rattle.hdl_tree.specs.declared.tree.Pin.{Pin}
@@ -127,7 +127,7 @@ abbrev pub ChipWired : {X : Type 0} → X → X → Chips → Entry → Option E
 ChipWired low high library chip None wires inside works = PartsWired low high library chip (parts_of_body chip.chip.body) wires inside
 ChipWired low high library chip (Some e) wires inside works = works e
 
--- all of a chip is wired, its parts and their parts down to the ends: the wires at a path of part
+-- all of a chip is wired, its parts and their parts down to the ends. The wires at a path of part
 -- numbers are those of the part there, and works says what an end does at a path
 abbrev pub Wired : {X : Type 0} → X → X → Chips → Entry → (List ℕ → End → Type 0) → (List ℕ → Wires X) → Type 0
 Wired low high library chip works wires =

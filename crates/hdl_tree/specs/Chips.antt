@@ -70,7 +70,7 @@ first None = 0
 first (Some (subscript.Bit k)) = k
 first (Some (subscript.Bits a b)) = a
 
--- how many bits are taken of so many
+-- how many bits are taken of this many
 abbrev pub count : Option Subscript → ℕ → ℕ
 count None width = width
 count (Some (subscript.Bit k)) width = 1

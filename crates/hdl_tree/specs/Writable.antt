@@ -38,7 +38,7 @@ abbrev pub is_among : List ℕ → List (List ℕ) → Bool
 is_among text [] = false
 is_among text (word ∷ words) = bytes_eq text word || is_among text words
 
--- letters, digits and underscores, of which the first is no digit, and no reserved word
+-- letters, digits and underscores, the first no digit, and no reserved word
 abbrev pub name_can : List ℕ → Bool
 name_can [] = false
 name_can (b ∷ bs) = is_letter b && (all is_name_byte bs && not (is_among (b ∷ bs) reserved_names))

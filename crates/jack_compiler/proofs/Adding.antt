@@ -17,7 +17,7 @@ four l0 l1 l2 l3 l4 p q r s a b c d =
     ∙ ap (λ z. z ++ (r ++ s)) b ∙ append_assoc l1 q (r ++ s)
     ∙ ap (λ z. z ++ (q ++ (r ++ s))) a ∙ append_assoc l0 p (q ++ (r ++ s))
 
--- the lines of a text that begins where so many labels stand
+-- the lines of a text that begins where this many labels stand
 text_at : (around : Around) (next i w : ℕ) (t : Text) (m m' : Body) (l : List Line) → AddsText around next t m m' → m.lines ≡ l → m.ifs ≡ i → m.whiles ≡ w → m'.lines ≡ l ++ text_lines around next i w t
 text_at around next i w t m m' l h a b c =
     h.lines ∙ ap (λ z. z ++ text_lines around next m.ifs m.whiles t) a ∙ ap (λ (z : ℕ). l ++ text_lines around next z m.whiles t) b ∙ ap (λ (z : ℕ). l ++ text_lines around next i z t) c

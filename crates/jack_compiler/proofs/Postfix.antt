@@ -59,7 +59,7 @@ module _ (around : Around) (n : ℕ) where
   behind_two es a b ls =
       sym (append_assoc (stack_lines (a ∷ es)) (expression_lines around n b) ls ∙ append_assoc (stack_lines es) (expression_lines around n a) (expression_lines around n b ++ ls))
 
-  -- a part that finds its operands adds its lines behind theirs
+  -- a part that finds its operands adds its lines after theirs
   put_lines : (p : Part) (es : List AnExpression) → takes p ≤ length es → stack_lines (put p es) ≡ stack_lines es ++ part_lines around n p
   put_lines (part.Literal w) es le = refl
   put_lines (part.Argument k) es le = refl

@@ -57,7 +57,7 @@ behind_two es a b = sym (append_assoc (stack_calls es) (calls a) (calls b))
 nothing_more : (xs ys : List ℕ) → xs ≡ ys → xs ≡ ys ++ []
 nothing_more xs ys e = e ∙ sym (append-nil ys)
 
--- a part that finds its operands adds its calls behind theirs
+-- a part that finds its operands adds its calls after theirs
 put_calls : (p : Part) (es : List AnExpression) → takes p ≤ length es → stack_calls (put p es) ≡ stack_calls es ++ part_calls p
 put_calls (part.Literal w) es le = refl
 put_calls (part.Argument k) es le = refl

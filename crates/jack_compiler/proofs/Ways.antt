@@ -38,7 +38,8 @@ module _ (program : Program) (numbers : Numbers) (linked : Linked) (depth : ℕ)
   abbrev pub R : State → VmState → Type 0
   R = Match program numbers linked depth
 
-  -- within so many steps of the computer the step of u is made, or its end comes; and where u strays, v does in the end
+  -- within this many steps of the computer the step of u is made, or its end comes; and where u strays, v does in the
+  -- end
   pub record Goes (u : State) (m : ℕ) (v : VmState) : Type 0 where
     pub way : Way up low (vm_cost most_steps linked) R u m [] v
     pub strays : (a : ℕ) → ((key : ℕ) → step program.subroutines key u ≡ Stray a) → ComesAstray program.subroutines linked u a m v

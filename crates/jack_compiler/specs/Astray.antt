@@ -19,6 +19,7 @@ module _ (subs : List Subroutine) (linked : Linked) (s : State) (a : ℕ) where
     pub unheard : pend ≡ []
     pub address : (key : ℕ) → vm_step linked key v ≡ Strays (stray.Address a)
 
-  -- Within so many steps of the computer the virtual machine comes by quiet commands to one that goes astray at this address.
+  -- Within this many steps of the computer the virtual machine comes by quiet commands to one that goes astray at this
+  -- address.
   abbrev pub ComesAstray : ℕ → VmState → Type 0
   ComesAstray n v = Along (meaning_of subs) (vm_system linked) (vm_cost most_steps linked) s StraysAt n [] v

@@ -39,7 +39,7 @@ module _ (program : Program) (names class_names : List (List ℕ)) where
   abbrev pub class_file : ℕ → File
   class_file k = file_of (get_or class_names k []) (functions_of (around_class program.classes names k) k 1 (drop 1 program.subroutines))
 
-  -- the files of so many classes from the one of number k
+  -- the files of this many classes from the one of number k
   abbrev pub files_from : ℕ → List Class → List File
   files_from k [] = []
   files_from k (c ∷ cs) = class_file k ∷ files_from (k + 1) cs

@@ -23,8 +23,8 @@ locals_to_make (f ∷ below) (vf ∷ vbelow) = length f.locals - length vf.local
 locals_to_make _ _ = 0
 
 pub record SimulationLaw : Type 0 where
-  -- Each step of the meaning is made by the virtual machine, in commands of together at most gap - 16 steps of the computer, the last of
-  -- which alone is a commit; on the way the point, heap and screen stay those of the meaning, and no command is full or finds its value,
+  -- Each step of the meaning is made by commands of the virtual machine, together at most gap - 16 steps of the computer. The last of
+  -- them alone is a commit. On the way the point, heap and screen stay those of the meaning. No command is full or finds its value,
   -- argument, local or code missing.
   pub steps : (program : Program) (numbers : Numbers) (linked : Linked) (depth most_locals : ℕ) → IsFit program numbers depth most_locals → IsCodeOf program numbers linked
       → Simulates (meaning_of program.subroutines) (vm_system linked) (vm_cost most_steps linked) (Match program numbers linked depth) (λ s. gap depth most_locals - 16)

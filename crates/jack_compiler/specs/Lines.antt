@@ -145,9 +145,9 @@ module _ (around : Around) where
     arguments_lines n NoMore = []
     arguments_lines n (More e es) = expression_lines n e ++ arguments_lines n es
 
-  -- The commands of a statement and of a text, where `next` is the number of the statement that follows, and so many choices and loops stand
-  -- before it in the subroutine. An `if-goto` ends the step that chooses; a `goto` belongs to the statement that it leads to. An `if` without
-  -- an `else` has no `goto` and no third label; with an empty `else` it has both.
+  -- The commands of a statement and of a text. Here `next` is the number of the statement that follows, and these numbers of choices and
+  -- loops stand before it in the subroutine. An `if-goto` ends the step that chooses; a `goto` belongs to the statement that it leads to. An
+  -- `if` without an `else` has no `goto` and no third label; with an empty `else` it has both.
   abbrev mutual
     pub statement_lines : ℕ → ℕ → ℕ → Statement → List Line
     statement_lines next i w (Let n x e) = expression_lines n e ++ commit n (pop_variable x) ∷ []

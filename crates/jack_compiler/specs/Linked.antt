@@ -18,8 +18,8 @@ use Rattle.jack_compiler.specs.Files.{files_of}
 use Rattle.jack_compiler.specs.Statics.{has_word, static_word}
 use Rattle.jack_compiler.specs.Resolved.{IsResolvedCore}
 
--- This is the code of the program: it has just the subroutines that the program can come to, each once. The program fits, as deep as the deepest of these
--- is nested and with as many locals as one of them has at most.
+-- This is the code of the program: it has just the subroutines that the program can come to, each once. The program fits, as deep as the deepest of
+-- these is nested and with as many locals as one of them has at most.
 pub record IsLinkedProgram (program : Program) (linked : Linked) : Type 0 where
   pub numbers : Numbers
   pub depth : ℕ

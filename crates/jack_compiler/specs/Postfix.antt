@@ -10,7 +10,7 @@ use Rattle.jack_core.specs.Reading.{the_sign, the_operator}
 use Rattle.jack_compiler.specs.Lines.{Around, commit, literal_lines, push_variable, sign_command, operator_command, load_lines}
 
 module _ (around : Around) where
-  -- what a part adds behind the commands of its operands
+  -- what a part adds after the commands of its operands
   abbrev pub part_lines : ℕ → Part → List Line
   part_lines n (part.Literal w) = literal_lines n w
   part_lines n (part.Argument k) = commit n (push_variable around (Argument k)) ∷ []

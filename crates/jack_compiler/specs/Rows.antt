@@ -129,7 +129,7 @@ pub record RowsLaw : Type 0 where
       ∷ commit 3 (command.Push segment.Constant 0)
       ∷ commit 3 command.Return
       ∷ []
-  -- behind the first branch stands a `goto` to the end, which is where the empty second one begins
+  -- after the first branch stands a `goto` to the end, which is where the empty second one begins
   pub empty_else : subroutine_code some_numbers an_empty_else ≡
       quiet 1 (command.Function 0)
       ∷ commit 1 (command.Push segment.Argument 0)

@@ -1,9 +1,9 @@
 -- The commands of a program's text: the templates of chapters 10 and 11, as linked code, in which a jump names a place and not a label.
 -- Each command has the number of its statement, and those that end a step of the meaning are commits.
 --
--- In the VM language the same templates have labels: `label WHILE_EXP` stands where a loop begins, `label WHILE_END` behind it;
--- `label IF_TRUE`, `label IF_FALSE`, `label IF_END` where the first branch begins, where the second one begins, and where it ends. A label is no step, so
--- the place of a label is the number of commands before it: just the places that stand here.
+-- In the VM language the same templates have labels: `label WHILE_EXP` stands where a loop begins, `label WHILE_END` after it; `label IF_TRUE`,
+-- `label IF_FALSE`, `label IF_END` where the first branch begins, where the second one begins, and where it ends. A label is no step, so the place of
+-- a label is the number of commands before it: just the places that stand here.
 --
 -- Of the two texts of the templates the one with names, Lines, is the definition: it is the VM code that the book shows, and what `compile`
 -- writes. What stands here is the form that the laws of a run are about; that the linked code of each compiled program has this form is
@@ -106,7 +106,7 @@ no_else o End = not o
 no_else o (Next s rest) = false
 
 -- The commands of a statement and of a text that begin at a place, where `next` is the number of the statement that follows. An `if-goto`
--- ends the step that chooses; a `goto` belongs to the statement that it leads to. An `if` without an `else` has no `goto` behind its
+-- ends the step that chooses; a `goto` belongs to the statement that it leads to. An `if` without an `else` has no `goto` after its
 -- statements; with an empty one it has.
 abbrev mutual
   pub statement_code : Numbers → ℕ → ℕ → Statement → List Code

@@ -26,14 +26,14 @@ pub struct Body {
     pub whiles: u32,
 }
 
-// So many choices or loops, and one more, where 32 bits count them.
+// This many choices or loops, and one more, where 32 bits count them.
 fn one_more(count: u32) -> Result<u32, AllocError>
     ensures { IfOk result (λ n. n ≡ suc count) }
 {
     count.checked_add(1).ok_or(AllocError)
 }
 
-/// The number of the first statement, or of what follows where there is none.
+/// The number of the first statement, or of what follows where there is no statement.
 pub(crate) fn first_number(next: u32, ss: &[Statement]) -> u32
     ensures { result ≡ first_number next (the_block ss.now) }
 {

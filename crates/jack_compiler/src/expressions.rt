@@ -99,7 +99,7 @@ fn add_load(lines: &mut List<Line>, statement: u32) -> Result<(), AllocError>
     commit(lines, statement, Command::Push(Segment::That, 0))
 }
 
-// What a part adds behind the commands of its operands.
+// What a part adds after the commands of its operands.
 fn add_part(
     lines: &mut List<Line>,
     around: &Around<'_>,

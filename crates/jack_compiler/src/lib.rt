@@ -1,12 +1,12 @@
 //! The compiler of the book's chapters 10 and 11: the virtual machine's program of a program with resolved names, and that
 //! its linked code does what the program means.
 //!
-//! `compile` makes the program; what it is stands in `specs/`: `Lines` (the templates, with names) and `Files`. The other
-//! definitions are `Postfix` (the lines of each part of an expression), `Templates` (the code that linking makes of the templates),
-//! `Fits` (what a program with resolved names meets as far as it is linked), `Resolved` (what the checks of names see to), `Places` and
-//! `Match` (which states of the meaning and of the virtual machine match), `Astray`, `Runs`, `Linked`, `Laws`, `Rows` and `Small`. `link_core`
-//! compiles only what `reached` finds (`Inner`: `Searched`, `Hollow`). The functions that are laws do nothing; their contracts say what holds
-//! of the definitions.
+//! `compile` makes the program; what it is stands in `specs/`: `Lines` (the templates, with names) and `Files`. Of the other definitions
+//! `Postfix` has the lines of each part of an expression, and `Templates` the code that linking makes of the templates. `Fits` says what a
+//! program with resolved names meets as far as it is linked, and `Resolved` what the checks of names see to. `Places` and `Match` say which
+//! states of the meaning and of the virtual machine match. Beside them stand `Astray`, `Runs`, `Linked`, `Laws`, `Rows` and `Small`.
+//! `link_core` compiles only what `reached` finds (`Inner`: `Searched`, `Hollow`). The functions that are laws do nothing; their contracts say
+//! what holds of the definitions.
 #![tactic(auto)]
 
 ghost use Rattle.jack_compiler.specs.Laws.{SimulationLaw};
@@ -26,9 +26,9 @@ mod reached;
 pub use linking::link_core;
 pub use program::compile;
 
-/// Each step of a program's meaning is made by commands of the virtual machine that runs its code, the last of which
-/// alone is a commit, within the gap less 16. Where the meaning strays, the machine does in the same way, at the same address.
-/// Matching states have one point; the machine has no more words on the stack than the meaning, and about as many.
+/// Each step of a program's meaning is made by commands of the virtual machine that runs its code. The last of them alone is a
+/// commit, and they are within the gap less 16. Where the meaning strays, the machine does in the same way, at the same
+/// address. Matching states have one point; the machine has no more words on the stack than the meaning, and about as many.
 pub fn simulation_law()
     ensures { SimulationLaw }
 {}
@@ -51,8 +51,8 @@ pub fn compiled_law()
     ensures { CompiledLaw }
 {}
 
-/// Small subroutines have the code that the templates of chapters 7 to 11 say, and there is a program with code of
-/// which `simulation_law` speaks.
+/// Small subroutines have the code that the templates of chapters 7 to 11 say, and there is a program with code
+/// that `simulation_law` speaks of.
 pub fn rows_law()
     ensures { RowsLaw }
 {}

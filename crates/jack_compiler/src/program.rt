@@ -178,7 +178,7 @@ fn others(core: &Core) -> &[Subroutine]
     &core.subroutines[1..]
 }
 
-/// The VM program of a program with resolved names: a file for each class, which has its name, with the commands of the book's chapters 7 to
+/// The VM program of a program with resolved names. It has a file for each class, with its name and the commands of the book's chapters 7 to
 /// 11 for its subroutines. Each command has the number of its statement, and whether it ends a step of the meaning.
 pub fn compile(alloc: Global, core: &Core) -> Result<Program, AllocError>
     requires resolved { IsResolvedCore core.now }

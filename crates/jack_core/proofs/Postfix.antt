@@ -32,7 +32,7 @@ enough h k p ps e = leb-true (takes p) h (test_of (nat_le (takes p) h) (height (
 pub behind : (h k : ℕ) (p : Part) (ps : List Part) → height h (p ∷ ps) ≡ Some k → height (h - takes p + 1) ps ≡ Some k
 behind h k p ps e = rest_of (nat_le (takes p) h) (height (h - takes p + 1) ps) k e
 
--- a part that finds its operands, and others behind it
+-- a part that finds its operands, and others after it
 pub height_first : (h : ℕ) (p : Part) (ps : List Part) → takes p ≤ h → height h (p ∷ ps) ≡ height (h - takes p + 1) ps
 height_first h p ps le = ap (λ b. if b then height (h - takes p + 1) ps else None) (le-leb (takes p) h le)
 
@@ -50,7 +50,8 @@ put_over p es low le =
 pub put_length : (p : Part) (es : List AnExpression) → takes p ≤ length es → length (put p es) ≡ length es - takes p + 1
 put_length p es le = omega (arith, le, length-drop (takes p) es)
 
--- Parts that find their operands leave what is below those alone, and so many expressions are there after them.
+-- Parts that find their operands leave what is below those alone, and this many expressions are there after
+-- them.
 pub built_over : (k : ℕ) (es low : List AnExpression) (ps : List Part) → height (length es) ps ≡ Some k → build_expressions (es ++ low) ps ≡ build_expressions es ps ++ low
 built_over k es low [] e = refl
 built_over k es low (p ∷ ps) e =
@@ -90,7 +91,7 @@ raised l h (p ∷ ps) k e =
     let same : h + l - takes p + 1 ≡ h + (l - takes p + 1) = omega (arith, le) in
     height_first (h + l) p ps le' ∙ ap (λ x. height x ps) same ∙ raised (l - takes p + 1) h ps k (behind l k p ps e)
 
--- parts that leave so many leave as many more over others
+-- parts that leave this many leave as many more over others
 pub height_over : (h k : ℕ) (ps : List Part) → height 0 ps ≡ Some k → height h ps ≡ Some (h + k)
 height_over h k ps e =
     let same : h + 0 ≡ h = omega arith in

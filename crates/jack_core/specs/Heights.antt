@@ -16,8 +16,8 @@ takes (part.Binary o) = 2
 takes part.Load = 2
 takes (part.Call n g) = n
 
--- How many expressions there are after these parts, over so many before them: each part makes one of its operands. None where a part has too
--- few of them.
+-- How many expressions there are after these parts, over this many before them: each part makes one of its operands. None where a part has
+-- too few of them.
 abbrev pub height : ℕ → List Part → Option ℕ
 height h [] = Some h
 height h (p ∷ ps) = if nat_le (takes p) h then height (h - takes p + 1) ps else None

@@ -82,8 +82,9 @@ pub enum Kind {
     Method,
 }
 
-/// A subroutine: its whole name as it is printed (`Main.main`), its kind, the number of its class, how many arguments it
-/// takes (a method's object is one) and how many locals it has, and its statements, the last of which is a `Return`.
+/// A subroutine: its whole name as it is printed (`Main.main`), its kind, the number of its class, and its statements,
+/// the last of which is a `Return`. It says how many arguments it takes (a method's object is one), and how many locals
+/// it has.
 #[derive(Drop)]
 pub struct Subroutine {
     pub name: Name,

@@ -52,7 +52,7 @@ pub enum Part {
     Binary(Operator),
     /// The word at base plus index, the two values that precede it.
     Load,
-    /// A call of the subroutine of this number with so many arguments, which precede it.
+    /// A call of the subroutine of this number with this many arguments, which precede it.
     Call { arguments: u16, number: u32 },
 }
 

@@ -1,5 +1,5 @@
--- The text of the map of a program, in its second form: the control points of its image with their places in the source, its commits, the routines that
--- commands share, and its subroutines, their variables and those of classes. (The book, chapters 7 to 11.)
+-- The text of the map of a program, in its second form. It has the control points of its image with their places in the source, its commits, the
+-- routines that commands share, and its subroutines, their variables and those of classes. (The book, chapters 7 to 11.)
 use Rattle.std.specs.Prelude.{ℕ, zero, suc, ◌+◌, List, [], ◌∷◌, ◌++◌, codes, decimal, length, Option, Some, None, slice_get}
 use Rattle.std.specs.List.{flat_map}
 use Rattle.image_map.specs.Text.{commit_line, shared_line}

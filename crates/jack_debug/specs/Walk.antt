@@ -59,7 +59,7 @@ abbrev pub statics_of : Option ClassPlaces → List PlacedStatic
 statics_of None = []
 statics_of (Some class) = class.statics
 
--- The locals of a frame may begin at L, where those of the frame above it begin at `above`: the stack begins at 256 and ends at 2047, and five
+-- The locals of a frame may begin at L, where those of the frame above it begin at `above`. The stack begins at 256 and ends at 2047, and five
 -- saved words stand before the locals of each frame.
 pub record IsFrame (above l : ℕ) : Type 0 where
   pub from : 261 ≤ l

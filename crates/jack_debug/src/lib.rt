@@ -1,6 +1,6 @@
-//! What a debugger tells of a computer that runs a program: the variables of the innermost call, and its callers.
+//! What a debugger shows of a computer that runs a program: the variables of the innermost call, and its callers.
 //!
-//! It reads the words of the computer's memory and the program's `Places`, and nothing else; what it reads there is `Walk`
+//! It reads the words of the computer's memory and the program's `Places`, and nothing else. What it reads there is `Walk`
 //! in `specs/`, which says it of any words, also of those of a stack that a program has overwritten.
 #![tactic(auto)]
 

@@ -122,7 +122,7 @@ fn form_word(form: Form) -> &'static str
     }
 }
 
-// The line of a subroutine with a word for its form and so many arguments and locals.
+// The line of a subroutine with a word for its form and this many arguments and locals.
 fn put_counts<S: Sink>(
     name: &Name,
     form: &str,
@@ -381,8 +381,8 @@ fn put_map<S: Sink>(places: &Places, out: &mut Pieces<'_, S>) -> Put
     }
 }
 
-/// Puts the map of a program in its second form: its points with their places in the source, its commits, the routines that
-/// commands share, its linked subroutines and their variables, and the fields and statics of their classes.
+/// Puts the map of a program in its second form: its points with their places in the source, its commits, and the routines
+/// that commands share. Then come its linked subroutines and their variables, and the fields and statics of their classes.
 pub fn print_map<S: Sink>(places: &Places, out: &mut S) -> Put
     ensures put { Puts (S.written out.old) (S.written out.new) (map_text places.now) result }
     ensures counts { CountsPut (S.faults out.old) (S.faults out.new) result }

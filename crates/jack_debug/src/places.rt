@@ -57,8 +57,8 @@ pub struct ClassPlaces {
 }
 
 /// The places of a program: the ranges of its image in order of address, its commits and shared routines, its subroutines
-/// and its classes. A subroutine's number is 0 for `start`, and k + 1 for the one of index k here. A class is told by its
-/// index.
+/// and its classes. A subroutine's number is 0 for `start`, and k + 1 for the one of index k here. A class is given by
+/// its index.
 #[derive(Drop)]
 pub struct Places {
     pub ranges: List<PlacedRange>,

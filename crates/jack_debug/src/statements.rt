@@ -44,8 +44,8 @@ fn add_statements(ss: &[Statement], places: &mut List<Place>) -> Result<(), Allo
     Ok(())
 }
 
-/// The places of a subroutine's statements by their numbers: that of number 0 by which a constructor takes the memory of its
-/// object, those of the text, and that of the `return` that a body without one gets.
+/// The places of a subroutine's statements by their numbers. There is that of number 0, by which a constructor takes the
+/// memory of its object, and those of the text. A body without a `return` has that of the one that it gets.
 pub fn subroutine_places(alloc: Global, sub: &Subroutine) -> Result<List<Place>, AllocError>
     ensures { IfOk result (λ places. places ≡ subroutine_places (the_subroutine sub.now)) }
 {

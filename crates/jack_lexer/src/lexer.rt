@@ -153,7 +153,7 @@ fn text_len(bytes: &[u8]) -> usize
 
 /// The tokens of a Jack text, and the place of its end.
 ///
-/// Grammar where a byte begins no token and where a string or a comment is not closed, Range at an integer over 32,767, and at 0:0
+/// Grammar where a byte begins no token and where a string or a comment is not closed. Range at an integer over 32,767, and at 0:0
 /// where the text has more than 1,048,576 bytes.
 pub fn tokens<'a>(alloc: Global, text: &'a [u8]) -> Result<(Vec<Token<'a>>, Place), ReadError>
     ensures tokens { Gives (λ x. map view x.0.items) result (tokens_of text.now) }

@@ -41,7 +41,7 @@ fresh_fits First.Nothing = refl
 pub none_stand : (h : ℕ) (first : First) → height h (parts_of first) ≡ Some (wanted_count first) → h ≡ 0
 none_stand h first e = let all : h + wanted_count first ≡ wanted_count first = some_is (sym (height_over h (wanted_count first) (parts_of first) (fresh_fits first)) ∙ e) in omega (arith, all)
 
--- the part that is next, and those behind it
+-- the part that is next, and those after it
 module _ (f : Front) (p : Part) (next : slice_get (parts_of f.first) f.done ≡ Some p) where
   pub next_is : drop f.done (parts_of f.first) ≡ p ∷ drop (f.done + 1) (parts_of f.first)
   next_is = drop_found (parts_of f.first) f.done p next ∙ ap (λ n. p ∷ drop n (parts_of f.first)) (sym (add-one f.done))

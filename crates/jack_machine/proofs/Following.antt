@@ -1,4 +1,4 @@
--- The rest of a text and the rows behind what comes first.
+-- The rest of a text and the rows after what comes first.
 use Rattle.std.proofs.Common.{◌≡◌, ℕ, zero, suc, ◌+◌, Bool, false, List, if◌then◌else◌, refl, sym, ap, ◌∙◌, rules}
 use Rattle.std.specs.Prelude.{nat_eq}
 use Rattle.std.proofs.Math.Numerals.{add-one}

@@ -32,7 +32,7 @@ drop_through [] y zs (suc n) j e = let same : n ≡ j = omega (arith, e) in ap (
 drop_through (x ∷ xs) y zs zero j e = absurd (omega (arith, e))
 drop_through (x ∷ xs) y zs (suc n) j e = let less : n ≡ length xs + suc j = omega (arith, e) in drop_through xs y zs n j less
 
--- the element that a look at a list finds, and those behind it
+-- the element that a look at a list finds, and those after it
 pub drop_found : {A : Type 0} (xs : List A) (k : ℕ) (x : A) → slice_get xs k ≡ Some x → drop k xs ≡ x ∷ drop (suc k) xs
 drop_found [] zero x e = cc
 drop_found [] (suc k) x e = cc

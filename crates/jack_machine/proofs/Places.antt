@@ -53,7 +53,7 @@ module _ (c : Expression → Expression) (place : IsPlace c) where
   among (y ∷ ys) fs v x h =
       ap (λ m. within m (More (Value y)) Stands) (among ys fs v x h) ∙ within_twice (rewrite v x) (λ z. arguments_of (map Value ys ++ c z ∷ fs)) (More (Value y)) Stands h
 
-  -- Values stand before it, and any expressions behind it, and a part is made of them all.
+  -- Values stand before it, and any expressions after it, and a part is made of them all.
   made_of : (p : Part) (ys : List ℕ) (fs : List Expression) → takes p ≡ length ys + suc (length fs) → IsPlace (λ x. make_expression p (map Value ys ++ c x ∷ fs))
   made_of (part.Literal n) ys fs e = absurd (omega (arith, e))
   made_of (part.Argument k) ys fs e = absurd (omega (arith, e))

@@ -19,7 +19,7 @@ act_of s f below (If n o c a b) rest = passed_over s f below (joined_text (text_
 act_of s f below (While n c a) rest = Done
 act_of s f below (Return n e) rest = after_return s below (value_of e)
 
--- the same, told by its effect on a text
+-- the same, by its effect on a text
 abbrev pub outcome_on : State → Frame → List Frame → Text → Effect → Outcome
 outcome_on s f below text (Effect.Assigns x w) = after_assignment s f below (text_tail text) (the_variable x) w
 outcome_on s f below text (Effect.Stores a w) = after_store s f below (text_tail text) a w

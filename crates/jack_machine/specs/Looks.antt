@@ -22,7 +22,7 @@ passed_values p ws = drop (length ws - takes p) ws
 abbrev pub spared_values : Part → List ℕ → List ℕ
 spared_values p ws = take (length ws - takes p) ws
 
--- the move that a sight tells of, where these values are passed to a call
+-- the move that a sight asks for, where these values are passed to a call
 abbrev pub move_of : ℕ → List ℕ → Sight → Move Expression
 move_of key ws (Sight.Puts w) = Rewrites false (Value w)
 move_of key ws Sight.Hears = Rewrites true (Value key)

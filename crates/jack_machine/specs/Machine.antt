@@ -25,7 +25,7 @@ pub record IsEntered (p : Part) (top : FrameTree) (below : List FrameTree) (ente
   pub on_top : top' ≡ entered
   pub waiting : the_stack below' ≡ opened_frame p top ∷ the_stack below
 
--- the caller goes on with the value, or there is none
+-- the caller goes on with the value, or there is no caller
 abbrev pub IsReturned : ℕ → FrameTree → List FrameTree → Bool → FrameTree → List FrameTree → Type 0
 IsReturned w top below true top' below' =
     (f : Frame) × (the_stack below ≡ f ∷ the_stack below') × (the_frame top' ≡ record f { text = filled_text w f.text })

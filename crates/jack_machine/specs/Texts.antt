@@ -12,7 +12,7 @@ use Rattle.jack_machine.specs.declared.fronts.Front.{Front}
 use Rattle.jack_machine.specs.declared.texts.Row.{Row}
 use Rattle.jack_machine.specs.declared.texts.Text.{Text}
 
--- A statement with these expressions in the places of its own, the last one first. A loop of which something is done is the choice that the
+-- A statement with these expressions in the places of its own, the last one first. A loop with something done is the choice that the
 -- meaning reads it as.
 abbrev pub written_statement : Statement → List AnExpression → AStatement
 written_statement (Statement.Let n x e) es = Let n (the_variable x) (operand 0 es)
@@ -24,13 +24,14 @@ written_statement (If' n o c p a q b) es = If n o (operand 0 es) (the_row a) (th
 written_statement (While' n c p s) es = If n false (operand 0 es) (turn_of n (the_expression c) (the_row s)) End
 written_statement (Statement.Return n e) es = Return n (operand 0 es)
 
--- a text that begins so, and this text behind it
+-- a text that begins so, and this text after it
 abbrev pub written_first : First → List AnExpression → AText → AText
 written_first (First.Start init) es rest = Next (Do 1 (operand 0 es)) rest
 written_first (First.Statement s) es rest = Next (written_statement s.now es) rest
 written_first First.Nothing es rest = End
 
--- The same, of which so many parts are done. A statement of which nothing is done stands as it is in the program.
+-- The same, with this many parts done. A statement with nothing done stands as it is in the
+-- program.
 abbrev pub begun_text : First → ℕ → List AnExpression → AText → AText
 begun_text (First.Statement s) zero es rest = Next (the_statement s.now) rest
 begun_text first done es rest = written_first first es rest
@@ -71,7 +72,7 @@ chosen_text w (Next (If n o c a b) rest) = joined_text (text_chosen w a b) rest
 chosen_text w (Next s rest) = rest
 chosen_text w End = End
 
--- the text behind its first statement
+-- the text after its first statement
 abbrev pub text_tail : AText → AText
 text_tail End = End
 text_tail (Next s rest) = rest

@@ -34,7 +34,7 @@ JackStep key old (Moved.Stray (Why.Address a)) new = (step (the_subroutines old.
 JackStep key old Moved.Done new = (step (the_subroutines old.core.now) key (jack_state old) ≡ Done) × IsSame old new
 JackStep key old _ new = ⊥
 
--- the answer that tells of an outcome
+-- the answer that stands for an outcome
 abbrev pub answer_of : Outcome → Moved
 answer_of (Acts heard s) = Moved.Acted
 answer_of (Stray a) = Moved.Stray (Why.Address a)

@@ -25,8 +25,8 @@ pub(crate) struct Frame<'a> {
     pub text: Text<'a>,
 }
 
-/// What a step of the top frame did, or what is left to be done: a call of a subroutine with so many arguments, a
-/// return, or nothing because of an address outside the memory or because no statement is left.
+/// What a step of the top frame did, or what is left to be done. That is a call of a subroutine with this number
+/// of arguments, a return, or nothing because of an address outside the memory or because no statement is left.
 #[derive(Clone, Copy, PartialEq, Eq, Debug)]
 pub(crate) enum Act {
     Acted,

@@ -98,7 +98,7 @@ impl<'a> Jack<'a> {
         self.below.len() + 1
     }
 
-    // A new frame for the call that is next in the top frame, with so many arguments.
+    // A new frame for the call that is next in the top frame, with this many arguments.
     fn make_call(&mut self, g: u32, n: u16) -> Result<(), AllocError>
         requires next { IsNext (part.Call n g) self.old.top }
         requires reached { ∥ AreReached (the_program self.old.core.now) (called_state (the_subroutines self.old.core.now) self.old.top self.old.memory (the_stack self.old.below.items) g n).frames ∥₁ }

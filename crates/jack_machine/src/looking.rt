@@ -34,7 +34,7 @@ pub(crate) enum Sight {
     Strays(u16),
 }
 
-/// The word at a place, and 0 where there is none.
+/// The word at a place, and 0 where there is no word.
 pub(crate) fn word_in(words: &[u16], k: usize) -> u16
     ensures { result ≡ slice_index words.now k }
 {

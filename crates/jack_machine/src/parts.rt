@@ -118,7 +118,7 @@ pub(crate) fn fill(front: &mut Front, w: u16)
     }
 }
 
-/// Something else comes first, of which nothing is done.
+/// Something else comes first, with nothing done.
 pub(crate) fn begin<'a>(front: &mut Front<'a>, first: First<'a>)
     ensures { IsBegun first.entry front.new }
 {

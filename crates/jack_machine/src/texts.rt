@@ -14,7 +14,7 @@ use crate::parts::begin;
 use jack_core::Statement;
 use std::alloc::{AllocError, Global};
 
-/// Statements of one block that follow: the first of them, and those behind it.
+/// Statements of one block that follow: the first of them, and those after it.
 #[derive(Clone, Copy)]
 pub(crate) struct Row<'a> {
     pub first: &'a Statement,
@@ -114,7 +114,7 @@ pub(crate) fn first_number(text: &Text) -> u32
     }
 }
 
-/// A text that begins with a block, and nothing behind it.
+/// A text that begins with a block, and nothing after it.
 pub(crate) fn text_of_block(alloc: Global, block: &[Statement]) -> Result<Text, AllocError>
     ensures { IfOk result (λ t. the_text t ≡ the_block block.now) }
 {
@@ -125,7 +125,7 @@ pub(crate) fn text_of_block(alloc: Global, block: &[Statement]) -> Result<Text, 
     Ok(text_with(alloc, first, after))
 }
 
-/// A text of which nothing is done.
+/// A text with nothing done.
 pub(crate) fn text_with<'a>(alloc: Global, first: First<'a>, after: Vec<Row<'a>>) -> Text<'a>
     ensures { the_text result ≡ begun_text first.entry 0 (build_expressions [] (parts_of first.entry)) (the_after after.entry.items) }
 {

@@ -8,7 +8,7 @@ both true b h = (refl, h)
 both false b h = absurd cc
 
 module _ {S : Type 0} (sys : System S) (start : S) (keys : List ℕ) where
-  -- from here so many more steps can be made, and at each state the words in use leave room
+  -- from here this many more steps can be made, and at each state the words in use leave room
   abbrev pub all_fit : ℕ → Option (Listening S) → Bool
   all_fit n None = false
   all_fit zero (Some l) = sys.fits l.state

@@ -93,7 +93,7 @@ abbrev mutual
   filled_in w NoMore = NoMore
   filled_in w (More e es) = More (filled w e) (filled_in w es)
 
--- the values that stand in an expression; an open call is none
+-- the values that stand in an expression; an open call is no value
 abbrev mutual
   pub standing : Expression → ℕ
   standing (Value w) = 1

@@ -15,7 +15,7 @@ abbrev mutual
   nest_in End = 0
   nest_in (Next s rest) = max (nest s) (nest_in rest)
 
--- The most that a count comes to over the linked subroutines of a program: none has more, and one has so many.
+-- The most that a count comes to over the linked subroutines of a program: none has more, and one has as many.
 pub record IsMost (program : Program) (count : ℕ → ℕ) (most : ℕ) : Type 0 where
   pub bounds : (g : ℕ) → IsLinked program g → count g ≤ most
   pub reached : (g : ℕ) × IsLinked program g × (count g ≡ most)

@@ -10,9 +10,9 @@ pub record MeaningLaw : Type 0 where
   -- a step that does not hear the key is the same under every key
   pub deaf : (program : Program) (s : State) (key key' : ℕ) → has_heard (step program.subroutines key s) ≡ false
       → step program.subroutines key' s ≡ step program.subroutines key s
-  -- whether the key is heard does not hang on which one it is
+  -- whether the key is heard does not depend on which key it is
   pub hears : (program : Program) (s : State) (key key' : ℕ) → has_heard (step program.subroutines key' s) ≡ has_heard (step program.subroutines key s)
-  -- where there is no step under one key there is none under any other
+  -- where there is no step under one key there is no step under any other
   pub strays : (program : Program) (s : State) (key key' a : ℕ) → step program.subroutines key s ≡ Stray a → step program.subroutines key' s ≡ Stray a
   pub done : (program : Program) (s : State) (key key' : ℕ) → step program.subroutines key s ≡ Done → step program.subroutines key' s ≡ Done
   -- the start's point

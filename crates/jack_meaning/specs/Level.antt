@@ -30,7 +30,7 @@ abbrev pub point_in : State → Point
 point_in s = record { sub = (point_of s.frames).0; number = (point_of s.frames).1 }
 
 -- Every step counts. With eight words to spare the stack (the words 256 to 2047) holds all frames. Whether a step hears the key, and
--- whether there is none, is the same under every key, so it is asked of key 0.
+-- whether there is a step, is the same under every key, so it is asked of key 0.
 abbrev pub meaning_of : List Subroutine → System State
 meaning_of subs = record {
   step = λ key s. next_of (step subs key s);

@@ -110,7 +110,7 @@ text_chosen (suc w) a b = a
 abbrev pub turn_of : ℕ → Expression → Text → Text
 turn_of n c s = joined_text s (Next (While n c s) End)
 
--- One step of the frame `f` over the frames `below`, by its first statement: its leftmost innermost part that is no value moves, or
+-- One step of the frame `f` over the frames `below`, by its first statement. Its leftmost innermost part that is no value moves, or
 -- where all its parts are values it acts.
 abbrev pub step_first : List Subroutine → ℕ → State → Frame → List Frame → Text → Outcome
 step_first subs key s f below End = Done

@@ -127,7 +127,7 @@ asks =
     ∷ []
     )
 
--- After m steps over these keys, the frames may want so many words of the stack.
+-- After m steps over these keys, the frames may want this many words of the stack.
 abbrev pub Wants : Program → List ℕ → ℕ → ℕ → Type 0
 Wants program keys m w = option_map (λ l. stack_words l.state.frames) (run program keys m) ≡ Some w
 
@@ -135,7 +135,8 @@ Wants program keys m w = option_map (λ l. stack_words l.state.frames) (run prog
 abbrev pub Leaves : Program → List ℕ → ℕ → List ℕ → Type 0
 Leaves program keys m left = option_map (λ l. l.keys) (run program keys m) ≡ Some left
 
--- class Main { function void main() { do Main.main(); return; } }, where `Sys.init` has so many locals
+-- class Main { function void main() { do Main.main(); return; } }, where `Sys.init` has this many
+-- locals
 abbrev pub calls_itself : ℕ → Program
 calls_itself locals = record {
   classes = class_of 0 0 ∷ class_of 0 0 ∷ [];
@@ -147,7 +148,7 @@ calls_itself locals = record {
   init = 1;
 }
 
--- a frame with this text, and with so many arguments and locals as these lists have words
+-- a frame with this text, and with as many arguments and locals as these lists have words
 abbrev pub frame_of : List ℕ → List ℕ → List Statement → Frame
 frame_of arguments locals ss = record { subroutine = 2; arguments = arguments; locals = locals; this = 0; text = text_of ss }
 

@@ -16,8 +16,8 @@ standing_first (Next (If n o c a b) rest) = standing c
 standing_first (Next (While n c s) rest) = 0
 standing_first (Next (Return n e) rest) = standing e
 
--- The words that these frames may want on the stack of chapters 7 and 8: the values that stand in their texts, and for each frame but
--- `start` its arguments, its locals and the five words of a call.
+-- The words that these frames may want on the stack of chapters 7 and 8. They are the values that stand in their texts, and for each
+-- frame but `start` its arguments, its locals and the five words of a call.
 abbrev pub stack_words : List Frame → ℕ
 stack_words [] = 0
 stack_words (f ∷ []) = standing_first f.text

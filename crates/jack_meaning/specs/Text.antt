@@ -84,8 +84,8 @@ number_of (Return n e) = n
 pub data Kind : Type 0 where
   Constructor Function Method : Kind
 
--- A subroutine: its kind, the number of its class, how many arguments it takes (a method's object is one) and how many locals
--- it has, and its statements, the last of which is a `return`.
+-- A subroutine: its kind, the number of its class, and its statements, the last of which is a `return`. It says how many arguments
+-- it takes (a method's object is one), and how many locals it has.
 pub record Subroutine : Type 0 where
   pub kind : Kind
   pub class : ℕ

@@ -49,7 +49,7 @@ stored s n x (Some i) e small =
     let value = there _ (expression_length e) (omega (arith, small)) (expression_made s e) in
     (Statement.Store n base.0 index.0 value.0, λ j. meaning.Store n (base.1 j) (index.1 j) (value.1 j))
 
--- statements of the code that are these, of which there are at most so many
+-- statements of the code that are these, of which there are at most this many
 pub record HasStatements (x : meaning.Text) (n : ℕ) : Type 0 where
   pub all : List Statement
   pub is : the_block all ≡ x

@@ -83,7 +83,7 @@ module _ (own os : List tree.ClassFile) where
       (finds_under 2 (finds_either (finds_under 0 (finds_files own os (map (file false) own))) (finds_under 1 (finds_files own os (system_files os))) (under_less (FilesF own os (map (file false) own)) (FilesF own os (system_files os)) 0 1 (lit< tt)))) (main_less UsedF))
       (before_rest DeclaredF UsedF)
 
-  -- each of them fails at a spot, which tells its order
+  -- each of them fails at a spot, which gives its order
   abbrev Told_at : List ℕ → NameDiagnostic → Type 0
   Told_at k t = (at : Spot) × (k ≡ order at t) × Fails own os at t
 

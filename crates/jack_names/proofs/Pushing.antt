@@ -48,7 +48,7 @@ turned_as f h old new same turns e es s = subst (λ x. Leaves (x ∷ es) new) (s
 pub added_as : (a b : meaning.Expression) (old new : List Part) → a ≡ b → Adds a old new → Adds b old new
 added_as a b old new same adds es s = subst (λ x. Leaves (x ∷ es) new) same (adds es s)
 
--- a term, and an operator behind it
+-- a term, and an operator after it
 pub joined : (f : meaning.Expression → meaning.Expression → meaning.Expression) (b : meaning.Expression) (old middle new : List Part) → Adds b old middle → Joins f middle new → Turns (λ a. f a b) old new
 joined f b old middle new adds joins a es s = joins a b es (adds (a ∷ es) s)
 

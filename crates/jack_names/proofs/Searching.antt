@@ -139,7 +139,7 @@ module _ {F G : Faults} (first : (k : List ℕ) (t : NameDiagnostic) → F k t �
   key_at : NameDiagnostic → ℕ → List ℕ
   key_at t c = kind_number t.kind ∷ c ∷ []
 
-  -- what comes behind what is behind
+  -- what comes after what is after
   behind : (k l k' : List ℕ) (t t' : NameDiagnostic) → IsLess k l → (t' ≡ t → k' ≡ l) → (t' ≡ t) ⊎ IsLess l k' → IsLess k k'
   behind k l k' t t' less same (inl e) = subst (IsLess k) (sym (same e)) less
   behind k l k' t t' less same (inr h) = less_trans k l k' less h

@@ -1,4 +1,4 @@
--- What is told is the first fault.
+-- What is reported is the first fault.
 use Rattle.std.proofs.Common.{map, List, Result, Ok, Err, sym, ◌∙◌}
 use Rattle.jack_core.specs.declared.program.Core.{Core}
 use Rattle.jack_tree.specs.declared.tree.Class.{Class}

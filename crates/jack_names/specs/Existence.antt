@@ -1,5 +1,5 @@
 -- What classes mean is there: a tree of each, and their program, in the form that the code has. The code holds a list where it has fewer than 2^63
--- elements, so this holds of all classes that are not too long for any memory (classes that texts of 1,048,576 bytes spell are far shorter).
+-- elements. So this holds of all classes that are not too long for any memory (classes that texts of 1,048,576 bytes spell are far shorter).
 use Rattle.std.specs.Prelude.{◌≡◌, ◌++◌, ◌<◌, ◌^◌, List, map}
 use Rattle.jack_tree.specs.declared.tree.Class.{Class}
 use Rattle.jack_tree.specs.Syntax.{ClassFile}

@@ -1,4 +1,4 @@
--- The order in which name faults are told, and the first of them (book, chapters 9 to 11).
+-- The order in which name faults are reported, and the first of them (book, chapters 9 to 11).
 use Rattle.std.specs.Prelude.{◌≡◌, ◌<◌, ◌⊎◌, ℕ, suc, Bool, true, false, List, [], ◌∷◌, ◌++◌, Some, slice_get, if◌then◌else◌}
 use Rattle.scan_text.specs.declared.Place.{Place}
 use Rattle.jack_tree.specs.Syntax as tree
@@ -29,7 +29,7 @@ order at told = stage told.kind ∷ (if at.shipped then 1 else 0) ∷ at.file �
 abbrev pub Before : Spot → NameDiagnostic → Spot → NameDiagnostic → Type 0
 Before at told at' told' = IsLess (order at told) (order at' told')
 
--- the fault that fails and behind which every other comes
+-- the fault that fails and that comes before every other
 pub record IsFirstFault (own os : List tree.ClassFile) (told : NameDiagnostic) : Type 0 where
   pub at : Spot
   pub fails : Fails own os at told
@@ -61,8 +61,8 @@ IsEarlier p q = IsLess (p.line ∷ p.column ∷ []) (q.line ∷ q.column ∷ [])
 abbrev pub Rise : (ℕ → ℕ → Place → Type 0) → Type 0
 Rise At = (i j i' j' : ℕ) (p p' : Place) → At i j p → At i' j' p' → IsLess (i ∷ j ∷ []) (i' ∷ j' ∷ []) → IsEarlier p p'
 
--- In each file of the folder places rise from name to name, as in trees that a text spells. Nothing is assumed of the operating system's trees, five of
--- whose subroutines have no text, and the order above needs no places.
+-- In each file of the folder places rise from name to name, as in trees that a text spells. Nothing is assumed of the operating system's trees, five
+-- of whose subroutines have no text, and the order above needs no places.
 pub record PlacesRise (own os : List tree.ClassFile) : Type 0 where
   pub declared : (i : ℕ) (c : tree.ClassFile) → slice_get own i ≡ Some c → Rise (Declares c.class)
   pub used : (i : ℕ) (f : File) → slice_get (files own os false) i ≡ Some f → Rise (Uses f)
@@ -76,7 +76,7 @@ stands false at told = told.place.line ∷ told.place.column ∷ []
 abbrev pub place_order : Spot → NameDiagnostic → List ℕ
 place_order at told = stage told.kind ∷ (if at.shipped then 1 else 0) ∷ at.file ∷ (stands at.shipped at told ++ kind_number told.kind ∷ at.call ∷ [])
 
--- the fault that fails and behind which, by file, place and kind, every other comes
+-- the fault that fails and that, by file, place and kind, comes before every other
 pub record IsFirstByPlace (own os : List tree.ClassFile) (told : NameDiagnostic) : Type 0 where
   pub at : Spot
   pub fails : Fails own os at told

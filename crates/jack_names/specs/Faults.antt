@@ -1,4 +1,4 @@
--- Faults of names, as they are told.
+-- Faults of names, as they are reported.
 use Rattle.std.specs.Prelude.{◌≡◌, ℕ, Bool, Result, Ok, Err, List, [], ◌∷◌, Option, Some, None}
 use Rattle.scan_text.specs.declared.Place.{Place}
 use Rattle.jack_names.specs.Tables.{first_of}
@@ -41,7 +41,7 @@ pub record Source : Type 0 where
 abbrev pub diagnostic_in : Source → List ℕ → Place → NameKind → NameDiagnostic
 diagnostic_in source name place kind = record { kind = kind; shipped = source.shipped; file = source.file; name = name; place = place }
 
--- what is told where something is wrong
+-- what is reported where something is wrong
 abbrev pub diagnostic_if : Source → List ℕ → Place → Option NameKind → Option NameDiagnostic
 diagnostic_if source name place None = None
 diagnostic_if source name place (Some kind) = Some (diagnostic_in source name place kind)

@@ -9,7 +9,7 @@ use Rattle.jack_tree.specs.Syntax.{ClassFile}
 use Rattle.jack_names.specs.NameFaults.{IsWellNamed}
 use Rattle.jack_names.specs.FaultOrder.{IsFirstFault, PlacesRise, IsFirstByPlace}
 
--- The search finds the fault that fails and behind which every other comes; and it finds none exactly where none fails.
+-- The search finds the fault that fails and that comes before every other; and it finds none exactly where none fails.
 pub record NamesLaw : Type 0 where
   pub finds : (own os : List Class) (told : NameDiagnostic) → (first_name_fault own os ≡ Some told) ↔ IsFirstFault (map the_file own) (map the_file os) told
   pub well_named : (own os : List Class) → (first_name_fault own os ≡ None) ↔ IsWellNamed (map the_file own) (map the_file os)

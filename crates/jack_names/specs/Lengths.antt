@@ -61,7 +61,7 @@ variables_length v = length v.names.more
 abbrev pub locals_length : Locals → ℕ
 locals_length v = length v.names.more
 
--- a subroutine, whose body may have a statement before its own and one behind them
+-- a subroutine, whose body may have a statement before its own and one after them
 abbrev pub subroutine_length : Subroutine → ℕ
 subroutine_length s = 2 + length s.parameters + total locals_length s.locals + statements_length s.statements
 

@@ -1,5 +1,5 @@
--- The program that classes mean, over the abstract syntax (book, chapters 9 to 12): names become numbers, true is -1, false and null are 0, the
--- operators * and / are calls of Math, a string is made by String.new and filled by appendChar, and a method call has its object as first argument.
+-- The program that classes mean, over the abstract syntax (book, chapters 9 to 12). Names become numbers, true is -1, false and null are 0, and the
+-- operators * and / are calls of Math. A string is made by String.new and filled by appendChar, and a method call has its object as first argument.
 -- Each statement gets its number in the order of the text, and a body whose last statement is no `return` gets one. A constructor first takes the
 -- memory of its object.
 use Rattle.std.specs.Prelude.{ℕ, ◌+◌, max, Bool, true, false, List, [], ◌∷◌, ◌++◌, map, Option, Some, None, length, codes}
@@ -136,7 +136,7 @@ abbrev pub returns : tree.Statements → Bool
 returns tree.End = false
 returns (tree.Next t ts) = last_returns t ts
 
--- behind the statements of a body the `return` that it lacks, with this number
+-- after the statements of a body the `return` that it lacks, with this number
 abbrev pub return_added : Bool → ℕ → meaning.Text
 return_added true n = meaning.End
 return_added false n = meaning.Next (meaning.Return n (meaning.Literal 0)) meaning.End
@@ -185,7 +185,7 @@ meaning_of all = record {
   init = in_class (subroutine_number all) (class_number all (codes "Sys")) (codes "init");
 }
 
--- the classes of a folder, and behind them those of the operating system
+-- the classes of a folder, and after them those of the operating system
 abbrev pub program_meaning : List tree.ClassFile → List tree.ClassFile → meaning.Program
 program_meaning own os = meaning_of (own ++ os)
 

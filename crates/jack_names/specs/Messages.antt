@@ -1,4 +1,5 @@
--- What a fault of a name tells, beside the path of its file: the word of its kind, and the name.
+-- The diagnostic of a fault of a name, beside the path of its file: the word of its kind, and the
+-- name.
 use Rattle.std.specs.Prelude.{ℕ, List, codes}
 use Rattle.outer_world.specs.Refusals.{Message, message}
 use Rattle.jack_names.specs.declared.fault.NameFault.{NameFault}

@@ -84,7 +84,7 @@ module _ (own os : List tree.ClassFile) where
   target b None = Some (record { way = way.Own; subroutines = b.siblings })
   target b (Some x) = front_target (variable_of b x) x
 
-  -- The calls that are made at a use, of which there may be more than one: the number of each, where it goes, its subroutine's name and how many
+  -- The calls that are made at a use, of which there may be more than one. Each has a number, where it goes, its subroutine's name and how many
   -- arguments it has.
   pub data Calls (b : Body) : Use → ℕ → Target → tree.Name → ℕ → Type 0 where
     Written : {o : Option tree.Name} {f : tree.Name} {n : ℕ} {t : Target} → target b o ≡ Some t → Calls b (OfCall o f n) 0 t f n
@@ -125,9 +125,9 @@ module _ (own os : List tree.ClassFile) where
     pub form : main.form ≡ tree.Function
     pub parameters : main.parameters ≡ []
 
--- Where a fault is: in the folder or in the operating system, the number of the file, that of its part, that of the name in the part, in the order
--- of the text, and that of the call, where more than one is made at this name. What a class declares has the parts above; what it uses has one part
--- for each subroutine.
+-- Where a fault is: in the folder or in the operating system. It has the number of the file, that of its part, and that of the name in the part, in
+-- the order of the text. It has that of the call, where more than one is made at this name. What a class declares has the parts above; what it uses
+-- has one part for each subroutine.
 pub record Spot : Type 0 where
   pub shipped : Bool
   pub file : ℕ
@@ -147,11 +147,12 @@ pub record IsUsed (own os : List tree.ClassFile) (shipped : Bool) (i part j : �
 abbrev pub told_at : Source → NameKind → tree.Name → NameDiagnostic
 told_at source kind x = diagnostic_in source x.text x.place kind
 
--- what is told where Main.main is not there
+-- what is reported where Main.main is not there
 abbrev pub no_main : NameDiagnostic
 no_main = diagnostic_in (record { shipped = false; file = codes "Main.jack" }) (codes "Main.main") nowhere kinds.NoMain
 
--- What can be told of a program, and where: the file, the name, its place and the kind. Kinds 1 to 4 are in declarations, and 5 to 13 in uses.
+-- What can be reported of a program, and where: the file, the name, its place and the kind. Kinds 1 to 4 are in declarations, and 5 to 13 in
+-- uses.
 pub data Fails (own os : List tree.ClassFile) : Spot → NameDiagnostic → Type 0 where
   InDeclaration : {shipped : Bool} {i part j : ℕ} {c : tree.ClassFile} {kind : NameKind} {x : tree.Name} → slice_get (classes own os shipped) i ≡ Some c
       → Misdeclared own os shipped i c part j kind x → Fails own os (spot shipped i part j 0) (told_at (source shipped c) kind x)
@@ -160,6 +161,6 @@ pub data Fails (own os : List tree.ClassFile) : Spot → NameDiagnostic → Type
   InUse : {shipped : Bool} {i part j k : ℕ} {f : File} {b : Body} {u : Use} {kind : NameKind} {x : tree.Name} → IsUsed own os shipped i part j f b u
       → Misused own os b u k kind x → Fails own os (spot shipped i part j k) (told_at f.source kind x)
 
--- Nothing is told.
+-- Nothing is reported.
 abbrev pub IsWellNamed : List tree.ClassFile → List tree.ClassFile → Type 0
 IsWellNamed own os = (at : Spot) (told : NameDiagnostic) → Fails own os at told → ⊥

@@ -22,7 +22,7 @@ abbrev pub all_subroutine_numbers : ℕ → List tree.ClassFile → List (List (
 all_subroutine_numbers n [] = []
 all_subroutine_numbers n (c ∷ cs) = subroutine_numbers n c.class.subroutines ∷ all_subroutine_numbers (n + length c.class.subroutines) cs
 
--- Here and below, where there is none, any number will do: there is a fault then.
+-- Here and below, where there is no number, any will do: there is a fault then.
 abbrev pub number : Option ℕ → ℕ
 number None = 0
 number (Some n) = n

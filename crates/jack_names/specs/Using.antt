@@ -1,5 +1,5 @@
--- What a Jack program declares and uses, in the order of its text (book, chapters 9 to 11), with the calls that its meaning makes by itself: of
--- Math for the operators * and /, of String for a string, of Memory for a constructor, and of Sys.init for the start (chapters 11 and 12).
+-- What a Jack program declares and uses, in the order of its text, with the calls that its meaning makes by itself (book, chapters 9 to 12).
+-- Those are of Math for the operators * and /, of String for a string, of Memory for a constructor, and of Sys.init for the start.
 use Rattle.std.specs.Prelude.{ℕ, ◌+◌, Bool, true, false, List, [], ◌∷◌, ◌++◌, map, Option, Some, None, if◌then◌else◌, codes}
 use Rattle.std.specs.Str.{bytes_eq}
 use Rattle.scan_text.specs.declared.Place.{Place}
@@ -61,7 +61,7 @@ pub data Use : Type 0 where
   OfVariable : tree.Name → Use
   -- the name before the dot of a call
   OfFront : tree.Name → Use
-  -- the subroutine of a call, behind a front name or none, with so many arguments
+  -- the subroutine of a call, after a front name or without one, with this many arguments
   OfCall : Option tree.Name → tree.Name → ℕ → Use
   -- `this`
   OfThis : Place → Use
@@ -147,8 +147,8 @@ made_calls (OfString t) = by_class (codes "String") (codes "new") 1 t.place ∷ 
 made_calls (OfMade m) = m ∷ []
 made_calls _ = []
 
--- The body of a subroutine: the variables that it can name, where parameters and locals come before fields and statics, its form, the subroutines
--- of its class, and what it uses.
+-- The body of a subroutine: the variables that it can name, its form, the subroutines of its class, and what it uses. Of the variables,
+-- parameters and locals come before fields and statics.
 pub record Body : Type 0 where
   pub variables : List Variable
   pub form : tree.Form

@@ -140,7 +140,7 @@ fn class_scope<'a, 'b>(
     }
 }
 
-// The subroutines of a class, before which there are so many classes and statics.
+// The subroutines of a class, before which there are this many classes and statics.
 fn resolve_class<'a>(
     alloc: Global,
     names: &Names<'a>,
@@ -166,7 +166,8 @@ fn resolve_class<'a>(
     resolve_subroutines(alloc, scope, owner, &class.subroutines, subroutines)
 }
 
-/// The subroutines of classes, before which there are so many classes and statics: their first fault, or what they mean.
+/// The subroutines of classes, before which there are this many classes and statics: their first fault, or what they
+/// mean.
 pub(crate) fn resolve_classes<'a>(
     alloc: Global,
     names: &Names<'a>,

@@ -80,7 +80,7 @@ pub struct NameFault {
 }
 
 impl NameFault {
-    /// What the fault tells, beside the path of its file.
+    /// The diagnostic of the fault, beside the path of its file.
     pub fn diagnostic(self) -> Diagnostic
         ensures { result ≡ name_message self }
     {

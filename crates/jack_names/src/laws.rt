@@ -4,8 +4,8 @@ ghost use Rattle.jack_names.specs.Existence.{ExistenceLaw};
 ghost use Rattle.jack_names.specs.Laws.{NamesLaw, MeantLaw};
 ghost use Rattle.jack_names.specs.Rows.{NameRows};
 
-/// The first fault of a program's names is the one that fails and behind which every other comes; and there is none exactly
-/// where none of the fourteen kinds fails. Small programs, with the first of their faults.
+/// The first fault of a program's names is the one that fails and that comes before every other. There is no first fault
+/// exactly where none of the fourteen kinds fails. Small programs, with the first of their faults.
 pub fn names_law()
     ensures law { NamesLaw }
     ensures rows { NameRows }

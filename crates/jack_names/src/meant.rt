@@ -72,7 +72,7 @@ pub(crate) fn made_number<'a>(scope: &Scope<'a, '_>, class: &'a [u8], name: &'a 
     }
 }
 
-// A part behind those of its operands.
+// A part after those of its operands.
 fn push_part(parts: &mut Vec<Part>, part: Part) -> Result<(), AllocError>
     ensures { OnOk result (Puts part parts.old.items parts.new.items) }
 {
@@ -199,7 +199,7 @@ fn operator_part(scope: &Scope, operator: Operator) -> Part
     }
 }
 
-// An operator behind the two values that it stands between.
+// An operator after the two values that it stands between.
 fn push_operator(parts: &mut Vec<Part>, scope: &Scope, operator: Operator) -> Result<(), AllocError>
     ensures { OnOk result (Joins (binary_meant (the_scope scope.now) operator) parts.old.items parts.new.items) }
 {

@@ -93,7 +93,7 @@ fn all_statics(classes: &[Class]) -> u32
     n
 }
 
-// How many of these numbers are left behind the statics of classes, where they are enough.
+// How many of these numbers are left after the statics of classes, where they are enough.
 fn left_behind(numbers: usize, classes: &[Class]) -> Option<usize>
     ensures { SomeIff result (all_statics classes.now ≤ numbers) (numbers - all_statics classes.now) }
 {
@@ -115,7 +115,7 @@ fn check_statics(own: &[Class], os: &[Class]) -> Result<(), AllocError>
     Ok(())
 }
 
-// The subroutines of all classes, behind these.
+// The subroutines of all classes, after these.
 fn resolve_all<'a>(
     alloc: Global,
     names: &Names<'a>,
@@ -171,7 +171,7 @@ fn class_meant(class: &Class) -> Result<CoreClass, AllocError>
     })
 }
 
-// The classes, behind these.
+// The classes, after these.
 fn push_classes(classes: &mut Vec<CoreClass>, trees: &[Class]) -> Result<(), AllocError>
     requires limits { AreWithin trees.now }
     requires statics { all_statics trees.now ≤ 2 ^ 31 }
@@ -200,7 +200,7 @@ fn all_classes(alloc: Global, own: &[Class], os: &[Class]) -> Result<Vec<CoreCla
     Ok(classes)
 }
 
-// The program of these names or the first fault, behind those of declarations.
+// The program of these names or the first fault, after those of declarations.
 fn resolve_named<'a>(
     alloc: Global,
     names: &Names<'a>,
@@ -244,8 +244,8 @@ fn resolve_numbered<'a>(alloc: Global, own: &'a [Class], os: &'a [Class]) -> Res
     resolve_named(alloc, &names, own, os)
 }
 
-/// The program that the classes of a folder and those of the operating system mean, or the first fault in their names:
-/// in what they declare, at `Main.main`, or in what they use. It has the names of all classes and of all subroutines, each made once.
+/// The program that the classes of a folder and those of the operating system mean, or the first fault in their names. That is one in
+/// what they declare, at `Main.main`, or in what they use. It has the names of all classes and of all subroutines, each made once.
 /// Statics without a number are a want of memory.
 pub fn resolve<'a>(alloc: Global, own: &'a [Class], os: &'a [Class]) -> Result<Core, NameError>
     requires classes { length own.now + length os.now < 2 ^ 31 }

@@ -118,7 +118,7 @@ fn subroutine_name(alloc: Global, class: &Text, s: &Subroutine) -> Result<Text, 
     Text::new(alloc, name.as_str())
 }
 
-/// The subroutine that a tree means in a scope, in a class of this name and so many fields.
+/// The subroutine that a tree means in a scope, in a class of this name and this many fields.
 pub(crate) fn subroutine_meant<'a>(
     alloc: Global,
     scope: &Scope<'a, '_>,

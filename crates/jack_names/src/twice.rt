@@ -179,8 +179,8 @@ fn check_declaration<'a>(
 }
 
 /// The first fault in what classes declare, one after the other, where classes of the names in the table are already
-/// there: a class that is not named as its file or is there already, and a member, parameter or local that is there
-/// twice.
+/// there. It is a class that is not named as its file or is there already, or a member, parameter or local that is
+/// there twice.
 pub(crate) fn check_declarations<'a>(
     alloc: Global,
     shipped: bool,

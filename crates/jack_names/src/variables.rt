@@ -153,7 +153,7 @@ pub(crate) fn statics_of(variables: &[ClassVariables]) -> u32
     n
 }
 
-// How many of these numbers are left behind the statics of a line, where they are enough.
+// How many of these numbers are left after the statics of a line, where they are enough.
 fn left_by_line(numbers: usize, line: &ClassVariables) -> Option<usize>
     ensures { SomeIff result (statics_in line.now.scope line.now ≤ numbers) (numbers - statics_in line.now.scope line.now) }
 {
@@ -163,7 +163,7 @@ fn left_by_line(numbers: usize, line: &ClassVariables) -> Option<usize>
     }
 }
 
-/// How many of these numbers are left behind the statics of a class, where they are enough.
+/// How many of these numbers are left after the statics of a class, where they are enough.
 pub(crate) fn left_by(numbers: usize, variables: &[ClassVariables]) -> Option<usize>
     ensures { SomeIff result (statics_of variables.now ≤ numbers) (numbers - statics_of variables.now) }
 {
@@ -199,7 +199,7 @@ fn enter_members<'a>(
     Ok(())
 }
 
-/// The fields and statics of a class, before whose statics are so many others.
+/// The fields and statics of a class, before whose statics are this many others.
 pub(crate) fn members_of<'a>(
     alloc: Global,
     names: &Names<'a>,

@@ -38,7 +38,7 @@ split (v ∷ a) b (t ∷ ts) vs h = let p = split a b ts vs h.1 in (p.0, (h.0, p
 pub front_split : (a b : Tokens) (ts vs : List Word) → Front (a ++ b) ts vs → (us : List Word) × Front a ts us × Front b us vs
 front_split a b ts vs h = let p = split a b ts vs h.told in (p.0, record { told = p.1 }, record { told = p.2 })
 
--- what a test tells of the next token
+-- what a test says of the next token
 pub next_by : (is : Word → Bool) (b : Bool) (v : Said) (vs : Tokens) (ts us : List Word) → Front (v ∷ vs) ts us → ((t : Word) → is (record t { kind = said_kind v }) ≡ b) → next is ts ≡ b
 next_by is b v vs [] us h e = absurd h.told
 next_by is b v vs (t ∷ ts) us h e = ap (λ (k : Kind). is (record t { kind = k })) (kind_said t v h.told.0) ∙ e t
@@ -46,7 +46,7 @@ next_by is b v vs (t ∷ ts) us h e = ap (λ (k : Kind). is (record t { kind = k
 pub next_same : (is : Word → Bool) (b : Bool) (ts us : List Word) → ts ≡ us → next is us ≡ b → next is ts ≡ b
 next_same is b ts us e h = ap (next is) e ∙ h
 
--- what is behind the first token
+-- what is after the first token
 abbrev pub behind : (v : Said) (vs : Tokens) (ts us : List Word) → Front (v ∷ vs) ts us → List Word
 behind v vs [] us h = []
 behind v vs (t ∷ ts) us h = ts
@@ -90,7 +90,7 @@ module _ (end : Place) where
   symbol_last b s [] us h = absurd h.told
   symbol_last b s (t ∷ ts) us h = rest_is s s (symbol_of b) (t ∷ ts) ts us Skip h.told.1 (marked (is_sign b t h.told.0))
 
-  -- a mark that is told by its kind
+  -- a mark that is known by its kind
   pub mark_then : (is : Word → Bool) (v : Said) (r : JackRule) (vs : Tokens) (s s' : Counts) (ts us : List Word) (y : Tree Said) → ((t : Word) → is (record t { kind = said_kind v }) ≡ true) → Front (v ∷ vs) ts us → ((l : List Word) → Front vs l us → R s r l y s' us) → R s (seq (mark v is) r) ts (Pair Skip y) s' us
   mark_then is v r vs s s' [] us y e h k = absurd h.told
   mark_then is v r vs s s' (t ∷ ts) us y e h k = both (marked (ap (λ (j : Kind). is (record t { kind = j })) (kind_said t v h.told.0) ∙ e t)) (k ts (record { told = h.told.1 }))
@@ -101,7 +101,7 @@ module _ (end : Place) where
   word_then is value v r vs s s' [] us y e d h k = absurd h.told
   word_then is value v r vs s s' (t ∷ ts) us y e d h k = both (word_as is free value s s t ts v (ap (λ (j : Kind). is (record t { kind = j })) (kind_said t v h.told.0) ∙ e t) refl (d t h.told.0)) (k ts (record { told = h.told.1 }))
 
-  -- the same, where what is behind is read already
+  -- the same, where what comes after is read already
   pub mark_next : (is : Word → Bool) (v : Said) (r : JackRule) (vs : Tokens) (s s' : Counts) (ts us : List Word) (y : Tree Said) → ((t : Word) → is (record t { kind = said_kind v }) ≡ true) → (h : Front (v ∷ vs) ts us) → R s r (behind v vs ts us h) y s' us → R s (seq (mark v is) r) ts (Pair Skip y) s' us
   mark_next is v r vs s s' [] us y e h k = absurd h.told
   mark_next is v r vs s s' (t ∷ ts) us y e h k = both (marked (ap (λ (j : Kind). is (record t { kind = j })) (kind_said t v h.told.0) ∙ e t)) k

@@ -82,7 +82,7 @@ form_value Constructor w h = fixed_value w _ h
 form_value Function w h = fixed_value w _ h
 form_value Method w h = fixed_value w _ h
 
--- The rule reads the tokens, and counts so many of the sort x, none of the sort y.
+-- The rule reads the tokens, and counts this many of the sort x, none of the sort y.
 record Counting (end : Place) (x y : Counted) (s : Counts) (r : JackRule) (ts : List Word) (t : Tree Said) (us : List Word) (n m : ℕ) : Type 0 where
   after : Counts
   reads : R end s r ts t after us
@@ -102,7 +102,7 @@ module _ (end : Place) where
       rest_is end s (one_more x s) _ (t ∷ ts) ts us _ h.told.1
       (word_as end is_identifier (λ c w. count x c w.place) grammar.named_word s (one_more x s) t ts (name_said n) (ap (λ (j : Kind). grammar.names j) (kind_said t (name_said n) h.told.0)) (count_is x s t.place k) (name_value t n h.told.0))
 
-  -- Names of the sort x, which are none of the sort y.
+  -- Names of the sort x, which are not of the sort y.
   module _ (x y : Counted) (one : (s : Counts) → so_many x (one_more x s) ≡ so_many x s + 1) (stays : (s : Counts) → so_many y (one_more x s) ≡ so_many y s) (level : (s : Counts) → (one_more x s).nesting ≡ s.nesting) where
     abbrev C : Counts → JackRule → List Word → Tree Said → List Word → ℕ → Type 0
     C s r ts t us n = Counting end x y s r ts t us n 0

@@ -34,7 +34,7 @@ in_signs b c l = sign_of b ∷ (l ++ sign_of c ∷ [])
 abbrev pub goes_on : Word → Bool
 goes_on t = begins opens (rules.choice grammar.subscript grammar.invocation_rule) t
 
--- neither an operator follows nor what goes on behind a name
+-- neither an operator follows nor what goes on after a name
 abbrev pub Stop : List Word → Type 0
 Stop us = (next operates us ≡ false) × (next goes_on us ≡ false)
 
@@ -176,7 +176,7 @@ operations_end : (os : Operations) (ts us : List Word) → Front (operations_tok
 operations_end NoOperation ts us h e = next_same goes_on false ts us h.told e
 operations_end (Then o at t os) ts us h e = next_by goes_on false _ _ ts us (operator_front o at _ ts us h) (operator_ends o at)
 
--- behind the arguments: no term begins, and no comma follows
+-- after the arguments: no term begins, and no comma follows
 abbrev pub Shut : List Word → Type 0
 Shut us = (next term_opens us ≡ false) × (next (is_symbol 44) us ≡ false) × Stop us
 

@@ -17,7 +17,7 @@ use Rattle.jack_parser.proofs.PlainTrees.{name_said, enclosed, front_said, invok
 use Rattle.jack_parser.proofs.Building.{Front, front_split, next_by, next_same, R, front_is, symbol_then, symbol_last, mark_then, word_then, nested_reads, name_value, placed_value}
 use Rattle.jack_parser.proofs.BuiltExpressions.{sign_of, in_signs, stop_by, expression_first, level_reads, expression_reads, arguments_read, call_by, through_by}
 
--- a test that tells the same of each keyword that begins a statement tells it of a statement's first token
+-- a test that says the same of each keyword that begins a statement says it of a statement's first token
 abbrev pub Tells : (Word → Bool) → Bool → Keyword → Type 0
 Tells is b k = (t : Word) → is (record t { kind = kind.Keyword k }) ≡ b
 
@@ -30,7 +30,7 @@ statement_first is b p q r d e (Do at (Calls None f es)) ts us h = next_by is b 
 statement_first is b p q r d e (Do at (Calls (Some o) f es)) ts us h = next_by is b _ _ ts us h d
 statement_first is b p q r d e (Return at v) ts us h = next_by is b _ _ ts us h e
 
--- behind statements: no statement begins, and no `else`
+-- after statements: no statement begins, and no `else`
 abbrev pub Done : List Word → Type 0
 Done us = (next statement_opens us ≡ false) × (next (is_keyword keyword.Else) us ≡ false)
 

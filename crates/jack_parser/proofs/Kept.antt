@@ -22,7 +22,7 @@ use Rattle.jack_parser.specs.Limits.{IsShort, count_of, KeepsIn, OperationsKeepI
 use Rattle.jack_parser.proofs.PlainTrees.{constant_said, enclosed, expression_tree, operations_tree, term_tree, arguments_tree, further_tree, invoked_tree, index_tree, value_tree, statement_tree, statements_tree, next_name_tree, declared_tree, scoped, variables_tree, locals_tree, parameter_tree, next_parameter_tree, parameters_tree, subroutine_tree, whole_tree}
 use Rattle.jack_parser.proofs.Reaching.{Reaches, Parts, IsCounted, parts}
 
--- So many more are counted, at most 16,384 where no more were before, and as deep.
+-- This many more are counted, at most 16,384 where no more were before, and as deep.
 pub record Gains (x : Counted) (s s' : Counts) (n : ℕ) : Type 0 where
   pub sum : so_many x s' ≡ so_many x s + n
   pub bound : so_many x s ≤ 16384 → so_many x s' ≤ 16384
@@ -86,7 +86,7 @@ is_short False k text at e h = tt
 is_short Null k text at e h = tt
 is_short (This p) k text at e h = tt
 
--- so many for each
+-- this many for each
 abbrev times : {A : Type 0} → ℕ → List A → ℕ
 times k [] = 0
 times k (a ∷ xs) = k + times k xs
@@ -118,7 +118,7 @@ module _ (at : Place) where
   pub two_parts : (s s' : Counts) (a b : JackRule) (x y : Tree Said) → Reach s (seq a b) (Pair x y) s' → (s1 : Counts) × Reach s a x s1 × Reach s1 b y s'
   two_parts s s' a b x y h = in_parts s (seq a b) (Pair x y) s' h
 
-  -- nothing is counted before the part, or behind it
+  -- nothing is counted before the part, or after it
 
   pub after_mark : (s s' : Counts) (v : Said) (is : Word → Bool) (b : JackRule) (x y : Tree Said) → Reach s (seq (mark v is) b) (Pair x y) s' → Reach s b y s'
   after_mark s s' v is b x y h =

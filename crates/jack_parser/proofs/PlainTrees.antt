@@ -161,6 +161,6 @@ subroutine_tree s = Node (parts_tree s)
 abbrev pub class_tree : Class → Tree Said
 class_tree c = Pair Skip (Pair (Leaf (name_said c.name)) (Pair Skip (Pair (tree_of_list variables_tree c.variables NoMore) (Pair (tree_of_list subroutine_tree c.subroutines NoMore) Skip))))
 
--- a class, and nothing behind it
+-- a class, and nothing after it
 abbrev pub whole_tree : Class → Tree Said
 whole_tree c = Pair (class_tree c) Skip

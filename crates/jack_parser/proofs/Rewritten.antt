@@ -81,7 +81,7 @@ words_shown : (vs : Tokens) → map shown_word (map word_for vs) ≡ map said_te
 words_shown [] = refl
 words_shown (v ∷ vs) = λ i. word_shown v i ∷ words_shown vs i
 
--- tokens that tell the same say the same, wherever they stand
+-- tokens that say the same stand for the same, wherever they stand
 head_is : (t u : Word) (ts us : List Word) → told t ∷ map told ts ≡ told u ∷ map told us → told t ≡ told u
 head_is t u ts us e = cc
 

@@ -9,7 +9,7 @@ use Rattle.jack_tree.specs.Syntax.{Name, Operator, Plus, Minus, Times, Divide, A
 use Rattle.jack_parser.specs.Grammar.{Said, Fixed, Placed}
 use Rattle.jack_parser.proofs.PlainTrees.{name_said, operator_byte, operator_said, sign_byte, sign_said, constant_said, expression_tree, operations_tree, term_tree, front_said, invoked_tree, arguments_tree, further_tree, index_tree, value_tree, statement_tree, statements_tree, type_said, result_said, form_said, next_name_tree, names_tree, declared_tree, scoped, variables_tree, locals_tree, parameter_tree, next_parameter_tree, parameters_tree, subroutine_tree, whole_tree}
 
--- ---- what a token says tells it
+-- ---- what a token says decides it
 
 name_same : (x y : Name) → name_said x ≡ name_said y → x ≡ y
 name_same x y e =

@@ -1,4 +1,4 @@
--- The text of a token with a blank behind it is cut as that token again.
+-- The text of a token with a blank after it is cut as that token again.
 use Rattle.std.proofs.Common.{◌≡◌, ℕ, zero, suc, ◌+◌, ◌-◌, ◌≤◌, Bool, true, false, cond, List, [], ◌∷◌, ◌++◌, map, length, take, drop, append_assoc, length-append, Ok, Option, Some, None, refl, sym, ap, subst, ◌∙◌, arith}
 use Rattle.std.specs.Prelude as prelude
 use Rattle.std.specs.Prelude.{min, nat_lt, ◌==◌, ◌||◌, codes, if◌then◌else◌}
@@ -201,7 +201,7 @@ cut_again (kind.Integer n) text at g t rest = digits_cut n g (prelude.decimal n)
 cut_again kind.Text text at g t rest = string_cut (without_quotes text) g t rest
 cut_again kind.Identifier text at g t rest = named_cut kind.Identifier text g t rest
 
--- what a token tells, but for its place
+-- what a token says, but for its place
 abbrev pub told_by : Kind → List ℕ → List ℕ
 told_by kind.Text text = without_quotes text
 told_by kind.Identifier text = text

@@ -42,7 +42,7 @@ next_name_tree n = Pair Skip (name_leaf n)
 abbrev pub names_tree : Names → Tree Said
 names_tree ns = Pair (name_leaf ns.first) (tree_of_list next_name_tree ns.more.items NoMore)
 
--- a type and names behind a keyword
+-- a type and names after a keyword
 abbrev pub declared_tree : types.Type → Names → Tree Said
 declared_tree t ns = Pair Skip (Pair (Leaf (type_leaf_said t)) (Pair (names_tree ns) Skip))
 
@@ -62,7 +62,7 @@ parameter_tree p = Pair (Leaf (type_leaf_said p.kind)) (name_leaf p.name)
 abbrev pub next_parameter_tree : Parameter → Tree Said
 next_parameter_tree p = Pair Skip (parameter_tree p)
 
--- one parameter or more, with more behind them
+-- one parameter or more, with more after them
 abbrev pub parameters_with : List Parameter → Tree Said → Tree Said
 parameters_with [] more = more
 parameters_with (p ∷ ps) more = Pair (parameter_tree p) (tree_of_list next_parameter_tree ps more)

@@ -369,7 +369,7 @@ subroutine = own subroutine_parts
 abbrev pub class_rule : JackRule
 class_rule = seq (keyword_of keyword.Class) (seq identifier (seq (symbol_of 123) (seq (repeat class_variables) (seq (repeat subroutine) (symbol_of 125)))))
 
--- a class, and nothing behind it
+-- a class, and nothing after it
 abbrev pub whole : JackRule
 whole = seq class_rule end
 

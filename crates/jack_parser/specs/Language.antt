@@ -1,4 +1,5 @@
--- What the text of a Jack file spells, and what a refused one tells. (The book, chapters 9 and 10.)
+-- What the text of a Jack file spells, and the diagnostic of a refused one. (The book, chapters 9
+-- and 10.)
 use Rattle.std.specs.Prelude.{◌≡◌, ℕ, List}
 use Rattle.jack_tree.specs.Syntax.{ClassFile}
 use Rattle.outer_world.specs.Refusals.{Message}

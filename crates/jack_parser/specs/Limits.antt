@@ -1,7 +1,7 @@
--- The limits that this reader of the language has: at most 256 levels, one in another; at most 16,384 statics and fields in a class,
--- parameters and locals in a subroutine, arguments in a call; strings of at most 16,384 bytes. A statement is a level round its parts, and
--- so are `(` and `[` round what is in them (a call's `(` with nothing in it is none), and a sign round its term. The levels begin anew
--- in each subroutine.
+-- The limits that this reader of the language has. There are at most 256 levels, one in another. At most 16,384 statics and fields stand
+-- in a class, parameters and locals in a subroutine, and arguments in a call. Strings have at most 16,384 bytes. A statement is a level
+-- round its parts. So are `(` and `[` round what is in them (a call's `(` with nothing in it is no level), and a sign round its term.
+-- The levels begin anew in each subroutine.
 use Rattle.std.specs.Prelude.{ℕ, ◌+◌, ◌<◌, ◌≤◌, List, [], ◌∷◌, Option, Some, None, length}
 use Rattle.jack_tree.specs.Syntax.{Constant, String, Expression, Terms, Operations, NoOperation, Then, Term, Value, Variable, Element, Called, Group, Unary, Call, Calls, Expressions, NoExpression, More, Statement, Let, If, IfElse, While, Do, Return, Statements, End, Next, Names, Scope, Static, Field, ClassVariables, Subroutine, Class}
 
@@ -76,7 +76,7 @@ total f (x ∷ xs) = f x + total f xs
 abbrev pub names_of : Names → ℕ
 names_of ns = 1 + length ns.more
 
--- so many statics, and so many fields, where they are of this scope
+-- this many statics, and this many fields, where they are of this scope
 abbrev pub statics_by : Scope → ℕ → ℕ
 statics_by Static n = n
 statics_by Field n = 0

@@ -1,4 +1,4 @@
--- The printed form of a class: its tokens with one space between them, and a line feed in its place behind `{`, `}` and `;`.
+-- The printed form of a class: its tokens with one space between them, and a line feed in its place after `{`, `}` and `;`.
 use Rattle.std.specs.Prelude.{◌≡◌, ℕ, ◌++◌, List, [], ◌∷◌, Ok, map, decimal, length, ◌≤◌}
 use Rattle.std.specs.List.{flat_map}
 use Rattle.scan_text.specs.Text.{start}

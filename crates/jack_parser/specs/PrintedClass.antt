@@ -20,7 +20,7 @@ use Rattle.jack_parser.specs.Spells.{Spells}
 abbrev pub printed_class : Class → List ℕ
 printed_class c = flat_map set_off (map said_text (class_tokens c))
 
--- letters, digits and underscores, of which the first is no digit, and no keyword
+-- letters, digits and underscores, the first no digit, and no keyword
 pub record IsIdentifier (text : List ℕ) : Type 0 where
   pub first : ℕ
   pub more : List ℕ
@@ -68,6 +68,6 @@ pub record HasTokens (text : List ℕ) (c : Class) : Type 0 where
 pub record PrintedClassLaw : Type 0 where
   -- what is printed of a tree of the code
   pub form : (c : code.Class) → class_text c ≡ printed_class (the_class c)
-  -- The printed form of each class that keeps the limits, where its tokens can stand in a text that is no longer than a file may be, has
-  -- the tokens of the class and spells a tree.
+  -- The printed form of each class that keeps the limits has the tokens of the class and spells a tree. Its tokens have to be such as
+  -- can stand in a text that is no longer than a file may be.
   pub again : (c : Class) → KeepsLimits c → CanAllSay (class_tokens c) → length (printed_class c) ≤ 1048576 → HasTokens (printed_class c) c

@@ -10,7 +10,8 @@ use Rattle.jack_tree.specs.Tokens.{Word}
 use Rattle.jack_tree.specs.Syntax.{Name, Operator, Plus, Minus, Times, Divide, And, Or, Less, Greater, Equal, Sign, Negate, Not, ShiftLeft, ShiftRight, Constant, Integer, String, True, False, Null, This, Expression, Terms, Operations, NoOperation, Then, Term, Value, Variable, Element, Called, Group, Unary, Call, Calls, Expressions, NoExpression, More, Statement, Let, If, IfElse, While, Do, Return, Statements, End, Next, ValueType, Int, Char, Boolean, Object, Names, Scope, Static, Field, ClassVariables, Locals, Parameter, Form, Constructor, Function, Method, Subroutine, Class}
 use Rattle.jack_parser.specs.Grammar.{Said, Fixed, Placed, without_quotes}
 
--- ---- What a token says: Fixed its kind (which tells a keyword, a symbol and an integer), Placed its text and its place too.
+-- ---- What a token says: Fixed its kind (which decides a keyword, a symbol and an integer), Placed its text and its place
+-- too.
 
 abbrev pub Tokens : Type 0
 Tokens = List Said
@@ -111,7 +112,7 @@ abbrev mutual
   arguments_tokens NoExpression = []
   arguments_tokens (More e es) = expression_tokens e · further_tokens es
 
-  -- the arguments behind the first
+  -- the arguments after the first
   pub further_tokens : Expressions → Tokens
   further_tokens NoExpression = []
   further_tokens (More e es) = symbol (codes ",") · expression_tokens e · further_tokens es

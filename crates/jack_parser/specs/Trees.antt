@@ -117,7 +117,7 @@ argument_tree e = Node (exp_tree e)
 abbrev pub next_tree : Expression → Tree Said
 next_tree e = Pair Skip (argument_tree e)
 
--- one argument or more, with more behind them
+-- one argument or more, with more after them
 abbrev pub list_with : List Expression → Tree Said → Tree Said
 list_with [] more = more
 list_with (e ∷ es) more = Pair (argument_tree e) (tree_of_list next_tree es more)

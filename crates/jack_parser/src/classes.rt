@@ -50,7 +50,7 @@ fn names<'a>(
     Ok(((Names { first, more }, so_far), rest))
 }
 
-// A type and names behind a keyword, and the counts with them.
+// A type and names after a keyword, and the counts with them.
 #[tactic(auto, using(crate::proofs::Exits::part_exits))]
 fn declaration<'a>(
     alloc: Global,

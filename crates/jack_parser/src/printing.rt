@@ -337,7 +337,7 @@ fn put_names<S: Sink>(names: &Names, status: Put, out: &mut Pieces<'_, S>) -> Pu
     put_more_names(&names.more, begun, out)
 }
 
-// A type and names behind a keyword.
+// A type and names after a keyword.
 fn put_declaration<S: Sink>(
     word: Keyword,
     kind: &Type,
@@ -471,7 +471,7 @@ fn put_all<S: Sink>(class: &Class, out: &mut Pieces<'_, S>) -> Put
     put_rest(status, out)
 }
 
-/// Prints a class: its tokens with one space between them, and a line feed in its place behind `{`, `}` and `;`. It takes no memory.
+/// Prints a class: its tokens with one space between them, and a line feed in its place after `{`, `}` and `;`. It takes no memory.
 pub fn print<S: Sink>(class: &Class, out: &mut S) -> Put
     ensures put { Puts (S.written out.old) (S.written out.new) (class_text class.now) result }
     ensures counts { CountsPut (S.faults out.old) (S.faults out.new) result }

@@ -64,9 +64,10 @@ fn read(alloc: Global, file: &FileName, text: &[u8]) -> Result<Class, ReadError>
 
 /// The class that a text spells, with the name of its file.
 ///
-/// Grammar where no token begins, at a string or a comment that is not closed, and where a rule of the grammar stops; Range past a limit: an integer over 32,767, the 257th level of statements, `(`, `[` and
-/// operators before a term, a string of more than 16,384 bytes, the 16,385th field or static of the class, parameter or local of a
-/// subroutine (at its name) and argument of a call (at its first token), a text of more than 1,048,576 (at 0:0).
+/// Grammar where no token begins, at a string or a comment that is not closed, and where a rule of the grammar stops; Range past a limit, which is an
+/// integer over 32,767, the 257th level of statements, `(`, `[` and operators before a term, or a string of more than 16,384 bytes. So is the
+/// 16,385th field or static of the class, parameter or local of a subroutine (at its name) and argument of a call (at its first token). So is a text
+/// of more than 1,048,576 bytes (at 0:0).
 pub fn parse_class(alloc: Global, file: &FileName, text: &[u8]) -> Result<Class, ReadError>
     // What is read is spelled so, and the class that is spelled is read, unless memory runs out.
     ensures spelled { IfOk result (λ c. SpellsClass text.now (the_class c)) }

@@ -45,7 +45,7 @@ pub fn symbol<'a>(
     Ok(rest)
 }
 
-/// A symbol, whose place is told.
+/// A symbol, whose place is kept.
 pub fn symbol_at<'a>(
     tokens: &'a [Token<'a>],
     end: Place,
@@ -89,7 +89,7 @@ pub fn keyword<'a>(
     }
 }
 
-/// A keyword, whose place is told.
+/// A keyword, whose place is kept.
 pub fn key<'a>(
     tokens: &'a [Token<'a>],
     end: Place,

@@ -1,4 +1,4 @@
-//! In each class that a text spells the places of what it declares and uses rise in the order of the text, so the first fault of names is
+//! In each class that a text spells the places of what it declares and uses rise in the order of the text. So the first fault of names is
 //! the first by its place. No code, only laws.
 #![tactic(auto)]
 

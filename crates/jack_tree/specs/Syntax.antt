@@ -1,5 +1,5 @@
 -- The abstract syntax of Jack: what a class says, without its tokens (book, chapter 10, figure 10.5). Names, strings, `this` and operators are kept
--- with their places, since faults of names are told there; so are the first token of a statement and the brace that closes a subroutine's body,
+-- with their places, since faults of names are reported there. So are the first token of a statement and the brace that closes a subroutine's body,
 -- since a map of the program shows them.
 use Rattle.std.specs.Prelude.{ℕ, List, Option}
 use Rattle.scan_text.specs.declared.Place.{Place}

@@ -40,7 +40,7 @@ keyword_text keyword.Else = codes "else"
 keyword_text keyword.While = codes "while"
 keyword_text keyword.Return = codes "return"
 
--- the first of some keywords that has this text, or else what is told of the others
+-- the first of some keywords that has this text, or else what is given by the others
 abbrev pub keyword_spelled : List Keyword → Option Keyword → List ℕ → Option Keyword
 keyword_spelled [] others text = others
 keyword_spelled (k ∷ ks) others text = if bytes_eq text (keyword_text k) then Some k else keyword_spelled ks others text
@@ -70,7 +70,7 @@ type_keyword_of text = keyword_spelled type_keywords (constant_keyword_of text) 
 abbrev pub keyword_of : List ℕ → Option Keyword
 keyword_of text = keyword_spelled declaring_keywords (type_keyword_of text) text
 
--- The words stand in the text, which begins at this place, one after another: before each is a gap, and behind it are the others.
+-- The words stand in the text, which begins at this place, one after another: before each is a gap, and after it are the others.
 abbrev pub StandIn : Place → List ℕ → List Word → Type 0
 StandIn at text [] = Unit {0}
 StandIn at text (w ∷ ws) = (gap : List ℕ) × (rest : List ℕ) × (text ≡ gap ++ (w.text ++ rest)) × (w.place ≡ walk at gap) × StandIn (walk w.place w.text) rest ws

@@ -30,7 +30,7 @@ pub enum Keyword {
     Return,
 }
 
-/// What a token is. A symbol is told by its byte, an integer by its value.
+/// What a token is. A symbol is given by its byte, an integer by its value.
 #[derive(Clone, Copy, Debug, PartialEq, Eq)]
 pub enum Kind {
     Keyword(Keyword),

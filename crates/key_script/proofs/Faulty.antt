@@ -18,7 +18,7 @@ pub not_read : {X : Type 0} (x : X) (e : ReadError) → reading.Because (λ f. O
 not_read x reads.Memory h = tt
 not_read x (reads.Fault f) h = absurd (let no : ⊥ = cc in no)
 
--- a first fault is the one that is told
+-- a first fault is the one that is reported
 pub told : (X : Type 0) (f : KeyFault) (g : Fault) (e : ReadError) → f ≡ key_fault g → reading.Because (λ h. ◌≡◌ {A = Result X Fault} (Err g) (Err h)) e → Because (λ h. ◌≡◌ {A = Result X KeyFault} (Err f) (Err h)) (key_error e)
 told X f g reads.Memory same h = tt
 told X f g (reads.Fault k) same h = ap Err (same ∙ ap key_fault (let e : g ≡ k = cc in e))

@@ -1,4 +1,4 @@
--- The faults of a key script: what each tells, and which one a fault of its grammar is.
+-- The faults of a key script: the diagnostic of each, and which one a fault of its grammar is.
 use Rattle.std.specs.Prelude.{◌≡◌, ◌==◌, [], Result, Ok, Err, if◌then◌else◌, decimal, codes}
 use Rattle.outer_world.specs.Refusals.{Message, message}
 use Rattle.grammar.specs.declared.Fault.{Fault}

@@ -1,4 +1,4 @@
--- What a refused key script tells: its first fault.
+-- The diagnostic of a refused key script: its first fault.
 use Rattle.std.specs.Prelude.{◌≡◌, ℕ, List}
 use Rattle.outer_world.specs.Refusals.{Message}
 use Rattle.key_script.specs.Faults.{key_message}

@@ -23,7 +23,7 @@ pub enum KeyFault {
 }
 
 impl KeyFault {
-    /// What the fault tells.
+    /// The diagnostic of the fault.
     pub fn diagnostic(self) -> Diagnostic
         ensures { result ≡ key_message self }
     {

@@ -16,7 +16,7 @@ moves_more code c (suc m) =
 pub goes_none : (code : ℕ → ℕ) (old : List Turn → Type 0) (c : ℕ) → Goes code old c 0 [] old c
 goes_none code old c = record { leads = λ turns h. subst old (sym (append-nil turns)) h; counts = omega arith }
 
--- a turn after m moves, told by a machine's step with its key and its answer
+-- a turn after m moves, given by a machine's step with its key and its answer
 pub goes_on : (code : ℕ → ℕ) (old mid new : List Turn → Type 0) (c m k c' c'' key : ℕ) (answer answer' : Moved)
     → Goes code old c m [] mid c' → k ≡ c' → key ≡ code k → answer' ≡ answer
     → ((turns : List Turn) → mid turns → new (turns ++ turn key answer' ∷ [])) → c'' ≡ moves_in answer' + c' → moves_in answer ≡ 0

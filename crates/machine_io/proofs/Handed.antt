@@ -5,15 +5,15 @@ use Rattle.outer_world.specs.declared.sink.Put.{Put}
 use Rattle.outer_world.specs.declared.sink.Put.TheVariants as put
 use Rattle.outer_world.proofs.Passing.{Passes-then, Passes-cut, Passes-nothing, Puts-failed, Puts-finished}
 
--- nothing, told as an empty text
+-- nothing, given as an empty text
 pub nothing_handed : (a : Option (List ℕ)) (p t : List ℕ) → t ≡ [] → Passes a p a p t put.Done
 nothing_handed a p t e = rw e (Passes-nothing a p)
 
--- the same text, told in another way
+-- the same text, given in another way
 pub handed_as : (a b : Option (List ℕ)) (p q s t : List ℕ) (answer : Put) → s ≡ t → Passes a p b q s answer → Passes a p b q t answer
 handed_as a b p q s t answer e h = rw (← e) h
 
--- a text after another, together told as a third
+-- a text after another, together given as a third
 pub handed_more : (a b c : Option (List ℕ)) (p q r s t u : List ℕ) (answer : Put)
     → u ≡ s ++ t → Passes a p b q s put.Done → Passes b q c r t answer → Passes a p c r u answer
 handed_more a b c p q r s t u answer e h k = rw e (Passes-then a b c p q r s t answer h k)

@@ -9,7 +9,8 @@ use Rattle.machine_io.specs.Reading.{Reading}
 use Rattle.machine_io.specs.Until.{IsFound, IsNotFound, IsWay, holds_at, steps_before}
 use Rattle.machine_io.proofs.Drives.{goes_none}
 
--- i moves have led to this machine, before the last of which so many steps were made, and the test held nowhere before
+-- i moves have led to this machine, before the last of which this many steps were made, and the test held nowhere
+-- before
 pub record HasCome {M P : Type 0} (test : ℕ → Reading P → Bool) (stands : M → List Turn → Type 0) (reading : M → Reading P) (code : ℕ → ℕ) (old : M) (i steps : ℕ) (here : M) : Type 0 where
   pub way : ℕ → M
   pub is_way : IsWay stands reading code old i way
@@ -17,7 +18,7 @@ pub record HasCome {M P : Type 0} (test : ℕ → Reading P → Bool) (stands : 
   pub not_before : (k : ℕ) → k < i → holds_at test reading way k ≡ false
   pub before : steps ≡ steps_before reading way i
 
--- one more machine, behind those up to the i-th
+-- one more machine, after those up to the i-th
 extended : {M : Type 0} → (ℕ → M) → ℕ → M → ℕ → M
 extended way i new k = cond (leb k i) (way k) new
 

@@ -1,4 +1,5 @@
--- What a drive has made of a machine. A machine is told by the histories that lead to it and by its number of moves.
+-- What a drive has made of a machine. A machine is known by the histories that lead to it and by its number of
+-- moves.
 use Rattle.std.specs.Prelude.{◌≡◌, ℕ, ◌+◌, ◌<◌, List, [], ◌∷◌, ◌++◌}
 use Rattle.machine_io.specs.declared.machine.Moved.{Moved}
 use Rattle.machine_io.specs.declared.machine.Moved.TheVariants as moved
@@ -16,7 +17,7 @@ pub record Goes (code : ℕ → ℕ) (old : List Turn → Type 0) (c m : ℕ) (l
 abbrev pub EndsBy : (ℕ → ℕ) → (List Turn → Type 0) → ℕ → ℕ → Moved → (List Turn → Type 0) → ℕ → Type 0
 EndsBy code old c n answer new c' = (m : ℕ) × (m < n) × Goes code old c m (turn (code (c + m)) answer ∷ []) new c'
 
--- what an end says: n moves, or fewer and then the first answer that is none
+-- what an end says: n moves, or fewer and then the first answer that is no move
 abbrev pub IsDriven : (ℕ → ℕ) → (List Turn → Type 0) → ℕ → ℕ → End → (List Turn → Type 0) → ℕ → Type 0
 IsDriven code old c n ends.Bound new c' = Goes code old c n [] new c'
 IsDriven code old c n (ends.Stray s) new c' = EndsBy code old c n (moved.Stray s) new c'

@@ -10,7 +10,7 @@ pub record Turn : Type 0 where
 abbrev pub turn : ℕ → Moved → Turn
 turn key answer = record { key = key; answer = answer }
 
--- how many moves an answer tells of: `Acted` is one, and in every other the machine made none
+-- how many moves an answer stands for: `Acted` is one, and in every other the machine made none
 abbrev pub moves_in : Moved → ℕ
 moves_in Acted = 1
 moves_in _ = 0

@@ -1,5 +1,5 @@
--- What can be read of a machine: the numbers of its moves and steps, its control point, and its words by address. (The book, chapters 4 and 5: the heap, and
--- the screen behind it.)
+-- What can be read of a machine: the numbers of its moves and steps, its control point, and its words by address. (The book, chapters 4 and 5: the
+-- heap, and the screen after it.)
 use Rattle.std.specs.Prelude.{◌≡◌, ◌≤◌, ◌<◌, ℕ}
 use Rattle.word16.specs.Memory.{heap, keyboard}
 

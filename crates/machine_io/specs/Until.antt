@@ -1,5 +1,5 @@
--- A drive until a test holds of what can be read of the machine. The test is also told the number of steps before the last move, so that it can tell whether
--- that move ended a step.
+-- A drive until a test holds of what can be read of the machine. The test also gets the number of steps before the last move, so that it can see
+-- whether that move ended a step.
 use Rattle.std.specs.Prelude.{◌≡◌, ◌+◌, ◌≤◌, ◌<◌, ℕ, zero, suc, Bool, true, false, List, []}
 use Rattle.machine_io.specs.Driven.{Goes, IsCutShort, IsDriven}
 use Rattle.machine_io.specs.History.{Turn}
@@ -39,7 +39,7 @@ pub record IsNotFound {M P : Type 0} (test : ℕ → Reading P → Bool) (stands
   pub made : (reading new).moves ≡ (reading old).moves + moves
   pub never : (k : ℕ) → k ≤ moves → holds_at test reading way k ≡ false
 
--- What a drive of at most n moves says by how it stopped: the test holds, or it holds nowhere and the moves have ended as those of a drive do.
+-- What a drive of at most n moves says by how it stopped. The test holds, or it holds nowhere and the moves have ended as those of a drive do.
 abbrev pub IsDrivenUntil : {M P : Type 0} → (ℕ → Reading P → Bool) → (M → List Turn → Type 0) → (M → Reading P) → (ℕ → ℕ) → M → ℕ → Stop → M → Type 0
 IsDrivenUntil test stands reading code old n stops.Found new = IsFound test stands reading code old n new
 IsDrivenUntil test stands reading code old n (stops.Ended end) new =

@@ -19,10 +19,11 @@ pub trait Keyboard {
 
 /// A test of what can be read of a machine, at which a drive stops.
 pub trait Until<L: Level> {
-    /// Whether it holds of a machine that had made so many steps before its last move, and has this reading.
+    /// Whether it holds of a machine that had made this many steps before its last move, and has this
+    /// reading.
     ghost test: { Self → ℕ → Reading L.Point → Bool };
 
-    /// Whether it holds of a machine that had made so many steps before its last move.
+    /// Whether it holds of a machine that had made this many steps before its last move.
     fn holds(&self, steps: u64, level: &L) -> bool
         ensures { result ≡ test self.now steps (L.reading level.now) };
 }

@@ -1,5 +1,5 @@
-//! What every level of the machine has in common: it is moved by keys, one move at a time, and its words and
-//! control point can be read; the loop that moves it; and what is printed of it.
+//! What every level of the machine has in common. It is moved by keys, one move at a time, and its words and
+//! control point can be read. With it come the loop that moves it, and what is printed of it.
 #![tactic(auto)]
 
 mod driving;

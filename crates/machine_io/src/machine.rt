@@ -7,8 +7,8 @@ ghost use Rattle.machine_io.specs.declared.machine.Moved.{Moved};
 
 use std::alloc::AllocError;
 
-/// Why a machine can't make its next move: a load or store at this address outside the memory, too few values
-/// on the stack, a missing argument or local, or no command to be done.
+/// Why a machine can't make its next move. It is a load or store at this address outside the memory, too few
+/// values on the stack, a missing argument or local, or no command to be done.
 #[derive(Clone, Copy, PartialEq, Eq, Debug)]
 pub enum Stray {
     Address(u16),
@@ -29,10 +29,10 @@ pub enum Moved {
 
 /// A machine that makes one move at a time.
 ///
-/// What a machine has done is told by its history: the list of its turns from the start, each a key with the
-/// answer to it. An impl says by `stands` which histories lead to which of its values.
+/// What a machine has done is given by its history: the list of its turns from the start, each a key with
+/// the answer to it. An impl says by `stands` which histories lead to which of its values.
 pub trait Level {
-    /// How a control point is told.
+    /// What a control point is given by.
     type Point;
 
     /// The machine stands where this history leads.
@@ -48,14 +48,14 @@ pub trait Level {
     /// Whether the machine's step never wants memory.
     ghost sure: { Bool };
 
-    /// What the program of a machine is told by.
+    /// What the program of a machine is given by.
     ghost Program: { Type 0 };
 
     /// The program that the machine runs.
     ghost program: { Self → Program };
 
     /// Makes the next move, in which `key` is held. After an error, and after any answer but `Acted`, what can
-    /// be read of the machine is as it was, and so is its answer to each key: the same key gets the same answer
+    /// be read of the machine is as it was. So is its answer to each key: the same key gets the same answer
     /// again. The program stays what it is.
     fn step(&mut self, key: u16) -> Result<Moved, AllocError>
         requires { (reading self.old).moves < 2 ^ 63 }

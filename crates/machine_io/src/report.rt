@@ -32,8 +32,8 @@ pub enum Show {
     Screen,
 }
 
-/// What each report begins with: the level, the numbers of moves and of steps, the control point by the name
-/// of its subroutine and the number of its statement, and the end.
+/// What each report begins with: the level, and the numbers of moves and of steps. Then come the control
+/// point by the name of its subroutine and the number of its statement, and the end.
 #[derive(Clone, Copy)]
 pub struct Head<'a> {
     pub level: LevelName,

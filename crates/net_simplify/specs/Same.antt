@@ -21,9 +21,9 @@ IsPinOf old new k l = (slice_get new.nodes l ≡ Some Pin) × (rank old.nodes k 
 abbrev pub shape : Block → ℕ × ℕ × ℕ
 shape block = (block.words, length block.data, length block.address)
 
--- Each kept node has a place in the new netlist; that of a pin is the pin of the same rank. Pins and blocks are as many as before, in the same order;
--- and where both netlists hear the same in the first n cycles, a kept node has in each of these the value of its place, and each block holds the same
--- words before and after each.
+-- Each kept node has a place in the new netlist; that of a pin is the pin of the same rank. Pins and blocks are as many as before, in the same order.
+-- Where both netlists hear the same in the first n cycles, a kept node has in each of these the value of its place. Each block holds the same words
+-- before and after each.
 pub record ShowsSame (old new : Net) (keep place : List ℕ) : Type 0 where
   pub number : length place ≡ length keep
   pub inside : (i : ℕ) → i < length keep → slice_index place i < length new.nodes

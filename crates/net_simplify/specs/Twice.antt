@@ -1,4 +1,4 @@
--- How the places of a simplified netlist come about: each old node has a place in a netlist between the two, each node of which that is used has a
+-- How the places of a simplified netlist come about. Each old node has a place in a netlist between the two. Each node of that which is used has a
 -- place in the new one. A kept node's place is the place of its place. For histories it gives what `ShowsSame` says; it serves those whose values are
 -- not of a history, as where words are put at any time.
 use Rattle.std.specs.Prelude.{◌≡◌, ℕ, ◌<◌, Bool, true, List, length, slice_index}

@@ -129,7 +129,7 @@ impl Made {
         Ok(k)
     }
 
-    /// Puts a Zero, where there is none.
+    /// Puts a Zero, where there is no Zero.
     pub(crate) fn put_zero(&mut self) -> Result<u32, AllocError>
         requires made { IsMade self.old }
         requires few { length self.old.nodes.items < 2 ^ 32 - 1 }
@@ -147,7 +147,7 @@ impl Made {
         }
     }
 
-    // Puts a gate, where there is none with these inputs.
+    // Puts a gate, where there is no gate with these inputs.
     fn put_gate(&mut self, x: u32, y: u32) -> Result<u32, AllocError>
         requires made { IsMade self.old }
         requires first { x < length self.old.nodes.items }

@@ -80,8 +80,8 @@ fn simplified(
     reached_net(alloc, middle.net.nodes(), middle.net.blocks(), &kept)
 }
 
-/// A netlist that shows the same of the kept nodes, in normal form: no two Nands alike, one Zero at most, no double negation, no constant
-/// that a gate reads but in a One, and no dead node. Fails only where memory is wanted.
+/// A netlist that shows the same of the kept nodes, in normal form. It has no two Nands alike, one Zero at most, no double negation, no
+/// constant that a gate reads but in a One, and no dead node. Fails only where memory is wanted.
 pub fn simplify(alloc: Global, net: &Netlist, keep: &[u32]) -> Result<Simple, AllocError>
     requires kept { All (λ k. k < length net.now.nodes) keep.now }
     requires few { length net.now.nodes < 2 ^ 32 - 1 }

@@ -15,7 +15,7 @@ use hdl_tree::List;
 use netlist::{Block, Netlist, Node};
 use std::alloc::{AllocError, Global};
 
-/// The places of nodes: each marked one comes behind those before it.
+/// The places of nodes: each marked one comes after those before it.
 pub(crate) fn places_of(alloc: Global, marks: &[bool]) -> Result<Vec<u32>, AllocError>
     requires { length marks.now < 2 ^ 32 }
     ensures { IfOk result (λ v. ArePlaces marks.now v.items) }

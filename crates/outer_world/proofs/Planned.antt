@@ -1,4 +1,4 @@
--- Calls that are planned to fail.
+-- Calls that are set up to fail.
 use Rattle.std.proofs.Common.{◌≡◌, ℕ, true, false, Option, Some, None, is_some, sym}
 
 pub planned_call : (found planned : Option ℕ) → is_some found ≡ true → found ≡ planned → (most : ℕ) × (planned ≡ Some most)

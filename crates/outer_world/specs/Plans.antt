@@ -34,32 +34,32 @@ pub record SinkState : Type 0 where
   pub calls : ℕ
   pub faults : ℕ
 
--- a count after one more; it stays at its type's end
+-- a count after one more; the greatest of its type stays
 abbrev pub next_count : ℕ → ℕ
 next_count count = min (count + 1) (2 ^ 64 - 1)
 
--- a call of this number is planned to fail
+-- a call of this number is set up to fail
 abbrev pub is_planned : List ℕ → ℕ → Bool
 is_planned fails call = list_any (λ planned. planned == call) fails
 
--- Of the calls after so many, none is planned to fail.
+-- Of the calls after this many, none is set up to fail.
 abbrev pub NoneToCome : List ℕ → ℕ → Type 0
 NoneToCome fails calls = (n : ℕ) → calls ≤ n → is_planned fails (next_count n) ≡ false
 
--- A shelf in memory fails to list where the call is planned to fail, and at no other.
+-- A shelf in memory fails to list where the call is set up to fail, and at no other.
 abbrev pub ListsAsPlanned : Bool → Listing → Type 0
 ListsAsPlanned planned listing.Failed = planned ≡ true
 ListsAsPlanned planned (listing.Names names) = planned ≡ false
 ListsAsPlanned planned listing.Memory = planned ≡ false
 
--- It fails to read where the call is planned to fail or there is no such file, and nowhere else.
+-- It fails to read where the call is set up to fail or there is no such file, and nowhere else.
 abbrev pub ReadsAsPlanned : Bool → Option (List ℕ) → Reading → Type 0
 ReadsAsPlanned planned file reading.Failed = (planned ≡ true) ⊎ (file ≡ None)
 ReadsAsPlanned planned file (reading.Bytes bytes) = planned ≡ false
 ReadsAsPlanned planned file (reading.TooLong limit) = planned ≡ false
 ReadsAsPlanned planned file reading.Memory = planned ≡ false
 
--- how many bytes a call still takes that is planned to fail; where its number stands twice, the first counts
+-- how many bytes a call still takes that is set up to fail; where its number stands twice, the first counts
 abbrev pub planned_bytes : List (ℕ × ℕ) → ℕ → Option ℕ
 planned_bytes [] call = None
 planned_bytes (fail ∷ fails) call = if fail.0 == call then Some fail.1 else planned_bytes fails call
@@ -68,7 +68,7 @@ planned_bytes (fail ∷ fails) call = if fail.0 == call then Some fail.1 else pl
 abbrev pub taken_of : Option ℕ → ℕ → ℕ → ℕ
 taken_of plan room n = min (unwrap_or plan n) (min n room)
 
--- A sink in memory fails where the call is planned to fail or the piece is past its room, and nowhere else.
+-- A sink in memory fails where the call is set up to fail or the piece is past its room, and nowhere else.
 abbrev pub PutsAsPlanned : Option ℕ → ℕ → ℕ → Put → Type 0
 PutsAsPlanned plan room n put.Done = (plan ≡ None) × (n ≤ room)
 PutsAsPlanned plan room n put.Failed = ((most : ℕ) × (plan ≡ Some most)) ⊎ (room < n)

@@ -1,4 +1,5 @@
--- What a fault tells, and the line on err that tells it of a file: `path:line:column: Word detail`.
+-- The diagnostic of a fault, and the line on err that reports it of a file:
+-- `path:line:column: Word detail`.
 use Rattle.std.specs.Prelude.{ℕ, List, [], decimal}
 use Rattle.outer_world.specs.Texts.{fault_line}
 use Rattle.outer_world.specs.declared.refusal.Detail.{Detail}
@@ -14,7 +15,7 @@ pub record Message : Type 0 where
 abbrev pub message : ℕ → ℕ → List ℕ → List ℕ → Message
 message line column word detail = record { line = line; column = column; word = word; detail = detail }
 
--- the line that tells it of the file at a path
+-- the line that reports it of the file at a path
 abbrev pub message_line : List ℕ → Message → List ℕ
 message_line path m = fault_line path m.line m.column m.word m.detail
 

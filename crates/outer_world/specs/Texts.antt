@@ -1,4 +1,4 @@
--- Texts that are put: numbers, words, and the lines that tell of faults.
+-- Texts that are put: numbers, words, and the messages of faults.
 use Rattle.std.specs.Prelude.{◌-◌, ◌++◌, ℕ, List, [], ◌∷◌, if◌then◌else◌, nat_lt, decimal, codes}
 
 -- a word by its signed reading

@@ -1,4 +1,4 @@
-//! What a fault tells, and the line that tells it.
+//! The diagnostic of a fault, and its message.
 ghost use Rattle.std.specs.Prelude.{◌≡◌, ◌++◌, ◌∷◌, [], length};
 ghost use Rattle.outer_world.specs.Held.{HaveSameSink, pending, sink_of};
 ghost use Rattle.outer_world.specs.Inner.Parts.{front_of, rest_of};
@@ -9,7 +9,7 @@ use crate::{Pieces, Put, Sink};
 use itoa::Buffer;
 use std::marker::Model;
 
-/// What a fault tells beside its word.
+/// What is reported of a fault beside its word.
 #[derive(Drop)]
 pub enum Detail {
     Nothing,
@@ -17,8 +17,8 @@ pub enum Detail {
     Name(Vec<u8>),
 }
 
-/// What a fault tells: the line and column of its place, both 0 where it has none, its word, and its
-/// detail. The path of the file is not part of it.
+/// The diagnostic of a fault: the line and column of its place, both 0 where it has no place, its
+/// word, and its detail. The path of the file is not part of it.
 #[derive(Drop)]
 pub struct Diagnostic {
     line: u32,
@@ -36,7 +36,7 @@ impl Model for Diagnostic {
 }
 
 impl Diagnostic {
-    /// What a fault at a place tells.
+    /// The diagnostic of a fault at a place.
     pub fn at(line: u32, column: u32, word: &'static str, detail: Detail) -> Diagnostic
         ensures { result ≡ message line column word.now (detail_text detail) }
     {
@@ -48,14 +48,14 @@ impl Diagnostic {
         }
     }
 
-    /// What a fault tells that has no place.
+    /// The diagnostic of a fault that has no place.
     pub fn nowhere(word: &'static str, detail: Detail) -> Diagnostic
         ensures { result ≡ message 0 0 word.now (detail_text detail) }
     {
         Diagnostic::at(0, 0, word, detail)
     }
 
-    /// Puts the line that tells it of the file at a path.
+    /// Puts the line that reports it of the file at a path.
     pub fn put<S: Sink>(&self, path: &str, sink: &mut S) -> Put
         ensures put { Puts (S.written sink.old) (S.written sink.new) (message_line path.now self.now) result }
         ensures counts { CountsPut (S.faults sink.old) (S.faults sink.new) result }

@@ -1,4 +1,4 @@
--- Places stay in range, a front and what is behind it are the text, and a number that is capped stays so.
+-- Places stay in range, a front and what is after it are the text, and a number that is capped stays so.
 use Rattle.std.proofs.Common.{◌≡◌, ℕ, ◌+◌, ◌-◌, ◌*◌, ◌≤◌, Bool, true, false, cond, List, [], ◌∷◌, length, take, drop, refl, sym, ap, ◌∙◌, arith}
 use Rattle.std.specs.Prelude.{◌==◌, if◌then◌else◌}
 use Rattle.scan_text.specs.declared.Place.{Place}

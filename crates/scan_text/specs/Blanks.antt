@@ -39,7 +39,7 @@ abbrev pub block : List ℕ → Option ℕ
 block [] = None
 block (b ∷ bs) = if ends_block (b ∷ bs) then Some 2 else and_one (block bs)
 
--- a comment of a byte and so many more, if it is closed
+-- a comment of a byte and this many more, if it is closed
 abbrev pub closed_comment : Option ℕ → Blank
 closed_comment None = Unclosed
 closed_comment (Some n) = Over n
@@ -62,20 +62,21 @@ blanks_by (Over n) at bs go = go n
 blanks_by Unclosed at bs go = Err (at, bs)
 blanks_by Other at bs go = Ok (at, bs)
 
--- What is left behind all blanks and comments at the front, and its place. Err, where a comment is not closed: then what is left begins
+-- What is left after all blanks and comments at the front, and its place. Err, where a comment is not closed: then what is left begins
 -- with that comment. n bytes of what began before are still to come.
 abbrev pub blanks : ℕ → Place → List ℕ → Result (Place × List ℕ) (Place × List ℕ)
 blanks n at [] = Ok (at, [])
 blanks (suc n) at (b ∷ bs) = blanks n (step at b) bs
 blanks zero at (b ∷ bs) = blanks_by (blank (b ∷ bs)) at (b ∷ bs) (λ n. blanks n (step at b) bs)
 
--- a blank or comment of a byte and n more has at most so many bytes
+-- a blank or comment of a byte and n more has at most as many bytes
 abbrev pub IsWithin : Blank → ℕ → Type 0
 IsWithin (Over n) len = n < len
 IsWithin Unclosed len = Unit {0}
 IsWithin Other len = Unit {0}
 
--- What is left after some bytes and its place are behind the blanks, or at the comment that is not closed, and that place is told.
+-- What is left after some bytes and its place come after the blanks, or are at the comment that is not closed, and that is the
+-- place of the fault.
 abbrev pub StandsBehind : Result (Place × List ℕ) (Place × List ℕ) → Result (Unit {0}) Place → Place → List ℕ → Type 0
 StandsBehind found (Ok u) at left = found ≡ Ok (at, left)
 StandsBehind found (Err p) at left = (found ≡ Err (at, left)) × (at ≡ p)

@@ -11,7 +11,7 @@ abbrev pub walk : Place → List ℕ → Place
 walk at [] = at
 walk at (b ∷ bs) = walk (step at b) bs
 
--- the longest front whose bytes are kept, and what is behind it
+-- the longest front whose bytes are kept, and what is after it
 abbrev pub front : (ℕ → Bool) → List ℕ → List ℕ
 front keep [] = []
 front keep (b ∷ bs) = if keep b then b ∷ front keep bs else []

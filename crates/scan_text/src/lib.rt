@@ -14,8 +14,8 @@ pub struct Place {
     pub column: u32,
 }
 
-/// What begins at the front of a text: a blank or comment with so many bytes after its first, a comment that is not closed, or
-/// something else.
+/// What begins at the front of a text: a blank or comment with this many bytes after its first, a comment that is not closed,
+/// or something else.
 #[derive(Clone, Copy, Debug, PartialEq, Eq)]
 pub enum Blank {
     Over(usize),

@@ -272,7 +272,7 @@ module _ {U L : Type 0} (up : System U) (start : U) (low : System L) (cost : L �
           since = c.since;
         }
 
-    -- a state that was met since the last commit was met behind it
+    -- a state that was met since the last commit was met after it
     met_now : (n : ℕ) (u : U) → low.commits (state n) ≡ true → Since u (suc n) → R u (state (suc n))
     met_now n u c (inl z) = absurd (let e = commit_adds n c in omega (arith, e, z))
     met_now n u c (inr o) =
@@ -284,7 +284,7 @@ module _ {U L : Type 0} (up : System U) (start : U) (low : System L) (cost : L �
           | inr more ↦ (let here : o.0 ≡ suc n = omega (arith, within, more) in subst (λ z. R u (state z)) here o.2)
         ]
 
-    -- At the cycle behind a commit the machine's state is related to the meaning's.
+    -- At the cycle after a commit the machine's state is related to the meaning's.
     pub meets : (n : ℕ) → suc n ≤ until → low.commits (state n) ≡ true → Tame up start (heard_keys t (suc n)) (steps t (suc n)) → Meets up start low R keys state (suc n)
     meets n near c tame =
         let s = standing (suc n) near tame in

@@ -27,7 +27,7 @@ module _ {U L : Type 0} (up : System U) (start : U) (low : System L) (cost : L �
   pub moving : (n : ℕ) → n ≤ until → Tame up start (heard_keys (trace_of low keys state) n) (suc (steps (trace_of low keys state) n)) → (l : L) × (low.step (keys n) (state n) ≡ Some l)
   moving n near tame = moves_on up start low cost R bound keys state gap h.laws h.low_laws h.layer h.key_words until h.runs h.paid h.still h.small h.begins n near tame
 
-  -- behind a commit
+  -- after a commit
   pub meeting : (n : ℕ) → suc n ≤ until → low.commits (state n) ≡ true → Tame up start (heard_keys (trace_of low keys state) (suc n)) (steps (trace_of low keys state) (suc n)) → Meets up start low R keys state (suc n)
   meeting n near c tame = meets up start low cost R bound keys state gap h.laws h.low_laws h.layer h.key_words until h.runs h.paid h.still h.small h.begins n near c tame
 

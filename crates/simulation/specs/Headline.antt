@@ -12,8 +12,8 @@ module _ {S : Type 0} (meaning : System S) (start : S) (t : Trace) (word : ℕ �
     pub words : (a : ℕ) → IsData a → word n a ≡ meaning.word after.state a
     pub point : point_at t n ≡ meaning.point after.state
 
-  -- What holds at cycle n, where a step takes at most `gap` cycles: the run agrees with the meaning as far as that is tame, and
-  -- where the meaning has one more tame step, the computer makes it within the gap.
+  -- What holds at cycle n, where a step takes at most `gap` cycles. The run agrees with the meaning as far as that is tame.
+  -- Where the meaning has one more tame step, the computer makes it within the gap.
   pub record Follows (gap n : ℕ) : Type 0 where
     pub agrees : Tame meaning start (heard_keys t n) (steps t n) → Agrees n
     pub goes_on : Tame meaning start (heard_keys t n) (suc (steps t n)) → steps t n < steps t (n + gap)
@@ -24,7 +24,7 @@ pub record Meets {U L : Type 0} (up : System U) (start : U) (low : System L) (R 
   pub run : run_of up start (heard_keys (trace_of low keys state) n) (steps (trace_of low keys state) n) ≡ Some after
   pub met : R after.state (state n)
 
--- The lower machine is in these states at the cycles, under these keys, in its first `until` cycles; it starts where the layer starts,
+-- The lower machine is in these states at the cycles, under these keys, in its first `until` cycles. It starts where the layer starts,
 -- and no step of the upper machine costs more than the gap, with 16 for the opening.
 module _ {U L : Type 0} (up : System U) (start : U) (low : System L) (cost : L → ℕ) (R : U → L → Type 0) (bound : U → ℕ) where
   pub record CarriesRun (gap until : ℕ) (keys : ℕ → ℕ) (state : ℕ → L) : Type 0 where

@@ -22,14 +22,14 @@ RunsFollow U L = (up : System U) (start : U) (low : System L) (cost : L → ℕ)
     → CarriesRun up start low cost (Related r) bound gap until keys state
     → (n : ℕ) → n + gap ≤ until → Follows up start (trace_of low keys state) (λ c. low.word (state c)) gap n
 
--- Behind a commit, as far as the meaning is tame, the states of the two machines are related.
+-- After a commit, as far as the meaning is tame, the states of the two machines are related.
 abbrev pub RunsMeet : Type 0 → Type 0 → Type 0
 RunsMeet U L = (up : System U) (start : U) (low : System L) (cost : L → ℕ) (r : U → L → Bool) (bound : U → ℕ) (gap until : ℕ) (keys : ℕ → ℕ) (state : ℕ → L)
     → CarriesRun up start low cost (Related r) bound gap until keys state
     → (n : ℕ) → suc n ≤ until → low.commits (state n) ≡ true → Tame up start (heard_keys (trace_of low keys state) (suc n)) (steps (trace_of low keys state) (suc n))
     → Meets up start low (Related r) keys state (suc n)
 
--- what is counted of a run up to cycle n is told by its first cycles
+-- what is counted of a run up to cycle n depends on its first cycles alone
 pub record SameCounts (t t' : Trace) (n : ℕ) : Type 0 where
   pub steps_are : steps t n ≡ steps t' n
   pub heard_are : heard_keys t n ≡ heard_keys t' n

@@ -26,7 +26,7 @@ module _ {U L : Type 0} (up : System U) (low : System L) where
     pub none : (key : ℕ) → IsKey key → up.step key u ≡ None
 
   -- The last of the lower steps that make one upper step. `pend` are the keys heard for it so far. Under each key the lower machine makes
-  -- the last step, the upper one its step under the key that was heard, and the two states that they lead to are related by R.
+  -- the last step, the upper one its step under the key that was heard. The two states that they lead to are related by R.
   pub record Lands (R : U → L → Type 0) (u : U) (pend : List ℕ) (l : L) : Type 0 where
     pub shows : Shows u l
     pub commit : low.commits l ≡ up.commits u
@@ -42,8 +42,8 @@ module _ {U L : Type 0} (up : System U) (low : System L) where
 
 -- `cost` is what a lower step costs; costs are counted in steps of the machine at the bottom.
 module _ {U L : Type 0} (up : System U) (low : System L) (cost : L → ℕ) where
-  -- From l, within a cost of n and whatever the keys, the lower machine comes by quiet steps, which don't count, to a last one at which
-  -- End holds of the keys heard; at each state of these it shows u.
+  -- From l, within a cost of n and whatever the keys, the lower machine comes by quiet steps, which don't count, to a last one. There
+  -- End holds of the keys heard. At each state of these it shows u.
   pub data Along (u : U) (End : List ℕ → L → Type 0) : ℕ → List ℕ → L → Type 0 where
     last : (n : ℕ) (pend : List ℕ) (l : L) → End pend l → cost l ≤ n → Along u End n pend l
     onward : (n m : ℕ) (pend : List ℕ) (l : L) → Shows up low u l → low.commits l ≡ false → cost l + m ≤ n → (to : (key : ℕ) → IsKey key → L) → ((key : ℕ) (w : IsKey key) → low.step key l ≡ Some (to key w)) → ((key : ℕ) (w : IsKey key) → Along u End m (pend ++ keys_heard (low.hears l) key) (to key w)) → Along u End n pend l
@@ -53,7 +53,7 @@ module _ {U L : Type 0} (up : System U) (low : System L) (cost : L → ℕ) (R :
   abbrev pub Way : U → ℕ → List ℕ → L → Type 0
   Way u n pend l = Along up low cost u (Ends up low R u) n pend l
 
-  -- The contract between two layers: where the words in use leave room, related states have one point, and a step of the upper
+  -- The contract between two layers. Where the words in use leave room, related states have one point, and a step of the upper
   -- machine is a way of the lower one.
   pub record Simulates (bound : U → ℕ) : Type 0 where
     pub point : (u : U) (l : L) → R u l → up.fits u ≡ true → low.point l ≡ up.point u

@@ -51,7 +51,7 @@ pub record Listening (S : Type 0) : Type 0 where
 abbrev pub step_from : {S : Type 0} → System S → Listening S → Option (Listening S)
 step_from sys l = option_map (λ s. record { state = s; keys = if sys.hears l.state then other_keys l.keys else l.keys }) (sys.step (first_key l.keys) l.state)
 
--- the state after m steps over a list of keys, where so many can be made
+-- the state after m steps over a list of keys, where m steps can be made
 abbrev pub run_of : {S : Type 0} → System S → S → List ℕ → ℕ → Option (Listening S)
 run_of sys start keys zero = Some (record { state = start; keys = keys })
 run_of sys start keys (suc m) = option_and_then (step_from sys) (run_of sys start keys m)
@@ -60,8 +60,8 @@ run_of sys start keys (suc m) = option_and_then (step_from sys) (run_of sys star
 abbrev pub Tame : {S : Type 0} → System S → S → List ℕ → ℕ → Type 0
 Tame {S} sys start keys m = (j : ℕ) → j ≤ m → (l : Listening S) × (run_of sys start keys j ≡ Some l) × (sys.fits l.state ≡ true)
 
--- What holds of a program's meaning: each step counts, each state has a point, a step that hears nothing is the same under every key,
--- and at the end there is no step.
+-- What holds of a program's meaning. Each step counts, and each state has a point. A step that hears nothing is the same under every
+-- key, and at the end there is no step.
 pub record IsMeaning {S : Type 0} (sys : System S) : Type 0 where
   pub commits : (s : S) → sys.commits s ≡ true
   pub pointed : (s : S) → (p : Point) × (sys.point s ≡ Some p)

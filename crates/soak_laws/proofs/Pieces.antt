@@ -61,7 +61,7 @@ one_says : (t : Word) (v : Said) → Tells t v → Says t (moved t.place v)
 one_says t (Fixed k) h = h
 one_says t (Placed k text at) h = (h.0, h.1, refl)
 
--- Tokens that tell this say it at their places.
+-- Tokens that stand for this say it at their places.
 pub says_there : (ts : List Word) (vs : Tokens) → Tell ts vs → Say ts (located (places ts) vs)
 says_there [] [] h = tt
 says_there [] (v ∷ vs) h = absurd h
@@ -80,7 +80,8 @@ can_two : (vs ws : Tokens) → CanAllSay vs → CanAllSay ws → CanAllSay (vs +
 can_two [] ws h k = k
 can_two (v ∷ vs) ws h k = (h.0, can_two vs ws h.1 k)
 
--- These tokens, wherever they stand, are so many, can stand in a text, and this is printed of them.
+-- These tokens, wherever they stand, are this many, can stand in a text, and this is printed of
+-- them.
 pub record Piece (size : ℕ) (f : Places → Tokens) (x : List ℕ) : Type 0 where
   pub long : (p : Places) → size_of (f p) ≡ size
   pub moves : (p q : Places) → located p (f q) ≡ f p

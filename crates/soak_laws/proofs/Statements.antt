@@ -19,7 +19,7 @@ use Rattle.soak_laws.proofs.Uses.{Each, two, called, Usable, AVariable}
 use Rattle.soak_laws.proofs.Pieces.{Places, skip, sum, Piece, both, placed, fixed, nothing}
 use Rattle.soak_laws.proofs.Expressions.{lettered, ATerm, expression, opening, closing}
 
--- The text is that of a statement, wherever it stands, in at most so many levels.
+-- The text is that of a statement, wherever it stands, in at most this many levels.
 pub record AStatement (most price : ℕ) (x : List ℕ) : Type 0 where
   pub tree : Places → Statement
   pub size : ℕ

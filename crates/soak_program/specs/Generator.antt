@@ -58,7 +58,7 @@ pub data IsStatement (s : ℕ) : List ℕ → ℕ → Type 0 where
   Assignment : {n t u : ℕ} {x : List ℕ} → IsDraw 3 s n t → n < 2 → IsLet 3 t x u → IsStatement s x u
   Either : {t u : ℕ} {x : List ℕ} → IsDraw 3 s 2 t → IsChoice t x u → IsStatement s x u
 
--- so many statements
+-- this many statements
 pub data IsStatements : ℕ → ℕ → List ℕ → ℕ → Type 0 where
   None : {s : ℕ} → IsStatements 0 s [] s
   Next : {n s t u : ℕ} {x y : List ℕ} → IsStatement s x t → IsStatements n t y u → IsStatements (suc n) s (x ++ y) u

@@ -6,7 +6,8 @@ use Rattle.source_files.specs.Folder.{AreNames, AreSources, overfull}
 use Rattle.source_files.specs.Sources.{FolderSpells, IsFaulty, IsUnread, SpellEach, SpellsAt}
 use Rattle.source_files.proofs.Names.{one_list}
 
--- Of the sources that a text spells one view is the same, at most one thing is told of a text, and a text that spells a source is not refused.
+-- Of the sources that a text spells one view is the same. At most one thing is reported of a text, and a text that spells a source is not
+-- refused.
 pub record ReadsOnce {A B : Type 0} (spells : List ℕ → List ℕ → A → Type 0) (refuses : List ℕ → Message → Type 0) (view : A → B) : Type 0 where
   pub one : (name text : List ℕ) (a b : A) → spells name text a → spells name text b → view a ≡ view b
   pub one_told : (text : List ℕ) (s t : Message) → refuses text s → refuses text t → s ≡ t

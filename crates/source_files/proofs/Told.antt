@@ -12,13 +12,13 @@ use Rattle.source_files.specs.declared.error.LoadError.{LoadError}
 use Rattle.source_files.specs.declared.error.LoadError.TheVariants as errors
 use Rattle.source_files.specs.declared.error.TextError.{TextError}
 
--- a refusal that tells this
+-- a refusal that reports this
 pub told : {A : Type 0} (good : A → Type 0) (refused : List ℕ → Type 0) (missed : Type 0) (path : List ℕ) (t : Message) (e : LoadError) → refused (message_line path t) → Refused path t e → Loads good refused missed (Err e)
 told good refused missed path t (errors.Refused r) h e = subst refused (sym e) h
 told good refused missed path t errors.Failed h e = absurd e
 told good refused missed path t errors.Memory h e = tt
 
--- what is told of a path, or want of memory
+-- what is reported of a path, or want of memory
 pub told_of : {A : Type 0} (good : A → Type 0) (refused : List ℕ → Type 0) (missed : Type 0) (path : List ℕ) (o : Option Message) (e : LoadError) → ((t : Message) → o ≡ Some t → refused (message_line path t)) → TellsOf path o e → Loads good refused missed (Err e)
 told_of good refused missed path (Some t) e more h = told good refused missed path t e (more t refl) h
 told_of good refused missed path None e more h = rw h tt

@@ -28,11 +28,11 @@ NamesLaw =
 abbrev pub AreSources : Option Files → List ℕ → List ℕ → List (List ℕ) → Type 0
 AreSources files folder ending names = AreNames files folder ending names × (length names ≤ 256)
 
--- what is told of a folder with so many of them: 1,000,000,000 where they are more
+-- the diagnostic of a folder with this many of them: 1,000,000,000 where they are more
 abbrev pub overfull : ℕ → Message
 overfull n = message 0 0 (codes "Range") (decimal (min n 1000000000))
 
--- There are more than 256 of them, and this line tells how many.
+-- There are more than 256 of them, and this line says how many.
 abbrev pub IsOverfull : Option Files → List ℕ → List ℕ → List ℕ → Type 0
 IsOverfull files folder ending line =
     (names : List (List ℕ)) × AreNames files folder ending names × (256 < length names) × (line ≡ message_line folder (overfull (length names)))

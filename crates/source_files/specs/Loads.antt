@@ -24,13 +24,14 @@ abbrev pub CountsLoad : {A : Type 0} → ℕ → ℕ → Result A LoadError → 
 CountsLoad shelf shelf' (Err errors.Failed) = Rose shelf shelf'
 CountsLoad shelf shelf' _ = shelf' ≡ shelf
 
--- A refusal tells this of what stands at a path, unless memory is wanting.
+-- A refusal reports this of what stands at a path, unless memory is wanting.
 abbrev pub Refused : List ℕ → Message → LoadError → Type 0
 Refused path told (errors.Refused r) = line_of r ≡ message_line path told
 Refused path told errors.Failed = ⊥
 Refused path told errors.Memory = Unit {0}
 
--- What is told of what stands at a path is its refusal; where nothing is told, memory is wanting.
+-- What is reported of what stands at a path is its refusal; where nothing is reported, memory is
+-- wanting.
 abbrev pub TellsOf : List ℕ → Option Message → LoadError → Type 0
 TellsOf path (Some told) e = Refused path told e
 TellsOf path None e = e ≡ errors.Memory

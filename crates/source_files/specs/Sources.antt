@@ -1,11 +1,11 @@
 -- What the text of a file spells, or why it is refused; and so of the files of a folder, each text read wholly before the next. (A language
--- is told by what the text of a file of some name spells, and by why a text is refused.)
+-- is given by what the text of a file of some name spells, and by why a text is refused.)
 use Rattle.std.specs.Prelude.{◌≡◌, ◌<◌, ◌≤◌, ◌++◌, ◌⊎◌, ℕ, List, [], ◌∷◌, Option, length, codes, decimal}
 use Rattle.outer_world.specs.Files.{Files, HasFile, path_in}
 use Rattle.outer_world.specs.Refusals.{Message, message, message_line}
 use Rattle.source_files.specs.Folder.{AreSources, IsOverfull}
 
--- what is told of a text of more than 1,048,576 bytes
+-- the diagnostic of a text of more than 1,048,576 bytes
 abbrev pub past_limit : Message
 past_limit = message 0 0 (codes "Range") (decimal 1048577)
 
@@ -13,7 +13,7 @@ past_limit = message 0 0 (codes "Range") (decimal 1048577)
 abbrev pub IsText : Option Files → List ℕ → List ℕ → Type 0
 IsText files path text = HasFile files path text × (length text ≤ 1048576)
 
--- It has a longer one, as this line tells.
+-- It has a longer one, as this line says.
 abbrev pub IsPastLimit : Option Files → List ℕ → List ℕ → Type 0
 IsPastLimit files path line =
     (text : List ℕ) × HasFile files path text × (1048576 < length text) × (line ≡ message_line path past_limit)
@@ -22,7 +22,7 @@ IsPastLimit files path line =
 abbrev pub SpellsAt : {A : Type 0} → (List ℕ → A → Type 0) → Option Files → List ℕ → A → Type 0
 SpellsAt spells files path source = (text : List ℕ) × HasFile files path text × spells text source
 
--- The text at a path is refused, and this line tells why.
+-- The text at a path is refused, and this line says why.
 abbrev pub IsFaulty : (List ℕ → Message → Type 0) → Option Files → List ℕ → List ℕ → Type 0
 IsFaulty refuses files path line =
     (text : List ℕ) × (told : Message) × HasFile files path text × refuses text told × (line ≡ message_line path told)
@@ -47,7 +47,7 @@ abbrev pub FolderSpells : {A : Type 0} → (List ℕ → List ℕ → A → Type
 FolderSpells spells ending files folder sources =
     (names : List (List ℕ)) × AreSources files folder ending names × SpellEach spells files folder names sources
 
--- The folder's files that end so are not read, and this line tells why: there are too many, or the first that is refused.
+-- The folder's files that end so are not read, and this line says why: there are too many, or the first that is refused.
 abbrev pub IsUnread : {A : Type 0} → (List ℕ → List ℕ → A → Type 0) → (List ℕ → Message → Type 0) → List ℕ → Option Files → List ℕ → List ℕ → Type 0
 IsUnread spells refuses ending files folder line =
     IsOverfull files folder ending line

@@ -9,14 +9,14 @@ use grammar::ReadError;
 use outer_world::{Diagnostic, Name};
 use std::alloc::{AllocError, AllocFailed, Global};
 
-/// Why a text is not read: what its fault tells, or want of memory.
+/// Why a text is not read: the diagnostic of its fault, or want of memory.
 #[derive(Drop)]
 pub enum TextError {
     Refused(Diagnostic),
     Memory,
 }
 
-/// Why a text or a folder is refused: its path, and what its fault tells.
+/// Why a text or a folder is refused: its path, and the diagnostic of its fault.
 #[derive(Drop)]
 pub struct Refusal {
     pub path: Name,
@@ -67,7 +67,7 @@ impl<T: Drop> From<AllocFailed<T>> for LoadError {
 }
 
 impl TextError {
-    /// What a fault tells is why; where it tells nothing, memory is wanting.
+    /// The diagnostic of a fault is why; where it has none, memory is wanting.
     pub fn of_diagnostic(diagnostic: Option<Diagnostic>) -> TextError
         ensures { result ≡ text_error diagnostic }
     {
@@ -79,7 +79,8 @@ impl TextError {
 }
 
 impl LoadError {
-    /// What a fault of what stands at a path tells is its refusal; where it tells nothing, memory is wanting.
+    /// The diagnostic of a fault of what stands at a path is its refusal; where it has none, memory is
+    /// wanting.
     pub fn of_diagnostic(alloc: Global, path: &str, diagnostic: Option<Diagnostic>) -> LoadError
         ensures { TellsOf path.now diagnostic result }
     {

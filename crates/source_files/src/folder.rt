@@ -18,7 +18,7 @@ use std::alloc::{AllocError, Global};
 
 const MOST_FILES: usize = 256;
 
-// The greatest value that a refusal tells of.
+// The greatest value that a refusal reports.
 const MOST_TOLD: usize = 1_000_000_000;
 
 /// The path of a name in a folder; an empty folder is the present one.
@@ -82,7 +82,7 @@ fn names_in<F: Shelf>(
     Ok(kept)
 }
 
-// The refusal of a folder with so many files.
+// The refusal of a folder with this many files.
 fn overfull(alloc: Global, folder: &str, files: usize) -> LoadError
     ensures { TellsOverfull folder.now files result }
 {
@@ -90,7 +90,7 @@ fn overfull(alloc: Global, folder: &str, files: usize) -> LoadError
     LoadError::refused(alloc, folder, Diagnostic::nowhere("Range", told))
 }
 
-// The names of the files of a folder that end so, in order, of which there may be 256.
+// The names of the files of a folder that end so, in order. There may be 256 of them.
 fn sources_in<F: Shelf>(
     alloc: Global,
     folder: &str,
@@ -152,7 +152,8 @@ fn load_each<L: Language, F: Shelf>(
 
 /// What the texts of the folder's files spell whose names end so, in order of name.
 ///
-/// Otherwise the refusal of more than 256 files, else of the first with a fault, that the shelf failed, or want of memory. An honest shelf fails only for a folder that is not there.
+/// Otherwise the refusal of more than 256 files, else of the first with a fault, that the shelf failed, or want of memory. An honest shelf fails only
+/// for a folder that is not there.
 pub fn load_folder<L: Language, F: Shelf>(
     alloc: Global,
     language: &L,

@@ -15,7 +15,7 @@ pub trait Language {
     /// The text of a file of this name spells this source.
     ghost spells: { Self → List ℕ → List ℕ → Self.Source → Type 0 };
 
-    /// The text is refused, and this tells why.
+    /// The text is refused, and this says why.
     ghost refuses: { Self → List ℕ → Message → Type 0 };
 
     /// What the text of a file of this name spells, or why it is refused.

@@ -11,7 +11,7 @@ use grammar::MOST_BYTES;
 use outer_world::{Detail, Diagnostic, Reading, Shelf};
 use std::alloc::Global;
 
-// The longest file that is read has so many bytes: as many as a text may have.
+// The longest file that is read has this many bytes: as many as a text may have.
 const FILE_LIMIT: u32 = MOST_BYTES as u32;
 
 /// The text of the file at a path, of at most 1,048,576 bytes.
@@ -38,7 +38,7 @@ pub fn load_text<F: Shelf>(alloc: Global, path: &str, shelf: &mut F) -> Result<V
 
 /// What the text at a path spells, as that of a file of this name.
 ///
-/// Otherwise its refusal, that the shelf failed, or want of memory. A shelf no call of which is planned to fail fails where
+/// Otherwise its refusal, that the shelf failed, or want of memory. A shelf with no call that is set up to fail fails where
 /// there is no such file alone.
 pub fn load<L: Language, F: Shelf>(
     alloc: Global,

@@ -1,4 +1,4 @@
--- The computer with the image of a program follows the program's meaning, since its files are linked to the code of the program, and the image does
+-- The computer with the image of a program follows the program's meaning. For its files are linked to the code of the program, and the image does
 -- what the code does.
 use Rattle.std.proofs.Common.{◌≡◌, ◌≤◌, ℕ, length, Bool, List, [], ◌∷◌, Result, Ok, Err, false, map, refl, sym, subst, ap, arith}
 use Rattle.std.specs.Prelude.{IfOk, IfErr, if◌then◌else◌}

@@ -25,7 +25,7 @@ use Rattle.jack_names.specs.Inner.Twice.{names_of}
 use Rattle.jack_names.specs.Symbols.{fields_in, fields_of, statics_in, statics_of, locals_of}
 use Rattle.tower.proofs.Reaching.{Reaches, Parts, IsCounted, parts}
 
--- So many more are counted, and at most 16,384 where no more were before.
+-- This many more are counted, and at most 16,384 where no more were before.
 pub record Gains (x : Counted) (s s' : Counts) (n : ℕ) : Type 0 where
   pub total : so_many x s' ≡ so_many x s + n
   pub bound : so_many x s ≤ 16384 → so_many x s' ≤ 16384
@@ -54,7 +54,7 @@ counted_by : (x : Counted) (s s' : Counts) (at : Place) (t : Bool) → nat_le 16
 counted_by x s s' at true e h = absurd cc
 counted_by x s s' at false e h = (leb-false 16384 (so_many x s) e, ok_same (one_more x s) s' h)
 
--- so many for each
+-- this many for each
 abbrev times : {A : Type 0} → ℕ → List A → ℕ
 times k [] = 0
 times k (a ∷ xs) = k + times k xs
@@ -86,7 +86,7 @@ module _ (at : Place) where
   pub two_parts : (s s' : Counts) (a b : JackRule) (x y : Tree Said) → Reach s (seq a b) (Pair x y) s' → (s1 : Counts) × Reach s a x s1 × Reach s1 b y s'
   two_parts s s' a b x y h = in_parts s (seq a b) (Pair x y) s' h
 
-  -- nothing is counted before the part, or behind it
+  -- nothing is counted before the part, or after it
 
   pub after_mark : (s s' : Counts) (v : Said) (is : Word → Bool) (b : JackRule) (x y : Tree Said) → Reach s (seq (mark v is) b) (Pair x y) s' → Reach s b y s'
   after_mark s s' v is b x y h =

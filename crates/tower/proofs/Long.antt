@@ -160,7 +160,7 @@ parameters_long (p ∷ ps) =
     let h = next_long ps in
     omega (arith, h, type_one p.type, closed (type_tokens p.type) (name p.name), closed (parameter_tokens p) (flat_map (λ q. symbol (codes ",") ++ parameter_tokens q) ps))
 
--- things of a list, each no longer than so many times its tokens
+-- things of a list, each no longer than this many times its tokens
 all_long : {A : Type 0} (size : A → ℕ) (tokens : A → Tokens) → ((x : A) → 1 + size x ≤ length (tokens x)) → (xs : List A) → total size xs ≤ length (flat_map tokens xs)
 all_long size tokens h [] = omega arith
 all_long size tokens h (x ∷ xs) = let p = all_long size tokens h xs in omega (arith, p, h x, closed (tokens x) (flat_map tokens xs))

@@ -14,7 +14,7 @@ use Rattle.jack_names.specs.declared.fault.NameKind.TheVariants as kinds
 use Rattle.jack_tree.specs.declared.tree.Name.{Name}
 use Rattle.tower.proofs.NamedFaults.{none_both}
 
--- a name is none of these, and no name of a list stands there twice
+-- a name is not one of these, and no name of a list stands there twice
 abbrev pub IsNew : List ℕ → List (List ℕ) → Type 0
 IsNew x [] = Unit {0}
 IsNew x (y ∷ ys) = (x ≡ y → ⊥) × IsNew x ys
@@ -23,7 +23,7 @@ abbrev pub AreApart : List (List ℕ) → Type 0
 AreApart [] = Unit {0}
 AreApart (x ∷ xs) = IsNew x xs × AreApart xs
 
--- each of some names is none of others
+-- each of some names is not among others
 abbrev pub AreNew : List (List ℕ) → List (List ℕ) → Type 0
 AreNew [] ys = Unit {0}
 AreNew (x ∷ xs) ys = IsNew x ys × AreNew xs ys

@@ -65,7 +65,7 @@ mutual
   other_within s n statements.None' = record { ifs = omega arith; whiles = omega arith }
   other_within s n (statements.Some' m a) = block_within s n _ a
 
--- statements in order, and a text behind them
+-- statements in order, and a text after them
 pub text_within : (s : Scope) (n : ℕ) (ts : List statements.Statement) (more : List meaning.Statement) → AllWithin (meaning.text_of more) 0 → AllWithin (meaning.text_of (statements_meant s n ts ++ more)) (sizes ts)
 text_within s n [] more h = h
 text_within s n (t ∷ ts) more h =

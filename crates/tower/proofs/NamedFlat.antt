@@ -28,7 +28,7 @@ flat-append (c ∷ xs) ys = ap (λ (l : List Owned). map (owned c) c.subroutines
     assoc [] b d = refl
     assoc (o ∷ a) b d = ap (λ (l : List Owned). o ∷ l) (assoc a b d)
 
--- elements of one list behind another
+-- elements of one list after another
 pub get_front : {A : Type 0} (xs ys : List A) (i : ℕ) (x : A) → slice_get xs i ≡ Some x → slice_get (xs ++ ys) i ≡ Some x
 get_front [] ys i x h = absurd cc
 get_front (a ∷ xs) ys zero x h = h

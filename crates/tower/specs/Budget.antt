@@ -1,5 +1,5 @@
--- How many words the image of a program has at most, by its text: so many for each expression, statement and subroutine that is linked. (The book,
--- chapters 7 to 11: what the compiler's templates come to in machine code.)
+-- How many words the image of a program has at most, by its text: a number for each expression, statement and subroutine that is linked. (The
+-- book, chapters 7 to 11: what the compiler's templates come to in machine code.)
 use Rattle.std.specs.Prelude.{◌≡◌, ◌≢◌, ◌≤◌, ◌<◌, ℕ, ◌+◌, ◌*◌, List, length, sum_by}
 use Rattle.std.specs.List.{AllPairs, Contains}
 use Rattle.hack_isa.specs.Machine.{image_words}
@@ -24,7 +24,7 @@ operator_words Less = 4
 operator_words Greater = 4
 operator_words Equal = 4
 
--- an expression: its parts, and so many words for what is done with them
+-- an expression: its parts, and a number of words for what is done with them
 abbrev mutual
   pub expression_words : Expression → ℕ
   expression_words (Literal w) = 9

@@ -4,8 +4,8 @@ use Rattle.jack_meaning.specs.Text.{Minus, Complement, Plus, Subtract, And, Or, 
 use Rattle.jack_meaning.specs.Rows.{class_of, function, small}
 use Rattle.tower.specs.Budget.{IsBudget}
 
--- Main.main has the locals a, i and j, and this statement so many times; at its end stands `return;`. The system is one class, whose Sys.init is
--- `do Main.main(); return;`.
+-- Main.main has the locals a, i and j, and this statement this many times; at its end stands `return;`. The system is one class, whose Sys.init
+-- is `do Main.main(); return;`.
 abbrev pub repeated_program : ℕ → Statement → Program
 repeated_program n s = small (class_of 0 0 ∷ class_of 0 0 ∷ []) (function 1 3 (replicate n s ++ Return 0 (Literal 0) ∷ []) ∷ [])
 

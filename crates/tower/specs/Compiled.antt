@@ -7,8 +7,8 @@ use Rattle.jack_core.specs.declared.program.Core.{Core}
 use Rattle.jack_compiler.specs.Files.{files_of}
 use Rattle.tower.specs.Program.{Means, class_names}
 
--- These are the compiled files of the program that a folder's classes mean with those of the operating system beside them: a file for each class,
--- with every subroutine of it.
+-- These are the compiled files of the program that a folder's classes mean with those of the operating system beside them. There is a file for
+-- each class, with every subroutine of it.
 abbrev pub AreCompiled : Bool → List Class → List File → Type 0
 AreCompiled replace own files = (core : Core) × Means replace own (Ok core) × (files ≡ files_of core)
 

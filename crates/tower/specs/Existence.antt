@@ -1,5 +1,5 @@
--- Well named classes mean a program (book, chapters 9 to 12): where some texts spell the classes of a folder, which are at most 256, and these are
--- well named with those of the operating system beside them, there is a program that they mean.
+-- Well named classes mean a program (book, chapters 9 to 12). Let some texts spell the classes of a folder, which are at most 256, and let these
+-- be well named with those of the operating system beside them. Then there is a program that they mean.
 use Rattle.std.specs.Prelude.{◌≡◌, ◌≤◌, ℕ, Bool, List, [], ◌∷◌, Ok, length, map}
 use Rattle.jack_tree.specs.declared.tree.Class.{Class}
 use Rattle.jack_tree.specs.Syntax.{ClassFile}

@@ -19,8 +19,8 @@ use Rattle.jack_meaning.specs.Gap.{gap, IsGap}
 use Rattle.jack_compiler.specs.Fits.{IsFit}
 use Rattle.jack_compiler.specs.Match.{IsCodeOf, Match}
 
--- At cycle n the run of this image and map agrees with the meaning of the program, as far as that is tame, and it makes the meaning's next
--- tame step within so many cycles.
+-- At cycle n the run of this image and map agrees with the meaning of the program, as far as that is tame. It makes the meaning's next
+-- tame step within this number of cycles.
 abbrev pub FollowsWithin : Program → ℕ → List ℕ → Map → (ℕ → ℕ) → ℕ → Type 0
 FollowsWithin program most image map keys n =
     Follows (meaning_of program.subroutines) (start program) (run_trace image map keys) (run_word image keys) most n
@@ -29,8 +29,8 @@ FollowsWithin program most image map keys n =
 abbrev pub RunFollows : Program → List ℕ → Map → (ℕ → ℕ) → ℕ → Type 0
 RunFollows program image map keys n = (most : ℕ) × IsGap program most × FollowsWithin program most image map keys n
 
--- Where linked code is that of a program with resolved names, and an image and its map do what that code does, the computer with this
--- image follows the program's meaning, at each cycle and under all keys.
+-- Let linked code be that of a program with resolved names, and let an image and its map do what that code does. Then the computer
+-- with this image follows the program's meaning, at each cycle and under all keys.
 abbrev pub HeadlineLaw : Type 0
 HeadlineLaw = (program : Program) (numbers : Numbers) (linked : Linked) (depth most_locals : ℕ) (image : List ℕ) (map : Map)
     → IsFit program numbers depth most_locals → IsCodeOf program numbers linked → IsTranslated linked image map endless_loop

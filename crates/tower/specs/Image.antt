@@ -44,12 +44,13 @@ pub data Unbuilt : Type 0 where
   ManyStatics : ℕ → Unbuilt
   LargeImage : ℕ → Unbuilt
 
--- The program has no image: its files have so many static words, or it would have so many words, which are too many.
+-- The program has no image: its files have this many static words, or it would have this many words, which are too
+-- many.
 abbrev pub IsNotBuilt : Core → Unbuilt → Type 0
 IsNotBuilt core (ManyStatics w) = Links false (files_of core) (Err (TooManyStatics w))
 IsNotBuilt core (LargeImage w) = (linked : Linked) × Links false (files_of core) (Ok linked) × IsTooLarge linked w
 
--- This is the image of the program, or this is why there is none, unless memory ran out.
+-- This is the image of the program, or this is why there is no image, unless memory ran out.
 abbrev pub Builds : Core → Result Image BuildError → Type 0
 Builds core (Ok image) = IsImageOf core image
 Builds core (Err errors.Memory) = Unit {0}

@@ -1,4 +1,4 @@
--- What a program tells that has no computer. Want of memory tells nothing.
+-- The diagnostic of a program that has no computer. Want of memory has none.
 use Rattle.std.specs.Prelude.{Option, Some, None, decimal, codes}
 use Rattle.outer_world.specs.Refusals.{Message, message}
 use Rattle.tower.specs.declared.building.BuildError.{BuildError}

@@ -1,6 +1,6 @@
--- What every class that a text spells keeps to: a name is letters, digits and underscores of ASCII, an integer is at most 32,767, a string has at
--- most 16,384 bytes, all of ASCII, and there are limits on how many things are declared (book, chapter 10). A text has at most 1,048,576 bytes, so
--- it declares no more subroutines than that.
+-- What every class that a text spells keeps to (book, chapter 10). A name is letters, digits and underscores of ASCII, an integer is at most
+-- 32,767, and a string has at most 16,384 bytes, all of ASCII. There are limits on how many things are declared. A text has at most 1,048,576
+-- bytes, so it declares no more subroutines than that.
 use Rattle.std.specs.Prelude.{◌≡◌, ◌<◌, ◌≤◌, ℕ, true, List, [], ◌∷◌, Option, Some, None, length}
 use Rattle.std.specs.List.{All}
 use Rattle.jack_tree.specs.Seen.{unbox}
@@ -45,7 +45,7 @@ abbrev mutual
   pub IsRead : Expression → Type 0
   IsRead (Expression' t n os) = IsReadTerm t × AreReadOperations os
 
-  -- the terms behind operators
+  -- the terms after operators
   pub AreReadOperations : {n : _} → Row_of-Operation n → Type 0
   AreReadOperations end_of-Operation = Unit {0}
   AreReadOperations (more_of-Operation o at t os) = IsReadTerm t × AreReadOperations os

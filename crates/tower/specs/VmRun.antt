@@ -57,7 +57,7 @@ VmEnds linked keys n m ends.Done = (m < n) × (outcome_at linked keys m ≡ Done
 
 -- ---- a machine in its run
 
--- The machine has made its moves, under these keys, of n that were asked for: its state and its count of commits are those of the run, and so is its
+-- The machine has made its moves, under these keys, of n that were asked for. Its state and its count of commits are those of the run, and so is its
 -- end.
 pub record HasRun (vm : LoadedVm) (keys : ℕ → ℕ) (n : ℕ) (end : End) : Type 0 where
   pub made : MakesMoves vm.linked keys vm.moves
@@ -81,8 +81,8 @@ IsTameFor program linked keys = TameFor program linked keys (vm_at linked keys)
 
 -- What n moves of the virtual machine with this code say of the program's meaning.
 pub record VmFollows (program : Program) (linked : Linked) (keys : ℕ → ℕ) (n : ℕ) : Type 0 where
-  -- As far as the meaning is tame, the words of heap and screen and the control point are those of the meaning after as many steps as there were commits,
-  -- over the keys heard.
+  -- As far as the meaning is tame, the words of heap and screen and the control point are those of the meaning. That is the meaning after as many
+  -- steps as there were commits, over the keys heard.
   pub agrees : IsTameFor program linked keys n (steps (vm_trace linked keys) n)
       → Agrees (meaning_of program.subroutines) (start program) (vm_trace linked keys) (vm_word linked keys) n
   -- So far the machine is not full; where it has come to its end, so has the meaning; and where it strays, the meaning strays, at the same address.

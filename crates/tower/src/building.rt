@@ -20,8 +20,8 @@ use thiserror::Error;
 use vm_link::Linked;
 use vm_translator::{CodeFault, Coded, translate};
 
-/// Why a program has no image: memory ran out, its files have so many static words, which are more than 240, or it would
-/// have so many words, which are more than 32,768.
+/// Why a program has no image. Memory ran out, or its files have this number of static words, which is more than 240, or
+/// it would have this number of words, which is more than 32,768.
 #[derive(Debug, Drop, Error)]
 pub enum BuildError {
     #[error("want of memory")]
@@ -33,7 +33,7 @@ pub enum BuildError {
 }
 
 impl BuildError {
-    /// What the fault tells. Want of memory tells nothing.
+    /// The diagnostic of the fault. Want of memory has none.
     pub fn diagnostic(self) -> Option<Diagnostic>
         ensures { result ≡ build_message self }
     {

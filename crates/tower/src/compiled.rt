@@ -10,8 +10,9 @@ use jack_tree::Class;
 use std::alloc::Global;
 use vm_tree::Program;
 
-/// The VM files of the program that a folder's classes, in order of file name, mean with those of the operating system beside them: a
-/// file for each class, with every subroutine of it, whether something calls it or not. The files of the folder's classes come first.
+/// The VM files of the program that a folder's classes, in order of file name, mean with those of the operating system beside them.
+/// There is a file for each class, with every subroutine of it, whether something calls it or not. The files of the folder's classes
+/// come first.
 ///
 /// Otherwise the first fault of the operating system's texts, else the first name fault.
 pub fn compile_classes(alloc: Global, own: &[Class], replace: bool) -> Result<Program, ProgramError>

@@ -44,8 +44,8 @@ pub fn computer_law()
     ensures { ComputerLaw }
 {}
 
-/// A virtual machine that was driven from its start has made the moves of the run of its code under the keys, has counted the
-/// commits among them, and has ended as the run does.
+/// A virtual machine that was driven from its start has made the moves of the run of its code under the keys. It has counted
+/// the commits among them, and has ended as the run does.
 pub fn vm_driven_law()
     ensures { DrivenLaw }
 {}

@@ -48,7 +48,7 @@ module _ (fs : List LinkedFunction) (es : List (ℕ × ℕ)) where
       ap (λ (z : List SubPlaces). z ++ placed_subs fs es (class + 1) (length more + 1) cs) e ∙ append_assoc subs own (placed_subs fs es (class + 1) (length more + 1) cs)
       ∙ ap (λ (n : ℕ). subs ++ (own ++ placed_subs fs es (class + 1) n cs)) long
 
-  -- the subroutines of classes, and of others behind them
+  -- the subroutines of classes, and of others after them
   subs_both : (class n : ℕ) (xs ys : List Class) → placed_subs fs es class n (xs ++ ys) ≡ placed_subs fs es class n xs ++ placed_subs fs es (class + length xs) (n + length (placed_subs fs es class n xs)) ys
   subs_both class n [] ys =
       let e : class ≡ class + 0 = omega arith in
@@ -94,7 +94,7 @@ module _ (files : List LinkedFile) (owns : ℕ) where
       f ∙ ap (λ (x : List ClassPlaces). x ++ placed_classes files owns (length x) system) first_is
       ∙ ap (λ (n : ℕ). placed_classes files owns 0 own ++ placed_classes files owns n system) here ∙ sym (classes_both 0 own system)
 
--- the tables of the subroutines of classes, and of others behind them
+-- the tables of the subroutines of classes, and of others after them
 tables_both : (xs ys : List Class) → map table_of (trees_of (xs ++ ys)) ≡ map table_of (trees_of xs) ++ map table_of (trees_of ys)
 tables_both xs ys = ap (map table_of) (flat_map-append (λ (c : Class). c.subroutines.items) xs ys) ∙ map-append table_of (trees_of xs) (trees_of ys)
 

@@ -127,7 +127,7 @@ module _ (numbers : Numbers) where
   object_plain Function n = tt
   object_plain Constructor n = tt
 
-  -- the commands of a subroutine behind the first
+  -- the commands of a subroutine after the first
   abbrev rest_code : Subroutine → List Code
   rest_code sub = object_code sub.kind (first_number 0 sub.body) ++ text_code numbers 0 (1 + length (object_code sub.kind (first_number 0 sub.body))) sub.body
 

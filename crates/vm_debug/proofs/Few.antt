@@ -34,7 +34,7 @@ last_none : {A : Type 0} (o p : Option A) → option_or o p ≡ None → p ≡ N
 last_none None p e = e
 last_none (Some x) p e = absurd cc
 
--- the words of linked files, the first of which has number k, come behind those of the files before
+-- the words of linked files, the first of which has number k, come after those of the files before
 files_sum : (kept : List Section) (k : ℕ) (fs : List File) → words_before kept k + sum_by (λ f. f.statics) (files_from kept k fs) ≡ words_before kept (k + length fs)
 files_sum kept k [] =
     let same : k ≡ k + 0 = omega arith in

@@ -31,7 +31,7 @@ by_case false f g = g refl
 abbrev has : List ℕ → ℕ → Bool
 has before n = list_any (nat_eq n) before
 
--- behind a number the same
+-- after a number the same
 firsts_same : (before : List ℕ) (n : ℕ) (xs ys : List ℕ) → ((seen : List ℕ) → firsts seen xs ≡ firsts seen ys) → firsts before (n ∷ xs) ≡ firsts before (n ∷ ys)
 firsts_same before n xs ys h = by_case (has before n) (λ e. rw e (h before)) (λ e. rw e (ap (λ z. n ∷ z) (h (n ∷ before))))
 
@@ -97,7 +97,7 @@ has_none m n (k ∷ ns) lt h =
 abbrev code_subs : List Placed → List ℕ
 code_subs ps = subs_of (map range_of ps)
 
--- the commands of a function behind its first have its number
+-- the commands of a function after its first have its number
 code_are : (before : List ℕ) (k n at : ℕ) (cs : List Code) (more : List ℕ) → firsts (n ∷ before) (code_subs (placed_code k n at cs) ++ more) ≡ firsts (n ∷ before) more
 code_are before k n at [] more = refl
 code_are before k n at (c ∷ cs) more =

@@ -1,4 +1,4 @@
--- The places of classes are told by their abstract syntax.
+-- The places of classes are given by their abstract syntax.
 use Rattle.std.proofs.Common.{◌≡◌, ◌+◌, ◌++◌, ℕ, zero, suc, List, [], ◌∷◌, Option, Some, None, codes, slice_get, length, map, refl, sym, ap, ◌∙◌}
 use Rattle.std.proofs.lemmas.List.{length-map, map-append}
 use Rattle.scan_text.specs.declared.Place.{Place}

@@ -14,8 +14,8 @@ use Rattle.jack_names.specs.Numbers.{Standing}
 use Rattle.jack_debug.specs.Statements.{place_of}
 use Rattle.vm_debug.specs.Places.{placed_range, tree_at, trees_of}
 
--- Statements have numbers in the order of the text, and those in a statement come after it. In statements the first of which has number n, number k is
--- this statement's.
+-- Statements have numbers in the order of the text, and those in a statement come after it. In statements the first of which has number n, number k
+-- is this statement's.
 mutual
   pub data HasNumber : ℕ → Statements → ℕ → Statement → Type 0 where
     first : (n : ℕ) (t : Statement) (ts : Statements) → HasNumber n (Next t ts) n t
@@ -54,8 +54,8 @@ abbrev mutual
   IsPart (meaning.While n c a) w = IsIn a w
   IsPart (meaning.Return n e) w = ⊥
 
--- Where a statement of the meaning of a body stands: at the first token of the statement that it means; at the name of a constructor, whose object's
--- memory it takes; or, if it is the `return` that is added, at the brace that closes the body.
+-- Where a statement of the meaning of a body stands. It is at the first token of the statement that it means, or at the name of a constructor, whose
+-- object's memory it takes. If it is the `return` that is added, it is at the brace that closes the body.
 pub data StandsAt (s : Standing) (t : Subroutine) : meaning.Statement → Place → Type 0 where
   of_text : (k : ℕ) (u : Statement) → HasNumber 1 t.statements k u → StandsAt s t (statement_meaning s k u) (first_place u)
   of_object : (e : meaning.Expression) → t.form ≡ Constructor → StandsAt s t (meaning.LetThis 0 e) t.name.place

@@ -50,7 +50,7 @@ names_of_fields Field ns = names_in ns
 abbrev pub field_names : List ClassVariables → List (List ℕ)
 field_names vs = flat_map (λ v. names_of_fields v.scope v.names) vs
 
--- The name of the file of the class of number k: the first of the classes, so many, are the folder's own, and those behind them are the operating
+-- The name of the file of the class of number k. The first `own` classes are the folder's own, and those after them are the operating
 -- system's.
 abbrev pub file_name : ℕ → ℕ → List ℕ → List ℕ
 file_name own k file = if nat_lt k own then file else (codes "os/" ++ file)
@@ -66,7 +66,8 @@ entry_from k (f ∷ fs) es n = if nat_eq f.number n then entry_in es k else entr
 abbrev pub entry_of : List LinkedFunction → List (ℕ × ℕ) → ℕ → ℕ × ℕ
 entry_of fs es n = entry_from 0 fs es n
 
--- Statics whose words begin at an address, and of which so many have one; the first is number k of its class.
+-- Statics whose words begin at an address. This many of them have a word, and the first is number k of its
+-- class.
 abbrev pub placed_statics : ℕ → ℕ → ℕ → List (List ℕ) → List PlacedStatic
 placed_statics first words k [] = []
 placed_statics first words k (n ∷ ns) = record { name = n; address = if nat_lt k words then Some (first + k) else None } ∷ placed_statics first words (k + 1) ns

@@ -19,7 +19,7 @@ use Rattle.vm_debug.specs.Meanings.{Names, AreStaticsOf}
 use Rattle.vm_debug.specs.Places.{the_places}
 use Rattle.vm_debug.specs.Views.{IsPlacesOf}
 
--- These are the places of a program, and those of its image: subroutines have the program's own numbers, and each has the names of its variables and
+-- These are the places of a program, and those of its image. Subroutines have the program's own numbers, and each has the names of its variables and
 -- the statics of its class.
 pub record ArePlacesOf (program : Program) (linked : Linked) (places : Places) : Type 0 where
   pub image : IsPlacesOf linked places (λ g. g)
@@ -31,7 +31,7 @@ pub record ArePlacesOf (program : Program) (linked : Linked) (places : Places) :
 abbrev pub ArePlacesOfClasses : List Class → List Class → Core → ImageMap → Places → Type 0
 ArePlacesOfClasses own system core m places = (linked : Linked) × Links false (files_of core) (Ok linked) × (places ≡ the_places own system linked m)
 
--- Places are told by the classes' abstract syntax.
+-- Places are given by the classes' abstract syntax.
 abbrev pub SamePlacesLaw : Type 0
 SamePlacesLaw = (own own' system system' : List Class) (linked : Linked) (m : ImageMap) → map the_file own ≡ map the_file own' → map the_file system ≡ map the_file system'
     → the_places own system linked m ≡ the_places own' system' linked m

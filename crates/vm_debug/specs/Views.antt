@@ -72,7 +72,8 @@ module _ (l : Linked) (places : Places) (index : ℕ → ℕ) where
     lost = false;
   }
 
--- A subroutine's places fit a frame: it has so many arguments, a method one at least, and so many locals once they are made.
+-- A subroutine's places fit a frame: it has this many arguments, a method one at least, and this many locals once they are
+-- made.
 pub record FitsFrame (sub : SubPlaces) (f : Frame) : Type 0 where
   pub arguments : first_named sub.form + length sub.arguments ≤ length f.arguments
   pub locals : 0 < f.place → length sub.locals ≤ length f.locals

@@ -1,4 +1,4 @@
-//! What the debugger knows of a program: the places of its image, with the names of its text; and laws of what it shows of a computer
+//! What the debugger knows of a program: the places of its image, with the names of its text. And laws of what it shows of a computer
 //! whose memory holds a state of the virtual machine, and of the state of the program's meaning that it matches.
 #![tactic(auto)]
 
@@ -41,7 +41,7 @@ pub fn linked_law()
     ensures { LinkedLaw }
 {}
 
-/// Law: a number is that of one statement of a body, and the place of this number is that of its first token; each statement of
+/// Law: a number is that of one statement of a body, and the place of this number is that of its first token. Each statement of
 /// the body's meaning stands at the place of its number. So a range of the image is at the place where the statement of its
 /// point stands.
 pub fn numbers_law()

@@ -160,7 +160,7 @@ fn statics_at(
     Ok(placed)
 }
 
-// The name of the file of the class of number k, where so many classes are the folder's own.
+// The name of the file of the class of number k, where this many classes are the folder's own.
 fn file_of(alloc: Global, own: usize, k: usize, file: &Name) -> Result<Name, AllocError>
     ensures { IfOk result (λ name. name ≡ file_name own k file.now) }
 {

@@ -73,7 +73,7 @@ pub position_there : {A : Type 0} (p : A → Bool) (i : ℕ) (xs : List A) → i
 position_there p i [] = refl
 position_there p i (x ∷ xs) = some_if (p x) i (position_from p (i + 1) xs) (list_any p xs) (position_there p (i + 1) xs)
 
--- what is lacking is told by what is there
+-- what is lacking is known by what is there
 pub lacking_same : (f g : List ℕ → Bool) (o : Option (List ℕ)) → ((n : List ℕ) → f n ≡ g n) → lacking f o ≡ lacking g o
 lacking_same f g None h = refl
 lacking_same f g (Some n) h = rw (h n) refl

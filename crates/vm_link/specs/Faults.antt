@@ -1,4 +1,4 @@
--- What is wrong with a program, and which fault is told first.
+-- What is wrong with a program, and which fault is reported first.
 use Rattle.std.specs.Prelude.{ℕ, ◌+◌, ◌-◌, ◌^◌, ◌++◌, ◌==◌, ◌||◌, Bool, List, [], ◌∷◌, Option, Some, None, option_map, max, min, codes, nat_lt, zero, suc, if◌then◌else◌}
 use Rattle.std.specs.List.{list_any, filter_map}
 use Rattle.std.specs.Option.{option_or}
@@ -52,7 +52,7 @@ no_function ss s = first_of (λ x. lacking (λ f. list_any (is_named f) ss) (cal
 abbrev pub no_start : Bool → List Section → Option LinkFault
 no_start bare ss = if bare || list_any (is_named sys_init) ss then None else Some NoSysInit
 
--- The faults of all sections, the first of its kind in order of file and text: a function twice defined comes before
+-- The faults of all sections, the first of its kind in order of file and text. A function twice defined comes before
 -- a label that stands twice, this before a label that is not there, and this before a missing start.
 abbrev pub text_fault : Bool → List Section → Option LinkFault
 text_fault bare ss =

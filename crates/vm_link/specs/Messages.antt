@@ -1,4 +1,4 @@
--- What a fault of a program tells. It has no place, and want of memory tells nothing.
+-- The diagnostic of a fault of a program. It has no place, and want of memory has no diagnostic.
 use Rattle.std.specs.Prelude.{[], Option, Some, None, decimal, codes}
 use Rattle.outer_world.specs.Refusals.{Message, message}
 use Rattle.vm_link.specs.declared.fault.LinkFault.{LinkFault}

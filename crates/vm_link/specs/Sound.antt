@@ -18,7 +18,7 @@ IsIndex segment.That i = Unit {0}
 IsIndex segment.Pointer i = Unit {0}
 IsIndex segment.Temp i = Unit {0}
 
--- a step of a function with so many places, where there are so many functions
+-- a step of a function with this many places, where there are this many functions
 abbrev pub IsSoundStep : ℕ → ℕ → Step → Type 0
 IsSoundStep functions places (step.Operate o) = Unit {0}
 IsSoundStep functions places (step.Push g i) = IsIndex g i

@@ -13,7 +13,7 @@ pub record AreBases (kept : List Section) (n : ℕ) (bases : List ℕ) : Type 0 
   pub count : length bases ≡ n
   pub at : (k : ℕ) → k < n → slice_index bases k ≡ min (words_before kept k) (2 ^ 64 - 1)
 
--- A section's file is there, its base is told, and its statics are among the 240 words.
+-- A section's file is there, its base is known, and its statics are among the 240 words.
 pub record IsFitting (kept : List Section) (bases : List ℕ) (s : Section) : Type 0 where
   pub below : s.file < length bases
   pub base : slice_index bases s.file ≡ words_before kept s.file

@@ -26,7 +26,7 @@ pub enum LinkFault {
     /// There is no function Sys.init.
     #[error("NoSysInit")]
     NoSysInit,
-    /// The files have so many static words, which are more than 240.
+    /// The files have this many static words, which are more than 240.
     #[error("TooManyStatics {0}")]
     TooManyStatics(u64),
     #[error("want of memory")]
@@ -34,7 +34,7 @@ pub enum LinkFault {
 }
 
 impl LinkFault {
-    /// What the fault tells. Want of memory tells nothing.
+    /// The diagnostic of the fault. Want of memory has none.
     pub fn diagnostic(self) -> Option<Diagnostic>
         ensures { result ≡ link_message self }
     {
@@ -52,7 +52,7 @@ impl LinkFault {
     }
 }
 
-// What a fault with a name tells.
+// The diagnostic of a fault with a name.
 fn named(word: &'static str, name: Name) -> Diagnostic
     ensures { result ≡ message 0 0 word.now name }
 {

@@ -49,7 +49,7 @@ fn no_words(alloc: Global, files: usize) -> Result<Vec<u32>, AllocError>
     Ok(words)
 }
 
-/// The static words of each of so many files, of the sections that are kept.
+/// The static words of each of this many files, of the sections that are kept.
 pub fn file_words(alloc: Global, kept: &[Part<'_>], files: usize) -> Result<Vec<u32>, AllocError>
     ensures { IfOk result (λ words. AreWords (all_seen kept.now) files words.items) }
 {

@@ -26,7 +26,7 @@ with_room : (full : Bool) (w : ℕ) (s s' : State) → Alike (if full then Full 
 with_room true w s s' = same (Full w)
 with_room false w s s' = record { deaf = λ h. absurd (cc h); hears = refl }
 
--- the words in use do not hang on the value that is pushed
+-- the words in use do not depend on the value that is pushed
 as_many : (f : Frame) (below : List Frame) (k k' : ℕ) → words_in_use (after f (k' ∷ f.values) ∷ below) ≡ words_in_use (after f (k ∷ f.values) ∷ below)
 as_many f [] k k' = refl
 as_many f (g ∷ below) k k' = refl

@@ -75,7 +75,7 @@ two_some (v ∷ u ∷ xs) x y act e e' =
     let second : u ≡ x = cc e' in
     ap (λ z. act z v xs) second ∙ ap (λ z. act x z xs) first
 
--- so many values are there
+-- this many values are there
 pub one_there : (xs : List ℕ) (w : ℕ) → Some w ≡ slice_get xs 0 → 1 ≤ length xs
 one_there [] w e = absurd (cc e)
 one_there (x ∷ xs) w e = omega arith

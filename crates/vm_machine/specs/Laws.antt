@@ -9,9 +9,9 @@ use Rattle.vm_machine.specs.Level.{has_heard, point_of, vm_system}
 use Rattle.vm_machine.specs.Sound.{IsSoundState}
 
 pub record KeyLaw : Type 0 where
-  -- a step that does not hear the key is the same under every key, also one that is none
+  -- a step that does not hear the key is the same under every key, also where there is no step
   pub deaf : (l : Linked) (s : State) (key key' : ℕ) → has_heard (step l key s) ≡ false → step l key' s ≡ step l key s
-  -- whether the key is heard does not hang on which one it is
+  -- whether the key is heard does not depend on which key it is
   pub hears : (l : Linked) (s : State) (key key' : ℕ) → has_heard (step l key' s) ≡ has_heard (step l key s)
 
 pub record EndLaw : Type 0 where

@@ -82,7 +82,8 @@ point_of l (f ∷ below) = record {
   number = statement_of (end_statement l f.function) (slice_get (code_in l f.function) f.place);
 }
 
--- Whether a step hears the key, and whether there is none and why, is the same under every key, so it is asked of key 0.
+-- Whether a step hears the key, and whether there is a step or why not, is the same under every key, so it is asked of
+-- key 0.
 abbrev pub vm_system : Linked → System State
 vm_system l = record {
   step = λ key s. state_after (step l key s);

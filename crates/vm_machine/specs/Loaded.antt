@@ -21,7 +21,8 @@ abbrev pub Leads : Linked → State → List Turn → State → Type 0
 Leads l s [] s' = s' ≡ s
 Leads l s (t ∷ turns) s' = (t.answer ≡ answer_of (step l t.key s)) × Leads l (state_or s (step l t.key s)) turns s'
 
--- how many steps of the program's meaning an answer to a command tells of: one where the command is a commit and acts
+-- how many steps of the program's meaning an answer to a command stands for: one where the command is a commit and
+-- acts
 abbrev pub steps_in : Option Code → Moved → ℕ
 steps_in command answer = if is_commit command then moves_in answer else 0
 

@@ -6,7 +6,7 @@ use Rattle.vm_machine.specs.State.{State}
 use Rattle.vm_machine.specs.Step.{Outcome, Acts, Strays, Full, Done}
 use Rattle.vm_machine.specs.Calls.{Calls}
 
--- the answer that tells of an outcome
+-- the answer that stands for an outcome
 abbrev pub answer_of : Outcome → Moved
 answer_of (Acts heard s) = moved.Acted
 answer_of (Strays why) = moved.Stray why

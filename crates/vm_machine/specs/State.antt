@@ -1,8 +1,8 @@
 -- The state of the virtual machine. (The book, chapters 7 and 8.)
 use Rattle.std.specs.Prelude.{ℕ, ◌+◌, List, [], ◌∷◌, Option, length}
 
--- A call that was made and has not returned: the number of its function in the linked code, or none for `start`; the place of its next
--- command; its arguments, locals and values, the topmost value first; and its pointers `this` and `that`.
+-- A call that was made and has not returned. It has the number of its function in the linked code, or none for `start`, and the place
+-- of its next command. It has its arguments, locals and values, the topmost value first, and its pointers `this` and `that`.
 pub record Frame : Type 0 where
   pub function : Option ℕ
   pub place : ℕ

@@ -21,7 +21,7 @@ pub data Outcome : Type 0 where
   Acts : Bool → State → Outcome
   -- there is no step, and why
   Strays : Stray → Outcome
-  -- there is no step: the stack would have so many words
+  -- there is no step: the stack would have this many words
   Full : ℕ → Outcome
   -- there is no step: `start` has no command left
   Done : Outcome
@@ -90,7 +90,8 @@ store a w values s f below =
     else (if nat_lt a keyboard then goes (record s { words = slice_set s.words (a - heap) w }) below (after f values)
     else Strays (stray.Address a))
 
--- No text has a number over 32,767, a pointer but 0 and 1, a temp word but 0 to 7, or a pop to constant: such a command is none.
+-- No text has a number over 32,767, a pointer but 0 and 1, a temp word but 0 to 7, or a pop to constant. Such a command is no
+-- command of the machine.
 abbrev pub write_outcome : ℕ → Outcome → Outcome
 write_outcome i outcome = if nat_lt i 32768 then outcome else Strays stray.Code
 

@@ -10,8 +10,8 @@ ghost use Rattle.vm_machine.specs.Laws.{EndLaw, KeyLaw, SoundLaw};
 
 pub use vm::Vm;
 
-/// The start is sound, and a step leads from a sound state to a sound one; a step that does not hear the key is the same under every key, whether it hears does not hang on the key, and a
-/// machine that has come to its end stays there.
+/// The start is sound, and a step leads from a sound state to a sound one. A step that does not hear the key is the same under every key, and whether
+/// the key is heard does not depend on which key it is. A machine that has come to its end stays there.
 pub fn vm_law()
     ensures sound { SoundLaw }
     ensures keys { KeyLaw }

@@ -1,4 +1,4 @@
--- A command is told by its first word.
+-- A command is known by its first word.
 use Rattle.std.proofs.Common.{◌≡◌, ℕ, Bool, true, false, List, [], ◌∷◌, refl, sym, ap, ◌∙◌, inl, inr}
 use Rattle.std.specs.Prelude.{◌||◌, ◌⊎◌}
 use Rattle.scan_text.specs.declared.Place.{Place}

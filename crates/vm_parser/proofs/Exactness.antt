@@ -1,4 +1,4 @@
--- A text spells at most one program: what is written is told by its tree.
+-- A text spells at most one program: what is written is given by its tree.
 use Rattle.std.proofs.Common.{◌≡◌, ℕ, Bool, true, false, List, [], ◌∷◌, Option, Some, None, map, refl, sym, ap, ◌∙◌}
 use Rattle.grammar.specs.Rules.{Skip, Leaf, Pair, Left, Right, More}
 use Rattle.grammar.specs.declared.Fault.{Fault}

@@ -23,7 +23,7 @@ commands-push [] l = refl
 commands-push (None ∷ ls) l = commands-push ls l
 commands-push (Some c ∷ ls) l = ap (λ ms. read_line c ∷ ms) (commands-push ls l)
 
--- fewer tokens are left behind a rule that takes one
+-- fewer tokens are left after a rule that takes one
 pub fewer : {end : Place} {s s' : ℕ} {r : Part} {x : VmTree} (cs ds : List Token) → Reads Word ℕ (Unit {0}) Said (vm end) s r (map view cs) x s' (map view ds) → takes r ≡ true → length ds < length cs
 fewer {end = end} cs ds h t = let p = shorter Word ℕ (Unit {0}) Said (vm end) (λ n. refl) h t in omega (arith, p, length-map cs view, length-map ds view)
 

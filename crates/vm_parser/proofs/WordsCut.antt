@@ -16,11 +16,11 @@ use Rattle.vm_parser.specs.declared.token.Role.TheVariants as role
 use Rattle.vm_parser.specs.Tokens.{Word, made_word, named_word, line_end_token, piece, begins_name, is_name_byte, begins_if_goto, number_piece, word_piece, name_piece, if_goto_piece}
 use Rattle.vm_parser.specs.Printed.{all, is_text_of_name}
 
--- the bytes behind a word: a space or a line feed
+-- the bytes after a word: a space or a line feed
 abbrev pub stops : ℕ → Bool
 stops b = b == 32 || b == 10
 
--- a test that fails at the byte behind the word
+-- a test that fails at the byte after the word
 front_all : (test : ℕ → Bool) (w : List ℕ) (b : ℕ) (more : List ℕ) → all test w ≡ true → test b ≡ false → front test (w ++ b ∷ more) ≡ w
 front_all test [] b more h n = ap (λ t. cond t (b ∷ front test more) []) n
 front_all test (c ∷ w) b more h n =
@@ -96,7 +96,7 @@ no_if_goto_by c cs b more false e h s = e
 no_if_goto : (c : ℕ) (cs : List ℕ) (b : ℕ) (more : List ℕ) → all is_name_byte cs ≡ true → stops b ≡ true → begins_if_goto ((c ∷ cs) ++ b ∷ more) ≡ false
 no_if_goto c cs b more h s = no_if_goto_by c cs b more (begins_if_goto ((c ∷ cs) ++ b ∷ more)) refl h s
 
--- a piece that is told by the tests of its first byte
+-- a piece that is known by the tests of its first byte
 name_cuts : (c : ℕ) (cs : List ℕ) (b : ℕ) (more : List ℕ) → begins_name c ≡ true → all is_name_byte cs ≡ true → stops b ≡ true → piece ((c ∷ cs) ++ b ∷ more) ≡ Token (named_word (c ∷ cs)) (length (c ∷ cs) - 1)
 name_cuts c cs b more h a s =
     let bs : List ℕ = (c ∷ cs) ++ b ∷ more in

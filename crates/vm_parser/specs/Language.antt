@@ -1,4 +1,5 @@
--- What the text of a file of VM commands spells, and what a refused one tells. (The book, chapters 7 and 8.)
+-- What the text of a file of VM commands spells, and the diagnostic of a refused one. (The book, chapters 7
+-- and 8.)
 use Rattle.std.specs.Prelude.{ℕ, Bool, List, [], ◌∷◌, codes}
 use Rattle.outer_world.specs.Refusals.{Message}
 use Rattle.source_files.specs.Faults.{TellsFault}

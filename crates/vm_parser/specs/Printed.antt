@@ -13,7 +13,7 @@ abbrev pub all : {A : Type 0} → (A → Bool) → List A → Bool
 all test [] = true
 all test (x ∷ xs) = test x && all test xs
 
--- bytes of names, of which the first is no digit
+-- bytes of names, the first no digit
 abbrev pub is_text_of_name : List ℕ → Bool
 is_text_of_name [] = false
 is_text_of_name (b ∷ bs) = begins_name b && all is_name_byte bs

@@ -134,7 +134,7 @@ perform_is (Shift m left d dest jump) key pc x s w =
     let j : (out : ℕ) → jumps jump out ≡ false = λ out. subst (λ n. jumps n out ≡ false) (sym s.0) (no_jump out) in
     after_shift m left d dest jump key pc x _ _ _ (ap (λ y. word_shift left (if d then x.d else y)) o) (j _) refl (memory_is (has_bit dest 0) x.m x.a _ s.3)
 
--- of a shift that is none of D, what may read is M
+-- of a shift that is not of D, what may read is M
 of_m : (m d : Bool) → d ≡ false → (m ≡ true) ⊎ (d ≡ true) → m ≡ true
 of_m m d e (inl h) = h
 of_m m d e (inr h) = absurd (cc (e, h))

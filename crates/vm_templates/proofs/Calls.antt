@@ -167,7 +167,7 @@ called_from m m1 after back n same low p =
       same = λ k h one two apart. p.same k h one two (elim apart [ inl l ↦ inl (omega arith) | inr l ↦ inr (omega arith) ]) ∙ same k h.1 h.2;
     }
 
--- behind a call's own instructions but the last
+-- after a call's own instructions but the last
 call_through : (image : List ℕ) (inside : ℕ → Type 0) (here there : ℕ) → inside (here + 11) → ((k : ℕ) → there ≤ k → k < there + 33 → inside k) → there + 34 ≤ 32768 → (back target n : ℕ) → target < 32768 → n < 32768
     → Stands image (here + 11) (JUMP ∷ []) → Stands image there call_routine → (m : ℕ → ℕ) → 256 ≤ m 0 → m 0 + 5 ≤ 2048
     → (y : Data) → AreWords y → y.a ≡ there → y.d ≡ back → y.m 13 ≡ target → y.m 14 ≡ 5 + n → ((k : ℕ) → k ≢ 13 → k ≢ 14 → y.m k ≡ m k)

@@ -89,7 +89,7 @@ module _ (image : List ℕ) (inside : ℕ → Type 0) (here last : ℕ) (fits : 
         whole image inside push_d 3 (with_word v) (here + n + 1) last refl pushes.1 q.1 (with_words v small) (omega arith) fits (λ k b c. places k (omega arith) c)
         (go (do_block push_d (with_word v)) (block_words push_d (with_word v) q.1 (with_words v small)) q.0)
 
-    -- The word is the key: it is read behind these instructions, and goes on the stack.
+    -- The word is the key: it is read after these instructions, and goes on the stack.
     pub push_key_goes : address ≡ 24576 → 256 ≤ x.m 0 → x.m 0 < 2048
         → {goal : ℕ → Machine → Type 0} → ((key : ℕ) → IsKey key → (z : Data) → AreWords z → Pushed x.m z.m key → Next (goal key) z) → DoesHearing image inside last ⊥ goal n 3 (at here x)
     push_key_goes at_key low high {goal} go =

@@ -69,7 +69,7 @@ difference_does : (y : Data) → 257 ≤ y.m 0 → y.m 0 < 2048 → y.a ≡ y.m 
     → (let z = do_block (D_IS_M_MINUS_D ∷ M_IS_MINUS_1 ∷ []) y in Turned y.m z.m 65535 × (z.d ≡ word_sub (y.m (y.m 0 - 1)) (y.m (y.m 0)))) × Safe (D_IS_M_MINUS_D ∷ M_IS_MINUS_1 ∷ []) y
 difference_does y low high a d = ((record { top = grind (arith, nat_tests); same = λ k e. grind (arith, nat_tests) }, grind (arith, nat_tests)), search arith)
 
--- what `gt` and `lt` give, where the jump `j` tells it by the difference, and `t` by the lower value alone
+-- what `gt` and `lt` give, where the jump `j` decides by the difference, and `t` by the lower value alone
 abbrev ordered : ℕ → ℕ → ℕ → ℕ → ℕ
 ordered j t x y =
     if nat_lt x 32768 then (if nat_lt y 32768 then decided j (word_sub x y) else decided t x) else (if nat_lt y 32768 then decided t x else decided j (word_sub x y))
@@ -178,7 +178,8 @@ module _ (image : List ℕ) (inside : ℕ → Type 0) (begin last back : ℕ) (f
       block_then image inside (take 2 code) y h (h + 2) 7 (λ z. Turned m z.m 65535 × (z.d ≡ word_sub Lower Upper)) (up_to image h 2 code st) p.1 w refl (omega arith) (λ k a b. places k (omega arith) (omega arith)) p.0
       (λ z wz q. decides (h + 2) j z (from_place image h 2 code st) (omega arith) (omega arith) wz q.0 (subst (λ n. Ends (decided j n)) (sym q.1) ends))
 
-  -- `gt` or `lt`, after their beginning. The jump `j` tells it by the difference, and the jump `t` by the lower value alone.
+  -- `gt` or `lt`, after their beginning. The jump `j` decides it by the difference, and the jump `t` by the lower value
+  -- alone.
   module _ (j t : ℕ) (st : Stands image begin (order_routine (Compute false 12 0 j) (Compute false 12 0 t) begin)) (e : begin + 37 ≡ last) where
     abbrev code : List Instr
     code = order_routine (Compute false 12 0 j) (Compute false 12 0 t) begin

@@ -7,7 +7,7 @@ use Rattle.vm_templates.specs.Templates.{push_zero, function_code, put_d, save, 
 use Rattle.vm_templates.specs.Effects.{IsKept, Pushed, PushedAll, Called, Returned}
 use Rattle.vm_templates.proofs.Block.{Data, do_block, Safe, safe_append}
 
--- The saved words of a call so far, whose topmost is n words above where SP pointed; SP points to it. `word` tells each, the lowest first.
+-- The saved words of a call so far, whose topmost is n words above where SP pointed; SP points to it. `word` gives each, the lowest first.
 pub record Saving (m after : ℕ → ℕ) (n : ℕ) (word : ℕ → ℕ) : Type 0 where
   pub sp : after 0 ≡ m 0 + n
   pub words : (k : ℕ) → k < suc n → after (m 0 + k) ≡ word k

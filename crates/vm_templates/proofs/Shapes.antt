@@ -24,7 +24,7 @@ use Rattle.vm_templates.proofs.Commands.{push_constant_goes, push_word_goes, pus
 use Rattle.vm_templates.proofs.Compare.{eq_goes, gt_goes, lt_goes}
 use Rattle.vm_templates.proofs.Calls.{go_to_goes, if_go_to_goes, function_goes, call_goes, return_goes}
 
--- what may be written, told more widely
+-- what may be written, said more widely
 may : {image : List ℕ} {inside : ℕ → Type 0} {last : ℕ} {p q : Type 0} {goal : Machine → Type 0} (n : ℕ) (s : Machine) → (p → q) → Does image inside last p goal n s → Does image inside last q goal n s
 may n s f (arrived l) = arrived (record { place = l.place; write = λ b. f (l.write b); no_key = l.no_key; leads = l.leads })
 may (suc n) s f (further q r) = further q (λ key w. may n _ f (r key w))

@@ -28,11 +28,11 @@ IsShape (IfGoto target) = target < 32768
 IsShape (Call target arguments) = (target < 32768) × (arguments < 32768)
 IsShape c = Unit {0}
 
--- so many values can be taken from the stack, 256 to 2047
+-- this many values can be taken from the stack, 256 to 2047
 abbrev pub HasValues : ℕ → (ℕ → ℕ) → Type 0
 HasValues n m = (256 + n ≤ m 0) × (m 0 ≤ heap)
 
--- so many words can be put on it
+-- this many words can be put on it
 abbrev pub HasRoom : ℕ → (ℕ → ℕ) → Type 0
 HasRoom n m = (256 ≤ m 0) × (m 0 + n ≤ heap)
 
@@ -66,7 +66,7 @@ Ready (Function locals) m = HasRoom locals m
 Ready Return m = HasValues 1 m × (256 ≤ m 2) × (m 2 + 5 ≤ m 1) × (m 1 ≤ heap) × (m (m 1 - 5) < 32768)
 Ready c m = HasValues 2 m
 
--- a push of the word at an address that a register tells
+-- a push of the word at an address that a register has
 abbrev pub PushesFrom : Shape → (ℕ → ℕ) → ℕ → Type 0
 PushesFrom (PushAt base index) m address = address_at m base index ≡ address
 PushesFrom (PushFirst base) m address = m base ≡ address

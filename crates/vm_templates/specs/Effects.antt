@@ -47,7 +47,7 @@ pub record Called (m after : ℕ → ℕ) (back arguments : ℕ) : Type 0 where
   pub saved_that : after (m 0 + 4) ≡ m 4
   pub same : (k : ℕ) → IsKept k → k ≢ 1 → k ≢ 2 → (k < m 0) ⊎ (m 0 + 5 ≤ k) → after k ≡ m k
 
--- n values more on the stack: `word` tells each, the lowest first
+-- n values more on the stack: `word` gives each, the lowest first
 pub record PushedAll (m after : ℕ → ℕ) (n : ℕ) (word : ℕ → ℕ) : Type 0 where
   pub sp : after 0 ≡ m 0 + n
   pub words : (k : ℕ) → k < n → after (m 0 + k) ≡ word k

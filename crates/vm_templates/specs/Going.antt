@@ -19,7 +19,8 @@ IsKeyRead (Address n) s = ⊥
 IsKeyRead (Compute m comp dest jump) s = (m ≡ true) × (s.a ≡ keyboard)
 IsKeyRead (Shift m left d dest jump) s = (m ≡ true) × (s.a ≡ keyboard)
 
--- By its word alone the instruction may read the key: so does each that reads it, and a shift of D while A is 24,576, whose word may have the bit of M.
+-- By its word alone the instruction may read the key. So does each that reads it, and a shift of D while A is 24,576, whose word may have the bit of
+-- M.
 abbrev pub MayReadKey : Instr → Machine → Type 0
 MayReadKey (Address n) s = ⊥
 MayReadKey (Compute m comp dest jump) s = IsKeyRead (Compute m comp dest jump) s
@@ -55,6 +56,7 @@ module _ (image : List ℕ) (inside : ℕ → Type 0) (last : ℕ) (may_write : 
   abbrev pub Does : (Machine → Type 0) → ℕ → Machine → Type 0
   Does goal n s = Reaches image (Quiet image inside) (Last image last may_write goal) n s
 
-  -- It goes by at most n quiet steps to where it reads the key, and then by at most m to the last instruction, and with it to this key's goal.
+  -- It goes by at most n quiet steps to where it reads the key. Then it goes by at most m to the last instruction, and with it to this key's
+  -- goal.
   abbrev pub DoesHearing : (ℕ → Machine → Type 0) → ℕ → ℕ → Machine → Type 0
   DoesHearing goal n m s = Reaches image (Quiet image inside) (Hears image inside (λ key. Does (goal key) m)) n s

@@ -73,8 +73,8 @@ compare_by routine back = Address back ∷ D_IS_A ∷ go_to routine
 abbrev pub load : ℕ → List Instr
 load n = Address (if nat_lt n 32768 then n else word_not n) ∷ (if nat_lt n 32768 then D_IS_A else D_IS_NOT_A) ∷ []
 
--- How a call goes through its routine: the function's address is in the word 13, the number of the arguments and of the five words that are
--- saved in the word 14, and the return address in D.
+-- How a call goes through its routine. The word 13 has the function's address. The word 14 has one number, of the arguments and of the five
+-- words that are saved, together. The return address is in D.
 abbrev pub call_by : ℕ → ℕ → ℕ → ℕ → List Instr
 call_by routine back target arguments =
     Address target ∷ D_IS_A ∷ Address 13 ∷ M_IS_D ∷ (load (5 + arguments) ++ Address 14 ∷ M_IS_D ∷ Address back ∷ D_IS_A ∷ go_to routine)
@@ -87,7 +87,7 @@ put_d = Address 0 ∷ A_IS_M ∷ M_IS_D ∷ []
 abbrev pub save : ℕ → List Instr
 save register = Address register ∷ D_IS_M ∷ Address 0 ∷ AM_IS_M_PLUS_1 ∷ M_IS_D ∷ []
 
--- SP is above the topmost word again, LCL is SP, and ARG is so far below as the word 14 tells
+-- SP is above the topmost word again, LCL is SP, and ARG is as far below as the word 14 says
 abbrev pub set_pointers : List Instr
 set_pointers = Address 0 ∷ MD_IS_M_PLUS_1 ∷ Address 1 ∷ M_IS_D ∷ Address 14 ∷ D_IS_D_MINUS_M ∷ Address 2 ∷ M_IS_D ∷ []
 
@@ -131,8 +131,8 @@ go_back = Address 14 ∷ A_IS_M ∷ JUMP ∷ []
 abbrev pub return_code : List Instr
 return_code = save_return ++ (put_result ++ (restore 4 ++ (restore 3 ++ (restore 2 ++ (restore_lcl ++ go_back)))))
 
--- How the routine of a comparison of x and, above it, y begins: the address to come back to, which is in D, waits in the word 14. y is taken away
--- and goes to D; it still stands where it stood, above SP. A is the address of x.
+-- How the routine of a comparison of x and, above it, y begins. The address to come back to, which is in D, waits in the word 14. Then y is taken
+-- away and goes to D; it still stands where it stood, above SP. A is the address of x.
 abbrev pub begin_compare : List Instr
 begin_compare = Address 14 ∷ M_IS_D ∷ Address 0 ∷ AM_IS_M_MINUS_1 ∷ D_IS_M ∷ A_IS_A_MINUS_1 ∷ []
 
@@ -156,8 +156,8 @@ equal_routine at = begin_compare ++ by_difference IF_D_EQUAL (at + 6)
 abbrev pub load_again : List Instr
 load_again = Address 0 ∷ A_IS_M ∷ D_IS_M ∷ A_IS_A_MINUS_1 ∷ []
 
--- `gt` and `lt`: where both values are negative, or neither is, their difference does not overflow, and tells it. Where the signs differ, the
--- jump `by_sign` tells it by x alone.
+-- `gt` and `lt`: where both values are negative, or neither is, their difference does not overflow, and decides it. Where the signs differ,
+-- the jump `by_sign` decides it by x alone.
 abbrev pub order_routine : Instr → Instr → ℕ → List Instr
 order_routine jump by_sign at =
     begin_compare ++ (D_IS_D_OR_M ∷ Address (at + 24) ∷ IF_D_NOT_LESS ∷ (load_again ++ (D_IS_D_AND_M ∷ Address (at + 24) ∷ IF_D_LESS ∷

@@ -18,7 +18,7 @@ module _ {U : Type 0} (up : System U) (image : List ℕ) (map : Map) (loop : ℕ
   abbrev pub WayWithin : ℕ → Machine → Type 0
   WayWithin n s = Way up (hack_system image map loop) (λ l. 1) (Related r) u n [] s
 
-  -- Under each key the upper machine makes a step, and what the goal is told of is related to where that leads.
+  -- Under each key the upper machine makes a step, and what the goal gets is related to where that leads.
   abbrev pub LeadsOn : (ℕ → Machine → Bool) → Type 0
   LeadsOn goal = (key : ℕ) → IsKey key → (v : U) × (up.step key u ≡ Some v) × ((t : Machine) → goal key t ≡ true → r v t ≡ true)
 

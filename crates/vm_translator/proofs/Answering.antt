@@ -61,7 +61,7 @@ ready_in l layout base bare fs s h e b f lay =
     let p : layout.placed.items ≡ program l = lay.placed ∙ ap (λ z. placed_from 0 z fs) (b ∙ ap (λ z. if z then 0 else start_size) e) ∙ ap (placed_from 0 (base_of l)) f in
     subst (All (IsReady l.functions)) (sym p) (all_ready l h s)
 
--- where the layout ends, where the routines begin behind it, and that they fit
+-- where the layout ends, where the routines begin after it, and that they fit
 end_is : (l : Linked) (layout : Layout) (base : ℕ) (bare : Bool) (fs : List LinkedFunction) → bare ≡ l.bare → base ≡ (if bare then 0 else start_size) → fs ≡ l.functions → IsLayout base fs layout → layout.end ≡ end_of l
 end_is l layout base bare fs b e f lay = lay.ends ∙ ap (λ z. z + words_in fs) (e ∙ ap (λ z. if z then 0 else start_size) b) ∙ ap (λ z. base_of l + words_in z) f
 

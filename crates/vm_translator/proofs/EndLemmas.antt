@@ -1,4 +1,4 @@
--- A place is at the end of the code where nothing stands behind it.
+-- A place is at the end of the code where nothing stands after it.
 use Rattle.std.proofs.Common.{◌≡◌, ◌+◌, ◌-◌, ◌<◌, ◌≤◌, ◌⊎◌, ◌||◌, ◌&&◌, ℕ, zero, suc, Bool, true, false, List, [], ◌∷◌, length, get_or, take, drop, nat_eq, unwrap_or, if◌then◌else◌, refl, sym, ap, ◌∙◌, arith, add-one, inl, inr}
 use Rattle.std.specs.Prelude.{not}
 use Rattle.std.specs.List.{list_any}
@@ -146,7 +146,7 @@ module _ (base : ℕ) (fs : List LinkedFunction) (n : ℕ) (f : IsFilled fs n) w
   pub all_named : list_any (names base fs (base + words_in fs)) (placed_from 0 base fs) ≡ functions_name_end n fs 0 fs
   all_named = functions_named 0 base fs (omega arith) refl
 
--- what names the end of a program, where so many of its functions are filled
+-- what names the end of a program, where this many of its functions are filled
 pub names_by : (l : Linked) (n : ℕ) → IsFilled l.functions n
     → names_end l ≡ ((not l.bare && is_end n l.functions (unwrap_or l.start 0) 0) || functions_name_end n l.functions 0 l.functions)
 names_by l n f = rw (end_is (base_of l) l.functions n (unwrap_or l.start 0) 0 f, all_named (base_of l) l.functions n f) refl

@@ -42,7 +42,7 @@ module _ (address : Option ℕ → ℕ → ℕ) where
   abbrev pub with_frame : State → Frame → List Frame → State
   with_frame v g below = record v { frames = g ∷ below }
 
-  -- what the memory is told of the innermost frame
+  -- what the memory says of the innermost frame
   pub record Inner (f : Frame) (below : List Frame) (m : ℕ → ℕ) : Type 0 where
     pub sp : m 0 ≡ base below + length (own_words address f below)
     pub own : Holds m (base below) (own_words address f below)

@@ -1,4 +1,4 @@
--- What the computer does for each step, told by instructions.
+-- What the computer does for each step, by instructions.
 use Rattle.std.proofs.Common.{◌≡◌, ℕ, zero, suc, Option, Some, None, ◌-◌, ◌≤◌, Bool, true, false, List, [], ◌∷◌, length, refl, ap, ◌∙◌, sym, subst, arith}
 use Rattle.std.specs.Prelude.{slice_get, map}
 use Rattle.hack_isa.specs.Machine.{Machine}
@@ -302,7 +302,7 @@ translated_as l instrs commits points sound uniform few i c p whole =
 pub covers_as : (l : Linked) (points : List PointRange) → points ≡ points_of l → Covers 0 points (shared_at l)
 covers_as l points p = subst (λ z. Covers 0 z (shared_at l)) (sym p) (covers l)
 
--- the routines cover what is behind the points
+-- the routines cover what is after the points
 pub shared_covers : (l : Linked) → CoversShared (shared_at l) (shared_ranges l) (length (image_of l))
 shared_covers l = subst (CoversShared (shared_at l) (shared_ranges l)) (sym (length_with l)) (ranges_cover (shared_at l) (used_routines l))
 

@@ -93,7 +93,7 @@ rest_at [] p c g = absurd (cc g)
 rest_at (d ∷ cs) zero c g = let e : d ≡ c = cc in ap (λ z. z ∷ cs) e
 rest_at (d ∷ cs) (suc p) c g = rest_at cs p c g
 
--- what a step says of the commits of those behind it and its own
+-- what a step says of the commits of those after it and its own
 commit_here : (a : ℕ) (x : Placed) (behind : List Placed) → list_any (nat_eq a) (filter_map commit_of behind) ≡ false
     → list_any (nat_eq a) (filter_map commit_of (x ∷ behind)) ≡ ((x.code.commit && not (is_shared x.code.step)) && nat_eq a (x.at + step_size x.code.step - 1))
 commit_here a x behind h = by_commit (x.code.commit && not (is_shared x.code.step))
@@ -182,7 +182,7 @@ module _ (l : Linked) (sound : IsSound l) (uniform : IsUniform l) (whole : l.bar
   program_chain : Chain (base_of l) (program l) (end_of l)
   program_chain = chain_from 0 (base_of l) l.functions
 
-  -- the routines behind the code
+  -- the routines after the code
   shared_stands : Stands (map word_of (image_of l)) (shared_at l) shared_instrs
   shared_stands =
       let n = chain_length (routines l) (base_of l) l.functions (base_of l) (end_of l) (program l) program_chain in

@@ -1,4 +1,4 @@
--- What the memory tells of frames, and what the map tells of places.
+-- What the memory says of frames, and what the map says of places.
 use Rattle.std.proofs.Common.{◌≡◌, ◌<◌, ◌≤◌, ℕ, zero, suc, ◌+◌, ◌-◌, List, [], ◌∷◌, ◌++◌, length, take, drop, refl, sym, ap, subst, ◌∙◌, arith, length-append}
 use Rattle.std.specs.Prelude.{Option, Some, None, option_map, unwrap_or, slice_get, map, reverse, if◌then◌else◌}
 use Rattle.std.proofs.lemmas.List.{map-append}

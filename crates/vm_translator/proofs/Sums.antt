@@ -224,7 +224,7 @@ pub words_some : (cs : List Code) → 0 < length cs → 0 < words_of cs
 words_some [] h = absurd (omega arith)
 words_some (c ∷ cs) h = let s = size_some c.step in omega arith
 
--- code is what stands before a place and what stands behind it
+-- code is what stands before a place and what stands after it
 pub words_parts : (cs : List Code) (p : ℕ) → words_of cs ≡ words_of (take p cs) + words_of (drop p cs)
 words_parts [] zero = refl
 words_parts [] (suc p) = refl
@@ -242,7 +242,7 @@ words_less [] p h = absurd (omega arith)
 words_less (c ∷ cs) zero h = let s = size_some c.step in omega arith
 words_less (c ∷ cs) (suc p) h = let r = words_less cs p (omega arith) in omega arith
 
--- functions are those before one, its code, and those behind it
+-- functions are those before one, its code, and those after it
 pub words_in_parts : (fs : List LinkedFunction) (k : ℕ) → words_in fs ≡ words_in (take k fs) + (words_of (code_at fs k) + words_in (drop (suc k) fs))
 words_in_parts [] zero = refl
 words_in_parts [] (suc k) = refl

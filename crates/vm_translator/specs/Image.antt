@@ -42,8 +42,8 @@ names base fs at c = list_any (nat_eq at) (named_symbol base fs c.function (c.at
 abbrev pub names_end : Linked → Bool
 names_end l = (not l.bare && nat_eq (end_of l) (entry_of l)) || list_any (names (base_of l) l.functions (end_of l)) (program l)
 
--- What closes the code. Where the end is named it is one word 0, so that each address that is named has a word. A program without start code may go past its
--- last command; where it has routines, an endless loop keeps it from the first of them.
+-- What closes the code. Where the end is named it is one word 0, so that each address that is named has a word. A program without start code may go
+-- past its last command; where it has routines, an endless loop keeps it from the first of them.
 abbrev pub closing_of : Linked → Closing
 closing_of l = if l.bare && not (nat_eq (length (used_routines l)) 0) then closes.Loop else if names_end l then closes.Word else closes.Nothing
 
@@ -153,7 +153,8 @@ budget_from (f ∷ fs) = budget_in f.code + budget_from fs
 abbrev pub budget_of : Linked → ℕ
 budget_of l = 256 + budget_from l.functions
 
--- The image has so many words, or 2^64 - 1 where it has more, and they are more than there is room for.
+-- The image has this many words, or 2^64 - 1 where it has more, and they are more than there is room
+-- for.
 pub record IsTooLarge (l : Linked) (w : ℕ) : Type 0 where
   pub words : w ≡ min (length (image_of l)) (2 ^ 64 - 1)
   pub over : image_words < length (image_of l)

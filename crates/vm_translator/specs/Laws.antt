@@ -28,7 +28,7 @@ pub record MissesPush (c : Shape) (m : ℕ → ℕ) : Type 0 where
   pub pushes : PushesFrom c m from
   pub apart : from ≢ keyboard
 
--- a pop to where a register tells, whatever the address is
+-- a pop to where a register points, whatever the address is
 pub record MissesPop (c : Shape) (m : ℕ → ℕ) : Type 0 where
   pub shape : IsShape c
   pub to : ℕ

@@ -33,13 +33,13 @@ pub record PiecesFit : Type 0 where
   pub name : (g : Segment) (i : ℕ) → words (step.Push g i ∷ []) ≤ 9
   -- the sign or the operator of an expression
   pub operator : (o : Operation) → words (step.Operate o ∷ []) ≤ operation_words o
-  -- `a[i]`, behind the code of a and i
+  -- `a[i]`, after the code of a and i
   pub load : words (step.Operate operation.Add ∷ step.Pop segment.Pointer 1 ∷ step.Push segment.That 0 ∷ []) ≤ 18
   -- `let a[i] = e`, beside the code of a, i and e
   pub store : words (step.Operate operation.Add ∷ step.Pop segment.Temp 0 ∷ step.Pop segment.Pointer 1 ∷ step.Push segment.Temp 0 ∷ step.Pop segment.That 0 ∷ []) ≤ 28
-  -- `let x = e`, behind the code of e
+  -- `let x = e`, after the code of e
   pub assignment : (g : Segment) (i : ℕ) → words (step.Pop g i ∷ []) ≤ 12
-  -- a call, behind the code of its arguments, and `do`, behind its call
+  -- a call, after the code of its arguments, and `do`, after its call
   pub call : (f n : ℕ) → words (step.Call f n ∷ []) ≤ 12
   pub dropped : words (step.Pop segment.Temp 0 ∷ []) ≤ 5
   -- `if` and `while`, beside the code of the condition and of the statements
@@ -47,5 +47,5 @@ pub record PiecesFit : Type 0 where
   pub return : words (step.Return ∷ []) ≤ 8
   -- the entry of a subroutine, also that of a method, which sets `this`
   pub entry : (n : ℕ) → words (step.Function n ∷ step.Push segment.Argument 0 ∷ step.Pop segment.Pointer 0 ∷ []) ≤ 14 + 4 * n
-  -- the start code, all routines, and the word that may be added behind the functions
+  -- the start code, all routines, and the word that may be added after the functions
   pub start : start_size + words_shared all_routines + 1 ≤ 256

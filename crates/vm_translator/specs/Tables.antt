@@ -45,7 +45,7 @@ pub record IsReady (fs : List LinkedFunction) (c : Placed) : Type 0 where
   pub fits : c.at + step_size c.code.step ≤ 32768
   pub leads : LeadsWithin fs c.function c.code.step
 
--- Behind the first n functions there is no code, and the last of these has some.
+-- After the first n functions there is no code, and the last of these has some.
 pub record IsFilled (fs : List LinkedFunction) (n : ℕ) : Type 0 where
   pub within : n ≤ length fs
   pub rest : (k : ℕ) → n ≤ k → code_at fs k ≡ []

@@ -49,8 +49,8 @@ module _ (l : Linked) (image : List ℕ) (map : Map) where
     pub place : IsPlace v k
     pub commit : map.commits k ≡ (vm_system l).commits v
 
-  -- In at most as many steps as the next command may take, the computer comes to the goal: by quiet steps, and a last one that reads
-  -- no key, and writes data only if it may.
+  -- In at most as many steps as the next command may take, the computer comes to the goal. It comes by quiet steps, and a last one
+  -- that reads no key, and writes data only if it may.
   pub record MakesStep (v : State) (may_write : Type 0) (goal : Machine → Type 0) (s : Machine) : Type 0 where
     pub last : ℕ
     pub is_last : IsLast v last

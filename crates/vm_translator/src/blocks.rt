@@ -376,7 +376,8 @@ fn load_again(out: &mut Vec<Instr>) -> Result<(), AllocError>
     put(out, &[Instr::Address(0), A_IS_M, D_IS_M, A_IS_A_MINUS_1])
 }
 
-// By the difference where both values are negative, or neither is; else the jump `by_sign` tells it by the lower value.
+// By the difference where both values are negative, or neither is; else the jump `by_sign` decides it by the lower
+// value.
 fn order_routine(
     out: &mut Vec<Instr>,
     jump: Instr,

@@ -19,7 +19,8 @@ pub struct Coded {
 /// Why a program has no code.
 #[derive(Debug, Drop, Error)]
 pub enum CodeFault {
-    /// It would have so many words, which are more than 32,768. (2^64 - 1 where they are more than that.)
+    /// It would have this many words, which are more than 32,768. (2^64 - 1 where they are more than
+    /// that.)
     #[error("TooLarge {0}")]
     TooLarge(u64),
     #[error("want of memory")]
@@ -27,7 +28,7 @@ pub enum CodeFault {
 }
 
 impl CodeFault {
-    /// What the fault tells. Want of memory tells nothing.
+    /// The diagnostic of the fault. Want of memory has none.
     pub fn diagnostic(self) -> Option<Diagnostic>
         ensures { result ≡ code_message self }
     {

@@ -67,7 +67,7 @@ fn add_opening(
     start_code(out, at, entry)
 }
 
-// What closes the code, at the address behind it.
+// What closes the code, at the address after it.
 fn add_closing(out: &mut Vec<Instr>, closing: Closing, end: u16) -> Result<(), AllocError>
     ensures { OnOk result (out.new.items ≡ out.old.items ++ closing_code end closing) }
 {

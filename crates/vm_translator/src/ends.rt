@@ -10,7 +10,7 @@ use crate::shapes::step_size;
 use vm_link::{Code, Linked, LinkedFunction, Step};
 use vm_templates::{Routine, START_SIZE};
 
-/// What stands behind the functions of a program, before the routines.
+/// What stands after the functions of a program, before the routines.
 #[derive(Clone, Copy, Debug, PartialEq, Eq)]
 pub enum Closing {
     Nothing,
@@ -115,7 +115,7 @@ fn functions_name_end(functions: &[LinkedFunction], filled: usize) -> bool
     false
 }
 
-// The function that the start code calls; 0 where there is none.
+// The function that the start code calls; 0 where there is no start code.
 pub fn start_of(linked: &Linked) -> usize
     ensures { result ≡ unwrap_or linked.now.start 0 }
 {

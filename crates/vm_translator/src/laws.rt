@@ -31,14 +31,14 @@ pub fn translated_law()
         → CoversShared (shared_at l) (shared_ranges l) (length (image_of l)) }
 {}
 
-/// Law: the commands of a compiled program's pieces have at most so many words together.
+/// Law: the commands of a compiled program's pieces have at most this many words together.
 #[tactic(auto, using(crate::proofs::PieceSizes::pieces_fit))]
 pub fn pieces_law()
     ensures { PiecesFit }
 {}
 
-/// Law: where the memory holds a state, its words tell the variables of the innermost frame and where those below it go on; the map
-/// tells the point of each place, and the addresses at which a function makes its locals.
+/// Law: where the memory holds a state, its words show the variables of the innermost frame and where those below it go on. The map
+/// has the point of each place, and the addresses at which a function makes its locals.
 pub fn seen_law()
     ensures { SeenLaw }
 {}

@@ -9,7 +9,7 @@ use image_map::StaticWord;
 use std::alloc::{AllocError, Global};
 use vm_link::Linked;
 
-// The address of a static, before which there are so many of other files.
+// The address of a static, before which there are this many of other files.
 fn address(before: u64, index: u32) -> u16
     ensures { (b : ℕ) → before ≡ min b (2 ^ 64 - 1) → result ≡ named_index (16 + (b + index)) }
 {

@@ -71,6 +71,6 @@ file_line name = codes "// file " ++ (name ++ codes ".vm\n")
 abbrev pub named_text : File → List ℕ
 named_text f = file_line f.name ++ file_text f
 
--- files, each behind its line
+-- files, each after its line
 abbrev pub files_text : List File → List ℕ
 files_text files = flat_map named_text files

@@ -196,7 +196,7 @@ fn put_file_line<S: Sink>(name: &str, out: &mut Pieces<'_, S>) -> Put
     out.put_all(&[b"// file ", name.as_bytes(), b".vm\n"])
 }
 
-// A file behind its line.
+// A file after its line.
 fn put_named<S: Sink>(file: &File, out: &mut Pieces<'_, S>) -> Put
     ensures same_sink { HaveSameSink out.old out.new }
     ensures passes { Passes (S.written (sink_of out.old)) (pending out.old) (S.written (sink_of out.new)) (pending out.new) (named_text file.now) result }
@@ -235,7 +235,7 @@ fn put_listing<S: Sink>(files: &[File], pieces: &mut Pieces<'_, S>) -> Put
     }
 }
 
-/// Prints files in this order, each behind a line `// file NAME.vm`.
+/// Prints files in this order, each after a line `// file NAME.vm`.
 pub fn print_files<S: Sink>(files: &[File], out: &mut S) -> Put
     ensures put { Puts (S.written out.old) (S.written out.new) (files_text files.now) result }
     ensures counts { CountsPut (S.faults out.old) (S.faults out.new) result }

@@ -16,7 +16,7 @@ use Rattle.hdl_plans.specs.Plans.{Place, Origin, FromNet, Low, High, is_input}
 use Rattle.hdl_plans.specs.Planned.{plan_of}
 use Rattle.hdl_plans.specs.Loops.{BitAt, outside_bit, inside_bit}
 
--- the path of a place that is told from within: the last part's number comes first
+-- the path of a place that is given from within: the last part's number comes first
 abbrev pub backwards : List ℕ → List ℕ
 backwards [] = []
 backwards (i ∷ r) = backwards r ++ i ∷ []
@@ -73,7 +73,7 @@ value_by world c past w r (Given b) = b
 value_by world c past w r (Copied q name bit) = w q name bit
 value_by world c past w r (Worked e bit) = end_bit world c (past r) e (w r) bit
 
--- the values after some sweeps, of which each gives every bit its value from those before
+-- the values after some sweeps, each of which gives every bit its value from those before
 abbrev pub swept : Chips → Entry → World → ℕ → (List ℕ → Histories) → (List ℕ → ℕ → Bool) → ℕ → List ℕ → Wires Bool
 swept chips top world c past input zero r name bit = false
 swept chips top world c past input (suc k) r name bit = value_by world c past (swept chips top world c past input k) r (supply chips top input r name bit)

@@ -1,4 +1,4 @@
--- The chips of a tree, each once, behind those in it.
+-- The chips of a tree, each once, after those in it.
 use Rattle.std.specs.Prelude.{◌≡◌, ℕ, ◌<◌, List, [], ◌∷◌, ◌++◌, Option, Some, length, slice_get}
 use Rattle.hdl_tree.specs.declared.tree.Part.{Part}
 use Rattle.hdl_tree.specs.declared.library.Entry.{Entry}
@@ -45,7 +45,7 @@ pub record IsNested (chips : Chips) (nest : List Nested) (i : ℕ) (nested : Nes
   pub fine : IsFine chips chip
   pub parts : AreAt chips nest i (parts_of chips chip) nested.parts.items
 
--- each chip stands behind those of its parts
+-- each chip stands after those of its parts
 abbrev pub IsNest : Chips → List Nested → Type 0
 IsNest chips nest = (i : ℕ) (nested : Nested) → slice_get nest i ≡ Some nested → IsNested chips nest i nested
 

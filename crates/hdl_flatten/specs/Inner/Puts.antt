@@ -21,8 +21,8 @@ node_of base inputs High = 1
 node_of base inputs (Input k) = slice_index inputs k
 node_of base inputs (Gate k) = base + k
 
--- The chip of this plan stands in the netlist from node base on, fed by these nodes: its bits are nodes as the plan says, all in it is wired,
--- and each of its nodes is an output bit of an end in it, of just one, all of whose bits are nodes of it.
+-- The chip of this plan stands in the netlist from node base on, fed by these nodes. Its bits are nodes as the plan says, and all in it is
+-- wired. Each of its nodes is an output bit of an end in it, of just one, all of whose bits are nodes of it.
 pub record IsPlaced (chips : Chips) (net : Net) (plan : Plan) (base : ℕ) (inputs : List ℕ) (block : List ℕ → ℕ) (at : List ℕ → Wires ℕ) : Type 0 where
   pub own : (name : List ℕ) (bit : ℕ) → at [] name bit ≡ node_of base inputs (origin_at (wires_of plan.wires) name bit)
   pub wired : Wired 0 1 chips plan.entry.now (λ path e. EndStands net 0 (block path) e (at path)) at

@@ -1,4 +1,4 @@
--- How a chip is put behind the nodes, blocks and parts that are there.
+-- How a chip is put after the nodes, blocks and parts that are there.
 use Rattle.std.specs.Prelude.{◌≡◌, ◌≤◌, ◌<◌, ◌*◌, ◌^◌, ℕ, zero, suc, ◌+◌, List, [], ◌∷◌, ◌++◌, Some, map, length, take, drop, slice_get, slice_index}
 use Rattle.std.specs.List.{All}
 use Rattle.hdl_tree.specs.declared.tree.Part.{Part}
@@ -40,7 +40,7 @@ AreWithin n m es = (name : List ℕ) (bit : ℕ) → IsWithin n m (origin_at es 
 abbrev pub own_nodes : List (BitOf × Origin) → ℕ → List ℕ → Wires ℕ
 own_nodes es base inputs name bit = node_of base inputs (origin_at es name bit)
 
--- the constants are the first nodes, and n pins behind them the next
+-- the constants are the first nodes, and n pins after them the next
 abbrev pub constants : List Node
 constants = nodes.Zero ∷ nodes.Nand 0 0 ∷ []
 
@@ -109,7 +109,7 @@ pub record HasWord (ns : List Node) (b : ℕ) : Type 0 where
   pub k : ℕ
   pub there : slice_get ns k ≡ Some (nodes.Word b 0)
 
--- the words of so many blocks have nodes, each bit just one, and no others have
+-- the words of this many blocks have nodes, each bit just one, and no others have
 pub record HasWords (ns : List Node) (m : ℕ) : Type 0 where
   pub few : 16 * m ≤ length ns
   pub below : (k b bit : ℕ) → slice_get ns k ≡ Some (nodes.Word b bit) → b < m
@@ -128,8 +128,8 @@ pub record MayPut (plans : List Plan) (place : ℕ) (inputs : List ℕ) (flat : 
   pub room : length flat.nodes.items + plan.size.nodes ≤ 16777216
   pub few : length flat.blocks.items ≤ length flat.nodes.items
 
--- The chip of this plan was put: its nodes and blocks stand behind those that were there, and the parts in it are listed. Whatever comes
--- behind, it is placed.
+-- The chip of this plan was put: its nodes and blocks stand after those that were there, and the parts in it are listed. Whatever comes
+-- after, it is placed.
 pub record IsPut (chips : Chips) (plan : Plan) (inputs : List ℕ) (old new : Growing) : Type 0 where
   pub nodes : Longer old.nodes.items new.nodes.items
   pub blocks : Longer old.blocks.items new.blocks.items

@@ -1,4 +1,4 @@
--- The stack of chips of which some parts are put, each for a part of the next.
+-- The stack of chips with some of their parts put, each for a part of the next.
 use Rattle.std.specs.Prelude.{◌≡◌, ℕ, zero, suc, ◌+◌, ◌≤◌, List, [], ◌∷◌, ◌++◌, sum_by, Option, Some, None, length, slice_get}
 use Rattle.hdl_tree.specs.declared.ends.End.{End}
 use Rattle.hdl_tree.specs.Chips.{Chips}

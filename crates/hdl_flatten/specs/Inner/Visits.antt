@@ -45,7 +45,7 @@ pub record IsUnplaced (chips : Chips) (ranks : List (Option ℕ)) (chip : Entry)
   pub found : find_chip chips part.chip ≡ slice_get chips.entries k
   pub unplaced : slice_get ranks k ≡ Some None
 
--- the chip of the visit is put behind those that stand
+-- the chip of the visit is put after those that stand
 pub record IsSettled (visit : Visit) (old new : List Nested) : Type 0 where
   pub nested : Nested
   pub number : nested.number ≡ visit.number

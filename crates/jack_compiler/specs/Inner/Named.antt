@@ -1,5 +1,5 @@
--- What the text of a subroutine names, as its commands can name it: a variable by a number of 16 bits, a static of its own class, and a
--- subroutine that is there.
+-- What the text of a subroutine names, as its commands can name it. That is a variable by a number of 16 bits, a static of its own
+-- class, and a subroutine that is there.
 use Rattle.std.specs.Prelude.{◌<◌, ◌≤◌, ◌-◌, ℕ, List, [], ◌∷◌, length}
 use Rattle.jack_meaning.specs.Text.{Variable, Argument, Local, Static, Expression, Literal, Value, Name, This, Field, Unary, Binary, Load, Call, Open, Expressions, NoMore, More, Statement, Let, LetField, LetThis, Store, Do, If, While, Return, Text, End, Next, Subroutine}
 use Rattle.jack_core.specs.declared.tree.Part.{Part}
@@ -13,7 +13,7 @@ module _ (around : Around) where
   NamesVariable (Local k) = k < 65536
   NamesVariable (Static k) = (around.before ≤ k) × (k - around.before < 65536)
 
-  -- a call with so many arguments
+  -- a call with this many arguments
   abbrev pub NamesCall : ℕ → ℕ → Type 0
   NamesCall g arguments = (g < length around.subroutines.now) × (arguments < 65536)
 

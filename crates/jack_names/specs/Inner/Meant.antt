@@ -1,6 +1,7 @@
--- The program that trees mean (book, chapters 9 to 12): names become numbers, true is -1, false and null are 0, the operators * and / are calls
--- of Math, a string is made by String.new and filled by appendChar, and a method call has its object as first argument. Each statement gets its
--- number in the order of the text, and a body whose last statement is no `return` gets one. A constructor first takes the memory of its object.
+-- The program that trees mean (book, chapters 9 to 12). Names become numbers, true is -1, false and null are 0, and the operators * and / are
+-- calls of Math. A string is made by String.new and filled by appendChar, and a method call has its object as first argument. Each statement
+-- gets its number in the order of the text, and a body whose last statement is no `return` gets one. A constructor first takes the memory of
+-- its object.
 use Rattle.std.specs.Prelude.{ℕ, ◌+◌, ◌%◌, Bool, true, false, List, [], ◌∷◌, map, Option, Some, None, length, codes, Vec}
 use Rattle.std.specs.Global.{Global}
 use Rattle.jack_tree.specs.Seen.{unbox}

@@ -41,6 +41,6 @@ abbrev pub most : Sort → ℕ
 most sort.Field = 65536
 most _ = 4294967296
 
--- the names of classes, as entries of a table that only tells which are there
+-- the names of classes, as entries of a table that only says which are there
 abbrev pub marks : List Class → List (List ℕ × Unit {0})
 marks cs = map (λ c. (c.name.text, tt)) cs

@@ -17,8 +17,8 @@ use Rattle.jack_names.specs.declared.scope.Declared.{Declared}
 use Rattle.jack_names.specs.declared.scope.Signature.{Signature}
 use Rattle.jack_names.specs.declared.scope.Callee.{Callee}
 
--- What each name stands for in a subroutine: a variable (parameters and locals before fields and statics), the number of a class, and a
--- subroutine of the class of a number; and the subroutine's form, the number of its class and its file.
+-- What each name stands for in a subroutine: a variable, the number of a class, or a subroutine of the class of a number. Of variables,
+-- parameters and locals come before fields and statics. With these come the subroutine's form, the number of its class and its file.
 pub record Scope : Type 0 where
   pub variable : List ℕ → Option Declared
   pub class : List ℕ → Option ℕ
@@ -109,7 +109,7 @@ abbrev pub made_kind : Scope → Way → List ℕ → ℕ → Option ℕ → Opt
 made_kind s w f n None = Some kinds.UnknownClass
 made_kind s w f n (Some k) = signature_kind s.form w n (s.subroutine k f)
 
--- an unknown class is told by its own name, all else by the subroutine's
+-- an unknown class is reported by its own name, all else by the subroutine's
 abbrev pub made_name : List ℕ → List ℕ → NameKind → List ℕ
 made_name c f kinds.UnknownClass = c
 made_name c f _ = f

@@ -1,5 +1,5 @@
--- The names that a text uses, in the order of the text, with the calls that its meaning makes by itself: of Math for the operators * and /,
--- of String for a string, of Memory for a constructor (book, chapters 9, 11 and 12).
+-- The names that a text uses, in the order of the text, with the calls that its meaning makes by itself (book, chapters 9, 11 and 12).
+-- Those are of Math for the operators * and /, of String for a string, of Memory for a constructor.
 use Rattle.std.specs.Prelude.{ℕ, ◌+◌, List, [], ◌∷◌, ◌++◌, Option, Some, None, codes}
 use Rattle.jack_tree.specs.Seen.{unbox}
 use Rattle.scan_text.specs.declared.Place.{Place}
@@ -22,7 +22,7 @@ pub data Use : Type 0 where
   Variable : Name → Use
   -- `this`
   This : Place → Use
-  -- a call, through a class or variable or neither, of a subroutine with so many arguments
+  -- a call, through a class or variable or neither, of a subroutine with this many arguments
   Calls : Option Name → Name → ℕ → Use
   -- a call through a class that the text doesn't name: class, subroutine and number of arguments, and its place
   Makes : List ℕ → List ℕ → ℕ → Place → Use
@@ -60,7 +60,7 @@ abbrev mutual
   pub exp_uses : Expression → List Use
   exp_uses (Expression' t n os) = term_uses t ++ rest_uses os
 
-  -- the operators of an expression and the terms behind them
+  -- the operators of an expression and the terms after them
   pub rest_uses : {n : _} → Row_of-Operation n → List Use
   rest_uses end_of-Operation = []
   rest_uses (more_of-Operation o at t os) = (operator_uses o at ++ term_uses t) ++ rest_uses os
@@ -75,7 +75,7 @@ abbrev pub all_uses : {A : Type 0} → (A → List Use) → List A → List Use
 all_uses uses [] = []
 all_uses uses (x ∷ xs) = uses x ++ all_uses uses xs
 
--- an operator and the term behind it
+-- an operator and the term after it
 abbrev pub operation_uses : Operation → List Use
 operation_uses o = operator_uses o.operator o.place ++ term_uses o.term
 

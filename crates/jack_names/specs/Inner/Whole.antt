@@ -1,5 +1,5 @@
--- The search for the first name fault of a whole program, which NameFaults and FaultOrder say, and the program that is meant where there is none. The classes of the folder come first, in order of
--- file name, and those of the operating system after them (book, chapters 11 and 12).
+-- The search for the first name fault of a whole program, which NameFaults and FaultOrder define, and the program that is meant where there is no
+-- fault. The classes of the folder come first, in order of file name, and those of the operating system after them (book, chapters 11 and 12).
 use Rattle.std.specs.Prelude.{◌≡◌, ℕ, ◌+◌, ◌-◌, max, Bool, true, false, List, [], ◌∷◌, ◌++◌, map, Option, Some, None, length, codes, if◌then◌else◌, nat_eq, ◌&&◌, slice_get}
 use Rattle.std.specs.Str.{bytes_eq}
 use Rattle.scan_text.specs.declared.Place.{Place}
@@ -144,7 +144,7 @@ subroutine_meant s fields t = record {
   body = meaning.text_of (body_meant s fields t);
 }
 
--- the subroutines of a class with so many fields
+-- the subroutines of a class with this many fields
 abbrev pub class_subroutines : ClassScope → ℕ → List Subroutine → List meaning.Subroutine
 class_subroutines scope fields ss = map (λ t. subroutine_meant (scope_in scope t) fields t) ss
 

@@ -1,4 +1,5 @@
 use Rattle.std.proofs.Common.{◌≡◌, List, [], ◌∷◌, ◌++◌, length, length-append, set, drop, replicate, refl, sym, ap, subst, ◌∙◌, arith}
+use Rattle.std.proofs.lemmas.Grind.{common_steps}
 use Rattle.std.specs.Prelude.{vec_len, slice_get}
 use Rattle.std.proofs.lemmas.Result.{err_from_is_err_and}
 use Rattle.hdl_check.specs.Inner.Progress.{chips_of}
@@ -70,3 +71,9 @@ returns-clause-fine c = λ entry there.
     let stages = c.frames.stages.items in
     let n = vec_len c.frames.order in
     faultless_at chips stages n k c.frames.invariant.progress (at_end chips k stages n c.frames.frames.items c.frames.invariant (omega (arith, items, both, none))) entry there
+
+pub enter-requires : goal.enter-requires
+enter-requires c = grind (arith, common_steps)
+
+pub frames-smaller : goal.frames-smaller
+frames-smaller c = grind (arith, common_steps)

@@ -1,4 +1,5 @@
-use Rattle.std.proofs.Common.{◌≡◌, ℕ, List, get_or, Some, None, subst, ◌∙◌}
+use Rattle.std.proofs.Common.{◌≡◌, ℕ, List, get_or, Some, None, subst, ◌∙◌, arith}
+use Rattle.std.proofs.lemmas.Grind.{elements}
 use Rattle.std.specs.Prelude.{slice_get}
 use Rattle.std.proofs.lemmas.Option.{slice_get-get_or}
 use Rattle.hdl_tree.specs.declared.tree.Connection.{Connection}
@@ -36,3 +37,15 @@ returns-clause-fault c = λ other there.
     let here : slice_get chips.entries c.args.k ≡ Some inner = slice_get-get_or c.args.catalog.now.entries.now c.args.k c.index-catalog-k.result c.requires.inner.within in
     subst (λ (x : Entry). (j : ℕ) → connection_fault_in chips frame.entry.now frame.place (ports_of x.chip) part.connections j ≡ None) (at_entry chips c.args.k inner other here there)
     (subst (λ (cs : List Connection). (j : ℕ) → connection_fault_in chips frame.entry.now frame.place (ports_of inner.chip) cs j ≡ None) c.as_slice.ensures c.in_ok-check_connections.ensures.fault)
+
+pub check_connections-requires-clause-sees : goal.check_connections-requires-clause-sees
+check_connections-requires-clause-sees c = grind (arith, elements)
+
+pub check_connections-requires-clause-ports : goal.check_connections-requires-clause-ports
+check_connections-requires-clause-ports c = grind (arith, elements)
+
+pub returns-in_err-check_connections-clause-fault : goal.returns-in_err-check_connections-clause-fault
+returns-in_err-check_connections-clause-fault c = grind (arith, elements)
+
+pub overflow_add-frame : goal.overflow_add-frame
+overflow_add-frame c = grind (arith, elements)

@@ -1,4 +1,4 @@
--- The statics of so many classes.
+-- The statics of this many classes.
 use Rattle.std.proofs.Common.{◌≡◌, replicate, take}
 use Rattle.std.specs.Prelude.{sum_by}
 use Rattle.jack_machine.proofs.jack.new_statics.Given as goal

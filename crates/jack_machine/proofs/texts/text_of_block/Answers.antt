@@ -1,4 +1,4 @@
--- Nothing is behind the block.
+-- Nothing is after the block.
 use Rattle.std.proofs.Common.{[], ap, ◌∙◌}
 use Rattle.jack_meaning.specs.Text.{joined_text}
 use Rattle.jack_core.specs.Texts.{the_block}

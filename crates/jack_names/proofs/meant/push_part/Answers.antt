@@ -1,4 +1,4 @@
--- The vector gets the part behind its parts.
+-- The vector gets the part after its parts.
 use Rattle.jack_names.proofs.Pushing.{puts}
 use Rattle.jack_names.proofs.meant.push_part.Goals as goal
 
