@@ -5,7 +5,8 @@ use Rattle.hdl_tree.specs.declared.tree.Selection.{Selection}
 use Rattle.hdl_tree.specs.declared.tree.Source.{Source}
 use Rattle.hdl_tree.specs.declared.tree.Source.TheVariants as source
 use Rattle.hdl_tree.specs.Chips.{first, count}
-use Rattle.hdl_check.specs.Tables.{find_value, first_of, bits_of}
+use Rattle.name_table.specs.Names.{find_value, first_of}
+use Rattle.hdl_check.specs.Tables.{bits_of}
 use Rattle.hdl_check.specs.declared.fault.NamedFault.{NamedFault}
 use Rattle.hdl_check.specs.Inner.Checked.{Checks}
 use Rattle.hdl_check.specs.Faults.{Context, right_side_of, driver_by, driver_into, bits_driven, fed_by, width_fault, driven_fault, undriven_fault, wiring_fault, wiring_fault_by, connection_fault}

@@ -16,7 +16,7 @@ use Rattle.hdl_check.specs.Whole.{Tells}
 use Rattle.hdl_check.specs.declared.fault.ElabFault.{ElabFault}
 use Rattle.hdl_check.specs.declared.fault.ElabFault.TheVariants as errors
 use Rattle.hdl_check.specs.declared.stage.Stage.{Stage}
-use Rattle.hdl_check.specs.declared.table.Marks.{Marks}
+use Rattle.hdl_check.specs.declared.marks.Marks.{Marks}
 use Rattle.hdl_check.proofs.Firsts.{part_none, inside_none}
 use Rattle.hdl_check.proofs.MarkLemmas.{has_more}
 use Rattle.hdl_check.proofs.Rows.{part_next}

@@ -6,8 +6,8 @@ use Rattle.std.specs.Cmp.Lexicographic.{bytes_decides}
 use Rattle.std.proofs.lemmas.Bool.Decides.{Decides-eqb}
 use Rattle.hdl_check.specs.Tables.{BitOf, bits_of, is_in, some_in}
 use Rattle.hdl_check.specs.Inner.Marked.{is_mark, is_marked, some_marked, HasMarks, MarksMore}
-use Rattle.hdl_check.specs.declared.table.Mark.{Mark}
-use Rattle.hdl_check.specs.declared.table.Marks.{Marks}
+use Rattle.hdl_check.specs.declared.marks.Mark.{Mark}
+use Rattle.hdl_check.specs.declared.marks.Marks.{Marks}
 
 pub or_assoc : (a b c : Bool) → ((a || b) || c) ≡ (a || (b || c))
 or_assoc true b c = refl

@@ -3,13 +3,13 @@ use Rattle.std.proofs.Common.{◌≡◌, ℕ, zero, suc, ◌+◌, ◌<◌, List,
 use Rattle.std.specs.Prelude.{slice_get, MatchOption}
 use Rattle.hdl_tree.specs.declared.library.Entry.{Entry}
 use Rattle.hdl_tree.specs.Chips.{find_entry}
-use Rattle.hdl_check.specs.Tables.{find_value}
+use Rattle.name_table.specs.Names.{find_value}
 use Rattle.hdl_check.specs.Inner.Progress.{numbered_entries, ArePorts}
 use Rattle.std.proofs.lemmas.Option.{slice_get_read, slice_get_within}
-use Rattle.hdl_check.specs.Inner.Entered.{table_of, Finds}
+use Rattle.name_table.specs.Tables.{table_of, Finds}
 use Rattle.hdl_check.specs.Faults.{ports_of}
 use Rattle.hdl_check.specs.declared.check.Port.{Port}
-use Rattle.hdl_check.specs.declared.table.Table.{Table}
+use Rattle.name_table.specs.declared.Table.{Table}
 use Rattle.hdl_check.proofs.Rows.{place_of, no_place, take_next}
 
 pub place_found : (es : List Entry) (name : List ℕ) (o : Option ℕ) → o ≡ find_value name (numbered_entries 0 es) → MatchOption o (find_entry es name ≡ None) (λ k. (k < length es) × (find_entry es name ≡ slice_get es k))

@@ -1,5 +1,5 @@
 -- Rows of connections and parts, one more at a time.
-use Rattle.std.proofs.Common.{◌≡◌, ℕ, zero, suc, ◌+◌, ◌<◌, List, [], ◌∷◌, ◌++◌, length, take, map, add-zero, Bool, true, false, cond, Option, Some, None, refl, sym, ap, ◌∙◌, arith}
+use Rattle.std.proofs.Common.{◌≡◌, ℕ, zero, suc, ◌+◌, ◌<◌, List, [], ◌∷◌, ◌++◌, length, take, map, add-zero, Bool, true, false, cond, Option, Some, None, is_some, refl, sym, ap, ◌∙◌, arith}
 use Rattle.std.specs.Prelude.{slice_get}
 use Rattle.std.specs.Str.{bytes_eq}
 use Rattle.hdl_tree.specs.declared.tree.Connection.{Connection}
@@ -7,8 +7,8 @@ use Rattle.hdl_tree.specs.declared.tree.Part.{Part}
 use Rattle.hdl_tree.specs.declared.tree.Pin.{Pin}
 use Rattle.hdl_tree.specs.declared.library.Entry.{Entry}
 use Rattle.hdl_tree.specs.Chips.{Chips, find_entry}
-use Rattle.hdl_check.specs.Tables.{find_value, bits_of, names_in, with_new}
-use Rattle.hdl_tree.specs.Writable.{is_among}
+use Rattle.name_table.specs.Names.{find_value, names_in, with_new}
+use Rattle.hdl_check.specs.Tables.{bits_of}
 use Rattle.hdl_check.specs.Faults.{Driver, pin_name, driver_by, drivers_by, drivers_of, drivers_of_part, bits_driven, bits_fed, fed_by, widths_of}
 use Rattle.hdl_check.specs.Inner.Progress.{numbered_entries}
 use Rattle.hdl_check.specs.declared.check.Port.{Port}
@@ -106,7 +106,7 @@ map-append f [] ys = refl
 map-append f (x ∷ xs) ys = ap (λ r. f x ∷ r) (map-append f xs ys)
 
 -- the names of pins, with one more
-pub names_next : (front pins : List Pin) (i : ℕ) (pin : Pin) (name : List ℕ) (es new : List (List ℕ × Unit {0})) → slice_get pins i ≡ Some pin → name ≡ pin_name pin → names_in es ≡ map pin_name (front ++ take i pins) → is_among name (names_in es) ≡ false → new ≡ with_new es name tt →
+pub names_next : (front pins : List Pin) (i : ℕ) (pin : Pin) (name : List ℕ) (es new : List (List ℕ × Unit {0})) → slice_get pins i ≡ Some pin → name ≡ pin_name pin → names_in es ≡ map pin_name (front ++ take i pins) → is_some (find_value name es) ≡ false → new ≡ with_new es name tt →
     names_in new ≡ map pin_name (front ++ take (i + 1) pins)
 names_next front pins i pin name es new e n h not_there is =
     ap names_in is ∙ ap (λ (b : Bool). names_in (cond b es (es ++ (name, tt) ∷ []))) not_there

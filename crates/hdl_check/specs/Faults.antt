@@ -12,7 +12,8 @@ use Rattle.hdl_tree.specs.declared.tree.Chip.{Chip}
 use Rattle.hdl_tree.specs.declared.library.Entry.{Entry}
 use Rattle.hdl_tree.specs.Chips.{Chips, find_chip, parts_of, pin_width, first, count, is_past}
 use Rattle.hdl_tree.specs.Writable.{is_among}
-use Rattle.hdl_check.specs.Tables.{find_value, first_of, BitOf, bits_of, some_in}
+use Rattle.name_table.specs.Names.{find_value, first_of}
+use Rattle.hdl_check.specs.Tables.{BitOf, bits_of, some_in}
 use Rattle.hdl_check.specs.declared.fault.NamedFault.{NamedFault}
 use Rattle.hdl_check.specs.declared.fault.FaultKind.{FaultKind}
 use Rattle.hdl_check.specs.declared.fault.FaultKind.TheVariants as kinds

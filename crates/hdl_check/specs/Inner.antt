@@ -1,4 +1,3 @@
-pub mod Entered
 pub mod Marked
 pub mod Checked
 pub mod Seen

@@ -2,20 +2,19 @@
 
 ghost use Rattle.std.specs.Prelude.{◌≡◌, ◌<◌, List, ℕ, IfOk, OnOk, MatchOption, None, length, slice_get, ◌++◌};
 ghost use Rattle.hdl_tree.specs.Chips.{find_entry};
-ghost use Rattle.hdl_check.specs.Tables.{find_value};
-ghost use Rattle.hdl_check.specs.Inner.Entered.{table_of, Finds};
+ghost use Rattle.name_table.specs.Names.{find_value};
+ghost use Rattle.name_table.specs.Tables.{table_of, Finds};
 ghost use Rattle.hdl_check.specs.Faults.{ports_in, ports_of, drivers_of, drivers_by, driver_by, drivers_of_part, widths_of};
 ghost use Rattle.hdl_check.specs.declared.check.Port.{Port};
 ghost use Rattle.hdl_check.specs.Inner.Progress.{IsCatalog, ArePorts, IsCatalogOf, NetsFind, chips_of, numbered_entries};
 ghost use Rattle.hdl_check.specs.Whole.{AreDistinct};
 
 use crate::check::{Port, count_bits};
-use crate::table::Table;
 use hdl_tree::{Chip, Connection, Entry, Library, Part, Pin, Source};
+use name_table::Table;
 use std::alloc::{AllocError, Global};
 
 /// The chips of a library.
-#[derive(Drop)]
 pub struct Catalog<'a> {
     pub entries: &'a [Entry],
     /// Whether the shipped memories are blocks.
@@ -24,6 +23,18 @@ pub struct Catalog<'a> {
     pub names: Table<'a, usize>,
     /// The pins of each chip.
     pub ports: Vec<Table<'a, Port>>,
+}
+
+// By hand, so that whoever drops one calls this.
+impl Drop for Catalog<'_> {
+    fn drop(self) {
+        let Catalog {
+            entries: _,
+            blocks: _,
+            names: _,
+            ports: _,
+        } = self;
+    }
 }
 
 /// Enters pins that are not there.

@@ -3,8 +3,9 @@
 ghost use Rattle.std.specs.Prelude.{◌≡◌, ℕ, ◌<◌, List, IsTrue, OnOk, Some, false};
 ghost use Rattle.hdl_tree.specs.Chips.{first, is_past};
 ghost use Rattle.hdl_tree.specs.Chips.{count as count_of};
-ghost use Rattle.hdl_check.specs.Tables.{find_value, BitOf, some_in};
-ghost use Rattle.hdl_check.specs.Inner.Entered.{table_of, Finds};
+ghost use Rattle.name_table.specs.Names.{find_value};
+ghost use Rattle.hdl_check.specs.Tables.{BitOf, some_in};
+ghost use Rattle.name_table.specs.Tables.{table_of, Finds};
 ghost use Rattle.hdl_check.specs.Inner.Marked.{HasMarks, MarksMore};
 ghost use Rattle.hdl_check.specs.Inner.Checked.{Checks};
 ghost use Rattle.hdl_check.specs.Faults.{Context, right_side_of, feeding_fault, driving_fault, is_wide, is_output, is_undrivable, is_undriven, fed_by, driver_by, bits_driven, connection_fault, wiring_fault, width_fault, driven_fault, undriven_fault};
@@ -13,19 +14,20 @@ ghost use Rattle.hdl_check.specs.Inner.Seen.{SeesScope};
 ghost use Rattle.hdl_check.specs.declared.check.Port.{Port};
 
 use crate::fault::{ElabFault, FaultKind, tell};
-use crate::table::{Marks, Table};
+use crate::marks::Marks;
 use hdl_tree::{Connection, Source, Subscript};
+use name_table::Table;
 use std::alloc::{AllocError, Global};
 
 /// A pin of a chip, as an input or an output.
-#[derive(Clone, Copy, Debug)]
+#[derive(Clone, Copy)]
 pub struct Port {
     pub input: bool,
     pub width: u8,
 }
 
 /// What the right side of a connection is.
-#[derive(Clone, Copy, Debug)]
+#[derive(Clone, Copy)]
 pub enum RightSide {
     Constant,
     /// A pin of the chip.

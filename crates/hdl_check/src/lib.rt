@@ -10,15 +10,14 @@ mod catalog;
 mod check;
 mod elab;
 mod fault;
+mod marks;
 mod search;
 mod stage;
-mod table;
 mod walk;
 
 // The passes after this one go through the chips by the same tables.
 pub use catalog::Catalog;
 pub use check::{count_bits, first_bit};
-pub use table::Table;
 // What the definitions of faults speak of.
 pub use check::{Port, RightSide};
 pub use elab::{check_library, order_law};

@@ -2,8 +2,8 @@
 
 ghost use Rattle.std.specs.Prelude.{◌≡◌, ℕ, List, ◌++◌, OnOk, IfErr, is_some, map, take};
 ghost use Rattle.hdl_tree.specs.Chips.{end_of, parts_of};
-ghost use Rattle.hdl_check.specs.Tables.{names_in};
-ghost use Rattle.hdl_check.specs.Inner.Entered.{table_of, Finds};
+ghost use Rattle.name_table.specs.Names.{names_in};
+ghost use Rattle.name_table.specs.Tables.{table_of, Finds};
 ghost use Rattle.hdl_check.specs.Inner.Marked.{HasMarks, MarksMore};
 ghost use Rattle.hdl_check.specs.Faults.{pin_name, ports_of, pin_fault, bits_driven, drivers_of, drivers_by, connection_fault_in};
 ghost use Rattle.hdl_check.specs.Locations.{IsFirstFault};
@@ -13,8 +13,9 @@ ghost use Rattle.hdl_check.specs.Whole.{Tells};
 use crate::catalog::Catalog;
 use crate::check::{Port, Scope, check_connection};
 use crate::fault::{ElabFault, FaultKind, tell};
-use crate::table::{Marks, Table};
+use crate::marks::Marks;
 use hdl_tree::{Body, Connection, Entry, Pin, find_end};
+use name_table::Table;
 use std::alloc::Global;
 
 /// Enters pins whose names are not to be there; `front` are the pins that are there.

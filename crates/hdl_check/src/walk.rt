@@ -14,14 +14,14 @@ ghost use Rattle.hdl_check.specs.declared.stage.Stage.TheVariants.{New, Open, Do
 use crate::catalog::{Catalog, net_table};
 use crate::check::Scope;
 use crate::fault::{ElabFault, FaultKind, fault_of};
+use crate::marks::Marks;
 use crate::search::{check_connections, check_head};
 use crate::stage::Stage;
-use crate::table::{Marks, Table};
 use hdl_tree::{Body, Entry, Part, find_end};
+use name_table::Table;
 use std::alloc::{AllocError, Global};
 
 /// A chip in whose text the check stands.
-#[derive(Drop)]
 pub(crate) struct Frame<'a> {
     pub number: usize,
     pub entry: &'a Entry,
@@ -32,6 +32,20 @@ pub(crate) struct Frame<'a> {
     pub nets: Table<'a, u32>,
     /// The bits that the parts before drive.
     pub driven: Marks<'a>,
+}
+
+// By hand, so that whoever drops one calls this.
+impl Drop for Frame<'_> {
+    fn drop(self) {
+        let Frame {
+            number: _,
+            entry: _,
+            parts: _,
+            place: _,
+            nets: _,
+            driven: _,
+        } = self;
+    }
 }
 
 /// The parts of a chip; an end has none.

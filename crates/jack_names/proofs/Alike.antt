@@ -11,7 +11,7 @@ use Rattle.jack_tree.specs.declared.tree.Locals.{Locals}
 use Rattle.jack_tree.specs.declared.tree.Parameter.{Parameter}
 use Rattle.jack_tree.specs.declared.tree.Subroutine.{Subroutine}
 use Rattle.jack_tree.specs.declared.tree.Class.{Class}
-use Rattle.jack_names.specs.Tables.{first_of}
+use Rattle.name_table.specs.Names.{first_of}
 use Rattle.jack_names.specs.Faults.{NameDiagnostic, Source}
 use Rattle.jack_names.specs.Inner.Twice.{told_name, twice_fault, texts_of, first_twice, names_of, members_twice, parameter_names, locals_twice, variables_fault, subroutines_fault, source_of, declaration_fault, declarations_fault}
 use Rattle.jack_names.specs.Inner.Whole.{class_names, declared_fault}

@@ -1,6 +1,6 @@
 -- The first fault of one list of uses after another.
 use Rattle.std.proofs.Common.{◌≡◌, ℕ, zero, suc, ◌+◌, ◌<◌, List, [], ◌∷◌, ◌++◌, length, take, get_or, Option, Some, None, Result, Ok, Err, refl, sym, ap, subst, ◌∙◌, arith}
-use Rattle.jack_names.specs.Tables.{first_of}
+use Rattle.name_table.specs.Names.{first_of}
 use Rattle.jack_names.specs.Faults.{NameDiagnostic, Checks}
 use Rattle.jack_names.specs.Inner.Uses.{Use, all_uses}
 use Rattle.jack_names.specs.Inner.Scopes.{Scope, use_fault, first_fault}

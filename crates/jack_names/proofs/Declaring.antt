@@ -2,7 +2,8 @@
 use Rattle.std.proofs.Common.{◌≡◌, ℕ, Bool, true, false, cond, List, [], ◌∷◌, ◌++◌, Some, None, is_some, refl, sym, ap, ◌∙◌}
 use Rattle.std.specs.Str.{bytes_eq}
 use Rattle.jack_tree.specs.declared.tree.Class.{Class}
-use Rattle.jack_names.specs.Tables.{first_of, is_among, names_in}
+use Rattle.name_table.specs.Names.{first_of, names_in}
+use Rattle.jack_names.specs.Tables.{is_among}
 use Rattle.jack_names.specs.Inner.Twice.{told_name, source_of, file_fault, members_fault, declarations_fault}
 use Rattle.jack_names.specs.Inner.Whole.{class_names}
 use Rattle.jack_names.specs.Inner.Named.{with_all, marks}

@@ -1,7 +1,7 @@
 -- What a search finds among faults that stand in an order: the first of them.
 use Rattle.std.proofs.Common.{◌≡◌, ◌<◌, ◌⊎◌, inl, inr, ℕ, zero, suc, Bool, true, false, List, [], ◌∷◌, Option, Some, None, slice_get, if◌then◌else◌, refl, sym, ap, subst, ◌∙◌, arith}
 use Rattle.std.specs.Bool.{Decides}
-use Rattle.jack_names.specs.Tables.{first_of}
+use Rattle.name_table.specs.Names.{first_of}
 use Rattle.jack_names.specs.Faults.{NameDiagnostic, first_in}
 use Rattle.jack_names.specs.Faults.{kind_number}
 use Rattle.jack_names.specs.FaultOrder.{IsLess}

@@ -17,7 +17,7 @@ use Rattle.jack_tree.specs.declared.tree.Locals.{Locals}
 use Rattle.jack_tree.specs.declared.tree.Parameter.{Parameter}
 use Rattle.jack_tree.specs.declared.tree.Subroutine.{Subroutine}
 use Rattle.jack_tree.specs.declared.tree.Class.{Class}
-use Rattle.jack_names.specs.Tables.{find_value, first_of}
+use Rattle.name_table.specs.Names.{find_value, first_of}
 use Rattle.jack_names.specs.Inner.Scopes.{Scope}
 use Rattle.jack_names.specs.Sizes.{sizes}
 use Rattle.jack_names.specs.Inner.Twice.{names_of}

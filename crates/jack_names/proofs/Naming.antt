@@ -8,16 +8,16 @@ use Rattle.std.proofs.lemmas.List.{map-append}
 use Rattle.std.proofs.lemmas.Option.{slice_get-map}
 use Rattle.std.proofs.lemmas.Slice.Eq.{bytes_eq-Decides}
 use Rattle.jack_tree.specs.declared.tree.Class.{Class}
-use Rattle.jack_names.specs.Tables.{find_value, first_of, is_among, names_in, with_new}
-use Rattle.jack_names.specs.Inner.Entered.{table_of}
+use Rattle.name_table.specs.Names.{find_value, first_of, with_new}
+use Rattle.name_table.specs.Tables.{table_of}
 use Rattle.jack_names.specs.Inner.Scoped.{found_in}
 use Rattle.jack_names.specs.Symbols.{class_numbers, signatures, all_signatures, found_at, symbols_of}
 use Rattle.jack_names.specs.Limits.{subroutine_count}
 use Rattle.jack_names.specs.Inner.Named.{with_all, the_symbols}
-use Rattle.jack_names.specs.declared.table.Table.{Table}
+use Rattle.name_table.specs.declared.Table.{Table}
 use Rattle.jack_names.specs.declared.scope.Signature.{Signature}
 use Rattle.jack_names.specs.declared.scope.Names.{Names}
-use Rattle.jack_names.proofs.Entries.{found-append, found_among}
+use Rattle.name_table.proofs.Entries.{found-append}
 
 pub first_assoc : {V : Type 0} (a b c : Option V) → first_of (first_of a b) c ≡ first_of a (first_of b c)
 first_assoc None b c = refl
@@ -39,15 +39,15 @@ kept_by b (Some w) v h = refl
 kept_by true None v h = absurd (false≢true (h refl))
 kept_by false None v h = refl
 
-kept : {V : Type 0} (y x : List ℕ) (es : List (List ℕ × V)) (v : V) → is_among x (names_in es) ≡ true → first_of (find_value y es) (find_value y ((x, v) ∷ [])) ≡ find_value y es
-kept y x es v h = kept_by (bytes_eq y x) (find_value y es) v (λ e. found_among y es ∙ ap (λ (z : List ℕ). is_among z (names_in es)) ((bytes_eq-Decides y x).0 e) ∙ h)
+kept : {V : Type 0} (y x : List ℕ) (es : List (List ℕ × V)) (v : V) → is_some (find_value x es) ≡ true → first_of (find_value y es) (find_value y ((x, v) ∷ [])) ≡ find_value y es
+kept y x es v h = kept_by (bytes_eq y x) (find_value y es) v (λ e. ap (λ (z : List ℕ). is_some (find_value z es)) ((bytes_eq-Decides y x).0 e) ∙ h)
 
-new_by : {V : Type 0} (y x : List ℕ) (es : List (List ℕ × V)) (v : V) (b : Bool) → is_among x (names_in es) ≡ b → find_value y (cond b es (es ++ (x, v) ∷ [])) ≡ first_of (find_value y es) (find_value y ((x, v) ∷ []))
+new_by : {V : Type 0} (y x : List ℕ) (es : List (List ℕ × V)) (v : V) (b : Bool) → is_some (find_value x es) ≡ b → find_value y (cond b es (es ++ (x, v) ∷ [])) ≡ first_of (find_value y es) (find_value y ((x, v) ∷ []))
 new_by y x es v true h = sym (kept y x es v h)
 new_by y x es v false h = found-append y es ((x, v) ∷ [])
 
 found_new : {V : Type 0} (y x : List ℕ) (es : List (List ℕ × V)) (v : V) → find_value y (with_new es x v) ≡ first_of (find_value y es) (find_value y ((x, v) ∷ []))
-found_new y x es v = new_by y x es v (is_among x (names_in es)) refl
+found_new y x es v = new_by y x es v (is_some (find_value x es)) refl
 
 pub found_all : {V : Type 0} (y : List ℕ) (es fs : List (List ℕ × V)) → find_value y (with_all es fs) ≡ first_of (find_value y es) (find_value y fs)
 found_all y es [] = sym (first_none (find_value y es))

@@ -5,7 +5,8 @@ use Rattle.std.specs.Str.{bytes_eq}
 use Rattle.std.proofs.lemmas.Bool.Decides.{Decides-not}
 use Rattle.std.proofs.lemmas.Slice.Eq.{bytes_eq-Decides}
 use Rattle.jack_tree.specs.Syntax as tree
-use Rattle.jack_names.specs.Tables.{first_of, is_among}
+use Rattle.name_table.specs.Names.{first_of}
+use Rattle.jack_names.specs.Tables.{is_among}
 use Rattle.jack_names.specs.Faults.{Source}
 use Rattle.jack_names.specs.Using.{members, inner, source}
 use Rattle.jack_names.specs.NameFaults.{names, told_at}

@@ -16,7 +16,7 @@ use Rattle.jack_tree.specs.declared.tree.Locals.{Locals}
 use Rattle.jack_tree.specs.declared.tree.Parameter.{Parameter}
 use Rattle.jack_tree.specs.declared.tree.Subroutine.{Subroutine}
 use Rattle.jack_tree.specs.declared.tree.Class.{Class}
-use Rattle.jack_names.specs.Tables.{find_value, first_of}
+use Rattle.name_table.specs.Names.{find_value, first_of}
 use Rattle.jack_names.specs.Faults.{NameDiagnostic, Source, diagnostic_in, diagnostic_if, first_in}
 use Rattle.jack_names.specs.Inner.Uses as code
 use Rattle.jack_names.specs.Using as plain
@@ -33,7 +33,7 @@ use Rattle.jack_names.specs.declared.scope.Way.TheVariants as way
 use Rattle.jack_names.specs.declared.scope.Declared.{Declared}
 use Rattle.jack_names.specs.declared.scope.Signature.{Signature}
 use Rattle.jack_names.specs.declared.scope.Callee.{Callee}
-use Rattle.jack_names.proofs.Entries.{found-append}
+use Rattle.name_table.proofs.Entries.{found-append}
 use Rattle.jack_names.proofs.Naming.{first_assoc, first_none}
 use Rattle.jack_names.proofs.Finding.{fails_if}
 use Rattle.jack_names.proofs.Searched.{is_function, is_method, miscounts, wrong_method, wrong_function, called, called_at, field_in, lesser_of, kind_of, lesser, this_at, made, all_made, point, body_faults}

@@ -3,7 +3,8 @@ use Rattle.std.proofs.Common.{ℕ, Bool, true, false, not, ◌&&◌, ◌==◌, L
 use Rattle.std.specs.Str.{bytes_eq}
 use Rattle.scan_text.specs.declared.Place.{Place}
 use Rattle.jack_tree.specs.Syntax as tree
-use Rattle.jack_names.specs.Tables.{first_of, is_among}
+use Rattle.name_table.specs.Names.{first_of}
+use Rattle.jack_names.specs.Tables.{is_among}
 use Rattle.jack_names.specs.Faults.{NameDiagnostic, Source, first_in}
 use Rattle.jack_names.specs.Inner.Scopes.{is_lesser}
 use Rattle.jack_names.specs.Using.{find_named, Variable, members, inner, Made, by_class, filled_parts, Use, OfVariable, OfFront, OfCall, OfThis, OfString, OfMade, Body, File, source, system_files, file}

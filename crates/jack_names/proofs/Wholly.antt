@@ -6,7 +6,7 @@ use Rattle.jack_tree.specs.Syntax as tree
 use Rattle.jack_tree.specs.Seen.{the_parameter, the_subroutine, the_class, the_file}
 use Rattle.jack_tree.specs.declared.tree.Subroutine.{Subroutine}
 use Rattle.jack_tree.specs.declared.tree.Class.{Class}
-use Rattle.jack_names.specs.Tables.{find_value, first_of}
+use Rattle.name_table.specs.Names.{find_value, first_of}
 use Rattle.jack_names.specs.Faults.{NameDiagnostic, first_in}
 use Rattle.jack_names.specs.Using as plain
 use Rattle.jack_names.specs.Inner.Scopes as scoped

@@ -1,7 +1,7 @@
 -- Faults of names, as they are reported.
 use Rattle.std.specs.Prelude.{◌≡◌, ℕ, Bool, Result, Ok, Err, List, [], ◌∷◌, Option, Some, None}
 use Rattle.scan_text.specs.declared.Place.{Place}
-use Rattle.jack_names.specs.Tables.{first_of}
+use Rattle.name_table.specs.Names.{first_of}
 use Rattle.jack_names.specs.declared.fault.NameKind.{NameKind}
 use Rattle.jack_names.specs.declared.fault.NameKind.TheVariants as kinds
 use Rattle.jack_names.specs.declared.fault.NameFault.{NameFault}

@@ -1,4 +1,3 @@
-pub mod Entered
 pub mod Filed
 pub mod Named
 pub mod Pushed

@@ -1,7 +1,7 @@
 -- The numbers of what classes declare (the symbol tables of the book's chapter 11), over the abstract syntax.
 use Rattle.std.specs.Prelude.{ℕ, ◌+◌, List, [], ◌∷◌, ◌++◌, Option, Some, None, length, slice_get}
 use Rattle.jack_tree.specs.Syntax as tree
-use Rattle.jack_names.specs.Tables.{find_value, first_of}
+use Rattle.name_table.specs.Names.{find_value, first_of}
 use Rattle.jack_names.specs.Using.{all_names}
 use Rattle.jack_names.specs.declared.scope.Slot.{Slot}
 use Rattle.jack_names.specs.declared.scope.Slot.TheVariants as slot

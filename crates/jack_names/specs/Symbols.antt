@@ -11,7 +11,7 @@ use Rattle.jack_tree.specs.declared.tree.Parameter.{Parameter}
 use Rattle.jack_tree.specs.declared.tree.Form.{Form}
 use Rattle.jack_tree.specs.declared.tree.Subroutine.{Subroutine}
 use Rattle.jack_tree.specs.declared.tree.Class.{Class}
-use Rattle.jack_names.specs.Tables.{find_value, first_of}
+use Rattle.name_table.specs.Names.{find_value, first_of}
 use Rattle.jack_names.specs.Inner.Twice.{names_of, source_of}
 use Rattle.jack_names.specs.Faults.{Source}
 use Rattle.jack_names.specs.Inner.Scopes.{Scope, is_method}

@@ -1,26 +1,8 @@
--- Tables of names (the symbol tables of the book's chapter 11).
-use Rattle.std.specs.Prelude.{ℕ, Bool, true, false, List, [], ◌∷◌, Option, Some, None, if◌then◌else◌, map, ◌++◌}
+-- Names among names (the symbol tables of the book's chapter 11).
+use Rattle.std.specs.Prelude.{ℕ, Bool, true, false, List, [], ◌∷◌, if◌then◌else◌}
 use Rattle.std.specs.Str.{bytes_eq}
-
--- what was entered first for a name
-abbrev pub find_value : {V : Type 0} → List ℕ → List (List ℕ × V) → Option V
-find_value x [] = None
-find_value x (e ∷ es) = if bytes_eq x e.0 then Some e.1 else find_value x es
-
--- the first of two choices that is there
-abbrev pub first_of : {A : Type 0} → Option A → Option A → Option A
-first_of None other = other
-first_of (Some a) other = Some a
 
 -- one of these names is spelled so
 abbrev pub is_among : List ℕ → List (List ℕ) → Bool
 is_among x [] = false
 is_among x (y ∷ ys) = if bytes_eq x y then true else is_among x ys
-
--- the names that are entered
-abbrev pub names_in : {V : Type 0} → List (List ℕ × V) → List (List ℕ)
-names_in es = map (λ e. e.0) es
-
--- the entries with one more, unless its name is there
-abbrev pub with_new : {V : Type 0} → List (List ℕ × V) → List ℕ → V → List (List ℕ × V)
-with_new es x v = if is_among x (names_in es) then es else es ++ (x, v) ∷ []

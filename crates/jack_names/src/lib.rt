@@ -12,7 +12,6 @@ mod names;
 mod program;
 mod scope;
 mod subroutine;
-mod table;
 mod twice;
 mod variables;
 

@@ -1,15 +1,15 @@
 //! The names of a program: its classes, and the subroutines of each.
 
 ghost use Rattle.std.specs.Prelude.{◌≡◌, ◌+◌, ◌≤◌, ◌<◌, ◌^◌, ◌++◌, [], length, map, IfOk, OnOk};
-ghost use Rattle.jack_names.specs.Inner.Entered.{table_of};
+ghost use Rattle.name_table.specs.Tables.{table_of};
 ghost use Rattle.jack_names.specs.Symbols.{class_numbers, signatures, all_signatures, symbols_of};
 ghost use Rattle.jack_names.specs.Limits.{subroutine_count};
 ghost use Rattle.jack_names.specs.Inner.Whole.{found_subroutine};
 ghost use Rattle.jack_names.specs.Inner.Named.{with_all, the_symbols};
 
 use crate::scope::{Names, Signature};
-use crate::table::Table;
 use jack_tree::{Class, Subroutine};
+use name_table::Table;
 use std::alloc::{AllocError, Global};
 
 // Enters classes by their numbers, from the first one on.

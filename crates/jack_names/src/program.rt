@@ -3,9 +3,9 @@
 ghost use Rattle.std.specs.Prelude.{◌≡◌, ◌+◌, ◌≤◌, ◌<◌, ◌^◌, ◌++◌, ◌∷◌, [], length, map, codes, IfOk, OnOk, IsOk, SomeIff, ◌↔◌, ◌-◌};
 ghost use Rattle.jack_core.specs.Texts.{the_subroutine, the_class, the_program, names_of, class_names_of};
 ghost use Rattle.jack_names.specs.Faults.{Checks};
-ghost use Rattle.jack_names.specs.Inner.Entered.{table_of};
+ghost use Rattle.name_table.specs.Tables.{table_of};
 ghost use Rattle.jack_names.specs.Symbols.{fields_of, statics_of, symbols_of};
-ghost use Rattle.jack_names.specs.Tables.{first_of};
+ghost use Rattle.name_table.specs.Names.{first_of};
 ghost use Rattle.jack_names.specs.Limits.{AreWithin, subroutine_count};
 ghost use Rattle.jack_names.specs.Inner.Whole.{declared_fault, is_plain, main_fault, all_statics, all_uses_fault, first_name_fault, all_subroutines_meant, start_subroutine, class_meant, program_meant, class_names, names_meant, all_names_meant};
 ghost use Rattle.jack_names.specs.Inner.Named.{with_all, the_symbols, marks};
@@ -19,11 +19,11 @@ use crate::kinds::is_function;
 use crate::meant::number_by;
 use crate::names::names_of;
 use crate::scope::{Names, Signature};
-use crate::table::Table;
 use crate::twice::check_declarations;
 use crate::variables::{fields_of, left_by, statics_of};
 use jack_core::{Class as CoreClass, Core, Kind, Subroutine as CoreSubroutine};
 use jack_tree::Class;
+use name_table::Table;
 use outer_world::Name as Text;
 use std::alloc::{AllocError, Global};
 

@@ -4,8 +4,8 @@ ghost use Rattle.std.specs.Prelude.{◌≡◌};
 ghost use Rattle.jack_names.specs.Inner.Scoped.{the_scope, found_in};
 
 use crate::fault::File;
-use crate::table::Table;
 use jack_tree::Form;
+use name_table::Table;
 use outer_world::Name as Text;
 
 /// Where a variable is: its number among those of its kind. The statics are numbered through all classes.
@@ -41,7 +41,7 @@ pub enum Way {
 }
 
 /// How a call is made, and the number of the class that it goes to.
-#[derive(Clone, Copy, Debug)]
+#[derive(Clone, Copy)]
 pub(crate) struct Callee {
     pub way: Way,
     pub class: u32,

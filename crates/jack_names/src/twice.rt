@@ -2,18 +2,19 @@
 
 ghost use Rattle.std.specs.Prelude.{◌≡◌, ◌++◌, ◌∷◌, [], Some, OnOk};
 ghost use Rattle.jack_names.specs.declared.fault.NameKind.TheVariants.{VariableTwice};
-ghost use Rattle.jack_names.specs.Tables.{names_in};
+ghost use Rattle.name_table.specs.Names.{names_in};
 ghost use Rattle.jack_names.specs.Faults.{Checks};
 ghost use Rattle.jack_names.specs.Inner.Filed.{the_file};
-ghost use Rattle.jack_names.specs.Inner.Entered.{table_of};
+ghost use Rattle.name_table.specs.Tables.{table_of};
 ghost use Rattle.jack_names.specs.Inner.Twice.{twice_fault, first_twice, texts_of, names_of, members_twice, parameter_names, locals_twice, variables_fault, subroutines_fault, members_fault, file_fault, declaration_fault, declarations_fault};
 
 use crate::fault::{File, NameError, NameKind, tell};
-use crate::table::Table;
 use jack_tree::{Class, ClassVariables, Locals, Name, Names, Parameter, Subroutine};
+use name_table::Table;
 use std::alloc::Global;
 
 // Enters a name that is not to be there.
+#[tactic(auto, using(crate::proofs::Entries::found_among))]
 fn check_new<'a>(
     alloc: Global,
     file: File,

@@ -1,17 +1,17 @@
 //! The variables that classes and subroutines declare.
 
 ghost use Rattle.std.specs.Prelude.{◌≡◌, ◌+◌, ◌≤◌, ◌<◌, ◌^◌, length, IfOk, OnOk, SomeIff, ◌-◌};
-ghost use Rattle.jack_names.specs.Inner.Entered.{table_of, Finds};
+ghost use Rattle.name_table.specs.Tables.{table_of, Finds};
 ghost use Rattle.jack_names.specs.Inner.Twice.{names_of};
 ghost use Rattle.jack_names.specs.Symbols.{type_class, line_entries, member_line, member_entries, parameter_entries, local_entries, variable_entries, fields_in, statics_in, fields_of, statics_of, locals_of};
 ghost use Rattle.jack_names.specs.Inner.Named.{with_all, the_symbols, slot_at, most};
 
 use crate::scope::{Declared, Names, Slot};
 use crate::subroutine::objects;
-use crate::table::Table;
 use jack_tree::{
     ClassVariables, Locals, Name, Names as NameList, Parameter, Scope, Subroutine, Type,
 };
+use name_table::Table;
 use std::alloc::{AllocError, Global};
 
 // What sort of variables a declaration has.

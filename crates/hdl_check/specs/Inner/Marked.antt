@@ -3,8 +3,8 @@ use Rattle.std.specs.Prelude.{◌≡◌, ℕ, Bool, false, List, [], ◌∷◌, 
 use Rattle.std.specs.Str.{bytes_eq}
 use Rattle.std.specs.List.{list_any}
 use Rattle.hdl_check.specs.Tables.{BitOf, is_in}
-use Rattle.hdl_check.specs.declared.table.Mark.{Mark}
-use Rattle.hdl_check.specs.declared.table.Marks.{Marks}
+use Rattle.hdl_check.specs.declared.marks.Mark.{Mark}
+use Rattle.hdl_check.specs.declared.marks.Marks.{Marks}
 
 abbrev pub is_mark : List ℕ → ℕ → Mark → Bool
 is_mark name bit m = bytes_eq name m.name.now && nat_eq bit m.bit

@@ -4,16 +4,16 @@ use Rattle.hdl_tree.specs.declared.tree.Pin.{Pin}
 use Rattle.hdl_tree.specs.declared.tree.Part.{Part}
 use Rattle.hdl_tree.specs.declared.library.Entry.{Entry}
 use Rattle.hdl_tree.specs.Chips.{Chips, end_of, find_chip, parts_of}
-use Rattle.hdl_check.specs.Tables.{find_value}
+use Rattle.name_table.specs.Names.{find_value}
 use Rattle.hdl_tree.specs.Writable.{is_among}
 use Rattle.hdl_check.specs.Whole.{AreDistinct, Tells}
-use Rattle.hdl_check.specs.Inner.Entered.{table_of, Finds}
+use Rattle.name_table.specs.Tables.{table_of, Finds}
 use Rattle.hdl_check.specs.declared.fault.NamedFault.{NamedFault}
 use Rattle.hdl_check.specs.Faults.{Driver, pin_name, ports_of, drivers_of, net_width, twice_fault, pin_fault, body_fault, connection_fault_of}
 use Rattle.hdl_check.specs.Locations.{Location, AtPin, AtBody, AtPart, Inside, AtConnection, IsEarlier, unless, fault_at, IsFaultless, IsFirstFault}
 use Rattle.hdl_check.specs.declared.check.Port.{Port}
 use Rattle.hdl_check.specs.declared.check.Scope.{Scope}
-use Rattle.hdl_check.specs.declared.table.Table.{Table}
+use Rattle.name_table.specs.declared.Table.{Table}
 use Rattle.hdl_check.specs.declared.catalog.Catalog.{Catalog}
 use Rattle.hdl_check.specs.declared.stage.Stage.{Stage}
 use Rattle.hdl_check.specs.declared.stage.Stage.TheVariants.{New, Open, Done}

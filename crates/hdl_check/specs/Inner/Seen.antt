@@ -1,7 +1,7 @@
 -- What the code knows of the text round a connection.
 use Rattle.std.specs.Prelude.{◌≡◌, ℕ, List}
-use Rattle.hdl_check.specs.Tables.{find_value}
-use Rattle.hdl_check.specs.Inner.Entered.{table_of, Finds}
+use Rattle.name_table.specs.Names.{find_value}
+use Rattle.name_table.specs.Tables.{table_of, Finds}
 use Rattle.hdl_check.specs.Faults.{Context, net_width}
 use Rattle.hdl_check.specs.declared.check.Scope.{Scope}
 

@@ -1,8 +1,8 @@
 -- What the tables of the code stand for: the names of a program, and those of a class.
 use Rattle.std.specs.Prelude.{ℕ, List, [], ◌∷◌, slice_get, map}
 use Rattle.jack_tree.specs.declared.tree.Class.{Class}
-use Rattle.jack_names.specs.Tables.{find_value, with_new}
-use Rattle.jack_names.specs.Inner.Entered.{table_of}
+use Rattle.name_table.specs.Names.{find_value, with_new}
+use Rattle.name_table.specs.Tables.{table_of}
 use Rattle.jack_names.specs.Inner.Filed.{the_file}
 use Rattle.jack_names.specs.Inner.Scoped.{found_in}
 use Rattle.jack_names.specs.Symbols.{Symbols}

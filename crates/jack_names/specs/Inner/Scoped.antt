@@ -1,10 +1,10 @@
 -- What the scopes of the code stand for.
 use Rattle.std.specs.Prelude.{ℕ, List, Option, Some, None, slice_get}
-use Rattle.jack_names.specs.Tables.{find_value, first_of}
-use Rattle.jack_names.specs.Inner.Entered.{table_of}
+use Rattle.name_table.specs.Names.{find_value, first_of}
+use Rattle.name_table.specs.Tables.{table_of}
 use Rattle.jack_names.specs.Inner.Filed.{the_file}
 use Rattle.jack_names.specs.Inner.Scopes.{Scope as AScope}
-use Rattle.jack_names.specs.declared.table.Table.{Table}
+use Rattle.name_table.specs.declared.Table.{Table}
 use Rattle.jack_names.specs.declared.scope.Signature.{Signature}
 use Rattle.jack_names.specs.declared.scope.Scope.{Scope}
 

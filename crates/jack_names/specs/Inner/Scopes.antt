@@ -4,7 +4,7 @@ use Rattle.scan_text.specs.declared.Place.{Place}
 use Rattle.jack_tree.specs.declared.tree.Name.{Name}
 use Rattle.jack_tree.specs.declared.tree.Form.{Form}
 use Rattle.jack_tree.specs.declared.tree.Form.TheVariants as form
-use Rattle.jack_names.specs.Tables.{first_of}
+use Rattle.name_table.specs.Names.{first_of}
 use Rattle.jack_names.specs.Faults.{NameDiagnostic, Source, kind_number, diagnostic_in, diagnostic_if, first_in}
 use Rattle.jack_names.specs.Inner.Uses.{Use, Variable, This, Calls, Makes, Text}
 use Rattle.jack_names.specs.declared.fault.NameKind.{NameKind}

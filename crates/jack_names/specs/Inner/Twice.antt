@@ -8,7 +8,8 @@ use Rattle.jack_tree.specs.declared.tree.Locals.{Locals}
 use Rattle.jack_tree.specs.declared.tree.Parameter.{Parameter}
 use Rattle.jack_tree.specs.declared.tree.Subroutine.{Subroutine}
 use Rattle.jack_tree.specs.declared.tree.Class.{Class}
-use Rattle.jack_names.specs.Tables.{first_of, is_among}
+use Rattle.name_table.specs.Names.{first_of}
+use Rattle.jack_names.specs.Tables.{is_among}
 use Rattle.jack_names.specs.Faults.{NameDiagnostic, Source, diagnostic_in}
 use Rattle.jack_names.specs.declared.fault.NameKind.{NameKind}
 use Rattle.jack_names.specs.declared.fault.NameKind.TheVariants as kinds

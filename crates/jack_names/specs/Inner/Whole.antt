@@ -9,7 +9,7 @@ use Rattle.jack_tree.specs.declared.tree.Form.TheVariants as form
 use Rattle.jack_tree.specs.declared.tree.Statement as statements
 use Rattle.jack_tree.specs.declared.tree.Subroutine.{Subroutine}
 use Rattle.jack_tree.specs.declared.tree.Class.{Class}
-use Rattle.jack_names.specs.Tables.{first_of}
+use Rattle.name_table.specs.Names.{first_of}
 use Rattle.jack_names.specs.Faults.{NameDiagnostic, Source, first_in}
 use Rattle.jack_names.specs.Inner.Uses.{Makes, subroutine_uses}
 use Rattle.jack_names.specs.Sizes.{sizes}

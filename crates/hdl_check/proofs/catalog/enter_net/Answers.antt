@@ -1,8 +1,8 @@
 use Rattle.std.proofs.Common.{◌≡◌, ◌++◌, sym, ap, ◌∙◌}
 use Rattle.hdl_tree.specs.Chips.{count}
-use Rattle.hdl_check.specs.Tables.{find_value}
-use Rattle.hdl_check.specs.Inner.Entered.{table_of}
-use Rattle.hdl_check.proofs.Entries.{one_next}
+use Rattle.name_table.specs.Names.{find_value}
+use Rattle.name_table.specs.Tables.{table_of}
+use Rattle.name_table.proofs.Entries.{one_next}
 use Rattle.hdl_check.proofs.Drivers.{widths_put}
 use Rattle.hdl_check.proofs.catalog.enter_net.Goals as goal
 

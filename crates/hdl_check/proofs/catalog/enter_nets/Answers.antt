@@ -1,9 +1,9 @@
 use Rattle.std.proofs.Common.{◌≡◌, List, ◌∷◌, ◌++◌, sym, ap, ◌∙◌}
 use Rattle.hdl_tree.specs.declared.tree.Connection.{Connection}
-use Rattle.hdl_check.specs.Tables.{find_value}
-use Rattle.hdl_check.specs.Inner.Entered.{table_of}
+use Rattle.name_table.specs.Names.{find_value}
+use Rattle.name_table.specs.Tables.{table_of}
 use Rattle.hdl_check.specs.Faults.{widths_of, driver_by, drivers_by}
-use Rattle.hdl_check.proofs.Entries.{found_front}
+use Rattle.name_table.proofs.Entries.{found_front}
 use Rattle.hdl_check.proofs.Rows.{assoc, widths_of-append}
 use Rattle.hdl_check.proofs.catalog.enter_nets.Goals as goal
 

@@ -1,6 +1,6 @@
 use Rattle.std.proofs.Common.{◌≡◌, ℕ, ◌++◌, List, length}
-use Rattle.hdl_check.specs.Tables.{find_value}
-use Rattle.hdl_check.specs.Inner.Entered.{table_of, Finds}
+use Rattle.name_table.specs.Names.{find_value}
+use Rattle.name_table.specs.Tables.{table_of, Finds}
 use Rattle.hdl_check.specs.declared.check.Port.{Port}
 use Rattle.hdl_check.specs.Faults.{widths_of, drivers_by}
 use Rattle.hdl_check.proofs.catalog.enter_nets.Given as goal

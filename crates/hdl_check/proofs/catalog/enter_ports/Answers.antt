@@ -1,10 +1,10 @@
 use Rattle.std.proofs.Common.{◌≡◌, ℕ, List, ◌∷◌, ◌++◌, sym, ap, ◌∙◌}
 use Rattle.hdl_tree.specs.declared.tree.Pin.{Pin}
-use Rattle.hdl_check.specs.Tables.{find_value}
-use Rattle.hdl_check.specs.Inner.Entered.{table_of}
+use Rattle.name_table.specs.Names.{find_value}
+use Rattle.name_table.specs.Tables.{table_of}
 use Rattle.hdl_check.specs.Faults.{ports_in, pin_name, port_of}
 use Rattle.hdl_check.specs.declared.check.Port.{Port}
-use Rattle.hdl_check.proofs.Entries.{front_next}
+use Rattle.name_table.proofs.Entries.{front_next}
 use Rattle.hdl_check.proofs.catalog.enter_ports.Goals as goal
 
 pub loop-pin-preserved : goal.loop-pin-preserved

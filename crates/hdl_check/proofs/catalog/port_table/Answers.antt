@@ -1,8 +1,8 @@
 use Rattle.std.proofs.Common.{true, false, ◌++◌, ap, ◌∙◌}
-use Rattle.hdl_check.specs.Tables.{find_value}
-use Rattle.hdl_check.specs.Inner.Entered.{table_of}
+use Rattle.name_table.specs.Names.{find_value}
+use Rattle.name_table.specs.Tables.{table_of}
 use Rattle.hdl_check.specs.Faults.{ports_in}
-use Rattle.hdl_check.proofs.Entries.{found_front}
+use Rattle.name_table.proofs.Entries.{found_front}
 use Rattle.hdl_check.proofs.catalog.port_table.Goals as goal
 
 pub returns : goal.returns

@@ -5,8 +5,9 @@ use Rattle.std.proofs.lemmas.List.{take_all}
 use Rattle.std.proofs.lemmas.Result.{err_from_is_err_and}
 use Rattle.hdl_tree.specs.declared.tree.Connection.{Connection}
 use Rattle.hdl_tree.specs.Chips.{parts_of}
-use Rattle.hdl_check.specs.Tables.{BitOf, find_value}
-use Rattle.hdl_check.specs.Inner.Entered.{table_of}
+use Rattle.name_table.specs.Names.{find_value}
+use Rattle.hdl_check.specs.Tables.{BitOf}
+use Rattle.name_table.specs.Tables.{table_of}
 use Rattle.hdl_check.specs.Inner.Marked.{HasMarks, MarksMore}
 use Rattle.hdl_check.specs.Faults.{ports_of, context, bits_fed, bits_driven, fed_by, driver_by, drivers_by, drivers_of, connection_fault, connection_fault_in}
 use Rattle.hdl_check.specs.Inner.Progress.{chips_of}

@@ -1,6 +1,6 @@
 use Rattle.std.proofs.Common.{◌≡◌, ℕ, ◌<◌, ◌++◌, map, take, None}
-use Rattle.hdl_check.specs.Tables.{names_in}
-use Rattle.hdl_check.specs.Inner.Entered.{table_of}
+use Rattle.name_table.specs.Names.{names_in}
+use Rattle.name_table.specs.Tables.{table_of}
 use Rattle.hdl_check.specs.Faults.{pin_name}
 use Rattle.hdl_check.specs.Inner.Progress.{pin_fault_in}
 use Rattle.hdl_check.proofs.search.enter_pins.Given as goal

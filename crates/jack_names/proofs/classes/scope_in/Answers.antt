@@ -1,5 +1,5 @@
-use Rattle.jack_names.specs.Tables.{find_value, first_of}
-use Rattle.jack_names.specs.Inner.Entered.{table_of}
+use Rattle.name_table.specs.Names.{find_value, first_of}
+use Rattle.name_table.specs.Tables.{table_of}
 use Rattle.jack_names.specs.Inner.Filed.{the_file}
 use Rattle.jack_names.specs.Inner.Named.{the_symbols}
 use Rattle.jack_names.proofs.classes.scope_in.Goals as goal

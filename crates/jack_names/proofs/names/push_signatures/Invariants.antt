@@ -1,5 +1,5 @@
 use Rattle.std.proofs.Common.{◌≡◌, ◌+◌, ◌++◌, [], length, map}
-use Rattle.jack_names.specs.Inner.Entered.{table_of}
+use Rattle.name_table.specs.Tables.{table_of}
 use Rattle.jack_names.specs.Symbols.{all_signatures}
 use Rattle.jack_names.specs.Limits.{subroutine_count}
 use Rattle.jack_names.specs.Inner.Named.{with_all}

@@ -1,5 +1,5 @@
 use Rattle.std.proofs.Common.{◌≡◌, ◌+◌, [], length}
-use Rattle.jack_names.specs.Inner.Entered.{table_of}
+use Rattle.name_table.specs.Tables.{table_of}
 use Rattle.jack_names.specs.Symbols.{signatures}
 use Rattle.jack_names.specs.Inner.Named.{with_all}
 use Rattle.jack_names.proofs.names.signatures_of.Given as goal

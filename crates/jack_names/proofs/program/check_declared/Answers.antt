@@ -1,7 +1,8 @@
 use Rattle.std.proofs.Common.{◌≡◌, ℕ, List, [], false, true, Err, sym, ap, ◌∙◌}
 use Rattle.std.proofs.lemmas.Result.{err_from_is_err_and}
-use Rattle.jack_names.specs.Tables.{is_among, names_in}
-use Rattle.jack_names.specs.Inner.Entered.{table_of}
+use Rattle.name_table.specs.Names.{names_in}
+use Rattle.jack_names.specs.Tables.{is_among}
+use Rattle.name_table.specs.Tables.{table_of}
 use Rattle.jack_names.specs.Inner.Twice.{declarations_fault}
 use Rattle.jack_names.specs.Inner.Whole.{class_names}
 use Rattle.jack_names.specs.Inner.Named.{with_all, marks}

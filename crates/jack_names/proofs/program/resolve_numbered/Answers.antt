@@ -1,5 +1,5 @@
 use Rattle.std.proofs.Common.{◌++◌, subst, sym}
-use Rattle.jack_names.specs.Tables.{first_of}
+use Rattle.name_table.specs.Names.{first_of}
 use Rattle.jack_names.specs.Symbols.{symbols_of}
 use Rattle.jack_names.specs.Resolved.{Resolves}
 use Rattle.jack_names.specs.Inner.Whole.{main_fault, all_uses_fault}

@@ -1,6 +1,6 @@
 use Rattle.std.proofs.Common.{◌≡◌, length}
-use Rattle.jack_names.specs.Tables.{names_in}
-use Rattle.jack_names.specs.Inner.Entered.{table_of}
+use Rattle.name_table.specs.Names.{names_in}
+use Rattle.name_table.specs.Tables.{table_of}
 use Rattle.jack_names.specs.Inner.Filed.{the_file}
 use Rattle.jack_names.specs.Inner.Twice.{members_twice}
 use Rattle.jack_names.proofs.twice.check_lines.Given as goal

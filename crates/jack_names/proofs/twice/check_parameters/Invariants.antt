@@ -1,7 +1,7 @@
 use Rattle.std.proofs.Common.{◌≡◌, ◌++◌, length}
 use Rattle.jack_names.specs.declared.fault.NameKind.TheVariants.{VariableTwice}
-use Rattle.jack_names.specs.Tables.{names_in}
-use Rattle.jack_names.specs.Inner.Entered.{table_of}
+use Rattle.name_table.specs.Names.{names_in}
+use Rattle.name_table.specs.Tables.{table_of}
 use Rattle.jack_names.specs.Inner.Filed.{the_file}
 use Rattle.jack_names.specs.Inner.Twice.{first_twice, texts_of, parameter_names}
 use Rattle.jack_names.proofs.twice.check_parameters.Given as goal

@@ -1,5 +1,5 @@
 use Rattle.std.proofs.Common.{◌≡◌, ◌+◌, ◌∷◌, ap, sym, ◌∙◌, arith}
-use Rattle.jack_names.specs.Inner.Entered.{table_of}
+use Rattle.name_table.specs.Tables.{table_of}
 use Rattle.jack_names.specs.Symbols.{member_line, member_entries, fields_in, statics_in, fields_of, statics_of}
 use Rattle.jack_names.specs.Inner.Named.{with_all, the_symbols}
 use Rattle.jack_names.proofs.Naming.{with_all-append}

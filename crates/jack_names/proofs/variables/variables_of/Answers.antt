@@ -1,6 +1,6 @@
 use Rattle.std.proofs.Common.{[], ap, sym, ◌∙◌}
-use Rattle.jack_names.specs.Tables.{find_value}
-use Rattle.jack_names.specs.Inner.Entered.{table_of}
+use Rattle.name_table.specs.Names.{find_value}
+use Rattle.name_table.specs.Tables.{table_of}
 use Rattle.jack_names.specs.Symbols.{parameter_entries, local_entries, variable_entries, objects}
 use Rattle.jack_names.specs.Inner.Named.{with_all, the_symbols}
 use Rattle.jack_names.proofs.Naming.{found_filled, with_all-append}

@@ -1,20 +1,22 @@
-//! Tables of names.
+//! Tables of names: what was entered first for a name is found.
+#![tactic(auto)]
 
-ghost use Rattle.std.specs.Prelude.{◌≡◌, [], OnOk, OnErr, IfOk, not};
-ghost use Rattle.jack_names.specs.Tables.{find_value, is_among, names_in, with_new};
-ghost use Rattle.jack_names.specs.Inner.Entered.{table_of};
+ghost use Rattle.std.specs.Prelude.{◌≡◌, [], OnOk, OnErr, IfOk, not, is_some};
+ghost use Rattle.name_table.specs.Names.{find_value, with_new};
+ghost use Rattle.name_table.specs.Tables.{table_of};
 
 use indexmap::IndexMap;
 use std::alloc::{AllocError, Global};
 
 /// What names stand for: what was entered first for a name is found.
 #[derive(Drop)]
-pub(crate) struct Table<'a, V> {
+pub struct Table<'a, V> {
     entries: IndexMap<&'a [u8], V>,
 }
 
 impl<'a, V: Copy + Drop> Table<'a, V> {
-    pub(crate) fn new(alloc: Global) -> Table<'a, V>
+    /// An empty table.
+    pub fn new(alloc: Global) -> Table<'a, V>
         ensures { table_of result ≡ [] }
     {
         Table {
@@ -23,15 +25,15 @@ impl<'a, V: Copy + Drop> Table<'a, V> {
     }
 
     /// What a name stands for.
-    pub(crate) fn find(&self, name: &'a [u8]) -> Option<V>
+    pub fn find(&self, name: &'a [u8]) -> Option<V>
         ensures { result ≡ find_value name.now (table_of self.now) }
     {
         self.entries.get(&name).copied()
     }
 
     /// Enters a name that is not there. Says whether it was not there. Where memory runs out, the table stays as it was.
-    pub(crate) fn enter(&mut self, name: &'a [u8], value: V) -> Result<bool, AllocError>
-        ensures new { IfOk result (λ new. new ≡ not (is_among name.now (names_in (table_of self.old)))) }
+    pub fn enter(&mut self, name: &'a [u8], value: V) -> Result<bool, AllocError>
+        ensures new { IfOk result (λ new. new ≡ not (is_some (find_value name.now (table_of self.old)))) }
         ensures entered { OnOk result (table_of self.new ≡ with_new (table_of self.old) name.now value) }
         ensures unchanged { OnErr result (table_of self.new ≡ table_of self.old) }
     {

@@ -2,7 +2,7 @@ use Rattle.std.proofs.Common.{◌≡◌, ℕ, suc, ◌+◌, [], ◌∷◌, sym, 
 use Rattle.hdl_check.specs.Tables.{bits_of}
 use Rattle.hdl_check.specs.Inner.Marked.{MarksMore}
 use Rattle.hdl_check.proofs.MarkLemmas.{more_then, more_none}
-use Rattle.hdl_check.proofs.table.Marks.mark_all.Goals as goal
+use Rattle.hdl_check.proofs.marks.Marks.mark_all.Goals as goal
 
 pub loop-k-init : goal.loop-k-init
 loop-k-init c = more_none c.args.self.now

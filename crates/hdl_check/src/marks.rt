@@ -1,56 +1,14 @@
-//! Tables of names.
+//! Sets of bits of names.
 
-ghost use Rattle.std.specs.Prelude.{◌≡◌, [], ◌∷◌, ◌+◌, ◌<◌, ◌^◌, OnOk, OnErr, IfOk, not};
-ghost use Rattle.hdl_check.specs.Tables.{find_value, names_in, with_new};
-ghost use Rattle.hdl_tree.specs.Writable.{is_among};
-ghost use Rattle.hdl_check.specs.Inner.Entered.{table_of};
+ghost use Rattle.std.specs.Prelude.{◌≡◌, [], ◌∷◌, ◌+◌, ◌<◌, ◌^◌, OnOk};
 ghost use Rattle.hdl_check.specs.Tables.{bits_of};
 ghost use Rattle.hdl_check.specs.Inner.Marked.{is_marked, some_marked, HasMarks, MarksMore};
 
-use indexmap::{IndexMap, IndexSet};
+use indexmap::IndexSet;
 use std::alloc::{AllocError, Global};
 
-/// What names stand for: what was entered first for a name is found.
-#[derive(Drop)]
-pub struct Table<'a, V> {
-    entries: IndexMap<&'a [u8], V>,
-}
-
-impl<'a, V: Copy + Drop> Table<'a, V> {
-    /// An empty table.
-    pub fn new(alloc: Global) -> Table<'a, V>
-        ensures { table_of result ≡ [] }
-    {
-        Table {
-            entries: IndexMap::new(alloc),
-        }
-    }
-
-    /// What a name stands for.
-    pub fn find(&self, name: &'a [u8]) -> Option<V>
-        ensures { result ≡ find_value name.now (table_of self.now) }
-    {
-        self.entries.get(&name).copied()
-    }
-
-    /// Enters a name that is not there. Says whether it was not there. Where memory runs out, the table stays as it was.
-    pub fn enter(&mut self, name: &'a [u8], value: V) -> Result<bool, AllocError>
-        ensures new { IfOk result (λ new. new ≡ not (is_among name.now (names_in (table_of self.old)))) }
-        ensures entered { OnOk result (table_of self.new ≡ with_new (table_of self.old) name.now value) }
-        ensures unchanged { OnErr result (table_of self.new ≡ table_of self.old) }
-    {
-        match self.find(name) {
-            Some(_) => Ok(false),
-            None => match self.entries.insert(name, value) {
-                Ok(_) => Ok(true),
-                Err(_) => Err(AllocError),
-            },
-        }
-    }
-}
-
 /// A bit of a pin or net.
-#[derive(Clone, Copy, Debug, PartialEq, Eq, Hash)]
+#[derive(Clone, Copy, PartialEq, Eq, Hash)]
 pub(crate) struct Mark<'a> {
     pub name: &'a [u8],
     pub bit: u32,

@@ -2,7 +2,7 @@ use Rattle.std.proofs.Common.{◌≡◌, ℕ, suc, ◌+◌, ap, sym, ◌∙◌, 
 use Rattle.hdl_check.specs.Tables.{bits_of}
 use Rattle.hdl_check.specs.Inner.Marked.{some_marked}
 use Rattle.hdl_check.proofs.MarkLemmas.{span_within, span_has}
-use Rattle.hdl_check.proofs.table.Marks.has_some.Goals as goal
+use Rattle.hdl_check.proofs.marks.Marks.has_some.Goals as goal
 
 pub returns-then-has : goal.returns-then-has
 returns-then-has c = sym (span_within c.args.self.now c.args.name.now c.args.first c.loop-k.k c.args.count c.loop-k-test.true (sym c.has.ensures ∙ c.if-has.true))

@@ -1,12 +1,14 @@
--- The tables of the code.
+-- The tables of the code, seen as entries. (The symbol tables of the book's chapters 6 and 11.)
 use Rattle.std.specs.Prelude.{◌≡◌, ℕ, List, map}
 use denote.Bor.{Bor}
-use Rattle.hdl_check.specs.Tables.{find_value}
-use Rattle.hdl_check.specs.declared.table.Table.{Table}
+use Rattle.name_table.specs.Names.{find_value}
+use Rattle.name_table.specs.declared.Table.{Table}
 
+-- an entry of the code
 abbrev pub seen_entry : {V : Type 0} → Bor (List ℕ) × V → List ℕ × V
 seen_entry e = (e.0.now, e.1)
 
+-- the entries, in the order in which they were entered
 abbrev pub table_of : {V : Type 0} → Table V → List (List ℕ × V)
 table_of t = map seen_entry t.entries.entries
 
