@@ -11,7 +11,8 @@ use Rattle.vm_tree.specs.declared.command.Segment.TheVariants as segment
 use Rattle.vm_tree.specs.declared.command.Command.{Command}
 use Rattle.vm_tree.specs.declared.command.Command.TheVariants as command
 use Rattle.vm_tree.specs.declared.command.Line.{Line}
-use Rattle.jack_meaning.specs.Text.{Variable, Argument, Local, Static, Sign, Minus, Complement, ShiftLeft, ShiftRight, Operator, Plus, Subtract, And, Or, Less, Greater, Equal, Expression, Literal, Value, Name, This, Field, Unary, Binary, Load, Call, Open, Expressions, NoMore, More, Statement, Let, LetField, LetThis, Store, Do, If, While, Return, Text, End, Next, Kind, Constructor, Function, Method, Subroutine}
+use Rattle.jack_meaning.specs.Text.{Variable, Argument, Local, Static, Sign, Operator, Expression, Literal, Value, Name, This, Field, Unary, Binary, Load, Call, Open, Expressions, NoMore, More, Statement, Let, LetField, LetThis, Store, Do, If, While, Return, Text, End, Next, Kind, Constructor, Function, Method, Subroutine}
+use Rattle.jack_compiler.specs.Operators.{sign_operation, operator_operation}
 use Rattle.jack_compiler.specs.Templates.{count, first_number, no_else}
 
 -- What a subroutine's commands need of the program: the name of each subroutine, and how many statics the classes before its own have. (The
@@ -74,19 +75,10 @@ literal_lines n w =
     else commit n (command.Push segment.Constant w) ∷ []
 
 abbrev pub sign_command : Sign → Command
-sign_command Minus = command.Operate operation.Neg
-sign_command Complement = command.Operate operation.Not
-sign_command ShiftLeft = command.Operate operation.ShiftLeft
-sign_command ShiftRight = command.Operate operation.ShiftRight
+sign_command o = command.Operate (sign_operation o)
 
 abbrev pub operator_command : Operator → Command
-operator_command Plus = command.Operate operation.Add
-operator_command Subtract = command.Operate operation.Sub
-operator_command And = command.Operate operation.And
-operator_command Or = command.Operate operation.Or
-operator_command Less = command.Operate operation.Lt
-operator_command Greater = command.Operate operation.Gt
-operator_command Equal = command.Operate operation.Eq
+operator_command o = command.Operate (operator_operation o)
 
 -- the address on top becomes the word there
 abbrev pub load_lines : ℕ → List Line

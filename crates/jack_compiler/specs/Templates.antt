@@ -14,7 +14,8 @@ use Rattle.vm_tree.specs.declared.command.Segment.TheVariants as segment
 use Rattle.vm_link.specs.declared.linked.Step.{Step}
 use Rattle.vm_link.specs.declared.linked.Step.TheVariants as command
 use Rattle.vm_link.specs.declared.linked.Code.{Code}
-use Rattle.jack_meaning.specs.Text.{Variable, Argument, Local, Static, Sign, Minus, Complement, ShiftLeft, ShiftRight, Operator, Plus, Subtract, And, Or, Less, Greater, Equal, Expression, Literal, Value, Name, This, Field, Unary, Binary, Load, Call, Open, Expressions, NoMore, More, Statement, Let, LetField, LetThis, Store, Do, If, While, Return, Text, End, Next, number_of, Kind, Constructor, Function, Method, Subroutine}
+use Rattle.jack_meaning.specs.Text.{Variable, Argument, Local, Static, Sign, Operator, Expression, Literal, Value, Name, This, Field, Unary, Binary, Load, Call, Open, Expressions, NoMore, More, Statement, Let, LetField, LetThis, Store, Do, If, While, Return, Text, End, Next, number_of, Kind, Constructor, Function, Method, Subroutine}
+use Rattle.jack_compiler.specs.Operators.{sign_operation, operator_operation}
 
 -- The numbers that linking gives: of a subroutine among the functions that are kept, and of a static among the static words of all files.
 -- Not each subroutine is kept, and not each static has a word: those are that the kept subroutines call and name.
@@ -48,19 +49,10 @@ pop_variable numbers (Local k) = command.Pop segment.Local k
 pop_variable numbers (Static k) = command.Pop segment.Static (numbers.static k)
 
 abbrev pub sign_step : Sign → Step
-sign_step Minus = command.Operate operation.Neg
-sign_step Complement = command.Operate operation.Not
-sign_step ShiftLeft = command.Operate operation.ShiftLeft
-sign_step ShiftRight = command.Operate operation.ShiftRight
+sign_step o = command.Operate (sign_operation o)
 
 abbrev pub operator_step : Operator → Step
-operator_step Plus = command.Operate operation.Add
-operator_step Subtract = command.Operate operation.Sub
-operator_step And = command.Operate operation.And
-operator_step Or = command.Operate operation.Or
-operator_step Less = command.Operate operation.Lt
-operator_step Greater = command.Operate operation.Gt
-operator_step Equal = command.Operate operation.Eq
+operator_step o = command.Operate (operator_operation o)
 
 -- the address on top becomes the word there
 abbrev pub load_code : ℕ → List Code

@@ -59,7 +59,6 @@ pub struct ClassPlaces {
 /// The places of a program: the ranges of its image in order of address, its commits and shared routines, its subroutines
 /// and its classes. A subroutine's number is 0 for `start`, and k + 1 for the one of index k here. A class is given by
 /// its index.
-#[derive(Drop)]
 pub struct Places {
     pub ranges: List<PlacedRange>,
     /// The addresses of the instructions that end a step of the program's meaning.
@@ -72,6 +71,21 @@ pub struct Places {
     pub linked: List<u32>,
     /// The classes of these subroutines, in order of name.
     pub by_name: List<u32>,
+}
+
+// By hand, so that whoever drops one calls this.
+impl Drop for Places {
+    fn drop(self) {
+        let Places {
+            ranges: _,
+            commits: _,
+            shared: _,
+            subs: _,
+            classes: _,
+            linked: _,
+            by_name: _,
+        } = self;
+    }
 }
 
 impl Places {

@@ -46,7 +46,6 @@ pub struct LinkedFile {
 }
 
 /// A linked program.
-#[derive(Drop)]
 pub struct Linked {
     /// The functions in order of file and text; a function's number is its place here, from 0.
     pub functions: List<LinkedFunction>,
@@ -57,4 +56,17 @@ pub struct Linked {
     pub bare: bool,
     /// Whether some command is a commit. In a program that is read from text none is.
     pub marked: bool,
+}
+
+// By hand, so that whoever drops one calls this.
+impl Drop for Linked {
+    fn drop(self) {
+        let Linked {
+            functions: _,
+            files: _,
+            start: _,
+            bare: _,
+            marked: _,
+        } = self;
+    }
 }

@@ -62,19 +62,31 @@ unary_outcome op s f below = on_top f.values (λ x values. goes s below (after f
 abbrev pub binary_outcome : (ℕ → ℕ → ℕ) → State → Frame → List Frame → Outcome
 binary_outcome op s f below = on_two f.values (λ x y values. goes s below (after f (op x y ∷ values)))
 
+-- an operation makes a word of the topmost value, or of the two topmost, x below y
+pub data Combination : Type 0 where
+  Unary : (ℕ → ℕ) → Combination
+  Binary : (ℕ → ℕ → ℕ) → Combination
+
 -- Sums, differences and negation modulo 65,536. Words are compared by their signed readings, and true is -1. (Shifts are not the book's.)
+abbrev pub combination_of : Operation → Combination
+combination_of Add = Binary word_add
+combination_of Sub = Binary word_sub
+combination_of Neg = Unary word_neg
+combination_of Eq = Binary word_eq
+combination_of Gt = Binary word_gt
+combination_of Lt = Binary word_lt
+combination_of And = Binary bit_and
+combination_of Or = Binary bit_or
+combination_of Not = Unary word_not
+combination_of ShiftLeft = Unary word_shl
+combination_of ShiftRight = Unary word_shr
+
+abbrev pub combined_outcome : Combination → State → Frame → List Frame → Outcome
+combined_outcome (Unary op) s f below = unary_outcome op s f below
+combined_outcome (Binary op) s f below = binary_outcome op s f below
+
 abbrev pub operate : Operation → State → Frame → List Frame → Outcome
-operate Add s f below = binary_outcome word_add s f below
-operate Sub s f below = binary_outcome word_sub s f below
-operate Neg s f below = unary_outcome word_neg s f below
-operate Eq s f below = binary_outcome word_eq s f below
-operate Gt s f below = binary_outcome word_gt s f below
-operate Lt s f below = binary_outcome word_lt s f below
-operate And s f below = binary_outcome bit_and s f below
-operate Or s f below = binary_outcome bit_or s f below
-operate Not s f below = unary_outcome word_not s f below
-operate ShiftLeft s f below = unary_outcome word_shl s f below
-operate ShiftRight s f below = unary_outcome word_shr s f below
+operate o s f below = combined_outcome (combination_of o) s f below
 
 -- the word at an address is pushed: that of heap or screen, and at the keyboard's address the key
 abbrev pub load : ℕ → ℕ → State → Frame → List Frame → Outcome

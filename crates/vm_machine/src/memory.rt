@@ -8,11 +8,21 @@ use std::marker::Model;
 use word16::{HEAP, HEAP_AND_SCREEN_SIZE};
 
 /// The words that are no stack: the statics by number, the eight temp words, and heap and screen from `HEAP` on.
-#[derive(Drop)]
 pub struct Memory {
     statics: Vec<u16>,
     temps: Vec<u16>,
     words: Vec<u16>,
+}
+
+// By hand, so that whoever drops one calls this.
+impl Drop for Memory {
+    fn drop(self) {
+        let Memory {
+            statics: _,
+            temps: _,
+            words: _,
+        } = self;
+    }
 }
 
 impl Model for Memory {

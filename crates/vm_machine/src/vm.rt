@@ -18,12 +18,23 @@ use vm_link::{Code, Linked, Step};
 use vm_tree::Segment;
 
 /// A linked program in its run on the virtual machine.
-#[derive(Drop)]
 pub struct Vm {
     linked: Linked,
     machine: Machine,
     moves: u64,
     steps: u64,
+}
+
+// By hand, so that whoever drops one calls this.
+impl Drop for Vm {
+    fn drop(self) {
+        let Vm {
+            linked: _,
+            machine: _,
+            moves: _,
+            steps: _,
+        } = self;
+    }
 }
 
 impl Model for Vm {

@@ -1,8 +1,9 @@
 -- The words of commands (chapters 7 and 8). They are not reserved: each but `if-goto` may be a name too.
-use Rattle.std.specs.Prelude.{ℕ, List, [], ◌∷◌, if◌then◌else◌, codes}
+use Rattle.std.specs.Prelude.{ℕ, List, [], ◌∷◌, if◌then◌else◌, codes, map}
 use Rattle.std.specs.Str.{bytes_eq}
 use Rattle.vm_tree.specs.declared.command.Operation.TheVariants as operation
 use Rattle.vm_tree.specs.declared.command.Segment.TheVariants as segment
+use Rattle.vm_tree.specs.Printed.{operation_text, segment_text}
 use Rattle.vm_parser.specs.declared.token.Role.{Role}
 use Rattle.vm_parser.specs.declared.token.Role.TheVariants as role
 
@@ -11,22 +12,21 @@ abbrev pub role_spelled : List (List ℕ × Role) → Role → List ℕ → Role
 role_spelled [] other text = other
 role_spelled (entry ∷ entries) other text = if bytes_eq text entry.0 then entry.1 else role_spelled entries other text
 
+-- each segment by the word that is printed for it
 abbrev pub segments : List (List ℕ × Role)
 segments =
-    (codes "argument", role.Segment segment.Argument) ∷ (codes "local", role.Segment segment.Local) ∷ (codes "static", role.Segment segment.Static)
-    ∷ (codes "constant", role.Segment segment.Constant) ∷ (codes "this", role.Segment segment.This) ∷ (codes "that", role.Segment segment.That)
-    ∷ (codes "pointer", role.Segment segment.Pointer) ∷ (codes "temp", role.Segment segment.Temp) ∷ []
+    map (λ s. (segment_text s, role.Segment s)) (segment.Argument ∷ segment.Local ∷ segment.Static ∷ segment.Constant
+    ∷ segment.This ∷ segment.That ∷ segment.Pointer ∷ segment.Temp ∷ [])
 
 -- segments
 abbrev pub segment_role_of : List ℕ → Role
 segment_role_of text = role_spelled segments role.Plain text
 
+-- each operation by the word that is printed for it
 abbrev pub operations : List (List ℕ × Role)
 operations =
-    (codes "add", role.Operation operation.Add) ∷ (codes "sub", role.Operation operation.Sub) ∷ (codes "neg", role.Operation operation.Neg)
-    ∷ (codes "eq", role.Operation operation.Eq) ∷ (codes "gt", role.Operation operation.Gt) ∷ (codes "lt", role.Operation operation.Lt)
-    ∷ (codes "and", role.Operation operation.And) ∷ (codes "or", role.Operation operation.Or) ∷ (codes "not", role.Operation operation.Not)
-    ∷ (codes "shiftleft", role.Operation operation.ShiftLeft) ∷ (codes "shiftright", role.Operation operation.ShiftRight) ∷ []
+    map (λ o. (operation_text o, role.Operation o)) (operation.Add ∷ operation.Sub ∷ operation.Neg ∷ operation.Eq ∷ operation.Gt
+    ∷ operation.Lt ∷ operation.And ∷ operation.Or ∷ operation.Not ∷ operation.ShiftLeft ∷ operation.ShiftRight ∷ [])
 
 -- operations and segments
 abbrev pub operation_role_of : List ℕ → Role

@@ -3,7 +3,7 @@ use scan_text::Place;
 use vm_tree::{Operation, Segment};
 
 /// What a token is: a word of the bytes of names, `if-goto`, a number of at most 32,767, or the end of a line.
-#[derive(Clone, Copy, Debug, PartialEq, Eq)]
+#[derive(Clone, Copy)]
 pub enum Kind {
     Name,
     IfGoto,
@@ -12,7 +12,7 @@ pub enum Kind {
 }
 
 /// What a word can be in a command, beside a name.
-#[derive(Clone, Copy, Debug, PartialEq, Eq)]
+#[derive(Clone, Copy)]
 pub enum Role {
     Push,
     Pop,
@@ -28,7 +28,7 @@ pub enum Role {
 }
 
 /// A token: a word's text, and the place where the token begins. Other tokens keep no text.
-#[derive(Clone, Copy, Debug)]
+#[derive(Clone, Copy)]
 pub struct Token<'a> {
     pub kind: Kind,
     pub role: Role,

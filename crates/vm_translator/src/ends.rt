@@ -11,7 +11,7 @@ use vm_link::{Code, Linked, LinkedFunction, Step};
 use vm_templates::{Routine, START_SIZE};
 
 /// What stands after the functions of a program, before the routines.
-#[derive(Clone, Copy, Debug, PartialEq, Eq)]
+#[derive(Clone, Copy)]
 pub enum Closing {
     Nothing,
     /// One word 0.

@@ -10,7 +10,7 @@ use std::alloc::{AllocError, Global};
 use vm_link::{Code, LinkedFunction, Step};
 
 /// A step with its address, the number of its function and its control point.
-#[derive(Clone, Copy, Debug, PartialEq, Eq)]
+#[derive(Clone, Copy)]
 pub struct Placed {
     pub at: u16,
     pub function: usize,
