@@ -4,30 +4,38 @@ ghost use Rattle.chip_basic.specs.Hdl.{each};
 ghost use Rattle.chip_alu.specs.Trees.{half_adder_tree, full_adder_tree, add_bit, add16_tree, inc16_tree, alu_inputs, alu_output, alu_test, alu_tree, shift_tree};
 
 use chip_basic::{
-    add_part, bit_constant, bit_wire, bit_wire_bit, bits_wire, bits_wire_bits, bus, chip, constant,
-    numbered, pin, wire, wire_bit,
+    Link, Row, add_part, bit_constant, bit_wire_bit, bits_wire_bits, bus, chip, numbered, parts_of,
+    pin, wire, wire_bit,
 };
 use hdl_tree::{Chip, List, Part};
 use std::alloc::{AllocError, Global};
+
+// The parts of HalfAdder.
+const HALF_ADDER: &[Row<'static>] = &[
+    Row {
+        chip: b"Xor",
+        links: &[
+            Link::Wire(b"a", b"a"),
+            Link::Wire(b"b", b"b"),
+            Link::Wire(b"out", b"sum"),
+        ],
+    },
+    Row {
+        chip: b"And",
+        links: &[
+            Link::Wire(b"a", b"a"),
+            Link::Wire(b"b", b"b"),
+            Link::Wire(b"out", b"carry"),
+        ],
+    },
+];
 
 /// The tree of HalfAdder.
 #[tactic(auto, unfolding(crate::specs::Trees::half_adder_tree))]
 pub fn half_adder_tree(alloc: Global) -> Result<Chip, AllocError>
     ensures { IfOk result (λ chip. chip ≡ half_adder_tree) }
 {
-    let mut parts = List::new(alloc);
-    add_part(
-        alloc,
-        &mut parts,
-        b"Xor",
-        &[wire(b"a", b"a"), wire(b"b", b"b"), wire(b"out", b"sum")],
-    )?;
-    add_part(
-        alloc,
-        &mut parts,
-        b"And",
-        &[wire(b"a", b"a"), wire(b"b", b"b"), wire(b"out", b"carry")],
-    )?;
+    let parts = parts_of(alloc, HALF_ADDER)?;
     chip(
         alloc,
         b"HalfAdder",
@@ -37,44 +45,42 @@ pub fn half_adder_tree(alloc: Global) -> Result<Chip, AllocError>
     )
 }
 
+// The parts of FullAdder.
+const FULL_ADDER: &[Row<'static>] = &[
+    Row {
+        chip: b"HalfAdder",
+        links: &[
+            Link::Wire(b"a", b"a"),
+            Link::Wire(b"b", b"b"),
+            Link::Wire(b"sum", b"sumOfTwo"),
+            Link::Wire(b"carry", b"carryOfTwo"),
+        ],
+    },
+    Row {
+        chip: b"HalfAdder",
+        links: &[
+            Link::Wire(b"a", b"sumOfTwo"),
+            Link::Wire(b"b", b"c"),
+            Link::Wire(b"sum", b"sum"),
+            Link::Wire(b"carry", b"carryOfThird"),
+        ],
+    },
+    Row {
+        chip: b"Or",
+        links: &[
+            Link::Wire(b"a", b"carryOfTwo"),
+            Link::Wire(b"b", b"carryOfThird"),
+            Link::Wire(b"out", b"carry"),
+        ],
+    },
+];
+
 /// The tree of FullAdder.
 #[tactic(auto, unfolding(crate::specs::Trees::full_adder_tree))]
 pub fn full_adder_tree(alloc: Global) -> Result<Chip, AllocError>
     ensures { IfOk result (λ chip. chip ≡ full_adder_tree) }
 {
-    let mut parts = List::new(alloc);
-    add_part(
-        alloc,
-        &mut parts,
-        b"HalfAdder",
-        &[
-            wire(b"a", b"a"),
-            wire(b"b", b"b"),
-            wire(b"sum", b"sumOfTwo"),
-            wire(b"carry", b"carryOfTwo"),
-        ],
-    )?;
-    add_part(
-        alloc,
-        &mut parts,
-        b"HalfAdder",
-        &[
-            wire(b"a", b"sumOfTwo"),
-            wire(b"b", b"c"),
-            wire(b"sum", b"sum"),
-            wire(b"carry", b"carryOfThird"),
-        ],
-    )?;
-    add_part(
-        alloc,
-        &mut parts,
-        b"Or",
-        &[
-            wire(b"a", b"carryOfTwo"),
-            wire(b"b", b"carryOfThird"),
-            wire(b"out", b"carry"),
-        ],
-    )?;
+    let parts = parts_of(alloc, FULL_ADDER)?;
     chip(
         alloc,
         b"FullAdder",
@@ -168,163 +174,131 @@ pub fn inc16_tree(alloc: Global) -> Result<Chip, AllocError>
     )
 }
 
-// The parts that make the two inputs ready.
-fn prepare_inputs(alloc: Global) -> Result<List<Part>, AllocError>
-    ensures { IfOk result (λ parts. parts ≡ alu_inputs) }
-{
-    let mut parts = List::new(alloc);
-    add_part(
-        alloc,
-        &mut parts,
-        b"Mux16",
-        &[
-            wire(b"a", b"x"),
-            constant(b"b", false),
-            wire(b"sel", b"zx"),
-            wire(b"out", b"zeroedX"),
+// The parts of the ALU.
+const ALU: &[Row<'static>] = &[
+    // the two inputs are made ready
+    Row {
+        chip: b"Mux16",
+        links: &[
+            Link::Wire(b"a", b"x"),
+            Link::Constant(b"b", false),
+            Link::Wire(b"sel", b"zx"),
+            Link::Wire(b"out", b"zeroedX"),
         ],
-    )?;
-    add_part(
-        alloc,
-        &mut parts,
-        b"Not16",
-        &[wire(b"in", b"zeroedX"), wire(b"out", b"notX")],
-    )?;
-    add_part(
-        alloc,
-        &mut parts,
-        b"Mux16",
-        &[
-            wire(b"a", b"zeroedX"),
-            wire(b"b", b"notX"),
-            wire(b"sel", b"nx"),
-            wire(b"out", b"readyX"),
+    },
+    Row {
+        chip: b"Not16",
+        links: &[Link::Wire(b"in", b"zeroedX"), Link::Wire(b"out", b"notX")],
+    },
+    Row {
+        chip: b"Mux16",
+        links: &[
+            Link::Wire(b"a", b"zeroedX"),
+            Link::Wire(b"b", b"notX"),
+            Link::Wire(b"sel", b"nx"),
+            Link::Wire(b"out", b"readyX"),
         ],
-    )?;
-    add_part(
-        alloc,
-        &mut parts,
-        b"Mux16",
-        &[
-            wire(b"a", b"y"),
-            constant(b"b", false),
-            wire(b"sel", b"zy"),
-            wire(b"out", b"zeroedY"),
+    },
+    Row {
+        chip: b"Mux16",
+        links: &[
+            Link::Wire(b"a", b"y"),
+            Link::Constant(b"b", false),
+            Link::Wire(b"sel", b"zy"),
+            Link::Wire(b"out", b"zeroedY"),
         ],
-    )?;
-    add_part(
-        alloc,
-        &mut parts,
-        b"Not16",
-        &[wire(b"in", b"zeroedY"), wire(b"out", b"notY")],
-    )?;
-    add_part(
-        alloc,
-        &mut parts,
-        b"Mux16",
-        &[
-            wire(b"a", b"zeroedY"),
-            wire(b"b", b"notY"),
-            wire(b"sel", b"ny"),
-            wire(b"out", b"readyY"),
+    },
+    Row {
+        chip: b"Not16",
+        links: &[Link::Wire(b"in", b"zeroedY"), Link::Wire(b"out", b"notY")],
+    },
+    Row {
+        chip: b"Mux16",
+        links: &[
+            Link::Wire(b"a", b"zeroedY"),
+            Link::Wire(b"b", b"notY"),
+            Link::Wire(b"sel", b"ny"),
+            Link::Wire(b"out", b"readyY"),
         ],
-    )?;
-    Ok(parts)
-}
+    },
+    // what is computed
+    Row {
+        chip: b"Add16",
+        links: &[
+            Link::Wire(b"a", b"readyX"),
+            Link::Wire(b"b", b"readyY"),
+            Link::Wire(b"out", b"sum"),
+        ],
+    },
+    Row {
+        chip: b"And16",
+        links: &[
+            Link::Wire(b"a", b"readyX"),
+            Link::Wire(b"b", b"readyY"),
+            Link::Wire(b"out", b"both"),
+        ],
+    },
+    Row {
+        chip: b"Mux16",
+        links: &[
+            Link::Wire(b"a", b"both"),
+            Link::Wire(b"b", b"sum"),
+            Link::Wire(b"sel", b"f"),
+            Link::Wire(b"out", b"result"),
+        ],
+    },
+    Row {
+        chip: b"Not16",
+        links: &[
+            Link::Wire(b"in", b"result"),
+            Link::Wire(b"out", b"notResult"),
+        ],
+    },
+    Row {
+        chip: b"Mux16",
+        links: &[
+            Link::Wire(b"a", b"result"),
+            Link::Wire(b"b", b"notResult"),
+            Link::Wire(b"sel", b"no"),
+            Link::Wire(b"out", b"out"),
+            Link::BitsWire(b"out", 0, 7, b"lowHalf"),
+            Link::BitsWire(b"out", 8, 15, b"highHalf"),
+            Link::BitWire(b"out", 15, b"ng"),
+        ],
+    },
+    // whether the output is 0
+    Row {
+        chip: b"Or8Way",
+        links: &[
+            Link::Wire(b"in", b"lowHalf"),
+            Link::Wire(b"out", b"someLow"),
+        ],
+    },
+    Row {
+        chip: b"Or8Way",
+        links: &[
+            Link::Wire(b"in", b"highHalf"),
+            Link::Wire(b"out", b"someHigh"),
+        ],
+    },
+    Row {
+        chip: b"Or",
+        links: &[
+            Link::Wire(b"a", b"someLow"),
+            Link::Wire(b"b", b"someHigh"),
+            Link::Wire(b"out", b"some"),
+        ],
+    },
+    Row {
+        chip: b"Not",
+        links: &[Link::Wire(b"in", b"some"), Link::Wire(b"out", b"zr")],
+    },
+];
 
-// The parts that compute, after those of the inputs.
-fn add_output(alloc: Global, parts: &mut List<Part>) -> Result<(), AllocError>
-    requires { parts.old ≡ alu_inputs }
-    ensures { IfOk result (λ _. parts.new ≡ alu_inputs ++ alu_output) }
+fn alu_parts(alloc: Global) -> Result<List<Part>, AllocError>
+    ensures { IfOk result (λ parts. parts ≡ alu_inputs ++ (alu_output ++ alu_test)) }
 {
-    add_part(
-        alloc,
-        parts,
-        b"Add16",
-        &[
-            wire(b"a", b"readyX"),
-            wire(b"b", b"readyY"),
-            wire(b"out", b"sum"),
-        ],
-    )?;
-    add_part(
-        alloc,
-        parts,
-        b"And16",
-        &[
-            wire(b"a", b"readyX"),
-            wire(b"b", b"readyY"),
-            wire(b"out", b"both"),
-        ],
-    )?;
-    add_part(
-        alloc,
-        parts,
-        b"Mux16",
-        &[
-            wire(b"a", b"both"),
-            wire(b"b", b"sum"),
-            wire(b"sel", b"f"),
-            wire(b"out", b"result"),
-        ],
-    )?;
-    add_part(
-        alloc,
-        parts,
-        b"Not16",
-        &[wire(b"in", b"result"), wire(b"out", b"notResult")],
-    )?;
-    add_part(
-        alloc,
-        parts,
-        b"Mux16",
-        &[
-            wire(b"a", b"result"),
-            wire(b"b", b"notResult"),
-            wire(b"sel", b"no"),
-            wire(b"out", b"out"),
-            bits_wire(b"out", 0, 7, b"lowHalf"),
-            bits_wire(b"out", 8, 15, b"highHalf"),
-            bit_wire(b"out", 15, b"ng"),
-        ],
-    )?;
-    Ok(())
-}
-
-// The parts that look whether the output is 0, after the others.
-fn add_test(alloc: Global, parts: &mut List<Part>) -> Result<(), AllocError>
-    requires { parts.old ≡ alu_inputs ++ alu_output }
-    ensures { IfOk result (λ _. parts.new ≡ alu_inputs ++ (alu_output ++ alu_test)) }
-{
-    add_part(
-        alloc,
-        parts,
-        b"Or8Way",
-        &[wire(b"in", b"lowHalf"), wire(b"out", b"someLow")],
-    )?;
-    add_part(
-        alloc,
-        parts,
-        b"Or8Way",
-        &[wire(b"in", b"highHalf"), wire(b"out", b"someHigh")],
-    )?;
-    add_part(
-        alloc,
-        parts,
-        b"Or",
-        &[
-            wire(b"a", b"someLow"),
-            wire(b"b", b"someHigh"),
-            wire(b"out", b"some"),
-        ],
-    )?;
-    add_part(
-        alloc,
-        parts,
-        b"Not",
-        &[wire(b"in", b"some"), wire(b"out", b"zr")],
-    )?;
-    Ok(())
+    parts_of(alloc, ALU)
 }
 
 /// The tree of the ALU.
@@ -332,9 +306,7 @@ fn add_test(alloc: Global, parts: &mut List<Part>) -> Result<(), AllocError>
 pub fn alu_tree(alloc: Global) -> Result<Chip, AllocError>
     ensures { IfOk result (λ chip. chip ≡ alu_tree) }
 {
-    let mut parts = prepare_inputs(alloc)?;
-    add_output(alloc, &mut parts)?;
-    add_test(alloc, &mut parts)?;
+    let parts = alu_parts(alloc)?;
     chip(
         alloc,
         b"ALU",

@@ -3,6 +3,7 @@
 
 mod hdl;
 mod laws;
+mod table;
 mod trees;
 
 pub use hdl::{
@@ -14,6 +15,7 @@ pub use laws::{
     mux4way16_law, mux8way16_law, mux16_law, not_law, not16_law, or_law, or8way_law, or16_law,
     xor_law,
 };
+pub use table::{Link, Row, parts_of};
 pub use trees::{
     and_tree, and16_tree, dmux_tree, dmux4way_tree, dmux8way_tree, mux_tree, mux4way16_tree,
     mux8way16_tree, mux16_tree, nand_tree, not_tree, not16_tree, or_tree, or8way_tree, or16_tree,

@@ -3,7 +3,8 @@ ghost use Rattle.std.specs.Prelude.{◌≡◌, IfOk};
 ghost use Rattle.chip_basic.specs.Hdl.{each};
 ghost use Rattle.chip_basic.specs.Trees.{nand_tree, not_tree, and_tree, or_tree, xor_tree, mux_tree, dmux_tree, not_bit, not16_tree, and_bit, and16_tree, or_bit, or16_tree, mux_bit, mux16_tree, or8way_tree, mux4way16_tree, mux8way16_tree, dmux4way_tree, dmux8way_tree};
 
-use crate::hdl::{add_part, builtin, bus, chip, pin, wire, wire_bit, wire_bits};
+use crate::hdl::{add_part, builtin, bus, chip, pin, wire, wire_bit};
+use crate::table::{Link, Row, parts_of};
 use hdl_tree::{Chip, List, Part};
 use std::alloc::{AllocError, Global};
 
@@ -15,39 +16,47 @@ pub fn nand_tree(alloc: Global) -> Result<Chip, AllocError>
     builtin(alloc, b"Nand", &[pin(b"a"), pin(b"b")], &[pin(b"out")])
 }
 
+// The parts of Not.
+const NOT: &[Row<'static>] = &[Row {
+    chip: b"Nand",
+    links: &[
+        Link::Wire(b"a", b"in"),
+        Link::Wire(b"b", b"in"),
+        Link::Wire(b"out", b"out"),
+    ],
+}];
+
 /// The tree of Not.
 #[tactic(auto, unfolding(crate::specs::Trees::not_tree))]
 pub fn not_tree(alloc: Global) -> Result<Chip, AllocError>
     ensures { IfOk result (λ chip. chip ≡ not_tree) }
 {
-    let mut parts = List::new(alloc);
-    add_part(
-        alloc,
-        &mut parts,
-        b"Nand",
-        &[wire(b"a", b"in"), wire(b"b", b"in"), wire(b"out", b"out")],
-    )?;
+    let parts = parts_of(alloc, NOT)?;
     chip(alloc, b"Not", &[pin(b"in")], &[pin(b"out")], parts)
 }
+
+// The parts of And.
+const AND: &[Row<'static>] = &[
+    Row {
+        chip: b"Nand",
+        links: &[
+            Link::Wire(b"a", b"a"),
+            Link::Wire(b"b", b"b"),
+            Link::Wire(b"out", b"notBoth"),
+        ],
+    },
+    Row {
+        chip: b"Not",
+        links: &[Link::Wire(b"in", b"notBoth"), Link::Wire(b"out", b"out")],
+    },
+];
 
 /// The tree of And.
 #[tactic(auto, unfolding(crate::specs::Trees::and_tree))]
 pub fn and_tree(alloc: Global) -> Result<Chip, AllocError>
     ensures { IfOk result (λ chip. chip ≡ and_tree) }
 {
-    let mut parts = List::new(alloc);
-    add_part(
-        alloc,
-        &mut parts,
-        b"Nand",
-        &[wire(b"a", b"a"), wire(b"b", b"b"), wire(b"out", b"notBoth")],
-    )?;
-    add_part(
-        alloc,
-        &mut parts,
-        b"Not",
-        &[wire(b"in", b"notBoth"), wire(b"out", b"out")],
-    )?;
+    let parts = parts_of(alloc, AND)?;
     chip(
         alloc,
         b"And",
@@ -57,79 +66,77 @@ pub fn and_tree(alloc: Global) -> Result<Chip, AllocError>
     )
 }
 
+// The parts of Or.
+const OR: &[Row<'static>] = &[
+    Row {
+        chip: b"Not",
+        links: &[Link::Wire(b"in", b"a"), Link::Wire(b"out", b"notA")],
+    },
+    Row {
+        chip: b"Not",
+        links: &[Link::Wire(b"in", b"b"), Link::Wire(b"out", b"notB")],
+    },
+    Row {
+        chip: b"Nand",
+        links: &[
+            Link::Wire(b"a", b"notA"),
+            Link::Wire(b"b", b"notB"),
+            Link::Wire(b"out", b"out"),
+        ],
+    },
+];
+
 /// The tree of Or.
 #[tactic(auto, unfolding(crate::specs::Trees::or_tree))]
 pub fn or_tree(alloc: Global) -> Result<Chip, AllocError>
     ensures { IfOk result (λ chip. chip ≡ or_tree) }
 {
-    let mut parts = List::new(alloc);
-    add_part(
-        alloc,
-        &mut parts,
-        b"Not",
-        &[wire(b"in", b"a"), wire(b"out", b"notA")],
-    )?;
-    add_part(
-        alloc,
-        &mut parts,
-        b"Not",
-        &[wire(b"in", b"b"), wire(b"out", b"notB")],
-    )?;
-    add_part(
-        alloc,
-        &mut parts,
-        b"Nand",
-        &[
-            wire(b"a", b"notA"),
-            wire(b"b", b"notB"),
-            wire(b"out", b"out"),
-        ],
-    )?;
+    let parts = parts_of(alloc, OR)?;
     chip(alloc, b"Or", &[pin(b"a"), pin(b"b")], &[pin(b"out")], parts)
 }
+
+// The parts of Xor.
+const XOR: &[Row<'static>] = &[
+    Row {
+        chip: b"Nand",
+        links: &[
+            Link::Wire(b"a", b"a"),
+            Link::Wire(b"b", b"b"),
+            Link::Wire(b"out", b"notBoth"),
+        ],
+    },
+    Row {
+        chip: b"Nand",
+        links: &[
+            Link::Wire(b"a", b"a"),
+            Link::Wire(b"b", b"notBoth"),
+            Link::Wire(b"out", b"notOnlyA"),
+        ],
+    },
+    Row {
+        chip: b"Nand",
+        links: &[
+            Link::Wire(b"a", b"notBoth"),
+            Link::Wire(b"b", b"b"),
+            Link::Wire(b"out", b"notOnlyB"),
+        ],
+    },
+    Row {
+        chip: b"Nand",
+        links: &[
+            Link::Wire(b"a", b"notOnlyA"),
+            Link::Wire(b"b", b"notOnlyB"),
+            Link::Wire(b"out", b"out"),
+        ],
+    },
+];
 
 /// The tree of Xor.
 #[tactic(auto, unfolding(crate::specs::Trees::xor_tree))]
 pub fn xor_tree(alloc: Global) -> Result<Chip, AllocError>
     ensures { IfOk result (λ chip. chip ≡ xor_tree) }
 {
-    let mut parts = List::new(alloc);
-    add_part(
-        alloc,
-        &mut parts,
-        b"Nand",
-        &[wire(b"a", b"a"), wire(b"b", b"b"), wire(b"out", b"notBoth")],
-    )?;
-    add_part(
-        alloc,
-        &mut parts,
-        b"Nand",
-        &[
-            wire(b"a", b"a"),
-            wire(b"b", b"notBoth"),
-            wire(b"out", b"notOnlyA"),
-        ],
-    )?;
-    add_part(
-        alloc,
-        &mut parts,
-        b"Nand",
-        &[
-            wire(b"a", b"notBoth"),
-            wire(b"b", b"b"),
-            wire(b"out", b"notOnlyB"),
-        ],
-    )?;
-    add_part(
-        alloc,
-        &mut parts,
-        b"Nand",
-        &[
-            wire(b"a", b"notOnlyA"),
-            wire(b"b", b"notOnlyB"),
-            wire(b"out", b"out"),
-        ],
-    )?;
+    let parts = parts_of(alloc, XOR)?;
     chip(
         alloc,
         b"Xor",
@@ -139,48 +146,44 @@ pub fn xor_tree(alloc: Global) -> Result<Chip, AllocError>
     )
 }
 
+// The parts of Mux.
+const MUX: &[Row<'static>] = &[
+    Row {
+        chip: b"Not",
+        links: &[Link::Wire(b"in", b"sel"), Link::Wire(b"out", b"notSel")],
+    },
+    Row {
+        chip: b"Nand",
+        links: &[
+            Link::Wire(b"a", b"a"),
+            Link::Wire(b"b", b"notSel"),
+            Link::Wire(b"out", b"notFromA"),
+        ],
+    },
+    Row {
+        chip: b"Nand",
+        links: &[
+            Link::Wire(b"a", b"b"),
+            Link::Wire(b"b", b"sel"),
+            Link::Wire(b"out", b"notFromB"),
+        ],
+    },
+    Row {
+        chip: b"Nand",
+        links: &[
+            Link::Wire(b"a", b"notFromA"),
+            Link::Wire(b"b", b"notFromB"),
+            Link::Wire(b"out", b"out"),
+        ],
+    },
+];
+
 /// The tree of Mux.
 #[tactic(auto, unfolding(crate::specs::Trees::mux_tree))]
 pub fn mux_tree(alloc: Global) -> Result<Chip, AllocError>
     ensures { IfOk result (λ chip. chip ≡ mux_tree) }
 {
-    let mut parts = List::new(alloc);
-    add_part(
-        alloc,
-        &mut parts,
-        b"Not",
-        &[wire(b"in", b"sel"), wire(b"out", b"notSel")],
-    )?;
-    add_part(
-        alloc,
-        &mut parts,
-        b"Nand",
-        &[
-            wire(b"a", b"a"),
-            wire(b"b", b"notSel"),
-            wire(b"out", b"notFromA"),
-        ],
-    )?;
-    add_part(
-        alloc,
-        &mut parts,
-        b"Nand",
-        &[
-            wire(b"a", b"b"),
-            wire(b"b", b"sel"),
-            wire(b"out", b"notFromB"),
-        ],
-    )?;
-    add_part(
-        alloc,
-        &mut parts,
-        b"Nand",
-        &[
-            wire(b"a", b"notFromA"),
-            wire(b"b", b"notFromB"),
-            wire(b"out", b"out"),
-        ],
-    )?;
+    let parts = parts_of(alloc, MUX)?;
     chip(
         alloc,
         b"Mux",
@@ -190,30 +193,36 @@ pub fn mux_tree(alloc: Global) -> Result<Chip, AllocError>
     )
 }
 
+// The parts of DMux.
+const DMUX: &[Row<'static>] = &[
+    Row {
+        chip: b"Not",
+        links: &[Link::Wire(b"in", b"sel"), Link::Wire(b"out", b"notSel")],
+    },
+    Row {
+        chip: b"And",
+        links: &[
+            Link::Wire(b"a", b"in"),
+            Link::Wire(b"b", b"notSel"),
+            Link::Wire(b"out", b"a"),
+        ],
+    },
+    Row {
+        chip: b"And",
+        links: &[
+            Link::Wire(b"a", b"in"),
+            Link::Wire(b"b", b"sel"),
+            Link::Wire(b"out", b"b"),
+        ],
+    },
+];
+
 /// The tree of DMux.
 #[tactic(auto, unfolding(crate::specs::Trees::dmux_tree))]
 pub fn dmux_tree(alloc: Global) -> Result<Chip, AllocError>
     ensures { IfOk result (λ chip. chip ≡ dmux_tree) }
 {
-    let mut parts = List::new(alloc);
-    add_part(
-        alloc,
-        &mut parts,
-        b"Not",
-        &[wire(b"in", b"sel"), wire(b"out", b"notSel")],
-    )?;
-    add_part(
-        alloc,
-        &mut parts,
-        b"And",
-        &[wire(b"a", b"in"), wire(b"b", b"notSel"), wire(b"out", b"a")],
-    )?;
-    add_part(
-        alloc,
-        &mut parts,
-        b"And",
-        &[wire(b"a", b"in"), wire(b"b", b"sel"), wire(b"out", b"b")],
-    )?;
+    let parts = parts_of(alloc, DMUX)?;
     chip(
         alloc,
         b"DMux",
@@ -360,124 +369,112 @@ pub fn mux16_tree(alloc: Global) -> Result<Chip, AllocError>
     )
 }
 
+// The parts of Or8Way.
+const OR8WAY: &[Row<'static>] = &[
+    Row {
+        chip: b"Or",
+        links: &[
+            Link::WireBit(b"a", b"in", 0),
+            Link::WireBit(b"b", b"in", 1),
+            Link::Wire(b"out", b"some01"),
+        ],
+    },
+    Row {
+        chip: b"Or",
+        links: &[
+            Link::WireBit(b"a", b"in", 2),
+            Link::WireBit(b"b", b"in", 3),
+            Link::Wire(b"out", b"some23"),
+        ],
+    },
+    Row {
+        chip: b"Or",
+        links: &[
+            Link::WireBit(b"a", b"in", 4),
+            Link::WireBit(b"b", b"in", 5),
+            Link::Wire(b"out", b"some45"),
+        ],
+    },
+    Row {
+        chip: b"Or",
+        links: &[
+            Link::WireBit(b"a", b"in", 6),
+            Link::WireBit(b"b", b"in", 7),
+            Link::Wire(b"out", b"some67"),
+        ],
+    },
+    Row {
+        chip: b"Or",
+        links: &[
+            Link::Wire(b"a", b"some01"),
+            Link::Wire(b"b", b"some23"),
+            Link::Wire(b"out", b"some0to3"),
+        ],
+    },
+    Row {
+        chip: b"Or",
+        links: &[
+            Link::Wire(b"a", b"some45"),
+            Link::Wire(b"b", b"some67"),
+            Link::Wire(b"out", b"some4to7"),
+        ],
+    },
+    Row {
+        chip: b"Or",
+        links: &[
+            Link::Wire(b"a", b"some0to3"),
+            Link::Wire(b"b", b"some4to7"),
+            Link::Wire(b"out", b"out"),
+        ],
+    },
+];
+
 /// The tree of Or8Way.
 #[tactic(auto, unfolding(crate::specs::Trees::or8way_tree))]
 pub fn or8way_tree(alloc: Global) -> Result<Chip, AllocError>
     ensures { IfOk result (λ chip. chip ≡ or8way_tree) }
 {
-    let mut parts = List::new(alloc);
-    add_part(
-        alloc,
-        &mut parts,
-        b"Or",
-        &[
-            wire_bit(b"a", b"in", 0),
-            wire_bit(b"b", b"in", 1),
-            wire(b"out", b"some01"),
-        ],
-    )?;
-    add_part(
-        alloc,
-        &mut parts,
-        b"Or",
-        &[
-            wire_bit(b"a", b"in", 2),
-            wire_bit(b"b", b"in", 3),
-            wire(b"out", b"some23"),
-        ],
-    )?;
-    add_part(
-        alloc,
-        &mut parts,
-        b"Or",
-        &[
-            wire_bit(b"a", b"in", 4),
-            wire_bit(b"b", b"in", 5),
-            wire(b"out", b"some45"),
-        ],
-    )?;
-    add_part(
-        alloc,
-        &mut parts,
-        b"Or",
-        &[
-            wire_bit(b"a", b"in", 6),
-            wire_bit(b"b", b"in", 7),
-            wire(b"out", b"some67"),
-        ],
-    )?;
-    add_part(
-        alloc,
-        &mut parts,
-        b"Or",
-        &[
-            wire(b"a", b"some01"),
-            wire(b"b", b"some23"),
-            wire(b"out", b"some0to3"),
-        ],
-    )?;
-    add_part(
-        alloc,
-        &mut parts,
-        b"Or",
-        &[
-            wire(b"a", b"some45"),
-            wire(b"b", b"some67"),
-            wire(b"out", b"some4to7"),
-        ],
-    )?;
-    add_part(
-        alloc,
-        &mut parts,
-        b"Or",
-        &[
-            wire(b"a", b"some0to3"),
-            wire(b"b", b"some4to7"),
-            wire(b"out", b"out"),
-        ],
-    )?;
+    let parts = parts_of(alloc, OR8WAY)?;
     chip(alloc, b"Or8Way", &[bus(b"in", 8)], &[pin(b"out")], parts)
 }
+
+// The parts of Mux4Way16.
+const MUX4WAY16: &[Row<'static>] = &[
+    Row {
+        chip: b"Mux16",
+        links: &[
+            Link::Wire(b"a", b"a"),
+            Link::Wire(b"b", b"b"),
+            Link::WireBit(b"sel", b"sel", 0),
+            Link::Wire(b"out", b"aOrB"),
+        ],
+    },
+    Row {
+        chip: b"Mux16",
+        links: &[
+            Link::Wire(b"a", b"c"),
+            Link::Wire(b"b", b"d"),
+            Link::WireBit(b"sel", b"sel", 0),
+            Link::Wire(b"out", b"cOrD"),
+        ],
+    },
+    Row {
+        chip: b"Mux16",
+        links: &[
+            Link::Wire(b"a", b"aOrB"),
+            Link::Wire(b"b", b"cOrD"),
+            Link::WireBit(b"sel", b"sel", 1),
+            Link::Wire(b"out", b"out"),
+        ],
+    },
+];
 
 /// The tree of Mux4Way16.
 #[tactic(auto, unfolding(crate::specs::Trees::mux4way16_tree))]
 pub fn mux4way16_tree(alloc: Global) -> Result<Chip, AllocError>
     ensures { IfOk result (λ chip. chip ≡ mux4way16_tree) }
 {
-    let mut parts = List::new(alloc);
-    add_part(
-        alloc,
-        &mut parts,
-        b"Mux16",
-        &[
-            wire(b"a", b"a"),
-            wire(b"b", b"b"),
-            wire_bit(b"sel", b"sel", 0),
-            wire(b"out", b"aOrB"),
-        ],
-    )?;
-    add_part(
-        alloc,
-        &mut parts,
-        b"Mux16",
-        &[
-            wire(b"a", b"c"),
-            wire(b"b", b"d"),
-            wire_bit(b"sel", b"sel", 0),
-            wire(b"out", b"cOrD"),
-        ],
-    )?;
-    add_part(
-        alloc,
-        &mut parts,
-        b"Mux16",
-        &[
-            wire(b"a", b"aOrB"),
-            wire(b"b", b"cOrD"),
-            wire_bit(b"sel", b"sel", 1),
-            wire(b"out", b"out"),
-        ],
-    )?;
+    let parts = parts_of(alloc, MUX4WAY16)?;
     chip(
         alloc,
         b"Mux4Way16",
@@ -493,49 +490,47 @@ pub fn mux4way16_tree(alloc: Global) -> Result<Chip, AllocError>
     )
 }
 
+// The parts of Mux8Way16.
+const MUX8WAY16: &[Row<'static>] = &[
+    Row {
+        chip: b"Mux4Way16",
+        links: &[
+            Link::Wire(b"a", b"a"),
+            Link::Wire(b"b", b"b"),
+            Link::Wire(b"c", b"c"),
+            Link::Wire(b"d", b"d"),
+            Link::WireBits(b"sel", b"sel", 0, 1),
+            Link::Wire(b"out", b"aToD"),
+        ],
+    },
+    Row {
+        chip: b"Mux4Way16",
+        links: &[
+            Link::Wire(b"a", b"e"),
+            Link::Wire(b"b", b"f"),
+            Link::Wire(b"c", b"g"),
+            Link::Wire(b"d", b"h"),
+            Link::WireBits(b"sel", b"sel", 0, 1),
+            Link::Wire(b"out", b"eToH"),
+        ],
+    },
+    Row {
+        chip: b"Mux16",
+        links: &[
+            Link::Wire(b"a", b"aToD"),
+            Link::Wire(b"b", b"eToH"),
+            Link::WireBit(b"sel", b"sel", 2),
+            Link::Wire(b"out", b"out"),
+        ],
+    },
+];
+
 /// The tree of Mux8Way16.
 #[tactic(auto, unfolding(crate::specs::Trees::mux8way16_tree))]
 pub fn mux8way16_tree(alloc: Global) -> Result<Chip, AllocError>
     ensures { IfOk result (λ chip. chip ≡ mux8way16_tree) }
 {
-    let mut parts = List::new(alloc);
-    add_part(
-        alloc,
-        &mut parts,
-        b"Mux4Way16",
-        &[
-            wire(b"a", b"a"),
-            wire(b"b", b"b"),
-            wire(b"c", b"c"),
-            wire(b"d", b"d"),
-            wire_bits(b"sel", b"sel", 0, 1),
-            wire(b"out", b"aToD"),
-        ],
-    )?;
-    add_part(
-        alloc,
-        &mut parts,
-        b"Mux4Way16",
-        &[
-            wire(b"a", b"e"),
-            wire(b"b", b"f"),
-            wire(b"c", b"g"),
-            wire(b"d", b"h"),
-            wire_bits(b"sel", b"sel", 0, 1),
-            wire(b"out", b"eToH"),
-        ],
-    )?;
-    add_part(
-        alloc,
-        &mut parts,
-        b"Mux16",
-        &[
-            wire(b"a", b"aToD"),
-            wire(b"b", b"eToH"),
-            wire_bit(b"sel", b"sel", 2),
-            wire(b"out", b"out"),
-        ],
-    )?;
+    let parts = parts_of(alloc, MUX8WAY16)?;
     chip(
         alloc,
         b"Mux8Way16",
@@ -555,45 +550,43 @@ pub fn mux8way16_tree(alloc: Global) -> Result<Chip, AllocError>
     )
 }
 
+// The parts of DMux4Way.
+const DMUX4WAY: &[Row<'static>] = &[
+    Row {
+        chip: b"DMux",
+        links: &[
+            Link::Wire(b"in", b"in"),
+            Link::WireBit(b"sel", b"sel", 1),
+            Link::Wire(b"a", b"toAB"),
+            Link::Wire(b"b", b"toCD"),
+        ],
+    },
+    Row {
+        chip: b"DMux",
+        links: &[
+            Link::Wire(b"in", b"toAB"),
+            Link::WireBit(b"sel", b"sel", 0),
+            Link::Wire(b"a", b"a"),
+            Link::Wire(b"b", b"b"),
+        ],
+    },
+    Row {
+        chip: b"DMux",
+        links: &[
+            Link::Wire(b"in", b"toCD"),
+            Link::WireBit(b"sel", b"sel", 0),
+            Link::Wire(b"a", b"c"),
+            Link::Wire(b"b", b"d"),
+        ],
+    },
+];
+
 /// The tree of DMux4Way.
 #[tactic(auto, unfolding(crate::specs::Trees::dmux4way_tree))]
 pub fn dmux4way_tree(alloc: Global) -> Result<Chip, AllocError>
     ensures { IfOk result (λ chip. chip ≡ dmux4way_tree) }
 {
-    let mut parts = List::new(alloc);
-    add_part(
-        alloc,
-        &mut parts,
-        b"DMux",
-        &[
-            wire(b"in", b"in"),
-            wire_bit(b"sel", b"sel", 1),
-            wire(b"a", b"toAB"),
-            wire(b"b", b"toCD"),
-        ],
-    )?;
-    add_part(
-        alloc,
-        &mut parts,
-        b"DMux",
-        &[
-            wire(b"in", b"toAB"),
-            wire_bit(b"sel", b"sel", 0),
-            wire(b"a", b"a"),
-            wire(b"b", b"b"),
-        ],
-    )?;
-    add_part(
-        alloc,
-        &mut parts,
-        b"DMux",
-        &[
-            wire(b"in", b"toCD"),
-            wire_bit(b"sel", b"sel", 0),
-            wire(b"a", b"c"),
-            wire(b"b", b"d"),
-        ],
-    )?;
+    let parts = parts_of(alloc, DMUX4WAY)?;
     chip(
         alloc,
         b"DMux4Way",
@@ -603,49 +596,47 @@ pub fn dmux4way_tree(alloc: Global) -> Result<Chip, AllocError>
     )
 }
 
+// The parts of DMux8Way.
+const DMUX8WAY: &[Row<'static>] = &[
+    Row {
+        chip: b"DMux",
+        links: &[
+            Link::Wire(b"in", b"in"),
+            Link::WireBit(b"sel", b"sel", 2),
+            Link::Wire(b"a", b"toAD"),
+            Link::Wire(b"b", b"toEH"),
+        ],
+    },
+    Row {
+        chip: b"DMux4Way",
+        links: &[
+            Link::Wire(b"in", b"toAD"),
+            Link::WireBits(b"sel", b"sel", 0, 1),
+            Link::Wire(b"a", b"a"),
+            Link::Wire(b"b", b"b"),
+            Link::Wire(b"c", b"c"),
+            Link::Wire(b"d", b"d"),
+        ],
+    },
+    Row {
+        chip: b"DMux4Way",
+        links: &[
+            Link::Wire(b"in", b"toEH"),
+            Link::WireBits(b"sel", b"sel", 0, 1),
+            Link::Wire(b"a", b"e"),
+            Link::Wire(b"b", b"f"),
+            Link::Wire(b"c", b"g"),
+            Link::Wire(b"d", b"h"),
+        ],
+    },
+];
+
 /// The tree of DMux8Way.
 #[tactic(auto, unfolding(crate::specs::Trees::dmux8way_tree))]
 pub fn dmux8way_tree(alloc: Global) -> Result<Chip, AllocError>
     ensures { IfOk result (λ chip. chip ≡ dmux8way_tree) }
 {
-    let mut parts = List::new(alloc);
-    add_part(
-        alloc,
-        &mut parts,
-        b"DMux",
-        &[
-            wire(b"in", b"in"),
-            wire_bit(b"sel", b"sel", 2),
-            wire(b"a", b"toAD"),
-            wire(b"b", b"toEH"),
-        ],
-    )?;
-    add_part(
-        alloc,
-        &mut parts,
-        b"DMux4Way",
-        &[
-            wire(b"in", b"toAD"),
-            wire_bits(b"sel", b"sel", 0, 1),
-            wire(b"a", b"a"),
-            wire(b"b", b"b"),
-            wire(b"c", b"c"),
-            wire(b"d", b"d"),
-        ],
-    )?;
-    add_part(
-        alloc,
-        &mut parts,
-        b"DMux4Way",
-        &[
-            wire(b"in", b"toEH"),
-            wire_bits(b"sel", b"sel", 0, 1),
-            wire(b"a", b"e"),
-            wire(b"b", b"f"),
-            wire(b"c", b"g"),
-            wire(b"d", b"h"),
-        ],
-    )?;
+    let parts = parts_of(alloc, DMUX8WAY)?;
     chip(
         alloc,
         b"DMux8Way",

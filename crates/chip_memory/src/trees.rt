@@ -5,7 +5,8 @@ ghost use Rattle.chip_basic.specs.Hdl.{each, part, wire, ways};
 ghost use Rattle.chip_memory.specs.Trees.{dff_tree, bit_tree, register_bit, register_named, register_tree, a_register_tree, d_register_tree, pc_tree, memory_named, word_part, ram8_tree, smaller, eight_of, ram64_tree, ram512_tree, ram4k_tree, ram16k_tree, screen_tree};
 
 use chip_basic::{
-    Joint, add_part, builtin, bus, chip, constant, numbered, pin, wire, wire_bit, wire_bits,
+    Joint, Link, Row, add_part, builtin, bus, chip, numbered, parts_of, pin, wire, wire_bit,
+    wire_bits,
 };
 use hdl_tree::{Chip, List, Part};
 use std::alloc::{AllocError, Global};
@@ -18,33 +19,33 @@ pub fn dff_tree(alloc: Global) -> Result<Chip, AllocError>
     builtin(alloc, b"DFF", &[pin(b"in")], &[pin(b"out")])
 }
 
+// The parts of Bit.
+const BIT: &[Row<'static>] = &[
+    Row {
+        chip: b"Mux",
+        links: &[
+            Link::Wire(b"a", b"now"),
+            Link::Wire(b"b", b"in"),
+            Link::Wire(b"sel", b"load"),
+            Link::Wire(b"out", b"next"),
+        ],
+    },
+    Row {
+        chip: b"DFF",
+        links: &[
+            Link::Wire(b"in", b"next"),
+            Link::Wire(b"out", b"now"),
+            Link::Wire(b"out", b"out"),
+        ],
+    },
+];
+
 /// The tree of Bit.
 #[tactic(auto, unfolding(crate::specs::Trees::bit_tree))]
 pub fn bit_tree(alloc: Global) -> Result<Chip, AllocError>
     ensures { IfOk result (λ chip. chip ≡ bit_tree) }
 {
-    let mut parts = List::new(alloc);
-    add_part(
-        alloc,
-        &mut parts,
-        b"Mux",
-        &[
-            wire(b"a", b"now"),
-            wire(b"b", b"in"),
-            wire(b"sel", b"load"),
-            wire(b"out", b"next"),
-        ],
-    )?;
-    add_part(
-        alloc,
-        &mut parts,
-        b"DFF",
-        &[
-            wire(b"in", b"next"),
-            wire(b"out", b"now"),
-            wire(b"out", b"out"),
-        ],
-    )?;
+    let parts = parts_of(alloc, BIT)?;
     chip(
         alloc,
         b"Bit",
@@ -111,62 +112,56 @@ pub fn d_register_tree(alloc: Global) -> Result<Chip, AllocError>
     register_named(alloc, b"DRegister")
 }
 
+// The parts of PC.
+const PC: &[Row<'static>] = &[
+    Row {
+        chip: b"Inc16",
+        links: &[Link::Wire(b"in", b"now"), Link::Wire(b"out", b"nowPlusOne")],
+    },
+    Row {
+        chip: b"Mux16",
+        links: &[
+            Link::Wire(b"a", b"now"),
+            Link::Wire(b"b", b"nowPlusOne"),
+            Link::Wire(b"sel", b"inc"),
+            Link::Wire(b"out", b"counted"),
+        ],
+    },
+    Row {
+        chip: b"Mux16",
+        links: &[
+            Link::Wire(b"a", b"counted"),
+            Link::Wire(b"b", b"in"),
+            Link::Wire(b"sel", b"load"),
+            Link::Wire(b"out", b"loaded"),
+        ],
+    },
+    Row {
+        chip: b"Mux16",
+        links: &[
+            Link::Wire(b"a", b"loaded"),
+            Link::Constant(b"b", false),
+            Link::Wire(b"sel", b"reset"),
+            Link::Wire(b"out", b"next"),
+        ],
+    },
+    Row {
+        chip: b"Register",
+        links: &[
+            Link::Wire(b"in", b"next"),
+            Link::Constant(b"load", true),
+            Link::Wire(b"out", b"now"),
+            Link::Wire(b"out", b"out"),
+        ],
+    },
+];
+
 /// The tree of PC.
 #[tactic(auto, unfolding(crate::specs::Trees::pc_tree))]
 pub fn pc_tree(alloc: Global) -> Result<Chip, AllocError>
     ensures { IfOk result (λ chip. chip ≡ pc_tree) }
 {
-    let mut parts = List::new(alloc);
-    add_part(
-        alloc,
-        &mut parts,
-        b"Inc16",
-        &[wire(b"in", b"now"), wire(b"out", b"nowPlusOne")],
-    )?;
-    add_part(
-        alloc,
-        &mut parts,
-        b"Mux16",
-        &[
-            wire(b"a", b"now"),
-            wire(b"b", b"nowPlusOne"),
-            wire(b"sel", b"inc"),
-            wire(b"out", b"counted"),
-        ],
-    )?;
-    add_part(
-        alloc,
-        &mut parts,
-        b"Mux16",
-        &[
-            wire(b"a", b"counted"),
-            wire(b"b", b"in"),
-            wire(b"sel", b"load"),
-            wire(b"out", b"loaded"),
-        ],
-    )?;
-    add_part(
-        alloc,
-        &mut parts,
-        b"Mux16",
-        &[
-            wire(b"a", b"loaded"),
-            constant(b"b", false),
-            wire(b"sel", b"reset"),
-            wire(b"out", b"next"),
-        ],
-    )?;
-    add_part(
-        alloc,
-        &mut parts,
-        b"Register",
-        &[
-            wire(b"in", b"next"),
-            constant(b"load", true),
-            wire(b"out", b"now"),
-            wire(b"out", b"out"),
-        ],
-    )?;
+    let parts = parts_of(alloc, PC)?;
     chip(
         alloc,
         b"PC",
