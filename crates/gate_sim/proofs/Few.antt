@@ -83,16 +83,16 @@ reads_early blocks k n (Word b bit) fits = address_early (slice_get blocks b) k 
 reads_early blocks k n Zero fits = All-nil (λ i. i < k)
 
 module _ (net : Net) (calls : List Call) (call : Call) (taken : ℕ) (whole : Bool) (values new written : List Bool) (ordered : AreOrdered net.nodes net.blocks) (begun : (told : List Call) → evaluated_calls calls ≡ Some told → whole ≡ false) (old : (told : List Call) → evaluated_calls calls ≡ Some told → (v : ℕ → ℕ → Bool) → AreValues net told v → (k : ℕ) → k < length net.nodes → value_in values k ≡ v k (cycle_of told)) (now : (w : ℕ → ℕ → Bool) → AreValues net (call ∷ calls) w → (k : ℕ) → k < length net.nodes → value_in new k ≡ w k (cycle_of (call ∷ calls))) (marked : (told : List Call) (w : ℕ → ℕ → Bool) → evaluated_calls calls ≡ Some told → AreValues net (call ∷ calls) w → (b : ℕ) → value_in written b ≡ true → was_written net.blocks w calls call b ≡ true) (bound : taken ≤ count_by (is_taken whole net.blocks (λ k. is_other (value_in values k) (value_in new k)) (value_in written)) net.nodes) where
-  later : (told : List Call) (v w : ℕ → ℕ → Bool) → evaluated_calls calls ≡ Some told → AreValues net told v → AreValues net (call ∷ calls) w → taken ≤ count_by (is_touched net.blocks (differs calls told call v w) (was_written net.blocks w calls call)) net.nodes
+  later : (told : List Call) (v w : ℕ → ℕ → Bool) → evaluated_calls calls ≡ Some told → AreValues net told v → AreValues net (call ∷ calls) w → taken ≤ count_by (is_touched net.blocks (differs net.nodes calls told call v w) (was_written net.blocks w calls call)) net.nodes
   later told v w e at_told at_now =
       let stored_differs : ℕ → Bool = λ k. is_other (value_in values k) (value_in new k) in
-      let other : (i : ℕ) → i < length net.nodes → stored_differs i ≡ true → differs calls told call v w i ≡ true = λ i less d.
-      or_right (was_set calls i) (is_other (v i (cycle_of told)) (w i (cycle_of (call ∷ calls)))) (sym (ap (λ x. is_other x (value_in new i)) (old told e v at_told i less) ∙ ap (is_other (v i (cycle_of told))) (now w at_now i less)) ∙ d) in
-      let fewer = count_weaker (is_taken whole net.blocks stored_differs (value_in written)) (is_touched net.blocks (differs calls told call v w) (was_written net.blocks w calls call)) net.nodes
+      let other : (i : ℕ) → i < length net.nodes → stored_differs i ≡ true → differs net.nodes calls told call v w i ≡ true = λ i less d.
+      or_right (was_set net.nodes calls i) (is_other (v i (cycle_of told)) (w i (cycle_of (call ∷ calls)))) (sym (ap (λ x. is_other x (value_in new i)) (old told e v at_told i less) ∙ ap (is_other (v i (cycle_of told))) (now w at_now i less)) ∙ d) in
+      let fewer = count_weaker (is_taken whole net.blocks stored_differs (value_in written)) (is_touched net.blocks (differs net.nodes calls told call v w) (was_written net.blocks w calls call)) net.nodes
       (λ k node at t.
       let inside = slice_get_within net.nodes k node at in
-      touched_weaker net.blocks stored_differs (differs calls told call v w) (value_in written) (was_written net.blocks w calls call) node
-      (All-weaker (λ i. i < k) (λ i. stored_differs i ≡ true → differs calls told call v w i ≡ true) (λ i less. other i (omega arith)) (reads_of net.blocks node) (reads_early net.blocks k (length net.nodes) node (ordered.fit k node at)))
+      touched_weaker net.blocks stored_differs (differs net.nodes calls told call v w) (value_in written) (was_written net.blocks w calls call) node
+      (All-weaker (λ i. i < k) (λ i. stored_differs i ≡ true → differs net.nodes calls told call v w i ≡ true) (λ i less. other i (omega arith)) (reads_of net.blocks node) (reads_early net.blocks k (length net.nodes) node (ordered.fit k node at)))
       (marked told w e at_now)
       (ap (λ x. is_taken x net.blocks stored_differs (value_in written) node) (sym (begun told e)) ∙ t)) in
       omega arith

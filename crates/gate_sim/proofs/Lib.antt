@@ -1,3 +1,4 @@
+pub mod Inputs
 pub mod Marking
 pub mod Past
 pub mod Standing
@@ -12,3 +13,4 @@ pub mod Refreshing
 pub mod Taking
 pub mod Placing
 pub mod Fields
+pub mod Idle

@@ -13,6 +13,7 @@ use Rattle.netlist.specs.Inner.Taken.{is_taken}
 use Rattle.netlist.specs.Present.{IsRow, value_in}
 use Rattle.netlist.specs.Touched.{is_other}
 use Rattle.netlist.specs.declared.step.BlockWrite.{BlockWrite}
+use Rattle.netlist.specs.Histories.{rank}
 use Rattle.netlist.specs.Net.{Net}
 use Rattle.netlist.specs.Settled.{AreSettled}
 use Rattle.netlist.specs.Steps.{after_write, write_at}
@@ -23,6 +24,7 @@ use Rattle.gate_sim.specs.Calls.Call.{Load, Set}
 use Rattle.gate_sim.specs.Marks.{is_marked, may_be_marked, AreMarksRight}
 use Rattle.gate_sim.specs.State.{SimState}
 use Rattle.gate_sim.specs.Inner.Evaluated.{IsEvaluated, taken_by}
+use Rattle.gate_sim.proofs.Inputs.{set_more}
 
 pub marks_new : (s : SimState) → AreMarksRight s []
 marks_new s = record {
@@ -52,15 +54,16 @@ marks_after s calls is = record {
 pin_is_no_flip : (nodes : List Node) (node k i : ℕ) → slice_get nodes node ≡ Some Pin → slice_get nodes k ≡ Some (Flip i) → k ≢ node
 pin_is_no_flip nodes node k i p f e = cc
 
-pub marks_set : (s : SimState) (calls : List Call) (node : ℕ) (bit : Bool) → slice_get s.net.nodes node ≡ Some Pin → AreMarksRight s calls → AreMarksRight (record s { start = set s.start node bit; fresh = false }) (Set node bit ∷ calls)
+pub marks_set : (s : SimState) (calls : List Call) (node : ℕ) (bit : Bool) → slice_get s.net.nodes node ≡ Some Pin → AreMarksRight s calls → AreMarksRight (record s { start = set s.start node bit; fresh = false }) (Set (rank s.net.nodes node) bit ∷ calls)
 marks_set s calls node bit pin marks = record { begun = marks.begun; right = right; blocks = marks.blocks }
   where
-    right : (told : List Call) → evaluated_calls calls ≡ Some told → (k : ℕ) (n : Node) → slice_get s.net.nodes k ≡ Some n → is_marked (record s { start = set s.start node bit; fresh = false }) k n ≡ true → may_be_marked (Set node bit ∷ calls) k n ≡ true
+    right : (told : List Call) → evaluated_calls calls ≡ Some told → (k : ℕ) (n : Node) → slice_get s.net.nodes k ≡ Some n → is_marked (record s { start = set s.start node bit; fresh = false }) k n ≡ true → may_be_marked s.net.nodes (Set (rank s.net.nodes node) bit ∷ calls) k n ≡ true
     right told e k Pin at m =
-        elim (cases_eq node k) [
-          | inl same ↦ or_left (nat_eq node k) (was_set calls k) (eq-eqb node k same)
+        set_more s.net.nodes calls node bit pin k
+        ∙ elim (cases_eq node k) [
+          | inl same ↦ or_left (nat_eq node k) (was_set s.net.nodes calls k) (eq-eqb node k same)
           | inr ne ↦
-              or_right (nat_eq node k) (was_set calls k) (marks.right told e k Pin at (ap (λ x. is_other x (value_in s.values k)) (sym (get_or-set_other s.start node k bit false (λ same. ne (sym same)))) ∙ m))
+              or_right (nat_eq node k) (was_set s.net.nodes calls k) (marks.right told e k Pin at (ap (λ x. is_other x (value_in s.values k)) (sym (get_or-set_other s.start node k bit false (λ same. ne (sym same)))) ∙ m))
         ]
     right told e k (Nand i j) at m = absurd (false≢true m)
     right told e k (Flip i) at m =
@@ -78,7 +81,7 @@ marks_load s calls block from words memory written marked marks = record { begun
           | inr old ↦ or_right (nat_eq block b && nat_lt 0 (length words)) (was_put calls b) (marks.blocks told e b old)
         ]
 
-    right : (told : List Call) → evaluated_calls calls ≡ Some told → (k : ℕ) (n : Node) → slice_get s.net.nodes k ≡ Some n → is_marked (record s { memory = memory; fresh = false; written = written }) k n ≡ true → may_be_marked (Load block from words ∷ calls) k n ≡ true
+    right : (told : List Call) → evaluated_calls calls ≡ Some told → (k : ℕ) (n : Node) → slice_get s.net.nodes k ≡ Some n → is_marked (record s { memory = memory; fresh = false; written = written }) k n ≡ true → may_be_marked s.net.nodes (Load block from words ∷ calls) k n ≡ true
     right told e k Pin at m = marks.right told e k Pin at m
     right told e k (Nand i j) at m = absurd (false≢true m)
     right told e k (Flip i) at m = marks.right told e k (Flip i) at m

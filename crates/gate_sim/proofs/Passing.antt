@@ -184,7 +184,7 @@ module _ (nodes : List Node) (blocks : List Block) (lanes : List ℕ) (places : 
       let same = is.same in
       (far.passed lane.slot is.earlier).now lane.at is.inside (omega arith) ∙ ap row is.same
 
-  lane_told : (lane : Lane) (k : ℕ) → IsEarlier lanes q lane k → k < length nodes → has_bit (slot_at slots lane.slot).change lane.at ≡ is_other (was k) (row k)
+  pub lane_told : (lane : Lane) (k : ℕ) → IsEarlier lanes q lane k → k < length nodes → has_bit (slot_at slots lane.slot).change lane.at ≡ is_other (was k) (row k)
   lane_told lane k is inside =
       let same = is.same in
       (far.passed lane.slot is.earlier).told lane.at is.inside (omega arith) ∙ ap (λ i. is_other (was i) (row i)) is.same
@@ -446,7 +446,7 @@ module _ (nodes : List Node) (blocks : List Block) (lanes : List ℕ) (places : 
       let end = (far was row (record { settled = settled; is_row = found.1 }) (passed_none (length nodes) lanes was row slots stored)).0 in
       row_agrees nodes blocks start words row (value_in (values_of places new)) ordered found.1 (λ k less. passed_value (length nodes) (length new) lanes places was row new end long placed k less)
 
-  at_new : ArePassed (length nodes) lanes (value_in (values_of places slots)) (value_in (values_of places new)) (length new) new × (after + taken_before nodes blocks places written whole (value_in (values_of places slots)) (value_in (values_of places new)) 0 ≤ before + taken_before nodes blocks places written whole (value_in (values_of places slots)) (value_in (values_of places new)) (length new))
+  pub at_new : ArePassed (length nodes) lanes (value_in (values_of places slots)) (value_in (values_of places new)) (length new) new × (after + taken_before nodes blocks places written whole (value_in (values_of places slots)) (value_in (values_of places new)) 0 ≤ before + taken_before nodes blocks places written whole (value_in (values_of places slots)) (value_in (values_of places new)) (length new))
   at_new = far (value_in (values_of places slots)) (value_in (values_of places new)) (record { settled = settled; is_row = all_row }) (passed_none (length nodes) lanes (value_in (values_of places slots)) (value_in (values_of places new)) slots stored)
 
   pub all_stored : AreStored (length nodes) lanes (value_in (values_of places new)) new

@@ -1,12 +1,16 @@
 -- Lists under other names.
-use Rattle.std.proofs.Common.{◌≡◌, ◌<◌, ℕ, Bool, List, length, set, arith, ap, sym, ◌∙◌, subst}
+use Rattle.std.proofs.Common.{◌≡◌, ◌≢◌, ◌<◌, ℕ, Bool, true, false, List, length, refl, set, arith, ap, sym, ◌∙◌, subst}
+use Rattle.std.specs.Prelude.{not, slice_index}
+use Rattle.std.proofs.lemmas.Bool.{false≢true}
 use Rattle.netlist.specs.declared.node.Node.{Node}
 use Rattle.netlist.specs.declared.node.Block.{Block}
+use Rattle.gate_sim.specs.declared.pieces.Span.{Span}
 use Rattle.gate_sim.specs.declared.plan.Lane.{Lane}
 use Rattle.gate_sim.specs.declared.plan.Op.{Op}
 use Rattle.gate_sim.specs.declared.plan.Slot.{Slot}
 use Rattle.gate_sim.specs.declared.plan.Take.{Take}
 use Rattle.netlist.specs.Present.{value_in}
+use Rattle.gate_sim.specs.Inner.Pieces.{piece_of, pieces_in, AreReaders, AreIdle, AreGiven, take_mark}
 use Rattle.gate_sim.specs.Inner.Plans.{node_at, place_of, IsPlan}
 use Rattle.gate_sim.specs.Inner.Slots.{ArePlacedIn, bits_of, value_at, values_of, word_lane}
 use Rattle.gate_sim.specs.Inner.Takes.{AreTakes}
@@ -86,3 +90,58 @@ takes_over nodes n n' lanes lanes' places places' takes takes' en el ep et h =
     (subst (λ x. AreTakes nodes n' x places takes) el
     (subst (λ x. AreTakes nodes n' lanes' x takes) ep
     (subst (λ x. AreTakes nodes n' lanes' places' x) et h)))
+
+-- ---- pieces, under other names of the lists
+
+pub idle_over : (nodes nodes' : List Node) (lanes lanes' : List ℕ) (places places' : List Lane) (start start' : List ℕ) (ops ops' : List Op) (slots slots' : List Slot) (marks marks' : List Bool) → nodes' ≡ nodes → lanes' ≡ lanes → places' ≡ places → start' ≡ start → ops' ≡ ops → slots' ≡ slots → marks' ≡ marks → AreIdle (length nodes') lanes' (value_in (bits_of places' start')) ops' slots' marks' → AreIdle (length nodes) lanes (value_in (bits_of places start)) ops slots marks
+idle_over nodes nodes' lanes lanes' places places' start start' ops ops' slots slots' marks marks' en el ep es eo et em h =
+    subst (λ x. AreIdle (length x) lanes (value_in (bits_of places start)) ops slots marks) en
+    (subst (λ x. AreIdle (length nodes') x (value_in (bits_of places start)) ops slots marks) el
+    (subst (λ x. AreIdle (length nodes') lanes' (value_in (bits_of x start)) ops slots marks) ep
+    (subst (λ x. AreIdle (length nodes') lanes' (value_in (bits_of places' x)) ops slots marks) es
+    (subst (λ x. AreIdle (length nodes') lanes' (value_in (bits_of places' start')) x slots marks) eo
+    (subst (λ x. AreIdle (length nodes') lanes' (value_in (bits_of places' start')) ops' x marks) et
+    (subst (λ x. AreIdle (length nodes') lanes' (value_in (bits_of places' start')) ops' slots' x) em h))))))
+
+pub given_over : (nodes nodes' : List Node) (places places' : List Lane) (takes takes' : List Take) (n n' : ℕ) (marks marks' : List Bool) (slots slots' : List Slot) (fixed fixed' : List ℕ) → nodes' ≡ nodes → places' ≡ places → takes' ≡ takes → n' ≡ n → marks' ≡ marks → slots' ≡ slots → fixed' ≡ fixed → AreGiven nodes' places' takes' (take_mark (pieces_in n') marks') (λ k i. value_in (values_of places' slots') i) fixed' → AreGiven nodes places takes (take_mark (pieces_in n) marks) (λ k i. value_in (values_of places slots) i) fixed
+given_over nodes nodes' places places' takes takes' n n' marks marks' slots slots' fixed fixed' en ep et eo em es ef h =
+    subst (λ x. AreGiven x places takes (take_mark (pieces_in n) marks) (λ k i. value_in (values_of places slots) i) fixed) en
+    (subst (λ x. AreGiven nodes' x takes (take_mark (pieces_in n) marks) (λ k i. value_in (values_of x slots) i) fixed) ep
+    (subst (λ x. AreGiven nodes' places' x (take_mark (pieces_in n) marks) (λ k i. value_in (values_of places' slots) i) fixed) et
+    (subst (λ x. AreGiven nodes' places' takes' (take_mark (pieces_in x) marks) (λ k i. value_in (values_of places' slots) i) fixed) eo
+    (subst (λ x. AreGiven nodes' places' takes' (take_mark (pieces_in n') x) (λ k i. value_in (values_of places' slots) i) fixed) em
+    (subst (λ x. AreGiven nodes' places' takes' (take_mark (pieces_in n') marks') (λ k i. value_in (values_of places' x) i) fixed) es
+    (subst (λ x. AreGiven nodes' places' takes' (take_mark (pieces_in n') marks') (λ k i. value_in (values_of places' slots') i) x) ef h))))))
+
+pub taken_over : (nodes nodes' : List Node) (places places' : List Lane) (takes takes' : List Take) (due due' : List Bool) (fixed fixed' start start' : List ℕ) → nodes' ≡ nodes → places' ≡ places → takes' ≡ takes → due' ≡ due → fixed' ≡ fixed → start' ≡ start → AreGiven nodes' places' takes' (λ t. value_in due' (piece_of t)) (λ k i. word_lane fixed' (place_of places' k)) start' → AreGiven nodes places takes (λ t. value_in due (piece_of t)) (λ k i. word_lane fixed (place_of places k)) start
+taken_over nodes nodes' places places' takes takes' due due' fixed fixed' start start' en ep et ed ef es h =
+    subst (λ x. AreGiven x places takes (λ t. value_in due (piece_of t)) (λ k i. word_lane fixed (place_of places k)) start) en
+    (subst (λ x. AreGiven nodes' x takes (λ t. value_in due (piece_of t)) (λ k i. word_lane fixed (place_of x k)) start) ep
+    (subst (λ x. AreGiven nodes' places' x (λ t. value_in due (piece_of t)) (λ k i. word_lane fixed (place_of places' k)) start) et
+    (subst (λ x. AreGiven nodes' places' takes' (λ t. value_in x (piece_of t)) (λ k i. word_lane fixed (place_of places' k)) start) ed
+    (subst (λ x. AreGiven nodes' places' takes' (λ t. value_in due' (piece_of t)) (λ k i. word_lane x (place_of places' k)) start) ef
+    (subst (λ x. AreGiven nodes' places' takes' (λ t. value_in due' (piece_of t)) (λ k i. word_lane fixed' (place_of places' k)) x) es h)))))
+
+pub grows_over : (marks marks' new : List Bool) → marks' ≡ marks → ((m : ℕ) → value_in new m ≡ false → value_in marks' m ≡ false) → (m : ℕ) → value_in new m ≡ false → value_in marks m ≡ false
+grows_over marks marks' new e grows = subst (λ x. (m : ℕ) → value_in new m ≡ false → value_in x m ≡ false) e grows
+
+pub same_over : (words words' new : List ℕ) (marks : List Bool) → words' ≡ words → ((q : ℕ) → value_in marks (piece_of q) ≡ false → slice_index new q ≡ slice_index words' q) → (q : ℕ) → value_in marks (piece_of q) ≡ false → slice_index new q ≡ slice_index words q
+same_over words words' new marks e same = subst (λ x. (q : ℕ) → value_in marks (piece_of q) ≡ false → slice_index new q ≡ slice_index x q) e same
+
+-- where a pin was set only the word of its slot is another one, and that slot's piece is marked
+pub same_set : (places places1 places2 : List Lane) (words words' new : List ℕ) (marks : List Bool) (node : ℕ) → places1 ≡ places → places2 ≡ places → words' ≡ words → ((q : ℕ) → q ≢ (place_of places1 node).slot → slice_index new q ≡ slice_index words' q) → value_in marks (piece_of (place_of places2 node).slot) ≡ true → (q : ℕ) → value_in marks (piece_of q) ≡ false → slice_index new q ≡ slice_index words q
+same_set places places1 places2 words words' new marks node e1 e2 ew others on q off =
+    others q (λ e. false≢true (sym off ∙ ap (λ x. value_in marks (piece_of x)) (e ∙ ap (λ p. (place_of p node).slot) (e1 ∙ sym e2)) ∙ on))
+    ∙ ap (λ w. slice_index w q) ew
+
+pub readers_over : (ops ops' : List Op) (takes takes' : List Take) (spans spans' : List Span) (list list' : List ℕ) (always always' : List Bool) → ops' ≡ ops → takes' ≡ takes → spans' ≡ spans → list' ≡ list → always' ≡ always → AreReaders ops' takes' spans' list' always' → AreReaders ops takes spans list always
+readers_over ops ops' takes takes' spans spans' list list' always always' eo et es el ea h =
+    subst (λ x. AreReaders x takes spans list always) eo
+    (subst (λ x. AreReaders ops' x spans list always) et
+    (subst (λ x. AreReaders ops' takes' x list always) es
+    (subst (λ x. AreReaders ops' takes' spans' x always) el
+    (subst (λ x. AreReaders ops' takes' spans' list' x) ea h))))
+
+pub not_false : (b : Bool) → not b ≡ false → b ≡ true
+not_false true e = refl
+not_false false e = absurd (false≢true (sym e))

@@ -1,24 +1,26 @@
 -- For which calls a simulator stands after each call.
 use Rattle.std.proofs.Common.{◌≡◌, ◌≢◌, ℕ, ◌<◌, Bool, true, false, List, [], ◌∷◌, length, set, Some, None, Option, Vec, refl, ap, sym, ◌∙◌, subst, ne_eqb, eq-eqb, inl, inr, get_or-set_same, get_or-set_other}
-use Rattle.std.specs.Prelude.{slice_get, nat_eq, nat_lt, ◌&&◌, ◌⊎◌}
+use Rattle.std.specs.Prelude.{slice_get, nat_eq, nat_lt, ◌&&◌, ◌⊎◌, if◌then◌else◌}
 use Rattle.std.specs.Global.{Global}
 use Rattle.std.proofs.lemmas.Option.{same_Some, none-some}
 use Rattle.std.proofs.lemmas.Bool.{cases_eq, false≢true}
 use Rattle.netlist.specs.declared.node.Node.{Node}
 use Rattle.netlist.specs.declared.node.Node.TheVariants.{Pin, Flip}
 use Rattle.netlist.specs.declared.step.BlockWrite.{BlockWrite}
+use Rattle.netlist.specs.Histories.{rank}
 use Rattle.netlist.specs.Order.{AreOrdered}
 use Rattle.netlist.specs.Value.{written_in}
 use Rattle.netlist.specs.Present.{value_in}
 use Rattle.netlist.specs.Words.{word_at, after_load}
 use Rattle.netlist.specs.Steps.{after_write, write_at}
-use Rattle.gate_sim.specs.Calls.{Call, cycle_of, evaluated_calls}
+use Rattle.gate_sim.specs.Calls.{Call, cycle_of, is_pin, pins_of, evaluated_calls}
 use Rattle.gate_sim.specs.Calls.Call.{Load, Set, Eval, Tick, Tock}
 use Rattle.gate_sim.specs.Values.{written_before}
 use Rattle.gate_sim.specs.Stands.{Keeps, IsFresh, StandsFor}
 use Rattle.gate_sim.specs.State.{SimState}
 use Rattle.netlist.proofs.Plain.{written_same}
 use Rattle.gate_sim.specs.Inner.Evaluated.{IsEvaluated}
+use Rattle.gate_sim.proofs.Inputs.{pins_set, unset}
 use Rattle.gate_sim.proofs.Marking.{marks_new, marks_set, marks_load, marks_after}
 use Rattle.gate_sim.proofs.Past.{past_tick, values_tick, past_fewer, cycle_grows}
 
@@ -32,15 +34,16 @@ keeps_eval s calls keeps = record { pins = keeps.pins; flips = keeps.flips; word
 pin_is_no_flip : (nodes : List Node) (node k i : ℕ) → slice_get nodes node ≡ Some Pin → slice_get nodes k ≡ Some (Flip i) → k ≢ node
 pin_is_no_flip nodes node k i p f e = cc
 
-pub keeps_set : (s : SimState) (calls : List Call) (node : ℕ) (bit : Bool) → slice_get s.net.nodes node ≡ Some Pin → node < length s.start → Keeps s calls → Keeps (record s { start = set s.start node bit; fresh = false }) (Set node bit ∷ calls)
+pub keeps_set : (s : SimState) (calls : List Call) (node : ℕ) (bit : Bool) → slice_get s.net.nodes node ≡ Some Pin → node < length s.start → Keeps s calls → Keeps (record s { start = set s.start node bit; fresh = false }) (Set (rank s.net.nodes node) bit ∷ calls)
 keeps_set s calls node bit pin inside keeps = record {
   pins = λ k there. elim (cases_eq node k) [
     | inl e ↦
         let t : nat_eq node k ≡ true = eq-eqb node k e in
-        rw (t, ← e) (get_or-set_same s.start node bit false inside)
+        let same : value_in (set s.start node bit) k ≡ bit = rw (← e) (get_or-set_same s.start node bit false inside) in
+        same ∙ sym (pins_set s.net.nodes calls node bit pin k ∙ ap (λ b. if b then bit else pins_of s.net.nodes calls k) t)
     | inr ne ↦
         let f : nat_eq node k ≡ false = ne_eqb node k ne in
-        rw f (get_or-set_other s.start node k bit false (λ e. ne (sym e)) ∙ keeps.pins k there)
+        get_or-set_other s.start node k bit false (λ e. ne (sym e)) ∙ keeps.pins k there ∙ sym (pins_set s.net.nodes calls node bit pin k ∙ ap (λ b. if b then bit else pins_of s.net.nodes calls k) f)
   ];
   flips = λ v past k i there. get_or-set_other s.start node k bit false (pin_is_no_flip s.net.nodes node k i pin there) ∙ keeps.flips v past k i there;
   words = keeps.words;
@@ -79,7 +82,7 @@ stands_after s calls last is keeps fresh = record {
   marks = marks_after s calls is;
 }
 
-pub stands_set : (s : SimState) (calls : List Call) (node : ℕ) (bit : Bool) → slice_get s.net.nodes node ≡ Some Pin → node < length s.start → StandsFor s calls → StandsFor (record s { start = set s.start node bit; fresh = false }) (Set node bit ∷ calls)
+pub stands_set : (s : SimState) (calls : List Call) (node : ℕ) (bit : Bool) → slice_get s.net.nodes node ≡ Some Pin → node < length s.start → StandsFor s calls → StandsFor (record s { start = set s.start node bit; fresh = false }) (Set (rank s.net.nodes node) bit ∷ calls)
 stands_set s calls node bit pin inside stands = record {
   keeps = keeps_set s calls node bit pin inside stands.keeps;
   values = stands.values;
@@ -108,7 +111,7 @@ stands_load s calls block from words memory written put marked stands = record {
 pub stands_new : (s : SimState) → ((k : ℕ) → value_in s.start k ≡ false) → ((k : ℕ) → value_in s.fixed k ≡ false) → ((b : ℕ) → write_at s.writes b ≡ None) → ((b a : ℕ) → word_at s.memory b a ≡ 0) → s.fresh ≡ false → StandsFor s []
 stands_new s start fixed writes memory fresh = record {
   keeps = record {
-    pins = λ k there. start k;
+    pins = λ k there. start k ∙ sym (unset (is_pin (slice_get s.net.nodes k)));
     flips = λ v past k i there. start k;
     words = λ v past b a. memory b a;
     fixed = λ v past k i there. fixed k;

@@ -1,5 +1,5 @@
 -- Words of which each slot has one: what flip-flops take in, lane by lane, and a pin that is set.
-use Rattle.std.proofs.Common.{◌≡◌, ◌≢◌, ℕ, zero, suc, ◌+◌, ◌<◌, ◌≤◌, Bool, true, false, List, [], ◌∷◌, length, get_or, map, set, Some, refl, ap, sym, ◌∙◌, arith, inl, inr, get_or-set_same, get_or-set_other}
+use Rattle.std.proofs.Common.{◌≡◌, ◌≢◌, ℕ, zero, suc, ◌+◌, ◌<◌, Bool, true, false, List, [], ◌∷◌, length, get_or, map, set, Some, refl, ap, sym, ◌∙◌, arith, inl, inr, get_or-set_same, get_or-set_other}
 use Rattle.std.specs.Prelude.{slice_get, slice_index, if◌then◌else◌}
 use Rattle.std.proofs.lemmas.Bool.{cases_eq, false≢true}
 use Rattle.std.proofs.lemmas.List.{get_or-map, get_or_past}
@@ -13,18 +13,19 @@ use Rattle.gate_sim.specs.declared.plan.Slot.{Slot}
 use Rattle.gate_sim.specs.declared.plan.Take.{Take}
 use Rattle.gate_sim.specs.Inner.Plans.{node_at, place_of, IsFlip, IsHeldLane, IsPlaced}
 use Rattle.gate_sim.specs.Inner.Slots.{slot_at, word_lane, bits_of, values_of, HasValues, AreStored}
-use Rattle.gate_sim.specs.Inner.Takes.{IsTake, AreTakes, AreTaken}
+use Rattle.gate_sim.specs.Inner.Pieces.{IsGiven}
+use Rattle.gate_sim.specs.Inner.Takes.{IsTake}
 use Rattle.gate_sim.proofs.Lanes.{has_none}
 
 -- ---- one word is written
 
-here_now : (words : List ℕ) (q new : ℕ) (p : Lane) → q < length words → p.slot ≡ q → word_lane (set words q new) p ≡ has_bit new p.at
+pub here_now : (words : List ℕ) (q new : ℕ) (p : Lane) → q < length words → p.slot ≡ q → word_lane (set words q new) p ≡ has_bit new p.at
 here_now words q new p inside e = ap (λ w. has_bit w p.at) (ap (λ r. get_or (set words q new) r 0) e ∙ get_or-set_same words q new 0 inside)
 
-there_still : (words : List ℕ) (q new : ℕ) (p : Lane) → p.slot ≢ q → word_lane (set words q new) p ≡ word_lane words p
+pub there_still : (words : List ℕ) (q new : ℕ) (p : Lane) → p.slot ≢ q → word_lane (set words q new) p ≡ word_lane words p
 there_still words q new p ne = ap (λ w. has_bit w p.at) (get_or-set_other words q p.slot new 0 ne)
 
-chosen_right : (m x y v : Bool) → (m ≡ true → x ≡ v) → (m ≡ false → y ≡ v) → (if m then x else y) ≡ v
+pub chosen_right : (m x y v : Bool) → (m ≡ true → x ≡ v) → (m ≡ false → y ≡ v) → (if m then x else y) ≡ v
 chosen_right true x y v a b = a refl
 chosen_right false x y v a b = b refl
 
@@ -52,28 +53,12 @@ held_has nodes lanes places words q long right l less inside =
 
 module _ (nodes : List Node) (n : ℕ) (lanes : List ℕ) (places : List Lane) (takes : List Take) (placed : (k : ℕ) → k < length nodes → IsPlaced n lanes places k) where
   -- a lane that is written is the place of the flip-flop that it stands for
-  flip_there : (take : Take) → IsTake nodes n lanes places take → (k : ℕ) (node : Node) → slice_get nodes k ≡ Some node → take.slot ≡ (place_of places k).slot → has_bit take.mask (place_of places k).at ≡ true → IsFlip (λ i. node_at lanes take.source ((place_of places k).at + take.down) ≡ i) node × ((place_of places k).at + take.down < 16)
+  pub flip_there : (take : Take) → IsTake nodes n lanes places take → (k : ℕ) (node : Node) → slice_get nodes k ≡ Some node → take.slot ≡ (place_of places k).slot → has_bit take.mask (place_of places k).at ≡ true → IsFlip (λ i. node_at lanes take.source ((place_of places k).at + take.down) ≡ i) node × ((place_of places k).at + take.down < 16)
   flip_there take is k node at slot on =
       let place = placed k (slice_get_within nodes k node at) in
       let lane = is.lane (place_of places k).at place.at on in
       let same : node_at lanes take.slot (place_of places k).at ≡ k = ap (λ q. node_at lanes q (place_of places k).at) slot ∙ place.same in
       (lane.flip node (ap (slice_get nodes) same ∙ at), lane.high)
-
-  pub taken_more : (words : List ℕ) (t new : ℕ) (take : Take) (from : ℕ) (value : ℕ → ℕ → Bool) → slice_get takes t ≡ Some take → take.slot < length words → ((l : ℕ) → has_bit new l ≡ (if has_bit take.mask l then has_bit from l else has_bit (slice_index words take.slot) l)) → ((k i : ℕ) → slice_get nodes k ≡ Some (Flip i) → take.slot ≡ (place_of places k).slot → has_bit take.mask (place_of places k).at ≡ true → has_bit from (place_of places k).at ≡ value k i) → AreTaken nodes places takes t value words → AreTaken nodes places takes (t + 1) value (set words take.slot new)
-  taken_more words t new take from value there inside bits right far k i j other less at is slot on =
-      let same : j ≡ t → take ≡ other = λ e. same_Some take other (sym there ∙ ap (slice_get takes) (sym e) ∙ is) in
-      elim (cases_eq (place_of places k).slot take.slot) [
-        | inl e ↦
-            here_now words take.slot new (place_of places k) inside e ∙ bits (place_of places k).at
-            ∙ chosen_right (has_bit take.mask (place_of places k).at) (has_bit from (place_of places k).at) (has_bit (slice_index words take.slot) (place_of places k).at) (value k i)
-            (λ yes. right k i at (sym e) yes)
-            (λ no.
-            let ne : j ≢ t = λ d. false≢true (sym no ∙ ap (λ x. has_bit x.mask (place_of places k).at) (same d) ∙ on) in
-            ap (λ q. has_bit (slice_index words q) (place_of places k).at) (sym e) ∙ far k i j other (omega arith) at is slot on)
-        | inr apart ↦
-            let ne : j ≢ t = λ d. apart (sym (ap (λ x. x.slot) (same d) ∙ slot)) in
-            there_still words take.slot new (place_of places k) apart ∙ far k i j other (omega arith) at is slot on
-      ]
 
   pub pins_more : (words old : List ℕ) (new : ℕ) (take : Take) (from : ℕ) → IsTake nodes n lanes places take → take.slot < length words → ((l : ℕ) → has_bit new l ≡ (if has_bit take.mask l then has_bit from l else has_bit (slice_index words take.slot) l)) → ((k : ℕ) → slice_get nodes k ≡ Some Pin → word_lane words (place_of places k) ≡ word_lane old (place_of places k)) → (k : ℕ) → slice_get nodes k ≡ Some Pin → word_lane (set words take.slot new) (place_of places k) ≡ word_lane old (place_of places k)
   pins_more words old new take from is inside bits far k at =
@@ -95,19 +80,34 @@ module _ (nodes : List Node) (n : ℕ) (lanes : List ℕ) (places : List Lane) (
       let low = is.source in
       bits (place_of places k).at ∙ stored take.source (omega arith) ((place_of places k).at + take.down) there.1 (omega arith) ∙ ap (value_in (values_of places slots)) reads
 
-pub taken_none : (nodes : List Node) (places : List Lane) (takes : List Take) (value : ℕ → ℕ → Bool) (words : List ℕ) → AreTaken nodes places takes 0 value words
-taken_none nodes places takes value words k i j take less = absurd (omega arith)
+-- a word is written that has what its take gives: what was right stays so, and what the take gives is right
+module _ (nodes : List Node) (places : List Lane) (words : List ℕ) (new : ℕ) (take : Take) (from : ℕ) (value : ℕ → ℕ → Bool) (inside : take.slot < length words) (bits : (l : ℕ) → has_bit new l ≡ (if has_bit take.mask l then has_bit from l else has_bit (slice_index words take.slot) l)) (right : (k i : ℕ) → slice_get nodes k ≡ Some (Flip i) → take.slot ≡ (place_of places k).slot → has_bit take.mask (place_of places k).at ≡ true → has_bit from (place_of places k).at ≡ value k i) where
+  pub state_kept : (k i : ℕ) → slice_get nodes k ≡ Some (Flip i) → word_lane words (place_of places k) ≡ value k i → word_lane (set words take.slot new) (place_of places k) ≡ value k i
+  state_kept k i at old =
+      elim (cases_eq (place_of places k).slot take.slot) [
+        | inl e ↦
+            here_now words take.slot new (place_of places k) inside e ∙ bits (place_of places k).at
+            ∙ chosen_right (has_bit take.mask (place_of places k).at) (has_bit from (place_of places k).at) (has_bit (slice_index words take.slot) (place_of places k).at) (value k i)
+            (λ yes. right k i at (sym e) yes)
+            (λ no. ap (λ q. has_bit (slice_index words q) (place_of places k).at) (sym e) ∙ old)
+        | inr apart ↦ there_still words take.slot new (place_of places k) apart ∙ old
+      ]
 
--- all flip-flops are served
-pub taken_all : (nodes : List Node) (n : ℕ) (lanes : List ℕ) (places : List Lane) (takes : List Take) (value : ℕ → ℕ → Bool) (words : List ℕ) (t : ℕ) → AreTakes nodes n lanes places takes → length takes ≤ t → AreTaken nodes places takes t value words → (k i : ℕ) → slice_get nodes k ≡ Some (Flip i) → word_lane words (place_of places k) ≡ value k i
-taken_all nodes n lanes places takes value words t are long far k i at =
-    let s = are.all k i at in
-    let inside = slice_get_within takes s.0 s.1 s.2 in
-    far k i s.0 s.1 (omega arith) at s.2 s.3 s.4
+  given_state : (k i : ℕ) → slice_get nodes k ≡ Some (Flip i) → take.slot ≡ (place_of places k).slot → has_bit take.mask (place_of places k).at ≡ true → word_lane (set words take.slot new) (place_of places k) ≡ value k i
+  given_state k i at slot on =
+      here_now words take.slot new (place_of places k) inside (sym slot) ∙ bits (place_of places k).at
+      ∙ chosen_right (has_bit take.mask (place_of places k).at) (has_bit from (place_of places k).at) (has_bit (slice_index words take.slot) (place_of places k).at) (value k i)
+      (λ yes. right k i at slot yes)
+      (λ no. absurd (false≢true (sym no ∙ on)))
+
+pub state_given : (nodes : List Node) (places : List Lane) (takes : List Take) (words : List ℕ) (new : ℕ) (take : Take) (from : ℕ) (value : ℕ → ℕ → Bool) (t : ℕ) → slice_get takes t ≡ Some take → take.slot < length words → ((l : ℕ) → has_bit new l ≡ (if has_bit take.mask l then has_bit from l else has_bit (slice_index words take.slot) l)) → ((k i : ℕ) → slice_get nodes k ≡ Some (Flip i) → take.slot ≡ (place_of places k).slot → has_bit take.mask (place_of places k).at ≡ true → has_bit from (place_of places k).at ≡ value k i) → (k i : ℕ) (other : Take) → slice_get nodes k ≡ Some (Flip i) → IsGiven places takes k t other → word_lane (set words take.slot new) (place_of places k) ≡ value k i
+state_given nodes places takes words new take from value t there inside bits right k i other at is =
+    let same : other ≡ take = same_Some other take (sym is.there ∙ there) in
+    given_state nodes places words new take from value inside bits right k i at (sym (ap (λ x. x.slot) same) ∙ is.slot) (sym (ap (λ x. has_bit x.mask (place_of places k).at) same) ∙ is.on)
 
 -- ---- a pin is set
 
-map_same : (f g : Lane → Bool) (places : List Lane) (d : Lane) → ((j : ℕ) → j < length places → g (get_or places j d) ≡ f (get_or places j d)) → map g places ≡ map f places
+pub map_same : (f g : Lane → Bool) (places : List Lane) (d : Lane) → ((j : ℕ) → j < length places → g (get_or places j d) ≡ f (get_or places j d)) → map g places ≡ map f places
 map_same f g [] d same = refl
 map_same f g (p ∷ places) d same =
     let first = same 0 (omega arith) in

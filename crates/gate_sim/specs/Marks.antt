@@ -17,15 +17,15 @@ is_marked s k (Word b bit) = value_in s.written b
 is_marked s k Zero = false
 
 -- what may be marked after these calls: since the last evaluation a pin that was set, a bit of a block into which words were put
-abbrev pub may_be_marked : List Call → ℕ → Node → Bool
-may_be_marked calls k Pin = was_set calls k
-may_be_marked calls k (Nand i j) = false
-may_be_marked calls k (Flip i) = false
-may_be_marked calls k (Word b bit) = was_put calls b
-may_be_marked calls k Zero = false
+abbrev pub may_be_marked : List Node → List Call → ℕ → Node → Bool
+may_be_marked nodes calls k Pin = was_set nodes calls k
+may_be_marked nodes calls k (Nand i j) = false
+may_be_marked nodes calls k (Flip i) = false
+may_be_marked nodes calls k (Word b bit) = was_put calls b
+may_be_marked nodes calls k Zero = false
 
 -- after an evaluation only such nodes, and such blocks, are marked, and no longer all of them
 pub record AreMarksRight (s : SimState) (calls : List Call) : Type 0 where
   pub begun : (told : List Call) → evaluated_calls calls ≡ Some told → s.whole ≡ false
-  pub right : (told : List Call) → evaluated_calls calls ≡ Some told → (k : ℕ) (node : Node) → slice_get s.net.nodes k ≡ Some node → is_marked s k node ≡ true → may_be_marked calls k node ≡ true
+  pub right : (told : List Call) → evaluated_calls calls ≡ Some told → (k : ℕ) (node : Node) → slice_get s.net.nodes k ≡ Some node → is_marked s k node ≡ true → may_be_marked s.net.nodes calls k node ≡ true
   pub blocks : (told : List Call) → evaluated_calls calls ≡ Some told → (b : ℕ) → value_in s.written b ≡ true → was_put calls b ≡ true

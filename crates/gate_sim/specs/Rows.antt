@@ -21,7 +21,7 @@ values_at a b k c = value_in (a ∷ b ∷ not (a && b) ∷ (a && b) ∷ []) k
 -- how many of the nodes an evaluation may take after these calls, the last evaluation of which is given, where v were the values then and w are
 -- now
 abbrev pub touched_of : List Block → List Node → List Call → List Call → Call → (ℕ → ℕ → Bool) → (ℕ → ℕ → Bool) → ℕ
-touched_of blocks nodes calls told call v w = count_by (is_touched blocks (differs calls told call v w) (was_written blocks w calls call)) nodes
+touched_of blocks nodes calls told call v w = count_by (is_touched blocks (differs nodes calls told call v w) (was_written blocks w calls call)) nodes
 
 -- evaluated with both pins 0; then pin 0 is set, and evaluated; then pin 1 is set, and evaluated
 abbrev pub once : List Call

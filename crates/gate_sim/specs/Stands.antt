@@ -13,7 +13,7 @@ use Rattle.gate_sim.specs.Marks.{AreMarksRight}
 
 -- its pins, the states of its flip-flops, its words, and what the next tock takes are those that the calls lead to
 pub record Keeps (s : SimState) (calls : List Call) : Type 0 where
-  pub pins : (k : ℕ) → slice_get s.net.nodes k ≡ Some Pin → value_in s.start k ≡ pins_of calls k
+  pub pins : (k : ℕ) → slice_get s.net.nodes k ≡ Some Pin → value_in s.start k ≡ pins_of s.net.nodes calls k
   pub flips : (v : ℕ → ℕ → Bool) → ArePast s.net calls (cycle_of calls) v → (k i : ℕ) → slice_get s.net.nodes k ≡ Some (Flip i) → value_in s.start k ≡ before false (cycle_of calls) (v i)
   pub words : (v : ℕ → ℕ → Bool) → ArePast s.net calls (cycle_of calls) v → (b a : ℕ) → word_at s.memory b a ≡ words_of s.net.blocks v calls b a
   pub fixed : (v : ℕ → ℕ → Bool) → ArePast s.net (Tock ∷ calls) (cycle_of (Tock ∷ calls)) v → (k i : ℕ) → slice_get s.net.nodes k ≡ Some (Flip i) → value_in s.fixed k ≡ before false (cycle_of (Tock ∷ calls)) (v i)

@@ -108,6 +108,19 @@ fn shifted(there: Row, up: usize, down: usize) -> Row {
     row
 }
 
+// The lanes with those from there that the row has and that were missing, and the mask of these.
+fn joined_with(joined: Row, row: Row, there: Row) -> (Row, u16) {
+    let mut next = joined;
+    let mut mask = 0u16;
+    for m in 0..16usize {
+        if row[m] != NONE && next[m] == NONE && there[m] == row[m] {
+            next[m] = row[m];
+            mask |= lane_bit(m);
+        }
+    }
+    (next, mask)
+}
+
 impl Making {
     fn is_placed(&self, k: u32) -> bool {
         k == NONE || place(&self.plan.places, k).slot != NONE
@@ -141,6 +154,16 @@ impl Making {
         Ok(slot)
     }
 
+    // The slot from which lane l of other lanes takes the node, and its lane there.
+    fn origin_of(&self, k: u32, l: usize) -> (u32, usize) {
+        let known = read(&self.spread, k as usize);
+        if known != NONE {
+            return (known, l);
+        }
+        let own = place(&self.plan.places, k);
+        (own.slot, usize::from(own.at))
+    }
+
     // Puts lanes of one slot to others: those of which one is lane l.
     fn join(
         &mut self,
@@ -150,25 +173,11 @@ impl Making {
         l: usize,
     ) -> Result<(u32, Row), AllocError> {
         let k = if l < 16 { row[l] } else { NONE };
-        let known = read(&self.spread, k as usize);
-        let own = place(&self.plan.places, k);
-        let a = if known != NONE { known } else { own.slot };
-        let at = if known != NONE {
-            l
-        } else {
-            usize::from(own.at)
-        };
+        let (a, at) = self.origin_of(k, l);
         let up = l.saturating_sub(at);
         let down = at.saturating_sub(l);
         let there = shifted(row_at(&self.plan.lanes, a as usize), up, down);
-        let mut next = joined;
-        let mut mask = 0u16;
-        for m in 0..16usize {
-            if row[m] != NONE && next[m] == NONE && there[m] == row[m] {
-                next[m] = row[m];
-                mask |= lane_bit(m);
-            }
-        }
+        let (next, mask) = joined_with(joined, row, there);
         let op = Op::Move {
             below: if below == NONE { a } else { below },
             a,
@@ -178,6 +187,20 @@ impl Making {
         };
         let slot = self.push(op, next)?;
         Ok((slot, next))
+    }
+
+    // A new slot whose lanes stand for these nodes, put together from others.
+    fn join_all(&mut self, row: Row) -> Result<u32, AllocError> {
+        let mut slot = NONE;
+        let mut joined = [NONE; 16];
+        for l in 0..16usize {
+            if row[l] != NONE && joined[l] == NONE {
+                let (next, more) = self.join(slot, joined, row, l)?;
+                slot = next;
+                joined = more;
+            }
+        }
+        Ok(slot)
     }
 
     // A slot whose lanes stand for these nodes, where they are nodes.
@@ -194,15 +217,7 @@ impl Making {
         if stand_for(&self.plan.lanes, known, row) {
             return Ok(known);
         }
-        let mut slot = NONE;
-        let mut joined = [NONE; 16];
-        for l in 0..16usize {
-            if row[l] != NONE && joined[l] == NONE {
-                let (next, more) = self.join(slot, joined, row, l)?;
-                slot = next;
-                joined = more;
-            }
-        }
+        let slot = self.join_all(row)?;
         write(&mut self.gathered, head as usize, slot);
         Ok(slot)
     }
@@ -500,6 +515,58 @@ fn all_waiting(alloc: Global, rows: &Rows) -> Result<Waiting, AllocError> {
     Ok(waiting)
 }
 
+// A plan of n nodes, none of which has a place.
+fn blank_plan(alloc: Global, n: usize) -> Result<Plan, AllocError> {
+    let places = vec![in alloc; Lane { slot: NONE, at: 0 }; n]?;
+    let taken = vec![in alloc; NONE; n]?;
+    Ok(Plan {
+        ops: Vec::new(alloc),
+        lanes: Vec::new(alloc),
+        places,
+        takes: Vec::new(alloc),
+        taken,
+    })
+}
+
+fn blank_making(alloc: Global, n: usize) -> Result<Making, AllocError> {
+    let spread = vec![in alloc; NONE; n]?;
+    let gathered = vec![in alloc; NONE; n]?;
+    Ok(Making {
+        plan: blank_plan(alloc, n)?,
+        spread,
+        gathered,
+    })
+}
+
+// Gives each node its place.
+fn place_all(
+    alloc: Global,
+    making: &mut Making,
+    rows: &mut Rows,
+    nodes: &[Node],
+    blocks: &[Block],
+) -> Result<(), AllocError> {
+    let mut waiting = all_waiting(alloc, rows)?;
+    for _ in 0..nodes.len() {
+        if waiting.rows.len() == 0 && waiting.lone.len() == 0 {
+            break;
+        }
+        let before = making.plan.ops.len();
+        waiting = turn(alloc, making, rows, nodes, blocks, &waiting)?;
+        if making.plan.ops.len() == before {
+            waiting = split(alloc, making, rows, nodes, blocks, waiting)?;
+        }
+    }
+    Ok(())
+}
+
+fn take_all(making: &mut Making, rows: &Rows, nodes: &[Node]) -> Result<(), AllocError> {
+    for r in 0..rows.kinds.len() {
+        making.take(rows, nodes, r)?;
+    }
+    Ok(())
+}
+
 /// A plan in which equal gates stand side by side.
 pub(crate) fn packed_plan(
     alloc: Global,
@@ -507,30 +574,8 @@ pub(crate) fn packed_plan(
     blocks: &[Block],
 ) -> Result<Plan, AllocError> {
     let mut rows = rows_of(alloc, nodes, blocks)?;
-    let mut making = Making {
-        plan: Plan {
-            ops: Vec::new(alloc),
-            lanes: Vec::new(alloc),
-            places: vec![in alloc; Lane { slot: NONE, at: 0 }; nodes.len()]?,
-            takes: Vec::new(alloc),
-            taken: vec![in alloc; NONE; nodes.len()]?,
-        },
-        spread: vec![in alloc; NONE; nodes.len()]?,
-        gathered: vec![in alloc; NONE; nodes.len()]?,
-    };
-    let mut waiting = all_waiting(alloc, &rows)?;
-    for _ in 0..nodes.len() {
-        if waiting.rows.len() == 0 && waiting.lone.len() == 0 {
-            break;
-        }
-        let before = making.plan.ops.len();
-        waiting = turn(alloc, &mut making, &rows, nodes, blocks, &waiting)?;
-        if making.plan.ops.len() == before {
-            waiting = split(alloc, &making, &mut rows, nodes, blocks, waiting)?;
-        }
-    }
-    for r in 0..rows.kinds.len() {
-        making.take(&rows, nodes, r)?;
-    }
+    let mut making = blank_making(alloc, nodes.len())?;
+    place_all(alloc, &mut making, &mut rows, nodes, blocks)?;
+    take_all(&mut making, &rows, nodes)?;
     sorted(alloc, making.plan, blocks)
 }

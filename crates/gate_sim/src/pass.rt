@@ -428,9 +428,9 @@ fn pass_read<L: Ledger>(
     }
 }
 
-// The slot of an operation, from the slots before it.
+/// The slot of an operation, from the slots before it.
 #[inline(always)]
-fn pass_op<L: Ledger>(
+pub(crate) fn pass_op<L: Ledger>(
     nodes: &[Node],
     blocks: &[Block],
     op: &Op,

@@ -11,14 +11,14 @@ use netlist::{Block, Node};
 use word16::bit;
 
 /// A lane of a slot.
-#[derive(Clone, Copy, Debug, PartialEq, Eq)]
+#[derive(Clone, Copy)]
 pub(crate) struct Lane {
     pub(crate) slot: u32,
     pub(crate) at: u8,
 }
 
 /// Sixteen lanes side by side: their values, and which of them are other ones than at the evaluation before.
-#[derive(Clone, Copy, Debug, PartialEq, Eq)]
+#[derive(Clone, Copy)]
 pub(crate) struct Slot {
     pub(crate) value: u16,
     pub(crate) change: u16,
@@ -28,7 +28,7 @@ pub(crate) struct Slot {
 /// mask has its bit. Or one gate of two lanes, in all sixteen, with the masks of the two; one lane in all sixteen. Or lanes of a slot
 /// moved up and then down, where the mask has its bit, and lanes of another slot elsewhere. Or the bits of a block's word, where the mask
 /// has its bit.
-#[derive(Clone, Copy, Debug, PartialEq, Eq)]
+#[derive(Clone, Copy)]
 pub(crate) enum Op {
     Held,
     Zeros,
@@ -61,7 +61,7 @@ pub(crate) enum Op {
 
 /// What flip-flops of a slot take in at a tick: where the mask has its bit, the one in a lane takes what stands `down` lanes higher in the
 /// source.
-#[derive(Clone, Copy, Debug, PartialEq, Eq)]
+#[derive(Clone, Copy)]
 pub(crate) struct Take {
     pub(crate) slot: u32,
     pub(crate) source: u32,

@@ -5,7 +5,7 @@ use netlist::{Block, Node};
 use std::alloc::{AllocError, Global};
 
 /// What a row has: pins or flip-flops, gates, or the bits of a block's word.
-#[derive(Clone, Copy, Debug, PartialEq, Eq)]
+#[derive(Clone, Copy)]
 pub(crate) enum Kind {
     Held,
     Gates,
@@ -230,6 +230,47 @@ impl Rows {
         }
         Ok(())
     }
+
+    // Rows of the bits of the blocks' words. Asks for rows of what comes into the blocks.
+    fn put_words(
+        &mut self,
+        alloc: Global,
+        nodes: &[Node],
+        blocks: &[Block],
+    ) -> Result<(), AllocError> {
+        let words = words_of(alloc, nodes, blocks.len())?;
+        for b in 0..blocks.len() {
+            self.put(row_at(&words, b), Kind::Word(short(b)))?;
+            self.want_all(blocks[b].address.as_slice())?;
+            self.want_all(blocks[b].data.as_slice())?;
+        }
+        Ok(())
+    }
+
+    // Rows of the pins, or of the flip-flops.
+    fn put_listed(&mut self, alloc: Global, nodes: &[Node], wish: &Wish) -> Result<(), AllocError> {
+        let list = list_of(alloc, nodes, wish)?;
+        self.put_all(&list)
+    }
+
+    // Asks for rows of what the flip-flops take.
+    fn want_taken(&mut self, alloc: Global, nodes: &[Node]) -> Result<(), AllocError> {
+        let taken = list_of(alloc, nodes, &Wish::Taken)?;
+        self.want_all(&taken)
+    }
+
+    // Makes the rows that are asked for, in turn; n is the number of the nodes.
+    fn work_all(&mut self, n: usize) -> Result<(), AllocError> {
+        let limit = (self.wanted.len() / 16).wrapping_add(n);
+        for q in 0..limit {
+            if q >= self.wanted.len() / 16 {
+                break;
+            }
+            let wanted = row_at(&self.wanted, q);
+            self.work(wanted)?;
+        }
+        Ok(())
+    }
 }
 
 // The pins, or the flip-flops, or what the flip-flops take.
@@ -288,35 +329,28 @@ fn gates_of(alloc: Global, nodes: &[Node], second: bool) -> Result<Vec<u32>, All
     Ok(list)
 }
 
-/// Rows of the nodes, found backwards from the flip-flops, sixteen that follow one another, and from what comes into blocks.
-pub(crate) fn rows_of(alloc: Global, nodes: &[Node], blocks: &[Block]) -> Result<Rows, AllocError> {
-    let mut rows = Rows {
+// Rows that hold no node yet.
+fn no_rows(alloc: Global, nodes: &[Node]) -> Result<Rows, AllocError> {
+    let row_of = vec![in alloc; NONE; nodes.len()]?;
+    let first = gates_of(alloc, nodes, false)?;
+    let second = gates_of(alloc, nodes, true)?;
+    Ok(Rows {
         members: Vec::new(alloc),
         kinds: Vec::new(alloc),
-        row_of: vec![in alloc; NONE; nodes.len()]?,
-        first: gates_of(alloc, nodes, false)?,
-        second: gates_of(alloc, nodes, true)?,
+        row_of,
+        first,
+        second,
         wanted: Vec::new(alloc),
-    };
-    let words = words_of(alloc, nodes, blocks.len())?;
-    for b in 0..blocks.len() {
-        rows.put(row_at(&words, b), Kind::Word(short(b)))?;
-        rows.want_all(blocks[b].address.as_slice())?;
-        rows.want_all(blocks[b].data.as_slice())?;
-    }
-    let pins = list_of(alloc, nodes, &Wish::Pins)?;
-    rows.put_all(&pins)?;
-    let flips = list_of(alloc, nodes, &Wish::Flips)?;
-    rows.put_all(&flips)?;
-    let taken = list_of(alloc, nodes, &Wish::Taken)?;
-    rows.want_all(&taken)?;
-    let limit = (rows.wanted.len() / 16).wrapping_add(nodes.len());
-    for q in 0..limit {
-        if q >= rows.wanted.len() / 16 {
-            break;
-        }
-        let wanted = row_at(&rows.wanted, q);
-        rows.work(wanted)?;
-    }
+    })
+}
+
+/// Rows of the nodes, found backwards from the flip-flops, sixteen that follow one another, and from what comes into blocks.
+pub(crate) fn rows_of(alloc: Global, nodes: &[Node], blocks: &[Block]) -> Result<Rows, AllocError> {
+    let mut rows = no_rows(alloc, nodes)?;
+    rows.put_words(alloc, nodes, blocks)?;
+    rows.put_listed(alloc, nodes, &Wish::Pins)?;
+    rows.put_listed(alloc, nodes, &Wish::Flips)?;
+    rows.want_taken(alloc, nodes)?;
+    rows.work_all(nodes.len())?;
     Ok(rows)
 }

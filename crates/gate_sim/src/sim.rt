@@ -1,6 +1,7 @@
 //! The simulator.
 
 ghost use Rattle.std.specs.Prelude.{◌≡◌, ◌≤◌, ◌+◌, ◌-◌, ◌||◌, ℕ, ◌<◌, ◌∷◌, [], Bool, true, false, List, length, IfOk, Some, None, is_some, slice_get, MatchOption};
+ghost use Rattle.netlist.specs.Histories.{rank};
 ghost use Rattle.netlist.specs.Present.{value_in};
 ghost use Rattle.netlist.specs.Words.{word_at};
 ghost use Rattle.netlist.specs.Steps.{write_at};
@@ -24,7 +25,6 @@ use std::sync::ledger::{Blank, Ledger};
 /// A netlist with its present state: inputs and states, the values of the last evaluation, what the next tock takes, and the words in the
 /// blocks. So that an evaluation takes only what is touched: whether the values are those of now, which blocks were written since, and
 /// whether nothing was evaluated yet.
-#[derive(Drop)]
 pub struct Sim {
     packed: Packed,
     writes: Vec<Option<BlockWrite>>,
@@ -32,6 +32,20 @@ pub struct Sim {
     fresh: bool,
     written: Vec<bool>,
     whole: bool,
+}
+
+// By hand, so that whoever drops one calls this.
+impl Drop for Sim {
+    fn drop(self) {
+        let Sim {
+            packed: _,
+            writes: _,
+            memory: _,
+            fresh: _,
+            written: _,
+            whole: _,
+        } = self;
+    }
 }
 
 impl Model for Sim {
@@ -114,7 +128,7 @@ impl Sim {
     pub fn set(&mut self, node: u32, bit: bool)
         requires { slice_get self.old.net.nodes node ≡ Some Pin }
         ensures net { self.new.net ≡ self.old.net }
-        ensures stands { (calls : List Call) → StandsFor self.old calls → StandsFor self.new (Set node bit ∷ calls) }
+        ensures stands { (calls : List Call) → StandsFor self.old calls → StandsFor self.new (Set (rank self.old.net.nodes node) bit ∷ calls) }
     {
         self.packed.set(node, bit);
         self.fresh = false;

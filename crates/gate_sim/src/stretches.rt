@@ -4,7 +4,7 @@ use crate::plan::Op;
 use std::alloc::{AllocError, Global};
 
 /// The kinds of operations for which evaluation has a loop of its own.
-#[derive(Clone, Copy, Debug, PartialEq, Eq)]
+#[derive(Clone, Copy, PartialEq, Eq)]
 pub(crate) enum OpKind {
     Gates,
     Lone,
@@ -13,7 +13,7 @@ pub(crate) enum OpKind {
 }
 
 /// Operations up to one, of one kind.
-#[derive(Clone, Copy, Debug, PartialEq, Eq)]
+#[derive(Clone, Copy)]
 pub(crate) struct Stretch {
     pub(crate) kind: OpKind,
     pub(crate) end: usize,

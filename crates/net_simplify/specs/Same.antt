@@ -1,9 +1,11 @@
 -- What one netlist shows of another: the values of the kept nodes and the words in blocks, whatever comes in. (The book, chapters 1 and 3.)
 use Rattle.std.specs.Prelude.{◌≡◌, ℕ, ◌<◌, ◌≤◌, Bool, List, length, Some, slice_get, slice_index}
 use Rattle.std.specs.Option.{option_map}
+use Rattle.std.specs.List.{All}
 use Rattle.netlist.specs.declared.node.Node.TheVariants.{Pin}
 use Rattle.netlist.specs.declared.node.Block.{Block}
 use Rattle.netlist.specs.Net.{Net}
+use Rattle.netlist.specs.Order.{AreOrdered}
 use Rattle.netlist.specs.Folded.{HearAlike}
 use Rattle.netlist.specs.Histories.{pin_count, rank}
 use Rattle.netlist.specs.Value.{Inputs, AreValues, held_in}
@@ -32,3 +34,7 @@ pub record ShowsSame (old new : Net) (keep place : List ℕ) : Type 0 where
   pub blocks : (b : ℕ) → option_map shape (slice_get old.blocks b) ≡ option_map shape (slice_get new.blocks b)
   pub values : (h g : Inputs) (n : ℕ) → HearSame old new n h g → (v w : ℕ → ℕ → Bool) → AreValues old h n v → AreValues new g n w → (i c : ℕ) → i < length keep → c < n → v (slice_index keep i) c ≡ w (slice_index place i) c
   pub words : (h g : Inputs) (n : ℕ) → HearSame old new n h g → (v w : ℕ → ℕ → Bool) → AreValues old h n v → AreValues new g n w → (c b a : ℕ) → c ≤ n → held_in old.blocks h.loaded v c b a ≡ held_in new.blocks g.loaded w c b a
+
+-- A netlist in order shows of itself what it shows, of any nodes that it has.
+abbrev pub ItselfLaw : Type 0
+ItselfLaw = (net : Net) (keep : List ℕ) → AreOrdered net.nodes net.blocks → All (λ k. k < length net.nodes) keep → ShowsSame net net keep keep

@@ -7,6 +7,7 @@
 
 mod fold;
 mod gates;
+mod laws;
 mod middle;
 mod moving;
 mod reach;
@@ -14,4 +15,5 @@ mod simplifying;
 mod table;
 mod trim;
 
+pub use laws::itself_law;
 pub use simplifying::{Simple, simplify};

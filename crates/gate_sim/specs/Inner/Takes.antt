@@ -1,12 +1,11 @@
 -- What flip-flops take in at a tick.
-use Rattle.std.specs.Prelude.{◌≡◌, ℕ, ◌+◌, ◌<◌, Bool, true, List, length, Some, slice_get}
+use Rattle.std.specs.Prelude.{◌≡◌, ℕ, ◌+◌, ◌<◌, true, List, length, Some, slice_get}
 use Rattle.word16.specs.Words.{has_bit}
 use Rattle.netlist.specs.declared.node.Node.{Node}
 use Rattle.netlist.specs.declared.node.Node.TheVariants.{Flip}
 use Rattle.gate_sim.specs.declared.plan.Lane.{Lane}
 use Rattle.gate_sim.specs.declared.plan.Take.{Take}
 use Rattle.gate_sim.specs.Inner.Plans.{node_at, place_of, StandsAt, IsFlip, IsSuch}
-use Rattle.gate_sim.specs.Inner.Slots.{word_lane}
 
 -- lane l of the slot stands for a flip-flop that has its place there, and lane l + down of the source for what the flip-flop takes
 pub record IsTakeLane (nodes : List Node) (lanes : List ℕ) (places : List Lane) (take : Take) (l : ℕ) : Type 0 where
@@ -29,7 +28,3 @@ IsServed places takes k = (j : ℕ) × (take : Take) × (slice_get takes j ≡ S
 pub record AreTakes (nodes : List Node) (n : ℕ) (lanes : List ℕ) (places : List Lane) (takes : List Take) : Type 0 where
   pub each : (j : ℕ) (take : Take) → slice_get takes j ≡ Some take → IsTake nodes n lanes places take
   pub all : (k i : ℕ) → slice_get nodes k ≡ Some (Flip i) → IsServed places takes k
-
--- flip-flops have in words what the first of these give them
-abbrev pub AreTaken : List Node → List Lane → List Take → ℕ → (ℕ → ℕ → Bool) → List ℕ → Type 0
-AreTaken nodes places takes t value words = (k i j : ℕ) (take : Take) → j < t → slice_get nodes k ≡ Some (Flip i) → slice_get takes j ≡ Some take → take.slot ≡ (place_of places k).slot → has_bit take.mask (place_of places k).at ≡ true → word_lane words (place_of places k) ≡ value k i
