@@ -9,7 +9,8 @@ use Rattle.hdl_tree.specs.declared.tree.Part.{Part}
 use Rattle.hdl_tree.specs.declared.library.Entry.{Entry}
 use Rattle.hdl_tree.specs.Chips.{Chips, find_chip, parts_of, first, count}
 use Rattle.hdl_tree.specs.Behaviour.{width_of}
-use Rattle.hdl_check.specs.Tables.{find_value, first_of, bits_of, is_in}
+use Rattle.name_table.specs.Names.{find_value, first_of}
+use Rattle.hdl_check.specs.Tables.{bits_of, is_in}
 use Rattle.hdl_check.specs.Faults.{ports_of}
 use Rattle.hdl_check.specs.declared.check.Port.{Port}
 use Rattle.hdl_plans.specs.Plans.{Place, Origin, FromNet, Low, origin_of, is_input}

@@ -1,37 +1,15 @@
 -- A long way through few bits goes through one of them twice.
-use Rattle.std.proofs.Common.{◌≡◌, ℕ, suc, ◌<◌, ◌⊎◌, inl, inr, Bool, true, false, List, [], ◌∷◌, length, Some, refl, sym, ap, subst, ◌∙◌, arith}
+use Rattle.std.proofs.Common.{◌≡◌, ℕ, suc, ◌<◌, ◌⊎◌, inl, inr, List, [], ◌∷◌, length, Some, refl, sym, ap, subst, ◌∙◌, arith}
 use Rattle.std.specs.Prelude.{slice_get}
-use Rattle.std.specs.Str.{bytes_eq}
-use Rattle.std.specs.Cmp.Lexicographic.{bytes_decides}
 use Rattle.hdl_tree.specs.declared.library.Entry.{Entry}
 use Rattle.hdl_tree.specs.Chips.{Chips}
-use Rattle.hdl_plans.specs.Loops.{BitAt, bit_at, Feeds, IsLoop}
+use Rattle.hdl_plans.specs.Loops.{BitAt, Feeds, IsLoop}
 use Rattle.hdl_plans.specs.Ways.{Way}
 use Rattle.hdl_plans.proofs.Walks.{join_ways}
 use Rattle.hdl_plans.proofs.Circles.{circle_of}
+use Rattle.hdl_plans.proofs.Simple.{bits_same, simple_round}
 use Rattle.hdl_behaviours.specs.Inner.Feeding.{Among}
 use Rattle.hdl_behaviours.specs.Reads.{HasLoop}
-
--- ---- equal or not
-
-names_same : (x y : List ℕ) → (x ≡ y) ⊎ (x ≡ y → ⊥)
-names_same x y = by (bytes_eq x y) refl
-  where
-    by : (b : Bool) → bytes_eq x y ≡ b → (x ≡ y) ⊎ (x ≡ y → ⊥)
-    by true e = inl ((bytes_decides x y).0 e)
-    by false e = inr (λ q. let f : true ≡ false = sym ((bytes_decides x y).1 q) ∙ e in absurd cc)
-
-numbers_same : (a b : ℕ) → (a ≡ b) ⊎ (a ≡ b → ⊥)
-numbers_same a b = grind arith
-
-pub bits_same : (x y : BitAt) → (x ≡ y) ⊎ (x ≡ y → ⊥)
-bits_same x y = by (names_same x.path y.path) (names_same x.name y.name) (numbers_same x.bit y.bit)
-  where
-    by : (x.path ≡ y.path) ⊎ (x.path ≡ y.path → ⊥) → (x.name ≡ y.name) ⊎ (x.name ≡ y.name → ⊥) → (x.bit ≡ y.bit) ⊎ (x.bit ≡ y.bit → ⊥) → (x ≡ y) ⊎ (x ≡ y → ⊥)
-    by (inl p) (inl n) (inl b) = inl (ap (λ v. bit_at v x.name x.bit) p ∙ ap (λ v. bit_at y.path v x.bit) n ∙ ap (bit_at y.path y.name) b)
-    by (inr p) n b = inr (λ e. p (ap (λ (v : BitAt). v.path) e))
-    by (inl p) (inr n) b = inr (λ e. n (ap (λ (v : BitAt). v.name) e))
-    by (inl p) (inl n) (inr b) = inr (λ e. b (ap (λ (v : BitAt). v.bit) e))
 
 -- ---- lists of bits
 
@@ -112,8 +90,9 @@ module _ (chips : Chips) (top : Entry) where
 
   loop_of : Round → HasLoop chips top
   loop_of r =
-      let l = last_of r.at r.way.over in
-      record { nets = _; is = record { first = r.at; rest = r.way.over; last = l.last; ends = l.there; circle = circle_of chips top r.way.over r.at r.way.steps; named = refl } }
+      let s = simple_round (Feeds chips top) r.way.over r.at r.way.steps in
+      let l = last_of s.at s.over in
+      record { nets = _; is = record { first = s.at; rest = s.over; last = l.last; ends = l.there; circle = circle_of chips top s.over s.at s.steps s.once; named = refl } }
 
   -- a way through some bits that is longer than they are many has a loop
   pub loop_in : (x : BitAt) (ys xs : List BitAt) → Linked x ys → AllAmong ys xs → length xs < length ys → HasLoop chips top

@@ -13,7 +13,7 @@ use Rattle.hdl_tree.specs.declared.tree.Part.{Part}
 use Rattle.hdl_tree.specs.declared.library.Entry.{Entry}
 use Rattle.hdl_tree.specs.Chips.{Chips, find_chip, parts_of, first, count, is_past}
 use Rattle.hdl_tree.specs.Behaviour.{width_in, width_of, drives, drives_bits, some}
-use Rattle.hdl_check.specs.Tables.{find_value, first_of}
+use Rattle.name_table.specs.Names.{find_value, first_of}
 use Rattle.hdl_check.specs.declared.fault.NamedFault.{NamedFault}
 use Rattle.hdl_check.specs.declared.check.Port.{Port}
 use Rattle.hdl_check.specs.Faults.{Context, context, Driver, driver_into, driver_by, drivers_by, drivers_of_inner, drivers_of, widths_of, net_width, ports_of, right_side_of, right_side_of_name, is_wide, is_output, is_undriven, width_fault, driven_fault, undriven_fault, wiring_fault, wiring_fault_by, connection_fault_at, connection_fault_by}

@@ -30,7 +30,7 @@ use Rattle.hdl_plans.proofs.Sound.{as_port, found_ports, port_is}
 use Rattle.hdl_plans.proofs.Fits.{tree_fits}
 use Rattle.hdl_plans.proofs.Nesting.{inner_by, faultless_sound}
 use Rattle.hdl_plans.proofs.Unjoined.{output_is_no_input, drives_conn, drives_in}
-use Rattle.hdl_check.specs.Tables.{first_of}
+use Rattle.name_table.specs.Names.{first_of}
 use Rattle.hdl_nodes.specs.Numbering.{nodes_of, EndStands, IsNumbering}
 use Rattle.hdl_nodes.proofs.Numbers.{at_row, row_length}
 use Rattle.hdl_behaviours.specs.Loopless.{IsWide, AreWide}
@@ -80,12 +80,12 @@ node_of f n k x e =
 
 -- ---- chips of a tree
 
-record Around (chips : Chips) (top : Entry) (path : List ℕ) (i : ℕ) (chip : Entry) : Type 0 where
-  around : Entry
-  at : chip_at chips top path ≡ Some around
-  found : inner_chip chips around i ≡ Some chip
+pub record Around (chips : Chips) (top : Entry) (path : List ℕ) (i : ℕ) (chip : Entry) : Type 0 where
+  pub around : Entry
+  pub at : chip_at chips top path ≡ Some around
+  pub found : inner_chip chips around i ≡ Some chip
 
-around_of : (chips : Chips) (top : Entry) (path : List ℕ) (i : ℕ) (chip : Entry) → chip_at chips top (path ++ i ∷ []) ≡ Some chip → Around chips top path i chip
+pub around_of : (chips : Chips) (top : Entry) (path : List ℕ) (i : ℕ) (chip : Entry) → chip_at chips top (path ++ i ∷ []) ≡ Some chip → Around chips top path i chip
 around_of chips top [] i chip h =
     let a = at_part chips top i [] chip h in
     let rest = a.rest in
@@ -96,56 +96,56 @@ around_of chips top (j ∷ path) i chip h =
     let r = around_of chips a.inner path i chip a.rest in
     record { around = r.around; at = part_at chips top j path a.inner r.around a.found r.at; found = r.found }
 
-record IsFine (chips : Chips) (chip : Entry) : Type 0 where
-  names : List (List ℕ)
-  name : List ℕ
-  found : find_chip chips name ≡ Some chip
-  faultless : IsFaultless chips names chip
+pub record IsFine (chips : Chips) (chip : Entry) : Type 0 where
+  pub names : List (List ℕ)
+  pub name : List ℕ
+  pub found : find_chip chips name ≡ Some chip
+  pub faultless : IsFaultless chips names chip
 
-fine_at : (chips : Chips) (names : List (List ℕ)) (name : List ℕ) (top : Entry) (path : List ℕ) (chip : Entry) → find_chip chips name ≡ Some top → IsFaultless chips names top → chip_at chips top path ≡ Some chip → IsFine chips chip
+pub fine_at : (chips : Chips) (names : List (List ℕ)) (name : List ℕ) (top : Entry) (path : List ℕ) (chip : Entry) → find_chip chips name ≡ Some top → IsFaultless chips names top → chip_at chips top path ≡ Some chip → IsFine chips chip
 fine_at chips names name top [] chip found faultless h = let same : top ≡ chip = cc in subst (IsFine chips) same (record { names = names; name = name; found = found; faultless = faultless })
 fine_at chips names name top (i ∷ path) chip found faultless h =
     let a = at_part chips top i path chip h in
     let n = inner_by chips names top i a.inner (slice_get (parts_of chips top) i) refl a.found faultless in
     fine_at chips (a.inner.name ∷ names) n.name a.inner path chip n.there n.faultless a.rest
 
-apart_by : (chips : Chips) (chip : Entry) (o : Option End) → HasEnds chips → IsFine chips chip → end_of chips.blocks chip ≡ o → (pin : List ℕ) (w : ℕ) → width_in chip.chip.outputs pin ≡ Some w → is_input chip pin ≡ false
+pub apart_by : (chips : Chips) (chip : Entry) (o : Option End) → HasEnds chips → IsFine chips chip → end_of chips.blocks chip ≡ o → (pin : List ℕ) (w : ℕ) → width_in chip.chip.outputs pin ≡ Some w → is_input chip pin ≡ false
 apart_by chips chip None ends fine is pin w h = output_is_no_input chips fine.names chip fine.faultless is pin w h
 apart_by chips chip (Some e) ends fine is pin w h = ends.apart fine.name chip e fine.found is pin w h
 
-no_input_by : (a : Option ℕ) → is_some a ≡ false → a ≡ None
+pub no_input_by : (a : Option ℕ) → is_some a ≡ false → a ≡ None
 no_input_by None h = refl
 no_input_by (Some x) h = absurd cc
 
-output_width : (chip : Entry) (pin : List ℕ) (w : ℕ) → is_input chip pin ≡ false → width_in chip.chip.outputs pin ≡ Some w → w ≡ width_of chip pin
+pub output_width : (chip : Entry) (pin : List ℕ) (w : ℕ) → is_input chip pin ≡ false → width_in chip.chip.outputs pin ≡ Some w → w ≡ width_of chip pin
 output_width chip pin w apart h =
     (port_is chip pin (record { input = false; width = w })
     (found_ports chip.chip pin
     ∙ ap (λ (o : Option ℕ). first_of (as_port true o) (as_port false (width_in chip.chip.outputs pin))) (no_input_by (width_in chip.chip.inputs pin) apart)
     ∙ ap (as_port false) h)).wide
 
-no_part : (chips : Chips) (chip : Entry) (e : End) (i : ℕ) (part : Part) → end_of chips.blocks chip ≡ Some e → slice_get (parts_of chips chip) i ≡ Some part → ⊥
+pub no_part : (chips : Chips) (chip : Entry) (e : End) (i : ℕ) (part : Part) → end_of chips.blocks chip ≡ Some e → slice_get (parts_of chips chip) i ≡ Some part → ⊥
 no_part chips chip e i part is there =
     let none : parts_of chips chip ≡ [] = ap (λ (o : Option End). parts_unless o (parts_of_body chip.chip.body)) is in
     let f : slice_get [] i ≡ Some part = ap (λ (ps : List Part). slice_get ps i) (sym none) ∙ there in
     cc
 
-no_end_by : (chips : Chips) (chip : Entry) (i : ℕ) (part : Part) (o : Option End) → end_of chips.blocks chip ≡ o → slice_get (parts_of chips chip) i ≡ Some part → end_of chips.blocks chip ≡ None
+pub no_end_by : (chips : Chips) (chip : Entry) (i : ℕ) (part : Part) (o : Option End) → end_of chips.blocks chip ≡ o → slice_get (parts_of chips chip) i ≡ Some part → end_of chips.blocks chip ≡ None
 no_end_by chips chip i part None is there = is
 no_end_by chips chip i part (Some e) is there = absurd (no_part chips chip e i part is there)
 
 -- ---- what a connection reaches and drives
 
-record ReachedBy (inner : Entry) (conns : List Connection) (name : List ℕ) (bit : ℕ) : Type 0 where
-  j : ℕ
-  conn : Connection
-  k : ℕ
-  here : slice_get conns j ≡ Some conn
-  named : conn.pin.name ≡ name
-  bit_is : first conn.pin.subscript + k ≡ bit
-  within : k < count conn.pin.subscript (width_of inner conn.pin.name)
+pub record ReachedBy (inner : Entry) (conns : List Connection) (name : List ℕ) (bit : ℕ) : Type 0 where
+  pub j : ℕ
+  pub conn : Connection
+  pub k : ℕ
+  pub here : slice_get conns j ≡ Some conn
+  pub named : conn.pin.name ≡ name
+  pub bit_is : first conn.pin.subscript + k ≡ bit
+  pub within : k < count conn.pin.subscript (width_of inner conn.pin.name)
 
-reached_by : (inner : Entry) (conns : List Connection) (name : List ℕ) (bit : ℕ) → some (reaches inner name bit) conns ≡ true → ReachedBy inner conns name bit
+pub reached_by : (inner : Entry) (conns : List Connection) (name : List ℕ) (bit : ℕ) → some (reaches inner name bit) conns ≡ true → ReachedBy inner conns name bit
 reached_by inner conns name bit h =
     let x = item_of (reaches inner name bit) conns h in
     let a = and_both (bytes_eq x.item.pin.name name) _ x.holds in
@@ -162,15 +162,15 @@ reached_by inner conns name bit h =
       within = omega arith;
     }
 
-record DrivenFrom (conn : Connection) (n : ℕ) (name : List ℕ) (bit : ℕ) : Type 0 where
-  w : Selection
-  k : ℕ
-  right : conn.source ≡ source.Net w
-  named : w.name ≡ name
-  bit_is : first w.subscript + k ≡ bit
-  within : k < n
+pub record DrivenFrom (conn : Connection) (n : ℕ) (name : List ℕ) (bit : ℕ) : Type 0 where
+  pub w : Selection
+  pub k : ℕ
+  pub right : conn.source ≡ source.Net w
+  pub named : w.name ≡ name
+  pub bit_is : first w.subscript + k ≡ bit
+  pub within : k < n
 
-driven_from : (conn : Connection) (n : ℕ) (name : List ℕ) (bit : ℕ) (s : Source) → conn.source ≡ s → drives_bits name bit n s ≡ true → DrivenFrom conn n name bit
+pub driven_from : (conn : Connection) (n : ℕ) (name : List ℕ) (bit : ℕ) (s : Source) → conn.source ≡ s → drives_bits name bit n s ≡ true → DrivenFrom conn n name bit
 driven_from conn n name bit (source.Constant b) right h = absurd cc
 driven_from conn n name bit (source.Net w) right h =
     let a = and_both (bytes_eq w.name name) _ h in
@@ -179,33 +179,33 @@ driven_from conn n name bit (source.Net w) right h =
     let high = le_by (suc bit) (first w.subscript + n) b.1 in
     record { w = w; k = bit - first w.subscript; right = right; named = (bytes_decides w.name name).0 a.0; bit_is = omega arith; within = omega arith }
 
-record DrivenOut (inner : Entry) (conn : Connection) (name : List ℕ) (bit : ℕ) : Type 0 where
-  width : ℕ
-  out : width_in inner.chip.outputs conn.pin.name ≡ Some width
-  from : DrivenFrom conn (count conn.pin.subscript width) name bit
+pub record DrivenOut (inner : Entry) (conn : Connection) (name : List ℕ) (bit : ℕ) : Type 0 where
+  pub width : ℕ
+  pub out : width_in inner.chip.outputs conn.pin.name ≡ Some width
+  pub from : DrivenFrom conn (count conn.pin.subscript width) name bit
 
-driven_out : (inner : Entry) (conn : Connection) (name : List ℕ) (bit : ℕ) (o : Option ℕ) → width_in inner.chip.outputs conn.pin.name ≡ o → drives_conn inner name bit conn o ≡ true → DrivenOut inner conn name bit
+pub driven_out : (inner : Entry) (conn : Connection) (name : List ℕ) (bit : ℕ) (o : Option ℕ) → width_in inner.chip.outputs conn.pin.name ≡ o → drives_conn inner name bit conn o ≡ true → DrivenOut inner conn name bit
 driven_out inner conn name bit None e h = absurd cc
 driven_out inner conn name bit (Some width) e h = record { width = width; out = e; from = driven_from conn (count conn.pin.subscript width) name bit conn.source refl h }
 
-record DrivenBy (chips : Chips) (parts : List Part) (name : List ℕ) (bit : ℕ) : Type 0 where
-  i : ℕ
-  part : Part
-  inner : Entry
-  j : ℕ
-  conn : Connection
-  there : slice_get parts i ≡ Some part
-  found : find_chip chips part.chip ≡ Some inner
-  here : slice_get part.connections j ≡ Some conn
-  out : DrivenOut inner conn name bit
+pub record DrivenBy (chips : Chips) (parts : List Part) (name : List ℕ) (bit : ℕ) : Type 0 where
+  pub i : ℕ
+  pub part : Part
+  pub inner : Entry
+  pub j : ℕ
+  pub conn : Connection
+  pub there : slice_get parts i ≡ Some part
+  pub found : find_chip chips part.chip ≡ Some inner
+  pub here : slice_get part.connections j ≡ Some conn
+  pub out : DrivenOut inner conn name bit
 
-driven_in : (chips : Chips) (parts : List Part) (name : List ℕ) (bit : ℕ) (i : ℕ) (part : Part) (o : Option Entry) → slice_get parts i ≡ Some part → find_chip chips part.chip ≡ o → drives_in name bit part.connections o ≡ true → DrivenBy chips parts name bit
+pub driven_in : (chips : Chips) (parts : List Part) (name : List ℕ) (bit : ℕ) (i : ℕ) (part : Part) (o : Option Entry) → slice_get parts i ≡ Some part → find_chip chips part.chip ≡ o → drives_in name bit part.connections o ≡ true → DrivenBy chips parts name bit
 driven_in chips parts name bit i part None there f h = absurd cc
 driven_in chips parts name bit i part (Some inner) there f h =
     let x = item_of (λ (conn : Connection). drives_conn inner name bit conn (width_in inner.chip.outputs conn.pin.name)) part.connections h in
     record { i = i; part = part; inner = inner; j = x.at; conn = x.item; there = there; found = f; here = x.there; out = driven_out inner x.item name bit (width_in inner.chip.outputs x.item.pin.name) refl x.holds }
 
-driven_by : (chips : Chips) (parts : List Part) (name : List ℕ) (bit : ℕ) → some (drives chips name bit) parts ≡ true → DrivenBy chips parts name bit
+pub driven_by : (chips : Chips) (parts : List Part) (name : List ℕ) (bit : ℕ) → some (drives chips name bit) parts ≡ true → DrivenBy chips parts name bit
 driven_by chips parts name bit h =
     let x = item_of (drives chips name bit) parts h in
     driven_in chips parts name bit x.at x.item (find_chip chips x.item.chip) x.there refl x.holds

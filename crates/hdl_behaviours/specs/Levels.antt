@@ -12,7 +12,7 @@ use Rattle.hdl_tree.specs.declared.ends.End.{End}
 use Rattle.hdl_tree.specs.declared.ends.End.TheVariants as ends
 use Rattle.hdl_tree.specs.Chips.{Chips, end_of, find_chip, parts_of}
 use Rattle.hdl_tree.specs.Writable.{all, is_among}
-use Rattle.hdl_check.specs.Tables.{find_value}
+use Rattle.name_table.specs.Names.{find_value}
 use Rattle.hdl_plans.specs.Plans.{is_input}
 
 -- ---- ways through chips

@@ -8,7 +8,7 @@ use Rattle.hdl_tree.specs.declared.ends.End.{End}
 use Rattle.hdl_tree.specs.declared.ends.End.TheVariants as ends
 use Rattle.hdl_tree.specs.Chips.{Chips, pin_width}
 use Rattle.hdl_tree.specs.Behaviour.{width_in}
-use Rattle.hdl_check.specs.Tables.{find_value}
+use Rattle.name_table.specs.Names.{find_value}
 use Rattle.hdl_plans.specs.Ways.{HasBit}
 use Rattle.hdl_behaviours.specs.Loopless.{IsWide, AreWide}
 use Rattle.hdl_behaviours.specs.Reads.{out_bits, HaveOutAlone}

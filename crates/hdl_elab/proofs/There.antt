@@ -30,12 +30,12 @@ use Rattle.hdl_elab.proofs.Trees.{Stands, part_in, stands_left, stands_right}
 all_by : {X : Type 0} (P : X → Type 0) (xs : List X) → ((k : ℕ) (x : X) → slice_get xs k ≡ Some x → P x) → All P xs
 all_by P xs h = λ k d lt. h k (get_or xs k d) (slice_get-get_or xs k d lt)
 
-joined : {X : Type 0} (xs ys : List X) (k : ℕ) (x : X) → slice_get (xs ++ ys) k ≡ Some x → (slice_get xs k ≡ Some x) ⊎ Stands ys x
+pub joined : {X : Type 0} (xs ys : List X) (k : ℕ) (x : X) → slice_get (xs ++ ys) k ≡ Some x → (slice_get xs k ≡ Some x) ⊎ Stands ys x
 joined [] ys k x e = inr (record { k = k; there = e })
 joined (y ∷ xs) ys zero x e = inl e
 joined (y ∷ xs) ys (suc k) x e = joined xs ys k x e
 
-left_of : {X : Type 0} (xs ys : List X) (k : ℕ) (x : X) → k < length xs → slice_get (xs ++ ys) k ≡ Some x → slice_get xs k ≡ Some x
+pub left_of : {X : Type 0} (xs ys : List X) (k : ℕ) (x : X) → k < length xs → slice_get (xs ++ ys) k ≡ Some x → slice_get xs k ≡ Some x
 left_of [] ys k x lt e = absurd (omega arith)
 left_of (y ∷ xs) ys zero x lt e = e
 left_of (y ∷ xs) ys (suc k) x lt e = left_of xs ys k x (omega arith) e
@@ -46,7 +46,7 @@ long_map f (x ∷ xs) = ap suc (long_map f xs)
 
 -- ---- the bits of pins
 
-bit_stands : (pins : List Pin) (k : ℕ) (p : Pin) → slice_get pins k ≡ Some p → (j : ℕ) (b : BitOf) → slice_get (bits_of p.name 0 (pin_width p)) j ≡ Some b → Stands (all_bits pins) b
+pub bit_stands : (pins : List Pin) (k : ℕ) (p : Pin) → slice_get pins k ≡ Some p → (j : ℕ) (b : BitOf) → slice_get (bits_of p.name 0 (pin_width p)) j ≡ Some b → Stands (all_bits pins) b
 bit_stands [] k p there j b e = absurd cc
 bit_stands (q ∷ pins) zero p there j b e =
     let same : q ≡ p = cc in
@@ -76,24 +76,24 @@ module _ (chips : Chips) (top : Entry) (e : Elab) (is : IsElaborated chips top e
 
 -- ---- the chip of a part of the tree stands at its path
 
-record IsWithin (chips : Chips) (i : ℕ) (parts : List Part) (p : PartIn) : Type 0 where
-  j : ℕ
-  rest : List ℕ
-  part : Part
-  inner : Entry
-  path : p.path ≡ (i + j) ∷ rest
-  there : slice_get parts j ≡ Some part
-  found : find_chip chips part.chip ≡ Some inner
-  at : chip_at chips inner rest ≡ Some p.chip
+pub record IsWithin (chips : Chips) (i : ℕ) (parts : List Part) (p : PartIn) : Type 0 where
+  pub j : ℕ
+  pub rest : List ℕ
+  pub part : Part
+  pub inner : Entry
+  pub path : p.path ≡ (i + j) ∷ rest
+  pub there : slice_get parts j ≡ Some part
+  pub found : find_chip chips part.chip ≡ Some inner
+  pub at : chip_at chips inner rest ≡ Some p.chip
 
-at_within : (chips : Chips) (top : Entry) (p : PartIn) → IsWithin chips 0 (parts_of chips top) p → chip_at chips top p.path ≡ Some p.chip
+pub at_within : (chips : Chips) (top : Entry) (p : PartIn) → IsWithin chips 0 (parts_of chips top) p → chip_at chips top p.path ≡ Some p.chip
 at_within chips top p w =
     let number : 0 + w.j ≡ w.j = omega arith in
     let inner : chip_of chips (slice_get (parts_of chips top) w.j) ≡ Some w.inner = ap (chip_of chips) w.there ∙ w.found in
     ap (chip_at chips top) (w.path ∙ ap (λ (n : ℕ). n ∷ w.rest) number) ∙ part_at chips top w.j w.rest w.inner p.chip inner w.at
 
 module _ (chips : Chips) where
-  listed_at : (i : ℕ) (parts : List Part) (listed : List PartIn) → AreListed chips i parts listed → (k : ℕ) (p : PartIn) → slice_get listed k ≡ Some p → IsWithin chips i parts p
+  pub listed_at : (i : ℕ) (parts : List Part) (listed : List PartIn) → AreListed chips i parts listed → (k : ℕ) (p : PartIn) → slice_get listed k ≡ Some p → IsWithin chips i parts p
   listed_at i parts listed none k p e = absurd cc
   listed_at i parts listed (next {part = q} {parts = ps} {chip = c} {inner = x} {others = y} f inside behind) zero p e =
       let same : part_in (i ∷ []) c ≡ p = cc in

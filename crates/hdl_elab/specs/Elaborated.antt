@@ -1,4 +1,5 @@
--- A chip as a netlist in order, with a directory of its pins and parts. (The book, chapters 1 to 3, and appendix 2.)
+-- A chip as a netlist with a directory of its pins and parts. That the netlist is in order is said beside it. (The
+-- book, chapters 1 to 3, and appendix 2.)
 use Rattle.std.specs.Prelude.{◌≡◌, ℕ, List, Some}
 use Rattle.hdl_tree.specs.declared.library.Entry.{Entry}
 use Rattle.hdl_tree.specs.Chips.{Chips, find_chip}

@@ -10,7 +10,8 @@ use Rattle.hdl_tree.specs.declared.library.Entry.{Entry}
 use Rattle.hdl_tree.specs.declared.ends.End.{End}
 use Rattle.hdl_tree.specs.Chips.{Chips, end_of, find_chip, parts_of, parts_of_body, parts_unless, first}
 use Rattle.hdl_tree.specs.Behaviour.{Wires, chip_of, chip_at, source_value, Joins, Each, UndrivenIsLow, PartWired, PartsWired, ChipWired, Wired}
-use Rattle.hdl_check.specs.Tables.{BitOf, first_of}
+use Rattle.name_table.specs.Names.{first_of}
+use Rattle.hdl_check.specs.Tables.{BitOf}
 use Rattle.hdl_plans.specs.Plans.{is_input, IsPlan, IsDriver}
 use Rattle.hdl_plans.specs.Planned.{plan_of, output_of}
 use Rattle.hdl_plans.proofs.Unjoined.{faultless_plan}

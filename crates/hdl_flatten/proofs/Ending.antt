@@ -8,7 +8,7 @@ use Rattle.hdl_tree.specs.declared.ends.End.{End}
 use Rattle.hdl_tree.specs.declared.ends.End.TheVariants as ends
 use Rattle.hdl_tree.specs.Chips.{Chips, pin_width}
 use Rattle.hdl_tree.specs.Behaviour.{width_in}
-use Rattle.hdl_check.specs.Tables.{find_value}
+use Rattle.name_table.specs.Names.{find_value}
 use Rattle.hdl_plans.specs.Plans.{is_input, EndFits}
 use Rattle.hdl_plans.specs.Planned.{HasEnds}
 use Rattle.hdl_flatten.specs.Ends.{named_pins, end_inputs, end_outputs, HasPins, EndsHavePins}

@@ -7,7 +7,8 @@ use Rattle.hdl_tree.specs.declared.ends.End.{End}
 use Rattle.hdl_tree.specs.declared.ends.End.TheVariants as ends
 use Rattle.hdl_tree.specs.Chips.{Chips, end_of, parts_of, parts_of_body, parts_unless}
 use Rattle.hdl_tree.specs.Behaviour.{Wires, chip_of, chip_at, ChipWired, Wired}
-use Rattle.hdl_check.specs.Tables.{BitOf, bits_of, first_of}
+use Rattle.name_table.specs.Names.{first_of}
+use Rattle.hdl_check.specs.Tables.{BitOf, bits_of}
 use Rattle.hdl_plans.specs.Plans.{is_input}
 use Rattle.hdl_plans.proofs.Walks.{at_part}
 use Rattle.netlist.specs.declared.node.Node.{Node}

@@ -14,7 +14,8 @@ use Rattle.hdl_tree.specs.declared.ends.End.{End}
 use Rattle.hdl_tree.specs.declared.ends.End.TheVariants as ends
 use Rattle.hdl_tree.specs.Chips.{Chips, end_of, find_chip, pin_width}
 use Rattle.hdl_tree.specs.Behaviour.{Wires, chip_at, ChipWired}
-use Rattle.hdl_check.specs.Tables.{BitOf, bits_of, is_in, first_of}
+use Rattle.name_table.specs.Names.{first_of}
+use Rattle.hdl_check.specs.Tables.{BitOf, bits_of, is_in}
 use Rattle.hdl_check.specs.Faults.{pin_name, twice_fault, pin_fault}
 use Rattle.hdl_check.specs.Locations.{AtPin, unless}
 use Rattle.hdl_check.specs.declared.fault.NamedFault.{NamedFault}

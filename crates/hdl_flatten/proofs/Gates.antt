@@ -9,7 +9,8 @@ use Rattle.hdl_tree.specs.declared.tree.Part.{Part}
 use Rattle.hdl_tree.specs.declared.ends.End.{End}
 use Rattle.hdl_tree.specs.Chips.{Chips, end_of, parts_of, first, count}
 use Rattle.hdl_tree.specs.Behaviour.{width_in}
-use Rattle.hdl_check.specs.Tables.{BitOf, find_value, first_of}
+use Rattle.name_table.specs.Names.{find_value, first_of}
+use Rattle.hdl_check.specs.Tables.{BitOf}
 use Rattle.hdl_check.specs.Faults.{ports_of}
 use Rattle.hdl_check.specs.declared.check.Port.{Port}
 use Rattle.hdl_plans.specs.Plans.{is_input}

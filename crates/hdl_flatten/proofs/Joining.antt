@@ -6,7 +6,8 @@ use Rattle.hdl_tree.specs.declared.tree.Part.{Part}
 use Rattle.hdl_tree.specs.declared.library.Entry.{Entry}
 use Rattle.hdl_tree.specs.Chips.{Chips, end_of, find_chip, parts_of, first, count}
 use Rattle.hdl_tree.specs.Behaviour.{Wires, width_in, width_of, source_value, reaches, some}
-use Rattle.hdl_check.specs.Tables.{BitOf, first_of}
+use Rattle.name_table.specs.Names.{first_of}
+use Rattle.hdl_check.specs.Tables.{BitOf}
 use Rattle.hdl_check.specs.Faults.{ports_of}
 use Rattle.hdl_plans.specs.Plans.{Origin, Low, is_input, IsPlan}
 use Rattle.hdl_plans.specs.Planned.{origin_at as text_origin, origin_in, origin_among, plan_of}

@@ -11,7 +11,8 @@ use Rattle.hdl_tree.specs.declared.library.Entry.{Entry}
 use Rattle.hdl_tree.specs.declared.ends.End.{End}
 use Rattle.hdl_tree.specs.declared.ends.End.TheVariants as ends
 use Rattle.hdl_tree.specs.Chips.{Chips, end_of, parts_of, pin_width, first, count}
-use Rattle.hdl_check.specs.Tables.{BitOf, first_of, bits_of}
+use Rattle.name_table.specs.Names.{first_of}
+use Rattle.hdl_check.specs.Tables.{BitOf, bits_of}
 use Rattle.hdl_check.specs.Faults.{ports_of}
 use Rattle.hdl_check.specs.declared.check.Port.{Port}
 use Rattle.hdl_check.proofs.Rows.{take_next}

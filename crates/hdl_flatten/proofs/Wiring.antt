@@ -5,7 +5,8 @@ use Rattle.std.specs.Map.{lookup}
 use Rattle.std.specs.Cmp.Lexicographic.{bytes_decides}
 use Rattle.std.proofs.lemmas.Bool.Decides.{Decides-eqb}
 use Rattle.indexmap.specs.IndexMap.{insert_entry}
-use Rattle.hdl_check.specs.Tables.{BitOf, first_of}
+use Rattle.name_table.specs.Names.{first_of}
+use Rattle.hdl_check.specs.Tables.{BitOf}
 use Rattle.hdl_check.proofs.MarkLemmas.{both}
 use Rattle.hdl_flatten.specs.declared.wires.Bit.{Bit}
 use Rattle.hdl_flatten.specs.declared.wires.Origin.{Origin}

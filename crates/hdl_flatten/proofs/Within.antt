@@ -11,7 +11,8 @@ use Rattle.hdl_tree.specs.declared.tree.Part.{Part}
 use Rattle.hdl_tree.specs.declared.ends.End.{End}
 use Rattle.hdl_tree.specs.declared.ends.End.TheVariants as ends
 use Rattle.hdl_tree.specs.Chips.{Chips, end_of, parts_of, first, count, pin_width}
-use Rattle.hdl_check.specs.Tables.{BitOf, bits_of, find_value, first_of}
+use Rattle.name_table.specs.Names.{find_value, first_of}
+use Rattle.hdl_check.specs.Tables.{BitOf, bits_of}
 use Rattle.hdl_check.specs.Faults.{ports_of}
 use Rattle.hdl_check.specs.declared.check.Port.{Port}
 use Rattle.hdl_flatten.specs.declared.size.Size.{Size}

@@ -4,7 +4,7 @@ ghost use Rattle.std.specs.Prelude.{◌≡◌, ℕ, ◌+◌, ◌<◌, ◌≤◌,
 ghost use Rattle.hdl_tree.specs.Chips.{end_of};
 ghost use Rattle.hdl_tree.specs.declared.library.Entry.{Entry};
 ghost use Rattle.hdl_check.specs.Faults.{ports_of};
-ghost use Rattle.hdl_check.specs.Inner.Entered.{Finds};
+ghost use Rattle.name_table.specs.Tables.{Finds};
 ghost use Rattle.hdl_check.specs.Inner.Progress.{IsCatalog, chips_of};
 ghost use Rattle.hdl_check.specs.declared.check.Port.{Port};
 ghost use Rattle.hdl_flatten.specs.Ends.{EndsHavePins};
@@ -18,8 +18,9 @@ ghost use Rattle.hdl_flatten.specs.declared.wires.Origin.TheVariants.{Input, Gat
 use crate::nest::{Nested, entry_at, parts_in};
 use crate::size::{Size, add, count_nodes, join};
 use crate::wires::{Bit, Origin, Wires, bits_of_pins, origins_of};
-use hdl_check::{Catalog, Port, Table, count_bits, first_bit};
+use hdl_check::{Catalog, Port, count_bits, first_bit};
 use hdl_tree::{Connection, End, Entry, Part, Source, find_end};
+use name_table::Table;
 use std::alloc::{AllocError, Global};
 
 /// A part: the place of its chip, the number of nodes of the chip before it, and what feeds each of its input bits.

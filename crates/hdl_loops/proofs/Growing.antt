@@ -11,8 +11,8 @@ use Rattle.hdl_check.proofs.MarkLemmas.{both}
 use Rattle.hdl_plans.specs.Loops.{BitAt, bit_at}
 use Rattle.hdl_plans.specs.Ways.{Chain, Way}
 use Rattle.hdl_plans.proofs.Walks.{one_step}
-use Rattle.hdl_loops.specs.Inner.Hops.{bit, is_bit, HasHop, Linked, AllIn, IsWay, NoRound}
-use Rattle.hdl_loops.specs.Inner.Trees.{place_in, is_marked, IsReached, Behind, Comes, IsBefore, IsNode, IsTree, KeepsMarks, IsFollowed, IsLeft, Adds, IsClosed, IsGrown, open_hops, IsBack, steps_left}
+use Rattle.hdl_loops.specs.Inner.Hops.{bit, is_bit, HasHop, Linked, AllIn, IsDirect, IsWay, NoRound}
+use Rattle.hdl_loops.specs.Inner.Trees.{place_in, is_marked, IsReached, Behind, Comes, IsNoLater, IsBefore, IsNode, IsTree, KeepsMarks, IsFollowed, IsLeft, LeftBelow, LeftBefore, StandLater, Adds, IsClosed, IsGrown, open_hops, IsBack, steps_left}
 use Rattle.hdl_loops.specs.Inner.Leaving.{latest_from, IsFrom, IsPast, Leaves, LeavesIn, IsLinked}
 use Rattle.hdl_loops.specs.Inner.Ranked.{rank_at, Rise, AllRise}
 use Rattle.hdl_loops.specs.declared.hops.BitOf.{BitOf}
@@ -91,10 +91,10 @@ some_of (Some v) h = (v, refl)
 -- ---- marks
 
 pub keeps_refl : (t : Tree) → KeepsMarks t t
-keeps_refl t = record { root = refl; nodes = λ j node e. e; marks = λ n b h. h }
+keeps_refl t = record { root = refl; nodes = λ j node e. e; places = λ n b j h. h; marks = λ n b h. h }
 
 pub keeps_on : (a b c : Tree) → KeepsMarks a b → KeepsMarks b c → KeepsMarks a c
-keeps_on a b c h g = record { root = g.root ∙ h.root; nodes = λ j node e. g.nodes j node (h.nodes j node e); marks = λ n x k. g.marks n x (h.marks n x k) }
+keeps_on a b c h g = record { root = g.root ∙ h.root; nodes = λ j node e. g.nodes j node (h.nodes j node e); places = λ n x j k. g.places n x j (h.places n x j k); marks = λ n x k. g.marks n x (h.marks n x k) }
 
 -- ---- fewer hops lead to what is not reached
 
@@ -148,6 +148,17 @@ new_tree t places nodes hs = record {
 
 -- ---- a hop is added
 
+pub order : (k q : ℕ) → (k < q) ⊎ ((q ≡ k) ⊎ (q < k))
+order zero zero = inr (inl refl)
+order zero (suc q) = inl (omega arith)
+order (suc k) zero = inr (inr (omega arith))
+order (suc k) (suc q) = by (order k q)
+  where
+    by : (k < q) ⊎ ((q ≡ k) ⊎ (q < k)) → (suc k < suc q) ⊎ ((suc q ≡ suc k) ⊎ (suc q < suc k))
+    by (inl lt) = inl (omega (arith, lt))
+    by (inr (inl e)) = inr (inl (ap suc e))
+    by (inr (inr lt)) = inr (inr (omega (arith, lt)))
+
 module _ (hs : List Hop) (old new : Tree) (hop : Hop) (before : Option ℕ) (adds : Adds old new hop before) where
   place_kept : (x : BitAt) (j : ℕ) → place_in old x ≡ Some j → place_in new x ≡ Some j
   place_kept x j h = ap (lookup (is_bit x)) adds.places ∙ push_some (is_bit x) old.places.entries (hop.to, length old.nodes.items) j h
@@ -159,30 +170,88 @@ module _ (hs : List Hop) (old new : Tree) (hop : Hop) (before : Option ℕ) (add
   root_is = ap bit adds.root
 
   pub added_keeps : KeepsMarks old new
-  added_keeps = record { root = root_is; nodes = node_kept; marks = λ n b h. let p = some_of (place_in old (bit_at [] n b)) h in ap is_some (place_kept (bit_at [] n b) p.0 p.1) }
+  added_keeps = record { root = root_is; nodes = node_kept; places = λ n b j h. place_kept (bit_at [] n b) j h; marks = λ n b h. let p = some_of (place_in old (bit_at [] n b)) h in ap is_some (place_kept (bit_at [] n b) p.0 p.1) }
 
   behind_kept : (o : Option ℕ) (x : BitAt) → Behind old.nodes.items (bit old.root) o x → Behind new.nodes.items (bit new.root) o x
   behind_kept None x h = root_is ∙ h
   behind_kept (Some i) x h = (h.0, node_kept i h.0 h.1, h.2)
 
-  pub added_marks : is_marked old (bit hop.to) ≡ false → is_marked new (bit hop.to) ≡ true
-  added_marks none =
+  added_place : is_marked old (bit hop.to) ≡ false → place_in new (bit hop.to) ≡ Some (length old.nodes.items)
+  added_place none =
       let p : BitOf × ℕ = (hop.to, length old.nodes.items) in
-      ap is_some (ap (lookup (is_bit (bit hop.to))) adds.places ∙ (push_none (is_bit (bit hop.to)) old.places.entries p (none_of (place_in old (bit hop.to)) none) ∙ ap (λ (b : Bool). cond b (Some p.1) None) (bit_same hop.to)))
+      ap (lookup (is_bit (bit hop.to))) adds.places ∙ (push_none (is_bit (bit hop.to)) old.places.entries p (none_of (place_in old (bit hop.to)) none) ∙ ap (λ (b : Bool). cond b (Some p.1) None) (bit_same hop.to))
 
-  module _ (tree : IsTree hs old) (number : ℕ) (inside : slice_get hs number ≡ Some hop) (comes : Comes old before (bit hop.from)) (none : is_marked old (bit hop.to) ≡ false) where
+  pub added_marks : is_marked old (bit hop.to) ≡ false → is_marked new (bit hop.to) ≡ true
+  added_marks none = ap is_some (added_place none)
+
+  -- what has a place had it, or is the new one
+  new_by : (n : List ℕ) (b j : ℕ) (t : Bool) → is_bit (bit_at [] n b) hop.to ≡ t → cond t (Some (length old.nodes.items)) None ≡ Some j → j ≡ length old.nodes.items
+  new_by n b j false e h = absurd cc
+  new_by n b j true e h = cc
+
+  place_cases : (n : List ℕ) (b j : ℕ) (o : Option ℕ) → place_in old (bit_at [] n b) ≡ o → place_in new (bit_at [] n b) ≡ Some j → (place_in old (bit_at [] n b) ≡ Some j) ⊎ (j ≡ length old.nodes.items)
+  place_cases n b j (Some i) e h =
+      let kept = place_kept (bit_at [] n b) i e in
+      let same : i ≡ j = cc in
+      inl (e ∙ ap Some same)
+  place_cases n b j None e h =
+      let x = bit_at [] n b in
+      let p : BitOf × ℕ = (hop.to, length old.nodes.items) in
+      inr (new_by n b j (is_bit x hop.to) refl (sym (ap (lookup (is_bit x)) adds.places ∙ push_none (is_bit x) old.places.entries p e) ∙ h))
+
+  comes_kept : (o : Option ℕ) (x : BitOf) → Comes old o (bit x) → Comes new o (bit x)
+  comes_kept None x h = root_is ∙ h
+  comes_kept (Some i) x h = (place_kept (bit x) i h.0, λ r. h.1 (sym root_is ∙ r))
+
+  module _ (tree : IsTree hs old) (number : ℕ) (inside : slice_get hs number ≡ Some hop) (comes : Comes old before (bit hop.from)) (left : LeftBefore hs old (bit hop.from)) (none : is_marked old (bit hop.to) ≡ false) where
     before_less : (o : Option ℕ) → Comes old o (bit hop.from) → IsBefore o (length old.nodes.items)
     before_less None h = tt
-    before_less (Some i) h = let p = tree.places hop.from.name.now hop.from.bit i h in slice_get_within old.nodes.items i p.0 p.1
+    before_less (Some i) h = let p = tree.places hop.from.name.now hop.from.bit i h.0 in slice_get_within old.nodes.items i p.0 p.1
 
     behind_new : (o : Option ℕ) → Comes old o (bit hop.from) → Behind old.nodes.items (bit old.root) o (bit hop.from)
     behind_new None h = h
-    behind_new (Some i) h = tree.places hop.from.name.now hop.from.bit i h
+    behind_new (Some i) h = tree.places hop.from.name.now hop.from.bit i h.0
+
+    not_marked : (q : ℕ) (g : Hop) (y : BitAt) → slice_get hs q ≡ Some g → bit g.to ≡ bit hop.to → bit g.from ≡ y → IsLeft hs old y → ⊥
+    not_marked q g y e to from is =
+        let m : is_marked old (bit g.to) ≡ true = is q g e from in
+        let f : true ≡ false = sym (ap (is_marked old) (sym to) ∙ m) ∙ none in
+        cc
+
+    -- no hop from an earlier bit leads to the new one
+    new_at : (k : ℕ) → Comes old (Some k) (bit hop.from) → (q : ℕ) (g : Hop) (i : ℕ) → slice_get hs q ≡ Some g → bit g.to ≡ bit hop.to → (place_in old (bit g.from) ≡ Some i) ⊎ (i ≡ length old.nodes.items) → k ≤ i
+    new_at k come q g i e to (inr is) = let p = tree.places hop.from.name.now hop.from.bit k come.0 in let lt = slice_get_within old.nodes.items k p.0 p.1 in omega (arith, lt, is)
+    new_at k come q g i e to (inl at) = by (order k i)
+      where
+        by : (k < i) ⊎ ((i ≡ k) ⊎ (i < k)) → k ≤ i
+        by (inl lt) = omega (arith, lt)
+        by (inr (inl same)) = omega (arith, same)
+        by (inr (inr lt)) =
+            let p = tree.places g.from.name.now g.from.bit i at in
+            absurd (not_marked q g (bit p.0.hop.to) e to (sym p.2) ((left k come).nodes i p.0 lt p.1))
+
+    new_first : (o : Option ℕ) → Comes old o (bit hop.from) → (q : ℕ) (g : Hop) (p : Option ℕ) → slice_get hs q ≡ Some g → bit g.to ≡ bit hop.to → Comes new p (bit g.from) → IsNoLater o p
+    new_first None come q g p e to c = tt
+    new_first (Some k) come q g None e to c = not_marked q g (bit old.root) e to (sym (sym root_is ∙ c)) (left k come).root
+    new_first (Some k) come q g (Some i) e to c = new_at k come q g i e to (place_cases g.from.name.now g.from.bit i (place_in old (bit g.from)) refl c.0)
+
+    -- what was first still is
+    earlier : (o : Option ℕ) (j i : ℕ) → IsBefore o j → j < i → IsNoLater o (Some i)
+    earlier None j i h lt = tt
+    earlier (Some p) j i h lt = omega (arith, h, lt)
+
+    old_at : (j : ℕ) (node : Node) → slice_get old.nodes.items j ≡ Some node → (q : ℕ) (g : Hop) (i : ℕ) → slice_get hs q ≡ Some g → bit g.to ≡ bit node.hop.to → Comes new (Some i) (bit g.from) → (place_in old (bit g.from) ≡ Some i) ⊎ (i ≡ length old.nodes.items) → IsNoLater node.before (Some i)
+    old_at j node at q g i e to c (inl was) = (tree.nodes j node at).first q g (Some i) e to (was, λ r. c.1 (root_is ∙ r))
+    old_at j node at q g i e to c (inr is) = let lt = slice_get_within old.nodes.items j node at in earlier node.before j i (tree.nodes j node at).before (omega (arith, lt, is))
+
+    old_first : (j : ℕ) (node : Node) → slice_get old.nodes.items j ≡ Some node → (q : ℕ) (g : Hop) (o : Option ℕ) → slice_get hs q ≡ Some g → bit g.to ≡ bit node.hop.to → Comes new o (bit g.from) → IsNoLater node.before o
+    old_first j node at q g None e to c = (tree.nodes j node at).first q g None e to (sym root_is ∙ c)
+    old_first j node at q g (Some i) e to c = old_at j node at q g i e to c (place_cases g.from.name.now g.from.bit i (place_in old (bit g.from)) refl c.0)
 
     new_node : (j : ℕ) (node : Node) → (slice_get old.nodes.items j ≡ Some node) ⊎ ((j ≡ length old.nodes.items) × (record { hop = hop; before = before } ≡ node)) → IsNode hs new j node
-    new_node j node (inl e) = let r = tree.nodes j node e in record { number = r.number; inside = r.inside; before = r.before; behind = behind_kept node.before (bit node.hop.from) r.behind; marked = added_keeps.marks node.hop.to.name.now node.hop.to.bit r.marked }
+    new_node j node (inl e) = let r = tree.nodes j node e in record { number = r.number; inside = r.inside; before = r.before; behind = behind_kept node.before (bit node.hop.from) r.behind; marked = added_keeps.marks node.hop.to.name.now node.hop.to.bit r.marked; own = place_kept (bit node.hop.to) j r.own; comes = comes_kept node.before node.hop.from r.comes; first = old_first j node e }
     new_node j node (inr e) =
-        let made : IsNode hs new (length old.nodes.items) (record { hop = hop; before = before }) = record { number = number; inside = inside; before = before_less before comes; behind = behind_kept before (bit hop.from) (behind_new before comes); marked = added_marks none } in
+        let made : IsNode hs new (length old.nodes.items) (record { hop = hop; before = before }) = record { number = number; inside = inside; before = before_less before comes; behind = behind_kept before (bit hop.from) (behind_new before comes); marked = added_marks none; own = added_place none; comes = comes_kept before hop.from comes; first = new_first before comes } in
         subst (λ (i : ℕ). IsNode hs new i node) (sym e.0) (subst (IsNode hs new (length old.nodes.items)) e.1 made)
 
     abbrev Stands : List ℕ → ℕ → ℕ → Type 0
@@ -258,7 +327,7 @@ node_way hs t tree j node e = node_below hs t tree (suc j) j node e (omega arith
 -- ---- the way back
 
 pub back_start : (hs : List Hop) (t : Tree) (j : ℕ) (node : Node) → slice_get t.nodes.items j ≡ Some node → IsBack hs t (Some j) [] (bit node.hop.to)
-back_start hs t j node e = record { x = bit node.hop.to; stands = (node, e, refl); linked = refl; inside = λ p h f. absurd cc; some = λ f. absurd cc; few = let lt = slice_get_within t.nodes.items j node e in omega (arith, lt) }
+back_start hs t j node e = record { x = bit node.hop.to; stands = (node, e, refl); linked = refl; inside = λ p h f. absurd cc; later = λ p h f. absurd cc; direct = λ i j q h g f lt p e k a c. absurd cc; some = λ f. absurd cc; few = let lt = slice_get_within t.nodes.items j node e in omega (arith, lt) }
 
 abbrev IsIn : List Hop → Hop → Type 0
 IsIn hs h = (q : ℕ) × (slice_get hs q ≡ Some h)
@@ -274,6 +343,40 @@ back_less hs t j node tree e = by node.before (tree.nodes j node e).before
     by None h = omega arith
     by (Some i) h = omega (arith, h)
 
+-- what stands no earlier than a place stands later than what is before that
+later_on : (o b : Option ℕ) (j : ℕ) → IsBefore o j → IsNoLater (Some j) b → IsNoLater o b
+later_on None b j h l = tt
+later_on (Some p) None j h l = l
+later_on (Some p) (Some q) j h l = omega (arith, h, l)
+
+no_later_self : (o : Option ℕ) → IsNoLater o o
+no_later_self None = tt
+no_later_self (Some p) = omega arith
+
+not_both : (o b : Option ℕ) (j : ℕ) → IsBefore o j → IsNoLater (Some j) b → IsNoLater b o → ⊥
+not_both None None j h l m = l
+not_both None (Some q) j h l m = m
+not_both (Some p) None j h l m = l
+not_both (Some p) (Some q) j h l m = omega (arith, h, l, m)
+
+more_later : (hs : List Hop) (t : Tree) (j : ℕ) (node : Node) (ws : List Hop) → IsTree hs t → slice_get t.nodes.items j ≡ Some node → StandLater t (Some j) ws → StandLater t node.before (node.hop ∷ ws)
+more_later hs t j node ws tree e later zero h f = (j, node, e, cc, no_later_self node.before)
+more_later hs t j node ws tree e later (suc i) h f =
+    let r = later i h f in
+    (r.0, r.1, r.2, r.3, later_on node.before r.1.before j (tree.nodes j node e).before r.4)
+
+more_direct : (hs : List Hop) (t : Tree) (j : ℕ) (node : Node) (ws : List Hop) → IsTree hs t → slice_get t.nodes.items j ≡ Some node → StandLater t (Some j) ws → IsDirect hs ws → IsDirect hs (node.hop ∷ ws)
+more_direct hs t j node ws tree e later direct i zero q h g f lt a b c from to = absurd (omega (arith, lt))
+more_direct hs t j node ws tree e later direct (suc i) (suc k) q h g f lt a b c from to = direct i k q h g f (omega (arith, lt)) a b c from to
+more_direct hs t j node ws tree e later direct zero (suc k) q h g f lt a b c from to =
+    let here : node.hop ≡ h = cc in
+    let r = tree.nodes j node e in
+    let l = later k g b in
+    let from_is : bit f.from ≡ bit node.hop.from = from ∙ ap (λ (v : Hop). bit v.from) (sym here) in
+    let to_is : bit f.to ≡ bit l.1.hop.to = to ∙ ap (λ (v : Hop). bit v.to) (sym l.3) in
+    let comes : Comes t node.before (bit f.from) = subst (Comes t node.before) (sym from_is) r.comes in
+    not_both node.before l.1.before j r.before l.4 ((tree.nodes l.0 l.1 l.2).first q f node.before c to_is comes)
+
 pub back_more : (hs : List Hop) (t : Tree) (j : ℕ) (node : Node) (ws more : List Hop) (to : BitAt) → IsTree hs t → slice_get t.nodes.items j ≡ Some node → more ≡ node.hop ∷ ws → IsBack hs t (Some j) ws to → IsBack hs t node.before more to
 back_more hs t j node ws more to tree e is b =
     let r = tree.nodes j node e in
@@ -288,6 +391,8 @@ back_more hs t j node ws more to tree e is b =
       stands = r.behind;
       linked = (refl, linked);
       inside = more_inside hs ws node.hop (r.number, r.inside) b.inside;
+      later = more_later hs t j node ws tree e b.later;
+      direct = more_direct hs t j node ws tree e b.later b.direct;
       some = λ f. omega arith;
       few = let less = back_less hs t j node tree e in let was = b.few in omega (arith, less, was);
     })
@@ -296,7 +401,7 @@ pub back_within : (hs : List Hop) (t : Tree) (j : ℕ) (ws : List Hop) (to : Bit
 back_within hs t j ws to b = slice_get_within t.nodes.items j b.stands.0 b.stands.1
 
 pub back_way : (hs : List Hop) (t : Tree) (ws : List Hop) (to : BitAt) → IsTree hs t → IsBack hs t None ws to → IsWay hs (bit t.root) ws to
-back_way hs t ws to tree b = record { some = b.some refl; few = (let n = b.few in let m = tree.few in omega (arith, n, m)); linked = subst (λ (v : BitAt). Linked v ws to) (sym b.stands) b.linked; inside = b.inside }
+back_way hs t ws to tree b = record { some = b.some refl; few = (let n = b.few in let m = tree.few in omega (arith, n, m)); linked = subst (λ (v : BitAt). Linked v ws to) (sym b.stands) b.linked; inside = b.inside; direct = b.direct }
 
 -- ---- circles
 
@@ -360,7 +465,7 @@ left_kept hs a b x keeps left p h e f = keeps.marks h.to.name.now h.to.bit (left
 abbrev pub IsLeftPast : List Hop → Tree → BitAt → Option ℕ → Type 0
 IsLeftPast hs t x o = (q : ℕ) (h : Hop) → slice_get hs q ≡ Some h → bit h.from ≡ x → IsPast o q → is_marked t (bit h.to) ≡ true
 
-not_past : (o : Option ℕ) (q : ℕ) → IsFrom o q → IsPast o q → ⊥
+pub not_past : (o : Option ℕ) (q : ℕ) → IsFrom o q → IsPast o q → ⊥
 not_past None q f p = f
 not_past (Some r) q f p = omega (arith, f, p)
 
@@ -390,20 +495,34 @@ past_by hs l t new k o x linked at e keeps here was q h there from past (inr (in
 past_by hs l t new k o x linked at e keeps here was q h there from past (inr (inr lt)) =
     absurd (not_past o q (linked.links k q at.0 h o (slice_get_within hs k at.0 at.1) at.1 there (from ∙ sym at.2) lt e) past)
 
-order : (k q : ℕ) → (k < q) ⊎ ((q ≡ k) ⊎ (q < k))
-order zero zero = inr (inl refl)
-order zero (suc q) = inl (omega arith)
-order (suc k) zero = inr (inr (omega arith))
-order (suc k) (suc q) = by (order k q)
-  where
-    by : (k < q) ⊎ ((q ≡ k) ⊎ (q < k)) → (suc k < suc q) ⊎ ((suc q ≡ suc k) ⊎ (suc q < suc k))
-    by (inl lt) = inl (omega (arith, lt))
-    by (inr (inl e)) = inr (inl (ap suc e))
-    by (inr (inr lt)) = inr (inr (omega (arith, lt)))
-
 pub past_more : (hs : List Hop) (l : Leaving) (t new : Tree) (k : ℕ) (o : Option ℕ) (x : BitAt) → IsLinked hs l (length hs) → Leaves hs k x → slice_get l.before.items k ≡ Some o → KeepsMarks t new → IsFollowed hs k t new → IsReached t x → IsLeftPast hs t x (Some k) → IsLeftPast hs new x o
 past_more hs l t new k o x linked at e keeps followed reached was q h there from past =
     past_by hs l t new k o x linked at e keeps (followed at.0 at.1 (subst (IsReached t) (sym at.2) reached)) was q h there from past (order k q)
+
+-- ---- what stands before a bit is left
+
+module _ (hs : List Hop) (a b : Tree) (tree : IsTree hs a) (keeps : KeepsMarks a b) where
+  pub below_kept : (k : ℕ) → k ≤ length a.nodes.items → LeftBelow hs a k → LeftBelow hs b k
+  below_kept k le l = record {
+    root = subst (IsLeft hs b) (sym keeps.root) (left_kept hs a b (bit a.root) keeps l.root);
+    nodes = λ j node lt at.
+        let old = there_at a.nodes.items j (omega (arith, lt, le)) in
+        let f = keeps.nodes j old.0 old.1 in
+        let same : old.0 ≡ node = cc in
+        subst (λ (v : Node). IsLeft hs b (bit v.hop.to)) same (left_kept hs a b (bit old.0.hop.to) keeps (l.nodes j old.0 lt old.1));
+  }
+
+  pub before_kept : (x : BitOf) → IsReached a (bit x) → LeftBefore hs a (bit x) → LeftBefore hs b (bit x)
+  before_kept x (inl e) left j c = absurd (c.1 (keeps.root ∙ e))
+  before_kept x (inr m) left j c =
+      let p = some_of (place_in a (bit x)) m in
+      let q = keeps.places x.name.now x.bit p.0 p.1 in
+      let at = c.0 in
+      let same : p.0 ≡ j = cc in
+      let there : place_in a (bit x) ≡ Some j = p.1 ∙ ap Some same in
+      let n = tree.places x.name.now x.bit j there in
+      let lt = slice_get_within a.nodes.items j n.0 n.1 in
+      below_kept j (omega (arith, lt)) (left j (there, λ r. c.1 (keeps.root ∙ r)))
 
 pub reached_kept : (a b : Tree) (n : List ℕ) (k : ℕ) → KeepsMarks a b → IsReached a (bit_at [] n k) → IsReached b (bit_at [] n k)
 reached_kept a b n k keeps (inl e) = inl (keeps.root ∙ e)

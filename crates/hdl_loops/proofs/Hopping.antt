@@ -14,12 +14,12 @@ use Rattle.hdl_check.proofs.MarkLemmas.{both}
 use Rattle.hdl_plans.specs.Plans.{is_input}
 use Rattle.hdl_plans.specs.Loops.{BitAt}
 use Rattle.hdl_loops.specs.Inner.Hops.{bit, HasHop}
-use Rattle.hdl_loops.specs.Inner.Ties.{Tie, tie, ties_below, ties_by, ties_in, gather}
+use Rattle.hdl_loops.specs.Inner.Ties.{In, Tie, tie, ties_below, ties_by, ties_in, gather}
 use Rattle.hdl_loops.specs.Inner.Told.{Connects, HasConnection}
 use Rattle.hdl_loops.specs.Inner.Knowing.{Leap, leap_of, leaps_of, leap_by, leaps_from, leaps_through, ties_for, leaps_at, part_leaps, place_of, crosses, IsGraph, IsHop, AreHops}
 use Rattle.hdl_loops.specs.declared.hops.Hop.{Hop}
 use Rattle.hdl_loops.specs.declared.known.Known.{Known}
-use Rattle.hdl_loops.proofs.Lists.{In, in_left, in_right, in_either, in_gather, gathered, get_in, in_get, in_map, mapped}
+use Rattle.hdl_loops.proofs.Lists.{in_left, in_right, in_either, in_gather, gathered, get_in, in_get, in_map, mapped}
 use Rattle.hdl_loops.proofs.Placing.{place_found}
 
 -- ---- joints
@@ -81,11 +81,11 @@ tie_there inner part j conn w k input here right way within =
 
 -- ---- hops of a part
 
-record Made (chips : Chips) (known : List (Option Known)) (k : ℕ) (a b : Tie) (leap : Leap) : Type 0 where
-  enters : a.input ≡ true
-  leaves : b.input ≡ false
-  crosses_it : crosses chips known k a.pin b.pin ≡ true
-  is : record { from = a.net; chip = k; input = a.pin; output = b.pin; to = b.net } ≡ leap
+pub record Made (chips : Chips) (known : List (Option Known)) (k : ℕ) (a b : Tie) (leap : Leap) : Type 0 where
+  pub enters : a.input ≡ true
+  pub leaves : b.input ≡ false
+  pub crosses_it : crosses chips known k a.pin b.pin ≡ true
+  pub is : record { from = a.net; chip = k; input = a.pin; output = b.pin; to = b.net } ≡ leap
 
 not_true : (b : Bool) → not b ≡ true → b ≡ false
 not_true false h = refl
@@ -100,7 +100,7 @@ made_by chips known k a b leap true e (inl h) =
     let q = both (not b.input) (crosses chips known k a.pin b.pin) p.1 in
     record { enters = p.0; leaves = not_true b.input q.0; crosses_it = q.1; is = h }
 
-made_of : (chips : Chips) (known : List (Option Known)) (k : ℕ) (a b : Tie) (leap : Leap) → In leap (leap_by chips known k a b) → Made chips known k a b leap
+pub made_of : (chips : Chips) (known : List (Option Known)) (k : ℕ) (a b : Tie) (leap : Leap) → In leap (leap_by chips known k a b) → Made chips known k a b leap
 made_of chips known k a b leap h = made_by chips known k a b leap (a.input && (not b.input && crosses chips known k a.pin b.pin)) refl h
 
 all_three : (a b c : Bool) → a ≡ true → b ≡ false → c ≡ true → (a && (not b && c)) ≡ true
@@ -156,7 +156,7 @@ module _ (chips : Chips) (known : List (Option Known)) (chip : Entry) where
   -- each hop of the list is one of the chip's own graph
   pub graph_hops : (hs : List Hop) → IsGraph chips known chip hs → AreHops chips known chip hs
   graph_hops hs is p h e =
-      let g = gathered (part_leaps chips known) (parts_of chips chip) (leap_of h) (subst (In (leap_of h)) is (in_map leap_of hs h (get_in hs p h e))) in
+      let g = gathered (part_leaps chips known) (parts_of chips chip) (leap_of h) (is.only (leap_of h) (in_map leap_of hs h (get_in hs p h e))) in
       let r = in_get (parts_of chips chip) g.item g.there in
       hop_by r.0 g.item h (place_of chips.entries g.item.chip) r.1 refl g.made
 
@@ -169,7 +169,7 @@ module _ (chips : Chips) (known : List (Option Known)) (chip : Entry) where
       let here : In leap (leaps_through chips known k ties) = in_gather (leaps_from chips known k ties) ties a leap ta (in_gather (leap_by chips known k a) ties b leap tb (leap_there chips known k a b ea eb c)) in
       let made : In leap (part_leaps chips known part) =
       subst (λ (o : Option ℕ). In leap (leaps_at chips known part o)) (sym at) (subst (λ (o : Option Entry). In leap (leaps_through chips known k (ties_for o part))) (sym place) here) in
-      let all : In leap (leaps_of hs) = subst (In leap) (sym is) (in_gather (part_leaps chips known) (parts_of chips chip) part leap (get_in (parts_of chips chip) i part there) made) in
+      let all : In leap (leaps_of hs) = is.there leap (in_gather (part_leaps chips known) (parts_of chips chip) part leap (get_in (parts_of chips chip) i part there) made) in
       let m = mapped leap_of hs leap all in
       let g = in_get hs m.0 m.1 in
       (g.0, m.0, g.1, ap (λ (v : Leap). v.from) m.2, ap (λ (v : Leap). v.to) m.2)

@@ -5,6 +5,7 @@ pub mod Lists
 pub mod Growing
 pub mod Linking
 pub mod Hopping
+pub mod Pinning
 pub mod Ends
 pub mod Seen
 pub mod Nesting
@@ -12,6 +13,7 @@ pub mod Noting
 pub mod Parting
 pub mod Through
 pub mod Trips
+pub mod Crossing
 pub mod Telling
 pub mod Passing
 pub mod Pairing

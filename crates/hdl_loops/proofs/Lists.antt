@@ -2,11 +2,7 @@
 use Rattle.std.proofs.Common.{◌≡◌, ℕ, zero, suc, ◌+◌, ◌<◌, ◌⊎◌, inl, inr, List, [], ◌∷◌, ◌++◌, length, map, get_or, Some, refl, sym, ap, subst, ◌∙◌, arith, append_assoc, append-nil, add-one}
 use Rattle.std.proofs.lemmas.Option.{get_or_from_slice_get, slice_get_read}
 use Rattle.std.specs.Prelude.{slice_get}
-use Rattle.hdl_loops.specs.Inner.Ties.{gather, gather_first}
-
-abbrev pub In : {A : Type 0} → A → List A → Type 0
-In x [] = ⊥
-In x (y ∷ ys) = (y ≡ x) ⊎ In x ys
+use Rattle.hdl_loops.specs.Inner.Ties.{In, gather, gather_first}
 
 pub in_left : {A : Type 0} (x : A) (xs ys : List A) → In x xs → In x (xs ++ ys)
 in_left x [] ys h = absurd h
@@ -115,3 +111,10 @@ item_is xs ys j item x same lt is e =
 
 pub get_there : {A : Type 0} (xs : List A) (i : ℕ) (d : A) → i < length xs → slice_get xs i ≡ Some (get_or xs i d)
 get_there xs i d lt = let r = there_at xs i lt in r.1 ∙ ap Some (sym (get_or_from_slice_get xs i r.0 d r.1))
+
+-- and so is an item that is read by its place
+pub item_got : {A : Type 0} (xs ys : List A) (j : ℕ) (d x : A) → xs ≡ ys → j < length xs → slice_get ys j ≡ Some x → get_or xs j d ≡ x
+item_got xs ys j d x same lt e =
+    let there : slice_get xs j ≡ Some (get_or xs j d) = get_there xs j d lt in
+    let f : slice_get xs j ≡ Some x = ap (λ zs. slice_get zs j) same ∙ e in
+    cc

@@ -8,7 +8,10 @@ use Rattle.hdl_tree.specs.Chips.{Chips, find_chip, find_entry, parts_of}
 use Rattle.hdl_tree.specs.Behaviour.{inner_chip}
 use Rattle.hdl_tree.specs.Writable.{is_among}
 use Rattle.hdl_check.specs.Locations.{IsFaultless}
+use Rattle.hdl_plans.specs.Ways.{JointsFit, TreeFits}
+use Rattle.hdl_plans.proofs.Fits.{tree_fits}
 use Rattle.hdl_plans.proofs.Nesting.{inner_by}
+use Rattle.hdl_plans.proofs.Walks.{at_part}
 use Rattle.hdl_loops.specs.Inner.Knowing.{Nests}
 
 -- how many chips have none of these names
@@ -50,10 +53,13 @@ left_all (e ∷ es) = let h = left_all es in omega (arith, h)
 
 nests : (d : ℕ) (chips : Chips) (names : List (List ℕ)) (chip : Entry) → IsFaultless chips names chip → left names chips.entries < d → Nests d chips chip
 nests zero chips names chip faultless lt = absurd (omega (arith, lt))
-nests (suc d) chips names chip faultless lt = λ i inner e.
-    let n = inner_by chips names chip i inner (slice_get (parts_of chips chip) i) refl e faultless in
-    let less = left_less chips.entries n.name inner names n.there n.apart in
-    nests d chips (inner.name ∷ names) inner n.faultless (omega (arith, less, lt))
+nests (suc d) chips names chip faultless lt = (
+  tree_fits chips names chip faultless [] chip refl,
+  λ i inner e.
+      let n = inner_by chips names chip i inner (slice_get (parts_of chips chip) i) refl e faultless in
+      let less = left_less chips.entries n.name inner names n.there n.apart in
+      nests d chips (inner.name ∷ names) inner n.faultless (omega (arith, less, lt)),
+)
 
 pub faultless_nests : (chips : Chips) (name : List ℕ) (chip : Entry) → find_chip chips name ≡ Some chip → IsFaultless chips (chip.name ∷ []) chip → Nests (length chips.entries) chips chip
 faultless_nests chips name chip there faultless =
@@ -66,4 +72,9 @@ not_zero zero chips chip n = absurd n
 not_zero (suc d) chips chip n = omega arith
 
 pub parts_nest : (d e : ℕ) (chips : Chips) (chip : Entry) → Nests d chips chip → suc e ≡ d → (i : ℕ) (inner : Entry) → inner_chip chips chip i ≡ Some inner → Nests e chips inner
-parts_nest d e chips chip n same i inner found = let m : Nests (suc e) chips chip = subst (λ (v : ℕ). Nests v chips chip) (sym same) n in m i inner found
+parts_nest d e chips chip n same i inner found = let m : Nests (suc e) chips chip = subst (λ (v : ℕ). Nests v chips chip) (sym same) n in m.1 i inner found
+
+pub nests_fit : (d : ℕ) (chips : Chips) (chip : Entry) → Nests d chips chip → TreeFits chips chip
+nests_fit zero chips chip n path c at = absurd n
+nests_fit (suc d) chips chip n [] c at = let same : chip ≡ c = cc in subst (JointsFit chips) same n.0
+nests_fit (suc d) chips chip n (i ∷ q) c at = let a = at_part chips chip i q c at in nests_fit d chips a.inner (n.1 i a.inner a.found) q c a.rest

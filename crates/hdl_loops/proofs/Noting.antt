@@ -79,7 +79,7 @@ hop_still chips old new chip h stays r = record {
 }
 
 right_still : (chips : Chips) (old new : Lists) (chip : Entry) (inside : Known) → StaysKnown old new → IsRight chips old chip inside → IsRight chips new chip inside
-right_still chips old new chip inside stays r = record { hops = λ p h e. hop_still chips old new chip h stays (r.hops p h e); linked = r.linked; sound = r.sound; covers = r.covers; clear = r.clear }
+right_still chips old new chip inside stays r = record { hops = λ p h e. hop_still chips old new chip h stays (r.hops p h e); linked = r.linked; sound = r.sound; covers = r.covers; clear = r.clear; full = r.full }
 
 -- one more is right
 pub known_more : (chips : Chips) (old new : Lists) (k : ℕ) (entry : Entry) (inside : Known) → Notes old new k inside → slice_get chips.entries k ≡ Some entry → AreKnown chips old → IsRight chips old entry inside → AreKnown chips new

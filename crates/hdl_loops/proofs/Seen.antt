@@ -12,14 +12,13 @@ use Rattle.hdl_plans.specs.Ways.{Chain, Way, HasBit, Depends, TreeFits, Joined, 
 use Rattle.hdl_plans.proofs.Circles.{own_way, circle_to_own}
 use Rattle.hdl_plans.proofs.Walks.{at_part, part_at, joined_inner, one_step, step_way}
 use Rattle.hdl_loops.specs.Inner.Hops.{HasHop, NoRound}
-use Rattle.hdl_loops.specs.Inner.Ties.{tie, ties_in, gather}
+use Rattle.hdl_loops.specs.Inner.Ties.{In, tie, ties_in, gather}
 use Rattle.hdl_loops.specs.Inner.Leaving.{IsLinked}
-use Rattle.hdl_loops.specs.Inner.Knowing.{leads, crosses, crosses_by, crosses_in, place_of, IsGraph, IsRight, AreKnown, IsDone, PartsDone, TreeClear}
+use Rattle.hdl_loops.specs.Inner.Knowing.{leads, crosses, crosses_by, crosses_in, place_of, IsGraph, IsFull, IsRight, AreKnown, IsDone, PartsDone, TreeClear}
 use Rattle.hdl_loops.specs.declared.hops.Hop.{Hop}
 use Rattle.hdl_loops.specs.declared.known.Known.{Known}
 use Rattle.hdl_loops.proofs.Ends.{end_clear, end_depends}
 use Rattle.hdl_loops.proofs.Hopping.{tie_there, graph_hops, graph_has}
-use Rattle.hdl_loops.proofs.Lists.{In}
 use Rattle.hdl_loops.proofs.Placing.{place_found, place_there}
 
 pub inner_fits : (chips : Chips) (chip : Entry) (i : ℕ) (inner : Entry) → inner_chip chips chip i ≡ Some inner → TreeFits chips chip → TreeFits chips inner
@@ -106,15 +105,7 @@ record Third (hs : List Hop) (n : List ℕ) (b : ℕ) (r : BitAt) : Type 0 where
 abbrev flat : BitAt → BitAt
 flat x = bit_at [] x.name x.bit
 
-module _ (chips : Chips) (known : List (Option Known)) (chip : Entry) (hs : List Hop) (no_end : end_of chips.blocks chip ≡ None) (is : IsGraph chips known chip hs)
-    (right : AreKnown chips known) (done : PartsDone chips known chip) (fit : TreeFits chips chip) where
-  -- a bit of a pin of part i
-  way_of : (i : ℕ) (input : Bool) (x y : BitAt) (f : Joined chips chip i input x y) (inner : Entry) → inner_chip chips chip i ≡ Some inner → is_input inner y.name ≡ input
-  way_of i input x y f inner found =
-      let same : f.joint.inner ≡ inner = cc (joined_inner chips chip i input x y f, found) in
-      let named : y.name ≡ f.conn.pin.name = ap (λ (v : BitAt). v.name) f.in_is in
-      ap (is_input inner) named ∙ (ap (λ (v : Entry). is_input v f.conn.pin.name) (sym same) ∙ f.joint.way)
-
+module _ (chips : Chips) (known : List (Option Known)) (chip : Entry) (hs : List Hop) (is : IsGraph chips known chip hs) (right : AreKnown chips known) (done : PartsDone chips known chip) (fit : TreeFits chips chip) where
   -- a joint of a part is listed
   tie_in : (i : ℕ) (input : Bool) (x y : BitAt) (f : Joined chips chip i input x y) (inner : Entry) (at : PartAt chips chip i inner) → In (tie f.conn.pin f.w input f.k) (gather (ties_in inner) at.part.connections)
   tie_in i input x y f inner at =
@@ -141,6 +132,15 @@ module _ (chips : Chips) (known : List (Option Known)) (chip : Entry) (hs : List
       let c_is : crosses chips known at.k ft.pin gt.pin ≡ true = subst (λ (v : BitAt). crosses chips known at.k ft.pin v ≡ true) q_is (subst (λ (v : BitAt). crosses chips known at.k v (flat q) ≡ true) p_is c) in
       subst (λ (v : BitAt). HasHop hs x v) (sym g.out_is)
       (subst (λ (v : BitAt). HasHop hs v gt.net) (sym f.out_is) (graph_has chips known chip hs is i at.part at.k inner ft gt at.there at.placed at.at a b refl refl c_is))
+
+module _ (chips : Chips) (known : List (Option Known)) (chip : Entry) (hs : List Hop) (no_end : end_of chips.blocks chip ≡ None) (is : IsGraph chips known chip hs)
+    (right : AreKnown chips known) (done : PartsDone chips known chip) (fit : TreeFits chips chip) where
+  -- a bit of a pin of part i
+  way_of : (i : ℕ) (input : Bool) (x y : BitAt) (f : Joined chips chip i input x y) (inner : Entry) → inner_chip chips chip i ≡ Some inner → is_input inner y.name ≡ input
+  way_of i input x y f inner found =
+      let same : f.joint.inner ≡ inner = cc (joined_inner chips chip i input x y f, found) in
+      let named : y.name ≡ f.conn.pin.name = ap (λ (v : BitAt). v.name) f.in_is in
+      ap (is_input inner) named ∙ (ap (λ (v : Entry). is_input v f.conn.pin.name) (sym same) ∙ f.joint.way)
 
   -- out of an input there is no way out, and out of an output none across
   input_out : (i : ℕ) (x y : BitAt) (n : List ℕ) (b : ℕ) → Joined chips chip i true x (bit_at (i ∷ []) n b) → Joined chips chip i false y (bit_at (i ∷ []) n b) → ⊥
@@ -175,7 +175,7 @@ module _ (chips : Chips) (known : List (Option Known)) (chip : Entry) (hs : List
 
   third_by : (n : List ℕ) (b : ℕ) (p q r : BitAt) (s : Second chips chip n b p q) → Leaves chips chip s.i r.path q.name q.bit r.name r.bit ⊎ Crosses chips chip s.i r.path q.name q.bit r.name r.bit → Third hs n b r
   third_by n b p q r s (inl g) =
-      record { path = g.path; hop = hop_through s.i (bit_at [] n b) (bit_at (s.i ∷ []) p.name p.bit) (bit_at (s.i ∷ []) q.name q.bit) (bit_at [] r.name r.bit) s.enter g.joined s.across.inner s.across.found s.across.depends }
+      record { path = g.path; hop = hop_through chips known chip hs is right done fit s.i (bit_at [] n b) (bit_at (s.i ∷ []) p.name p.bit) (bit_at (s.i ∷ []) q.name q.bit) (bit_at [] r.name r.bit) s.enter g.joined s.across.inner s.across.found s.across.depends }
   third_by n b p q r s (inr g) = absurd (across_twice s.i p.name q.name r.name p.bit q.bit r.bit s.across g.across)
 
   third_of : (n : List ℕ) (b : ℕ) (p q r : BitAt) → Second chips chip n b p q → Own chips chip q r → Third hs n b r
@@ -206,6 +206,9 @@ module _ (chips : Chips) (known : List (Option Known)) (chip : Entry) (hs : List
       let p = part_of chips chip i a.inner a.found in
       done_clear chips known p.k a.inner p.at (inner_fits chips chip i a.inner a.found fit) right (done i p.part p.k p.there p.placed) q c a.rest circle
 
+pub graph_full : (chips : Chips) (known : List (Option Known)) (chip : Entry) (hs : List Hop) → IsGraph chips known chip hs → AreKnown chips known → PartsDone chips known chip → TreeFits chips chip → IsFull chips chip hs
+graph_full chips known chip hs is right done fit i inner x p q y found f g d = hop_through chips known chip hs is right done fit i x p q y f g inner found d
+
 -- what was seen of a chip is right
 pub seen_right : (chips : Chips) (known : List (Option Known)) (chip : Entry) (inside : Known) → end_of chips.blocks chip ≡ None → IsGraph chips known chip inside.hops.items → AreKnown chips known → PartsDone chips known chip → NoRound inside.hops.items →
     IsLinked inside.hops.items inside.leaving (length inside.hops.items) → ((n m : List ℕ) (b k : ℕ) → leads inside (bit_at [] n b) (bit_at [] m k) ≡ true → Way (HasHop inside.hops.items) (bit_at [] n b) (bit_at [] m k)) →
@@ -216,8 +219,9 @@ seen_right chips known chip inside no_end is right done none linked sound there 
   sound = sound;
   covers = λ fit n m b k d. there n m b k d.from d.to (depends_hops chips known chip inside.hops.items no_end is right done fit n m b k d);
   clear = λ fit. clear_of chips known chip inside.hops.items no_end is right done fit none;
+  full = λ fit. graph_full chips known chip inside.hops.items is right done fit;
 }
 
 -- no loop is in a tree in which the own graph of no chip has a circle
 pub clear_no_loop : (chips : Chips) (top : Entry) → TreeFits chips top → TreeClear chips top → (nets : List (List ℕ)) → IsLoop chips top nets → ⊥
-clear_no_loop chips top fit clear nets l = let h = circle_to_own chips top fit (l.first ∷ l.rest) l.circle in clear h.path h.chip h.at h.circle
+clear_no_loop chips top fit clear nets l = let h = circle_to_own chips top fit (l.first ∷ l.rest) l.circle.walk in clear h.path h.chip h.at h.circle

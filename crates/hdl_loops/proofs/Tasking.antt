@@ -1,5 +1,5 @@
 -- What is still to be reported of a circle, as it is reported.
-use Rattle.std.proofs.Common.{◌≡◌, ℕ, zero, suc, ◌+◌, ◌<◌, ◌≤◌, true, List, [], ◌∷◌, ◌++◌, ◌-◌, length, reverse, Option, Some, None, refl, sym, ap, subst, ◌∙◌, arith}
+use Rattle.std.proofs.Common.{◌≡◌, ℕ, zero, suc, ◌+◌, ◌<◌, ◌≤◌, ◌⊎◌, inl, inr, true, List, [], ◌∷◌, ◌++◌, ◌-◌, length, reverse, Option, Some, None, refl, sym, ap, subst, ◌∙◌, arith}
 use Rattle.std.specs.Prelude.{slice_get}
 use Rattle.std.proofs.lemmas.Option.{slice_get_within}
 use Rattle.std.proofs.lemmas.List.{reverse-append}
@@ -8,9 +8,9 @@ use Rattle.hdl_tree.specs.Chips.{Chips}
 use Rattle.hdl_plans.specs.Loops.{BitAt, bit_at, IsLoop}
 use Rattle.hdl_loops.specs.Inner.Hops.{bit, input_of, output_of, Linked}
 use Rattle.hdl_check.proofs.Stages.{entry_there}
-use Rattle.hdl_loops.specs.Inner.Knowing.{IsHop, AreHops, AreKnown, IsWayIn, Nests}
+use Rattle.hdl_loops.specs.Inner.Knowing.{AreHops, IsStraight, AreKnown, IsWayIn, Nests}
 use Rattle.hdl_loops.specs.Inner.Stacked.{times, power}
-use Rattle.hdl_loops.specs.Inner.Told.{Trip, DeepTrip, TripAmong, AreTold, add_name, add_names, names_of, was_passed}
+use Rattle.hdl_loops.specs.Inner.Told.{Trip, TripAmong, AreTold, add_name, add_names, names_of, was_passed}
 use Rattle.hdl_loops.specs.Inner.Tasks.{net_tasks, way_tasks, Goes, IsSure, IsTask, AreTasks, twice, hop_count, room, tasks_weight}
 use Rattle.hdl_loops.specs.declared.hops.Hop.{Hop}
 use Rattle.hdl_loops.specs.declared.told.Passage.{Passage}
@@ -18,51 +18,79 @@ use Rattle.hdl_loops.specs.declared.told.Told.{Told}
 use Rattle.hdl_loops.specs.declared.names.Task.{Task}
 use Rattle.hdl_loops.specs.declared.names.Task.TheVariants as tasks
 use Rattle.hdl_loops.specs.declared.known.Known.{Known}
-use Rattle.hdl_loops.proofs.Leaping.{leap_trip}
+use Rattle.hdl_plans.specs.Ways.{JointsFit, TreeFits}
+use Rattle.hdl_plans.proofs.Simple.{Among}
+use Rattle.hdl_loops.proofs.Crossing.{OnWay, Along, on_more, on_hop, hop_apart, whole_trip}
+use Rattle.hdl_loops.proofs.Leaping.{HopTrip, leap_trip}
 use Rattle.hdl_loops.proofs.Stacking.{times_less, power_pos}
 use Rattle.hdl_loops.proofs.Telling.{told_append, told_all, now_told, told_before}
-use Rattle.hdl_loops.proofs.Nesting.{not_zero}
-use Rattle.hdl_loops.proofs.Through.{hop_nests, way_hops}
+use Rattle.hdl_loops.proofs.Nesting.{not_zero, nests_fit}
+use Rattle.hdl_loops.proofs.Through.{hop_nests, way_hops, way_straight}
 use Rattle.hdl_loops.proofs.Trips.{join_trips, trip_loop}
 
 abbrev Names : Type 0
 Names = List (List ℕ)
 
 module _ (chips : Chips) (known : List (Option Known)) (chip : Entry) (right : Names → Type 0) (base : List Task) (x y : BitAt) (told0 : Names) (depth : ℕ)
-    (goes : (names : Names) → DeepTrip chips chip x y names → Goes chips right base (add_names told0 names)) where
-  nets_go : (ws : List Hop) (m : BitAt) (before told : Names) → Linked m ws y → ((p : ℕ) (h : Hop) → slice_get ws p ≡ Some h → IsHop chips known chip h) → DeepTrip chips chip x m before → told ≡ add_names told0 before → Goes chips right (net_tasks depth ws ++ base) told
-  nets_go [] m before told linked hops trip is =
-      subst (Goes chips right base) (sym is) (goes before (subst (λ (v : BitAt). DeepTrip chips chip x v before) linked trip))
-  nets_go (h ∷ ws) m before told linked hops trip is = λ names through.
-      let n = h.from.name.now in
-      let from : DeepTrip chips chip x (bit_at [] n h.from.bit) before = subst (λ (v : BitAt). DeepTrip chips chip x v before) (sym linked.0) trip in
-      let leap : DeepTrip chips chip (bit_at [] n h.from.bit) (bit h.to) names = leap_trip chips known chip h names (hops 0 h refl) through in
-      let all = join_trips chips chip x n h.from.bit (bit h.to) before names from leap in
-      let told_is : add_names (add_name told n) names ≡ add_names told0 (before ++ n ∷ names) = ap (λ (v : Names). add_names (add_name v n) names) is ∙ sym (told_append before told0 (n ∷ names)) in
-      nets_go ws (bit h.to) (before ++ n ∷ names) (add_names (add_name told n) names) linked.1 (λ p g e. hops (suc p) g e) all told_is
+    (all : List Hop) (hops : AreHops chips known chip all) (straight : IsStraight chips chip all) (fit : JointsFit chips chip) (goes : (names : Names) → Along chips chip all (length all) x y names → Goes chips right base (add_names told0 names)) where
+  -- a hop more
+  further : (n : ℕ) (h : Hop) (before names : Names) → slice_get all n ≡ Some h → Along chips chip all n x (bit h.from) before → HopTrip chips chip h names → Along chips chip all (suc n) x (bit h.to) (before ++ h.from.name.now ∷ names)
+  further n h before names e along leap =
+      let joint = join_trips chips chip x h.from.name.now h.from.bit (bit h.to) before names along.deep leap.deep (λ v a b. hop_apart chips chip all straight fit n h names e leap v a (along.on v b)) in
+      record { deep = joint.deep; on = λ v a. by v joint.deep.over joint.either a }
+    where
+      either : (v : BitAt) → Among v along.deep.over ⊎ Among v (bit h.from ∷ leap.deep.over) → OnWay chips chip all (suc n) v
+      either v (inl a) = on_more chips chip all n v (along.on v (inr a))
+      either v (inr a) = on_hop chips chip all n h names e leap v a
 
-  pub way_goes : (ws : List Hop) → 0 < length ws → Linked x ws y → AreHops chips known chip ws → Goes chips right (way_tasks depth ws ++ base) told0
-  way_goes [] lt linked hops = absurd (omega (arith, lt))
-  way_goes (h ∷ ws) lt linked hops = λ names through.
-      let leap : DeepTrip chips chip (bit h.from) (bit h.to) names = leap_trip chips known chip h names (hops 0 h refl) through in
-      nets_go ws (bit h.to) names (add_names told0 names) linked.1 (λ p g e. hops (suc p) g e) (subst (λ (v : BitAt). DeepTrip chips chip v (bit h.to) names) linked.0 leap) refl
+      by : (v : BitAt) (over : List BitAt) → ((w : BitAt) → Among w over → Among w along.deep.over ⊎ Among w (bit h.from ∷ leap.deep.over)) → Among v (x ∷ over) → OnWay chips chip all (suc n) v
+      by v over split (inl f) = on_more chips chip all n v (along.on v (inl f))
+      by v over split (inr a) = either v (split v a)
+
+  nets_go : (n : ℕ) (ws : List Hop) (m : BitAt) (before told : Names) → Linked m ws y → ((p : ℕ) (h : Hop) → slice_get ws p ≡ Some h → slice_get all (n + p) ≡ Some h) → n + length ws ≡ length all → Along chips chip all n x m before → told ≡ add_names told0 before → Goes chips right (net_tasks depth ws ++ base) told
+  nets_go n [] m before told linked rest count along is =
+      let n_is : n ≡ length all = omega (arith, count) in
+      subst (Goes chips right base) (sym is) (goes before (subst (λ (k : ℕ). Along chips chip all k x y before) n_is (subst (λ (v : BitAt). Along chips chip all n x v before) linked along)))
+  nets_go n (h ∷ ws) m before told linked rest count along is = λ names through.
+      let name = h.from.name.now in
+      let zero_is : n + 0 ≡ n = omega arith in
+      let e : slice_get all n ≡ Some h = subst (λ (k : ℕ). slice_get all k ≡ Some h) zero_is (rest 0 h refl) in
+      let leap = leap_trip chips known chip h names (hops n h e) through in
+      let more = further n h before names e (subst (λ (v : BitAt). Along chips chip all n x v before) (sym linked.0) along) leap in
+      let told_is : add_names (add_name told name) names ≡ add_names told0 (before ++ name ∷ names) = ap (λ (v : Names). add_names (add_name v name) names) is ∙ sym (told_append before told0 (name ∷ names)) in
+      nets_go (suc n) ws (bit h.to) (before ++ name ∷ names) (add_names (add_name told name) names) linked.1
+      (λ p g f. let k_is : n + suc p ≡ suc n + p = omega arith in subst (λ (k : ℕ). slice_get all k ≡ Some g) k_is (rest (suc p) g f)) (omega (arith, count)) more told_is
+
+  way_by : (ws : List Hop) → 0 < length ws → Linked x ws y → ((p : ℕ) (h : Hop) → slice_get ws p ≡ Some h → slice_get all p ≡ Some h) → length ws ≡ length all → Goes chips right (way_tasks depth ws ++ base) told0
+  way_by [] lt linked rest count = absurd (omega (arith, lt))
+  way_by (h ∷ ws) lt linked rest count = λ names through.
+      let e = rest 0 h refl in
+      let leap = leap_trip chips known chip h names (hops 0 h e) through in
+      let along : Along chips chip all 1 (bit h.from) (bit h.to) names = record { deep = leap.deep; on = λ v a. on_hop chips chip all 0 h names e leap v a } in
+      nets_go 1 ws (bit h.to) names (add_names told0 names) linked.1
+      (λ p g f. let k_is : suc p ≡ 1 + p = omega arith in subst (λ (k : ℕ). slice_get all k ≡ Some g) k_is (rest (suc p) g f)) (omega (arith, count))
+      (subst (λ (v : BitAt). Along chips chip all 1 v (bit h.to) names) linked.0 along) refl
+
+  pub way_goes : 0 < length all → Linked x all y → Goes chips right (way_tasks depth all ++ base) told0
+  way_goes lt linked = way_by all lt linked (λ p h e. e) refl
 
 -- a way through a chip that is no end goes on in it
 pub pass_goes : (chips : Chips) (known : List (Option Known)) (chip : Entry) (right : Names → Type 0) (ts : List Task) (p : Passage) (d depth : ℕ) (ws : List Hop) (told : Names) → slice_get chips.entries p.chip ≡ Some chip → 0 < length ws → Linked (input_of p.through) ws (output_of p.through) → AreHops chips known chip ws →
-    Goes chips right (tasks.Pass p d ∷ ts) told → Goes chips right (way_tasks depth ws ++ tasks.Passed p ∷ ts) told
-pass_goes chips known chip right ts p d depth ws told there lt linked hops goes =
-    way_goes chips known chip right (tasks.Passed p ∷ ts) (input_of p.through) (output_of p.through) told depth
-    (λ names deep. (
-      (λ other at. let same : chip ≡ other = cc in subst (λ (v : Entry). TripAmong chips v p.through.input.now p.through.bit p.through.output.now p.through.out (add_names told names)) same (names, deep.trip, now_told names told)),
-      goes names (record { chip = chip; there = there; trip = deep.trip }),
-    )) ws lt linked hops
+    IsStraight chips chip ws → JointsFit chips chip → Goes chips right (tasks.Pass p d ∷ ts) told → Goes chips right (way_tasks depth ws ++ tasks.Passed p ∷ ts) told
+pass_goes chips known chip right ts p d depth ws told there lt linked hops straight fit goes =
+    way_goes chips known chip right (tasks.Passed p ∷ ts) (input_of p.through) (output_of p.through) told depth ws hops straight fit
+    (λ names along.
+    let trip = whole_trip chips chip ws (input_of p.through) (output_of p.through) names straight linked along in (
+      (λ other at. let same : chip ≡ other = cc in subst (λ (v : Entry). TripAmong chips v p.through.input.now p.through.bit p.through.output.now p.through.out (add_names told names)) same (names, trip, now_told names told)),
+      goes names (record { chip = chip; there = there; trip = trip }),
+    )) lt linked
 
 -- a circle
-pub circle_goes : (chips : Chips) (known : List (Option Known)) (chip : Entry) (n : List ℕ) (b depth : ℕ) (ws : List Hop) (told : Names) → told ≡ add_name [] n → 0 < length ws → Linked (bit_at [] n b) ws (bit_at [] n b) → AreHops chips known chip ws → Goes chips (IsLoop chips chip) (way_tasks depth ws ++ []) told
-circle_goes chips known chip n b depth ws told is lt linked hops =
+pub circle_goes : (chips : Chips) (known : List (Option Known)) (chip : Entry) (n : List ℕ) (b depth : ℕ) (ws : List Hop) (told : Names) → told ≡ add_name [] n → 0 < length ws → Linked (bit_at [] n b) ws (bit_at [] n b) → AreHops chips known chip ws → IsStraight chips chip ws → JointsFit chips chip → Goes chips (IsLoop chips chip) (way_tasks depth ws ++ []) told
+circle_goes chips known chip n b depth ws told is lt linked hops straight fit =
     subst (Goes chips (IsLoop chips chip) (way_tasks depth ws ++ [])) (sym is)
-    (way_goes chips known chip (IsLoop chips chip) [] (bit_at [] n b) (bit_at [] n b) (add_name [] n) depth
-    (λ names deep. subst (IsLoop chips chip) (sym (told_all (n ∷ names))) (trip_loop chips chip n b names deep)) ws lt linked hops)
+    (way_goes chips known chip (IsLoop chips chip) [] (bit_at [] n b) (bit_at [] n b) (add_name [] n) depth ws hops straight fit
+    (λ names along. subst (IsLoop chips chip) (sym (told_all (n ∷ names))) (trip_loop chips chip n b names along.deep)) lt linked)
 
 -- a way that was reported is reported again by nothing
 pub told_goes : (chips : Chips) (told : Told) (p : Passage) (d : ℕ) (ts : List Task) (right : Names → Type 0) (chip : Entry) → slice_get chips.entries p.chip ≡ Some chip → AreTold chips told → was_passed told p.chip p.through.input.now p.through.bit p.through.output.now p.through.out ≡ true → Goes chips right (tasks.Pass p d ∷ ts) (names_of told) → Goes chips right ts (names_of told)
@@ -176,6 +204,12 @@ module _ (chips : Chips) (known : List (Option Known)) (p : Passage) (d : ℕ) (
   hops : AreHops chips known there.0 ws × (0 < length ws) × Linked (input_of p.through) ws (output_of p.through)
   hops = way_hops chips known p.chip there.0 there.1 (input_of p.through) (output_of p.through) ws are way
 
+  fits : TreeFits chips there.0
+  fits = nests_fit d chips there.0 (task.2 there.0 there.1)
+
+  straight : IsStraight chips there.0 ws
+  straight = way_straight chips known p.chip there.0 there.1 (input_of p.through) (output_of p.through) ws fits are way
+
   one_deep : suc (d - 1) ≡ d
   one_deep = let pos = not_zero d chips there.0 (task.2 there.0 there.1) in omega (arith, pos)
 
@@ -183,7 +217,7 @@ module _ (chips : Chips) (known : List (Option Known)) (p : Passage) (d : ℕ) (
   over_tasks ts rest = way_are_tasks chips known there.0 d (d - 1) (tasks.Passed p ∷ ts) ws hops.0 (task.2 there.0 there.1) one_deep (tt, rest)
 
   pub over_goes : (right : Names → Type 0) (ts : List Task) (told : Names) → Goes chips right (tasks.Pass p d ∷ ts) told → Goes chips right (way_tasks (d - 1) ws ++ tasks.Passed p ∷ ts) told
-  over_goes right ts told goes = pass_goes chips known there.0 right ts p d (d - 1) ws told there.1 hops.1 hops.2 hops.0 goes
+  over_goes right ts told goes = pass_goes chips known there.0 right ts p d (d - 1) ws told there.1 hops.1 hops.2 hops.0 straight (fits [] there.0 refl) goes
 
   pub over_less : (ts : List Task) → tasks_weight (room known) (way_tasks (d - 1) ws ++ tasks.Passed p ∷ ts) < tasks_weight (room known) (tasks.Pass p d ∷ ts)
   over_less ts =

@@ -6,8 +6,9 @@ use Rattle.hdl_tree.specs.declared.ends.End.{End}
 use Rattle.hdl_tree.specs.Chips.{Chips, end_of}
 use Rattle.hdl_tree.specs.Behaviour.{chip_of, inner_chip}
 use Rattle.hdl_plans.specs.Loops.{BitAt}
+use Rattle.hdl_plans.specs.Ways.{TreeFits}
 use Rattle.hdl_loops.specs.Inner.Hops.{Linked}
-use Rattle.hdl_loops.specs.Inner.Knowing.{crosses, crosses_in, crosses_by, end_crosses, leads_in, AreKnown, AreHops, IsHop, HasWays, IsWayIn, Nests, NestsAt}
+use Rattle.hdl_loops.specs.Inner.Knowing.{crosses, crosses_in, crosses_by, end_crosses, leads_in, AreKnown, AreHops, IsHop, IsStraight, HasWays, IsWayIn, Nests, NestsAt}
 use Rattle.hdl_loops.specs.declared.hops.Hop.{Hop}
 use Rattle.hdl_loops.specs.declared.known.Known.{Known}
 use Rattle.hdl_loops.proofs.Nesting.{parts_nest}
@@ -32,6 +33,14 @@ module _ (chips : Chips) (known : List (Option Known)) (k : ℕ) (entry : Entry)
 
   pub way_hops : (x y : BitAt) (ws : List Hop) → AreKnown chips known → IsWayIn (slice_get known k) x ws y → AreHops chips known entry ws × (0 < length ws) × Linked x ws y
   way_hops x y ws are w = way_by (slice_get known k) x y ws refl are w
+
+  straight_by : (o : Option (Option Known)) (x y : BitAt) (ws : List Hop) → slice_get known k ≡ o → TreeFits chips entry → AreKnown chips known → IsWayIn o x ws y → IsStraight chips entry ws
+  straight_by None x y ws e fit are w = absurd w
+  straight_by (Some None) x y ws e fit are w = absurd w
+  straight_by (Some (Some inside)) x y ws e fit are w = record { all = inside.hops.items; full = (are k entry inside at e).full fit; inside = w.inside; direct = w.direct }
+
+  pub way_straight : (x y : BitAt) (ws : List Hop) → TreeFits chips entry → AreKnown chips known → IsWayIn (slice_get known k) x ws y → IsStraight chips entry ws
+  way_straight x y ws fit are w = straight_by (slice_get known k) x y ws refl fit are w
 
 pub hop_inner : (chips : Chips) (known : List (Option Known)) (chip : Entry) (h : Hop) (r : IsHop chips known chip h) → inner_chip chips chip r.i ≡ Some r.inner
 hop_inner chips known chip h r = ap (chip_of chips) r.there ∙ r.found

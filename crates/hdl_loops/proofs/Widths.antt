@@ -5,7 +5,7 @@ use Rattle.hdl_tree.specs.declared.tree.Pin.{Pin}
 use Rattle.hdl_tree.specs.declared.library.Entry.{Entry}
 use Rattle.hdl_tree.specs.Chips.{pin_width}
 use Rattle.hdl_tree.specs.Behaviour.{width_in, width_of}
-use Rattle.hdl_check.specs.Tables.{first_of}
+use Rattle.name_table.specs.Names.{first_of}
 
 cond_first : (b : Bool) (w : ℕ) (o p : Option ℕ) → cond b (Some w) (first_of o p) ≡ first_of (cond b (Some w) o) p
 cond_first true w o p = refl

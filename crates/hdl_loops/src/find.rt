@@ -9,7 +9,7 @@ ghost use Rattle.hdl_plans.specs.Loops.{IsLoop};
 ghost use Rattle.hdl_loops.specs.Inner.Hops.{NoRound};
 ghost use Rattle.hdl_loops.specs.Inner.Looked.{LooksRight, TellsLoop};
 ghost use Rattle.hdl_loops.specs.Inner.Stacked.{IsStack, IsEntered, weight};
-ghost use Rattle.hdl_loops.specs.Inner.Knowing.{ArePlaces, AreHops, AreKnown, IsKnown, IsDone, Notes, Nests, PartsDone, StaysKnown, KnowNothing, NestsAt};
+ghost use Rattle.hdl_loops.specs.Inner.Knowing.{ArePlaces, AreHops, IsFull, AreKnown, IsKnown, IsDone, Notes, Nests, PartsDone, StaysKnown, KnowNothing, NestsAt};
 
 use crate::circle::circle_in;
 use crate::graph::graph_of;
@@ -17,8 +17,8 @@ use crate::hops::Hop;
 use crate::known::{Known, known_of};
 use crate::names::nets_of;
 use crate::places::{place, places_of};
-use hdl_check::Table;
 use hdl_tree::{Body, Entry, Library, Name, Part, find_end};
+use name_table::Table;
 use std::alloc::{AllocError, Global};
 
 /// The parts of a chip; an end has none.
@@ -69,6 +69,7 @@ fn loop_in<'a>(
 ) -> Result<Option<Vec<Name>>, AllocError>
     requires known { AreKnown (chips_in entries.now blocks) known.now }
     requires hops { AreHops (chips_in entries.now blocks) known.now entry.now hops.now }
+    requires full { IsFull (chips_in entries.now blocks) entry.now hops.now }
     requires nests { Nests depth (chips_in entries.now blocks) entry.now }
     ensures { IfOk result (λ r. MatchOption r (NoRound hops.now) (λ nets. IsLoop (chips_in entries.now blocks) entry.now nets.items)) }
 {
@@ -305,8 +306,8 @@ fn nothing_known<'a>(alloc: Global, n: usize) -> Result<Vec<Option<Known<'a>>>, 
 }
 
 /// Looks for a loop of the chip of this name, which has no other fault. None is answered only where it has no loop, and
-/// nets only where it has a loop with these nets, each once. Nets are named as in the outermost chip that has a name for
-/// them. Only want of memory is an error.
+/// nets only where it has a loop with these nets, in the order of one circle of bits that passes none twice. Each is named
+/// as in the outermost chip that has a name for it, and each name stands once. Only want of memory is an error.
 pub fn find_loop(
     alloc: Global,
     library: &Library,

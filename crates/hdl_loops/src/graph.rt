@@ -1,16 +1,22 @@
 //! The own graph of a chip: the hops between the bits of its nets and pins, each through a part.
 
-ghost use Rattle.std.specs.Prelude.{◌≡◌, ◌<◌, ◌++◌, OnOk, IfOk, length};
+ghost use Rattle.std.specs.Prelude.{◌≡◌, ◌<◌, ◌++◌, OnOk, IfOk, MatchOption, length, map};
 ghost use Rattle.hdl_check.specs.Whole.{chips_in};
-ghost use Rattle.hdl_loops.specs.Inner.Ties.{tie_of, ties_of, gather};
-ghost use Rattle.hdl_loops.specs.Inner.Knowing.{ArePlaces, leads_through, leaps_of, leap_by, leaps_from, leaps_through, part_leaps};
+ghost use Rattle.hdl_loops.specs.Inner.Hops.{bit};
+ghost use Rattle.hdl_loops.specs.Inner.Leaving.{IsLinked};
+ghost use Rattle.hdl_loops.specs.Inner.Ties.{tie_of, ties_of, pin_hop, gather};
+ghost use Rattle.hdl_loops.specs.Inner.Knowing.{ArePlaces, leads_through, leaps_of, leap_by, leaps_from, leaps_between, leaps_through, part_leaps, through_pair, KnownAs, HasLeaps, AreLeaps, AddsOnly, AddsLeaps};
 
+use crate::find::is_end;
 use crate::hops::{Dependency, Hop};
 use crate::joint::{Joint, joints_of};
 use crate::known::{Known, crosses};
+use crate::leaving::Leaving;
+use crate::pairs::Pair;
+use crate::pins::{joints_at, pins_of};
 use crate::places::place;
-use hdl_check::Table;
 use hdl_tree::{Entry, Part};
+use name_table::Table;
 use std::alloc::{AllocError, Global};
 
 /// Whether a way goes in by one joint and out by another, through the part's chip.
@@ -59,7 +65,7 @@ fn hop_by<'a>(
     Ok(())
 }
 
-/// Adds the hops that go in by this joint.
+/// Adds the hops that go in by this joint and out by one of these.
 fn hops_from<'a>(
     entries: &[Entry],
     blocks: bool,
@@ -72,14 +78,128 @@ fn hops_from<'a>(
     requires { chip < length entries.now }
     ensures { OnOk result (leaps_of hops.new.items ≡ leaps_of hops.old.items ++ leaps_from (chips_in entries.now blocks) known.now chip (ties_of joints.now) (tie_of enter.now)) }
 {
+    if !enter.input {
+        return Ok(());
+    }
     for leave in joints {
         hop_by(entries, blocks, known, chip, enter, leave, hops)?;
     }
     Ok(())
 }
 
-/// Adds the hops through a part with these joints.
+/// Adds the hops that go in by one of the joints and out by one of the others.
+fn hops_between<'a>(
+    entries: &[Entry],
+    blocks: bool,
+    known: &[Option<Known<'a>>],
+    chip: usize,
+    enters: &[Joint<'a>],
+    leaves: &[Joint<'a>],
+    hops: &mut Vec<Hop<'a>>,
+) -> Result<(), AllocError>
+    requires { chip < length entries.now }
+    ensures { OnOk result (leaps_of hops.new.items ≡ leaps_of hops.old.items ++ leaps_between (chips_in entries.now blocks) known.now chip (ties_of enters.now) (ties_of leaves.now)) }
+{
+    for enter in enters {
+        hops_from(entries, blocks, known, chip, enter, leaves, hops)?;
+    }
+    Ok(())
+}
+
+/// Adds the hops that go in by a joint of this input bit and out by one of this output bit.
+fn hops_of_pair<'a>(
+    alloc: Global,
+    entries: &[Entry],
+    blocks: bool,
+    known: &[Option<Known<'a>>],
+    chip: usize,
+    joints: &[Joint<'a>],
+    pins: &Leaving<'a>,
+    pair: &Pair<'a>,
+    hops: &mut Vec<Hop<'a>>,
+) -> Result<(), AllocError>
+    requires there { chip < length entries.now }
+    requires linked { IsLinked (map pin_hop joints.now) pins.now (length (map pin_hop joints.now)) }
+    ensures right { OnOk result (AddsOnly hops.old.items hops.new.items (leaps_through (chips_in entries.now blocks) known.now chip (ties_of joints.now))) }
+    ensures there { OnOk result (HasLeaps (chips_in entries.now blocks) known.now chip (ties_of joints.now) hops.new.items (bit pair.now.from) (bit pair.now.to)) }
+{
+    let enters = joints_at(alloc, joints, pins, &pair.from)?;
+    let leaves = joints_at(alloc, joints, pins, &pair.to)?;
+    let ins = enters.as_slice();
+    let outs = leaves.as_slice();
+    hops_between(entries, blocks, known, chip, ins, outs, hops)?;
+    Ok(())
+}
+
+/// The pair of an input bit and an output bit.
+fn through_pair<'a>(turned: bool, found: &Pair<'a>) -> Pair<'a>
+    ensures { result ≡ through_pair turned found.now }
+{
+    if turned {
+        Pair {
+            from: found.to,
+            to: found.from,
+        }
+    } else {
+        *found
+    }
+}
+
+/// Adds the hops through a part with these joints, pair by pair of what is known of its chip.
+fn hops_by_pairs<'a>(
+    alloc: Global,
+    entries: &[Entry],
+    blocks: bool,
+    known: &[Option<Known<'a>>],
+    chip: usize,
+    inside: &Known<'a>,
+    joints: &[Joint<'a>],
+    hops: &mut Vec<Hop<'a>>,
+) -> Result<(), AllocError>
+    requires there { chip < length entries.now }
+    requires inside { KnownAs (chips_in entries.now blocks) known.now chip inside.now }
+    ensures { OnOk result (AddsLeaps hops.old.items hops.new.items (leaps_through (chips_in entries.now blocks) known.now chip (ties_of joints.now))) }
+{
+    let pins = pins_of(alloc, joints)?;
+    let pairs = inside.pairs.as_slice();
+    for found in pairs {
+        let pair = through_pair(inside.turned, found);
+        hops_of_pair(
+            alloc, entries, blocks, known, chip, joints, &pins, &pair, hops,
+        )?;
+    }
+    Ok(())
+}
+
+/// What is known of the chip, if it has fewer pairs than this many joints.
+fn few_pairs<'k, 'a>(
+    entries: &[Entry],
+    blocks: bool,
+    known: &'k [Option<Known<'a>>],
+    chip: usize,
+    joints: usize,
+) -> Option<&'k Known<'a>>
+    requires { chip < length entries.now }
+    ensures { MatchOption result (Unit {0}) (λ inside. KnownAs (chips_in entries.now blocks) known.now chip inside.now) }
+{
+    if is_end(entries, blocks, chip) {
+        return None;
+    }
+    match known.get(chip) {
+        Some(Some(inside)) => {
+            if inside.pairs.len() < joints.saturating_mul(joints) {
+                Some(inside)
+            } else {
+                None
+            }
+        }
+        _ => None,
+    }
+}
+
+/// Adds the hops through a part with these joints: by the pairs of its chip, if they are fewer than those of the joints.
 fn hops_through<'a>(
+    alloc: Global,
     entries: &[Entry],
     blocks: bool,
     known: &[Option<Known<'a>>],
@@ -88,12 +208,15 @@ fn hops_through<'a>(
     hops: &mut Vec<Hop<'a>>,
 ) -> Result<(), AllocError>
     requires { chip < length entries.now }
-    ensures { OnOk result (leaps_of hops.new.items ≡ leaps_of hops.old.items ++ leaps_through (chips_in entries.now blocks) known.now chip (ties_of joints.now)) }
+    ensures { OnOk result (AddsLeaps hops.old.items hops.new.items (leaps_through (chips_in entries.now blocks) known.now chip (ties_of joints.now))) }
 {
-    for enter in joints {
-        hops_from(entries, blocks, known, chip, enter, joints, hops)?;
+    match few_pairs(entries, blocks, known, chip, joints.len()) {
+        Some(inside) => hops_by_pairs(alloc, entries, blocks, known, chip, inside, joints, hops),
+        None => {
+            hops_between(entries, blocks, known, chip, joints, joints, hops)?;
+            Ok(())
+        }
     }
-    Ok(())
 }
 
 /// Adds the hops through a part, if there is its chip.
@@ -107,13 +230,15 @@ fn hops_of_part<'a>(
     hops: &mut Vec<Hop<'a>>,
 ) -> Result<(), AllocError>
     requires { ArePlaces places.now entries.now }
-    ensures { OnOk result (leaps_of hops.new.items ≡ leaps_of hops.old.items ++ part_leaps (chips_in entries.now blocks) known.now part.now) }
+    ensures { OnOk result (AddsLeaps hops.old.items hops.new.items (part_leaps (chips_in entries.now blocks) known.now part.now)) }
 {
     match place(places, part.chip.as_bytes()) {
         None => Ok(()),
         Some(k) => {
             let joints = joints_of(alloc, &entries[k], part)?;
-            hops_through(entries, blocks, known, k, joints.as_slice(), hops)
+            let list = joints.as_slice();
+            hops_through(alloc, entries, blocks, known, k, list, hops)?;
+            Ok(())
         }
     }
 }
@@ -128,7 +253,7 @@ pub(crate) fn graph_of<'a>(
     parts: &'a [Part],
 ) -> Result<Vec<Hop<'a>>, AllocError>
     requires { ArePlaces places.now entries.now }
-    ensures { IfOk result (λ v. leaps_of v.items ≡ gather (part_leaps (chips_in entries.now blocks) known.now) parts.now) }
+    ensures { IfOk result (λ v. AreLeaps v.items (gather (part_leaps (chips_in entries.now blocks) known.now) parts.now)) }
 {
     let mut hops = Vec::new(alloc);
     for part in parts {

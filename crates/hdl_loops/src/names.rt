@@ -4,7 +4,7 @@ ghost use Rattle.std.specs.Prelude.{◌≡◌, ◌<◌, ◌∷◌, ◌++◌, tru
 ghost use Rattle.hdl_check.specs.Whole.{chips_in};
 ghost use Rattle.hdl_plans.specs.Loops.{IsLoop};
 ghost use Rattle.hdl_loops.specs.Inner.Hops.{input_of, output_of, WayRound};
-ghost use Rattle.hdl_loops.specs.Inner.Knowing.{HasWays, AreKnown, AreHops, Nests, leads_in, IsWayIn};
+ghost use Rattle.hdl_loops.specs.Inner.Knowing.{HasWays, AreKnown, AreHops, IsStraight, Nests, leads_in, IsWayIn};
 ghost use Rattle.hdl_loops.specs.Inner.Told.{names_of, AreTold};
 ghost use Rattle.hdl_loops.specs.Inner.Tasks.{passage_of, pass_task, way_tasks, IsTask, AreTasks, IsSure, GoesOn, room, tasks_weight};
 
@@ -158,6 +158,7 @@ pub(crate) fn nets_of<'a>(
     requires known { AreKnown (chips_in entries.now blocks) known.now }
     requires hops { AreHops (chips_in entries.now blocks) known.now entry.now circle.now.way.items }
     requires round { WayRound circle.now }
+    requires straight { IsStraight (chips_in entries.now blocks) entry.now circle.now.way.items }
     requires nests { Nests depth (chips_in entries.now blocks) entry.now }
     ensures { IfOk result (λ nets. IsLoop (chips_in entries.now blocks) entry.now nets.items) }
 {

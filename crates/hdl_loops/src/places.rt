@@ -5,8 +5,8 @@ ghost use Rattle.hdl_tree.specs.declared.library.Entry.{Entry};
 ghost use Rattle.hdl_tree.specs.Chips.{find_entry};
 ghost use Rattle.hdl_loops.specs.Inner.Knowing.{ArePlaces, place_of};
 
-use hdl_check::Table;
 use hdl_tree::Entry;
+use name_table::Table;
 use std::alloc::{AllocError, Global};
 
 /// The place of the chip of each name; of the first, where several have one.

@@ -5,7 +5,7 @@ ghost use Rattle.hdl_loops.specs.declared.hops.Hop.{Hop};
 ghost use Rattle.hdl_loops.specs.declared.tree.Node.{Node};
 ghost use Rattle.hdl_loops.specs.Inner.Hops.{bit, IsWay};
 ghost use Rattle.hdl_loops.specs.Inner.Leaving.{IsLinked};
-ghost use Rattle.hdl_loops.specs.Inner.Trees.{is_marked, IsReached, Comes, IsTree, KeepsMarks, IsFollowed, IsLeft, IsClosed, IsGrown, Adds};
+ghost use Rattle.hdl_loops.specs.Inner.Trees.{is_marked, IsReached, Comes, IsTree, KeepsMarks, IsFollowed, IsLeft, LeftBefore, IsClosed, IsGrown, Adds};
 
 use crate::hops::{BitOf, Hop};
 use crate::leaving::Leaving;
@@ -20,6 +20,7 @@ pub struct Node<'a> {
 }
 
 /// The bits that hops reach from a root, and for each the place of the hop that reached it first. The root is reached only by a way round.
+/// What is reached first is left first, so that no hop cuts a way short.
 #[derive(Drop)]
 pub struct Tree<'a> {
     root: BitOf<'a>,
@@ -66,6 +67,7 @@ impl<'a> Tree<'a> {
     fn follow(&mut self, hops: &[Hop<'a>], k: usize) -> Result<(), AllocError>
         requires there { k < length hops.now }
         requires right { IsTree hops.now self.old }
+        requires before { (h : Hop) → slice_get hops.now k ≡ Some h → LeftBefore hops.now self.old (bit h.from) }
         ensures right { OnOk result (IsTree hops.now self.new) }
         ensures kept { OnOk result (KeepsMarks self.old self.new) }
         ensures followed { OnOk result (IsFollowed hops.now k self.old self.new) }
@@ -92,9 +94,11 @@ impl<'a> Tree<'a> {
     ) -> Result<(), AllocError>
         requires right { IsTree hops.now self.old }
         requires linked { IsLinked hops.now leaving.now (length hops.now) }
+        requires reached { IsReached self.old (bit from.now) }
+        requires before { LeftBefore hops.now self.old (bit from.now) }
         ensures right { OnOk result (IsTree hops.now self.new) }
         ensures kept { OnOk result (KeepsMarks self.old self.new) }
-        ensures left { OnOk result (IsReached self.old (bit from.now) → IsLeft hops.now self.new (bit from.now)) }
+        ensures left { OnOk result (IsLeft hops.now self.new (bit from.now)) }
     {
         let mut at = leaving.last(from);
         while let Some(k) = at {

@@ -10,10 +10,19 @@ use indexmap::IndexSet;
 use std::alloc::{AllocError, Global};
 
 /// Chips, with a table of their names.
-#[derive(Drop)]
 pub struct NamedChips {
     pub entries: List<Entry>,
     names: IndexSet<Vec<u8>>,
+}
+
+// By hand, so that whoever drops one calls this.
+impl Drop for NamedChips {
+    fn drop(self) {
+        let NamedChips {
+            entries: _,
+            names: _,
+        } = self;
+    }
 }
 
 impl NamedChips {
@@ -49,5 +58,13 @@ impl NamedChips {
         }
         self.entries.push(entry)?;
         Ok(())
+    }
+
+    /// The chips, without the table of their names.
+    pub fn into_entries(self) -> List<Entry>
+        ensures { result ≡ self.entries }
+    {
+        let NamedChips { entries, names: _ } = self;
+        entries
     }
 }

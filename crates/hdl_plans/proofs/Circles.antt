@@ -6,9 +6,10 @@ use Rattle.hdl_tree.specs.declared.library.Entry.{Entry}
 use Rattle.hdl_tree.specs.Chips.{Chips}
 use Rattle.hdl_tree.specs.Behaviour.{chip_at, inner_chip}
 use Rattle.hdl_plans.specs.Plans.{is_input}
-use Rattle.hdl_plans.specs.Loops.{BitAt, bit_at, outside_bit, inside_bit, Feeds, down, up, through, IsCircle, IsLoop}
-use Rattle.hdl_plans.specs.Ways.{Chain, Way, HasBit, JointsFit, TreeFits, Depends, Across, Own, OwnAt, OwnCircle, HasOwnCircle, Circle, IsOrdered}
+use Rattle.hdl_plans.specs.Loops.{BitAt, bit_at, outside_bit, inside_bit, Feeds, down, up, through, IsWalk, IsCircle, IsLoop}
+use Rattle.hdl_plans.specs.Ways.{Chain, Way, HasBit, JointsFit, TreeFits, Depends, Across, Own, OwnAt, OwnCircle, HasOwnCircle, Circle, CircleAmong, IsOrdered}
 use Rattle.hdl_plans.proofs.Walks.{at_part, part_at, under, shift, Within, Enters, Leaves, Moves, moves_of, join_ways, step_way, one_step, joined_inner}
+use Rattle.hdl_plans.proofs.Simple.{Once, simple_round, once_are, get_among, among_get}
 
 -- ---- a way between bits of a chip is a way of its own graph
 
@@ -228,7 +229,7 @@ differs a b lt = by (nat_eq a b) refl
 same_eq : (a : ℕ) → nat_eq a a ≡ true
 same_eq a = (Decides-eqb a a).1 refl
 
-pub chain_round : (chips : Chips) (top : Entry) (ms : List BitAt) (x : BitAt) → IsCircle chips top (x ∷ ms) → Chain (Feeds chips top) x ms x
+pub chain_round : (chips : Chips) (top : Entry) (ms : List BitAt) (x : BitAt) → IsWalk chips top (x ∷ ms) → Chain (Feeds chips top) x ms x
 chain_round chips top ms x c =
     chain_of ms x x
     (λ k a b e f.
@@ -236,7 +237,7 @@ chain_round chips top ms x c =
     c.feeds k a b e (ap (λ (t : Bool). if t then slice_get (x ∷ ms) 0 else slice_get (x ∷ ms) (suc k)) (differs (suc k) (suc (length ms)) lt) ∙ f))
     (λ a e. c.feeds (length ms) a x e (ap (λ (t : Bool). if t then slice_get (x ∷ ms) 0 else slice_get (x ∷ ms) (suc (length ms))) (same_eq (suc (length ms)))))
 
-round_of : (chips : Chips) (top : Entry) (bits : List BitAt) → IsCircle chips top bits → Round chips top
+round_of : (chips : Chips) (top : Entry) (bits : List BitAt) → IsWalk chips top bits → Round chips top
 round_of chips top [] c = absurd (let h : 0 < 0 = c.some in omega (arith, h))
 round_of chips top (x ∷ ms) c = record { at = x; way = record { over = ms; steps = chain_round chips top ms x c } }
 
@@ -258,22 +259,35 @@ step_at R (m ∷ ms) x y f zero a b true e t h = let same : 1 ≡ suc (suc (leng
 step_at R (m ∷ ms) x y f zero a b false e t h = let p : x ≡ a = cc in let q : m ≡ b = cc in subst (λ v. R v b) p (subst (λ v. R x v) q f.0)
 step_at R (m ∷ ms) x y f (suc k) a b t e s h = step_at R ms m y f.1 k a b t e (nat_eq_suc (suc k) (suc (length ms)) ∙ s) h
 
-pub circle_of : (chips : Chips) (top : Entry) (ms : List BitAt) (x : BitAt) → Chain (Feeds chips top) x ms x → IsCircle chips top (x ∷ ms)
-circle_of chips top ms x f = record {
+pub walk_of : (chips : Chips) (top : Entry) (ms : List BitAt) (x : BitAt) → Chain (Feeds chips top) x ms x → IsWalk chips top (x ∷ ms)
+walk_of chips top ms x f = record {
   some = omega arith;
   feeds = λ k a b e h. step_at (Feeds chips top) ms x x f k a b (nat_eq (suc k) (suc (length ms))) e refl h;
 }
 
+pub circle_of : (chips : Chips) (top : Entry) (ms : List BitAt) (x : BitAt) → Chain (Feeds chips top) x ms x → Once (x ∷ ms) → IsCircle chips top (x ∷ ms)
+circle_of chips top ms x f o = record { walk = walk_of chips top ms x f; once = once_are (x ∷ ms) o }
+
+-- a walk that comes back has a circle among its bits
+pub circle_among : (chips : Chips) (top : Entry) (bits : List BitAt) → IsWalk chips top bits → CircleAmong chips top bits
+circle_among chips top [] c = absurd (let h : 0 < 0 = c.some in omega (arith, h))
+circle_among chips top (x ∷ ms) c =
+    let s = simple_round (Feeds chips top) ms x (chain_round chips top ms x c) in
+    record {
+      circle = record { bits = s.at ∷ s.over; is = circle_of chips top s.over s.at s.steps s.once };
+      among = λ k v e. among_get (x ∷ ms) v (s.among v (get_among (s.at ∷ s.over) k v e));
+    }
+
 -- ---- both directions
 
-pub circle_to_own : (chips : Chips) (top : Entry) → TreeFits chips top → (bits : List BitAt) → IsCircle chips top bits → HasOwnCircle chips top
+pub circle_to_own : (chips : Chips) (top : Entry) → TreeFits chips top → (bits : List BitAt) → IsWalk chips top bits → HasOwnCircle chips top
 circle_to_own chips top fit bits c = let r = round_of chips top bits c in descend chips r.at.path r.at.name r.at.bit top fit r.way
 
 pub own_to_circle : (chips : Chips) (top : Entry) → HasOwnCircle chips top → Circle chips top
 own_to_circle chips top h =
     let x = bit_at [] h.circle.name h.circle.bit in
     let r = lift chips h.path top h.chip h.at (record { at = x; way = whole_way chips h.chip x x h.circle.way }) in
-    record { bits = r.at ∷ r.way.over; is = circle_of chips top r.way.over r.at r.way.steps }
+    (circle_among chips top (r.at ∷ r.way.over) (walk_of chips top r.way.over r.at r.way.steps)).circle
 
 -- ---- order
 
@@ -283,7 +297,7 @@ rises_along chips chip o (m ∷ ms) x y f = let a = o.rises x m f.0 in let b = r
 
 pub ordered_no_loop : (chips : Chips) (top : Entry) → TreeFits chips top → ((path : List ℕ) (chip : Entry) → chip_at chips top path ≡ Some chip → IsOrdered chips chip) → (nets : List (List ℕ)) → IsLoop chips top nets → ⊥
 ordered_no_loop chips top fit order nets l =
-    let h = circle_to_own chips top fit (l.first ∷ l.rest) l.circle in
+    let h = circle_to_own chips top fit (l.first ∷ l.rest) l.circle.walk in
     let o = order h.path h.chip h.at in
     let x = bit_at [] h.circle.name h.circle.bit in
     let f = rises_along chips h.chip o h.circle.way.over x x h.circle.way.steps in

@@ -9,7 +9,7 @@ use Rattle.hdl_tree.specs.declared.tree.Subscript.TheVariants as subscript
 use Rattle.hdl_tree.specs.declared.library.Entry.{Entry}
 use Rattle.hdl_tree.specs.Chips.{Chips, find_chip, parts_of, first, count, is_past}
 use Rattle.hdl_tree.specs.Behaviour.{chip_of, width_in, width_of}
-use Rattle.hdl_check.specs.Tables.{find_value, first_of}
+use Rattle.name_table.specs.Names.{find_value, first_of}
 use Rattle.hdl_check.specs.declared.fault.NamedFault.{NamedFault}
 use Rattle.hdl_check.specs.Faults.{Context, context, ports_of, right_side_of, width_fault, wiring_fault_by, connection_fault, connection_fault_at, connection_fault_by}
 use Rattle.hdl_check.specs.Locations.{AtConnection, Inside, at_inner, inner_of, fault_of_connection, fault_at, IsFaultless}

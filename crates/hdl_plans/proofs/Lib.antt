@@ -3,8 +3,8 @@ pub mod Sound
 pub mod Unjoined
 pub mod Nesting
 pub mod Walks
+pub mod Simple
 pub mod Circles
-pub mod Peaks
 pub mod Fits
 pub mod Rows
 pub mod Behaves

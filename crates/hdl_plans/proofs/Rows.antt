@@ -14,10 +14,11 @@ use Rattle.hdl_tree.specs.declared.ends.End.TheVariants as ends
 use Rattle.hdl_tree.specs.Chips.{Chips, end_of, find_chip, parts_of, count}
 use Rattle.hdl_tree.specs.Behaviour.{Histories, World, IsBehaviour, Each, chip_at, width_of}
 use Rattle.hdl_plans.specs.Plans.{is_input}
-use Rattle.hdl_plans.specs.Loops.{BitAt, bit_at, outside_bit, inside_bit, IsJoint, Feeds, down, up, through, reaches_out, IsLoop}
+use Rattle.hdl_plans.specs.Loops.{BitAt, bit_at, outside_bit, inside_bit, IsJoint, Feeds, down, up, through, reaches_out, IsCircle, IsLoop}
 use Rattle.hdl_plans.specs.Ways.{Chain}
 use Rattle.hdl_plans.specs.Rows.{select, wire, bit_wire, wire_bit, part, nand, dff, ram8, beside, half_driven, gate_ring, address_ring, clocked_rings}
 use Rattle.hdl_plans.proofs.Circles.{chain_round, circle_of}
+use Rattle.hdl_plans.proofs.Simple.{once_by}
 
 -- ---- behaviours
 
@@ -62,7 +63,7 @@ gate_loop =
     let into : Feeds (beside gate_ring) gate_ring x a = enters (beside gate_ring) gate_ring 0 0 (gate "x" "x") nand (wire "a" "x") (select "x" None) refl refl refl refl (lit< tt) refl in
     let across : Feeds (beside gate_ring) gate_ring a out = through {path = 0 ∷ []} {name = codes "a"} {bit = 0} {out = 0} {chip = nand} {e = ends.Nand} refl refl refl in
     let back : Feeds (beside gate_ring) gate_ring out x = leaves (beside gate_ring) gate_ring 0 2 (gate "x" "x") nand (wire "out" "x") (select "x" None) refl refl refl refl (lit< tt) refl in
-    record { first = x; rest = a ∷ out ∷ []; last = out; ends = refl; circle = circle_of (beside gate_ring) gate_ring (a ∷ out ∷ []) x (into, (across, back)); named = refl }
+    record { first = x; rest = a ∷ out ∷ []; last = out; ends = refl; circle = circle_of (beside gate_ring) gate_ring (a ∷ out ∷ []) x (into, (across, back)) (once_by (x ∷ a ∷ out ∷ []) refl); named = refl }
 
 abbrev addressed : Part
 addressed = part "RAM8" (bit_wire "address" 0 "y" ∷ bit_wire "out" 0 "x" ∷ [])
@@ -82,7 +83,11 @@ address_loop =
     let s4 : Feeds (beside address_ring) address_ring y address = enters (beside address_ring) address_ring 1 0 addressed ram8 (bit_wire "address" 0 "y") (select "y" None) refl refl refl refl (lit< tt) refl in
     let s5 : Feeds (beside address_ring) address_ring address word = through {path = 1 ∷ []} {name = codes "address"} {bit = 0} {out = 0} {chip = ram8} {e = ends.Block 3} refl refl refl in
     let s6 : Feeds (beside address_ring) address_ring word x = leaves (beside address_ring) address_ring 1 1 addressed ram8 (bit_wire "out" 0 "x") (select "x" None) refl refl refl refl (lit< tt) refl in
-    record { first = x; rest = a ∷ out ∷ y ∷ address ∷ word ∷ []; last = word; ends = refl; circle = circle_of (beside address_ring) address_ring (a ∷ out ∷ y ∷ address ∷ word ∷ []) x (s1, (s2, (s3, (s4, (s5, s6))))); named = refl }
+    record { first = x; rest = a ∷ out ∷ y ∷ address ∷ word ∷ []; last = word; ends = refl; circle = circle_of (beside address_ring) address_ring (a ∷ out ∷ y ∷ address ∷ word ∷ []) x (s1, (s2, (s3, (s4, (s5, s6))))) (once_by (x ∷ a ∷ out ∷ y ∷ address ∷ word ∷ []) refl); named = refl }
+
+-- a circle passes no bit twice
+pub no_bit_twice : (chips : Chips) (top : Entry) (x y z : BitAt) → IsCircle chips top (x ∷ y ∷ x ∷ z ∷ []) → ⊥
+no_bit_twice chips top x y z c = let e : 0 ≡ 2 = c.once 0 2 x refl refl in absurd (omega (arith, e))
 
 -- ---- no loop: along each step a rank rises, from an address over what comes out and a net to what comes in
 
@@ -194,4 +199,4 @@ along [] x y f = rises x y f
 along (m ∷ ms) x y f = let a = rises x m f.0 in let b = along ms m y f.1 in omega (arith, a, b)
 
 pub no_clocked_loop : (nets : List (List ℕ)) → IsLoop rings clocked_rings nets → ⊥
-no_clocked_loop nets l = let f = along l.rest l.first l.first (chain_round rings clocked_rings l.rest l.first l.circle) in omega (arith, f)
+no_clocked_loop nets l = let f = along l.rest l.first l.first (chain_round rings clocked_rings l.rest l.first l.circle.walk) in omega (arith, f)

@@ -12,12 +12,13 @@ use Rattle.hdl_tree.specs.declared.tree.Chip.{Chip}
 use Rattle.hdl_tree.specs.declared.library.Entry.{Entry}
 use Rattle.hdl_tree.specs.Chips.{Chips, find_chip, parts_of, pin_width, first, count}
 use Rattle.hdl_tree.specs.Behaviour.{width_in, width_of}
-use Rattle.hdl_check.specs.Tables.{find_value, first_of, BitOf, bits_of, is_in, some_in}
+use Rattle.name_table.specs.Names.{find_value, first_of}
+use Rattle.hdl_check.specs.Tables.{BitOf, bits_of, is_in, some_in}
 use Rattle.hdl_check.specs.declared.fault.NamedFault.{NamedFault}
 use Rattle.hdl_check.specs.Faults.{Context, context, driver_by, drivers_by, drivers_of, bits_driven, fed_by, bits_fed, ports_in, ports_of, port_of, right_side_of, right_side_of_name, is_undrivable, width_fault, driven_fault, undriven_fault, driving_fault, feeding_fault, wiring_fault, wiring_fault_by, connection_fault, connection_fault_at, connection_fault_by, net_width}
 use Rattle.hdl_check.specs.Locations.{AtConnection, fault_of_connection, IsFaultless}
 use Rattle.hdl_check.specs.declared.check.Port.{Port}
-use Rattle.hdl_check.proofs.Entries.{found-append}
+use Rattle.name_table.proofs.Entries.{found-append}
 use Rattle.hdl_check.proofs.MarkLemmas.{is_in-append}
 use Rattle.hdl_check.proofs.Checking.{driver_is, fed_is}
 use Rattle.hdl_plans.specs.Plans.{Low, IsDriver, is_input, origin_of}

@@ -12,7 +12,8 @@ use Rattle.hdl_tree.specs.declared.tree.Part.{Part}
 use Rattle.hdl_tree.specs.declared.library.Entry.{Entry}
 use Rattle.hdl_tree.specs.Chips.{Chips, end_of, find_chip, parts_of, pin_width, first, count}
 use Rattle.hdl_tree.specs.Behaviour.{width_in, width_of, reaches, drives, drives_bits, some}
-use Rattle.hdl_check.specs.Tables.{find_value, first_of, bits_of, is_in}
+use Rattle.name_table.specs.Names.{find_value, first_of}
+use Rattle.hdl_check.specs.Tables.{bits_of, is_in}
 use Rattle.hdl_tree.specs.Writable.{is_among}
 use Rattle.hdl_check.specs.declared.fault.NamedFault.{NamedFault}
 use Rattle.hdl_check.specs.Faults.{ports_of, pin_name, pin_fault, twice_fault}

@@ -2,5 +2,4 @@ pub mod Plans
 pub mod Planned
 pub mod Loops
 pub mod Ways
-pub mod Nets
 pub mod Rows

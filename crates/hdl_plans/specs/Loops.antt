@@ -61,9 +61,19 @@ pub data Feeds (chips : Chips) (top : Entry) : BitAt → BitAt → Type 0 where
 abbrev pub next_bit : List BitAt → ℕ → Option BitAt
 next_bit bits k = if nat_eq (suc k) (length bits) then slice_get bits 0 else slice_get bits (suc k)
 
-pub record IsCircle (chips : Chips) (top : Entry) (bits : List BitAt) : Type 0 where
+-- a walk of bits that comes back: each feeds the one that follows
+pub record IsWalk (chips : Chips) (top : Entry) (bits : List BitAt) : Type 0 where
   pub some : 0 < length bits
   pub feeds : (k : ℕ) (x y : BitAt) → slice_get bits k ≡ Some x → next_bit bits k ≡ Some y → Feeds chips top x y
+
+-- no bit stands in two places
+abbrev pub AreOnce : List BitAt → Type 0
+AreOnce bits = (i j : ℕ) (x : BitAt) → slice_get bits i ≡ Some x → slice_get bits j ≡ Some x → i ≡ j
+
+-- a circle: a walk that comes back and passes no bit twice
+pub record IsCircle (chips : Chips) (top : Entry) (bits : List BitAt) : Type 0 where
+  pub walk : IsWalk chips top bits
+  pub once : AreOnce bits
 
 -- A bit of a circle is outermost where the bits before and after it lie in parts of its chip: there the way goes up no further.
 abbrev pub is_peak : BitAt → BitAt → BitAt → Bool
@@ -80,7 +90,8 @@ abbrev pub once_more : List (List ℕ) → List (List ℕ) → List (List ℕ)
 once_more seen [] = []
 once_more seen (x ∷ xs) = if is_among x seen then once_more seen xs else x ∷ once_more (x ∷ seen) xs
 
--- these are the nets of a loop, each named as in the outermost chip that has a name for it
+-- These are the nets of a loop: those of one circle, in its order. Each is named as in the outermost chip that has a name for it. A name
+-- stands once, also where the circle passes several bits of a net, or nets of one name in several chips.
 pub record IsLoop (chips : Chips) (top : Entry) (nets : List (List ℕ)) : Type 0 where
   pub first : BitAt
   pub rest : List BitAt

@@ -14,7 +14,7 @@ use Rattle.hdl_tree.specs.declared.ends.End.{End}
 use Rattle.hdl_tree.specs.declared.ends.End.TheVariants as ends
 use Rattle.hdl_tree.specs.Chips.{Chips, end_named}
 use Rattle.hdl_tree.specs.Behaviour.{Histories, World, IsBehaviour}
-use Rattle.hdl_plans.specs.Loops.{IsLoop}
+use Rattle.hdl_plans.specs.Loops.{BitAt, IsCircle, IsLoop}
 
 -- ---- trees in the words of HDL texts
 
@@ -118,5 +118,7 @@ pub record RowsLaw : Type 0 where
   pub undriven_is_low : Gives (λ first second. second ≡ false)
   pub gate_loop : IsLoop (beside gate_ring) gate_ring (codes "x" ∷ [])
   pub address_loop : IsLoop (beside address_ring) address_ring (codes "x" ∷ codes "y" ∷ [])
+  -- two rings that share a bit are no circle
+  pub no_bit_twice : (chips : Chips) (top : Entry) (x y z : BitAt) → IsCircle chips top (x ∷ y ∷ x ∷ z ∷ []) → ⊥
   -- no loop goes through a flip-flop, nor through a block by its word or its load
   pub no_clocked_loop : (nets : List (List ℕ)) → IsLoop (beside clocked_rings) clocked_rings nets → ⊥

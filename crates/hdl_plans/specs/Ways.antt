@@ -1,5 +1,5 @@
 -- Circles of bits, seen in one chip at a time: in a chip's own graph a part is known by which of its outputs depend on which of its inputs.
-use Rattle.std.specs.Prelude.{◌≡◌, ℕ, ◌+◌, ◌<◌, Bool, true, false, List, [], ◌∷◌, Some, codes}
+use Rattle.std.specs.Prelude.{◌≡◌, ℕ, ◌+◌, ◌<◌, Bool, true, false, List, [], ◌∷◌, Some, codes, slice_get}
 use Rattle.hdl_tree.specs.declared.tree.Pin.{Pin}
 use Rattle.hdl_tree.specs.declared.tree.Selection.{Selection}
 use Rattle.hdl_tree.specs.declared.tree.Connection.{Connection}
@@ -9,7 +9,7 @@ use Rattle.hdl_tree.specs.Chips.{Chips, end_of, first}
 use Rattle.hdl_tree.specs.Behaviour.{chip_at, inner_chip, width_in}
 use Rattle.hdl_check.specs.Locations.{IsFaultless}
 use Rattle.hdl_plans.specs.Plans.{is_input}
-use Rattle.hdl_plans.specs.Loops.{BitAt, bit_at, IsJoint, outside_bit, inside_bit, reaches_out, Feeds, IsCircle, IsLoop}
+use Rattle.hdl_plans.specs.Loops.{BitAt, bit_at, IsJoint, outside_bit, inside_bit, reaches_out, Feeds, IsWalk, IsCircle, IsLoop}
 
 -- ---- ways
 
@@ -108,9 +108,16 @@ pub record Circle (chips : Chips) (top : Entry) : Type 0 where
   pub bits : List BitAt
   pub is : IsCircle chips top bits
 
+-- a circle, each bit of which is one of these
+pub record CircleAmong (chips : Chips) (top : Entry) (bits : List BitAt) : Type 0 where
+  pub circle : Circle chips top
+  pub among : (k : ℕ) (x : BitAt) → slice_get circle.bits k ≡ Some x → (j : ℕ) × (slice_get bits j ≡ Some x)
+
 -- There is a circle of bits in a tree exactly where the own graph of a chip in it has one.
 pub record CircleLaw : Type 0 where
-  pub found : (chips : Chips) (top : Entry) → TreeFits chips top → (bits : List BitAt) → IsCircle chips top bits → HasOwnCircle chips top
+  -- a walk that comes back has a circle among its bits
+  pub simple : (chips : Chips) (top : Entry) (bits : List BitAt) → IsWalk chips top bits → CircleAmong chips top bits
+  pub found : (chips : Chips) (top : Entry) → TreeFits chips top → (bits : List BitAt) → IsWalk chips top bits → HasOwnCircle chips top
   pub real : (chips : Chips) (top : Entry) → HasOwnCircle chips top → Circle chips top
   -- an output depends on an input exactly where the chip's own graph has a way
   pub own : (chips : Chips) (chip : Entry) → JointsFit chips chip → (n m : List ℕ) (b k : ℕ) → Way (Feeds chips chip) (bit_at [] n b) (bit_at [] m k) → Way (Own chips chip) (bit_at [] n b) (bit_at [] m k)

@@ -1,6 +1,5 @@
 //! Laws of plans and of loops.
 
-ghost use Rattle.hdl_plans.specs.Nets.{NetsLaw};
 ghost use Rattle.hdl_plans.specs.Planned.{PlanLaw, SoundLaw};
 ghost use Rattle.hdl_plans.specs.Rows.{RowsLaw};
 ghost use Rattle.hdl_plans.specs.Ways.{CircleLaw, FitLaw, RankLaw};
@@ -20,7 +19,7 @@ pub fn fit_law()
     ensures { FitLaw }
 {}
 
-/// There is a circle of bits in a tree exactly where the own graph of a chip in it has one.
+/// There is a circle of bits in a tree exactly where the own graph of a chip in it has one, and one in each walk that comes back.
 pub fn circle_law()
     ensures { CircleLaw }
 {}
@@ -28,11 +27,6 @@ pub fn circle_law()
 /// Where the bits of each chip's own graph can be put in order, there is no loop.
 pub fn rank_law()
     ensures { RankLaw }
-{}
-
-/// The nets of a circle in the own graph of a chip of a tree are those of a loop of the tree.
-pub fn nets_law()
-    ensures { NetsLaw }
 {}
 
 /// Facts about small chips: the sizes of memories, inputs and outputs that nothing is joined to, and loops.

@@ -6,9 +6,9 @@
 //! outputs depend on which of its inputs.
 //!
 //! The definitions are in `specs/`: `Plans` says what a plan is, `Planned` has the plan of a text, and `Loops` circles and the names of
-//! their nets. `Ways` has the own graph of a chip, `Nets` the nets of a circle in it, and `Rows` facts about small chips.
+//! their nets. `Ways` has the own graph of a chip, and `Rows` facts about small chips.
 #![tactic(auto)]
 
 mod laws;
 
-pub use laws::{circle_law, fit_law, nets_law, plan_law, rank_law, rows_law, sound_law};
+pub use laws::{circle_law, fit_law, plan_law, rank_law, rows_law, sound_law};

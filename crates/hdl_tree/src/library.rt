@@ -11,7 +11,13 @@ pub struct Entry {
 }
 
 /// Chips by name.
-#[derive(Drop)]
 pub struct Library {
     pub entries: List<Entry>,
+}
+
+// By hand, so that whoever drops one calls this.
+impl Drop for Library {
+    fn drop(self) {
+        let Library { entries: _ } = self;
+    }
 }

@@ -7,7 +7,8 @@ use Rattle.hdl_tree.specs.declared.tree.Part.{Part}
 use Rattle.hdl_tree.specs.declared.library.Entry.{Entry}
 use Rattle.hdl_tree.specs.declared.ends.End.{End}
 use Rattle.hdl_tree.specs.Chips.{Chips, end_of, find_chip, parts_of, first, count}
-use Rattle.hdl_check.specs.Tables.{BitOf, find_value}
+use Rattle.name_table.specs.Names.{find_value}
+use Rattle.hdl_check.specs.Tables.{BitOf}
 use Rattle.hdl_check.specs.Faults.{ports_of}
 use Rattle.hdl_check.specs.declared.check.Port.{Port}
 use Rattle.hdl_flatten.specs.declared.size.Size.{Size}

@@ -37,11 +37,16 @@ Linked x (h ∷ ws) y = (bit h.from ≡ x) × Linked (bit h.to) ws y
 abbrev pub AllIn : List Hop → List Hop → Type 0
 AllIn hs ws = (p : ℕ) (h : Hop) → slice_get ws p ≡ Some h → (q : ℕ) × (slice_get hs q ≡ Some h)
 
+-- no hop of the list leads from where one of these begins to where a later one ends
+abbrev pub IsDirect : List Hop → List Hop → Type 0
+IsDirect hs ws = (i j q : ℕ) (h g f : Hop) → i < j → slice_get ws i ≡ Some h → slice_get ws j ≡ Some g → slice_get hs q ≡ Some f → bit f.from ≡ bit h.from → bit f.to ≡ bit g.to → ⊥
+
 -- a way of hops of the list, one or more
 pub record IsWay (hs : List Hop) (x : BitAt) (ws : List Hop) (y : BitAt) : Type 0 where
   pub some : 0 < length ws
   pub linked : Linked x ws y
   pub inside : AllIn hs ws
+  pub direct : IsDirect hs ws
   pub few : length ws ≤ length hs
 
 -- a way round

@@ -6,18 +6,19 @@ use Rattle.hdl_tree.specs.declared.library.Entry.{Entry}
 use Rattle.hdl_tree.specs.declared.ends.End.{End}
 use Rattle.hdl_tree.specs.Chips.{Chips, end_of, find_chip, parts_of}
 use Rattle.hdl_tree.specs.Behaviour.{chip_at, inner_chip}
-use Rattle.hdl_check.specs.Inner.Entered.{Finds}
+use Rattle.name_table.specs.Tables.{Finds}
 use Rattle.hdl_check.specs.Inner.Progress.{numbered_entries}
-use Rattle.hdl_check.specs.declared.table.Table.{Table}
+use Rattle.name_table.specs.declared.Table.{Table}
 use Rattle.hdl_plans.specs.Loops.{BitAt, bit_at, reaches_out}
-use Rattle.hdl_plans.specs.Ways.{Way, Depends, OwnCircle, TreeFits}
-use Rattle.hdl_loops.specs.Inner.Hops.{bit, input_of, output_of, HasHop, IsWay}
-use Rattle.hdl_loops.specs.Inner.Ties.{Tie, ties_in, gather}
+use Rattle.hdl_plans.specs.Ways.{Way, Depends, Joined, OwnCircle, JointsFit, TreeFits}
+use Rattle.hdl_loops.specs.Inner.Hops.{bit, input_of, output_of, HasHop, AllIn, IsDirect, IsWay}
+use Rattle.hdl_loops.specs.Inner.Ties.{In, Tie, ties_in, gather}
 use Rattle.hdl_loops.specs.Inner.Told.{HasConnection}
 use Rattle.hdl_loops.specs.Inner.Leaving.{IsLinked}
 use Rattle.hdl_loops.specs.Inner.Pairs.{has_pair}
 use Rattle.hdl_loops.specs.declared.hops.Hop.{Hop}
 use Rattle.hdl_loops.specs.declared.known.Known.{Known}
+use Rattle.hdl_loops.specs.declared.pairs.Pair.{Pair}
 
 -- ---- which bits of a chip lead to which
 
@@ -71,13 +72,40 @@ leap_if t k a b = if t then record { from = a.net; chip = k; input = a.pin; outp
 abbrev pub leap_by : Chips → List (Option Known) → ℕ → Tie → Tie → List Leap
 leap_by chips known k a b = leap_if (leads_through chips known k a b) k a b
 
--- the hops that go in by this joint
+-- the hops that go in by this joint, and out by one of these
 abbrev pub leaps_from : Chips → List (Option Known) → ℕ → List Tie → Tie → List Leap
 leaps_from chips known k ties a = gather (leap_by chips known k a) ties
 
+-- the hops that go in by one of the joints, and out by one of the others
+abbrev pub leaps_between : Chips → List (Option Known) → ℕ → List Tie → List Tie → List Leap
+leaps_between chips known k enters leaves = gather (leaps_from chips known k leaves) enters
+
 -- the hops through a part with these joints
 abbrev pub leaps_through : Chips → List (Option Known) → ℕ → List Tie → List Leap
-leaps_through chips known k ties = gather (leaps_from chips known k ties) ties
+leaps_through chips known k ties = leaps_between chips known k ties ties
+
+-- none but these hops are added
+pub record AddsOnly (old new : List Hop) (leaps : List Leap) : Type 0 where
+  pub kept : (leap : Leap) → In leap (leaps_of old) → In leap (leaps_of new)
+  pub only : (leap : Leap) → In leap (leaps_of new) → (In leap (leaps_of old)) ⊎ (In leap leaps)
+
+-- and these are all there
+pub record AddsLeaps (old new : List Hop) (leaps : List Leap) : Type 0 where
+  pub right : AddsOnly old new leaps
+  pub there : (leap : Leap) → In leap leaps → In leap (leaps_of new)
+
+-- the hops by joints of these two bits are there
+abbrev pub HasLeaps : Chips → List (Option Known) → ℕ → List Tie → List Hop → BitAt → BitAt → Type 0
+HasLeaps chips known k ties hs x y = (a b : Tie) (leap : Leap) → In a ties → In b ties → a.pin ≡ x → b.pin ≡ y → In leap (leap_by chips known k a b) → In leap (leaps_of hs)
+
+-- the pair of an input bit and an output bit
+abbrev pub through_pair : Bool → Pair → Pair
+through_pair turned p = if turned then record { from = p.to; to = p.from } else p
+
+-- what is known of chip k is this, and it is no end
+pub record KnownAs (chips : Chips) (known : List (Option Known)) (k : ℕ) (inside : Known) : Type 0 where
+  pub noted : slice_get known k ≡ Some (Some inside)
+  pub no_end : (chip : Entry) → slice_get chips.entries k ≡ Some chip → end_of chips.blocks chip ≡ None
 
 abbrev pub next_place : Option ℕ → Option ℕ
 next_place None = None
@@ -104,9 +132,14 @@ leaps_at chips known part (Some k) = leaps_through chips known k (ties_for (slic
 abbrev pub part_leaps : Chips → List (Option Known) → Part → List Leap
 part_leaps chips known part = leaps_at chips known part (place_of chips.entries part.chip)
 
+-- the list has these hops, and no others
+pub record AreLeaps (hs : List Hop) (leaps : List Leap) : Type 0 where
+  pub only : (leap : Leap) → In leap (leaps_of hs) → In leap leaps
+  pub there : (leap : Leap) → In leap leaps → In leap (leaps_of hs)
+
 -- these are the hops of a chip's own graph
 abbrev pub IsGraph : Chips → List (Option Known) → Entry → List Hop → Type 0
-IsGraph chips known chip hs = leaps_of hs ≡ gather (part_leaps chips known) (parts_of chips chip)
+IsGraph chips known chip hs = AreLeaps hs (gather (part_leaps chips known) (parts_of chips chip))
 
 -- a hop of a chip's own graph
 pub record IsHop (chips : Chips) (known : List (Option Known)) (chip : Entry) (h : Hop) : Type 0 where
@@ -123,6 +156,17 @@ pub record IsHop (chips : Chips) (known : List (Option Known)) (chip : Entry) (h
 abbrev pub AreHops : Chips → List (Option Known) → Entry → List Hop → Type 0
 AreHops chips known chip hs = (p : ℕ) (h : Hop) → slice_get hs p ≡ Some h → IsHop chips known chip h
 
+-- a part leads from a bit of the chip to another by hops of the list, wherever its output depends on its input
+abbrev pub IsFull : Chips → Entry → List Hop → Type 0
+IsFull chips chip hs = (i : ℕ) (inner : Entry) (x p q y : BitAt) → inner_chip chips chip i ≡ Some inner → Joined chips chip i true x p → Joined chips chip i false y q → Depends chips inner p.name p.bit q.name q.bit → HasHop hs x y
+
+-- hops of the chip, of which none cuts a way of these short
+pub record IsStraight (chips : Chips) (chip : Entry) (ws : List Hop) : Type 0 where
+  pub all : List Hop
+  pub full : IsFull chips chip all
+  pub inside : AllIn all ws
+  pub direct : IsDirect all ws
+
 -- ---- what is known
 
 -- the own graph of no chip of a tree has a circle
@@ -136,6 +180,7 @@ pub record IsRight (chips : Chips) (known : List (Option Known)) (chip : Entry) 
   pub sound : (n m : List ℕ) (b k : ℕ) → leads inside (bit_at [] n b) (bit_at [] m k) ≡ true → Way (HasHop inside.hops.items) (bit_at [] n b) (bit_at [] m k)
   pub covers : TreeFits chips chip → (n m : List ℕ) (b k : ℕ) → Depends chips chip n b m k → leads inside (bit_at [] n b) (bit_at [] m k) ≡ true
   pub clear : TreeFits chips chip → TreeClear chips chip
+  pub full : TreeFits chips chip → IsFull chips chip inside.hops.items
 
 abbrev pub AreKnown : Chips → List (Option Known) → Type 0
 AreKnown chips known = (k : ℕ) (chip : Entry) (inside : Known) → slice_get chips.entries k ≡ Some chip → slice_get known k ≡ Some (Some inside) → IsRight chips known chip inside
@@ -170,10 +215,10 @@ pub record Notes (old new : List (Option Known)) (k : ℕ) (inside : Known) : Ty
 
 -- ---- depth
 
--- parts nest less deep than this
+-- parts nest less deep than this, and connections join bits of pins that the parts have
 abbrev pub Nests : ℕ → Chips → Entry → Type 0
 Nests zero chips chip = ⊥
-Nests (suc d) chips chip = (i : ℕ) (inner : Entry) → inner_chip chips chip i ≡ Some inner → Nests d chips inner
+Nests (suc d) chips chip = JointsFit chips chip × ((i : ℕ) (inner : Entry) → inner_chip chips chip i ≡ Some inner → Nests d chips inner)
 
 abbrev pub NestsAt : ℕ → Chips → ℕ → Type 0
 NestsAt d chips k = (chip : Entry) → slice_get chips.entries k ≡ Some chip → Nests d chips chip

@@ -1,5 +1,5 @@
 -- What the connections of a part join.
-use Rattle.std.specs.Prelude.{ℕ, zero, suc, ◌+◌, Bool, List, [], ◌∷◌, ◌++◌, map}
+use Rattle.std.specs.Prelude.{◌≡◌, ℕ, zero, suc, ◌+◌, ◌⊎◌, Bool, List, [], ◌∷◌, ◌++◌, map}
 use Rattle.hdl_tree.specs.declared.tree.Selection.{Selection}
 use Rattle.hdl_tree.specs.declared.tree.Source.{Source}
 use Rattle.hdl_tree.specs.declared.tree.Source.TheVariants as source
@@ -10,6 +10,7 @@ use Rattle.hdl_tree.specs.Behaviour.{width_of}
 use Rattle.hdl_plans.specs.Plans.{is_input}
 use Rattle.hdl_plans.specs.Loops.{BitAt, bit_at}
 use Rattle.hdl_loops.specs.Inner.Hops.{bit}
+use Rattle.hdl_loops.specs.declared.hops.Hop.{Hop}
 use Rattle.hdl_loops.specs.declared.joint.Joint.{Joint}
 
 -- a bit of a net or pin, and the bit of a pin of a part that it is joined to, an input or none
@@ -23,6 +24,10 @@ tie_of j = record { input = j.input; net = bit j.net; pin = bit j.pin }
 
 abbrev pub ties_of : List Joint → List Tie
 ties_of js = map tie_of js
+
+-- a joint as a hop, from the bit of the pin to the bit of the net
+abbrev pub pin_hop : Joint → Hop
+pin_hop j = record { from = j.pin; chip = 0; through = record { input = j.pin.name; bit = j.pin.bit; output = j.pin.name; out = j.pin.bit }; to = j.net }
 
 -- bit k of a connection
 abbrev pub tie : Selection → Selection → Bool → ℕ → Tie
@@ -40,6 +45,11 @@ ties_by inner pin (source.Constant b) = []
 -- what a connection of a part of this chip joins
 abbrev pub ties_in : Entry → Connection → List Tie
 ties_in inner conn = ties_by inner conn.pin conn.source
+
+-- the list has the item
+abbrev pub In : {A : Type 0} → A → List A → Type 0
+In x [] = ⊥
+In x (y ∷ ys) = (y ≡ x) ⊎ In x ys
 
 -- what f gives for each item, one after another
 abbrev pub gather : {A B : Type 0} → (A → List B) → List A → List B

@@ -1,5 +1,5 @@
 -- Ways whose nets are reported.
-use Rattle.std.specs.Prelude.{◌≡◌, ℕ, ◌+◌, ◌<◌, Bool, true, List, [], ◌∷◌, ◌++◌, ◌||◌, ◌&&◌, map, length, Some, nat_eq, nat_lt, slice_get, if◌then◌else◌}
+use Rattle.std.specs.Prelude.{◌≡◌, ℕ, ◌+◌, ◌<◌, Bool, true, List, [], ◌∷◌, ◌++◌, ◌||◌, ◌&&◌, map, Some, nat_eq, slice_get, if◌then◌else◌}
 use Rattle.std.specs.Str.{bytes_eq}
 use Rattle.std.specs.List.{list_any}
 use Rattle.hdl_tree.specs.declared.tree.Selection.{Selection}
@@ -11,7 +11,7 @@ use Rattle.hdl_tree.specs.Writable.{is_among}
 use Rattle.hdl_tree.specs.Chips.{Chips, first, count}
 use Rattle.hdl_tree.specs.Behaviour.{width_of}
 use Rattle.hdl_plans.specs.Plans.{is_input}
-use Rattle.hdl_plans.specs.Loops.{BitAt, bit_at, Feeds, peaks}
+use Rattle.hdl_plans.specs.Loops.{BitAt, bit_at, AreOnce, Feeds, peaks}
 use Rattle.hdl_plans.specs.Ways.{Chain}
 use Rattle.hdl_loops.specs.declared.told.Passage.{Passage}
 use Rattle.hdl_loops.specs.declared.told.Told.{Told}
@@ -38,25 +38,13 @@ pub record HasConnection (inner : Entry) (part : Part) (input : Bool) (net : Lis
 
 -- ---- ways with their nets
 
--- a way of bits, whose outermost bits between its ends have these names
+-- a way of bits that passes none twice, whose outermost bits between its ends have these names
 pub record Trip (chips : Chips) (chip : Entry) (x y : BitAt) (names : List (List ℕ)) : Type 0 where
   pub over : List BitAt
   pub steps : Chain (Feeds chips chip) x over y
   pub named : peaks x over y ≡ names
-
-abbrev pub head_of : List BitAt → BitAt → BitAt
-head_of [] y = y
-head_of (m ∷ ms) y = m
-
-abbrev pub last_of : BitAt → List BitAt → BitAt
-last_of x [] = x
-last_of x (m ∷ ms) = last_of m ms
-
--- a way between bits of the chip which leaves the one and comes to the other by a part
-pub record DeepTrip (chips : Chips) (chip : Entry) (x y : BitAt) (names : List (List ℕ)) : Type 0 where
-  pub trip : Trip chips chip x y names
-  pub head : nat_lt 0 (length (head_of trip.over y).path) ≡ true
-  pub last : nat_lt 0 (length (last_of x trip.over).path) ≡ true
+  pub once : AreOnce (x ∷ over)
+  pub ends : (x ≡ y → ⊥) → (k : ℕ) → slice_get over k ≡ Some y → ⊥
 
 -- ---- what is reported
 

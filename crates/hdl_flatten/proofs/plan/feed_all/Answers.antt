@@ -1,7 +1,7 @@
 use Rattle.std.proofs.Common.{◌≡◌, List, ◌∷◌, ◌++◌, Option, sym, ap, ◌∙◌}
 use Rattle.hdl_tree.specs.declared.tree.Connection.{Connection}
-use Rattle.hdl_check.specs.Tables.{find_value}
-use Rattle.hdl_check.specs.Inner.Entered.{table_of}
+use Rattle.name_table.specs.Names.{find_value}
+use Rattle.name_table.specs.Tables.{table_of}
 use Rattle.hdl_check.specs.declared.check.Port.{Port}
 use Rattle.hdl_flatten.specs.Inner.Wired.{wires_of, found_bit}
 use Rattle.hdl_flatten.specs.Inner.Plans.{fed_by, all_fed}

@@ -1,5 +1,5 @@
 use Rattle.std.proofs.Common.{◌≡◌, ℕ, ◌++◌, List, length}
-use Rattle.hdl_check.specs.Inner.Entered.{Finds}
+use Rattle.name_table.specs.Tables.{Finds}
 use Rattle.hdl_check.specs.declared.check.Port.{Port}
 use Rattle.hdl_flatten.specs.Inner.Wired.{wires_of, found_bit}
 use Rattle.hdl_flatten.specs.Inner.Plans.{all_fed}

@@ -10,3 +10,9 @@ nets_of-requires-clause-hops c = λ p h e.
     let round : IsRound hops c.in-Some.circle = subst (λ (r : Option Circle). MatchOption r (NoRound hops) (IsRound hops)) c.in-Some.is c.in_ok-circle_in.ensures in
     let q = round.inside p h e in
     c.requires.hops q.0 h q.1
+
+pub nets_of-requires-clause-straight : goal.nets_of-requires-clause-straight
+nets_of-requires-clause-straight c =
+    let hops = c.args.hops.now in
+    let round : IsRound hops c.in-Some.circle = subst (λ (r : Option Circle). MatchOption r (NoRound hops) (IsRound hops)) c.in-Some.is c.in_ok-circle_in.ensures in
+    record { all = hops; full = c.requires.full; inside = round.inside; direct = round.direct }

@@ -1,9 +1,15 @@
-use Rattle.std.proofs.Common.{◌≡◌, length, sym, append-nil, arith}
+use Rattle.std.proofs.Common.{◌≡◌, ◌++◌, List, length, sym, ap, ◌∙◌, append-nil, arith}
 use Rattle.hdl_check.specs.Whole.{chips_in}
 use Rattle.hdl_loops.specs.Inner.Ties.{tie_of, ties_of}
-use Rattle.hdl_loops.specs.Inner.Knowing.{leaps_of, leap_by}
+use Rattle.hdl_loops.specs.Inner.Knowing.{Leap, leaps_of, leap_by}
 use Rattle.hdl_loops.proofs.Lists.{item_step, gather_done, map_long}
+use Rattle.hdl_loops.proofs.Pinning.{adds_none}
 use Rattle.hdl_loops.proofs.graph.hops_from.Goals as goal
+
+pub returns-then-not-enter : goal.returns-then-not-enter
+returns-then-not-enter c =
+    let old = leaps_of c.args.hops.now.items in
+    sym (append-nil old) ∙ ap (λ (v : List Leap). old ++ v) (sym (adds_none (chips_in c.args.entries.now c.args.blocks) c.args.known.now c.args.chip (tie_of c.args.enter.now) (ties_of c.args.joints.now) c.if-not-enter.true))
 
 pub loop-leave-init : goal.loop-leave-init
 loop-leave-init c = sym (append-nil (leaps_of c.args.hops.now.items))

@@ -1,4 +1,4 @@
-use Rattle.std.proofs.Common.{◌≡◌, ℕ, ◌-◌, ◌++◌, ◌∷◌, [], suc, length, reverse, List, sym, ap, subst, ◌∙◌, arith}
+use Rattle.std.proofs.Common.{◌≡◌, ℕ, ◌-◌, ◌++◌, ◌∷◌, [], suc, length, reverse, List, refl, sym, ap, subst, ◌∙◌, arith}
 use Rattle.std.proofs.lemmas.Bool.Decides.{Decides-eqb}
 use Rattle.std.proofs.lemmas.Result.{IfOk-weaker}
 use Rattle.hdl_check.specs.Whole.{chips_in}
@@ -7,7 +7,7 @@ use Rattle.hdl_loops.specs.Inner.Tasks.{AreTasks, Goes, way_tasks}
 use Rattle.hdl_loops.specs.Inner.Told.{names_of, add_name}
 use Rattle.hdl_loops.specs.declared.hops.Hop.{Hop}
 use Rattle.hdl_loops.specs.declared.names.Task.{Task}
-use Rattle.hdl_loops.proofs.Nesting.{not_zero}
+use Rattle.hdl_loops.proofs.Nesting.{not_zero, nests_fit}
 use Rattle.hdl_loops.proofs.Passing.{start_told, still_told}
 use Rattle.hdl_loops.proofs.Tasking.{circle_goes, way_are_tasks, goes_sure, goes_end}
 use Rattle.hdl_loops.proofs.names.nets_of.Goals as goal
@@ -40,7 +40,7 @@ loop-tasks-init c =
       tasks = subst (AreTasks chips ks) (sym all) (way_are_tasks chips ks chip d (d - 1) [] way c.requires.hops c.requires.nests deep tt);
       goes =
           subst (λ (v : List Task). Goes chips (IsLoop chips chip) v (names_of c.add.new.self)) (sym all)
-          (circle_goes chips ks chip at.name.now at.bit (d - 1) way (names_of c.add.new.self) told c.requires.round.0 c.requires.round.1 c.requires.hops);
+          (circle_goes chips ks chip at.name.now at.bit (d - 1) way (names_of c.add.new.self) told c.requires.round.0 c.requires.round.1 c.requires.hops c.requires.straight (nests_fit d chips chip c.requires.nests [] chip refl));
     }
 
 pub returns : goal.returns

@@ -1,9 +1,9 @@
 use Rattle.std.proofs.Common.{◌≡◌, suc, ◌+◌, List, ◌∷◌, ◌++◌, length, sym, ap, ◌∙◌, arith}
 use Rattle.hdl_tree.specs.declared.library.Entry.{Entry}
-use Rattle.hdl_check.specs.Tables.{find_value}
-use Rattle.hdl_check.specs.Inner.Entered.{table_of}
+use Rattle.name_table.specs.Names.{find_value}
+use Rattle.name_table.specs.Tables.{table_of}
 use Rattle.hdl_check.specs.Inner.Progress.{numbered_entries}
-use Rattle.hdl_check.proofs.Entries.{front_next}
+use Rattle.name_table.proofs.Entries.{front_next}
 use Rattle.hdl_loops.proofs.places.places_of.Goals as goal
 
 pub loop-entry-preserved : goal.loop-entry-preserved

@@ -1,6 +1,6 @@
 use Rattle.std.proofs.Common.{◌≡◌, ℕ, ◌++◌, List, length}
-use Rattle.hdl_check.specs.Tables.{find_value}
-use Rattle.hdl_check.specs.Inner.Entered.{table_of}
+use Rattle.name_table.specs.Names.{find_value}
+use Rattle.name_table.specs.Tables.{table_of}
 use Rattle.std.proofs.Common.{◌+◌}
 use Rattle.hdl_check.specs.Inner.Progress.{numbered_entries}
 use Rattle.hdl_loops.proofs.places.places_of.Given as goal

@@ -25,7 +25,7 @@ pub returns-in_ok-add-in-Some-clause-right : goal.returns-in_ok-add-in-Some-clau
 returns-in_ok-add-in-Some-clause-right c =
     let none = sym c.has.ensures ∙ c.if-has.false in
     let hs = c.args.hops.now in
-    added_tree hs c.args.self.now c.add.new.self (get_or hs c.args.k _) c.in-Some.before c.in_ok-add-in-Some.ensures c.requires.right c.args.k (get_there hs c.args.k _ c.requires.there) c.in-Some.ensures none
+    added_tree hs c.args.self.now c.add.new.self (get_or hs c.args.k _) c.in-Some.before c.in_ok-add-in-Some.ensures c.requires.right c.args.k (get_there hs c.args.k _ c.requires.there) c.in-Some.ensures (c.requires.before (get_or hs c.args.k _) (get_there hs c.args.k _ c.requires.there)) none
 
 pub returns-in_ok-add-in-Some-clause-kept : goal.returns-in_ok-add-in-Some-clause-kept
 returns-in_ok-add-in-Some-clause-kept c = added_keeps c.args.hops.now c.args.self.now c.add.new.self _ c.in-Some.before c.in_ok-add-in-Some.ensures

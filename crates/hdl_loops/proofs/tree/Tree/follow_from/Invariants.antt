@@ -1,6 +1,6 @@
 use Rattle.hdl_loops.specs.Inner.Hops.{bit}
 use Rattle.hdl_loops.specs.Inner.Leaving.{LeavesIn}
-use Rattle.hdl_loops.specs.Inner.Trees.{IsTree, IsReached, KeepsMarks, steps_left}
+use Rattle.hdl_loops.specs.Inner.Trees.{IsTree, IsReached, KeepsMarks, LeftBefore, steps_left}
 use Rattle.hdl_loops.proofs.Growing.{IsLeftPast}
 use Rattle.hdl_loops.proofs.tree.Tree.follow_from.Given as goal
 
@@ -9,7 +9,9 @@ invariant-loop-at l = record {
   right : IsTree l.hops l.self;
   kept : KeepsMarks l.initial.self l.self;
   leaves : LeavesIn l.hops l.at (bit l.from);
-  left : IsReached l.initial.self (bit l.from) → IsLeftPast l.hops l.self (bit l.from) l.at;
+  reached : IsReached l.self (bit l.from);
+  before : LeftBefore l.hops l.self (bit l.from);
+  left : IsLeftPast l.hops l.self (bit l.from) l.at;
 }
 
 abbrev pub decreases-loop-at : goal.decreases-loop-at

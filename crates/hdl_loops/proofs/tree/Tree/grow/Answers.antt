@@ -1,9 +1,9 @@
-use Rattle.std.proofs.Common.{◌≡◌, ◌<◌, ◌≤◌, inr, length, Some, refl, sym, subst, ◌∙◌, arith}
+use Rattle.std.proofs.Common.{◌≡◌, ◌<◌, ◌≤◌, inl, inr, length, Some, refl, sym, subst, ◌∙◌, arith}
 use Rattle.std.proofs.Math.Nat.{eq-or-lt_of_le}
 use Rattle.std.specs.Prelude.{slice_get}
 use Rattle.std.proofs.lemmas.Option.{slice_get_read}
 use Rattle.hdl_loops.specs.Inner.Hops.{bit}
-use Rattle.hdl_loops.specs.Inner.Trees.{IsLeft}
+use Rattle.hdl_loops.specs.Inner.Trees.{IsLeft, LeftBelow}
 use Rattle.hdl_loops.proofs.Growing.{left_kept, left_more, all_left}
 use Rattle.hdl_loops.proofs.tree.Tree.grow.Goals as goal
 
@@ -18,7 +18,7 @@ loop-k-preserved c =
     let item = c.index.result.now in
     let lt : k < length t.nodes.items = omega arith in
     let there : slice_get t.nodes.items k ≡ Some item = slice_get_read t.nodes.items (length t.nodes.items) k item refl lt c.index.ensures in
-    let here : IsLeft hs u (bit item.hop.to) = e.left (inr (inv.right.nodes k item there).marked) in
+    let here : IsLeft hs u (bit item.hop.to) = e.left in
     record {
       right = e.right;
       same = e.kept.root ∙ inv.same;
@@ -31,3 +31,29 @@ returns-clause-closed c =
     let t = c.loop-k.self in
     let le : length t.nodes.items ≤ c.loop-k.k = omega arith in
     all_left c.args.hops.now t c.loop-k.k c.loop-k.invariant.right le c.loop-k.invariant.root c.loop-k.invariant.left
+
+pub follow_from-requires-clause-before : goal.follow_from-requires-clause-before
+follow_from-requires-clause-before c = λ j come. absurd (come.1 refl)
+
+pub follow_from-requires-clause-reached : goal.follow_from-requires-clause-reached
+follow_from-requires-clause-reached c = inl refl
+
+pub follow_from-requires-in-loop-k-clause-reached : goal.follow_from-requires-in-loop-k-clause-reached
+follow_from-requires-in-loop-k-clause-reached c =
+    let t = c.loop-k.self in
+    let k = c.loop-k.k in
+    let item = c.index.result.now in
+    let lt : k < length t.nodes.items = omega arith in
+    inr (c.loop-k.invariant.right.nodes k item (slice_get_read t.nodes.items (length t.nodes.items) k item refl lt c.index.ensures)).marked
+
+pub follow_from-requires-in-loop-k-clause-before : goal.follow_from-requires-in-loop-k-clause-before
+follow_from-requires-in-loop-k-clause-before c = λ j come.
+    let t = c.loop-k.self in
+    let k = c.loop-k.k in
+    let inv = c.loop-k.invariant in
+    let item = c.index.result.now in
+    let lt : k < length t.nodes.items = omega arith in
+    let own = (inv.right.nodes k item (slice_get_read t.nodes.items (length t.nodes.items) k item refl lt c.index.ensures)).own in
+    let at = come.0 in
+    let same : k ≡ j = cc in
+    subst (LeftBelow c.args.hops.now t) same (record { root = inv.root; nodes = inv.left })
