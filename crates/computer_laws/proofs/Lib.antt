@@ -1,4 +1,2 @@
-pub mod Memory
 pub mod Mapped
 pub mod Down
-pub mod Cycle

@@ -1,13 +1,12 @@
--- One cycle is one step.
+-- One cycle is one step, with memories as blocks or of gates.
 use Rattle.std.proofs.Common.{◌≡◌, ℕ, zero, suc, ◌+◌, ◌<◌, ◌%◌, Bool, true, false, cond, eqb, ltb, List, [], ◌∷◌, refl, sym, ap, ap₂, ◌∙◌, arith, lit<}
 use Rattle.std.specs.Prelude.{not, ◌&&◌, ◌||◌, codes, slice_index}
 use Rattle.std.proofs.lemmas.Bool.{ltb-true}
 use Rattle.word16.specs.Words.{word_shift}
 use Rattle.hack_isa.specs.Table.{instr_of}
 use Rattle.hack_isa.specs.Machine.{Machine, read, perform, step, machine_at}
-use Rattle.hdl_tree.specs.declared.library.Entry.{Entry}
 use Rattle.hdl_tree.specs.Memory.{number}
-use Rattle.hdl_tree.specs.Chips.{end_of}
+use Rattle.hdl_tree.specs.Chips.{Chips, end_of}
 use Rattle.hdl_tree.specs.Behaviour.{Histories, World, IsBehaviour}
 use Rattle.chip_basic.specs.Hdl.{shipped_entry}
 use Rattle.chip_basic.specs.Laws.{word}
@@ -15,9 +14,10 @@ use Rattle.chip_basic.proofs.Inside.{part_of, whole_joined}
 use Rattle.chip_basic.proofs.Numbers.{number_same}
 use Rattle.hack_cpu.specs.Trees.{HasComputerChips, cpu_tree, memory_tree, rom_tree, computer_tree}
 use Rattle.hack_cpu.specs.Cpu.{CpuWorks, a_held, d_held, pc_held, op, result}
-use Rattle.hack_cpu.specs.Computer.{of_blocks, outside, Shows, word_at}
+use Rattle.hack_cpu.specs.Computer.{outside, Shows, word_at}
 use Rattle.hack_cpu.proofs.Cpu.{cpu_works, same_alu}
 use Rattle.hack_cpu.proofs.Memory.{memory_word, memory_next, memory_reads}
+use Rattle.hack_cpu.proofs.Memories.{main_block, upper_block}
 use Rattle.hack_cpu.proofs.Instructions as instructions
 
 -- ---- on numbers
@@ -65,32 +65,32 @@ read_same a a' key f g e same = ap (λ y. cond (ltb y 24576) (f y) key) e ∙ by
     by true h = ap (λ y. cond (ltb a' 24576) y key) (same a' (ltb-true a' 24576 h))
     by false h = rw h
 
-module _ (image : List ℕ) (keys : ℕ → ℕ) (entries : List Entry) (has : HasComputerChips (of_blocks entries)) (n : ℕ) (w : List ℕ → Histories) (h : IsBehaviour (outside image keys) (of_blocks entries) (shipped_entry computer_tree) n w) (no_reset : (c : ℕ) → c < n → w [] (codes "reset") 0 c ≡ false) where
+module _ (image : List ℕ) (keys : ℕ → ℕ) (library : Chips) (has : HasComputerChips library) (n : ℕ) (w : List ℕ → Histories) (h : IsBehaviour (outside image keys) library (shipped_entry computer_tree) n w) (no_reset : (c : ℕ) → c < n → w [] (codes "reset") 0 c ≡ false) where
   abbrev world : World
   world = outside image keys
 
-  cpu_inside : IsBehaviour world (of_blocks entries) (shipped_entry cpu_tree) n (λ path. w (0 ∷ path))
+  cpu_inside : IsBehaviour world library (shipped_entry cpu_tree) n (λ path. w (0 ∷ path))
   unfolding end_of computer_tree
-  cpu_inside c lt = (part_of world c (of_blocks entries) (shipped_entry computer_tree) w (h c lt) 0 _ (shipped_entry cpu_tree) refl has.cpu).inside
+  cpu_inside c lt = (part_of world c library (shipped_entry computer_tree) w (h c lt) 0 _ (shipped_entry cpu_tree) refl has.cpu).inside
 
-  memory_inside : IsBehaviour world (of_blocks entries) (shipped_entry memory_tree) n (λ path. w (2 ∷ path))
+  memory_inside : IsBehaviour world library (shipped_entry memory_tree) n (λ path. w (2 ∷ path))
   unfolding end_of computer_tree
-  memory_inside c lt = (part_of world c (of_blocks entries) (shipped_entry computer_tree) w (h c lt) 2 _ (shipped_entry memory_tree) refl has.memory).inside
+  memory_inside c lt = (part_of world c library (shipped_entry computer_tree) w (h c lt) 2 _ (shipped_entry memory_tree) refl has.memory).inside
 
   cpu : (c : ℕ) → c < n → CpuWorks (λ path. w (0 ∷ path)) c
-  cpu c lt = cpu_works world (of_blocks entries) has n (λ path. w (0 ∷ path)) cpu_inside c lt
+  cpu c lt = cpu_works world library has n (λ path. w (0 ∷ path)) cpu_inside c lt
 
   module _ (c : ℕ) (lt : c < n) where
     reset_is : w (0 ∷ []) (codes "reset") 0 c ≡ false
     unfolding end_of computer_tree cpu_tree
-    reset_is = (part_of world c (of_blocks entries) (shipped_entry computer_tree) w (h c lt) 0 _ (shipped_entry cpu_tree) refl has.cpu).outside.joined.1.1.0 0 (lit< tt) ∙ no_reset c lt
+    reset_is = (part_of world c library (shipped_entry computer_tree) w (h c lt) 0 _ (shipped_entry cpu_tree) refl has.cpu).outside.joined.1.1.0 0 (lit< tt) ∙ no_reset c lt
 
     -- the instruction comes from the ROM
     instruction_is : word (w (0 ∷ [])) "instruction" c ≡ slice_index image (number 15 (λ k. w (0 ∷ []) (codes "pc") k c))
     unfolding end_of computer_tree cpu_tree rom_tree
     instruction_is =
-        let p = part_of world c (of_blocks entries) (shipped_entry computer_tree) w (h c lt) 0 _ (shipped_entry cpu_tree) refl has.cpu in
-        let q = part_of world c (of_blocks entries) (shipped_entry computer_tree) w (h c lt) 1 _ (shipped_entry rom_tree) refl has.rom in
+        let p = part_of world c library (shipped_entry computer_tree) w (h c lt) 0 _ (shipped_entry cpu_tree) refl has.cpu in
+        let q = part_of world c library (shipped_entry computer_tree) w (h c lt) 1 _ (shipped_entry rom_tree) refl has.rom in
         let j = p.outside.joined in
         let k1 = q.outside.joined in
         let i = number_same 16 _ _ (λ k le. whole_joined c (shipped_entry cpu_tree) (w []) (w (0 ∷ [])) (codes "instruction") (codes "instruction") j.1.0 k le) in
@@ -103,8 +103,8 @@ module _ (image : List ℕ) (keys : ℕ → ℕ) (entries : List Entry) (has : H
     memory_address : number 15 (λ k. w (2 ∷ []) (codes "address") k c) ≡ a_held (λ path. w (0 ∷ path)) c % 32768
     unfolding end_of computer_tree cpu_tree memory_tree
     memory_address =
-        let p = part_of world c (of_blocks entries) (shipped_entry computer_tree) w (h c lt) 0 _ (shipped_entry cpu_tree) refl has.cpu in
-        let q = part_of world c (of_blocks entries) (shipped_entry computer_tree) w (h c lt) 2 _ (shipped_entry memory_tree) refl has.memory in
+        let p = part_of world c library (shipped_entry computer_tree) w (h c lt) 0 _ (shipped_entry cpu_tree) refl has.cpu in
+        let q = part_of world c library (shipped_entry computer_tree) w (h c lt) 2 _ (shipped_entry memory_tree) refl has.memory in
         let a = number_same 15 _ _ (λ k le. whole_joined c (shipped_entry memory_tree) (w []) (w (2 ∷ [])) (codes "address") (codes "address") q.outside.joined.1.1.0 k le) in
         let a' = number_same 15 _ _ (λ k le. whole_joined c (shipped_entry cpu_tree) (w []) (w (0 ∷ [])) (codes "addressM") (codes "address") p.outside.joined.1.1.1.1.1.0 k le) in
         a ∙ sym a' ∙ (cpu c lt).address
@@ -112,15 +112,15 @@ module _ (image : List ℕ) (keys : ℕ → ℕ) (entries : List Entry) (has : H
     memory_load : w (2 ∷ []) (codes "load") 0 c ≡ (op (λ path. w (0 ∷ path)) c 15 && op (λ path. w (0 ∷ path)) c 3)
     unfolding end_of computer_tree cpu_tree memory_tree
     memory_load =
-        let p = part_of world c (of_blocks entries) (shipped_entry computer_tree) w (h c lt) 0 _ (shipped_entry cpu_tree) refl has.cpu in
-        let q = part_of world c (of_blocks entries) (shipped_entry computer_tree) w (h c lt) 2 _ (shipped_entry memory_tree) refl has.memory in
+        let p = part_of world c library (shipped_entry computer_tree) w (h c lt) 0 _ (shipped_entry cpu_tree) refl has.cpu in
+        let q = part_of world c library (shipped_entry computer_tree) w (h c lt) 2 _ (shipped_entry memory_tree) refl has.memory in
         q.outside.joined.1.0 0 (lit< tt) ∙ sym (p.outside.joined.1.1.1.1.0 0 (lit< tt)) ∙ (cpu c lt).write
 
     memory_in : word (w (2 ∷ [])) "in" c ≡ result (λ path. w (0 ∷ path)) c
     unfolding end_of computer_tree cpu_tree memory_tree
     memory_in =
-        let p = part_of world c (of_blocks entries) (shipped_entry computer_tree) w (h c lt) 0 _ (shipped_entry cpu_tree) refl has.cpu in
-        let q = part_of world c (of_blocks entries) (shipped_entry computer_tree) w (h c lt) 2 _ (shipped_entry memory_tree) refl has.memory in
+        let p = part_of world c library (shipped_entry computer_tree) w (h c lt) 0 _ (shipped_entry cpu_tree) refl has.cpu in
+        let q = part_of world c library (shipped_entry computer_tree) w (h c lt) 2 _ (shipped_entry memory_tree) refl has.memory in
         let a = number_same 16 _ _ (λ k le. whole_joined c (shipped_entry memory_tree) (w []) (w (2 ∷ [])) (codes "in") (codes "wordToMemory") q.outside.joined.0 k le) in
         let b = number_same 16 _ _ (λ k le. whole_joined c (shipped_entry cpu_tree) (w []) (w (0 ∷ [])) (codes "outM") (codes "wordToMemory") p.outside.joined.1.1.1.0 k le) in
         a ∙ sym b ∙ (cpu c lt).out
@@ -128,8 +128,8 @@ module _ (image : List ℕ) (keys : ℕ → ℕ) (entries : List Entry) (has : H
     in_m : word (w (0 ∷ [])) "inM" c ≡ word (w (2 ∷ [])) "out" c
     unfolding end_of computer_tree cpu_tree memory_tree
     in_m =
-        let p = part_of world c (of_blocks entries) (shipped_entry computer_tree) w (h c lt) 0 _ (shipped_entry cpu_tree) refl has.cpu in
-        let q = part_of world c (of_blocks entries) (shipped_entry computer_tree) w (h c lt) 2 _ (shipped_entry memory_tree) refl has.memory in
+        let p = part_of world c library (shipped_entry computer_tree) w (h c lt) 0 _ (shipped_entry cpu_tree) refl has.cpu in
+        let q = part_of world c library (shipped_entry computer_tree) w (h c lt) 2 _ (shipped_entry memory_tree) refl has.memory in
         let a = number_same 16 _ _ (λ k le. whole_joined c (shipped_entry cpu_tree) (w []) (w (0 ∷ [])) (codes "inM") (codes "wordFromMemory") p.outside.joined.0 k le) in
         let b = number_same 16 _ _ (λ k le. whole_joined c (shipped_entry memory_tree) (w []) (w (2 ∷ [])) (codes "out") (codes "wordFromMemory") q.outside.joined.1.1.1.0 k le) in
         a ∙ sym b
@@ -160,7 +160,7 @@ module _ (image : List ℕ) (keys : ℕ → ℕ) (entries : List Entry) (has : H
     read_is : word (w (0 ∷ [])) "inM" c ≡ read s.memory (keys c) s.a
     unfolding read
     read_is =
-        in_m c lt ∙ memory_reads world entries has n (λ path. w (2 ∷ path)) memory_inside c lt
+        in_m c lt ∙ memory_reads world library has n (λ path. w (2 ∷ path)) memory_inside (main_block world library has n (λ path. w (2 ∷ path)) memory_inside) (upper_block world library has n (λ path. w (2 ∷ path)) memory_inside) c lt
         ∙ read_same _ _ (keys c) (memory_word (λ path. w (2 ∷ path)) c) s.memory (memory_address c lt ∙ ap (λ x. x % 32768) earlier.a) earlier.memory
 
     v : ℕ
@@ -209,7 +209,7 @@ module _ (image : List ℕ) (keys : ℕ → ℕ) (entries : List Entry) (has : H
     next_word : (x : ℕ) → x < 24576 → word_at w (suc c) x ≡ after.memory x
     unfolding v f
     next_word x small =
-        memory_next world entries has n (λ path. w (2 ∷ path)) memory_inside c lt x small
+        memory_next world library has n (λ path. w (2 ∷ path)) memory_inside (main_block world library has n (λ path. w (2 ∷ path)) memory_inside) (upper_block world library has n (λ path. w (2 ∷ path)) memory_inside) c lt x small
         ∙ write_same _ (f 15) (f 3) _ _ x _ _ _ _ (memory_load c lt) (memory_address c lt ∙ ap (λ y. y % 32768) earlier.a) (memory_in c lt ∙ v_is) (earlier.memory x small)
         ∙ word_rule (f 15) (f 3) (eqb (s.a % 32768) x) v (s.memory x)
         ∙ sym (instructions.memory_next f (keys c) s x small) ∙ is_step (λ y. y.memory x)

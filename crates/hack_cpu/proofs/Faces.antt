@@ -11,7 +11,7 @@ use Rattle.hdl_tree.specs.declared.ends.End.TheVariants as ends
 use Rattle.hdl_tree.specs.Chips.{end_of, pin_width}
 use Rattle.hdl_tree.specs.Behaviour.{Each, width_in}
 use Rattle.hdl_tree.specs.Writable.{all}
-use Rattle.hdl_check.specs.Tables.{find_value}
+use Rattle.name_table.specs.Names.{find_value}
 use Rattle.hdl_check.specs.Whole.{chips_in, AreDistinct}
 use Rattle.hdl_plans.specs.Plans.{is_input, EndFits}
 use Rattle.hdl_plans.specs.Planned.{HasEnds}

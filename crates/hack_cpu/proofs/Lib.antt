@@ -1,5 +1,6 @@
 pub mod Cpu
 pub mod Memory
+pub mod Memories
 pub mod Instructions
 pub mod Cycle
 pub mod HasAll

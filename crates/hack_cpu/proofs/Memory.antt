@@ -1,13 +1,12 @@
--- Memory: what it gives, and what it holds next.
+-- Memory: what it gives, and what it holds next, where its memories work as blocks do, be they blocks or of gates.
 use Rattle.std.proofs.Common.{◌≡◌, ◌≢◌, ℕ, suc, ◌+◌, ◌<◌, ◌≤◌, ◌-◌, Bool, true, false, cond, eqb, ltb, List, [], ◌∷◌, refl, sym, ap, ap₂, ◌∙◌, arith, lit<, add-zero, ne_eqb}
 use Rattle.std.proofs.lemmas.Bool.{lt-ltb, ltb-true, ltb-false}
 use Rattle.std.specs.Prelude.{not, ◌&&◌, codes}
 use Rattle.std.proofs.lemmas.Bool.Decides.{nat_tests}
 use Rattle.hdl_tree.specs.declared.tree.Part.{Part}
-use Rattle.hdl_tree.specs.declared.library.Entry.{Entry}
 use Rattle.hdl_tree.specs.Memory.{number}
-use Rattle.hdl_tree.specs.Chips.{end_of}
-use Rattle.hdl_tree.specs.Behaviour.{Histories, World, IsBehaviour}
+use Rattle.hdl_tree.specs.Chips.{Chips, end_of}
+use Rattle.hdl_tree.specs.Behaviour.{Histories, World, IsBehaviour, BlockWorks}
 use Rattle.chip_basic.specs.Hdl.{shipped_entry, wire, wire_bits, part}
 use Rattle.chip_basic.specs.Trees.{HasBasicChips, not_tree, and_tree, dmux_tree, mux16_tree}
 use Rattle.chip_basic.specs.Laws.{word}
@@ -17,7 +16,7 @@ use Rattle.chip_basic.proofs.Numbers.{number_same, number_below}
 use Rattle.chip_basic.proofs.Words.{mux16_works}
 use Rattle.chip_memory.specs.Trees.{ram16k_tree, screen_tree}
 use Rattle.hack_cpu.specs.Trees.{HasComputerChips, memory_tree, keyboard_tree}
-use Rattle.hack_cpu.specs.Computer.{of_blocks, block_word}
+use Rattle.hack_cpu.specs.Computer.{block_word}
 
 -- the words of the memory with these pins inside
 abbrev pub memory_word : (List ℕ → Histories) → ℕ → ℕ → ℕ
@@ -70,57 +69,58 @@ screen_test true false false low x a b c = let ne : (low + 0) + 0 ≢ x = omega 
 three_same : (a a' : Bool) (b b' d d' : ℕ) → a ≡ a' → b ≡ b' → d ≡ d' → cond a b d ≡ cond a' b' d'
 three_same a a' b b' d d' e f g = cc
 
-abbrev ram_piece : Part
+abbrev pub ram_piece : Part
 ram_piece = part "RAM16K" (wire "in" "in" ∷ wire "load" "loadMain" ∷ wire_bits "address" "address" 0 13 ∷ wire "out" "mainWord" ∷ [])
 
-abbrev screen_piece : Part
+abbrev pub screen_piece : Part
 screen_piece = part "Screen" (wire "in" "in" ∷ wire "load" "loadScreen" ∷ wire_bits "address" "address" 0 12 ∷ wire "out" "screenWord" ∷ [])
 
-module _ (world : World) (entries : List Entry) (has : HasComputerChips (of_blocks entries)) (n : ℕ) (w : List ℕ → Histories) (h : IsBehaviour world (of_blocks entries) (shipped_entry memory_tree) n w) where
+module _ (world : World) (library : Chips) (has : HasComputerChips library) (n : ℕ) (w : List ℕ → Histories) (h : IsBehaviour world library (shipped_entry memory_tree) n w)
+    (ram_works : (c : ℕ) → c < n → BlockWorks c 14 (w (3 ∷ []))) (screen_works : (c : ℕ) → c < n → BlockWorks c 13 (w (4 ∷ []))) where
   address : ℕ → ℕ
   address c = number 15 (λ k. w [] (codes "address") k c)
 
   module _ (c : ℕ) (lt : c < n) where
-    basic : HasBasicChips (of_blocks entries)
+    basic : HasBasicChips library
     basic = has.memories.computing.basic
 
     load_ram : w [] (codes "loadMain") 0 c ≡ (w [] (codes "load") 0 c && not (w [] (codes "address") 14 c))
     unfolding end_of memory_tree dmux_tree
     load_ram =
-        let p = part_of world c (of_blocks entries) (shipped_entry memory_tree) w (h c lt) 0 _ (shipped_entry dmux_tree) refl basic.dmux in
+        let p = part_of world c library (shipped_entry memory_tree) w (h c lt) 0 _ (shipped_entry dmux_tree) refl basic.dmux in
         let j = p.outside.joined in
-        cc (dmux_a world (of_blocks entries) basic c (λ path. w (0 ∷ path)) p.inside, j.0 0 (lit< tt), j.1.0 0 (lit< tt), j.1.1.0 0 (lit< tt))
+        cc (dmux_a world library basic c (λ path. w (0 ∷ path)) p.inside, j.0 0 (lit< tt), j.1.0 0 (lit< tt), j.1.1.0 0 (lit< tt))
 
     load_screen : w [] (codes "loadScreen") 0 c ≡ ((w [] (codes "load") 0 c && w [] (codes "address") 14 c) && not (w [] (codes "address") 13 c))
     unfolding end_of memory_tree dmux_tree not_tree and_tree
     load_screen =
-        let p = part_of world c (of_blocks entries) (shipped_entry memory_tree) w (h c lt) 0 _ (shipped_entry dmux_tree) refl basic.dmux in
-        let q = part_of world c (of_blocks entries) (shipped_entry memory_tree) w (h c lt) 1 _ (shipped_entry not_tree) refl basic.not in
-        let r = part_of world c (of_blocks entries) (shipped_entry memory_tree) w (h c lt) 2 _ (shipped_entry and_tree) refl basic.and in
+        let p = part_of world c library (shipped_entry memory_tree) w (h c lt) 0 _ (shipped_entry dmux_tree) refl basic.dmux in
+        let q = part_of world c library (shipped_entry memory_tree) w (h c lt) 1 _ (shipped_entry not_tree) refl basic.not in
+        let r = part_of world c library (shipped_entry memory_tree) w (h c lt) 2 _ (shipped_entry and_tree) refl basic.and in
         let j = p.outside.joined in
         let k = q.outside.joined in
         let l = r.outside.joined in
         cc (
-          dmux_b world (of_blocks entries) basic c (λ path. w (0 ∷ path)) p.inside,
+          dmux_b world library basic c (λ path. w (0 ∷ path)) p.inside,
           j.0 0 (lit< tt),
           j.1.0 0 (lit< tt),
           j.1.1.1.0 0 (lit< tt),
-          not_works world (of_blocks entries) basic c (λ path. w (1 ∷ path)) q.inside,
+          not_works world library basic c (λ path. w (1 ∷ path)) q.inside,
           k.0 0 (lit< tt),
           k.1.0 0 (lit< tt),
-          and_works world (of_blocks entries) basic c (λ path. w (2 ∷ path)) r.inside,
+          and_works world library basic c (λ path. w (2 ∷ path)) r.inside,
           l.0 0 (lit< tt),
           l.1.0 0 (lit< tt),
           l.1.1.0 0 (lit< tt),
         )
 
-    ram_part : PartOf world c (of_blocks entries) w 3 ram_piece (shipped_entry ram16k_tree)
+    ram_part : PartOf world c library w 3 ram_piece (shipped_entry ram16k_tree)
     unfolding end_of memory_tree
-    ram_part = part_of world c (of_blocks entries) (shipped_entry memory_tree) w (h c lt) 3 ram_piece (shipped_entry ram16k_tree) refl has.memories.ram16k
+    ram_part = part_of world c library (shipped_entry memory_tree) w (h c lt) 3 ram_piece (shipped_entry ram16k_tree) refl has.memories.ram16k
 
-    screen_part : PartOf world c (of_blocks entries) w 4 screen_piece (shipped_entry screen_tree)
+    screen_part : PartOf world c library w 4 screen_piece (shipped_entry screen_tree)
     unfolding end_of memory_tree
-    screen_part = part_of world c (of_blocks entries) (shipped_entry memory_tree) w (h c lt) 4 screen_piece (shipped_entry screen_tree) refl has.memories.screen
+    screen_part = part_of world c library (shipped_entry memory_tree) w (h c lt) 4 screen_piece (shipped_entry screen_tree) refl has.memories.screen
 
     ram_address : number 14 (λ k. w (3 ∷ []) (codes "address") k c) ≡ number 14 (λ k. w [] (codes "address") k c)
     unfolding end_of ram16k_tree
@@ -162,25 +162,25 @@ module _ (world : World) (entries : List Entry) (has : HasComputerChips (of_bloc
     pub memory_reads : word (w []) "out" c ≡ (let a = number 15 (λ k. w [] (codes "address") k c) in cond (ltb a 24576) (memory_word w c a) (world.key c))
     unfolding end_of memory_tree mux16_tree ram16k_tree screen_tree keyboard_tree
     memory_reads =
-        let p = part_of world c (of_blocks entries) (shipped_entry memory_tree) w (h c lt) 6 _ (shipped_entry mux16_tree) refl basic.mux16 in
-        let q = part_of world c (of_blocks entries) (shipped_entry memory_tree) w (h c lt) 7 _ (shipped_entry mux16_tree) refl basic.mux16 in
-        let k5 = part_of world c (of_blocks entries) (shipped_entry memory_tree) w (h c lt) 5 _ (shipped_entry keyboard_tree) refl has.keyboard in
+        let p = part_of world c library (shipped_entry memory_tree) w (h c lt) 6 _ (shipped_entry mux16_tree) refl basic.mux16 in
+        let q = part_of world c library (shipped_entry memory_tree) w (h c lt) 7 _ (shipped_entry mux16_tree) refl basic.mux16 in
+        let k5 = part_of world c library (shipped_entry memory_tree) w (h c lt) 5 _ (shipped_entry keyboard_tree) refl has.keyboard in
         let j = p.outside.joined in
         let l = q.outside.joined in
         let r : word (w []) "mainWord" c ≡ block_word 14 (w (3 ∷ [])) c (number 14 (λ k. w [] (codes "address") k c)) =
-        sym (number_same 16 _ _ (λ k le. whole_joined c (shipped_entry ram16k_tree) (w []) (w (3 ∷ [])) (codes "out") (codes "mainWord") ram_part.outside.joined.1.1.1.0 k le)) ∙ ram_part.inside [] (shipped_entry ram16k_tree) refl ∙ ap (block_word 14 (w (3 ∷ [])) c) ram_address in
+        sym (number_same 16 _ _ (λ k le. whole_joined c (shipped_entry ram16k_tree) (w []) (w (3 ∷ [])) (codes "out") (codes "mainWord") ram_part.outside.joined.1.1.1.0 k le)) ∙ ram_works c lt ∙ ap (block_word 14 (w (3 ∷ [])) c) ram_address in
         let s : word (w []) "screenWord" c ≡ block_word 13 (w (4 ∷ [])) c (number 13 (λ k. w [] (codes "address") k c)) =
-        sym (number_same 16 _ _ (λ k le. whole_joined c (shipped_entry screen_tree) (w []) (w (4 ∷ [])) (codes "out") (codes "screenWord") screen_part.outside.joined.1.1.1.0 k le)) ∙ screen_part.inside [] (shipped_entry screen_tree) refl ∙ ap (block_word 13 (w (4 ∷ [])) c) screen_address in
+        sym (number_same 16 _ _ (λ k le. whole_joined c (shipped_entry screen_tree) (w []) (w (4 ∷ [])) (codes "out") (codes "screenWord") screen_part.outside.joined.1.1.1.0 k le)) ∙ screen_works c lt ∙ ap (block_word 13 (w (4 ∷ [])) c) screen_address in
         let key : word (w []) "key" c ≡ world.key c =
         sym (number_same 16 _ _ (λ k le. whole_joined c (shipped_entry keyboard_tree) (w []) (w (5 ∷ [])) (codes "out") (codes "key") k5.outside.joined.0 k le)) ∙ k5.inside [] (shipped_entry keyboard_tree) refl in
         let a6 = number_same 16 _ _ (λ k le. whole_joined c (shipped_entry mux16_tree) (w []) (w (6 ∷ [])) (codes "a") (codes "screenWord") j.0 k le) ∙ s in
         let b6 = number_same 16 _ _ (λ k le. whole_joined c (shipped_entry mux16_tree) (w []) (w (6 ∷ [])) (codes "b") (codes "key") j.1.0 k le) ∙ key in
         let s6 : w (6 ∷ []) (codes "sel") 0 c ≡ w [] (codes "address") 13 c = j.1.1.0 0 (lit< tt) in
         let o6 = number_same 16 _ _ (λ k le. whole_joined c (shipped_entry mux16_tree) (w []) (w (6 ∷ [])) (codes "out") (codes "upperWord") j.1.1.1.0 k le) in
-        let high = sym o6 ∙ mux16_works world (of_blocks entries) basic c (λ path. w (6 ∷ path)) p.inside ∙ three_same _ _ _ _ _ _ s6 b6 a6 in
+        let high = sym o6 ∙ mux16_works world library basic c (λ path. w (6 ∷ path)) p.inside ∙ three_same _ _ _ _ _ _ s6 b6 a6 in
         let a7 = number_same 16 _ _ (λ k le. whole_joined c (shipped_entry mux16_tree) (w []) (w (7 ∷ [])) (codes "a") (codes "mainWord") l.0 k le) ∙ r in
         let b7 = number_same 16 _ _ (λ k le. whole_joined c (shipped_entry mux16_tree) (w []) (w (7 ∷ [])) (codes "b") (codes "upperWord") l.1.0 k le) ∙ high in
         let s7 : w (7 ∷ []) (codes "sel") 0 c ≡ w [] (codes "address") 14 c = l.1.1.0 0 (lit< tt) in
         let o7 = number_same 16 _ _ (λ k le. whole_joined c (shipped_entry mux16_tree) (w []) (w (7 ∷ [])) (codes "out") (codes "out") l.1.1.1.0 k le) in
-        sym o7 ∙ mux16_works world (of_blocks entries) basic c (λ path. w (7 ∷ path)) q.inside ∙ three_same _ _ _ _ _ _ s7 b7 a7
+        sym o7 ∙ mux16_works world library basic c (λ path. w (7 ∷ path)) q.inside ∙ three_same _ _ _ _ _ _ s7 b7 a7
         ∙ read_at (w [] (codes "address") 14 c) (w [] (codes "address") 13 c) (number 13 (λ k. w [] (codes "address") k c)) (world.key c) (block_word 14 (w (3 ∷ [])) c) (block_word 13 (w (4 ∷ [])) c) (number_below 13 (λ k. w [] (codes "address") k c))

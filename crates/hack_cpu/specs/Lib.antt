@@ -6,4 +6,3 @@ pub mod Libraries
 pub mod Pins
 pub mod Dependencies
 pub mod Existence
-pub mod Inner

@@ -4,7 +4,6 @@
 
 mod laws;
 mod shipped;
-mod table;
 mod trees;
 
 pub use laws::{

@@ -1,8 +1,10 @@
 //! The library of shipped chips.
-ghost use Rattle.std.specs.Prelude.{◌≡◌, ◌<◌, ◌++◌, ◌∷◌, [], true, Some, None, IfOk, IfSome, IfNone, length, slice_get};
+ghost use Rattle.std.specs.Prelude.{◌≡◌, ◌<◌, ◌++◌, ◌∷◌, [], true, Some, None, IfOk, IfSome, IfNone, length, map, slice_get};
 ghost use Rattle.hdl_tree.specs.Chips.{find_entry};
 ghost use Rattle.hdl_tree.specs.Writable.{chip_can};
 ghost use Rattle.chip_basic.specs.Hdl.{shipped_entry};
+ghost use Rattle.chip_basic.specs.Trees.{nand_tree, not_tree, and_tree, or_tree, xor_tree, mux_tree, dmux_tree, not16_tree, and16_tree, or16_tree, mux16_tree, or8way_tree, mux4way16_tree, mux8way16_tree, dmux4way_tree, dmux8way_tree};
+ghost use Rattle.chip_memory.specs.Trees.{dff_tree, bit_tree, register_tree, a_register_tree, d_register_tree, pc_tree, ram8_tree, ram64_tree, ram512_tree, ram4k_tree, ram16k_tree, screen_tree};
 ghost use Rattle.hack_cpu.specs.Library.{basic_chips, computing_chips, memory_chips, computer_chips, shipped_chips};
 
 use crate::trees::{computer_tree, cpu_tree, keyboard_tree, memory_tree, rom_tree};
@@ -33,26 +35,62 @@ fn add_shipped(alloc: Global, entries: &mut Vec<Entry>, chip: Chip) -> Result<()
     Ok(())
 }
 
+// Nand, and the gates of one bit that the others are made of.
+fn add_gates(alloc: Global, entries: &mut Vec<Entry>) -> Result<(), AllocError>
+    ensures { IfOk result (λ _. entries.new.items ≡ entries.old.items
+        ++ map shipped_entry (nand_tree ∷ not_tree ∷ and_tree ∷ or_tree ∷ [])) }
+{
+    add_shipped(alloc, entries, nand_tree(alloc)?)?;
+    add_shipped(alloc, entries, not_tree(alloc)?)?;
+    add_shipped(alloc, entries, and_tree(alloc)?)?;
+    add_shipped(alloc, entries, or_tree(alloc)?)?;
+    Ok(())
+}
+
+// The other chips of one bit.
+fn add_choices(alloc: Global, entries: &mut Vec<Entry>) -> Result<(), AllocError>
+    ensures { IfOk result (λ _. entries.new.items ≡ entries.old.items
+        ++ map shipped_entry (xor_tree ∷ mux_tree ∷ dmux_tree ∷ [])) }
+{
+    add_shipped(alloc, entries, xor_tree(alloc)?)?;
+    add_shipped(alloc, entries, mux_tree(alloc)?)?;
+    add_shipped(alloc, entries, dmux_tree(alloc)?)?;
+    Ok(())
+}
+
+// The chips of sixteen bits.
+fn add_words(alloc: Global, entries: &mut Vec<Entry>) -> Result<(), AllocError>
+    ensures { IfOk result (λ _. entries.new.items ≡ entries.old.items
+        ++ map shipped_entry (not16_tree ∷ and16_tree ∷ or16_tree ∷ mux16_tree ∷ [])) }
+{
+    add_shipped(alloc, entries, not16_tree(alloc)?)?;
+    add_shipped(alloc, entries, and16_tree(alloc)?)?;
+    add_shipped(alloc, entries, or16_tree(alloc)?)?;
+    add_shipped(alloc, entries, mux16_tree(alloc)?)?;
+    Ok(())
+}
+
+// The chips of many ways.
+fn add_ways(alloc: Global, entries: &mut Vec<Entry>) -> Result<(), AllocError>
+    ensures { IfOk result (λ _. entries.new.items ≡ entries.old.items
+        ++ map shipped_entry (or8way_tree ∷ mux4way16_tree ∷ mux8way16_tree ∷ dmux4way_tree ∷ dmux8way_tree ∷ [])) }
+{
+    add_shipped(alloc, entries, or8way_tree(alloc)?)?;
+    add_shipped(alloc, entries, mux4way16_tree(alloc)?)?;
+    add_shipped(alloc, entries, mux8way16_tree(alloc)?)?;
+    add_shipped(alloc, entries, dmux4way_tree(alloc)?)?;
+    add_shipped(alloc, entries, dmux8way_tree(alloc)?)?;
+    Ok(())
+}
+
 fn basic_entries(alloc: Global) -> Result<Vec<Entry>, AllocError>
     ensures { IfOk result (λ entries. entries.items ≡ basic_chips) }
 {
     let mut entries = Vec::new(alloc);
-    add_shipped(alloc, &mut entries, nand_tree(alloc)?)?;
-    add_shipped(alloc, &mut entries, not_tree(alloc)?)?;
-    add_shipped(alloc, &mut entries, and_tree(alloc)?)?;
-    add_shipped(alloc, &mut entries, or_tree(alloc)?)?;
-    add_shipped(alloc, &mut entries, xor_tree(alloc)?)?;
-    add_shipped(alloc, &mut entries, mux_tree(alloc)?)?;
-    add_shipped(alloc, &mut entries, dmux_tree(alloc)?)?;
-    add_shipped(alloc, &mut entries, not16_tree(alloc)?)?;
-    add_shipped(alloc, &mut entries, and16_tree(alloc)?)?;
-    add_shipped(alloc, &mut entries, or16_tree(alloc)?)?;
-    add_shipped(alloc, &mut entries, mux16_tree(alloc)?)?;
-    add_shipped(alloc, &mut entries, or8way_tree(alloc)?)?;
-    add_shipped(alloc, &mut entries, mux4way16_tree(alloc)?)?;
-    add_shipped(alloc, &mut entries, mux8way16_tree(alloc)?)?;
-    add_shipped(alloc, &mut entries, dmux4way_tree(alloc)?)?;
-    add_shipped(alloc, &mut entries, dmux8way_tree(alloc)?)?;
+    add_gates(alloc, &mut entries)?;
+    add_choices(alloc, &mut entries)?;
+    add_words(alloc, &mut entries)?;
+    add_ways(alloc, &mut entries)?;
     Ok(entries)
 }
 
@@ -69,22 +107,49 @@ fn add_computing_entries(alloc: Global, entries: &mut Vec<Entry>) -> Result<(), 
     Ok(())
 }
 
-fn add_memory_entries(alloc: Global, entries: &mut Vec<Entry>) -> Result<(), AllocError>
-    requires { entries.old.items ≡ basic_chips ++ computing_chips }
-    ensures { IfOk result (λ _. entries.new.items ≡ basic_chips ++ (computing_chips ++ memory_chips)) }
+// The chips that keep one word, but for the counter.
+fn add_registers(alloc: Global, entries: &mut Vec<Entry>) -> Result<(), AllocError>
+    ensures { IfOk result (λ _. entries.new.items ≡ entries.old.items
+        ++ map shipped_entry (dff_tree ∷ bit_tree ∷ register_tree ∷ a_register_tree ∷ d_register_tree ∷ [])) }
 {
     add_shipped(alloc, entries, dff_tree(alloc)?)?;
     add_shipped(alloc, entries, bit_tree(alloc)?)?;
     add_shipped(alloc, entries, register_tree(alloc)?)?;
     add_shipped(alloc, entries, a_register_tree(alloc)?)?;
     add_shipped(alloc, entries, d_register_tree(alloc)?)?;
+    Ok(())
+}
+
+// The counter, and the memories of up to 512 words.
+fn add_small_memories(alloc: Global, entries: &mut Vec<Entry>) -> Result<(), AllocError>
+    ensures { IfOk result (λ _. entries.new.items ≡ entries.old.items
+        ++ map shipped_entry (pc_tree ∷ ram8_tree ∷ ram64_tree ∷ ram512_tree ∷ [])) }
+{
     add_shipped(alloc, entries, pc_tree(alloc)?)?;
     add_shipped(alloc, entries, ram8_tree(alloc)?)?;
     add_shipped(alloc, entries, ram64_tree(alloc)?)?;
     add_shipped(alloc, entries, ram512_tree(alloc)?)?;
+    Ok(())
+}
+
+// The memories of more words.
+fn add_large_memories(alloc: Global, entries: &mut Vec<Entry>) -> Result<(), AllocError>
+    ensures { IfOk result (λ _. entries.new.items ≡ entries.old.items
+        ++ map shipped_entry (ram4k_tree ∷ ram16k_tree ∷ screen_tree ∷ [])) }
+{
     add_shipped(alloc, entries, ram4k_tree(alloc)?)?;
     add_shipped(alloc, entries, ram16k_tree(alloc)?)?;
     add_shipped(alloc, entries, screen_tree(alloc)?)?;
+    Ok(())
+}
+
+fn add_memory_entries(alloc: Global, entries: &mut Vec<Entry>) -> Result<(), AllocError>
+    requires { entries.old.items ≡ basic_chips ++ computing_chips }
+    ensures { IfOk result (λ _. entries.new.items ≡ basic_chips ++ (computing_chips ++ memory_chips)) }
+{
+    add_registers(alloc, entries)?;
+    add_small_memories(alloc, entries)?;
+    add_large_memories(alloc, entries)?;
     Ok(())
 }
 

@@ -1,10 +1,9 @@
 //! The trees of the CPU, Memory and the Computer.
-ghost use Rattle.std.specs.Prelude.{◌≡◌, IfOk};
-ghost use Rattle.hack_cpu.specs.Trees.{rom_tree, keyboard_tree, cpu_tree, memory_tree, computer_tree};
+ghost use Rattle.std.specs.Prelude.{◌≡◌, ◌++◌, IfOk};
+ghost use Rattle.hack_cpu.specs.Trees.{rom_tree, keyboard_tree, cpu_registers, cpu_result, cpu_jump, cpu_shift, cpu_tree, memory_tree, computer_tree};
 
-use crate::table::{Link, Row, parts_of};
-use chip_basic::{builtin, bus, chip, pin};
-use hdl_tree::Chip;
+use chip_basic::{Link, Row, builtin, bus, chip, parts_of, pin};
+use hdl_tree::{Chip, List, Part};
 use std::alloc::{AllocError, Global};
 
 // The parts of the CPU.
@@ -363,12 +362,18 @@ pub fn keyboard_tree(alloc: Global) -> Result<Chip, AllocError>
     builtin(alloc, b"Keyboard", &[], &[bus(b"out", 16)])
 }
 
+fn cpu_parts(alloc: Global) -> Result<List<Part>, AllocError>
+    ensures { IfOk result (λ parts. parts ≡ cpu_registers ++ (cpu_result ++ (cpu_jump ++ cpu_shift))) }
+{
+    parts_of(alloc, CPU)
+}
+
 /// The tree of the CPU.
 #[tactic(auto, unfolding(crate::specs::Trees::cpu_tree))]
 pub fn cpu_tree(alloc: Global) -> Result<Chip, AllocError>
     ensures { IfOk result (λ chip. chip ≡ cpu_tree) }
 {
-    let parts = parts_of(alloc, CPU)?;
+    let parts = cpu_parts(alloc)?;
     chip(
         alloc,
         b"CPU",

@@ -20,7 +20,7 @@ use Rattle.hack_cpu.specs.Trees.{computer_tree}
 use Rattle.hack_cpu.proofs.HasAll.{has_all}
 use Rattle.hack_cpu.proofs.Existing.{existing}
 use Rattle.gate_computer.specs.Computer.{trace_shown}
-use Rattle.computer_laws.proofs.Cycle.{same}
+use Rattle.hack_cpu.proofs.Cycle.{same}
 use Rattle.jack_core.specs.Texts.{the_program}
 use Rattle.jack_meaning.specs.Level.{meaning_of}
 use Rattle.jack_meaning.specs.Meaning.{State, start}

@@ -1,4 +1,4 @@
-use Rattle.computer_laws.proofs.Cycle.{same}
+use Rattle.hack_cpu.proofs.Cycle.{same}
 use Rattle.computer_laws.proofs.whole_cycle_law.Goals as goal
 
 pub returns : goal.returns
