@@ -5,17 +5,17 @@ use Rattle.std.specs.Str.{bytes_eq}
 use Rattle.std.specs.Cmp.Lexicographic.{bytes_decides}
 use Rattle.std.proofs.lemmas.Option.{slice_get_within}
 use Rattle.hdl_tree.specs.declared.tree.Pin.{Pin}
-use Rattle.hdl_tree.specs.declared.tree.Part.{Part}
 use Rattle.hdl_tree.specs.declared.library.Entry.{Entry}
 use Rattle.hdl_tree.specs.declared.ends.End.{End}
 use Rattle.hdl_tree.specs.declared.ends.End.TheVariants as ends
 use Rattle.hdl_tree.specs.Writable.{is_among}
 use Rattle.hdl_tree.specs.Chips.{Chips, end_of, find_chip, parts_of, pin_width}
-use Rattle.hdl_tree.specs.Behaviour.{chip_at, chip_of, width_in}
+use Rattle.hdl_tree.specs.Behaviour.{chip_at, width_in}
 use Rattle.hdl_check.specs.declared.fault.NamedFault.{NamedFault}
 use Rattle.hdl_check.specs.Faults.{pin_name, pin_fault, twice_fault}
 use Rattle.hdl_check.specs.Locations.{AtPin, unless, IsFaultless}
-use Rattle.hdl_check.specs.Tables.{BitOf, bits_of, find_value}
+use Rattle.name_table.specs.Names.{find_value}
+use Rattle.hdl_check.specs.Tables.{BitOf, bits_of}
 use Rattle.hdl_check.proofs.Telling.{output_fault}
 use Rattle.hdl_plans.specs.Ways.{HasBit}
 use Rattle.hdl_plans.proofs.Walks.{part_at}
@@ -24,102 +24,15 @@ use Rattle.hdl_flatten.specs.declared.flat.PartAt.{PartAt}
 use Rattle.hdl_flatten.specs.Ends.{named_pins, end_inputs, HasPins, EndsHavePins}
 use Rattle.hdl_flatten.specs.Flat.{block_at, nodes_at, pin_at}
 use Rattle.hdl_flatten.specs.Flat as flat
-use Rattle.hdl_flatten.specs.Trees.{PartIn, AreListed, none, next, all_bits, within}
+use Rattle.hdl_flatten.specs.Trees.{PartIn, all_bits}
 use Rattle.hdl_elab.specs.declared.put.Elab.{Elab}
 use Rattle.hdl_elab.specs.Elaborated.{IsElaborated}
 use Rattle.hdl_elab.proofs.Behaves.{bit_is, bits_long, comes, pin_node}
-use Rattle.hdl_elab.proofs.Trees.{Stands, one_tree, part_in, stands_left, stands_right}
+use Rattle.hdl_elab.proofs.Trees.{Stands, one_tree}
+use Rattle.hdl_behaviours.proofs.Traced.{IsFine}
+use Rattle.hdl_elab.proofs.There.{at_within, bit_stands, joined, left_of, listed_at}
 use Rattle.elab_laws.specs.Same.{SameBlock, SameOut, SamePin}
-use Rattle.elab_laws.proofs.Drivers.{Input, IsDriven, IsFine, StandsIn, fine, output_driven}
-
--- ---- items of lists
-
-joined : {X : Type 0} (xs ys : List X) (k : ℕ) (x : X) → slice_get (xs ++ ys) k ≡ Some x → (slice_get xs k ≡ Some x) ⊎ Stands ys x
-joined [] ys k x e = inr (record { k = k; there = e })
-joined (y ∷ xs) ys zero x e = inl e
-joined (y ∷ xs) ys (suc k) x e = joined xs ys k x e
-
-left_of : {X : Type 0} (xs ys : List X) (k : ℕ) (x : X) → k < length xs → slice_get (xs ++ ys) k ≡ Some x → slice_get xs k ≡ Some x
-left_of [] ys k x lt e = absurd (omega arith)
-left_of (y ∷ xs) ys zero x lt e = e
-left_of (y ∷ xs) ys (suc k) x lt e = left_of xs ys k x (omega arith) e
-
--- ---- the bits of pins
-
-bit_stands : (pins : List Pin) (k : ℕ) (p : Pin) → slice_get pins k ≡ Some p → (j : ℕ) (b : BitOf) → slice_get (bits_of p.name 0 (pin_width p)) j ≡ Some b → Stands (all_bits pins) b
-bit_stands [] k p there j b e = absurd cc
-bit_stands (q ∷ pins) zero p there j b e =
-    let same : q ≡ p = cc in
-    record { k = j; there = stands_left (bits_of q.name 0 (pin_width q)) (all_bits pins) j b (ap (λ (x : Pin). slice_get (bits_of x.name 0 (pin_width x)) j) same ∙ e) }
-bit_stands (q ∷ pins) (suc k) p there j b e = stands_right (bits_of q.name 0 (pin_width q)) (all_bits pins) b (bit_stands pins k p there j b e)
-
--- ---- the chip of a part of the tree stands at its path
-
-record IsWithin (chips : Chips) (i : ℕ) (parts : List Part) (p : PartIn) : Type 0 where
-  j : ℕ
-  rest : List ℕ
-  part : Part
-  inner : Entry
-  path : p.path ≡ (i + j) ∷ rest
-  there : slice_get parts j ≡ Some part
-  found : find_chip chips part.chip ≡ Some inner
-  at : chip_at chips inner rest ≡ Some p.chip
-
-at_within : (chips : Chips) (top : Entry) (p : PartIn) → IsWithin chips 0 (parts_of chips top) p → chip_at chips top p.path ≡ Some p.chip
-at_within chips top p w =
-    let number : 0 + w.j ≡ w.j = omega arith in
-    let inner : chip_of chips (slice_get (parts_of chips top) w.j) ≡ Some w.inner = ap (chip_of chips) w.there ∙ w.found in
-    ap (chip_at chips top) (w.path ∙ ap (λ (n : ℕ). n ∷ w.rest) number) ∙ part_at chips top w.j w.rest w.inner p.chip inner w.at
-
-module _ (chips : Chips) where
-  listed_at : (i : ℕ) (parts : List Part) (listed : List PartIn) → AreListed chips i parts listed → (k : ℕ) (p : PartIn) → slice_get listed k ≡ Some p → IsWithin chips i parts p
-  listed_at i parts listed none k p e = absurd cc
-  listed_at i parts listed (next {part = q} {parts = ps} {chip = c} {inner = x} {others = y} f inside behind) zero p e =
-      let same : part_in (i ∷ []) c ≡ p = cc in
-      let number : i ≡ i + 0 = omega arith in
-      record {
-        j = 0;
-        rest = [];
-        part = q;
-        inner = c;
-        path = ap (λ (z : PartIn). z.path) (sym same) ∙ ap (λ (n : ℕ). n ∷ []) number;
-        there = refl;
-        found = f;
-        at = ap (λ (z : PartIn). Some z.chip) same;
-      }
-  listed_at i parts listed (next {part = q} {parts = ps} {chip = c} {inner = x} {others = y} f inside behind) (suc k) p e = by (listed_at 0 (parts_of chips c) x inside) (listed_at (suc i) ps y behind) (joined (within i x) y k p e)
-    where
-      number : i ≡ i + 0
-      number = omega arith
-
-      by : ((m : ℕ) (z : PartIn) → slice_get x m ≡ Some z → IsWithin chips 0 (parts_of chips c) z) → ((m : ℕ) (z : PartIn) → slice_get y m ≡ Some z → IsWithin chips (suc i) ps z) → (slice_get (within i x) k ≡ Some p) ⊎ Stands y p → IsWithin chips i (q ∷ ps) p
-      by inner_at others_at (inl h) =
-          let z = comes (λ (z : PartIn). part_in (i ∷ z.path) z.chip) x (within i x) k p refl h in
-          record {
-            j = 0;
-            rest = z.item.path;
-            part = q;
-            inner = c;
-            path = ap (λ (w : PartIn). w.path) (sym z.is) ∙ ap (λ (n : ℕ). n ∷ z.item.path) number;
-            there = refl;
-            found = f;
-            at = at_within chips c z.item (inner_at k z.item z.there) ∙ ap (λ (w : PartIn). Some w.chip) z.is;
-          }
-      by inner_at others_at (inr s) =
-          let w = others_at s.k p s.there in
-          let next_number : suc i + w.j ≡ i + suc w.j = omega arith in
-          record {
-            j = suc w.j;
-            rest = w.rest;
-            part = w.part;
-            inner = w.inner;
-            path = w.path ∙ ap (λ (n : ℕ). n ∷ w.rest) next_number;
-            there = w.there;
-            found = w.found;
-            at = w.at;
-          }
-
--- ---- blocks
+use Rattle.elab_laws.proofs.Drivers.{Input, IsDriven, StandsIn, fine, output_driven}
 
 -- ---- the pins of ends
 
@@ -206,17 +119,17 @@ bit_in_by p pins b go j (inl h) =
     record { place = 0; pin = p; there = refl; named = ap (λ (x : BitOf). x.name) same; below = subst (λ (n : ℕ). n < pin_width p) (sym (ap (λ (x : BitOf). x.bit) same)) small }
 bit_in_by p pins b go j (inr s) = let r = go s.k s.there in record { place = suc r.place; pin = r.pin; there = r.there; named = r.named; below = r.below }
 
-bit_in : (pins : List Pin) (j : ℕ) (b : BitOf) → slice_get (all_bits pins) j ≡ Some b → BitIn pins b
+pub bit_in : (pins : List Pin) (j : ℕ) (b : BitOf) → slice_get (all_bits pins) j ≡ Some b → BitIn pins b
 bit_in [] j b e = absurd cc
 bit_in (p ∷ pins) j b e = bit_in_by p pins b (λ i h. bit_in pins i b h) j (joined (bits_of p.name 0 (pin_width p)) (all_bits pins) j b e)
 
 module _ (chips : Chips) (top_name : List ℕ) (top : Entry) (pins : EndsHavePins chips) (found : find_chip chips top_name ≡ Some top) (faultless : IsFaultless chips (top.name ∷ []) top) where
-  out_driven : (path : List ℕ) (chip : Entry) → chip_at chips top path ≡ Some chip → (k : ℕ) (p : Pin) → slice_get chip.chip.outputs k ≡ Some p → (bit : ℕ) → bit < pin_width p → IsDriven chips top path p.name bit
+  pub out_driven : (path : List ℕ) (chip : Entry) → chip_at chips top path ≡ Some chip → (k : ℕ) (p : Pin) → slice_get chip.chip.outputs k ≡ Some p → (bit : ℕ) → bit < pin_width p → IsDriven chips top path p.name bit
   out_driven path chip at k p there bit lt =
       output_driven chips top_name top pins found faultless path chip at p.name bit
       (record { width = pin_width p; there = outputs_by chips chip (end_of chips.blocks chip) pins (fine chips top_name top pins found faultless path chip at) refl k p there; below = lt })
 
-  pin_driven : (k : ℕ) (p : Pin) (bit : ℕ) → bit < pin_width p → (slice_get top.chip.inputs k ≡ Some p) ⊎ Stands top.chip.outputs p → (b : BitOf) → slice_get (bits_of p.name 0 (pin_width p)) bit ≡ Some b → IsDriven chips top [] p.name bit
+  pub pin_driven : (k : ℕ) (p : Pin) (bit : ℕ) → bit < pin_width p → (slice_get top.chip.inputs k ≡ Some p) ⊎ Stands top.chip.outputs p → (b : BitOf) → slice_get (bits_of p.name 0 (pin_width p)) bit ≡ Some b → IsDriven chips top [] p.name bit
   pin_driven k p bit lt (inr s) b e = out_driven [] top refl s.k p s.there bit lt
   pin_driven k p bit lt (inl at) b e =
       let same = bit_is p.name 0 (pin_width p) bit b e in
@@ -225,6 +138,7 @@ module _ (chips : Chips) (top_name : List ℕ) (top : Entry) (pins : EndsHavePin
       record {
         d = Input p.name bit;
         is = record { k = s.k; at = b; there = s.there; name_is = ap (λ (x : BitOf). x.name) (sym same); bit_is = sym zero_plus ∙ ap (λ (x : BitOf). x.bit) (sym same) };
+        joins = λ low high at wires. refl;
         same = λ net low high block at numbering. refl;
       }
 

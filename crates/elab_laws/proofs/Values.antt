@@ -12,15 +12,18 @@ use Rattle.hdl_tree.specs.Memory.{before, word_written}
 use Rattle.hdl_tree.specs.Chips.{Chips, end_of, find_chip}
 use Rattle.hdl_tree.specs.Behaviour.{Wires, chip_at}
 use Rattle.hdl_check.specs.Locations.{IsFaultless}
-use Rattle.hdl_check.specs.Tables.{BitOf, find_value}
+use Rattle.name_table.specs.Names.{find_value}
+use Rattle.hdl_check.specs.Tables.{BitOf}
 use Rattle.netlist.specs.declared.node.Node.{Node}
 use Rattle.netlist.specs.declared.node.Node.TheVariants.{Pin, Nand, Flip, Word, Zero}
 use Rattle.netlist.specs.declared.node.Block.{Block}
 use Rattle.netlist.specs.Order.{AreOrdered, IsReadable}
 use Rattle.netlist.specs.Value.{spelled_number, shown_value, written_in}
-use Rattle.gate_sim.specs.Calls.{Call, cycle_of, is_ticked, pins_of, at_tick}
+use Rattle.gate_sim.specs.Calls.{Call, cycle_of, is_pin, is_ticked, pins_of, at_tick}
 use Rattle.gate_sim.specs.Calls.Call.{Load, Set, Eval, Tick, Tock}
 use Rattle.gate_sim.specs.Values.{AreValues, value_after, words_of, written_before}
+use Rattle.gate_sim.proofs.Exist.{tick_cycle}
+use Rattle.gate_sim.proofs.Inputs.{pins_set, unset}
 use Rattle.gate_sim.proofs.Past.{cycle_grows}
 use Rattle.hdl_nodes.specs.Numbering.{nodes_of, memory_block, rom_block, EndStands}
 use Rattle.hdl_nodes.proofs.Numbers.{number_same, at_row, row_length}
@@ -301,11 +304,23 @@ module _ (chips : Chips) (top_name : List ℕ) (top : Entry) (pins : EndsHavePin
       let end_bit : IsEndBit chips top is'.at (is'.at [] s.at.name s.at.bit) = record { path = path; chip = h.chip; e = h.e; bit = bit; there = h.there; is_end = h.is; below = h.below; node = sym q ∙ sym x.at' ∙ at_of (is'.at []) x.name x.bit s } in
       absurd (is'.outside s.k s.at s.there end_bit))
 
-  pub pins_same : (calls calls' : List Call) → Calls calls calls' → (d : Driver) → IsDriver chips top d → CanBePin d → pins_of calls (n d) ≡ pins_of calls' (n' d)
-  pins_same calls calls' none d h can = refl
+  -- the node of an input bit is a pin
+  input_pin : (k k' : ℕ) → Ins k k' → (slice_get e.net.nodes k ≡ Some Pin) × (slice_get e'.net.nodes k' ≡ Some Pin)
+  input_pin k k' x =
+      let s = x.in_it in (
+        subst (λ (m : ℕ). slice_get e.net.nodes m ≡ Some Pin) (sym (at_of (is.at []) x.name x.bit s) ∙ x.at) (is.inputs s.k s.at s.there),
+        subst (λ (m : ℕ). slice_get e'.net.nodes m ≡ Some Pin) (sym (at_of (is'.at []) x.name x.bit s) ∙ x.at') (is'.inputs s.k s.at s.there),
+      )
+
+  pub pins_same : (calls calls' : List Call) → Calls calls calls' → (d : Driver) → IsDriver chips top d → CanBePin d → pins_of e.net.nodes calls (n d) ≡ pins_of e'.net.nodes calls' (n' d)
+  pins_same calls calls' none d h can = unset (is_pin (slice_get e.net.nodes (n d))) ∙ sym (unset (is_pin (slice_get e'.net.nodes (n' d))))
   pins_same calls calls' (load {calls = cs} {calls' = cs'} s rest) d h can = pins_same cs cs' rest d h can
   pins_same calls calls' (set {k = k} {node = m} {node' = m'} {bit = bit} {calls = cs} {calls' = cs'} lt p rest) d h can =
-      ap₂ (λ (t u : Bool). if t then bit else u) (set_same m m' (one_input chips top_name top pins found faultless e e' is is' k m m' lt p) d h can) (pins_same cs cs' rest d h can)
+      let x = one_input chips top_name top pins found faultless e e' is is' k m m' lt p in
+      let pin = input_pin m m' x in
+      pins_set e.net.nodes cs m bit pin.0 (n d)
+      ∙ ap₂ (λ (t u : Bool). if t then bit else u) (set_same m m' x d h can) (pins_same cs cs' rest d h can)
+      ∙ sym (pins_set e'.net.nodes cs' m' bit pin.1 (n' d))
   pins_same calls calls' (eval {calls = cs} {calls' = cs'} rest) d h can = pins_same cs cs' rest d h can
   pins_same calls calls' (tick {calls = cs} {calls' = cs'} rest) d h can = pins_same cs cs' rest d h can
   pins_same calls calls' (tock {calls = cs} {calls' = cs'} rest) d h can = pins_same cs cs' rest d h can
@@ -431,29 +446,12 @@ module _ (chips : Chips) (top_name : List ℕ) (top : Entry) (pins : EndsHavePin
 
   -- ---- one cycle after another
 
-  tick_early : (calls : List Call) (c : ℕ) → cycle_of (at_tick calls c) ≤ c
-  tick_early [] c = omega arith
-  tick_early (Load block from words ∷ calls) c = tick_early calls c
-  tick_early (Set node bit ∷ calls) c = tick_early calls c
-  tick_early (Eval ∷ calls) c = tick_early calls c
-  tick_early (Tick ∷ calls) c =
-      elim (cases_eq c (cycle_of calls)) [
-        | inl e ↦
-            let t : nat_eq c (cycle_of calls) ≡ true = eq-eqb c (cycle_of calls) e in
-            let le : cycle_of calls ≤ c = omega arith in
-            rw t le
-        | inr ne ↦
-            let f : nat_eq c (cycle_of calls) ≡ false = ne_eqb c (cycle_of calls) ne in
-            rw f (tick_early calls c)
-      ]
-  tick_early (Tock ∷ calls) c = tick_early calls c
-
   module _ (ordered : AreOrdered e.net.nodes e.net.blocks) (calls calls' : List Call) (same : Calls calls calls') (v v' : ℕ → ℕ → Bool) (are : AreValues e.net calls v) (are' : AreValues e'.net calls' v') where
     cycle_by : (c : ℕ) → (c < cycle_of calls) ⊎ (c ≡ cycle_of calls) → ((d : ℕ) → d < c → SameRow (λ i. v i d) (λ i. v' i d)) → SameRow (λ i. v i c) (λ i. v' i c)
     cycle_by c (inl less) past =
         let both = cycles calls calls' same in
         let less' : c < cycle_of calls' = omega arith in
-        now ordered v v' c past (at_tick calls c) (at_tick calls' c) (tick_calls c calls calls' same) (tick_early calls c) (λ k node there. are.0 c k node less there) (λ k node there. are'.0 c k node less' there)
+        now ordered v v' c past (at_tick calls c) (at_tick calls' c) (tick_calls c calls calls' same) (tick_cycle calls c) (λ k node there. are.0 c k node less there) (λ k node there. are'.0 c k node less' there)
     cycle_by c (inr q) past =
         let both = cycles calls calls' same in
         let q' : cycle_of calls' ≡ c = sym both ∙ sym q in

@@ -4,6 +4,7 @@ use Rattle.std.specs.Prelude.{◌≡◌, ℕ, ◌<◌, ◌≤◌, Bool, List, []
 use Rattle.hdl_tree.specs.declared.library.Entry.{Entry}
 use Rattle.hdl_tree.specs.Chips.{Chips, find_chip}
 use Rattle.netlist.specs.Order.{AreOrdered}
+use Rattle.netlist.specs.Histories.{rank}
 use Rattle.gate_sim.specs.Calls.{Call, cycle_of}
 use Rattle.gate_sim.specs.Calls.Call.{Load, Set, Eval, Tick, Tock}
 use Rattle.gate_sim.specs.Values.{AreValues, words_of}
@@ -48,7 +49,7 @@ pub record SameBlock (e e' : Elab) (b b' : ℕ) : Type 0 where
 pub data SameCalls (top : Entry) (e e' : Elab) : List Call → List Call → Type 0 where
   none : SameCalls top e e' [] []
   load : {block block' from : ℕ} {words : List ℕ} {calls calls' : List Call} → SameBlock e e' block block' → SameCalls top e e' calls calls' → SameCalls top e e' (Load block from words ∷ calls) (Load block' from words ∷ calls')
-  set : {k node node' : ℕ} {bit : Bool} {calls calls' : List Call} → k < length top.chip.inputs → SamePin e e' k node node' → SameCalls top e e' calls calls' → SameCalls top e e' (Set node bit ∷ calls) (Set node' bit ∷ calls')
+  set : {k node node' : ℕ} {bit : Bool} {calls calls' : List Call} → k < length top.chip.inputs → SamePin e e' k node node' → SameCalls top e e' calls calls' → SameCalls top e e' (Set (rank e.net.nodes node) bit ∷ calls) (Set (rank e'.net.nodes node') bit ∷ calls')
   eval : {calls calls' : List Call} → SameCalls top e e' calls calls' → SameCalls top e e' (Eval ∷ calls) (Eval ∷ calls')
   tick : {calls calls' : List Call} → SameCalls top e e' calls calls' → SameCalls top e e' (Tick ∷ calls) (Tick ∷ calls')
   tock : {calls calls' : List Call} → SameCalls top e e' calls calls' → SameCalls top e e' (Tock ∷ calls) (Tock ∷ calls')

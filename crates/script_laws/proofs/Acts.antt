@@ -205,7 +205,7 @@ module _ (hdl_law : hdl.ReadingLaw) (hack_law : image.ReadingLaw) (asm_law : ass
   pub faults_differs : (act : Act) (s t t' : Standing) (line : List ℕ) → Same s t → Faults S s act line → Differs S t act t' → ⊥
   faults_differs act s t t' line h f d = faults_puts act s t d.r line d.line h f d.puts
 
-  pub faults_same : (act : Act) (s t : Standing) (line line' : List ℕ) → Same s t → Faults S s act line → Faults S t act line' → SameButNets line line'
+  pub faults_same : (act : Act) (s t : Standing) (line line' : List ℕ) → Same s t → Faults S s act line → Faults S t act line' → SameButNets S line line'
   faults_same (acts.Step step) s t line line' h f g = absurd f
   faults_same (acts.OutputFile file) s t line line' h f g = absurd f
   faults_same (acts.Echo text) s t line line' h f g = absurd f

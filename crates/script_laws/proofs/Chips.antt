@@ -210,50 +210,50 @@ module _ (law : ReadingLaw) (path : List ℕ) (told : Files) (blocks : Bool) whe
           let same = top_once entries name f.top b.top f.found b.found in
           fine_faulty (chips_in entries blocks) b.top entries name line f.fault b.fine (subst (λ (t : Entry). IsFaultOf (chips_in entries blocks) t f.fault) same f.is_fault) f.is
 
-  fault_lines : (chips : Chips) (top : Entry) (entries : List Entry) (name line line' : List ℕ) (f f' : ElaborationFault) → IsFaultOf chips top f → IsFaultOf chips top f' → IsFaultLine S entries name f line → IsFaultLine S entries name f' line' → SameButNets line line'
-  fault_lines chips top entries name line line' faults.Memory f' h k t u = absurd t
-  fault_lines chips top entries name line line' f faults.Memory h k t u = absurd u
-  fault_lines chips top entries name line line' (faults.Named f) (faults.Named f') h k t u =
+  fault_lines : (chips : Chips) (top : Entry) (entries : List Entry) (name line line' : List ℕ) → chips ≡ chips_in entries blocks → HasGathered S name entries → find_entry entries name ≡ Some top → (f f' : ElaborationFault) → IsFaultOf chips top f → IsFaultOf chips top f' → IsFaultLine S entries name f line → IsFaultLine S entries name f' line' → SameButNets S line line'
+  fault_lines chips top entries name line line' q g found faults.Memory f' h k t u = absurd t
+  fault_lines chips top entries name line line' q g found f faults.Memory h k t u = absurd u
+  fault_lines chips top entries name line line' q g found (faults.Named f) (faults.Named f') h k t u =
       let same = one_first chips (top.name ∷ []) top f f' h k in
       inl (t ∙ ap (λ (x : NamedFault). message_line (path_of_text S entries x.chip) (named_message x)) same ∙ sym u)
-  fault_lines chips top entries name line line' (faults.Named f) (faults.Loop nets) h k t u = absurd (not_both chips (top.name ∷ []) top f h k.0)
-  fault_lines chips top entries name line line' (faults.Named f) (faults.TooManyNodes n) h k t u = absurd (not_both chips (top.name ∷ []) top f h k.0)
-  fault_lines chips top entries name line line' (faults.Loop nets) (faults.Named f) h k t u = absurd (not_both chips (top.name ∷ []) top f k h.0)
-  fault_lines chips top entries name line line' (faults.Loop nets) (faults.Loop nets') h k t u = inr (record { path = path_of_text S entries name; nets = nets; nets' = nets'; is = t; is' = u })
-  fault_lines chips top entries name line line' (faults.Loop nets) (faults.TooManyNodes n) h k t u = absurd (k.1 nets h.1)
-  fault_lines chips top entries name line line' (faults.TooManyNodes n) (faults.Named f) h k t u = absurd (not_both chips (top.name ∷ []) top f k h.0)
-  fault_lines chips top entries name line line' (faults.TooManyNodes n) (faults.Loop nets) h k t u = absurd (h.1 nets k.1)
-  fault_lines chips top entries name line line' (faults.TooManyNodes n) (faults.TooManyNodes m) h k t u =
+  fault_lines chips top entries name line line' q g found (faults.Named f) (faults.Loop nets) h k t u = absurd (not_both chips (top.name ∷ []) top f h k.0)
+  fault_lines chips top entries name line line' q g found (faults.Named f) (faults.TooManyNodes n) h k t u = absurd (not_both chips (top.name ∷ []) top f h k.0)
+  fault_lines chips top entries name line line' q g found (faults.Loop nets) (faults.Named f) h k t u = absurd (not_both chips (top.name ∷ []) top f k h.0)
+  fault_lines chips top entries name line line' q g found (faults.Loop nets) (faults.Loop nets') h k t u = inr (record { name = name; entries = entries; gathered = g; top = top; found = found; nets = nets; nets' = nets'; loop = subst (λ (x : Chips). IsFaultOf x top (faults.Loop nets)) q h; loop' = subst (λ (x : Chips). IsFaultOf x top (faults.Loop nets')) q k; is = t; is' = u })
+  fault_lines chips top entries name line line' q g found (faults.Loop nets) (faults.TooManyNodes n) h k t u = absurd (k.1 nets h.1)
+  fault_lines chips top entries name line line' q g found (faults.TooManyNodes n) (faults.Named f) h k t u = absurd (not_both chips (top.name ∷ []) top f k h.0)
+  fault_lines chips top entries name line line' q g found (faults.TooManyNodes n) (faults.Loop nets) h k t u = absurd (h.1 nets k.1)
+  fault_lines chips top entries name line line' q g found (faults.TooManyNodes n) (faults.TooManyNodes m) h k t u =
       let trees = one_tree chips top h.2.tree k.2.tree h.2.listed k.2.listed in
       let same : n ≡ m = h.2.number ∙ ap (λ (x : List PartIn). capped_count (node_count chips top x)) trees ∙ sym k.2.number in
       inl (t ∙ ap (λ (x : ℕ). message_line (path_of_text S entries name) (message 0 0 (codes "TooManyNodes") (decimal x))) same ∙ sym u)
 
-  faulty_lines : (entries : List Entry) (name line line' : List ℕ) → IsFaulty S entries name line → IsFaulty S entries name line' → SameButNets line line'
-  faulty_lines entries name line line' f g =
+  faulty_lines : (entries : List Entry) (name line line' : List ℕ) → HasGathered S name entries → IsFaulty S entries name line → IsFaulty S entries name line' → SameButNets S line line'
+  faulty_lines entries name line line' gathered f g =
       let same = top_once entries name g.top f.top g.found f.found in
-      fault_lines (chips_in entries blocks) f.top entries name line line' f.fault g.fault f.is_fault (subst (λ (t : Entry). IsFaultOf (chips_in entries blocks) t g.fault) same g.is_fault) f.is g.is
+      fault_lines (chips_in entries blocks) f.top entries name line line' refl gathered f.found f.fault g.fault f.is_fault (subst (λ (t : Entry). IsFaultOf (chips_in entries blocks) t g.fault) same g.is_fault) f.is g.is
 
   abbrev Why : List Entry → List ℕ → List ℕ → Type 0
   Why entries name line = IsUnknown S entries name line ⊎ IsFaulty S entries name line
 
-  why_lines : (entries : List Entry) (name line line' : List ℕ) → Why entries name line → Why entries name line' → SameButNets line line'
-  why_lines entries name line line' (inl (none, is)) (inl (none', is')) = inl (is ∙ sym is')
-  why_lines entries name line line' (inl u) (inr f) = absurd (found_unknown name entries f.top line f.found u)
-  why_lines entries name line line' (inr f) (inl u) = absurd (found_unknown name entries f.top line' f.found u)
-  why_lines entries name line line' (inr f) (inr g) = faulty_lines entries name line line' f g
+  why_lines : (entries : List Entry) (name line line' : List ℕ) → HasGathered S name entries → Why entries name line → Why entries name line' → SameButNets S line line'
+  why_lines entries name line line' gathered (inl (none, is)) (inl (none', is')) = inl (is ∙ sym is')
+  why_lines entries name line line' gathered (inl u) (inr f) = absurd (found_unknown name entries f.top line f.found u)
+  why_lines entries name line line' gathered (inr f) (inl u) = absurd (found_unknown name entries f.top line' f.found u)
+  why_lines entries name line line' gathered (inr f) (inr g) = faulty_lines entries name line line' gathered f g
 
   abbrev Rest : List ℕ → List ℕ → Type 0
   Rest name line = HasFailed S name line ⊎ ((entries : List Entry) × HasGathered S name entries × Why entries name line)
 
-  rest_lines : (name line line' : List ℕ) → Rest name line → Rest name line' → SameButNets line line'
+  rest_lines : (name line line' : List ℕ) → Rest name line → Rest name line' → SameButNets S line line'
   rest_lines name line line' (inl f) (inl g) = inl (one_failure law path told blocks name line line' f g)
   rest_lines name line line' (inl f) (inr (entries, g, why)) = absurd (not_both_ways law path told blocks name entries line g f)
   rest_lines name line line' (inr (entries, g, why)) (inl f) = absurd (not_both_ways law path told blocks name entries line' g f)
   rest_lines name line line' (inr (entries, g, why)) (inr (entries', g', why')) =
       let es = one_library law path told blocks name entries' entries g' g in
-      why_lines entries name line line' why (subst (λ (x : List Entry). Why x name line') es why')
+      why_lines entries name line line' g why (subst (λ (x : List Entry). Why x name line') es why')
 
-  pub one_reason : (file line line' : List ℕ) → IsNotLoaded S file line → IsNotLoaded S file line' → SameButNets line line'
+  pub one_reason : (file line line' : List ℕ) → IsNotLoaded S file line → IsNotLoaded S file line' → SameButNets S line line'
   one_reason file line line' (name, is, rest) (name', is', rest') =
       rest_lines name line line' rest (subst (λ (x : List ℕ). Rest x line') (name_once file name' name is' is) rest')
 

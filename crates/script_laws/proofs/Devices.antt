@@ -19,6 +19,7 @@ use Rattle.hdl_check.specs.Whole.{chips_in}
 use Rattle.netlist.specs.declared.node.Block.{Block}
 use Rattle.netlist.specs.Net.{Net}
 use Rattle.netlist.specs.Value.{spelled_number}
+use Rattle.netlist.specs.Histories.{rank}
 use Rattle.gate_sim.specs.Calls.{Call, cycle_of, evaluated_calls}
 use Rattle.gate_sim.specs.Calls.Call.{Load, Set, Eval, Tick, Tock}
 use Rattle.gate_sim.specs.Values.{AreValues, words_of}
@@ -555,19 +556,24 @@ module _ (blocks : Bool) (c c' : LoadedChip) (o : OneChip blocks c c') where
   abbrev pub Calls : List Call → List Call → Type 0
   Calls calls calls' = SameCalls o.top o.e o.e' calls calls'
 
-  nodes_set : (k word : ℕ) (xs ys : List ℕ) (calls calls' : List Call) → Each2 SameInput xs ys → Calls calls calls' → Calls (set_nodes k word xs calls) (set_nodes k word ys calls')
+  nodes_set : (k word : ℕ) (xs ys : List ℕ) (calls calls' : List Call) → Each2 SameInput xs ys → Calls calls calls' → Calls (set_nodes o.e.net.nodes k word xs calls) (set_nodes o.e'.net.nodes k word ys calls')
   nodes_set k word [] [] calls calls' h same = same
   nodes_set k word [] (y ∷ ys) calls calls' h same = absurd h
   nodes_set k word (x ∷ xs) [] calls calls' h same = absurd h
   nodes_set k word (x ∷ xs) (y ∷ ys) calls calls' h same =
-      nodes_set (suc k) word xs ys (Set x (has_bit word k) ∷ calls) (Set y (has_bit word k) ∷ calls') h.1 (set {k = h.0.0} h.0.1 h.0.2 same)
+      nodes_set (suc k) word xs ys (Set (rank o.e.net.nodes x) (has_bit word k) ∷ calls) (Set (rank o.e'.net.nodes y) (has_bit word k) ∷ calls') h.1 (set {k = h.0.0} h.0.1 h.0.2 same)
 
-  pub source_set : (s s' : chips.Source) (word : ℕ) (calls calls' : List Call) → SameSet s s' → Calls calls calls' → Calls (set_source s word calls) (set_source s' word calls')
-  source_set (Nodes xs) (Nodes ys) word calls calls' h same = nodes_set 0 word xs ys calls calls' h same
-  source_set (Nodes xs) (BlockWord b a) word calls calls' h same = absurd h
-  source_set (BlockWord b a) (Nodes ys) word calls calls' h same = absurd h
-  source_set (BlockWord b a) (BlockWord b' a') word calls calls' h same =
+  set_both : (s s' : chips.Source) (word : ℕ) (calls calls' : List Call) → SameSet s s' → Calls calls calls' → Calls (set_source o.e.net.nodes s word calls) (set_source o.e'.net.nodes s' word calls')
+  set_both (Nodes xs) (Nodes ys) word calls calls' h same = nodes_set 0 word xs ys calls calls' h same
+  set_both (Nodes xs) (BlockWord b a) word calls calls' h same = absurd h
+  set_both (BlockWord b a) (Nodes ys) word calls calls' h same = absurd h
+  set_both (BlockWord b a) (BlockWord b' a') word calls calls' h same =
       subst (λ (x : ℕ). Calls (Load b a (word ∷ []) ∷ calls) (Load b' x (word ∷ []) ∷ calls')) h.1 (load {from = a} {words = word ∷ []} h.0 same)
+
+  pub source_set : (s s' : chips.Source) (word : ℕ) (calls calls' : List Call) → SameSet s s' → Calls calls calls' → Calls (set_source c.net.nodes s word calls) (set_source c'.net.nodes s' word calls')
+  source_set s s' word calls calls' h same =
+      subst (λ (n : Net). Calls (set_source n.nodes s word calls) (set_source c'.net.nodes s' word calls')) (sym o.net)
+      (subst (λ (n : Net). Calls (set_source o.e.net.nodes s word calls) (set_source n.nodes s' word calls')) (sym o.net') (set_both s s' word calls calls' h same))
 
   evaluated_same : (calls calls' told told' : List Call) → Calls calls calls' → evaluated_calls calls ≡ Some told → evaluated_calls calls' ≡ Some told' → Calls told told'
   evaluated_same calls calls' told told' none h k = absurd cc

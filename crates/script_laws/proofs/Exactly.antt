@@ -116,7 +116,7 @@ module _ (law : script.ReadingLaw) (hdl_law : hdl.ReadingLaw) (hack_law : image.
 
   -- ---- refusals
 
-  refused_same : (out before line out' before' line' : List ℕ) → IsRefused S out before line → IsRefused S out' before' line' → (out ≡ out') × (before ≡ before') × SameButNets line line'
+  refused_same : (out before line out' before' line' : List ℕ) → IsRefused S out before line → IsRefused S out' before' line' → (out ≡ out') × (before ≡ before') × SameButNets S line line'
   refused_same out before line out' before' line' (inl n) (inl m) =
       let same = same_text told path m.text n.text m.has n.has in
       let one = (law n.text).one_fault n.fault m.fault n.refused (subst (λ (t : List ℕ). Refuses t m.fault) same m.refused) in
