@@ -1,0 +1,11 @@
+pub mod Narrow
+pub mod Counting
+pub mod Plain
+pub mod Entering
+pub mod Simulating
+pub mod Calm
+pub mod Starting
+pub mod Beginning
+pub mod Pointing
+pub mod Reached
+pub mod LawsMade
