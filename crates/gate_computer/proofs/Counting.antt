@@ -8,7 +8,7 @@ use Rattle.hdl_tree.specs.declared.library.Entry.{Entry}
 use Rattle.hdl_tree.specs.Chips.{Chips, find_chip, parts_of}
 use Rattle.hdl_tree.specs.Writable.{all}
 use Rattle.hdl_check.specs.Whole.{chips_in}
-use Rattle.hdl_check.specs.Tables.{find_value}
+use Rattle.name_table.specs.Names.{find_value}
 use Rattle.hdl_check.proofs.Order.{not_both}
 use Rattle.hdl_flatten.specs.Trees.{PartIn, within, AreListed, none, next, IsTree, bit_count, chip_nodes, part_nodes, node_count}
 use Rattle.hdl_elab.specs.declared.fault.ElaborationFault.{ElaborationFault}

@@ -1,6 +1,6 @@
 -- The history of the computer of gates, cycle by cycle.
 use Rattle.std.proofs.Common.{◌≡◌, ◌<◌, ◌≤◌, ◌+◌, ◌-◌, ℕ, zero, suc, Bool, true, false, List, [], ◌∷◌, ◌++◌, length, Option, Some, refl, ap, ◌∙◌, sym, subst, arith, length-append, add-one}
-use Rattle.std.specs.Prelude.{if◌then◌else◌, nat_lt, slice_index, codes}
+use Rattle.std.specs.Prelude.{if◌then◌else◌, nat_lt, slice_get, slice_index, codes}
 use Rattle.std.specs.List.{All}
 use Rattle.std.proofs.lemmas.List.Elements.{All-push}
 use Rattle.word16.specs.Memory.{keyboard}
@@ -27,13 +27,14 @@ use Rattle.netlist.specs.Present.{value_in}
 use Rattle.netlist.specs.Value.{Inputs, AreValues, spelled_number}
 use Rattle.netlist.specs.Words.{word_at as stored_at}
 use Rattle.netlist.proofs.Rows.{spelled_same}
-use Rattle.gate_sim.specs.Calls.{pins_of}
+use Rattle.gate_sim.specs.Calls.{is_pin, pins_of}
 use Rattle.gate_sim.specs.Calls.Call.{Load, Eval, Tick, Tock}
 use Rattle.gate_sim.specs.Values.{ArePast, AreValues as AreCallValues}
 use Rattle.gate_sim.specs.State.{SimState}
 use Rattle.gate_sim.specs.Stands.{StandsFor}
 use Rattle.gate_sim.specs.Cycles.{Runs}
 use Rattle.gate_sim.proofs.Cycles.{law, start}
+use Rattle.gate_sim.proofs.Inputs.{unset}
 use Rattle.hdl_nodes.specs.Numbering.{nodes_of}
 use Rattle.hdl_nodes.proofs.Ends.{held_is, spelled_is}
 use Rattle.chip_basic.specs.Hdl.{shipped_entry}
@@ -207,8 +208,11 @@ module _ (s0 sA sT sK : SimState) (w : Wiring) (image : List ℕ) (old key : ℕ
   runs_set : (h : Inputs) → Runs s0.net h (length turns) told.calls → Runs s0.net h (length turns) set.now
   runs_set h r = subst (λ m. Runs m h (length turns) set.now) netA (set.runs h (length turns) (subst (λ m. Runs m h (length turns) told.calls) (sym netA) r))
 
-  are_set : (pin : ℕ → Bool) → HoldsKey w.keyboard key pin → (k : ℕ) → pins_of set.now k ≡ pin k
-  are_set pin holds k = same_pins w.keyboard key (pins_of set.now) pin set.pins holds k
+  set_pins : HoldsKey w.keyboard key (pins_of s0.net.nodes set.now)
+  set_pins = subst (λ (m : Net). HoldsKey w.keyboard key (pins_of m.nodes set.now)) netA set.pins
+
+  are_set : (pin : ℕ → Bool) → HoldsKey w.keyboard key pin → (k : ℕ) → pins_of s0.net.nodes set.now k ≡ pin k
+  are_set pin holds k = same_pins w.keyboard key (pins_of s0.net.nodes set.now) pin set_pins holds k
 
   module _ (stT : StandsFor sT (Tick ∷ set.now)) (stK : StandsFor sK (Tock ∷ Tick ∷ set.now)) where
     pub told_more : WasTold sK w image key (turns ++ turn key Acted ∷ [])
@@ -220,7 +224,7 @@ module _ (s0 sA sT sK : SimState) (w : Wiring) (image : List ℕ) (old key : ℕ
       key_word = word;
       calls = Tock ∷ Tick ∷ set.now;
       stands = stK;
-      held = record { bits = set.pins.bits; others = set.pins.others };
+      held = subst (λ (m : Net). HoldsKey w.keyboard key (pins_of m.nodes (Tock ∷ Tick ∷ set.now))) (sym netK) (record { bits = set_pins.bits; others = set_pins.others });
       runs = λ keys h holds comes.
           let n = length turns in
           let longer : length (turns ++ turn key Acted ∷ []) ≡ suc n = one_longer turns (turn key Acted) in
@@ -340,6 +344,9 @@ module _ (s0 sA sE : SimState) (w : Wiring) (image : List ℕ) (old key : ℕ) (
   set_runs : (h : Inputs) → Runs s0.net h (length turns) told.calls → Runs s0.net h (length turns) set.now
   set_runs h r = subst (λ m. Runs m h (length turns) set.now) netA (set.runs h (length turns) (subst (λ m. Runs m h (length turns) told.calls) (sym netA) r))
 
+  pins_set : HoldsKey w.keyboard key (pins_of s0.net.nodes set.now)
+  pins_set = subst (λ (m : Net). HoldsKey w.keyboard key (pins_of m.nodes set.now)) netA set.pins
+
   pub told_set : WasTold sE w image key turns
   told_set = record {
     seen = subst (λ m. ShowsComputer m w) (sym netE) told.seen;
@@ -349,7 +356,7 @@ module _ (s0 sA sE : SimState) (w : Wiring) (image : List ℕ) (old key : ℕ) (
     key_word = word;
     calls = Eval ∷ set.now;
     stands = stE;
-    held = record { bits = set.pins.bits; others = set.pins.others };
+    held = subst (λ (m : Net). HoldsKey w.keyboard key (pins_of m.nodes (Eval ∷ set.now))) (sym netE) (record { bits = pins_set.bits; others = pins_set.others });
     runs = λ keys h holds comes.
         subst (λ m. Runs m h (length turns) (Eval ∷ set.now)) (sym netE) (law s0.net h (length turns) set.now (set_runs h (told.runs keys h holds comes))).eval;
   }
@@ -366,7 +373,7 @@ module _ (s0 sA sE : SimState) (w : Wiring) (image : List ℕ) (old key : ℕ) (
         let goes = law s0.net set_inputs (length turns) set.now (set_runs set_inputs (own_runs s0 w image old turns told keys holds)) in
         let held = subst (λ x. HoldsKey w.keyboard x (set_inputs.pin (length turns))) now ((own_comes s0 w image old turns told keys (suc (length turns))).pins (length turns) (omega arith)) in
         let vals = (law s0.net set_inputs (length turns) (Eval ∷ set.now) goes.eval).now set_values
-        (λ i pin. same_pins w.keyboard key (pins_of set.now) (set_inputs.pin (length turns)) set.pins held i)
+        (λ i pin. same_pins w.keyboard key (pins_of s0.net.nodes set.now) (set_inputs.pin (length turns)) pins_set held i)
         ((own_values s0 w image old turns told keys).own (suc (length turns))) in
         stE.values (Eval ∷ set.now) refl set_values (subst (λ m. AreCallValues m (Eval ∷ set.now) set_values) (sym netE) vals) k (subst (λ (m : Net). k < length m.nodes) (sym netE) less)
         ∙ ap (set_values k) goes.eval.cycle
@@ -400,7 +407,10 @@ followed_none g seen' ordered small stands held word moves heard tallied =
       key_word = word;
       calls = Load g.wiring.rom 0 g.image ∷ [];
       stands = stands;
-      held = record { bits = held.bits; others = held.others };
+      held = record {
+        bits = λ j less. unset (is_pin (slice_get g.sim.net.nodes (slice_index g.wiring.keyboard j))) ∙ held.bits j less;
+        others = λ k out. unset (is_pin (slice_get g.sim.net.nodes k));
+      };
       runs = λ keys h holds comes.
           let r = (start g.sim.net h.pin).1 (λ b a. 0) [] g.wiring.rom 0 g.image (start g.sim.net h.pin).0 in
           subst (λ l. Runs g.sim.net (record { pin = h.pin; loaded = l }) 0 (Load g.wiring.rom 0 g.image ∷ [])) (λ i b a. sym (comes.loaded b a) i) r;

@@ -3,6 +3,7 @@ use Rattle.std.proofs.Common.{◌≡◌, ◌≢◌, ◌<◌, ◌≤◌, ◌+◌,
 use Rattle.std.specs.Prelude.{if◌then◌else◌, nat_eq, nat_lt, slice_index}
 use Rattle.std.proofs.lemmas.Bool.{cases_eq, cases_lt, lt-ltb, le-ltb}
 use Rattle.word16.specs.Words.{has_bit}
+use Rattle.netlist.specs.declared.node.Node.{Node}
 use Rattle.gate_sim.specs.Calls.{Call, pins_of}
 use Rattle.gate_computer.specs.Calls.{HoldsKey}
 use Rattle.gate_computer.specs.Inner.Told.{HoldsPart, ChangesPin}
@@ -69,11 +70,11 @@ held_by keyboard key apart = record {
 
 -- ---- setting the keyboard, pin by pin
 
-pub unchanged : (calls : List Call) (node : ℕ) (bit : Bool) → pins_of calls node ≡ bit → ChangesPin calls node bit (pins_of calls)
-unchanged calls node bit is k =
+pub unchanged : (nodes : List Node) (calls : List Call) (node : ℕ) (bit : Bool) → pins_of nodes calls node ≡ bit → ChangesPin nodes calls node bit (pins_of nodes calls)
+unchanged nodes calls node bit is k =
     elim (cases_eq node k) [
-      | inl e ↦ ap (pins_of calls) (sym e) ∙ is ∙ ap (λ b. if b then bit else pins_of calls k) (sym (eq-eqb node k e))
-      | inr ne ↦ ap (λ b. if b then bit else pins_of calls k) (sym (ne_eqb node k ne))
+      | inl e ↦ ap (pins_of nodes calls) (sym e) ∙ is ∙ ap (λ b. if b then bit else pins_of nodes calls k) (sym (eq-eqb node k e))
+      | inr ne ↦ ap (λ b. if b then bit else pins_of nodes calls k) (sym (ne_eqb node k ne))
     ]
 
 pub none_set : (keyboard : List ℕ) (key old : ℕ) (pin : ℕ → Bool) → HoldsKey keyboard old pin → HoldsPart keyboard 0 key old pin
@@ -85,23 +86,23 @@ none_set keyboard key old pin h = record {
 pub next_bit : (keyboard : List ℕ) (i key old : ℕ) (pin : ℕ → Bool) → i < length keyboard → HoldsPart keyboard i key old pin → pin (slice_index keyboard i) ≡ has_bit old i
 next_bit keyboard i key old pin less h = h.bits i less ∙ ap (λ b. has_bit (if b then key else old) i) (le-ltb i i (omega arith))
 
-pub one_more : (keyboard : List ℕ) (i key old : ℕ) (calls : List Call) (pin : ℕ → Bool) → Apart keyboard → i < length keyboard
-    → HoldsPart keyboard i key old (pins_of calls) → ChangesPin calls (slice_index keyboard i) (has_bit key i) pin → HoldsPart keyboard (suc i) key old pin
-one_more keyboard i key old calls pin apart near h changes = record {
+pub one_more : (nodes : List Node) (keyboard : List ℕ) (i key old : ℕ) (calls : List Call) (pin : ℕ → Bool) → Apart keyboard → i < length keyboard
+    → HoldsPart keyboard i key old (pins_of nodes calls) → ChangesPin nodes calls (slice_index keyboard i) (has_bit key i) pin → HoldsPart keyboard (suc i) key old pin
+one_more nodes keyboard i key old calls pin apart near h changes = record {
   bits = λ j less.
       elim (cases_eq i j) [
         | inl e ↦
             changes (slice_index keyboard j)
-            ∙ ap (λ b. if b then has_bit key i else pins_of calls (slice_index keyboard j)) (eq-eqb (slice_index keyboard i) (slice_index keyboard j) (ap (slice_index keyboard) e))
+            ∙ ap (λ b. if b then has_bit key i else pins_of nodes calls (slice_index keyboard j)) (eq-eqb (slice_index keyboard i) (slice_index keyboard j) (ap (slice_index keyboard) e))
             ∙ ap (has_bit key) e ∙ ap (λ b. has_bit (if b then key else old) j) (sym (lt-ltb j (suc i) (omega arith)))
         | inr ne ↦
             let other : slice_index keyboard i ≢ slice_index keyboard j = differ i j ne near less in
             changes (slice_index keyboard j)
-            ∙ ap (λ b. if b then has_bit key i else pins_of calls (slice_index keyboard j)) (ne_eqb (slice_index keyboard i) (slice_index keyboard j) other)
+            ∙ ap (λ b. if b then has_bit key i else pins_of nodes calls (slice_index keyboard j)) (ne_eqb (slice_index keyboard i) (slice_index keyboard j) other)
             ∙ h.bits j less ∙ ap (λ b. has_bit (if b then key else old) j) (same_side i j ne)
       ];
   others = λ k out.
-      changes k ∙ ap (λ b. if b then has_bit key i else pins_of calls k) (ne_eqb (slice_index keyboard i) k (out i near)) ∙ h.others k out;
+      changes k ∙ ap (λ b. if b then has_bit key i else pins_of nodes calls k) (ne_eqb (slice_index keyboard i) k (out i near)) ∙ h.others k out;
 }
   where
     differ : (i j : ℕ) → i ≢ j → i < length keyboard → j < length keyboard → slice_index keyboard i ≢ slice_index keyboard j

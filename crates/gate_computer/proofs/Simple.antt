@@ -19,18 +19,19 @@ use Rattle.netlist.specs.Value.{AreValues, held_in, spelled_number}
 use Rattle.netlist.specs.Words.{after_load}
 use Rattle.netlist.proofs.Exist.{values_of}
 use Rattle.net_simplify.specs.Same.{HearSame, IsPinOf, shape}
-use Rattle.net_simplify.proofs.Ranked.{same_pin}
+use Rattle.netlist.proofs.Ranks.{same_pin}
 use Rattle.hdl_nodes.proofs.Numbers.{number_same}
 use Rattle.gate_computer.specs.declared.wiring.Wiring.{Wiring}
 use Rattle.gate_computer.specs.declared.wiring.WiredPart.{WiredPart}
 use Rattle.gate_computer.specs.Parts.{parts_text}
 use Rattle.gate_computer.specs.Wiring.{IsWired, part_at}
-use Rattle.gate_computer.specs.Simple.{kept_nodes, IsSimpleComputer, IsSimpleOf, ShowsComputer}
-use Rattle.gate_computer.specs.Followed.{GateMachine, HasFollowed}
+use Rattle.gate_computer.specs.Simple.{kept_nodes, IsSimpleComputer, IsSimpleOf, ReadsAs, ShowsComputer}
+use Rattle.gate_computer.specs.Followed.{GateMachine}
 use Rattle.gate_computer.specs.Inner.Readable.{IsReadable}
 use Rattle.gate_computer.specs.Inner.Reading.{wired_text}
 use Rattle.gate_computer.proofs.Keyboard.{Apart, at_pin, held_by, find}
-use Rattle.gate_computer.proofs.Outputs.{text_is}
+use Rattle.net_simplify.proofs.Itself.{values_itself, shows_itself}
+use Rattle.gate_computer.proofs.Outputs.{text_is, text_same}
 use Rattle.gate_computer.proofs.Own.{key_inputs, wires_of, readable, rom_room}
 
 -- ---- lists side by side
@@ -85,25 +86,7 @@ pub record Ran (whole net : Net) (full w : Wiring) (wired : IsWired whole full) 
   pub screen : w.screen ≡ full.screen
   pub lines : (parts : List WiredPart) → w.parts ≡ Some parts → (c : ℕ) → wired_text (λ k. u k c) parts ≡ parts_text (wires_of whole full wired v) c wired.pins.places
 
-ran_whole : (whole : Net) (full : Wiring) (wired : IsWired whole full) (image : List ℕ) (keys : ℕ → ℕ) → AreOrdered whole.nodes whole.blocks → Ran whole whole full full wired image keys
-ran_whole whole full wired image keys ordered =
-    let v = values_of whole ordered (key_inputs full image keys) in
-    record {
-      v = v.0;
-      are = v.1;
-      u = v.0;
-      own = v.1;
-      pc = λ c. refl;
-      a = λ c. refl;
-      words = λ c b x. refl;
-      main = refl;
-      screen = refl;
-      lines = λ parts is c.
-          ap (wired_text (λ k. v.0 k c)) (same_Some parts (map (part_at wired.at) wired.pins.places) (sym is ∙ wired.pins.parts))
-          ∙ text_is v.0 c wired.at wired.pins.places;
-    }
-
--- ---- a netlist that is simplified
+-- ---- what reads as the netlist of the Computer
 
 -- the nodes that are kept are there
 pub kept_there : (net : Net) (w : Wiring) → IsWired net w → All (λ k. k < length net.nodes) (kept_nodes w)
@@ -114,7 +97,7 @@ kept_there net w wired =
     (All-weaker (λ k. slice_get net.nodes k ≡ Some Pin) Q (λ k e. slice_get_within net.nodes k Pin e) w.keyboard r.keyboard)
     (All-append Q w.pc w.a r.nodes.pc r.nodes.a)
 
-module _ (whole net : Net) (full w : Wiring) (wired : IsWired whole full) (s : IsSimpleOf whole full net w) where
+module _ (whole net : Net) (full w : Wiring) (wired : IsWired whole full) (s : ReadsAs whole full net w) where
   sides : (P : ℕ → ℕ → Type 0) → AreSide P (kept_nodes full) (kept_nodes w) → AreSide P full.keyboard w.keyboard × AreSide P full.pc w.pc × AreSide P full.a w.a
   sides P h =
       let one = split P full.keyboard (full.pc ++ full.a) w.keyboard (w.pc ++ w.a) s.keyboard h in
@@ -122,14 +105,14 @@ module _ (whole net : Net) (full w : Wiring) (wired : IsWired whole full) (s : I
       (one.0, two.0, two.1)
 
   there : AreSide (λ k l. l < length net.nodes) full.keyboard w.keyboard × AreSide (λ k l. l < length net.nodes) full.pc w.pc × AreSide (λ k l. l < length net.nodes) full.a w.a
-  there = sides (λ k l. l < length net.nodes) (λ i less. s.simplified.same.inside i less)
+  there = sides (λ k l. l < length net.nodes) (λ i less. s.same.inside i less)
 
   key_was : (i : ℕ) → i < length full.keyboard → slice_get whole.nodes (slice_index full.keyboard i) ≡ Some Pin
   key_was i less = (readable whole full wired).keyboard i 0 less
 
   key_pin : (i : ℕ) → i < length full.keyboard → IsPinOf whole net (slice_index full.keyboard i) (slice_index w.keyboard i)
   key_pin i less =
-      (sides (λ k l. slice_get whole.nodes k ≡ Some Pin → IsPinOf whole net k l) (λ j near. s.simplified.same.kept_pins j near)).0 i less (key_was i less)
+      (sides (λ k l. slice_get whole.nodes k ≡ Some Pin → IsPinOf whole net k l) (λ j near. s.same.kept_pins j near)).0 i less (key_was i less)
 
   apart_too : Apart w.keyboard
   apart_too j k less near e =
@@ -143,10 +126,14 @@ module _ (whole net : Net) (full w : Wiring) (wired : IsWired whole full) (s : I
   block_too : (P : ℕ → Type 0) (b b' : ℕ) → b' ≡ b → MatchOption (slice_get whole.blocks b) ⊥ (λ k. P k.words) → MatchOption (slice_get net.blocks b') ⊥ (λ k. P k.words)
   block_too P b b' e h =
       subst (λ x. MatchOption (slice_get net.blocks x) ⊥ (λ k. P k.words)) (sym e)
-      (room_too P (slice_get whole.blocks b) (slice_get net.blocks b) (s.simplified.same.blocks b) h)
+      (room_too P (slice_get whole.blocks b) (slice_get net.blocks b) (s.same.blocks b) h)
 
-  readable_simple : IsReadable net w
-  readable_simple =
+  -- the whole one has these parts
+  has_parts : (parts : List WiredPart) → w.parts ≡ Some parts → full.parts ≡ Some parts
+  has_parts parts is = sym (ap (λ (x : Wiring). x.parts) (s.parts parts is).1) ∙ is
+
+  read_as : IsReadable net w
+  read_as =
       let r = readable whole full wired in
       record {
         keyboard = all_second (λ l. slice_get net.nodes l ≡ Some Pin) full.keyboard w.keyboard s.keyboard (λ i less. (key_pin i less).0);
@@ -157,14 +144,14 @@ module _ (whole net : Net) (full w : Wiring) (wired : IsWired whole full) (s : I
         nodes = record {
           pc = all_second (λ l. l < length net.nodes) full.pc w.pc s.pc there.1;
           a = all_second (λ l. l < length net.nodes) full.a w.a s.a there.2;
-          outputs = λ parts is. absurd (let none = s.parts in let no : ⊥ = cc in no);
+          outputs = λ parts is i part at. let p = s.parts parts is in subst (λ (m : Net). All (λ k. k < length m.nodes) part.outputs) (sym p.0) (r.nodes.outputs parts (has_parts parts is) i part at);
         };
         main = λ a less. block_too (λ n. a < n) full.main w.main s.main (r.main a less);
         screen = λ a less. block_too (λ n. a < n) full.screen w.screen s.screen (r.screen a less);
       }
 
-  room_simple : (n : ℕ) → n ≤ 32768 → MatchOption (slice_get net.blocks w.rom) ⊥ (λ b. 0 + n ≤ b.words)
-  room_simple n le = block_too (λ m. 0 + n ≤ m) full.rom w.rom s.rom (rom_room whole full wired n le)
+  room_as : (n : ℕ) → n ≤ 32768 → MatchOption (slice_get net.blocks w.rom) ⊥ (λ b. 0 + n ≤ b.words)
+  room_as n le = block_too (λ m. 0 + n ≤ m) full.rom w.rom s.rom (rom_room whole full wired n le)
 
   module _ (image : List ℕ) (keys : ℕ → ℕ) where
     hear_alike : (n : ℕ) → HearAlike whole net n (key_inputs full image keys).pin (key_inputs w image keys).pin
@@ -188,9 +175,9 @@ module _ (whole net : Net) (full w : Wiring) (wired : IsWired whole full) (s : I
     hear : (n : ℕ) → HearSame whole net n (key_inputs full image keys) (key_inputs w image keys)
     hear n = record { pins = hear_alike n; loaded = λ b a. ap (λ r. after_load r 0 image b a 0) (sym s.rom) }
 
-    ran_simple : AreOrdered whole.nodes whole.blocks → AreOrdered net.nodes net.blocks → Ran whole net full w wired image keys
-    ran_simple ordered own_ordered =
-        let same = s.simplified.same in
+    ran_as : AreOrdered whole.nodes whole.blocks → AreOrdered net.nodes net.blocks → Ran whole net full w wired image keys
+    ran_as ordered own_ordered =
+        let same = s.same in
         let h = key_inputs full image keys in
         let g = key_inputs w image keys in
         let v = values_of whole ordered h in
@@ -207,44 +194,56 @@ module _ (whole net : Net) (full w : Wiring) (wired : IsWired whole full) (s : I
           words = λ c b x. sym (same.words h g c (hear c) v.0 u.0 (v.1 c) (u.1 c) c b x (omega arith));
           main = s.main;
           screen = s.screen;
-          lines = λ parts is c. absurd (let none = s.parts in let no : ⊥ = cc in no);
+          lines = λ parts is c.
+              let p = s.parts parts is in
+              text_same (λ k. u.0 k c) (λ k. v.0 k c) (length whole.nodes) parts
+              (λ k less.
+              sym (values_itself whole ordered h g (suc c) (subst (λ m. HearSame whole m (suc c) h g) p.0 (hear (suc c))) v.0 u.0 (v.1 (suc c)) (subst (λ m. AreValues m g (suc c) u.0) p.0 (u.1 (suc c))) k c (omega arith) less))
+              ((readable whole full wired).nodes.outputs parts (has_parts parts is))
+              ∙ ap (wired_text (λ k. v.0 k c)) (same_Some parts (map (part_at wired.at) wired.pins.places) (sym (has_parts parts is) ∙ wired.pins.parts))
+              ∙ text_is v.0 c wired.at wired.pins.places;
         }
 
--- ---- a netlist whose wiring lists no parts
+-- ---- the netlists that read as that of the Computer
 
--- It is simplified, since the wiring of the Computer's own lists them.
-simple_of : (net : Net) (w : Wiring) → ShowsComputer net w → w.parts ≡ None → IsSimpleComputer net w
-simple_of net w seen none = elim seen.shown [
-  | inl (e, f) ↦ absurd (let told = sym none ∙ ap (λ (x : Wiring). x.parts) f ∙ seen.wired.pins.parts in let no : ⊥ = cc in no)
-  | inr s ↦ record { whole = seen.whole; full = seen.full; wired = seen.wired; simple = s }
-]
+pub whole_reads : (whole : Net) (full : Wiring) → IsWired whole full → AreOrdered whole.nodes whole.blocks → ReadsAs whole full whole full
+whole_reads whole full wired ordered = record {
+  ordered = ordered;
+  same = shows_itself whole (kept_nodes full) ordered (kept_there whole full wired);
+  keyboard = refl;
+  pc = refl;
+  a = refl;
+  rom = refl;
+  main = refl;
+  screen = refl;
+  parts = λ parts is. (refl, refl);
+}
 
-pub begins_simple : {E : Type 0} (simplify : Bool) (w : Wiring) (r : Result GateMachine E) → (simplify ≡ true → w.parts ≡ None) → IfOk r (λ g. HasFollowed g [])
-    → IfOk r (λ g. g.wiring ≡ w) → IfOk r (λ g. simplify ≡ true → IsSimpleComputer g.sim.net g.wiring)
-begins_simple simplify w (Ok g) none stands same = λ asked. simple_of g.sim.net g.wiring stands.told.seen (ap (λ (x : Wiring). x.parts) same ∙ none asked)
-begins_simple simplify w (Err x) none stands same = tt
+pub simple_reads : (whole net : Net) (full w : Wiring) → IsSimpleOf whole full net w → AreOrdered net.nodes net.blocks → ReadsAs whole full net w
+simple_reads whole net full w s ordered = record {
+  ordered = ordered;
+  same = s.simplified.same;
+  keyboard = s.keyboard;
+  pc = s.pc;
+  a = s.a;
+  rom = s.rom;
+  main = s.main;
+  screen = s.screen;
+  parts = λ parts is. absurd (let none = s.parts in let no : ⊥ = cc in no);
+}
+
+pub begins_simple : {E : Type 0} (simplify : Bool) (net : Net) (w : Wiring) (r : Result GateMachine E) → (simplify ≡ true → IsSimpleComputer net w) → IfOk r (λ g. g.sim.net ≡ net) → IfOk r (λ g. g.wiring ≡ w) → IfOk r (λ g. simplify ≡ true → IsSimpleComputer g.sim.net g.wiring)
+begins_simple simplify net w (Ok g) simple is same = λ asked. subst (λ m. IsSimpleComputer m g.wiring) (sym is) (subst (IsSimpleComputer net) (sym same) (simple asked))
+begins_simple simplify net w (Err x) simple is same = tt
 
 -- ---- a netlist that shows the Computer
 
 module _ (net : Net) (w : Wiring) (seen : ShowsComputer net w) where
   pub readable_of : IsReadable net w
-  readable_of = elim seen.shown [
-    | inl (e, f) ↦ subst (λ m. IsReadable m w) (sym e) (subst (λ x. IsReadable seen.whole x) (sym f) (readable seen.whole seen.full seen.wired))
-    | inr s ↦ readable_simple seen.whole net seen.full w seen.wired s
-  ]
+  readable_of = read_as seen.whole net seen.full w seen.wired seen.shown
 
   pub room_of : (n : ℕ) → n ≤ 32768 → MatchOption (slice_get net.blocks w.rom) ⊥ (λ b. 0 + n ≤ b.words)
-  room_of n le = elim seen.shown [
-    | inl (e, f) ↦
-        let P : Net → Wiring → Type 0 = λ m x. MatchOption (slice_get m.blocks x.rom) ⊥ (λ b. 0 + n ≤ b.words) in
-        subst (λ m. P m w) (sym e) (subst (λ x. P seen.whole x) (sym f) (rom_room seen.whole seen.full seen.wired n le))
-    | inr s ↦ room_simple seen.whole net seen.full w seen.wired s n le
-  ]
+  room_of n le = room_as seen.whole net seen.full w seen.wired seen.shown n le
 
   pub ran : (image : List ℕ) (keys : ℕ → ℕ) → AreOrdered net.nodes net.blocks → Ran seen.whole net seen.full w seen.wired image keys
-  ran image keys ordered = elim seen.shown [
-    | inl (e, f) ↦
-        subst (λ m. Ran seen.whole m seen.full w seen.wired image keys) (sym e)
-        (subst (λ x. Ran seen.whole seen.whole seen.full x seen.wired image keys) (sym f) (ran_whole seen.whole seen.full seen.wired image keys seen.ordered))
-    | inr s ↦ ran_simple seen.whole net seen.full w seen.wired s image keys seen.ordered ordered
-  ]
+  ran image keys ordered = ran_as seen.whole net seen.full w seen.wired seen.shown image keys seen.ordered ordered

@@ -8,7 +8,7 @@ use Rattle.hdl_tree.specs.declared.tree.Part.{Part}
 use Rattle.hdl_tree.specs.declared.library.Entry.{Entry}
 use Rattle.hdl_tree.specs.Chips.{Chips, find_chip, parts_of}
 use Rattle.hdl_tree.specs.Writable.{all}
-use Rattle.hdl_check.specs.Tables.{find_value}
+use Rattle.name_table.specs.Names.{find_value}
 use Rattle.hdl_flatten.specs.Trees.{PartIn, within, AreListed, none, next, IsTree}
 use Rattle.gate_computer.specs.Computer.{chips, computer}
 use Rattle.hack_cpu.specs.Library.{shipped_chips}

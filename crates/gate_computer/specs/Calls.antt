@@ -36,5 +36,5 @@ pub record WasTold (sim : SimState) (w : Wiring) (image : List ℕ) (key : ℕ) 
   pub key_word : IsKey key
   pub calls : List Call
   pub stands : StandsFor sim calls
-  pub held : HoldsKey w.keyboard key (pins_of calls)
+  pub held : HoldsKey w.keyboard key (pins_of sim.net.nodes calls)
   pub runs : (keys : ℕ → ℕ) (h : Inputs) → HoldsKeys keys 0 turns → ComesIn w image keys (length turns) h → Runs sim.net h (length turns) calls

@@ -86,6 +86,7 @@ impl GateComputer {
         ensures moves { IfOk result (λ g. g.moves ≡ 0) }
         ensures stands { IfOk result (λ g. HasFollowed g []) }
         ensures wiring { IfOk result (λ g. g.wiring ≡ wired.wiring) }
+        ensures net { IfOk result (λ g. g.sim.net ≡ wired.net) }
     {
         let Image { words, map } = image;
         let WiredComputer { net, wiring } = wired;
@@ -112,6 +113,7 @@ impl GateComputer {
         ensures moves { self.new.moves ≡ self.old.moves + 1 }
         ensures stands { (turns : List Turn) → HasFollowed self.old turns → HasFollowed self.new (turns ++ turn key Acted ∷ []) }
         ensures wiring { self.new.wiring ≡ self.old.wiring }
+        ensures net { self.new.sim.net ≡ self.old.sim.net }
     {
         set_keyboard(
             &mut self.sim,

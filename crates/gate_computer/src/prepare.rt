@@ -1,6 +1,6 @@
 //! The Computer made of gates at its start.
 
-ghost use Rattle.std.specs.Prelude.{◌≡◌, [], false, true, IfOk, IsSome, None};
+ghost use Rattle.std.specs.Prelude.{◌≡◌, [], false, true, IfOk, IsSome};
 ghost use Rattle.image_map.specs.Map.{IsMapped};
 ghost use Rattle.gate_computer.specs.Followed.{HasFollowed, image_in};
 ghost use Rattle.gate_computer.specs.Simple.{IsSimpleComputer, ShowsComputer};
@@ -16,7 +16,8 @@ use std::alloc::{AllocError, Global};
 fn computer_for(alloc: Global, simplify: bool) -> Result<WiredComputer, AllocError>
     ensures shows { IfOk result (λ wired. ShowsComputer wired.net wired.wiring) }
     ensures parts { IfOk result (λ wired. simplify ≡ false → IsSome wired.wiring.parts) }
-    ensures simple { IfOk result (λ wired. simplify ≡ true → wired.wiring.parts ≡ None) }
+    ensures simple { IfOk result
+        (λ wired. simplify ≡ true → IsSimpleComputer wired.net wired.wiring) }
 {
     let whole = build_computer(alloc)?;
     if !simplify {

@@ -18,7 +18,7 @@ use word16::{KEYBOARD, bit};
 fn set_pin(sim: &mut Sim, node: u32, old: bool, new: bool)
     requires { slice_get sim.old.net.nodes node ≡ Some Pin }
     ensures net { sim.new.net ≡ sim.old.net }
-    ensures told { (calls : List Call) → StandsFor sim.old calls → pins_of calls node ≡ old → HasSet sim.new calls (ChangesPin calls node new) }
+    ensures told { (calls : List Call) → StandsFor sim.old calls → pins_of sim.old.net.nodes calls node ≡ old → HasSet sim.new calls (ChangesPin sim.old.net.nodes calls node new) }
 {
     if old != new {
         sim.set(node, new);
@@ -31,7 +31,7 @@ pub fn set_keyboard(sim: &mut Sim, keyboard: &[u32], old: u16, key: u16)
     requires wide { length keyboard.now ≡ 16 }
     requires apart { (j k : ℕ) → j < k → k < length keyboard.now → slice_index keyboard.now j ≢ slice_index keyboard.now k }
     ensures net { sim.new.net ≡ sim.old.net }
-    ensures told { (calls : List Call) → StandsFor sim.old calls → HoldsKey keyboard.now old (pins_of calls) → HasSet sim.new calls (HoldsKey keyboard.now key) }
+    ensures told { (calls : List Call) → StandsFor sim.old calls → HoldsKey keyboard.now old (pins_of sim.old.net.nodes calls) → HasSet sim.new calls (HoldsKey keyboard.now key) }
 {
     for k in 0..keyboard.len() {
         set_pin(sim, keyboard[k], bit(old, k as u16), bit(key, k as u16));

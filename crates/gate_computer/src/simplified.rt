@@ -61,6 +61,7 @@ pub(crate) fn simple_shows(whole: &WiredComputer, simple: &WiredComputer)
     ensures { ShowsComputer simple.now.net simple.now.wiring }
 {
     let _ = whole.net.nodes();
+    let _ = simple.net.nodes();
 }
 
 /// The netlist of the Computer itself shows it.

@@ -9,7 +9,8 @@ pub mod MachineNames
 pub mod Standings
 pub mod Moves
 pub mod Memories
-pub mod Moved
+pub mod Alike
 pub mod Placed
+pub mod Reading
 pub mod Keeping
 pub mod Named

@@ -29,7 +29,7 @@ fits_of c = on_chip c (λ d. FitsNet (chip_of c).net (chip_of c).directory) (λ 
 -- ---- set
 
 set_told : (c now : DrivenChip) (text : List ℕ) (word : ℕ) (calls : List Call) → chip_of now ≡ chip_of c → FitsNet (chip_of c).net (chip_of c).directory → IsEvaluated calls → (b : Bool) → SetsChip (chip_of c) calls now text word b → TellsSet (Chip (chip_of c) calls) (held.Chip now) text word b
-set_told c now text word calls e fits evaluated true s = (OfChip s.0, s.1, (sym e, s.2, fits, still_evaluated s.0 word calls evaluated))
+set_told c now text word calls e fits evaluated true s = (OfChip s.0, s.1, (sym e, s.2, fits, still_evaluated (chip_of c).net.nodes s.0 word calls evaluated))
 set_told c now text word calls e fits evaluated false s = (s.0, (sym e, s.1, fits, evaluated))
 
 pub chip_set : (c now : DrivenChip) (text : List ℕ) (word : ℕ) (b : Bool) → chip_of now ≡ chip_of c → ((calls : List Call) → IsDriven c calls → SetsChip (chip_of c) calls now text word b) → (d : Device) → Stands (held.Chip c) d → TellsSet d (held.Chip now) text word b

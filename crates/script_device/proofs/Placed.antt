@@ -8,6 +8,7 @@ use Rattle.netlist.specs.declared.node.Node.TheVariants.{Pin}
 use Rattle.netlist.specs.declared.node.Block.{Block}
 use Rattle.netlist.specs.Net.{Net}
 use Rattle.netlist.specs.Present.{value_in}
+use Rattle.netlist.specs.Histories.{rank}
 use Rattle.net_simplify.specs.Same.{shape}
 use Rattle.gate_sim.specs.Calls.{Call, cycle_of, evaluated_calls}
 use Rattle.gate_sim.specs.Calls.Call.{Load, Set, Eval, Tick, Tock}
@@ -16,32 +17,15 @@ use Rattle.gate_sim.specs.Stands.{StandsFor}
 use Rattle.gate_sim.specs.Values.{ArePast, AreValues, words_of}
 use Rattle.gate_sim.proofs.Exist.{values_of}
 use Rattle.script_device.specs.declared.chip_sim.WholeNet.{WholeNet}
-use Rattle.script_device.specs.Moved.{moved_calls, SetsOnly}
 use Rattle.script_device.specs.Simulated.{ChipState, IsPlaced, IsSeen, StandsIn, can_read, WasTold, net_of, place_in, stored_at, whole_net}
-use Rattle.script_device.proofs.Moved.{IsKept, IsKeptPin, kept_alike, kept_pin, kept_words, moved_cycle, sets_weaker}
+use Rattle.script_device.proofs.Alike.{IsKept, kept_alike, kept_pin, kept_words}
 use Rattle.script_device.proofs.Keeping.{among_contains}
 use Rattle.script_device.proofs.Told.{past_now}
 
 -- ---- calls
 
-moved_none : (calls : List Call) → moved_calls (λ k. k) calls ≡ calls
-moved_none [] = refl
-moved_none (Load block from words ∷ calls) = ap (λ (l : List Call). Load block from words ∷ l) (moved_none calls)
-moved_none (Set node bit ∷ calls) = ap (λ (l : List Call). Set node bit ∷ l) (moved_none calls)
-moved_none (Eval ∷ calls) = ap (λ (l : List Call). Eval ∷ l) (moved_none calls)
-moved_none (Tick ∷ calls) = ap (λ (l : List Call). Tick ∷ l) (moved_none calls)
-moved_none (Tock ∷ calls) = ap (λ (l : List Call). Tock ∷ l) (moved_none calls)
-
 same_some : (x y : List Call) → Some x ≡ Some y → x ≡ y
 same_some x y e = cc
-
-moved_evaluated : (place : ℕ → ℕ) (calls told : List Call) → evaluated_calls calls ≡ Some told → evaluated_calls (moved_calls place calls) ≡ Some (moved_calls place told)
-moved_evaluated place [] told e = absurd cc
-moved_evaluated place (Load block from words ∷ calls) told e = moved_evaluated place calls told e
-moved_evaluated place (Set node bit ∷ calls) told e = moved_evaluated place calls told e
-moved_evaluated place (Eval ∷ calls) told e = ap (λ (l : List Call). Some (moved_calls place l)) (same_some (Eval ∷ calls) told e)
-moved_evaluated place (Tick ∷ calls) told e = ap (λ (l : List Call). Some (moved_calls place l)) (same_some (Tick ∷ calls) told e)
-moved_evaluated place (Tock ∷ calls) told e = ap (λ (l : List Call). Some (moved_calls place l)) (same_some (Tock ∷ calls) told e)
 
 -- after the last evaluation no cycle is over
 told_cycle : (calls told : List Call) → evaluated_calls calls ≡ Some told → cycle_of calls ≡ cycle_of told
@@ -51,14 +35,6 @@ told_cycle (Set node bit ∷ calls) told e = told_cycle calls told e
 told_cycle (Eval ∷ calls) told e = ap cycle_of (same_some (Eval ∷ calls) told e)
 told_cycle (Tick ∷ calls) told e = ap cycle_of (same_some (Tick ∷ calls) told e)
 told_cycle (Tock ∷ calls) told e = ap cycle_of (same_some (Tock ∷ calls) told e)
-
-sets_told : (P : ℕ → Type 0) (calls told : List Call) → evaluated_calls calls ≡ Some told → SetsOnly P calls → SetsOnly P told
-sets_told P [] told e h = absurd cc
-sets_told P (Load block from words ∷ calls) told e h = sets_told P calls told e h
-sets_told P (Set node bit ∷ calls) told e h = sets_told P calls told e h.1
-sets_told P (Eval ∷ calls) told e h = subst (SetsOnly P) (same_some (Eval ∷ calls) told e) h
-sets_told P (Tick ∷ calls) told e h = subst (SetsOnly P) (same_some (Tick ∷ calls) told e) h
-sets_told P (Tock ∷ calls) told e h = subst (SetsOnly P) (same_some (Tock ∷ calls) told e) h
 
 -- ---- blocks of one shape
 
@@ -84,14 +60,11 @@ module _ (whole : WholeNet) (net : Net) (p : IsPlaced whole net) where
   abbrev IsKeptNode : ℕ → Type 0
   IsKeptNode = IsKept whole.net net whole.kept.items p.place at p.ordered p.folded p.at
 
-  abbrev IsPinKept : ℕ → Type 0
-  IsPinKept = IsKeptPin whole.net net whole.kept.items p.place at p.ordered p.folded p.at
-
-  kept_of : (k : ℕ) → Contains whole.kept.items k → IsKeptNode k
+  pub kept_of : (k : ℕ) → Contains whole.kept.items k → IsKeptNode k
   kept_of k (i, less, e) = (i, less, get_or_default whole.kept.items i 0 k less ∙ e)
 
-  pin_kept : (k : ℕ) → slice_get whole.net.nodes k ≡ Some Pin → IsPinKept k
-  pin_kept k pin = (kept_of k (p.pins k pin), pin)
+  pub pin_kept : (k : ℕ) → slice_get whole.net.nodes k ≡ Some Pin → (slice_get net.nodes (at k) ≡ Some Pin) × (rank whole.net.nodes k ≡ rank net.nodes (at k))
+  pin_kept k pin = kept_pin whole.net net whole.kept.items p.place at p.ordered p.folded p.at k (kept_of k (p.pins k pin)) pin
 
   within : (k : ℕ) → IsKeptNode k → k < length whole.net.nodes
   within k (i, less, e) = subst (λ n. n < length whole.net.nodes) e (p.inside i 0 less)
@@ -100,68 +73,59 @@ module _ (whole : WholeNet) (net : Net) (p : IsPlaced whole net) where
   inside_too k (i, less, e) =
       subst (λ n. n < length net.nodes) (sym (p.at i less) ∙ ap at e) (p.simplified.same.inside i less)
 
-  pins_kept : (calls : List Call) → SetsOnly (λ k. slice_get whole.net.nodes k ≡ Some Pin) calls → SetsOnly IsPinKept calls
-  pins_kept calls h = sets_weaker (λ k. slice_get whole.net.nodes k ≡ Some Pin) IsPinKept pin_kept calls h
-
-  module _ (sim : SimState) (same : sim.net ≡ net) (calls told : List Call) (v : ℕ → ℕ → Bool) (stands : StandsFor sim (moved_calls at calls)) (sets : SetsOnly (λ k. slice_get whole.net.nodes k ≡ Some Pin) calls)
-      (last : evaluated_calls calls ≡ Some told) (are : AreValues whole.net told v) where
-    own : (u : ℕ → ℕ → Bool) × AreValues net (moved_calls at told) u
-    own = values_of net p.own_ordered (moved_calls at told)
-
-    told_sets : SetsOnly IsPinKept told
-    told_sets = sets_told IsPinKept calls told last (pins_kept calls sets)
+  module _ (sim : SimState) (same : sim.net ≡ net) (calls told : List Call) (v : ℕ → ℕ → Bool) (stands : StandsFor sim calls) (last : evaluated_calls calls ≡ Some told) (are : AreValues whole.net told v) where
+    own : (u : ℕ → ℕ → Bool) × AreValues net told u
+    own = values_of net p.own_ordered told
 
     node_value : (k : ℕ) → IsKeptNode k → value_in sim.values (at k) ≡ v k (cycle_of told)
     node_value k kept =
-        stands.values (moved_calls at told) (moved_evaluated at calls told last) own.0 (subst (λ n. AreValues n (moved_calls at told) own.0) (sym same) own.1) (at k)
+        stands.values told last own.0 (subst (λ n. AreValues n told own.0) (sym same) own.1) (at k)
         (subst (λ (n : Net). at k < length n.nodes) (sym same) (inside_too k kept))
-        ∙ ap (own.0 (at k)) (moved_cycle at told)
-        ∙ sym (kept_alike whole.net net whole.kept.items p.place at p.ordered p.folded p.at told told_sets v own.0 are own.1 k kept (within k kept))
+        ∙ sym (kept_alike whole.net net whole.kept.items p.place at p.ordered p.folded p.at told v own.0 are own.1 k kept (within k kept))
 
-    own_past : ArePast sim.net (moved_calls at calls) (cycle_of (moved_calls at calls)) own.0
-    own_past =
-        subst (λ n. ArePast n (moved_calls at calls) (cycle_of (moved_calls at calls)) own.0) (sym same)
-        (past_now net (moved_calls at calls) (moved_calls at told) own.0 (moved_evaluated at calls told last) own.1.0)
+    own_past : ArePast sim.net calls (cycle_of calls) own.0
+    own_past = subst (λ n. ArePast n calls (cycle_of calls) own.0) (sym same) (past_now net calls told own.0 last own.1.0)
 
-    words_too : (b a : ℕ) → words_of sim.net.blocks own.0 (moved_calls at calls) b a ≡ words_of whole.net.blocks v calls b a
+    words_too : (b a : ℕ) → words_of sim.net.blocks own.0 calls b a ≡ words_of whole.net.blocks v calls b a
     words_too b a =
-        ap (λ (n : Net). words_of n.blocks own.0 (moved_calls at calls) b a) same
-        ∙ sym (kept_words whole.net net whole.kept.items p.place at p.ordered p.folded p.at told told_sets calls (pins_kept calls sets) (told_cycle calls told last) v own.0 are own.1 b a)
+        ap (λ (n : Net). words_of n.blocks own.0 calls b a) same
+        ∙ sym (kept_words whole.net net whole.kept.items p.place at p.ordered p.folded p.at told calls (told_cycle calls told last) v own.0 are own.1 b a)
 
 -- ---- a simulator of a chip
 
 abbrev pub state_of : SimState → Option WholeNet → ChipState
 state_of sim whole = record { sim = sim; frame = record { whole = whole; net = sim.net } }
 
-is_pin : (whole : Option WholeNet) (net : Net) → StandsIn whole net → (k : ℕ) → slice_get (whole_net whole net).nodes k ≡ Some Pin → slice_get net.nodes (place_in whole k) ≡ Some Pin
-is_pin None net p k e = e
-is_pin (Some whole) net p k e = kept_pin whole.net net whole.kept.items p.place (slice_index whole.places.items) p.ordered p.folded p.at k (pin_kept whole net p k e)
+pin_at : (whole : Option WholeNet) (net : Net) → StandsIn whole net → (k : ℕ) → slice_get (whole_net whole net).nodes k ≡ Some Pin
+    → (slice_get net.nodes (place_in whole k) ≡ Some Pin) × (rank (whole_net whole net).nodes k ≡ rank net.nodes (place_in whole k))
+pin_at None net p k e = (e, refl)
+pin_at (Some whole) net p k e = pin_kept whole net p k e
 
 is_inside : (whole : Option WholeNet) (net : Net) → StandsIn whole net → (k : ℕ) → can_read whole net k ≡ true → place_in whole k < length net.nodes
 is_inside None net p k seen = ltb-true k (length net.nodes) seen
 is_inside (Some whole) net p k seen = inside_too whole net p k (kept_of whole net p k (among_contains whole.kept.items k seen))
 
-seen_in : (sim : SimState) (whole : Option WholeNet) → StandsIn whole sim.net → (calls told : List Call) (v : ℕ → ℕ → Bool) → StandsFor sim (moved_calls (place_in whole) calls)
-    → SetsOnly (λ k. slice_get (whole_net whole sim.net).nodes k ≡ Some Pin) calls → evaluated_calls calls ≡ Some told → AreValues (whole_net whole sim.net) told v
+seen_in : (sim : SimState) (whole : Option WholeNet) → StandsIn whole sim.net → (calls told : List Call) (v : ℕ → ℕ → Bool) → StandsFor sim calls
+    → evaluated_calls calls ≡ Some told → AreValues (whole_net whole sim.net) told v
     → (k : ℕ) → can_read whole sim.net k ≡ true → value_in sim.values (place_in whole k) ≡ v k (cycle_of told)
-seen_in sim None p calls told v stands sets last are k seen = (subst (StandsFor sim) (moved_none calls) stands).values told last v are k (ltb-true k (length sim.net.nodes) seen)
-seen_in sim (Some whole) p calls told v stands sets last are k seen = node_value whole sim.net p sim refl calls told v stands sets last are k (kept_of whole sim.net p k (among_contains whole.kept.items k seen))
+seen_in sim None p calls told v stands last are k seen = stands.values told last v are k (ltb-true k (length sim.net.nodes) seen)
+seen_in sim (Some whole) p calls told v stands last are k seen = node_value whole sim.net p sim refl calls told v stands last are k (kept_of whole sim.net p k (among_contains whole.kept.items k seen))
 
 -- what it stores shows the values
 abbrev Shows : ChipState → Type 0
 Shows s = (calls told : List Call) (v : ℕ → ℕ → Bool) → WasTold s calls → evaluated_calls calls ≡ Some told → AreValues (net_of s.frame) told v → (k : ℕ) → IsSeen s.frame k → stored_at s k ≡ v k (cycle_of told)
 
 pub value_seen : (s : ChipState) (sim : SimState) (whole : Option WholeNet) → state_of sim whole ≡ s → StandsIn whole sim.net → Shows s
-value_seen s sim whole view p = subst Shows view (λ calls told v was last are k seen. seen_in sim whole p calls told v was.stands was.pins last are k seen)
+value_seen s sim whole view p = subst Shows view (λ calls told v was last are k seen. seen_in sim whole p calls told v was last are k seen)
 
-word_in : (sim : SimState) (whole : Option WholeNet) → StandsIn whole sim.net → (calls told : List Call) (v : ℕ → ℕ → Bool) → StandsFor sim (moved_calls (place_in whole) calls)
-    → SetsOnly (λ k. slice_get (whole_net whole sim.net).nodes k ≡ Some Pin) calls → evaluated_calls calls ≡ Some told → AreValues (whole_net whole sim.net) told v → (b a word : ℕ)
+word_in : (sim : SimState) (whole : Option WholeNet) → StandsIn whole sim.net → (calls told : List Call) (v : ℕ → ℕ → Bool) → StandsFor sim calls
+    → evaluated_calls calls ≡ Some told → AreValues (whole_net whole sim.net) told v → (b a word : ℕ)
     → ((calls' : List Call) (u : ℕ → ℕ → Bool) → StandsFor sim calls' → ArePast sim.net calls' (cycle_of calls') u → word ≡ words_of sim.net.blocks u calls' b a)
     → word ≡ words_of (whole_net whole sim.net).blocks v calls b a
-word_in sim None p calls told v stands sets last are b a word by = by calls v (subst (StandsFor sim) (moved_none calls) stands) (past_now sim.net calls told v last are.0)
-word_in sim (Some whole) p calls told v stands sets last are b a word by =
-    by (moved_calls (slice_index whole.places.items) calls) (own whole sim.net p sim refl calls told v stands sets last are).0 stands (own_past whole sim.net p sim refl calls told v stands sets last are)
-    ∙ words_too whole sim.net p sim refl calls told v stands sets last are b a
+word_in sim None p calls told v stands last are b a word by = by calls v stands (past_now sim.net calls told v last are.0)
+word_in sim (Some whole) p calls told v stands last are b a word by =
+    by calls (own whole sim.net p sim refl calls told v stands last are).0 stands (own_past whole sim.net p sim refl calls told v stands last are)
+    ∙ words_too whole sim.net p sim refl calls told v stands last are b a
 
 -- the word is what stands in the block
 abbrev ShowsWord : ℕ → ℕ → ℕ → ChipState → Type 0
@@ -171,7 +135,7 @@ pub word_seen : (s : ChipState) (sim : SimState) (whole : Option WholeNet) → s
     → ((calls' : List Call) (u : ℕ → ℕ → Bool) → StandsFor sim calls' → ArePast sim.net calls' (cycle_of calls') u → word ≡ words_of sim.net.blocks u calls' b a)
     → ShowsWord b a word s
 word_seen s sim whole view p b a word by =
-    subst (ShowsWord b a word) view (λ calls told v was last are. word_in sim whole p calls told v was.stands was.pins last are b a word by)
+    subst (ShowsWord b a word) view (λ calls told v was last are. word_in sim whole p calls told v was last are b a word by)
 
 abbrev HasValues : ChipState → Type 0
 HasValues s = (calls : List Call) → (v : ℕ → ℕ → Bool) × AreValues (net_of s.frame) calls v
@@ -192,27 +156,12 @@ module _ (s : ChipState) (sim : SimState) (whole : Option WholeNet) (view : stat
   pub seen_inside : (k : ℕ) → IsSeen s.frame k → place_in whole k < length sim.net.nodes
   seen_inside k seen = is_inside whole sim.net p k (subst (λ (x : ChipState). IsSeen x.frame k) (sym view) seen)
 
-  pub pin_inside : (k : ℕ) → slice_get (net_of s.frame).nodes k ≡ Some Pin → slice_get sim.net.nodes (place_in whole k) ≡ Some Pin
-  pin_inside k pin = is_pin whole sim.net p k (subst (λ (x : ChipState). slice_get (net_of x.frame).nodes k ≡ Some Pin) (sym view) pin)
+  pub pin_inside : (k : ℕ) → slice_get (net_of s.frame).nodes k ≡ Some Pin → (slice_get sim.net.nodes (place_in whole k) ≡ Some Pin) × (rank (net_of s.frame).nodes k ≡ rank sim.net.nodes (place_in whole k))
+  pin_inside k pin =
+      let there = pin_at whole sim.net p k (subst (λ (x : ChipState). slice_get (net_of x.frame).nodes k ≡ Some Pin) (sym view) pin) in
+      (there.0, subst (λ (x : ChipState). rank (net_of x.frame).nodes k ≡ rank sim.net.nodes (place_in whole k)) view there.1)
 
 -- ---- a call that leaves the netlist as it was
 
-module _ (s : ChipState) (old new : SimState) (whole : Option WholeNet) (view : state_of old whole ≡ s) (same : new.net ≡ old.net) where
-  abbrev IsInput : ℕ → Type 0
-  IsInput k = slice_get (whole_net whole old.net).nodes k ≡ Some Pin
-
-  pub told_next : (calls next : List Call) → (StandsFor old (moved_calls (place_in whole) calls) → StandsFor new (moved_calls (place_in whole) next)) → (SetsOnly IsInput calls → SetsOnly IsInput next)
-      → WasTold s calls → WasTold (state_of new whole) next
-  told_next calls next goes sets was =
-      let told : WasTold (state_of old whole) calls = subst (λ (x : ChipState). WasTold x calls) (sym view) was in
-      record {
-        stands = goes told.stands;
-        pins = subst (λ (n : Net). SetsOnly (λ k. slice_get (whole_net whole n).nodes k ≡ Some Pin) next) (sym same) (sets told.pins);
-      }
-
-  pub told_set : (node place : ℕ) (bit : Bool) → place ≡ place_in whole node → slice_get (net_of s.frame).nodes node ≡ Some Pin
-      → ((calls : List Call) → StandsFor old calls → StandsFor new (Set place bit ∷ calls)) → (calls : List Call) → WasTold s calls → WasTold (state_of new whole) (Set node bit ∷ calls)
-  told_set node place bit at pin goes calls was =
-      let input : IsInput node = subst (λ (x : ChipState). slice_get (net_of x.frame).nodes node ≡ Some Pin) (sym view) pin in
-      told_next calls (Set node bit ∷ calls)
-      (λ st. subst (λ n. StandsFor new (Set n bit ∷ moved_calls (place_in whole) calls)) at (goes (moved_calls (place_in whole) calls) st)) (λ h. (input, h)) was
+pub told_next : (s : ChipState) (old new : SimState) (whole : Option WholeNet) → state_of old whole ≡ s → (calls next : List Call) → (StandsFor old calls → StandsFor new next) → WasTold s calls → WasTold (state_of new whole) next
+told_next s old new whole view calls next goes was = goes (subst (λ (x : ChipState). WasTold x calls) (sym view) was)

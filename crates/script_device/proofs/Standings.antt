@@ -5,6 +5,8 @@ use Rattle.word16.specs.Words.{has_bit}
 use Rattle.gate_sim.specs.Calls.{Call, evaluated_calls}
 use Rattle.gate_sim.specs.Calls.Call.{Set}
 use Rattle.script_device.specs.declared.chip.DrivenChip.{DrivenChip}
+use Rattle.netlist.specs.declared.node.Node.{Node}
+use Rattle.netlist.specs.Histories.{rank}
 use Rattle.netlist.specs.Net.{Net}
 use Rattle.script_device.specs.declared.directory.Directory.{Directory}
 use Rattle.script_device.specs.Directory.{AreSizes, FitsNet, LoadedChip, loaded_chip}
@@ -56,10 +58,10 @@ settable_as chip calls text found x v e f h = subst (λ y. CanSet (Chip chip cal
 
 -- ---- setting keeps that a chip was evaluated
 
-nodes_evaluated : (k word : ℕ) (nodes : List ℕ) (calls : List Call) → evaluated_calls (set_nodes k word nodes calls) ≡ evaluated_calls calls
-nodes_evaluated k word [] calls = refl
-nodes_evaluated k word (node ∷ nodes) calls = nodes_evaluated (suc k) word nodes (Set node (has_bit word k) ∷ calls)
+nodes_evaluated : (all : List Node) (k word : ℕ) (nodes : List ℕ) (calls : List Call) → evaluated_calls (set_nodes all k word nodes calls) ≡ evaluated_calls calls
+nodes_evaluated all k word [] calls = refl
+nodes_evaluated all k word (node ∷ nodes) calls = nodes_evaluated all (suc k) word nodes (Set (rank all node) (has_bit word k) ∷ calls)
 
-pub still_evaluated : (source : chips.Source) (word : ℕ) (calls : List Call) → IsEvaluated calls → IsEvaluated (set_source source word calls)
-still_evaluated (Nodes nodes) word calls e = (e.0, nodes_evaluated 0 word nodes calls ∙ e.1)
-still_evaluated (BlockWord b a) word calls e = e
+pub still_evaluated : (all : List Node) (source : chips.Source) (word : ℕ) (calls : List Call) → IsEvaluated calls → IsEvaluated (set_source all source word calls)
+still_evaluated all (Nodes nodes) word calls e = (e.0, nodes_evaluated all 0 word nodes calls ∙ e.1)
+still_evaluated all (BlockWord b a) word calls e = e

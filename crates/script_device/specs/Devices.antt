@@ -52,7 +52,7 @@ CanSet (Machine machine) text (OfMachine register) = machines.Means text registe
 abbrev pub after_set : Device → Source → ℕ → Device
 after_set Empty source word = Empty
 after_set (Chip chip calls) TheTime word = Chip chip calls
-after_set (Chip chip calls) (OfChip source) word = Chip chip (set_source source word calls)
+after_set (Chip chip calls) (OfChip source) word = Chip chip (set_source chip.net.nodes source word calls)
 after_set (Chip chip calls) (OfMachine register) word = Chip chip calls
 after_set (Machine machine) TheTime word = Machine machine
 after_set (Machine machine) (OfChip source) word = Machine machine

@@ -1,6 +1,8 @@
 -- What a script does to a chip that is loaded, as calls of its simulator, the newest first, and what it sees of it. (The book, appendix 3.)
 use Rattle.std.specs.Prelude.{◌≡◌, ℕ, suc, Bool, if◌then◌else◌, nat_eq, List, [], ◌∷◌, length, Some}
 use Rattle.word16.specs.Words.{has_bit}
+use Rattle.netlist.specs.declared.node.Node.{Node}
+use Rattle.netlist.specs.Histories.{rank}
 use Rattle.netlist.specs.Value.{spelled_number}
 use Rattle.gate_sim.specs.Calls.{Call, cycle_of, is_ticked, evaluated_calls}
 use Rattle.gate_sim.specs.Calls.Call.{Load, Set}
@@ -13,15 +15,15 @@ use Rattle.script_device.specs.Simulated.{RunsNet, WasTold, net_of}
 use Rattle.script_device.specs.Variables.{Source}
 use Rattle.script_device.specs.Variables.Source.{Nodes, BlockWord}
 
--- the nodes of a bus are set to the bits of a word from bit k on; a bus takes as many as it has nodes
-abbrev pub set_nodes : ℕ → ℕ → List ℕ → List Call → List Call
-set_nodes k word [] calls = calls
-set_nodes k word (node ∷ nodes) calls = set_nodes (suc k) word nodes (Set node (has_bit word k) ∷ calls)
+-- the nodes of a bus, which are pins of these, are set to the bits of a word from bit k on; a bus takes as many as it has nodes
+abbrev pub set_nodes : List Node → ℕ → ℕ → List ℕ → List Call → List Call
+set_nodes all k word [] calls = calls
+set_nodes all k word (node ∷ nodes) calls = set_nodes all (suc k) word nodes (Set (rank all node) (has_bit word k) ∷ calls)
 
--- a variable is set to a word
-abbrev pub set_source : Source → ℕ → List Call → List Call
-set_source (Nodes nodes) word calls = set_nodes 0 word nodes calls
-set_source (BlockWord b a) word calls = Load b a (word ∷ []) ∷ calls
+-- a variable of a chip with these nodes is set to a word
+abbrev pub set_source : List Node → Source → ℕ → List Call → List Call
+set_source all (Nodes nodes) word calls = set_nodes all 0 word nodes calls
+set_source all (BlockWord b a) word calls = Load b a (word ∷ []) ∷ calls
 
 -- what a chip that is driven is: its nodes and blocks, and their names
 abbrev pub chip_of : DrivenChip → LoadedChip

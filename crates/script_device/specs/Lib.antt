@@ -1,6 +1,5 @@
 pub mod Directory
 pub mod Variables
-pub mod Moved
 pub mod Simulated
 pub mod Driven
 pub mod Machines

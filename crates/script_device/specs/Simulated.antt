@@ -1,19 +1,19 @@
 -- A simulator of a chip, whose netlist may be a simplified one: what it got by the nodes of the chip, and which of these can be read. (The book,
 -- chapters 1 to 3.)
-use Rattle.std.specs.Prelude.{◌≡◌, ◌⊎◌, ℕ, ◌<◌, Bool, true, false, ◌||◌, nat_eq, nat_lt, List, [], ◌∷◌, Option, Some, None, MatchOption, length, slice_get, slice_index}
+use Rattle.std.specs.Prelude.{◌≡◌, ◌⊎◌, ℕ, ◌<◌, Bool, true, false, ◌||◌, nat_eq, nat_lt, List, [], ◌∷◌, Option, Some, None, MatchOption, length, map, slice_get, slice_index}
 use Rattle.std.specs.List.{All, Contains}
 use Rattle.netlist.specs.declared.node.Node.{Node}
 use Rattle.netlist.specs.declared.node.Node.TheVariants.{Pin}
 use Rattle.netlist.specs.Net.{Net}
 use Rattle.netlist.specs.Order.{AreOrdered}
 use Rattle.netlist.specs.Present.{value_in}
+use Rattle.net_simplify.specs.Same.{ShowsSame}
 use Rattle.net_simplify.specs.Simplified.{IsSimplified}
 use Rattle.net_simplify.specs.Twice.{IsFoldedTwice}
 use Rattle.gate_sim.specs.Calls.{Call}
 use Rattle.gate_sim.specs.State.{SimState}
 use Rattle.gate_sim.specs.Stands.{StandsFor}
 use Rattle.script_device.specs.declared.chip_sim.WholeNet.{WholeNet}
-use Rattle.script_device.specs.Moved.{moved_calls, SetsOnly}
 
 -- the netlist of its simulator, and the whole one, where that is simplified
 pub record Frame : Type 0 where
@@ -38,10 +38,9 @@ abbrev pub place_in : Option WholeNet → ℕ → ℕ
 place_in None k = k
 place_in (Some whole) k = slice_index whole.places.items k
 
--- It got these calls, each node at its place; pins alone were set.
-pub record WasTold (s : ChipState) (calls : List Call) : Type 0 where
-  pub stands : StandsFor s.sim (moved_calls (place_in s.frame.whole) calls)
-  pub pins : SetsOnly (λ k. slice_get (net_of s.frame).nodes k ≡ Some Pin) calls
+-- It got these calls. The simplified netlist has the pins and blocks of the whole one in the same order, so they are calls of the chip too.
+abbrev pub WasTold : ChipState → List Call → Type 0
+WasTold s calls = StandsFor s.sim calls
 
 -- a node is one of these
 abbrev pub is_among : List ℕ → ℕ → Bool
@@ -55,6 +54,11 @@ can_read (Some whole) net k = is_among whole.kept.items k
 
 abbrev pub IsSeen : Frame → ℕ → Type 0
 IsSeen f k = can_read f.whole f.net k ≡ true
+
+-- The netlist that runs reads as that of the chip. Nodes that can be read show at their places what they show in the chip, and blocks hold the same
+-- words, whatever comes in (`ShowsSame`). So it is of the chip's own netlist, and of a simplified one.
+abbrev pub ReadsAs : Frame → Type 0
+ReadsAs f = (nodes : List ℕ) → All (IsSeen f) nodes → ShowsSame (net_of f) f.net nodes (map (place_in f.whole) nodes)
 
 -- The simulator's netlist is what the simplifier gives for the whole one and the nodes that are kept, all pins among them.
 pub record IsPlaced (whole : WholeNet) (net : Net) : Type 0 where

@@ -17,7 +17,7 @@ use word16::bit;
 pub fn set_bus(sim: &mut ChipSim, nodes: &[u32], word: u16)
     requires { IsInput (net_of sim.old.frame) nodes.now }
     ensures frame { sim.new.frame ≡ sim.old.frame }
-    ensures stands { (calls : List Call) → WasTold sim.old calls → WasTold sim.new (set_nodes 0 word nodes.now calls) }
+    ensures stands { (calls : List Call) → WasTold sim.old calls → WasTold sim.new (set_nodes (net_of sim.old.frame).nodes 0 word nodes.now calls) }
 {
     for (k, node) in nodes.iter().enumerate() {
         sim.set(*node, bit(word, k as u16));

@@ -7,7 +7,6 @@ use crate::chip_sim::ChipSim;
 use crate::directory::Directory;
 
 /// A chip that a script drives: its simulator, its time, and what has a name.
-#[derive(Drop)]
 pub struct DrivenChip {
     pub(crate) sim: ChipSim,
     pub(crate) sizes: Vec<u32>,
@@ -16,4 +15,17 @@ pub struct DrivenChip {
     pub(crate) directory: Directory,
     ghost sized: { AreSizes sizes.items (net_of sim.frame) },
     ghost named: { OfNamed (IsSeen sim.frame) directory },
+}
+
+// By hand, so that whoever drops one calls this.
+impl Drop for DrivenChip {
+    fn drop(self) {
+        let DrivenChip {
+            sim: _,
+            sizes: _,
+            cycle: _,
+            ticked: _,
+            directory: _,
+        } = self;
+    }
 }

@@ -2,12 +2,13 @@
 
 ghost use Rattle.std.specs.Prelude.{◌≡◌, ◌<◌, ◌≤◌, ◌+◌, ◌-◌, ◌^◌, ℕ, Bool, List, [], ◌∷◌, Some, None, IfOk, OnOk, MatchOption, length, slice_get, slice_index};
 ghost use Rattle.std.specs.List.{All, Contains};
+ghost use Rattle.netlist.specs.Histories.{rank};
 ghost use Rattle.netlist.specs.declared.node.Node.TheVariants.{Pin};
 ghost use Rattle.gate_sim.specs.Calls.{Call, cycle_of, evaluated_calls};
 ghost use Rattle.gate_sim.specs.Calls.Call.{Eval, Load, Set, Tick, Tock};
 ghost use Rattle.gate_sim.specs.Values.{AreValues, words_of};
 ghost use Rattle.script_device.specs.Inner.Naming.{with_pin};
-ghost use Rattle.script_device.specs.Simulated.{IsSeen, IsSimple, IsWanted, WasTold, net_of, place_in, stored_at};
+ghost use Rattle.script_device.specs.Simulated.{IsSeen, IsSimple, IsWanted, ReadsAs, WasTold, net_of, place_in, stored_at};
 
 use gate_sim::Sim;
 use net_simplify::{Simple, simplify};
@@ -148,7 +149,7 @@ impl ChipSim {
     pub fn set(&mut self, node: u32, bit: bool)
         requires { slice_get (net_of self.old.frame).nodes node ≡ Some Pin }
         ensures frame { self.new.frame ≡ self.old.frame }
-        ensures stands { (calls : List Call) → WasTold self.old calls → WasTold self.new (Set node bit ∷ calls) }
+        ensures stands { (calls : List Call) → WasTold self.old calls → WasTold self.new (Set (rank (net_of self.old.frame).nodes node) bit ∷ calls) }
     {
         let place = place_of(&self.whole, node);
         self.sim.set(place, bit);
@@ -197,6 +198,13 @@ impl ChipSim {
     /// What is stored of a node is its value at the last evaluation.
     pub fn stored_law(&self)
         ensures { (calls told : List Call) (v : ℕ → ℕ → Bool) → WasTold self.now calls → evaluated_calls calls ≡ Some told → AreValues (net_of self.now.frame) told v → (k : ℕ) → IsSeen self.now.frame k → stored_at self.now k ≡ v k (cycle_of told) }
+    {
+        let _ = &self.sim;
+    }
+
+    /// The netlist that runs reads as that of the chip.
+    pub fn reads_law(&self)
+        ensures { ReadsAs self.now.frame }
     {
         let _ = &self.sim;
     }

@@ -18,9 +18,19 @@ pub struct PartNodes {
 }
 
 /// The pins of a chip, and the parts in it, depth first in text order; of each chip only the first need be there.
-#[derive(Drop)]
 pub struct Directory {
     pub inputs: List<PinNodes>,
     pub outputs: List<PinNodes>,
     pub parts: List<PartNodes>,
+}
+
+// By hand, so that whoever drops one calls this.
+impl Drop for Directory {
+    fn drop(self) {
+        let Directory {
+            inputs: _,
+            outputs: _,
+            parts: _,
+        } = self;
+    }
 }

@@ -6,6 +6,7 @@ ghost use Rattle.gate_sim.specs.Calls.Call.{Eval, Load, Tick, Tock};
 ghost use Rattle.gate_sim.specs.Values.{AreValues};
 ghost use Rattle.script_device.specs.Directory.{AreSizes, IsBus, IsInput, OfNamed, loaded_chip, part_named, pin_named};
 ghost use Rattle.script_device.specs.Driven.{Sees, ChipRuns, IsDriven, bus_value, chip_of, value_seen, set_source, time_after, time_of};
+ghost use Rattle.script_device.specs.Simulated.{ReadsAs};
 ghost use Rattle.script_device.specs.Variables.{Means};
 ghost use Rattle.script_device.specs.Variables.Source.{BlockWord, Nodes};
 
@@ -120,7 +121,7 @@ impl DrivenChip {
         ensures kept { chip_of self.new ≡ chip_of self.old }
         ensures time { time_of self.new ≡ time_of self.old }
         ensures runs { (simplify : Bool) → ChipRuns simplify self.old → ChipRuns simplify self.new }
-        ensures driven { (calls : List Call) → IsDriven self.old calls → IsDriven self.new (set_source (Nodes nodes.now) word calls) }
+        ensures driven { (calls : List Call) → IsDriven self.old calls → IsDriven self.new (set_source (chip_of self.old).net.nodes (Nodes nodes.now) word calls) }
     {
         set_bus(&mut self.sim, nodes, word);
     }
@@ -131,7 +132,7 @@ impl DrivenChip {
         ensures kept { chip_of self.new ≡ chip_of self.old }
         ensures time { time_of self.new ≡ time_of self.old }
         ensures runs { (simplify : Bool) → ChipRuns simplify self.old → ChipRuns simplify self.new }
-        ensures driven { (calls : List Call) → IsDriven self.old calls → IsDriven self.new (set_source (BlockWord block address) word calls) }
+        ensures driven { (calls : List Call) → IsDriven self.old calls → IsDriven self.new (set_source (chip_of self.old).net.nodes (BlockWord block address) word calls) }
     {
         self.sim.load_block(block, address, &[word]);
     }
@@ -217,6 +218,13 @@ impl DrivenChip {
         ensures { (calls told : List Call) (v : ℕ → ℕ → Bool) → IsDriven self.now calls → Sees (chip_of self.now) calls told v → result ≡ value_seen (chip_of self.now) calls told v (BlockWord block address) }
     {
         Value::Wide(self.sim.block_word(block, address))
+    }
+
+    /// The netlist that runs reads as that of the chip.
+    pub fn reads_law(&self)
+        ensures { ReadsAs self.now.sim.frame }
+    {
+        self.sim.reads_law();
     }
 
     /// Every list of calls has its values.

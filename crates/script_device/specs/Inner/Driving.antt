@@ -13,7 +13,7 @@ use Rattle.script_device.specs.Devices.Source.{OfChip}
 
 -- what the text means in the chip was set to the word, or it means nothing that can be set
 abbrev pub SetsChip : LoadedChip → List Call → DrivenChip → List ℕ → ℕ → Bool → Type 0
-SetsChip chip calls now text word true = (source : chips.Source) × CanSet (Chip chip calls) text (OfChip source) × IsDriven now (set_source source word calls)
+SetsChip chip calls now text word true = (source : chips.Source) × CanSet (Chip chip calls) text (OfChip source) × IsDriven now (set_source chip.net.nodes source word calls)
 SetsChip chip calls now text word false = ((source : Source) → CanSet (Chip chip calls) text source → ⊥) × IsDriven now calls
 
 -- what the text means in the machine was set to the word, or it means nothing

@@ -9,5 +9,5 @@ use Rattle.gate_computer.proofs.reading.set_keyboard.Given as goal
 abbrev pub invariant-loop-k : goal.invariant-loop-k
 invariant-loop-k l = record {
   net : l.sim.net ≡ l.fn.sim.net;
-  told : (calls : List Call) → StandsFor l.fn.sim calls → HoldsKey l.keyboard l.old (pins_of calls) → HasSet l.sim calls (HoldsPart l.keyboard l.k l.key l.old);
+  told : (calls : List Call) → StandsFor l.fn.sim calls → HoldsKey l.keyboard l.old (pins_of l.fn.sim.net.nodes calls) → HasSet l.sim calls (HoldsPart l.keyboard l.k l.key l.old);
 }

@@ -30,7 +30,7 @@ set_word-requires c =
 pub returns-in-Some-Bus-clause-set : goal.returns-in-Some-Bus-clause-set
 returns-in-Some-Bus-clause-set c = λ calls driven.
     let m : CanSet (Chip (chip_of c.args.chip.now) calls) c.args.text.now (OfChip (Nodes c.in-Some-Bus.nodes.now)) = settable_as (chip_of c.args.chip.now) calls c.args.text.now c.find_settable.result c.in-Some-Bus.field-0 _ c.in-Some-Bus.is c.in-Some-Bus.field-0-is (settable_in (chip_of c.args.chip.now) c.directory.result.now c.sizes.result.now calls c.args.text.now c.find_settable.result c.directory.ensures c.sizes.ensures c.find_settable.ensures) in
-    (Nodes c.in-Some-Bus.nodes.now, m, subst (λ nodes. IsDriven c.set_bus.new.self (set_source (Nodes nodes) c.args.word calls)) c.copied-count.ensures.nodes (c.set_bus.ensures.driven calls driven))
+    (Nodes c.in-Some-Bus.nodes.now, m, subst (λ nodes. IsDriven c.set_bus.new.self (set_source (chip_of c.args.chip.now).net.nodes (Nodes nodes) c.args.word calls)) c.copied-count.ensures.nodes (c.set_bus.ensures.driven calls driven))
 
 pub returns-in-Some-Word-clause-set : goal.returns-in-Some-Word-clause-set
 returns-in-Some-Word-clause-set c = λ calls driven.

@@ -35,7 +35,7 @@ returns-clause-stands c turns h =
     let netT = c.tick.ensures.net ∙ netA in
     let netK = c.tock.ensures.net ∙ netT in
     let set = subst (λ l. HasSet c.set_keyboard.new.sim f.told.calls (HoldsKey l c.args.key)) c.as_slice.ensures
-    (c.set_keyboard.ensures.told f.told.calls f.told.stands (subst (λ l. HoldsKey l c.self.inside.key (pins_of f.told.calls)) (sym c.as_slice.ensures) f.told.held)) in
+    (c.set_keyboard.ensures.told f.told.calls f.told.stands (subst (λ l. HoldsKey l c.self.inside.key (pins_of c.self.inside.sim.net.nodes f.told.calls)) (sym c.as_slice.ensures) f.told.held)) in
     let stT = c.tick.ensures.stands set.now set.stands in
     let stK = c.tock.ensures.stands (Tick ∷ set.now) stT in
     let row = value_in c.tick.new.self.values in

@@ -39,3 +39,6 @@ returns-clause-stands c =
     (subst (λ l. StandsFor c.load_block.new.self (Load c.args.wired.wiring.rom 0 l ∷ [])) c.as_slice.ensures (c.load_block.ensures.stands [] c.in_ok-sim.ensures.stands))
     (record { bits = λ j less. sym (no_bit j); others = λ k out. refl })
     (omega arith) refl refl c.in_ok-new.ensures.tallied)
+
+pub returns-clause-net : goal.returns-clause-net
+returns-clause-net c = c.load_block.ensures.net ∙ c.in_ok-sim.ensures.net

@@ -22,7 +22,7 @@ returns-clause-stands g c turns h =
     let netA = c.set_keyboard.ensures.net in
     let netE = c.eval.ensures.net ∙ netA in
     let set = subst (λ l. HasSet c.set_keyboard.new.sim f.told.calls (HoldsKey l c.args.key)) c.as_slice.ensures
-    (c.set_keyboard.ensures.told f.told.calls f.told.stands (subst (λ l. HoldsKey l c.self.inside.key (pins_of f.told.calls)) (sym c.as_slice.ensures) f.told.held)) in
+    (c.set_keyboard.ensures.told f.told.calls f.told.stands (subst (λ l. HoldsKey l c.self.inside.key (pins_of c.self.inside.sim.net.nodes f.told.calls)) (sym c.as_slice.ensures) f.told.held)) in
     let told = told_set c.self.inside.sim c.set_keyboard.new.sim c.eval.new.self c.self.inside.wiring c.self.inside.image c.self.inside.key c.args.key turns netA netE (omega arith) f.told set (c.eval.ensures.stands set.now set.stands) in
     followed _ turns f.acted f.counts told (λ keys words holds. first (the_view c.self.inside) turns f keys words holds)
 
@@ -32,7 +32,7 @@ returns-clause-passes g c turns h keys words holds now =
     let netA = c.set_keyboard.ensures.net in
     let netE = c.eval.ensures.net ∙ netA in
     let set = subst (λ l. HasSet c.set_keyboard.new.sim f.told.calls (HoldsKey l c.args.key)) c.as_slice.ensures
-    (c.set_keyboard.ensures.told f.told.calls f.told.stands (subst (λ l. HoldsKey l c.self.inside.key (pins_of f.told.calls)) (sym c.as_slice.ensures) f.told.held)) in
+    (c.set_keyboard.ensures.told f.told.calls f.told.stands (subst (λ l. HoldsKey l c.self.inside.key (pins_of c.self.inside.sim.net.nodes f.told.calls)) (sym c.as_slice.ensures) f.told.held)) in
     let before = g.S.Sink.written c.args.out.now.sink.now in
     let after = g.S.Sink.written c.put_parts.new.out.sink.now in
     subst (λ (s : GateMachine). PassesParts s.image keys (length turns) before (pending c.args.out.now) after (pending c.put_parts.new.out) c.put_parts.result) c.self.view_is

@@ -7,8 +7,8 @@ use Rattle.script_device.proofs.chip.DrivenChip.set_bus.Goals as goal
 pub returns-clause-driven : goal.returns-clause-driven
 returns-clause-driven c = λ calls d. record {
   stands = c.set_bus.ensures.stands calls d.stands;
-  cycle = d.cycle ∙ sym (set_cycle 0 c.args.word c.args.nodes.now calls);
-  ticked = d.ticked ∙ sym (set_ticked 0 c.args.word c.args.nodes.now calls);
+  cycle = d.cycle ∙ sym (set_cycle _ 0 c.args.word c.args.nodes.now calls);
+  ticked = d.ticked ∙ sym (set_ticked _ 0 c.args.word c.args.nodes.now calls);
 }
 
 pub returns-clause-runs : goal.returns-clause-runs

@@ -8,5 +8,5 @@ load_block-requires c = room_in c.args.self.now c.self.inside.sim c.self.inside.
 
 pub returns-clause-stands : goal.returns-clause-stands
 returns-clause-stands c = λ calls was.
-    told_next c.args.self.now c.self.inside.sim c.load_block.new.self c.self.inside.whole c.self.view_is c.load_block.ensures.net calls (Load c.args.block c.args.from c.args.words.now ∷ calls)
-    (c.load_block.ensures.stands _) (λ h. h) was
+    told_next c.args.self.now c.self.inside.sim c.load_block.new.self c.self.inside.whole c.self.view_is calls (Load c.args.block c.args.from c.args.words.now ∷ calls)
+    (c.load_block.ensures.stands _) was

@@ -5,4 +5,4 @@ use Rattle.script_device.proofs.chip_sim.ChipSim.tick.Goals as goal
 
 pub returns-clause-stands : goal.returns-clause-stands
 returns-clause-stands c = λ calls was.
-    told_next c.args.self.now c.self.inside.sim c.tick.new.self c.self.inside.whole c.self.view_is c.tick.ensures.net calls (Tick ∷ calls) (c.tick.ensures.stands _) (λ h. h) was
+    told_next c.args.self.now c.self.inside.sim c.tick.new.self c.self.inside.whole c.self.view_is calls (Tick ∷ calls) (c.tick.ensures.stands _) was

@@ -5,4 +5,4 @@ use Rattle.script_device.proofs.chip_sim.ChipSim.tock.Goals as goal
 
 pub returns-clause-stands : goal.returns-clause-stands
 returns-clause-stands c = λ calls was.
-    told_next c.args.self.now c.self.inside.sim c.tock.new.self c.self.inside.whole c.self.view_is c.tock.ensures.net calls (Tock ∷ calls) (c.tock.ensures.stands _) (λ h. h) was
+    told_next c.args.self.now c.self.inside.sim c.tock.new.self c.self.inside.whole c.self.view_is calls (Tock ∷ calls) (c.tock.ensures.stands _) was
