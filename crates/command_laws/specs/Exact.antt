@@ -10,6 +10,7 @@ use Rattle.command_line.specs.declared.request.RunLevel.{RunLevel}
 use Rattle.command_line.specs.declared.request.RunLevel.TheVariants.{Gates}
 use Rattle.command_line.specs.declared.request.Shown.TheVariants.{Nets}
 use Rattle.nand_cli.specs.Answer.{Disagrees, Lacks, Prints, Refuses}
+use Rattle.nand_cli.specs.Commands.Test.{script_at}
 use Rattle.nand_cli.specs.JackFolder.{FolderMeans}
 
 -- What is shown at the level is one text. The outputs of parts are those of some behaviour of the Computer; that it has no other is not
@@ -55,16 +56,16 @@ SoakExactLaw = (files : Files) (seed count : ℕ) → IsExact files (soak seed c
 
 -- Over these files let the line be one of `test`. Then its script prints at most one thing on out and on err, is refused with at most one line, but
 -- for the nets of a loop, and differs in at most one line. It is not two of done, refused and different.
-pub record TestIsExact (files : Files) (line : Line) : Type 0 where
-  pub prints : (out err out' err' : List ℕ) → Prints (Some files) line out err → Prints (Some files) line out' err' → (out ≡ out') × (err ≡ err')
-  pub refuses : (out before told out' before' told' : List ℕ) → Refuses (Some files) line out before told → Refuses (Some files) line out' before' told' → (out ≡ out') × (before ≡ before') × SameButNets told told'
-  pub differs : (out before told out' before' told' : List ℕ) → Disagrees (Some files) line out before told → Disagrees (Some files) line out' before' told' → (out ≡ out') × (before ≡ before') × (told ≡ told')
-  pub apart : (out err out' before told : List ℕ) → Prints (Some files) line out err → Refuses (Some files) line out' before told → ⊥
-  pub agrees : (out err out' before told : List ℕ) → Prints (Some files) line out err → Disagrees (Some files) line out' before told → ⊥
-  pub alone : (out before told out' before' told' : List ℕ) → Refuses (Some files) line out before told → Disagrees (Some files) line out' before' told' → ⊥
+pub record TestIsExact (files : Files) (path : List ℕ) (gates simplify : Bool) : Type 0 where
+  pub prints : (out err out' err' : List ℕ) → Prints (Some files) (test path gates simplify) out err → Prints (Some files) (test path gates simplify) out' err' → (out ≡ out') × (err ≡ err')
+  pub refuses : (out before told out' before' told' : List ℕ) → Refuses (Some files) (test path gates simplify) out before told → Refuses (Some files) (test path gates simplify) out' before' told' → (out ≡ out') × (before ≡ before') × SameButNets (script_at (Some files) path gates) told told'
+  pub differs : (out before told out' before' told' : List ℕ) → Disagrees (Some files) (test path gates simplify) out before told → Disagrees (Some files) (test path gates simplify) out' before' told' → (out ≡ out') × (before ≡ before') × (told ≡ told')
+  pub apart : (out err out' before told : List ℕ) → Prints (Some files) (test path gates simplify) out err → Refuses (Some files) (test path gates simplify) out' before told → ⊥
+  pub agrees : (out err out' before told : List ℕ) → Prints (Some files) (test path gates simplify) out err → Disagrees (Some files) (test path gates simplify) out' before told → ⊥
+  pub alone : (out before told out' before' told' : List ℕ) → Refuses (Some files) (test path gates simplify) out before told → Disagrees (Some files) (test path gates simplify) out' before' told' → ⊥
 
 abbrev pub TestExactLaw : Type 0
-TestExactLaw = (files : Files) (path : List ℕ) (gates simplify : Bool) → TestIsExact files (test path gates simplify)
+TestExactLaw = (files : Files) (path : List ℕ) (gates simplify : Bool) → TestIsExact files path gates simplify
 
 -- The law of exactness. That of a script is the one before.
 abbrev pub ExactLaw : Type 0

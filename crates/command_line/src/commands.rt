@@ -1,12 +1,114 @@
 //! The table of commands, as `clap` is given it.
-ghost use Rattle.std.specs.Prelude.{◌≡◌, ◌∷◌, [], IfOk, false, codes};
+ghost use Rattle.std.specs.Prelude.{◌≡◌, IfOk, false, map};
 ghost use Rattle.clap.specs.Words.{app_of, rule_of, shape_of, with_subcommand};
 ghost use Rattle.clap.specs.declared.builder.Command.TheViews.{out-Command as fields_of};
-ghost use Rattle.command_line.specs.Table.{asm_command, bare_table, build_command, chip_command, command, compile_command, debug_command, default_rule, exec_command, extra_rule, flag_rule, map_command, option_rule, path_command, run_command, show_command, soak_command, source_command, test_command, vm_command, word_rule};
+ghost use Rattle.command_line.specs.Table.{bare_table, command, default_rule, extra_rule, flag_rule, option_rule, word_rule};
 ghost use Rattle.command_line.specs.Table as table;
+ghost use Rattle.command_line.specs.Inner.Rows.{rule_in, shape_in, with_subcommands};
 
 use clap::{Arg, ArgAction, Command};
 use std::alloc::{AllocError, Global};
+
+// A cell of a row.
+#[derive(Clone, Copy)]
+enum Cell<'a> {
+    // A word that stands by itself.
+    Word(&'a str),
+    // `--name V` or `--name=V`, which must stand.
+    Value(&'a str),
+    // The same, which may be left out.
+    Extra(&'a str),
+    // The same, with the value that is meant where it is left out.
+    Default(&'a str, &'a str),
+    // `--name`, which may be left out.
+    Flag(&'a str),
+}
+
+// The name of a command, and its cells in order.
+#[derive(Clone, Copy)]
+struct Row<'a> {
+    name: &'a str,
+    cells: &'a [Cell<'a>],
+}
+
+// The commands that work.
+const ROWS: &[Row<'static>] = &[
+    Row {
+        name: "asm",
+        cells: &[Cell::Word("path")],
+    },
+    Row {
+        name: "exec",
+        cells: &[
+            Cell::Word("path"),
+            Cell::Value("cycles"),
+            Cell::Value("from"),
+            Cell::Value("to"),
+        ],
+    },
+    Row {
+        name: "vm",
+        cells: &[Cell::Word("path"), Cell::Flag("bare")],
+    },
+    Row {
+        name: "show",
+        cells: &[Cell::Word("path")],
+    },
+    Row {
+        name: "run",
+        cells: &[
+            Cell::Word("path"),
+            Cell::Value("level"),
+            Cell::Value("cycles"),
+            Cell::Extra("keys"),
+            Cell::Default("show", "none"),
+            Cell::Flag("replace"),
+            Cell::Flag("simplify"),
+        ],
+    },
+    Row {
+        name: "compile",
+        cells: &[Cell::Word("path"), Cell::Flag("replace")],
+    },
+    Row {
+        name: "build",
+        cells: &[Cell::Word("path"), Cell::Flag("replace")],
+    },
+    Row {
+        name: "map",
+        cells: &[
+            Cell::Word("path"),
+            Cell::Default("format", "2"),
+            Cell::Flag("replace"),
+        ],
+    },
+    Row {
+        name: "chip",
+        cells: &[Cell::Word("name")],
+    },
+    Row {
+        name: "test",
+        cells: &[
+            Cell::Word("path"),
+            Cell::Flag("gates"),
+            Cell::Flag("simplify"),
+        ],
+    },
+    Row {
+        name: "soak",
+        cells: &[Cell::Word("seed"), Cell::Word("count")],
+    },
+    Row {
+        name: "debug",
+        cells: &[
+            Cell::Word("path"),
+            Cell::Value("break"),
+            Cell::Value("cycles"),
+            Cell::Extra("keys"),
+            Cell::Flag("replace"),
+        ],
+    },
+];
 
 // A word that stands by itself.
 fn word(alloc: Global, name: &str) -> Arg<'_>
@@ -48,128 +150,41 @@ fn flag(alloc: Global, name: &str) -> Arg<'_>
     extra(alloc, name).action(ArgAction::SetTrue)
 }
 
-// A command with one word alone.
-fn word_only<'a>(alloc: Global, name: &'a str, id: &'a str) -> Result<Command<'a>, AllocError>
-    ensures shape { IfOk result (λ c. shape_of c ≡ command name.now (word_rule id.now ∷ [])) }
-    ensures local { IfOk result (λ c. (fields_of c).has_globals ≡ false) }
+// The argument of a cell.
+fn argument<'a>(alloc: Global, cell: Cell<'a>) -> Arg<'a>
+    ensures rule { rule_of result ≡ rule_in cell.entry }
+    ensures local { result.global ≡ false }
 {
-    Command::new(alloc, name).arg(word(alloc, id))
+    match cell {
+        Cell::Word(name) => word(alloc, name),
+        Cell::Value(name) => option(alloc, name),
+        Cell::Extra(name) => extra(alloc, name),
+        Cell::Default(name, meant) => default(alloc, name, meant),
+        Cell::Flag(name) => flag(alloc, name),
+    }
 }
 
-// A command with a path alone.
-fn path_only<'a>(alloc: Global, name: &'a str) -> Result<Command<'a>, AllocError>
-    ensures shape { IfOk result (λ c. shape_of c ≡ path_command name.now) }
+// The command of this name with these cells.
+fn command_of<'a>(
+    alloc: Global,
+    name: &'a str,
+    cells: &[Cell<'a>],
+) -> Result<Command<'a>, AllocError>
+    ensures shape { IfOk result (λ c. shape_of c ≡ command name.now (map rule_in cells.now)) }
     ensures local { IfOk result (λ c. (fields_of c).has_globals ≡ false) }
 {
-    word_only(alloc, name, "path")
+    let mut command = Command::new(alloc, name);
+    for cell in cells {
+        command = command.arg(argument(alloc, *cell))?;
+    }
+    Ok(command)
 }
 
-// A command with a path, which takes `--replace`.
-#[tactic(auto, unfolding(crate::specs::Table::source_command))]
-fn source<'a>(alloc: Global, name: &'a str) -> Result<Command<'a>, AllocError>
-    ensures shape { IfOk result (λ c. shape_of c ≡ source_command name.now) }
-    ensures local { IfOk result (λ c. (fields_of c).has_globals ≡ false) }
+// Adds the command of a row.
+fn with_row<'a>(alloc: Global, top: Command<'a>, row: &Row<'a>) -> Result<Command<'a>, AllocError>
+    ensures { IfOk result (λ c. app_of c ≡ with_subcommand (app_of top.entry) (shape_in row.now)) }
 {
-    Command::new(alloc, name)
-        .arg(word(alloc, "path"))?
-        .arg(flag(alloc, "replace"))
-}
-
-fn exec<'a>(alloc: Global) -> Result<Command<'a>, AllocError>
-    ensures shape { IfOk result (λ c. shape_of c ≡ exec_command) }
-    ensures local { IfOk result (λ c. (fields_of c).has_globals ≡ false) }
-{
-    Command::new(alloc, "exec")
-        .arg(word(alloc, "path"))?
-        .arg(option(alloc, "cycles"))?
-        .arg(option(alloc, "from"))?
-        .arg(option(alloc, "to"))
-}
-
-#[tactic(auto, unfolding(crate::specs::Table::vm_command))]
-fn vm<'a>(alloc: Global) -> Result<Command<'a>, AllocError>
-    ensures shape { IfOk result (λ c. shape_of c ≡ vm_command) }
-    ensures local { IfOk result (λ c. (fields_of c).has_globals ≡ false) }
-{
-    Command::new(alloc, "vm")
-        .arg(word(alloc, "path"))?
-        .arg(flag(alloc, "bare"))
-}
-
-// The cells of `run` that must stand.
-fn run_needed<'a>(alloc: Global) -> Result<Command<'a>, AllocError>
-    ensures shape { IfOk result (λ c. shape_of c ≡ command (codes "run") (word_rule (codes "path") ∷ option_rule (codes "level") ∷ option_rule (codes "cycles") ∷ [])) }
-    ensures local { IfOk result (λ c. (fields_of c).has_globals ≡ false) }
-{
-    Command::new(alloc, "run")
-        .arg(word(alloc, "path"))?
-        .arg(option(alloc, "level"))?
-        .arg(option(alloc, "cycles"))
-}
-
-#[tactic(auto, unfolding(crate::specs::Table::run_command))]
-fn run<'a>(alloc: Global) -> Result<Command<'a>, AllocError>
-    ensures shape { IfOk result (λ c. shape_of c ≡ run_command) }
-    ensures local { IfOk result (λ c. (fields_of c).has_globals ≡ false) }
-{
-    run_needed(alloc)?
-        .arg(extra(alloc, "keys"))?
-        .arg(default(alloc, "show", "none"))?
-        .arg(flag(alloc, "replace"))?
-        .arg(flag(alloc, "simplify"))
-}
-
-#[tactic(auto, unfolding(crate::specs::Table::test_command))]
-fn test<'a>(alloc: Global) -> Result<Command<'a>, AllocError>
-    ensures shape { IfOk result (λ c. shape_of c ≡ test_command) }
-    ensures local { IfOk result (λ c. (fields_of c).has_globals ≡ false) }
-{
-    Command::new(alloc, "test")
-        .arg(word(alloc, "path"))?
-        .arg(flag(alloc, "gates"))?
-        .arg(flag(alloc, "simplify"))
-}
-
-#[tactic(auto, unfolding(crate::specs::Table::soak_command))]
-fn soak<'a>(alloc: Global) -> Result<Command<'a>, AllocError>
-    ensures shape { IfOk result (λ c. shape_of c ≡ soak_command) }
-    ensures local { IfOk result (λ c. (fields_of c).has_globals ≡ false) }
-{
-    Command::new(alloc, "soak")
-        .arg(word(alloc, "seed"))?
-        .arg(word(alloc, "count"))
-}
-
-#[tactic(auto, unfolding(crate::specs::Table::map_command))]
-fn map<'a>(alloc: Global) -> Result<Command<'a>, AllocError>
-    ensures shape { IfOk result (λ c. shape_of c ≡ map_command) }
-    ensures local { IfOk result (λ c. (fields_of c).has_globals ≡ false) }
-{
-    Command::new(alloc, "map")
-        .arg(word(alloc, "path"))?
-        .arg(default(alloc, "format", "2"))?
-        .arg(flag(alloc, "replace"))
-}
-
-// The cells of `debug` that must stand.
-fn debug_needed<'a>(alloc: Global) -> Result<Command<'a>, AllocError>
-    ensures shape { IfOk result (λ c. shape_of c ≡ command (codes "debug") (word_rule (codes "path") ∷ option_rule (codes "break") ∷ option_rule (codes "cycles") ∷ [])) }
-    ensures local { IfOk result (λ c. (fields_of c).has_globals ≡ false) }
-{
-    Command::new(alloc, "debug")
-        .arg(word(alloc, "path"))?
-        .arg(option(alloc, "break"))?
-        .arg(option(alloc, "cycles"))
-}
-
-#[tactic(auto, unfolding(crate::specs::Table::debug_command))]
-fn debug<'a>(alloc: Global) -> Result<Command<'a>, AllocError>
-    ensures shape { IfOk result (λ c. shape_of c ≡ debug_command) }
-    ensures local { IfOk result (λ c. (fields_of c).has_globals ≡ false) }
-{
-    debug_needed(alloc)?
-        .arg(extra(alloc, "keys"))?
-        .arg(flag(alloc, "replace"))
+    top.subcommand(command_of(alloc, row.name, row.cells)?)
 }
 
 // The table without its commands.
@@ -181,81 +196,20 @@ fn bare<'a>(alloc: Global) -> Command<'a>
         .subcommand_required(true)
 }
 
-// Adds a command with a path alone.
-fn with_path<'a>(alloc: Global, top: Command<'a>, name: &'a str) -> Result<Command<'a>, AllocError>
-    ensures { IfOk result (λ c. app_of c ≡ with_subcommand (app_of top.entry) (path_command name.now)) }
+// The table with the commands of rows.
+fn table_of<'a>(alloc: Global, rows: &[Row<'a>]) -> Result<Command<'a>, AllocError>
+    ensures { IfOk result (λ c. app_of c ≡ with_subcommands bare_table (map shape_in rows.now)) }
 {
-    top.subcommand(path_only(alloc, name)?)
-}
-
-// Adds `asm` and `exec`.
-fn with_machine<'a>(alloc: Global, top: Command<'a>) -> Result<Command<'a>, AllocError>
-    ensures { IfOk result (λ c. app_of c ≡ with_subcommand (with_subcommand (app_of top.entry) asm_command) exec_command) }
-{
-    with_path(alloc, top, "asm")?.subcommand(exec(alloc)?)
-}
-
-// Adds `vm` and `show`.
-fn with_sources<'a>(alloc: Global, top: Command<'a>) -> Result<Command<'a>, AllocError>
-    ensures { IfOk result (λ c. app_of c ≡ with_subcommand (with_subcommand (app_of top.entry) vm_command) show_command) }
-{
-    with_path(alloc, top.subcommand(vm(alloc)?)?, "show")
-}
-
-// Adds a command with a path, which takes `--replace`.
-fn with_source<'a>(
-    alloc: Global,
-    top: Command<'a>,
-    name: &'a str,
-) -> Result<Command<'a>, AllocError>
-    ensures { IfOk result (λ c. app_of c ≡ with_subcommand (app_of top.entry) (source_command name.now)) }
-{
-    top.subcommand(source(alloc, name)?)
-}
-
-// Adds `run`.
-fn with_run<'a>(alloc: Global, top: Command<'a>) -> Result<Command<'a>, AllocError>
-    ensures { IfOk result (λ c. app_of c ≡ with_subcommand (app_of top.entry) run_command) }
-{
-    top.subcommand(run(alloc)?)
-}
-
-// Adds `compile` and `build`.
-fn with_compilers<'a>(alloc: Global, top: Command<'a>) -> Result<Command<'a>, AllocError>
-    ensures { IfOk result (λ c. app_of c ≡ with_subcommand (with_subcommand (app_of top.entry) compile_command) build_command) }
-{
-    with_source(alloc, with_source(alloc, top, "compile")?, "build")
-}
-
-// Adds `map` and `chip`.
-fn with_printers<'a>(alloc: Global, top: Command<'a>) -> Result<Command<'a>, AllocError>
-    ensures { IfOk result (λ c. app_of c ≡ with_subcommand (with_subcommand (app_of top.entry) map_command) chip_command) }
-{
-    top.subcommand(map(alloc)?)?
-        .subcommand(word_only(alloc, "chip", "name")?)
-}
-
-// Adds `test` and `soak`.
-fn with_scripts<'a>(alloc: Global, top: Command<'a>) -> Result<Command<'a>, AllocError>
-    ensures { IfOk result (λ c. app_of c ≡ with_subcommand (with_subcommand (app_of top.entry) test_command) soak_command) }
-{
-    top.subcommand(test(alloc)?)?.subcommand(soak(alloc)?)
-}
-
-// Adds `debug`.
-fn with_debug<'a>(alloc: Global, top: Command<'a>) -> Result<Command<'a>, AllocError>
-    ensures { IfOk result (λ c. app_of c ≡ with_subcommand (app_of top.entry) debug_command) }
-{
-    top.subcommand(debug(alloc)?)
+    let mut top = bare(alloc);
+    for row in rows {
+        top = with_row(alloc, top, row)?;
+    }
+    Ok(top)
 }
 
 /// The table of the commands that work.
 pub fn table<'a>(alloc: Global) -> Result<Command<'a>, AllocError>
     ensures { IfOk result (λ c. app_of c ≡ table.table) }
 {
-    let sources = with_sources(alloc, with_machine(alloc, bare(alloc))?)?;
-    let programs = with_run(alloc, sources)?;
-    let printers = with_printers(alloc, with_compilers(alloc, programs)?)?;
-    let scripts = with_scripts(alloc, printers)?;
-    with_debug(alloc, scripts)
+    table_of(alloc, ROWS)
 }

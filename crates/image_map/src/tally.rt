@@ -14,7 +14,6 @@ use std::marker::Model;
 const NOWHERE: Point = Point { sub: 0, number: 0 };
 
 /// The steps and the control point of a run so far, by the map of its image.
-#[derive(Drop)]
 pub struct Tally {
     map: ImageMap,
     // Of each address, whether it is among the commits.
@@ -26,6 +25,20 @@ pub struct Tally {
     steps: u64,
     // The last address that the run was at and that has a point.
     seen: u16,
+}
+
+// By hand, so that whoever drops one calls this.
+impl Drop for Tally {
+    fn drop(self) {
+        let Tally {
+            map: _,
+            marks: _,
+            mapped: _,
+            at: _,
+            steps: _,
+            seen: _,
+        } = self;
+    }
 }
 
 impl Model for Tally {

@@ -205,6 +205,7 @@ module _ (core : Core) (code : ℕ → ℕ) (n : ℕ) (resolved : IsResolvedCore
   -- the five lines are put, and those of the parts in the cycle that comes next
   pub nets_put : (end : End) (key : ℕ) (out out' : Option (List ℕ)) (p : Put) → IsDriven code (HasFollowed old) old.moves n end (HasFollowed new) new.moves → key ≡ code n
       → PutsNets new key (gates_head new (names_of core) end) out out' p → Reports (IsGatesReport core code n Nets) out out' (finish_result p)
+  unfolding PutsNets
   nets_put end key out out' p driven held puts =
       let turns = turned code old new old.moves n new.moves end driven at.stands at.moves in
       let head = gates_head new (names_of core) end in

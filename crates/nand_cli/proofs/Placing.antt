@@ -1,5 +1,5 @@
 -- A folder's program with its image and its places.
-use Rattle.std.proofs.Common.{◌≡◌, inl, inr, ℕ, Bool, List, Vec, Global, Option, Result, Ok, Err, codes, map, refl, ap, subst}
+use Rattle.std.proofs.Common.{◌≡◌, ◌<◌, ◌≤◌, ◌+◌, ◌^◌, inl, inr, ℕ, suc, Bool, List, [], ◌∷◌, Vec, Global, Option, Result, Ok, Err, codes, length, map, refl, ap, subst, arith}
 use Rattle.outer_world.specs.Files.{Files, LacksFolder}
 use Rattle.source_files.specs.Loads.{CountsLoad, Loads}
 use Rattle.source_files.specs.Sources.{IsUnread}
@@ -9,7 +9,7 @@ use Rattle.source_files.proofs.Told.{without}
 use Rattle.jack_tree.specs.declared.tree.Class.{Class}
 use Rattle.jack_tree.specs.Syntax.{ClassFile}
 use Rattle.jack_tree.specs.Seen.{the_file}
-use Rattle.jack_os.specs.System.{AreClassesOf, SpellsClass}
+use Rattle.jack_os.specs.System.{AreClassesOf, SpellsClass, Texts}
 use Rattle.jack_os.proofs.SystemTexts.{one_list, seen_files}
 use Rattle.jack_core.specs.declared.program.Core.{Core}
 use Rattle.jack_compiler.specs.Resolved.{IsResolvedCore}
@@ -20,6 +20,7 @@ use Rattle.vm_debug.specs.Program.{ArePlacesOfClasses}
 use Rattle.tower.specs.Image.{IsImageOf}
 use Rattle.tower.specs.Program.{IsProgramOf, Means}
 use Rattle.tower.specs.Sources.{system_beside}
+use Rattle.tower.proofs.Beside.{few_beside}
 use Rattle.command_line.specs.Line.{Source}
 use Rattle.jack_parser.specs.Language.{RefusesClass}
 use Rattle.nand_cli.specs.Commands.Build.{BuildRefuses, unbuilt, without_program}
@@ -28,6 +29,20 @@ use Rattle.nand_cli.specs.Inner.Placed.{AreRefused}
 use Rattle.nand_cli.specs.JackFolder.{BuildIsRefused, IsMeaningless, meaningless, unread}
 use Rattle.nand_cli.specs.declared.placed.PlacedProgram.{PlacedProgram}
 use Rattle.nand_cli.proofs.Spelling.{HasTrees, seen_classes, seen_unread}
+
+-- ---- the operating system has few classes
+
+as_many : (fs : Texts) (cs : List Class) → AreClassesOf fs cs → length cs ≡ length fs
+as_many [] [] h = refl
+as_many (f ∷ fs) (c ∷ cs) h = ap suc (as_many fs cs h.1)
+as_many [] (c ∷ cs) h = absurd h
+as_many (f ∷ fs) [] h = absurd h
+
+pub few_all : (replace : Bool) (own os : List Class) → length own ≤ 256 → AreClassesOf (system_beside replace (map the_file own)) os → length own + length os < 2 ^ 32
+few_all replace own os few are =
+    let size = as_many (system_beside replace (map the_file own)) os are in omega (arith, few, size, few_beside replace (map the_file own))
+
+-- ---- the program
 
 pub is_placed : (replace : Bool) (own os : List Class) (core : Core) (p : PlacedProgram) → Means replace own (Ok core) → AreClassesOf (system_beside replace (map the_file own)) os → IsImageOf core p.image
     → ArePlacesOfClasses own os core p.image.map p.places → IsResolvedCore core → IsMapped p.image → IsPlaced replace own p

@@ -1,5 +1,4 @@
-//! The program that a folder's Jack files mean, its image and its places, and why there is no
-//! program.
+//! The program that a folder's Jack files mean and its image, and why there is no program.
 ghost use Rattle.std.specs.Prelude.{◌≡◌, ◌≤◌, IfOk, Ok, length, map};
 ghost use Rattle.jack_compiler.specs.Resolved.{IsResolvedCore};
 ghost use Rattle.jack_core.specs.declared.program.Core.{Core};
@@ -13,16 +12,13 @@ ghost use Rattle.jack_names.specs.Messages.{name_message};
 ghost use Rattle.outer_world.specs.Files.{LacksFolder, path_in};
 ghost use Rattle.source_files.specs.Loads.{CountsLoad, Loads, Refused};
 ghost use Rattle.nand_cli.specs.Commands.Build.{BuildRefuses, FolderBuilds};
-ghost use Rattle.nand_cli.specs.Commands.Map.{FolderHasPlaces, HavePlaces};
 ghost use Rattle.nand_cli.specs.Inner.Parts.{TellsWrong};
-ghost use Rattle.nand_cli.specs.Inner.Placed.{AreRefused};
 ghost use Rattle.nand_cli.specs.declared.jack.BuiltProgram.{BuiltProgram};
 ghost use Rattle.nand_cli.specs.JackFolder.{BuildIsRefused, FolderIsRefused, FolderMeans, IsMeaningless, home_of};
 
 use command_line::Source;
 use image_map::Image;
 use jack_core::Core;
-use jack_debug::Places;
 use jack_names::NameFault;
 use jack_parser::JackLanguage;
 use jack_places::first_law;
@@ -30,14 +26,19 @@ use jack_tree::Class;
 use outer_world::Shelf;
 use source_files::{LoadError, load_folder, path_in};
 use std::alloc::Global;
-use tower::{ProgramError, build, classes_beside, program_of_classes};
-use vm_debug::program_places;
+use tower::{ProgramError, build, program_of_classes};
 
 /// A folder's program with its image.
-#[derive(Drop)]
 pub struct BuiltProgram {
     pub core: Core,
     pub image: Image,
+}
+
+// By hand, so that whoever drops one calls this.
+impl Drop for BuiltProgram {
+    fn drop(self) {
+        let BuiltProgram { core: _, image: _ } = self;
+    }
 }
 
 /// The ending of the names of Jack files.
@@ -134,32 +135,4 @@ pub fn load_built<F: Shelf>(
     let core = load_jack(alloc, source, shelf)?;
     let image = image_of(alloc, source.folder, &core)?;
     Ok(BuiltProgram { core, image })
-}
-
-// The places of the program that the classes of a source mean. The operating system is read once more for them.
-fn places_of(alloc: Global, source: &Source<'_>, own: &[Class]) -> Result<Places, LoadError>
-    requires few { length own.now ≤ 256 }
-    requires spelled { AreSpelled own.now }
-    ensures { Loads (HavePlaces source.now.replace own.now) (AreRefused own.now (source_of source.now)) ⊥ result }
-{
-    let core = program_of(alloc, source, own)?;
-    let image = image_of(alloc, source.folder, &core)?;
-    let system = classes_beside(alloc, own, source.replace)?;
-    Ok(program_places(alloc, own, &system, &core, &image.map)?)
-}
-
-/// The places of the program that the Jack files of a source's folder mean, or why it has no image. The trees of its classes are
-/// kept until then.
-pub fn load_places<F: Shelf>(
-    alloc: Global,
-    source: &Source<'_>,
-    shelf: &mut F,
-) -> Result<Places, LoadError>
-    ensures loads { Loads (FolderHasPlaces (F.files shelf.old) (source_of source.now)) (BuildRefuses (F.files shelf.old) (source_of source.now)) (F.unfailing shelf.old → LacksFolder (F.files shelf.old) (F.there shelf.old) source.now.folder.now) result }
-    ensures counts { CountsLoad (F.faults shelf.old) (F.faults shelf.new) result }
-    ensures kept { F.files shelf.new ≡ F.files shelf.old }
-    ensures stays { F.there shelf.new ≡ F.there shelf.old }
-{
-    let own = load_folder(alloc, &JackLanguage, source.folder, ENDING, shelf)?;
-    places_of(alloc, source, &own)
 }

@@ -21,10 +21,30 @@ use tower::classes_beside;
 use vm_debug::program_places;
 
 /// The image of a program and its places.
-#[derive(Drop)]
 pub struct PlacedProgram {
     pub image: Image,
     pub places: Places,
+}
+
+// By hand, so that whoever drops one calls this.
+impl Drop for PlacedProgram {
+    fn drop(self) {
+        let PlacedProgram {
+            image: _,
+            places: _,
+        } = self;
+    }
+}
+
+impl PlacedProgram {
+    /// The image, and the places.
+    pub fn into_parts(self) -> (Image, Places)
+        ensures image { result.0 ≡ self.image }
+        ensures places { result.1 ≡ self.places }
+    {
+        let PlacedProgram { image, places } = self;
+        (image, places)
+    }
 }
 
 // The program that the classes of a source mean, with its image and its places.

@@ -14,7 +14,7 @@ use Rattle.jack_tree.specs.declared.tree.Constant.TheVariants as constant
 use Rattle.jack_tree.specs.declared.tree.Call.{Call, Call', Row_of-Expression, end_of-Expression, more_of-Expression}
 use Rattle.jack_tree.specs.declared.tree.Term as terms
 use Rattle.jack_tree.specs.declared.tree.Expression.{Expression, Expression', Row_of-Operation, end_of-Operation, more_of-Operation}
-use Rattle.jack_names.specs.Tables.{first_of}
+use Rattle.name_table.specs.Names.{first_of}
 use Rattle.jack_names.specs.Faults.{NameDiagnostic, Source, diagnostic_if}
 use Rattle.jack_names.specs.Inner.Uses.{Variable, Calls, operator_uses, constant_uses, row_length, term_uses, call_uses, exp_uses, rest_uses, row_uses}
 use Rattle.jack_names.specs.Inner.Scopes.{is_function, is_field, own_kind, way_kind, count_kind, field_kind, variable_kind, this_kind, through, callee_by, callee, front_by, front_fault, signature_kind, called_kind, made_kind, made_diagnostic, is_lesser, new_kind, append_kind, string_fault, call_fault, use_fault, first_fault}

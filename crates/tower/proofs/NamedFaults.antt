@@ -1,7 +1,7 @@
 -- Where the first fault of a list is none, none of its parts has one.
 use Rattle.std.proofs.Common.{◌≡◌, ℕ, Bool, true, false, List, [], ◌∷◌, ◌++◌, Option, Some, None, refl, ap, ◌∙◌}
 use Rattle.scan_text.specs.declared.Place.{Place}
-use Rattle.jack_names.specs.Tables.{first_of}
+use Rattle.name_table.specs.Names.{first_of}
 use Rattle.jack_names.specs.Faults.{NameDiagnostic, Source, diagnostic_if}
 use Rattle.jack_names.specs.Inner.Uses.{Use}
 use Rattle.jack_names.specs.Inner.Scopes.{Scope, use_fault, first_fault, kind_if}

@@ -13,7 +13,7 @@ use Rattle.jack_compiler.specs.Fits.{Scope, scope_of}
 use Rattle.jack_compiler.specs.Files.{statics_before}
 use Rattle.jack_compiler.specs.Resolved.{named_in, AreInOrder, IsResolvedSubroutine, IsResolved}
 use Rattle.jack_tree.specs.declared.tree.Class.{Class}
-use Rattle.jack_names.specs.Tables.{first_of}
+use Rattle.name_table.specs.Names.{first_of}
 use Rattle.jack_tree.specs.declared.tree.Form.TheVariants as form
 use Rattle.jack_names.specs.Inner.Scopes.{signature_kind, made_kind}
 use Rattle.jack_names.specs.Symbols.{Symbols, symbols_of, objects}

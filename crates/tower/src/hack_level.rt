@@ -16,10 +16,16 @@ use std::alloc::{AllocError, Global};
 use std::marker::Model;
 
 /// The machine with an image, and the tally of its run by the map of that image.
-#[derive(Drop)]
 pub struct HackLevel {
     hack: Hack,
     tally: Tally,
+}
+
+// By hand, so that whoever drops one calls this.
+impl Drop for HackLevel {
+    fn drop(self) {
+        let HackLevel { hack: _, tally: _ } = self;
+    }
 }
 
 impl Model for HackLevel {

@@ -14,7 +14,7 @@ use Rattle.source_files.specs.Loads.{Loads, line_of}
 use Rattle.source_files.specs.declared.error.LoadError.{LoadError}
 use Rattle.source_files.specs.declared.error.LoadError.TheVariants as errors
 use Rattle.tst_runner.specs.Gathering.{Gather, GatherFails, Sources, IsFound, built_in, entry_with, file_of, here, needed_names, no_more}
-use Rattle.tst_runner.specs.Inner.Gathered.{IsNext, IsRefusedAt, Leads, LacksFileOf}
+use Rattle.tst_runner.specs.Inner.Gathered.{IsMore, IsNext, IsRefusedAt, Leads, LacksFileOf}
 use Rattle.tst_runner.specs.declared.gathering.Origin.{Origin}
 use Rattle.tst_runner.proofs.Leading.{past_found}
 use Rattle.tst_runner.proofs.Ending.{candidates, fewer_left, left}
@@ -73,11 +73,11 @@ module _ (from : Sources) (there : List ℕ → Bool) (first : List ℕ) (steady
   Whole r = Loads (λ (library : Library). Gather from (first ∷ []) [] library.entries) (GatherFails from (first ∷ []) []) (steady → LacksFolder from.files there from.folder) r
 
   -- a chip of which nothing is read
-  pub unfound : (later : Type 0) (name : List ℕ) (others : List (List ℕ)) (entries : List Entry) (e : LoadError) → IfSome from.files (λ told. IsListing told from.folder from.names) → (steady → later) → Leads from (first ∷ []) [] (name ∷ others) entries
-      → find_entry entries name ≡ None → Loads (IsFound from name) (IsRefusedAt from name) (later → LacksFileOf from name) (Err e) → Whole (Err e)
-  unfound later name others entries (errors.Refused r) listing keeps leads new h = leads.fails (line_of r) (here (new, h.0, h.1))
-  unfound later name others entries errors.Failed listing keeps leads new h = λ s. let lacks = h (keeps s) in lacks_none from.files there from.folder from.names (file_of name) listing lacks.0 lacks.1
-  unfound later name others entries errors.Memory listing keeps leads new h = tt
+  pub unfound : {A : Type 0} (good : A → Type 0) (later : Type 0) (name : List ℕ) (others : List (List ℕ)) (entries : List Entry) (e : LoadError) → IfSome from.files (λ told. IsListing told from.folder from.names) → (steady → later) → Leads from (first ∷ []) [] (name ∷ others) entries
+      → find_entry entries name ≡ None → Loads good (IsRefusedAt from name) (later → LacksFileOf from name) (Err e) → Whole (Err e)
+  unfound good later name others entries (errors.Refused r) listing keeps leads new h = leads.fails (line_of r) (here (new, h.0, h.1))
+  unfound good later name others entries errors.Failed listing keeps leads new h = λ s. let lacks = h (keeps s) in lacks_none from.files there from.folder from.names (file_of name) listing lacks.0 lacks.1
+  unfound good later name others entries errors.Memory listing keeps leads new h = tt
 
 -- ---- a turn of the loop
 
@@ -88,18 +88,21 @@ module _ (from : Sources) (first stack : List (List ℕ)) (entries : List Entry)
   pub to_next : (name : List ℕ) (origin : Origin) (others : List (List ℕ)) → IsNext from stack entries name origin others → Leads from first [] (name ∷ others) entries
   to_next name origin others next = leads_then leads next.leads
 
-  pub turn : (name : List ℕ) (origin : Origin) (others stack' : List (List ℕ)) (entry : Entry) (entries' : List Entry) → IsNext from stack entries name origin others → IsFound from name entry
-      → stack' ≡ needed_names from.blocks entry ++ others → entries' ≡ entries ++ entry ∷ [] → Leads from first [] stack' entries'
-  turn name origin others stack' entry entries' next found pushed more =
+  pub turn : (name : List ℕ) (origin : Origin) (others stack' : List (List ℕ)) (entries' : List Entry) → IsNext from stack entries name origin others → IsMore from name others entries stack' entries' → Leads from first [] stack' entries'
+  turn name origin others stack' entries' next is =
+      let entry = is.entry in
+      let found = is.found in
+      let pushed = is.needed in
+      let more = is.pushed in
       let on : Leads from first [] (needed_names from.blocks entry ++ others) (entries ++ entry ∷ []) = past_found entry next.new found (to_next name origin others next) in
       let grown : Leads from first [] (needed_names from.blocks entry ++ others) entries' = subst (λ (es : List Entry). Leads from first [] (needed_names from.blocks entry ++ others) es) (sym more) on in
       subst (λ (names : List (List ℕ)). Leads from first [] names entries') (sym pushed) grown
 
-  pub fewer : (name : List ℕ) (origin : Origin) (others : List (List ℕ)) (entry : Entry) (entries' : List Entry) → IsNext from stack entries name origin others → IsFound from name entry
-      → entries' ≡ entries ++ entry ∷ [] → left entries' (candidates from.names from.shipped) < left entries (candidates from.names from.shipped)
-  fewer name origin others entry entries' next found more =
-      subst (λ (es : List Entry). left es (candidates from.names from.shipped) < left entries (candidates from.names from.shipped)) (sym more)
-      (fewer_left from entries name origin entry next.at next.new (found_named from name entry found))
+  pub fewer : (name : List ℕ) (origin : Origin) (others stack' : List (List ℕ)) (entries' : List Entry) → IsNext from stack entries name origin others → IsMore from name others entries stack' entries'
+      → left entries' (candidates from.names from.shipped) < left entries (candidates from.names from.shipped)
+  fewer name origin others stack' entries' next is =
+      subst (λ (es : List Entry). left es (candidates from.names from.shipped) < left entries (candidates from.names from.shipped)) (sym is.pushed)
+      (fewer_left from entries name origin is.entry next.at next.new (found_named from name is.entry is.found))
 
   pub all_taken : Leads from stack entries [] entries → Gather from first [] entries
   all_taken last = leads.gathers entries (last.gathers entries no_more)

@@ -8,9 +8,8 @@ use Rattle.std.proofs.lemmas.List.{get_or-map, length-map, take_more}
 use Rattle.std.proofs.lemmas.List.Elements.{Contains-get_or}
 use Rattle.std.proofs.lemmas.Bool.Decides.{same_from_decides}
 use Rattle.hdl_tree.specs.declared.library.Entry.{Entry}
-use Rattle.hdl_tree.specs.Writable.{is_among}
-use Rattle.hdl_check.specs.Tables.{find_value, first_of, names_in, with_new}
-use Rattle.hdl_check.proofs.Entries.{found-append, found_among, one_next, stays}
+use Rattle.name_table.specs.Names.{find_value, first_of, with_new}
+use Rattle.name_table.proofs.Entries.{found-append, one_next, stays}
 use Rattle.hdl_flatten.specs.declared.flat.PartAt.{PartAt}
 use Rattle.script_device.specs.declared.directory.PartNodes.{PartNodes}
 use Rattle.script_device.specs.Directory.{part_named}
@@ -81,10 +80,10 @@ new_among entries parts k part new lt is made = subst (Contains (map (part_nodes
 -- ---- the names of the chips whose first parts are kept
 
 abbrev pub AreSeen : List (List ℕ × Unit {0}) → List PartNodes → Type 0
-AreSeen seen named = (name : List ℕ) → is_among name (names_in seen) ≡ is_some (part_named named name)
+AreSeen seen named = (name : List ℕ) → is_some (find_value name seen) ≡ is_some (part_named named name)
 
 pub seen_none : (seen : List (List ℕ × Unit {0})) → seen ≡ [] → AreSeen seen []
-seen_none seen none name = ap (λ (es : List (List ℕ × Unit {0})). is_among name (names_in es)) none
+seen_none seen none name = ap (λ (es : List (List ℕ × Unit {0})). is_some (find_value name es)) none
 
 flipped : (a b : List ℕ) → bytes_eq a b ≡ bytes_eq b a
 flipped a b = same_from_decides (bytes_eq a b) (bytes_eq b a) (bytes_decides a b) (λ e. sym ((bytes_decides b a).0 e), λ e. (bytes_decides b a).1 (sym e))
@@ -96,15 +95,14 @@ some_first (Some x) b a = refl
 
 pub seen_more : (seen seen' : List (List ℕ × Unit {0})) (named : List PartNodes) (part : PartNodes) → seen' ≡ with_new seen part.chip tt → AreSeen seen named → AreSeen seen' (named ++ part ∷ [])
 seen_more seen seen' named part entered are name =
-    sym (found_among name seen')
-    ∙ ap is_some (one_next name part.chip seen' seen tt entered ∙ found-append name seen ((part.chip, tt) ∷ []))
+    ap is_some (one_next name part.chip seen' seen tt entered ∙ found-append name seen ((part.chip, tt) ∷ []))
     ∙ some_first (find_value name seen) (bytes_eq name part.chip) tt
-    ∙ ap (λ (b : Bool). b || bytes_eq name part.chip) (found_among name seen ∙ are name)
+    ∙ ap (λ (b : Bool). b || bytes_eq name part.chip) (are name)
     ∙ ap (λ (b : Bool). is_some (part_named named name) || b) (flipped name part.chip)
     ∙ sym (some_first (part_named named name) (bytes_eq part.chip name) part)
     ∙ sym (ap is_some (named_more named part name))
 
-pub seen_same : (seen seen' : List (List ℕ × Unit {0})) (chip : List ℕ) (named : List PartNodes) → seen' ≡ with_new seen chip tt → is_among chip (names_in seen) ≡ true → AreSeen seen named → AreSeen seen' named
+pub seen_same : (seen seen' : List (List ℕ × Unit {0})) (chip : List ℕ) (named : List PartNodes) → seen' ≡ with_new seen chip tt → is_some (find_value chip seen) ≡ true → AreSeen seen named → AreSeen seen' named
 seen_same seen seen' chip named entered there are = subst (λ (es : List (List ℕ × Unit {0})). AreSeen es named) (sym (entered ∙ sym (stays chip seen tt there))) are
 
 -- a part of a chip that was seen is kept

@@ -35,7 +35,7 @@ Keeps-machine machine machine' text (OfMachine register) h = h
 pub Keeps-set : (d : Device) (source : Source) (word : ℕ) → Keeps d (after_set d source word)
 Keeps-set Empty source word text meant h = h
 Keeps-set (Chip chip calls) TheTime word text meant h = h
-Keeps-set (Chip chip calls) (OfChip source) word text meant h = Keeps-chip chip calls (set_source source word calls) text meant h
+Keeps-set (Chip chip calls) (OfChip source) word text meant h = Keeps-chip chip calls (set_source chip.net.nodes source word calls) text meant h
 Keeps-set (Chip chip calls) (OfMachine register) word text meant h = h
 Keeps-set (Machine machine) TheTime word text meant h = h
 Keeps-set (Machine machine) (OfChip source) word text meant h = h

@@ -5,10 +5,10 @@ use Rattle.std.specs.Str.{bytes_eq}
 use Rattle.std.proofs.lemmas.List.Folds.{list_any-append}
 use Rattle.std.proofs.lemmas.Slice.Eq.{bytes_eq-Decides}
 use Rattle.outer_world.specs.Files.{has_name}
-use Rattle.hdl_check.specs.Tables.{find_value, first_of, with_new}
-use Rattle.hdl_check.specs.Inner.Entered.{table_of}
-use Rattle.hdl_check.specs.declared.table.Table.{Table}
-use Rattle.hdl_check.proofs.Entries.{found-append, one_next}
+use Rattle.name_table.specs.Names.{find_value, first_of, with_new}
+use Rattle.name_table.specs.Tables.{table_of}
+use Rattle.name_table.specs.declared.Table.{Table}
+use Rattle.name_table.proofs.Entries.{found-append, one_next}
 use Rattle.tst_runner.specs.Gathering.{file_of}
 use Rattle.tst_runner.specs.Inner.Tables.{IsListed, ListsFiles}
 use Rattle.tst_runner.proofs.Leading.{other_file, same_file}

@@ -8,10 +8,11 @@ ghost use Rattle.hdl_check.specs.Whole.{AreDistinct};
 ghost use Rattle.script_device.specs.Directory.{part_named};
 ghost use Rattle.tst_runner.specs.Directories.{IsDirectory, first_part, out_among, part_nodes, pin_nodes};
 
-use hdl_check::{Catalog, Table};
+use hdl_check::Catalog;
 use hdl_elab::Elab;
 use hdl_flatten::{PartAt, PinAt};
 use hdl_tree::{Entry, Library, List, Pin};
+use name_table::Table;
 use script_device::{Directory, PartNodes, PinNodes};
 use std::alloc::{AllocError, Global};
 

@@ -8,7 +8,7 @@ ghost use Rattle.hdl_tree.specs.declared.library.Library.{Library};
 ghost use Rattle.hdl_names.specs.Names.{IsIndexed};
 ghost use Rattle.hack_cpu.specs.Library.{shipped_chips};
 ghost use Rattle.tst_runner.specs.Gathering.{Gather, GatherFails, IsFound, built_in, entry_of, needed_names};
-ghost use Rattle.tst_runner.specs.Inner.Gathered.{IsNext, IsNowhere, IsOrigin, IsRefusedAt, Leads, LacksFileOf, sources_of};
+ghost use Rattle.tst_runner.specs.Inner.Gathered.{IsMore, IsNext, IsNowhere, IsOrigin, IsRefusedAt, Leads, LacksFileOf, sources_of};
 ghost use Rattle.tst_runner.specs.Inner.Sound.{IsSound};
 ghost use Rattle.tst_runner.specs.Inner.Tables.{ListsFiles};
 ghost use Rattle.tst_runner.specs.Loading.{HasFailed, HasGathered};
@@ -20,10 +20,10 @@ use crate::directories::entry_named;
 use crate::files::folder_of;
 use crate::tables::chip_files;
 use hack_cpu::{library, take_shipped};
-use hdl_check::Table;
 use hdl_names::NamedChips;
 use hdl_parser::HdlLanguage;
 use hdl_tree::{Body, Chip, Entry, Library, Name, Part, find_end};
+use name_table::Table;
 use outer_world::{Listing, Shelf};
 use source_files::{LoadError, load, path_in};
 use std::alloc::{AllocError, Global};
@@ -199,6 +199,33 @@ fn push_needed(stack: &mut Vec<Name>, blocks: bool, entry: &Entry) -> Result<(),
     }
 }
 
+// The chip of a name comes to those that are gathered, and the names that it needs to the stack.
+fn gather_one<F: Shelf>(
+    alloc: Global,
+    places: &Places<'_>,
+    name: Name,
+    found: Origin<'_>,
+    gathered: &mut NamedChips,
+    stack: &mut Vec<Name>,
+    shelf: &mut F,
+) -> Result<(), LoadError>
+    requires shipped { places.now.shipped.now ≡ shipped_chips }
+    requires origin { IsOrigin (sources_of places.now (F.files shelf.old)) name found }
+    requires indexed { IsIndexed gathered.old }
+    ensures loads { Loads (λ _. IsMore (sources_of places.now (F.files shelf.old)) name (reverse stack.old.items) gathered.old.entries (reverse stack.new.items) gathered.new.entries)
+        (IsRefusedAt (sources_of places.now (F.files shelf.old)) name) (F.unfailing shelf.old → LacksFileOf (sources_of places.now (F.files shelf.old)) name) result }
+    ensures indexed { OnOk result (IsIndexed gathered.new) }
+    ensures counts { CountsLoad (F.faults shelf.old) (F.faults shelf.new) result }
+    ensures kept { F.files shelf.new ≡ F.files shelf.old }
+    ensures stays { F.there shelf.new ≡ F.there shelf.old }
+    ensures keeps { F.unfailing shelf.old → F.unfailing shelf.new }
+{
+    let entry = find(alloc, places, name, found, shelf)?;
+    push_needed(stack, places.blocks, &entry)?;
+    gathered.push(alloc, entry)?;
+    Ok(())
+}
+
 // The chips that the chip of a name needs.
 fn gather_from<'a, F: Shelf>(
     alloc: Global,
@@ -220,12 +247,10 @@ fn gather_from<'a, F: Shelf>(
     let mut stack = Vec::new(alloc);
     stack.push(name.clone()?)?;
     'chips: while let Some((name, found)) = next_new(places, files, &gathered, &mut stack) {
-        let entry = find(alloc, places, name, found, shelf)?;
-        push_needed(&mut stack, places.blocks, &entry)?;
-        gathered.push(alloc, entry)?;
+        gather_one(alloc, places, name, found, &mut gathered, &mut stack, shelf)?;
     }
     Ok(Library {
-        entries: gathered.entries,
+        entries: gathered.into_entries(),
     })
 }
 

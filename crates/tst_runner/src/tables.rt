@@ -3,7 +3,7 @@
 ghost use Rattle.std.specs.Prelude.{◌++◌, ◌∷◌, [], ℕ, List, IfOk, OnOk};
 ghost use Rattle.tst_runner.specs.Inner.Tables.{ListsFiles};
 
-use hdl_check::Table;
+use name_table::Table;
 use outer_world::Name;
 use std::alloc::{AllocError, Global};
 

@@ -146,7 +146,7 @@ pub record PutsParts (image : List ℕ) (keys : ℕ → ℕ) (n : ℕ) (head : L
   pub puts : Puts before now (head ++ rest) answer
 
 -- So it was put of the cycle that comes next, in which the keyboard holds this key, whatever the keys of the turns before.
-abbrev pub PutsNets : GateMachine → ℕ → List ℕ → Option (List ℕ) → Option (List ℕ) → Put → Type 0
+unfoldable pub PutsNets : GateMachine → ℕ → List ℕ → Option (List ℕ) → Option (List ℕ) → Put → Type 0
 PutsNets g key head before now answer =
     (turns : List Turn) → GatesFollowed g turns → (keys : ℕ → ℕ) → ((c : ℕ) → IsKey (keys c)) → HoldsKeys keys 0 turns → keys (length turns) ≡ key
     → PutsParts g.image keys (length turns) head before now answer

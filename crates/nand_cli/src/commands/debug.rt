@@ -15,7 +15,7 @@ ghost use Rattle.nand_cli.specs.Inner.Reports.{CountsReport, Reports};
 use crate::commands::run::load_keys;
 use crate::failure::{Failure, finished};
 use crate::levels::stop::{Statement, go_to};
-use crate::placed::{PlacedProgram, load_placed};
+use crate::placed::load_placed;
 use crate::stop_lines::{print_none, print_stop};
 use command_line::{DebugRun, Source};
 use gate_computer::{GateComputer, prepare_gates};
@@ -27,11 +27,21 @@ use source_files::LoadError;
 use std::alloc::{AllocError, Global};
 
 /// A program that is built, with its places, the keys that are read and the computer at its start.
-#[derive(Drop)]
 pub struct PreparedDebug {
     places: Places,
     keys: Keys,
     computer: GateComputer,
+}
+
+// By hand, so that whoever drops one calls this.
+impl Drop for PreparedDebug {
+    fn drop(self) {
+        let PreparedDebug {
+            places: _,
+            keys: _,
+            computer: _,
+        } = self;
+    }
 }
 
 // The word of a statement.
@@ -106,7 +116,7 @@ pub fn prepare_debug<F: Shelf>(
     let program = load_placed(alloc, source, shelf)?;
     check_point(alloc, source.folder, &program.places, request)?;
     let keys = load_keys(alloc, request.keys, shelf)?;
-    let PlacedProgram { image, places } = program;
+    let (image, places) = program.into_parts();
     let computer = prepare_gates(alloc, image, false)?;
     Ok(PreparedDebug {
         places,

@@ -5,7 +5,8 @@ ghost use Rattle.command_line.specs.declared.request.MapFormat.TheVariants.{Plac
 ghost use Rattle.nand_cli.specs.Inner.Parts.{Counts, Does};
 
 use crate::failure::{Failure, finished};
-use crate::jack::{load_built, load_places};
+use crate::jack::load_built;
+use crate::placed::load_placed;
 use command_line::{MapFormat, Source};
 use image_map::show_map;
 use jack_core::Subroutine;
@@ -53,8 +54,8 @@ fn answer_places<F: Shelf, O: Sink>(
     ensures kept { F.files shelf.new ≡ F.files shelf.old }
     ensures stays { F.there shelf.new ≡ F.there shelf.old }
 {
-    let places = load_places(alloc, source, shelf)?;
-    finished(print_map(&places, out))
+    let program = load_placed(alloc, source, shelf)?;
+    finished(print_map(&program.places, out))
 }
 
 /// Does a line of `map`; err is left as it is.

@@ -27,12 +27,23 @@ use source_files::{LoadError, load};
 use std::alloc::Global;
 
 /// A run of a program that is built, with the keys that are read and a machine at its start.
-#[derive(Drop)]
 pub struct PreparedRun {
     core: Core,
     keys: Keys,
     cycles: u32,
     machine: Machine,
+}
+
+// By hand, so that whoever drops one calls this.
+impl Drop for PreparedRun {
+    fn drop(self) {
+        let PreparedRun {
+            core: _,
+            keys: _,
+            cycles: _,
+            machine: _,
+        } = self;
+    }
 }
 
 /// The keys of a run; without a script no key is ever pressed.

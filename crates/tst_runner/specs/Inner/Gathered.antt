@@ -1,5 +1,5 @@
 -- What the parts of gathering say. (The book, appendix 2.)
-use Rattle.std.specs.Prelude.{◌≡◌, ℕ, true, false, List, ◌∷◌, Option, None, is_some}
+use Rattle.std.specs.Prelude.{◌≡◌, ℕ, true, false, List, [], ◌∷◌, ◌++◌, Option, None, is_some}
 use Rattle.outer_world.specs.Files.{Files, HasFile, LacksFile}
 use Rattle.outer_world.specs.Refusals.{message_line}
 use Rattle.grammar.specs.declared.Fault.{Fault}
@@ -10,7 +10,7 @@ use Rattle.hdl_parser.specs.Spells.{Refuses}
 use Rattle.tst_runner.specs.declared.gathering.Places.{Places}
 use Rattle.tst_runner.specs.declared.gathering.Origin.{Origin}
 use Rattle.tst_runner.specs.declared.gathering.Origin.TheVariants.{File, Shipped}
-use Rattle.tst_runner.specs.Gathering.{Gather, GatherFails, Sources, file_of, is_in_folder, path_of}
+use Rattle.tst_runner.specs.Gathering.{Gather, GatherFails, IsFound, Sources, file_of, is_in_folder, needed_names, path_of}
 
 -- the code's places, with the files
 abbrev pub sources_of : Places → Option Files → Sources
@@ -45,3 +45,10 @@ pub record IsNext (from : Sources) (names : List (List ℕ)) (entries : List Ent
   pub leads : Leads from names entries (name ∷ others) entries
   pub new : find_entry entries name ≡ None
   pub at : IsOrigin from name origin
+
+-- Its chip comes to the chips, and the names that it needs come before the others.
+pub record IsMore (from : Sources) (name : List ℕ) (names : List (List ℕ)) (entries : List Entry) (names' : List (List ℕ)) (entries' : List Entry) : Type 0 where
+  pub entry : Entry
+  pub found : IsFound from name entry
+  pub needed : names' ≡ needed_names from.blocks entry ++ names
+  pub pushed : entries' ≡ entries ++ entry ∷ []

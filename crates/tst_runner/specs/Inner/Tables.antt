@@ -2,9 +2,9 @@
 use Rattle.std.specs.Prelude.{◌≡◌, ℕ, true, false, List, Option, Some, None}
 use denote.Bor.{Bor}
 use Rattle.outer_world.specs.Files.{has_name}
-use Rattle.hdl_check.specs.Tables.{find_value}
-use Rattle.hdl_check.specs.Inner.Entered.{table_of}
-use Rattle.hdl_check.specs.declared.table.Table.{Table}
+use Rattle.name_table.specs.Names.{find_value}
+use Rattle.name_table.specs.Tables.{table_of}
+use Rattle.name_table.specs.declared.Table.{Table}
 use Rattle.tst_runner.specs.Gathering.{file_of}
 
 -- what is found for the name of a chip among the names of a folder: its file, if it stands there

@@ -5,8 +5,7 @@ use Rattle.jack_tree.specs.Seen.{the_file}
 use Rattle.jack_os.specs.System.{AreClassesOf}
 use Rattle.tower.specs.Sources.{system_beside}
 use Rattle.command_line.specs.Line.{source_of}
-use Rattle.nand_cli.proofs.FolderPlaces.{few_all}
-use Rattle.nand_cli.proofs.Placing.{is_placed, placed_meaningless, placed_unbuilt}
+use Rattle.nand_cli.proofs.Placing.{few_all, is_placed, placed_meaningless, placed_unbuilt}
 use Rattle.nand_cli.proofs.placed.placed_of.Goals as goal
 
 pub returns-in_err-core : goal.returns-in_err-core

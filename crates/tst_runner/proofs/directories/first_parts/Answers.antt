@@ -1,10 +1,9 @@
 use Rattle.std.proofs.Common.{◌≡◌, ◌<◌, ◌++◌, [], ◌∷◌, List, ℕ, true, length, map, sym, ap, subst, ◌∙◌, arith}
-use Rattle.std.specs.Prelude.{Some}
+use Rattle.std.specs.Prelude.{Some, is_some}
 use Rattle.std.specs.List.{All, Contains}
 use Rattle.std.proofs.lemmas.List.Elements.{All-push}
-use Rattle.hdl_tree.specs.Writable.{is_among}
-use Rattle.hdl_check.specs.Tables.{names_in, with_new}
-use Rattle.hdl_check.specs.Inner.Entered.{table_of}
+use Rattle.name_table.specs.Names.{find_value, with_new}
+use Rattle.name_table.specs.Tables.{table_of}
 use Rattle.script_device.specs.Directory.{part_named}
 use Rattle.script_device.specs.declared.directory.PartNodes.{PartNodes}
 use Rattle.tst_runner.specs.Directories.{part_nodes}
@@ -35,7 +34,7 @@ loop-part-preserved c =
           }
       | else-new w ↦
           let e : c.if-new.named.items ≡ named = ap (λ v. v.items) w.named-is in
-          let among : is_among part.chip (names_in seen) ≡ true = ap (λ (n : List ℕ). is_among n (names_in seen)) (sym c.as_bytes.ensures) ∙ seen_old c.in_ok-new.new (is_among c.as_bytes.result.now (names_in seen)) c.in_ok-new.ensures.new w.if-new.false in
+          let among : is_some (find_value part.chip seen) ≡ true = ap (λ (n : List ℕ). is_some (find_value n seen)) (sym c.as_bytes.ensures) ∙ seen_old c.in_ok-new.new (is_some (find_value c.as_bytes.result.now seen)) c.in_ok-new.ensures.new w.if-new.false in
           let old = kept_part (part_named named part.chip) (sym (c.loop-part.invariant.seen part.chip) ∙ among) in
           record {
             first = λ name. ap (λ parts. part_named parts name) e ∙ step_old entries parts k part old.0 named lt c.part-item.is old.1 c.loop-part.invariant.first name;

@@ -1,6 +1,6 @@
 use Rattle.std.proofs.Common.{◌≡◌, ℕ, List, map, take}
 use Rattle.std.specs.List.{All, Contains}
-use Rattle.hdl_check.specs.Inner.Entered.{table_of}
+use Rattle.name_table.specs.Tables.{table_of}
 use Rattle.script_device.specs.Directory.{part_named}
 use Rattle.tst_runner.specs.Directories.{first_part, part_nodes}
 use Rattle.tst_runner.proofs.Firsts.{AreSeen}

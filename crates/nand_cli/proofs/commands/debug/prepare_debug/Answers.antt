@@ -1,13 +1,15 @@
-use Rattle.std.proofs.Common.{ℕ, Option, Err, subst, option_map, ◌∙◌}
+use Rattle.std.proofs.Common.{ℕ, Option, Err, sym, subst, option_map, ◌∙◌}
 use Rattle.std.proofs.lemmas.Result.{err_from_is_err_and}
 use Rattle.key_script.specs.declared.keys.Keys.{Keys}
 use Rattle.command_line.specs.Line.{source_of}
 use Rattle.outer_world.specs.Files.{Files}
+use Rattle.image_map.specs.Map.{IsMapped}
+use Rattle.jack_debug.specs.declared.places.Places.{Places}
 use Rattle.source_files.specs.Loads.{CountsLoad, Loads}
 use Rattle.source_files.proofs.Told.{without}
 use Rattle.nand_cli.specs.Commands.Debug.{HasStatement}
 use Rattle.nand_cli.specs.Commands.Run.{HasKeys, LacksKeys, ScriptIsRefused}
-use Rattle.nand_cli.specs.Inner.Debugging.{LacksPoint}
+use Rattle.nand_cli.specs.Inner.Debugging.{IsPreparedDebug, LacksPoint}
 use Rattle.nand_cli.specs.declared.commands.debug.PreparedDebug.{PreparedDebug}
 use Rattle.nand_cli.specs.declared.placed.PlacedProgram.{PlacedProgram}
 use Rattle.nand_cli.proofs.Debugging.{prepared, without_keys, without_placed, without_statement}
@@ -61,7 +63,7 @@ returns-in_err-keys-clause-counts g c =
     rw (p.1, p.2) (counts_too Keys PreparedDebug _ _ _ (subst P c.in_ok-program.ensures.counts c.in_err-keys.ensures.counts))
 
 pub prepare_gates-requires : goal.prepare_gates-requires
-prepare_gates-requires g c = c.in_ok-program.ensures.loads.2.mapped
+prepare_gates-requires g c = subst IsMapped (sym c.into_parts-image.ensures.image) c.in_ok-program.ensures.loads.2.mapped
 
 pub returns-in_err-computer-clause-loads : goal.returns-in_err-computer-clause-loads
 returns-in_err-computer-clause-loads g c =
@@ -77,10 +79,14 @@ pub returns-clause-loads : goal.returns-clause-loads
 returns-clause-loads g c =
     let request = c.args.request.now in
     let path = option_map (λ keys. keys.now) request.keys in
+    let files = g.F.Shelf.files c.args.shelf.now in
+    let source = source_of c.args.source.now in
     let P : Option Files → Type 0 = λ files. HasKeys files path c.in_ok-keys.keys in
-    prepared _ (g.F.Shelf.there c.args.shelf.now) (g.F.Shelf.unfailing c.args.shelf.now) (source_of c.args.source.now) request.sub.now request.number request.cycles path
+    let Q : Places → Type 0 = λ places. IsPreparedDebug files source request.sub.now request.number path (record { places = places; keys = c.in_ok-keys.keys; computer = c.in_ok-computer.computer }) in
+    subst Q (sym c.into_parts-image.ensures.places)
+    (prepared files (g.F.Shelf.there c.args.shelf.now) (g.F.Shelf.unfailing c.args.shelf.now) source request.sub.now request.number request.cycles path
     c.in_ok-program.program c.in_ok-keys.keys c.in_ok-computer.computer c.in_ok-program.ensures.loads c.in_ok-check_point.ensures (subst P c.in_ok-program.ensures.kept c.in_ok-keys.ensures.loads)
-    (keys_are_words _ _ c.in_ok-keys.keys c.in_ok-keys.ensures.loads) c.in_ok-computer.ensures.image c.in_ok-computer.ensures.moves c.in_ok-computer.ensures.stands
+    (keys_are_words _ _ c.in_ok-keys.keys c.in_ok-keys.ensures.loads) (c.in_ok-computer.ensures.image ∙ c.into_parts-image.ensures.image) c.in_ok-computer.ensures.moves c.in_ok-computer.ensures.stands)
 
 pub returns-clause-counts : goal.returns-clause-counts
 returns-clause-counts g c = c.in_ok-keys.ensures.counts ∙ c.in_ok-program.ensures.counts
