@@ -1,7 +1,7 @@
+use crate::checks::{holds, is_told, printed};
 use grammar::ReadError;
-use hdl_parser::*;
-use hdl_tree::{Body, Chip, Source, Subscript};
-use outer_world::{MemorySink, Put};
+use hdl_parser::parse;
+use hdl_tree::{Body, Chip, Connection, Part, Source, Subscript};
 use std::alloc::{AllocError, Global};
 use std::process::Abort;
 use std::test::Fail;
@@ -13,67 +13,107 @@ fn read(alloc: Global, text: &[u8]) -> Result<Chip, Fail> {
     }
 }
 
-// The text that a chip is printed as.
-fn printed(alloc: Global, text: &[u8]) -> Result<String, Fail> {
-    let chip = read(alloc, text)?;
-    let mut sink = MemorySink::new(alloc, 1000, Vec::new(alloc))
-        .ok()
-        .ok_or("memory")?;
-    if print(&chip, &mut sink) != Put::Done {
-        return Err(Fail::from("not printed"));
+const SOME: &[u8] =
+    b"CHIP Some { IN a[16], b;\n OUT out;\n PARTS: And(a=a[0], b = a[1..3], out[2]=true);\n Or(x=false); }";
+
+fn has_its_inputs(chip: &Chip) -> bool {
+    match chip.inputs.as_slice() {
+        [first, second] => {
+            first.width == Some(16)
+                && second.width == None
+                && second.name.as_bytes() == b"b".as_slice()
+        }
+        _ => false,
     }
-    Ok(String::from_utf8_lossy(alloc, sink.bytes())?)
+}
+
+fn parts_of(chip: &Chip) -> &[Part] {
+    match &chip.body {
+        Body::Parts(parts) => parts.as_slice(),
+        Body::Builtin(_, _) => &[],
+    }
+}
+
+// The source is these bits of a net.
+fn is_of_net(source: &Source, subscript: Subscript) -> bool {
+    match source {
+        Source::Net(selection) => selection.subscript == Some(subscript),
+        Source::Constant(_) => false,
+    }
+}
+
+fn is_named(source: &Source, name: &[u8]) -> bool {
+    match source {
+        Source::Net(selection) => selection.name.as_bytes() == name,
+        Source::Constant(_) => false,
+    }
+}
+
+fn is_constant(source: &Source, value: bool) -> bool {
+    match source {
+        Source::Net(_) => false,
+        Source::Constant(constant) => *constant == value,
+    }
+}
+
+fn first_is_connected(connections: &[Connection]) -> bool {
+    match connections {
+        [first, second, third] => {
+            is_of_net(&first.source, Subscript::Bit(0))
+                && is_named(&second.source, b"a")
+                && is_of_net(&second.source, Subscript::Bits(1, 3))
+                && third.pin.subscript == Some(Subscript::Bit(2))
+                && is_constant(&third.source, true)
+        }
+        _ => false,
+    }
+}
+
+fn second_is_connected(connections: &[Connection]) -> bool {
+    match connections {
+        [only] => is_constant(&only.source, false),
+        _ => false,
+    }
+}
+
+fn has_its_parts(rt: &impl Abort, parts: &[Part]) {
+    match parts {
+        [first, second] => {
+            holds(rt, "And", first.chip.as_bytes() == b"And".as_slice());
+            holds(rt, "And", first_is_connected(first.connections.as_slice()));
+            holds(rt, "Or", second_is_connected(second.connections.as_slice()));
+        }
+        _ => holds(rt, "two parts", false),
+    }
 }
 
 // The pins, the parts and the connections of a chip.
 #[test]
 fn tree(rt: HostRuntime) -> Result<(), Fail> {
-    let text =
-        b"CHIP Some { IN a[16], b;\n OUT out;\n PARTS: And(a=a[0], b = a[1..3], out[2]=true);\n Or(x=false); }";
-    let chip = read(rt.alloc(), text)?;
-    assert!(rt; chip.name.as_bytes() == b"Some".as_slice());
-    let inputs = chip.inputs.as_slice();
-    assert_eq!(rt; inputs.len(), 2);
-    assert!(rt; inputs[0].width == Some(16));
-    assert!(rt; inputs[1].width == None);
-    assert!(rt; inputs[1].name.as_bytes() == b"b".as_slice());
-    assert_eq!(rt; chip.outputs.as_slice().len(), 1);
-    let Body::Parts(parts) = &chip.body else {
-        return Err(Fail::from("the chip has parts"));
-    };
-    let parts = parts.as_slice();
-    assert_eq!(rt; parts.len(), 2);
-    assert!(rt; parts[0].chip.as_bytes() == b"And".as_slice());
-    let connections = parts[0].connections.as_slice();
-    assert_eq!(rt; connections.len(), 3);
-    let Source::Net(selection) = &connections[0].source else {
-        return Err(Fail::from("the source is a net"));
-    };
-    assert!(rt; selection.subscript == Some(Subscript::Bit(0)));
-    let Source::Net(selection) = &connections[1].source else {
-        return Err(Fail::from("the source is a net"));
-    };
-    assert!(rt; selection.name.as_bytes() == b"a".as_slice());
-    assert!(rt; selection.subscript == Some(Subscript::Bits(1, 3)));
-    assert!(rt; connections[2].pin.subscript == Some(Subscript::Bit(2)));
-    assert!(rt; matches!(connections[2].source, Source::Constant(true)));
-    let connections = parts[1].connections.as_slice();
-    assert_eq!(rt; connections.len(), 1);
-    assert!(rt; matches!(connections[0].source, Source::Constant(false)));
+    let chip = read(rt.alloc(), SOME)?;
+    holds(&rt, "name", chip.name.as_bytes() == b"Some".as_slice());
+    holds(&rt, "inputs", has_its_inputs(&chip));
+    holds(&rt, "outputs", chip.outputs.as_slice().len() == 1);
+    has_its_parts(&rt, parts_of(&chip));
     Ok(())
+}
+
+// It has no pins, is DFF, and has two pins that are clocked.
+fn is_dff(chip: &Chip) -> bool {
+    let Body::Builtin(name, clocked) = &chip.body else {
+        return false;
+    };
+    chip.inputs.as_slice().is_empty()
+        && chip.outputs.as_slice().is_empty()
+        && name.as_bytes() == b"DFF".as_slice()
+        && clocked.as_slice().len() == 2
 }
 
 // A chip that is built in, with pins that are clocked.
 #[test]
 fn builtin(rt: HostRuntime) -> Result<(), Fail> {
     let chip = read(rt.alloc(), b"CHIP D { BUILTIN DFF; CLOCKED in, load; }")?;
-    assert!(rt; chip.inputs.as_slice().is_empty());
-    assert!(rt; chip.outputs.as_slice().is_empty());
-    let Body::Builtin(name, clocked) = &chip.body else {
-        return Err(Fail::from("the chip is built in"));
-    };
-    assert!(rt; name.as_bytes() == b"DFF".as_slice());
-    assert_eq!(rt; clocked.as_slice().len(), 2);
+    holds(&rt, "DFF", is_dff(&chip));
     Ok(())
 }
 
@@ -93,6 +133,10 @@ const PRINTED: &[(&str, &str)] = &[
         "CHIP X {\nBUILTIN DFF ;\nCLOCKED in , b ;\n}\n",
     ),
 ];
+
+fn printed_table() -> &'static [(&'static str, &'static str)] {
+    PRINTED
+}
 
 // Texts, and what is reported of them: each kind of fault, at its place, or that it is a chip.
 const TEXTS: &[(&str, &str)] = &[
@@ -136,6 +180,10 @@ const TEXTS: &[(&str, &str)] = &[
     ("CHIP D { OUT q; BUILTIN DFF; }", "a chip"),
 ];
 
+fn texts_table() -> &'static [(&'static str, &'static str)] {
+    TEXTS
+}
+
 // What is reported of a text.
 fn told_of(alloc: Global, text: &[u8]) -> Result<String, AllocError> {
     match parse(alloc, text) {
@@ -145,26 +193,42 @@ fn told_of(alloc: Global, text: &[u8]) -> Result<String, AllocError> {
     }
 }
 
-fn is_told(rt: &impl Abort, alloc: Global, text: &[u8], told: &str) -> Result<(), Fail> {
+fn text_is_told(
+    rt: &impl Abort,
+    alloc: Global,
+    row: &str,
+    text: &[u8],
+    told: &str,
+) -> Result<(), Fail> {
     let found = told_of(alloc, text)?;
-    assert_eq!(rt; found.as_str(), told);
+    is_told(rt, row, &found, told);
+    Ok(())
+}
+
+fn is_printed(rt: &impl Abort, alloc: Global, text: &str, form: &str) -> Result<(), Fail> {
+    let chip = read(alloc, text.as_bytes())?;
+    let found = printed(alloc, &chip)?;
+    is_told(rt, text, &found, form);
     Ok(())
 }
 
 #[test]
 fn printed_forms_and_faults(rt: HostRuntime) -> Result<(), Fail> {
+    for (text, form) in printed_table() {
+        is_printed(&rt, rt.alloc(), text, form)?;
+    }
+    for (text, told) in texts_table() {
+        text_is_told(&rt, rt.alloc(), text, text.as_bytes(), told)?;
+    }
+    Ok(())
+}
+
+// A text of blanks stops at its end.
+#[test]
+fn texts_of_blanks(rt: HostRuntime) -> Result<(), Fail> {
     let alloc = rt.alloc();
-    for (text, form) in PRINTED {
-        let found = printed(alloc, text.as_bytes())?;
-        assert_eq!(rt; found.as_str(), *form);
-    }
-    for (text, told) in TEXTS {
-        let found = told_of(alloc, text.as_bytes())?;
-        assert_eq!(rt; found.as_str(), *told, "of {text}");
-    }
-    // a text of blanks stops at its end
     let mut blanks = vec![in alloc; b' '; 1048576]?;
-    is_told(&rt, alloc, &blanks, "1:1048577: Grammar")?;
+    text_is_told(&rt, alloc, "fits", &blanks, "1:1048577: Grammar")?;
     blanks.push(b' ')?;
-    is_told(&rt, alloc, &blanks, "0:0: Range 1048577")
+    text_is_told(&rt, alloc, "too long", &blanks, "0:0: Range 1048577")
 }

@@ -2,6 +2,8 @@
 #![tactic(auto)]
 
 #[cfg(test)]
+mod checks;
+#[cfg(test)]
 mod chip_texts;
 #[cfg(test)]
 mod shipped_chips;

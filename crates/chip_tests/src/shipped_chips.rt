@@ -1,9 +1,9 @@
 //! The library of shipped chips.
 
+use crate::checks::{holds, is_told, printed};
 use hack_cpu::{find_shipped, library};
-use hdl_parser::{parse, print};
-use hdl_tree::{Body, Chip, Entry, Library};
-use outer_world::{MemorySink, Put};
+use hdl_parser::parse;
+use hdl_tree::{Body, Entry, Library};
 use std::alloc::Global;
 use std::process::Abort;
 use std::test::Fail;
@@ -71,22 +71,16 @@ const CHIPS: &[(&str, usize)] = &[
     ("Computer", 3),
 ];
 
-fn all_are_shipped(rt: &impl Abort, library: &Library) {
-    let entries = library.entries.as_slice();
-    assert_eq!(rt; entries.len(), CHIPS.len());
-    for (entry, (name, parts)) in entries.iter().zip(CHIPS.iter()) {
-        assert!(rt; is_shipped(entry, name.as_bytes(), *parts), "{name}");
-    }
+fn chips_table() -> &'static [(&'static str, usize)] {
+    CHIPS
 }
 
-fn printed(alloc: Global, chip: &Chip) -> Result<String, Fail> {
-    let mut sink = MemorySink::new(alloc, 4000, Vec::new(alloc))
-        .ok()
-        .ok_or("memory")?;
-    if print(chip, &mut sink) != Put::Done {
-        return Err(Fail::from("not printed"));
+fn all_are_shipped(rt: &impl Abort, library: &Library) {
+    let entries = library.entries.as_slice();
+    holds(rt, "count", entries.len() == chips_table().len());
+    for (entry, (name, parts)) in entries.iter().zip(chips_table()) {
+        holds(rt, name, is_shipped(entry, name.as_bytes(), *parts));
     }
-    Ok(String::from_utf8_lossy(alloc, sink.bytes())?)
 }
 
 // The printed form of the shipped chip of this name.
@@ -127,10 +121,14 @@ const PRINTED: &[(&str, &str)] = &[
     ),
 ];
 
+fn printed_table() -> &'static [(&'static str, &'static str)] {
+    PRINTED
+}
+
 fn each_is_printed(rt: &impl Abort, alloc: Global, library: &Library) -> Result<(), Fail> {
-    for (name, form) in PRINTED {
+    for (name, form) in printed_table() {
         let text = printed_shipped(alloc, library, name.as_bytes())?;
-        assert_eq!(rt; text.as_str(), *form);
+        is_told(rt, name, &text, form);
     }
     Ok(())
 }
@@ -139,8 +137,8 @@ fn each_is_printed(rt: &impl Abort, alloc: Global, library: &Library) -> Result<
 fn printed_forms_are_read(rt: &impl Abort, alloc: Global, library: &Library) -> Result<(), Fail> {
     for entry in library.entries.as_slice() {
         let text = printed(alloc, &entry.chip)?;
-        let again = printed_again(alloc, text.as_str())?;
-        assert_eq!(rt; text.as_str(), again.as_str());
+        let again = printed_again(alloc, &text)?;
+        is_told(rt, &text, &text, &again);
     }
     Ok(())
 }
@@ -152,6 +150,6 @@ fn shipped_chips(rt: HostRuntime) -> Result<(), Fail> {
     all_are_shipped(&rt, &library);
     each_is_printed(&rt, alloc, &library)?;
     printed_forms_are_read(&rt, alloc, &library)?;
-    assert!(rt; find_shipped(&library, b"Nor").is_none());
+    holds(&rt, "Nor", find_shipped(&library, b"Nor").is_none());
     Ok(())
 }

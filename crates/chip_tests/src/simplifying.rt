@@ -6,6 +6,7 @@ use hdl_tree::List;
 use net_simplify::simplify;
 use netlist::{Block, Netlist, Node};
 use std::alloc::{AllocError, Global};
+use std::process::Abort;
 
 // What is left of a netlist: how many nodes, how many of them Nands, and the places of the first two kept nodes.
 #[derive(Clone, Copy, Debug, PartialEq, Eq)]
@@ -64,11 +65,19 @@ fn found(nodes: usize, nands: usize, first: Option<u32>, second: Option<u32>) ->
     })
 }
 
+fn is_left(rt: &impl Abort, left: Option<Rest>, expected: Option<Rest>) {
+    assert_eq!(rt; left, expected);
+}
+
 // A double negation is the pin itself.
 #[test]
 fn double_negation(rt: HostRuntime) -> Result<(), AllocError> {
     let nodes = vec![in rt.alloc(); Node::Pin, Node::Nand(0, 0), Node::Nand(1, 1)]?;
-    assert!(rt; left(rt.alloc(), nodes, &[2])? == found(1, 0, Some(0), None));
+    is_left(
+        &rt,
+        left(rt.alloc(), nodes, &[2])?,
+        found(1, 0, Some(0), None),
+    );
     Ok(())
 }
 
@@ -83,7 +92,11 @@ fn equal_gates(rt: HostRuntime) -> Result<(), AllocError> {
         Node::Nand(1, 0),
         Node::Nand(4, 4),
     ]?;
-    assert!(rt; left(rt.alloc(), nodes, &[3, 5])? == found(4, 2, Some(3), Some(3)));
+    is_left(
+        &rt,
+        left(rt.alloc(), nodes, &[3, 5])?,
+        found(4, 2, Some(3), Some(3)),
+    );
     Ok(())
 }
 
@@ -104,9 +117,17 @@ fn with_constants(alloc: Global) -> Result<Vec<Node>, AllocError> {
 #[test]
 fn constants(rt: HostRuntime) -> Result<(), AllocError> {
     let nodes = with_constants(rt.alloc())?;
-    assert!(rt; left(rt.alloc(), nodes, &[3, 4])? == found(4, 2, Some(3), Some(2)));
+    is_left(
+        &rt,
+        left(rt.alloc(), nodes, &[3, 4])?,
+        found(4, 2, Some(3), Some(2)),
+    );
     let nodes = with_constants(rt.alloc())?;
-    assert!(rt; left(rt.alloc(), nodes, &[5])? == found(2, 0, Some(1), None));
+    is_left(
+        &rt,
+        left(rt.alloc(), nodes, &[5])?,
+        found(2, 0, Some(1), None),
+    );
     Ok(())
 }
 
@@ -120,9 +141,17 @@ fn with_flip_flops(alloc: Global) -> Result<Vec<Node>, AllocError> {
 #[test]
 fn flip_flops(rt: HostRuntime) -> Result<(), AllocError> {
     let nodes = with_flip_flops(rt.alloc())?;
-    assert!(rt; left(rt.alloc(), nodes, &[0, 3])? == found(4, 1, Some(0), Some(3)));
+    is_left(
+        &rt,
+        left(rt.alloc(), nodes, &[0, 3])?,
+        found(4, 1, Some(0), Some(3)),
+    );
     let nodes = with_flip_flops(rt.alloc())?;
-    assert!(rt; left(rt.alloc(), nodes, &[1])? == found(1, 0, Some(0), None));
+    is_left(
+        &rt,
+        left(rt.alloc(), nodes, &[1])?,
+        found(1, 0, Some(0), None),
+    );
     Ok(())
 }
 
@@ -159,9 +188,17 @@ fn with_a_word(alloc: Global) -> Result<Vec<Node>, AllocError> {
 fn words_that_come_in(rt: HostRuntime) -> Result<(), AllocError> {
     let nodes = with_a_word(rt.alloc())?;
     let blocks = one_block(rt.alloc())?;
-    assert!(rt; left_of(rt.alloc(), nodes, blocks, &[3])? == found(4, 1, Some(3), None));
+    is_left(
+        &rt,
+        left_of(rt.alloc(), nodes, blocks, &[3])?,
+        found(4, 1, Some(3), None),
+    );
     let nodes = with_a_word(rt.alloc())?;
     let blocks = one_block(rt.alloc())?;
-    assert!(rt; left_of(rt.alloc(), nodes, blocks, &[])? == found(3, 1, None, None));
+    is_left(
+        &rt,
+        left_of(rt.alloc(), nodes, blocks, &[])?,
+        found(3, 1, None, None),
+    );
     Ok(())
 }

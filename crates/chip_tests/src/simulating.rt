@@ -5,6 +5,7 @@ ghost use Rattle.std.specs.List.{All};
 ghost use Rattle.netlist.specs.declared.node.Node.TheVariants.{Pin, Nand, Flip, Word};
 ghost use Rattle.netlist.specs.Histories.{HasBits, pin_count};
 
+use crate::checks::holds;
 use gate_sim::Sim;
 use hdl_tree::List;
 use netlist::{Block, History, NetFault, Netlist, Node};
@@ -15,11 +16,26 @@ use std::test::Fail;
 fn nand_of_itself(rt: HostRuntime) -> Result<(), Fail> {
     let nodes = vec![in rt.alloc(); Node::Nand(0, 0)]?;
     let blocks: List<Block> = List::new(rt.alloc());
-    match Netlist::new(List::of(nodes), blocks) {
-        Err(fault) => assert_eq!(rt; fault, NetFault::NotOrdered(0)),
-        Ok(_) => assert!(rt; false),
-    }
+    let is_refused = match Netlist::new(List::of(nodes), blocks) {
+        Err(fault) => fault == NetFault::NotOrdered(0),
+        Ok(_) => false,
+    };
+    holds(&rt, "not in order", is_refused);
     Ok(())
+}
+
+// The second Nand after one pin is set, the second pin before the next evaluation, and the second Nand after it.
+fn seen_at_two_nands(alloc: Global, net: Netlist) -> Result<(bool, bool, bool), AllocError>
+    requires { net.nodes ≡ Pin ∷ Pin ∷ Nand 0 1 ∷ Nand 2 2 ∷ [] }
+{
+    let mut sim = Sim::new(alloc, net)?;
+    sim.set(0, true);
+    sim.eval();
+    let one = sim.get(3);
+    sim.set(1, true);
+    let early = sim.get(1);
+    sim.eval();
+    Ok((one, early, sim.get(3)))
 }
 
 #[test]
@@ -27,16 +43,10 @@ fn two_nands(rt: HostRuntime) -> Result<(), Fail> {
     let nodes = vec![in rt.alloc(); Node::Pin, Node::Pin, Node::Nand(0, 1), Node::Nand(2, 2)]?;
     let blocks: List<Block> = List::new(rt.alloc());
     match Netlist::new(List::of(nodes), blocks) {
-        Err(_) => assert!(rt; false),
+        Err(_) => holds(&rt, "two Nands", false),
         Ok(net) => {
-            let mut sim = Sim::new(rt.alloc(), net)?;
-            sim.set(0, true);
-            sim.eval();
-            assert!(rt; !sim.get(3));
-            sim.set(1, true);
-            assert!(rt; !sim.get(1));
-            sim.eval();
-            assert!(rt; sim.get(3));
+            let seen = seen_at_two_nands(rt.alloc(), net)?;
+            holds(&rt, "two Nands", seen == (false, false, true));
         }
     }
     Ok(())
@@ -207,8 +217,57 @@ fn agrees(alloc: Global) -> Result<bool, AllocError> {
 
 #[test]
 fn twenty_cycles(rt: HostRuntime) -> Result<(), Fail> {
-    assert!(rt; agrees(rt.alloc())?);
+    let agrees = agrees(rt.alloc())?;
+    holds(&rt, "twenty cycles", agrees);
     Ok(())
+}
+
+// The high bit of the word that is shown, and the word at address 0.
+type SeenWord = (bool, u16);
+
+// What is seen after a tick and a tock with a word to load; the word after it is put anew, and after another tock; and the bit that is shown at
+// another address.
+#[derive(Clone, Copy)]
+struct Seen {
+    ticked: SeenWord,
+    tocked: SeenWord,
+    put: u16,
+    again: u16,
+    elsewhere: bool,
+}
+
+fn word_seen(sim: &Sim) -> SeenWord
+    requires nodes { length sim.now.net.nodes ≡ 8 }
+    requires block { sim.now.net.blocks ≡ record { words = 2; «data» = 0 ∷ 1 ∷ []; load = 2; address = 3 ∷ [] } ∷ [] }
+{
+    (sim.get(5), sim.block_word(0, 0))
+}
+
+// Pins 1 and 2 are set for the first tick, and pin 3 at the end.
+fn words_seen(alloc: Global, net: Netlist) -> Result<Seen, AllocError>
+    requires nodes { net.nodes ≡ Pin ∷ Pin ∷ Pin ∷ Pin ∷ Word 0 0 ∷ Word 0 1 ∷ Flip 7 ∷ Nand 4 6 ∷ [] }
+    requires block { net.blocks ≡ record { words = 2; «data» = 0 ∷ 1 ∷ []; load = 2; address = 3 ∷ [] } ∷ [] }
+{
+    let mut sim = Sim::new(alloc, net)?;
+    sim.set(1, true);
+    sim.set(2, true);
+    sim.tick();
+    let ticked = word_seen(&sim);
+    sim.tock();
+    let tocked = word_seen(&sim);
+    sim.load_block(0, 0, &[1]);
+    let put = sim.block_word(0, 0);
+    sim.tock();
+    let again = sim.block_word(0, 0);
+    sim.set(3, true);
+    sim.eval();
+    Ok(Seen {
+        ticked,
+        tocked,
+        put,
+        again,
+        elsewhere: sim.get(5),
+    })
 }
 
 // A word of two bits at an address of one bit.
@@ -217,26 +276,15 @@ fn words(rt: HostRuntime) -> Result<(), Fail> {
     let nodes = mixed_nodes(rt.alloc())?;
     let blocks = mixed_blocks(rt.alloc())?;
     match Netlist::new(nodes, blocks) {
-        Err(_) => assert!(rt; false),
+        Err(_) => holds(&rt, "words", false),
         Ok(net) => {
-            let mut sim = Sim::new(rt.alloc(), net)?;
-            sim.set(1, true);
-            sim.set(2, true);
-            sim.tick();
+            let seen = words_seen(rt.alloc(), net)?;
             // What is written shows from the next cycle on.
-            assert!(rt; !sim.get(5));
-            assert_eq!(rt; sim.block_word(0, 0), 0);
-            sim.tock();
-            assert!(rt; sim.get(5));
-            assert_eq!(rt; sim.block_word(0, 0), 2);
+            holds(&rt, "tick", seen.ticked == (false, 0));
+            holds(&rt, "tock", seen.tocked == (true, 2));
             // A tock without a tick writes the same word again, after one that was put.
-            sim.load_block(0, 0, &[1]);
-            assert_eq!(rt; sim.block_word(0, 0), 1);
-            sim.tock();
-            assert_eq!(rt; sim.block_word(0, 0), 2);
-            sim.set(3, true);
-            sim.eval();
-            assert!(rt; !sim.get(5));
+            holds(&rt, "put", (seen.put, seen.again) == (1, 2));
+            holds(&rt, "elsewhere", !seen.elsewhere);
         }
     }
     Ok(())
@@ -417,10 +465,11 @@ fn rows(rt: HostRuntime) -> Result<(), Fail> {
     let nodes = row_nodes(rt.alloc())?;
     let blocks: List<Block> = List::new(rt.alloc());
     match Netlist::new(nodes, blocks) {
-        Err(_) => assert!(rt; false),
+        Err(_) => holds(&rt, "rows", false),
         Ok(net) => {
             let mut sim = Sim::new(rt.alloc(), net)?;
-            assert!(rt; rows_agree(rt.alloc(), &mut sim)?);
+            let agree = rows_agree(rt.alloc(), &mut sim)?;
+            holds(&rt, "rows", agree);
         }
     }
     Ok(())

@@ -16,11 +16,21 @@ use std::alloc::{AllocError, Global};
 use std::test::Fail;
 
 /// A chip in the simulator, with the nodes of its input bits and of its output bits.
-#[derive(Drop)]
 pub struct Bench {
     sim: Sim,
     inputs: Vec<u32>,
     outputs: Vec<u32>,
+}
+
+// By hand, so that whoever drops one calls this.
+impl Drop for Bench {
+    fn drop(self) {
+        let Bench {
+            sim: _,
+            inputs: _,
+            outputs: _,
+        } = self;
+    }
 }
 
 fn is_pin(net: &Netlist, node: u32) -> bool

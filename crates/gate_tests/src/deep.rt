@@ -88,7 +88,7 @@ fn stacked(alloc: Global, first: &[u8]) -> Result<Library, Fail>
     let mut chips = no_chips(alloc);
     stack(alloc, &mut chips, first)?;
     Ok(Library {
-        entries: chips.entries,
+        entries: chips.into_entries(),
     })
 }
 

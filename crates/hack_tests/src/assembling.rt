@@ -1,5 +1,6 @@
 ghost use Rattle.std.specs.Prelude.{◌≡◌};
 
+use crate::checks::{are_words, holds, is_told};
 use grammar::{Fault, ReadError};
 use hack_asm::*;
 use hack_isa::{Instr, encode};
@@ -7,7 +8,8 @@ use itoa::Buffer;
 use outer_world::{MemorySink, Put};
 use scan_text::Place;
 use std::alloc::{AllocError, Global};
-use std::test::*;
+use std::process::Abort;
+use std::test::Fail;
 
 fn words(alloc: Global, text: &[u8], is_image: bool) -> Result<Vec<u16>, AsmFault> {
     if is_image {
@@ -139,24 +141,59 @@ fn symbols(alloc: Global, count: u32) -> Result<Vec<u8>, AllocError> {
     Ok(text)
 }
 
+fn programs_table() -> &'static [(&'static str, bool, &'static [u16])] {
+    PROGRAMS
+}
+
+fn refused_table() -> &'static [(&'static str, bool, &'static str)] {
+    REFUSED
+}
+
+// A text has these words.
+fn makes(
+    rt: &impl Abort,
+    alloc: Global,
+    row: usize,
+    (text, is_image, wanted): (&str, bool, &[u16]),
+) -> Result<(), Fail> {
+    let found = words(alloc, text.as_bytes(), is_image)?;
+    are_words(rt, "programs", row, &found, wanted);
+    Ok(())
+}
+
+fn tells(
+    rt: &impl Abort,
+    alloc: Global,
+    (table, row): (&str, usize),
+    (text, is_image, wanted): (&[u8], bool, &str),
+) -> Result<(), Fail> {
+    let found = told(alloc, text, is_image)?;
+    is_told(rt, table, row, &found, wanted);
+    Ok(())
+}
+
 #[test]
 fn texts(rt: HostRuntime) -> Result<(), Fail> {
+    for (row, program) in programs_table().iter().enumerate() {
+        makes(&rt, rt.alloc(), row, *program)?;
+    }
+    for (row, (text, is_image, wanted)) in refused_table().iter().enumerate() {
+        let refused = (text.as_bytes(), *is_image, *wanted);
+        tells(&rt, rt.alloc(), ("refused", row), refused)?;
+    }
+    Ok(())
+}
+
+#[test]
+fn long_texts(rt: HostRuntime) -> Result<(), Fail> {
     let alloc = rt.alloc();
-    for (number, (text, is_image, wanted)) in PROGRAMS.iter().enumerate() {
-        let found = words(alloc, text.as_bytes(), *is_image)?;
-        assert_eq!(rt; found.as_slice(), *wanted, "row {number}");
+    for (row, (line, count, is_image, wanted)) in LINES.iter().enumerate() {
+        let text = lines(alloc, line, *count)?;
+        tells(&rt, alloc, ("lines", row), (&text, *is_image, *wanted))?;
     }
-    for (number, (text, is_image, wanted)) in REFUSED.iter().enumerate() {
-        let found = told(alloc, text.as_bytes(), *is_image)?;
-        assert_eq!(rt; found.as_str(), *wanted, "refused row {number}");
-    }
-    for (number, (line, count, is_image, wanted)) in LINES.iter().enumerate() {
-        let found = told(alloc, &lines(alloc, line, *count)?, *is_image)?;
-        assert_eq!(rt; found.as_str(), *wanted, "row {number} of lines");
-    }
-    for (count, wanted) in SYMBOLS {
-        let found = told(alloc, &symbols(alloc, count)?, false)?;
-        assert_eq!(rt; found.as_str(), wanted, "{count} symbols");
+    for (row, (count, wanted)) in SYMBOLS.iter().enumerate() {
+        let text = symbols(alloc, *count)?;
+        tells(&rt, alloc, ("symbols", row), (&text, false, *wanted))?;
     }
     Ok(())
 }
@@ -209,15 +246,19 @@ const FRONTS: &[(&[u8], &str)] = &[
     ),
 ];
 
+fn signs(alloc: Global, text: &[u8]) -> Result<String, AllocError> {
+    let mut signs = Vec::new(alloc);
+    for n in 0..text.len() {
+        signs.push(sign(alloc, &text[..n]))?;
+    }
+    String::from_utf8_lossy(alloc, &signs)
+}
+
 #[test]
 fn prefixes(rt: HostRuntime) -> Result<(), Fail> {
-    let alloc = rt.alloc();
-    for (text, wanted) in FRONTS {
-        let mut signs = Vec::new(alloc);
-        for n in 0..text.len() {
-            signs.push(sign(alloc, &text[..n]))?;
-        }
-        assert_eq!(rt; String::from_utf8_lossy(alloc, &signs)?.as_str(), *wanted);
+    for (row, (text, wanted)) in FRONTS.iter().enumerate() {
+        let found = signs(rt.alloc(), text)?;
+        is_told(&rt, "fronts", row, &found, wanted);
     }
     Ok(())
 }
@@ -245,6 +286,8 @@ fn shift(memory: bool, left: bool, of_d: bool, dest: u8, jump: u8) -> Instr
     }
 }
 
+const WRITTEN: &[u8] = b"@0\n@32767\nD=A\nAM=M-1\n0;JMP\nADM=D|M;JLT\nDM=A-D;JGE\nD=D<<\nM>>;JGT\n";
+
 #[test]
 fn written(rt: HostRuntime) -> Result<(), Fail> {
     let alloc = rt.alloc();
@@ -260,20 +303,31 @@ fn written(rt: HostRuntime) -> Result<(), Fail> {
         shift(true, false, false, 0, 0b001),
     ];
     let mut out = MemorySink::new(alloc, 1_000, Vec::new(alloc))?;
-    assert!(rt; matches!(write_asm(&instrs, &mut out), Put::Done));
-    let text = b"@0\n@32767\nD=A\nAM=M-1\n0;JMP\nADM=D|M;JLT\nDM=A-D;JGE\nD=D<<\nM>>;JGT\n";
-    assert_eq!(rt; out.bytes(), text.as_slice());
+    let put = write_asm(&instrs, &mut out);
+    holds(&rt, "written", 0, put == Put::Done);
+    holds(&rt, "written", 1, out.bytes() == WRITTEN);
     let words = words(alloc, out.bytes(), false)?;
     let mut encoded = Vec::new(alloc);
     for instr in &instrs {
         encoded.push(encode(instr))?;
     }
-    assert_eq!(rt; words.as_slice(), encoded.as_slice());
-    let mut out = MemorySink::new(alloc, 1_000, Vec::new(alloc))?;
-    assert!(rt; matches!(write_hack(ADD_WORDS, &mut out), Put::Done));
-    assert_eq!(rt; out.bytes(), ADD.as_bytes());
+    are_words(&rt, "written", 2, &words, &encoded);
+    Ok(())
+}
+
+#[test]
+fn written_words(rt: HostRuntime) -> Result<(), Fail> {
+    let mut out = MemorySink::new(rt.alloc(), 1_000, Vec::new(rt.alloc()))?;
+    let put = write_hack(ADD_WORDS, &mut out);
+    holds(&rt, "words", 0, put == Put::Done);
+    holds(&rt, "words", 1, out.bytes() == ADD.as_bytes());
+    Ok(())
+}
+
+#[test]
+fn written_fault(rt: HostRuntime) -> Result<(), Fail> {
     let fault = Fault::Range(Place { line: 1, column: 2 }, 32_768);
-    let text = format!(in alloc; "{}", ReadError::Fault(fault))?;
-    assert_eq!(rt; text.as_str(), "1:2: Range 32768");
+    let text = format!(in rt.alloc(); "{}", ReadError::Fault(fault))?;
+    is_told(&rt, "faults", 0, &text, "1:2: Range 32768");
     Ok(())
 }

@@ -1,5 +1,5 @@
+use crate::checks::{holds, is_word};
 use hack_isa::{Instr, alu, decode, encode};
-use std::test::*;
 
 // words, their instructions, and the words of these again, where bits that mean nothing are as they are written
 const WORDS: &[(u16, Instr, u16)] = &[
@@ -145,14 +145,18 @@ const OPERATIONS: &[(u16, u16, u8, (u16, bool, bool))] = &[
     (12, 10, 0b010101, (14, false, false)),
 ];
 
+fn words_table() -> &'static [(u16, Instr, u16)] {
+    WORDS
+}
+
 #[test]
 fn instructions(rt: HostRuntime) {
-    for (word, instr, again) in WORDS {
+    for (row, (word, instr, again)) in words_table().iter().enumerate() {
         let found = decode(*word);
-        assert_eq!(rt; found, *instr, "at {word}");
-        assert_eq!(rt; encode(&found), *again, "at {word}");
+        holds(&rt, "words", row, found == *instr);
+        is_word(&rt, "words", row, encode(&found), *again);
     }
-    for (x, y, bits, wanted) in OPERATIONS {
-        assert_eq!(rt; alu(*x, *y, *bits), *wanted, "at {x} and {y}");
+    for (row, (x, y, bits, wanted)) in OPERATIONS.iter().enumerate() {
+        holds(&rt, "operations", row, alu(*x, *y, *bits) == *wanted);
     }
 }

@@ -4,6 +4,8 @@
 #[cfg(test)]
 mod assembling;
 #[cfg(test)]
+mod checks;
+#[cfg(test)]
 mod instructions;
 #[cfg(test)]
 mod machine;

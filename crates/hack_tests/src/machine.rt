@@ -1,8 +1,8 @@
+use crate::checks::{holds, is_word};
 use hack_machine::Hack;
 use machine_io::{Level, Moved};
 use std::alloc::{AllocError, Global};
 use std::process::Abort;
-use std::test::*;
 
 // This many steps under a key, and then: A, D and the program counter, words at their addresses, and what is seen under a key at
 // an address.
@@ -142,6 +142,10 @@ const CASES: &[Case<'static>] = &[
     },
 ];
 
+fn cases_table() -> &'static [Case<'static>] {
+    CASES
+}
+
 // The machine of an image, with what is put from outside.
 fn machine(rt: &impl Abort, alloc: Global, case: &Case<'_>) -> Result<Hack, AllocError> {
     assert!(rt; case.image.len() <= 32768);
@@ -167,17 +171,13 @@ fn step(rt: &impl Abort, hack: &mut Hack, steps: u16, key: u16) {
 
 fn stands(rt: &impl Abort, number: usize, hack: &Hack, look: &Look<'_>) {
     let registers = (hack.a(), hack.d(), hack.pc());
-    assert_eq!(rt; registers, look.registers, "row {number}");
+    holds(rt, "registers", number, registers == look.registers);
     for (address, word) in look.words {
         assert!(rt; *address < 24576);
-        assert_eq!(rt; hack.ram(*address), *word, "row {number}, at {address}");
+        is_word(rt, "words", number, hack.ram(*address), *word);
     }
     for (key, address, word) in look.seen {
-        assert_eq!(rt;
-            hack.word_seen(*key, *address),
-            *word,
-            "row {number}, at {address}"
-        );
+        is_word(rt, "seen", number, hack.word_seen(*key, *address), *word);
     }
 }
 
@@ -188,7 +188,7 @@ fn goes(rt: &impl Abort, alloc: Global, number: usize, case: &Case<'_>) -> Resul
         step(rt, &mut hack, look.steps, look.key);
         stands(rt, number, &hack, look);
         moves = moves.wrapping_add(u64::from(look.steps));
-        assert_eq!(rt; hack.moves(), moves, "row {number}");
+        holds(rt, "moves", number, hack.moves() == moves);
     }
     Ok(())
 }
@@ -197,20 +197,25 @@ fn two_moves<L: Level>(rt: &impl Abort, level: &mut L) -> Result<u16, AllocError
     for _ in 0..2 {
         assert!(rt; level.moves() < 2);
         let answer = level.step(0)?;
-        assert!(rt; answer == Moved::Acted);
+        holds(rt, "a level", 0, answer == Moved::Acted);
     }
     Ok(level.word_at(2048))
 }
 
 #[test]
 fn steps(rt: HostRuntime) -> Result<(), AllocError> {
-    let alloc = rt.alloc();
-    for (number, case) in CASES.iter().enumerate() {
-        goes(&rt, alloc, number, case)?;
+    for (number, case) in cases_table().iter().enumerate() {
+        goes(&rt, rt.alloc(), number, case)?;
     }
-    // @2048, M=1, moved as a level
-    let mut hack = Hack::new(alloc, &[2048, 61384])?;
-    assert_eq!(rt; two_moves(&rt, &mut hack)?, 1);
-    assert_eq!(rt; (hack.steps(), hack.point()), (0, 2));
+    Ok(())
+}
+
+// @2048, M=1, moved as a level
+#[test]
+fn steps_of_a_level(rt: HostRuntime) -> Result<(), AllocError> {
+    let mut hack = Hack::new(rt.alloc(), &[2048, 61384])?;
+    let word = two_moves(&rt, &mut hack)?;
+    is_word(&rt, "a level", 0, word, 1);
+    holds(&rt, "a level", 0, (hack.steps(), hack.point()) == (0, 2));
     Ok(())
 }

@@ -1,4 +1,4 @@
-use std::test::*;
+use crate::checks::{holds, is_word};
 use word16::{bits_of, eq, gt, lt, sub, word_of};
 
 // Two words, and whether the first is below and above the second. -20000 is the word 45536; each difference is past a signed word.
@@ -11,15 +11,13 @@ const ORDERED: &[(u16, u16, (bool, bool))] = &[
 
 #[test]
 fn words(rt: HostRuntime) {
-    for (x, y, wanted) in ORDERED {
-        assert_eq!(rt; (lt(*x, *y), gt(*x, *y)), *wanted, "{x} and {y}");
+    for (row, (x, y, wanted)) in ORDERED.iter().enumerate() {
+        holds(&rt, "ordered", row, (lt(*x, *y), gt(*x, *y)) == *wanted);
     }
-    assert!(rt; eq(sub(0, 1), 65535));
+    holds(&rt, "eq", 0, eq(sub(0, 1), 65535));
     // 60432 is 1110110000010000, the instruction D=A
     let bits = bits_of(60432);
-    assert_eq!(rt;
-        (bits[0], bits[4], bits[12], bits[15]),
-        (false, true, false, true)
-    );
-    assert_eq!(rt; word_of(bits), 60432);
+    let four = (bits[0], bits[4], bits[12], bits[15]);
+    holds(&rt, "bits", 0, four == (false, true, false, true));
+    is_word(&rt, "bits", 0, word_of(bits), 60432);
 }

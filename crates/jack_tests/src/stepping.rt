@@ -2,6 +2,7 @@
 
 ghost use Rattle.std.specs.Prelude.{◌≡◌, ◌+◌, ◌%◌, ℕ};
 
+use crate::checks::{holds, is_word};
 use crate::programs::{Main, Written, core, left_nested, right_nested};
 use jack_core::{Operator, Part, Sign};
 use jack_machine::Jack;
@@ -247,14 +248,23 @@ const CASES: &[Case<'static>] = &[
     },
 ];
 
+fn cases_table() -> &'static [Case<'static>] {
+    CASES
+}
+
 fn stands(rt: &impl Abort, number: usize, jack: &Jack<'_>, end: End, look: &Look<'_>) {
-    assert_eq!(rt; (end, jack.moves()), (look.end, look.moves), "row {number}");
+    holds(
+        rt,
+        "ends",
+        number,
+        (end, jack.moves()) == (look.end, look.moves),
+    );
     if let Some(point) = look.point {
-        assert_eq!(rt; (jack.point(), jack.steps()), point, "row {number}");
+        holds(rt, "points", number, (jack.point(), jack.steps()) == point);
     }
     for (address, word) in look.words {
         assert!(rt; 2048 <= *address && *address < 24576);
-        assert_eq!(rt; jack.word_at(*address), *word, "row {number}, at {address}");
+        is_word(rt, number, *address, jack.word_at(*address), *word);
     }
 }
 
@@ -307,13 +317,19 @@ fn is_deep(
     goes(rt, alloc, number, &main, &[look])
 }
 
-// An expression is as deep as it is long, to the left and to the right.
 #[test]
 fn programs(rt: HostRuntime) -> Result<(), Fail> {
-    let alloc = rt.alloc();
-    for (number, case) in CASES.iter().enumerate() {
-        goes(&rt, alloc, number, &case.main, case.looks)?;
+    for (number, case) in cases_table().iter().enumerate() {
+        goes(&rt, rt.alloc(), number, &case.main, case.looks)?;
     }
-    is_deep(&rt, alloc, 100, &left_nested(alloc, 50_000)?, 15_537)?;
-    is_deep(&rt, alloc, 101, &right_nested(alloc, 50_000)?, 1)
+    Ok(())
+}
+
+// An expression is as deep as it is long, to the left and to the right.
+#[test]
+fn deep_expressions(rt: HostRuntime) -> Result<(), Fail> {
+    let left = left_nested(rt.alloc(), 50_000)?;
+    is_deep(&rt, rt.alloc(), 100, &left, 15_537)?;
+    let right = right_nested(rt.alloc(), 50_000)?;
+    is_deep(&rt, rt.alloc(), 101, &right, 1)
 }

@@ -1,10 +1,12 @@
+use crate::checks::{holds, is_told};
 use grammar::ReadError;
 use jack_parser::*;
-use jack_tree::{Class, Constant, Form, Operator, Statement, Term};
+use jack_tree::{Class, Constant, Expression, Form, Operator, Statement, Subroutine, Term};
 use outer_world::{MemorySink, Name, Put};
 use scan_text::Place;
 use std::alloc::{AllocError, Global};
-use std::test::*;
+use std::process::Abort;
+use std::test::Fail;
 
 // classes, the calls of the sink that fail, and what is printed
 const PRINTED: &[(&str, &[(u64, u32)], Put, &str)] = &[
@@ -171,27 +173,58 @@ fn shown(alloc: Global, text: &str, fails: &[(u64, u32)]) -> Result<(Put, String
     Ok((put, String::from_utf8_lossy(alloc, sink.bytes())?))
 }
 
+fn printed_table() -> &'static [(&'static str, &'static [(u64, u32)], Put, &'static str)] {
+    PRINTED
+}
+
+fn faults_table() -> &'static [(&'static str, &'static str)] {
+    FAULTS
+}
+
+fn large_table() -> &'static [(&'static [(u32, &'static str)], &'static str)] {
+    LARGE
+}
+
+fn is_printed(
+    rt: &impl Abort,
+    alloc: Global,
+    row: usize,
+    (text, fails, put, wanted): (&str, &[(u64, u32)], Put, &str),
+) -> Result<(), Fail> {
+    let (found, printed) = shown(alloc, text, fails)?;
+    holds(rt, "puts", row, found == put);
+    is_told(rt, "printed", row, &printed, wanted);
+    Ok(())
+}
+
+fn tells(
+    rt: &impl Abort,
+    alloc: Global,
+    table: &str,
+    row: usize,
+    (text, wanted): (&[u8], &str),
+) -> Result<(), Fail> {
+    let found = told(alloc, text)?;
+    is_told(rt, table, row, &found, wanted);
+    Ok(())
+}
+
 #[test]
 fn texts(rt: HostRuntime) -> Result<(), Fail> {
-    let alloc = rt.alloc();
-    for (number, (text, fails, put, wanted)) in PRINTED.iter().enumerate() {
-        let (found, printed) = shown(alloc, text, fails)?;
-        assert_eq!(rt;
-            (found, printed.as_str()),
-            (*put, *wanted),
-            "printed row {number}"
-        );
+    for (row, printed) in printed_table().iter().enumerate() {
+        is_printed(&rt, rt.alloc(), row, *printed)?;
     }
-    for (number, (text, wanted)) in FAULTS.iter().enumerate() {
-        assert_eq!(rt;
-            told(alloc, text.as_bytes())?.as_str(),
-            *wanted,
-            "row {number}"
-        );
+    for (row, (text, wanted)) in faults_table().iter().enumerate() {
+        tells(&rt, rt.alloc(), "faults", row, (text.as_bytes(), *wanted))?;
     }
-    for (number, (parts, wanted)) in LARGE.iter().enumerate() {
-        let text = large(alloc, parts)?;
-        assert_eq!(rt; told(alloc, &text)?.as_str(), *wanted, "large row {number}");
+    Ok(())
+}
+
+#[test]
+fn large_texts(rt: HostRuntime) -> Result<(), Fail> {
+    for (row, (parts, wanted)) in large_table().iter().enumerate() {
+        let text = large(rt.alloc(), parts)?;
+        tells(&rt, rt.alloc(), "large", row, (&text, *wanted))?;
     }
     Ok(())
 }
@@ -200,26 +233,42 @@ fn at(line: u32, column: u32) -> Place {
     Place { line, column }
 }
 
+// `x*(x+1)-2`: operators are taken from left to right.
+fn has_its_operators(rt: &impl Abort, value: &Expression) {
+    match value.rest.as_slice() {
+        [times, minus] => {
+            holds(rt, "times", 0, times.operator == Operator::Times);
+            holds(rt, "times", 1, times.place == at(1, 51));
+            holds(rt, "minus", 0, minus.operator == Operator::Minus);
+            holds(rt, "minus", 1, minus.place == at(1, 57));
+            let is_two = matches!(&minus.term, Term::Constant(Constant::Integer(2)));
+            holds(rt, "minus", 2, is_two);
+        }
+        _ => holds(rt, "operators", 2, false),
+    }
+}
+
+fn has_its_statement(rt: &impl Abort, get: &Subroutine) {
+    holds(rt, "get", 0, get.form == Form::Method);
+    holds(rt, "get", 1, get.name.place == at(1, 35));
+    match get.statements.as_slice() {
+        [Statement::Return(place, Some(value))] => {
+            holds(rt, "return", 0, *place == at(1, 43));
+            has_its_operators(rt, value);
+        }
+        _ => holds(rt, "return", 1, false),
+    }
+}
+
 #[test]
 fn tree(rt: HostRuntime) -> Result<(), Fail> {
     let text = b"class C { field int x; method int get() { return x*(x+1)-2; } }";
     let class = read(rt.alloc(), text)?;
-    assert!(rt; class.name.text.as_str() == "C");
-    assert_eq!(rt; class.variables.len(), 1);
-    assert_eq!(rt; class.subroutines.len(), 1);
-    assert!(rt; class.subroutines[0].form == Form::Method);
-    assert!(rt; class.subroutines[0].name.place == at(1, 35));
-    assert_eq!(rt; class.subroutines[0].statements.len(), 1);
-    // operators are taken from left to right
-    let Statement::Return(place, Some(value)) = &class.subroutines[0].statements[0] else {
-        return Err(Fail::from("the statement returns a value"));
-    };
-    assert!(rt; *place == at(1, 43));
-    assert_eq!(rt; value.rest.len(), 2);
-    assert!(rt; value.rest[0].operator == Operator::Times);
-    assert!(rt; value.rest[0].place == at(1, 51));
-    assert!(rt; value.rest[1].operator == Operator::Minus);
-    assert!(rt; value.rest[1].place == at(1, 57));
-    assert!(rt; matches!(&value.rest[1].term, Term::Constant(Constant::Integer(2))));
+    holds(&rt, "name", 0, class.name.text.as_str() == "C");
+    holds(&rt, "variables", 1, class.variables.len() == 1);
+    match class.subroutines.as_slice() {
+        [get] => has_its_statement(&rt, get),
+        _ => holds(&rt, "subroutines", 1, false),
+    }
     Ok(())
 }

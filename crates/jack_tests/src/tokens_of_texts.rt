@@ -1,9 +1,11 @@
+use crate::checks::{holds, is_told};
 use grammar::ReadError;
 use jack_lexer::*;
 use jack_tree::{Keyword, Kind, Token};
 use scan_text::Place;
 use std::alloc::Global;
-use std::test::*;
+use std::process::Abort;
+use std::test::Fail;
 
 // a text, and its tokens: kinds, slices and places
 const TEXT: &[u8] = b"let /* a */ x1=\"a /* \";// b\r\n32767/_^#";
@@ -46,25 +48,56 @@ fn told(alloc: Global, text: &[u8]) -> Result<String, Fail> {
     }
 }
 
+fn tokens_table() -> &'static [(Kind, &'static [u8], (u32, u32))] {
+    TOKENS
+}
+
+fn faults_table() -> &'static [(&'static [u8], &'static str)] {
+    FAULTS
+}
+
+fn is_token(rt: &impl Abort, row: usize, token: &Token<'_>) {
+    let place = (token.place.line, token.place.column);
+    let found = (token.kind, token.text, place);
+    let wanted = tokens_table().get(row).copied();
+    holds(rt, "tokens", row, Some(found) == wanted);
+}
+
+fn tells(
+    rt: &impl Abort,
+    alloc: Global,
+    table: &str,
+    row: usize,
+    (text, wanted): (&[u8], &str),
+) -> Result<(), Fail> {
+    let found = told(alloc, text)?;
+    is_told(rt, table, row, &found, wanted);
+    Ok(())
+}
+
 #[test]
 fn texts(rt: HostRuntime) -> Result<(), Fail> {
-    let alloc = rt.alloc();
-    let (tokens, end) = cut(alloc, TEXT)?;
-    assert_eq!(rt; tokens.len(), TOKENS.len());
-    assert_eq!(rt; (end.line, end.column), (2, 10));
-    for (number, token) in tokens.iter().enumerate() {
-        let found = (
-            token.kind,
-            token.text,
-            (token.place.line, token.place.column),
-        );
-        assert_eq!(rt; Some(found), TOKENS.get(number).copied(), "token {number}");
+    let (tokens, end) = cut(rt.alloc(), TEXT)?;
+    holds(&rt, "count", 0, tokens.len() == tokens_table().len());
+    holds(&rt, "end", 0, (end.line, end.column) == (2, 10));
+    for (row, token) in tokens.iter().enumerate() {
+        is_token(&rt, row, token);
     }
-    for (number, (text, wanted)) in FAULTS.iter().enumerate() {
-        assert_eq!(rt; told(alloc, text)?.as_str(), *wanted, "row {number}");
-    }
-    let blanks = vec![in alloc; b' '; 1048577]?;
-    assert_eq!(rt; told(alloc, &blanks)?.as_str(), "0:0: Range 1048577");
-    assert_eq!(rt; told(alloc, &blanks[1..])?.as_str(), "");
     Ok(())
+}
+
+#[test]
+fn faults(rt: HostRuntime) -> Result<(), Fail> {
+    for (row, fault) in faults_table().iter().enumerate() {
+        tells(&rt, rt.alloc(), "faults", row, *fault)?;
+    }
+    Ok(())
+}
+
+#[test]
+fn the_longest_text(rt: HostRuntime) -> Result<(), Fail> {
+    let alloc = rt.alloc();
+    let blanks = vec![in alloc; b' '; 1048577]?;
+    tells(&rt, alloc, "blanks", 0, (&blanks, "0:0: Range 1048577"))?;
+    tells(&rt, alloc, "blanks", 1, (&blanks[1..], ""))
 }

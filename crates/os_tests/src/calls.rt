@@ -199,6 +199,10 @@ let s[27] = t.intValue() = (~32767);",
     },
 ];
 
+fn calls_table() -> &'static [Program] {
+    &CALLS
+}
+
 const SMALL: [Program; 10] = [
     // comparisons are those of signed words
     Program {
@@ -297,6 +301,10 @@ const SMALL: [Program; 10] = [
 ",
     },
 ];
+
+fn small_table() -> &'static [Program] {
+    &SMALL
+}
 
 const ERRORS: [(&str, &[&str]); 18] = [
     // error 1
@@ -453,20 +461,24 @@ const ERRORS: [(&str, &[&str]); 18] = [
     ),
 ];
 
+fn errors_table() -> &'static [(&'static str, &'static [&'static str])] {
+    &ERRORS
+}
+
 #[test]
 fn calls_give_words(rt: HostRuntime) -> Result<(), Fail> {
-    all_draw(&rt, rt.alloc(), &CALLS)
+    all_draw(&rt, rt.alloc(), calls_table())
 }
 
 #[test]
 fn small_programs_draw(rt: HostRuntime) -> Result<(), Fail> {
-    all_draw(&rt, rt.alloc(), &SMALL)
+    all_draw(&rt, rt.alloc(), small_table())
 }
 
 #[test]
 fn errors_are_told(rt: HostRuntime) -> Result<(), Fail> {
-    for (rows, bodies) in ERRORS {
-        for body in bodies {
+    for (rows, bodies) in errors_table() {
+        for body in *bodies {
             draws(&rt, rt.alloc(), body, 250_000, "", rows)?;
         }
     }

@@ -4,7 +4,11 @@
 //! its black pixels. What is expected is worked out by a model in Python (tools/drawings), which sets pixels and cells by the
 //! rules of docs/SYSTEM.md and shares nothing with the texts of the system.
 ghost use Rattle.std.specs.Prelude.{◌<◌};
+ghost use Rattle.jack_core.specs.Texts.{the_program};
+ghost use Rattle.jack_compiler.specs.Resolved.{IsResolvedCore};
+ghost use Rattle.jack_machine.specs.Calls.{CallsAreThere};
 
+use crate::checks::is_told;
 use crate::programs::program_of;
 use jack_core::Core;
 use jack_machine::Jack;
@@ -116,6 +120,23 @@ fn screen_at_end<L: Level<Point = Point>>(
     Ok(rows_of(alloc, level)?)
 }
 
+fn drawn_by_meaning(alloc: Global, core: &Core, keys: &Keys, moves: u32) -> Result<String, Fail>
+    requires { CallsAreThere (the_program core.now) }
+{
+    let mut jack = Jack::new(alloc, core)?;
+    screen_at_end(alloc, &mut jack, core, keys, moves)
+}
+
+fn drawn_on_computer(alloc: Global, core: &Core, keys: &Keys, moves: u32) -> Result<String, Fail>
+    requires { IsResolvedCore core.now }
+{
+    let Ok(image) = build(alloc, core) else {
+        return Err(Fail::from("the program has no image"));
+    };
+    let mut hack = prepare_hack(alloc, image)?;
+    screen_at_end(alloc, &mut hack, core, keys, moves)
+}
+
 /// A program with these statements draws these rows at both levels.
 pub fn draws(
     rt: &impl Abort,
@@ -129,18 +150,13 @@ pub fn draws(
         "class Main {{ function void main() {{ var Array s, a, b, c, d, e; var String t, u; var int k; let s = 16384; {body} return; }} }}"
     )?;
     let core = program_of(alloc, main.as_bytes())?;
-    let keys = read_keys(alloc, keys.as_bytes())
-        .ok()
-        .ok_or("the script has no fault")?;
-    let mut jack = Jack::new(alloc, &core)?;
-    let by_meaning = screen_at_end(alloc, &mut jack, &core, &keys, moves)?;
-    assert_eq!(rt; by_meaning.as_str(), rows);
-    let Ok(image) = build(alloc, &core) else {
-        return Err(Fail::from("the program has no image"));
+    let Ok(keys) = read_keys(alloc, keys.as_bytes()) else {
+        return Err(Fail::from("the script has no fault"));
     };
-    let mut hack = prepare_hack(alloc, image)?;
-    let on_computer = screen_at_end(alloc, &mut hack, &core, &keys, moves)?;
-    assert_eq!(rt; on_computer.as_str(), rows);
+    let by_meaning = drawn_by_meaning(alloc, &core, &keys, moves)?;
+    is_told(rt, body, &by_meaning, rows);
+    let on_computer = drawn_on_computer(alloc, &core, &keys, moves)?;
+    is_told(rt, body, &on_computer, rows);
     Ok(())
 }
 

@@ -606,7 +606,11 @@ do Screen.setColor(true); do Screen.drawPixel(9, 9);",
     },
 ];
 
+fn drawings_table() -> &'static [Program] {
+    &DRAWINGS
+}
+
 #[test]
 fn screen_draws(rt: HostRuntime) -> Result<(), Fail> {
-    all_draw(&rt, rt.alloc(), &DRAWINGS)
+    all_draw(&rt, rt.alloc(), drawings_table())
 }

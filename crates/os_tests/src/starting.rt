@@ -1,7 +1,9 @@
 //! How the operating system starts.
 ghost use Rattle.jack_core.specs.Texts.{the_program};
+ghost use Rattle.jack_compiler.specs.Resolved.{IsResolvedCore};
 ghost use Rattle.jack_machine.specs.Calls.{CallsAreThere};
 
+use crate::checks::{holds, is_told};
 use crate::programs::{only, program_of};
 use jack_core::Core;
 use jack_machine::Jack;
@@ -21,7 +23,7 @@ fn no_class_is_there_twice(rt: HostRuntime) -> Result<(), Fail> {
     let own = only(alloc, "Math.jack", b"class Math { }")?;
     match program_of_classes(alloc, &own, false) {
         Err(ProgramError::Name(fault)) => {
-            assert!(rt; fault.kind == NameKind::ClassTwice);
+            holds(&rt, "Math", fault.kind == NameKind::ClassTwice);
             Ok(())
         }
         _ => Err(Fail::from("a class is there twice")),
@@ -51,9 +53,21 @@ fn comes_to(
         .subroutines
         .get(point.sub as usize)
         .ok_or("the point is in a subroutine")?;
-    assert_eq!(rt; at.name.as_str(), name);
-    assert_eq!(rt; point.number, number);
+    is_told(rt, "the statement", at.name.as_str(), name);
+    holds(rt, name, point.number == number);
     Ok(())
+}
+
+// Where the computer is after 200,000 cycles.
+fn point_on_computer(alloc: Global, core: &Core) -> Result<Point, Fail>
+    requires { IsResolvedCore core.now }
+{
+    let Ok(image) = build(alloc, core) else {
+        return Err(Fail::from("the program has no image"));
+    };
+    let mut hack = prepare_hack(alloc, image)?;
+    drive(&mut hack, &no_keys(alloc)?, 200_000)?;
+    Ok(hack.point())
 }
 
 // The first steps of the system, and that the program begins within 200,000 cycles.
@@ -70,12 +84,8 @@ fn the_system_starts(rt: HostRuntime) -> Result<(), Fail> {
     ] {
         comes_to(&rt, alloc, &core, moves, name, number)?;
     }
-    let Ok(image) = build(alloc, &core) else {
-        return Err(Fail::from("the program has no image"));
-    };
-    let mut hack = prepare_hack(alloc, image)?;
-    drive(&mut hack, &no_keys(alloc)?, 200_000)?;
-    assert!(rt; hack.point() == Point { sub: 1, number: 1 });
+    let point = point_on_computer(alloc, &core)?;
+    holds(&rt, "the computer", point == Point { sub: 1, number: 1 });
     Ok(())
 }
 

@@ -269,6 +269,10 @@ do Output.backSpace();",
     },
 ];
 
+fn output_table() -> &'static [Program] {
+    &OUTPUT
+}
+
 // A line of at least 80 characters: what is kept of it, and the screen.
 const LONG_LINE: &str =
     "let t = Keyboard.readLine(\"\"); let s[6400] = (t.length()) = 80; let s[6401] = (t.charAt(0)) = 97;
@@ -752,12 +756,16 @@ let s[6404] = (Keyboard.readInt(\"Age: \")) = (-12); do Output.printString(\"end
     },
 ];
 
+fn keyboard_table() -> &'static [Program] {
+    &KEYBOARD
+}
+
 #[test]
 fn output_prints(rt: HostRuntime) -> Result<(), Fail> {
-    all_draw(&rt, rt.alloc(), &OUTPUT)
+    all_draw(&rt, rt.alloc(), output_table())
 }
 
 #[test]
 fn keyboard_reads(rt: HostRuntime) -> Result<(), Fail> {
-    all_draw(&rt, rt.alloc(), &KEYBOARD)
+    all_draw(&rt, rt.alloc(), keyboard_table())
 }

@@ -1,4 +1,5 @@
 //! Key scripts: the codes at moments, and the faults of texts that are no key scripts.
+use crate::checks::{is_number, is_told};
 use key_script::{KeyError, Keys, read_keys};
 use std::alloc::{AllocError, Global};
 use std::process::Abort;
@@ -56,33 +57,47 @@ fn fault_of(alloc: Global, read: &Result<Keys, KeyError>) -> Result<String, Allo
 }
 
 fn has_codes(rt: &impl Abort, alloc: Global, text: &str, codes: &[(u64, u16)]) -> Result<(), Fail> {
-    let keys = read_keys(alloc, text.as_bytes())
-        .ok()
-        .ok_or("the text is a script")?;
+    let Ok(keys) = read_keys(alloc, text.as_bytes()) else {
+        return Err(Fail::from("the text is a script"));
+    };
     for (moment, code) in codes {
-        assert_eq!(rt; keys.at(*moment), *code, "{moment} of {text}");
+        let found = u64::from(keys.at(*moment));
+        is_number(rt, text, *moment, found, u64::from(*code));
     }
     Ok(())
 }
 
 fn has_fault(rt: &impl Abort, alloc: Global, text: &[u8], fault: &str) -> Result<(), Fail> {
     let told = fault_of(alloc, &read_keys(alloc, text))?;
-    assert_eq!(rt; told.as_str(), fault);
+    is_told(rt, fault, &told, fault);
     Ok(())
+}
+
+fn scripts_table() -> &'static [(&'static str, &'static [(u64, u16)])] {
+    SCRIPTS
+}
+
+fn faults_table() -> &'static [(&'static str, &'static str)] {
+    FAULTS
 }
 
 #[test]
 fn scripts_and_faults(rt: HostRuntime) -> Result<(), Fail> {
     let alloc = rt.alloc();
-    for (text, codes) in SCRIPTS {
+    for (text, codes) in scripts_table() {
         has_codes(&rt, alloc, text, codes)?;
     }
-    for (text, fault) in FAULTS {
+    for (text, fault) in faults_table() {
         has_fault(&rt, alloc, text.as_bytes(), fault)?;
     }
+    is_number(&rt, "no keys", 5, u64::from(Keys::none(alloc).at(5)), 0);
+    Ok(())
+}
+
+#[test]
+fn the_longest_script(rt: HostRuntime) -> Result<(), Fail> {
+    let alloc = rt.alloc();
     let blanks = vec![in alloc; b' '; 1_048_577]?;
     has_fault(&rt, alloc, &blanks, "0:0: Range 1048577")?;
-    has_fault(&rt, alloc, &blanks[1..], "a script")?;
-    assert_eq!(rt; Keys::none(alloc).at(5), 0);
-    Ok(())
+    has_fault(&rt, alloc, &blanks[1..], "a script")
 }

@@ -1,10 +1,12 @@
 //! Words and the lines that they are.
 mod tables;
 
+use crate::checks::{holds, is_told};
 use command_line::{ClassWork, Exec, FileWork, LineError, Request, Run, RunLevel, read};
 use std::alloc::{AllocError, Global};
+use std::process::Abort;
 use std::test::Fail;
-use tables::{EXECS, LINES, NO_LINES, PROG, RUNS};
+use tables::{PROG, execs, no_lines, read_lines, runs};
 
 // The words of a text.
 fn words_of(alloc: Global, text: &str) -> Result<Vec<String>, AllocError> {
@@ -93,16 +95,25 @@ fn first_accepted(
     Ok(None)
 }
 
+fn none_is_misread(rt: &impl Abort, misread: Option<&str>) {
+    assert_eq!(rt; misread, None);
+}
+
 #[test]
 fn lines_are_read(rt: HostRuntime) -> Result<(), Fail> {
+    none_is_misread(&rt, first_misread_exec(rt.alloc(), execs())?);
+    none_is_misread(&rt, first_misread_run(rt.alloc(), runs())?);
+    none_is_misread(&rt, first_misread(rt.alloc(), read_lines())?);
+    none_is_misread(&rt, first_accepted(rt.alloc(), no_lines())?);
+    Ok(())
+}
+
+#[test]
+fn no_words_are_no_line(rt: HostRuntime) -> Result<(), Fail> {
     let alloc = rt.alloc();
-    assert_eq!(rt; first_misread_exec(alloc, EXECS)?, None);
-    assert_eq!(rt; first_misread_run(alloc, RUNS)?, None);
-    assert_eq!(rt; first_misread(alloc, LINES)?, None);
-    assert_eq!(rt; first_accepted(alloc, NO_LINES)?, None);
-    // no words at all
-    assert!(rt; answers(alloc, Vec::new(alloc), Err(LineError::Usage)));
+    let refused = answers(alloc, Vec::new(alloc), Err(LineError::Usage));
+    holds(&rt, "no words", refused);
     let text = format!(in alloc; "{}", LineError::Usage)?;
-    assert_eq!(rt; text.as_str(), "usage: nand COMMAND ARGUMENTS");
+    is_told(&rt, "usage", &text, "usage: nand COMMAND ARGUMENTS");
     Ok(())
 }

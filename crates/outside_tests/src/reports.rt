@@ -5,12 +5,14 @@ ghost use Rattle.machine_io.specs.History.{moves_in, OnStop};
 ghost use Rattle.machine_io.specs.Words.{words_text};
 ghost use Rattle.outer_world.specs.Written.{Puts};
 
+use crate::checks::{holds, is_number, is_put, is_written};
 use machine_io::{
     End, Head, Keyboard, Level, LevelName, Moved, Show, Stop, Stray, Until, drive, drive_until,
     show_report, show_screen, show_words,
 };
 use outer_world::{MemorySink, Put, Sink};
-use std::alloc::AllocError;
+use std::alloc::{AllocError, Global};
+use std::process::Abort;
 use std::test::Fail;
 
 // Makes this many moves, and then is full. Key 0 leads it astray, key 9 to its end.
@@ -100,6 +102,14 @@ impl Until<Counter> for LastKey {
     }
 }
 
+// A level has made this many moves, and this is its last key.
+fn stands_at(rt: &impl Abort, level: &Counter, moves: u64, key: u16)
+    ensures { level.now.moves ≡ moves }
+{
+    assert_eq!(rt; level.moves(), moves);
+    is_number(rt, "key", moves, u64::from(level.point()), u64::from(key));
+}
+
 fn new_counter(room: u64) -> Counter
     ensures { result.moves ≡ 0 }
 {
@@ -124,12 +134,12 @@ fn asked_twice<L: Level>(level: &mut L, key: u16) -> Result<(Moved, Moved), Allo
 fn the_same_key_gets_the_same_answer(rt: HostRuntime) -> Result<(), Fail> {
     let mut level = new_counter(1);
     let gone = asked_twice(&mut level, 0)?;
-    assert_eq!(rt;
-        gone,
-        (Moved::Stray(Stray::Values), Moved::Stray(Stray::Values))
-    );
+    let strayed = Moved::Stray(Stray::Values);
+    holds(&rt, "key 0", gone == (strayed, strayed));
+    // The second call wants to know it.
     assert!(rt; level.moves() == 0);
-    assert_eq!(rt; asked_twice(&mut level, 3)?, (Moved::Acted, Moved::Full(5)));
+    let full = asked_twice(&mut level, 3)?;
+    holds(&rt, "key 3", full == (Moved::Acted, Moved::Full(5)));
     Ok(())
 }
 
@@ -137,42 +147,37 @@ fn the_same_key_gets_the_same_answer(rt: HostRuntime) -> Result<(), Fail> {
 #[test]
 fn drive_stops_where_the_test_holds(rt: HostRuntime) -> Result<(), Fail> {
     let mut level = new_counter(100);
-    assert_eq!(rt;
-        drive_until(&mut level, &Turning, 5, &LastKey(6))?,
-        Stop::Found
-    );
-    assert_eq!(rt; (level.moves(), level.point()), (3, 6));
-    assert_eq!(rt;
-        drive_until(&mut level, &Turning, 1, &LastKey(6))?,
-        Stop::Ended(End::Bound)
-    );
-    assert_eq!(rt;
-        drive_until(&mut level, &Turning, 1, &LastKey(8))?,
-        Stop::Found
-    );
-    assert_eq!(rt; (level.moves(), level.point()), (5, 8));
-    assert_eq!(rt;
-        drive_until(&mut level, &Turning, 9, &LastKey(4))?,
-        Stop::Ended(End::Done)
-    );
+    let first = drive_until(&mut level, &Turning, 5, &LastKey(6))?;
+    stands_at(&rt, &level, 3, 6);
+    let second = drive_until(&mut level, &Turning, 1, &LastKey(6))?;
+    let third = drive_until(&mut level, &Turning, 1, &LastKey(8))?;
+    stands_at(&rt, &level, 5, 8);
+    let last = drive_until(&mut level, &Turning, 9, &LastKey(4))?;
+    holds(&rt, "key 6", first == Stop::Found);
+    holds(&rt, "key 6 again", second == Stop::Ended(End::Bound));
+    holds(&rt, "key 8", third == Stop::Found);
+    holds(&rt, "key 4", last == Stop::Ended(End::Done));
     Ok(())
 }
 
 #[test]
 fn drive_goes_on_where_it_was(rt: HostRuntime) -> Result<(), Fail> {
     let mut level = new_counter(100);
-    assert_eq!(rt; drive(&mut level, &Turning, 3)?, End::Bound);
-    assert_eq!(rt; (level.moves(), level.point()), (3, 6));
-    assert_eq!(rt; drive(&mut level, &Turning, 30)?, End::Done);
-    assert_eq!(rt; (level.moves(), level.point()), (5, 8));
+    let first = drive(&mut level, &Turning, 3)?;
+    stands_at(&rt, &level, 3, 6);
+    let second = drive(&mut level, &Turning, 30)?;
+    stands_at(&rt, &level, 5, 8);
+    holds(&rt, "the bound", first == End::Bound);
+    holds(&rt, "the end", second == End::Done);
     Ok(())
 }
 
 #[test]
 fn drive_stops_at_a_full_machine(rt: HostRuntime) -> Result<(), Fail> {
     let mut level = new_counter(2);
-    assert_eq!(rt; drive(&mut level, &Turning, 3)?, End::Full(5));
-    assert_eq!(rt; level.moves(), 2);
+    let end = drive(&mut level, &Turning, 3)?;
+    holds(&rt, "full", end == End::Full(5));
+    is_number(&rt, "moves", 0, level.moves(), 2);
     Ok(())
 }
 
@@ -196,35 +201,45 @@ const WORDS: &[(u16, u16, bool, &str)] = &[
     (18, 16, true, ""),
 ];
 
+fn sink_of(alloc: Global, room: u32) -> Result<MemorySink, AllocError> {
+    MemorySink::new(alloc, room, Vec::new(alloc))
+}
+
 #[test]
 fn words_have_their_lines(rt: HostRuntime) -> Result<(), Fail> {
     for (from, to, with_zeros, text) in WORDS {
-        let mut sink = MemorySink::new(rt.alloc(), 1000, Vec::new(rt.alloc()))?;
-        assert_eq!(rt;
-            show_words(word_of, *from, *to, *with_zeros, &mut sink),
-            Put::Done
-        );
-        assert_eq!(rt; sink.bytes(), text.as_bytes());
+        let mut sink = sink_of(rt.alloc(), 1000)?;
+        let put = show_words(word_of, *from, *to, *with_zeros, &mut sink);
+        is_put(&rt, text, put, Put::Done);
+        is_written(&rt, text, sink.bytes(), text.as_bytes());
     }
     Ok(())
+}
+
+fn pixel_at(place: usize) -> u8 {
+    match place {
+        0 | 31 | 131_312 => b'#',
+        _ if place % 513 == 512 => b'\n',
+        _ => b'.',
+    }
+}
+
+fn has_its_pixels(rt: &impl Abort, text: &[u8]) {
+    for (place, byte) in text.iter().enumerate() {
+        let expected = u64::from(pixel_at(place));
+        is_number(rt, "the screen", place as u64, u64::from(*byte), expected);
+    }
 }
 
 #[test]
 fn the_screen_has_its_pixels(rt: HostRuntime) -> Result<(), Fail> {
     // a sink that fails ends the screen
-    for (room, put, length) in [(5000, Put::Failed, 5000), (200_000, Put::Done, 256 * 513)] {
-        let mut sink = MemorySink::new(rt.alloc(), room, Vec::new(rt.alloc()))?;
-        assert_eq!(rt; show_screen(word_of, &mut sink), put);
-        let text = sink.bytes();
-        assert_eq!(rt; text.len(), length);
-        for (place, byte) in text.iter().enumerate() {
-            let expected = match place {
-                0 | 31 | 131_312 => b'#',
-                _ if place % 513 == 512 => b'\n',
-                _ => b'.',
-            };
-            assert_eq!(rt; *byte, expected, "at {place}");
-        }
+    for (room, expected, length) in [(5000, Put::Failed, 5000), (200_000, Put::Done, 256 * 513)] {
+        let mut sink = sink_of(rt.alloc(), room)?;
+        let put = show_screen(word_of, &mut sink);
+        is_put(&rt, "the screen", put, expected);
+        is_number(&rt, "length", 0, sink.bytes().len() as u64, length);
+        has_its_pixels(&rt, sink.bytes());
     }
     Ok(())
 }
@@ -246,26 +261,40 @@ const REPORTS: &[(Show, End, Put, &str)] = &[
     ),
 ];
 
+fn report_is_put(
+    rt: &impl Abort,
+    alloc: Global,
+    (show, end, expected, text): (Show, End, Put, &str),
+) -> Result<(), Fail> {
+    let head = Head {
+        level: LevelName::Vm,
+        moves: 120,
+        steps: 7,
+        subroutine: "Main.main",
+        statement: 2,
+        end,
+    };
+    let word = |a| match show {
+        Show::Heap => a / 8191 % 2,
+        _ => word_of(a),
+    };
+    let mut sink = sink_of(alloc, 1000)?;
+    let put = show_report(&head, show, word, &mut sink);
+    is_put(rt, text, put, expected);
+    holds(rt, text, sink.bytes().starts_with(text.as_bytes()));
+    let length = if expected == Put::Done {
+        text.len()
+    } else {
+        1000
+    };
+    is_number(rt, text, 0, sink.bytes().len() as u64, length as u64);
+    Ok(())
+}
+
 #[test]
 fn a_report_has_its_lines(rt: HostRuntime) -> Result<(), Fail> {
-    for (show, end, put, text) in REPORTS {
-        let head = Head {
-            level: LevelName::Vm,
-            moves: 120,
-            steps: 7,
-            subroutine: "Main.main",
-            statement: 2,
-            end: *end,
-        };
-        let word = |a| match show {
-            Show::Heap => a / 8191 % 2,
-            _ => word_of(a),
-        };
-        let mut sink = MemorySink::new(rt.alloc(), 1000, Vec::new(rt.alloc()))?;
-        assert_eq!(rt; show_report(&head, *show, word, &mut sink), *put);
-        assert!(rt; sink.bytes().starts_with(text.as_bytes()), "{text}");
-        let length = if *put == Put::Done { text.len() } else { 1000 };
-        assert_eq!(rt; sink.bytes().len(), length);
+    for row in REPORTS {
+        report_is_put(&rt, rt.alloc(), *row)?;
     }
     Ok(())
 }
@@ -278,17 +307,27 @@ fn show_level<L: Level, S: Sink>(level: &L, out: &mut S) -> Put
 }
 
 #[test]
+fn a_level_at_its_start_shows_nothing(rt: HostRuntime) -> Result<(), Fail> {
+    let level = new_counter(100);
+    let mut sink = sink_of(rt.alloc(), 1000)?;
+    let put = show_level(&level, &mut sink);
+    is_put(&rt, "at the start", put, Put::Done);
+    is_written(&rt, "at the start", sink.bytes(), b"");
+    Ok(())
+}
+
+// After the third move each word is 6.
+#[test]
 fn a_level_shows_its_words(rt: HostRuntime) -> Result<(), Fail> {
     let mut level = new_counter(100);
-    let mut sink = MemorySink::new(rt.alloc(), 1000, Vec::new(rt.alloc()))?;
-    assert_eq!(rt; show_level(&level, &mut sink), Put::Done);
-    assert_eq!(rt; sink.bytes().len(), 0);
-    // after the third move each word is 6
-    assert_eq!(rt; drive(&mut level, &Turning, 3)?, End::Bound);
-    let mut sink = MemorySink::new(rt.alloc(), 200_000, Vec::new(rt.alloc()))?;
-    assert_eq!(rt; show_level(&level, &mut sink), Put::Done);
-    assert!(rt; sink.bytes().starts_with(b"2048 6\n2049 6\n"));
-    assert!(rt; sink.bytes().ends_with(b"\n16382 6\n16383 6\n"));
-    assert_eq!(rt; sink.bytes().len(), 7952 * 7 + 6384 * 8);
+    let end = drive(&mut level, &Turning, 3)?;
+    holds(&rt, "three moves", end == End::Bound);
+    let mut sink = sink_of(rt.alloc(), 200_000)?;
+    let put = show_level(&level, &mut sink);
+    is_put(&rt, "the words", put, Put::Done);
+    let text = sink.bytes();
+    holds(&rt, "first", text.starts_with(b"2048 6\n2049 6\n"));
+    holds(&rt, "last", text.ends_with(b"\n16382 6\n16383 6\n"));
+    is_number(&rt, "length", 0, text.len() as u64, 7952 * 7 + 6384 * 8);
     Ok(())
 }

@@ -1,4 +1,5 @@
 //! Shelves and sinks, in memory and real, each on its happy path and where it fails.
+use crate::checks::{holds, is_number, is_put, is_told, is_written};
 use crate::entries::Entries;
 use outer_world::{
     Detail, Diagnostic, FolderShelf, Listing, MemoryShelf, MemorySink, Name, Pieces, PlainSink,
@@ -86,13 +87,27 @@ const IN_MEMORY: &[(&str, Option<u32>, &str)] = &[
     ("Add.asm", Some(9), "[64, 50, 10]"),
 ];
 
+fn in_memory() -> &'static [(&'static str, Option<u32>, &'static str)] {
+    IN_MEMORY
+}
+
+// A shelf in memory answers so.
+fn answers(
+    rt: &impl Abort,
+    alloc: Global,
+    shelf: &mut MemoryShelf,
+    (path, limit, expected): (&str, Option<u32>, &str),
+) -> Result<(), Fail> {
+    let answered = answer(alloc, shelf, path, limit)?;
+    is_told(rt, path, &answered, expected);
+    Ok(())
+}
+
 #[test]
 fn shelf_in_memory(rt: HostRuntime) -> Result<(), Fail> {
-    let alloc = rt.alloc();
-    let mut shelf = shelf_of(alloc, FILES, &[3, 10])?;
-    for (path, limit, expected) in IN_MEMORY {
-        let answered = answer(alloc, &mut shelf, path, *limit)?;
-        assert_eq!(rt; answered.as_str(), *expected, "at {path}");
+    let mut shelf = shelf_of(rt.alloc(), FILES, &[3, 10])?;
+    for row in in_memory() {
+        answers(&rt, rt.alloc(), &mut shelf, *row)?;
     }
     Ok(())
 }
@@ -112,10 +127,10 @@ fn sink_in_memory(rt: HostRuntime) -> Result<(), Fail> {
         ("", Put::Done),
     ];
     for (piece, expected) in &puts {
-        assert_eq!(rt; sink.put(piece.as_bytes()), *expected, "at {piece}");
+        is_put(&rt, piece, sink.put(piece.as_bytes()), *expected);
     }
-    assert_eq!(rt; sink.bytes(), b"abcdghijklm".as_slice());
-    assert_eq!(rt; PlainSink::new().put(b"abc"), Put::Done);
+    is_written(&rt, "what was put", sink.bytes(), b"abcdghijklm");
+    is_put(&rt, "plain", PlainSink::new().put(b"abc"), Put::Done);
     Ok(())
 }
 
@@ -129,6 +144,14 @@ fn put_many<S: Sink>(pieces: &mut Pieces<'_, S>) -> Put {
     pieces.finish()
 }
 
+// The bytes are `012` again and again.
+fn turns(rt: &impl Abort, bytes: &[u8]) {
+    for (place, byte) in bytes.iter().enumerate() {
+        let expected = 48 + place as u64 % 3;
+        is_number(rt, "many", place as u64, u64::from(*byte), expected);
+    }
+}
+
 #[test]
 fn buffer_of_pieces(rt: HostRuntime) -> Result<(), Fail> {
     let alloc = rt.alloc();
@@ -139,36 +162,50 @@ fn buffer_of_pieces(rt: HostRuntime) -> Result<(), Fail> {
         (&[(4, 0)].as_slice(), Put::Done, 9000),
     ] {
         let mut sink = MemorySink::new(alloc, 1_000_000, fails.to_vec(alloc)?)?;
-        assert_eq!(rt; put_many(&mut Pieces::new(&mut sink)), expected);
-        assert_eq!(rt; sink.bytes().len(), length);
-        for (place, byte) in sink.bytes().iter().enumerate() {
-            assert_eq!(rt; *byte as usize, 48 + place % 3, "at {place}");
-        }
+        let put = put_many(&mut Pieces::new(&mut sink));
+        is_put(&rt, "many", put, expected);
+        is_number(&rt, "length", 0, sink.bytes().len() as u64, length);
+        turns(&rt, sink.bytes());
     }
     Ok(())
 }
 
-// Makes a folder with two files, with a folder in it, and with a link to nothing and one to itself. One of the files has the 9,000
-// bytes of this text.
-fn put_files(
-    rt: &(impl Files + AllocGlobal + Abort),
+// Makes a file of a folder, without text.
+fn put_empty(rt: &(impl Files + AllocGlobal), alloc: Global, folder: &str) -> Result<(), Fail> {
+    let ball = format!(in alloc; "{folder}/Ball.jack")?;
+    fs::write(rt, ball.as_str(), "")?;
+    Ok(())
+}
+
+fn put_link(
+    rt: &impl Files,
     alloc: Global,
     folder: &str,
-) -> Result<String, Fail> {
+    name: &str,
+    to: &str,
+) -> Result<(), Fail> {
+    let link = format!(in alloc; "{folder}/{name}")?;
+    rt.symlink(to, link.as_str())?;
+    Ok(())
+}
+
+// Makes a folder with a folder and a file in it, and with a link to nothing and one to itself.
+fn put_entries(rt: &(impl Files + AllocGlobal), alloc: Global, folder: &str) -> Result<(), Fail> {
     let inner = format!(in alloc; "{folder}/sub")?;
-    let main = format!(in alloc; "{folder}/Main.jack")?;
-    let ball = format!(in alloc; "{folder}/Ball.jack")?;
     fs::create_dir_all(rt, inner.as_str())?;
-    fs::write(rt, ball.as_str(), "")?;
-    let lock = format!(in alloc; "{folder}/.#Main.jack")?;
-    let circle = format!(in alloc; "{folder}/Circle.jack")?;
-    rt.symlink("founder@host.1234", lock.as_str())?;
-    rt.symlink("Circle.jack", circle.as_str())?;
-    let mut sink = StdSink::new(fs::create(rt, main.as_str())?);
-    assert_eq!(rt; put_many(&mut Pieces::new(&mut sink)), Put::Done);
-    let text = fs::read_to_string(rt, main.as_str())?;
-    assert_eq!(rt; text.len(), 9000);
-    assert!(rt; text.as_str().starts_with("012012"));
+    put_empty(rt, alloc, folder)?;
+    put_link(rt, alloc, folder, ".#Main.jack", "founder@host.1234")?;
+    put_link(rt, alloc, folder, "Circle.jack", "Circle.jack")
+}
+
+// Makes a file with the 9,000 bytes of this text.
+fn put_main(rt: &(impl Files + AllocGlobal + Abort), main: &str) -> Result<String, Fail> {
+    let mut sink = StdSink::new(fs::create(rt, main)?);
+    let put = put_many(&mut Pieces::new(&mut sink));
+    is_put(rt, "many", put, Put::Done);
+    let text = fs::read_to_string(rt, main)?;
+    is_number(rt, "length", 0, text.len() as u64, 9000);
+    holds(rt, "front", text.as_str().starts_with("012012"));
     Ok(text)
 }
 
@@ -220,33 +257,51 @@ fn listed(
     Ok(answers)
 }
 
-#[test]
-fn real_files(rt: HostRuntime) -> Result<(), Fail> {
-    let alloc = rt.alloc();
-    let folder = format!(in alloc;
-        "{}/nand-outer-world-{}",
-        env::temp_dir(&rt)?.as_str(),
-        process::id(rt.process())
-    )?;
-    let text = put_files(&rt, alloc, folder.as_str())?;
-    let mut shelf = FolderShelf::new(rt.clone()?);
-    let answers = answers_in(alloc, &mut shelf, folder.as_str())?;
-    let listings = listed(&rt, alloc, folder.as_str())?;
-    let main = format!(in alloc; "{folder}/Main.jack")?;
-    let whole = shelf.read(alloc, main.as_str(), 9000);
-    fs::remove_dir_all(&rt, folder.as_str())?;
-
+fn answers_are(rt: &impl Abort, answers: &[String], listings: &[String]) {
     for ((path, _, expected), answered) in IN_FOLDER.iter().zip(answers.iter()) {
-        assert_eq!(rt; answered.as_str(), *expected, "at {path}");
+        is_told(rt, path, answered.as_str(), expected);
     }
     for ((_, expected), listing) in ENTRIES.iter().zip(listings.iter()) {
-        assert_eq!(rt; listing.as_str(), *expected);
+        is_told(rt, expected, listing.as_str(), expected);
     }
-    match whole {
-        Reading::Bytes(bytes) => assert_eq!(rt; bytes.as_slice(), text.as_bytes()),
-        _ => panic!(rt; "the file was not read"),
+}
+
+fn is_read(rt: &impl Abort, read: &Reading, text: &[u8]) {
+    match read {
+        Reading::Bytes(bytes) => is_written(rt, "the file", bytes.as_slice(), text),
+        _ => holds(rt, "the file was read", false),
     }
+}
+
+// A folder for this run alone.
+fn own_folder(rt: &HostRuntime, alloc: Global) -> Result<String, Fail> {
+    let temp = env::temp_dir(rt)?;
+    let id = process::id(rt.process());
+    Ok(format!(in alloc; "{}/nand-outer-world-{}", temp.as_str(), id)?)
+}
+
+fn folder_is_read(
+    rt: &(impl Files + AllocGlobal + Abort + Clone + Drop),
+    alloc: Global,
+    folder: &str,
+) -> Result<(), Fail> {
+    let main = format!(in alloc; "{folder}/Main.jack")?;
+    put_entries(rt, alloc, folder)?;
+    let text = put_main(rt, main.as_str())?;
+    let mut shelf = FolderShelf::new(rt.clone()?);
+    let answers = answers_in(alloc, &mut shelf, folder)?;
+    let listings = listed(rt, alloc, folder)?;
+    let whole = shelf.read(alloc, main.as_str(), 9000);
+    fs::remove_dir_all(rt, folder)?;
+    answers_are(rt, &answers, &listings);
+    is_read(rt, &whole, text.as_bytes());
     Ok(())
+}
+
+#[test]
+fn real_files(rt: HostRuntime) -> Result<(), Fail> {
+    let folder = own_folder(&rt, rt.alloc())?;
+    folder_is_read(&rt, rt.alloc(), folder.as_str())
 }
 
 // A writer of five bytes a call that fails at its third.
@@ -272,9 +327,9 @@ impl Write for Halting {
 #[test]
 fn real_stream_that_fails(rt: HostRuntime) {
     let mut sink = StdSink::new(Halting { calls: 0 });
-    assert_eq!(rt; sink.put(b"0123456"), Put::Done);
-    assert_eq!(rt; sink.put(b"0123456"), Put::Failed);
-    assert_eq!(rt; sink.put(b"0123456"), Put::Done);
+    is_put(&rt, "first", sink.put(b"0123456"), Put::Done);
+    is_put(&rt, "second", sink.put(b"0123456"), Put::Failed);
+    is_put(&rt, "third", sink.put(b"0123456"), Put::Done);
 }
 
 #[test]
@@ -282,11 +337,24 @@ fn names(rt: HostRuntime) -> Result<(), Fail> {
     let alloc = rt.alloc();
     let name = Name::new(alloc, "Main")?;
     let copy = name.clone()?;
-    assert_eq!(rt; copy.as_bytes(), b"Main".as_slice());
-    assert!(rt; name == copy);
-    assert!(rt; name > Name::new(alloc, "Ball")?);
+    is_written(&rt, "copy", copy.as_bytes(), b"Main");
+    holds(&rt, "same", name == copy);
+    holds(&rt, "later", name > Name::new(alloc, "Ball")?);
     Ok(())
 }
+
+// A line is put of each, and the second put of the first fails.
+fn put_faults(rt: &impl Abort, told: &Diagnostic, sink: &mut MemorySink) {
+    is_put(rt, "first", told.put("f/Max.asm", sink), Put::Done);
+    is_put(rt, "second", told.put("f/Max.asm", sink), Put::Failed);
+    let number = Diagnostic::nowhere("TooLarge", Detail::Number(32769));
+    is_put(rt, "number", number.put("D", sink), Put::Done);
+    let nothing = Diagnostic::nowhere("NoSysInit", Detail::Nothing);
+    is_put(rt, "nothing", nothing.put("D", sink), Put::Done);
+}
+
+const FAULTS: &[u8] =
+    b"f/Max.asm:3:14: LabelTwice LOOP\nf/Max.asmD:0:0: TooLarge 32769\nD:0:0: NoSysInit\n";
 
 #[test]
 fn lines_of_faults(rt: HostRuntime) -> Result<(), Fail> {
@@ -295,19 +363,7 @@ fn lines_of_faults(rt: HostRuntime) -> Result<(), Fail> {
     let told = Diagnostic::at(3, 14, "LabelTwice", twice);
     let plan = [(2, 9)].to_vec(alloc)?;
     let mut sink = MemorySink::new(alloc, 1000, plan)?;
-    assert_eq!(rt; told.put("f/Max.asm", &mut sink), Put::Done);
-    assert_eq!(rt; told.put("f/Max.asm", &mut sink), Put::Failed);
-    assert_eq!(rt;
-        Diagnostic::nowhere("TooLarge", Detail::Number(32769)).put("D", &mut sink),
-        Put::Done
-    );
-    assert_eq!(rt;
-        Diagnostic::nowhere("NoSysInit", Detail::Nothing).put("D", &mut sink),
-        Put::Done
-    );
-    assert_eq!(rt;
-        sink.bytes(),
-        b"f/Max.asm:3:14: LabelTwice LOOP\nf/Max.asmD:0:0: TooLarge 32769\nD:0:0: NoSysInit\n".as_slice()
-    );
+    put_faults(&rt, &told, &mut sink);
+    is_written(&rt, "lines", sink.bytes(), FAULTS);
     Ok(())
 }

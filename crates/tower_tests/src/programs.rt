@@ -1,16 +1,20 @@
 ghost use Rattle.std.specs.Prelude.{◌≡◌, IfOk, length};
+ghost use Rattle.jack_compiler.specs.Resolved.{IsResolvedCore};
 ghost use Rattle.tower.specs.Spelled.{AreSpelled};
 
-use jack_names::NameKind;
+use crate::checks::{holds, is_told};
+use jack_core::Core;
+use jack_names::{NameFault, NameKind};
 use jack_parser::parse_class;
 use jack_tree::Class;
 use machine_io::{End, Keyboard, Level, drive};
 use outer_world::{MemorySink, Name, Point, Put};
 use scan_text::Place;
 use std::alloc::Global;
-use std::test::*;
+use std::process::Abort;
+use std::test::Fail;
 use tower::{ProgramError, build, compile_classes, prepare_hack, program_of_classes};
-use vm_tree::print_files;
+use vm_tree::{File, print_files};
 
 // The class Main that a text spells, as the only class of a folder.
 fn only(alloc: Global, text: &[u8]) -> Result<Vec<Class>, Fail>
@@ -34,6 +38,15 @@ impl Keyboard for NoKeys {
     }
 }
 
+fn is_unknown(rt: &impl Abort, fault: &NameFault) {
+    let place = Place {
+        line: 1,
+        column: 41,
+    };
+    holds(rt, "the kind", fault.kind == NameKind::UnknownVariable);
+    holds(rt, "the place", fault.place == place);
+}
+
 #[test]
 fn unknown_variable(rt: HostRuntime) -> Result<(), Fail> {
     let own = only(
@@ -42,20 +55,49 @@ fn unknown_variable(rt: HostRuntime) -> Result<(), Fail> {
     )?;
     match program_of_classes(rt.alloc(), &own, false) {
         Err(ProgramError::Name(fault)) => {
-            assert!(rt; fault.kind == NameKind::UnknownVariable);
-            assert!(rt;
-                fault.place
-                    == Place {
-                        line: 1,
-                        column: 41
-                    }
-            );
+            is_unknown(&rt, &fault);
             let text = format!(in rt.alloc(); "{}", ProgramError::Name(fault))?;
-            assert_eq!(rt; text.as_str(), "Main.jack:1:41: UnknownVariable x");
+            is_told(&rt, "x", &text, "Main.jack:1:41: UnknownVariable x");
             Ok(())
         }
         _ => Err(Fail::from("a name has a fault")),
     }
+}
+
+fn has_its_names(rt: &impl Abort, core: &Core) {
+    holds(rt, "how many", core.subroutines.len() == 63);
+    if let Some(subroutine) = core.subroutines.get(1) {
+        is_told(rt, "subroutine", subroutine.name.as_str(), "Main.add");
+    }
+    match core.classes.first() {
+        Some(class) => is_told(rt, "class", class.name.as_str(), "Main"),
+        None => holds(rt, "class", false),
+    }
+}
+
+// How a run of 30,000 cycles ends, and what stands there then.
+#[derive(Clone, Copy)]
+struct Seen {
+    end: End,
+    first: u16,
+    second: u16,
+    point: Point,
+}
+
+fn seen_at_end(alloc: Global, core: &Core) -> Result<Seen, Fail>
+    requires { IsResolvedCore core.now }
+{
+    let Ok(image) = build(alloc, core) else {
+        return Err(Fail::from("the program has no image"));
+    };
+    let mut hack = prepare_hack(alloc, image)?;
+    let end = drive(&mut hack, &NoKeys, 30000)?;
+    Ok(Seen {
+        end,
+        first: hack.word_at(16384),
+        second: hack.word_at(16385),
+        point: hack.point(),
+    })
 }
 
 // The object is the first two words of the screen. At the end the system halts: `Sys` has the last of the 63
@@ -69,20 +111,27 @@ fn method_and_static(rt: HostRuntime) -> Result<(), Fail> {
         function void main() { var Main m; let m = 16384;
             while (n < 3) { let n = n + 1; do m.add(n); } return; } }",
     )?;
-    let core = program_of_classes(rt.alloc(), &own, false)
-        .ok()
-        .ok_or("the class is a program")?;
-    assert!(rt; core.subroutines.len() == 63);
-    assert!(rt; core.subroutines[1].name.as_str() == "Main.add");
-    assert!(rt; core.classes[0].name.as_str() == "Main");
-    let Ok(image) = build(rt.alloc(), &core) else {
-        return Err(Fail::from("the program has no image"));
+    let Ok(core) = program_of_classes(rt.alloc(), &own, false) else {
+        return Err(Fail::from("the class is a program"));
     };
-    let mut hack = prepare_hack(rt.alloc(), image)?;
-    assert!(rt; drive(&mut hack, &NoKeys, 30000)? == End::Bound);
-    assert!(rt; hack.word_at(16384) == 6);
-    assert!(rt; hack.word_at(16385) == 3);
-    assert!(rt; hack.point() == Point { sub: 60, number: 1 });
+    has_its_names(&rt, &core);
+    let seen = seen_at_end(rt.alloc(), &core)?;
+    holds(&rt, "the end", seen.end == End::Bound);
+    holds(&rt, "the words", (seen.first, seen.second) == (6, 3));
+    holds(&rt, "the point", seen.point == Point { sub: 60, number: 1 });
+    Ok(())
+}
+
+const TWO: &[u8] =
+    b"// file Main.vm\nfunction Main.main 0\npush constant 0\nreturn\nfunction Main.two 0\npush constant 2\nreturn\n";
+
+fn has_its_text(rt: &impl Abort, alloc: Global, file: &File) -> Result<(), Fail> {
+    is_told(rt, "file", file.name.as_str(), "Main");
+    holds(rt, "functions", file.functions.as_slice().len() == 2);
+    let mut sink = MemorySink::new(alloc, 1000, Vec::new(alloc))?;
+    let put = print_files(std::slice::from_ref(file), &mut sink);
+    holds(rt, "put", put == Put::Done);
+    holds(rt, "text", sink.bytes() == TWO);
     Ok(())
 }
 
@@ -93,25 +142,13 @@ fn class_compiled(rt: HostRuntime) -> Result<(), Fail> {
         rt.alloc(),
         b"class Main { function void main() { } function int two() { return 2; } }",
     )?;
-    let files = compile_classes(rt.alloc(), &own, false)
-        .ok()
-        .ok_or("the class is a program")?;
-    let first = files
-        .as_slice()
-        .split_first()
-        .ok_or("a class has a file")?
-        .0;
-    assert!(rt; first.name.as_str() == "Main");
-    assert!(rt; first.functions.as_slice().len() == 2);
-    let mut sink = MemorySink::new(rt.alloc(), 1000, Vec::new(rt.alloc()))
-        .ok()
-        .ok_or("memory")?;
-    assert!(rt; print_files(std::slice::from_ref(first), &mut sink) == Put::Done);
-    assert!(rt;
-        sink.bytes()
-            == b"// file Main.vm\nfunction Main.main 0\npush constant 0\nreturn\nfunction Main.two 0\npush constant 2\nreturn\n".as_slice()
-    );
-    Ok(())
+    let Ok(files) = compile_classes(rt.alloc(), &own, false) else {
+        return Err(Fail::from("the class is a program"));
+    };
+    match files.as_slice().first() {
+        Some(first) => has_its_text(&rt, rt.alloc(), first),
+        None => Err(Fail::from("a class has a file")),
+    }
 }
 
 // However many operators stand in a row, neither reading nor resolving them needs more of the stack.
@@ -126,6 +163,7 @@ fn many_operators(rt: HostRuntime) -> Result<(), Fail> {
     }
     text.push_str("; return; } }")?;
     let own = only(rt.alloc(), text.as_bytes())?;
-    assert!(rt; program_of_classes(rt.alloc(), &own, false).is_ok());
+    let is_program = program_of_classes(rt.alloc(), &own, false).is_ok();
+    holds(&rt, "many operators", is_program);
     Ok(())
 }

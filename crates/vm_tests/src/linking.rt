@@ -1,3 +1,4 @@
+use crate::checks::{holds, is_told};
 use crate::programs::{FileRow, Written, linked, program, shown};
 use std::alloc::{AllocError, Global};
 use std::process::Abort;
@@ -197,17 +198,11 @@ fn is_linked(rt: &impl Abort, alloc: Global, number: usize, case: &Case<'_>) -> 
     match linked(alloc, case.files, case.bare) {
         Ok(linked) => {
             let start = (linked.functions.as_slice().len(), linked.start);
-            assert_eq!(rt; start, (case.functions, case.start), "row {number}");
-            assert_eq!(rt;
-                statics(alloc, &linked)?.as_slice(),
-                case.statics,
-                "row {number}"
-            );
-            assert_eq!(rt;
-                steps(alloc, &linked)?.as_slice(),
-                case.steps,
-                "row {number}"
-            );
+            holds(rt, "linked", number, start == (case.functions, case.start));
+            let statics = statics(alloc, &linked)?;
+            holds(rt, "statics", number, statics.as_slice() == case.statics);
+            let steps = steps(alloc, &linked)?;
+            holds(rt, "steps", number, steps.as_slice() == case.steps);
             Ok(())
         }
         Err(fault) => Err(Fail::new(format!(in alloc; "row {number}: {fault}")?)),
@@ -237,20 +232,30 @@ const PRINTED: &[FileRow<'static>] = &[(
 const TEXT: &str =
     "push constant 7\nfunction Sys.init 3\nlabel E\ncall Sys.f 2\npop temp 0\nif-goto E\ngoto E\nneg\nreturn\n";
 
+fn linked_table() -> &'static [Case<'static>] {
+    LINKED
+}
+
+fn printed(alloc: Global) -> Result<String, AllocError> {
+    let program = program(alloc, PRINTED)?;
+    shown(alloc, &program)
+}
+
 #[test]
 fn trees(rt: HostRuntime) -> Result<(), Fail> {
-    let alloc = rt.alloc();
+    for (number, case) in linked_table().iter().enumerate() {
+        is_linked(&rt, rt.alloc(), number, case)?;
+    }
+    let text = printed(rt.alloc())?;
+    is_told(&rt, "printed", 0, &text, TEXT);
+    Ok(())
+}
+
+#[test]
+fn trees_that_are_refused(rt: HostRuntime) -> Result<(), Fail> {
     for (number, (files, wanted)) in REFUSED.iter().enumerate() {
-        assert_eq!(rt;
-            told(alloc, files)?.as_str(),
-            *wanted,
-            "refused row {number}"
-        );
+        let found = told(rt.alloc(), files)?;
+        is_told(&rt, "refused", number, &found, wanted);
     }
-    for (number, case) in LINKED.iter().enumerate() {
-        is_linked(&rt, alloc, number, case)?;
-    }
-    let program = program(alloc, PRINTED)?;
-    assert_eq!(rt; shown(alloc, &program)?.as_str(), TEXT);
     Ok(())
 }

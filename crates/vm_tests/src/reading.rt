@@ -1,8 +1,10 @@
+use crate::checks::{holds, is_told};
 use crate::programs::shown;
 use grammar::ReadError;
 use outer_world::Name;
 use std::alloc::Global;
-use std::test::*;
+use std::process::Abort;
+use std::test::Fail;
 use vm_parser::*;
 use vm_tree::Program;
 
@@ -68,34 +70,72 @@ fn shape(alloc: Global, text: &[u8], bare: bool) -> Option<(usize, usize)> {
     ))
 }
 
+fn read_table() -> &'static [(&'static str, bool, &'static str, (usize, usize))] {
+    READ
+}
+
+fn refused_table() -> &'static [(&'static str, bool, &'static str)] {
+    REFUSED
+}
+
+fn tells(
+    rt: &impl Abort,
+    alloc: Global,
+    table: &str,
+    row: usize,
+    (text, bare, wanted): (&[u8], bool, &str),
+) -> Result<(), Fail> {
+    let found = told(alloc, text, bare)?;
+    is_told(rt, table, row, &found, wanted);
+    Ok(())
+}
+
 #[test]
 fn texts(rt: HostRuntime) -> Result<(), Fail> {
     let alloc = rt.alloc();
-    for (number, (text, bare, wanted, counts)) in READ.iter().enumerate() {
+    for (row, (text, bare, wanted, counts)) in read_table().iter().enumerate() {
         let text = text.as_bytes();
-        assert_eq!(rt; told(alloc, text, *bare)?.as_str(), *wanted, "row {number}");
-        assert_eq!(rt; shape(alloc, text, *bare), Some(*counts), "row {number}");
+        tells(&rt, alloc, "read", row, (text, *bare, *wanted))?;
+        holds(&rt, "read", row, shape(alloc, text, *bare) == Some(*counts));
     }
-    for (number, (text, bare, wanted)) in REFUSED.iter().enumerate() {
-        let fault = told(alloc, text.as_bytes(), *bare)?;
-        assert_eq!(rt; fault.as_str(), *wanted, "refused row {number}");
+    for (row, (text, bare, wanted)) in refused_table().iter().enumerate() {
+        tells(
+            &rt,
+            alloc,
+            "refused",
+            row,
+            (text.as_bytes(), *bare, *wanted),
+        )?;
     }
     Ok(())
 }
 
-// The longest text; and the fronts of a text that are read: nothing, and those that end with a line.
+// The longest text.
 #[test]
 fn lengths(rt: HostRuntime) -> Result<(), Fail> {
     let alloc = rt.alloc();
     let mut blanks = vec![in alloc; b' '; 1048576]?;
-    assert_eq!(rt; told(alloc, &blanks, false)?.as_str(), "");
+    tells(&rt, alloc, "blanks", 0, (&blanks, false, ""))?;
     blanks.push(b' ')?;
-    assert_eq!(rt; told(alloc, &blanks, false)?.as_str(), "0:0: Range 1048577");
+    tells(
+        &rt,
+        alloc,
+        "blanks",
+        1,
+        (&blanks, false, "0:0: Range 1048577"),
+    )
+}
+
+// The fronts of a text that are read: nothing, and those that end with a line.
+#[test]
+fn fronts(rt: HostRuntime) -> Result<(), Fail> {
     let text: &[u8] = b"function f 1\npush temp 7\n";
     for n in 0..text.len() {
         let ends = n == 0 || n == 12 || n == 13 || n == 24;
-        assert!(rt; read(alloc, &text[..n], false).is_ok() == ends, "front {n}");
+        let is_read = read(rt.alloc(), &text[..n], false).is_ok();
+        holds(&rt, "fronts", n, is_read == ends);
     }
-    assert!(rt; read(alloc, text, false).is_ok());
+    let is_read = read(rt.alloc(), text, false).is_ok();
+    holds(&rt, "fronts", text.len(), is_read);
     Ok(())
 }

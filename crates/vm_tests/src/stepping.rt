@@ -2,6 +2,7 @@
 
 ghost use Rattle.std.specs.Prelude.{◌≡◌, ◌+◌, ◌%◌, ℕ};
 
+use crate::checks::{holds, is_word};
 use crate::programs::{EVERY_COMMAND, EVERY_COMMAND_WORDS, FunctionRow, Written, sound};
 use machine_io::{End, Keyboard, Stray, drive};
 use outer_world::Point;
@@ -239,15 +240,28 @@ const STRAYS: &[(&[Written], Stray, u64)] = &[
     ),
 ];
 
+fn cases_table() -> &'static [Case<'static>] {
+    CASES
+}
+
+fn strays_table() -> &'static [(&'static [Written], Stray, u64)] {
+    STRAYS
+}
+
 fn stands(rt: &impl Abort, number: usize, vm: &Vm, end: End, look: &Look<'_>) {
     let counts = (end, vm.moves(), vm.steps());
-    assert_eq!(rt; counts, (look.end, look.moves, look.steps), "row {number}");
+    holds(
+        rt,
+        "counts",
+        number,
+        counts == (look.end, look.moves, look.steps),
+    );
     if let Some(point) = look.point {
-        assert_eq!(rt; vm.point(), point, "row {number}");
+        holds(rt, "points", number, vm.point() == point);
     }
     for (address, word) in look.words {
         assert!(rt; 2048 <= *address && *address < 24576);
-        assert_eq!(rt; vm.word_at(*address), *word, "row {number}, at {address}");
+        is_word(rt, number, *address, vm.word_at(*address), *word);
     }
 }
 
@@ -295,12 +309,16 @@ fn strays(
 
 #[test]
 fn programs(rt: HostRuntime) -> Result<(), Fail> {
-    let alloc = rt.alloc();
-    for (number, case) in CASES.iter().enumerate() {
-        goes(&rt, alloc, number, case.functions, case.looks)?;
+    for (number, case) in cases_table().iter().enumerate() {
+        goes(&rt, rt.alloc(), number, case.functions, case.looks)?;
     }
-    for (number, row) in STRAYS.iter().enumerate() {
-        strays(&rt, alloc, STRAYS_FROM + number, *row)?;
+    Ok(())
+}
+
+#[test]
+fn programs_that_stray(rt: HostRuntime) -> Result<(), Fail> {
+    for (number, row) in strays_table().iter().enumerate() {
+        strays(&rt, rt.alloc(), STRAYS_FROM.saturating_add(number), *row)?;
     }
     Ok(())
 }

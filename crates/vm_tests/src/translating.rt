@@ -3,6 +3,7 @@
 ghost use Rattle.std.specs.Prelude.{◌≤◌, IfOk, length};
 ghost use Rattle.vm_link.specs.Sound.{IsSound};
 
+use crate::checks::{is_told, is_word};
 use crate::programs::{EVERY_COMMAND, EVERY_COMMAND_WORDS, FunctionRow, Written, linked, sound};
 use hack_isa::{Instr, encode};
 use hack_machine::Hack;
@@ -192,7 +193,7 @@ fn runs(rt: &impl Abort, alloc: Global, number: usize, case: &Case<'_>) -> Resul
     let machine = machine(alloc, &words, case.steps)?;
     for (address, word) in case.words {
         assert!(rt; *address < 24576);
-        assert_eq!(rt; machine.ram(*address), *word, "row {number}, at {address}");
+        is_word(rt, number, *address, machine.ram(*address), *word);
     }
     Ok(())
 }
@@ -213,19 +214,33 @@ fn comparison(alloc: Global) -> Result<Linked, Fail>
     }
 }
 
+fn comparison_words(alloc: Global) -> Result<Vec<u16>, Fail>
+    ensures { IfOk result (λ v. length v.items ≤ 32768) }
+{
+    let linked = comparison(alloc)?;
+    match coded(alloc, &linked) {
+        Ok(coded) => image(alloc, &coded),
+        Err(_) => Err(Fail::from("no code")),
+    }
+}
+
+// The stack pointer and the word below it after this many steps.
+fn stack_after(alloc: Global, words: &[u16], steps: u16) -> Result<(u16, u16), Fail>
+    requires { length words.now ≤ 32768 }
+{
+    let mut machine = Hack::new(alloc, words)?;
+    machine.set_ram(0, 256);
+    go_on(&mut machine, steps)?;
+    Ok((machine.ram(0), machine.ram(256)))
+}
+
 // Its stack stays as it is after its last command, also long after that.
 fn comparison_stays(rt: &impl Abort, alloc: Global) -> Result<(), Fail> {
-    let linked = comparison(alloc)?;
-    let Ok(coded) = coded(alloc, &linked) else {
-        return Err(Fail::from("no code"));
-    };
-    let words = image(alloc, &coded)?;
-    for steps in [60, 1000] {
-        let mut machine = Hack::new(alloc, &words)?;
-        machine.set_ram(0, 256);
-        go_on(&mut machine, steps)?;
-        assert_eq!(rt; machine.ram(0), 257, "after {steps}");
-        assert_eq!(rt; machine.ram(256), 65535, "after {steps}");
+    let words = comparison_words(alloc)?;
+    for steps in [60u16, 1000] {
+        let (pointer, word) = stack_after(alloc, &words, steps)?;
+        is_word(rt, usize::from(steps), 0, pointer, 257);
+        is_word(rt, usize::from(steps), 256, word, 65535);
     }
     Ok(())
 }
@@ -257,19 +272,23 @@ fn told(alloc: Global, negs: u16, adds: u16) -> Result<String, Fail> {
     }
 }
 
+fn cases_table() -> &'static [Case<'static>] {
+    CASES
+}
+
 #[test]
 fn images(rt: HostRuntime) -> Result<(), Fail> {
-    let alloc = rt.alloc();
-    for (number, case) in CASES.iter().enumerate() {
-        runs(&rt, alloc, number, case)?;
+    for (number, case) in cases_table().iter().enumerate() {
+        runs(&rt, rt.alloc(), number, case)?;
     }
-    comparison_stays(&rt, alloc)?;
-    for (negs, adds, wanted) in IMAGES {
-        assert_eq!(rt;
-            told(alloc, negs, adds)?.as_str(),
-            wanted,
-            "{negs} and {adds}"
-        );
+    comparison_stays(&rt, rt.alloc())
+}
+
+#[test]
+fn images_at_the_limit(rt: HostRuntime) -> Result<(), Fail> {
+    for (row, (negs, adds, wanted)) in IMAGES.iter().enumerate() {
+        let found = told(rt.alloc(), *negs, *adds)?;
+        is_told(&rt, "images", row, &found, wanted);
     }
     Ok(())
 }

@@ -6,7 +6,7 @@ use command_line::{
 use machine_io::Show;
 
 // Lines of `exec`, each with its path, its cycles and its two addresses.
-pub(super) const EXECS: &[(&str, &str, u32, u16, u16)] = &[
+const EXECS: &[(&str, &str, u32, u16, u16)] = &[
     // the options before, after and about the path, in any order, as one word or two
     ("exec a.asm --cycles 6 --from 0 --to 1", "a.asm", 6, 0, 1),
     ("exec --cycles 6 --from 0 --to 1 a.asm", "a.asm", 6, 0, 1),
@@ -95,7 +95,7 @@ const DASHED: Source<'static> = Source {
 };
 
 // Lines of `run` of the folder prog, each with its level, its cycles and its key script.
-pub(super) const RUNS: &[(&str, RunLevel, u32, Option<&str>)] = &[
+const RUNS: &[(&str, RunLevel, u32, Option<&str>)] = &[
     (
         "run prog --level jack --cycles 100",
         RunLevel::Jack(Show::Nothing),
@@ -183,7 +183,7 @@ pub(super) const RUNS: &[(&str, RunLevel, u32, Option<&str>)] = &[
 ];
 
 // The other lines, and what they ask for.
-pub(super) const LINES: &[(&str, Request<'static>)] = &[
+const LINES: &[(&str, Request<'static>)] = &[
     (
         "debug prog --break Main.main:3 --cycles 5",
         Request::Classes {
@@ -427,7 +427,7 @@ pub(super) const LINES: &[(&str, Request<'static>)] = &[
 ];
 
 // Texts that are no lines.
-pub(super) const NO_LINES: &[&str] = &[
+const NO_LINES: &[&str] = &[
     // `--` ends the options
     "exec --cycles 1 --from 2 --to 3 -- a b",
     "exec --cycles 1 --from 2 --to 3 --",
@@ -600,3 +600,19 @@ pub(super) const NO_LINES: &[&str] = &[
     "run prog --level jack --cycles 1 --keys a --keys b",
     "run prog --level jack --cycles 1 --from 2",
 ];
+
+pub(super) fn execs() -> &'static [(&'static str, &'static str, u32, u16, u16)] {
+    EXECS
+}
+
+pub(super) fn runs() -> &'static [(&'static str, RunLevel, u32, Option<&'static str>)] {
+    RUNS
+}
+
+pub(super) fn read_lines() -> &'static [(&'static str, Request<'static>)] {
+    LINES
+}
+
+pub(super) fn no_lines() -> &'static [&'static str] {
+    NO_LINES
+}

@@ -1,4 +1,5 @@
 //! Lines of `test`: scripts over a shelf and sinks in memory.
+mod chains;
 mod chips;
 mod comparing;
 mod grading;
