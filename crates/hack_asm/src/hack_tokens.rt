@@ -13,14 +13,14 @@ use scan_text::{Place, Scan};
 use std::alloc::Global;
 
 /// What a token is: a binary digit or a line end.
-#[derive(Clone, Copy, Debug, PartialEq, Eq)]
+#[derive(Clone, Copy)]
 pub enum Kind {
     Digit(bool),
     LineEnd,
 }
 
 /// A token, and the place where it begins.
-#[derive(Clone, Copy, Debug, PartialEq, Eq)]
+#[derive(Clone, Copy)]
 pub struct Token {
     pub kind: Kind,
     pub place: Place,

@@ -1,7 +1,7 @@
 use scan_text::Place;
 
 /// What a token is. A sign is given by its byte, `<<` and `>>` by the byte that stands twice.
-#[derive(Clone, Copy, Debug, PartialEq, Eq)]
+#[derive(Clone, Copy)]
 pub enum Kind {
     Sign(u8),
     Number(u16),
@@ -10,7 +10,7 @@ pub enum Kind {
 }
 
 /// What a computation is made of: the constants, and the registers.
-#[derive(Clone, Copy, Debug, PartialEq, Eq)]
+#[derive(Clone, Copy)]
 pub enum Letter {
     Zero,
     One,
@@ -19,7 +19,7 @@ pub enum Letter {
     M,
 }
 
-#[derive(Clone, Copy, Debug, PartialEq, Eq)]
+#[derive(Clone, Copy)]
 pub enum Operator {
     Plus,
     Minus,
@@ -29,7 +29,7 @@ pub enum Operator {
 
 /// What a token can be in an instruction, by its bytes. It is a letter, an operator, several letters of a destination
 /// (as their bits), a jump (as its bits), or a shift, which is one to the left or not.
-#[derive(Clone, Copy, Debug, PartialEq, Eq)]
+#[derive(Clone, Copy)]
 pub enum Role {
     Letter(Letter),
     Operator(Operator),
@@ -40,7 +40,7 @@ pub enum Role {
 }
 
 /// A token: its bytes in the source, and the place where it begins. A line end keeps no bytes.
-#[derive(Clone, Copy, Debug)]
+#[derive(Clone, Copy)]
 pub struct Token<'a> {
     pub kind: Kind,
     pub role: Role,

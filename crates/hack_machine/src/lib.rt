@@ -19,7 +19,6 @@ use std::marker::Model;
 use word16::{KEYBOARD, bit};
 
 /// The machine with its image: the words of the instruction memory, which are 0 past the image.
-#[derive(Drop)]
 pub struct Hack {
     a: u16,
     d: u16,
@@ -27,6 +26,20 @@ pub struct Hack {
     ram: Vec<u16>,
     image: Vec<u16>,
     moves: u64,
+}
+
+// By hand, so that whoever drops one calls this.
+impl Drop for Hack {
+    fn drop(self) {
+        let Hack {
+            a: _,
+            d: _,
+            pc: _,
+            ram: _,
+            image: _,
+            moves: _,
+        } = self;
+    }
 }
 
 impl Model for Hack {

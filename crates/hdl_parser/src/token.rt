@@ -6,7 +6,7 @@ ghost use Rattle.hdl_parser.specs.Tokens.{keyword_of, keyword_text};
 use scan_text::Place;
 
 /// The words that no name may be.
-#[derive(Clone, Copy, Debug, PartialEq, Eq)]
+#[derive(Clone, Copy, PartialEq, Eq)]
 pub enum Keyword {
     Chip,
     In,
@@ -20,7 +20,7 @@ pub enum Keyword {
 
 /// What a token is. A symbol of one byte is given by its byte, `..` is `Dots`, a number is given by its value, where one
 /// over 1,000,000,000 is 1,000,000,001.
-#[derive(Clone, Copy, Debug, PartialEq, Eq)]
+#[derive(Clone, Copy)]
 pub enum Kind {
     Keyword(Keyword),
     Symbol(u8),
@@ -30,7 +30,7 @@ pub enum Kind {
 }
 
 /// A token, with its slice of the source and the place where it begins.
-#[derive(Clone, Copy, Debug)]
+#[derive(Clone, Copy)]
 pub struct Token<'a> {
     pub kind: Kind,
     pub text: &'a [u8],

@@ -104,9 +104,19 @@ pub struct Class {
 }
 
 /// A program: its classes, its subroutines and the number of `Sys.init`. Number 0 is `start`, which no call names.
-#[derive(Drop)]
 pub struct Core {
     pub classes: Vec<Class>,
     pub subroutines: Vec<Subroutine>,
     pub init: u32,
+}
+
+// By hand, so that whoever drops one calls this.
+impl Drop for Core {
+    fn drop(self) {
+        let Core {
+            classes: _,
+            subroutines: _,
+            init: _,
+        } = self;
+    }
 }

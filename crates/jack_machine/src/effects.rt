@@ -11,7 +11,7 @@ use jack_core::{Statement, Variable};
 
 /// What a statement does: a variable, a word at an address, or `this` becomes a value; nothing; a branch is chosen
 /// by a value; a value is returned.
-#[derive(Clone, Copy, PartialEq, Eq, Debug)]
+#[derive(Clone, Copy)]
 pub(crate) enum Effect {
     Assigns(Variable, u16),
     Stores(u16, u16),

@@ -27,7 +27,7 @@ pub(crate) struct Frame<'a> {
 
 /// What a step of the top frame did, or what is left to be done. That is a call of a subroutine with this number
 /// of arguments, a return, or nothing because of an address outside the memory or because no statement is left.
-#[derive(Clone, Copy, PartialEq, Eq, Debug)]
+#[derive(Clone, Copy)]
 pub(crate) enum Act {
     Acted,
     Heard,

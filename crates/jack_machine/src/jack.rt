@@ -19,7 +19,6 @@ use std::alloc::{AllocError, Global};
 use word16::{HEAP, HEAP_AND_SCREEN_SIZE};
 
 /// A machine that steps a program by its meaning. Its frames point into the program.
-#[derive(Drop)]
 pub struct Jack<'a> {
     core: &'a Core,
     top: Frame<'a>,
@@ -30,6 +29,20 @@ pub struct Jack<'a> {
     // Each subroutine that the program can come to is there, and what is left to do calls no others.
     ghost there: { CallsAreThere (the_program core.now) },
     ghost reached: { ∥ AreReached (the_program core.now) (the_frame top ∷ the_stack below.items) ∥₁ },
+}
+
+// By hand, so that whoever drops one calls this.
+impl Drop for Jack<'_> {
+    fn drop(self) {
+        let Jack {
+            core: _,
+            top: _,
+            below: _,
+            memory: _,
+            moves: _,
+            alloc: _,
+        } = self;
+    }
 }
 
 // The words of all statics, 0.

@@ -26,7 +26,7 @@ pub(crate) struct Memory {
 
 /// What a part comes to: it becomes a value, it becomes the key, a call is made, or there is no step because of an
 /// address outside the memory.
-#[derive(Clone, Copy, PartialEq, Eq, Debug)]
+#[derive(Clone, Copy)]
 pub(crate) enum Sight {
     Puts(u16),
     Hears,

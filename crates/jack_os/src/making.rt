@@ -127,22 +127,51 @@ fn do_call(
     Ok(Statement::Do(NOWHERE, call))
 }
 
+// `let text = value;`
+fn let_variable(
+    alloc: Global,
+    text: &str,
+    value: &ExpressionSketch,
+) -> Result<Statement, AllocError>
+    ensures { IfOk result (λ s. statement_tree s
+        ≡ made.let_variable text.now (sketched.expression value.now)) }
+{
+    let name = name(alloc, text)?;
+    let value = expression(alloc, value)?;
+    Ok(Statement::Let(NOWHERE, name, None, value))
+}
+
+// `let text[index] = value;`
+fn let_element(
+    alloc: Global,
+    text: &str,
+    index: &ExpressionSketch,
+    value: &ExpressionSketch,
+) -> Result<Statement, AllocError>
+    ensures { IfOk result (λ s. statement_tree s
+        ≡ made.let_element text.now (sketched.expression index.now) (sketched.expression value.now)) }
+{
+    let name = name(alloc, text)?;
+    let index = expression(alloc, index)?;
+    let value = expression(alloc, value)?;
+    Ok(Statement::Let(NOWHERE, name, Some(Box::new(alloc, index)?), value))
+}
+
+// `return value;`
+fn return_value(alloc: Global, value: &ExpressionSketch) -> Result<Statement, AllocError>
+    ensures { IfOk result (λ s. statement_tree s ≡ made.return_value (sketched.expression value.now)) }
+{
+    let value = expression(alloc, value)?;
+    Ok(Statement::Return(NOWHERE, Some(value)))
+}
+
 #[cycle(making_statements)]
 fn statement(alloc: Global, sketch: &StatementSketch) -> Result<Statement, AllocError>
     ensures { IfOk result (λ s. statement_tree s ≡ sketched.statement sketch.now) }
 {
     match sketch {
-        StatementSketch::Let(text, value) => {
-            let name = name(alloc, text)?;
-            let value = expression(alloc, value)?;
-            Ok(Statement::Let(NOWHERE, name, None, value))
-        }
-        StatementSketch::LetElement(text, index, value) => {
-            let name = name(alloc, text)?;
-            let index = expression(alloc, index)?;
-            let value = expression(alloc, value)?;
-            Ok(Statement::Let(NOWHERE, name, Some(Box::new(alloc, index)?), value))
-        }
+        StatementSketch::Let(text, value) => let_variable(alloc, text, value),
+        StatementSketch::LetElement(text, index, value) => let_element(alloc, text, index, value),
         StatementSketch::If(condition, body) => {
             let condition = expression(alloc, condition)?;
             let body = statements(alloc, body)?;
@@ -160,10 +189,7 @@ fn statement(alloc: Global, sketch: &StatementSketch) -> Result<Statement, Alloc
             Ok(Statement::While(NOWHERE, condition, body))
         }
         StatementSketch::Do(class, text, argument) => do_call(alloc, class, text, argument),
-        StatementSketch::Return(value) => {
-            let value = expression(alloc, value)?;
-            Ok(Statement::Return(NOWHERE, Some(value)))
-        }
+        StatementSketch::Return(value) => return_value(alloc, value),
         StatementSketch::ReturnNothing => Ok(Statement::Return(NOWHERE, None)),
     }
 }

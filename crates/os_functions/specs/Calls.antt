@@ -9,7 +9,7 @@ use Rattle.jack_names.specs.declared.scope.Declared.{Declared}
 use Rattle.jack_names.specs.declared.scope.Slot.{Slot}
 use Rattle.jack_names.specs.declared.scope.Slot.TheVariants as slot
 use Rattle.jack_names.specs.Numbers.{class_number, subroutine_number, in_class, member_slots, static_count}
-use Rattle.jack_names.specs.Tables.{find_value}
+use Rattle.name_table.specs.Names.{find_value}
 use Rattle.jack_tree.specs.Syntax.{ClassFile}
 use Rattle.os_laws.specs.Calls.{NextCall, ComesToCall, after, given_back}
 use Rattle.os_laws.specs.Names.{IsShipped, statics_in}

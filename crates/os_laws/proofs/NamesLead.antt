@@ -5,7 +5,7 @@ use Rattle.std.specs.Str.{bytes_eq}
 use Rattle.std.specs.List.{AllByRecursion}
 use Rattle.std.proofs.lemmas.Slice.Eq.{bytes_eq-Decides}
 use Rattle.jack_tree.specs.Syntax as tree
-use Rattle.jack_names.specs.Tables.{find_value}
+use Rattle.name_table.specs.Names.{find_value}
 use Rattle.jack_names.specs.Numbers.{class_numbers, class_number, subroutine_number, in_class, standing, field_count}
 use Rattle.jack_names.specs.Meaning.{meaning_of, subroutine_meaning}
 use Rattle.jack_names.specs.NameFaults.{IsWellNamed, Shipped, Earlier, OfSubroutines, ClassTwice, MemberTwice, InDeclaration}

@@ -7,7 +7,7 @@ use Rattle.std.specs.List.{AllByRecursion}
 use Rattle.jack_meaning.specs.Text as meaning
 use Rattle.jack_meaning.specs.Meaning.{subroutine_at}
 use Rattle.jack_tree.specs.Syntax as tree
-use Rattle.jack_names.specs.Tables.{find_value}
+use Rattle.name_table.specs.Names.{find_value}
 use Rattle.jack_names.specs.Numbers.{standing, subroutine_numbers, all_subroutine_numbers, subroutine_number, number, found_in, field_count, static_count}
 use Rattle.jack_names.specs.Meaning.{subroutine_meaning, subroutines_meaning, no_subroutine, meaning_of}
 use Rattle.os_laws.specs.Names.{statics_in}

@@ -8,7 +8,7 @@ use Rattle.jack_tree.specs.Syntax.{ClassFile, Subroutine, ClassVariables}
 use Rattle.jack_names.specs.Numbers.{class_number, member_slots, type_number}
 use Rattle.jack_names.specs.declared.scope.Declared.{Declared}
 use Rattle.jack_names.specs.declared.scope.Slot.TheVariants as slot
-use Rattle.jack_names.specs.Tables.{find_value}
+use Rattle.name_table.specs.Names.{find_value}
 use Rattle.jack_names.specs.Meaning.{program_meaning}
 use Rattle.jack_names.specs.NameFaults.{IsWellNamed}
 use Rattle.jack_os.specs.Routines.{multiply, divide, init, alloc, deAlloc}

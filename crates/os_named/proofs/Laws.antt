@@ -1,7 +1,7 @@
 -- No name fault is reported of the operating system.
 use Rattle.std.proofs.Common.{◌≡◌, Bool, true, false, not, List, [], map, Option, Some, None, refl, sym, subst}
 use Rattle.jack_tree.specs.Syntax.{ClassFile}
-use Rattle.jack_names.specs.Tables.{first_of}
+use Rattle.name_table.specs.Names.{first_of}
 use Rattle.jack_names.specs.Faults.{NameDiagnostic, first_in}
 use Rattle.jack_names.specs.Using.{file, system_files}
 use Rattle.jack_names.specs.NameFaults.{no_main, Spot, Fails, IsWellNamed}

@@ -7,7 +7,7 @@ use Rattle.std.proofs.lemmas.Slice.Eq.{bytes_eq-Decides}
 use Rattle.jack_core.specs.declared.program.Core.{Core}
 use Rattle.jack_names.specs.NameFaults.{IsWellNamed, Shipped, ClassTwice, InDeclaration}
 use Rattle.jack_names.specs.Numbers.{class_numbers, class_number, subroutine_number, in_class}
-use Rattle.jack_names.specs.Tables.{find_value}
+use Rattle.name_table.specs.Names.{find_value}
 use Rattle.jack_os.proofs.SystemTexts.{system_classes}
 use Rattle.jack_tree.specs.Syntax.{ClassFile}
 use Rattle.os_laws.specs.Names.{IsShipped}

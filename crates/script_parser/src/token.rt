@@ -5,7 +5,7 @@ ghost use Rattle.std.specs.Prelude.{◌+◌, ◌≤◌, ◌^◌, length};
 use scan_text::Place;
 
 /// What a word is at the begin of a command; `load` also after `ROM32K`. No word is reserved: anywhere else each is a plain one.
-#[derive(Clone, Copy, Debug, PartialEq, Eq)]
+#[derive(Clone, Copy, PartialEq, Eq)]
 pub enum Role {
     Plain,
     Eval,
@@ -24,7 +24,7 @@ pub enum Role {
 }
 
 /// What a token is: a text in quotes, a sign of one byte, or a word.
-#[derive(Clone, Copy, Debug, PartialEq, Eq)]
+#[derive(Clone, Copy)]
 pub enum Kind {
     Text,
     Sign(u8),
@@ -32,7 +32,7 @@ pub enum Kind {
 }
 
 /// A token, with its slice of the source (of a text what stands between the quotes) and the place where it begins.
-#[derive(Clone, Copy, Debug)]
+#[derive(Clone, Copy)]
 pub struct Token<'a> {
     pub kind: Kind,
     pub text: &'a [u8],

@@ -2,7 +2,7 @@
 use Rattle.std.proofs.Common.{◌≡◌, zero, suc, true, false, List, [], ◌∷◌, map, None, codes, refl, subst, arith, not}
 use Rattle.jack_tree.specs.Syntax.{Class, ClassFile, Statements}
 use Rattle.jack_parser.specs.Spelled.{ClassLaw}
-use Rattle.jack_names.specs.Tables.{first_of}
+use Rattle.name_table.specs.Names.{first_of}
 use Rattle.jack_names.specs.Faults.{Source, first_in}
 use Rattle.jack_names.specs.Using.{Use, Body, body, statements_uses}
 use Rattle.jack_names.specs.NameFaults.{no_main, IsWellNamed}
