@@ -22,7 +22,8 @@ fn grammar_fault(place: Place) -> ReadError
 }
 
 fn digit_at(tokens: &[Token], end: Place) -> Result<(bool, &[Token]), ReadError>
-    ensures { Gives (λ x. (Kind.Digit x.0, tt, x.1.now)) result (word_at (hack end) has_digit free said_kind tt tokens.now) }
+    ensures { Gives (λ x. (Kind.Digit x.0, tt, x.1.now)) result
+        (word_at (hack end) has_digit free said_kind tt tokens.now) }
 {
     let Some((token, rest)) = tokens.split_first() else {
         return Err(grammar_fault(end));
@@ -59,7 +60,8 @@ fn line_end(tokens: &[Token], end: Place) -> Result<&[Token], ReadError>
 
 #[tactic(auto, using(crate::proofs::Exits::asm_exits))]
 fn four(tokens: &[Token], end: Place) -> Result<(Four, &[Token]), ReadError>
-    ensures { Parses (hack end) four (λ q. four_tree q.0 q.1 q.2 q.3) (λ _. tt) tt tokens.now result }
+    ensures { Parses (hack end) four (λ q. four_tree q.0 q.1 q.2 q.3)
+        (λ _. tt) tt tokens.now result }
 {
     let (a, rest) = digit(tokens, end)?;
     let (b, rest) = digit(rest, end)?;
@@ -70,7 +72,8 @@ fn four(tokens: &[Token], end: Place) -> Result<(Four, &[Token]), ReadError>
 
 // The word of sixteen digits, the highest first.
 fn word(p: Four, q: Four, r: Four, s: Four) -> u16
-    ensures { word_tree result ≡ Pair (four_tree p.0 p.1 p.2 p.3) (Pair (four_tree q.0 q.1 q.2 q.3) (Pair (four_tree r.0 r.1 r.2 r.3) (four_tree s.0 s.1 s.2 s.3))) }
+    ensures { word_tree result ≡ Pair (four_tree p.0 p.1 p.2 p.3) (Pair (four_tree q.0 q.1 q.2 q.3)
+        (Pair (four_tree r.0 r.1 r.2 r.3) (four_tree s.0 s.1 s.2 s.3))) }
 {
     word_of([
         s.3, s.2, s.1, s.0, r.3, r.2, r.1, r.0, q.3, q.2, q.1, q.0, p.3, p.2, p.1, p.0,
@@ -127,7 +130,8 @@ fn lines(
     tokens: &[Token],
     end: Place,
 ) -> Result<(Vec<Option<u16>>, &[Token]), ReadError>
-    ensures reads { Parses (hack end) lines (λ v. lines_tree v.items) (λ _. tt) tt tokens.now result }
+    ensures reads { Parses (hack end) lines (λ v. lines_tree v.items)
+        (λ _. tt) tt tokens.now result }
     ensures words { IfOk result (λ x. AreLines x.0.items) }
 {
     let mut lines = Vec::new(alloc);
@@ -157,7 +161,8 @@ fn finish(tokens: &[Token], end: Place) -> Result<(), ReadError>
 
 /// The lines that these tokens spell: a word, or none where a line is empty.
 pub fn all_lines(alloc: Global, tokens: &[Token], end: Place) -> Result<Vec<Option<u16>>, ReadError>
-    ensures reads { ParsesAll (hack end) whole (λ v. text_tree v.items) (λ _. tt) tt tokens.now result }
+    ensures reads { ParsesAll (hack end) whole (λ v. text_tree v.items)
+        (λ _. tt) tt tokens.now result }
     ensures words { IfOk result (λ v. AreLines v.items) }
 {
     let (lines, rest) = lines(alloc, tokens, end)?;

@@ -115,7 +115,8 @@ fn symbol<'a>(scan: &mut Scan<'a>, byte: u8) -> Result<Option<Token<'a>>, Fault>
 
 fn sign<'a>(scan: &mut Scan<'a>, byte: u8) -> Result<Option<Token<'a>>, Fault>
     requires { first (left_bytes scan.old) ≡ Some byte }
-    ensures { NextBy view (word_of (Kind.Sign byte) 0 (left_bytes scan.old)) scan.old result scan.new }
+    ensures { NextBy view
+        (word_of (Kind.Sign byte) 0 (left_bytes scan.old)) scan.old result scan.new }
 {
     let place = scan.place();
     let text = scan.skip(1);
@@ -143,7 +144,8 @@ fn begins_right_shift(bytes: &[u8]) -> bool
 // A token of two bytes, of which both are this one.
 fn shift<'a>(scan: &mut Scan<'a>, byte: u8) -> Result<Option<Token<'a>>, Fault>
     requires { 2 ≤ length (left_bytes scan.old) }
-    ensures { NextBy view (word_of (Kind.Sign byte) 1 (left_bytes scan.old)) scan.old result scan.new }
+    ensures { NextBy view
+        (word_of (Kind.Sign byte) 1 (left_bytes scan.old)) scan.old result scan.new }
 {
     let place = scan.place();
     let text = scan.skip(2);

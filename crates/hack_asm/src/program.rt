@@ -179,7 +179,8 @@ fn enter_label<'a>(
     n: usize,
 ) -> Result<usize, AsmFault>
     requires { n < 2 ^ 64 - 1 }
-    ensures entered { Yields (λ m. (m, table_of symbols.new)) result (enter_line (line_of line.now) n (table_of symbols.old)) }
+    ensures entered { Yields (λ m. (m, table_of symbols.new)) result
+        (enter_line (line_of line.now) n (table_of symbols.old)) }
     ensures counted { IfOk result (λ m. m ≤ n + 1) }
 {
     match line {
@@ -269,7 +270,8 @@ fn enter_variable<'a>(
     next: usize,
 ) -> Result<usize, AllocError>
     requires { next < 2 ^ 64 - 1 }
-    ensures entered { IfOk result (λ n. (n, table_of symbols.new) ≡ variable_line (line_of line.now) next (table_of symbols.old)) }
+    ensures entered { IfOk result (λ n. (n, table_of symbols.new)
+        ≡ variable_line (line_of line.now) next (table_of symbols.old)) }
     ensures counted { IfOk result (λ n. n ≤ next + 1) }
 {
     let Some(symbol) = used(line) else {
@@ -284,7 +286,8 @@ fn enter_variable<'a>(
 
 // Enters the variables.
 fn variables<'a>(symbols: &mut Symbols<'a>, lines: &[Option<Item<'a>>]) -> Result<(), AllocError>
-    ensures { OnOk result (table_of symbols.new ≡ variables 16 (table_of symbols.old) (map line_of lines.now)) }
+    ensures { OnOk result
+        (table_of symbols.new ≡ variables 16 (table_of symbols.old) (map line_of lines.now)) }
 {
     let mut next = 16;
     for line in lines {

@@ -35,7 +35,8 @@ pub fn all_lines<'a>(
     tokens: &'a [Token<'a>],
     end: Place,
 ) -> Result<Vec<Option<Item<'a>>>, ReadError>
-    ensures { ParsesAllBy view (assembly end) whole (λ v. text_tree (map line_of v.items)) (λ _. tt) tt tokens.now result }
+    ensures { ParsesAllBy view (assembly end) whole (λ v. text_tree (map line_of v.items))
+        (λ _. tt) tt tokens.now result }
 {
     let mut lines = Vec::new(alloc);
     let mut at = 0;

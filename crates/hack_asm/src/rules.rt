@@ -63,7 +63,8 @@ fn unary<'a>(
     tokens: &'a [Token<'a>],
     end: Place,
 ) -> Result<((Prefix, Letter), &'a [Token<'a>]), ReadError>
-    ensures { ParsesBy view (assembly end) unary (λ u. unary_tree u.0 u.1) (λ _. tt) tt tokens.now result }
+    ensures { ParsesBy view (assembly end) unary (λ u. unary_tree u.0 u.1)
+        (λ _. tt) tt tokens.now result }
 {
     if stands(tokens, b'-') {
         let rest = sign(tokens, end, b'-')?;
@@ -93,7 +94,8 @@ fn bare<'a>(
     tokens: &'a [Token<'a>],
     end: Place,
 ) -> Result<((Option<Letter>, Comp), &'a [Token<'a>]), ReadError>
-    ensures { ParsesBy view (assembly end) (by_letter after_letter unary) (λ x. bare_tree x.0 x.1) (λ _. tt) tt tokens.now result }
+    ensures { ParsesBy view (assembly end) (by_letter after_letter unary) (λ x. bare_tree x.0 x.1)
+        (λ _. tt) tt tokens.now result }
 {
     let Some((first, rest)) = first_letter(tokens) else {
         let ((prefix, second), rest) = unary(tokens, end)?;
@@ -113,7 +115,8 @@ fn assigned<'a>(
     tokens: &'a [Token<'a>],
     end: Place,
 ) -> Result<((Dest, Comp), &'a [Token<'a>]), ReadError>
-    ensures { ParsesBy view (assembly end) assignment_part (λ x. assigned_tree x.0 x.1) (λ _. tt) tt tokens.now result }
+    ensures { ParsesBy view (assembly end) assignment_part (λ x. assigned_tree x.0 x.1)
+        (λ _. tt) tt tokens.now result }
 {
     if let Some((bits, rest)) = several(tokens) {
         let rest = sign(rest, end, b'=')?;
@@ -143,7 +146,9 @@ fn label<'a>(
     tokens: &'a [Token<'a>],
     end: Place,
 ) -> Result<(Symbol<'a>, &'a [Token<'a>]), ReadError>
-    ensures { ParsesBy view (assembly end) label (λ s. Pair Skip (Pair (Leaf (Name s.name.now s.place)) Skip)) (λ _. tt) tt tokens.now result }
+    ensures { ParsesBy view
+        (assembly end) label (λ s. Pair Skip (Pair (Leaf (Name s.name.now s.place)) Skip))
+        (λ _. tt) tt tokens.now result }
 {
     let rest = sign(tokens, end, b'(')?;
     let (symbol, rest) = symbol(rest, end)?;
@@ -155,7 +160,8 @@ fn address<'a>(
     tokens: &'a [Token<'a>],
     end: Place,
 ) -> Result<(Address<'a>, &'a [Token<'a>]), ReadError>
-    ensures { ParsesBy view (assembly end) address (λ a. address_tree (address_of a)) (λ _. tt) tt tokens.now result }
+    ensures { ParsesBy view (assembly end) address (λ a. address_tree (address_of a))
+        (λ _. tt) tt tokens.now result }
 {
     let rest = sign(tokens, end, b'@')?;
     if counts(rest) {
@@ -168,7 +174,8 @@ fn address<'a>(
 
 // What a line says that is not blank.
 fn item<'a>(tokens: &'a [Token<'a>], end: Place) -> Result<(Item<'a>, &'a [Token<'a>]), ReadError>
-    ensures { ParsesBy view (assembly end) content (λ i. item_tree (item_of i)) (λ _. tt) tt tokens.now result }
+    ensures { ParsesBy view (assembly end) content (λ i. item_tree (item_of i))
+        (λ _. tt) tt tokens.now result }
 {
     if stands(tokens, b'(') {
         let (symbol, rest) = label(tokens, end)?;
@@ -187,7 +194,8 @@ pub fn line<'a>(
     tokens: &'a [Token<'a>],
     end: Place,
 ) -> Result<(Option<Item<'a>>, &'a [Token<'a>]), ReadError>
-    ensures { ParsesBy view (assembly end) line (λ l. line_tree (line_of l)) (λ _. tt) tt tokens.now result }
+    ensures { ParsesBy view (assembly end) line (λ l. line_tree (line_of l))
+        (λ _. tt) tt tokens.now result }
 {
     if ends(tokens) {
         let rest = line_end(tokens, end)?;

@@ -81,7 +81,8 @@ impl<'a> Symbols<'a> {
     /// Enters a symbol that is not entered.
     pub fn enter(&mut self, name: &'a [u8], address: usize) -> Result<(), AllocError>
         requires { entry_of (table_of self.old) name.now ≡ None }
-        ensures { OnOk result (table_of self.new ≡ with_entry (table_of self.old) name.now address) }
+        ensures { OnOk result
+            (table_of self.new ≡ with_entry (table_of self.old) name.now address) }
     {
         match self.entries.insert(name, address) {
             Ok(_) => Ok(()),

@@ -28,7 +28,8 @@ fn grammar_fault(place: Place) -> ReadError
 }
 
 fn sign_at<'a>(tokens: &'a [Token<'a>], end: Place, byte: u8) -> Result<&'a [Token<'a>], ReadError>
-    ensures { Gives (λ x. map view x.now) result (mark_at (assembly end) (is_sign byte) (map view tokens.now)) }
+    ensures { Gives (λ x. map view x.now) result
+        (mark_at (assembly end) (is_sign byte) (map view tokens.now)) }
 {
     let Some((token, rest)) = tokens.split_first() else {
         return Err(grammar_fault(end));
@@ -49,7 +50,8 @@ pub fn sign<'a>(tokens: &'a [Token<'a>], end: Place, byte: u8) -> Result<&'a [To
 }
 
 fn line_end_at<'a>(tokens: &'a [Token<'a>], end: Place) -> Result<&'a [Token<'a>], ReadError>
-    ensures { Gives (λ x. map view x.now) result (mark_at (assembly end) is_line_end (map view tokens.now)) }
+    ensures { Gives (λ x. map view x.now) result
+        (mark_at (assembly end) is_line_end (map view tokens.now)) }
 {
     let Some((token, rest)) = tokens.split_first() else {
         return Err(grammar_fault(end));
@@ -70,7 +72,8 @@ fn symbol_at<'a>(
     tokens: &'a [Token<'a>],
     end: Place,
 ) -> Result<(Symbol<'a>, &'a [Token<'a>]), ReadError>
-    ensures { Gives (λ x. (Name x.0.name.now x.0.place, tt, map view x.1.now)) result (word_at (assembly end) is_symbol free name tt (map view tokens.now)) }
+    ensures { Gives (λ x. (Name x.0.name.now x.0.place, tt, map view x.1.now)) result
+        (word_at (assembly end) is_symbol free name tt (map view tokens.now)) }
 {
     let Some((token, rest)) = tokens.split_first() else {
         return Err(grammar_fault(end));
@@ -91,13 +94,15 @@ pub fn symbol<'a>(
     tokens: &'a [Token<'a>],
     end: Place,
 ) -> Result<(Symbol<'a>, &'a [Token<'a>]), ReadError>
-    ensures { ParsesBy view (assembly end) symbol (λ s. Leaf (Name s.name.now s.place)) (λ _. tt) tt tokens.now result }
+    ensures { ParsesBy view (assembly end) symbol (λ s. Leaf (Name s.name.now s.place))
+        (λ _. tt) tt tokens.now result }
 {
     symbol_at(tokens, end)
 }
 
 fn number_at<'a>(tokens: &'a [Token<'a>], end: Place) -> Result<(u16, &'a [Token<'a>]), ReadError>
-    ensures { Gives (λ x. (Number x.0, tt, map view x.1.now)) result (word_at (assembly end) is_number free number tt (map view tokens.now)) }
+    ensures { Gives (λ x. (Number x.0, tt, map view x.1.now)) result
+        (word_at (assembly end) is_number free number tt (map view tokens.now)) }
 {
     let Some((token, rest)) = tokens.split_first() else {
         return Err(grammar_fault(end));
@@ -109,7 +114,8 @@ fn number_at<'a>(tokens: &'a [Token<'a>], end: Place) -> Result<(u16, &'a [Token
 }
 
 fn jump_at<'a>(tokens: &'a [Token<'a>], end: Place) -> Result<(u8, &'a [Token<'a>]), ReadError>
-    ensures { Gives (λ x. (Jump x.0, tt, map view x.1.now)) result (word_at (assembly end) is_jump free word_meaning tt (map view tokens.now)) }
+    ensures { Gives (λ x. (Jump x.0, tt, map view x.1.now)) result
+        (word_at (assembly end) is_jump free word_meaning tt (map view tokens.now)) }
 {
     let Some((token, rest)) = tokens.split_first() else {
         return Err(grammar_fault(end));
@@ -141,7 +147,8 @@ fn letter_at<'a>(
     end: Place,
     before: Before,
 ) -> Result<(Letter, &'a [Token<'a>]), ReadError>
-    ensures { Gives (λ x. (Letter' x.0, tt, map view x.1.now)) result (word_at (assembly end) (is_letter (suits before)) free word_meaning tt (map view tokens.now)) }
+    ensures { Gives (λ x. (Letter' x.0, tt, map view x.1.now)) result (word_at (assembly end)
+        (is_letter (suits before)) free word_meaning tt (map view tokens.now)) }
 {
     let Some((token, rest)) = tokens.split_first() else {
         return Err(grammar_fault(end));
@@ -160,19 +167,22 @@ pub fn letter<'a>(
     end: Place,
     before: Before,
 ) -> Result<(Letter, &'a [Token<'a>]), ReadError>
-    ensures { ParsesBy view (assembly end) (some_letter (suits before)) (λ x. Leaf (Letter' x)) (λ _. tt) tt tokens.now result }
+    ensures { ParsesBy view (assembly end) (some_letter (suits before)) (λ x. Leaf (Letter' x))
+        (λ _. tt) tt tokens.now result }
 {
     letter_at(tokens, end, before)
 }
 
 pub fn number<'a>(tokens: &'a [Token<'a>], end: Place) -> Result<(u16, &'a [Token<'a>]), ReadError>
-    ensures { ParsesBy view (assembly end) (word is_number free number) (λ n. Leaf (Number n)) (λ _. tt) tt tokens.now result }
+    ensures { ParsesBy view (assembly end) (word is_number free number) (λ n. Leaf (Number n))
+        (λ _. tt) tt tokens.now result }
 {
     number_at(tokens, end)
 }
 
 pub fn jump<'a>(tokens: &'a [Token<'a>], end: Place) -> Result<(u8, &'a [Token<'a>]), ReadError>
-    ensures { ParsesBy view (assembly end) (word is_jump free word_meaning) (λ n. Leaf (Jump n)) (λ _. tt) tt tokens.now result }
+    ensures { ParsesBy view (assembly end) (word is_jump free word_meaning) (λ n. Leaf (Jump n))
+        (λ _. tt) tt tokens.now result }
 {
     jump_at(tokens, end)
 }
@@ -225,7 +235,8 @@ pub fn first_letter<'a>(tokens: &'a [Token<'a>]) -> Option<(Letter, &'a [Token<'
 
 /// Several letters of a destination, given by their bits, and what is left after them.
 pub fn several<'a>(tokens: &'a [Token<'a>]) -> Option<(u8, &'a [Token<'a>])>
-    ensures { option_map (λ r. (r.0, map view r.1.now)) result ≡ several_next (map view tokens.now) }
+    ensures { option_map (λ r. (r.0, map view r.1.now)) result
+        ≡ several_next (map view tokens.now) }
 {
     let Some((token, rest)) = tokens.split_first() else {
         return None;
@@ -260,7 +271,8 @@ pub fn operator<'a>(
     tokens: &'a [Token<'a>],
     first: Letter,
 ) -> Option<(Operator, Before, &'a [Token<'a>])>
-    ensures { option_map (λ r. (r.0, r.1, map view r.2.now)) result ≡ operator_next first (map view tokens.now) }
+    ensures { option_map (λ r. (r.0, r.1, map view r.2.now)) result
+        ≡ operator_next first (map view tokens.now) }
 {
     let Some((token, rest)) = tokens.split_first() else {
         return None;
@@ -285,7 +297,8 @@ fn is_register(letter: Letter) -> bool
 
 /// The shift that comes after a register, and what is left after it.
 pub fn shift<'a>(tokens: &'a [Token<'a>], first: Letter) -> Option<(bool, &'a [Token<'a>])>
-    ensures { option_map (λ r. (r.0, map view r.1.now)) result ≡ shift_next first (map view tokens.now) }
+    ensures { option_map (λ r. (r.0, map view r.1.now)) result
+        ≡ shift_next first (map view tokens.now) }
 {
     let Some((token, rest)) = tokens.split_first() else {
         return None;

@@ -106,7 +106,8 @@ fn word_of_shift(memory: bool, left: bool, of_d: bool) -> u32
 // A computation, by its word without destination and jump, with those.
 fn put_computed<S: Sink>(word: u32, dest: u8, jump: u8, out: &mut Pieces<'_, S>) -> Put
     ensures same_sink { HaveSameSink out.old out.new }
-    ensures passes { Passes (S.written (sink_of out.old)) (pending out.old) (S.written (sink_of out.new)) (pending out.new) (computed_text word dest jump) result }
+    ensures passes { Passes (S.written (sink_of out.old)) (pending out.old)
+        (S.written (sink_of out.new)) (pending out.new) (computed_text word dest jump) result }
     ensures counts { CountsPut (S.faults (sink_of out.old)) (S.faults (sink_of out.new)) result }
 {
     out.put_all(&[dest_text(dest), comp_text(word), jump_text(jump), b"\n"])
@@ -115,7 +116,8 @@ fn put_computed<S: Sink>(word: u32, dest: u8, jump: u8, out: &mut Pieces<'_, S>)
 // The line of an instruction.
 fn put_instr<S: Sink>(instr: &Instr, out: &mut Pieces<'_, S>) -> Put
     ensures same_sink { HaveSameSink out.old out.new }
-    ensures passes { Passes (S.written (sink_of out.old)) (pending out.old) (S.written (sink_of out.new)) (pending out.new) (instr_text instr.now) result }
+    ensures passes { Passes (S.written (sink_of out.old)) (pending out.old)
+        (S.written (sink_of out.new)) (pending out.new) (instr_text instr.now) result }
     ensures counts { CountsPut (S.faults (sink_of out.old)) (S.faults (sink_of out.new)) result }
 {
     match *instr {
@@ -148,7 +150,8 @@ fn put_instr<S: Sink>(instr: &Instr, out: &mut Pieces<'_, S>) -> Put
 // The lines of instructions.
 fn put_asm<S: Sink>(instrs: &[Instr], out: &mut Pieces<'_, S>) -> Put
     ensures same_sink { HaveSameSink out.old out.new }
-    ensures passes { Passes (S.written (sink_of out.old)) (pending out.old) (S.written (sink_of out.new)) (pending out.new) (asm_text instrs.now) result }
+    ensures passes { Passes (S.written (sink_of out.old)) (pending out.old)
+        (S.written (sink_of out.new)) (pending out.new) (asm_text instrs.now) result }
     ensures counts { CountsPut (S.faults (sink_of out.old)) (S.faults (sink_of out.new)) result }
 {
     for instr in instrs {
@@ -164,7 +167,8 @@ fn put_asm<S: Sink>(instrs: &[Instr], out: &mut Pieces<'_, S>) -> Put
 fn put_all_asm<S: Sink>(instrs: &[Instr], out: &mut Pieces<'_, S>) -> Put
     requires { pending out.old ≡ [] }
     ensures same_sink { HaveSameSink out.old out.new }
-    ensures put { Puts (S.written (sink_of out.old)) (S.written (sink_of out.new)) (asm_text instrs.now) result }
+    ensures put { Puts (S.written (sink_of out.old)) (S.written (sink_of out.new))
+        (asm_text instrs.now) result }
     ensures counts { CountsPut (S.faults (sink_of out.old)) (S.faults (sink_of out.new)) result }
 {
     match put_asm(instrs, out) {

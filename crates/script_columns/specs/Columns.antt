@@ -1,7 +1,7 @@
 -- The lines that a script puts: columns of values, and over them those of names (book, appendix 3).
 use Rattle.std.specs.Prelude.{◌≡◌, ℕ, ◌+◌, ◌-◌, ◌/◌, Bool, if◌then◌else◌, List, [], ◌∷◌, ◌++◌, length, take, drop, map, replicate, flat_map, decimal}
 use Rattle.std.specs.List.{range_with_len}
-use Rattle.word16.specs.Words.{has_bit}
+use Rattle.word16.specs.Words.{binary_text}
 use Rattle.outer_world.specs.Texts.{signed_text}
 use Rattle.script_columns.specs.declared.layout.Format.{Format}
 use Rattle.script_columns.specs.declared.layout.Format.TheVariants.{Binary, Decimal, Text}
@@ -13,10 +13,6 @@ use Rattle.script_columns.specs.declared.layout.Head.{Head}
 
 abbrev pub blanks : ℕ → List ℕ
 blanks n = replicate n 32
-
--- the sixteen binary digits of a word, the highest first
-abbrev pub binary_text : ℕ → List ℕ
-binary_text w = map (λ k. if has_bit w (15 - k) then 49 else 48) (range_with_len 0 16)
 
 -- the time: the cycles that are over, and a plus from a tick to its tock
 abbrev pub time_text : ℕ → Bool → List ℕ

@@ -1,14 +1,13 @@
 //! Columns of values and of names.
 
-ghost use Rattle.std.specs.Prelude.{◌≡◌, ◌++◌, ◌<◌, IfOk, if◌then◌else◌};
-ghost use Rattle.script_columns.specs.Columns.{binary_text, blanks, cell_text, centred_text, column_text, head_column, head_text, line_text, placed_field, plain_text, time_text, value_text};
+ghost use Rattle.std.specs.Prelude.{◌≡◌, ◌++◌, IfOk, if◌then◌else◌};
+ghost use Rattle.script_columns.specs.Columns.{blanks, cell_text, centred_text, column_text, head_column, head_text, line_text, placed_field, plain_text, time_text, value_text};
 ghost use Rattle.outer_world.specs.Texts.{signed_text};
-ghost use Rattle.word16.specs.Words.{has_bit};
 
 use crate::layout::{Cell, Format, Head, Layout, Value};
 use itoa::Buffer;
 use std::alloc::{AllocError, Global};
-use word16::bit;
+use word16::binary_digits;
 
 fn push_blanks(line: &mut Vec<u8>, count: usize) -> Result<(), AllocError>
     ensures { IfOk result (λ _. line.new.items ≡ line.old.items ++ blanks count) }
@@ -17,37 +16,6 @@ fn push_blanks(line: &mut Vec<u8>, count: usize) -> Result<(), AllocError>
         line.push(b' ')?;
     }
     Ok(())
-}
-
-fn digit(word: u16, k: u16) -> u8
-    requires { k < 16 }
-    ensures { result ≡ (if has_bit word k then 49 else 48) }
-{
-    if bit(word, k) { b'1' } else { b'0' }
-}
-
-/// The sixteen binary digits of a word, the highest first.
-pub fn binary_digits(word: u16) -> [u8; 16]
-    ensures { result ≡ binary_text word }
-{
-    [
-        digit(word, 15),
-        digit(word, 14),
-        digit(word, 13),
-        digit(word, 12),
-        digit(word, 11),
-        digit(word, 10),
-        digit(word, 9),
-        digit(word, 8),
-        digit(word, 7),
-        digit(word, 6),
-        digit(word, 5),
-        digit(word, 4),
-        digit(word, 3),
-        digit(word, 2),
-        digit(word, 1),
-        digit(word, 0),
-    ]
 }
 
 fn time_text(alloc: Global, cycle: u64, ticked: bool) -> Result<Vec<u8>, AllocError>
@@ -105,7 +73,8 @@ fn push_placed(
     places: usize,
     text: &[u8],
 ) -> Result<(), AllocError>
-    ensures { IfOk result (λ _. line.new.items ≡ line.old.items ++ placed_field format places text.now) }
+    ensures { IfOk result
+        (λ _. line.new.items ≡ line.old.items ++ placed_field format places text.now) }
 {
     let gap = places.saturating_sub(text.len());
     let shown = &text[text.len().saturating_sub(places)..];

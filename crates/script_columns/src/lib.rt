@@ -8,9 +8,7 @@ mod columns;
 mod comparison;
 mod layout;
 
-pub use columns::{
-    binary_digits, head_line, push_cell, push_column, push_head, value_line, value_text,
-};
+pub use columns::{head_line, push_cell, push_column, push_head, value_line, value_text};
 pub use comparison::{agrees, agrees_first, past_line, past_lines};
 pub use layout::{Cell, Format, Head, Layout, Value};
 

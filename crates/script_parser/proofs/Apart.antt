@@ -6,7 +6,7 @@ use Rattle.script_parser.specs.declared.tree.Placed.{Placed}
 use Rattle.script_parser.specs.declared.tree.Step.{Step}
 use Rattle.script_parser.specs.declared.tree.Step.TheVariants as step
 use Rattle.script_parser.specs.declared.tree.Item.{Item}
-use Rattle.script_parser.specs.declared.tree.Format.TheVariants as format
+use Rattle.script_columns.specs.declared.layout.Format.TheVariants as format
 use Rattle.script_parser.specs.declared.tree.Act.{Act}
 use Rattle.script_parser.specs.declared.tree.Act.TheVariants as act
 use Rattle.script_parser.specs.declared.token.Role.{Role}
@@ -46,7 +46,7 @@ text_in v = []
 
 abbrev item_in : Said → Item
 item_in (Shown i) = i
-item_in v = record { variable = nowhere; format = format.Binary; left = 0; shown = 0; right = 0 }
+item_in v = record { variable = nowhere; layout = record { format = format.Binary; left = 0; shown = 0; right = 0 } }
 
 abbrev step_of_role : Role → Step
 step_of_role role.Tick = step.Tick

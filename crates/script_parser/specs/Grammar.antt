@@ -15,7 +15,7 @@ use Rattle.script_parser.specs.declared.token.Kind.TheVariants as kind
 use Rattle.script_parser.specs.declared.figures.Figure.{Figure}
 use Rattle.script_parser.specs.declared.figures.Number.{Number}
 use Rattle.script_parser.specs.declared.figures.Number.TheVariants as number
-use Rattle.script_parser.specs.declared.figures.Layout.{Layout}
+use Rattle.script_parser.specs.declared.figures.WrittenLayout.{WrittenLayout}
 use Rattle.script_parser.specs.declared.nesting.Nesting.{Nesting}
 use Rattle.script_parser.specs.Tokens.{Word}
 use Rattle.script_parser.specs.Numbers.{whole_figure, number_of_word, value_of, layout_of_word, plain_layout, one, variable_of, ends_in}
@@ -177,10 +177,10 @@ check_value s t = unless s (number_fault t (number_in t))
 abbrev pub valued_word : Word → Said
 valued_word t = Value (value_of (number_in t))
 
-abbrev pub layout_in : Word → Layout
+abbrev pub layout_in : Word → WrittenLayout
 layout_in t = or_else plain_layout (layout_of_word t.text)
 
-abbrev pub layout_fault : Word → Layout → Option Fault
+abbrev pub layout_fault : Word → WrittenLayout → Option Fault
 layout_fault t l =
     if nat_lt 255 l.left.value then Some (too_large (place_in t l.left.from_end) l.left.value)
     else (if nat_lt 255 l.shown.value then Some (too_large (place_in t l.shown.from_end) l.shown.value)
@@ -191,8 +191,11 @@ layout_fault t l =
 abbrev pub check_item : Nesting → Word → Result Nesting Fault
 check_item s t = unless s (layout_fault t (layout_in t))
 
-abbrev pub item_laid : Word → Layout → Item
-item_laid t l = record { variable = record { text = variable_of t.text; place = t.place }; format = l.format; left = l.left.value; shown = l.shown.value; right = l.right.value }
+abbrev pub item_laid : Word → WrittenLayout → Item
+item_laid t l = record {
+  variable = record { text = variable_of t.text; place = t.place };
+  layout = record { format = l.format; left = l.left.value; shown = l.shown.value; right = l.right.value };
+}
 
 abbrev pub shown_word : Word → Said
 shown_word t = Shown (item_laid t (layout_in t))

@@ -2,12 +2,12 @@
 use Rattle.std.specs.Prelude.{ℕ, ◌+◌, ◌-◌, ◌*◌, ◌%◌, Bool, true, false, List, [], ◌∷◌, Option, Some, None, ◌==◌, ◌||◌, ◌&&◌, if◌then◌else◌, length, drop, nat_le}
 use Rattle.std.specs.Str.{bytes_eq}
 use Rattle.scan_text.specs.Text.{front, rest_behind, is_digit, number_of}
-use Rattle.script_parser.specs.declared.tree.Format.{Format}
-use Rattle.script_parser.specs.declared.tree.Format.TheVariants as format
+use Rattle.script_columns.specs.declared.layout.Format.{Format}
+use Rattle.script_columns.specs.declared.layout.Format.TheVariants as format
 use Rattle.script_parser.specs.declared.figures.Figure.{Figure}
 use Rattle.script_parser.specs.declared.figures.Number.{Number}
 use Rattle.script_parser.specs.declared.figures.Number.TheVariants as number
-use Rattle.script_parser.specs.declared.figures.Layout.{Layout}
+use Rattle.script_parser.specs.declared.figures.WrittenLayout.{WrittenLayout}
 
 -- what follows from a value, if there is one
 abbrev pub if_given : {A B : Type 0} → Option A → (A → Option B) → Option B
@@ -90,7 +90,7 @@ value_of (number.Negative f) = (65536 - f.value) % 65536
 value_of (number.Bits w) = w
 
 -- l.n.r
-abbrev pub layout : Format → List ℕ → Option Layout
+abbrev pub layout : Format → List ℕ → Option WrittenLayout
 layout f bs =
     if_given (figure bs) (λ left. if_given (behind_byte 46 (rest_behind is_digit bs)) (λ cs.
     if_given (figure cs) (λ shown. if_given (behind_byte 46 (rest_behind is_digit cs)) (λ ds.
@@ -100,7 +100,7 @@ layout f bs =
 abbrev pub format_of : ℕ → Option Format
 format_of b = if b == 66 then Some format.Binary else (if b == 68 then Some format.Decimal else (if b == 83 then Some format.Text else None))
 
-abbrev pub formatted_layout : List ℕ → Option Layout
+abbrev pub formatted_layout : List ℕ → Option WrittenLayout
 formatted_layout [] = None
 formatted_layout (b ∷ bs) = if_given (format_of b) (λ f. layout f bs)
 
@@ -108,7 +108,7 @@ abbrev pub one : Figure
 one = record { value = 1; from_end = 0 }
 
 -- a variable alone is shown as by %B1.1.1
-abbrev pub plain_layout : Layout
+abbrev pub plain_layout : WrittenLayout
 plain_layout = record { format = format.Binary; left = one; shown = one; right = one }
 
 abbrev pub no_percent : ℕ → Bool
@@ -119,12 +119,12 @@ abbrev pub variable_of : List ℕ → List ℕ
 variable_of text = front no_percent text
 
 -- the first byte, which is the `%`, is passed over
-abbrev pub layout_behind : List ℕ → Option Layout
+abbrev pub layout_behind : List ℕ → Option WrittenLayout
 layout_behind [] = Some plain_layout
 layout_behind (b ∷ bs) = formatted_layout bs
 
 -- how an item is laid out; None, where the word is no item
-abbrev pub layout_of_word : List ℕ → Option Layout
+abbrev pub layout_of_word : List ℕ → Option WrittenLayout
 layout_of_word text = if is_empty (variable_of text) then None else layout_behind (rest_behind no_percent text)
 
 -- the word ends so

@@ -3,8 +3,8 @@ use Rattle.std.specs.Prelude.{ℕ, List, [], ◌∷◌, ◌++◌, codes}
 use Rattle.scan_text.specs.declared.Place.{Place}
 use Rattle.grammar.specs.declared.Fault.TheVariants.{Grammar, Range}
 use Rattle.script_parser.specs.declared.tree.Placed.{Placed}
-use Rattle.script_parser.specs.declared.tree.Format.{Format}
-use Rattle.script_parser.specs.declared.tree.Format.TheVariants as format
+use Rattle.script_columns.specs.declared.layout.Format.{Format}
+use Rattle.script_columns.specs.declared.layout.Format.TheVariants as format
 use Rattle.script_parser.specs.declared.tree.Item.{Item}
 use Rattle.script_parser.specs.declared.tree.Step.TheVariants as step
 use Rattle.script_parser.specs.declared.tree.Act.TheVariants as act
@@ -19,7 +19,7 @@ word_at n = record { text = codes "a"; place = at n }
 
 -- the variable a there, and how it is shown
 abbrev pub item_at : ℕ → Format → ℕ → ℕ → ℕ → Item
-item_at n f left shown right = record { variable = word_at n; format = f; left = left; shown = shown; right = right }
+item_at n f left shown right = record { variable = word_at n; layout = record { format = f; left = left; shown = shown; right = right } }
 
 -- a text in double quotes
 abbrev pub quoted_text : List ℕ → List ℕ

@@ -5,8 +5,8 @@ ghost use Rattle.scan_text.specs.Text.{rest_behind, is_digit};
 ghost use Rattle.scan_text.specs.View.{left_bytes};
 ghost use Rattle.script_parser.specs.Numbers.{behind_byte, figure, whole_figure, number_of_word, decimal_number, binary_number, bits, is_binary, value_of, layout_of_word, layout, formatted_layout, format_of, plain_layout, no_percent, ends_in};
 
-use crate::tree::Format;
 use scan_text::Scan;
+use script_columns::Format;
 
 /// A number in a word, where one over 1,000,000,000 is 1,000,000,001, and how many bytes there are from its first digit to the end of the
 /// word.
@@ -24,9 +24,9 @@ pub enum Number {
     Bits(u16),
 }
 
-/// How an item is laid out.
+/// How an item is laid out, in figures that may be too large.
 #[derive(Clone, Copy)]
-pub struct Layout {
+pub struct WrittenLayout {
     pub format: Format,
     pub left: Figure,
     pub shown: Figure,
@@ -46,7 +46,8 @@ fn digits(scan: &mut Scan<'_>) -> Option<Figure>
 
 // Goes over this byte, if it comes next.
 fn skips(scan: &mut Scan<'_>, byte: u8) -> bool
-    ensures yes { result ≡ true → behind_byte byte (left_bytes scan.old) ≡ Some (left_bytes scan.new) }
+    ensures yes { result ≡ true
+        → behind_byte byte (left_bytes scan.old) ≡ Some (left_bytes scan.new) }
     ensures no { result ≡ false → behind_byte byte (left_bytes scan.old) ≡ None }
     ensures stays { result ≡ false → left_bytes scan.new ≡ left_bytes scan.old }
 {
@@ -146,7 +147,7 @@ pub fn number_of_word(text: &[u8]) -> Option<Number>
     None
 }
 
-fn widths(scan: &mut Scan<'_>, format: Format) -> Option<Layout>
+fn widths(scan: &mut Scan<'_>, format: Format) -> Option<WrittenLayout>
     ensures { result ≡ layout format (left_bytes scan.old) }
 {
     let left = digits(scan)?;
@@ -161,7 +162,7 @@ fn widths(scan: &mut Scan<'_>, format: Format) -> Option<Layout>
     if !scan.rest().is_empty() {
         return None;
     }
-    Some(Layout {
+    Some(WrittenLayout {
         format,
         left,
         shown,
@@ -180,7 +181,7 @@ fn format_of(byte: u8) -> Option<Format>
     }
 }
 
-fn formatted(scan: &mut Scan<'_>) -> Option<Layout>
+fn formatted(scan: &mut Scan<'_>) -> Option<WrittenLayout>
     ensures { result ≡ formatted_layout (left_bytes scan.old) }
 {
     let byte = scan.peek()?;
@@ -189,14 +190,14 @@ fn formatted(scan: &mut Scan<'_>) -> Option<Layout>
     widths(scan, format)
 }
 
-fn plain_layout() -> Layout
+fn plain_layout() -> WrittenLayout
     ensures { result ≡ plain_layout }
 {
     let one = Figure {
         value: 1,
         from_end: 0,
     };
-    Layout {
+    WrittenLayout {
         format: Format::Binary,
         left: one,
         shown: one,
@@ -205,7 +206,7 @@ fn plain_layout() -> Layout
 }
 
 /// How an item is laid out, if the word is one.
-pub fn layout_of_word(text: &[u8]) -> Option<Layout>
+pub fn layout_of_word(text: &[u8]) -> Option<WrittenLayout>
     requires { length text.now < 2 ^ 32 - 1 }
     ensures { result ≡ layout_of_word text.now }
 {

@@ -35,7 +35,8 @@ fn finish(tokens: &[Token], end: Place) -> Result<(), ReadError>
 
 #[tactic(auto, using(crate::proofs::Exits::script_exits))]
 fn all(alloc: Global, tokens: &[Token], end: Place) -> Result<Vec<Command>, ReadError>
-    ensures { ParsesAllBy view (script end) whole (λ v. whole_tree (commands_of v.items)) (λ _. outermost) outermost tokens.now result }
+    ensures { ParsesAllBy view (script end) whole (λ v. whole_tree (commands_of v.items))
+        (λ _. outermost) outermost tokens.now result }
 {
     let (commands, rest) = commands(alloc, tokens, end, outermost())?;
     finish(rest, end)?;
@@ -58,10 +59,12 @@ fn read(alloc: Global, text: &[u8]) -> Result<Vec<Command>, ReadError>
 pub fn parse_script(alloc: Global, text: &[u8]) -> Result<Script, ScriptFault>
     // What is read is spelled so, and what is spelled is read, unless memory runs out.
     ensures found { IfOk result (λ v. Spells text.now (commands_of v.items)) }
-    ensures only { (s : Commands) → Spells text.now s → Gives (λ v. commands_of v.items) result (Ok s) }
+    ensures only { (s : Commands) → Spells text.now s
+        → Gives (λ v. commands_of v.items) result (Ok s) }
     // A fault is the text's first one, and each text with a fault gets it.
     ensures fault { IfErr result (Halt (Refuses text.now)) }
-    ensures exact { (f : Fault) → Refuses text.now f → Gives (λ v. commands_of v.items) result (Err f) }
+    ensures exact { (f : Fault) → Refuses text.now f
+        → Gives (λ v. commands_of v.items) result (Err f) }
 {
     read(alloc, text)
 }

@@ -27,7 +27,8 @@ fn load<'a>(
     end: Place,
     nesting: Nesting,
 ) -> Result<(Placed, &'a [Token<'a>]), ReadError>
-    ensures reads { ParsesBy view (script end) load named_tree (λ _. nesting) nesting tokens.now result }
+    ensures reads { ParsesBy view (script end) load named_tree
+        (λ _. nesting) nesting tokens.now result }
     ensures shorter { IfOk result (λ r. length r.1.now < length tokens.now) }
 {
     let rest = begin(tokens, end, nesting, Role::Load)?;
@@ -43,7 +44,8 @@ fn output_file<'a>(
     end: Place,
     nesting: Nesting,
 ) -> Result<(Placed, &'a [Token<'a>]), ReadError>
-    ensures reads { ParsesBy view (script end) output_file named_tree (λ _. nesting) nesting tokens.now result }
+    ensures reads { ParsesBy view (script end) output_file named_tree
+        (λ _. nesting) nesting tokens.now result }
     ensures shorter { IfOk result (λ r. length r.1.now < length tokens.now) }
 {
     let rest = begin(tokens, end, nesting, Role::OutputFile)?;
@@ -59,7 +61,8 @@ fn compare_to<'a>(
     end: Place,
     nesting: Nesting,
 ) -> Result<(Placed, &'a [Token<'a>]), ReadError>
-    ensures reads { ParsesBy view (script end) compare_to named_tree (λ _. nesting) nesting tokens.now result }
+    ensures reads { ParsesBy view (script end) compare_to named_tree
+        (λ _. nesting) nesting tokens.now result }
     ensures shorter { IfOk result (λ r. length r.1.now < length tokens.now) }
 {
     let rest = begin(tokens, end, nesting, Role::CompareTo)?;
@@ -75,7 +78,8 @@ fn items<'a>(
     end: Place,
     nesting: Nesting,
 ) -> Result<(List<Item>, &'a [Token<'a>]), ReadError>
-    ensures reads { ParsesBy view (script end) items (λ x. items_with x NoMore) (λ _. nesting) nesting tokens.now result }
+    ensures reads { ParsesBy view (script end) items (λ x. items_with x NoMore)
+        (λ _. nesting) nesting tokens.now result }
     ensures shorter { IfOk result (λ r. length r.1.now < length tokens.now) }
 {
     let mut items = List::new(alloc);
@@ -98,7 +102,8 @@ fn output_list<'a>(
     end: Place,
     nesting: Nesting,
 ) -> Result<(List<Item>, &'a [Token<'a>]), ReadError>
-    ensures reads { ParsesBy view (script end) output_list listing_tree (λ _. nesting) nesting tokens.now result }
+    ensures reads { ParsesBy view (script end) output_list listing_tree
+        (λ _. nesting) nesting tokens.now result }
     ensures shorter { IfOk result (λ r. length r.1.now < length tokens.now) }
 {
     let rest = begin(tokens, end, nesting, Role::OutputList)?;
@@ -114,7 +119,8 @@ fn setting<'a>(
     end: Place,
     nesting: Nesting,
 ) -> Result<((Placed, u16), &'a [Token<'a>]), ReadError>
-    ensures reads { ParsesBy view (script end) setting (λ x. setting_tree x.0 x.1) (λ _. nesting) nesting tokens.now result }
+    ensures reads { ParsesBy view (script end) setting (λ x. setting_tree x.0 x.1)
+        (λ _. nesting) nesting tokens.now result }
     ensures shorter { IfOk result (λ r. length r.1.now < length tokens.now) }
 {
     let rest = begin(tokens, end, nesting, Role::Set)?;
@@ -131,7 +137,8 @@ fn echo<'a>(
     end: Place,
     nesting: Nesting,
 ) -> Result<(List<u8>, &'a [Token<'a>]), ReadError>
-    ensures reads { ParsesBy view (script end) echo echo_tree (λ _. nesting) nesting tokens.now result }
+    ensures reads { ParsesBy view (script end) echo echo_tree
+        (λ _. nesting) nesting tokens.now result }
     ensures shorter { IfOk result (λ r. length r.1.now < length tokens.now) }
 {
     let rest = begin(tokens, end, nesting, Role::Echo)?;
@@ -147,7 +154,8 @@ fn load_rom<'a>(
     end: Place,
     nesting: Nesting,
 ) -> Result<((Placed, Placed), &'a [Token<'a>]), ReadError>
-    ensures reads { ParsesBy view (script end) load_rom (λ x. rom_tree x.0 x.1) (λ _. nesting) nesting tokens.now result }
+    ensures reads { ParsesBy view (script end) load_rom (λ x. rom_tree x.0 x.1)
+        (λ _. nesting) nesting tokens.now result }
     ensures shorter { IfOk result (λ r. length r.1.now < length tokens.now) }
 {
     let (rom, rest) = rom(alloc, tokens, end, nesting)?;
@@ -164,7 +172,8 @@ fn act<'a>(
     end: Place,
     nesting: Nesting,
 ) -> Result<(Act, &'a [Token<'a>]), ReadError>
-    ensures reads { ParsesBy view (script end) act act_tree (λ _. nesting) nesting tokens.now result }
+    ensures reads { ParsesBy view (script end) act act_tree
+        (λ _. nesting) nesting tokens.now result }
     ensures shorter { IfOk result (λ r. length r.1.now < length tokens.now) }
 {
     if step_stands(tokens) {
@@ -213,7 +222,8 @@ fn block<'a>(
     end: Place,
     nesting: Nesting,
 ) -> Result<(Vec<Command>, &'a [Token<'a>]), ReadError>
-    ensures reads { ParsesBy view (script end) block (λ v. braces_tree (list_tree v.items)) (λ _. nesting) nesting tokens.now result }
+    ensures reads { ParsesBy view (script end) block (λ v. braces_tree (list_tree v.items))
+        (λ _. nesting) nesting tokens.now result }
     ensures shorter { IfOk result (λ r. length r.1.now < length tokens.now) }
 {
     let rest = sign(tokens, end, nesting, b'{')?;
@@ -231,7 +241,9 @@ fn repeated<'a>(
     end: Place,
     nesting: Nesting,
 ) -> Result<((u32, Vec<Command>), &'a [Token<'a>]), ReadError>
-    ensures reads { ParsesBy view (script end) repetition_parts (λ x. parts_tree x.0 (list_tree x.1.items)) (λ x. times_more nesting x.0) nesting tokens.now result }
+    ensures reads { ParsesBy view
+        (script end) repetition_parts (λ x. parts_tree x.0 (list_tree x.1.items))
+        (λ x. times_more nesting x.0) nesting tokens.now result }
     ensures shorter { IfOk result (λ r. length r.1.now < length tokens.now) }
 {
     let rest = begin(tokens, end, nesting, Role::Repeat)?;
@@ -249,7 +261,8 @@ fn command<'a>(
     end: Place,
     nesting: Nesting,
 ) -> Result<(Command, &'a [Token<'a>]), ReadError>
-    ensures reads { ParsesBy view (script end) (name command) command_tree (λ _. nesting) nesting tokens.now result }
+    ensures reads { ParsesBy view (script end) (name command) command_tree
+        (λ _. nesting) nesting tokens.now result }
     ensures shorter { IfOk result (λ r. length r.1.now < length tokens.now) }
 {
     if repetition_begins(tokens) {
@@ -274,7 +287,8 @@ pub fn commands<'a>(
     end: Place,
     nesting: Nesting,
 ) -> Result<(Vec<Command>, &'a [Token<'a>]), ReadError>
-    ensures reads { ParsesBy view (script end) commands (λ v. list_tree v.items) (λ _. nesting) nesting tokens.now result }
+    ensures reads { ParsesBy view (script end) commands (λ v. list_tree v.items)
+        (λ _. nesting) nesting tokens.now result }
     ensures no_longer { IfOk result (λ r. length r.1.now ≤ length tokens.now) }
 {
     let mut commands = Vec::new(alloc);

@@ -1,6 +1,7 @@
 //! What a test script says (book, appendix 3).
 use outer_world::List;
 use scan_text::Place;
+use script_columns::Layout;
 
 /// A word of a script, with the place where it stands.
 #[derive(Drop)]
@@ -9,22 +10,11 @@ pub struct Placed {
     pub place: Place,
 }
 
-/// How an item is shown: as sixteen binary digits, as a decimal, or as a text.
-#[derive(Clone, Copy, Debug, PartialEq, Eq)]
-pub enum Format {
-    Binary,
-    Decimal,
-    Text,
-}
-
-/// An item of an output list: its variable, its format, and how many blanks, characters and blanks it takes.
+/// An item of an output list: its variable, and the column that shows it.
 #[derive(Drop)]
 pub struct Item {
     pub variable: Placed,
-    pub format: Format,
-    pub left: u8,
-    pub shown: u8,
-    pub right: u8,
+    pub layout: Layout,
 }
 
 /// A command of one word.

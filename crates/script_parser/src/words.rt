@@ -11,7 +11,7 @@ ghost use Rattle.script_parser.specs.Trees.{step_said};
 ghost use Rattle.script_parser.specs.Inner.Fits.{Within};
 
 use crate::figures::{
-    Figure, Layout, Number, ends_in, layout_of_word, number_of_word, whole_figure,
+    Figure, Number, WrittenLayout, ends_in, layout_of_word, number_of_word, whole_figure,
 };
 use crate::nesting::Nesting;
 use crate::token::{Kind, Role, Token};
@@ -19,6 +19,7 @@ use crate::tree::{Item, Placed, Step};
 use grammar::{Fault, ReadError};
 use outer_world::List;
 use scan_text::{Place, Scan};
+use script_columns::Layout;
 use std::alloc::{AllocError, Global};
 
 const MOST: u32 = 1_000_000_000;
@@ -42,7 +43,8 @@ fn place_in(token: &Token, from_end: usize) -> Place
 
 // The figure of a word is past its limit.
 fn too_large(token: &Token, figure: Figure) -> ReadError
-    ensures { result ≡ ReadError.Fault (too_large (place_in (view token.now) figure.from_end) figure.value) }
+    ensures { result
+        ≡ ReadError.Fault (too_large (place_in (view token.now) figure.from_end) figure.value) }
 {
     let place = place_in(token, figure.from_end);
     ReadError::Fault(Fault::Range(place, figure.value.min(1_000_000_000)))
@@ -119,8 +121,9 @@ fn word_of(token: &Token, number: Number) -> Result<u16, ReadError>
     }
 }
 
-fn item_laid(alloc: Global, token: &Token, layout: Layout) -> Result<Item, ReadError>
-    ensures { Within (layout_fault (view token.now) layout) (item_laid (view token.now) layout) result }
+fn item_laid(alloc: Global, token: &Token, layout: WrittenLayout) -> Result<Item, ReadError>
+    ensures { Within (layout_fault (view token.now) layout)
+        (item_laid (view token.now) layout) result }
 {
     if layout.left.value > 255 {
         return Err(too_large(token, layout.left));
@@ -139,10 +142,12 @@ fn item_laid(alloc: Global, token: &Token, layout: Layout) -> Result<Item, ReadE
             text,
             place: token.place,
         },
-        format: layout.format,
-        left: layout.left.value as u8,
-        shown: layout.shown.value as u8,
-        right: layout.right.value as u8,
+        layout: Layout {
+            format: layout.format,
+            left: layout.left.value as u8,
+            shown: layout.shown.value as u8,
+            right: layout.right.value as u8,
+        },
     })
 }
 
@@ -153,7 +158,8 @@ pub fn any_word<'a>(
     end: Place,
     nesting: Nesting,
 ) -> Result<(Placed, &'a [Token<'a>]), ReadError>
-    ensures reads { ParsesBy view (script end) any_word (λ x. Leaf (Word' x)) (λ _. nesting) nesting tokens.now result }
+    ensures reads { ParsesBy view (script end) any_word (λ x. Leaf (Word' x))
+        (λ _. nesting) nesting tokens.now result }
     ensures shorter { IfOk result (λ r. length r.1.now < length tokens.now) }
 {
     let Some((token, rest)) = tokens.split_first() else {
@@ -172,7 +178,8 @@ pub fn device<'a>(
     end: Place,
     nesting: Nesting,
 ) -> Result<(Placed, &'a [Token<'a>]), ReadError>
-    ensures reads { ParsesBy view (script end) device (λ x. Leaf (Word' x)) (λ _. nesting) nesting tokens.now result }
+    ensures reads { ParsesBy view (script end) device (λ x. Leaf (Word' x))
+        (λ _. nesting) nesting tokens.now result }
     ensures shorter { IfOk result (λ r. length r.1.now < length tokens.now) }
 {
     let Some((token, rest)) = tokens.split_first() else {
@@ -191,7 +198,8 @@ pub fn program<'a>(
     end: Place,
     nesting: Nesting,
 ) -> Result<(Placed, &'a [Token<'a>]), ReadError>
-    ensures reads { ParsesBy view (script end) program (λ x. Leaf (Word' x)) (λ _. nesting) nesting tokens.now result }
+    ensures reads { ParsesBy view (script end) program (λ x. Leaf (Word' x))
+        (λ _. nesting) nesting tokens.now result }
     ensures shorter { IfOk result (λ r. length r.1.now < length tokens.now) }
 {
     let Some((token, rest)) = tokens.split_first() else {
@@ -210,7 +218,8 @@ pub fn rom<'a>(
     end: Place,
     nesting: Nesting,
 ) -> Result<(Placed, &'a [Token<'a>]), ReadError>
-    ensures reads { ParsesBy view (script end) rom (λ x. Leaf (Word' x)) (λ _. nesting) nesting tokens.now result }
+    ensures reads { ParsesBy view (script end) rom (λ x. Leaf (Word' x))
+        (λ _. nesting) nesting tokens.now result }
     ensures shorter { IfOk result (λ r. length r.1.now < length tokens.now) }
 {
     let Some((token, rest)) = tokens.split_first() else {
@@ -228,7 +237,8 @@ pub fn count<'a>(
     end: Place,
     nesting: Nesting,
 ) -> Result<((u32, Nesting), &'a [Token<'a>]), ReadError>
-    ensures reads { ParsesBy view (script end) count (λ x. Leaf (Count x.0)) (λ x. x.1) nesting tokens.now result }
+    ensures reads { ParsesBy view (script end) count (λ x. Leaf (Count x.0))
+        (λ x. x.1) nesting tokens.now result }
     ensures shorter { IfOk result (λ r. length r.1.now < length tokens.now) }
     ensures times { IfOk result (λ r. r.0.1 ≡ times_more nesting r.0.0) }
 {
@@ -258,7 +268,8 @@ pub fn value<'a>(
     end: Place,
     nesting: Nesting,
 ) -> Result<(u16, &'a [Token<'a>]), ReadError>
-    ensures reads { ParsesBy view (script end) value (λ x. Leaf (Value x)) (λ _. nesting) nesting tokens.now result }
+    ensures reads { ParsesBy view (script end) value (λ x. Leaf (Value x))
+        (λ _. nesting) nesting tokens.now result }
     ensures shorter { IfOk result (λ r. length r.1.now < length tokens.now) }
 {
     let Some((token, rest)) = tokens.split_first() else {
@@ -279,7 +290,8 @@ fn item_at<'a>(
     end: Place,
     nesting: Nesting,
 ) -> Result<(Item, &'a [Token<'a>]), ReadError>
-    ensures reads { Gives (λ x. (Shown x.0, nesting, map view x.1.now)) result (word_at (script end) is_item check_item shown_word nesting (map view tokens.now)) }
+    ensures reads { Gives (λ x. (Shown x.0, nesting, map view x.1.now)) result
+        (word_at (script end) is_item check_item shown_word nesting (map view tokens.now)) }
     ensures shorter { IfOk result (λ r. length r.1.now < length tokens.now) }
 {
     let Some((token, rest)) = tokens.split_first() else {
@@ -301,7 +313,8 @@ pub fn item<'a>(
     end: Place,
     nesting: Nesting,
 ) -> Result<(Item, &'a [Token<'a>]), ReadError>
-    ensures reads { ParsesBy view (script end) item (λ x. Leaf (Shown x)) (λ _. nesting) nesting tokens.now result }
+    ensures reads { ParsesBy view (script end) item (λ x. Leaf (Shown x))
+        (λ _. nesting) nesting tokens.now result }
     ensures shorter { IfOk result (λ r. length r.1.now < length tokens.now) }
 {
     item_at(alloc, tokens, end, nesting)
@@ -314,7 +327,8 @@ pub fn text<'a>(
     end: Place,
     nesting: Nesting,
 ) -> Result<(List<u8>, &'a [Token<'a>]), ReadError>
-    ensures reads { ParsesBy view (script end) text (λ x. Leaf (Text' x)) (λ _. nesting) nesting tokens.now result }
+    ensures reads { ParsesBy view (script end) text (λ x. Leaf (Text' x))
+        (λ _. nesting) nesting tokens.now result }
     ensures shorter { IfOk result (λ r. length r.1.now < length tokens.now) }
 {
     let Some((token, rest)) = tokens.split_first() else {
@@ -332,7 +346,8 @@ pub fn step<'a>(
     end: Place,
     nesting: Nesting,
 ) -> Result<(Step, &'a [Token<'a>]), ReadError>
-    ensures reads { ParsesBy view (script end) step (λ x. Leaf (step_said x)) (λ _. nesting) nesting tokens.now result }
+    ensures reads { ParsesBy view (script end) step (λ x. Leaf (step_said x))
+        (λ _. nesting) nesting tokens.now result }
     ensures shorter { IfOk result (λ r. length r.1.now < length tokens.now) }
 {
     let Some((token, rest)) = tokens.split_first() else {

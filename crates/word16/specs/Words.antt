@@ -62,3 +62,7 @@ bit_list w = map (has_bit w) (range_with_len 0 16)
 abbrev pub number_of : List Bool → ℕ
 number_of [] = 0
 number_of (bit ∷ bits) = (if bit then 1 else 0) + 2 * number_of bits
+
+-- the sixteen binary digits of a word as characters, the highest first
+abbrev pub binary_text : ℕ → List ℕ
+binary_text w = map (λ k. if has_bit w (15 - k) then 49 else 48) (range_with_len 0 16)

@@ -1,8 +1,8 @@
 //! Words of 16 bits: sums, comparisons and bits, by 16-bit operations, and where words stand in memory. (The book, chapter 2.)
 #![tactic(auto)]
 
-ghost use Rattle.std.specs.Prelude.{◌≡◌, ◌<◌, ◌<ℤ◌, ◌↔◌, IsTrue, bit_and, bit_or};
-ghost use Rattle.word16.specs.Words.{word_add, word_sub, word_neg, word_not, word_shl, word_shr, IsHalf, signed_value, truth, word_eq, word_lt, word_gt, has_bit, bit_list, number_of};
+ghost use Rattle.std.specs.Prelude.{◌≡◌, ◌<◌, ◌<ℤ◌, ◌↔◌, IsTrue, bit_and, bit_or, if◌then◌else◌};
+ghost use Rattle.word16.specs.Words.{word_add, word_sub, word_neg, word_not, word_shl, word_shr, IsHalf, signed_value, truth, word_eq, word_lt, word_gt, has_bit, bit_list, number_of, binary_text};
 
 mod memory;
 
@@ -162,4 +162,35 @@ pub fn word_of(bits: [bool; 16]) -> u16
         word = 2 * word + u16::from(bits[k]);
     }
     word
+}
+
+fn digit(word: u16, k: u16) -> u8
+    requires { k < 16 }
+    ensures { result ≡ (if has_bit word k then 49 else 48) }
+{
+    if bit(word, k) { b'1' } else { b'0' }
+}
+
+/// The sixteen binary digits of a word, the highest first.
+pub fn binary_digits(word: u16) -> [u8; 16]
+    ensures { result ≡ binary_text word }
+{
+    [
+        digit(word, 15),
+        digit(word, 14),
+        digit(word, 13),
+        digit(word, 12),
+        digit(word, 11),
+        digit(word, 10),
+        digit(word, 9),
+        digit(word, 8),
+        digit(word, 7),
+        digit(word, 6),
+        digit(word, 5),
+        digit(word, 4),
+        digit(word, 3),
+        digit(word, 2),
+        digit(word, 1),
+        digit(word, 0),
+    ]
 }
