@@ -3,6 +3,7 @@ use Rattle.std.specs.Prelude.{◌≡◌, ◌==◌, ◌≤◌, ◌<◌, ◌+◌, 
 use Rattle.std.specs.Global.{Global}
 use Rattle.std.specs.List.{list_any}
 use Rattle.outer_world.specs.Files.{Files}
+use Rattle.outer_world.specs.State.{ShelfState, shelf_state}
 use Rattle.outer_world.specs.declared.name.Name.{Name}
 use Rattle.outer_world.specs.declared.shelf.Listing.{Listing}
 use Rattle.outer_world.specs.declared.shelf.Listing.TheVariants as listing
@@ -20,7 +21,7 @@ abbrev pub each_folder_there : List ℕ → Bool
 each_folder_there folder = true
 
 -- a shelf in memory: its files, the numbers of the calls that fail, and how many calls and faults there were
-pub record ShelfState : Type 0 where
+pub record PlannedShelf : Type 0 where
   pub files : Files
   pub fails : List ℕ
   pub calls : ℕ
@@ -45,6 +46,10 @@ is_planned fails call = list_any (λ planned. planned == call) fails
 -- Of the calls after this many, none is set up to fail.
 abbrev pub NoneToCome : List ℕ → ℕ → Type 0
 NoneToCome fails calls = (n : ℕ) → calls ≤ n → is_planned fails (next_count n) ≡ false
+
+-- what such a shelf is, as any shelf
+abbrev pub planned_state : PlannedShelf → ShelfState
+planned_state shelf = shelf_state (Some shelf.files) each_folder_there (NoneToCome shelf.fails shelf.calls)
 
 -- A shelf in memory fails to list where the call is set up to fail, and at no other.
 abbrev pub ListsAsPlanned : Bool → Listing → Type 0

@@ -9,7 +9,9 @@ use std::alloc::{AllocError, Global};
 
 // The name that makes the path with the folder.
 fn entry<'a>(path: &'a str, folder: &str) -> Option<&'a str>
-    ensures { MatchOption result ((name : List ℕ) → has_slash name ≡ false → path.now ≢ path_in folder.now name) (λ name. (has_slash name.now ≡ false) × (path.now ≡ path_in folder.now name.now)) }
+    ensures { MatchOption result
+        ((name : List ℕ) → has_slash name ≡ false → path.now ≢ path_in folder.now name)
+        (λ name. (has_slash name.now ≡ false) × (path.now ≡ path_in folder.now name.now)) }
 {
     if folder.is_empty() {
         return without_slash(path);
@@ -22,7 +24,8 @@ fn entry<'a>(path: &'a str, folder: &str) -> Option<&'a str>
 
 // What follows the folder and a slash.
 fn below<'a>(path: &'a str, folder: &str) -> Option<&'a str>
-    ensures { MatchOption result ((name : List ℕ) → path.now ≢ folder.now ++ 47 ∷ name) (λ name. path.now ≡ folder.now ++ 47 ∷ name.now) }
+    ensures { MatchOption result ((name : List ℕ) → path.now ≢ folder.now ++ 47 ∷ name)
+        (λ name. path.now ≡ folder.now ++ 47 ∷ name.now) }
 {
     match path.strip_prefix(folder) {
         Some(rest) => rest.strip_prefix('/'),
@@ -31,7 +34,8 @@ fn below<'a>(path: &'a str, folder: &str) -> Option<&'a str>
 }
 
 fn without_slash(name: &str) -> Option<&str>
-    ensures { MatchOption result (has_slash name.now ≡ true) (λ n. (has_slash name.now ≡ false) × (n.now ≡ name.now)) }
+    ensures { MatchOption result (has_slash name.now ≡ true)
+        (λ n. (has_slash name.now ≡ false) × (n.now ≡ name.now)) }
 {
     if name.contains('/') { None } else { Some(name) }
 }
@@ -50,7 +54,8 @@ fn has(names: &[Name], name: &str) -> bool
 
 // Adds a name that is not there.
 fn add(alloc: Global, names: &mut Vec<Name>, name: &str) -> Result<(), AllocError>
-    ensures { OnOk result (names.new.items ≡ (if has_name names.old.items name.now then names.old.items else names.old.items ++ name.now ∷ [])) }
+    ensures { OnOk result (names.new.items ≡ (if has_name names.old.items name.now
+        then names.old.items else names.old.items ++ name.now ∷ [])) }
 {
     if has(names, name) {
         return Ok(());

@@ -4,7 +4,8 @@ ghost use Rattle.std.specs.List.Sorted.{IsPermutation, IsSorted};
 ghost use Rattle.std.specs.Ordering.{nat_cmp};
 ghost use Rattle.std.specs.Cmp.Lexicographic.{slice_cmp};
 ghost use Rattle.std.specs.declared.alloc.Global.{Global};
-ghost use Rattle.outer_world.specs.Files.{LacksFile, LacksFolder, path_in};
+ghost use Rattle.outer_world.specs.Files.{path_in};
+ghost use Rattle.outer_world.specs.State.{Keeps, MissesFile, MissesFolder};
 ghost use Rattle.source_files.specs.Folder.{AreNames, AreSources, IsOverfull, ending_in, stem_of};
 ghost use Rattle.source_files.specs.Loads.{CountsLoad, Loads};
 ghost use Rattle.source_files.specs.Inner.Limits.{LacksOne, TellsOverfull};
@@ -51,7 +52,8 @@ pub fn stem<'a>(name: &'a str, ending: &str) -> &'a str
 
 // Those of some names that end so, in order.
 fn in_order(names: Vec<Name>, ending: &str) -> Result<Vec<Name>, AllocError>
-    ensures moved { IfOk result (λ kept. IsPermutation (ending_in ending.now names.items) kept.items) }
+    ensures moved { IfOk result
+        (λ kept. IsPermutation (ending_in ending.now names.items) kept.items) }
     ensures sorted { IfOk result (λ kept. IsSorted (slice_cmp nat_cmp) kept.items) }
 {
     let mut kept = names;
@@ -67,11 +69,12 @@ fn names_in<F: Shelf>(
     ending: &str,
     shelf: &mut F,
 ) -> Result<Vec<Name>, LoadError>
-    ensures loads { Loads (λ (names : Vec (List ℕ) Global). AreNames (F.files shelf.old) folder.now ending.now names.items) (λ _. ⊥) (F.unfailing shelf.old → LacksFolder (F.files shelf.old) (F.there shelf.old) folder.now) result }
+    ensures loads { Loads (λ (names : Vec (List ℕ) Global).
+        AreNames (F.state shelf.old).files folder.now ending.now names.items) (λ _. ⊥)
+        (MissesFolder (F.state shelf.old) folder.now)
+        result }
     ensures counts { CountsLoad (F.faults shelf.old) (F.faults shelf.new) result }
-    ensures kept { F.files shelf.new ≡ F.files shelf.old }
-    ensures stays { F.there shelf.new ≡ F.there shelf.old }
-    ensures keeps { F.unfailing shelf.old → F.unfailing shelf.new }
+    ensures keeps { Keeps (F.state shelf.old) (F.state shelf.new) }
 {
     let names = match shelf.list(alloc, folder) {
         Listing::Names(names) => names,
@@ -97,11 +100,13 @@ fn sources_in<F: Shelf>(
     ending: &str,
     shelf: &mut F,
 ) -> Result<Vec<Name>, LoadError>
-    ensures loads { Loads (λ (names : Vec (List ℕ) Global). AreSources (F.files shelf.old) folder.now ending.now names.items) (IsOverfull (F.files shelf.old) folder.now ending.now) (F.unfailing shelf.old → LacksFolder (F.files shelf.old) (F.there shelf.old) folder.now) result }
+    ensures loads { Loads (λ (names : Vec (List ℕ) Global).
+        AreSources (F.state shelf.old).files folder.now ending.now names.items)
+        (IsOverfull (F.state shelf.old).files folder.now ending.now)
+        (MissesFolder (F.state shelf.old) folder.now)
+        result }
     ensures counts { CountsLoad (F.faults shelf.old) (F.faults shelf.new) result }
-    ensures kept { F.files shelf.new ≡ F.files shelf.old }
-    ensures stays { F.there shelf.new ≡ F.there shelf.old }
-    ensures keeps { F.unfailing shelf.old → F.unfailing shelf.new }
+    ensures keeps { Keeps (F.state shelf.old) (F.state shelf.new) }
 {
     let names = names_in(alloc, folder, ending, shelf)?;
     if names.len() > MOST_FILES {
@@ -118,11 +123,13 @@ fn load_in<L: Language, F: Shelf>(
     name: &str,
     shelf: &mut F,
 ) -> Result<L::Source, LoadError>
-    ensures loads { Loads (SpellsAt (L.spells language.now name.now) (F.files shelf.old) (path_in folder.now name.now)) (IsFaulty (L.refuses language.now) (F.files shelf.old) (path_in folder.now name.now)) (F.unfailing shelf.old → LacksFile (F.files shelf.old) (path_in folder.now name.now)) result }
+    ensures loads { Loads (SpellsAt (L.spells language.now name.now)
+        (F.state shelf.old).files (path_in folder.now name.now))
+        (IsFaulty (L.refuses language.now) (F.state shelf.old).files (path_in folder.now name.now))
+        (MissesFile (F.state shelf.old) (path_in folder.now name.now))
+        result }
     ensures counts { CountsLoad (F.faults shelf.old) (F.faults shelf.new) result }
-    ensures kept { F.files shelf.new ≡ F.files shelf.old }
-    ensures stays { F.there shelf.new ≡ F.there shelf.old }
-    ensures keeps { F.unfailing shelf.old → F.unfailing shelf.new }
+    ensures keeps { Keeps (F.state shelf.old) (F.state shelf.new) }
 {
     let path = path_in(alloc, folder, name)?;
     load(alloc, language, path.as_str(), name, shelf)
@@ -136,11 +143,16 @@ fn load_each<L: Language, F: Shelf>(
     names: &[Name],
     shelf: &mut F,
 ) -> Result<Vec<L::Source>, LoadError>
-    ensures loads { Loads (λ (sources : Vec L.Source Global). SpellEach (L.spells language.now) (F.files shelf.old) folder.now names.now sources.items) (IsFirstFaulty (L.spells language.now) (L.refuses language.now) (F.files shelf.old) folder.now names.now) (F.unfailing shelf.old → LacksOne (F.files shelf.old) folder.now names.now) result }
+    ensures loads { Loads (λ (sources : Vec L.Source Global).
+        SpellEach (L.spells language.now)
+        (F.state shelf.old).files folder.now names.now sources.items)
+        (IsFirstFaulty
+        (L.spells language.now) (L.refuses language.now)
+        (F.state shelf.old).files folder.now names.now)
+        ((F.state shelf.old).unfailing → LacksOne (F.state shelf.old).files folder.now names.now)
+        result }
     ensures counts { CountsLoad (F.faults shelf.old) (F.faults shelf.new) result }
-    ensures kept { F.files shelf.new ≡ F.files shelf.old }
-    ensures stays { F.there shelf.new ≡ F.there shelf.old }
-    ensures keeps { F.unfailing shelf.old → F.unfailing shelf.new }
+    ensures keeps { Keeps (F.state shelf.old) (F.state shelf.new) }
 {
     let mut sources = Vec::new(alloc);
     for name in names {
@@ -161,11 +173,14 @@ pub fn load_folder<L: Language, F: Shelf>(
     ending: &str,
     shelf: &mut F,
 ) -> Result<Vec<L::Source>, LoadError>
-    ensures loads { Loads (λ (sources : Vec L.Source Global). FolderSpells (L.spells language.now) ending.now (F.files shelf.old) folder.now sources.items) (IsUnread (L.spells language.now) (L.refuses language.now) ending.now (F.files shelf.old) folder.now) (F.unfailing shelf.old → LacksFolder (F.files shelf.old) (F.there shelf.old) folder.now) result }
+    ensures loads { Loads (λ (sources : Vec L.Source Global). FolderSpells
+        (L.spells language.now) ending.now (F.state shelf.old).files folder.now sources.items)
+        (IsUnread (L.spells language.now)
+        (L.refuses language.now) ending.now (F.state shelf.old).files folder.now)
+        (MissesFolder (F.state shelf.old) folder.now)
+        result }
     ensures counts { CountsLoad (F.faults shelf.old) (F.faults shelf.new) result }
-    ensures kept { F.files shelf.new ≡ F.files shelf.old }
-    ensures stays { F.there shelf.new ≡ F.there shelf.old }
-    ensures keeps { F.unfailing shelf.old → F.unfailing shelf.new }
+    ensures keeps { Keeps (F.state shelf.old) (F.state shelf.new) }
 {
     let names = sources_in(alloc, folder, ending, shelf)?;
     load_each(alloc, language, folder, &names, shelf)

@@ -24,5 +24,6 @@ pub trait Language {
         ensures refused { IfErr result (IsWhy (refuses self.now text.now)) };
 
     /// A text past the limit is refused, without a place.
-    ghost limited: { (language : Self) (text : List ℕ) → 1048576 < length text → refuses language text past_limit };
+    ghost limited: { (language : Self) (text : List ℕ) → 1048576 < length text
+        → refuses language text past_limit };
 }

@@ -1,7 +1,7 @@
 //! The text of a file, and the source that it spells.
-ghost use Rattle.std.specs.Prelude.{◌≡◌, ℕ, Vec};
+ghost use Rattle.std.specs.Prelude.{ℕ, Vec};
 ghost use Rattle.std.specs.declared.alloc.Global.{Global};
-ghost use Rattle.outer_world.specs.Files.{LacksFile};
+ghost use Rattle.outer_world.specs.State.{Keeps, MissesFile};
 ghost use Rattle.source_files.specs.Loads.{CountsLoad, Loads};
 ghost use Rattle.source_files.specs.Sources.{IsFaulty, IsPastLimit, IsText, SpellsAt};
 
@@ -19,11 +19,12 @@ const FILE_LIMIT: u32 = MOST_BYTES as u32;
 /// Otherwise the refusal of a longer one, that the shelf failed, or want of memory. An honest shelf
 /// fails only where there is no such file.
 pub fn load_text<F: Shelf>(alloc: Global, path: &str, shelf: &mut F) -> Result<Vec<u8>, LoadError>
-    ensures loads { Loads (λ (text : Vec ℕ Global). IsText (F.files shelf.old) path.now text.items) (IsPastLimit (F.files shelf.old) path.now) (F.unfailing shelf.old → LacksFile (F.files shelf.old) path.now) result }
+    ensures loads { Loads
+        (λ (text : Vec ℕ Global). IsText (F.state shelf.old).files path.now text.items)
+        (IsPastLimit (F.state shelf.old).files path.now)
+        (MissesFile (F.state shelf.old) path.now) result }
     ensures counts { CountsLoad (F.faults shelf.old) (F.faults shelf.new) result }
-    ensures kept { F.files shelf.new ≡ F.files shelf.old }
-    ensures stays { F.there shelf.new ≡ F.there shelf.old }
-    ensures keeps { F.unfailing shelf.old → F.unfailing shelf.new }
+    ensures keeps { Keeps (F.state shelf.old) (F.state shelf.new) }
 {
     match shelf.read(alloc, path, FILE_LIMIT) {
         Reading::Bytes(text) => Ok(text),
@@ -47,11 +48,12 @@ pub fn load<L: Language, F: Shelf>(
     name: &str,
     shelf: &mut F,
 ) -> Result<L::Source, LoadError>
-    ensures loads { Loads (SpellsAt (L.spells language.now name.now) (F.files shelf.old) path.now) (IsFaulty (L.refuses language.now) (F.files shelf.old) path.now) (F.unfailing shelf.old → LacksFile (F.files shelf.old) path.now) result }
+    ensures loads { Loads
+        (SpellsAt (L.spells language.now name.now) (F.state shelf.old).files path.now)
+        (IsFaulty (L.refuses language.now) (F.state shelf.old).files path.now)
+        (MissesFile (F.state shelf.old) path.now) result }
     ensures counts { CountsLoad (F.faults shelf.old) (F.faults shelf.new) result }
-    ensures kept { F.files shelf.new ≡ F.files shelf.old }
-    ensures stays { F.there shelf.new ≡ F.there shelf.old }
-    ensures keeps { F.unfailing shelf.old → F.unfailing shelf.new }
+    ensures keeps { Keeps (F.state shelf.old) (F.state shelf.new) }
 {
     let text = load_text(alloc, path, shelf)?;
     match language.read(alloc, name, &text) {

@@ -26,9 +26,12 @@ impl<'a, S: Sink> Pieces<'a, S> {
     fn fill(&mut self, part: &[u8]) -> Put
         requires { held_count self.old + length part.now ≤ 4096 }
         ensures same_sink { HaveSameSink self.old self.new }
-        ensures passes { Passes (S.written (sink_of self.old)) (pending self.old) (S.written (sink_of self.new)) (pending self.new) part.now result }
-        ensures counts { CountsPut (S.faults (sink_of self.old)) (S.faults (sink_of self.new)) result }
-        ensures pieces { result ≡ Put.Done → held_count self.new ≡ (held_count self.old + length part.now) % 4096 }
+        ensures passes { Passes (S.written (sink_of self.old)) (pending self.old)
+            (S.written (sink_of self.new)) (pending self.new) part.now result }
+        ensures counts { CountsPut (S.faults (sink_of self.old))
+            (S.faults (sink_of self.new)) result }
+        ensures pieces { result ≡ Put.Done
+            → held_count self.new ≡ (held_count self.old + length part.now) % 4096 }
     {
         let end = self.len + part.len();
         self.buffer[self.len..end].copy_from_slice(part);
@@ -43,9 +46,12 @@ impl<'a, S: Sink> Pieces<'a, S> {
     /// Puts a piece after what is pending. What does not fill the buffer is pending afterwards.
     pub fn put(&mut self, piece: &[u8]) -> Put
         ensures same_sink { HaveSameSink self.old self.new }
-        ensures passes { Passes (S.written (sink_of self.old)) (pending self.old) (S.written (sink_of self.new)) (pending self.new) piece.now result }
-        ensures counts { CountsPut (S.faults (sink_of self.old)) (S.faults (sink_of self.new)) result }
-        ensures pieces { result ≡ Put.Done → held_count self.new ≡ (held_count self.old + length piece.now) % 4096 }
+        ensures passes { Passes (S.written (sink_of self.old)) (pending self.old)
+            (S.written (sink_of self.new)) (pending self.new) piece.now result }
+        ensures counts { CountsPut (S.faults (sink_of self.old))
+            (S.faults (sink_of self.new)) result }
+        ensures pieces { result ≡ Put.Done
+            → held_count self.new ≡ (held_count self.old + length piece.now) % 4096 }
     {
         let mut from = 0;
         while from < piece.len() {
@@ -61,9 +67,13 @@ impl<'a, S: Sink> Pieces<'a, S> {
     /// Puts these parts, one after another.
     pub fn put_all(&mut self, parts: &[&[u8]]) -> Put
         ensures same_sink { HaveSameSink self.old self.new }
-        ensures passes { Passes (S.written (sink_of self.old)) (pending self.old) (S.written (sink_of self.new)) (pending self.new) (flat_map (λ part. part.now) parts.now) result }
-        ensures counts { CountsPut (S.faults (sink_of self.old)) (S.faults (sink_of self.new)) result }
-        ensures pieces { result ≡ Put.Done → held_count self.new ≡ (held_count self.old + length (flat_map (λ part. part.now) parts.now)) % 4096 }
+        ensures passes { Passes (S.written (sink_of self.old))
+            (pending self.old) (S.written (sink_of self.new)) (pending self.new)
+            (flat_map (λ part. part.now) parts.now) result }
+        ensures counts { CountsPut (S.faults (sink_of self.old))
+            (S.faults (sink_of self.new)) result }
+        ensures pieces { result ≡ Put.Done → held_count self.new
+            ≡ (held_count self.old + length (flat_map (λ part. part.now) parts.now)) % 4096 }
     {
         for part in parts {
             match self.put(part) {
@@ -77,8 +87,10 @@ impl<'a, S: Sink> Pieces<'a, S> {
     /// Puts what is pending.
     pub fn finish(&mut self) -> Put
         ensures same_sink { HaveSameSink self.old self.new }
-        ensures put { Puts (S.written (sink_of self.old)) (S.written (sink_of self.new)) (pending self.old) result }
-        ensures counts { CountsPut (S.faults (sink_of self.old)) (S.faults (sink_of self.new)) result }
+        ensures put { Puts (S.written (sink_of self.old)) (S.written (sink_of self.new))
+            (pending self.old) result }
+        ensures counts { CountsPut (S.faults (sink_of self.old))
+            (S.faults (sink_of self.new)) result }
         ensures empty { pending self.new ≡ [] }
     {
         if self.len == 0 {

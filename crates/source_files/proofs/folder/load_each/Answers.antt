@@ -6,6 +6,7 @@ use Rattle.outer_world.specs.Files.{Files, LacksFile, path_in}
 use Rattle.source_files.specs.Loads.{Loads}
 use Rattle.source_files.specs.Sources.{IsFaulty, SpellEach, SpellsAt}
 use Rattle.source_files.specs.declared.error.LoadError.{LoadError}
+use Rattle.outer_world.proofs.Keeping.{keeps_then}
 use Rattle.source_files.proofs.Spelling.{around, spell_more, text_unread}
 use Rattle.source_files.proofs.Told.{without}
 use Rattle.source_files.proofs.folder.load_each.Goals as goal
@@ -16,19 +17,19 @@ returns-in_err-source-clause-loads g c =
     let at = c.loop-name.name-index in
     let names = c.args.names.now in
     let folder = c.args.folder.now in
-    let told = g.F.Shelf.files c.args.shelf.now in
-    let steady = g.F.Shelf.unfailing c.args.shelf.now in
-    let later = g.F.Shelf.unfailing c.loop-name.shelf in
+    let told = (g.F.Shelf.state c.args.shelf.now).files in
+    let steady = (g.F.Shelf.state c.args.shelf.now).unfailing in
+    let later = (g.F.Shelf.state c.loop-name.shelf).unfailing in
     let spells = g.L.Language.spells c.args.language.now in
     let refuses = g.L.Language.refuses c.args.language.now in
     let r : Result g.row.L-Source.Denot LoadError = Err c.in_err-source.field-0.0 in
-    let N : List ℕ → Type 0 = λ name. Loads (SpellsAt (spells name) (g.F.Shelf.files c.loop-name.shelf) (path_in folder name)) (IsFaulty refuses (g.F.Shelf.files c.loop-name.shelf) (path_in folder name))
-    (later → LacksFile (g.F.Shelf.files c.loop-name.shelf) (path_in folder name)) r in
+    let N : List ℕ → Type 0 = λ name. Loads (SpellsAt (spells name) (g.F.Shelf.state c.loop-name.shelf).files (path_in folder name)) (IsFaulty refuses (g.F.Shelf.state c.loop-name.shelf).files (path_in folder name))
+    (later → LacksFile (g.F.Shelf.state c.loop-name.shelf).files (path_in folder name)) r in
     let name = c.name-item.result in
     let path = path_in folder name in
     let T : Option Files → Type 0 = λ files. Loads (SpellsAt (spells name) files path) (IsFaulty refuses files path) (later → LacksFile files path) r in
     let read = without (SpellsAt (spells name) told path) (IsFaulty refuses told path) (later → LacksFile told path) (SpellsAt (spells name) told path) (IsFaulty refuses told path) (steady → LacksFile told path) _
-    (λ line h. h) (λ gone s. gone (c.loop-name.invariant.keeps s)) (subst T c.loop-name.invariant.kept (subst N c.as_str.ensures c.in_err-source.ensures.loads)) in
+    (λ line h. h) (λ gone s. gone (c.loop-name.invariant.keeps.unfailing s)) (subst T c.loop-name.invariant.keeps.files (subst N c.as_str.ensures c.in_err-source.ensures.loads)) in
     rw (p.1, p.2) (text_unread spells refuses (λ (sources : Vec g.row.L-Source.Denot Global). SpellEach spells told folder names sources.items) steady told folder names (take at names) (drop (at + 1) names) name c.loop-name.sources.items _
     (around names at name c.loop-name-test.true c.name-item.is) c.loop-name.invariant.spelled read)
 
@@ -37,13 +38,13 @@ loop-name-preserved g c =
     let at = c.loop-name.name-index in
     let names = c.args.names.now in
     let folder = c.args.folder.now in
-    let told = g.F.Shelf.files c.args.shelf.now in
+    let told = (g.F.Shelf.state c.args.shelf.now).files in
     let spells = g.L.Language.spells c.args.language.now in
     let name = c.name-item.result in
     let source = c.in_ok-source.source in
-    let N : List ℕ → Type 0 = λ n. SpellsAt (spells n) (g.F.Shelf.files c.loop-name.shelf) (path_in folder n) source in
+    let N : List ℕ → Type 0 = λ n. SpellsAt (spells n) (g.F.Shelf.state c.loop-name.shelf).files (path_in folder n) source in
     let T : Option Files → Type 0 = λ files. SpellsAt (spells name) files (path_in folder name) source in
-    let read = subst T c.loop-name.invariant.kept (subst N c.as_str.ensures c.in_ok-source.ensures.loads) in
+    let read = subst T c.loop-name.invariant.keeps.files (subst N c.as_str.ensures c.in_ok-source.ensures.loads) in
     let more = spell_more spells told folder (take at names) c.loop-name.sources.items name source c.loop-name.invariant.spelled read in
     let longer = take_more names at name c.loop-name-test.true ∙ ap (λ n. take at names ++ n ∷ []) (sym c.name-item.is) in
     let P : List (List ℕ) → Type 0 = λ ns. SpellEach spells told folder ns (c.loop-name.sources.items ++ source ∷ []) in
@@ -51,7 +52,5 @@ loop-name-preserved g c =
     record {
       spelled = subst Q (sym c.in_ok-push.ensures.items) (subst P (sym longer) more);
       counts = c.in_ok-source.ensures.counts ∙ c.loop-name.invariant.counts;
-      kept = c.in_ok-source.ensures.kept ∙ c.loop-name.invariant.kept;
-      stays = c.in_ok-source.ensures.stays ∙ c.loop-name.invariant.stays;
-      keeps = λ s. c.in_ok-source.ensures.keeps (c.loop-name.invariant.keeps s);
+      keeps = keeps_then _ _ _ c.loop-name.invariant.keeps c.in_ok-source.ensures.keeps;
     }
