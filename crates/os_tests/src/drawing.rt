@@ -1,8 +1,8 @@
 //! What programs draw, by their meaning and on the computer.
 //!
-//! The rows of a screen that are not white stand as `FIRST..END: A..B ..`: rows that are alike, and in each of them the columns of
-//! its black pixels. What is expected is worked out by a model in Python (tools/drawings), which sets pixels and cells by the
-//! rules of docs/SYSTEM.md and shares nothing with the texts of the system.
+//! The rows of a screen that are not white stand as `FIRST..END: A..B ..`: rows that are alike, and in each of them the
+//! columns of its black pixels. What is expected is worked out by a model in Python (tools/drawings). It sets pixels
+//! and cells by the rules of docs/SYSTEM.md, and shares nothing with the texts of the system.
 ghost use Rattle.std.specs.Prelude.{◌<◌};
 ghost use Rattle.jack_core.specs.Texts.{the_program};
 ghost use Rattle.jack_compiler.specs.Resolved.{IsResolvedCore};
@@ -20,7 +20,8 @@ use std::process::Abort;
 use std::test::Fail;
 use tower::{build, prepare_hack};
 
-/// The statements of a program, within how many moves each machine halts, its key script, and the rows of the screen at the end.
+/// The statements of a program, within how many moves each machine halts, its key script, and the rows of the screen at
+/// the end.
 pub struct Program {
     pub body: &'static str,
     pub moves: u32,

@@ -1,6 +1,7 @@
 //! How large the operating system is in an image.
 ghost use Rattle.std.specs.Prelude.{◌≡◌};
-ghost use Rattle.vm_templates.specs.Budgets.{most_words, operation_words};
+ghost use Rattle.vm_templates.specs.Budgets.{most_words};
+ghost use Rattle.vm_templates.specs.Templates.{operation_words};
 
 use crate::programs::program_of;
 use jack_compiler::link_core;

@@ -16,7 +16,8 @@ fn select<'a>(
     marks: &[bool],
 ) -> Result<Vec<Part<'a>>, AllocError>
     requires { length marks.now ≡ length parts.now }
-    ensures { IfOk result (λ kept. all_seen kept.items ≡ selected_sections marks.now (all_seen parts.now)) }
+    ensures { IfOk result
+        (λ kept. all_seen kept.items ≡ selected_sections marks.now (all_seen parts.now)) }
 {
     let mut kept = Vec::new(alloc);
     for (place, part) in parts.iter().enumerate() {
@@ -48,7 +49,8 @@ pub fn keep<'a>(
     bare: bool,
 ) -> Result<Vec<Part<'a>>, AllocError>
     requires { AreNumbers numbers.now (all_seen parts.items) }
-    ensures { IfOk result (λ kept. AreKept bare (all_seen parts.entry.items) (all_seen kept.items)) }
+    ensures { IfOk result
+        (λ kept. AreKept bare (all_seen parts.entry.items) (all_seen kept.items)) }
 {
     if bare {
         return Ok(parts);

@@ -39,7 +39,8 @@ fn kept_fault(
     words: &[u32],
 ) -> Result<Option<LinkFault>, AllocError>
     requires { AreWords (all_seen kept.now) (length words.now) words.now }
-    ensures { IfOk result (λ fault. (ss : List Section) → AreNumbers numbers.now ss → fault ≡ kept_fault (length words.now) ss (all_seen kept.now)) }
+    ensures { IfOk result (λ fault. (ss : List Section) → AreNumbers numbers.now ss
+        → fault ≡ kept_fault (length words.now) ss (all_seen kept.now)) }
 {
     if let Some(name) = no_function(kept, numbers) {
         let name = Name::new(alloc, name)?;
@@ -65,7 +66,8 @@ fn functions(
 ) -> Result<Vec<LinkedFunction>, AllocError>
     requires numbers { AreNumbers numbers.now (all_seen kept.now) }
     requires fits { AreFitting (all_seen kept.now) bases.now }
-    ensures { IfOk result (λ v. v.items ≡ map (function_of (all_seen kept.now)) (all_seen kept.now)) }
+    ensures { IfOk result
+        (λ v. v.items ≡ map (function_of (all_seen kept.now)) (all_seen kept.now)) }
 {
     let mut functions = Vec::new(alloc);
     for part in kept {
@@ -78,7 +80,8 @@ fn functions(
 
 fn linked_files(alloc: Global, files: &[File], words: &[u32]) -> Result<Vec<LinkedFile>, AllocError>
     requires { length words.now ≡ length files.now }
-    ensures { IfOk result (λ v. (kept : List Section) → AreWords kept (length words.now) words.now → v.items ≡ files_from kept 0 files.now) }
+    ensures { IfOk result (λ v. (kept : List Section) → AreWords kept (length words.now) words.now
+        → v.items ≡ files_from kept 0 files.now) }
 {
     let mut linked = Vec::new(alloc);
     for (place, file) in files.iter().enumerate() {
@@ -92,7 +95,8 @@ fn linked_files(alloc: Global, files: &[File], words: &[u32]) -> Result<Vec<Link
 }
 
 fn start_of(numbers: &Numbers<'_>) -> Option<usize>
-    ensures { (ss : List Section) → AreNumbers numbers.now ss → result ≡ position_from (is_named sys_init) 0 ss }
+    ensures { (ss : List Section) → AreNumbers numbers.now ss
+        → result ≡ position_from (is_named sys_init) 0 ss }
 {
     numbers.get(SYS_INIT).copied()
 }
@@ -150,7 +154,8 @@ fn linked(
     bare: bool,
 ) -> Result<Linked, AllocError>
     requires words { AreWords (all_seen kept.now) (length files.now) words.now }
-    requires fits { (bases : List ℕ) → AreBases (all_seen kept.now) (length files.now) bases → AreFitting (all_seen kept.now) bases }
+    requires fits { (bases : List ℕ) → AreBases (all_seen kept.now) (length files.now) bases
+        → AreFitting (all_seen kept.now) bases }
     ensures { IfOk result (λ l. l ≡ linked_of bare files.now (all_seen kept.now)) }
 {
     let numbers = function_numbers(alloc, kept)?;

@@ -16,7 +16,8 @@ pub type Numbers<'a> = BTreeMap<&'a str, usize>;
 // A name that has a number keeps it. Whether the name is new.
 fn note<'a>(numbers: &mut Numbers<'a>, name: &'a str, value: usize) -> Result<bool, AllocError>
     ensures added { IfOk result (λ is_new. is_new ≡ is_none (number numbers.old name.now)) }
-    ensures numbers { OnOk result ((q : List ℕ) → number numbers.new q ≡ option_or (number numbers.old q) (if bytes_eq q name.now then Some value else None)) }
+    ensures numbers { OnOk result ((q : List ℕ) → number numbers.new q
+        ≡ option_or (number numbers.old q) (if bytes_eq q name.now then Some value else None)) }
 {
     if numbers.contains_key(name) {
         return Ok(false);
@@ -56,7 +57,8 @@ pub fn function_numbers<'a>(alloc: Global, parts: &[Part<'a>]) -> Result<Numbers
 
 /// The places of a section's labels. A label is no step, and before a function's lines stands its `function` line.
 pub fn label_places<'a>(alloc: Global, part: &Part<'a>) -> Result<Numbers<'a>, AllocError>
-    ensures { IfOk result (λ m. (q : List ℕ) → number m q ≡ label_place q (first_place (seen_section part.now)) (seen_section part.now).lines) }
+    ensures { IfOk result (λ m. (q : List ℕ) → number m q
+        ≡ label_place q (first_place (seen_section part.now)) (seen_section part.now).lines) }
 {
     let mut places = BTreeMap::new(alloc);
     let mut place = if part.name.is_some() { 1 } else { 0 };

@@ -12,7 +12,8 @@ use vm_tree::Line;
 // Marks a section, which then waits, if it is not marked.
 fn mark(place: usize, marks: &mut Vec<bool>, pending: &mut Vec<usize>) -> Result<(), AllocError>
     requires { place < length marks.old.items }
-    ensures marks { OnOk result (Marks (λ i. i ≡ place) marks.old.items marks.new.items pending.old.items pending.new.items) }
+    ensures marks { OnOk result (Marks (λ i. i ≡ place) marks.old.items marks.new.items
+        pending.old.items pending.new.items) }
     ensures marked { OnOk result (is_marked marks.new.items place ≡ true) }
 {
     if marks[place] {
@@ -31,8 +32,11 @@ fn mark_function(
     pending: &mut Vec<usize>,
 ) -> Result<(), AllocError>
     requires { AreBelow numbers.now (length marks.old.items) }
-    ensures marks { OnOk result (Marks (IsNumber numbers.now (option_map (λ n. n.now) name.entry)) marks.old.items marks.new.items pending.old.items pending.new.items) }
-    ensures marked { OnOk result ((i : ℕ) → IsNumber numbers.now (option_map (λ n. n.now) name.entry) i → is_marked marks.new.items i ≡ true) }
+    ensures marks { OnOk result (Marks (IsNumber numbers.now (option_map (λ n. n.now) name.entry))
+        marks.old.items marks.new.items pending.old.items pending.new.items) }
+    ensures marked { OnOk result
+        ((i : ℕ) → IsNumber numbers.now (option_map (λ n. n.now) name.entry) i
+        → is_marked marks.new.items i ≡ true) }
 {
     let Some(text) = name else {
         return Ok(());
@@ -51,8 +55,10 @@ fn visit(
     pending: &mut Vec<usize>,
 ) -> Result<(), AllocError>
     requires { AreBelow numbers.now (length marks.old.items) }
-    ensures marks { OnOk result (Marks (AreCalling numbers.now lines.now) marks.old.items marks.new.items pending.old.items pending.new.items) }
-    ensures all { OnOk result ((i : ℕ) → AreCalling numbers.now lines.now i → is_marked marks.new.items i ≡ true) }
+    ensures marks { OnOk result (Marks (AreCalling numbers.now lines.now) marks.old.items
+        marks.new.items pending.old.items pending.new.items) }
+    ensures all { OnOk result
+        ((i : ℕ) → AreCalling numbers.now lines.now i → is_marked marks.new.items i ≡ true) }
 {
     for line in lines {
         mark_function(called(&line.command), numbers, marks, pending)?;

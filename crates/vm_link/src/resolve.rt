@@ -42,7 +42,8 @@ fn step_of(
     before: u16,
 ) -> Option<Step>
     requires { before + static_words command.now ≤ 240 }
-    ensures { (kept : List Section) (s : Section) → Tells kept s functions.now places.now before → result ≡ step_of kept s command.now }
+    ensures { (kept : List Section) (s : Section) → Tells kept s functions.now places.now before
+        → result ≡ step_of kept s command.now }
 {
     match command {
         Command::Operate(operation) => Some(Step::Operate(*operation)),
@@ -67,7 +68,8 @@ fn step_of(
 
 fn code_of(line: &Line, functions: &Numbers<'_>, places: &Numbers<'_>, before: u16) -> Option<Code>
     requires { before + static_words line.now.command ≤ 240 }
-    ensures { (kept : List Section) (s : Section) → Tells kept s functions.now places.now before → result ≡ code_of kept s line.now }
+    ensures { (kept : List Section) (s : Section) → Tells kept s functions.now places.now before
+        → result ≡ code_of kept s line.now }
 {
     let step = step_of(&line.command, functions, places, before)?;
     Some(Code {
@@ -88,7 +90,8 @@ fn first_statement(lines: &[Line]) -> u32
 
 // The `function` line, where there is one.
 fn entry(alloc: Global, part: &Part<'_>) -> Result<Vec<Code>, AllocError>
-    ensures { IfOk result (λ code. code.items ≡ entry_of (seen_section part.now).name (seen_section part.now).locals (seen_section part.now).lines) }
+    ensures { IfOk result (λ code. code.items ≡ entry_of (seen_section part.now).name
+        (seen_section part.now).locals (seen_section part.now).lines) }
 {
     let mut code = Vec::new(alloc);
     if part.name.is_some() {
@@ -109,7 +112,9 @@ fn add_lines(
     before: u16,
 ) -> Result<(), AllocError>
     requires { before + words_of_lines lines.now ≤ 240 }
-    ensures { OnOk result ((kept : List Section) (s : Section) → Tells kept s functions.now places.now before → code.new.items ≡ code.old.items ++ filter_map (code_of kept s) lines.now) }
+    ensures { OnOk result
+        ((kept : List Section) (s : Section) → Tells kept s functions.now places.now before
+        → code.new.items ≡ code.old.items ++ filter_map (code_of kept s) lines.now) }
 {
     for line in lines {
         if let Some(more) = code_of(line, functions, places, before) {
@@ -137,7 +142,8 @@ pub fn function_of(
     before: u16,
 ) -> Result<LinkedFunction, AllocError>
     requires { before + words_of_lines (seen_section part.now).lines ≤ 240 }
-    ensures { IfOk result (λ f. (kept : List Section) → AreNumbers functions.now kept → before ≡ words_before kept part.now.file → f ≡ function_of kept (seen_section part.now)) }
+    ensures { IfOk result (λ f. (kept : List Section) → AreNumbers functions.now kept
+        → before ≡ words_before kept part.now.file → f ≡ function_of kept (seen_section part.now)) }
 {
     let places = label_places(alloc, part)?;
     let mut code = entry(alloc, part)?;

@@ -17,7 +17,7 @@ pub struct Part<'a> {
     pub lines: &'a [Line],
 }
 
-// The number of the next section. More than fit in a number are more than fit in memory.
+// The number of the next section. Sections of texts within their limits are fewer than do not fit (`count_laws`).
 fn next_number(parts: &[Part<'_>]) -> Result<u32, AllocError>
     ensures { IfOk result (λ n. n ≡ length parts.now + 1) }
 {
@@ -57,7 +57,8 @@ fn add_functions<'a>(
     file: usize,
     functions: &'a [Function],
 ) -> Result<(), AllocError>
-    ensures { OnOk result (all_seen parts.new.items ≡ all_seen parts.old.items ++ functions_from file (length parts.old.items + 1) functions.now) }
+    ensures { OnOk result (all_seen parts.new.items ≡ all_seen parts.old.items
+        ++ functions_from file (length parts.old.items + 1) functions.now) }
 {
     for function in functions {
         let number = next_number(parts)?;
@@ -72,7 +73,8 @@ fn add_file<'a>(
     text: &'a File,
     bare: bool,
 ) -> Result<(), AllocError>
-    ensures { OnOk result (all_seen parts.new.items ≡ all_seen parts.old.items ++ file_sections bare file (length parts.old.items + 1) text.now) }
+    ensures { OnOk result (all_seen parts.new.items ≡ all_seen parts.old.items
+        ++ file_sections bare file (length parts.old.items + 1) text.now) }
 {
     if bare {
         let number = next_number(parts)?;

@@ -65,7 +65,8 @@ pub fn file_words(alloc: Global, kept: &[Part<'_>], files: usize) -> Result<Vec<
 
 /// The static words of all files, or 2^64 - 1 where they are more.
 pub fn all_words(words: &[u32]) -> u64
-    ensures { (kept : List Section) → AreWords kept (length words.now) words.now → result ≡ min (words_before kept (length words.now)) (2 ^ 64 - 1) }
+    ensures { (kept : List Section) → AreWords kept (length words.now) words.now
+        → result ≡ min (words_before kept (length words.now)) (2 ^ 64 - 1) }
 {
     let mut all: u64 = 0;
     for more in words {
@@ -76,7 +77,9 @@ pub fn all_words(words: &[u32]) -> u64
 
 /// The static words of the files before each file, or 2^64 - 1 where they are more.
 pub fn bases(alloc: Global, words: &[u32]) -> Result<Vec<u64>, AllocError>
-    ensures { IfOk result (λ bases. (kept : List Section) → AreWords kept (length words.now) words.now → AreBases kept (length words.now) bases.items) }
+    ensures { IfOk result
+        (λ bases. (kept : List Section) → AreWords kept (length words.now) words.now
+        → AreBases kept (length words.now) bases.items) }
 {
     let mut bases = Vec::new(alloc);
     let mut before: u64 = 0;

@@ -17,7 +17,8 @@ pub const SYS_INIT: &str = "Sys.init";
 
 // The first label that stands twice in a section.
 fn label_twice<'a>(alloc: Global, parts: &[Part<'a>]) -> Result<Option<&'a str>, AllocError>
-    ensures { IfOk result (λ name. option_map (λ n. n.now) name ≡ first_of label_twice (all_seen parts.now)) }
+    ensures { IfOk result
+        (λ name. option_map (λ n. n.now) name ≡ first_of label_twice (all_seen parts.now)) }
 {
     for part in parts {
         let labels = labels(alloc, part.lines)?;
@@ -31,7 +32,8 @@ fn label_twice<'a>(alloc: Global, parts: &[Part<'a>]) -> Result<Option<&'a str>,
 
 // A name that has no number.
 fn lacking<'a>(name: Option<&'a str>, numbers: &Numbers<'_>) -> Option<&'a str>
-    ensures { option_map (λ n. n.now) result ≡ lacking (has_number numbers.now) (option_map (λ n. n.now) name.entry) }
+    ensures { option_map (λ n. n.now) result
+        ≡ lacking (has_number numbers.now) (option_map (λ n. n.now) name.entry) }
 {
     let text = name?;
     if numbers.contains_key(text) {
@@ -43,7 +45,8 @@ fn lacking<'a>(name: Option<&'a str>, numbers: &Numbers<'_>) -> Option<&'a str>
 
 // The first label that lines go to and that has no place.
 fn target_lacking<'a>(lines: &'a [Line], places: &Numbers<'_>) -> Option<&'a str>
-    ensures { option_map (λ n. n.now) result ≡ first_of (λ x. lacking (has_number places.now) (target x.command)) lines.now }
+    ensures { option_map (λ n. n.now) result
+        ≡ first_of (λ x. lacking (has_number places.now) (target x.command)) lines.now }
 {
     for line in lines {
         let missing = lacking(target(&line.command), places);
@@ -56,7 +59,8 @@ fn target_lacking<'a>(lines: &'a [Line], places: &Numbers<'_>) -> Option<&'a str
 
 // The first name that lines call and that has no number.
 fn call_lacking<'a>(lines: &'a [Line], numbers: &Numbers<'_>) -> Option<&'a str>
-    ensures { option_map (λ n. n.now) result ≡ first_of (λ x. lacking (has_number numbers.now) (called_name x.command)) lines.now }
+    ensures { option_map (λ n. n.now) result
+        ≡ first_of (λ x. lacking (has_number numbers.now) (called_name x.command)) lines.now }
 {
     for line in lines {
         let missing = lacking(called(&line.command), numbers);
@@ -69,7 +73,8 @@ fn call_lacking<'a>(lines: &'a [Line], numbers: &Numbers<'_>) -> Option<&'a str>
 
 // The first label that a section goes to and has not.
 fn label_missing<'a>(alloc: Global, part: &Part<'a>) -> Result<Option<&'a str>, AllocError>
-    ensures { IfOk result (λ name. option_map (λ n. n.now) name ≡ no_label (seen_section part.now)) }
+    ensures { IfOk result
+        (λ name. option_map (λ n. n.now) name ≡ no_label (seen_section part.now)) }
 {
     let places = label_places(alloc, part)?;
     Ok(target_lacking(part.lines, &places))
@@ -77,7 +82,8 @@ fn label_missing<'a>(alloc: Global, part: &Part<'a>) -> Result<Option<&'a str>, 
 
 // The first label that some section goes to and has not.
 fn no_label<'a>(alloc: Global, parts: &[Part<'a>]) -> Result<Option<&'a str>, AllocError>
-    ensures { IfOk result (λ name. option_map (λ n. n.now) name ≡ first_of no_label (all_seen parts.now)) }
+    ensures { IfOk result
+        (λ name. option_map (λ n. n.now) name ≡ first_of no_label (all_seen parts.now)) }
 {
     for part in parts {
         let missing = label_missing(alloc, part)?;
@@ -114,7 +120,8 @@ pub fn text_fault(
 
 // Whether Sys.init is there.
 fn has_start(numbers: &Numbers<'_>) -> bool
-    ensures { (ss : List Section) → AreNumbers numbers.now ss → result ≡ list_any (is_named sys_init) ss }
+    ensures { (ss : List Section) → AreNumbers numbers.now ss
+        → result ≡ list_any (is_named sys_init) ss }
 {
     numbers.contains_key(SYS_INIT)
 }
@@ -134,14 +141,16 @@ fn start_fault(numbers: &Numbers<'_>, bare: bool) -> Option<LinkFault>
 
 // The first name that a section calls and no function has.
 fn function_missing<'a>(part: &Part<'a>, numbers: &Numbers<'_>) -> Option<&'a str>
-    ensures { (ss : List Section) → AreNumbers numbers.now ss → option_map (λ n. n.now) result ≡ no_function ss (seen_section part.now) }
+    ensures { (ss : List Section) → AreNumbers numbers.now ss
+        → option_map (λ n. n.now) result ≡ no_function ss (seen_section part.now) }
 {
     call_lacking(part.lines, numbers)
 }
 
 /// The first name that some section calls and no function has.
 pub fn no_function<'a>(kept: &[Part<'a>], numbers: &Numbers<'_>) -> Option<&'a str>
-    ensures { (ss : List Section) → AreNumbers numbers.now ss → option_map (λ n. n.now) result ≡ first_of (no_function ss) (all_seen kept.now) }
+    ensures { (ss : List Section) → AreNumbers numbers.now ss
+        → option_map (λ n. n.now) result ≡ first_of (no_function ss) (all_seen kept.now) }
 {
     for part in kept {
         let missing = function_missing(part, numbers);

@@ -24,7 +24,9 @@ pub struct Machine {
 fn give(machine: &mut Machine, n: usize, w: u16) -> Moved
     requires count { n ≤ length machine.old.stack.top.values }
     requires place { machine.old.stack.top.place + 1 < 2 ^ 64 }
-    ensures { (heard : Bool) → Performs (λ s f below. Acts heard (record s { frames = after f (w ∷ drop n f.values) ∷ below })) machine.old result machine.new }
+    ensures { (heard : Bool) → Performs
+        (λ s f below. Acts heard (record s { frames = after f (w ∷ drop n f.values) ∷ below }))
+        machine.old result machine.new }
 {
     let used = machine.stack.words_in_use();
     if used + 1 > ROOM + n {
@@ -98,7 +100,8 @@ fn operate(machine: &mut Machine, o: Operation) -> Moved
 // One more value, if it is there.
 fn push_found(machine: &mut Machine, word: Option<u16>, why: Stray) -> Moved
     requires { machine.old.stack.top.place + 1 < 2 ^ 64 }
-    ensures { Performs (λ s f below. on_word why word (push_outcome false s f below)) machine.old result machine.new }
+    ensures { Performs (λ s f below. on_word why word (push_outcome false s f below)) machine.old
+        result machine.new }
 {
     match word {
         Some(w) => give(machine, 0, w),
@@ -134,7 +137,8 @@ fn pointer(stack: &Stack, i: u16) -> Option<u16>
 // The word at an index from a base address is pushed.
 fn push_word(machine: &mut Machine, key: u16, base: u16, i: u16) -> Moved
     requires { machine.old.stack.top.place + 1 < 2 ^ 64 }
-    ensures { Performs (λ s f below. write_outcome i (load key (word_add base i) s f below)) machine.old result machine.new }
+    ensures { Performs (λ s f below. write_outcome i (load key (word_add base i) s f below))
+        machine.old result machine.new }
 {
     if i >= 32768 {
         return Moved::Stray(Stray::Code);
@@ -144,7 +148,8 @@ fn push_word(machine: &mut Machine, key: u16, base: u16, i: u16) -> Moved
 
 fn push_constant(machine: &mut Machine, i: u16) -> Moved
     requires { machine.old.stack.top.place + 1 < 2 ^ 64 }
-    ensures { Performs (λ s f below. write_outcome i (push_outcome false s f below i)) machine.old result machine.new }
+    ensures { Performs (λ s f below. write_outcome i (push_outcome false s f below i)) machine.old
+        result machine.new }
 {
     if i >= 32768 {
         return Moved::Stray(Stray::Code);
@@ -193,7 +198,8 @@ fn push(machine: &mut Machine, key: u16, segment: Segment, i: u16) -> Moved
 fn store(machine: &mut Machine, a: u16, w: u16) -> Moved
     requires values { 1 ≤ length machine.old.stack.top.values }
     requires place { machine.old.stack.top.place + 1 < 2 ^ 64 }
-    ensures { Performs (λ s f below. store a w (drop 1 f.values) s f below) machine.old result machine.new }
+    ensures { Performs (λ s f below. store a w (drop 1 f.values) s f below) machine.old result
+        machine.new }
 {
     if a < HEAP || a >= KEYBOARD {
         return Moved::Stray(Stray::Address(a));
@@ -206,7 +212,9 @@ fn store(machine: &mut Machine, a: u16, w: u16) -> Moved
 fn pop_word(machine: &mut Machine, base: u16, i: u16, w: u16) -> Moved
     requires values { 1 ≤ length machine.old.stack.top.values }
     requires place { machine.old.stack.top.place + 1 < 2 ^ 64 }
-    ensures { Performs (λ s f below. write_outcome i (store (word_add base i) w (drop 1 f.values) s f below)) machine.old result machine.new }
+    ensures { Performs
+        (λ s f below. write_outcome i (store (word_add base i) w (drop 1 f.values) s f below))
+        machine.old result machine.new }
 {
     if i >= 32768 {
         return Moved::Stray(Stray::Code);
@@ -217,7 +225,8 @@ fn pop_word(machine: &mut Machine, base: u16, i: u16, w: u16) -> Moved
 fn pop_argument(machine: &mut Machine, i: u16, w: u16) -> Moved
     requires values { 1 ≤ length machine.old.stack.top.values }
     requires place { machine.old.stack.top.place + 1 < 2 ^ 64 }
-    ensures { Performs (λ s f below. pop Segment.Argument i s f below w (drop 1 f.values)) machine.old result machine.new }
+    ensures { Performs (λ s f below. pop Segment.Argument i s f below w (drop 1 f.values))
+        machine.old result machine.new }
 {
     if !machine.stack.set_argument(i, w) {
         return Moved::Stray(Stray::Argument);
@@ -229,7 +238,8 @@ fn pop_argument(machine: &mut Machine, i: u16, w: u16) -> Moved
 fn pop_local(machine: &mut Machine, i: u16, w: u16) -> Moved
     requires values { 1 ≤ length machine.old.stack.top.values }
     requires place { machine.old.stack.top.place + 1 < 2 ^ 64 }
-    ensures { Performs (λ s f below. pop Segment.Local i s f below w (drop 1 f.values)) machine.old result machine.new }
+    ensures { Performs (λ s f below. pop Segment.Local i s f below w (drop 1 f.values)) machine.old
+        result machine.new }
 {
     if !machine.stack.set_local(i, w) {
         return Moved::Stray(Stray::Local);
@@ -241,7 +251,8 @@ fn pop_local(machine: &mut Machine, i: u16, w: u16) -> Moved
 fn pop_static(machine: &mut Machine, i: u16, w: u16) -> Moved
     requires values { 1 ≤ length machine.old.stack.top.values }
     requires place { machine.old.stack.top.place + 1 < 2 ^ 64 }
-    ensures { Performs (λ s f below. pop Segment.Static i s f below w (drop 1 f.values)) machine.old result machine.new }
+    ensures { Performs (λ s f below. pop Segment.Static i s f below w (drop 1 f.values)) machine.old
+        result machine.new }
 {
     if !machine.memory.set_static(i, w) {
         return Moved::Stray(Stray::Code);
@@ -253,7 +264,8 @@ fn pop_static(machine: &mut Machine, i: u16, w: u16) -> Moved
 fn pop_temp(machine: &mut Machine, i: u16, w: u16) -> Moved
     requires values { 1 ≤ length machine.old.stack.top.values }
     requires place { machine.old.stack.top.place + 1 < 2 ^ 64 }
-    ensures { Performs (λ s f below. pop Segment.Temp i s f below w (drop 1 f.values)) machine.old result machine.new }
+    ensures { Performs (λ s f below. pop Segment.Temp i s f below w (drop 1 f.values)) machine.old
+        result machine.new }
 {
     if !machine.memory.set_temp(i, w) {
         return Moved::Stray(Stray::Code);
@@ -265,7 +277,8 @@ fn pop_temp(machine: &mut Machine, i: u16, w: u16) -> Moved
 fn pop_pointer(machine: &mut Machine, i: u16, w: u16) -> Moved
     requires values { 1 ≤ length machine.old.stack.top.values }
     requires place { machine.old.stack.top.place + 1 < 2 ^ 64 }
-    ensures { Performs (λ s f below. pop Segment.Pointer i s f below w (drop 1 f.values)) machine.old result machine.new }
+    ensures { Performs (λ s f below. pop Segment.Pointer i s f below w (drop 1 f.values))
+        machine.old result machine.new }
 {
     if i > 1 {
         return Moved::Stray(Stray::Code);
@@ -281,7 +294,8 @@ fn pop_pointer(machine: &mut Machine, i: u16, w: u16) -> Moved
 fn pop_to(machine: &mut Machine, segment: Segment, i: u16, w: u16) -> Moved
     requires values { 1 ≤ length machine.old.stack.top.values }
     requires place { machine.old.stack.top.place + 1 < 2 ^ 64 }
-    ensures { Performs (λ s f below. pop segment i s f below w (drop 1 f.values)) machine.old result machine.new }
+    ensures { Performs (λ s f below. pop segment i s f below w (drop 1 f.values)) machine.old result
+        machine.new }
 {
     match segment {
         Segment::Constant => Moved::Stray(Stray::Code),
@@ -303,7 +317,8 @@ fn pop_to(machine: &mut Machine, segment: Segment, i: u16, w: u16) -> Moved
 
 fn pop(machine: &mut Machine, segment: Segment, i: u16) -> Moved
     requires { machine.old.stack.top.place + 1 < 2 ^ 64 }
-    ensures { Performs (λ s f below. on_top f.values (pop segment i s f below)) machine.old result machine.new }
+    ensures { Performs (λ s f below. on_top f.values (pop segment i s f below)) machine.old result
+        machine.new }
 {
     match machine.stack.value(0) {
         Some(w) => pop_to(machine, segment, i, w),
@@ -331,7 +346,8 @@ fn call(machine: &mut Machine, function: usize, n: u16) -> Moved
 // The start of a function, which makes its locals.
 fn begin(machine: &mut Machine, n: u16) -> Moved
     requires { machine.old.stack.top.place + 1 < 2 ^ 64 }
-    ensures { Performs (λ s f below. begin n f.locals f.values s f below) machine.old result machine.new }
+    ensures { Performs (λ s f below. begin n f.locals f.values s f below) machine.old result
+        machine.new }
 {
     let is_new = machine.stack.local_count() == 0 && machine.stack.count() == 0;
     if !is_new || machine.stack.depth() == 0 {
@@ -348,7 +364,8 @@ fn begin(machine: &mut Machine, n: u16) -> Moved
 }
 
 fn leave(machine: &mut Machine) -> Moved
-    ensures { Performs (λ s f below. on_top f.values (return below s)) machine.old result machine.new }
+    ensures { Performs (λ s f below. on_top f.values (return below s)) machine.old result
+        machine.new }
 {
     let Some(w) = machine.stack.value(0) else {
         return Moved::Stray(Stray::Values);
@@ -362,7 +379,8 @@ fn leave(machine: &mut Machine) -> Moved
 }
 
 fn goto(machine: &mut Machine, place: usize) -> Moved
-    ensures { Performs (λ s f below. goes s below (record f { place = place })) machine.old result machine.new }
+    ensures { Performs (λ s f below. goes s below (record f { place = place })) machine.old result
+        machine.new }
 {
     machine.stack.go_to(place);
     prove!(machine.stack.words_in_use() <= ROOM);
@@ -372,7 +390,9 @@ fn goto(machine: &mut Machine, place: usize) -> Moved
 // Any word but 0 jumps.
 fn if_goto(machine: &mut Machine, place: usize) -> Moved
     requires { machine.old.stack.top.place + 1 < 2 ^ 64 }
-    ensures { Performs (λ s f below. on_top f.values (λ w values. goes s below (record f { place = if nat_eq w 0 then f.place + 1 else place; values = values }))) machine.old result machine.new }
+    ensures { Performs (λ s f below. on_top f.values (λ w values. goes s below
+        (record f { place = if nat_eq w 0 then f.place + 1 else place; values = values })))
+        machine.old result machine.new }
 {
     let Some(w) = machine.stack.value(0) else {
         return Moved::Stray(Stray::Values);

@@ -30,7 +30,8 @@ impl Model for Memory {
 
     ghost view = { λ m. record { statics = m.statics.items; temps = m.temps.items; heap_and_screen = m.words.items } };
 
-    ghost invariant = { λ m. (length m.words.items ≡ heap_and_screen_size) × (length m.statics.items ≡ 240) × (length m.temps.items ≡ 8) };
+    ghost invariant = { λ m. (length m.words.items ≡ heap_and_screen_size)
+        × (length m.statics.items ≡ 240) × (length m.temps.items ≡ 8) };
 }
 
 fn zeros(alloc: Global, n: usize) -> Result<Vec<u16>, AllocError>

@@ -67,7 +67,8 @@ fn no_calls(alloc: Global, n: usize) -> Result<Vec<Call>, AllocError>
 fn clear(words: &mut Vec<u16>, from: usize, n: usize)
     requires { from + n ≤ length words.old.items }
     ensures length { length words.new.items ≡ length words.old.items }
-    ensures before { (k : ℕ) → k < from → slice_index words.new.items k ≡ slice_index words.old.items k }
+    ensures before { (k : ℕ) → k < from
+        → slice_index words.new.items k ≡ slice_index words.old.items k }
     ensures zeros { (k : ℕ) → k < n → slice_index words.new.items (from + k) ≡ 0 }
 {
     for k in 0..n {
@@ -194,7 +195,8 @@ impl Stack {
     /// The topmost value is taken away.
     pub fn discard(&mut self, place: usize)
         requires { 1 ≤ length self.old.top.values }
-        ensures top { self.new.top ≡ record self.old.top { place = place; values = drop 1 self.old.top.values } }
+        ensures top { self.new.top
+            ≡ record self.old.top { place = place; values = drop 1 self.old.top.values } }
         ensures below { self.new.below ≡ self.old.below }
     {
         self.top.place = place;
@@ -205,7 +207,8 @@ impl Stack {
     pub fn replace(&mut self, n: usize, w: u16, place: usize)
         requires count { n ≤ length self.old.top.values }
         requires room { words_in_use (self.old.top ∷ self.old.below) + 1 ≤ 1792 + n }
-        ensures top { self.new.top ≡ record self.old.top { place = place; values = w ∷ drop n self.old.top.values } }
+        ensures top { self.new.top
+            ≡ record self.old.top { place = place; values = w ∷ drop n self.old.top.values } }
         ensures below { self.new.below ≡ self.old.below }
     {
         let at = self.end - n;
@@ -217,7 +220,8 @@ impl Stack {
     /// An argument gets another word, if it is there.
     pub fn set_argument(&mut self, i: u16, w: u16) -> bool
         ensures there { result ≡ nat_lt i (length self.old.top.arguments) }
-        ensures top { self.new.top ≡ record self.old.top { arguments = slice_set self.old.top.arguments i w } }
+        ensures top { self.new.top
+            ≡ record self.old.top { arguments = slice_set self.old.top.arguments i w } }
         ensures below { self.new.below ≡ self.old.below }
     {
         let at = self.top.arguments + i as usize;
@@ -231,7 +235,8 @@ impl Stack {
     /// A local gets another word, if it is there.
     pub fn set_local(&mut self, i: u16, w: u16) -> bool
         ensures there { result ≡ nat_lt i (length self.old.top.locals) }
-        ensures top { self.new.top ≡ record self.old.top { locals = slice_set self.old.top.locals i w } }
+        ensures top { self.new.top
+            ≡ record self.old.top { locals = slice_set self.old.top.locals i w } }
         ensures below { self.new.below ≡ self.old.below }
     {
         let at = self.top.locals + i as usize;
@@ -256,7 +261,9 @@ impl Stack {
         requires count { n ≤ length self.old.top.values }
         requires room { words_in_use (self.old.top ∷ self.old.below) + 5 ≤ 1792 }
         ensures top { self.new.top ≡ called_frame function n self.old.top }
-        ensures below { self.new.below ≡ record self.old.top { place = place; values = drop n self.old.top.values } ∷ self.old.below }
+        ensures below { self.new.below
+            ≡ record self.old.top { place = place; values = drop n self.old.top.values }
+            ∷ self.old.below }
     {
         let caller = Call { place, ..self.top };
         self.calls[self.depth] = caller;
@@ -291,8 +298,10 @@ impl Stack {
     /// The innermost call returns: its frame is taken off, and `w` is a value of its caller.
     pub fn leave(&mut self, w: u16)
         requires { 1 ≤ length self.old.below }
-        ensures top { (f : Frame) (rest : List Frame) → self.old.below ≡ f ∷ rest → self.new.top ≡ record f { values = w ∷ f.values } }
-        ensures below { (f : Frame) (rest : List Frame) → self.old.below ≡ f ∷ rest → self.new.below ≡ rest }
+        ensures top { (f : Frame) (rest : List Frame) → self.old.below ≡ f ∷ rest
+            → self.new.top ≡ record f { values = w ∷ f.values } }
+        ensures below { (f : Frame) (rest : List Frame) → self.old.below ≡ f ∷ rest
+            → self.new.below ≡ rest }
     {
         let first = self.top.arguments;
         self.words[first] = w;

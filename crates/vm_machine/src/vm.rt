@@ -112,8 +112,11 @@ fn ended(function: Option<usize>) -> Moved
 
 // What the next command answers, and whether it is a commit.
 fn proceed(linked: &Linked, machine: &mut Machine, key: u16) -> (Moved, bool)
-    ensures makes { Makes (step linked.now key (state_of machine.old.stack machine.old.memory)) (state_of machine.old.stack machine.old.memory) result.0 (state_of machine.new.stack machine.new.memory) }
-    ensures commit { result.1 ≡ is_commit (next_of linked.now (machine.old.stack.top ∷ machine.old.stack.below)) }
+    ensures makes { Makes (step linked.now key (state_of machine.old.stack machine.old.memory))
+        (state_of machine.old.stack machine.old.memory) result.0
+        (state_of machine.new.stack machine.new.memory) }
+    ensures commit { result.1
+        ≡ is_commit (next_of linked.now (machine.old.stack.top ∷ machine.old.stack.below)) }
 {
     match fetch(linked, &machine.stack) {
         Some(code) => (act(machine, key, code.step), code.commit),
@@ -171,10 +174,12 @@ impl Vm {
     /// Makes the next move, in which `key` is held. After any answer but `Acted` the machine is as it was.
     pub fn step(&mut self, key: u16) -> Moved
         requires { self.old.moves < 2 ^ 63 }
-        ensures makes { Makes (step self.old.linked key self.old.state) self.old.state result self.new.state }
+        ensures makes { Makes (step self.old.linked key self.old.state) self.old.state result
+            self.new.state }
         ensures linked { self.new.linked ≡ self.old.linked }
         ensures moves { self.new.moves ≡ moves_in result + self.old.moves }
-        ensures steps { self.new.steps ≡ steps_in (next_of self.old.linked self.old.state.frames) result + self.old.steps }
+        ensures steps { self.new.steps
+            ≡ steps_in (next_of self.old.linked self.old.state.frames) result + self.old.steps }
         ensures still { OnStop result (self.new ≡ self.old) }
     {
         let (answer, is_commit) = proceed(&self.linked, &mut self.machine, key);

@@ -48,7 +48,8 @@ fn file(
     end: Place,
     bare: bool,
 ) -> Result<File, ReadError>
-    ensures { ReadsAllAs (file_tree bare) (file_of bare name) end (whole bare) (map view tokens.now) result }
+    ensures { ReadsAllAs (file_tree bare) (file_of bare name) end (whole bare)
+        (map view tokens.now) result }
 {
     let (opening, rest) = opening(alloc, tokens, end, bare)?;
     let (functions, rest) = functions(alloc, rest, end)?;
@@ -89,13 +90,15 @@ fn read(alloc: Global, name: &Name, text: &[u8], bare: bool) -> Result<Program, 
 pub fn parse(alloc: Global, name: &Name, text: &[u8], bare: bool) -> Result<Program, VmFault>
     // What is read is spelled so, and what is spelled is read, unless memory runs out.
     ensures found { IfOk result (Spells bare name.now text.now) }
-    ensures only { (p : List File) → Spells bare name.now text.now p → Gives (λ q. q) result (Ok p) }
+    ensures only { (p : List File) → Spells bare name.now text.now p
+        → Gives (λ q. q) result (Ok p) }
     // A fault is the text's first one, and each text with a fault gets it.
     ensures fault { IfErr result (Halt (Refuses bare text.now)) }
     ensures exact { (f : Fault) → Refuses bare text.now f → Gives (λ q. q) result (Err f) }
     // What is read can be written: the law of the printed form holds of it, and its printed text is read as the same program again.
     ensures printable { IfOk result (λ p. all (file_can bare) p ≡ true) }
-    ensures again { IfOk result (λ p. length (program_text p) ≤ 1048576 → Spells bare name.now (program_text p) p) }
+    ensures again { IfOk result
+        (λ p. length (program_text p) ≤ 1048576 → Spells bare name.now (program_text p) p) }
 {
     read(alloc, name, text, bare)
 }

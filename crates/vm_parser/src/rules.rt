@@ -25,7 +25,8 @@ type Read<'a, X> = Result<(X, &'a [Token<'a>]), ReadError>;
 // A segment and an index.
 #[tactic(auto, using(crate::proofs::Exits::vm_exits))]
 fn location<'a>(tokens: &'a [Token<'a>], end: Place, constant: bool) -> Read<'a, (Segment, u16)>
-    ensures { ParsesBy view (vm end) (location constant) (λ x. location_tree x.0 x.1) (λ _. greatest) greatest tokens.now result }
+    ensures { ParsesBy view (vm end) (location constant) (λ x. location_tree x.0 x.1)
+        (λ _. greatest) greatest tokens.now result }
 {
     let (segment, rest) = segment(tokens, end, constant)?;
     let (index, rest) = index(rest, end, most_of(segment))?;
@@ -34,7 +35,8 @@ fn location<'a>(tokens: &'a [Token<'a>], end: Place, constant: bool) -> Read<'a,
 
 #[tactic(auto, using(crate::proofs::Exits::vm_exits))]
 fn push<'a>(tokens: &'a [Token<'a>], end: Place) -> Read<'a, (Segment, u16)>
-    ensures { ParsesBy view (vm end) push (λ x. Pair Skip (location_tree x.0 x.1)) (λ _. greatest) greatest tokens.now result }
+    ensures { ParsesBy view (vm end) push (λ x. Pair Skip (location_tree x.0 x.1))
+        (λ _. greatest) greatest tokens.now result }
 {
     let rest = keyword(tokens, end, Role::Push)?;
     let (place, rest) = location(rest, end, true)?;
@@ -43,7 +45,8 @@ fn push<'a>(tokens: &'a [Token<'a>], end: Place) -> Read<'a, (Segment, u16)>
 
 #[tactic(auto, using(crate::proofs::Exits::vm_exits))]
 fn pop<'a>(tokens: &'a [Token<'a>], end: Place) -> Read<'a, (Segment, u16)>
-    ensures { ParsesBy view (vm end) pop (λ x. Pair Skip (location_tree x.0 x.1)) (λ _. greatest) greatest tokens.now result }
+    ensures { ParsesBy view (vm end) pop (λ x. Pair Skip (location_tree x.0 x.1))
+        (λ _. greatest) greatest tokens.now result }
 {
     let rest = keyword(tokens, end, Role::Pop)?;
     let (place, rest) = location(rest, end, false)?;
@@ -52,7 +55,8 @@ fn pop<'a>(tokens: &'a [Token<'a>], end: Place) -> Read<'a, (Segment, u16)>
 
 #[tactic(auto, using(crate::proofs::Exits::vm_exits))]
 fn label<'a>(alloc: Global, tokens: &'a [Token<'a>], end: Place) -> Read<'a, Name>
-    ensures { ParsesBy view (vm end) label (λ l. Pair Skip (name_tree l)) (λ _. greatest) greatest tokens.now result }
+    ensures { ParsesBy view (vm end) label (λ l. Pair Skip (name_tree l))
+        (λ _. greatest) greatest tokens.now result }
 {
     let rest = keyword(tokens, end, Role::Label)?;
     let (label, rest) = name(alloc, rest, end)?;
@@ -61,7 +65,8 @@ fn label<'a>(alloc: Global, tokens: &'a [Token<'a>], end: Place) -> Read<'a, Nam
 
 #[tactic(auto, using(crate::proofs::Exits::vm_exits))]
 fn goto<'a>(alloc: Global, tokens: &'a [Token<'a>], end: Place) -> Read<'a, Name>
-    ensures { ParsesBy view (vm end) goto (λ l. Pair Skip (name_tree l)) (λ _. greatest) greatest tokens.now result }
+    ensures { ParsesBy view (vm end) goto (λ l. Pair Skip (name_tree l))
+        (λ _. greatest) greatest tokens.now result }
 {
     let rest = keyword(tokens, end, Role::Goto)?;
     let (label, rest) = name(alloc, rest, end)?;
@@ -70,7 +75,8 @@ fn goto<'a>(alloc: Global, tokens: &'a [Token<'a>], end: Place) -> Read<'a, Name
 
 #[tactic(auto, using(crate::proofs::Exits::vm_exits))]
 fn if_goto<'a>(alloc: Global, tokens: &'a [Token<'a>], end: Place) -> Read<'a, Name>
-    ensures { ParsesBy view (vm end) if_goto (λ l. Pair Skip (name_tree l)) (λ _. greatest) greatest tokens.now result }
+    ensures { ParsesBy view (vm end) if_goto (λ l. Pair Skip (name_tree l))
+        (λ _. greatest) greatest tokens.now result }
 {
     let rest = keyword(tokens, end, Role::IfGoto)?;
     let (label, rest) = name(alloc, rest, end)?;
@@ -79,7 +85,9 @@ fn if_goto<'a>(alloc: Global, tokens: &'a [Token<'a>], end: Place) -> Read<'a, N
 
 #[tactic(auto, using(crate::proofs::Exits::vm_exits))]
 fn call<'a>(alloc: Global, tokens: &'a [Token<'a>], end: Place) -> Read<'a, (Name, u16)>
-    ensures { ParsesBy view (vm end) call (λ x. Pair Skip (Pair (name_tree x.0) (Leaf (Number x.1)))) (λ _. greatest) greatest tokens.now result }
+    ensures { ParsesBy view
+        (vm end) call (λ x. Pair Skip (Pair (name_tree x.0) (Leaf (Number x.1))))
+        (λ _. greatest) greatest tokens.now result }
 {
     let rest = keyword(tokens, end, Role::Call)?;
     let (function, rest) = name(alloc, rest, end)?;
@@ -89,7 +97,8 @@ fn call<'a>(alloc: Global, tokens: &'a [Token<'a>], end: Place) -> Read<'a, (Nam
 
 // A command.
 fn command<'a>(alloc: Global, tokens: &'a [Token<'a>], end: Place) -> Read<'a, Command>
-    ensures { ParsesBy view (vm end) command command_tree (λ _. greatest) greatest tokens.now result }
+    ensures { ParsesBy view (vm end) command command_tree
+        (λ _. greatest) greatest tokens.now result }
 {
     match role_next(tokens) {
         Role::Operation(_) => {

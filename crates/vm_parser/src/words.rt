@@ -41,7 +41,8 @@ fn keyword_at<'a>(
     end: Place,
     role: Role,
 ) -> Result<&'a [Token<'a>], ReadError>
-    ensures { Gives (λ x. map view x.now) result (mark_at (vm end) (is_keyword role) (map view tokens.now)) }
+    ensures { Gives (λ x. map view x.now) result
+        (mark_at (vm end) (is_keyword role) (map view tokens.now)) }
 {
     let Some((token, rest)) = tokens.split_first() else {
         return Err(grammar_fault(end));
@@ -64,7 +65,8 @@ pub fn keyword<'a>(
 }
 
 fn line_end_at<'a>(tokens: &'a [Token<'a>], end: Place) -> Result<&'a [Token<'a>], ReadError>
-    ensures { Gives (λ x. map view x.now) result (mark_at (vm end) is_line_end (map view tokens.now)) }
+    ensures { Gives (λ x. map view x.now) result
+        (mark_at (vm end) is_line_end (map view tokens.now)) }
 {
     let Some((token, rest)) = tokens.split_first() else {
         return Err(grammar_fault(end));
@@ -82,7 +84,8 @@ pub fn line_end<'a>(tokens: &'a [Token<'a>], end: Place) -> Result<&'a [Token<'a
 }
 
 fn text_at<'a>(tokens: &'a [Token<'a>], end: Place) -> Result<(&'a str, &'a [Token<'a>]), ReadError>
-    ensures { Gives (λ x. (Name' x.0.now, greatest, map view x.1.now)) result (word_at (vm end) is_name free name_said greatest (map view tokens.now)) }
+    ensures { Gives (λ x. (Name' x.0.now, greatest, map view x.1.now)) result
+        (word_at (vm end) is_name free name_said greatest (map view tokens.now)) }
 {
     let Some((token, rest)) = tokens.split_first() else {
         return Err(grammar_fault(end));
@@ -94,7 +97,8 @@ fn text_at<'a>(tokens: &'a [Token<'a>], end: Place) -> Result<(&'a str, &'a [Tok
 }
 
 fn text<'a>(tokens: &'a [Token<'a>], end: Place) -> Result<(&'a str, &'a [Token<'a>]), ReadError>
-    ensures { ParsesBy view (vm end) name (λ n. Leaf (Name' n.now)) (λ _. greatest) greatest tokens.now result }
+    ensures { ParsesBy view (vm end) name (λ n. Leaf (Name' n.now))
+        (λ _. greatest) greatest tokens.now result }
 {
     text_at(tokens, end)
 }
@@ -106,7 +110,8 @@ pub fn name<'a>(
     tokens: &'a [Token<'a>],
     end: Place,
 ) -> Result<(Name, &'a [Token<'a>]), ReadError>
-    ensures { ParsesBy view (vm end) name (λ n. Leaf (Name' n)) (λ _. greatest) greatest tokens.now result }
+    ensures { ParsesBy view (vm end) name (λ n. Leaf (Name' n))
+        (λ _. greatest) greatest tokens.now result }
 {
     let (text, rest) = text(tokens, end)?;
     let name = Name::new(alloc, text)?;
@@ -114,7 +119,8 @@ pub fn name<'a>(
 }
 
 fn number_at<'a>(tokens: &'a [Token<'a>], end: Place) -> Result<(u16, &'a [Token<'a>]), ReadError>
-    ensures { Gives (λ x. (Number x.0, greatest, map view x.1.now)) result (word_at (vm end) is_number free number_said greatest (map view tokens.now)) }
+    ensures { Gives (λ x. (Number x.0, greatest, map view x.1.now)) result
+        (word_at (vm end) is_number free number_said greatest (map view tokens.now)) }
 {
     let Some((token, rest)) = tokens.split_first() else {
         return Err(grammar_fault(end));
@@ -126,7 +132,8 @@ fn number_at<'a>(tokens: &'a [Token<'a>], end: Place) -> Result<(u16, &'a [Token
 }
 
 pub fn number<'a>(tokens: &'a [Token<'a>], end: Place) -> Result<(u16, &'a [Token<'a>]), ReadError>
-    ensures { ParsesBy view (vm end) number (λ n. Leaf (Number n)) (λ _. greatest) greatest tokens.now result }
+    ensures { ParsesBy view (vm end) number (λ n. Leaf (Number n))
+        (λ _. greatest) greatest tokens.now result }
 {
     number_at(tokens, end)
 }
@@ -135,7 +142,8 @@ fn operation_at<'a>(
     tokens: &'a [Token<'a>],
     end: Place,
 ) -> Result<(Operation, &'a [Token<'a>]), ReadError>
-    ensures { Gives (λ x. (Operation' x.0, greatest, map view x.1.now)) result (word_at (vm end) is_operation free word_meaning greatest (map view tokens.now)) }
+    ensures { Gives (λ x. (Operation' x.0, greatest, map view x.1.now)) result
+        (word_at (vm end) is_operation free word_meaning greatest (map view tokens.now)) }
 {
     let Some((token, rest)) = tokens.split_first() else {
         return Err(grammar_fault(end));
@@ -150,7 +158,8 @@ pub fn operation<'a>(
     tokens: &'a [Token<'a>],
     end: Place,
 ) -> Result<(Operation, &'a [Token<'a>]), ReadError>
-    ensures { ParsesBy view (vm end) operation (λ o. Leaf (Operation' o)) (λ _. greatest) greatest tokens.now result }
+    ensures { ParsesBy view (vm end) operation (λ o. Leaf (Operation' o))
+        (λ _. greatest) greatest tokens.now result }
 {
     operation_at(tokens, end)
 }
@@ -169,7 +178,8 @@ fn segment_at<'a>(
     end: Place,
     constant: bool,
 ) -> Result<(Segment, &'a [Token<'a>]), ReadError>
-    ensures { Gives (λ x. (Segment' x.0, most_of x.0, map view x.1.now)) result (word_at (vm end) (is_segment constant) with_most word_meaning greatest (map view tokens.now)) }
+    ensures { Gives (λ x. (Segment' x.0, most_of x.0, map view x.1.now)) result (word_at (vm end)
+        (is_segment constant) with_most word_meaning greatest (map view tokens.now)) }
 {
     let Some((token, rest)) = tokens.split_first() else {
         return Err(grammar_fault(end));
@@ -189,7 +199,8 @@ pub fn segment<'a>(
     end: Place,
     constant: bool,
 ) -> Result<(Segment, &'a [Token<'a>]), ReadError>
-    ensures { ParsesBy view (vm end) (segment_rule constant) (λ g. Leaf (Segment' g)) most_of greatest tokens.now result }
+    ensures { ParsesBy view (vm end) (segment_rule constant)
+        (λ g. Leaf (Segment' g)) most_of greatest tokens.now result }
 {
     segment_at(tokens, end, constant)
 }
@@ -210,7 +221,8 @@ fn index_at<'a>(
     end: Place,
     most: u16,
 ) -> Result<(u16, &'a [Token<'a>]), ReadError>
-    ensures { Gives (λ x. (Number x.0, greatest, map view x.1.now)) result (word_at (vm end) is_number within_most number_said most (map view tokens.now)) }
+    ensures { Gives (λ x. (Number x.0, greatest, map view x.1.now)) result
+        (word_at (vm end) is_number within_most number_said most (map view tokens.now)) }
 {
     let Some((token, rest)) = tokens.split_first() else {
         return Err(grammar_fault(end));
@@ -230,7 +242,8 @@ pub fn index<'a>(
     end: Place,
     most: u16,
 ) -> Result<(u16, &'a [Token<'a>]), ReadError>
-    ensures { ParsesBy view (vm end) index (λ n. Leaf (Number n)) (λ _. greatest) most tokens.now result }
+    ensures { ParsesBy view (vm end) index (λ n. Leaf (Number n))
+        (λ _. greatest) most tokens.now result }
 {
     index_at(tokens, end, most)
 }

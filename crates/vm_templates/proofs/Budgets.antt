@@ -3,7 +3,8 @@ use Rattle.std.proofs.Common.{◌≤◌, arith}
 use Rattle.vm_tree.specs.declared.command.Operation.{Operation}
 use Rattle.vm_tree.specs.declared.command.Operation.TheVariants.{Add, Sub, Neg, Eq, Gt, Lt, And, Or, Not, ShiftLeft, ShiftRight}
 use Rattle.vm_link.specs.declared.linked.Step.TheVariants.{Operate, Push, Pop, Goto, IfGoto, Function, Call, Return}
-use Rattle.vm_templates.specs.Budgets.{operation_words, operation_steps, TakesStepsForWords}
+use Rattle.vm_templates.specs.Templates.{operation_words}
+use Rattle.vm_templates.specs.Budgets.{operation_steps, TakesStepsForWords}
 
 operation_within : (o : Operation) → operation_words o ≤ operation_steps o
 operation_within Add = omega arith

@@ -7,12 +7,14 @@ use Rattle.hack_isa.specs.Table.{WellFormed, word_of, instr_of}
 use Rattle.hack_isa.specs.declared.Instr.{Instr}
 use Rattle.hack_isa.specs.declared.Instr.TheVariants.{Address, Compute, Shift}
 use Rattle.hack_isa.proofs.RoundTrip.{encoded}
+use Rattle.vm_tree.specs.declared.command.Operation.{Operation}
+use Rattle.vm_tree.specs.declared.command.Operation.TheVariants.{Add, Sub, And, Or, Neg, Not, ShiftLeft, ShiftRight, Eq, Gt, Lt}
 use Rattle.vm_templates.specs.declared.shape.Shape.{Shape}
-use Rattle.vm_templates.specs.declared.shape.Shape.TheVariants.{PushConstant, PushAt, PushFirst, PushWord, PopAt, PopFirst, PopWord, Add, Sub, And, Or, Neg, Not, ShiftLeft, ShiftRight, Eq, Gt, Lt, Goto, IfGoto, Call, Function, Return}
+use Rattle.vm_templates.specs.declared.shape.Shape.TheVariants.{PushConstant, PushAt, PushFirst, PushWord, PopAt, PopFirst, PopWord, Operate, Goto, IfGoto, Call, Function, Return}
 use Rattle.vm_templates.specs.declared.routines.Routine.{Routine}
 use Rattle.vm_templates.specs.declared.routines.Routine.TheVariants as routine
 use Rattle.vm_templates.specs.declared.routines.Routines.{Routines}
-use Rattle.vm_templates.specs.Templates.{order_routine, load, template, size, routine_code, routine_size, routine_of, function_code, set_stack, endless, start_code}
+use Rattle.vm_templates.specs.Templates.{order_routine, load, operation_words, template, size, routine_code, routine_size, routine_of, function_code, set_stack, endless, start_code}
 use Rattle.vm_templates.specs.Computer.{Stands}
 use Rattle.vm_templates.specs.Commands.{IsShape}
 use Rattle.vm_templates.specs.Laws.{IsFound, TemplatesFit, InstructionsStand, Starts}
@@ -83,24 +85,38 @@ size_is at here (PushWord address) = refl
 size_is at here (PopAt base index) = refl
 size_is at here (PopFirst base) = refl
 size_is at here (PopWord address) = refl
-size_is at here Add = refl
-size_is at here Sub = refl
-size_is at here And = refl
-size_is at here Or = refl
-size_is at here Neg = refl
-size_is at here Not = refl
-size_is at here ShiftLeft = refl
-size_is at here ShiftRight = refl
-size_is at here Eq = refl
-size_is at here Gt = refl
-size_is at here Lt = refl
+size_is at here (Operate Add) = refl
+size_is at here (Operate Sub) = refl
+size_is at here (Operate And) = refl
+size_is at here (Operate Or) = refl
+size_is at here (Operate Neg) = refl
+size_is at here (Operate Not) = refl
+size_is at here (Operate ShiftLeft) = refl
+size_is at here (Operate ShiftRight) = refl
+size_is at here (Operate Eq) = refl
+size_is at here (Operate Gt) = refl
+size_is at here (Operate Lt) = refl
 size_is at here (Goto target) = refl
 size_is at here (IfGoto target) = refl
 size_is at here (Call target arguments) = refl
 size_is at here (Function locals) = function_length locals ∙ omega arith
 size_is at here Return = refl
 
+pub operation_some : (o : Operation) → 1 ≤ operation_words o
+operation_some Add = omega arith
+operation_some Sub = omega arith
+operation_some And = omega arith
+operation_some Or = omega arith
+operation_some Neg = omega arith
+operation_some Not = omega arith
+operation_some ShiftLeft = omega arith
+operation_some ShiftRight = omega arith
+operation_some Eq = omega arith
+operation_some Gt = omega arith
+operation_some Lt = omega arith
+
 pub size_some : (c : Shape) → 1 ≤ size c
+size_some (Operate o) = operation_some o
 size_some c = grind arith
 
 function_fits : (n : ℕ) → Fit (function_code n)
@@ -131,17 +147,17 @@ fits at here (PushWord address) l f h = search arith
 fits at here (PopAt base index) l f h = search arith
 fits at here (PopFirst base) l f h = search arith
 fits at here (PopWord address) l f h = search arith
-fits at here Add l f h = search arith
-fits at here Sub l f h = search arith
-fits at here And l f h = search arith
-fits at here Or l f h = search arith
-fits at here Neg l f h = search arith
-fits at here Not l f h = search arith
-fits at here ShiftLeft l f h = search arith
-fits at here ShiftRight l f h = search arith
-fits at here Eq l f h = search arith
-fits at here Gt l f h = search arith
-fits at here Lt l f h = search arith
+fits at here (Operate Add) l f h = search arith
+fits at here (Operate Sub) l f h = search arith
+fits at here (Operate And) l f h = search arith
+fits at here (Operate Or) l f h = search arith
+fits at here (Operate Neg) l f h = search arith
+fits at here (Operate Not) l f h = search arith
+fits at here (Operate ShiftLeft) l f h = search arith
+fits at here (Operate ShiftRight) l f h = search arith
+fits at here (Operate Eq) l f h = search arith
+fits at here (Operate Gt) l f h = search arith
+fits at here (Operate Lt) l f h = search arith
 fits at here (Goto target) l f h = search arith
 fits at here (IfGoto target) l f h = search arith
 fits at here (Call target arguments) l f h =

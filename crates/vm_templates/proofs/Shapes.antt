@@ -7,8 +7,9 @@ use Rattle.std.specs.Int.Bits.{or_add_and}
 use Rattle.word16.specs.Words.{word_add, word_sub}
 use Rattle.hack_isa.specs.Machine.{Machine}
 use Rattle.simulation.specs.System.{IsData}
+use Rattle.vm_tree.specs.declared.command.Operation.TheVariants.{Add, Sub, And, Or, Neg, Not, ShiftLeft, ShiftRight, Eq, Gt, Lt}
 use Rattle.vm_templates.specs.declared.shape.Shape.{Shape}
-use Rattle.vm_templates.specs.declared.shape.Shape.TheVariants.{PushConstant, PushAt, PushFirst, PushWord, PopAt, PopFirst, PopWord, Add, Sub, And, Or, Neg, Not, ShiftLeft, ShiftRight, Eq, Gt, Lt, Goto, IfGoto, Call, Function, Return}
+use Rattle.vm_templates.specs.declared.shape.Shape.TheVariants.{PushConstant, PushAt, PushFirst, PushWord, PopAt, PopFirst, PopWord, Operate, Goto, IfGoto, Call, Function, Return}
 use Rattle.hack_isa.specs.declared.Instr.TheVariants.{Compute}
 use Rattle.vm_templates.specs.declared.routines.Routines.{Routines}
 use Rattle.vm_templates.specs.Templates.{join, push_at, push_first, pop_at, pop_first, size, routine_of}
@@ -123,34 +124,34 @@ module _ (image : List ℕ) (rs : Routines) (inside : ℕ → Type 0) (s : Machi
       let shape = here.shape in
       let c = PopWord r in
       pop_word_goes image inside s.pc last (omega arith) places x w r (omega (arith, shape.0)) shape.1 here.stands (omega arith) ready.0 ready.1 (λ y wy p. after c (Effect c s.pc) ((last + 1) % 32768) y wy (ends_at 5 e) p)
-  command_goes Add none here e ready =
+  command_goes (Operate Add) none here e ready =
       let z : topmost s.memory + second s.memory ≡ second s.memory + topmost s.memory = omega arith in
-      joined Add 2 (word_add (second s.memory) (topmost s.memory)) refl here here.stands e ready (ap (λ k. k % 65536) z) (λ y wy p. after Add (Effect Add s.pc) ((last + 1) % 32768) y wy (ends_at 5 e) p)
-  command_goes Sub none here e ready =
-      joined Sub 7 (word_sub (second s.memory) (topmost s.memory)) refl here here.stands e ready refl (λ y wy p. after Sub (Effect Sub s.pc) ((last + 1) % 32768) y wy (ends_at 5 e) p)
-  command_goes And none here e ready =
-      joined And 0 (bit_and (second s.memory) (topmost s.memory)) refl here here.stands e ready (and_comm (topmost s.memory) (second s.memory)) (λ y wy p. after And (Effect And s.pc) ((last + 1) % 32768) y wy (ends_at 5 e) p)
-  command_goes Or none here e ready =
-      joined Or 21 (bit_or (second s.memory) (topmost s.memory)) refl here here.stands e ready (or_comm (topmost s.memory) (second s.memory)) (λ y wy p. after Or (Effect Or s.pc) ((last + 1) % 32768) y wy (ends_at 5 e) p)
-  command_goes Neg none here e ready =
+      joined (Operate Add) 2 (word_add (second s.memory) (topmost s.memory)) refl here here.stands e ready (ap (λ k. k % 65536) z) (λ y wy p. after (Operate Add) (Effect (Operate Add) s.pc) ((last + 1) % 32768) y wy (ends_at 5 e) p)
+  command_goes (Operate Sub) none here e ready =
+      joined (Operate Sub) 7 (word_sub (second s.memory) (topmost s.memory)) refl here here.stands e ready refl (λ y wy p. after (Operate Sub) (Effect (Operate Sub) s.pc) ((last + 1) % 32768) y wy (ends_at 5 e) p)
+  command_goes (Operate And) none here e ready =
+      joined (Operate And) 0 (bit_and (second s.memory) (topmost s.memory)) refl here here.stands e ready (and_comm (topmost s.memory) (second s.memory)) (λ y wy p. after (Operate And) (Effect (Operate And) s.pc) ((last + 1) % 32768) y wy (ends_at 5 e) p)
+  command_goes (Operate Or) none here e ready =
+      joined (Operate Or) 21 (bit_or (second s.memory) (topmost s.memory)) refl here here.stands e ready (or_comm (topmost s.memory) (second s.memory)) (λ y wy p. after (Operate Or) (Effect (Operate Or) s.pc) ((last + 1) % 32768) y wy (ends_at 5 e) p)
+  command_goes (Operate Neg) none here e ready =
       let w = data_words s here.words in
       let low = here.low in
-      turn_goes image inside s.pc last (omega arith) places x w 51 here.stands (omega arith) ready.0 ready.1 (λ y wy p. after Neg (Effect Neg s.pc) ((last + 1) % 32768) y wy (ends_at 3 e) p)
-  command_goes Not none here e ready =
+      turn_goes image inside s.pc last (omega arith) places x w 51 here.stands (omega arith) ready.0 ready.1 (λ y wy p. after (Operate Neg) (Effect (Operate Neg) s.pc) ((last + 1) % 32768) y wy (ends_at 3 e) p)
+  command_goes (Operate Not) none here e ready =
       let w = data_words s here.words in
       let low = here.low in
-      turn_goes image inside s.pc last (omega arith) places x w 49 here.stands (omega arith) ready.0 ready.1 (λ y wy p. after Not (Effect Not s.pc) ((last + 1) % 32768) y wy (ends_at 3 e) p)
-  command_goes ShiftLeft none here e ready =
+      turn_goes image inside s.pc last (omega arith) places x w 49 here.stands (omega arith) ready.0 ready.1 (λ y wy p. after (Operate Not) (Effect (Operate Not) s.pc) ((last + 1) % 32768) y wy (ends_at 3 e) p)
+  command_goes (Operate ShiftLeft) none here e ready =
       let w = data_words s here.words in
       let low = here.low in
-      shift_goes image inside s.pc last (omega arith) places x w true here.stands (omega arith) ready.0 ready.1 (λ y wy p. after ShiftLeft (Effect ShiftLeft s.pc) ((last + 1) % 32768) y wy (ends_at 3 e) p)
-  command_goes ShiftRight none here e ready =
+      shift_goes image inside s.pc last (omega arith) places x w true here.stands (omega arith) ready.0 ready.1 (λ y wy p. after (Operate ShiftLeft) (Effect (Operate ShiftLeft) s.pc) ((last + 1) % 32768) y wy (ends_at 3 e) p)
+  command_goes (Operate ShiftRight) none here e ready =
       let w = data_words s here.words in
       let low = here.low in
-      shift_goes image inside s.pc last (omega arith) places x w false here.stands (omega arith) ready.0 ready.1 (λ y wy p. after ShiftRight (Effect ShiftRight s.pc) ((last + 1) % 32768) y wy (ends_at 3 e) p)
-  command_goes Eq none here e ready = absurd (cc none)
-  command_goes Gt none here e ready = absurd (cc none)
-  command_goes Lt none here e ready = absurd (cc none)
+      shift_goes image inside s.pc last (omega arith) places x w false here.stands (omega arith) ready.0 ready.1 (λ y wy p. after (Operate ShiftRight) (Effect (Operate ShiftRight) s.pc) ((last + 1) % 32768) y wy (ends_at 3 e) p)
+  command_goes (Operate Eq) none here e ready = absurd (cc none)
+  command_goes (Operate Gt) none here e ready = absurd (cc none)
+  command_goes (Operate Lt) none here e ready = absurd (cc none)
   command_goes (Goto target) none here e ready =
       let w = data_words s here.words in
       let low = here.low in
@@ -253,37 +254,37 @@ module _ (image : List ℕ) (rs : Routines) (s : Machine) where
   goes_by (PopAt r i) here ready = alone (PopAt r i) refl here ready
   goes_by (PopFirst r) here ready = alone (PopFirst r) refl here ready
   goes_by (PopWord r) here ready = alone (PopWord r) refl here ready
-  goes_by Add here ready = alone Add refl here ready
-  goes_by Sub here ready = alone Sub refl here ready
-  goes_by And here ready = alone And refl here ready
-  goes_by Or here ready = alone Or refl here ready
-  goes_by Neg here ready = alone Neg refl here ready
-  goes_by Not here ready = alone Not refl here ready
-  goes_by ShiftLeft here ready = alone ShiftLeft refl here ready
-  goes_by ShiftRight here ready = alone ShiftRight refl here ready
-  goes_by Eq here ready =
-      let inside : ℕ → Type 0 = IsInside rs s.pc Eq in
+  goes_by (Operate Add) here ready = alone (Operate Add) refl here ready
+  goes_by (Operate Sub) here ready = alone (Operate Sub) refl here ready
+  goes_by (Operate And) here ready = alone (Operate And) refl here ready
+  goes_by (Operate Or) here ready = alone (Operate Or) refl here ready
+  goes_by (Operate Neg) here ready = alone (Operate Neg) refl here ready
+  goes_by (Operate Not) here ready = alone (Operate Not) refl here ready
+  goes_by (Operate ShiftLeft) here ready = alone (Operate ShiftLeft) refl here ready
+  goes_by (Operate ShiftRight) here ready = alone (Operate ShiftRight) refl here ready
+  goes_by (Operate Eq) here ready =
+      let inside : ℕ → Type 0 = IsInside rs s.pc (Operate Eq) in
       let back : ℕ = (s.pc + 4) % 32768 in
       let last : rs.equal + 15 ≡ rs.equal + 16 - 1 = omega arith in
-      subst (λ l. Does image inside l ⊥ (After Eq (Effect Eq s.pc) s) 19 s) last
+      subst (λ l. Does image inside l ⊥ (After (Operate Eq) (Effect (Operate Eq) s.pc) s) 19 s) last
       (eq_goes image inside s.pc rs.equal (λ k a b. inl (a, b)) here.low (data_of s) (data_words s here.words) back (omega arith) here.shared.0 (λ k a b. inr (a, omega arith)) here.stands here.shared.1 ready.0 ready.1
-      (λ y wy p. after image rs inside s 0 (λ k a b. absurd (omega arith)) Eq (Effect Eq s.pc) back y wy refl p))
-  goes_by Gt here ready =
-      let inside : ℕ → Type 0 = IsInside rs s.pc Gt in
+      (λ y wy p. after image rs inside s 0 (λ k a b. absurd (omega arith)) (Operate Eq) (Effect (Operate Eq) s.pc) back y wy refl p))
+  goes_by (Operate Gt) here ready =
+      let inside : ℕ → Type 0 = IsInside rs s.pc (Operate Gt) in
       let back : ℕ = (s.pc + 4) % 32768 in
       let last : rs.greater + 37 ≡ rs.greater + 38 - 1 = omega arith in
-      subst (λ l. Does image inside l ⊥ (After Gt (Effect Gt s.pc) s) 41 s) last
+      subst (λ l. Does image inside l ⊥ (After (Operate Gt) (Effect (Operate Gt) s.pc) s) 41 s) last
       (within 33 41 s (omega arith)
       (gt_goes image inside s.pc rs.greater (λ k a b. inl (a, b)) here.low (data_of s) (data_words s here.words) back (omega arith) here.shared.0 (λ k a b. inr (a, omega arith)) here.stands here.shared.1 ready.0 ready.1
-      (λ y wy p. after image rs inside s 0 (λ k a b. absurd (omega arith)) Gt (Effect Gt s.pc) back y wy refl p)))
-  goes_by Lt here ready =
-      let inside : ℕ → Type 0 = IsInside rs s.pc Lt in
+      (λ y wy p. after image rs inside s 0 (λ k a b. absurd (omega arith)) (Operate Gt) (Effect (Operate Gt) s.pc) back y wy refl p)))
+  goes_by (Operate Lt) here ready =
+      let inside : ℕ → Type 0 = IsInside rs s.pc (Operate Lt) in
       let back : ℕ = (s.pc + 4) % 32768 in
       let last : rs.less + 37 ≡ rs.less + 38 - 1 = omega arith in
-      subst (λ l. Does image inside l ⊥ (After Lt (Effect Lt s.pc) s) 41 s) last
+      subst (λ l. Does image inside l ⊥ (After (Operate Lt) (Effect (Operate Lt) s.pc) s) 41 s) last
       (within 33 41 s (omega arith)
       (lt_goes image inside s.pc rs.less (λ k a b. inl (a, b)) here.low (data_of s) (data_words s here.words) back (omega arith) here.shared.0 (λ k a b. inr (a, omega arith)) here.stands here.shared.1 ready.0 ready.1
-      (λ y wy p. after image rs inside s 0 (λ k a b. absurd (omega arith)) Lt (Effect Lt s.pc) back y wy refl p)))
+      (λ y wy p. after image rs inside s 0 (λ k a b. absurd (omega arith)) (Operate Lt) (Effect (Operate Lt) s.pc) back y wy refl p)))
   goes_by (Goto target) here ready = alone (Goto target) refl here ready
   goes_by (IfGoto target) here ready = alone (IfGoto target) refl here ready
   goes_by (Call target n) here ready =

@@ -4,8 +4,10 @@ use Rattle.word16.specs.Memory.{heap, keyboard}
 use Rattle.word16.specs.Words.{word_add, word_sub, word_neg, word_not, word_shl, word_shr}
 use Rattle.hack_isa.specs.Machine.{Machine, image_words}
 use Rattle.simulation.specs.System.{IsData}
+use Rattle.vm_tree.specs.declared.command.Operation.{Operation}
+use Rattle.vm_tree.specs.declared.command.Operation.TheVariants.{Add, Sub, And, Or, Neg, Not, ShiftLeft, ShiftRight, Eq, Gt, Lt}
 use Rattle.vm_templates.specs.declared.shape.Shape.{Shape}
-use Rattle.vm_templates.specs.declared.shape.Shape.TheVariants.{PushConstant, PushAt, PushFirst, PushWord, PopAt, PopFirst, PopWord, Add, Sub, And, Or, Neg, Not, ShiftLeft, ShiftRight, Eq, Gt, Lt, Goto, IfGoto, Call, Function, Return}
+use Rattle.vm_templates.specs.declared.shape.Shape.TheVariants.{PushConstant, PushAt, PushFirst, PushWord, PopAt, PopFirst, PopWord, Operate, Goto, IfGoto, Call, Function, Return}
 use Rattle.vm_templates.specs.declared.routines.Routine.{Routine}
 use Rattle.vm_templates.specs.declared.routines.Routines.{Routines}
 use Rattle.vm_templates.specs.Templates.{template, size, routine_code, routine_size, routine_at, routine_of}
@@ -46,6 +48,14 @@ topmost m = m (m 0 - 1)
 abbrev pub second : (ℕ → ℕ) → ℕ
 second m = m (m 0 - 2)
 
+-- how many values an operation takes
+abbrev pub operands : Operation → ℕ
+operands Neg = 1
+operands Not = 1
+operands ShiftLeft = 1
+operands ShiftRight = 1
+operands o = 2
+
 -- What a command asks of the memory: values or room on the stack, an address that is a word of memory, a frame to return from.
 abbrev pub Ready : Shape → (ℕ → ℕ) → Type 0
 Ready (PushConstant n) m = HasRoom 1 m
@@ -55,16 +65,12 @@ Ready (PushWord address) m = HasRoom 1 m
 Ready (PopAt base index) m = HasValues 1 m × (256 ≤ address_at m base index) × (address_at m base index < keyboard)
 Ready (PopFirst base) m = HasValues 1 m × (256 ≤ m base) × (m base < keyboard)
 Ready (PopWord address) m = HasValues 1 m
-Ready Neg m = HasValues 1 m
-Ready Not m = HasValues 1 m
-Ready ShiftLeft m = HasValues 1 m
-Ready ShiftRight m = HasValues 1 m
+Ready (Operate o) m = HasValues (operands o) m
 Ready (Goto target) m = Unit {0}
 Ready (IfGoto target) m = HasValues 1 m
 Ready (Call target arguments) m = HasRoom 5 m
 Ready (Function locals) m = HasRoom locals m
 Ready Return m = HasValues 1 m × (256 ≤ m 2) × (m 2 + 5 ≤ m 1) × (m 1 ≤ heap) × (m (m 1 - 5) < 32768)
-Ready c m = HasValues 2 m
 
 -- a push of the word at an address that a register has
 abbrev pub PushesFrom : Shape → (ℕ → ℕ) → ℕ → Type 0
@@ -84,6 +90,20 @@ MayStore (PopAt base index) m = IsData (address_at m base index)
 MayStore (PopFirst base) m = IsData (m base)
 MayStore c m = ⊥
 
+-- what an operation changes in memory
+abbrev pub OperationEffect : Operation → (ℕ → ℕ) → (ℕ → ℕ) → Type 0
+OperationEffect Add m after = Joined m after (word_add (second m) (topmost m))
+OperationEffect Sub m after = Joined m after (word_sub (second m) (topmost m))
+OperationEffect And m after = Joined m after (bit_and (second m) (topmost m))
+OperationEffect Or m after = Joined m after (bit_or (second m) (topmost m))
+OperationEffect Neg m after = Turned m after (word_neg (topmost m))
+OperationEffect Not m after = Turned m after (word_not (topmost m))
+OperationEffect ShiftLeft m after = Turned m after (word_shl (topmost m))
+OperationEffect ShiftRight m after = Turned m after (word_shr (topmost m))
+OperationEffect Eq m after = Joined m after (equal (second m) (topmost m))
+OperationEffect Gt m after = Joined m after (greater (second m) (topmost m))
+OperationEffect Lt m after = Joined m after (less (second m) (topmost m))
+
 -- what a command at an address changes in memory
 abbrev pub Effect : Shape → ℕ → (ℕ → ℕ) → (ℕ → ℕ) → Type 0
 Effect (PushConstant n) here m after = Pushed m after n
@@ -93,17 +113,7 @@ Effect (PushWord address) here m after = Pushed m after (m address)
 Effect (PopAt base index) here m after = Stored m after (address_at m base index)
 Effect (PopFirst base) here m after = Stored m after (m base)
 Effect (PopWord address) here m after = Stored m after address
-Effect Add here m after = Joined m after (word_add (second m) (topmost m))
-Effect Sub here m after = Joined m after (word_sub (second m) (topmost m))
-Effect And here m after = Joined m after (bit_and (second m) (topmost m))
-Effect Or here m after = Joined m after (bit_or (second m) (topmost m))
-Effect Neg here m after = Turned m after (word_neg (topmost m))
-Effect Not here m after = Turned m after (word_not (topmost m))
-Effect ShiftLeft here m after = Turned m after (word_shl (topmost m))
-Effect ShiftRight here m after = Turned m after (word_shr (topmost m))
-Effect Eq here m after = Joined m after (equal (second m) (topmost m))
-Effect Gt here m after = Joined m after (greater (second m) (topmost m))
-Effect Lt here m after = Joined m after (less (second m) (topmost m))
+Effect (Operate o) here m after = OperationEffect o m after
 Effect (Goto target) here m after = (k : ℕ) → after k ≡ m k
 Effect (IfGoto target) here m after = Dropped m after
 Effect (Call target arguments) here m after = Called m after ((here + 12) % 32768) arguments

@@ -5,8 +5,10 @@ use Rattle.word16.specs.Words.{word_not}
 use Rattle.hack_isa.specs.declared.Instr.{Instr}
 use Rattle.hack_isa.specs.declared.Instr.TheVariants.{Address}
 use Rattle.image_map.specs.Computer.{endless_loop}
+use Rattle.vm_tree.specs.declared.command.Operation.{Operation}
+use Rattle.vm_tree.specs.declared.command.Operation.TheVariants.{Add, Sub, And, Or, Neg, Not, ShiftLeft, ShiftRight, Eq, Gt, Lt}
 use Rattle.vm_templates.specs.declared.shape.Shape.{Shape}
-use Rattle.vm_templates.specs.declared.shape.Shape.TheVariants.{PushConstant, PushAt, PushFirst, PushWord, PopAt, PopFirst, PopWord, Add, Sub, And, Or, Neg, Not, ShiftLeft, ShiftRight, Eq, Gt, Lt, Goto, IfGoto, Call, Function, Return}
+use Rattle.vm_templates.specs.declared.shape.Shape.TheVariants.{PushConstant, PushAt, PushFirst, PushWord, PopAt, PopFirst, PopWord, Operate, Goto, IfGoto, Call, Function, Return}
 use Rattle.vm_templates.specs.declared.routines.Routine.{Routine}
 use Rattle.vm_templates.specs.declared.routines.Routine.TheVariants as routine
 use Rattle.vm_templates.specs.declared.routines.Routines.{Routines}
@@ -188,16 +190,50 @@ routine_at at routine.Equal = at.equal
 routine_at at routine.Greater = at.greater
 routine_at at routine.Less = at.less
 
+-- the routine that an operation goes through
+abbrev pub compared_by : Operation → Option Routine
+compared_by Eq = Some routine.Equal
+compared_by Gt = Some routine.Greater
+compared_by Lt = Some routine.Less
+compared_by o = None
+
 -- the routine that a command goes through
 abbrev pub routine_of : Shape → Option Routine
-routine_of Eq = Some routine.Equal
-routine_of Gt = Some routine.Greater
-routine_of Lt = Some routine.Less
+routine_of (Operate o) = compared_by o
 routine_of (Call target arguments) = Some routine.Call
 routine_of Return = Some routine.Back
 routine_of c = None
 
--- The instructions of a command at an address, where the routines have theirs. The address after the last word of the longest image, 32,768, is 0.
+-- The instructions of an operation at an address, where the routines have theirs. The address after the last word of the
+-- longest image, 32,768, is 0.
+abbrev pub operation_code : Routines → ℕ → Operation → List Instr
+operation_code at here Add = join M_IS_D_PLUS_M
+operation_code at here Sub = join M_IS_M_MINUS_D
+operation_code at here And = join M_IS_D_AND_M
+operation_code at here Or = join M_IS_D_OR_M
+operation_code at here Neg = turn M_IS_MINUS_M
+operation_code at here Not = turn M_IS_NOT_M
+operation_code at here ShiftLeft = turn M_IS_M_SHIFTED_LEFT
+operation_code at here ShiftRight = turn M_IS_M_SHIFTED_RIGHT
+operation_code at here Eq = compare_by at.equal ((here + 4) % 32768)
+operation_code at here Gt = compare_by at.greater ((here + 4) % 32768)
+operation_code at here Lt = compare_by at.less ((here + 4) % 32768)
+
+-- the number of these instructions
+abbrev pub operation_words : Operation → ℕ
+operation_words Add = 5
+operation_words Sub = 5
+operation_words And = 5
+operation_words Or = 5
+operation_words Neg = 3
+operation_words Not = 3
+operation_words ShiftLeft = 3
+operation_words ShiftRight = 3
+operation_words Eq = 4
+operation_words Gt = 4
+operation_words Lt = 4
+
+-- the instructions of a command at such an address
 abbrev pub template : Routines → ℕ → Shape → List Instr
 template at here (PushConstant n) = push_constant n
 template at here (PushAt base index) = push_at base index
@@ -206,17 +242,7 @@ template at here (PushWord address) = push_word address
 template at here (PopAt base index) = pop_at base index
 template at here (PopFirst base) = pop_first base
 template at here (PopWord address) = pop_word address
-template at here Add = join M_IS_D_PLUS_M
-template at here Sub = join M_IS_M_MINUS_D
-template at here And = join M_IS_D_AND_M
-template at here Or = join M_IS_D_OR_M
-template at here Neg = turn M_IS_MINUS_M
-template at here Not = turn M_IS_NOT_M
-template at here ShiftLeft = turn M_IS_M_SHIFTED_LEFT
-template at here ShiftRight = turn M_IS_M_SHIFTED_RIGHT
-template at here Eq = compare_by at.equal ((here + 4) % 32768)
-template at here Gt = compare_by at.greater ((here + 4) % 32768)
-template at here Lt = compare_by at.less ((here + 4) % 32768)
+template at here (Operate o) = operation_code at here o
 template at here (Goto target) = go_to target
 template at here (IfGoto target) = if_go_to target
 template at here (Call target arguments) = call_by at.call ((here + 12) % 32768) target arguments
@@ -232,17 +258,7 @@ size (PushWord address) = 6
 size (PopAt base index) = 12
 size (PopFirst base) = 6
 size (PopWord address) = 5
-size Add = 5
-size Sub = 5
-size And = 5
-size Or = 5
-size Neg = 3
-size Not = 3
-size ShiftLeft = 3
-size ShiftRight = 3
-size Eq = 4
-size Gt = 4
-size Lt = 4
+size (Operate o) = operation_words o
 size (Goto target) = 2
 size (IfGoto target) = 5
 size (Call target arguments) = 12

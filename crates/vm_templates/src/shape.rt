@@ -1,5 +1,7 @@
 // What the instructions of a command depend on.
 
+use vm_tree::Operation;
+
 /// The shape of a command of the stack machine, with the numbers that its instructions have.
 #[derive(Clone, Copy, PartialEq, Eq, Debug)]
 pub enum Shape {
@@ -17,17 +19,8 @@ pub enum Shape {
     PopFirst { base: u16 },
     /// A pop to static, pointer or temp.
     PopWord(u16),
-    Add,
-    Sub,
-    And,
-    Or,
-    Neg,
-    Not,
-    ShiftLeft,
-    ShiftRight,
-    Eq,
-    Gt,
-    Lt,
+    /// An operation on the topmost values.
+    Operate(Operation),
     /// `goto`, with the address of the label.
     Goto(u16),
     /// `if-goto`, with the address of the label.

@@ -14,7 +14,6 @@ use Rattle.vm_machine.specs.State.{Frame, State, words_in_use}
 use Rattle.vm_machine.specs.Step.{Acts, fit_outcome, operate, binary_outcome, unary_outcome, goes, after}
 use Rattle.vm_machine.specs.Sound.{IsSoundState}
 use Rattle.vm_translator.specs.Stands.{SameMemory}
-use Rattle.vm_translator.specs.Shapes.{operation_shape}
 use Rattle.vm_translator.specs.Carries.{Carries}
 use Rattle.vm_translator.proofs.Frames.{inner_of, left_words, left_two, pushed_same, joined_same, turned_same}
 use Rattle.vm_translator.proofs.Cases.{goes_case, top_case, two_case, grown, values_in_use}
@@ -93,15 +92,15 @@ module _ (address : Option ℕ → ℕ → ℕ) (l : Linked) (v : State) (f : Fr
         to = to;
       })
 
-  pub operate_carries : (o : Operation) (heard : Bool) (v' : State) → next (operation_shape o) here m ≡ address f.function (f.place + 1) → fit_outcome (operate o v f below) ≡ Acts heard v' → Carries address (operation_shape o) here m v'
-  operate_carries operation.Add heard v' to acts = join_carries shape.Add word_add heard v' tt (λ r. r) (λ t p. p) to acts
-  operate_carries operation.Sub heard v' to acts = join_carries shape.Sub word_sub heard v' tt (λ r. r) (λ t p. p) to acts
-  operate_carries operation.And heard v' to acts = join_carries shape.And bit_and heard v' tt (λ r. r) (λ t p. p) to acts
-  operate_carries operation.Or heard v' to acts = join_carries shape.Or bit_or heard v' tt (λ r. r) (λ t p. p) to acts
-  operate_carries operation.Neg heard v' to acts = turn_carries shape.Neg word_neg heard v' tt (λ r. r) (λ t p. p) to acts
-  operate_carries operation.Not heard v' to acts = turn_carries shape.Not word_not heard v' tt (λ r. r) (λ t p. p) to acts
-  operate_carries operation.ShiftLeft heard v' to acts = turn_carries shape.ShiftLeft word_shl heard v' tt (λ r. r) (λ t p. p) to acts
-  operate_carries operation.ShiftRight heard v' to acts = turn_carries shape.ShiftRight word_shr heard v' tt (λ r. r) (λ t p. p) to acts
-  operate_carries operation.Eq heard v' to acts = join_carries shape.Eq (λ x y. truth (nat_eq x y)) heard v' tt (λ r. r) (λ t p. joined_equal m t (second m) (topmost m) p) to acts
-  operate_carries operation.Gt heard v' to acts = join_carries shape.Gt (λ x y. truth (int_lt (signed_value y) (signed_value x))) heard v' tt (λ r. r) (λ t p. joined_greater m t (second m) (topmost m) p) to acts
-  operate_carries operation.Lt heard v' to acts = join_carries shape.Lt (λ x y. truth (int_lt (signed_value x) (signed_value y))) heard v' tt (λ r. r) (λ t p. joined_less m t (second m) (topmost m) p) to acts
+  pub operate_carries : (o : Operation) (heard : Bool) (v' : State) → next (shape.Operate o) here m ≡ address f.function (f.place + 1) → fit_outcome (operate o v f below) ≡ Acts heard v' → Carries address (shape.Operate o) here m v'
+  operate_carries operation.Add heard v' to acts = join_carries (shape.Operate operation.Add) word_add heard v' tt (λ r. r) (λ t p. p) to acts
+  operate_carries operation.Sub heard v' to acts = join_carries (shape.Operate operation.Sub) word_sub heard v' tt (λ r. r) (λ t p. p) to acts
+  operate_carries operation.And heard v' to acts = join_carries (shape.Operate operation.And) bit_and heard v' tt (λ r. r) (λ t p. p) to acts
+  operate_carries operation.Or heard v' to acts = join_carries (shape.Operate operation.Or) bit_or heard v' tt (λ r. r) (λ t p. p) to acts
+  operate_carries operation.Neg heard v' to acts = turn_carries (shape.Operate operation.Neg) word_neg heard v' tt (λ r. r) (λ t p. p) to acts
+  operate_carries operation.Not heard v' to acts = turn_carries (shape.Operate operation.Not) word_not heard v' tt (λ r. r) (λ t p. p) to acts
+  operate_carries operation.ShiftLeft heard v' to acts = turn_carries (shape.Operate operation.ShiftLeft) word_shl heard v' tt (λ r. r) (λ t p. p) to acts
+  operate_carries operation.ShiftRight heard v' to acts = turn_carries (shape.Operate operation.ShiftRight) word_shr heard v' tt (λ r. r) (λ t p. p) to acts
+  operate_carries operation.Eq heard v' to acts = join_carries (shape.Operate operation.Eq) (λ x y. truth (nat_eq x y)) heard v' tt (λ r. r) (λ t p. joined_equal m t (second m) (topmost m) p) to acts
+  operate_carries operation.Gt heard v' to acts = join_carries (shape.Operate operation.Gt) (λ x y. truth (int_lt (signed_value y) (signed_value x))) heard v' tt (λ r. r) (λ t p. joined_greater m t (second m) (topmost m) p) to acts
+  operate_carries operation.Lt heard v' to acts = join_carries (shape.Operate operation.Lt) (λ x y. truth (int_lt (signed_value x) (signed_value y))) heard v' tt (λ r. r) (λ t p. joined_less m t (second m) (topmost m) p) to acts

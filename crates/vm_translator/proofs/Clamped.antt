@@ -11,7 +11,7 @@ use Rattle.vm_templates.specs.Templates.{size}
 use Rattle.vm_templates.specs.Effects.{Pushed, Stored}
 use Rattle.vm_templates.specs.Commands.{IsShape, HasRoom, HasValues, address_at, Ready, Effect, MayStore, PushesFrom, PopsTo, next}
 use Rattle.vm_translator.specs.Shapes as table
-use Rattle.vm_translator.specs.Shapes.{operation_shape, shape_of}
+use Rattle.vm_translator.specs.Shapes.{shape_of}
 
 -- the shapes with the numbers that the step has
 abbrev pub push_from : ℕ → ℕ → Shape
@@ -43,7 +43,7 @@ popped segment.Pointer i = shape.PopWord (3 + i)
 popped segment.Temp i = shape.PopWord (5 + i)
 
 abbrev pub plain_of : ℕ → Step → Shape
-plain_of to (step.Operate o) = operation_shape o
+plain_of to (step.Operate o) = shape.Operate o
 plain_of to (step.Push g i) = pushed g i
 plain_of to (step.Pop g i) = popped g i
 plain_of to (step.Goto p) = shape.Goto to

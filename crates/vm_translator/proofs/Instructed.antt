@@ -5,8 +5,6 @@ use Rattle.hack_isa.specs.Machine.{Machine}
 use Rattle.hack_isa.specs.Table.{word_of}
 use Rattle.hack_isa.specs.declared.Instr.{Instr}
 use Rattle.machine_io.specs.declared.machine.Stray.TheVariants as stray
-use Rattle.vm_tree.specs.declared.command.Operation.{Operation}
-use Rattle.vm_tree.specs.declared.command.Operation.TheVariants as operation
 use Rattle.vm_tree.specs.declared.command.Segment.{Segment}
 use Rattle.vm_tree.specs.declared.command.Segment.TheVariants as segment
 use Rattle.vm_link.specs.declared.linked.Code.{Code}
@@ -32,7 +30,7 @@ use Rattle.vm_machine.specs.Sound.{AreSoundFrames}
 use Rattle.vm_machine.proofs.Deaf.{key_law}
 use Rattle.vm_machine.proofs.Ends.{end_law}
 use Rattle.vm_machine.proofs.Kept.{sound_law}
-use Rattle.vm_translator.specs.Shapes.{push_from, operation_shape, push_shape, pop_shape, shape_of}
+use Rattle.vm_translator.specs.Shapes.{push_from, push_shape, pop_shape, shape_of}
 use Rattle.vm_translator.specs.Image.{commits_of, image_of, points_of, routines, shared_at, shared_ranges}
 use Rattle.vm_translator.specs.Carries.{IsStep}
 use Rattle.vm_translator.specs.Related.{StandsFor}
@@ -52,19 +50,6 @@ use Rattle.vm_translator.proofs.Placing.{image_words, has_loop}
 use Rattle.vm_translator.proofs.Simulating.{location_low, ended_is, here, own, own_place, at_step, acts_is, at_loop, simulates, starts_so, opens_so}
 
 -- no instruction of these writes data
-operation_quiet : (o : Operation) (m : ℕ → ℕ) → MayStore (operation_shape o) m → ⊥
-operation_quiet operation.Add m h = h
-operation_quiet operation.Sub m h = h
-operation_quiet operation.Neg m h = h
-operation_quiet operation.Eq m h = h
-operation_quiet operation.Gt m h = h
-operation_quiet operation.Lt m h = h
-operation_quiet operation.And m h = h
-operation_quiet operation.Or m h = h
-operation_quiet operation.Not m h = h
-operation_quiet operation.ShiftLeft m h = h
-operation_quiet operation.ShiftRight m h = h
-
 from_quiet : (base i : ℕ) (m : ℕ → ℕ) → MayStore (push_from base i) m → ⊥
 from_quiet base zero m h = h
 from_quiet base (suc i) m h = h
@@ -105,7 +90,7 @@ module _ (address : Option ℕ → ℕ → ℕ) (l : Linked) (v v' : State) (f :
   pop_writes segment.Temp i s acts h = h
 
   store_is : (x : Step) → IsStep address l v f below x place to m → fit_outcome (act 0 x v f below) ≡ Acts false v' → MayStore (shape_of to x) m → Writes x
-  store_is (step.Operate o) s acts h = operation_quiet o m h
+  store_is (step.Operate o) s acts h = h
   store_is (step.Push g i) s acts h = push_quiet g i m h
   store_is (step.Pop g i) s acts h = pop_writes g i s acts h
   store_is (step.Goto p) s acts h = h

@@ -13,7 +13,6 @@ use Rattle.vm_templates.specs.declared.routines.Routine.TheVariants as routine
 use Rattle.vm_templates.specs.declared.routines.Routines.{Routines}
 use Rattle.vm_templates.specs.Laws.{IsFound}
 use Rattle.vm_templates.specs.Templates.{begin_compare, by_difference, call_by, call_routine, compare_by, decide, equal_routine, function_code, go_back, join, load, load_again, order_routine, pop_d, push_constant, push_d, push_word, push_zero, put_false, return_code, routine_at, routine_code, routine_of, routine_size, set_stack, endless, size, start_code, template, turn}
-use Rattle.vm_tree.specs.declared.command.Operation.{Operation}
 use Rattle.vm_tree.specs.declared.command.Operation.TheVariants as operation
 use Rattle.vm_tree.specs.declared.command.Segment.{Segment}
 use Rattle.vm_tree.specs.declared.command.Segment.TheVariants as segment
@@ -25,7 +24,7 @@ use Rattle.vm_link.specs.declared.linked.LinkedFunction.{LinkedFunction}
 use Rattle.vm_translator.specs.declared.layout.Placed.{Placed}
 use Rattle.vm_translator.specs.declared.ends.Closing.{Closing}
 use Rattle.vm_translator.specs.declared.ends.Closing.TheVariants as closes
-use Rattle.vm_translator.specs.Shapes.{push_from, pop_to, operation_shape, push_shape, pop_shape, shape_of, step_size}
+use Rattle.vm_translator.specs.Shapes.{push_from, pop_to, push_shape, pop_shape, shape_of, step_size}
 use Rattle.vm_translator.specs.Places.{address, base_of, code_at, end_of, named_symbol, placed_code, placed_from, program, target_of, words_in, words_of}
 use Rattle.vm_translator.specs.Image.{closing, closing_code, closing_of, closing_size, entry_of, image_of, names, names_end, opening, piece, routines, shared_at}
 use Rattle.vm_translator.specs.Shared.{routine_for, shared_from, used_routines, uses, words_shared}
@@ -157,35 +156,22 @@ plain_template rs here (shape.PopAt b i) h f w =
     (w.1, (plain D_IS_A refl, (w.0, plain_all (D_IS_D_PLUS_M ∷ Address 13 ∷ M_IS_D ∷ (pop_d ++ Address 13 ∷ A_IS_M ∷ M_IS_D ∷ [])) refl)))
 plain_template rs here (shape.PopFirst b) h f w = each_both IsPlain pop_d (Address b ∷ A_IS_M ∷ M_IS_D ∷ []) (plain_all pop_d refl) (w, plain_all (A_IS_M ∷ M_IS_D ∷ []) refl)
 plain_template rs here (shape.PopWord a) h f w = each_both IsPlain pop_d (Address a ∷ M_IS_D ∷ []) (plain_all pop_d refl) (w, plain_all (M_IS_D ∷ []) refl)
-plain_template rs here shape.Add h f w = plain_all (join M_IS_D_PLUS_M) refl
-plain_template rs here shape.Sub h f w = plain_all (join M_IS_M_MINUS_D) refl
-plain_template rs here shape.And h f w = plain_all (join M_IS_D_AND_M) refl
-plain_template rs here shape.Or h f w = plain_all (join M_IS_D_OR_M) refl
-plain_template rs here shape.Neg h f w = plain_all (turn M_IS_MINUS_M) refl
-plain_template rs here shape.Not h f w = plain_all (turn M_IS_NOT_M) refl
-plain_template rs here shape.ShiftLeft h f w = plain_all (turn M_IS_M_SHIFTED_LEFT) refl
-plain_template rs here shape.ShiftRight h f w = plain_all (turn M_IS_M_SHIFTED_RIGHT) refl
-plain_template rs here shape.Eq h f w = plain_compare_by rs.equal ((here + 4) % 32768) f (omega arith)
-plain_template rs here shape.Gt h f w = plain_compare_by rs.greater ((here + 4) % 32768) f (omega arith)
-plain_template rs here shape.Lt h f w = plain_compare_by rs.less ((here + 4) % 32768) f (omega arith)
+plain_template rs here (shape.Operate operation.Add) h f w = plain_all (join M_IS_D_PLUS_M) refl
+plain_template rs here (shape.Operate operation.Sub) h f w = plain_all (join M_IS_M_MINUS_D) refl
+plain_template rs here (shape.Operate operation.And) h f w = plain_all (join M_IS_D_AND_M) refl
+plain_template rs here (shape.Operate operation.Or) h f w = plain_all (join M_IS_D_OR_M) refl
+plain_template rs here (shape.Operate operation.Neg) h f w = plain_all (turn M_IS_MINUS_M) refl
+plain_template rs here (shape.Operate operation.Not) h f w = plain_all (turn M_IS_NOT_M) refl
+plain_template rs here (shape.Operate operation.ShiftLeft) h f w = plain_all (turn M_IS_M_SHIFTED_LEFT) refl
+plain_template rs here (shape.Operate operation.ShiftRight) h f w = plain_all (turn M_IS_M_SHIFTED_RIGHT) refl
+plain_template rs here (shape.Operate operation.Eq) h f w = plain_compare_by rs.equal ((here + 4) % 32768) f (omega arith)
+plain_template rs here (shape.Operate operation.Gt) h f w = plain_compare_by rs.greater ((here + 4) % 32768) f (omega arith)
+plain_template rs here (shape.Operate operation.Lt) h f w = plain_compare_by rs.less ((here + 4) % 32768) f (omega arith)
 plain_template rs here (shape.Goto t) h f w = (w, plain_all (JUMP ∷ []) refl)
 plain_template rs here (shape.IfGoto t) h f w = each_both IsPlain pop_d (Address t ∷ IF_D_NOT_EQUAL ∷ []) (plain_all pop_d refl) (w, plain_all (IF_D_NOT_EQUAL ∷ []) refl)
 plain_template rs here (shape.Call t n) h f w = plain_call rs.call ((here + 12) % 32768) t n f (omega arith) w.0 w.1
 plain_template rs here (shape.Function n) h f w = plain_function n
 plain_template rs here shape.Return h f w = (f, plain_all (JUMP ∷ []) refl)
-
-numbered_operation : (o : Operation) → IsNumbered (operation_shape o)
-numbered_operation operation.Add = tt
-numbered_operation operation.Sub = tt
-numbered_operation operation.Neg = tt
-numbered_operation operation.Eq = tt
-numbered_operation operation.Gt = tt
-numbered_operation operation.Lt = tt
-numbered_operation operation.And = tt
-numbered_operation operation.Or = tt
-numbered_operation operation.Not = tt
-numbered_operation operation.ShiftLeft = tt
-numbered_operation operation.ShiftRight = tt
 
 numbered_from : (base i : ℕ) → base < 32768 → IsNumbered (push_from base i)
 numbered_from base zero h = h
@@ -216,7 +202,7 @@ numbered_pop segment.Pointer i = omega arith
 numbered_pop segment.Temp i = omega arith
 
 numbered : (to : ℕ) (s : Step) → to < 32768 → IsNumbered (shape_of to s)
-numbered to (step.Operate o) h = numbered_operation o
+numbered to (step.Operate o) h = tt
 numbered to (step.Push g i) h = numbered_push g i
 numbered to (step.Pop g i) h = numbered_pop g i
 numbered to (step.Goto p) h = h

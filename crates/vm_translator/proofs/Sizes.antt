@@ -1,13 +1,12 @@
 -- How many instructions an image has.
-use Rattle.std.proofs.Common.{◌≡◌, ◌+◌, ◌*◌, ◌≤◌, ◌&&◌, ◌++◌, ℕ, zero, suc, Bool, true, false, not, List, [], ◌∷◌, length, nat_eq, refl, ap, ◌∙◌, arith, length-append, if◌then◌else◌}
+use Rattle.std.proofs.Common.{◌≡◌, ◌+◌, ◌≤◌, ◌&&◌, ◌++◌, ℕ, Bool, true, false, not, List, [], ◌∷◌, length, nat_eq, refl, ap, ◌∙◌, arith, length-append, if◌then◌else◌}
 use Rattle.std.specs.List.{flat_map}
 use Rattle.std.proofs.lemmas.List.Concat.{flat_map-append}
 use Rattle.vm_translator.specs.declared.ends.Closing.{Closing}
 use Rattle.vm_translator.specs.declared.ends.Closing.TheVariants as closes
-use Rattle.vm_templates.specs.declared.shape.Shape.{Shape}
-use Rattle.vm_templates.specs.declared.shape.Shape.TheVariants as shape
 use Rattle.vm_templates.specs.declared.routines.Routines.{Routines}
-use Rattle.vm_templates.specs.Templates.{function_code, size, template, start_code, start_size}
+use Rattle.vm_templates.specs.Templates.{start_code, start_size}
+use Rattle.vm_templates.proofs.Placed.{size_is}
 use Rattle.vm_link.specs.declared.linked.Code.{Code}
 use Rattle.vm_link.specs.declared.linked.LinkedFunction.{LinkedFunction}
 use Rattle.vm_link.specs.declared.linked.Linked.{Linked}
@@ -19,37 +18,8 @@ use Rattle.vm_translator.specs.Shared.{shared_from, used_routines, words_shared}
 use Rattle.vm_translator.proofs.Routines.{length_shared}
 use Rattle.vm_translator.proofs.Sums.{size_to}
 
-length_function : (n : ℕ) → length (function_code n) ≡ 4 * n + 1
-length_function zero = refl
-length_function (suc n) = let e = length_function n in omega arith
-
-pub length_template : (rs : Routines) (here : ℕ) (s : Shape) → length (template rs here s) ≡ size s
-length_template rs here (shape.PushConstant n) = refl
-length_template rs here (shape.PushAt b i) = refl
-length_template rs here (shape.PushFirst b) = refl
-length_template rs here (shape.PushWord a) = refl
-length_template rs here (shape.PopAt b i) = refl
-length_template rs here (shape.PopFirst b) = refl
-length_template rs here (shape.PopWord a) = refl
-length_template rs here shape.Add = refl
-length_template rs here shape.Sub = refl
-length_template rs here shape.And = refl
-length_template rs here shape.Or = refl
-length_template rs here shape.Neg = refl
-length_template rs here shape.Not = refl
-length_template rs here shape.ShiftLeft = refl
-length_template rs here shape.ShiftRight = refl
-length_template rs here shape.Eq = refl
-length_template rs here shape.Gt = refl
-length_template rs here shape.Lt = refl
-length_template rs here (shape.Goto t) = refl
-length_template rs here (shape.IfGoto t) = refl
-length_template rs here (shape.Call t n) = refl
-length_template rs here (shape.Function n) = length_function n
-length_template rs here shape.Return = refl
-
 pub length_piece : (rs : Routines) (base : ℕ) (fs : List LinkedFunction) (c : Placed) → length (piece rs base fs c) ≡ step_size c.code.step
-length_piece rs base fs c = length_template rs c.at (shape_of (target_of base fs c.function c.code.step) c.code.step) ∙ size_to (target_of base fs c.function c.code.step) c.code.step
+length_piece rs base fs c = size_is rs c.at (shape_of (target_of base fs c.function c.code.step) c.code.step) ∙ size_to (target_of base fs c.function c.code.step) c.code.step
 
 module _ (rs : Routines) (base : ℕ) (fs : List LinkedFunction) where
   length_code : (k sub at : ℕ) (cs : List Code) → length (flat_map (piece rs base fs) (placed_code k sub at cs)) ≡ words_of cs

@@ -2,13 +2,11 @@
 use Rattle.std.proofs.Common.{◌≡◌, ℕ, Option, Some, ◌+◌, ◌≤◌, ◌%◌, Bool, true, false, List, [], ◌∷◌, length, take, drop, refl, ap, ◌∙◌, sym, subst, arith}
 use Rattle.std.specs.Prelude.{nat_eq, if◌then◌else◌, replicate}
 use Rattle.machine_io.specs.declared.machine.Stray.TheVariants as stray
-use Rattle.vm_tree.specs.declared.command.Operation.{Operation}
 use Rattle.vm_link.specs.declared.linked.Step.{Step}
 use Rattle.vm_link.specs.declared.linked.Step.TheVariants as step
 use Rattle.vm_link.specs.declared.linked.Linked.{Linked}
 use Rattle.vm_templates.specs.declared.shape.Shape.TheVariants as shape
-use Rattle.vm_templates.specs.Templates.{size}
-use Rattle.vm_templates.specs.Commands.{HasValues, next}
+use Rattle.vm_templates.specs.Commands.{HasValues}
 use Rattle.vm_machine.specs.State.{Frame, State, words_in_use}
 use Rattle.vm_machine.specs.Step.{Acts, fit_outcome, goes, after, act, on_top, pop, call, called_frame, begin, return}
 use Rattle.vm_translator.specs.Shapes.{shape_of}
@@ -133,10 +131,7 @@ module _ (address : Option ℕ → ℕ → ℕ) (l : Linked) (v : State) (f : Fr
       })
 
   plainly : (key : ℕ) (c : Step) (v' : State) → IsStep address l v f below c here to m → fit_outcome (act key c v f below) ≡ Acts false v' → Carries address (plain_of to c) here m v'
-  plainly key (step.Operate o) v' s acts = operate_carries address l v f below m s.frames s.sound s.memory here o false v' (plain_operate o s.after) acts
-    where
-      plain_operate : (o : Operation) → (here + size (shape_of to (step.Operate o))) % 32768 ≡ address f.function (f.place + 1) → next (plain_of to (step.Operate o)) here m ≡ address f.function (f.place + 1)
-      plain_operate o e = grind arith
+  plainly key (step.Operate o) v' s acts = operate_carries address l v f below m s.frames s.sound s.memory here o false v' s.after acts
   plainly key (step.Push g i) v' s acts = segment_push_carries address l v f below m s.frames s.sound s.memory s.words here key g i v' (sym (push_next g i here m) ∙ s.after) acts
   plainly key (step.Pop g i) v' s acts =
       let one = top_case f.values (λ w values. pop g i v f below w values) false v' acts in

@@ -11,11 +11,12 @@ use Rattle.vm_link.specs.declared.linked.LinkedFunction.{LinkedFunction}
 use Rattle.vm_link.specs.Uniform.{is_comparison, is_shared}
 use Rattle.vm_templates.specs.declared.routines.Routine.{Routine}
 use Rattle.vm_templates.specs.declared.shape.Shape.{Shape}
-use Rattle.vm_templates.specs.Templates.{size, routine_of}
+use Rattle.vm_templates.specs.Templates.{compared_by, operation_words, size, routine_of}
 use Rattle.vm_templates.specs.Commands.{cycles, cycles_of}
-use Rattle.vm_templates.specs.Budgets.{operation_words, operation_steps, most_words, most_steps}
-use Rattle.vm_translator.specs.Shared.{compared_by, routine_for, has_routine}
-use Rattle.vm_translator.specs.Shapes.{push_from, pop_to, operation_shape, push_shape, pop_shape, shape_of, step_size}
+use Rattle.vm_templates.specs.Budgets.{operation_steps, most_words, most_steps}
+use Rattle.vm_templates.proofs.Placed.{operation_some}
+use Rattle.vm_translator.specs.Shared.{routine_for, has_routine}
+use Rattle.vm_translator.specs.Shapes.{push_from, pop_to, push_shape, pop_shape, shape_of, step_size}
 use Rattle.vm_translator.specs.Places.{words_of, words_in, code_at, address}
 use Rattle.vm_translator.specs.Image.{budget_in, budget_from}
 
@@ -23,19 +24,6 @@ use Rattle.vm_translator.specs.Image.{budget_in, budget_from}
 record IsBetween (n m : ℕ) : Type 0 where
   some : 0 < n
   within : n ≤ m
-
-operation_between : (o : Operation) → IsBetween (size (operation_shape o)) (operation_words o)
-operation_between operation.Add = record { some = omega arith; within = omega arith }
-operation_between operation.Sub = record { some = omega arith; within = omega arith }
-operation_between operation.Neg = record { some = omega arith; within = omega arith }
-operation_between operation.Eq = record { some = omega arith; within = omega arith }
-operation_between operation.Gt = record { some = omega arith; within = omega arith }
-operation_between operation.Lt = record { some = omega arith; within = omega arith }
-operation_between operation.And = record { some = omega arith; within = omega arith }
-operation_between operation.Or = record { some = omega arith; within = omega arith }
-operation_between operation.Not = record { some = omega arith; within = omega arith }
-operation_between operation.ShiftLeft = record { some = omega arith; within = omega arith }
-operation_between operation.ShiftRight = record { some = omega arith; within = omega arith }
 
 from_between : (base i : ℕ) → IsBetween (size (push_from base i)) 9
 from_between base zero = record { some = omega arith; within = omega arith }
@@ -66,7 +54,7 @@ pop_between segment.Pointer i = record { some = omega arith; within = omega arit
 pop_between segment.Temp i = record { some = omega arith; within = omega arith }
 
 step_between : (s : Step) → IsBetween (step_size s) (most_words s)
-step_between (step.Operate o) = operation_between o
+step_between (step.Operate o) = record { some = operation_some o; within = omega arith }
 step_between (step.Push g i) = push_between g i
 step_between (step.Pop g i) = pop_between g i
 step_between (step.Goto p) = record { some = omega arith; within = omega arith }
@@ -98,20 +86,7 @@ size_few to s = let b = step_between s in let w = b.within in let e = size_to to
 
 -- the routine of a step's shape, wherever the step leads
 pub routine_to : (to : ℕ) (s : Step) → routine_of (shape_of to s) ≡ routine_for s
-routine_to to (step.Operate o) = compared o
-  where
-    compared : (o : Operation) → routine_of (operation_shape o) ≡ compared_by o
-    compared operation.Add = refl
-    compared operation.Sub = refl
-    compared operation.Neg = refl
-    compared operation.Eq = refl
-    compared operation.Gt = refl
-    compared operation.Lt = refl
-    compared operation.And = refl
-    compared operation.Or = refl
-    compared operation.Not = refl
-    compared operation.ShiftLeft = refl
-    compared operation.ShiftRight = refl
+routine_to to (step.Operate o) = refl
 routine_to to (step.Push g i) = pushed_none g i
   where
     from_none : (base i : ℕ) → routine_of (push_from base i) ≡ None
@@ -173,7 +148,7 @@ shared_is (step.Call f n) = refl
 shared_is step.Return = refl
 
 -- the steps of the computer that a step may take
-operation_cycles : (o : Operation) → cycles_of (size (operation_shape o)) (compared_by o) ≤ operation_steps o
+operation_cycles : (o : Operation) → cycles_of (operation_words o) (compared_by o) ≤ operation_steps o
 operation_cycles operation.Add = omega arith
 operation_cycles operation.Sub = omega arith
 operation_cycles operation.Neg = omega arith

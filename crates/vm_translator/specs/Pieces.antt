@@ -7,9 +7,9 @@ use Rattle.vm_tree.specs.declared.command.Segment.TheVariants as segment
 use Rattle.vm_link.specs.declared.linked.Step.{Step}
 use Rattle.vm_link.specs.declared.linked.Step.TheVariants as step
 use Rattle.vm_link.specs.Uniform.{is_shared}
-use Rattle.vm_templates.specs.Budgets.{operation_words, most_words, most_steps}
+use Rattle.vm_templates.specs.Budgets.{most_words, most_steps}
 use Rattle.vm_templates.specs.Commands.{cycles}
-use Rattle.vm_templates.specs.Templates.{routine_of, size, start_size}
+use Rattle.vm_templates.specs.Templates.{operation_words, routine_of, size, start_size}
 use Rattle.vm_translator.specs.Shapes.{shape_of, step_size}
 use Rattle.vm_translator.specs.Shared.{all_routines, has_routine, routine_for, words_shared}
 

@@ -1,7 +1,5 @@
 -- The shape of each step of linked code: which words of memory its segments and registers are. (The book, chapters 7 and 8.)
 use Rattle.std.specs.Prelude.{ℕ, zero, suc, ◌+◌, min}
-use Rattle.vm_tree.specs.declared.command.Operation.{Operation}
-use Rattle.vm_tree.specs.declared.command.Operation.TheVariants as operation
 use Rattle.vm_tree.specs.declared.command.Segment.{Segment}
 use Rattle.vm_tree.specs.declared.command.Segment.TheVariants as segment
 use Rattle.vm_link.specs.declared.linked.Step.{Step}
@@ -13,19 +11,6 @@ use Rattle.vm_templates.specs.Templates.{size}
 -- The greatest number that an instruction names stands for each that no text has: those commands never act.
 abbrev pub named_index : ℕ → ℕ
 named_index n = min n 32767
-
-abbrev pub operation_shape : Operation → Shape
-operation_shape operation.Add = shape.Add
-operation_shape operation.Sub = shape.Sub
-operation_shape operation.Neg = shape.Neg
-operation_shape operation.Eq = shape.Eq
-operation_shape operation.Gt = shape.Gt
-operation_shape operation.Lt = shape.Lt
-operation_shape operation.And = shape.And
-operation_shape operation.Or = shape.Or
-operation_shape operation.Not = shape.Not
-operation_shape operation.ShiftLeft = shape.ShiftLeft
-operation_shape operation.ShiftRight = shape.ShiftRight
 
 -- of a segment that begins where a register points: its first word has instructions of its own
 abbrev pub push_from : ℕ → ℕ → Shape
@@ -60,7 +45,7 @@ pop_shape segment.Temp i = shape.PopWord (named_index (5 + i))
 
 -- The shape of a step that leads to this address, where it leads anywhere.
 abbrev pub shape_of : ℕ → Step → Shape
-shape_of to (step.Operate o) = operation_shape o
+shape_of to (step.Operate o) = shape.Operate o
 shape_of to (step.Push g i) = push_shape g i
 shape_of to (step.Pop g i) = pop_shape g i
 shape_of to (step.Goto p) = shape.Goto to

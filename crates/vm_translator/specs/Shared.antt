@@ -2,15 +2,13 @@
 use Rattle.std.specs.Prelude.{ℕ, ◌+◌, ◌-◌, ◌++◌, Bool, true, false, List, [], ◌∷◌, Option, Some, None, ◌&&◌, ◌||◌, not, filter, if◌then◌else◌}
 use Rattle.std.specs.List.{list_any}
 use Rattle.hack_isa.specs.declared.Instr.{Instr}
-use Rattle.vm_tree.specs.declared.command.Operation.{Operation}
 use Rattle.vm_link.specs.declared.linked.Step.{Step}
 use Rattle.vm_link.specs.declared.linked.Step.TheVariants as step
 use Rattle.vm_link.specs.declared.linked.Linked.{Linked}
 use Rattle.vm_templates.specs.declared.routines.Routine.{Routine}
 use Rattle.vm_templates.specs.declared.routines.Routine.TheVariants as routine
 use Rattle.vm_templates.specs.declared.routines.Routines.{Routines}
-use Rattle.vm_templates.specs.Templates.{routine_of, routine_code, routine_size}
-use Rattle.vm_translator.specs.Shapes.{operation_shape}
+use Rattle.vm_templates.specs.Templates.{compared_by, routine_code, routine_size}
 
 abbrev pub same_routine : Routine → Routine → Bool
 same_routine routine.Call routine.Call = true
@@ -19,10 +17,6 @@ same_routine routine.Equal routine.Equal = true
 same_routine routine.Greater routine.Greater = true
 same_routine routine.Less routine.Less = true
 same_routine q r = false
-
--- the routine that an operation goes through: that of its shape
-abbrev pub compared_by : Operation → Option Routine
-compared_by o = routine_of (operation_shape o)
 
 -- the routine that a step goes through
 abbrev pub routine_for : Step → Option Routine

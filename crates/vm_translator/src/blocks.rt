@@ -1,6 +1,6 @@
 //! The instructions of a step, by its shape.
 ghost use Rattle.std.specs.Prelude.{◌≡◌, ◌≤◌, ◌<◌, ◌+◌, ◌++◌, OnOk};
-ghost use Rattle.vm_templates.specs.Templates.{begin_compare, by_difference, call_by, call_routine, compare_by, decide, endless, equal_routine, function_code, go_back, go_to, if_go_to, join, load, load_again, order_routine, pop_at, pop_d, pop_first, pop_word, push_at, push_constant, push_d, push_first, push_word, put_d, put_result, restore, restore_lcl, return_code, routine_code, routine_size, save, save_return, set_pointers, size, start_code, template, turn};
+ghost use Rattle.vm_templates.specs.Templates.{begin_compare, by_difference, call_by, call_routine, compare_by, decide, endless, equal_routine, function_code, go_back, go_to, if_go_to, join, load, load_again, operation_code, operation_words, order_routine, pop_at, pop_d, pop_first, pop_word, push_at, push_constant, push_d, push_first, push_word, put_d, put_result, restore, restore_lcl, return_code, routine_code, routine_size, save, save_return, set_pointers, size, start_code, template, turn};
 ghost use Rattle.vm_translator.specs.Tables.{IsInLimit};
 
 use hack_isa::Instr;
@@ -14,6 +14,7 @@ use vm_templates::instructions::{
     MD_IS_M_PLUS_1,
 };
 use vm_templates::{ENDLESS_LOOP, Routine, Routines, Shape};
+use vm_tree::Operation;
 
 /// Adds instructions.
 pub fn put(out: &mut Vec<Instr>, block: &[Instr]) -> Result<(), AllocError>
@@ -424,6 +425,31 @@ pub fn routine_code(out: &mut Vec<Instr>, routine: Routine, at: u16) -> Result<(
     }
 }
 
+// Adds the instructions of an operation that stands at this address.
+fn operate(
+    out: &mut Vec<Instr>,
+    at: Routines,
+    here: u16,
+    operation: Operation,
+) -> Result<(), AllocError>
+    requires { here + operation_words operation ≤ 32768 }
+    ensures { OnOk result (out.new.items ≡ out.old.items ++ operation_code at here operation) }
+{
+    match operation {
+        Operation::Add => join(out, M_IS_D_PLUS_M),
+        Operation::Sub => join(out, M_IS_M_MINUS_D),
+        Operation::And => join(out, M_IS_D_AND_M),
+        Operation::Or => join(out, M_IS_D_OR_M),
+        Operation::Neg => turn(out, M_IS_MINUS_M),
+        Operation::Not => turn(out, M_IS_NOT_M),
+        Operation::ShiftLeft => turn(out, M_IS_M_SHIFTED_LEFT),
+        Operation::ShiftRight => turn(out, M_IS_M_SHIFTED_RIGHT),
+        Operation::Eq => compare_by(out, at.equal, (here + 4) % 32768),
+        Operation::Gt => compare_by(out, at.greater, (here + 4) % 32768),
+        Operation::Lt => compare_by(out, at.less, (here + 4) % 32768),
+    }
+}
+
 /// Adds the instructions of a step that stands at this address.
 pub fn template(
     out: &mut Vec<Instr>,
@@ -443,17 +469,7 @@ pub fn template(
         Shape::PopAt { base, index } => pop_at(out, base, index),
         Shape::PopFirst { base } => pop_first(out, base),
         Shape::PopWord(address) => pop_word(out, address),
-        Shape::Add => join(out, M_IS_D_PLUS_M),
-        Shape::Sub => join(out, M_IS_M_MINUS_D),
-        Shape::And => join(out, M_IS_D_AND_M),
-        Shape::Or => join(out, M_IS_D_OR_M),
-        Shape::Neg => turn(out, M_IS_MINUS_M),
-        Shape::Not => turn(out, M_IS_NOT_M),
-        Shape::ShiftLeft => turn(out, M_IS_M_SHIFTED_LEFT),
-        Shape::ShiftRight => turn(out, M_IS_M_SHIFTED_RIGHT),
-        Shape::Eq => compare_by(out, at.equal, (here + 4) % 32768),
-        Shape::Gt => compare_by(out, at.greater, (here + 4) % 32768),
-        Shape::Lt => compare_by(out, at.less, (here + 4) % 32768),
+        Shape::Operate(operation) => operate(out, at, here, operation),
         Shape::Goto(target) => go_to(out, target),
         Shape::IfGoto(target) => if_go_to(out, target),
         Shape::Call { target, arguments } => {

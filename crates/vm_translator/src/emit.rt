@@ -26,7 +26,8 @@ fn add_step(
     placed: &Placed,
 ) -> Result<(), AllocError>
     requires { placed.now.at + step_size placed.now.code.step ≤ 32768 }
-    ensures { OnOk result ((base : ℕ) (fs : List LinkedFunction) → IsLayout base fs layout.now → IsReady fs placed.now → out.new.items ≡ out.old.items ++ piece at base fs placed.now) }
+    ensures { OnOk result ((base : ℕ) (fs : List LinkedFunction) → IsLayout base fs layout.now
+        → IsReady fs placed.now → out.new.items ≡ out.old.items ++ piece at base fs placed.now) }
 {
     let to = layout.target(placed.function, placed.code.step);
     let shape = shape_of(to, placed.code.step);
@@ -41,7 +42,8 @@ fn add_steps(
 ) -> Result<(), AllocError>
     requires layout { IsLayout (base_of linked.now) linked.now.functions layout.now }
     requires ready { All (IsReady linked.now.functions) layout.now.placed.items }
-    ensures { OnOk result (out.new.items ≡ out.old.items ++ flat_map (piece at (base_of linked.now) linked.now.functions) layout.now.placed.items) }
+    ensures { OnOk result (out.new.items ≡ out.old.items
+        ++ flat_map (piece at (base_of linked.now) linked.now.functions) layout.now.placed.items) }
 {
     for placed in &layout.placed {
         add_step(out, at, layout, placed)?;

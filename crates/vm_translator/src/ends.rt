@@ -128,7 +128,8 @@ pub fn start_of(linked: &Linked) -> usize
 // Whether the start code, where there is one, calls a function at the end of the code.
 fn start_names_end(linked: &Linked, filled: usize) -> bool
     requires { filled ≤ length linked.now.functions }
-    ensures { result ≡ (not linked.now.bare && is_end filled linked.now.functions (unwrap_or linked.now.start 0) 0) }
+    ensures { result ≡ (not linked.now.bare
+        && is_end filled linked.now.functions (unwrap_or linked.now.start 0) 0) }
 {
     !linked.bare && is_end(linked.functions.as_slice(), filled, start_of(linked), 0)
 }

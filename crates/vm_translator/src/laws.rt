@@ -24,8 +24,10 @@ pub fn steps_carry_law()
 /// from there to the end.
 #[tactic(auto, using(crate::proofs::Covered::covers))]
 pub fn translated_law()
-    ensures does { (l : Linked) → IsSound l → IsUniform l → l.bare ≡ false → length (image_of l) ≤ image_words
-        → IsTranslated l (map word_of (image_of l)) (map_of (commits_of l) (points_of l)) endless_loop }
+    ensures does { (l : Linked) → IsSound l → IsUniform l → l.bare ≡ false
+        → length (image_of l) ≤ image_words
+        → IsTranslated l (map word_of (image_of l))
+        (map_of (commits_of l) (points_of l)) endless_loop }
     ensures covers { (l : Linked) → Covers 0 (points_of l) (shared_at l) }
     ensures shared_covers { (l : Linked)
         → CoversShared (shared_at l) (shared_ranges l) (length (image_of l)) }

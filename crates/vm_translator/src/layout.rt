@@ -35,7 +35,8 @@ fn place_code(
     from: u16,
 ) -> Result<u16, AllocError>
     requires { from + words_of code.now ≤ 32768 }
-    ensures placed { OnOk result (placed.new.items ≡ placed.old.items ++ placed_code function sub from code.now) }
+    ensures placed { OnOk result
+        (placed.new.items ≡ placed.old.items ++ placed_code function sub from code.now) }
     ensures end { IfOk result (λ at. at ≡ from + words_of code.now) }
 {
     let mut at = from;
@@ -92,7 +93,8 @@ impl Layout {
 
     // The address of the step at a place among all steps, or that of the end.
     fn at(&self, index: usize) -> u16
-        ensures { result ≡ unwrap_or (option_map (λ c. c.at) (slice_get self.now.placed.items index)) self.now.end }
+        ensures { result ≡ unwrap_or
+            (option_map (λ c. c.at) (slice_get self.now.placed.items index)) self.now.end }
     {
         match self.placed.get(index) {
             Some(placed) => placed.at,
@@ -102,7 +104,9 @@ impl Layout {
 
     /// The address of a place in a function.
     pub fn address(&self, function: usize, place: usize) -> u16
-        ensures { (base : ℕ) (fs : List LinkedFunction) → IsLayout base fs self.now → function < length fs → place ≤ length (code_at fs function) → result ≡ address base fs function place }
+        ensures { (base : ℕ) (fs : List LinkedFunction) → IsLayout base fs self.now
+            → function < length fs → place ≤ length (code_at fs function)
+            → result ≡ address base fs function place }
     {
         let first = self.first(function);
         self.at(first.saturating_add(place))
@@ -110,7 +114,8 @@ impl Layout {
 
     /// Where a step of a function leads; 0 where it leads nowhere.
     pub fn target(&self, function: usize, step: Step) -> u16
-        ensures { (base : ℕ) (fs : List LinkedFunction) → IsLayout base fs self.now → LeadsWithin fs function step → result ≡ target_of base fs function step }
+        ensures { (base : ℕ) (fs : List LinkedFunction) → IsLayout base fs self.now
+            → LeadsWithin fs function step → result ≡ target_of base fs function step }
     {
         match step {
             Step::Goto(place) | Step::IfGoto(place) => self.address(function, place),

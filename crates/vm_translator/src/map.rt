@@ -70,7 +70,8 @@ fn add_shared_commits(
 // Those of the start code and of the steps' own instructions.
 fn own_commits(alloc: Global, linked: &Linked, layout: &Layout) -> Result<Vec<u16>, AllocError>
     requires { All (IsReady linked.now.functions) layout.now.placed.items }
-    ensures { IfOk result (λ v. v.items ≡ start_commits linked.now ++ filter_map commit_of layout.now.placed.items) }
+    ensures { IfOk result
+        (λ v. v.items ≡ start_commits linked.now ++ filter_map commit_of layout.now.placed.items) }
 {
     let mut commits = start_commits(alloc, linked)?;
     for placed in &layout.placed {
@@ -131,7 +132,10 @@ fn range_of(placed: &Placed) -> PointRange
 }
 
 fn start_points(alloc: Global, bare: bool) -> Result<Vec<PointRange>, AllocError>
-    ensures { IfOk result (λ v. v.items ≡ (if bare then [] else record { from = 0; to = endless_loop; point = record { sub = 0; number = 1 } } ∷ record { from = endless_loop; to = start_size; point = record { sub = 0; number = 2 } } ∷ [])) }
+    ensures { IfOk result (λ v. v.items ≡ (if bare
+        then [] else record { from = 0; to = endless_loop; point = record { sub = 0; number = 1 } }
+        ∷ record { from = endless_loop; to = start_size; point = record { sub = 0; number = 2 } }
+        ∷ [])) }
 {
     let mut points = Vec::new(alloc);
     if !bare {

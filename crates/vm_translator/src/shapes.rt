@@ -1,9 +1,9 @@
 //! The shapes of steps, and their sizes.
 ghost use Rattle.std.specs.Prelude.{◌≡◌, ◌<◌, ◌≤◌};
-ghost use Rattle.vm_templates.specs.Templates.{size};
+ghost use Rattle.vm_templates.specs.Templates.{compared_by, size};
 ghost use Rattle.vm_link.specs.Uniform.{is_shared};
-ghost use Rattle.vm_translator.specs.Shared.{compared_by, routine_for};
-ghost use Rattle.vm_translator.specs.Shapes.{named_index, operation_shape, push_from, pop_to, push_shape, pop_shape, shape_of, step_size};
+ghost use Rattle.vm_translator.specs.Shared.{routine_for};
+ghost use Rattle.vm_translator.specs.Shapes.{named_index, push_from, pop_to, push_shape, pop_shape, shape_of, step_size};
 
 use vm_link::Step;
 use vm_templates::{Routine, Shape};
@@ -14,24 +14,6 @@ fn named(number: u16) -> u16
     ensures { result ≡ named_index number }
 {
     number.min(32767)
-}
-
-fn operated(operation: Operation) -> Shape
-    ensures { result ≡ operation_shape operation }
-{
-    match operation {
-        Operation::Add => Shape::Add,
-        Operation::Sub => Shape::Sub,
-        Operation::Neg => Shape::Neg,
-        Operation::Eq => Shape::Eq,
-        Operation::Gt => Shape::Gt,
-        Operation::Lt => Shape::Lt,
-        Operation::And => Shape::And,
-        Operation::Or => Shape::Or,
-        Operation::Not => Shape::Not,
-        Operation::ShiftLeft => Shape::ShiftLeft,
-        Operation::ShiftRight => Shape::ShiftRight,
-    }
 }
 
 // A push from a segment that begins where the register `base` points.
@@ -97,7 +79,7 @@ pub fn shape_of(to: u16, step: Step) -> Shape
     ensures { result ≡ shape_of to step }
 {
     match step {
-        Step::Operate(operation) => operated(operation),
+        Step::Operate(operation) => Shape::Operate(operation),
         Step::Push(segment, index) => pushed(segment, index),
         Step::Pop(segment, index) => popped(segment, index),
         Step::Goto(_) => Shape::Goto(to),

@@ -23,7 +23,9 @@ fn add_statics(
     before: u64,
     words: u32,
 ) -> Result<(), AllocError>
-    ensures { OnOk result ((l : Linked) → before ≡ min (words_before l file) (2 ^ 64 - 1) → statics.new.items ≡ statics.old.items ++ map (static_word l file) (range_with_len 0 words)) }
+    ensures { OnOk result
+        ((l : Linked) → before ≡ min (words_before l file) (2 ^ 64 - 1) → statics.new.items
+        ≡ statics.old.items ++ map (static_word l file) (range_with_len 0 words)) }
 {
     for index in 0..words {
         statics.push(StaticWord {

@@ -33,10 +33,13 @@ pub fn translate(alloc: Global, linked: &Linked, bare: bool) -> Result<Coded, Co
     ensures fits { IfOk result (λ coded. length (image_of linked.now) ≤ image_words) }
     ensures well_formed { IfOk result (λ coded. All IsPlain coded.instrs) }
     ensures covers { IfOk result (λ coded. Covers 0 coded.map.points (shared_at linked.now)) }
-    ensures shared_covers { IfOk result (λ coded. CoversShared (shared_at linked.now) coded.map.shared (length coded.instrs)) }
-    ensures translated { linked.now.bare ≡ false → IsUniform linked.now → IfOk result (λ coded. IsTranslated linked.now
+    ensures shared_covers { IfOk result
+        (λ coded. CoversShared (shared_at linked.now) coded.map.shared (length coded.instrs)) }
+    ensures translated { linked.now.bare ≡ false → IsUniform linked.now
+        → IfOk result (λ coded. IsTranslated linked.now
         (map word_of coded.instrs) (the_map coded.map) endless_loop) }
-    ensures too_large { IfErr result (λ e. (w : ℕ) → e ≡ CodeFault.TooLarge w → IsTooLarge linked.now w) }
+    ensures too_large { IfErr result
+        (λ e. (w : ℕ) → e ≡ CodeFault.TooLarge w → IsTooLarge linked.now w) }
 {
     let used = used(alloc, linked)?;
     let closing = closing_of(linked, &used);

@@ -44,7 +44,9 @@ fn segment_text(segment: Segment) -> &'static str
 // Two words and a number, with the end of the line.
 fn put_with_number<S: Sink>(first: &[u8], second: &str, number: u16, out: &mut Pieces<'_, S>) -> Put
     ensures same_sink { HaveSameSink out.old out.new }
-    ensures passes { Passes (S.written (sink_of out.old)) (pending out.old) (S.written (sink_of out.new)) (pending out.new) (with_number first.now second.now number) result }
+    ensures passes { Passes (S.written (sink_of out.old))
+        (pending out.old) (S.written (sink_of out.new)) (pending out.new)
+        (with_number first.now second.now number) result }
     ensures counts { CountsPut (S.faults (sink_of out.old)) (S.faults (sink_of out.new)) result }
 {
     let mut digits = Buffer::new();
@@ -60,7 +62,9 @@ fn put_with_number<S: Sink>(first: &[u8], second: &str, number: u16, out: &mut P
 // A word after another, with the end of the line.
 fn put_word<S: Sink>(first: &[u8], second: &str, out: &mut Pieces<'_, S>) -> Put
     ensures same_sink { HaveSameSink out.old out.new }
-    ensures passes { Passes (S.written (sink_of out.old)) (pending out.old) (S.written (sink_of out.new)) (pending out.new) (first.now ++ (second.now ++ 10 ∷ [])) result }
+    ensures passes { Passes (S.written (sink_of out.old))
+        (pending out.old) (S.written (sink_of out.new)) (pending out.new)
+        (first.now ++ (second.now ++ 10 ∷ [])) result }
     ensures counts { CountsPut (S.faults (sink_of out.old)) (S.faults (sink_of out.new)) result }
 {
     out.put_all(&[first, second.as_bytes(), b"\n"])
@@ -68,7 +72,8 @@ fn put_word<S: Sink>(first: &[u8], second: &str, out: &mut Pieces<'_, S>) -> Put
 
 fn put_command<S: Sink>(command: &Command, out: &mut Pieces<'_, S>) -> Put
     ensures same_sink { HaveSameSink out.old out.new }
-    ensures passes { Passes (S.written (sink_of out.old)) (pending out.old) (S.written (sink_of out.new)) (pending out.new) (command_text command.now) result }
+    ensures passes { Passes (S.written (sink_of out.old)) (pending out.old)
+        (S.written (sink_of out.new)) (pending out.new) (command_text command.now) result }
     ensures counts { CountsPut (S.faults (sink_of out.old)) (S.faults (sink_of out.new)) result }
 {
     match command {
@@ -95,7 +100,8 @@ fn put_command<S: Sink>(command: &Command, out: &mut Pieces<'_, S>) -> Put
 
 fn put_line<S: Sink>(line: &Line, out: &mut Pieces<'_, S>) -> Put
     ensures same_sink { HaveSameSink out.old out.new }
-    ensures passes { Passes (S.written (sink_of out.old)) (pending out.old) (S.written (sink_of out.new)) (pending out.new) (command_text line.now.command) result }
+    ensures passes { Passes (S.written (sink_of out.old)) (pending out.old)
+        (S.written (sink_of out.new)) (pending out.new) (command_text line.now.command) result }
     ensures counts { CountsPut (S.faults (sink_of out.old)) (S.faults (sink_of out.new)) result }
 {
     put_command(&line.command, out)
@@ -103,7 +109,8 @@ fn put_line<S: Sink>(line: &Line, out: &mut Pieces<'_, S>) -> Put
 
 fn put_lines<S: Sink>(lines: &[Line], out: &mut Pieces<'_, S>) -> Put
     ensures same_sink { HaveSameSink out.old out.new }
-    ensures passes { Passes (S.written (sink_of out.old)) (pending out.old) (S.written (sink_of out.new)) (pending out.new) (lines_text lines.now) result }
+    ensures passes { Passes (S.written (sink_of out.old)) (pending out.old)
+        (S.written (sink_of out.new)) (pending out.new) (lines_text lines.now) result }
     ensures counts { CountsPut (S.faults (sink_of out.old)) (S.faults (sink_of out.new)) result }
 {
     for line in lines {
@@ -117,7 +124,8 @@ fn put_lines<S: Sink>(lines: &[Line], out: &mut Pieces<'_, S>) -> Put
 
 fn put_function<S: Sink>(function: &Function, out: &mut Pieces<'_, S>) -> Put
     ensures same_sink { HaveSameSink out.old out.new }
-    ensures passes { Passes (S.written (sink_of out.old)) (pending out.old) (S.written (sink_of out.new)) (pending out.new) (function_text function.now) result }
+    ensures passes { Passes (S.written (sink_of out.old)) (pending out.old)
+        (S.written (sink_of out.new)) (pending out.new) (function_text function.now) result }
     ensures counts { CountsPut (S.faults (sink_of out.old)) (S.faults (sink_of out.new)) result }
 {
     match put_with_number(b"function ", function.name.as_str(), function.locals, out) {
@@ -128,7 +136,8 @@ fn put_function<S: Sink>(function: &Function, out: &mut Pieces<'_, S>) -> Put
 
 fn put_functions<S: Sink>(functions: &[Function], out: &mut Pieces<'_, S>) -> Put
     ensures same_sink { HaveSameSink out.old out.new }
-    ensures passes { Passes (S.written (sink_of out.old)) (pending out.old) (S.written (sink_of out.new)) (pending out.new) (functions_text functions.now) result }
+    ensures passes { Passes (S.written (sink_of out.old)) (pending out.old)
+        (S.written (sink_of out.new)) (pending out.new) (functions_text functions.now) result }
     ensures counts { CountsPut (S.faults (sink_of out.old)) (S.faults (sink_of out.new)) result }
 {
     for function in functions {
@@ -142,7 +151,8 @@ fn put_functions<S: Sink>(functions: &[Function], out: &mut Pieces<'_, S>) -> Pu
 
 fn put_file<S: Sink>(file: &File, out: &mut Pieces<'_, S>) -> Put
     ensures same_sink { HaveSameSink out.old out.new }
-    ensures passes { Passes (S.written (sink_of out.old)) (pending out.old) (S.written (sink_of out.new)) (pending out.new) (file_text file.now) result }
+    ensures passes { Passes (S.written (sink_of out.old)) (pending out.old)
+        (S.written (sink_of out.new)) (pending out.new) (file_text file.now) result }
     ensures counts { CountsPut (S.faults (sink_of out.old)) (S.faults (sink_of out.new)) result }
 {
     match put_lines(file.opening.as_slice(), out) {
@@ -153,7 +163,8 @@ fn put_file<S: Sink>(file: &File, out: &mut Pieces<'_, S>) -> Put
 
 fn put_files<S: Sink>(files: &[File], out: &mut Pieces<'_, S>) -> Put
     ensures same_sink { HaveSameSink out.old out.new }
-    ensures passes { Passes (S.written (sink_of out.old)) (pending out.old) (S.written (sink_of out.new)) (pending out.new) (program_text files.now) result }
+    ensures passes { Passes (S.written (sink_of out.old)) (pending out.old)
+        (S.written (sink_of out.new)) (pending out.new) (program_text files.now) result }
     ensures counts { CountsPut (S.faults (sink_of out.old)) (S.faults (sink_of out.new)) result }
 {
     for file in files {
@@ -169,7 +180,8 @@ fn put_files<S: Sink>(files: &[File], out: &mut Pieces<'_, S>) -> Put
 fn put_program<S: Sink>(program: &Program, out: &mut Pieces<'_, S>) -> Put
     requires { pending out.old ≡ [] }
     ensures same_sink { HaveSameSink out.old out.new }
-    ensures put { Puts (S.written (sink_of out.old)) (S.written (sink_of out.new)) (program_text program.now) result }
+    ensures put { Puts (S.written (sink_of out.old)) (S.written (sink_of out.new))
+        (program_text program.now) result }
     ensures counts { CountsPut (S.faults (sink_of out.old)) (S.faults (sink_of out.new)) result }
 {
     match put_files(program.as_slice(), out) {
@@ -190,7 +202,8 @@ pub fn print<S: Sink>(program: &Program, out: &mut S) -> Put
 // The line that names a file.
 fn put_file_line<S: Sink>(name: &str, out: &mut Pieces<'_, S>) -> Put
     ensures same_sink { HaveSameSink out.old out.new }
-    ensures passes { Passes (S.written (sink_of out.old)) (pending out.old) (S.written (sink_of out.new)) (pending out.new) (file_line name.now) result }
+    ensures passes { Passes (S.written (sink_of out.old)) (pending out.old)
+        (S.written (sink_of out.new)) (pending out.new) (file_line name.now) result }
     ensures counts { CountsPut (S.faults (sink_of out.old)) (S.faults (sink_of out.new)) result }
 {
     out.put_all(&[b"// file ", name.as_bytes(), b".vm\n"])
@@ -199,7 +212,8 @@ fn put_file_line<S: Sink>(name: &str, out: &mut Pieces<'_, S>) -> Put
 // A file after its line.
 fn put_named<S: Sink>(file: &File, out: &mut Pieces<'_, S>) -> Put
     ensures same_sink { HaveSameSink out.old out.new }
-    ensures passes { Passes (S.written (sink_of out.old)) (pending out.old) (S.written (sink_of out.new)) (pending out.new) (named_text file.now) result }
+    ensures passes { Passes (S.written (sink_of out.old)) (pending out.old)
+        (S.written (sink_of out.new)) (pending out.new) (named_text file.now) result }
     ensures counts { CountsPut (S.faults (sink_of out.old)) (S.faults (sink_of out.new)) result }
 {
     match put_file_line(file.name.as_str(), out) {
@@ -210,7 +224,8 @@ fn put_named<S: Sink>(file: &File, out: &mut Pieces<'_, S>) -> Put
 
 fn put_all_named<S: Sink>(files: &[File], out: &mut Pieces<'_, S>) -> Put
     ensures same_sink { HaveSameSink out.old out.new }
-    ensures passes { Passes (S.written (sink_of out.old)) (pending out.old) (S.written (sink_of out.new)) (pending out.new) (files_text files.now) result }
+    ensures passes { Passes (S.written (sink_of out.old)) (pending out.old)
+        (S.written (sink_of out.new)) (pending out.new) (files_text files.now) result }
     ensures counts { CountsPut (S.faults (sink_of out.old)) (S.faults (sink_of out.new)) result }
 {
     for file in files {
@@ -226,8 +241,10 @@ fn put_all_named<S: Sink>(files: &[File], out: &mut Pieces<'_, S>) -> Put
 fn put_listing<S: Sink>(files: &[File], pieces: &mut Pieces<'_, S>) -> Put
     requires { pending pieces.old ≡ [] }
     ensures same_sink { HaveSameSink pieces.old pieces.new }
-    ensures put { Puts (S.written (sink_of pieces.old)) (S.written (sink_of pieces.new)) (files_text files.now) result }
-    ensures counts { CountsPut (S.faults (sink_of pieces.old)) (S.faults (sink_of pieces.new)) result }
+    ensures put { Puts (S.written (sink_of pieces.old)) (S.written (sink_of pieces.new))
+        (files_text files.now) result }
+    ensures counts { CountsPut (S.faults (sink_of pieces.old))
+        (S.faults (sink_of pieces.new)) result }
 {
     match put_all_named(files, pieces) {
         Put::Done => pieces.finish(),

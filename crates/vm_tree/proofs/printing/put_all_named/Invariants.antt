@@ -1,6 +1,6 @@
 use Rattle.std.proofs.Common.{◌≡◌, drop, take}
 use Rattle.vm_tree.specs.Printed.{files_text}
-use Rattle.vm_tree.proofs.Prints.{Prints}
+use Rattle.outer_world.proofs.Prints.{Prints}
 use Rattle.vm_tree.proofs.printing.put_all_named.Given as goal
 
 abbrev pub invariant-loop-file : goal.invariant-loop-file

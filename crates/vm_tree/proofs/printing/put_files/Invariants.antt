@@ -1,6 +1,6 @@
 use Rattle.std.proofs.Common.{◌≡◌, drop, take}
 use Rattle.vm_tree.specs.Printed.{program_text}
-use Rattle.vm_tree.proofs.Prints.{Prints}
+use Rattle.outer_world.proofs.Prints.{Prints}
 use Rattle.vm_tree.proofs.printing.put_files.Given as goal
 
 abbrev pub invariant-loop-file : goal.invariant-loop-file

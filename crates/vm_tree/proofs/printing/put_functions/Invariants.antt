@@ -1,6 +1,6 @@
 use Rattle.std.proofs.Common.{◌≡◌, drop, take}
 use Rattle.vm_tree.specs.Printed.{functions_text}
-use Rattle.vm_tree.proofs.Prints.{Prints}
+use Rattle.outer_world.proofs.Prints.{Prints}
 use Rattle.vm_tree.proofs.printing.put_functions.Given as goal
 
 abbrev pub invariant-loop-function : goal.invariant-loop-function

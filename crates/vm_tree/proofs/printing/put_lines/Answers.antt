@@ -1,6 +1,6 @@
 use Rattle.std.proofs.Common.{◌∙◌, ap, drop, ◌+◌}
 use Rattle.vm_tree.specs.Printed.{lines_text}
-use Rattle.vm_tree.proofs.Prints.{prints_more, prints_failed, rest_at}
+use Rattle.outer_world.proofs.Prints.{prints_more, prints_failed, rest_at}
 use Rattle.vm_tree.proofs.printing.put_lines.Goals as goal
 
 pub returns-in-Failed-clause-passes : goal.returns-in-Failed-clause-passes
