@@ -3,8 +3,8 @@ use Rattle.std.proofs.Common.{◌≡◌, ◌≢◌, ℕ, zero, suc, ◌+◌, ◌
 use Rattle.std.specs.Prelude.{not, ◌&&◌, ◌||◌, bit_and, bit_or, bit_xor, nat_lt, if◌then◌else◌}
 use Rattle.std.specs.Int.{bit_at, w16}
 use Rattle.std.proofs.lemmas.Nat.{shr-shr, and_mask, pow_pos, one_shl}
-use Rattle.std.proofs.lemmas.Nat.Bits.{bit_at_and, bit_at_or, bit_at_xor, bit_at-lt, bit_at_ones, bit_at-zero, bit_at_set_same, bit_at_set_other, bit_at_cat_high, bit_at-pow_same, bit_at-pow_other, and_pow}
-use Rattle.std.proofs.lemmas.Bool.{cases_eq, false≢true}
+use Rattle.std.proofs.lemmas.Nat.Bits.{bit_at_and, bit_at_or, bit_at_xor, bit_at-lt, bit_at_ones, bit_at-zero, bit_at_set_same, bit_at_set_other, bit_at_cat_low, bit_at_cat_high, bit_at-pow_same, bit_at-pow_other, and_pow}
+use Rattle.std.proofs.lemmas.Bool.{cases_eq, cond-true, cond-false, false≢true}
 use Rattle.word16.specs.Words.{has_bit}
 use Rattle.netlist.specs.Touched.{is_other}
 use Rattle.gate_sim.specs.Inner.Plans.{lane_mask}
@@ -76,21 +76,81 @@ has_nand a b l less = has_xor (bit_and a b) 65535 l ∙ ap (is_other (has_bit (b
     turned true = refl
     turned false = refl
 
--- the bits of `a << up >> down`, where the lowest sixteen are kept between
-pub has_moved : (a up down l : ℕ) → up ≤ l + down → l + down < 16 → has_bit (a * 2 ^ up % 2 ^ 16 / 2 ^ down) l ≡ has_bit a (l + down - up)
+-- ---- values and, above them, changes
+
+pub low : (c v l : ℕ) → l < 16 → has_bit (c * 65536 + v) l ≡ has_bit v l
+low c v l less = ap (λ x. nat_eq x 1) (bit_at_cat_low c 16 v l less)
+
+pub high : (c v l : ℕ) → v < 65536 → has_bit (c * 65536 + v) (l + 16) ≡ has_bit c l
+high c v l fits =
+    let from : 16 ≤ l + 16 = omega arith in
+    let e : l + 16 - 16 ≡ l = omega arith in
+    ap (λ x. nat_eq x 1) (bit_at_cat_high c 16 v (l + 16) fits from ∙ ap (bit_at c) e)
+
+low_half : (w l : ℕ) → l < 16 → has_bit (bit_and w 65535) l ≡ has_bit w l
+low_half w l less = has_and w 65535 l ∙ ap (λ x. has_bit w l && x) (has_all l less) ∙ on (has_bit w l)
+  where
+    on : (x : Bool) → (x && true) ≡ x
+    on true = refl
+    on false = refl
+
+high_half : (w l : ℕ) → has_bit (w / 2 ^ 16) l ≡ has_bit w (l + 16)
+high_half w l =
+    let e : 16 + l ≡ l + 16 = omega arith in
+    ap (λ x. nat_eq x 1) (ap (λ n. n % 2) (shr-shr w 16 l) ∙ ap (bit_at w) e)
+
+-- the bits of `a << up >> down`, where the lowest thirty-two are kept between
+has_moved : (a up down l : ℕ) → up ≤ l + down → l + down < 32 → has_bit (a * 2 ^ up % 2 ^ 32 / 2 ^ down) l ≡ has_bit a (l + down - up)
 has_moved a up down l le less = ap (λ x. nat_eq x 1) (lower ∙ kept ∙ higher)
   where
-    lower : bit_at (a * 2 ^ up % 2 ^ 16 / 2 ^ down) l ≡ bit_at (a * 2 ^ up % 2 ^ 16) (l + down)
-    lower = let e : down + l ≡ l + down = omega arith in ap (λ n. n % 2) (shr-shr (a * 2 ^ up % 2 ^ 16) down l ∙ ap (λ k. a * 2 ^ up % 2 ^ 16 / 2 ^ k) e)
+    lower : bit_at (a * 2 ^ up % 2 ^ 32 / 2 ^ down) l ≡ bit_at (a * 2 ^ up % 2 ^ 32) (l + down)
+    lower = let e : down + l ≡ l + down = omega arith in ap (λ n. n % 2) (shr-shr (a * 2 ^ up % 2 ^ 32) down l ∙ ap (λ k. a * 2 ^ up % 2 ^ 32 / 2 ^ k) e)
 
-    kept : bit_at (a * 2 ^ up % 2 ^ 16) (l + down) ≡ bit_at (a * 2 ^ up) (l + down)
+    kept : bit_at (a * 2 ^ up % 2 ^ 32) (l + down) ≡ bit_at (a * 2 ^ up) (l + down)
     kept =
-        let ones = bit_at_ones 16 (l + down) less in
+        let ones = bit_at_ones 32 (l + down) less in
         let below = bit_at-lt (a * 2 ^ up) (l + down) in
-        ap (λ n. bit_at n (l + down)) (sym (and_mask (a * 2 ^ up) 16)) ∙ bit_at_and (a * 2 ^ up) (2 ^ 16 - 1) (l + down) ∙ omega arith
+        ap (λ n. bit_at n (l + down)) (sym (and_mask (a * 2 ^ up) 32)) ∙ bit_at_and (a * 2 ^ up) (2 ^ 32 - 1) (l + down) ∙ omega arith
 
     higher : bit_at (a * 2 ^ up) (l + down) ≡ bit_at a (l + down - up)
     higher = let none : a * 2 ^ up ≡ a * 2 ^ up + 0 = omega arith in ap (λ n. bit_at n (l + down)) none ∙ bit_at_cat_high a up 0 (l + down) (pow_pos up) le
+
+-- the word of `moved_slot`, of what is below, what is moved and the mask
+module _ (bc bv ac av mask up down : ℕ) (fits_b : bv < 65536) (fits_a : av < 65536) (fits : mask < 65536) where
+  abbrev under : ℕ
+  under = bc * 65536 + bv
+
+  abbrev over : ℕ
+  over = (ac * 65536 + av) * 2 ^ up % 2 ^ 32 / 2 ^ down
+
+  abbrev lanes : ℕ
+  lanes = mask * 65536 + mask
+
+  abbrev word : ℕ
+  word = bit_xor under (bit_and (bit_xor under over) lanes)
+
+  pub moved_value : (l : ℕ) → l < 16 → has_bit mask l ≡ true → up ≤ l + down → l + down < 16 → has_bit (bit_and word 65535) l ≡ has_bit av (l + down - up)
+  moved_value l less on le small =
+      let wide : l + down < 32 = omega arith in
+      let inside : l + down - up < 16 = omega arith in
+      low_half word l less ∙ has_choice under over lanes l ∙ cond-true (has_bit lanes l) _ _ (low mask mask l less ∙ on)
+      ∙ has_moved (ac * 65536 + av) up down l le wide ∙ low ac av (l + down - up) inside
+
+  pub moved_change : (l : ℕ) → l < 16 → has_bit mask l ≡ true → up ≤ l + down → l + down < 16 → has_bit (word / 2 ^ 16) l ≡ has_bit ac (l + down - up)
+  moved_change l less on le small =
+      let from : up ≤ l + 16 + down = omega arith in
+      let wide : l + 16 + down < 32 = omega arith in
+      let e : l + 16 + down - up ≡ l + down - up + 16 = omega arith in
+      high_half word l ∙ has_choice under over lanes (l + 16) ∙ cond-true (has_bit lanes (l + 16)) _ _ (high mask mask l fits ∙ on)
+      ∙ has_moved (ac * 65536 + av) up down (l + 16) from wide ∙ ap (has_bit (ac * 65536 + av)) e ∙ high ac av (l + down - up) fits_a
+
+  pub kept_value : (l : ℕ) → l < 16 → has_bit mask l ≡ false → has_bit (bit_and word 65535) l ≡ has_bit bv l
+  kept_value l less off =
+      low_half word l less ∙ has_choice under over lanes l ∙ cond-false (has_bit lanes l) _ _ (low mask mask l less ∙ off) ∙ low bc bv l less
+
+  pub kept_change : (l : ℕ) → l < 16 → has_bit mask l ≡ false → has_bit (word / 2 ^ 16) l ≡ has_bit bc l
+  kept_change l less off =
+      high_half word l ∙ has_choice under over lanes (l + 16) ∙ cond-false (has_bit lanes (l + 16)) _ _ (high mask mask l fits ∙ off) ∙ high bc bv l fits_b
 
 -- one bit more: `w | 1 << l`
 pub has_set : (w l : ℕ) → l < 16 → has_bit (bit_or w (1 * 2 ^ l % 65536)) l ≡ true

@@ -73,7 +73,9 @@ impl Model for Packed {
 
     ghost view = { λ p. record { net = p.net; values = values_of p.places.items p.slots.items; start = bits_of p.places.items p.start.items; fixed = bits_of p.places.items p.fixed.items } };
 
-    ghost invariant = { λ p. PackedFits p.net p.ops.items p.lanes.items p.places.items p.takes.items p.slots.items p.start.items p.fixed.items p.readers.spans.items p.readers.list.items p.readers.always.items p.marks.items p.due.items p.is_small };
+    ghost invariant = { λ p. PackedFits p.net p.ops.items p.lanes.items p.places.items p.takes.items
+        p.slots.items p.start.items p.fixed.items p.readers.spans.items p.readers.list.items
+        p.readers.always.items p.marks.items p.due.items p.is_small };
 }
 
 fn blank_slots(alloc: Global, n: usize) -> Result<Vec<Slot>, AllocError>

@@ -241,19 +241,16 @@ fn spread(slot: Slot, at: u8) -> Slot
     }
 }
 
-// Lanes moved up and then down, where the mask has its bit, and others elsewhere.
+// The values and, above them, the changes.
 #[inline(always)]
-fn moved(below: u16, a: u16, up: u8, down: u8, mask: u16) -> u16
-    requires up { up < 16 }
-    requires down { down < 16 }
-    ensures moved { (l : ℕ) → l < 16 → has_bit mask l ≡ true → up ≤ l + down → l + down < 16
-        → has_bit result l ≡ has_bit a (l + down - up) }
-    ensures kept { (l : ℕ) → l < 16 → has_bit mask l ≡ false → has_bit result l ≡ has_bit below l }
+fn both(slot: Slot) -> u32
+    ensures word { result ≡ slot.change * 65536 + slot.value }
+    ensures fits { slot.value < 65536 }
 {
-    chosen(below, a << up >> down, mask)
+    u32::from(slot.change) * 65536 + u32::from(slot.value)
 }
 
-// The same of values and changes.
+// Lanes moved up and then down, where the mask has its bit, and others elsewhere: values and changes at once.
 #[inline(always)]
 fn moved_slot(below: Slot, a: Slot, up: u8, down: u8, mask: u16) -> Slot
     requires up { up < 16 }
@@ -265,9 +262,16 @@ fn moved_slot(below: Slot, a: Slot, up: u8, down: u8, mask: u16) -> Slot
         → (has_bit result.value l ≡ has_bit below.value l)
         × (has_bit result.change l ≡ has_bit below.change l) }
 {
+    let under = both(below);
+    let over = both(a) << up >> down;
+    let lanes = both(Slot {
+        value: mask,
+        change: mask,
+    });
+    let word = under ^ ((under ^ over) & lanes);
     Slot {
-        value: moved(below.value, a.value, up, down, mask),
-        change: moved(below.change, a.change, up, down, mask),
+        value: (word & 65535) as u16,
+        change: (word >> 16) as u16,
     }
 }
 
@@ -454,7 +458,8 @@ pub(crate) fn pass_op<L: Ledger>(
     requires words { HasWords blocks.now memory.now }
     requires placed { (k : ℕ) → k < length nodes.now
         → IsPlaced (length slots.now) lanes.now places.now k }
-    requires right { (l : ℕ) → l < 16 → IsLane nodes.now blocks.now lanes.now places.now q l op.now }
+    requires right { (l : ℕ) → l < 16
+        → IsLane nodes.now blocks.now lanes.now places.now q l op.now }
     ensures more { steps.old ≤ steps.new }
     ensures passes { PassesOp nodes.now blocks.now lanes.now places.now
         (value_in (bits_of places.now start.now)) (word_at memory.now) (value_in written.now) whole

@@ -1,5 +1,7 @@
 //! Rows: which nodes stand side by side. Nothing rests on what is found here, since a plan is checked.
 
+ghost use Rattle.std.specs.Prelude.{◌<◌};
+
 use crate::plan::NONE;
 use netlist::{Block, Node};
 use std::alloc::{AllocError, Global};
@@ -16,7 +18,8 @@ pub(crate) enum Kind {
 pub(crate) type Row = [u32; 16];
 
 /// The nodes of each row, sixteen a row, and its kind. For each node its row and its lane there, and where it is a gate its inputs.
-/// Inputs that stand side by side are the first inputs, or the second ones, of nodes that stand side by side.
+/// Inputs that stand side by side are the first inputs, or the second ones, of nodes that stand side by side. For a node that all gates of
+/// a row read it stands itself in a list.
 #[derive(Drop)]
 pub(crate) struct Rows {
     pub(crate) members: Vec<u32>,
@@ -25,6 +28,7 @@ pub(crate) struct Rows {
     pub(crate) first: Vec<u32>,
     pub(crate) second: Vec<u32>,
     wanted: Vec<u32>,
+    shared: Vec<u32>,
 }
 
 /// The number at a place of a list, and `NONE` where it has no such place.
@@ -83,6 +87,26 @@ fn is_once(row: Row, k: u32) -> bool {
     n == 1
 }
 
+// The lane in which a node stands.
+fn lane_in(row: Row, k: u32) -> usize
+    ensures { result < 16 }
+{
+    for l in 0..16usize {
+        if row[l] == k {
+            return l;
+        }
+    }
+    0
+}
+
+// How a gate reads lanes of rows: the lane of its first input, the row of its second one, and how many lanes on that one stands.
+#[derive(Clone, Copy)]
+struct Reading {
+    lane: usize,
+    row: u32,
+    on: usize,
+}
+
 /// The nodes of a list from a place on, up to sixteen.
 pub(crate) fn row_from(list: &[u32], from: usize) -> Row {
     let mut row = [NONE; 16];
@@ -138,6 +162,7 @@ impl Rows {
 
     // An input that all of them share goes second.
     fn share(&mut self, row: Row, common: u32) {
+        write(&mut self.shared, common as usize, common);
         for l in 0..16usize {
             let g = row[l] as usize;
             if read(&self.first, g) == common {
@@ -259,6 +284,77 @@ impl Rows {
         self.want_all(&taken)
     }
 
+    // How a gate reads a row, where it stands in none itself. A gate that all gates of a row read stays by itself, in all lanes.
+    fn reading(&self, r: u32, gate: u32) -> Option<Reading> {
+        let first = read(&self.first, gate as usize);
+        let second = read(&self.second, gate as usize);
+        let row = read(&self.row_of, second as usize);
+        if read(&self.row_of, first as usize) != r || row == NONE {
+            return None;
+        }
+        if read(&self.row_of, gate as usize) != NONE || read(&self.shared, gate as usize) != NONE {
+            return None;
+        }
+        let lane = lane_in(row_at(&self.members, r as usize), first);
+        let there = lane_in(row_at(&self.members, row as usize), second);
+        Some(Reading {
+            lane,
+            row,
+            on: there.wrapping_sub(lane),
+        })
+    }
+
+    // The gates of a list, from a place on, that read a row as the head does, each in the lane that it reads.
+    fn gates_like(&self, head: Reading, r: u32, lone: &[u32], from: usize) -> Row {
+        let mut row = [NONE; 16];
+        for n in from..lone.len() {
+            if let Some(found) = self.reading(r, lone[n]) {
+                let is_like = found.row == head.row && found.on == head.on;
+                if is_like && found.lane < 16 && row[found.lane] == NONE {
+                    row[found.lane] = lone[n];
+                }
+            }
+        }
+        row
+    }
+
+    // Makes rows of the gates by themselves that read row r alike, where they are four at least.
+    fn grow(&mut self, r: u32, lone: &[u32]) -> Result<(), AllocError> {
+        for n in 0..lone.len() {
+            if let Some(head) = self.reading(r, lone[n]) {
+                let row = self.gates_like(head, r, lone, n);
+                if count(row) >= 4 {
+                    self.put(row, Kind::Gates)?;
+                }
+            }
+        }
+        Ok(())
+    }
+
+    fn lone_gates(&self, alloc: Global) -> Result<Vec<u32>, AllocError> {
+        let mut lone = Vec::new(alloc);
+        for k in 0..self.row_of.len() {
+            if self.row_of[k] == NONE && read(&self.first, k) != NONE {
+                lone.push(short(k))?;
+            }
+        }
+        Ok(lone)
+    }
+
+    // Makes rows forwards of the gates by themselves that read rows. It looks at each gate for each row, so it is for small netlists alone.
+    fn grow_all(&mut self, alloc: Global) -> Result<(), AllocError> {
+        if self.row_of.len() > 4096 {
+            return Ok(());
+        }
+        let lone = self.lone_gates(alloc)?;
+        for r in 0..self.row_of.len() {
+            if r < self.kinds.len() {
+                self.grow(short(r), &lone)?;
+            }
+        }
+        Ok(())
+    }
+
     // Makes the rows that are asked for, in turn; n is the number of the nodes.
     fn work_all(&mut self, n: usize) -> Result<(), AllocError> {
         let limit = (self.wanted.len() / 16).wrapping_add(n);
@@ -334,6 +430,7 @@ fn no_rows(alloc: Global, nodes: &[Node]) -> Result<Rows, AllocError> {
     let row_of = vec![in alloc; NONE; nodes.len()]?;
     let first = gates_of(alloc, nodes, false)?;
     let second = gates_of(alloc, nodes, true)?;
+    let shared = vec![in alloc; NONE; nodes.len()]?;
     Ok(Rows {
         members: Vec::new(alloc),
         kinds: Vec::new(alloc),
@@ -341,10 +438,12 @@ fn no_rows(alloc: Global, nodes: &[Node]) -> Result<Rows, AllocError> {
         first,
         second,
         wanted: Vec::new(alloc),
+        shared,
     })
 }
 
-/// Rows of the nodes, found backwards from the flip-flops, sixteen that follow one another, and from what comes into blocks.
+/// Rows of the nodes, found backwards from the flip-flops, sixteen that follow one another, and from what comes into blocks. Then forwards
+/// from these rows.
 pub(crate) fn rows_of(alloc: Global, nodes: &[Node], blocks: &[Block]) -> Result<Rows, AllocError> {
     let mut rows = no_rows(alloc, nodes)?;
     rows.put_words(alloc, nodes, blocks)?;
@@ -352,5 +451,6 @@ pub(crate) fn rows_of(alloc: Global, nodes: &[Node], blocks: &[Block]) -> Result
     rows.put_listed(alloc, nodes, &Wish::Flips)?;
     rows.want_taken(alloc, nodes)?;
     rows.work_all(nodes.len())?;
+    rows.grow_all(alloc)?;
     Ok(rows)
 }

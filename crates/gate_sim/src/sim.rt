@@ -56,7 +56,8 @@ impl Model for Sim {
 
     ghost view = { λ sim. record { net = sim.packed.net; start = sim.packed.start; values = sim.packed.values; fixed = sim.packed.fixed; writes = sim.writes.items; memory = sim.memory.items; fresh = sim.fresh; written = sim.written.items; whole = sim.whole } };
 
-    ghost invariant = { λ sim. SimFits sim.packed.net sim.packed.start sim.packed.values sim.writes.items sim.memory.items sim.fresh sim.written.items sim.whole };
+    ghost invariant = { λ sim. SimFits sim.packed.net sim.packed.start sim.packed.values
+        sim.writes.items sim.memory.items sim.fresh sim.written.items sim.whole };
 }
 
 fn all_false(alloc: Global, n: usize) -> Result<Vec<bool>, AllocError>
@@ -76,7 +77,8 @@ fn no_writes(alloc: Global, n: usize) -> Result<Vec<Option<BlockWrite>>, AllocEr
 // The blocks that are written at a tock.
 fn mark_writes(writes: &[Option<BlockWrite>], written: &mut [bool])
     requires { length written.old ≡ length writes.now }
-    ensures { (b : ℕ) → value_in written.new b ≡ (value_in written.old b || is_some (write_at writes.now b)) }
+    ensures { (b : ℕ)
+        → value_in written.new b ≡ (value_in written.old b || is_some (write_at writes.now b)) }
 {
     for b in 0..writes.len() {
         written[b] = written[b] | writes[b].is_some();
@@ -114,9 +116,11 @@ impl Sim {
 
     /// Puts words into a block from an address on.
     pub fn load_block(&mut self, block: u32, from: u32, words: &[u16])
-        requires { MatchOption (slice_get self.old.net.blocks block) ⊥ (λ b. from + length words.now ≤ b.words) }
+        requires { MatchOption (slice_get self.old.net.blocks block) ⊥
+            (λ b. from + length words.now ≤ b.words) }
         ensures net { self.new.net ≡ self.old.net }
-        ensures stands { (calls : List Call) → StandsFor self.old calls → StandsFor self.new (Load block from words.now ∷ calls) }
+        ensures stands { (calls : List Call) → StandsFor self.old calls
+            → StandsFor self.new (Load block from words.now ∷ calls) }
     {
         put_all(&mut self.memory, block as usize, from as usize, words);
         let written = self.written[block as usize] | !words.is_empty();
@@ -128,7 +132,8 @@ impl Sim {
     pub fn set(&mut self, node: u32, bit: bool)
         requires { slice_get self.old.net.nodes node ≡ Some Pin }
         ensures net { self.new.net ≡ self.old.net }
-        ensures stands { (calls : List Call) → StandsFor self.old calls → StandsFor self.new (Set (rank self.old.net.nodes node) bit ∷ calls) }
+        ensures stands { (calls : List Call) → StandsFor self.old calls
+            → StandsFor self.new (Set (rank self.old.net.nodes node) bit ∷ calls) }
     {
         self.packed.set(node, bit);
         self.fresh = false;
@@ -140,7 +145,8 @@ impl Sim {
         ensures fresh { self.new.fresh ≡ true }
         ensures evaluated { IsEvaluated self.new }
         ensures keeps { (calls : List Call) → Keeps self.old calls → Keeps self.new calls }
-        ensures values { (calls : List Call) → Keeps self.old calls → (self.old.fresh ≡ true → IsFresh self.old calls) → IsFresh self.new calls }
+        ensures values { (calls : List Call) → Keeps self.old calls
+            → (self.old.fresh ≡ true → IsFresh self.old calls) → IsFresh self.new calls }
         ensures counted { steps.old ≤ steps.new }
         ensures few { steps.new ≤ steps.old + taken_by self.old self.new.values }
     {
@@ -156,8 +162,10 @@ impl Sim {
     // Fixes what the next tock takes.
     fn fix(&mut self)
         ensures net { self.new.net ≡ self.old.net }
-        ensures keeps { (calls : List Call) → Keeps self.old calls → IsFresh self.old calls → Keeps self.new (Tick ∷ calls) }
-        ensures values { (calls : List Call) → IsFresh self.old calls → IsFresh self.new (Tick ∷ calls) }
+        ensures keeps { (calls : List Call) → Keeps self.old calls → IsFresh self.old calls
+            → Keeps self.new (Tick ∷ calls) }
+        ensures values { (calls : List Call) → IsFresh self.old calls
+            → IsFresh self.new (Tick ∷ calls) }
         ensures evaluated { IsEvaluated self.old → IsEvaluated self.new }
     {
         self.packed.fix_writes(&mut self.writes);
@@ -171,7 +179,8 @@ impl Sim {
         ensures keeps { (calls : List Call) → Keeps self.old calls → Keeps self.new (Tock ∷ calls) }
         ensures values { self.new.values ≡ self.old.values }
         ensures whole { self.new.whole ≡ self.old.whole }
-        ensures written { (b : ℕ) → value_in self.new.written b ≡ (value_in self.old.written b || is_some (write_at self.old.writes b)) }
+        ensures written { (b : ℕ) → value_in self.new.written b
+            ≡ (value_in self.old.written b || is_some (write_at self.old.writes b)) }
     {
         store(self.packed.net().blocks(), &self.writes, &mut self.memory);
         mark_writes(&self.writes, &mut self.written);
@@ -182,7 +191,8 @@ impl Sim {
     /// Evaluates the chip.
     pub fn eval(&mut self)
         ensures net { self.new.net ≡ self.old.net }
-        ensures stands { (calls : List Call) → StandsFor self.old calls → StandsFor self.new (Eval ∷ calls) }
+        ensures stands { (calls : List Call) → StandsFor self.old calls
+            → StandsFor self.new (Eval ∷ calls) }
     {
         self.eval_uncounted::<Brand>(Blank::new(1));
     }
@@ -190,9 +200,11 @@ impl Sim {
     /// Evaluates the chip, and counts the gates and bits of words that it evaluates.
     pub fn eval_steps<L: Ledger>(&mut self, steps: &mut Steps<L>)
         ensures net { self.new.net ≡ self.old.net }
-        ensures stands { (calls : List Call) → StandsFor self.old calls → StandsFor self.new (Eval ∷ calls) }
+        ensures stands { (calls : List Call) → StandsFor self.old calls
+            → StandsFor self.new (Eval ∷ calls) }
         ensures counted { steps.old ≤ steps.new }
-        ensures few { (calls : List Call) → StandsFor self.old calls → AreFewSteps self.old.net calls Eval (steps.new - steps.old) }
+        ensures few { (calls : List Call) → StandsFor self.old calls
+            → AreFewSteps self.old.net calls Eval (steps.new - steps.old) }
     {
         self.refresh(steps);
     }
@@ -202,7 +214,8 @@ impl Sim {
         requires parts { blank.parts ≡ L.parts }
         requires some { 0 < blank.parts }
         ensures net { self.new.net ≡ self.old.net }
-        ensures stands { (calls : List Call) → StandsFor self.old calls → StandsFor self.new (Eval ∷ calls) }
+        ensures stands { (calls : List Call) → StandsFor self.old calls
+            → StandsFor self.new (Eval ∷ calls) }
     {
         let mut steps = Steps::<L>::new(blank);
         self.eval_steps(&mut steps);
@@ -211,7 +224,8 @@ impl Sim {
     /// Evaluates the chip and fixes the next states.
     pub fn tick(&mut self)
         ensures net { self.new.net ≡ self.old.net }
-        ensures stands { (calls : List Call) → StandsFor self.old calls → StandsFor self.new (Tick ∷ calls) }
+        ensures stands { (calls : List Call) → StandsFor self.old calls
+            → StandsFor self.new (Tick ∷ calls) }
     {
         self.tick_uncounted::<Brand>(Blank::new(1));
     }
@@ -219,9 +233,11 @@ impl Sim {
     /// Evaluates the chip and fixes the next states, and counts the gates and bits of words that it evaluates.
     pub fn tick_steps<L: Ledger>(&mut self, steps: &mut Steps<L>)
         ensures net { self.new.net ≡ self.old.net }
-        ensures stands { (calls : List Call) → StandsFor self.old calls → StandsFor self.new (Tick ∷ calls) }
+        ensures stands { (calls : List Call) → StandsFor self.old calls
+            → StandsFor self.new (Tick ∷ calls) }
         ensures counted { steps.old ≤ steps.new }
-        ensures few { (calls : List Call) → StandsFor self.old calls → AreFewSteps self.old.net calls Tick (steps.new - steps.old) }
+        ensures few { (calls : List Call) → StandsFor self.old calls
+            → AreFewSteps self.old.net calls Tick (steps.new - steps.old) }
     {
         self.refresh(steps);
         self.fix();
@@ -232,7 +248,8 @@ impl Sim {
         requires parts { blank.parts ≡ L.parts }
         requires some { 0 < blank.parts }
         ensures net { self.new.net ≡ self.old.net }
-        ensures stands { (calls : List Call) → StandsFor self.old calls → StandsFor self.new (Tick ∷ calls) }
+        ensures stands { (calls : List Call) → StandsFor self.old calls
+            → StandsFor self.new (Tick ∷ calls) }
     {
         let mut steps = Steps::<L>::new(blank);
         self.tick_steps(&mut steps);
@@ -241,7 +258,8 @@ impl Sim {
     /// Takes the states that were fixed and evaluates.
     pub fn tock(&mut self)
         ensures net { self.new.net ≡ self.old.net }
-        ensures stands { (calls : List Call) → StandsFor self.old calls → StandsFor self.new (Tock ∷ calls) }
+        ensures stands { (calls : List Call) → StandsFor self.old calls
+            → StandsFor self.new (Tock ∷ calls) }
     {
         self.tock_uncounted::<Brand>(Blank::new(1));
     }
@@ -249,9 +267,11 @@ impl Sim {
     /// Takes the states that were fixed and evaluates, and counts the gates and bits of words that it evaluates.
     pub fn tock_steps<L: Ledger>(&mut self, steps: &mut Steps<L>)
         ensures net { self.new.net ≡ self.old.net }
-        ensures stands { (calls : List Call) → StandsFor self.old calls → StandsFor self.new (Tock ∷ calls) }
+        ensures stands { (calls : List Call) → StandsFor self.old calls
+            → StandsFor self.new (Tock ∷ calls) }
         ensures counted { steps.old ≤ steps.new }
-        ensures few { (calls : List Call) → StandsFor self.old calls → AreFewSteps self.old.net calls Tock (steps.new - steps.old) }
+        ensures few { (calls : List Call) → StandsFor self.old calls
+            → AreFewSteps self.old.net calls Tock (steps.new - steps.old) }
     {
         self.take();
         self.refresh(steps);
@@ -262,7 +282,8 @@ impl Sim {
         requires parts { blank.parts ≡ L.parts }
         requires some { 0 < blank.parts }
         ensures net { self.new.net ≡ self.old.net }
-        ensures stands { (calls : List Call) → StandsFor self.old calls → StandsFor self.new (Tock ∷ calls) }
+        ensures stands { (calls : List Call) → StandsFor self.old calls
+            → StandsFor self.new (Tock ∷ calls) }
     {
         let mut steps = Steps::<L>::new(blank);
         self.tock_steps(&mut steps);
@@ -271,7 +292,8 @@ impl Sim {
     /// A tick and a tock.
     pub fn cycle(&mut self)
         ensures net { self.new.net ≡ self.old.net }
-        ensures stands { (calls : List Call) → StandsFor self.old calls → StandsFor self.new (Tock ∷ Tick ∷ calls) }
+        ensures stands { (calls : List Call) → StandsFor self.old calls
+            → StandsFor self.new (Tock ∷ Tick ∷ calls) }
     {
         self.tick();
         self.tock();
@@ -280,8 +302,11 @@ impl Sim {
     /// A tick and a tock, and counts the gates and bits of words that they evaluate.
     pub fn cycle_steps<L: Ledger>(&mut self, steps: &mut Steps<L>)
         ensures net { self.new.net ≡ self.old.net }
-        ensures stands { (calls : List Call) → StandsFor self.old calls → StandsFor self.new (Tock ∷ Tick ∷ calls) }
-        ensures few { (calls : List Call) → StandsFor self.old calls → (a : ℕ) × (b : ℕ) × (steps.new ≡ steps.old + (a + b)) × AreFewSteps self.old.net calls Tick a × AreFewSteps self.old.net (Tick ∷ calls) Tock b }
+        ensures stands { (calls : List Call) → StandsFor self.old calls
+            → StandsFor self.new (Tock ∷ Tick ∷ calls) }
+        ensures few { (calls : List Call) → StandsFor self.old calls → (a : ℕ)
+            × (b : ℕ) × (steps.new ≡ steps.old + (a + b)) × AreFewSteps self.old.net calls Tick a
+            × AreFewSteps self.old.net (Tick ∷ calls) Tock b }
     {
         self.tick_steps(steps);
         self.tock_steps(steps);
@@ -291,7 +316,9 @@ impl Sim {
     pub fn get(&self, node: u32) -> bool
         requires { node < length self.now.net.nodes }
         ensures stored { result ≡ value_in self.now.values node }
-        ensures told { (calls earlier : List Call) (v : ℕ → ℕ → Bool) → StandsFor self.now calls → evaluated_calls calls ≡ Some earlier → AreValues self.now.net earlier v → result ≡ v node (cycle_of earlier) }
+        ensures told { (calls earlier : List Call) (v : ℕ → ℕ → Bool) → StandsFor self.now calls
+            → evaluated_calls calls ≡ Some earlier → AreValues self.now.net earlier v
+            → result ≡ v node (cycle_of earlier) }
     {
         self.packed.value(node)
     }
@@ -300,7 +327,9 @@ impl Sim {
     pub fn block_word(&self, block: u32, a: u32) -> u16
         requires { MatchOption (slice_get self.now.net.blocks block) ⊥ (λ b. a < b.words) }
         ensures stored { result ≡ word_at self.now.memory block a }
-        ensures told { (calls : List Call) (v : ℕ → ℕ → Bool) → StandsFor self.now calls → ArePast self.now.net calls (cycle_of calls) v → result ≡ words_of self.now.net.blocks v calls block a }
+        ensures told { (calls : List Call) (v : ℕ → ℕ → Bool)
+            → StandsFor self.now calls → ArePast self.now.net calls (cycle_of calls) v
+            → result ≡ words_of self.now.net.blocks v calls block a }
     {
         self.memory[block as usize][a as usize]
     }
