@@ -84,14 +84,14 @@ module _ (chips : Chips) (entry : Entry) where
   body_fine None h = none_told (body_fault entry) (and_left body_clean parts_clean (and_right pins_clean (body_clean && parts_clean) h))
   body_fine (Some e) h = refl
 
-  part_by : (i : ℕ) (part : Part) (o : Option End) → end_of chips.blocks entry ≡ o → elim o [ None ↦ text_is_clean chips entry | Some e ↦ true ] ≡ true → slice_get (parts_of chips entry) i ≡ Some part → part_is_clean chips entry i (Some part) ≡ true
+  part_by : (i : ℕ) (part : Part) (o : Option End) → end_of chips.memories entry ≡ o → elim o [ None ↦ text_is_clean chips entry | Some e ↦ true ] ≡ true → slice_get (parts_of chips entry) i ≡ Some part → part_is_clean chips entry i (Some part) ≡ true
   part_by i part None q h e =
       let parts = and_right body_clean parts_clean (and_right pins_clean (body_clean && parts_clean) h) in
       sym (ap (part_is_clean chips entry i) e) ∙ all_told (length (parts_of chips entry)) (λ l. part_is_clean chips entry l (slice_get (parts_of chips entry) l)) parts i (slice_get_within (parts_of chips entry) i part e)
   part_by i part (Some end) q h e = let none : slice_get [] i ≡ Some part = ap (λ (x : Option End). slice_get (parts_unless x (parts_of_body entry.chip.body)) i) (sym q) ∙ e in absurd cc
 
   part_fine : (i : ℕ) (part : Part) → is_clean chips entry ≡ true → slice_get (parts_of chips entry) i ≡ Some part → part_is_clean chips entry i (Some part) ≡ true
-  part_fine i part h e = part_by i part (end_of chips.blocks entry) refl h e
+  part_fine i part h e = part_by i part (end_of chips.memories entry) refl h e
 
   -- the chip of a part is there, and stands before
   pub record Earlier (part : Part) : Type 0 where
@@ -149,8 +149,8 @@ module _ (chips : Chips) (clean : AreClean chips) where
       ap (at_inner (λ inner. fault_at chips (inner.name ∷ outer) inner s)) p.found ∙ go (p.inner.name ∷ outer) r.place p.inner r.there (extend p.inner.name outer (place_of chips.entries entry.name) apart (omega (arith, p.before)))
 
   no_fault : (s : Location) (outer : List (List ℕ)) (k : ℕ) (entry : Entry) → slice_get chips.entries k ≡ Some entry → Apart outer (place_of chips.entries entry.name) → fault_at chips outer entry s ≡ None
-  no_fault (AtPin l) outer k entry at apart = pin_fine chips entry l (end_of chips.blocks entry) (clean k entry at)
-  no_fault AtBody outer k entry at apart = body_fine chips entry (end_of chips.blocks entry) (clean k entry at)
+  no_fault (AtPin l) outer k entry at apart = pin_fine chips entry l (end_of chips.memories entry) (clean k entry at)
+  no_fault AtBody outer k entry at apart = body_fine chips entry (end_of chips.memories entry) (clean k entry at)
   no_fault (AtPart i) outer k entry at apart = part_none outer entry i (slice_get (parts_of chips entry) i) (clean k entry at) apart refl
   no_fault (Inside i s) outer k entry at apart = inside_by outer entry i s (slice_get (parts_of chips entry) i) (clean k entry at) apart refl (no_fault s)
   no_fault (AtConnection i j) outer k entry at apart = connection_fine chips entry i j (slice_get (parts_of chips entry) i) (clean k entry at) refl

@@ -28,7 +28,7 @@ use Rattle.hdl_behaviours.proofs.Sweeps.{stable}
 
 record SoundHere (chips : Chips) (chip : Entry) : Type 0 where
   plan : IsPlan chips chip (plan_of chips chip)
-  fits : EndFits chip (end_of chips.blocks chip)
+  fits : EndFits chip (end_of chips.memories chip)
 
 sound_at : (d : ℕ) (chips : Chips) (top : Entry) (path : List ℕ) (chip : Entry) → IsSound d chips (plan_of chips) top → chip_at chips top path ≡ Some chip → SoundHere chips chip
 sound_at zero chips top path chip s at = absurd s
@@ -88,18 +88,18 @@ module _ (chips : Chips) (top : Entry) (d : ℕ) (sound : IsSound d chips (plan_
   input_of r i chip inner name bit c at found way =
       is_supplied (i ∷ r) name bit c
       ∙ ap (λ (o : Option Entry). gives c (i ∷ r) (supply_in chips top (coming c) (i ∷ r) name bit o)) (chip_below chips (backwards r) top chip inner i at found)
-      ∙ ap (λ (b : Bool). gives c (i ∷ r) (if b then outside chips top (coming c) (i ∷ r) name bit else inside chips (i ∷ r) name bit inner (end_of chips.blocks inner))) way
+      ∙ ap (λ (b : Bool). gives c (i ∷ r) (if b then outside chips top (coming c) (i ∷ r) name bit else inside chips (i ∷ r) name bit inner (end_of chips.memories inner))) way
       ∙ ap (λ (o : Option Entry). gives c (i ∷ r) (by_parent chips r i name bit o)) at
 
-  own_of : (r : List ℕ) (chip : Entry) (name : List ℕ) (bit c : ℕ) → chip_at chips top (backwards r) ≡ Some chip → is_input chip name ≡ false → value r name bit c ≡ gives c r (inside chips r name bit chip (end_of chips.blocks chip))
+  own_of : (r : List ℕ) (chip : Entry) (name : List ℕ) (bit c : ℕ) → chip_at chips top (backwards r) ≡ Some chip → is_input chip name ≡ false → value r name bit c ≡ gives c r (inside chips r name bit chip (end_of chips.memories chip))
   own_of r chip name bit c at way =
       is_supplied r name bit c
       ∙ ap (λ (o : Option Entry). gives c r (supply_in chips top (coming c) r name bit o)) at
-      ∙ ap (λ (b : Bool). gives c r (if b then outside chips top (coming c) r name bit else inside chips r name bit chip (end_of chips.blocks chip))) way
+      ∙ ap (λ (b : Bool). gives c r (if b then outside chips top (coming c) r name bit else inside chips r name bit chip (end_of chips.memories chip))) way
 
   -- ---- parts
 
-  module _ (r : List ℕ) (chip : Entry) (c : ℕ) (at : chip_at chips top (backwards r) ≡ Some chip) (plan : IsPlan chips chip (plan_of chips chip)) (no_end : end_of chips.blocks chip ≡ None) where
+  module _ (r : List ℕ) (chip : Entry) (c : ℕ) (at : chip_at chips top (backwards r) ≡ Some chip) (plan : IsPlan chips chip (plan_of chips chip)) (no_end : end_of chips.memories chip ≡ None) where
     abbrev around : Wires Bool
     around name bit = value r name bit c
 
@@ -145,7 +145,7 @@ module _ (chips : Chips) (top : Entry) (d : ℕ) (sound : IsSound d chips (plan_
 
   -- ---- ends
 
-  out_is : (r : List ℕ) (chip : Entry) (e : End) (bit c : ℕ) → chip_at chips top (backwards r) ≡ Some chip → end_of chips.blocks chip ≡ Some e → is_input chip (codes "out") ≡ false → value r (codes "out") bit c ≡ end_bit world c (past_of c r) e (λ name k. value r name k c) bit
+  out_is : (r : List ℕ) (chip : Entry) (e : End) (bit c : ℕ) → chip_at chips top (backwards r) ≡ Some chip → end_of chips.memories chip ≡ Some e → is_input chip (codes "out") ≡ false → value r (codes "out") bit c ≡ end_bit world c (past_of c r) e (λ name k. value r name k c) bit
   out_is r chip e bit c at is way = own_of r chip (codes "out") bit c at way ∙ ap (λ (o : Option End). gives c r (inside chips r (codes "out") bit chip o)) is
 
   before_is : (r name : List ℕ) (bit c : ℕ) → before false c (past_of c r name bit) ≡ before false c (value r name bit)
@@ -155,7 +155,7 @@ module _ (chips : Chips) (top : Entry) (d : ℕ) (sound : IsSound d chips (plan_
   spelled : (r : List ℕ) (c word : ℕ) → word < 65536 → ((k : ℕ) → value r (codes "out") k c ≡ has_bit word k) → number 16 (λ k. value r (codes "out") k c) ≡ word
   spelled r c word lt h = number_same 16 (λ k. value r (codes "out") k c) (has_bit word) (λ k less. h k) ∙ number_word word lt
 
-  works : (r : List ℕ) (chip : Entry) (c : ℕ) (e : End) → chip_at chips top (backwards r) ≡ Some chip → end_of chips.blocks chip ≡ Some e → EndFits chip (Some e) → EndWorks world c e (value r)
+  works : (r : List ℕ) (chip : Entry) (c : ℕ) (e : End) → chip_at chips top (backwards r) ≡ Some chip → end_of chips.memories chip ≡ Some e → EndFits chip (Some e) → EndWorks world c e (value r)
   works r chip c ends.Nand at is fits = out_is r chip ends.Nand 0 c at is fits.2
   works r chip c ends.Dff at is fits = out_is r chip ends.Dff 0 c at is fits.1 ∙ before_is r (codes "in") 0 c
   works r chip c ends.Keyboard at is fits = spelled r c (world.key c) (words.keys c) (λ k. out_is r chip ends.Keyboard k c at is fits)
@@ -173,7 +173,7 @@ module _ (chips : Chips) (top : Entry) (d : ℕ) (sound : IsSound d chips (plan_
 
   -- ---- the behaviour
 
-  here : (r : List ℕ) (chip : Entry) (c : ℕ) (o : Option End) → chip_at chips top (backwards r) ≡ Some chip → SoundHere chips chip → end_of chips.blocks chip ≡ o → ChipWired false true chips chip o (λ name bit. value r name bit c) (λ i name bit. value (i ∷ r) name bit c) (λ e. EndWorks world c e (value r))
+  here : (r : List ℕ) (chip : Entry) (c : ℕ) (o : Option End) → chip_at chips top (backwards r) ≡ Some chip → SoundHere chips chip → end_of chips.memories chip ≡ o → ChipWired false true chips chip o (λ name bit. value r name bit c) (λ i name bit. value (i ∷ r) name bit c) (λ e. EndWorks world c e (value r))
   here r chip c None at s is = wired r chip c at s.plan is
   here r chip c (Some e) at s is = works r chip c e at is (subst (EndFits chip) is s.fits)
 
@@ -182,10 +182,10 @@ module _ (chips : Chips) (top : Entry) (d : ℕ) (sound : IsSound d chips (plan_
     wires = λ path. value (backwards path);
     behaves = λ c lt path chip at.
         let back = ap (chip_at chips top) (backwards-twice path) ∙ at in
-        let h = here (backwards path) chip c (end_of chips.blocks chip) back (sound_at d chips top path chip sound at) refl in
-        subst (λ (inside' : ℕ → List ℕ). ChipWired false true chips chip (end_of chips.blocks chip) (λ name bit. value (backwards path) name bit c) (λ i name bit. value (inside' i) name bit c) (λ e. EndWorks world c e (value (backwards path)))) (λ k i. sym (backwards-push path i) k) h;
+        let h = here (backwards path) chip c (end_of chips.memories chip) back (sound_at d chips top path chip sound at) refl in
+        subst (λ (inside' : ℕ → List ℕ). ChipWired false true chips chip (end_of chips.memories chip) (λ name bit. value (backwards path) name bit c) (λ i name bit. value (inside' i) name bit c) (λ e. EndWorks world c e (value (backwards path)))) (λ k i. sym (backwards-push path i) k) h;
     hears = λ name bit c has.
-        is_supplied [] name bit c ∙ ap (λ (b : Bool). gives c [] (if b then outside chips top (coming c) [] name bit else inside chips [] name bit top (end_of chips.blocks top))) (ap is_some has.there);
+        is_supplied [] name bit c ∙ ap (λ (b : Bool). gives c [] (if b then outside chips top (coming c) [] name bit else inside chips [] name bit top (end_of chips.memories top))) (ap is_some has.there);
   }
 
 pub exists : ExistLaw

@@ -215,7 +215,7 @@ module _ (chips : Chips) (pairs : List ℕ → Pairs) (chip : Entry) (levels : L
       let told : end_is_levelled levels e ≡ true = sym (ap (end_is_levelled levels) same) ∙ h in
       lies (level_of levels n) (level_of levels (codes "out")) (all_tells (λ pin. is_below (level_of levels pin) (level_of levels (codes "out"))) (reaching e) told n (reaching_told e n r))
 
-  part_told : (o : Option End) (i : ℕ) (part : Part) → end_of chips.blocks chip ≡ o → elim o [ None ↦ all (part_is_levelled chips pairs levels) (parts_of chips chip) | Some e ↦ end_is_levelled levels e ] ≡ true → slice_get (parts_of chips chip) i ≡ Some part → part_is_levelled chips pairs levels part ≡ true
+  part_told : (o : Option End) (i : ℕ) (part : Part) → end_of chips.memories chip ≡ o → elim o [ None ↦ all (part_is_levelled chips pairs levels) (parts_of chips chip) | Some e ↦ end_is_levelled levels e ] ≡ true → slice_get (parts_of chips chip) i ≡ Some part → part_is_levelled chips pairs levels part ≡ true
   part_told None i part q h e = all_at (part_is_levelled chips pairs levels) (parts_of chips chip) h i part e
   part_told (Some end) i part q h e = let none : slice_get [] i ≡ Some part = ap (λ (x : Option End). slice_get (parts_unless x (parts_of_body chip.chip.body)) i) (sym q) ∙ e in absurd cc
 
@@ -256,7 +256,7 @@ module _ (chips : Chips) (pairs : List ℕ → Pairs) (chip : Entry) (levels : L
       let j = own_joint i f.conn f.w f.k false f.joint in
       let m_is : f.w.name ≡ m = sym (ap (λ (x : BitAt). x.name) f.out_is) in
       let n_is : f.conn.pin.name ≡ n = sym (ap (λ (x : BitAt). x.name) f.in_is) in
-      let told : part_is_levelled chips pairs levels j.part ≡ true = part_told (end_of chips.blocks chip) i j.part refl rising j.there in
+      let told : part_is_levelled chips pairs levels j.part ≡ true = part_told (end_of chips.memories chip) i j.part refl rising j.there in
       let each : inner_is_levelled pairs levels j.part (Some j.inner) ≡ true = sym (ap (inner_is_levelled pairs levels j.part) j.found) ∙ told in
       let here = all_at (λ conn. drives_higher levels j.part.connections (pairs j.inner.name) j.inner conn conn.source) j.part.connections each j.j f.conn j.here in
       let up = driven_by j.part.connections (pairs j.inner.name) j.inner f.conn f.w f.conn.source true j.right j.way here in
@@ -276,7 +276,7 @@ module _ (chips : Chips) (pairs : List ℕ → Pairs) (chip : Entry) (levels : L
 
   end_step : (n m : List ℕ) → EndReaches chips chip n m → Rises [] n [] m
   unfolding level_at
-  end_step n m g = subst (λ x. Lies (level_of levels n) (level_of levels x)) (sym g.named) (end_rises g.e (end_of chips.blocks chip) n g.is rising g.reaches)
+  end_step n m g = subst (λ x. Lies (level_of levels n) (level_of levels x)) (sym g.named) (end_rises g.e (end_of chips.memories chip) n g.is rising g.reaches)
 
   rises_at : ((i : ℕ) (inner : Entry) → inner_chip chips chip i ≡ Some inner → Covers inner) → (p q n : List ℕ) (b : ℕ) (m : List ℕ) (k : ℕ) → OwnAt chips chip p q n b m k → Rises p n q m
   rises_at cover [] [] n b m k f = end_step n m f

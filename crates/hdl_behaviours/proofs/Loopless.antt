@@ -74,7 +74,7 @@ one_at_most [] name = by (bytes_eq name (codes "out"))
     by false = omega arith
 one_at_most (i ∷ path) name = omega arith
 
-module _ (chips : Chips) (chip : Entry) (e : End) (is : end_of chips.blocks chip ≡ Some e) where
+module _ (chips : Chips) (chip : Entry) (e : End) (is : end_of chips.memories chip ≡ Some e) where
   no_parts : parts_of chips chip ≡ []
   no_parts = ap (λ (o : Option End). parts_unless o (parts_of_body chip.chip.body)) is
 
@@ -178,7 +178,7 @@ module _ (chips : Chips) (wide : AreWide chips) (net : Net) (low high : ℕ) (to
   rank_at path chip [] name bit = 3 * at path name bit + 1
   rank_at path chip (i ∷ q) name bit = 3 * at (path ++ i ∷ []) name bit + phase (inner_chip chips chip i) name
 
-  module _ (path : List ℕ) (chip : Entry) (there : chip_at chips top path ≡ Some chip) (no_end : end_of chips.blocks chip ≡ None) (below : (i : ℕ) (inner : Entry) → inner_chip chips chip i ≡ Some inner → Rises (path ++ i ∷ []) inner) where
+  module _ (path : List ℕ) (chip : Entry) (there : chip_at chips top path ≡ Some chip) (no_end : end_of chips.memories chip ≡ None) (below : (i : ℕ) (inner : Entry) → inner_chip chips chip i ≡ Some inner → Rises (path ++ i ∷ []) inner) where
     wired : PartsWired low high chips chip (parts_of_body chip.chip.body) (at path) (λ i. at (path ++ i ∷ []))
     wired = subst (λ (o : Option End). ChipWired low high chips chip o (at path) (λ i. at (path ++ i ∷ [])) (λ e. EndStands net low (block path) e (at path))) no_end (numbering.wired path chip there)
 
@@ -236,7 +236,7 @@ module _ (chips : Chips) (wide : AreWide chips) (net : Net) (low high : ℕ) (to
   found_by chip i inner None e h = absurd cc
   found_by chip i inner (Some part) e h = record { name = part.chip; found = h }
 
-  end_depends : (path : List ℕ) (chip : Entry) (e : End) → chip_at chips top path ≡ Some chip → Found chip → end_of chips.blocks chip ≡ Some e → Rises path chip
+  end_depends : (path : List ℕ) (chip : Entry) (e : End) → chip_at chips top path ≡ Some chip → Found chip → end_of chips.memories chip ≡ Some e → Rises path chip
   end_depends path chip e there found is input bit output out f =
       let stands : EndStands net low (block path) e (at path) = subst (λ (o : Option End). ChipWired low high chips chip o (at path) (λ i. at (path ++ i ∷ [])) (λ e. EndStands net low (block path) e (at path))) is (numbering.wired path chip there) in
       let w = own_way chips chip (fit path chip there) input output bit out f.way in
@@ -246,14 +246,14 @@ module _ (chips : Chips) (wide : AreWide chips) (net : Net) (low high : ℕ) (to
       let to : HasBit chip.chip.outputs (codes "out") out = subst (λ (x : List ℕ). HasBit chip.chip.outputs x out) s.named f.to in
       subst (λ (x : List ℕ). at path input bit < at path x out) (sym s.named) (end_up path chip e stands (wide found.name chip e found.found is) input bit out reaches f.from to)
 
-  depends_by : (path : List ℕ) (chip : Entry) (o : Option End) → chip_at chips top path ≡ Some chip → Found chip → end_of chips.blocks chip ≡ o → ((i : ℕ) (inner : Entry) → inner_chip chips chip i ≡ Some inner → Rises (path ++ i ∷ []) inner) → Rises path chip
+  depends_by : (path : List ℕ) (chip : Entry) (o : Option End) → chip_at chips top path ≡ Some chip → Found chip → end_of chips.memories chip ≡ o → ((i : ℕ) (inner : Entry) → inner_chip chips chip i ≡ Some inner → Rises (path ++ i ∷ []) inner) → Rises path chip
   depends_by path chip None there found is below = chip_up path chip there is below
   depends_by path chip (Some e) there found is below = end_depends path chip e there found is
 
   depends : (d : ℕ) (path : List ℕ) (chip : Entry) → IsSound d chips (plan_of chips) chip → chip_at chips top path ≡ Some chip → Found chip → Rises path chip
   depends zero path chip sound there found = absurd sound
   depends (suc d) path chip sound there found =
-      depends_by path chip (end_of chips.blocks chip) there found refl
+      depends_by path chip (end_of chips.memories chip) there found refl
       (λ i inner h. depends d (path ++ i ∷ []) inner (sound.2 i inner h) (chip_below chips path top chip inner i there h) (found_by chip i inner (slice_get (parts_of chips chip) i) refl h))
 
   record Nested (chip : Entry) : Type 0 where
@@ -265,7 +265,7 @@ module _ (chips : Chips) (wide : AreWide chips) (net : Net) (low high : ℕ) (to
   nested_at (suc d) top' [] chip s h = let same : top' ≡ chip = cc in subst Nested same (record { d = suc d; sound = s })
   nested_at (suc d) top' (i ∷ path) chip s h = let a = at_part chips top' i path chip h in nested_at d a.inner path chip (s.2 i a.inner a.found) a.rest
 
-  ordered_by : (d : ℕ) (path : List ℕ) (chip : Entry) (o : Option End) → IsSound d chips (plan_of chips) chip → chip_at chips top path ≡ Some chip → end_of chips.blocks chip ≡ o → IsOrdered chips chip
+  ordered_by : (d : ℕ) (path : List ℕ) (chip : Entry) (o : Option End) → IsSound d chips (plan_of chips) chip → chip_at chips top path ≡ Some chip → end_of chips.memories chip ≡ o → IsOrdered chips chip
   ordered_by d path chip (Some e) sound there is = end_ordered chips chip e is
   ordered_by zero path chip None sound there is = absurd sound
   ordered_by (suc d) path chip None sound there is =
@@ -274,7 +274,7 @@ module _ (chips : Chips) (wide : AreWide chips) (net : Net) (low high : ℕ) (to
 
   pub none : (d : ℕ) → IsSound d chips (plan_of chips) top → (nets : List (List ℕ)) → IsLoop chips top nets → ⊥
   none d sound =
-      ordered_no_loop chips top fit (λ path chip there. let n = nested_at d top path chip sound there in ordered_by n.d path chip (end_of chips.blocks chip) n.sound there refl)
+      ordered_no_loop chips top fit (λ path chip there. let n = nested_at d top path chip sound there in ordered_by n.d path chip (end_of chips.memories chip) n.sound there refl)
 
 pub loopless : LooplessLaw
 loopless chips name top ends wide found faultless net low high block at numbering ordered =

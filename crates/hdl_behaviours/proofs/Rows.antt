@@ -6,6 +6,7 @@ use Rattle.std.specs.Cmp.Lexicographic.{bytes_decides}
 use Rattle.hdl_tree.specs.declared.library.Entry.{Entry}
 use Rattle.hdl_tree.specs.declared.ends.End.{End}
 use Rattle.hdl_tree.specs.declared.ends.End.TheVariants as ends
+use Rattle.hdl_tree.specs.declared.ends.Memories.TheVariants.{Blocks}
 use Rattle.hdl_tree.specs.Chips.{end_of, find_entry, find_chip}
 use Rattle.hdl_tree.specs.Behaviour.{Each, width_in}
 use Rattle.hdl_plans.specs.Plans.{is_input, EndFits}
@@ -32,7 +33,7 @@ record Fits (chip : Entry) (e : End) : Type 0 where
   out : width_in chip.chip.outputs (codes "out") ≡ Some (out_bits e)
 
 abbrev IsRight : Entry → Type 0
-IsRight chip = ((e : End) → end_of true chip ≡ Some e → Fits chip e) × ((name : List ℕ) (width : ℕ) → width_in chip.chip.outputs name ≡ Some width → name ≡ codes "out")
+IsRight chip = ((e : End) → end_of Blocks chip ≡ Some e → Fits chip e) × ((name : List ℕ) (width : ℕ) → width_in chip.chip.outputs name ≡ Some width → name ≡ codes "out")
 
 one_output : (n : ℕ) (name : List ℕ) (width : ℕ) → width_in (pin "out" n ∷ []) name ≡ Some width → name ≡ codes "out"
 one_output n name width e = by (bytes_eq name (codes "out")) refl e
@@ -41,7 +42,7 @@ one_output n name width e = by (bytes_eq name (codes "out")) refl e
     by true f g = (bytes_decides name (codes "out")).0 f
     by false f g = absurd cc
 
-is_kind : (chip : Entry) (e : End) → end_of true chip ≡ Some e → Fits chip e → (e' : End) → end_of true chip ≡ Some e' → Fits chip e'
+is_kind : (chip : Entry) (e : End) → end_of Blocks chip ≡ Some e → Fits chip e → (e' : End) → end_of Blocks chip ≡ Some e' → Fits chip e'
 is_kind chip e is fits e' is' = let same : e ≡ e' = (let f = sym is ∙ is' in cc) in subst (Fits chip) same fits
 
 nand_right : IsRight nand

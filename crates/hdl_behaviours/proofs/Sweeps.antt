@@ -95,7 +95,7 @@ module _ (chips : Chips) (top : Entry) (d : ℕ) (sound : IsSound d chips (plan_
   record Works (r name : List ℕ) (bit : ℕ) (e : End) (b : ℕ) : Type 0 where
     chip : Entry
     at : chip_at chips top (backwards r) ≡ Some chip
-    is : end_of chips.blocks chip ≡ Some e
+    is : end_of chips.memories chip ≡ Some e
     named : name ≡ codes "out"
 
   abbrev LinkOf : List ℕ → List ℕ → ℕ → Supply → Type 0
@@ -149,17 +149,17 @@ module _ (chips : Chips) (top : Entry) (d : ℕ) (sound : IsSound d chips (plan_
   by_driver_link r name bit chip None at e = tt
   by_driver_link r name bit chip (Some place) at e = link_up r name bit chip place at (driver_joint chips chip name bit place e)
 
-  by_end_link : (r name : List ℕ) (bit : ℕ) (chip : Entry) (e : End) (b : Bool) → chip_at chips top (backwards r) ≡ Some chip → end_of chips.blocks chip ≡ Some e → bytes_eq name (codes "out") ≡ b → LinkOf r name bit (if b then Worked e bit else Given false)
+  by_end_link : (r name : List ℕ) (bit : ℕ) (chip : Entry) (e : End) (b : Bool) → chip_at chips top (backwards r) ≡ Some chip → end_of chips.memories chip ≡ Some e → bytes_eq name (codes "out") ≡ b → LinkOf r name bit (if b then Worked e bit else Given false)
   by_end_link r name bit chip e true at is eq = record { chip = chip; at = at; is = is; named = (bytes_decides name (codes "out")).0 eq }
   by_end_link r name bit chip e false at is eq = tt
 
-  inside_link : (r name : List ℕ) (bit : ℕ) (chip : Entry) (o : Option End) → chip_at chips top (backwards r) ≡ Some chip → end_of chips.blocks chip ≡ o → LinkOf r name bit (inside chips r name bit chip o)
+  inside_link : (r name : List ℕ) (bit : ℕ) (chip : Entry) (o : Option End) → chip_at chips top (backwards r) ≡ Some chip → end_of chips.memories chip ≡ o → LinkOf r name bit (inside chips r name bit chip o)
   inside_link r name bit chip (Some e) at is = by_end_link r name bit chip e (bytes_eq name (codes "out")) at is refl
   inside_link r name bit chip None at is = by_driver_link r name bit chip ((plan_of chips chip).driver name bit) at refl
 
-  chip_link : (r name : List ℕ) (bit : ℕ) (chip : Entry) (b : Bool) → chip_at chips top (backwards r) ≡ Some chip → LinkOf r name bit (if b then outside chips top input r name bit else inside chips r name bit chip (end_of chips.blocks chip))
+  chip_link : (r name : List ℕ) (bit : ℕ) (chip : Entry) (b : Bool) → chip_at chips top (backwards r) ≡ Some chip → LinkOf r name bit (if b then outside chips top input r name bit else inside chips r name bit chip (end_of chips.memories chip))
   chip_link r name bit chip true at = outside_link r name bit
-  chip_link r name bit chip false at = inside_link r name bit chip (end_of chips.blocks chip) at refl
+  chip_link r name bit chip false at = inside_link r name bit chip (end_of chips.memories chip) at refl
 
   supply_link : (r name : List ℕ) (bit : ℕ) (o : Option Entry) → chip_at chips top (backwards r) ≡ o → LinkOf r name bit (supply_in chips top input r name bit o)
   supply_link r name bit None at = tt

@@ -44,4 +44,4 @@ sweeps (suc n) chips pairs parts levels = sweeps n chips pairs parts (sweep chip
 -- the levels after this many sweeps; the out of an end lies above the pins that reach it
 abbrev pub swept : ℕ → Chips → (List ℕ → Pairs) → Entry → List (List ℕ × Level)
 swept n chips pairs entry =
-    elim (end_of chips.blocks entry) [ None ↦ sweeps n chips pairs (parts_of chips entry) (low_levels chips (parts_of chips entry)) | Some e ↦ (codes "out", record { rank = 1; from = reaching e }) ∷ [] ]
+    elim (end_of chips.memories entry) [ None ↦ sweeps n chips pairs (parts_of chips entry) (low_levels chips (parts_of chips entry)) | Some e ↦ (codes "out", record { rank = 1; from = reaching e }) ∷ [] ]

@@ -109,7 +109,7 @@ fine_at chips names name top (i ∷ path) chip found faultless h =
     let n = inner_by chips names top i a.inner (slice_get (parts_of chips top) i) refl a.found faultless in
     fine_at chips (a.inner.name ∷ names) n.name a.inner path chip n.there n.faultless a.rest
 
-pub apart_by : (chips : Chips) (chip : Entry) (o : Option End) → HasEnds chips → IsFine chips chip → end_of chips.blocks chip ≡ o → (pin : List ℕ) (w : ℕ) → width_in chip.chip.outputs pin ≡ Some w → is_input chip pin ≡ false
+pub apart_by : (chips : Chips) (chip : Entry) (o : Option End) → HasEnds chips → IsFine chips chip → end_of chips.memories chip ≡ o → (pin : List ℕ) (w : ℕ) → width_in chip.chip.outputs pin ≡ Some w → is_input chip pin ≡ false
 apart_by chips chip None ends fine is pin w h = output_is_no_input chips fine.names chip fine.faultless is pin w h
 apart_by chips chip (Some e) ends fine is pin w h = ends.apart fine.name chip e fine.found is pin w h
 
@@ -124,13 +124,13 @@ output_width chip pin w apart h =
     ∙ ap (λ (o : Option ℕ). first_of (as_port true o) (as_port false (width_in chip.chip.outputs pin))) (no_input_by (width_in chip.chip.inputs pin) apart)
     ∙ ap (as_port false) h)).wide
 
-pub no_part : (chips : Chips) (chip : Entry) (e : End) (i : ℕ) (part : Part) → end_of chips.blocks chip ≡ Some e → slice_get (parts_of chips chip) i ≡ Some part → ⊥
+pub no_part : (chips : Chips) (chip : Entry) (e : End) (i : ℕ) (part : Part) → end_of chips.memories chip ≡ Some e → slice_get (parts_of chips chip) i ≡ Some part → ⊥
 no_part chips chip e i part is there =
     let none : parts_of chips chip ≡ [] = ap (λ (o : Option End). parts_unless o (parts_of_body chip.chip.body)) is in
     let f : slice_get [] i ≡ Some part = ap (λ (ps : List Part). slice_get ps i) (sym none) ∙ there in
     cc
 
-pub no_end_by : (chips : Chips) (chip : Entry) (i : ℕ) (part : Part) (o : Option End) → end_of chips.blocks chip ≡ o → slice_get (parts_of chips chip) i ≡ Some part → end_of chips.blocks chip ≡ None
+pub no_end_by : (chips : Chips) (chip : Entry) (i : ℕ) (part : Part) (o : Option End) → end_of chips.memories chip ≡ o → slice_get (parts_of chips chip) i ≡ Some part → end_of chips.memories chip ≡ None
 no_end_by chips chip i part None is there = is
 no_end_by chips chip i part (Some e) is there = absurd (no_part chips chip e i part is there)
 
@@ -349,20 +349,20 @@ module _ (chips : Chips) (top_name : List ℕ) (top : Entry) (has_ends : HasEnds
     feeds : Feeds chips top (bit_of q n k) (bit_of r name bit)
     traced : Traced q n k
 
-  module _ (path : List ℕ) (chip : Entry) (there : chip_at chips top path ≡ Some chip) (no_end : end_of chips.blocks chip ≡ None) where
+  module _ (path : List ℕ) (chip : Entry) (there : chip_at chips top path ≡ Some chip) (no_end : end_of chips.memories chip ≡ None) where
     wired : PartsWired low high chips chip (parts_of chips chip) (at path) (λ i. at (path ++ i ∷ []))
     wired =
         subst (λ (ps : List Part). PartsWired low high chips chip ps (at path) (λ i. at (path ++ i ∷ []))) (sym (ap (λ (o : Option End). parts_unless o (parts_of_body chip.chip.body)) no_end))
         (subst (λ (o : Option End). ChipWired low high chips chip o (at path) (λ i. at (path ++ i ∷ [])) (λ e. EndStands net low (block path) e (at path))) no_end (numbering.wired path chip there))
 
-  stands_at : (path : List ℕ) (chip : Entry) (e : End) → chip_at chips top path ≡ Some chip → end_of chips.blocks chip ≡ Some e → EndStands net low (block path) e (at path)
+  stands_at : (path : List ℕ) (chip : Entry) (e : End) → chip_at chips top path ≡ Some chip → end_of chips.memories chip ≡ Some e → EndStands net low (block path) e (at path)
   stands_at path chip e there is = subst (λ (o : Option End). ChipWired low high chips chip o (at path) (λ i. at (path ++ i ∷ [])) (λ e. EndStands net low (block path) e (at path))) is (numbering.wired path chip there)
 
   -- ---- an input
 
   module _ (r : List ℕ) (i : ℕ) (name : List ℕ) (bit : ℕ) (around inner : Entry) (part : Part) (there : chip_at chips top (backwards r) ≡ Some around) (here : slice_get (parts_of chips around) i ≡ Some part) (found : find_chip chips part.chip ≡ Some inner) (has : HasBit inner.chip.inputs name bit) (on : On (at (backwards r ++ i ∷ []) name bit)) where
     part_wired : PartWired low high inner part (at (backwards r)) (at (backwards r ++ i ∷ []))
-    part_wired = (wired (backwards r) around there (no_end_by chips around i part (end_of chips.blocks around) refl here)).part i part inner here found
+    part_wired = (wired (backwards r) around there (no_end_by chips around i part (end_of chips.memories around) refl here)).part i part inner here found
 
     module _ (x : ReachedBy inner part.connections name bit) where
       same_inside : at (backwards r ++ i ∷ []) x.conn.pin.name (first x.conn.pin.subscript + x.k) ≡ at (backwards r ++ i ∷ []) name bit
@@ -417,12 +417,12 @@ module _ (chips : Chips) (top_name : List ℕ) (top : Entry) (has_ends : HasEnds
       let f = o.from in
       let within_chip : inner_chip chips chip x.i ≡ Some x.inner = ap (chip_of chips) x.there ∙ x.found in
       let below : chip_at chips top (backwards r ++ x.i ∷ []) ≡ Some x.inner = chip_below chips (backwards r) top chip x.inner x.i there within_chip in
-      let apart : is_input x.inner x.conn.pin.name ≡ false = apart_by chips x.inner (end_of chips.blocks x.inner) has_ends (fine (backwards r ++ x.i ∷ []) x.inner below) refl x.conn.pin.name o.width o.out in
+      let apart : is_input x.inner x.conn.pin.name ≡ false = apart_by chips x.inner (end_of chips.memories x.inner) has_ends (fine (backwards r ++ x.i ∷ []) x.inner below) refl x.conn.pin.name o.width o.out in
       let within : f.k < count x.conn.pin.subscript (width_of x.inner x.conn.pin.name) = subst (λ (v : ℕ). f.k < count x.conn.pin.subscript v) (output_width x.inner x.conn.pin.name o.width apart o.out) f.within in
       let j : IsJoint chips top (backwards r) x.i x.conn f.w f.k false = record { chip = chip; part = x.part; inner = x.inner; j = x.j; at = there; there = x.there; found = x.found; here = x.here; right = f.right; way = apart; within = within } in
       let own : IsJoint chips chip [] x.i x.conn f.w f.k false = record { chip = chip; part = x.part; inner = x.inner; j = x.j; at = refl; there = x.there; found = x.found; here = x.here; right = f.right; way = apart; within = within } in
       let outside : outside_bit (backwards r) f.w f.k ≡ bit_of r name bit = ap (λ (n : List ℕ). bit_at (backwards r) n (first f.w.subscript + f.k)) f.named ∙ ap (bit_at (backwards r) name) f.bit_is in
-      let w = wired (backwards r) chip there (no_end_by chips chip x.i x.part (end_of chips.blocks chip) refl x.there) in
+      let w = wired (backwards r) chip there (no_end_by chips chip x.i x.part (end_of chips.memories chip) refl x.there) in
       let joined : at (backwards r ++ x.i ∷ []) x.conn.pin.name (first x.conn.pin.subscript + f.k) ≡ at (backwards r) name bit =
       each_at (Joins low high x.inner (at (backwards r)) (at (backwards r ++ x.i ∷ []))) x.part.connections x.j x.conn (w.part x.i x.part x.inner x.there x.found).joined x.here f.k within
       ∙ ap (λ (s : Source). source_value low high s (at (backwards r)) f.k) f.right
@@ -455,7 +455,7 @@ module _ (chips : Chips) (top_name : List ℕ) (top : Entry) (has_ends : HasEnds
   at_once r name bit f = record { q = f.q; n = f.n; k = f.k; among = f.among; way = one_step (bit_of f.q f.n f.k) (bit_of r name bit) f.feeds; traced = f.traced }
 
   -- over the pin of an end
-  end_prior : (r name : List ℕ) (bit : ℕ) (chip : Entry) (e : End) → chip_at chips top (backwards r) ≡ Some chip → end_of chips.blocks chip ≡ Some e → HasBit chip.chip.outputs name bit → On (at (backwards r) name bit) → Prior r name bit
+  end_prior : (r name : List ℕ) (bit : ℕ) (chip : Entry) (e : End) → chip_at chips top (backwards r) ≡ Some chip → end_of chips.memories chip ≡ Some e → HasBit chip.chip.outputs name bit → On (at (backwards r) name bit) → Prior r name bit
   end_prior r name bit chip e there is has on =
       let g = fine (backwards r) chip there in
       let out = alone g.name chip e g.found is name bit has in
@@ -471,18 +471,18 @@ module _ (chips : Chips) (top_name : List ℕ) (top : Entry) (has_ends : HasEnds
         traced = f.traced;
       }
 
-  output_by : (r name : List ℕ) (bit : ℕ) (chip : Entry) (b : Bool) → chip_at chips top (backwards r) ≡ Some chip → end_of chips.blocks chip ≡ None → HasBit chip.chip.outputs name bit → On (at (backwards r) name bit) → some (drives chips name bit) (parts_of chips chip) ≡ b → Prior r name bit
+  output_by : (r name : List ℕ) (bit : ℕ) (chip : Entry) (b : Bool) → chip_at chips top (backwards r) ≡ Some chip → end_of chips.memories chip ≡ None → HasBit chip.chip.outputs name bit → On (at (backwards r) name bit) → some (drives chips name bit) (parts_of chips chip) ≡ b → Prior r name bit
   output_by r name bit chip true there is has on e = at_once r name bit (net_fed r name bit chip there e on)
   output_by r name bit chip false there is has on e = absurd (no_low (subst On ((wired (backwards r) chip there is).undriven name has.width bit has.there has.below e) on))
 
-  output_prior : (r name : List ℕ) (bit : ℕ) (chip : Entry) (o : Option End) → chip_at chips top (backwards r) ≡ Some chip → end_of chips.blocks chip ≡ o → HasBit chip.chip.outputs name bit → On (at (backwards r) name bit) → Prior r name bit
+  output_prior : (r name : List ℕ) (bit : ℕ) (chip : Entry) (o : Option End) → chip_at chips top (backwards r) ≡ Some chip → end_of chips.memories chip ≡ o → HasBit chip.chip.outputs name bit → On (at (backwards r) name bit) → Prior r name bit
   output_prior r name bit chip (Some e) there is has on = end_prior r name bit chip e there is has on
   output_prior r name bit chip None there is has on = output_by r name bit chip (some (drives chips name bit) (parts_of chips chip)) there is has on refl
 
   prior_by : (r name : List ℕ) (bit : ℕ) (chip : Entry) → chip_at chips top (backwards r) ≡ Some chip → Sourced chips chip name bit ⊎ HasBit chip.chip.outputs name bit → On (at (backwards r) name bit) → Prior r name bit
   prior_by r name bit chip there (inl (inl has)) on = at_once r name bit (input_fed r name bit chip there has on)
   prior_by r name bit chip there (inl (inr driven)) on = at_once r name bit (net_fed r name bit chip there driven on)
-  prior_by r name bit chip there (inr has) on = output_prior r name bit chip (end_of chips.blocks chip) there refl has on
+  prior_by r name bit chip there (inr has) on = output_prior r name bit chip (end_of chips.memories chip) there refl has on
 
   prior : (r name : List ℕ) (bit : ℕ) → Traced r name bit → Prior r name bit
   prior r name bit t = prior_by r name bit t.chip t.there t.kind t.on

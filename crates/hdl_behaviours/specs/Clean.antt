@@ -38,7 +38,7 @@ text_is_clean chips entry =
 
 -- nothing is wrong in the chip's own text; an end has none
 abbrev pub is_clean : Chips → Entry → Bool
-is_clean chips entry = elim (end_of chips.blocks entry) [ None ↦ text_is_clean chips entry | Some e ↦ true ]
+is_clean chips entry = elim (end_of chips.memories entry) [ None ↦ text_is_clean chips entry | Some e ↦ true ]
 
 -- each chip of the library is clean
 abbrev pub AreClean : Chips → Type 0

@@ -104,7 +104,7 @@ abbrev pub end_is_levelled : List (List ℕ × Level) → End → Bool
 end_is_levelled levels e = all (λ pin. is_below (level_of levels pin) (level_of levels (codes "out"))) (reaching e)
 
 abbrev pub steps_rise : Chips → (List ℕ → Pairs) → List (List ℕ × Level) → Entry → Bool
-steps_rise chips pairs levels entry = elim (end_of chips.blocks entry) [ None ↦ all (part_is_levelled chips pairs levels) (parts_of chips entry) | Some e ↦ end_is_levelled levels e ]
+steps_rise chips pairs levels entry = elim (end_of chips.memories entry) [ None ↦ all (part_is_levelled chips pairs levels) (parts_of chips entry) | Some e ↦ end_is_levelled levels e ]
 
 -- an input passes itself on
 abbrev pub passes_on : List (List ℕ × Level) → Pin → Bool

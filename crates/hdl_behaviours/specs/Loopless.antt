@@ -22,7 +22,7 @@ IsWide chip (ends.Block bits) = (width_in chip.chip.inputs (codes "address") ≡
 
 -- this holds of each end of the library
 abbrev pub AreWide : Chips → Type 0
-AreWide chips = (name : List ℕ) (chip : Entry) (e : End) → find_chip chips name ≡ Some chip → end_of chips.blocks chip ≡ Some e → IsWide chip e
+AreWide chips = (name : List ℕ) (chip : Entry) (e : End) → find_chip chips name ≡ Some chip → end_of chips.memories chip ≡ Some e → IsWide chip e
 
 -- A chip of the library without faults that has a numbering in a netlist in order has no loop.
 abbrev pub LooplessLaw : Type 0

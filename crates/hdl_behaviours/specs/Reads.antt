@@ -28,7 +28,7 @@ out_bits (ends.Block bits) = 16
 
 -- an end of the library has no other output bits than those of its out
 abbrev pub HaveOutAlone : Chips → Type 0
-HaveOutAlone chips = (name : List ℕ) (chip : Entry) (e : End) → find_chip chips name ≡ Some chip → end_of chips.blocks chip ≡ Some e → (pin : List ℕ) (bit : ℕ) → HasBit chip.chip.outputs pin bit → (pin ≡ codes "out") × (bit < out_bits e)
+HaveOutAlone chips = (name : List ℕ) (chip : Entry) (e : End) → find_chip chips name ≡ Some chip → end_of chips.memories chip ≡ Some e → (pin : List ℕ) (bit : ℕ) → HasBit chip.chip.outputs pin bit → (pin ≡ codes "out") × (bit < out_bits e)
 
 -- ---- the nodes of a chip
 
@@ -38,7 +38,7 @@ pub record IsOutput (chips : Chips) (top : Entry) (at : List ℕ → Wires ℕ) 
   pub chip : Entry
   pub e : End
   pub there : chip_at chips top path ≡ Some chip
-  pub is : end_of chips.blocks chip ≡ Some e
+  pub is : end_of chips.memories chip ≡ Some e
   pub pin : List ℕ
   pub bit : ℕ
   pub has : HasBit chip.chip.outputs pin bit

@@ -132,14 +132,14 @@ none_of : {A : Type 0} (o : Option A) → is_some o ≡ false → o ≡ None
 none_of None h = refl
 none_of (Some a) h = absurd cc
 
-module _ (chips : Chips) (entry : Entry) (tree : is_some (end_of chips.blocks entry) ≡ false) where
-  pub no_end : end_of chips.blocks entry ≡ None
-  no_end = none_of (end_of chips.blocks entry) tree
+module _ (chips : Chips) (entry : Entry) (tree : is_some (end_of chips.memories entry) ≡ false) where
+  pub no_end : end_of chips.memories entry ≡ None
+  no_end = none_of (end_of chips.memories entry) tree
 
   pub its_parts : parts_of chips entry ≡ parts_of_body entry.chip.body
   its_parts = ap (λ e. parts_unless e (parts_of_body entry.chip.body)) no_end
 
-  tree_fault : (f : Option NamedFault) → unless (end_of chips.blocks entry) f ≡ f
+  tree_fault : (f : Option NamedFault) → unless (end_of chips.memories entry) f ≡ f
   tree_fault f = ap (λ e. unless e f) no_end
 
   pins_first : (names : List (List ℕ)) (f : NamedFault) (h : IsFirstOf (pin_fault entry) f) (s : Location) → IsEarlier s (AtPin h.place) → fault_at chips names entry s ≡ None
@@ -162,17 +162,17 @@ module _ (chips : Chips) (entry : Entry) (tree : is_some (end_of chips.blocks en
   pub body_fails : (names : List (List ℕ)) (f : NamedFault) → ((k : ℕ) → pin_fault entry k ≡ None) → body_fault entry ≡ Some f → IsFirstFault chips names entry f
   body_fails names f pins h = record { place = AtBody; there = tree_fault (body_fault entry) ∙ h; first = λ s earlier. body_first names pins s earlier }
 
-  pub pins_right : ((k : ℕ) → pin_fault entry k ≡ None) → (k : ℕ) → unless (end_of chips.blocks entry) (pin_fault entry k) ≡ None
+  pub pins_right : ((k : ℕ) → pin_fault entry k ≡ None) → (k : ℕ) → unless (end_of chips.memories entry) (pin_fault entry k) ≡ None
   pins_right pins k = tree_fault (pin_fault entry k) ∙ pins k
 
-  pub body_right : body_fault entry ≡ None → unless (end_of chips.blocks entry) (body_fault entry) ≡ None
+  pub body_right : body_fault entry ≡ None → unless (end_of chips.memories entry) (body_fault entry) ≡ None
   body_right h = tree_fault (body_fault entry) ∙ h
 
 -- an end
-pub end_head : (chips : Chips) (entry : Entry) → is_some (end_of chips.blocks entry) ≡ true → HeadIsFine chips entry
-end_head chips entry h = by (end_of chips.blocks entry) refl
+pub end_head : (chips : Chips) (entry : Entry) → is_some (end_of chips.memories entry) ≡ true → HeadIsFine chips entry
+end_head chips entry h = by (end_of chips.memories entry) refl
   where
-    by : (o : Option End) → end_of chips.blocks entry ≡ o → HeadIsFine chips entry
+    by : (o : Option End) → end_of chips.memories entry ≡ o → HeadIsFine chips entry
     by None e = let n : false ≡ true = ap is_some (sym e) ∙ h in absurd cc
     by (Some x) e = record {
       pins = λ k. ap (λ o. unless o (pin_fault entry k)) e;
@@ -186,6 +186,6 @@ at_entry chips k entry other here there = cc (sym here ∙ there)
 pub fails_at : (chips : Chips) (outer : List (List ℕ)) (k : ℕ) (entry : Entry) (f : NamedFault) → slice_get chips.entries k ≡ Some entry → IsFirstFault chips (entry.name ∷ outer) entry f → FailsInside chips outer k f
 fails_at chips outer k entry f here h other there = subst (λ (x : Entry). IsFirstFault chips (x.name ∷ outer) x f) (at_entry chips k entry other here there) h
 
-pub body_wrong : (chips : Chips) (entry : Entry) (tree : is_some (end_of chips.blocks entry) ≡ false) (names : List (List ℕ)) (wanted : NamedFault) (e : ElabFault) → ((j : ℕ) → pin_fault entry j ≡ None) → body_fault entry ≡ Some wanted → Checks (Some wanted) (Err e) → Tells (IsFirstFault chips names entry) e
+pub body_wrong : (chips : Chips) (entry : Entry) (tree : is_some (end_of chips.memories entry) ≡ false) (names : List (List ℕ)) (wanted : NamedFault) (e : ElabFault) → ((j : ℕ) → pin_fault entry j ≡ None) → body_fault entry ≡ Some wanted → Checks (Some wanted) (Err e) → Tells (IsFirstFault chips names entry) e
 body_wrong chips entry tree names wanted errors.Memory pins h c = tt
 body_wrong chips entry tree names wanted (errors.Named f) pins h c = body_fails chips entry tree names _ pins (h ∙ c)

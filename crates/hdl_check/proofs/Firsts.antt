@@ -119,12 +119,12 @@ module _ (chips : Chips) (stages : List Stage) (done : ℕ) (progress : IsProgre
   }
 
   -- the first fault of the parts is that of the chip, where its pins and its body are right
-  chip_first : (f : NamedFault) (fails : PartsFail chips names entry f) → ((k : ℕ) → unless (end_of chips.blocks entry) (pin_fault entry k) ≡ None) → unless (end_of chips.blocks entry) (body_fault entry) ≡ None → (s : Location) → IsEarlier s fails.place → fault_at chips names entry s ≡ None
+  chip_first : (f : NamedFault) (fails : PartsFail chips names entry f) → ((k : ℕ) → unless (end_of chips.memories entry) (pin_fault entry k) ≡ None) → unless (end_of chips.memories entry) (body_fault entry) ≡ None → (s : Location) → IsEarlier s fails.place → fault_at chips names entry s ≡ None
   chip_first f fails pins body (AtPin k) earlier = pins k
   chip_first f fails pins body AtBody earlier = body
   chip_first f fails pins body (AtPart j) earlier = fails.first (AtPart j) tt earlier
   chip_first f fails pins body (Inside j s) earlier = fails.first (Inside j s) tt earlier
   chip_first f fails pins body (AtConnection j k) earlier = fails.first (AtConnection j k) tt earlier
 
-  pub chip_fails : (f : NamedFault) → ((k : ℕ) → unless (end_of chips.blocks entry) (pin_fault entry k) ≡ None) → unless (end_of chips.blocks entry) (body_fault entry) ≡ None → PartsFail chips names entry f → IsFirstFault chips names entry f
+  pub chip_fails : (f : NamedFault) → ((k : ℕ) → unless (end_of chips.memories entry) (pin_fault entry k) ≡ None) → unless (end_of chips.memories entry) (body_fault entry) ≡ None → PartsFail chips names entry f → IsFirstFault chips names entry f
   chip_fails f pins body fails = record { place = fails.place; there = fails.there; first = λ s earlier. chip_first f fails pins body s earlier }

@@ -1,7 +1,8 @@
 -- What the chip at the top says.
-use Rattle.std.proofs.Common.{◌≡◌, ℕ, Bool, List, [], ◌∷◌, Some, Err, sym, ap, subst, ◌∙◌}
+use Rattle.std.proofs.Common.{◌≡◌, ℕ, List, [], ◌∷◌, Some, Err, sym, ap, subst, ◌∙◌}
 use Rattle.std.specs.Prelude.{slice_get}
 use Rattle.hdl_tree.specs.declared.library.Entry.{Entry}
+use Rattle.hdl_tree.specs.declared.ends.Memories.{Memories}
 use Rattle.hdl_tree.specs.Chips.{Chips, find_chip}
 use Rattle.hdl_check.specs.declared.fault.NamedFault.{NamedFault}
 use Rattle.hdl_check.specs.Locations.{IsFirstFault, IsFaultless}
@@ -11,7 +12,7 @@ use Rattle.hdl_check.specs.declared.fault.ElabFault.{ElabFault}
 use Rattle.hdl_check.specs.declared.fault.ElabFault.TheVariants as errors
 use Rattle.hdl_check.proofs.Order.{one_first, not_both}
 
-pub same_chips : (es fs : List Entry) (b d : Bool) → es ≡ fs → b ≡ d → chips_in es b ≡ chips_in fs d
+pub same_chips : (es fs : List Entry) (b d : Memories) → es ≡ fs → b ≡ d → chips_in es b ≡ chips_in fs d
 same_chips es fs b d e f = ap (λ xs. chips_in xs b) e ∙ ap (chips_in fs) f
 
 told_by : (chips : Chips) (k : ℕ) (entry : Entry) (f : NamedFault) (e : ElabFault) → slice_get chips.entries k ≡ Some entry → IsFirstFault chips (entry.name ∷ []) entry f → Tells (FailsInside chips [] k) e → IsToldBy {A = Unit {0}} f (Err e)

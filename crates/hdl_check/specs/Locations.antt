@@ -58,8 +58,8 @@ unless (Some e) fault = None
 
 -- What is wrong at a place of a chip; the names are those of the chips that it stands in, its own first. An end has no text.
 abbrev pub fault_at : Chips → List (List ℕ) → Entry → Location → Option NamedFault
-fault_at chips outer entry (AtPin k) = unless (end_of chips.blocks entry) (pin_fault entry k)
-fault_at chips outer entry AtBody = unless (end_of chips.blocks entry) (body_fault entry)
+fault_at chips outer entry (AtPin k) = unless (end_of chips.memories entry) (pin_fault entry k)
+fault_at chips outer entry AtBody = unless (end_of chips.memories entry) (body_fault entry)
 fault_at chips outer entry (AtPart i) = fault_of_part chips outer entry (slice_get (parts_of chips entry) i)
 fault_at chips outer entry (Inside i s) =
     at_inner (λ inner. fault_at chips (inner.name ∷ outer) inner s) (inner_of chips (slice_get (parts_of chips entry) i))

@@ -1,14 +1,15 @@
 -- The faults of a chip of a library, as an answer has them.
-use Rattle.std.specs.Prelude.{◌≡◌, ℕ, Bool, List, [], ◌∷◌, Some, Result, Ok, Err, slice_get}
+use Rattle.std.specs.Prelude.{◌≡◌, ℕ, List, [], ◌∷◌, Some, Result, Ok, Err, slice_get}
 use Rattle.hdl_tree.specs.declared.library.Entry.{Entry}
+use Rattle.hdl_tree.specs.declared.ends.Memories.{Memories}
 use Rattle.hdl_tree.specs.Chips.{Chips, find_chip}
 use Rattle.hdl_check.specs.Locations.{IsFaultless, IsFirstFault}
 use Rattle.hdl_check.specs.declared.fault.NamedFault.{NamedFault}
 use Rattle.hdl_check.specs.declared.fault.ElabFault.{ElabFault}
 use Rattle.hdl_check.specs.declared.fault.ElabFault.TheVariants as errors
 
-abbrev pub chips_in : List Entry → Bool → Chips
-chips_in entries blocks = record { entries = entries; blocks = blocks }
+abbrev pub chips_in : List Entry → Memories → Chips
+chips_in entries memories = record { entries = entries; memories = memories }
 
 -- no two chips have the same name
 abbrev pub AreDistinct : List Entry → Type 0

@@ -10,15 +10,15 @@ ghost use Rattle.hdl_check.specs.Inner.Progress.{IsCatalog, ArePorts, IsCatalogO
 ghost use Rattle.hdl_check.specs.Whole.{AreDistinct};
 
 use crate::check::{Port, count_bits};
-use hdl_tree::{Chip, Connection, Entry, Library, Part, Pin, Source};
+use hdl_tree::{Chip, Connection, Entry, Library, Memories, Part, Pin, Source};
 use name_table::Table;
 use std::alloc::{AllocError, Global};
 
 /// The chips of a library.
 pub struct Catalog<'a> {
     pub entries: &'a [Entry],
-    /// Whether the shipped memories are blocks.
-    pub blocks: bool,
+    /// How the shipped memories are simulated.
+    pub memories: Memories,
     /// The place of each name.
     pub names: Table<'a, usize>,
     /// The pins of each chip.
@@ -30,7 +30,7 @@ impl Drop for Catalog<'_> {
     fn drop(self) {
         let Catalog {
             entries: _,
-            blocks: _,
+            memories: _,
             names: _,
             ports: _,
         } = self;
@@ -43,7 +43,8 @@ fn enter_ports<'a>(
     input: bool,
     pins: &'a [Pin],
 ) -> Result<(), AllocError>
-    ensures { IfOk result (λ _. (x : List ℕ) → find_value x (table_of table.new) ≡ find_value x (table_of table.old ++ ports_in input pins.now)) }
+    ensures { IfOk result (λ _. (x : List ℕ) → find_value x (table_of table.new)
+        ≡ find_value x (table_of table.old ++ ports_in input pins.now)) }
 {
     let mut rest = pins;
     while let Some((pin, others)) = rest.split_first() {
@@ -63,8 +64,11 @@ fn port_table<'a>(alloc: Global, chip: &'a Chip) -> Result<Table<'a, Port>, Allo
     Ok(table)
 }
 
-/// The pins of each chip.
-fn port_tables<'a>(alloc: Global, entries: &'a [Entry]) -> Result<Vec<Table<'a, Port>>, AllocError>
+/// The pins of each chip, by name.
+pub fn port_tables<'a>(
+    alloc: Global,
+    entries: &'a [Entry],
+) -> Result<Vec<Table<'a, Port>>, AllocError>
     ensures { IfOk result (λ v. ArePorts entries.now v.items) }
 {
     let mut ports = Vec::new(alloc);
@@ -90,16 +94,20 @@ fn name_table<'a>(alloc: Global, entries: &'a [Entry]) -> Result<Table<'a, usize
 
 impl<'a> Catalog<'a> {
     /// The chips of a library whose names differ.
-    pub fn new(alloc: Global, library: &'a Library, blocks: bool) -> Result<Catalog<'a>, AllocError>
+    pub fn new(
+        alloc: Global,
+        library: &'a Library,
+        memories: Memories,
+    ) -> Result<Catalog<'a>, AllocError>
         requires { AreDistinct library.now.entries }
-        ensures { IfOk result (λ catalog. IsCatalogOf catalog library.now.entries blocks) }
+        ensures { IfOk result (λ catalog. IsCatalogOf catalog library.now.entries memories) }
     {
         let entries = library.entries.as_slice();
         let names = name_table(alloc, entries)?;
         let ports = port_tables(alloc, entries)?;
         Ok(Catalog {
             entries,
-            blocks,
+            memories,
             names,
             ports,
         })
@@ -108,7 +116,9 @@ impl<'a> Catalog<'a> {
     /// The place of the chip of this name.
     pub fn place(&self, name: &'a [u8]) -> Option<usize>
         requires { IsCatalog self.now }
-        ensures { MatchOption result (find_entry self.now.entries.now name.now ≡ None) (λ k. (k < length self.now.entries.now) × (find_entry self.now.entries.now name.now ≡ slice_get self.now.entries.now k)) }
+        ensures { MatchOption result (find_entry self.now.entries.now name.now ≡ None)
+            (λ k. (k < length self.now.entries.now)
+            × (find_entry self.now.entries.now name.now ≡ slice_get self.now.entries.now k)) }
     {
         self.names.find(name)
     }
@@ -120,7 +130,8 @@ fn enter_net<'a>(
     connection: &'a Connection,
     nets: &mut Table<'a, u32>,
 ) -> Result<(), AllocError>
-    ensures { OnOk result ((x : List ℕ) → find_value x (table_of nets.new) ≡ find_value x (table_of nets.old ++ widths_of (driver_by port connection.now))) }
+    ensures { OnOk result ((x : List ℕ) → find_value x (table_of nets.new)
+        ≡ find_value x (table_of nets.old ++ widths_of (driver_by port connection.now))) }
 {
     let Some(port) = port else {
         return Ok(());
@@ -144,7 +155,9 @@ fn enter_nets<'a>(
     connections: &'a [Connection],
     nets: &mut Table<'a, u32>,
 ) -> Result<(), AllocError>
-    ensures { OnOk result ((inner : List (List ℕ × Port)) (x : List ℕ) → Finds ports.now inner → find_value x (table_of nets.new) ≡ find_value x (table_of nets.old ++ widths_of (drivers_by inner connections.now))) }
+    ensures { OnOk result ((inner : List (List ℕ × Port)) (x : List ℕ)
+        → Finds ports.now inner → find_value x (table_of nets.new)
+        ≡ find_value x (table_of nets.old ++ widths_of (drivers_by inner connections.now))) }
 {
     let mut rest = connections;
     while let Some((connection, others)) = rest.split_first() {
@@ -162,7 +175,8 @@ fn enter_part<'a>(
     nets: &mut Table<'a, u32>,
 ) -> Result<(), AllocError>
     requires { IsCatalog catalog.now }
-    ensures { OnOk result ((x : List ℕ) → find_value x (table_of nets.new) ≡ find_value x (table_of nets.old ++ widths_of (drivers_of_part (chips_of catalog.now) part.now))) }
+    ensures { OnOk result ((x : List ℕ) → find_value x (table_of nets.new) ≡ find_value x
+        (table_of nets.old ++ widths_of (drivers_of_part (chips_of catalog.now) part.now))) }
 {
     match catalog.place(part.chip.as_bytes()) {
         None => Ok(()),

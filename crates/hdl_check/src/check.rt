@@ -223,7 +223,8 @@ fn check_drives<'a>(
 /// Whether some bit that a part's input takes is fed already.
 fn fed_twice<'a>(port: Port, connection: &'a Connection, fed: &Marks<'a>) -> bool
     requires { IsTrue port.input }
-    ensures { (bits : List BitOf) → HasMarks fed.now bits → result ≡ some_in (fed_by (Some port) connection.now) bits }
+    ensures { (bits : List BitOf) → HasMarks fed.now bits
+        → result ≡ some_in (fed_by (Some port) connection.now) bits }
 {
     let pin = &connection.pin;
     fed.has_some(
@@ -236,7 +237,8 @@ fn fed_twice<'a>(port: Port, connection: &'a Connection, fed: &Marks<'a>) -> boo
 /// Whether some bit that a part's output goes to is driven already.
 fn driven_twice<'a>(port: Port, connection: &'a Connection, driven: &Marks<'a>) -> bool
     requires { port.input ≡ false }
-    ensures { (bits : List BitOf) → HasMarks driven.now bits → result ≡ some_in (bits_driven (driver_by (Some port) connection.now)) bits }
+    ensures { (bits : List BitOf) → HasMarks driven.now bits
+        → result ≡ some_in (bits_driven (driver_by (Some port) connection.now)) bits }
 {
     match &connection.source {
         Source::Constant(_) => false,
@@ -257,7 +259,8 @@ fn check_driven<'a>(
     driven: &Marks<'a>,
     fed: &Marks<'a>,
 ) -> Result<(), ElabFault>
-    ensures { (a : Context) → SeesScope scope.entry a → HasMarks driven.now a.driven → HasMarks fed.now a.fed → Checks (driven_fault a port connection.now right) result }
+    ensures { (a : Context) → SeesScope scope.entry a → HasMarks driven.now a.driven
+        → HasMarks fed.now a.fed → Checks (driven_fault a port connection.now right) result }
 {
     if port.input {
         let twice = fed_twice(port, connection, fed);
@@ -292,7 +295,8 @@ fn check_wiring<'a>(
     driven: &Marks<'a>,
     fed: &Marks<'a>,
 ) -> Result<(), ElabFault>
-    ensures { (a : Context) → SeesScope scope.entry a → HasMarks driven.now a.driven → HasMarks fed.now a.fed → Checks (wiring_fault a port connection.now) result }
+    ensures { (a : Context) → SeesScope scope.entry a → HasMarks driven.now a.driven
+        → HasMarks fed.now a.fed → Checks (wiring_fault a port connection.now) result }
 {
     let right = right_side(scope, &connection.source);
     check_width(alloc, scope, port, connection, right)?;
@@ -308,7 +312,8 @@ fn note<'a>(
     fed: &mut Marks<'a>,
 ) -> Result<(), AllocError>
     ensures fed { OnOk result (MarksMore fed.old fed.new (fed_by (Some port) connection.now)) }
-    ensures driven { OnOk result (MarksMore driven.old driven.new (bits_driven (driver_by (Some port) connection.now))) }
+    ensures driven { OnOk result
+        (MarksMore driven.old driven.new (bits_driven (driver_by (Some port) connection.now))) }
 {
     let pin = &connection.pin;
     let count = count_bits(pin.subscript, u32::from(port.width));
@@ -332,9 +337,13 @@ pub(crate) fn check_connection<'a>(
     driven: &mut Marks<'a>,
     fed: &mut Marks<'a>,
 ) -> Result<(), ElabFault>
-    ensures checks { (a : Context) (inner : List (List ℕ × Port)) → SeesScope scope.entry a → Finds ports.now inner → HasMarks driven.old a.driven → HasMarks fed.old a.fed → Checks (connection_fault a inner connection.now) result }
-    ensures fed { OnOk result (MarksMore fed.old fed.new (fed_by (find_value connection.now.pin.name (table_of ports.now)) connection.now)) }
-    ensures driven { OnOk result (MarksMore driven.old driven.new (bits_driven (driver_by (find_value connection.now.pin.name (table_of ports.now)) connection.now))) }
+    ensures checks { (a : Context) (inner : List (List ℕ × Port)) → SeesScope scope.entry a
+        → Finds ports.now inner → HasMarks driven.old a.driven → HasMarks fed.old a.fed
+        → Checks (connection_fault a inner connection.now) result }
+    ensures fed { OnOk result (MarksMore fed.old fed.new
+        (fed_by (find_value connection.now.pin.name (table_of ports.now)) connection.now)) }
+    ensures driven { OnOk result (MarksMore driven.old driven.new (bits_driven
+        (driver_by (find_value connection.now.pin.name (table_of ports.now)) connection.now))) }
 {
     let pin = connection.pin.name.as_bytes();
     match ports.find(pin) {

@@ -10,7 +10,7 @@ ghost use Rattle.hdl_check.specs.Whole.{AreDistinct, chips_in, Tells, TopIsFault
 use crate::catalog::Catalog;
 use crate::fault::ElabFault;
 use crate::walk::check_all;
-use hdl_tree::{Library, Name};
+use hdl_tree::{Library, Memories, Name};
 use std::alloc::Global;
 
 /// At most one fault is the first.
@@ -23,15 +23,20 @@ pub fn check_library(
     alloc: Global,
     library: &Library,
     top: &Name,
-    blocks: bool,
+    memories: Memories,
 ) -> Result<(), ElabFault>
     requires distinct { AreDistinct library.now.entries }
     requires there { IsSome (find_entry library.now.entries top.now) }
-    ensures fine { IfOk result (λ _. TopIsFaultless (chips_in library.now.entries blocks) top.now) }
-    ensures fault { IfErr result (Tells (TopFails (chips_in library.now.entries blocks) top.now)) }
-    ensures exact { (entry : Entry) (f : NamedFault) → find_chip (chips_in library.now.entries blocks) top.now ≡ Some entry → IsFirstFault (chips_in library.now.entries blocks) (entry.name ∷ []) entry f → IsToldBy f result }
+    ensures fine { IfOk result
+        (λ _. TopIsFaultless (chips_in library.now.entries memories) top.now) }
+    ensures fault { IfErr result
+        (Tells (TopFails (chips_in library.now.entries memories) top.now)) }
+    ensures exact { (entry : Entry) (f : NamedFault)
+        → find_chip (chips_in library.now.entries memories) top.now ≡ Some entry
+        → IsFirstFault (chips_in library.now.entries memories) (entry.name ∷ []) entry f
+        → IsToldBy f result }
 {
-    let catalog = Catalog::new(alloc, library, blocks)?;
+    let catalog = Catalog::new(alloc, library, memories)?;
     match catalog.place(top.as_bytes()) {
         None => unreachable!(),
         Some(k) => {

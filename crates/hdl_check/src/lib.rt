@@ -16,7 +16,7 @@ mod stage;
 mod walk;
 
 // The passes after this one go through the chips by the same tables.
-pub use catalog::Catalog;
+pub use catalog::{Catalog, port_tables};
 pub use check::{count_bits, first_bit};
 // What the definitions of faults speak of.
 pub use check::{Port, RightSide};

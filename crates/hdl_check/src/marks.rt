@@ -38,7 +38,8 @@ impl<'a> Marks<'a> {
 
     /// Marks one more bit.
     pub(crate) fn mark(&mut self, name: &'a [u8], bit: u32) -> Result<(), AllocError>
-        ensures { OnOk result (MarksMore self.old self.new (record { name = name.now; bit = bit } ∷ [])) }
+        ensures { OnOk result
+            (MarksMore self.old self.new (record { name = name.now; bit = bit } ∷ [])) }
     {
         match self.bits.insert(Mark { name, bit }) {
             Ok(_) => Ok(()),

@@ -28,7 +28,8 @@ fn enter_pins<'a>(
 ) -> Result<(), ElabFault>
     requires { names_in (table_of seen.old) ≡ map pin_name front.now }
     ensures fault { FindsFirst (λ k. pin_fault_in entry.now front.now pins.now k) result }
-    ensures seen { OnOk result (names_in (table_of seen.new) ≡ map pin_name (front.now ++ pins.now)) }
+    ensures seen { OnOk result
+        (names_in (table_of seen.new) ≡ map pin_name (front.now ++ pins.now)) }
 {
     for pin in pins {
         let name = pin.name.as_bytes();
@@ -68,9 +69,12 @@ pub(crate) fn check_connections<'a>(
 ) -> Result<(), ElabFault>
     requires sees { SeesChip (chips_of catalog.now) entry.now scope }
     requires ports { Finds ports.now (ports_of inner.now.chip) }
-    requires driven { HasMarks driven.old (bits_driven (drivers_of (chips_of catalog.now) (take i (parts_of (chips_of catalog.now) entry.now)))) }
-    ensures fault { FindsFirst (connection_fault_in (chips_of catalog.now) entry.now i (ports_of inner.now.chip) connections.now) result }
-    ensures driven { OnOk result (MarksMore driven.old driven.new (bits_driven (drivers_by (ports_of inner.now.chip) connections.now))) }
+    requires driven { HasMarks driven.old (bits_driven (drivers_of (chips_of catalog.now)
+        (take i (parts_of (chips_of catalog.now) entry.now)))) }
+    ensures fault { FindsFirst (connection_fault_in (chips_of catalog.now) entry.now i
+        (ports_of inner.now.chip) connections.now) result }
+    ensures driven { OnOk result (MarksMore driven.old driven.new
+        (bits_driven (drivers_by (ports_of inner.now.chip) connections.now))) }
 {
     let mut fed = Marks::new(alloc);
     for connection in connections {
@@ -81,9 +85,9 @@ pub(crate) fn check_connections<'a>(
 
 /// Whether the chip is an end.
 fn is_end(catalog: &Catalog, entry: &Entry) -> bool
-    ensures { result ≡ is_some (end_of catalog.now.blocks entry.now) }
+    ensures { result ≡ is_some (end_of catalog.now.memories entry.now) }
 {
-    find_end(catalog.blocks, entry).is_some()
+    find_end(catalog.memories, entry).is_some()
 }
 
 /// The pins and the body of a chip, unless it is an end.
@@ -93,7 +97,8 @@ pub(crate) fn check_head<'a>(
     entry: &'a Entry,
 ) -> Result<(), ElabFault>
     ensures fine { OnOk result (HeadIsFine (chips_of catalog.now) entry.now) }
-    ensures fault { IfErr result (λ e. (names : List (List ℕ)) → Tells (IsFirstFault (chips_of catalog.now) names entry.now) e) }
+    ensures fault { IfErr result (λ e. (names : List (List ℕ))
+        → Tells (IsFirstFault (chips_of catalog.now) names entry.now) e) }
 {
     if is_end(catalog, entry) {
         return Ok(());

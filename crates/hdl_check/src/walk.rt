@@ -52,7 +52,7 @@ impl Drop for Frame<'_> {
 fn parts_in<'a>(catalog: &Catalog<'a>, entry: &'a Entry) -> &'a [Part]
     ensures { result.now ≡ parts_of (chips_of catalog.now) entry.now }
 {
-    if find_end(catalog.blocks, entry).is_some() {
+    if find_end(catalog.memories, entry).is_some() {
         return &[];
     }
     match &entry.chip.body {
@@ -66,7 +66,8 @@ fn begin<'a>(alloc: Global, catalog: &Catalog<'a>, k: usize) -> Result<Frame<'a>
     requires catalog { IsCatalog catalog.now }
     requires there { k < length catalog.now.entries.now }
     ensures begun { IfOk result (IsBegun (chips_of catalog.now) k) }
-    ensures fault { IfErr result (λ e. (outer : List (List ℕ)) → Tells (FailsInside (chips_of catalog.now) outer k) e) }
+    ensures fault { IfErr result
+        (λ e. (outer : List (List ℕ)) → Tells (FailsInside (chips_of catalog.now) outer k) e) }
 {
     let entry = &catalog.entries[k];
     check_head(alloc, catalog, entry)?;
@@ -93,7 +94,10 @@ fn inner_chip<'a>(
     requires long { length stages.now ≡ length catalog.now.entries.now }
     ensures inner { IfOk result (IsInner (chips_of catalog.now) part.now) }
     ensures closed { IfOk result (λ k. is_open (slice_get stages.now k) ≡ false) }
-    ensures fault { IfErr result (λ e. (names : List (List ℕ)) (i : ℕ) → AreOpen (chips_of catalog.now) stages.now names → slice_get (parts_of (chips_of catalog.now) entry.now) i ≡ Some part.now → Tells (PartFails (chips_of catalog.now) names entry.now i) e) }
+    ensures fault { IfErr result
+        (λ e. (names : List (List ℕ)) (i : ℕ) → AreOpen (chips_of catalog.now) stages.now names
+        → slice_get (parts_of (chips_of catalog.now) entry.now) i ≡ Some part.now
+        → Tells (PartFails (chips_of catalog.now) names entry.now i) e) }
 {
     let name = part.chip.as_bytes();
     let chip = entry.name.as_bytes();
@@ -118,11 +122,14 @@ fn check_part<'a>(
 ) -> Result<(), ElabFault>
     requires catalog { IsCatalog catalog.now }
     requires wired { IsWired (chips_of catalog.now) frame.old }
-    requires there { slice_get (parts_of (chips_of catalog.now) frame.old.entry.now) frame.old.place ≡ Some part.now }
+    requires there { slice_get (parts_of (chips_of catalog.now) frame.old.entry.now) frame.old.place
+        ≡ Some part.now }
     requires inner { IsInner (chips_of catalog.now) part.now k }
     ensures wired { OnOk result (IsWired (chips_of catalog.now) frame.new) }
     ensures further { OnOk result (IsOneFurther frame.old frame.new) }
-    ensures fault { (inner : Entry) → slice_get catalog.now.entries.now k ≡ Some inner → FindsFirst (connection_fault_in (chips_of catalog.now) frame.old.entry.now frame.old.place (ports_of inner.chip) part.now.connections) result }
+    ensures fault { (inner : Entry) → slice_get catalog.now.entries.now k ≡ Some inner
+        → FindsFirst (connection_fault_in (chips_of catalog.now) frame.old.entry.now frame.old.place
+        (ports_of inner.chip) part.now.connections) result }
 {
     let scope = Scope {
         chip: frame.entry.name.as_bytes(),
@@ -156,8 +163,13 @@ fn advance<'a>(
     requires frame { IsFrame (chips_of catalog.now) stages.now frame.old }
     ensures frame { OnOk result (IsFrame (chips_of catalog.now) stages.now frame.new) }
     ensures same { OnOk result (HasSameChip frame.old frame.new) }
-    ensures next { IfOk result (λ next. MatchOption next (length (parts_of (chips_of catalog.now) frame.new.entry.now) ≤ frame.new.place) (λ k. WaitsFor (chips_of catalog.now) frame.new k × (slice_get stages.now k ≡ Some New))) }
-    ensures fault { IfErr result (λ e. (names : List (List ℕ)) (done : ℕ) → AreOpen (chips_of catalog.now) stages.now names → IsProgress (chips_of catalog.now) stages.now done → Tells (PartsFail (chips_of catalog.now) names frame.old.entry.now) e) }
+    ensures next { IfOk result (λ next. MatchOption next
+        (length (parts_of (chips_of catalog.now) frame.new.entry.now) ≤ frame.new.place)
+        (λ k. WaitsFor (chips_of catalog.now) frame.new k × (slice_get stages.now k ≡ Some New))) }
+    ensures fault { IfErr result
+        (λ e. (names : List (List ℕ)) (done : ℕ) → AreOpen (chips_of catalog.now) stages.now names
+        → IsProgress (chips_of catalog.now) stages.now done
+        → Tells (PartsFail (chips_of catalog.now) names frame.old.entry.now) e) }
 {
     'parts: while frame.place < frame.parts.len() {
         let part = &frame.parts[frame.place];
@@ -212,10 +224,16 @@ fn step<'a>(
     frame: Frame<'a>,
 ) -> Result<(), ElabFault>
     requires catalog { IsCatalog catalog.now }
-    requires search { (top : ℕ) × IsSearch (chips_of catalog.now) top stages.old (vec_len order.old) (frames.old.items ++ frame ∷ []) }
-    ensures search { OnOk result ((top : ℕ) → IsSearch (chips_of catalog.now) top stages.old (vec_len order.old) (frames.old.items ++ frame.entry ∷ []) → IsSearch (chips_of catalog.now) top stages.new (vec_len order.new) frames.new.items) }
-    ensures less { OnOk result (2 * count_by is_new stages.new + length frames.new.items < 2 * count_by is_new stages.old + (length frames.old.items + 1)) }
-    ensures fault { IfErr result (λ e. (top : ℕ) → IsSearch (chips_of catalog.now) top stages.old (vec_len order.old) (frames.old.items ++ frame.entry ∷ []) → Tells (FailsInside (chips_of catalog.now) [] top) e) }
+    requires search { (top : ℕ) × IsSearch (chips_of catalog.now) top stages.old (vec_len order.old)
+        (frames.old.items ++ frame ∷ []) }
+    ensures search { OnOk result ((top : ℕ) → IsSearch (chips_of catalog.now) top stages.old
+        (vec_len order.old) (frames.old.items ++ frame.entry ∷ [])
+        → IsSearch (chips_of catalog.now) top stages.new (vec_len order.new) frames.new.items) }
+    ensures less { OnOk result (2 * count_by is_new stages.new + length frames.new.items
+        < 2 * count_by is_new stages.old + (length frames.old.items + 1)) }
+    ensures fault { IfErr result (λ e. (top : ℕ) → IsSearch (chips_of catalog.now) top stages.old
+        (vec_len order.old) (frames.old.items ++ frame.entry ∷ [])
+        → Tells (FailsInside (chips_of catalog.now) [] top) e) }
 {
     let mut frame = frame;
     match advance(alloc, catalog, stages, &mut frame)? {
@@ -246,7 +264,9 @@ pub(crate) fn check_all<'a>(
 ) -> Result<Vec<usize>, ElabFault>
     requires catalog { IsCatalog catalog.now }
     requires there { k < length catalog.now.entries.now }
-    ensures fine { IfOk result (λ _. (entry : Entry) → slice_get catalog.now.entries.now k ≡ Some entry → IsFaultless (chips_of catalog.now) (entry.name ∷ []) entry) }
+    ensures fine { IfOk result
+        (λ _. (entry : Entry) → slice_get catalog.now.entries.now k ≡ Some entry
+        → IsFaultless (chips_of catalog.now) (entry.name ∷ []) entry) }
     ensures fault { IfErr result (Tells (FailsInside (chips_of catalog.now) [] k)) }
 {
     let mut stages = new_stages(alloc, catalog.entries.len())?;

@@ -25,7 +25,7 @@ use Rattle.hdl_elab.proofs.Hearing.{index_is}
 
 -- ---- no chip stands in it
 
-only_top : (chips : Chips) (top : Entry) (kind : End) → end_of chips.blocks top ≡ Some kind → (path : List ℕ) (c : Entry) → chip_at chips top path ≡ Some c → path ≡ []
+only_top : (chips : Chips) (top : Entry) (kind : End) → end_of chips.memories top ≡ Some kind → (path : List ℕ) (c : Entry) → chip_at chips top path ≡ Some c → path ≡ []
 only_top chips top kind is [] c at = refl
 only_top chips top kind is (i ∷ path) c at =
     let p = at_part chips top i path c at in
@@ -54,7 +54,7 @@ block_is (Some ends.Dff) b n h = absurd cc
 block_is (Some ends.Keyboard) b n h = absurd cc
 block_is None b n h = absurd cc
 
-module _ (chips : Chips) (top : Entry) (kind : End) (e : Elab) (is : IsElaborated chips top e) (is_end : end_of chips.blocks top ≡ Some kind) where
+module _ (chips : Chips) (top : Entry) (kind : End) (e : Elab) (is : IsElaborated chips top e) (is_end : end_of chips.memories top ≡ Some kind) where
   stands : EndStands e.net is.low (is.block []) kind (is.at [])
   stands =
       subst (λ (o : Option End). ChipWired is.low is.high chips top o (is.at []) (λ i. is.at ([] ++ i ∷ [])) (λ k. EndStands e.net is.low (is.block []) k (is.at []))) is_end
@@ -65,7 +65,7 @@ module _ (chips : Chips) (top : Entry) (kind : End) (e : Elab) (is : IsElaborate
       let lt = slice_get_within e.net.blocks (is.block []) block there in
       let first = is.blocks_used 0 (omega (arith, lt)) in
       let here = only_top chips top kind is_end first.path first.chip first.there in
-      ap is.block (sym here) ∙ block_is (end_of chips.blocks first.chip) (is.block first.path) 0 first.its
+      ap is.block (sym here) ∙ block_is (end_of chips.memories first.chip) (is.block first.path) 0 first.its
 
   out_index : named_pins top.chip.inputs ≡ [] → named_pins top.chip.outputs ≡ (codes "out", 16) ∷ [] → (pin : PinAt) × (slice_get e.pins 0 ≡ Some pin) × ((k : ℕ) → k < 16 → slice_index pin.nodes k ≡ is.at [] (codes "out") k)
   out_index ins outs =
@@ -73,7 +73,7 @@ module _ (chips : Chips) (top : Entry) (kind : End) (e : Elab) (is : IsElaborate
       let pins = is.pins ∙ ap (λ (ps : List Pin). map (pin_at (is.at [])) (ps ++ top.chip.outputs)) (no_pins top.chip.inputs ins) ∙ ap (λ (ps : List Pin). map (pin_at (is.at [])) ps) p.1 in
       (pin_at (is.at []) p.0, ap (λ (ps : List PinAt). slice_get ps 0) pins, λ k lt. index_is (is.at []) p.0.name (pin_width p.0) k (omega (arith, lt, p.3)) ∙ ap (λ (m : List ℕ). is.at [] m k) p.2)
 
-alone_by : (world : World) (inputs : Inputs) (n : ℕ) (chips : Chips) (top : Entry) (e : Elab) (is : IsElaborated chips top e) (kind : End) → end_of chips.blocks top ≡ Some kind → HasPins top kind → EndAloneHears world inputs n kind e → EndHears world inputs n (is.block []) kind (is.at [])
+alone_by : (world : World) (inputs : Inputs) (n : ℕ) (chips : Chips) (top : Entry) (e : Elab) (is : IsElaborated chips top e) (kind : End) → end_of chips.memories top ≡ Some kind → HasPins top kind → EndAloneHears world inputs n kind e → EndHears world inputs n (is.block []) kind (is.at [])
 alone_by world inputs n chips top e is ends.Nand is_end pins h = tt
 alone_by world inputs n chips top e is ends.Dff is_end pins h = tt
 alone_by world inputs n chips top e is ends.Keyboard is_end pins h =
@@ -86,13 +86,13 @@ alone_by world inputs n chips top e is (ends.Block bits) is_end pins h =
     let s = stands chips top (ends.Block bits) e is is_end in
     subst (λ (b : ℕ). EndHears world inputs n b (ends.Block bits) (is.at [])) (sym (only_block chips top (ends.Block bits) e is is_end _ s.there)) h
 
-hears_all : (world : World) (inputs : Inputs) (n : ℕ) (chips : Chips) (top : Entry) (e : Elab) (is : IsElaborated chips top e) (kind : End) → end_of chips.blocks top ≡ Some kind → EndHears world inputs n (is.block []) kind (is.at []) → HearsWorld world inputs n chips top e is
+hears_all : (world : World) (inputs : Inputs) (n : ℕ) (chips : Chips) (top : Entry) (e : Elab) (is : IsElaborated chips top e) (kind : End) → end_of chips.memories top ≡ Some kind → EndHears world inputs n (is.block []) kind (is.at []) → HearsWorld world inputs n chips top e is
 hears_all world inputs n chips top e is kind is_end h path chip k at is_k = by path at
   where
     by : (p : List ℕ) → chip_at chips top p ≡ Some chip → EndHears world inputs n (is.block p) k (is.at p)
     by [] at_top =
         let same : top ≡ chip = cc in
-        let both : Some kind ≡ Some k = sym is_end ∙ ap (end_of chips.blocks) same ∙ is_k in
+        let both : Some kind ≡ Some k = sym is_end ∙ ap (end_of chips.memories) same ∙ is_k in
         let one : kind ≡ k = cc in
         subst (λ (x : End). EndHears world inputs n (is.block []) x (is.at [])) one h
     by (l ∷ r) at_part = let none = only_top chips top kind is_end (l ∷ r) chip at_part in absurd cc

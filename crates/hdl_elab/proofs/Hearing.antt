@@ -59,7 +59,7 @@ module _ (world : World) (inputs : Inputs) (n : ℕ) (chips : Chips) (at : List 
   abbrev listed_here : PartAt
   listed_here = part_at chips at block (record { path = path; chip = chip })
 
-  hears_by : (e : End) → HasPins chip e → end_of chips.blocks chip ≡ Some e → ListedHears world inputs n e listed_here → EndHears world inputs n (block path) e (at path)
+  hears_by : (e : End) → HasPins chip e → end_of chips.memories chip ≡ Some e → ListedHears world inputs n e listed_here → EndHears world inputs n (block path) e (at path)
   hears_by ends.Nand pins is h = tt
   hears_by ends.Dff pins is h = tt
   hears_by ends.Keyboard pins is h = λ c lt.
@@ -73,7 +73,7 @@ hearing world chips name top e is inputs n tree pins found no_end listed hears p
     by : (p : List ℕ) → chip_at chips top p ≡ Some chip → EndHears world inputs n (is.block p) kind (is.at p)
     by [] at_top =
         let same : top ≡ chip = cc in
-        let both : None ≡ Some kind = sym no_end ∙ ap (end_of chips.blocks) same ∙ is_end in
+        let both : None ≡ Some kind = sym no_end ∙ ap (end_of chips.memories) same ∙ is_end in
         absurd cc
     by (l ∷ r) at_part =
         let s = in_tree chips top chip tree l r listed at_part in

@@ -41,7 +41,7 @@ pins_moved places at (p ∷ ps) = ap₂ (λ (xs : List ℕ) (rest : List PinAt).
 
 parts_moved : (places : List ℕ) (chips : Chips) (at : List ℕ → Wires ℕ) (block : List ℕ → ℕ) (tree : List PartIn) → map (moved_part places) (map (part_at chips at block) tree) ≡ map (part_at chips (λ path name bit. slice_index places (at path name bit)) block) tree
 parts_moved places chips at block [] = refl
-parts_moved places chips at block (p ∷ ps) = ap₂ (λ (xs : List ℕ) (rest : List PartAt). record { chip = p.chip.name; outs = xs; block = block_at (end_of chips.blocks p.chip) (block p.path) } ∷ rest) (nodes_moved places (at p.path) _) (parts_moved places chips at block ps)
+parts_moved places chips at block (p ∷ ps) = ap₂ (λ (xs : List ℕ) (rest : List PartAt). record { chip = p.chip.name; outs = xs; block = block_at (end_of chips.memories p.chip) (block p.path) } ∷ rest) (nodes_moved places (at p.path) _) (parts_moved places chips at block ps)
 
 length_moved : (places : List ℕ) (blocks : List Block) → length (map (renamed_block places) blocks) ≡ length blocks
 length_moved places [] = refl

@@ -143,12 +143,12 @@ module _ (chips : Chips) where
 -- ---- blocks
 
 module _ (chips : Chips) (top : Entry) (e : Elab) (is : IsElaborated chips top e) where
-  stands : (path : List ℕ) (chip : Entry) (kind : End) → chip_at chips top path ≡ Some chip → end_of chips.blocks chip ≡ Some kind → EndStands e.net is.low (is.block path) kind (is.at path)
+  stands : (path : List ℕ) (chip : Entry) (kind : End) → chip_at chips top path ≡ Some chip → end_of chips.memories chip ≡ Some kind → EndStands e.net is.low (is.block path) kind (is.at path)
   stands path chip kind at is_end =
       subst (λ (o : Option End). ChipWired is.low is.high chips chip o (is.at path) (λ i. is.at (path ++ i ∷ [])) (λ k. EndStands e.net is.low (is.block path) k (is.at path))) is_end
       (is.numbering.wired path chip at)
 
-  block_there : (path : List ℕ) (chip : Entry) → chip_at chips top path ≡ Some chip → (o : Option End) → end_of chips.blocks chip ≡ o → IfSome (block_at o (is.block path)) (λ b. b < length e.net.blocks)
+  block_there : (path : List ℕ) (chip : Entry) → chip_at chips top path ≡ Some chip → (o : Option End) → end_of chips.memories chip ≡ o → IfSome (block_at o (is.block path)) (λ b. b < length e.net.blocks)
   block_there path chip at None is_end = tt
   block_there path chip at (Some ends.Nand) is_end = tt
   block_there path chip at (Some ends.Dff) is_end = tt
@@ -160,7 +160,7 @@ module _ (chips : Chips) (top : Entry) (e : Elab) (is : IsElaborated chips top e
   blocks_there = all_by (λ (p : PartAt). IfSome p.block (λ b. b < length e.net.blocks)) e.parts (λ k part there.
       let p = comes (flat.part_at chips is.at is.block) is.tree e.parts k part is.parts there in
       let at = at_within chips top p.item (listed_at chips 0 (parts_of chips top) is.tree is.listed k p.item p.there) in
-      subst (λ (x : PartAt). IfSome x.block (λ b. b < length e.net.blocks)) p.is (block_there p.item.path p.item.chip at (end_of chips.blocks p.item.chip) refl))
+      subst (λ (x : PartAt). IfSome x.block (λ b. b < length e.net.blocks)) p.is (block_there p.item.path p.item.chip at (end_of chips.memories p.item.chip) refl))
 
 pub all_there : ThereLaw
 all_there chips top e is = record {

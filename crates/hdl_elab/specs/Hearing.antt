@@ -27,19 +27,19 @@ ListedHears world inputs n (ends.Block bits) part = (b : ℕ) → part.block ≡
 -- each end among the parts of the tree is given that, where the directory lists the parts
 abbrev pub DirectoryHears : World → Inputs → ℕ → Chips → List PartIn → Elab → Type 0
 DirectoryHears world inputs n chips tree e =
-    (k : ℕ) (part : PartIn) (listed : PartAt) (kind : End) → slice_get tree k ≡ Some part → slice_get e.parts k ≡ Some listed → end_of chips.blocks part.chip ≡ Some kind → ListedHears world inputs n kind listed
+    (k : ℕ) (part : PartIn) (listed : PartAt) (kind : End) → slice_get tree k ≡ Some part → slice_get e.parts k ≡ Some listed → end_of chips.memories part.chip ≡ Some kind → ListedHears world inputs n kind listed
 
 -- What the ends of the directory are given is what the world gives to the ends in the chip, which is no end itself.
 abbrev pub HearingLaw : Type 0
 HearingLaw =
     (world : World) (chips : Chips) (name : List ℕ) (top : Entry) (e : Elab) (is : IsElaborated chips top e) (inputs : Inputs) (n : ℕ) (tree : List PartIn) →
-    EndsHavePins chips → find_chip chips name ≡ Some top → end_of chips.blocks top ≡ None → IsTree chips top tree → DirectoryHears world inputs n chips tree e → HearsWorld world inputs n chips top e is
+    EndsHavePins chips → find_chip chips name ≡ Some top → end_of chips.memories top ≡ None → IsTree chips top tree → DirectoryHears world inputs n chips tree e → HearsWorld world inputs n chips top e is
 
 -- By the directory alone: let the ends that it lists be given that. Then the values of the netlist, at the nodes that it names, are a behaviour of
 -- the chip.
 abbrev pub DirectoryLaw : Type 0
 DirectoryLaw =
-    (world : World) (chips : Chips) (name : List ℕ) (top : Entry) (e : Elab) → IsElaborated chips top e → EndsHavePins chips → find_chip chips name ≡ Some top → end_of chips.blocks top ≡ None → (tree : List PartIn) → IsTree chips top tree →
+    (world : World) (chips : Chips) (name : List ℕ) (top : Entry) (e : Elab) → IsElaborated chips top e → EndsHavePins chips → find_chip chips name ≡ Some top → end_of chips.memories top ≡ None → (tree : List PartIn) → IsTree chips top tree →
     (inputs : Inputs) (n : ℕ) (v : ℕ → ℕ → Bool) → DirectoryHears world inputs n chips tree e → AreValues e.net inputs n v → ValuesBehave world chips top n e v
 
 -- ---- a chip that is an end itself, as a memory that is a block: its pins are those of the chip, and it has the only block
@@ -54,5 +54,5 @@ EndAloneHears world inputs n (ends.Block bits) e = (a : ℕ) → inputs.loaded 0
 -- Where it is given that, the values of the netlist, at the nodes of its pins, are a behaviour of the chip.
 abbrev pub EndAloneLaw : Type 0
 EndAloneLaw =
-    (world : World) (chips : Chips) (name : List ℕ) (top : Entry) (kind : End) (e : Elab) → IsElaborated chips top e → EndsHavePins chips → find_chip chips name ≡ Some top → end_of chips.blocks top ≡ Some kind →
+    (world : World) (chips : Chips) (name : List ℕ) (top : Entry) (kind : End) (e : Elab) → IsElaborated chips top e → EndsHavePins chips → find_chip chips name ≡ Some top → end_of chips.memories top ≡ Some kind →
     (inputs : Inputs) (n : ℕ) (v : ℕ → ℕ → Bool) → EndAloneHears world inputs n kind e → AreValues e.net inputs n v → ValuesBehave world chips top n e v

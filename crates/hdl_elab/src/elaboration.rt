@@ -15,7 +15,7 @@ use crate::put::Elab;
 use hdl_check::{ElabFault, check_library};
 use hdl_flatten::count;
 use hdl_loops::find_loop;
-use hdl_tree::{Library, List, Name};
+use hdl_tree::{Library, List, Memories, Name};
 use std::alloc::Global;
 
 /// How many nodes a netlist may have.
@@ -28,14 +28,15 @@ fn check_texts(
     alloc: Global,
     library: &Library,
     top: &Name,
-    blocks: bool,
+    memories: Memories,
 ) -> Result<(), ElaborationFault>
     requires distinct { AreDistinct library.now.entries }
     requires there { IsSome (find_entry library.now.entries top.now) }
-    ensures fine { IfOk result (λ _. TopIsFaultless (chips_in library.now.entries blocks) top.now) }
-    ensures fault { IfErr result (TopIsFaulty (chips_in library.now.entries blocks) top.now) }
+    ensures fine { IfOk result
+        (λ _. TopIsFaultless (chips_in library.now.entries memories) top.now) }
+    ensures fault { IfErr result (TopIsFaulty (chips_in library.now.entries memories) top.now) }
 {
-    match check_library(alloc, library, top, blocks) {
+    match check_library(alloc, library, top, memories) {
         Ok(()) => Ok(()),
         Err(ElabFault::Memory) => Err(ElaborationFault::Memory),
         Err(ElabFault::Named(fault)) => Err(ElaborationFault::Named(fault)),
@@ -46,13 +47,13 @@ fn check_loops(
     alloc: Global,
     library: &Library,
     top: &Name,
-    blocks: bool,
+    memories: Memories,
 ) -> Result<(), ElaborationFault>
-    requires fine { TopIsFaultless (chips_in library.now.entries blocks) top.now }
-    ensures fine { IfOk result (λ _. TopHasNoLoop (chips_in library.now.entries blocks) top.now) }
-    ensures fault { IfErr result (TopIsFaulty (chips_in library.now.entries blocks) top.now) }
+    requires fine { TopIsFaultless (chips_in library.now.entries memories) top.now }
+    ensures fine { IfOk result (λ _. TopHasNoLoop (chips_in library.now.entries memories) top.now) }
+    ensures fault { IfErr result (TopIsFaulty (chips_in library.now.entries memories) top.now) }
 {
-    match find_loop(alloc, library, top, blocks) {
+    match find_loop(alloc, library, top, memories) {
         Ok(None) => Ok(()),
         Ok(Some(nets)) => Err(ElaborationFault::Loop(List::of(nets))),
         Err(_) => Err(ElaborationFault::Memory),
@@ -63,17 +64,17 @@ fn check_size(
     alloc: Global,
     library: &Library,
     top: &Name,
-    blocks: bool,
+    memories: Memories,
 ) -> Result<(), ElaborationFault>
     requires distinct { AreDistinct library.now.entries }
     requires there { IsSome (find_entry library.now.entries top.now) }
-    requires fine { TopIsFaultless (chips_in library.now.entries blocks) top.now }
-    requires ends { EndsHavePins (chips_in library.now.entries blocks) }
-    requires no_loop { TopHasNoLoop (chips_in library.now.entries blocks) top.now }
-    ensures fine { IfOk result (λ _. NeedsFew (chips_in library.now.entries blocks) top.now) }
-    ensures fault { IfErr result (TopIsFaulty (chips_in library.now.entries blocks) top.now) }
+    requires fine { TopIsFaultless (chips_in library.now.entries memories) top.now }
+    requires ends { EndsHavePins (chips_in library.now.entries memories) }
+    requires no_loop { TopHasNoLoop (chips_in library.now.entries memories) top.now }
+    ensures fine { IfOk result (λ _. NeedsFew (chips_in library.now.entries memories) top.now) }
+    ensures fault { IfErr result (TopIsFaulty (chips_in library.now.entries memories) top.now) }
 {
-    let size = count(alloc, library, top, blocks)?;
+    let size = count(alloc, library, top, memories)?;
     if size.nodes > MOST_NODES {
         return Err(ElaborationFault::TooManyNodes(size.nodes));
     }
@@ -90,17 +91,18 @@ pub fn elaborate(
     alloc: Global,
     library: &Library,
     top: &Name,
-    blocks: bool,
+    memories: Memories,
 ) -> Result<Elab, ElaborationFault>
     requires distinct { AreDistinct library.now.entries }
     requires there { IsSome (find_entry library.now.entries top.now) }
-    requires ends { EndsHavePins (chips_in library.now.entries blocks) }
-    ensures elaborated { IfOk result (λ e. TopIsElaborated (chips_in library.now.entries blocks) top.now e) }
-    ensures fine { IfOk result (λ _. TopIsFine (chips_in library.now.entries blocks) top.now) }
-    ensures fault { IfErr result (TopIsFaulty (chips_in library.now.entries blocks) top.now) }
+    requires ends { EndsHavePins (chips_in library.now.entries memories) }
+    ensures elaborated { IfOk result
+        (λ e. TopIsElaborated (chips_in library.now.entries memories) top.now e) }
+    ensures fine { IfOk result (λ _. TopIsFine (chips_in library.now.entries memories) top.now) }
+    ensures fault { IfErr result (TopIsFaulty (chips_in library.now.entries memories) top.now) }
 {
-    check_texts(alloc, library, top, blocks)?;
-    check_loops(alloc, library, top, blocks)?;
-    check_size(alloc, library, top, blocks)?;
-    Ok(build_net(alloc, library, top, blocks)?)
+    check_texts(alloc, library, top, memories)?;
+    check_loops(alloc, library, top, memories)?;
+    check_size(alloc, library, top, memories)?;
+    Ok(build_net(alloc, library, top, memories)?)
 }

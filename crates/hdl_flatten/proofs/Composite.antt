@@ -84,7 +84,7 @@ record InPart (chips : Chips) (xs : List Plan) (qs : List PartPlan) (at : List �
 plan_is : (x y : Plan) → Some x ≡ Some y → x ≡ y
 plan_is x y h = cc
 
-module _ (chips : Chips) (net : Net) (plans : List Plan) (i : ℕ) (plan : Plan) (planned : IsPlanned chips plans i plan) (are : ArePlans chips plans) (shipped : EndsHavePins chips) (no_end : end_of chips.blocks plan.entry.now ≡ None) (small : plan.size.nodes ≤ 16777216)
+module _ (chips : Chips) (net : Net) (plans : List Plan) (i : ℕ) (plan : Plan) (planned : IsPlanned chips plans i plan) (are : ArePlans chips plans) (shipped : EndsHavePins chips) (no_end : end_of chips.memories plan.entry.now ≡ None) (small : plan.size.nodes ≤ 16777216)
     (base : ℕ) (inputs : List ℕ) (block : List ℕ → ℕ) (at : List ℕ → Wires ℕ) (own : (name : List ℕ) (bit : ℕ) → at [] name bit ≡ node_of base inputs (origin_at (wires_of plan.wires) name bit))
     (placed : (j : ℕ) (x : Plan) (q : PartPlan) → slice_get planned.inner j ≡ Some x → slice_get plan.parts.items j ≡ Some q → IsPlaced chips net x (base + q.offset) (map (node_of base inputs) q.origins.items) (λ path. block (j ∷ path)) (λ path. at (j ∷ path))) where
   abbrev entry : Entry
@@ -117,7 +117,7 @@ module _ (chips : Chips) (net : Net) (plans : List Plan) (i : ℕ) (plan : Plan)
       let outs = all_bits entry.chip.outputs in
       let driven = parts_driven start (parts_of chips entry) planned.inner in
       no_input chips plans shipped i plan planned name bit way
-      ∙ found-append name bit (end_gates (end_of chips.blocks entry) outs) driven
+      ∙ found-append name bit (end_gates (end_of chips.memories entry) outs) driven
       ∙ ap (λ (o : Option End). first_of (found_bit name bit (end_gates o outs)) (found_bit name bit driven)) no_end
       ∙ sym (parts_driven_are chips plans i name bit start 0 (parts_of chips entry) planned.inner (places plan.parts.items) planned.placed)
 
@@ -194,12 +194,12 @@ module _ (chips : Chips) (net : Net) (plans : List Plan) (i : ℕ) (plan : Plan)
   abbrev works : List ℕ → End → Type 0
   works path e = EndStands net 0 (block path) e (at path)
 
-  chip_wired : ChipWired 0 1 chips entry (end_of chips.blocks entry) (at []) (λ j. at (j ∷ [])) (works [])
+  chip_wired : ChipWired 0 1 chips entry (end_of chips.memories entry) (at []) (λ j. at (j ∷ [])) (works [])
   chip_wired = subst (λ (o : Option End). ChipWired 0 1 chips entry o (at []) (λ j. at (j ∷ [])) (works [])) (sym no_end)
       (subst (λ (ps : List Part). PartsWired 0 1 chips entry ps (at []) (λ j. at (j ∷ []))) parts_same parts_wired)
 
   all_wired : Wired 0 1 chips entry works at
-  all_wired [] c h = let same : entry ≡ c = cc in subst (λ (e : Entry). ChipWired 0 1 chips e (end_of chips.blocks e) (at []) (λ j. at (j ∷ [])) (works [])) same chip_wired
+  all_wired [] c h = let same : entry ≡ c = cc in subst (λ (e : Entry). ChipWired 0 1 chips e (end_of chips.memories e) (at []) (λ j. at (j ∷ [])) (works [])) same chip_wired
   all_wired (j ∷ path) c h =
       let a = at_part chips entry j path c h in
       let t = part_there chips (slice_get (parts_of chips entry) j) a.inner a.found in
@@ -225,10 +225,10 @@ module _ (chips : Chips) (net : Net) (plans : List Plan) (i : ℕ) (plan : Plan)
         node = e.node;
       }
 
-  in_part : (k : ℕ) (path : List ℕ) (chip : Entry) (e : End) (bit : ℕ) → chip_at chips entry path ≡ Some chip → end_of chips.blocks chip ≡ Some e → bit < end_nodes (Some e) → at path (codes "out") bit ≡ k → InPart chips planned.inner plan.parts.items at plan.size.nodes k path bit
+  in_part : (k : ℕ) (path : List ℕ) (chip : Entry) (e : End) (bit : ℕ) → chip_at chips entry path ≡ Some chip → end_of chips.memories chip ≡ Some e → bit < end_nodes (Some e) → at path (codes "out") bit ≡ k → InPart chips planned.inner plan.parts.items at plan.size.nodes k path bit
   in_part k [] chip e bit h is lt node =
       let same : entry ≡ chip = cc in
-      let none : None ≡ Some e = sym no_end ∙ ap (λ (c : Entry). end_of chips.blocks c) same ∙ is in
+      let none : None ≡ Some e = sym no_end ∙ ap (λ (c : Entry). end_of chips.memories c) same ∙ is in
       absurd cc
   in_part k (j ∷ path) chip e bit h is lt node =
       let a = at_part chips entry j path chip h in
@@ -292,7 +292,7 @@ module _ (chips : Chips) (net : Net) (plans : List Plan) (i : ℕ) (plan : Plan)
   alone : (k : ℕ) (x y : IsEndBit chips entry at k) → (x.path ≡ y.path) × (x.bit ≡ y.bit)
   alone k x y = same_bit k x.path y.path x.bit y.bit (found_part k x) (found_part k y)
 
-pub composite : (chips : Chips) (net : Net) (plans : List Plan) (i : ℕ) (plan : Plan) (planned : IsPlanned chips plans i plan) → ArePlans chips plans → EndsHavePins chips → end_of chips.blocks plan.entry.now ≡ None → plan.size.nodes ≤ 16777216 →
+pub composite : (chips : Chips) (net : Net) (plans : List Plan) (i : ℕ) (plan : Plan) (planned : IsPlanned chips plans i plan) → ArePlans chips plans → EndsHavePins chips → end_of chips.memories plan.entry.now ≡ None → plan.size.nodes ≤ 16777216 →
     (base : ℕ) (inputs : List ℕ) (block : List ℕ → ℕ) (at : List ℕ → Wires ℕ) →
     ((name : List ℕ) (bit : ℕ) → at [] name bit ≡ node_of base inputs (origin_at (wires_of plan.wires) name bit)) →
     ((j : ℕ) (x : Plan) (q : PartPlan) → slice_get planned.inner j ≡ Some x → slice_get plan.parts.items j ≡ Some q → IsPlaced chips net x (base + q.offset) (map (node_of base inputs) q.origins.items) (λ path. block (j ∷ path)) (λ path. at (j ∷ path))) →

@@ -42,7 +42,7 @@ first_found : (a b : Option Fed) (o : Fed) → a ≡ Some o → first_of a b ≡
 first_found None b o h = absurd cc
 first_found (Some p) b o h = h
 
-module _ (chips : Chips) (net : Net) (plans : List Plan) (i : ℕ) (plan : Plan) (planned : IsPlanned chips plans i plan) (shipped : EndsHavePins chips) (e : End) (is : end_of chips.blocks plan.entry.now ≡ Some e)
+module _ (chips : Chips) (net : Net) (plans : List Plan) (i : ℕ) (plan : Plan) (planned : IsPlanned chips plans i plan) (shipped : EndsHavePins chips) (e : End) (is : end_of chips.memories plan.entry.now ≡ Some e)
     (base : ℕ) (inputs : List ℕ) (b : ℕ) (at : List ℕ → Wires ℕ) (long : length inputs ≡ length plan.inputs.items) (own : (name : List ℕ) (bit : ℕ) → at [] name bit ≡ node_of base inputs (origin_at (wires_of plan.wires) name bit)) where
   abbrev entry : Entry
   entry = plan.entry.now
@@ -85,11 +85,11 @@ module _ (chips : Chips) (net : Net) (plans : List Plan) (i : ℕ) (plan : Plan)
       let driven = parts_driven (own_size chips entry) (parts_of chips entry) planned.inner in
       let way : is_input entry name ≡ false = input_is entry e name pins ∙ out_is_none e in
       let zero_plus : base + (0 + k) ≡ base + k = omega arith in
-      let gate : found_bit name k (end_gates (end_of chips.blocks entry) outs) ≡ Some (fed.Gate (0 + k)) =
+      let gate : found_bit name k (end_gates (end_of chips.memories entry) outs) ≡ Some (fed.Gate (0 + k)) =
       ap (λ (o : Option End). found_bit name k (end_gates o outs)) is ∙ ap (λ (t : List BitOf). found_bit name k (numbered_bits fed.Gate 0 t)) output_bits ∙ bit_number fed.Gate 0 name (end_nodes (Some e)) k lt in
       own name k
       ∙ ap (λ (o : Option Fed). node_of base inputs (unwrap_or o fed.Low))
-      (no_input chips plans shipped i plan planned name k way ∙ found-append name k (end_gates (end_of chips.blocks entry) outs) driven ∙ first_found (found_bit name k (end_gates (end_of chips.blocks entry) outs)) (found_bit name k driven) (fed.Gate (0 + k)) gate)
+      (no_input chips plans shipped i plan planned name k way ∙ found-append name k (end_gates (end_of chips.memories entry) outs) driven ∙ first_found (found_bit name k (end_gates (end_of chips.memories entry) outs)) (found_bit name k driven) (fed.Gate (0 + k)) gate)
       ∙ zero_plus
 
   -- ---- the whole
@@ -100,10 +100,10 @@ module _ (chips : Chips) (net : Net) (plans : List Plan) (i : ℕ) (plan : Plan)
       let lt : k - base < end_nodes (Some e) = omega (arith, size_is, from, to) in
       record { path = []; chip = entry; e = e; bit = k - base; there = refl; is_end = is; below = lt; node = out_at (k - base) lt ∙ back }
 
-  own_bit : (k : ℕ) (path : List ℕ) (chip : Entry) (f : End) (bit : ℕ) → chip_at chips entry path ≡ Some chip → end_of chips.blocks chip ≡ Some f → bit < end_nodes (Some f) → at path (codes "out") bit ≡ k → (path ≡ []) × (base + bit ≡ k) × (bit < end_nodes (Some e))
+  own_bit : (k : ℕ) (path : List ℕ) (chip : Entry) (f : End) (bit : ℕ) → chip_at chips entry path ≡ Some chip → end_of chips.memories chip ≡ Some f → bit < end_nodes (Some f) → at path (codes "out") bit ≡ k → (path ≡ []) × (base + bit ≡ k) × (bit < end_nodes (Some e))
   own_bit k [] chip f bit h g lt node =
       let same : entry ≡ chip = cc in
-      let both : Some e ≡ Some f = sym is ∙ ap (λ (c : Entry). end_of chips.blocks c) same ∙ g in
+      let both : Some e ≡ Some f = sym is ∙ ap (λ (c : Entry). end_of chips.memories c) same ∙ g in
       let end_same : e ≡ f = cc in
       let here : bit < end_nodes (Some e) = subst (λ (x : End). bit < end_nodes (Some x)) (sym end_same) lt in
       (refl, sym (out_at bit here) ∙ node, here)
@@ -132,7 +132,7 @@ module _ (chips : Chips) (net : Net) (plans : List Plan) (i : ℕ) (plan : Plan)
   all_wired : EndStands net 0 b e (at []) → Wired 0 1 chips entry works at
   all_wired stands [] c h =
       let same : entry ≡ c = cc in
-      subst (λ (x : Entry). ChipWired 0 1 chips x (end_of chips.blocks x) (at []) (λ j. at (j ∷ [])) (works [])) same
+      subst (λ (x : Entry). ChipWired 0 1 chips x (end_of chips.memories x) (at []) (λ j. at (j ∷ [])) (works [])) same
       (subst (λ (o : Option End). ChipWired 0 1 chips entry o (at []) (λ j. at (j ∷ [])) (works [])) (sym is) stands)
   all_wired stands (j ∷ path) c h =
       let a = at_part chips entry j path c h in
@@ -201,7 +201,7 @@ module _ (net : Net) (base : ℕ) (inputs : List ℕ) (b : ℕ) (at : Wires ℕ)
   stands ends.Rom long reads out put = block_stands (record { words = 32768; «data» = []; load = 0; address = inputs }) (rom_block 0 at) (rom_is long reads) out put
   stands (ends.Block bits) long reads out put = block_stands (record { words = 2 ^ bits; «data» = take 16 inputs; load = slice_index inputs 16; address = drop 17 inputs }) (memory_block bits at) (memory_is bits (long ∙ block_long bits) reads) out put
 
-pub end_placed : (chips : Chips) (net : Net) (plans : List Plan) (i : ℕ) (plan : Plan) → IsPlanned chips plans i plan → EndsHavePins chips → (e : End) → end_of chips.blocks plan.entry.now ≡ Some e →
+pub end_placed : (chips : Chips) (net : Net) (plans : List Plan) (i : ℕ) (plan : Plan) → IsPlanned chips plans i plan → EndsHavePins chips → (e : End) → end_of chips.memories plan.entry.now ≡ Some e →
     (base : ℕ) (inputs : List ℕ) (b : ℕ) (at : List ℕ → Wires ℕ) → length inputs ≡ length plan.inputs.items →
     ((name : List ℕ) (bit : ℕ) → at [] name bit ≡ node_of base inputs (origin_at (wires_of plan.wires) name bit)) → EndPut net base e inputs b → IsPlaced chips net plan base inputs (λ path. b) at
 end_placed chips net plans i plan planned shipped e is base inputs b at long own put =

@@ -326,12 +326,12 @@ module _ (chips : Chips) (name : List ℕ) (plans : List Plan) (place : ℕ) (pl
         bit_is = n.bit_is;
       }
 
-  apart_by : (o : Option End) → end_of chips.blocks plan.entry.now ≡ o → AreApart plan.entry.now.chip.inputs
+  apart_by : (o : Option End) → end_of chips.memories plan.entry.now ≡ o → AreApart plan.entry.now.chip.inputs
   apart_by None is = untwiced_apart plan.entry.now.name plan.entry.now.chip.inputs plan.entry.now.chip.outputs (λ k. sym (ap (λ (o : Option End). unless o (pin_fault plan.entry.now k)) is) ∙ planned.fine.faultless (AtPin k))
   apart_by (Some e) is = apart_of plan.entry.now.chip.inputs (ap no_twice (t.ends planned.fine.name plan.entry.now e planned.fine.found is).inputs ∙ ends_apart e)
 
   input_once : (i j : ℕ) (a b : BitOf) → slice_get (all_bits plan.entry.now.chip.inputs) i ≡ Some a → slice_get (all_bits plan.entry.now.chip.inputs) j ≡ Some b → a.name ≡ b.name → a.bit ≡ b.bit → i ≡ j
-  input_once = bit_once plan.entry.now.chip.inputs (apart_by (end_of chips.blocks plan.entry.now) refl)
+  input_once = bit_once plan.entry.now.chip.inputs (apart_by (end_of chips.memories plan.entry.now) refl)
 
 bits_same : (v w : Wires ℕ) → ((name : List ℕ) (bit : ℕ) → w name bit ≡ v name bit) → (bits : List BitOf) → nodes_at v bits ≡ nodes_at w bits
 bits_same v w h [] = refl
@@ -492,7 +492,7 @@ module _ (chips : Chips) (name : List ℕ) (plans : List Plan) (place : ℕ) (pl
       by (inr lt) = let base = base_is in absurd (early k node e f g h (omega (arith, base, lt)))
 
   -- ends and their blocks
-  end_stands : (path : List ℕ) (chip : Entry) (e : End) → chip_at chips plan.entry.now path ≡ Some chip → end_of chips.blocks chip ≡ Some e → EndStands net 0 (put.block path) e (put.at path)
+  end_stands : (path : List ℕ) (chip : Entry) (e : End) → chip_at chips plan.entry.now path ≡ Some chip → end_of chips.memories chip ≡ Some e → EndStands net 0 (put.block path) e (put.at path)
   end_stands path chip e there is_end = subst (λ (o : Option End). ChipWired 0 1 chips chip o (put.at path) (λ i. put.at (path ++ i ∷ [])) (λ e. EndStands net 0 (put.block path) e (put.at path))) is_end (placed.wired path chip there)
 
   block_used : (b : ℕ) → b < length new.blocks.items → IsEndBlock chips plan.entry.now put.block b
@@ -513,12 +513,12 @@ module _ (chips : Chips) (name : List ℕ) (plans : List Plan) (place : ℕ) (pl
   -- the first bit of the word of an end's block
   block_word : (b : ℕ) (x : IsEndBlock chips plan.entry.now put.block b) → slice_get new.nodes.items (put.at x.path (codes "out") 0) ≡ Some (nodes.Word b 0)
   block_word b x =
-      let w = with_block (end_of chips.blocks x.chip) (put.block x.path) b x.its in
+      let w = with_block (end_of chips.memories x.chip) (put.block x.path) b x.its in
       w.stands net (put.at x.path) (end_stands x.path x.chip w.e x.there w.is_end) ∙ ap (λ (n : ℕ). Some (nodes.Word n 0)) w.number
 
   block_bit : (b k : ℕ) (x : IsEndBlock chips plan.entry.now put.block b) → put.at x.path (codes "out") 0 ≡ k → IsEndBit chips plan.entry.now put.at k
   block_bit b k x same =
-      let w = with_block (end_of chips.blocks x.chip) (put.block x.path) b x.its in
+      let w = with_block (end_of chips.memories x.chip) (put.block x.path) b x.its in
       record { path = x.path; chip = x.chip; e = w.e; bit = 0; there = x.there; is_end = w.is_end; below = w.below; node = same }
 
   blocks_apart : (b : ℕ) (x y : IsEndBlock chips plan.entry.now put.block b) → x.path ≡ y.path

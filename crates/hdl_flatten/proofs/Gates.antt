@@ -124,10 +124,10 @@ own_gates n from (b ∷ bits) name bit le =
     own_cond n (bytes_eq name b.name && nat_eq bit b.bit) (fed.Gate from) (found_bit name bit (numbered_bits fed.Gate (suc from) bits)) here (own_gates n (suc from) bits name bit rest)
 
 module _ (chips : Chips) (plans : List Plan) (shipped : EndsHavePins chips) (i : ℕ) (plan : Plan) (planned : IsPlanned chips plans i plan) where
-  pub end_bits : (e : End) → end_of chips.blocks plan.entry.now ≡ Some e → length (all_bits plan.entry.now.chip.outputs) ≡ end_nodes (end_of chips.blocks plan.entry.now)
+  pub end_bits : (e : End) → end_of chips.memories plan.entry.now ≡ Some e → length (all_bits plan.entry.now.chip.outputs) ≡ end_nodes (end_of chips.memories plan.entry.now)
   end_bits e is = length_all plan.entry.now.chip.outputs ∙ ap widths (shipped planned.fine.name plan.entry.now e planned.fine.found is).outputs ∙ end_wide e ∙ ap end_nodes (sym is)
 
-  own_end : (n : ℕ) (name : List ℕ) (bit : ℕ) (o : Option End) → end_of chips.blocks plan.entry.now ≡ o → end_nodes (end_of chips.blocks plan.entry.now) ≤ n → IsOwnIf n (found_bit name bit (end_gates o (all_bits plan.entry.now.chip.outputs)))
+  own_end : (n : ℕ) (name : List ℕ) (bit : ℕ) (o : Option End) → end_of chips.memories plan.entry.now ≡ o → end_nodes (end_of chips.memories plan.entry.now) ≤ n → IsOwnIf n (found_bit name bit (end_gates o (all_bits plan.entry.now.chip.outputs)))
   own_end n name bit None is le = tt
   own_end n name bit (Some e) is le =
       let all : 0 + length (all_bits plan.entry.now.chip.outputs) ≤ n = omega (arith, le, end_bits e is) in
@@ -135,7 +135,7 @@ module _ (chips : Chips) (plans : List Plan) (shipped : EndsHavePins chips) (i :
 
   -- all but the inputs
   abbrev pub rest : List (BitOf × Fed)
-  rest = end_gates (end_of chips.blocks plan.entry.now) (all_bits plan.entry.now.chip.outputs) ++ parts_driven (own_size chips plan.entry.now) (parts_of chips plan.entry.now) planned.inner
+  rest = end_gates (end_of chips.memories plan.entry.now) (all_bits plan.entry.now.chip.outputs) ++ parts_driven (own_size chips plan.entry.now) (parts_of chips plan.entry.now) planned.inner
 
   pub whole_is : all_sized (own_size chips plan.entry.now) planned.inner ≡ plan.size
   whole_is = sym planned.size
@@ -144,9 +144,9 @@ module _ (chips : Chips) (plans : List Plan) (shipped : EndsHavePins chips) (i :
   own_rest small so name bit =
       let sum : (all_sized (own_size chips plan.entry.now) planned.inner).nodes ≡ plan.size.nodes = ap (λ (s : Size). s.nodes) whole_is in
       let less : (all_sized (own_size chips plan.entry.now) planned.inner).nodes ≤ 16777216 = omega (arith, sum, small) in
-      let le : end_nodes (end_of chips.blocks plan.entry.now) ≤ plan.size.nodes = omega (arith, sum, sum_grows (own_size chips plan.entry.now) planned.inner less) in
-      own_append plan.size.nodes name bit (end_gates (end_of chips.blocks plan.entry.now) (all_bits plan.entry.now.chip.outputs)) (parts_driven (own_size chips plan.entry.now) (parts_of chips plan.entry.now) planned.inner)
-      (own_end plan.size.nodes name bit (end_of chips.blocks plan.entry.now) refl le)
+      let le : end_nodes (end_of chips.memories plan.entry.now) ≤ plan.size.nodes = omega (arith, sum, sum_grows (own_size chips plan.entry.now) planned.inner less) in
+      own_append plan.size.nodes name bit (end_gates (end_of chips.memories plan.entry.now) (all_bits plan.entry.now.chip.outputs)) (parts_driven (own_size chips plan.entry.now) (parts_of chips plan.entry.now) planned.inner)
+      (own_end plan.size.nodes name bit (end_of chips.memories plan.entry.now) refl le)
       (own_parts chips plans i plan.size.nodes name bit (own_size chips plan.entry.now) (parts_of chips plan.entry.now) planned.inner (places plan.parts.items) planned.placed so sum small)
 
   -- what is found for a bit that is no input

@@ -31,7 +31,7 @@ module _ (chips : Chips) (plans : List Plan) (r : ℕ) (entry : Entry) (j : ℕ)
   input_node name width bit wide lt =
       let bits = all_bits x.entry.now.chip.inputs in
       let n : IsNumbered fed.Input 0 bits name bit = number_of fed.Input 0 bits name bit (has_bit x.entry.now.chip.inputs name width bit wide lt) in
-      let rest = end_gates (end_of chips.blocks x.entry.now) (all_bits x.entry.now.chip.outputs) ++ parts_driven (own_size chips x.entry.now) (parts_of chips x.entry.now) px.inner in
+      let rest = end_gates (end_of chips.memories x.entry.now) (all_bits x.entry.now.chip.outputs) ++ parts_driven (own_size chips x.entry.now) (parts_of chips x.entry.now) px.inner in
       let own : found_bit name bit (wires_of x.wires) ≡ Some (fed.Input (0 + n.k)) = px.wires name bit ∙ found-append name bit (numbered_bits fed.Input 0 bits) rest ∙ ap (λ (o : Option Fed). first_of o (found_bit name bit rest)) n.found in
       let zero_plus : 0 + n.k ≡ n.k = omega arith in
       let fed_list = all_fed wires (ports_of x.entry.now.chip) part.connections in

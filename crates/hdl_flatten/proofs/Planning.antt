@@ -213,15 +213,15 @@ end_wide ends.Keyboard = refl
 end_wide ends.Rom = refl
 end_wide (ends.Block bits) = refl
 
-few_by : (chips : Chips) (chip : Entry) (outputs : List Bit) (o : Option End) → EndsHavePins chips → IsFine chips chip → map bit_of outputs ≡ all_bits chip.chip.outputs → end_of chips.blocks chip ≡ o → IsSome o → length outputs ≤ 16
+few_by : (chips : Chips) (chip : Entry) (outputs : List Bit) (o : Option End) → EndsHavePins chips → IsFine chips chip → map bit_of outputs ≡ all_bits chip.chip.outputs → end_of chips.memories chip ≡ o → IsSome o → length outputs ≤ 16
 few_by chips chip outputs None ends fine e is some = absurd cc
 few_by chips chip outputs (Some x) ends fine e is some =
     let pins = ends fine.name chip x fine.found is in
     let long : length outputs ≡ widths (end_outputs x) = sym (length_map outputs) ∙ ap length e ∙ length_all chip.chip.outputs ∙ ap widths pins.outputs in
     omega (arith, end_few x)
 
-pub few_outputs : (chips : Chips) (chip : Entry) (outputs : List Bit) → EndsHavePins chips → IsFine chips chip → map bit_of outputs ≡ all_bits chip.chip.outputs → IsSome (end_of chips.blocks chip) → length outputs ≤ 16
-few_outputs chips chip outputs ends fine e some = few_by chips chip outputs (end_of chips.blocks chip) ends fine e refl some
+pub few_outputs : (chips : Chips) (chip : Entry) (outputs : List Bit) → EndsHavePins chips → IsFine chips chip → map bit_of outputs ≡ all_bits chip.chip.outputs → IsSome (end_of chips.memories chip) → length outputs ≤ 16
+few_outputs chips chip outputs ends fine e some = few_by chips chip outputs (end_of chips.memories chip) ends fine e refl some
 
 -- ---- one plan more
 
@@ -266,7 +266,7 @@ follow_more nest plans nested plan follow here number i other x e got = by (last
 
 -- ---- what a chip's wires and its plan are
 
-pub wires_are : (chips : Chips) (entry : Entry) (inner : List Plan) (a b c d : List (BitOf × Origin)) (ins outs : List BitOf) (e : Option End) (own : Size) (parts : List Part) → a ≡ [] → ins ≡ all_bits entry.chip.inputs → outs ≡ all_bits entry.chip.outputs → e ≡ end_of chips.blocks entry → own ≡ own_size chips entry → parts ≡ parts_of chips entry →
+pub wires_are : (chips : Chips) (entry : Entry) (inner : List Plan) (a b c d : List (BitOf × Origin)) (ins outs : List BitOf) (e : Option End) (own : Size) (parts : List Part) → a ≡ [] → ins ≡ all_bits entry.chip.inputs → outs ≡ all_bits entry.chip.outputs → e ≡ end_of chips.memories entry → own ≡ own_size chips entry → parts ≡ parts_of chips entry →
     FindsMore a b (numbered_bits Input 0 ins) → FindsMore b c (end_gates e outs) → FindsMore c d (parts_driven own parts inner) → (name : List ℕ) (bit : ℕ) → found_bit name bit d ≡ found_bit name bit (own_wires chips entry inner)
 wires_are chips entry inner a b c d ins outs e own parts none i o is size ps f g h name bit =
     let last : FindsMore b d (end_gates e outs ++ parts_driven own parts inner) = more_then b c d (end_gates e outs) (parts_driven own parts inner) g h in
@@ -276,10 +276,10 @@ wires_are chips entry inner a b c d ins outs e own parts none i o is size ps f g
     ∙ ap (λ (t : List BitOf). found_bit name bit (numbered_bits Input 0 t ++ (end_gates e outs ++ parts_driven own parts inner))) i
     ∙ ap (λ (t : List BitOf). found_bit name bit (numbered_bits Input 0 (all_bits entry.chip.inputs) ++ (end_gates e t ++ parts_driven own parts inner))) o
     ∙ ap (λ (t : Option End). found_bit name bit (numbered_bits Input 0 (all_bits entry.chip.inputs) ++ (end_gates t (all_bits entry.chip.outputs) ++ parts_driven own parts inner))) is
-    ∙ ap (λ (t : Size). found_bit name bit (numbered_bits Input 0 (all_bits entry.chip.inputs) ++ (end_gates (end_of chips.blocks entry) (all_bits entry.chip.outputs) ++ parts_driven t parts inner))) size
-    ∙ ap (λ (t : List Part). found_bit name bit (numbered_bits Input 0 (all_bits entry.chip.inputs) ++ (end_gates (end_of chips.blocks entry) (all_bits entry.chip.outputs) ++ parts_driven (own_size chips entry) t inner))) ps
+    ∙ ap (λ (t : Size). found_bit name bit (numbered_bits Input 0 (all_bits entry.chip.inputs) ++ (end_gates (end_of chips.memories entry) (all_bits entry.chip.outputs) ++ parts_driven t parts inner))) size
+    ∙ ap (λ (t : List Part). found_bit name bit (numbered_bits Input 0 (all_bits entry.chip.inputs) ++ (end_gates (end_of chips.memories entry) (all_bits entry.chip.outputs) ++ parts_driven (own_size chips entry) t inner))) ps
 
-pub plan_is : (chips : Chips) (nest : List Nested) (plans : List Plan) (nested : Nested) → IsNested chips nest (length plans) nested → ArePlans chips plans → FollowNest nest plans → (plan : Plan) (own : Size) → plan.number ≡ nested.number → slice_get chips.entries nested.number ≡ Some plan.entry.now → plan.end ≡ end_of chips.blocks plan.entry.now → own ≡ own_size chips plan.entry.now →
+pub plan_is : (chips : Chips) (nest : List Nested) (plans : List Plan) (nested : Nested) → IsNested chips nest (length plans) nested → ArePlans chips plans → FollowNest nest plans → (plan : Plan) (own : Size) → plan.number ≡ nested.number → slice_get chips.entries nested.number ≡ Some plan.entry.now → plan.end ≡ end_of chips.memories plan.entry.now → own ≡ own_size chips plan.entry.now →
     plan.size ≡ all_sized own (plans_at plans nested.parts.items) → map bit_of plan.inputs.items ≡ all_bits plan.entry.now.chip.inputs → ((name : List ℕ) (bit : ℕ) → found_bit name bit (wires_of plan.wires) ≡ found_bit name bit (own_wires chips plan.entry.now (plans_at plans nested.parts.items))) → plan.outs.items ≡ origins_at (wires_of plan.wires) (all_bits plan.entry.now.chip.outputs) →
     ArePartPlans (wires_of plan.wires) own (parts_of chips plan.entry.now) (plans_at plans nested.parts.items) plan.parts.items → places plan.parts.items ≡ nested.parts.items → IsPlanned chips plans (length plans) plan
 plan_is chips nest plans nested is are follow plan own number there end own_is size inputs wires outs parts at =

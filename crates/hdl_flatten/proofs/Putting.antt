@@ -6,6 +6,7 @@ use Rattle.hdl_tree.specs.declared.tree.Part.{Part}
 use Rattle.hdl_tree.specs.declared.library.Entry.{Entry}
 use Rattle.hdl_tree.specs.declared.ends.End.{End}
 use Rattle.hdl_tree.specs.declared.ends.End.TheVariants as ends
+use Rattle.hdl_tree.specs.declared.ends.Memories.{Memories}
 use Rattle.netlist.specs.declared.node.Node.TheVariants as nodes
 use Rattle.std.proofs.lemmas.List.Elements.{All-append}
 use Rattle.std.proofs.lemmas.Option.{slice_get_read, slice_get_within}
@@ -150,7 +151,7 @@ no_parts chips plans i (p ∷ ps) [] rs h e = absurd h
 no_parts chips plans i (p ∷ ps) (x ∷ xs) [] h e = absurd h
 no_parts chips plans i (p ∷ ps) (x ∷ xs) (r ∷ rs) h e = absurd cc
 
-pub all_put : (chips : Chips) (plans : List Plan) (place : ℕ) (plan : Plan) (inputs : List ℕ) (old now : Growing) (rest : List PartPlan) → ArePlans chips plans → EndsHavePins chips → end_of chips.blocks plan.entry.now ≡ None → length old.nodes.items + plan.size.nodes ≤ 16777216 → rest ≡ [] → IsGoing chips plans place plan inputs old now rest → IsPut chips plan inputs old now
+pub all_put : (chips : Chips) (plans : List Plan) (place : ℕ) (plan : Plan) (inputs : List ℕ) (old now : Growing) (rest : List PartPlan) → ArePlans chips plans → EndsHavePins chips → end_of chips.memories plan.entry.now ≡ None → length old.nodes.items + plan.size.nodes ≤ 16777216 → rest ≡ [] → IsGoing chips plans place plan inputs old now rest → IsPut chips plan inputs old now
 all_put chips plans place plan inputs old now rest are pins none_is room e g =
     let base = length old.nodes.items in
     let left = no_parts chips plans place g.parts_left g.plans_left (places rest) g.placed (ap places e) in
@@ -173,7 +174,7 @@ all_put chips plans place plan inputs old now rest are pins none_is room e g =
       tree = tree_of 0 ss;
       listed = instances_listed chips here base inputs 0 (parts_of chips plan.entry.now) g.planned.inner plan.parts.items ss (stand here (longer_none now.nodes.items) (longer_none now.blocks.items));
       counted =
-          let few = end_small (end_of chips.blocks plan.entry.now) in
+          let few = end_small (end_of chips.memories plan.entry.now) in
           ap (λ (s : Size). s.nodes) g.planned.size
           ∙ instances_counted chips here base inputs 0 (own_size chips plan.entry.now) (parts_of chips plan.entry.now) g.planned.inner plan.parts.items ss (stand here (longer_none now.nodes.items) (longer_none now.blocks.items)) (omega (arith, few));
       block = block;
@@ -188,7 +189,7 @@ all_put chips plans place plan inputs old now rest are pins none_is room e g =
 
 -- ---- nothing is put yet
 
-pub none_put : (chips : Chips) (plans : List Plan) (place : ℕ) (plan : Plan) (inputs : List ℕ) (old : Growing) → IsPlanned chips plans place plan → end_of chips.blocks plan.entry.now ≡ None → length old.blocks.items ≤ length old.nodes.items → IsGoing chips plans place plan inputs old old plan.parts.items
+pub none_put : (chips : Chips) (plans : List Plan) (place : ℕ) (plan : Plan) (inputs : List ℕ) (old : Growing) → IsPlanned chips plans place plan → end_of chips.memories plan.entry.now ≡ None → length old.blocks.items ≤ length old.nodes.items → IsGoing chips plans place plan inputs old old plan.parts.items
 none_put chips plans place plan inputs old p none_is few =
     let own : own_size chips plan.entry.now ≡ record { nodes = 0; parts = 0 } = ap (λ (o : Option End). record { nodes = end_nodes o; parts = 0 }) none_is in
     record {
@@ -343,8 +344,8 @@ module _ (chips : Chips) (plans : List Plan) (place : ℕ) (plan : Plan) (inputs
       let outs_is : listed.outs ≡ nodes_at (put.at []) (all_bits x.entry.now.chip.outputs) =
       outs ∙ ap (map (node_of (length now.nodes.items) nodes)) y.outs ∙ ap (λ (b : ℕ). map (node_of b nodes) (origins_at (wires_of x.wires) (all_bits x.entry.now.chip.outputs))) (sym ln)
       ∙ outs_are (length mid.nodes.items) nodes (wires_of x.wires) (put.at []) own (all_bits x.entry.now.chip.outputs) in
-      let block_is : listed.block ≡ block_at (end_of chips.blocks x.entry.now) (put.block []) =
-      block ∙ ap (λ (o : Option End). block_at o (length now.blocks.items)) y.is_end ∙ ap (block_at (end_of chips.blocks x.entry.now)) (sym lb) ∙ sym put.own_block in
+      let block_is : listed.block ≡ block_at (end_of chips.memories x.entry.now) (put.block []) =
+      block ∙ ap (λ (o : Option End). block_at o (length now.blocks.items)) y.is_end ∙ ap (block_at (end_of chips.memories x.entry.now)) (sym lb) ∙ sym put.own_block in
       let listed_is : listed ≡ part_at chips put.at put.block (record { path = []; chip = x.entry.now }) = part_is listed (part_at chips put.at put.block (record { path = []; chip = x.entry.now })) name outs_is block_is in
       record {
         planned = g.planned;
@@ -410,9 +411,9 @@ take_few (suc j) [] = omega arith
 take_few (suc j) (x ∷ xs) = let h = take_few j xs in omega (arith, h)
 
 -- a memory's address has at most fourteen bits
-end_shipped : (blocks : Bool) (chip : Entry) {e : Option End} → end_of blocks chip ≡ e → end_of_shipped blocks chip.shipped ≡ e
+end_shipped : (memories : Memories) (chip : Entry) {e : Option End} → end_of memories chip ≡ e → end_of_shipped memories chip.shipped ≡ e
 unfolding end_of
-end_shipped blocks chip h = h
+end_shipped memories chip h = h
 
 abbrev small_if : Option End → Type 0
 small_if o = (bits : ℕ) → o ≡ Some (ends.Block bits) → bits ≤ 14
@@ -439,14 +440,14 @@ rom_small bits h = absurd cc
 none_small : small_if None
 none_small bits h = absurd cc
 
-small_named : (blocks : Bool) (name : List ℕ) → small_if (end_named blocks name)
-small_named blocks name =
+small_named : (memories : Memories) (name : List ℕ) → small_if (end_named memories name)
+small_named memories name =
     small_by _ _ _ nand_small (small_by _ _ _ dff_small (small_by _ _ _ keyboard_small (small_by _ _ _ rom_small
     (small_by _ _ _ (small_block 3 (omega arith)) (small_by _ _ _ (small_block 6 (omega arith)) (small_by _ _ _ (small_block 9 (omega arith)) (small_by _ _ _ (small_block 12 (omega arith)) (small_by _ _ _ (small_block 14 (omega arith)) (small_by _ _ _ (small_block 13 (omega arith)) none_small)))))))))
 
-block_small : (blocks : Bool) (name : Option (List ℕ)) (bits : ℕ) → end_of_shipped blocks name ≡ Some (ends.Block bits) → bits ≤ 14
-block_small blocks None bits h = absurd cc
-block_small blocks (Some name) bits h = small_named blocks name bits h
+block_small : (memories : Memories) (name : Option (List ℕ)) (bits : ℕ) → end_of_shipped memories name ≡ Some (ends.Block bits) → bits ≤ 14
+block_small memories None bits h = absurd cc
+block_small memories (Some name) bits h = small_named memories name bits h
 
 -- what was put stands, whatever comes after
 there_in : {X : Type 0} (old xs new all : List X) → new ≡ old ++ xs → Longer new all → (k : ℕ) (x : X) → slice_get xs k ≡ Some x → slice_get all (length old + k) ≡ Some x
@@ -507,16 +508,16 @@ stands_end net old new (ends.Block bits) inputs f g a b = record {
 }
 
 -- an end is fed all its input bits
-fed_by_width : (chips : Chips) (chip : Entry) (e : End) (n w : ℕ) → n ≡ w → w ≡ widths (end_inputs e) → end_of chips.blocks chip ≡ Some e → IsEndFed e n
+fed_by_width : (chips : Chips) (chip : Entry) (e : End) (n w : ℕ) → n ≡ w → w ≡ widths (end_inputs e) → end_of chips.memories chip ≡ Some e → IsEndFed e n
 fed_by_width chips chip ends.Nand n w f g is = f ∙ g
 fed_by_width chips chip ends.Dff n w f g is = f ∙ g
 fed_by_width chips chip ends.Keyboard n w f g is = f ∙ g
 fed_by_width chips chip ends.Rom n w f g is = f ∙ g
-fed_by_width chips chip (ends.Block bits) n w f g is = (omega (arith, f, g), block_small chips.blocks chip.shipped bits (end_shipped chips.blocks chip is))
+fed_by_width chips chip (ends.Block bits) n w f g is = (omega (arith, f, g), block_small chips.memories chip.shipped bits (end_shipped chips.memories chip is))
 
 pub end_fed : (chips : Chips) (plans : List Plan) (place : ℕ) (plan : Plan) (e : End) (inputs : List ℕ) → IsPlanned chips plans place plan → EndsHavePins chips → plan.end ≡ Some e → length inputs ≡ length plan.inputs.items → IsEndFed e (length inputs)
 end_fed chips plans place plan e inputs p pins is long =
-    let is_end : end_of chips.blocks plan.entry.now ≡ Some e = sym p.is_end ∙ is in
+    let is_end : end_of chips.memories plan.entry.now ≡ Some e = sym p.is_end ∙ is in
     let has = pins p.fine.name plan.entry.now e p.fine.found is_end in
     fed_by_width chips plan.entry.now e (length inputs) (length (all_bits plan.entry.now.chip.inputs)) (long ∙ sym (length_map plan.inputs.items) ∙ ap length p.inputs) (length_all plan.entry.now.chip.inputs ∙ ap widths has.inputs) is_end
 
@@ -561,7 +562,7 @@ pub end_put : (chips : Chips) (plans : List Plan) (place : ℕ) (plan : Plan) (e
     new.nodes.items ≡ old.nodes.items ++ end_puts e inputs (length old.blocks.items) → new.blocks.items ≡ old.blocks.items ++ end_blocks e inputs → new.parts.items ≡ old.parts.items → IsPut chips plan inputs old new
 end_put chips plans place plan e inputs old new are pins there is long few f g h =
     let p : IsPlanned chips plans place plan = are place plan there in
-    let is_end : end_of chips.blocks plan.entry.now ≡ Some e = sym p.is_end ∙ is in
+    let is_end : end_of chips.memories plan.entry.now ≡ Some e = sym p.is_end ∙ is in
     let no_parts_in : parts_of chips plan.entry.now ≡ [] = ap (λ (o : Option End). parts_unless o (parts_of_body plan.entry.now.chip.body)) is_end in
     let at : List ℕ → Wires ℕ = λ path name bit. node_of (length old.nodes.items) inputs (origin_at (wires_of plan.wires) name bit) in
     let size : plan.size.nodes ≡ end_nodes (Some e) = ap (λ (z : Size). z.nodes) (p.size ∙ ap (all_sized (own_size chips plan.entry.now)) (no_plans chips plans place (parts_of chips plan.entry.now) p.inner (places plan.parts.items) p.placed no_parts_in)) ∙ ap end_nodes is_end in

@@ -25,7 +25,7 @@ module _ (chips : Chips) (plans : List Plan) (planned : ArePlans chips plans) wh
   sized_below zero i plan lt at = absurd (omega (arith, lt))
   sized_below (suc d) i plan lt at =
       let p : IsPlanned chips plans i plan = planned i plan at in
-      let few = end_small (end_of chips.blocks plan.entry.now) in
+      let few = end_small (end_of chips.memories plan.entry.now) in
       let j = join_plans chips plans i (λ r x below there. sized_below d r x (omega (arith, below, lt)) there) 0 (parts_of chips plan.entry.now) p.inner (places plan.parts.items) (own_size chips plan.entry.now) p.placed (omega (arith, few), omega arith) in
       record {
         tree = j.tree;

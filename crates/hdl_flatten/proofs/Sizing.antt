@@ -91,7 +91,7 @@ module _ (chips : Chips) (nest : List Nested) (sizes : List Size) (right : AreRi
       let both : Some n.chip ≡ Some chip = sym n.there ∙ there in
       let same : n.chip ≡ chip = cc in
       let at = subst (λ (x : Entry). AreAt chips nest i (parts_of chips x) nested.parts.items) same n.parts in
-      let few = end_small (end_of chips.blocks chip) in
+      let few = end_small (end_of chips.memories chip) in
       let j = join_parts 0 (parts_of chips chip) nested.parts.items (record { nodes = chip_nodes chips chip; parts = 0 }) at (omega (arith, few), omega arith) in
       record {
         tree = j.tree;

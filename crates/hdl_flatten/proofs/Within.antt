@@ -157,7 +157,7 @@ end_wide ends.Rom = refl
 end_wide (ends.Block bits) = refl
 
 module _ (chips : Chips) (plans : List Plan) (planned : ArePlans chips plans) (ends_have : EndsHavePins chips) where
-  with_end : (n : ℕ) (plan : Plan) (i : ℕ) → IsPlanned chips plans i plan → (o : Option End) → end_of chips.blocks plan.entry.now ≡ o → AreWithin n (end_nodes o) (end_gates o (all_bits plan.entry.now.chip.outputs))
+  with_end : (n : ℕ) (plan : Plan) (i : ℕ) → IsPlanned chips plans i plan → (o : Option End) → end_of chips.memories plan.entry.now ≡ o → AreWithin n (end_nodes o) (end_gates o (all_bits plan.entry.now.chip.outputs))
   with_end n plan i p None e = with_none n 0
   with_end n plan i p (Some x) e =
       let pins = ends_have p.fine.name plan.entry.now x p.fine.found e in
@@ -179,13 +179,13 @@ module _ (chips : Chips) (plans : List Plan) (planned : ArePlans chips plans) (e
       let size : (all_sized (own_size chips plan.entry.now) p.inner).nodes ≡ m = ap (λ (s : Size). s.nodes) (sym p.size) in
       let grows = sized_grows p.inner (own_size chips plan.entry.now) (omega (arith, size, small)) in
       let ins : AreWithin n m (numbered_bits Input 0 (all_bits plan.entry.now.chip.inputs)) = with_inputs n m 0 (all_bits plan.entry.now.chip.inputs) (omega (arith, length_map plan.inputs.items, ap length p.inputs)) in
-      let gates : AreWithin n m (end_gates (end_of chips.blocks plan.entry.now) (all_bits plan.entry.now.chip.outputs)) =
-      λ name bit. wider n (chip_nodes chips plan.entry.now) m (origin_at (end_gates (end_of chips.blocks plan.entry.now) (all_bits plan.entry.now.chip.outputs)) name bit) (omega (arith, grows, size)) (with_end n plan i p (end_of chips.blocks plan.entry.now) refl name bit) in
+      let gates : AreWithin n m (end_gates (end_of chips.memories plan.entry.now) (all_bits plan.entry.now.chip.outputs)) =
+      λ name bit. wider n (chip_nodes chips plan.entry.now) m (origin_at (end_gates (end_of chips.memories plan.entry.now) (all_bits plan.entry.now.chip.outputs)) name bit) (omega (arith, grows, size)) (with_end n plan i p (end_of chips.memories plan.entry.now) refl name bit) in
       let driven : AreWithin n m (parts_driven (own_size chips plan.entry.now) (parts_of chips plan.entry.now) p.inner) =
       with_parts chips plans i n m small (λ r x below at few. good_below d r x (omega (arith, below, lt)) at few) (parts_of chips plan.entry.now) p.inner (places plan.parts.items) (own_size chips plan.entry.now) p.placed (omega (arith, size)) in
       subst (λ (o : Option Origin). IsWithin n m (unwrap_or o Low)) (sym (p.wires name bit))
-      (with_append n m (numbered_bits Input 0 (all_bits plan.entry.now.chip.inputs)) (end_gates (end_of chips.blocks plan.entry.now) (all_bits plan.entry.now.chip.outputs) ++ parts_driven (own_size chips plan.entry.now) (parts_of chips plan.entry.now) p.inner) ins
-      (with_append n m (end_gates (end_of chips.blocks plan.entry.now) (all_bits plan.entry.now.chip.outputs)) (parts_driven (own_size chips plan.entry.now) (parts_of chips plan.entry.now) p.inner) gates driven) name bit)
+      (with_append n m (numbered_bits Input 0 (all_bits plan.entry.now.chip.inputs)) (end_gates (end_of chips.memories plan.entry.now) (all_bits plan.entry.now.chip.outputs) ++ parts_driven (own_size chips plan.entry.now) (parts_of chips plan.entry.now) p.inner) ins
+      (with_append n m (end_gates (end_of chips.memories plan.entry.now) (all_bits plan.entry.now.chip.outputs)) (parts_driven (own_size chips plan.entry.now) (parts_of chips plan.entry.now) p.inner) gates driven) name bit)
 
   pub chip_within : (i : ℕ) (plan : Plan) → slice_get plans i ≡ Some plan → plan.size.nodes ≤ 16777216 → AreWithin (length plan.inputs.items) plan.size.nodes (wires_of plan.wires)
   chip_within i plan there small = good_below (suc i) i plan (omega arith) there small

@@ -30,4 +30,4 @@ pub record HasPins (chip : Entry) (e : End) : Type 0 where
 
 -- each end of the library has the pins that it is shipped with
 abbrev pub EndsHavePins : Chips → Type 0
-EndsHavePins chips = (name : List ℕ) (chip : Entry) (e : End) → find_chip chips name ≡ Some chip → end_of chips.blocks chip ≡ Some e → HasPins chip e
+EndsHavePins chips = (name : List ℕ) (chip : Entry) (e : End) → find_chip chips name ≡ Some chip → end_of chips.memories chip ≡ Some e → HasPins chip e

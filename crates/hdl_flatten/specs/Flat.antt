@@ -55,7 +55,7 @@ abbrev pub part_at : Chips → (List ℕ → Wires ℕ) → (List ℕ → ℕ) �
 part_at chips at block p = record {
   chip = p.chip.name;
   outs = nodes_at (at p.path) (all_bits p.chip.chip.outputs);
-  block = block_at (end_of chips.blocks p.chip) (block p.path);
+  block = block_at (end_of chips.memories p.chip) (block p.path);
 }
 
 -- ---- the whole
@@ -71,7 +71,7 @@ pub record IsEndBit (chips : Chips) (top : Entry) (at : List ℕ → Wires ℕ) 
   pub e : End
   pub bit : ℕ
   pub there : chip_at chips top path ≡ Some chip
-  pub is_end : end_of chips.blocks chip ≡ Some e
+  pub is_end : end_of chips.memories chip ≡ Some e
   pub below : bit < end_nodes (Some e)
   pub node : at path (codes "out") bit ≡ k
 
@@ -80,7 +80,7 @@ pub record IsEndBlock (chips : Chips) (top : Entry) (block : List ℕ → ℕ) (
   pub path : List ℕ
   pub chip : Entry
   pub there : chip_at chips top path ≡ Some chip
-  pub its : block_at (end_of chips.blocks chip) (block path) ≡ Some b
+  pub its : block_at (end_of chips.memories chip) (block path) ≡ Some b
 
 -- The chip with the parts in it, as nodes and blocks: its bits have nodes, and it has no other nodes than it needs. The directory has its pins,
 -- inputs first, and all its parts, depth first in text order, and the nodes that it names are there. Each of the chip's input bits is a pin of its

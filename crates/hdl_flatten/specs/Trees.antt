@@ -42,7 +42,7 @@ end_nodes (Some ends.Rom) = 16
 end_nodes (Some (ends.Block bits)) = 16
 
 abbrev pub chip_nodes : Chips → Entry → ℕ
-chip_nodes chips chip = end_nodes (end_of chips.blocks chip)
+chip_nodes chips chip = end_nodes (end_of chips.memories chip)
 
 abbrev pub part_nodes : Chips → List PartIn → ℕ
 part_nodes chips [] = 0

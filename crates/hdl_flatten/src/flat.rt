@@ -22,7 +22,7 @@ use crate::nest::{entry_at, nest_of};
 use crate::plan::{PartPlan, Plan, plans_of};
 use crate::wires::{Bit, Origin, Wires};
 use hdl_check::Catalog;
-use hdl_tree::{End, Library, List, Name, Pin};
+use hdl_tree::{End, Library, List, Memories, Name, Pin};
 use netlist::{Block, Node};
 use std::alloc::{AllocError, Global};
 
@@ -87,11 +87,43 @@ fn nodes_of(
 }
 
 /// The nodes and blocks so far, and the parts.
-#[derive(Drop)]
 pub(crate) struct Growing {
     pub nodes: Vec<Node>,
     pub blocks: Vec<Block>,
     pub parts: Vec<PartAt>,
+}
+
+// By hand, so that whoever drops one calls this.
+impl Drop for Growing {
+    fn drop(self) {
+        let Growing {
+            nodes: _,
+            blocks: _,
+            parts: _,
+        } = self;
+    }
+}
+
+impl Growing {
+    /// The chip that has grown, with its directory of pins.
+    fn with_pins(self, listed: Vec<PinAt>) -> Flat
+        ensures nodes { result.nodes ≡ self.nodes.items }
+        ensures blocks { result.blocks ≡ self.blocks.items }
+        ensures pins { result.pins ≡ listed.items }
+        ensures parts { result.parts ≡ self.parts.items }
+    {
+        let Growing {
+            nodes,
+            blocks,
+            parts,
+        } = self;
+        Flat {
+            nodes: List::of(nodes),
+            blocks: List::of(blocks),
+            pins: List::of(listed),
+            parts: List::of(parts),
+        }
+    }
 }
 
 fn push_node(nodes: &mut Vec<Node>, node: Node) -> Result<(), AllocError>
@@ -124,7 +156,8 @@ fn put_words(nodes: &mut Vec<Node>, block: u32) -> Result<(), AllocError>
 /// A block, and the nodes of its word.
 fn put_block(flat: &mut Growing, block: Block) -> Result<(), AllocError>
     requires { length flat.old.blocks.items ≤ 16777216 }
-    ensures nodes { OnOk result (flat.new.nodes.items ≡ flat.old.nodes.items ++ words (length flat.old.blocks.items) 16) }
+    ensures nodes { OnOk result
+        (flat.new.nodes.items ≡ flat.old.nodes.items ++ words (length flat.old.blocks.items) 16) }
     ensures blocks { OnOk result (flat.new.blocks.items ≡ flat.old.blocks.items ++ block ∷ []) }
     ensures parts { flat.new.parts ≡ flat.old.parts }
 {
@@ -168,8 +201,10 @@ fn rom_block(alloc: Global, inputs: &[u32]) -> Result<Block, AllocError>
 fn put_end(alloc: Global, end: End, inputs: &[u32], flat: &mut Growing) -> Result<(), AllocError>
     requires fed { IsEndFed end (length inputs.now) }
     requires few { length flat.old.blocks.items ≤ 16777216 }
-    ensures nodes { OnOk result (flat.new.nodes.items ≡ flat.old.nodes.items ++ end_puts end inputs.now (length flat.old.blocks.items)) }
-    ensures blocks { OnOk result (flat.new.blocks.items ≡ flat.old.blocks.items ++ end_blocks end inputs.now) }
+    ensures nodes { OnOk result (flat.new.nodes.items
+        ≡ flat.old.nodes.items ++ end_puts end inputs.now (length flat.old.blocks.items)) }
+    ensures blocks { OnOk result
+        (flat.new.blocks.items ≡ flat.old.blocks.items ++ end_blocks end inputs.now) }
     ensures parts { flat.new.parts ≡ flat.old.parts }
 {
     match end {
@@ -205,8 +240,10 @@ fn part_at<'a>(
     requires base { base ≤ 16777216 }
     requires within { All (IsWithin (length inputs.now) 16777216) plan.now.outs.items }
     requires number { number ≤ 16777216 }
-    ensures chip { IfOk result (λ part. (chip : Entry) → slice_get catalog.now.entries.now plan.now.number ≡ Some chip → part.chip ≡ chip.name) }
-    ensures outs { IfOk result (λ part. part.outs ≡ map (node_of base inputs.now) plan.now.outs.items) }
+    ensures chip { IfOk result (λ part. (chip : Entry)
+        → slice_get catalog.now.entries.now plan.now.number ≡ Some chip → part.chip ≡ chip.name) }
+    ensures outs { IfOk result
+        (λ part. part.outs ≡ map (node_of base inputs.now) plan.now.outs.items) }
     ensures block { IfOk result (λ part. part.block ≡ block_at plan.now.end number) }
 {
     Ok(PartAt {
@@ -240,7 +277,8 @@ fn enter<'a, 'b>(
     stack: &mut Vec<Unfinished<'b>>,
 ) -> Result<(), AllocError>
     requires { CanBegin plan.now inputs.items flat.old }
-    ensures { OnOk result (IsBegun plan.now inputs.items flat.old flat.new stack.old.items stack.new.items) }
+    ensures { OnOk result
+        (IsBegun plan.now inputs.items flat.old flat.new stack.old.items stack.new.items) }
 {
     match plan.end {
         Some(end) => put_end(alloc, end, &inputs, flat),
@@ -267,9 +305,13 @@ fn step<'a, 'b>(
     requires catalog { IsCatalog catalog.now }
     requires ends { EndsHavePins (chips_of catalog.now) }
     requires plans { ArePlans (chips_of catalog.now) plans.now }
-    requires pending { (task : Task) × ArePending (chips_of catalog.now) plans.now task (stack.old.items ++ chip ∷ []) flat.old }
-    ensures pending { OnOk result ((task : Task) → ArePending (chips_of catalog.now) plans.now task (stack.old.items ++ chip.entry ∷ []) flat.old → ArePending (chips_of catalog.now) plans.now task stack.new.items flat.new) }
-    ensures less { OnOk result (all_steps plans.now stack.new.items < all_steps plans.now (stack.old.items ++ chip.entry ∷ [])) }
+    requires pending { (task : Task)
+        × ArePending (chips_of catalog.now) plans.now task (stack.old.items ++ chip ∷ []) flat.old }
+    ensures pending { OnOk result ((task : Task) → ArePending
+        (chips_of catalog.now) plans.now task (stack.old.items ++ chip.entry ∷ []) flat.old
+        → ArePending (chips_of catalog.now) plans.now task stack.new.items flat.new) }
+    ensures less { OnOk result (all_steps plans.now stack.new.items
+        < all_steps plans.now (stack.old.items ++ chip.entry ∷ [])) }
 {
     let Some((part, others)) = chip.rest.split_first() else {
         return Ok(());
@@ -309,7 +351,8 @@ fn put<'a>(
     requires ends { EndsHavePins (chips_of catalog.now) }
     requires plans { ArePlans (chips_of catalog.now) plans.now }
     requires put { MayPut plans.now place inputs.now flat.old }
-    ensures { OnOk result ((plan : Plan) → slice_get plans.now place ≡ Some plan → IsPut (chips_of catalog.now) plan inputs.now flat.old flat.new) }
+    ensures { OnOk result ((plan : Plan) → slice_get plans.now place ≡ Some plan
+        → IsPut (chips_of catalog.now) plan inputs.now flat.old flat.new) }
 {
     let mut stack = Vec::new(alloc);
     let inputs = Vec::from_slice(alloc, inputs)?;
@@ -331,7 +374,9 @@ fn pin_at<'a>(
     requires base { base ≤ 16777216 }
     requires within { AreWithin (length inputs.now) 16777216 (wires_of wires.now) }
     ensures name { IfOk result (λ at. at.name ≡ pin.now.name) }
-    ensures nodes { IfOk result (λ at. at.nodes ≡ nodes_at (own_nodes (wires_of wires.now) base inputs.now) (bits_of pin.now.name 0 (pin_width pin.now))) }
+    ensures nodes { IfOk result
+        (λ at. at.nodes ≡ nodes_at (own_nodes (wires_of wires.now) base inputs.now)
+        (bits_of pin.now.name 0 (pin_width pin.now))) }
 {
     let mut nodes = Vec::new(alloc);
     for bit in 0..u32::from(pin.width.unwrap_or(1)) {
@@ -358,7 +403,8 @@ fn list_pins<'a>(
 ) -> Result<(), AllocError>
     requires base { base ≤ 16777216 }
     requires within { AreWithin (length inputs.now) 16777216 (wires_of wires.now) }
-    ensures { OnOk result (listed.new.items ≡ listed.old.items ++ map (Listed.pin_at (own_nodes (wires_of wires.now) base inputs.now)) pins.now) }
+    ensures { OnOk result (listed.new.items ≡ listed.old.items
+        ++ map (Listed.pin_at (own_nodes (wires_of wires.now) base inputs.now)) pins.now) }
 {
     for pin in pins {
         listed.push(pin_at(alloc, wires, base, inputs, pin)?)?;
@@ -375,7 +421,10 @@ fn directory<'a>(
 ) -> Result<Vec<PinAt>, AllocError>
     requires base { base ≤ 16777216 }
     requires within { AreWithin (length inputs.now) 16777216 (wires_of plan.now.wires) }
-    ensures { IfOk result (λ v. v.items ≡ map (Listed.pin_at (own_nodes (wires_of plan.now.wires) base inputs.now)) plan.now.entry.now.chip.inputs ++ map (Listed.pin_at (own_nodes (wires_of plan.now.wires) base inputs.now)) plan.now.entry.now.chip.outputs) }
+    ensures { IfOk result
+        (λ v. v.items ≡ map (Listed.pin_at (own_nodes (wires_of plan.now.wires) base inputs.now))
+        plan.now.entry.now.chip.inputs ++ map (Listed.pin_at
+        (own_nodes (wires_of plan.now.wires) base inputs.now)) plan.now.entry.now.chip.outputs) }
 {
     let chip = &plan.entry.chip;
     let mut listed = Vec::new(alloc);
@@ -422,36 +471,23 @@ fn begun(alloc: Global, n: usize) -> Result<Growing, AllocError>
     })
 }
 
-/// The chip that has grown, with its directory of pins.
-fn with_pins(grown: Growing, listed: Vec<PinAt>) -> Flat
-    ensures nodes { result.nodes ≡ grown.nodes.items }
-    ensures blocks { result.blocks ≡ grown.blocks.items }
-    ensures pins { result.pins ≡ listed.items }
-    ensures parts { result.parts ≡ grown.parts.items }
-{
-    Flat {
-        nodes: List::of(grown.nodes),
-        blocks: List::of(grown.blocks),
-        pins: List::of(listed),
-        parts: List::of(grown.parts),
-    }
-}
-
 /// The nodes and blocks of a chip without faults, in the order of the text.
 pub fn flatten(
     alloc: Global,
     library: &Library,
     top: &Name,
-    blocks: bool,
+    memories: Memories,
 ) -> Result<Flat, AllocError>
     requires distinct { AreDistinct library.now.entries }
     requires there { IsSome (find_entry library.now.entries top.now) }
-    requires fine { TopIsFaultless (chips_in library.now.entries blocks) top.now }
-    requires ends { EndsHavePins (chips_in library.now.entries blocks) }
-    requires few { NeedsFew (chips_in library.now.entries blocks) top.now }
-    ensures { IfOk result (λ flat. (chip : Entry) → find_chip (chips_in library.now.entries blocks) top.now ≡ Some chip → IsFlat (chips_in library.now.entries blocks) chip flat) }
+    requires fine { TopIsFaultless (chips_in library.now.entries memories) top.now }
+    requires ends { EndsHavePins (chips_in library.now.entries memories) }
+    requires few { NeedsFew (chips_in library.now.entries memories) top.now }
+    ensures { IfOk result (λ flat. (chip : Entry)
+        → find_chip (chips_in library.now.entries memories) top.now ≡ Some chip
+        → IsFlat (chips_in library.now.entries memories) chip flat) }
 {
-    let catalog = Catalog::new(alloc, library, blocks)?;
+    let catalog = Catalog::new(alloc, library, memories)?;
     let nest = nest_of(alloc, &catalog, top.as_bytes())?;
     let plans = plans_of(alloc, &catalog, &nest.chips)?;
     let plan = &plans[nest.top];
@@ -460,5 +496,5 @@ pub fn flatten(
     let base = flat.nodes.len();
     put(alloc, &catalog, &plans, nest.top, &inputs, &mut flat)?;
     let pins = directory(alloc, plan, base, &inputs)?;
-    Ok(with_pins(flat, pins))
+    Ok(flat.with_pins(pins))
 }

@@ -20,17 +20,23 @@ pub(crate) struct Nested {
 }
 
 /// The chips of a tree, each once, after those in it, and the place of the chip whose tree it is.
-#[derive(Drop)]
 pub(crate) struct Nest {
     pub chips: Vec<Nested>,
     pub top: usize,
+}
+
+// By hand, so that whoever drops one calls this.
+impl Drop for Nest {
+    fn drop(self) {
+        let Nest { chips: _, top: _ } = self;
+    }
 }
 
 /// The parts of a chip; an end has none.
 pub(crate) fn parts_in<'a>(catalog: &Catalog<'a>, entry: &'a Entry) -> &'a [Part]
     ensures { result.now ≡ parts_of (chips_of catalog.now) entry.now }
 {
-    if find_end(catalog.blocks, entry).is_some() {
+    if find_end(catalog.memories, entry).is_some() {
         return &[];
     }
     match &entry.chip.body {
@@ -52,7 +58,8 @@ fn number_of<'a>(catalog: &Catalog<'a>, name: &'a [u8]) -> usize
     requires catalog { IsCatalog catalog.now }
     requires there { IsSome (find_entry catalog.now.entries.now name.now) }
     ensures within { result < length catalog.now.entries.now }
-    ensures found { find_entry catalog.now.entries.now name.now ≡ slice_get catalog.now.entries.now result }
+    ensures found { find_entry catalog.now.entries.now name.now
+        ≡ slice_get catalog.now.entries.now result }
 {
     match catalog.place(name) {
         None => unreachable!(),
@@ -105,12 +112,14 @@ fn go_on<'a>(
     visit: &mut Visit<'a>,
 ) -> Result<Option<usize>, AllocError>
     requires catalog { IsCatalog catalog.now }
-    requires search { IsSearch (chips_of catalog.now) search.now.ranks.items search.now.chips.items }
+    requires search { IsSearch
+        (chips_of catalog.now) search.now.ranks.items search.now.chips.items }
     requires visit { IsVisit (chips_of catalog.now) search.now.chips.items visit.old }
     requires parts { PartsAreThere (chips_of catalog.now) visit.old.entry.now }
     ensures visit { OnOk result (IsVisit (chips_of catalog.now) search.now.chips.items visit.new) }
     ensures same { OnOk result (HasSameChip visit.old visit.new) }
-    ensures next { IfOk result (λ next. MatchOption next (visit.new.rest.now ≡ []) (IsUnplaced (chips_of catalog.now) search.now.ranks.items visit.old.entry.now)) }
+    ensures next { IfOk result (λ next. MatchOption next (visit.new.rest.now ≡ [])
+        (IsUnplaced (chips_of catalog.now) search.now.ranks.items visit.old.entry.now)) }
 {
     'parts: while let Some((part, others)) = visit.rest.split_first() {
         let inner = number_of(catalog, part.chip.as_bytes());
@@ -126,8 +135,10 @@ fn go_on<'a>(
 /// The chip of a visit stands, after all that stood.
 fn settle(search: &mut Search, visit: Visit<'_>) -> Result<(), AllocError>
     requires { visit.number < length search.old.ranks.items }
-    ensures ranks { OnOk result (search.new.ranks.items ≡ slice_set search.old.ranks.items visit.entry.number (Some (length search.old.chips.items))) }
-    ensures chips { OnOk result (IsSettled visit.entry search.old.chips.items search.new.chips.items) }
+    ensures ranks { OnOk result (search.new.ranks.items ≡ slice_set search.old.ranks.items
+        visit.entry.number (Some (length search.old.chips.items))) }
+    ensures chips { OnOk result
+        (IsSettled visit.entry search.old.chips.items search.new.chips.items) }
 {
     let rank = search.chips.len();
     search.chips.push(Nested {
@@ -154,9 +165,13 @@ fn step<'a>(
     visit: Visit<'a>,
 ) -> Result<(), AllocError>
     requires catalog { IsCatalog catalog.now }
-    requires stack { (top : ℕ) × IsStack (chips_of catalog.now) top search.old (stack.old.items ++ visit ∷ []) }
-    ensures stack { OnOk result ((top : ℕ) → IsStack (chips_of catalog.now) top search.old (stack.old.items ++ visit.entry ∷ []) → IsStack (chips_of catalog.now) top search.new stack.new.items) }
-    ensures less { OnOk result (work_left search.new (length stack.new.items) < work_left search.old (length stack.old.items + 1)) }
+    requires stack { (top : ℕ)
+        × IsStack (chips_of catalog.now) top search.old (stack.old.items ++ visit ∷ []) }
+    ensures stack { OnOk result ((top : ℕ)
+        → IsStack (chips_of catalog.now) top search.old (stack.old.items ++ visit.entry ∷ [])
+        → IsStack (chips_of catalog.now) top search.new stack.new.items) }
+    ensures less { OnOk result (work_left search.new (length stack.new.items)
+        < work_left search.old (length stack.old.items + 1)) }
 {
     let mut visit = visit;
     match go_on(catalog, search, &mut visit)? {

@@ -32,7 +32,6 @@ pub(crate) struct PartPlan {
 }
 
 /// The plan of a chip.
-#[derive(Drop)]
 pub(crate) struct Plan<'a> {
     pub number: usize,
     pub entry: &'a Entry,
@@ -43,6 +42,22 @@ pub(crate) struct Plan<'a> {
     /// What each output bit is.
     pub outs: Vec<Origin>,
     pub parts: Vec<PartPlan>,
+}
+
+// By hand, so that whoever drops one calls this.
+impl Drop for Plan<'_> {
+    fn drop(self) {
+        let Plan {
+            number: _,
+            entry: _,
+            end: _,
+            size: _,
+            inputs: _,
+            wires: _,
+            outs: _,
+            parts: _,
+        } = self;
+    }
 }
 
 /// What an output bit of a part is in the chip around it.
@@ -58,7 +73,8 @@ fn moved(origin: Origin, offset: u32) -> Origin
 
 /// Enters the input bits of a chip.
 fn enter_inputs<'a>(wires: &mut Wires<'a>, inputs: &[Bit<'a>]) -> Result<(), AllocError>
-    ensures { OnOk result (FindsMore (wires_of wires.old) (wires_of wires.new) (numbered_bits Input 0 (map bit_of inputs.now))) }
+    ensures { OnOk result (FindsMore (wires_of wires.old) (wires_of wires.new)
+        (numbered_bits Input 0 (map bit_of inputs.now))) }
 {
     for (k, bit) in inputs.iter().enumerate() {
         wires.enter(*bit, Origin::Input(k))?;
@@ -69,7 +85,8 @@ fn enter_inputs<'a>(wires: &mut Wires<'a>, inputs: &[Bit<'a>]) -> Result<(), All
 /// Enters the output bits of an end.
 fn enter_outputs<'a>(wires: &mut Wires<'a>, outputs: &[Bit<'a>]) -> Result<(), AllocError>
     requires { length outputs.now ≤ 16 }
-    ensures { OnOk result (FindsMore (wires_of wires.old) (wires_of wires.new) (numbered_bits Gate 0 (map bit_of outputs.now))) }
+    ensures { OnOk result (FindsMore (wires_of wires.old) (wires_of wires.new)
+        (numbered_bits Gate 0 (map bit_of outputs.now))) }
 {
     for (k, bit) in outputs.iter().enumerate() {
         wires.enter(*bit, Origin::Gate(k as u32))?;
@@ -84,7 +101,8 @@ fn enter_end<'a>(
     outputs: &[Bit<'a>],
 ) -> Result<(), AllocError>
     requires { IsSome end → length outputs.now ≤ 16 }
-    ensures { OnOk result (FindsMore (wires_of wires.old) (wires_of wires.new) (end_gates end (map bit_of outputs.now))) }
+    ensures { OnOk result (FindsMore (wires_of wires.old) (wires_of wires.new)
+        (end_gates end (map bit_of outputs.now))) }
 {
     match end {
         None => Ok(()),
@@ -101,7 +119,8 @@ fn drive<'a>(
     connection: &'a Connection,
 ) -> Result<(), AllocError>
     requires { offset ≤ 1000000000 }
-    ensures { OnOk result (FindsMore (wires_of wires.old) (wires_of wires.new) (driven_by (wires_of inner.now) offset port connection.now)) }
+    ensures { OnOk result (FindsMore (wires_of wires.old) (wires_of wires.new)
+        (driven_by (wires_of inner.now) offset port connection.now)) }
 {
     let Some(port) = port else {
         return Ok(());
@@ -137,7 +156,9 @@ fn drive_all<'a>(
     connections: &'a [Connection],
 ) -> Result<(), AllocError>
     requires { offset ≤ 1000000000 }
-    ensures { OnOk result ((list : List (List ℕ × Port)) → Finds ports.now list → FindsMore (wires_of wires.old) (wires_of wires.new) (all_driven (wires_of inner.now) offset list connections.now)) }
+    ensures { OnOk result
+        ((list : List (List ℕ × Port)) → Finds ports.now list → FindsMore (wires_of wires.old)
+        (wires_of wires.new) (all_driven (wires_of inner.now) offset list connections.now)) }
 {
     let mut rest = connections;
     while let Some((connection, others)) = rest.split_first() {
@@ -173,7 +194,8 @@ fn feed<'a>(
     port: Option<Port>,
     connection: &'a Connection,
 ) -> Result<(), AllocError>
-    ensures { OnOk result (FindsMore (wires_of fed.old) (wires_of fed.new) (fed_by (wires_of wires.now) port connection.now)) }
+    ensures { OnOk result (FindsMore (wires_of fed.old) (wires_of fed.new)
+        (fed_by (wires_of wires.now) port connection.now)) }
 {
     let Some(port) = port else {
         return Ok(());
@@ -199,7 +221,8 @@ fn feed_all<'a>(
     ports: &Table<'a, Port>,
     connections: &'a [Connection],
 ) -> Result<Wires<'a>, AllocError>
-    ensures { IfOk result (λ fed. (list : List (List ℕ × Port)) → Finds ports.now list → FindsMore [] (wires_of fed) (all_fed (wires_of wires.now) list connections.now)) }
+    ensures { IfOk result (λ fed. (list : List (List ℕ × Port)) → Finds ports.now list
+        → FindsMore [] (wires_of fed) (all_fed (wires_of wires.now) list connections.now)) }
 {
     let mut fed = Wires::new(alloc);
     let mut rest = connections;
@@ -215,7 +238,8 @@ fn feed_all<'a>(
 fn ports_at<'a, 'b>(catalog: &'b Catalog<'a>, k: usize) -> &'b Table<'a, Port>
     requires catalog { IsCatalog catalog.now }
     requires there { k < length catalog.now.entries.now }
-    ensures { (entry : Entry) → slice_get catalog.now.entries.now k ≡ Some entry → Finds result.now (ports_of entry.chip) }
+    ensures { (entry : Entry) → slice_get catalog.now.entries.now k ≡ Some entry
+        → Finds result.now (ports_of entry.chip) }
 {
     &catalog.ports[k]
 }
@@ -247,7 +271,8 @@ fn wire_parts<'a>(
     requires catalog { IsCatalog catalog.now }
     requires small { IsSmall own }
     requires plans { AreAtHand (chips_of catalog.now) plans.now rs.now }
-    ensures { OnOk result (FindsMore (wires_of wires.old) (wires_of wires.new) (parts_driven own parts.now (plans_at plans.now rs.now))) }
+    ensures { OnOk result (FindsMore (wires_of wires.old) (wires_of wires.new)
+        (parts_driven own parts.now (plans_at plans.now rs.now))) }
 {
     let mut size = own;
     let mut rest = parts;
@@ -285,7 +310,8 @@ fn plan_part<'a>(
     requires there { slice_get catalog.now.entries.now inner.now.number ≡ Some inner.now.entry.now }
     ensures place { IfOk result (λ q. q.place ≡ place) }
     ensures offset { IfOk result (λ q. q.offset ≡ offset) }
-    ensures origins { IfOk result (λ q. q.origins.items ≡ part_origins (wires_of wires.now) part.now inner.now) }
+    ensures origins { IfOk result
+        (λ q. q.origins.items ≡ part_origins (wires_of wires.now) part.now inner.now) }
 {
     let ports = ports_at(catalog, inner.number);
     let fed = feed_all(alloc, wires, ports, part.connections.as_slice())?;
@@ -311,7 +337,8 @@ fn plan_parts<'a>(
     requires small { IsSmall own }
     requires plans { AreAtHand (chips_of catalog.now) plans.now rs.now }
     requires long { length rs.now ≡ length parts.now }
-    ensures parts { IfOk result (λ v. ArePartPlans (wires_of wires.now) own parts.now (plans_at plans.now rs.now) v.items) }
+    ensures parts { IfOk result
+        (λ v. ArePartPlans (wires_of wires.now) own parts.now (plans_at plans.now rs.now) v.items) }
     ensures places { IfOk result (λ v. places v.items ≡ rs.now) }
 {
     let mut planned = Vec::new(alloc);
@@ -345,10 +372,12 @@ fn wires_in<'a>(
     requires plans { AreAtHand (chips_of catalog.now) plans.now rs.now }
     requires inputs { map bit_of inputs.now ≡ all_bits entry.now.chip.inputs }
     requires outputs { map bit_of outputs.now ≡ all_bits entry.now.chip.outputs }
-    requires few { IsSome (end_of catalog.now.blocks entry.now) → length outputs.now ≤ 16 }
-    ensures { IfOk result (λ w. (name : List ℕ) (bit : ℕ) → found_bit name bit (wires_of w) ≡ found_bit name bit (own_wires (chips_of catalog.now) entry.now (plans_at plans.now rs.now))) }
+    requires few { IsSome (end_of catalog.now.memories entry.now) → length outputs.now ≤ 16 }
+    ensures { IfOk result
+        (λ w. (name : List ℕ) (bit : ℕ) → found_bit name bit (wires_of w) ≡ found_bit name bit
+        (own_wires (chips_of catalog.now) entry.now (plans_at plans.now rs.now))) }
 {
-    let end = find_end(catalog.blocks, entry);
+    let end = find_end(catalog.memories, entry);
     let own = Size {
         nodes: count_nodes(end),
         parts: 0,
@@ -384,7 +413,7 @@ fn plan_chip<'a>(
     ensures number { IfOk result (λ plan. plan.number ≡ nested.now.number) }
 {
     let entry = entry_at(catalog, nested.number);
-    let end = find_end(catalog.blocks, entry);
+    let end = find_end(catalog.memories, entry);
     let own = Size {
         nodes: count_nodes(end),
         parts: 0,

@@ -12,7 +12,7 @@ ghost use Rattle.hdl_flatten.specs.Inner.Sizes.{joined_size, all_joined, AreSize
 
 use crate::nest::{Nest, Nested, entry_at, nest_of};
 use hdl_check::Catalog;
-use hdl_tree::{End, Library, Name, Pin, find_end};
+use hdl_tree::{End, Library, Memories, Name, Pin, find_end};
 use std::alloc::{AllocError, Global};
 
 /// How large a tree is: how many nodes it needs, and how many parts it has. A number past 1,000,000,000 stays as that.
@@ -59,11 +59,14 @@ pub(crate) fn join(size: Size, inner: Size) -> Size
 fn size_of(catalog: &Catalog, nested: &Nested, sizes: &[Size]) -> Size
     requires catalog { IsCatalog catalog.now }
     requires nest { IsSizeAt (chips_of catalog.now) nested.now sizes.now }
-    ensures { (chip : Entry) → slice_get catalog.now.entries.now nested.now.number ≡ Some chip → result ≡ all_joined sizes.now (record { nodes = end_nodes (end_of catalog.now.blocks chip); parts = 0 }) nested.now.parts.items }
+    ensures { (chip : Entry) → slice_get catalog.now.entries.now nested.now.number ≡ Some chip
+        → result ≡ all_joined sizes.now
+        (record { nodes = end_nodes (end_of catalog.now.memories chip); parts = 0 })
+        nested.now.parts.items }
 {
     let entry = entry_at(catalog, nested.number);
     let mut size = Size {
-        nodes: count_nodes(find_end(catalog.blocks, entry)),
+        nodes: count_nodes(find_end(catalog.memories, entry)),
         parts: 0,
     };
     let mut rest = nested.parts.as_slice();
@@ -107,14 +110,21 @@ fn count_bits(pins: &[Pin]) -> u32
 
 /// How many nodes a chip without faults needs and how many parts it has. No chip is expanded, so that a tree of more parts than can be
 /// listed is reported at once.
-pub fn count(alloc: Global, library: &Library, top: &Name, blocks: bool) -> Result<Size, AllocError>
+pub fn count(
+    alloc: Global,
+    library: &Library,
+    top: &Name,
+    memories: Memories,
+) -> Result<Size, AllocError>
     requires distinct { AreDistinct library.now.entries }
     requires there { IsSome (find_entry library.now.entries top.now) }
-    requires fine { TopIsFaultless (chips_in library.now.entries blocks) top.now }
-    requires ends { EndsHavePins (chips_in library.now.entries blocks) }
-    ensures { IfOk result (λ size. (chip : Entry) → find_chip (chips_in library.now.entries blocks) top.now ≡ Some chip → HasSize (chips_in library.now.entries blocks) chip size) }
+    requires fine { TopIsFaultless (chips_in library.now.entries memories) top.now }
+    requires ends { EndsHavePins (chips_in library.now.entries memories) }
+    ensures { IfOk result (λ size. (chip : Entry)
+        → find_chip (chips_in library.now.entries memories) top.now ≡ Some chip
+        → HasSize (chips_in library.now.entries memories) chip size) }
 {
-    let catalog = Catalog::new(alloc, library, blocks)?;
+    let catalog = Catalog::new(alloc, library, memories)?;
     let nest = nest_of(alloc, &catalog, top.as_bytes())?;
     let sizes = sizes_of(alloc, &catalog, &nest.chips)?;
     let size = sizes[nest.top];

@@ -26,9 +26,15 @@ pub(crate) enum Origin {
 }
 
 /// What feeds each bit of a chip's pins and nets; what was entered first for a bit is found.
-#[derive(Drop)]
 pub(crate) struct Wires<'a> {
     entries: IndexMap<Bit<'a>, Origin>,
+}
+
+// By hand, so that whoever drops one calls this.
+impl Drop for Wires<'_> {
+    fn drop(self) {
+        let Wires { entries: _ } = self;
+    }
 }
 
 impl<'a> Wires<'a> {
@@ -55,7 +61,8 @@ impl<'a> Wires<'a> {
 
     /// Enters what feeds a bit, unless it was entered before.
     pub(crate) fn enter(&mut self, bit: Bit<'a>, origin: Origin) -> Result<(), AllocError>
-        ensures { OnOk result (FindsMore (wires_of self.old) (wires_of self.new) ((bit_of bit.entry, origin) ∷ [])) }
+        ensures { OnOk result
+            (FindsMore (wires_of self.old) (wires_of self.new) ((bit_of bit.entry, origin) ∷ [])) }
     {
         match self.find(bit) {
             Some(_) => Ok(()),
@@ -68,7 +75,8 @@ impl<'a> Wires<'a> {
 }
 
 fn push_bits<'a>(bits: &mut Vec<Bit<'a>>, name: &'a [u8], width: u8) -> Result<(), AllocError>
-    ensures { OnOk result (map bit_of bits.new.items ≡ map bit_of bits.old.items ++ bits_of name.now 0 width) }
+    ensures { OnOk result
+        (map bit_of bits.new.items ≡ map bit_of bits.old.items ++ bits_of name.now 0 width) }
 {
     for bit in 0..u32::from(width) {
         bits.push(Bit { name, bit })?;

@@ -25,7 +25,7 @@ and_true : (a b : Bool) → a ≡ true → b ≡ true → (a && b) ≡ true
 and_true true b e f = f
 and_true false b e f = absurd cc
 
-module _ (chips : Chips) (chip : Entry) (e : End) (is : end_of chips.blocks chip ≡ Some e) where
+module _ (chips : Chips) (chip : Entry) (e : End) (is : end_of chips.memories chip ≡ Some e) where
   no_part : (i : ℕ) (part : Part) → slice_get (parts_of chips chip) i ≡ Some part → ⊥
   no_part i part h =
       let none : parts_of chips chip ≡ [] = ap (λ o. parts_unless o (parts_of_body chip.chip.body)) is in

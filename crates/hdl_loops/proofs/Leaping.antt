@@ -109,7 +109,7 @@ leap_trip chips known chip h names r t =
     }
 
 -- the way of an end is one step, and passes no net
-pub end_trip : (chips : Chips) (chip : Entry) (e : End) (d : Dependency) → end_of chips.blocks chip ≡ Some e → end_crosses e (input_of d) (output_of d) ≡ true → Trip chips chip (input_of d) (output_of d) []
+pub end_trip : (chips : Chips) (chip : Entry) (e : End) (d : Dependency) → end_of chips.memories chip ≡ Some e → end_crosses e (input_of d) (output_of d) ≡ true → Trip chips chip (input_of d) (output_of d) []
 end_trip chips chip e d is h =
     let p = both (reaches_out e d.input.now) (bytes_eq d.output.now (codes "out")) h in
     let named : d.output.now ≡ codes "out" = (bytes_decides d.output.now (codes "out")).0 p.1 in

@@ -63,7 +63,7 @@ by_end_still old new k x y None stays h = leads_still old new k x y (slice_get o
 
 crosses_still : (chips : Chips) (old new : Lists) (k : ℕ) (x y : BitAt) (o : Option Entry) → StaysKnown old new → crosses_in chips o (slice_get old k) x y ≡ true → crosses_in chips o (slice_get new k) x y ≡ true
 crosses_still chips old new k x y None stays h = h
-crosses_still chips old new k x y (Some entry) stays h = by_end_still old new k x y (end_of chips.blocks entry) stays h
+crosses_still chips old new k x y (Some entry) stays h = by_end_still old new k x y (end_of chips.memories entry) stays h
 
 hop_still : (chips : Chips) (old new : Lists) (chip : Entry) (h : Hop) → StaysKnown old new → IsHop chips old chip h → IsHop chips new chip h
 hop_still chips old new chip h stays r = record {

@@ -44,7 +44,7 @@ pub part_of : (chips : Chips) (chip : Entry) (i : ℕ) (inner : Entry) → inner
 part_of chips chip i inner h = part_by chips chip i inner (slice_get (parts_of chips chip) i) refl h
 
 -- the part's chip leads from an input to an output that depends on it
-crosses_by_end : (chips : Chips) (known : List (Option Known)) (k : ℕ) (inner : Entry) (o : Option End) → slice_get chips.entries k ≡ Some inner → end_of chips.blocks inner ≡ o → TreeFits chips inner → AreKnown chips known → IsDone chips known k →
+crosses_by_end : (chips : Chips) (known : List (Option Known)) (k : ℕ) (inner : Entry) (o : Option End) → slice_get chips.entries k ≡ Some inner → end_of chips.memories inner ≡ o → TreeFits chips inner → AreKnown chips known → IsDone chips known k →
     (n m : List ℕ) (b l : ℕ) → Depends chips inner n b m l → crosses_by o (slice_get known k) (bit_at [] n b) (bit_at [] m l) ≡ true
 crosses_by_end chips known k inner (Some e) at is fit right done n m b l d = end_depends chips inner e is n m b l d
 crosses_by_end chips known k inner None at is fit right done n m b l d =
@@ -54,14 +54,14 @@ crosses_by_end chips known k inner None at is fit right done n m b l d =
 pub depends_cross : (chips : Chips) (known : List (Option Known)) (k : ℕ) (inner : Entry) → slice_get chips.entries k ≡ Some inner → TreeFits chips inner → AreKnown chips known → IsDone chips known k →
     (n m : List ℕ) (b l : ℕ) → Depends chips inner n b m l → crosses chips known k (bit_at [] n b) (bit_at [] m l) ≡ true
 depends_cross chips known k inner at fit right done n m b l d =
-    ap (λ (o : Option Entry). crosses_in chips o (slice_get known k) (bit_at [] n b) (bit_at [] m l)) at ∙ crosses_by_end chips known k inner (end_of chips.blocks inner) at refl fit right done n m b l d
+    ap (λ (o : Option Entry). crosses_in chips o (slice_get known k) (bit_at [] n b) (bit_at [] m l)) at ∙ crosses_by_end chips known k inner (end_of chips.memories inner) at refl fit right done n m b l d
 
-clear_by_end : (chips : Chips) (known : List (Option Known)) (k : ℕ) (inner : Entry) (o : Option End) → slice_get chips.entries k ≡ Some inner → end_of chips.blocks inner ≡ o → TreeFits chips inner → AreKnown chips known → IsDone chips known k → TreeClear chips inner
+clear_by_end : (chips : Chips) (known : List (Option Known)) (k : ℕ) (inner : Entry) (o : Option End) → slice_get chips.entries k ≡ Some inner → end_of chips.memories inner ≡ o → TreeFits chips inner → AreKnown chips known → IsDone chips known k → TreeClear chips inner
 clear_by_end chips known k inner (Some e) at is fit right done = end_clear chips inner e is
 clear_by_end chips known k inner None at is fit right done = let r = done inner at is in (right k inner r.0 at r.1).clear fit
 
 pub done_clear : (chips : Chips) (known : List (Option Known)) (k : ℕ) (inner : Entry) → slice_get chips.entries k ≡ Some inner → TreeFits chips inner → AreKnown chips known → IsDone chips known k → TreeClear chips inner
-done_clear chips known k inner at fit right done = clear_by_end chips known k inner (end_of chips.blocks inner) at refl fit right done
+done_clear chips known k inner at fit right done = clear_by_end chips known k inner (end_of chips.memories inner) at refl fit right done
 
 -- ---- ways
 
@@ -71,7 +71,7 @@ record Enters (chips : Chips) (chip : Entry) (p n : List ℕ) (b : ℕ) (m : Lis
   path : p ≡ i ∷ []
   joined : Joined chips chip i true (bit_at [] n b) (bit_at (i ∷ []) m k)
 
-enters_by : (chips : Chips) (chip : Entry) → end_of chips.blocks chip ≡ None → (p n : List ℕ) (b : ℕ) (m : List ℕ) (k : ℕ) → OwnAt chips chip [] p n b m k → Enters chips chip p n b m k
+enters_by : (chips : Chips) (chip : Entry) → end_of chips.memories chip ≡ None → (p n : List ℕ) (b : ℕ) (m : List ℕ) (k : ℕ) → OwnAt chips chip [] p n b m k → Enters chips chip p n b m k
 enters_by chips chip no_end [] n b m k f = absurd (let e = f.is in cc)
 enters_by chips chip no_end (i ∷ []) n b m k f = record { i = i; path = refl; joined = f }
 enters_by chips chip no_end (i ∷ j ∷ q) n b m k f = absurd f
@@ -133,7 +133,7 @@ module _ (chips : Chips) (known : List (Option Known)) (chip : Entry) (hs : List
       subst (λ (v : BitAt). HasHop hs x v) (sym g.out_is)
       (subst (λ (v : BitAt). HasHop hs v gt.net) (sym f.out_is) (graph_has chips known chip hs is i at.part at.k inner ft gt at.there at.placed at.at a b refl refl c_is))
 
-module _ (chips : Chips) (known : List (Option Known)) (chip : Entry) (hs : List Hop) (no_end : end_of chips.blocks chip ≡ None) (is : IsGraph chips known chip hs)
+module _ (chips : Chips) (known : List (Option Known)) (chip : Entry) (hs : List Hop) (no_end : end_of chips.memories chip ≡ None) (is : IsGraph chips known chip hs)
     (right : AreKnown chips known) (done : PartsDone chips known chip) (fit : TreeFits chips chip) where
   -- a bit of a pin of part i
   way_of : (i : ℕ) (input : Bool) (x y : BitAt) (f : Joined chips chip i input x y) (inner : Entry) → inner_chip chips chip i ≡ Some inner → is_input inner y.name ≡ input
@@ -210,7 +210,7 @@ pub graph_full : (chips : Chips) (known : List (Option Known)) (chip : Entry) (h
 graph_full chips known chip hs is right done fit i inner x p q y found f g d = hop_through chips known chip hs is right done fit i x p q y f g inner found d
 
 -- what was seen of a chip is right
-pub seen_right : (chips : Chips) (known : List (Option Known)) (chip : Entry) (inside : Known) → end_of chips.blocks chip ≡ None → IsGraph chips known chip inside.hops.items → AreKnown chips known → PartsDone chips known chip → NoRound inside.hops.items →
+pub seen_right : (chips : Chips) (known : List (Option Known)) (chip : Entry) (inside : Known) → end_of chips.memories chip ≡ None → IsGraph chips known chip inside.hops.items → AreKnown chips known → PartsDone chips known chip → NoRound inside.hops.items →
     IsLinked inside.hops.items inside.leaving (length inside.hops.items) → ((n m : List ℕ) (b k : ℕ) → leads inside (bit_at [] n b) (bit_at [] m k) ≡ true → Way (HasHop inside.hops.items) (bit_at [] n b) (bit_at [] m k)) →
     ((n m : List ℕ) (b k : ℕ) → HasBit chip.chip.inputs n b → HasBit chip.chip.outputs m k → Way (HasHop inside.hops.items) (bit_at [] n b) (bit_at [] m k) → leads inside (bit_at [] n b) (bit_at [] m k) ≡ true) → IsRight chips known chip inside
 seen_right chips known chip inside no_end is right done none linked sound there = record {

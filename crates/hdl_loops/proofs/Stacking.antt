@@ -112,7 +112,7 @@ module _ (chips : Chips) (known : List (Option Known)) (top : ℕ) (init : List 
           root = kept_root (on f) refl [];
         })
 
-    module _ (k depth : ℕ) (placed : place_of chips.entries part.chip ≡ Some k) (there : k < length chips.entries) (no_end : (chip : Entry) → slice_get chips.entries k ≡ Some chip → end_of chips.blocks chip ≡ None) (deep : suc depth ≡ f.depth) where
+    module _ (k depth : ℕ) (placed : place_of chips.entries part.chip ≡ Some k) (there : k < length chips.entries) (no_end : (chip : Entry) → slice_get chips.entries k ≡ Some chip → end_of chips.memories chip ≡ None) (deep : suc depth ≡ f.depth) where
       abbrev child : Frame
       child = record { chip = k; next = 0; depth = depth }
 
@@ -177,7 +177,7 @@ module _ (chips : Chips) (known : List (Option Known)) (top : ℕ) (init : List 
 abbrev first_frame : ℕ → ℕ → Frame
 first_frame top depth = record { chip = top; next = 0; depth = depth }
 
-start_frame : (chips : Chips) (known : List (Option Known)) (top depth : ℕ) → top < length chips.entries → ((chip : Entry) → slice_get chips.entries top ≡ Some chip → end_of chips.blocks chip ≡ None) → NestsAt depth chips top → IsFrame chips known top (first_frame top depth ∷ []) 0 (first_frame top depth)
+start_frame : (chips : Chips) (known : List (Option Known)) (top depth : ℕ) → top < length chips.entries → ((chip : Entry) → slice_get chips.entries top ≡ Some chip → end_of chips.memories chip ≡ None) → NestsAt depth chips top → IsFrame chips known top (first_frame top depth ∷ []) 0 (first_frame top depth)
 start_frame chips known top depth lt no_end nests = record {
   there = lt;
   within = omega arith;
@@ -191,7 +191,7 @@ start_by : (chips : Chips) (known : List (Option Known)) (top depth : ℕ) → I
 start_by chips known top depth first zero f e = let same : first_frame top depth ≡ f = cc in subst (IsFrame chips known top (first_frame top depth ∷ []) 0) same first
 start_by chips known top depth first (suc j) f e = absurd cc
 
-pub stack_start : (chips : Chips) (known : List (Option Known)) (top depth : ℕ) (fs : List Frame) → fs ≡ first_frame top depth ∷ [] → top < length chips.entries → ((chip : Entry) → slice_get chips.entries top ≡ Some chip → end_of chips.blocks chip ≡ None) → NestsAt depth chips top → IsStack chips known top fs
+pub stack_start : (chips : Chips) (known : List (Option Known)) (top depth : ℕ) (fs : List Frame) → fs ≡ first_frame top depth ∷ [] → top < length chips.entries → ((chip : Entry) → slice_get chips.entries top ≡ Some chip → end_of chips.memories chip ≡ None) → NestsAt depth chips top → IsStack chips known top fs
 stack_start chips known top depth fs is lt no_end nests =
     subst (IsStack chips known top) (sym is)
     (record { frames = start_by chips known top depth (start_frame chips known top depth lt no_end nests); root = inr (first_frame top depth, refl, refl) })

@@ -14,13 +14,13 @@ use Rattle.hdl_loops.specs.declared.known.Known.{Known}
 use Rattle.hdl_loops.proofs.Nesting.{parts_nest}
 
 module _ (chips : Chips) (known : List (Option Known)) (k : ℕ) (entry : Entry) (at : slice_get chips.entries k ≡ Some entry) where
-  crosses_is : (x y : BitAt) (o : Option End) → end_of chips.blocks entry ≡ o → crosses chips known k x y ≡ crosses_by o (slice_get known k) x y
+  crosses_is : (x y : BitAt) (o : Option End) → end_of chips.memories entry ≡ o → crosses chips known k x y ≡ crosses_by o (slice_get known k) x y
   crosses_is x y o is = ap (λ (e : Option Entry). crosses_in chips e (slice_get known k) x y) at ∙ ap (λ (e : Option End). crosses_by e (slice_get known k) x y) is
 
-  pub cross_end : (x y : BitAt) (e : End) → end_of chips.blocks entry ≡ Some e → crosses chips known k x y ≡ true → end_crosses e x y ≡ true
+  pub cross_end : (x y : BitAt) (e : End) → end_of chips.memories entry ≡ Some e → crosses chips known k x y ≡ true → end_crosses e x y ≡ true
   cross_end x y e is h = sym (crosses_is x y (Some e) is) ∙ h
 
-  pub cross_known : (x y : BitAt) → end_of chips.blocks entry ≡ None → crosses chips known k x y ≡ true → leads_in (slice_get known k) x y ≡ true
+  pub cross_known : (x y : BitAt) → end_of chips.memories entry ≡ None → crosses chips known k x y ≡ true → leads_in (slice_get known k) x y ≡ true
   cross_known x y is h = sym (crosses_is x y None is) ∙ h
 
   pub known_ways : AreKnown chips known → HasWays known k

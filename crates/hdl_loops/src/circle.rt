@@ -26,7 +26,8 @@ fn circle_at<'a>(
     at: BitOf<'a>,
 ) -> Result<Option<Circle<'a>>, AllocError>
     requires { IsLinked hops.now leaving.now (length hops.now) }
-    ensures { IfOk result (λ r. MatchOption r (Way (HasHop hops.now) (bit at.entry) (bit at.entry) → ⊥) (IsRound hops.now)) }
+    ensures { IfOk result (λ r. MatchOption r
+        (Way (HasHop hops.now) (bit at.entry) (bit at.entry) → ⊥) (IsRound hops.now)) }
 {
     let tree = Tree::of(alloc, hops, leaving, at)?;
     match tree.way_to(alloc, hops, &at)? {

@@ -16,16 +16,15 @@ use crate::graph::graph_of;
 use crate::hops::Hop;
 use crate::known::{Known, known_of};
 use crate::names::nets_of;
-use crate::places::{place, places_of};
-use hdl_tree::{Body, Entry, Library, Name, Part, find_end};
-use name_table::Table;
+use crate::places::{Places, place, places_of};
+use hdl_tree::{Body, Entry, Library, Memories, Name, Part, find_end};
 use std::alloc::{AllocError, Global};
 
 /// The parts of a chip; an end has none.
-pub(crate) fn parts_of<'a>(blocks: bool, entry: &'a Entry) -> &'a [Part]
-    ensures { (entries : List Entry) → result.now ≡ parts_in (chips_in entries blocks) entry.now }
+pub(crate) fn parts_of<'a>(memories: Memories, entry: &'a Entry) -> &'a [Part]
+    ensures { (entries : List Entry) → result.now ≡ parts_in (chips_in entries memories) entry.now }
 {
-    if find_end(blocks, entry).is_some() {
+    if find_end(memories, entry).is_some() {
         return &[];
     }
     match &entry.chip.body {
@@ -35,7 +34,7 @@ pub(crate) fn parts_of<'a>(blocks: bool, entry: &'a Entry) -> &'a [Part]
 }
 
 /// A chip that is looked at, how many of its parts are, and what chips nest in it less deep than.
-#[derive(Clone, Copy, Debug)]
+#[derive(Clone, Copy)]
 pub struct Frame {
     pub chip: usize,
     pub next: usize,
@@ -43,11 +42,12 @@ pub struct Frame {
 }
 
 /// Whether chip k is an end.
-pub(crate) fn is_end(entries: &[Entry], blocks: bool, k: usize) -> bool
+pub(crate) fn is_end(entries: &[Entry], memories: Memories, k: usize) -> bool
     requires { k < length entries.now }
-    ensures { (chip : Entry) → slice_get entries.now k ≡ Some chip → result ≡ is_some (end_of blocks chip) }
+    ensures { (chip : Entry) → slice_get entries.now k ≡ Some chip
+        → result ≡ is_some (end_of memories chip) }
 {
-    find_end(blocks, &entries[k]).is_some()
+    find_end(memories, &entries[k]).is_some()
 }
 
 /// What a look at one chip gives: what is known of it, or the nets of a loop.
@@ -61,22 +61,23 @@ pub(crate) enum Look<'a> {
 fn loop_in<'a>(
     alloc: Global,
     entries: &'a [Entry],
-    blocks: bool,
+    memories: Memories,
     known: &[Option<Known<'a>>],
     entry: &'a Entry,
     hops: &[Hop<'a>],
     depth: usize,
 ) -> Result<Option<Vec<Name>>, AllocError>
-    requires known { AreKnown (chips_in entries.now blocks) known.now }
-    requires hops { AreHops (chips_in entries.now blocks) known.now entry.now hops.now }
-    requires full { IsFull (chips_in entries.now blocks) entry.now hops.now }
-    requires nests { Nests depth (chips_in entries.now blocks) entry.now }
-    ensures { IfOk result (λ r. MatchOption r (NoRound hops.now) (λ nets. IsLoop (chips_in entries.now blocks) entry.now nets.items)) }
+    requires known { AreKnown (chips_in entries.now memories) known.now }
+    requires hops { AreHops (chips_in entries.now memories) known.now entry.now hops.now }
+    requires full { IsFull (chips_in entries.now memories) entry.now hops.now }
+    requires nests { Nests depth (chips_in entries.now memories) entry.now }
+    ensures { IfOk result (λ r. MatchOption r (NoRound hops.now)
+        (λ nets. IsLoop (chips_in entries.now memories) entry.now nets.items)) }
 {
     match circle_in(alloc, hops)? {
         None => Ok(None),
         Some(circle) => {
-            let nets = nets_of(alloc, entries, blocks, known, entry, &circle, depth)?;
+            let nets = nets_of(alloc, entries, memories, known, entry, &circle, depth)?;
             Ok(Some(nets))
         }
     }
@@ -86,29 +87,29 @@ fn loop_in<'a>(
 fn look_at<'a>(
     alloc: Global,
     entries: &'a [Entry],
-    places: &Table<'a, usize>,
-    blocks: bool,
+    places: &Places<'a>,
+    memories: Memories,
     known: &[Option<Known<'a>>],
     entry: &'a Entry,
     depth: usize,
 ) -> Result<Look<'a>, AllocError>
     requires placed { ArePlaces places.now entries.now }
-    requires no_end { end_of blocks entry.now ≡ None }
-    requires right { AreKnown (chips_in entries.now blocks) known.now }
-    requires done { PartsDone (chips_in entries.now blocks) known.now entry.now }
-    requires nests { Nests depth (chips_in entries.now blocks) entry.now }
-    ensures { IfOk result (LooksRight (chips_in entries.now blocks) known.now entry.now) }
+    requires no_end { end_of memories entry.now ≡ None }
+    requires right { AreKnown (chips_in entries.now memories) known.now }
+    requires done { PartsDone (chips_in entries.now memories) known.now entry.now }
+    requires nests { Nests depth (chips_in entries.now memories) entry.now }
+    ensures { IfOk result (LooksRight (chips_in entries.now memories) known.now entry.now) }
 {
     let hops = graph_of(
         alloc,
         entries,
         places,
-        blocks,
+        memories,
         known,
-        parts_of(blocks, entry),
+        parts_of(memories, entry),
     )?;
     let list = hops.as_slice();
-    match loop_in(alloc, entries, blocks, known, entry, list, depth)? {
+    match loop_in(alloc, entries, memories, known, entry, list, depth)? {
         Some(nets) => Ok(Look::Loop(nets)),
         None => {
             let inside = known_of(alloc, entry, hops)?;
@@ -142,8 +143,8 @@ fn note<'a>(known: &mut [Option<Known<'a>>], k: usize, inside: Known<'a>)
 fn find_here<'a>(
     alloc: Global,
     entries: &'a [Entry],
-    places: &Table<'a, usize>,
-    blocks: bool,
+    places: &Places<'a>,
+    memories: Memories,
     known: &mut [Option<Known<'a>>],
     k: usize,
     depth: usize,
@@ -151,16 +152,19 @@ fn find_here<'a>(
     requires placed { ArePlaces places.now entries.now }
     requires long { length known.old ≡ length entries.now }
     requires there { k < length entries.now }
-    requires right { AreKnown (chips_in entries.now blocks) known.old }
-    requires no_end { (entry : Entry) → slice_get entries.now k ≡ Some entry → end_of blocks entry ≡ None }
-    requires done { (entry : Entry) → slice_get entries.now k ≡ Some entry → PartsDone (chips_in entries.now blocks) known.old entry }
-    requires nests { NestsAt depth (chips_in entries.now blocks) k }
-    ensures right { OnOk result (AreKnown (chips_in entries.now blocks) known.new) }
+    requires right { AreKnown (chips_in entries.now memories) known.old }
+    requires no_end { (entry : Entry) → slice_get entries.now k ≡ Some entry
+        → end_of memories entry ≡ None }
+    requires done { (entry : Entry) → slice_get entries.now k ≡ Some entry
+        → PartsDone (chips_in entries.now memories) known.old entry }
+    requires nests { NestsAt depth (chips_in entries.now memories) k }
+    ensures right { OnOk result (AreKnown (chips_in entries.now memories) known.new) }
     ensures stay { OnOk result (StaysKnown known.old known.new) }
     ensures done { IfOk result (λ r. r ≡ None → IsKnown known.new k) }
-    ensures told { IfOk result (λ r. (chip : Entry) → slice_get entries.now k ≡ Some chip → TellsLoop (chips_in entries.now blocks) chip r) }
+    ensures told { IfOk result (λ r. (chip : Entry) → slice_get entries.now k ≡ Some chip
+        → TellsLoop (chips_in entries.now memories) chip r) }
 {
-    match look_at(alloc, entries, places, blocks, known, &entries[k], depth)? {
+    match look_at(alloc, entries, places, memories, known, &entries[k], depth)? {
         Look::Loop(nets) => Ok(Some(nets)),
         Look::Fine(inside) => {
             note(known, k, inside);
@@ -173,8 +177,8 @@ fn find_here<'a>(
 /// end.
 fn enter<'a>(
     entries: &[Entry],
-    places: &Table<'a, usize>,
-    blocks: bool,
+    places: &Places<'a>,
+    memories: Memories,
     known: &[Option<Known>],
     part: &'a Part,
     depth: usize,
@@ -182,7 +186,8 @@ fn enter<'a>(
 ) -> Result<(), AllocError>
     requires placed { ArePlaces places.now entries.now }
     requires long { length known.now ≡ length entries.now }
-    ensures { OnOk result (IsEntered (chips_in entries.now blocks) known.now part.now depth stack.old.items stack.new.items) }
+    ensures { OnOk result (IsEntered (chips_in entries.now memories) known.now part.now depth
+        stack.old.items stack.new.items) }
 {
     let Some(k) = place(places, part.chip.as_bytes()) else {
         return Ok(());
@@ -190,7 +195,7 @@ fn enter<'a>(
     if is_known(known, k) {
         return Ok(());
     }
-    if is_end(entries, blocks, k) {
+    if is_end(entries, memories, k) {
         return Ok(());
     }
     stack.push(Frame {
@@ -205,26 +210,30 @@ fn enter<'a>(
 fn step<'a>(
     alloc: Global,
     entries: &'a [Entry],
-    places: &Table<'a, usize>,
-    blocks: bool,
+    places: &Places<'a>,
+    memories: Memories,
     known: &mut [Option<Known<'a>>],
     top: usize,
     stack: &mut Vec<Frame>,
 ) -> Result<Option<Vec<Name>>, AllocError>
     requires placed { ArePlaces places.now entries.now }
     requires long { length known.old ≡ length entries.now }
-    requires right { AreKnown (chips_in entries.now blocks) known.old }
+    requires right { AreKnown (chips_in entries.now memories) known.old }
     requires some { 0 < length stack.old.items }
-    requires stack { IsStack (chips_in entries.now blocks) known.old top stack.old.items }
-    ensures right { OnOk result (AreKnown (chips_in entries.now blocks) known.new) }
-    ensures stack { IfOk result (λ r. r ≡ None → IsStack (chips_in entries.now blocks) known.new top stack.new.items) }
-    ensures less { IfOk result (λ r. r ≡ None → weight (chips_in entries.now blocks) stack.new.items < weight (chips_in entries.now blocks) stack.old.items) }
-    ensures told { IfOk result (λ r. (chip : Entry) → slice_get entries.now top ≡ Some chip → TellsLoop (chips_in entries.now blocks) chip r) }
+    requires stack { IsStack (chips_in entries.now memories) known.old top stack.old.items }
+    ensures right { OnOk result (AreKnown (chips_in entries.now memories) known.new) }
+    ensures stack { IfOk result
+        (λ r. r ≡ None → IsStack (chips_in entries.now memories) known.new top stack.new.items) }
+    ensures less { IfOk result
+        (λ r. r ≡ None → weight (chips_in entries.now memories) stack.new.items
+        < weight (chips_in entries.now memories) stack.old.items) }
+    ensures told { IfOk result (λ r. (chip : Entry) → slice_get entries.now top ≡ Some chip
+        → TellsLoop (chips_in entries.now memories) chip r) }
 {
     let Some(frame) = stack.pop() else {
         return Ok(None);
     };
-    let parts = parts_of(blocks, &entries[frame.chip]);
+    let parts = parts_of(memories, &entries[frame.chip]);
     if frame.next < parts.len() {
         stack.push(Frame {
             chip: frame.chip,
@@ -232,14 +241,22 @@ fn step<'a>(
             depth: frame.depth,
         })?;
         let part = &parts[frame.next];
-        enter(entries, places, blocks, known, part, frame.depth - 1, stack)?;
+        enter(
+            entries,
+            places,
+            memories,
+            known,
+            part,
+            frame.depth - 1,
+            stack,
+        )?;
         return Ok(None);
     }
     find_here(
         alloc,
         entries,
         places,
-        blocks,
+        memories,
         known,
         frame.chip,
         frame.depth,
@@ -251,8 +268,8 @@ fn step<'a>(
 fn find_in<'a>(
     alloc: Global,
     entries: &'a [Entry],
-    places: &Table<'a, usize>,
-    blocks: bool,
+    places: &Places<'a>,
+    memories: Memories,
     known: &mut [Option<Known<'a>>],
     k: usize,
     depth: usize,
@@ -260,13 +277,15 @@ fn find_in<'a>(
     requires placed { ArePlaces places.now entries.now }
     requires long { length known.old ≡ length entries.now }
     requires there { k < length entries.now }
-    requires right { AreKnown (chips_in entries.now blocks) known.old }
-    requires nests { NestsAt depth (chips_in entries.now blocks) k }
-    ensures right { OnOk result (AreKnown (chips_in entries.now blocks) known.new) }
-    ensures done { IfOk result (λ r. r ≡ None → IsDone (chips_in entries.now blocks) known.new k) }
-    ensures told { IfOk result (λ r. (chip : Entry) → slice_get entries.now k ≡ Some chip → TellsLoop (chips_in entries.now blocks) chip r) }
+    requires right { AreKnown (chips_in entries.now memories) known.old }
+    requires nests { NestsAt depth (chips_in entries.now memories) k }
+    ensures right { OnOk result (AreKnown (chips_in entries.now memories) known.new) }
+    ensures done { IfOk result
+        (λ r. r ≡ None → IsDone (chips_in entries.now memories) known.new k) }
+    ensures told { IfOk result (λ r. (chip : Entry) → slice_get entries.now k ≡ Some chip
+        → TellsLoop (chips_in entries.now memories) chip r) }
 {
-    if is_end(entries, blocks, k) {
+    if is_end(entries, memories, k) {
         return Ok(None);
     }
     let mut stack = Vec::new(alloc);
@@ -276,7 +295,7 @@ fn find_in<'a>(
         depth,
     })?;
     while !stack.is_empty() {
-        if let Some(nets) = step(alloc, entries, places, blocks, known, k, &mut stack)? {
+        if let Some(nets) = step(alloc, entries, places, memories, known, k, &mut stack)? {
             return Ok(Some(nets));
         }
     }
@@ -312,11 +331,15 @@ pub fn find_loop(
     alloc: Global,
     library: &Library,
     top: &Name,
-    blocks: bool,
+    memories: Memories,
 ) -> Result<Option<Vec<Name>>, AllocError>
-    requires { TopIsFaultless (chips_in library.now.entries blocks) top.now }
-    ensures none { IfOk result (λ r. r ≡ None → (entry : Entry) (nets : List (List ℕ)) → find_chip (chips_in library.now.entries blocks) top.now ≡ Some entry → IsLoop (chips_in library.now.entries blocks) entry nets → ⊥) }
-    ensures told { IfOk result (λ r. MatchOption r (Unit {0}) (λ nets. (entry : Entry) × (find_chip (chips_in library.now.entries blocks) top.now ≡ Some entry) × (IsLoop (chips_in library.now.entries blocks) entry nets.items))) }
+    requires { TopIsFaultless (chips_in library.now.entries memories) top.now }
+    ensures none { IfOk result (λ r. r ≡ None → (entry : Entry) (nets : List (List ℕ))
+        → find_chip (chips_in library.now.entries memories) top.now ≡ Some entry
+        → IsLoop (chips_in library.now.entries memories) entry nets → ⊥) }
+    ensures told { IfOk result (λ r. MatchOption r (Unit {0}) (λ nets. (entry : Entry)
+        × (find_chip (chips_in library.now.entries memories) top.now ≡ Some entry)
+        × (IsLoop (chips_in library.now.entries memories) entry nets.items))) }
 {
     let entries = library.entries.as_slice();
     let places = places_of(alloc, entries)?;
@@ -328,7 +351,7 @@ pub fn find_loop(
         alloc,
         entries,
         &places,
-        blocks,
+        memories,
         &mut known,
         k,
         entries.len(),

@@ -14,30 +14,31 @@ use crate::known::{Known, crosses};
 use crate::leaving::Leaving;
 use crate::pairs::Pair;
 use crate::pins::{joints_at, pins_of};
-use crate::places::place;
-use hdl_tree::{Entry, Part};
-use name_table::Table;
+use crate::places::{Places, pins_at, place};
+use hdl_tree::{Entry, Memories, Part};
 use std::alloc::{AllocError, Global};
 
 /// Whether a way goes in by one joint and out by another, through the part's chip.
 fn goes_through<'a>(
     entries: &[Entry],
-    blocks: bool,
+    memories: Memories,
     known: &[Option<Known<'a>>],
     chip: usize,
     enter: &Joint<'a>,
     leave: &Joint<'a>,
 ) -> bool
     requires { chip < length entries.now }
-    ensures { result ≡ leads_through (chips_in entries.now blocks) known.now chip (tie_of enter.now) (tie_of leave.now) }
+    ensures { result
+        ≡ leads_through (chips_in entries.now memories) known.now chip (tie_of enter.now)
+        (tie_of leave.now) }
 {
-    enter.input && !leave.input && crosses(entries, blocks, known, chip, &enter.pin, &leave.pin)
+    enter.input && !leave.input && crosses(entries, memories, known, chip, &enter.pin, &leave.pin)
 }
 
 /// Adds the hop that goes in by one joint and out by another, if the part's chip leads from this pin to that.
 fn hop_by<'a>(
     entries: &[Entry],
-    blocks: bool,
+    memories: Memories,
     known: &[Option<Known<'a>>],
     chip: usize,
     enter: &Joint<'a>,
@@ -45,9 +46,10 @@ fn hop_by<'a>(
     hops: &mut Vec<Hop<'a>>,
 ) -> Result<(), AllocError>
     requires { chip < length entries.now }
-    ensures { OnOk result (leaps_of hops.new.items ≡ leaps_of hops.old.items ++ leap_by (chips_in entries.now blocks) known.now chip (tie_of enter.now) (tie_of leave.now)) }
+    ensures { OnOk result (leaps_of hops.new.items ≡ leaps_of hops.old.items ++ leap_by
+        (chips_in entries.now memories) known.now chip (tie_of enter.now) (tie_of leave.now)) }
 {
-    if !goes_through(entries, blocks, known, chip, enter, leave) {
+    if !goes_through(entries, memories, known, chip, enter, leave) {
         return Ok(());
     }
     let through = Dependency {
@@ -68,7 +70,7 @@ fn hop_by<'a>(
 /// Adds the hops that go in by this joint and out by one of these.
 fn hops_from<'a>(
     entries: &[Entry],
-    blocks: bool,
+    memories: Memories,
     known: &[Option<Known<'a>>],
     chip: usize,
     enter: &Joint<'a>,
@@ -76,13 +78,14 @@ fn hops_from<'a>(
     hops: &mut Vec<Hop<'a>>,
 ) -> Result<(), AllocError>
     requires { chip < length entries.now }
-    ensures { OnOk result (leaps_of hops.new.items ≡ leaps_of hops.old.items ++ leaps_from (chips_in entries.now blocks) known.now chip (ties_of joints.now) (tie_of enter.now)) }
+    ensures { OnOk result (leaps_of hops.new.items ≡ leaps_of hops.old.items ++ leaps_from
+        (chips_in entries.now memories) known.now chip (ties_of joints.now) (tie_of enter.now)) }
 {
     if !enter.input {
         return Ok(());
     }
     for leave in joints {
-        hop_by(entries, blocks, known, chip, enter, leave, hops)?;
+        hop_by(entries, memories, known, chip, enter, leave, hops)?;
     }
     Ok(())
 }
@@ -90,7 +93,7 @@ fn hops_from<'a>(
 /// Adds the hops that go in by one of the joints and out by one of the others.
 fn hops_between<'a>(
     entries: &[Entry],
-    blocks: bool,
+    memories: Memories,
     known: &[Option<Known<'a>>],
     chip: usize,
     enters: &[Joint<'a>],
@@ -98,10 +101,11 @@ fn hops_between<'a>(
     hops: &mut Vec<Hop<'a>>,
 ) -> Result<(), AllocError>
     requires { chip < length entries.now }
-    ensures { OnOk result (leaps_of hops.new.items ≡ leaps_of hops.old.items ++ leaps_between (chips_in entries.now blocks) known.now chip (ties_of enters.now) (ties_of leaves.now)) }
+    ensures { OnOk result (leaps_of hops.new.items ≡ leaps_of hops.old.items ++ leaps_between
+        (chips_in entries.now memories) known.now chip (ties_of enters.now) (ties_of leaves.now)) }
 {
     for enter in enters {
-        hops_from(entries, blocks, known, chip, enter, leaves, hops)?;
+        hops_from(entries, memories, known, chip, enter, leaves, hops)?;
     }
     Ok(())
 }
@@ -110,7 +114,7 @@ fn hops_between<'a>(
 fn hops_of_pair<'a>(
     alloc: Global,
     entries: &[Entry],
-    blocks: bool,
+    memories: Memories,
     known: &[Option<Known<'a>>],
     chip: usize,
     joints: &[Joint<'a>],
@@ -120,14 +124,16 @@ fn hops_of_pair<'a>(
 ) -> Result<(), AllocError>
     requires there { chip < length entries.now }
     requires linked { IsLinked (map pin_hop joints.now) pins.now (length (map pin_hop joints.now)) }
-    ensures right { OnOk result (AddsOnly hops.old.items hops.new.items (leaps_through (chips_in entries.now blocks) known.now chip (ties_of joints.now))) }
-    ensures there { OnOk result (HasLeaps (chips_in entries.now blocks) known.now chip (ties_of joints.now) hops.new.items (bit pair.now.from) (bit pair.now.to)) }
+    ensures right { OnOk result (AddsOnly hops.old.items hops.new.items
+        (leaps_through (chips_in entries.now memories) known.now chip (ties_of joints.now))) }
+    ensures there { OnOk result (HasLeaps (chips_in entries.now memories) known.now chip
+        (ties_of joints.now) hops.new.items (bit pair.now.from) (bit pair.now.to)) }
 {
     let enters = joints_at(alloc, joints, pins, &pair.from)?;
     let leaves = joints_at(alloc, joints, pins, &pair.to)?;
     let ins = enters.as_slice();
     let outs = leaves.as_slice();
-    hops_between(entries, blocks, known, chip, ins, outs, hops)?;
+    hops_between(entries, memories, known, chip, ins, outs, hops)?;
     Ok(())
 }
 
@@ -149,7 +155,7 @@ fn through_pair<'a>(turned: bool, found: &Pair<'a>) -> Pair<'a>
 fn hops_by_pairs<'a>(
     alloc: Global,
     entries: &[Entry],
-    blocks: bool,
+    memories: Memories,
     known: &[Option<Known<'a>>],
     chip: usize,
     inside: &Known<'a>,
@@ -157,15 +163,16 @@ fn hops_by_pairs<'a>(
     hops: &mut Vec<Hop<'a>>,
 ) -> Result<(), AllocError>
     requires there { chip < length entries.now }
-    requires inside { KnownAs (chips_in entries.now blocks) known.now chip inside.now }
-    ensures { OnOk result (AddsLeaps hops.old.items hops.new.items (leaps_through (chips_in entries.now blocks) known.now chip (ties_of joints.now))) }
+    requires inside { KnownAs (chips_in entries.now memories) known.now chip inside.now }
+    ensures { OnOk result (AddsLeaps hops.old.items hops.new.items
+        (leaps_through (chips_in entries.now memories) known.now chip (ties_of joints.now))) }
 {
     let pins = pins_of(alloc, joints)?;
     let pairs = inside.pairs.as_slice();
     for found in pairs {
         let pair = through_pair(inside.turned, found);
         hops_of_pair(
-            alloc, entries, blocks, known, chip, joints, &pins, &pair, hops,
+            alloc, entries, memories, known, chip, joints, &pins, &pair, hops,
         )?;
     }
     Ok(())
@@ -174,15 +181,16 @@ fn hops_by_pairs<'a>(
 /// What is known of the chip, if it has fewer pairs than this many joints.
 fn few_pairs<'k, 'a>(
     entries: &[Entry],
-    blocks: bool,
+    memories: Memories,
     known: &'k [Option<Known<'a>>],
     chip: usize,
     joints: usize,
 ) -> Option<&'k Known<'a>>
     requires { chip < length entries.now }
-    ensures { MatchOption result (Unit {0}) (λ inside. KnownAs (chips_in entries.now blocks) known.now chip inside.now) }
+    ensures { MatchOption result (Unit {0})
+        (λ inside. KnownAs (chips_in entries.now memories) known.now chip inside.now) }
 {
-    if is_end(entries, blocks, chip) {
+    if is_end(entries, memories, chip) {
         return None;
     }
     match known.get(chip) {
@@ -201,19 +209,20 @@ fn few_pairs<'k, 'a>(
 fn hops_through<'a>(
     alloc: Global,
     entries: &[Entry],
-    blocks: bool,
+    memories: Memories,
     known: &[Option<Known<'a>>],
     chip: usize,
     joints: &[Joint<'a>],
     hops: &mut Vec<Hop<'a>>,
 ) -> Result<(), AllocError>
     requires { chip < length entries.now }
-    ensures { OnOk result (AddsLeaps hops.old.items hops.new.items (leaps_through (chips_in entries.now blocks) known.now chip (ties_of joints.now))) }
+    ensures { OnOk result (AddsLeaps hops.old.items hops.new.items
+        (leaps_through (chips_in entries.now memories) known.now chip (ties_of joints.now))) }
 {
-    match few_pairs(entries, blocks, known, chip, joints.len()) {
-        Some(inside) => hops_by_pairs(alloc, entries, blocks, known, chip, inside, joints, hops),
+    match few_pairs(entries, memories, known, chip, joints.len()) {
+        Some(inside) => hops_by_pairs(alloc, entries, memories, known, chip, inside, joints, hops),
         None => {
-            hops_between(entries, blocks, known, chip, joints, joints, hops)?;
+            hops_between(entries, memories, known, chip, joints, joints, hops)?;
             Ok(())
         }
     }
@@ -223,21 +232,22 @@ fn hops_through<'a>(
 fn hops_of_part<'a>(
     alloc: Global,
     entries: &[Entry],
-    places: &Table<'a, usize>,
-    blocks: bool,
+    places: &Places<'a>,
+    memories: Memories,
     known: &[Option<Known<'a>>],
     part: &'a Part,
     hops: &mut Vec<Hop<'a>>,
 ) -> Result<(), AllocError>
     requires { ArePlaces places.now entries.now }
-    ensures { OnOk result (AddsLeaps hops.old.items hops.new.items (part_leaps (chips_in entries.now blocks) known.now part.now)) }
+    ensures { OnOk result (AddsLeaps hops.old.items hops.new.items
+        (part_leaps (chips_in entries.now memories) known.now part.now)) }
 {
     match place(places, part.chip.as_bytes()) {
         None => Ok(()),
         Some(k) => {
-            let joints = joints_of(alloc, &entries[k], part)?;
+            let joints = joints_of(alloc, pins_at(places, k), part)?;
             let list = joints.as_slice();
-            hops_through(alloc, entries, blocks, known, k, list, hops)?;
+            hops_through(alloc, entries, memories, known, k, list, hops)?;
             Ok(())
         }
     }
@@ -247,17 +257,18 @@ fn hops_of_part<'a>(
 pub(crate) fn graph_of<'a>(
     alloc: Global,
     entries: &[Entry],
-    places: &Table<'a, usize>,
-    blocks: bool,
+    places: &Places<'a>,
+    memories: Memories,
     known: &[Option<Known<'a>>],
     parts: &'a [Part],
 ) -> Result<Vec<Hop<'a>>, AllocError>
     requires { ArePlaces places.now entries.now }
-    ensures { IfOk result (λ v. AreLeaps v.items (gather (part_leaps (chips_in entries.now blocks) known.now) parts.now)) }
+    ensures { IfOk result (λ v. AreLeaps v.items
+        (gather (part_leaps (chips_in entries.now memories) known.now) parts.now)) }
 {
     let mut hops = Vec::new(alloc);
     for part in parts {
-        hops_of_part(alloc, entries, places, blocks, known, part, &mut hops)?;
+        hops_of_part(alloc, entries, places, memories, known, part, &mut hops)?;
     }
     Ok(hops)
 }

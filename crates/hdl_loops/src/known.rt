@@ -13,18 +13,29 @@ use crate::hops::{BitOf, Hop};
 use crate::leaving::Leaving;
 use crate::pairs::{Pair, pairs_of};
 use crate::tree::Tree;
-use hdl_tree::{End, Entry, Pin, find_end};
+use hdl_tree::{End, Entry, Memories, Pin, find_end};
 use indexmap::IndexSet;
 use std::alloc::{AllocError, Global};
 
 /// What is known of a chip that is no end: the hops of its own graph, and which inputs lead to which outputs. Where it has fewer outputs
 /// these are searched for against the hops, and the pairs are turned.
-#[derive(Drop)]
 pub struct Known<'a> {
     pub hops: Vec<Hop<'a>>,
     pub leaving: Leaving<'a>,
     pub turned: bool,
     pub pairs: IndexSet<Pair<'a>>,
+}
+
+// By hand, so that whoever drops one calls this.
+impl Drop for Known<'_> {
+    fn drop(self) {
+        let Known {
+            hops: _,
+            leaving: _,
+            turned: _,
+            pairs: _,
+        } = self;
+    }
 }
 
 impl<'a> Known<'a> {
@@ -51,9 +62,11 @@ impl<'a> Known<'a> {
         input: &BitOf<'a>,
         to: &BitOf<'a>,
     ) -> Result<Vec<Hop<'a>>, AllocError>
-        requires linked { IsLinked self.now.hops.items self.now.leaving (length self.now.hops.items) }
+        requires linked { IsLinked self.now.hops.items self.now.leaving
+            (length self.now.hops.items) }
         requires leads { Way (HasHop self.now.hops.items) (bit input.now) (bit to.now) }
-        ensures { IfOk result (λ v. IsWay self.now.hops.items (bit input.now) v.items (bit to.now)) }
+        ensures { IfOk result
+            (λ v. IsWay self.now.hops.items (bit input.now) v.items (bit to.now)) }
     {
         let hops = self.hops.as_slice();
         let tree = Tree::of(alloc, hops, &self.leaving, *input)?;
@@ -97,16 +110,17 @@ fn known_leads<'a>(known: &[Option<Known<'a>>], k: usize, input: &BitOf<'a>, to:
 /// Whether the output bit of chip k depends on the input bit within the cycle, as far as is known.
 pub(crate) fn crosses<'a>(
     entries: &[Entry],
-    blocks: bool,
+    memories: Memories,
     known: &[Option<Known<'a>>],
     k: usize,
     input: &BitOf<'a>,
     output: &BitOf<'a>,
 ) -> bool
     requires { k < length entries.now }
-    ensures { result ≡ crosses (chips_in entries.now blocks) known.now k (bit input.now) (bit output.now) }
+    ensures { result
+        ≡ crosses (chips_in entries.now memories) known.now k (bit input.now) (bit output.now) }
 {
-    match find_end(blocks, &entries[k]) {
+    match find_end(memories, &entries[k]) {
         Some(end) => end_leads(end, input, output),
         None => known_leads(known, k, input, output),
     }
@@ -151,8 +165,12 @@ fn turned_pairs<'a>(
     first: &'a [Pin],
     second: &'a [Pin],
 ) -> Result<IndexSet<Pair<'a>>, AllocError>
-    ensures right { IfOk result (λ s. (n m : List ℕ) (b k : ℕ) → has_pair s.keys (bit_at [] n b) (bit_at [] m k) ≡ true → Way (HasHop hops.now) (bit_at [] m k) (bit_at [] n b)) }
-    ensures there { IfOk result (λ s. (n m : List ℕ) (b k : ℕ) → HasBit first.now n b → HasBit second.now m k → Way (HasHop hops.now) (bit_at [] m k) (bit_at [] n b) → has_pair s.keys (bit_at [] n b) (bit_at [] m k) ≡ true) }
+    ensures right { IfOk result
+        (λ s. (n m : List ℕ) (b k : ℕ) → has_pair s.keys (bit_at [] n b) (bit_at [] m k) ≡ true
+        → Way (HasHop hops.now) (bit_at [] m k) (bit_at [] n b)) }
+    ensures there { IfOk result (λ s. (n m : List ℕ) (b k : ℕ) → HasBit first.now n b
+        → HasBit second.now m k → Way (HasHop hops.now) (bit_at [] m k) (bit_at [] n b)
+        → has_pair s.keys (bit_at [] n b) (bit_at [] m k) ≡ true) }
 {
     let back = turn_all(alloc, hops)?;
     let list = back.as_slice();
@@ -167,9 +185,15 @@ pub(crate) fn known_of<'a>(
     hops: Vec<Hop<'a>>,
 ) -> Result<Known<'a>, AllocError>
     ensures hops { IfOk result (λ inside. inside.hops.items ≡ hops.entry.items) }
-    ensures linked { IfOk result (λ inside. IsLinked inside.hops.items inside.leaving (length inside.hops.items)) }
-    ensures right { IfOk result (λ inside. (n m : List ℕ) (b k : ℕ) → leads inside (bit_at [] n b) (bit_at [] m k) ≡ true → Way (HasHop inside.hops.items) (bit_at [] n b) (bit_at [] m k)) }
-    ensures there { IfOk result (λ inside. (n m : List ℕ) (b k : ℕ) → HasBit entry.now.chip.inputs n b → HasBit entry.now.chip.outputs m k → Way (HasHop inside.hops.items) (bit_at [] n b) (bit_at [] m k) → leads inside (bit_at [] n b) (bit_at [] m k) ≡ true) }
+    ensures linked { IfOk result
+        (λ inside. IsLinked inside.hops.items inside.leaving (length inside.hops.items)) }
+    ensures right { IfOk result
+        (λ inside. (n m : List ℕ) (b k : ℕ) → leads inside (bit_at [] n b) (bit_at [] m k) ≡ true
+        → Way (HasHop inside.hops.items) (bit_at [] n b) (bit_at [] m k)) }
+    ensures there { IfOk result (λ inside. (n m : List ℕ) (b k : ℕ)
+        → HasBit entry.now.chip.inputs n b → HasBit entry.now.chip.outputs m k
+        → Way (HasHop inside.hops.items) (bit_at [] n b) (bit_at [] m k)
+        → leads inside (bit_at [] n b) (bit_at [] m k) ≡ true) }
 {
     let inputs = entry.chip.inputs.as_slice();
     let outputs = entry.chip.outputs.as_slice();

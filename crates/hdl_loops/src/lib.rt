@@ -1,8 +1,8 @@
 //! Loops of bits (book, chapter 3 and appendix 2), found chip by chip: no chip is made flat.
 //!
 //! Each chip is looked at once, after the chips of its parts. `graph` lists the hops of its own graph, each from a bit of the chip through
-//! one part to a bit of the chip: `joint` lists what the part's connections join, `pins` finds what a bit of a pin is joined to, and `known`
-//! says which outputs of its chip depend on which inputs. `circle` finds a circle of hops, or sees that there is no circle: `ranks` that
+//! one part to a bit of the chip: `joint` lists what the part's connections join, and `places` has the pins of each chip for that. `pins`
+//! finds what a bit of a pin is joined to, and `known` says which outputs of its chip depend on which inputs. `circle` finds a circle of hops, or sees that there is no circle: `ranks` that
 //! rise along each hop show that. `tree` lists what
 //! is reached from a bit, and by which ways, along the hops that by `leaving` leave what is reached; `pairs` does so for each bit of some
 //! pins. `search` only proposes a circle, so that it is found quickly. `find` goes through the chips. `names` goes along a circle and
@@ -25,7 +25,6 @@ mod ranks;
 mod search;
 mod told;
 mod tree;
-mod width;
 
 pub use find::find_loop;
 // What the definitions speak of.
@@ -37,6 +36,7 @@ pub use known::Known;
 pub use leaving::Leaving;
 pub use names::Task;
 pub use pairs::{Pair, PinNames};
+pub use places::Places;
 pub use ranks::Ranks;
 pub use told::{Passage, Told};
 pub use tree::{Node, Tree};

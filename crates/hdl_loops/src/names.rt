@@ -13,7 +13,7 @@ use crate::find::is_end;
 use crate::hops::{BitOf, Dependency, Hop};
 use crate::known::Known;
 use crate::told::{Passage, Told};
-use hdl_tree::{Entry, Name};
+use hdl_tree::{Entry, Memories, Name};
 use std::alloc::{AllocError, Global};
 
 /// A way through chip k between these bits.
@@ -24,8 +24,10 @@ fn way_through<'a>(
     through: &Dependency<'a>,
 ) -> Result<Vec<Hop<'a>>, AllocError>
     requires right { HasWays known.now k }
-    requires leads { leads_in (slice_get known.now k) (input_of through.now) (output_of through.now) ≡ true }
-    ensures { IfOk result (λ v. IsWayIn (slice_get known.now k) (input_of through.now) v.items (output_of through.now)) }
+    requires leads { leads_in (slice_get known.now k) (input_of through.now) (output_of through.now)
+        ≡ true }
+    ensures { IfOk result (λ v. IsWayIn (slice_get known.now k) (input_of through.now) v.items
+        (output_of through.now)) }
 {
     let from = BitOf {
         name: through.input,
@@ -43,7 +45,7 @@ fn way_through<'a>(
 
 /// What is still to be reported: a net, or the nets of a way through a chip in which chips nest less deep than this. Or no more of such
 /// a way.
-#[derive(Clone, Copy, Debug)]
+#[derive(Clone, Copy)]
 pub enum Task<'a> {
     Net(&'a [u8]),
     Pass(Passage<'a>, usize),
@@ -52,7 +54,8 @@ pub enum Task<'a> {
 
 /// Puts what a hop passes on the stack.
 fn put_pass<'a>(hop: &Hop<'a>, depth: usize, tasks: &mut Vec<Task<'a>>) -> Result<(), AllocError>
-    ensures { OnOk result (reverse tasks.new.items ≡ pass_task (passage_of hop.now) depth ∷ reverse tasks.old.items) }
+    ensures { OnOk result
+        (reverse tasks.new.items ≡ pass_task (passage_of hop.now) depth ∷ reverse tasks.old.items) }
 {
     let passage = Passage {
         chip: hop.chip,
@@ -65,7 +68,8 @@ fn put_pass<'a>(hop: &Hop<'a>, depth: usize, tasks: &mut Vec<Task<'a>>) -> Resul
 /// Puts the hops of a way and the nets between them on the stack, the first on top.
 fn put_way<'a>(way: &[Hop<'a>], depth: usize, tasks: &mut Vec<Task<'a>>) -> Result<(), AllocError>
     requires { 0 < length way.now }
-    ensures { OnOk result (reverse tasks.new.items ≡ way_tasks depth way.now ++ reverse tasks.old.items) }
+    ensures { OnOk result
+        (reverse tasks.new.items ≡ way_tasks depth way.now ++ reverse tasks.old.items) }
 {
     let mut k = way.len() - 1;
     while k > 0 {
@@ -82,25 +86,29 @@ fn put_way<'a>(way: &[Hop<'a>], depth: usize, tasks: &mut Vec<Task<'a>>) -> Resu
 fn pass<'a>(
     alloc: Global,
     entries: &'a [Entry],
-    blocks: bool,
+    memories: Memories,
     known: &[Option<Known<'a>>],
     passage: Passage<'a>,
     depth: usize,
     tasks: &mut Vec<Task<'a>>,
     told: &Told<'a>,
 ) -> Result<(), AllocError>
-    requires known { AreKnown (chips_in entries.now blocks) known.now }
-    requires task { IsTask (chips_in entries.now blocks) known.now (pass_task passage depth) }
-    requires tasks { AreTasks (chips_in entries.now blocks) known.now (reverse tasks.old.items) }
-    requires right { AreTold (chips_in entries.now blocks) told.now }
-    ensures tasks { OnOk result (AreTasks (chips_in entries.now blocks) known.now (reverse tasks.new.items)) }
-    ensures goes { OnOk result (GoesOn (chips_in entries.now blocks) (pass_task passage.entry depth ∷ reverse tasks.old.items) (names_of told.now) (reverse tasks.new.items) (names_of told.now)) }
-    ensures less { OnOk result (tasks_weight (room known.now) (reverse tasks.new.items) < tasks_weight (room known.now) (pass_task passage.entry depth ∷ reverse tasks.old.items)) }
+    requires known { AreKnown (chips_in entries.now memories) known.now }
+    requires task { IsTask (chips_in entries.now memories) known.now (pass_task passage depth) }
+    requires tasks { AreTasks (chips_in entries.now memories) known.now (reverse tasks.old.items) }
+    requires right { AreTold (chips_in entries.now memories) told.now }
+    ensures tasks { OnOk result
+        (AreTasks (chips_in entries.now memories) known.now (reverse tasks.new.items)) }
+    ensures goes { OnOk result (GoesOn (chips_in entries.now memories)
+        (pass_task passage.entry depth ∷ reverse tasks.old.items) (names_of told.now)
+        (reverse tasks.new.items) (names_of told.now)) }
+    ensures less { OnOk result (tasks_weight (room known.now) (reverse tasks.new.items)
+        < tasks_weight (room known.now) (pass_task passage.entry depth ∷ reverse tasks.old.items)) }
 {
     if told.has_passed(&passage) {
         return Ok(());
     }
-    if is_end(entries, blocks, passage.chip) {
+    if is_end(entries, memories, passage.chip) {
         return Ok(());
     }
     let way = way_through(alloc, known, passage.chip, &passage.through)?;
@@ -113,20 +121,24 @@ fn pass<'a>(
 fn tell_next<'a>(
     alloc: Global,
     entries: &'a [Entry],
-    blocks: bool,
+    memories: Memories,
     known: &[Option<Known<'a>>],
     tasks: &mut Vec<Task<'a>>,
     told: &mut Told<'a>,
 ) -> Result<(), AllocError>
     requires some { 0 < length tasks.old.items }
-    requires known { AreKnown (chips_in entries.now blocks) known.now }
-    requires tasks { AreTasks (chips_in entries.now blocks) known.now (reverse tasks.old.items) }
-    requires right { AreTold (chips_in entries.now blocks) told.old }
-    requires sure { IsSure (chips_in entries.now blocks) (reverse tasks.old.items) (names_of told.old) }
-    ensures tasks { OnOk result (AreTasks (chips_in entries.now blocks) known.now (reverse tasks.new.items)) }
-    ensures right { OnOk result (AreTold (chips_in entries.now blocks) told.new) }
-    ensures goes { OnOk result (GoesOn (chips_in entries.now blocks) (reverse tasks.old.items) (names_of told.old) (reverse tasks.new.items) (names_of told.new)) }
-    ensures less { OnOk result (tasks_weight (room known.now) (reverse tasks.new.items) < tasks_weight (room known.now) (reverse tasks.old.items)) }
+    requires known { AreKnown (chips_in entries.now memories) known.now }
+    requires tasks { AreTasks (chips_in entries.now memories) known.now (reverse tasks.old.items) }
+    requires right { AreTold (chips_in entries.now memories) told.old }
+    requires sure { IsSure (chips_in entries.now memories) (reverse tasks.old.items)
+        (names_of told.old) }
+    ensures tasks { OnOk result
+        (AreTasks (chips_in entries.now memories) known.now (reverse tasks.new.items)) }
+    ensures right { OnOk result (AreTold (chips_in entries.now memories) told.new) }
+    ensures goes { OnOk result (GoesOn (chips_in entries.now memories) (reverse tasks.old.items)
+        (names_of told.old) (reverse tasks.new.items) (names_of told.new)) }
+    ensures less { OnOk result (tasks_weight (room known.now) (reverse tasks.new.items)
+        < tasks_weight (room known.now) (reverse tasks.old.items)) }
 {
     match tasks.pop() {
         None => Ok(()),
@@ -139,7 +151,7 @@ fn tell_next<'a>(
             Ok(())
         }
         Some(Task::Pass(passage, depth)) => {
-            pass(alloc, entries, blocks, known, passage, depth, tasks, told)?;
+            pass(alloc, entries, memories, known, passage, depth, tasks, told)?;
             Ok(())
         }
     }
@@ -149,25 +161,26 @@ fn tell_next<'a>(
 pub(crate) fn nets_of<'a>(
     alloc: Global,
     entries: &'a [Entry],
-    blocks: bool,
+    memories: Memories,
     known: &[Option<Known<'a>>],
     entry: &'a Entry,
     circle: &Circle<'a>,
     depth: usize,
 ) -> Result<Vec<Name>, AllocError>
-    requires known { AreKnown (chips_in entries.now blocks) known.now }
-    requires hops { AreHops (chips_in entries.now blocks) known.now entry.now circle.now.way.items }
+    requires known { AreKnown (chips_in entries.now memories) known.now }
+    requires hops { AreHops
+        (chips_in entries.now memories) known.now entry.now circle.now.way.items }
     requires round { WayRound circle.now }
-    requires straight { IsStraight (chips_in entries.now blocks) entry.now circle.now.way.items }
-    requires nests { Nests depth (chips_in entries.now blocks) entry.now }
-    ensures { IfOk result (λ nets. IsLoop (chips_in entries.now blocks) entry.now nets.items) }
+    requires straight { IsStraight (chips_in entries.now memories) entry.now circle.now.way.items }
+    requires nests { Nests depth (chips_in entries.now memories) entry.now }
+    ensures { IfOk result (λ nets. IsLoop (chips_in entries.now memories) entry.now nets.items) }
 {
     let mut told = Told::new(alloc);
     told.add(circle.at.name)?;
     let mut tasks = Vec::new(alloc);
     put_way(circle.way.as_slice(), depth - 1, &mut tasks)?;
     while !tasks.is_empty() {
-        tell_next(alloc, entries, blocks, known, &mut tasks, &mut told)?;
+        tell_next(alloc, entries, memories, known, &mut tasks, &mut told)?;
     }
     told.copied(alloc)
 }

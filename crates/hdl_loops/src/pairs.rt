@@ -15,7 +15,7 @@ use indexmap::IndexSet;
 use std::alloc::{AllocError, Global};
 
 /// A bit, and one that it leads to.
-#[derive(Clone, Copy, Debug, PartialEq, Eq, Hash)]
+#[derive(Clone, Copy, PartialEq, Eq, Hash)]
 pub struct Pair<'a> {
     pub from: BitOf<'a>,
     pub to: BitOf<'a>,
@@ -35,8 +35,10 @@ fn add_pair<'a>(
     pairs: &mut IndexSet<Pair<'a>>,
 ) -> Result<(), AllocError>
     ensures kept { OnOk result (KeepsPairs pairs.old.keys pairs.new.keys) }
-    ensures only { OnOk result (IsOnlyMore pairs.old.keys pairs.new.keys (bit from.entry) (bit node.now.hop.to)) }
-    ensures there { OnOk result (has_name ends.now node.now.hop.to.name.now ≡ true → has_pair pairs.new.keys (bit from.entry) (bit node.now.hop.to) ≡ true) }
+    ensures only { OnOk result
+        (IsOnlyMore pairs.old.keys pairs.new.keys (bit from.entry) (bit node.now.hop.to)) }
+    ensures there { OnOk result (has_name ends.now node.now.hop.to.name.now ≡ true
+        → has_pair pairs.new.keys (bit from.entry) (bit node.now.hop.to) ≡ true) }
 {
     let to = node.hop.to;
     if !ends.names.contains(&to.name) {
@@ -109,7 +111,8 @@ fn add_name<'a>(pin: &'a Pin, ends: &mut PinNames<'a>) -> Result<(), AllocError>
 
 /// The names of these pins.
 fn ends_of<'a>(alloc: Global, pins: &'a [Pin]) -> Result<PinNames<'a>, AllocError>
-    ensures { IfOk result (λ ends. (m : List ℕ) (k : ℕ) → HasBit pins.now m k → has_name ends m ≡ true) }
+    ensures { IfOk result
+        (λ ends. (m : List ℕ) (k : ℕ) → HasBit pins.now m k → has_name ends m ≡ true) }
 {
     let mut ends = PinNames {
         names: IndexSet::new(alloc),
@@ -130,7 +133,9 @@ pub(crate) fn pairs_of<'a>(
 ) -> Result<IndexSet<Pair<'a>>, AllocError>
     requires linked { IsLinked hops.now leaving.now (length hops.now) }
     ensures right { IfOk result (λ s. AreWays hops.now s.keys) }
-    ensures there { IfOk result (λ s. (n m : List ℕ) (b k : ℕ) → HasBit first.now n b → HasBit second.now m k → Way (HasHop hops.now) (bit_at [] n b) (bit_at [] m k) → has_pair s.keys (bit_at [] n b) (bit_at [] m k) ≡ true) }
+    ensures there { IfOk result (λ s. (n m : List ℕ) (b k : ℕ) → HasBit first.now n b
+        → HasBit second.now m k → Way (HasHop hops.now) (bit_at [] n b) (bit_at [] m k)
+        → has_pair s.keys (bit_at [] n b) (bit_at [] m k) ≡ true) }
 {
     let ends = ends_of(alloc, second)?;
     let mut pairs = IndexSet::new(alloc);

@@ -42,7 +42,8 @@ fn pin_hops<'a>(alloc: Global, joints: &[Joint<'a>]) -> Result<Vec<Hop<'a>>, All
 
 /// Links the joints of each bit of a pin.
 pub(crate) fn pins_of<'a>(alloc: Global, joints: &[Joint<'a>]) -> Result<Leaving<'a>, AllocError>
-    ensures { IfOk result (λ pins. IsLinked (map pin_hop joints.now) pins (length (map pin_hop joints.now))) }
+    ensures { IfOk result
+        (λ pins. IsLinked (map pin_hop joints.now) pins (length (map pin_hop joints.now))) }
 {
     let hops = pin_hops(alloc, joints)?;
     Leaving::of(alloc, hops.as_slice())
@@ -57,7 +58,8 @@ pub(crate) fn joints_at<'a>(
 ) -> Result<Vec<Joint<'a>>, AllocError>
     requires { IsLinked (map pin_hop joints.now) pins.now (length (map pin_hop joints.now)) }
     ensures only { IfOk result (λ v. (joint : Joint) → In joint v.items → In joint joints.now) }
-    ensures all { IfOk result (λ v. (joint : Joint) → In joint joints.now → bit joint.pin ≡ bit pin.now → In joint v.items) }
+    ensures all { IfOk result (λ v. (joint : Joint) → In joint joints.now
+        → bit joint.pin ≡ bit pin.now → In joint v.items) }
 {
     let mut found = Vec::new(alloc);
     let mut at = pins.last(pin);

@@ -7,18 +7,37 @@ use indexmap::IndexSet;
 use std::alloc::{AllocError, Global};
 
 /// The bits of a graph by number, and for each the hops that leave it; for each hop the bit that it leads to.
-#[derive(Drop)]
 pub(crate) struct Numbered<'a> {
     bits: IndexSet<BitOf<'a>>,
     leaving: Vec<Vec<usize>>,
     leads_to: Vec<usize>,
 }
 
+// By hand, so that whoever drops one calls this.
+impl Drop for Numbered<'_> {
+    fn drop(self) {
+        let Numbered {
+            bits: _,
+            leaving: _,
+            leads_to: _,
+        } = self;
+    }
+}
+
 /// What a search of all bits finds: ranks, which rise along each hop where there is no circle, and else a bit of one.
-#[derive(Drop)]
 pub(crate) struct Proposal<'a> {
     pub ranks: Ranks<'a>,
     pub circle: Option<BitOf<'a>>,
+}
+
+// By hand, so that whoever drops one calls this.
+impl Drop for Proposal<'_> {
+    fn drop(self) {
+        let Proposal {
+            ranks: _,
+            circle: _,
+        } = self;
+    }
 }
 
 #[derive(Clone, Copy, PartialEq, Eq)]

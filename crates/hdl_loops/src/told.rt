@@ -9,17 +9,26 @@ use indexmap::IndexSet;
 use std::alloc::{AllocError, Global};
 
 /// A way through the chip in a place of the library.
-#[derive(Clone, Copy, Debug, PartialEq, Eq, Hash)]
+#[derive(Clone, Copy, PartialEq, Eq, Hash)]
 pub struct Passage<'a> {
     pub chip: usize,
     pub through: Dependency<'a>,
 }
 
 /// The nets that are reported, in order, and the ways that are.
-#[derive(Drop)]
 pub struct Told<'a> {
     names: IndexSet<&'a [u8]>,
     passed: IndexSet<Passage<'a>>,
+}
+
+// By hand, so that whoever drops one calls this.
+impl Drop for Told<'_> {
+    fn drop(self) {
+        let Told {
+            names: _,
+            passed: _,
+        } = self;
+    }
 }
 
 impl<'a> Told<'a> {
@@ -47,7 +56,8 @@ impl<'a> Told<'a> {
 
     /// Whether this way is reported.
     pub(crate) fn has_passed(&self, passage: &Passage<'a>) -> bool
-        ensures { result ≡ was_passed self.now passage.now.chip passage.now.through.input.now passage.now.through.bit passage.now.through.output.now passage.now.through.out }
+        ensures { result ≡ was_passed self.now passage.now.chip passage.now.through.input.now
+            passage.now.through.bit passage.now.through.output.now passage.now.through.out }
     {
         self.passed.contains(passage)
     }

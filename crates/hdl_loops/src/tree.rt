@@ -13,7 +13,7 @@ use indexmap::IndexMap;
 use std::alloc::{AllocError, Global};
 
 /// A hop that reaches a bit, and the place of the one before it, if it does not begin at the root.
-#[derive(Clone, Copy, Debug)]
+#[derive(Clone, Copy)]
 pub struct Node<'a> {
     pub hop: Hop<'a>,
     pub before: Option<usize>,
@@ -21,11 +21,21 @@ pub struct Node<'a> {
 
 /// The bits that hops reach from a root, and for each the place of the hop that reached it first. The root is reached only by a way round.
 /// What is reached first is left first, so that no hop cuts a way short.
-#[derive(Drop)]
 pub struct Tree<'a> {
     root: BitOf<'a>,
     places: IndexMap<BitOf<'a>, usize>,
     nodes: Vec<Node<'a>>,
+}
+
+// By hand, so that whoever drops one calls this.
+impl Drop for Tree<'_> {
+    fn drop(self) {
+        let Tree {
+            root: _,
+            places: _,
+            nodes: _,
+        } = self;
+    }
 }
 
 impl<'a> Tree<'a> {
@@ -38,7 +48,8 @@ impl<'a> Tree<'a> {
 
     /// Where a hop from this bit goes on, if it is the root or is reached.
     fn goes_on(&self, from: &BitOf<'a>) -> Option<Option<usize>>
-        ensures { MatchOption result (IsReached self.now (bit from.now) → ⊥) (λ before. Comes self.now before (bit from.now)) }
+        ensures { MatchOption result (IsReached self.now (bit from.now) → ⊥)
+            (λ before. Comes self.now before (bit from.now)) }
     {
         if *from == self.root {
             return Some(None);
@@ -67,7 +78,8 @@ impl<'a> Tree<'a> {
     fn follow(&mut self, hops: &[Hop<'a>], k: usize) -> Result<(), AllocError>
         requires there { k < length hops.now }
         requires right { IsTree hops.now self.old }
-        requires before { (h : Hop) → slice_get hops.now k ≡ Some h → LeftBefore hops.now self.old (bit h.from) }
+        requires before { (h : Hop) → slice_get hops.now k ≡ Some h
+            → LeftBefore hops.now self.old (bit h.from) }
         ensures right { OnOk result (IsTree hops.now self.new) }
         ensures kept { OnOk result (KeepsMarks self.old self.new) }
         ensures followed { OnOk result (IsFollowed hops.now k self.old self.new) }
@@ -164,7 +176,8 @@ impl<'a> Tree<'a> {
     fn back(&self, alloc: Global, hops: &[Hop<'a>], last: usize) -> Result<Vec<Hop<'a>>, AllocError>
         requires right { IsTree hops.now self.now }
         requires there { last < length self.now.nodes.items }
-        ensures { IfOk result (λ v. (node : Node) → slice_get self.now.nodes.items last ≡ Some node → IsWay hops.now (bit self.now.root) (reverse v.items) (bit node.hop.to)) }
+        ensures { IfOk result (λ v. (node : Node) → slice_get self.now.nodes.items last ≡ Some node
+            → IsWay hops.now (bit self.now.root) (reverse v.items) (bit node.hop.to)) }
     {
         let nodes = self.nodes.as_slice();
         let mut way = Vec::new(alloc);
@@ -185,7 +198,8 @@ impl<'a> Tree<'a> {
         to: &BitOf<'a>,
     ) -> Result<Option<Vec<Hop<'a>>>, AllocError>
         requires { IsTree hops.now self.now }
-        ensures { IfOk result (λ r. MatchOption r (is_marked self.now (bit to.now) ≡ false) (λ v. IsWay hops.now (bit self.now.root) v.items (bit to.now))) }
+        ensures { IfOk result (λ r. MatchOption r (is_marked self.now (bit to.now) ≡ false)
+            (λ v. IsWay hops.now (bit self.now.root) v.items (bit to.now))) }
     {
         match self.places.get(to) {
             None => Ok(None),

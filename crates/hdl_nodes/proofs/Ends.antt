@@ -29,7 +29,7 @@ and_true false b h = refl
 
 module _ (net : Net) (inputs : Inputs) (n : ℕ) (v : ℕ → ℕ → Bool) (are : AreValues net inputs n v) where
   -- the word that a block shows
-  shown_bits : (b : ℕ) (block : Block) (at : Wires ℕ) → BlockStands net b block at → (c : ℕ) → c < n → (word : ℕ) → shown_value (Some block) (held_in net.blocks inputs.loaded v c b) (λ i. v i c) ≡ word → word < 65536 → number 16 (λ k. v (at (codes "out") k) c) ≡ word
+  pub shown_bits : (b : ℕ) (block : Block) (at : Wires ℕ) → BlockStands net b block at → (c : ℕ) → c < n → (word : ℕ) → shown_value (Some block) (held_in net.blocks inputs.loaded v c b) (λ i. v i c) ≡ word → word < 65536 → number 16 (λ k. v (at (codes "out") k) c) ≡ word
   shown_bits b block at stands c lt word is small =
       number_same 16 (λ k. v (at (codes "out") k) c) (has_bit word)
       (λ k less. are c (at (codes "out") k) (Word b k) lt (stands.words k less)
@@ -38,19 +38,19 @@ module _ (net : Net) (inputs : Inputs) (n : ℕ) (v : ℕ → ℕ → Bool) (are
       ∙ number_word word small
 
   module _ (b bits : ℕ) (at : Wires ℕ) (stands : BlockStands net b (memory_block bits at) at) where
-    address_is : (c : ℕ) → spelled_number (λ i. v i c) (nodes_of bits (at (codes "address"))) ≡ number bits (λ k. v (at (codes "address") k) c)
+    pub address_is : (c : ℕ) → spelled_number (λ i. v i c) (nodes_of bits (at (codes "address"))) ≡ number bits (λ k. v (at (codes "address") k) c)
     address_is c = spelled_is (λ i. v i c) bits (at (codes "address"))
 
-    within : (c : ℕ) → nat_lt (spelled_number (λ i. v i c) (nodes_of bits (at (codes "address")))) (2 ^ bits) ≡ true
+    pub within : (c : ℕ) → nat_lt (spelled_number (λ i. v i c) (nodes_of bits (at (codes "address")))) (2 ^ bits) ≡ true
     within c = lt-ltb _ _ (subst (λ (x : ℕ). x < 2 ^ bits) (sym (address_is c)) (number_below bits (λ k. v (at (codes "address") k) c)))
 
-    loaded_is : (c : ℕ) → is_loaded (slice_get net.blocks b) (λ i. v i c) ≡ v (at (codes "load") 0) c
+    pub loaded_is : (c : ℕ) → is_loaded (slice_get net.blocks b) (λ i. v i c) ≡ v (at (codes "load") 0) c
     loaded_is c = ap (λ (o : Option Block). is_loaded o (λ i. v i c)) stands.there ∙ and_true (v (at (codes "load") 0) c) _ (within c)
 
-    place_is : (c : ℕ) → address_of (slice_get net.blocks b) (λ i. v i c) ≡ number bits (λ k. v (at (codes "address") k) c)
+    pub place_is : (c : ℕ) → address_of (slice_get net.blocks b) (λ i. v i c) ≡ number bits (λ k. v (at (codes "address") k) c)
     place_is c = ap (λ (o : Option Block). address_of o (λ i. v i c)) stands.there ∙ address_is c
 
-    word_is : (c : ℕ) → word_in (slice_get net.blocks b) (λ i. v i c) ≡ number 16 (λ k. v (at (codes "in") k) c)
+    pub word_is : (c : ℕ) → word_in (slice_get net.blocks b) (λ i. v i c) ≡ number 16 (λ k. v (at (codes "in") k) c)
     word_is c = ap (λ (o : Option Block). word_in o (λ i. v i c)) stands.there ∙ spelled_is (λ i. v i c) 16 (at (codes "in"))
 
     abbrev pub stood : ℕ → ℕ → ℕ

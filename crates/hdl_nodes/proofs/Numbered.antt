@@ -1,5 +1,5 @@
 -- The values at the nodes of a numbering are a behaviour.
-use Rattle.std.proofs.Common.{◌≡◌, ℕ, zero, suc, ◌<◌, Bool, true, false, List, [], ◌∷◌, ◌++◌, Option, Some, None, refl, ap, ◌∙◌, arith}
+use Rattle.std.proofs.Common.{◌≡◌, ℕ, ◌<◌, Bool, true, false, List, [], ◌∷◌, ◌++◌, Option, Some, None, refl, ap, ◌∙◌}
 use Rattle.std.specs.Prelude.{◌&&◌, not}
 use Rattle.hdl_tree.specs.declared.tree.Source.{Source}
 use Rattle.hdl_tree.specs.declared.tree.Source.TheVariants as source
@@ -42,11 +42,11 @@ module _ (world : World) (net : Net) (inputs : Inputs) (n : ℕ) (v : ℕ → �
   high_is : (c : ℕ) → c < n → v high c ≡ true
   high_is c lt = are c high (Nand low low) lt numbering.high_stands ∙ ap (λ (b : Bool). not (b && b)) (low_is c lt)
 
-  here : (c : ℕ) → c < n → (path : List ℕ) (inner : Entry) → chip_at chips top path ≡ Some inner → (o : Option End) → end_of chips.blocks inner ≡ o →
+  here : (c : ℕ) → c < n → (path : List ℕ) (inner : Entry) → chip_at chips top path ≡ Some inner → (o : Option End) → end_of chips.memories inner ≡ o →
       ChipWired low high chips inner o (at path) (λ i. at (path ++ i ∷ [])) (λ e. EndStands net low (block path) e (at path)) →
       ChipWired false true chips inner o (λ name bit. v (at path name bit) c) (λ i name bit. v (at (path ++ i ∷ []) name bit) c) (λ e. EndWorks world c e (λ name bit d. v (at path name bit) d))
   here c lt path inner there None is wired = map_parts (λ node. v node c) low high false true (low_is c lt) (high_is c lt) chips inner (parts_of_body inner.chip.body) (at path) (λ i. at (path ++ i ∷ [])) wired
   here c lt path inner there (Some e) is wired = end_works net inputs n v are world low (block path) e (at path) low_is wired (hears path inner e there is) c lt
 
   pub behaviour : IsBehaviour world chips top n (λ path name bit c. v (at path name bit) c)
-  behaviour c lt path inner there = here c lt path inner there (end_of chips.blocks inner) refl (numbering.wired path inner there)
+  behaviour c lt path inner there = here c lt path inner there (end_of chips.memories inner) refl (numbering.wired path inner there)

@@ -60,5 +60,5 @@ pub renamed_numbering : RenamingLaw
 renamed_numbering old new places low high chips top block at is numbering = record {
   low_stands = is.nodes low Zero numbering.low_stands;
   high_stands = is.nodes high (Nand low low) numbering.high_stands;
-  wired = λ path inner there. here old new places is low high chips inner (end_of chips.blocks inner) (block path) (at path) (λ i. at (path ++ i ∷ [])) (numbering.wired path inner there);
+  wired = λ path inner there. here old new places is low high chips inner (end_of chips.memories inner) (block path) (at path) (λ i. at (path ++ i ∷ [])) (numbering.wired path inner there);
 }

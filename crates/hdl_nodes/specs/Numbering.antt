@@ -60,7 +60,7 @@ EndHears world inputs n b (ends.Block bits) at = (a : ℕ) → inputs.loaded b a
 
 abbrev pub Hears : World → Inputs → ℕ → Chips → Entry → (List ℕ → ℕ) → (List ℕ → Wires ℕ) → Type 0
 Hears world inputs n chips top block at =
-    (path : List ℕ) (chip : Entry) (e : End) → chip_at chips top path ≡ Some chip → end_of chips.blocks chip ≡ Some e → EndHears world inputs n (block path) e (at path)
+    (path : List ℕ) (chip : Entry) (e : End) → chip_at chips top path ≡ Some chip → end_of chips.memories chip ≡ Some e → EndHears world inputs n (block path) e (at path)
 
 -- ---- the law
 

@@ -5,7 +5,7 @@ ghost use Rattle.scan_text.specs.Text.{first, front, is_digit};
 ghost use Rattle.scan_text.specs.View.{left_bytes, place};
 ghost use Rattle.grammar.specs.Cutting.{TokenBy};
 ghost use Rattle.grammar.specs.Reading.{Gives};
-ghost use Rattle.hdl_parser.specs.Tokens.{view, tokens_of, finish, number_piece, word_piece, dots_piece, symbol_piece, begins_dots, is_sign, word_kind};
+ghost use Rattle.hdl_parser.specs.Tokens.{view, tokens_of, finish, number_piece, word_piece, dots_piece, symbol_piece, begins_dots, is_sign};
 ghost use Rattle.hdl_tree.specs.Writable.{is_letter, is_name_byte};
 
 use crate::token::{Keyword, Kind, Token};
@@ -58,17 +58,8 @@ fn word<'a>(scan: &mut Scan<'a>, byte: u8) -> Result<Token<'a>, Fault>
 {
     let place = scan.place();
     let text = scan.take_while(|b| is_name_byte(b));
-    let kind = word_kind(text);
+    let kind = Keyword::of(text).map_or(Kind::Name, Kind::Keyword);
     Ok(Token { kind, text, place })
-}
-
-fn word_kind(text: &[u8]) -> Kind
-    ensures { result ≡ word_kind text.now }
-{
-    match Keyword::of(text) {
-        Some(keyword) => Kind::Keyword(keyword),
-        None => Kind::Name,
-    }
 }
 
 fn symbol<'a>(scan: &mut Scan<'a>, byte: u8) -> Result<Token<'a>, Fault>

@@ -65,7 +65,8 @@ fn put_next_pin<S: Sink>(one: &Pin, status: Put, out: &mut Pieces<'_, S>) -> Put
 }
 
 fn put_more_pins<S: Sink>(all: &[Pin], status: Put, out: &mut Pieces<'_, S>) -> Put
-    ensures { Shows (tree_of_list (next_tree pin_tree) all.now NoMore) (repeat (next_of pin)) status out.old result out.new }
+    ensures { Shows (tree_of_list (next_tree pin_tree) all.now NoMore)
+        (repeat (next_of pin)) status out.old result out.new }
 {
     let mut status = status;
     for one in all {
@@ -95,7 +96,8 @@ fn put_next_name<S: Sink>(one: &Name, status: Put, out: &mut Pieces<'_, S>) -> P
 }
 
 fn put_more_names<S: Sink>(all: &[Name], status: Put, out: &mut Pieces<'_, S>) -> Put
-    ensures { Shows (tree_of_list (next_tree name_leaf) all.now NoMore) (repeat (next_of name)) status out.old result out.new }
+    ensures { Shows (tree_of_list (next_tree name_leaf) all.now NoMore)
+        (repeat (next_of name)) status out.old result out.new }
 {
     let mut status = status;
     for one in all {
@@ -106,7 +108,8 @@ fn put_more_names<S: Sink>(all: &[Name], status: Put, out: &mut Pieces<'_, S>) -
 
 // The names after `CLOCKED`, where there are some.
 fn put_clocked<S: Sink>(all: &[Name], status: Put, out: &mut Pieces<'_, S>) -> Put
-    ensures { Shows (names_tree all.now) (option (listing Keyword.Clocked name)) status out.old result out.new }
+    ensures { Shows (names_tree all.now)
+        (option (listing Keyword.Clocked name)) status out.old result out.new }
 {
     let Some((first, more)) = all.split_first() else {
         return status;
@@ -175,14 +178,16 @@ fn put_connection<S: Sink>(one: &Connection, status: Put, out: &mut Pieces<'_, S
 }
 
 fn put_next_connection<S: Sink>(one: &Connection, status: Put, out: &mut Pieces<'_, S>) -> Put
-    ensures { Shows (next_tree connection_tree one.now) (next_of connection) status out.old result out.new }
+    ensures { Shows (next_tree connection_tree one.now)
+        (next_of connection) status out.old result out.new }
 {
     let separated = put_symbol(b',', status, out);
     put_connection(one, separated, out)
 }
 
 fn put_more_connections<S: Sink>(all: &[Connection], status: Put, out: &mut Pieces<'_, S>) -> Put
-    ensures { Shows (tree_of_list (next_tree connection_tree) all.now NoMore) (repeat (next_of connection)) status out.old result out.new }
+    ensures { Shows (tree_of_list (next_tree connection_tree) all.now NoMore)
+        (repeat (next_of connection)) status out.old result out.new }
 {
     let mut status = status;
     for one in all {
@@ -212,7 +217,8 @@ fn put_part<S: Sink>(one: &Part, status: Put, out: &mut Pieces<'_, S>) -> Put
 }
 
 fn put_all_parts<S: Sink>(all: &[Part], status: Put, out: &mut Pieces<'_, S>) -> Put
-    ensures { Shows (tree_of_list part_tree all.now NoMore) (repeat part) status out.old result out.new }
+    ensures { Shows (tree_of_list part_tree all.now NoMore)
+        (repeat part) status out.old result out.new }
 {
     let mut status = status;
     for one in all {
@@ -265,7 +271,8 @@ fn put_chip<S: Sink>(one: &Chip, status: Put, out: &mut Pieces<'_, S>) -> Put
 fn put_all<S: Sink>(chip: &Chip, out: &mut Pieces<'_, S>) -> Put
     requires { pending out.old ≡ [] }
     ensures same_sink { HaveSameSink out.old out.new }
-    ensures put { Puts (S.written (sink_of out.old)) (S.written (sink_of out.new)) (chip_text chip.now) result }
+    ensures put { Puts (S.written (sink_of out.old)) (S.written (sink_of out.new))
+        (chip_text chip.now) result }
     ensures counts { CountsPut (S.faults (sink_of out.old)) (S.faults (sink_of out.new)) result }
 {
     let status = put_chip(chip, Put::Done, out);

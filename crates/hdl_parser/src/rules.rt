@@ -23,7 +23,8 @@ fn written_width<'a>(
     tokens: &'a [Token<'a>],
     end: Place,
 ) -> Result<(Option<u8>, &'a [Token<'a>]), ReadError>
-    ensures reads { ParsesBy view (hdl end) (option width_rule) width_tree (λ _. 0) 0 tokens.now result }
+    ensures reads { ParsesBy view (hdl end) (option width_rule) width_tree
+        (λ _. 0) 0 tokens.now result }
     ensures no_longer { IfOk result (λ r. length r.1.now ≤ length tokens.now) }
 {
     if !stands(tokens, b'[') {
@@ -56,7 +57,8 @@ fn pin_list<'a>(
     tokens: &'a [Token<'a>],
     end: Place,
 ) -> Result<(List<Pin>, &'a [Token<'a>]), ReadError>
-    ensures reads { ParsesBy view (hdl end) (row pin) (λ x. row_with pin_tree x NoMore) (λ _. 0) 0 tokens.now result }
+    ensures reads { ParsesBy view (hdl end) (row pin) (λ x. row_with pin_tree x NoMore)
+        (λ _. 0) 0 tokens.now result }
     ensures shorter { IfOk result (λ r. length r.1.now < length tokens.now) }
     ensures some { IfOk result (λ r. 1 ≤ length r.0) }
 {
@@ -100,7 +102,8 @@ fn name_list<'a>(
     tokens: &'a [Token<'a>],
     end: Place,
 ) -> Result<(List<Name>, &'a [Token<'a>]), ReadError>
-    ensures reads { ParsesBy view (hdl end) (row name) (λ x. row_with name_leaf x NoMore) (λ _. 0) 0 tokens.now result }
+    ensures reads { ParsesBy view (hdl end) (row name) (λ x. row_with name_leaf x NoMore)
+        (λ _. 0) 0 tokens.now result }
     ensures shorter { IfOk result (λ r. length r.1.now < length tokens.now) }
     ensures some { IfOk result (λ r. 1 ≤ length r.0) }
 {
@@ -124,7 +127,8 @@ fn clocked<'a>(
     tokens: &'a [Token<'a>],
     end: Place,
 ) -> Result<(List<Name>, &'a [Token<'a>]), ReadError>
-    ensures reads { ParsesBy view (hdl end) (option (listing Keyword.Clocked name)) names_tree (λ _. 0) 0 tokens.now result }
+    ensures reads { ParsesBy view (hdl end) (option (listing Keyword.Clocked name)) names_tree
+        (λ _. 0) 0 tokens.now result }
     ensures no_longer { IfOk result (λ r. length r.1.now ≤ length tokens.now) }
 {
     if !keyword_stands(tokens, Keyword::Clocked) {
@@ -143,7 +147,8 @@ fn last<'a>(
     end: Place,
     first: u8,
 ) -> Result<(Option<u8>, &'a [Token<'a>]), ReadError>
-    ensures reads { ParsesBy view (hdl end) (option last) last_tree (λ _. first) first tokens.now result }
+    ensures reads { ParsesBy view (hdl end) (option last) last_tree
+        (λ _. first) first tokens.now result }
     ensures no_longer { IfOk result (λ r. length r.1.now ≤ length tokens.now) }
 {
     if !dots_stand(tokens) {
@@ -189,7 +194,8 @@ fn subscript<'a>(
     tokens: &'a [Token<'a>],
     end: Place,
 ) -> Result<(Option<Subscript>, &'a [Token<'a>]), ReadError>
-    ensures reads { ParsesBy view (hdl end) (option subscript) subscript_tree (λ _. 0) 0 tokens.now result }
+    ensures reads { ParsesBy view (hdl end) (option subscript) subscript_tree
+        (λ _. 0) 0 tokens.now result }
     ensures no_longer { IfOk result (λ r. length r.1.now ≤ length tokens.now) }
 {
     if !stands(tokens, b'[') {
@@ -241,7 +247,8 @@ fn connection<'a>(
     tokens: &'a [Token<'a>],
     end: Place,
 ) -> Result<(Connection, &'a [Token<'a>]), ReadError>
-    ensures reads { ParsesBy view (hdl end) connection connection_tree (λ _. 0) 0 tokens.now result }
+    ensures reads { ParsesBy view (hdl end) connection connection_tree
+        (λ _. 0) 0 tokens.now result }
     ensures shorter { IfOk result (λ r. length r.1.now < length tokens.now) }
 {
     let (pin, rest) = selection(alloc, tokens, end)?;
@@ -257,7 +264,8 @@ fn connections<'a>(
     tokens: &'a [Token<'a>],
     end: Place,
 ) -> Result<(List<Connection>, &'a [Token<'a>]), ReadError>
-    ensures reads { ParsesBy view (hdl end) (row connection) connections_tree (λ _. 0) 0 tokens.now result }
+    ensures reads { ParsesBy view (hdl end) (row connection) connections_tree
+        (λ _. 0) 0 tokens.now result }
     ensures shorter { IfOk result (λ r. length r.1.now < length tokens.now) }
 {
     let mut connections = List::new(alloc);
@@ -296,7 +304,8 @@ fn part_list<'a>(
     tokens: &'a [Token<'a>],
     end: Place,
 ) -> Result<(List<Part>, &'a [Token<'a>]), ReadError>
-    ensures reads { ParsesBy view (hdl end) (repeat part) (λ v. tree_of_list part_tree v NoMore) (λ _. 0) 0 tokens.now result }
+    ensures reads { ParsesBy view (hdl end) (repeat part) (λ v. tree_of_list part_tree v NoMore)
+        (λ _. 0) 0 tokens.now result }
     ensures no_longer { IfOk result (λ r. length r.1.now ≤ length tokens.now) }
 {
     let mut parts = List::new(alloc);
@@ -337,7 +346,8 @@ fn builtin<'a>(
     tokens: &'a [Token<'a>],
     end: Place,
 ) -> Result<((Name, List<Name>), &'a [Token<'a>]), ReadError>
-    ensures reads { ParsesBy view (hdl end) builtin (λ x. builtin_tree x.0 x.1) (λ _. 0) 0 tokens.now result }
+    ensures reads { ParsesBy view (hdl end) builtin (λ x. builtin_tree x.0 x.1)
+        (λ _. 0) 0 tokens.now result }
     ensures shorter { IfOk result (λ r. length r.1.now < length tokens.now) }
 {
     let rest = keyword(tokens, end, Keyword::Builtin)?;

@@ -95,7 +95,8 @@ pub fn name<'a>(
     tokens: &'a [Token<'a>],
     end: Place,
 ) -> Result<(Name, &'a [Token<'a>]), ReadError>
-    ensures reads { ParsesBy view (hdl end) name (λ x. Leaf (name_said x)) (λ _. 0) 0 tokens.now result }
+    ensures reads { ParsesBy view (hdl end) name (λ x. Leaf (name_said x))
+        (λ _. 0) 0 tokens.now result }
     ensures shorter { IfOk result (λ r. length r.1.now < length tokens.now) }
 {
     let Some((token, rest)) = tokens.split_first() else {
@@ -109,7 +110,8 @@ pub fn name<'a>(
 
 /// A width, at most 16.
 pub fn width<'a>(tokens: &'a [Token<'a>], end: Place) -> Result<(u8, &'a [Token<'a>]), ReadError>
-    ensures reads { ParsesBy view (hdl end) width (λ n. Leaf (number_said n)) (λ _. 0) 0 tokens.now result }
+    ensures reads { ParsesBy view (hdl end) width (λ n. Leaf (number_said n))
+        (λ _. 0) 0 tokens.now result }
     ensures shorter { IfOk result (λ r. length r.1.now < length tokens.now) }
 {
     let Some((token, rest)) = tokens.split_first() else {
@@ -126,7 +128,8 @@ pub fn width<'a>(tokens: &'a [Token<'a>], end: Place) -> Result<(u8, &'a [Token<
 
 /// An index, at most 15.
 pub fn index<'a>(tokens: &'a [Token<'a>], end: Place) -> Result<(u8, &'a [Token<'a>]), ReadError>
-    ensures reads { ParsesBy view (hdl end) index (λ n. Leaf (number_said n)) (λ n. n) 0 tokens.now result }
+    ensures reads { ParsesBy view (hdl end) index (λ n. Leaf (number_said n))
+        (λ n. n) 0 tokens.now result }
     ensures shorter { IfOk result (λ r. length r.1.now < length tokens.now) }
 {
     let Some((token, rest)) = tokens.split_first() else {
@@ -147,7 +150,8 @@ pub fn last_index<'a>(
     end: Place,
     first: u8,
 ) -> Result<(u8, &'a [Token<'a>]), ReadError>
-    ensures reads { ParsesBy view (hdl end) last_index (λ n. Leaf (number_said n)) (λ _. first) first tokens.now result }
+    ensures reads { ParsesBy view (hdl end) last_index (λ n. Leaf (number_said n))
+        (λ _. first) first tokens.now result }
     ensures shorter { IfOk result (λ r. length r.1.now < length tokens.now) }
 {
     let Some((token, rest)) = tokens.split_first() else {
@@ -170,7 +174,8 @@ pub fn constant<'a>(
     tokens: &'a [Token<'a>],
     end: Place,
 ) -> Result<(bool, &'a [Token<'a>]), ReadError>
-    ensures reads { ParsesBy view (hdl end) constant (λ b. Leaf (constant_said b)) (λ _. 0) 0 tokens.now result }
+    ensures reads { ParsesBy view (hdl end) constant (λ b. Leaf (constant_said b))
+        (λ _. 0) 0 tokens.now result }
     ensures shorter { IfOk result (λ r. length r.1.now < length tokens.now) }
 {
     let Some((token, rest)) = tokens.split_first() else {
@@ -187,26 +192,16 @@ pub fn constant<'a>(
 pub fn stands(tokens: &[Token], sign: u8) -> bool
     ensures { result ≡ next (is_symbol sign) (map view tokens.now) }
 {
-    let Some(token) = tokens.first() else {
-        return false;
-    };
-    let Kind::Symbol(other) = token.kind else {
-        return false;
-    };
-    other == sign
+    tokens.first().is_some_and(|token| matches!(token.kind, Kind::Symbol(other) if other == sign))
 }
 
 /// A certain keyword comes next.
 pub fn keyword_stands(tokens: &[Token], keyword: Keyword) -> bool
     ensures { result ≡ next (is_keyword keyword) (map view tokens.now) }
 {
-    let Some(token) = tokens.first() else {
-        return false;
-    };
-    let Kind::Keyword(other) = token.kind else {
-        return false;
-    };
-    other == keyword
+    tokens.first().is_some_and(
+        |token| matches!(token.kind, Kind::Keyword(other) if other == keyword),
+    )
 }
 
 /// `..` comes next.

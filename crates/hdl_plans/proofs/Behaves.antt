@@ -1,13 +1,13 @@
 -- A behaviour of the half driven chip.
 use Rattle.std.proofs.Common.{◌≡◌, ℕ, zero, suc, ◌+◌, ◌<◌, Bool, true, false, cond, List, [], ◌∷◌, Option, Some, None, ◌⊎◌, inl, inr, codes, refl, sym, ap, subst, arith, if◌then◌else◌, nat_eq}
-use Rattle.std.specs.Prelude.{◌&&◌, not, slice_get}
+use Rattle.std.specs.Prelude.{slice_get}
 use Rattle.std.specs.Str.{bytes_eq}
 use Rattle.std.specs.Cmp.Lexicographic.{bytes_decides}
 use Rattle.hdl_tree.specs.declared.tree.Part.{Part}
 use Rattle.hdl_tree.specs.declared.library.Entry.{Entry}
-use Rattle.hdl_tree.specs.declared.ends.End.{End}
-use Rattle.hdl_tree.specs.Chips.{Chips, end_of, find_chip, parts_of_body}
-use Rattle.hdl_tree.specs.Behaviour.{Wires, Histories, World, ChipWired, PartsWired, PartWired, EndWorks, Works, chip_at, width_in, some, reaches, drives}
+use Rattle.hdl_tree.specs.declared.ends.Memories.TheVariants.{Blocks}
+use Rattle.hdl_tree.specs.Chips.{end_of, find_chip}
+use Rattle.hdl_tree.specs.Behaviour.{Wires, Histories, World, ChipWired, PartsWired, PartWired, EndWorks, Works, width_in, some, reaches, drives}
 use Rattle.hdl_plans.specs.Rows.{wire, wire_bit, part, nand, beside, half_driven, Behaves}
 use Rattle.hdl_plans.proofs.Rows.{nand_low, entry_or, no_part, no_entry}
 
@@ -101,10 +101,10 @@ module _ (input : ℕ → Bool) (c : ℕ) where
   unfolding end_of
   works world [] inner e =
       let same : half_driven ≡ inner = ap (entry_or half_driven) e in
-      subst (λ (x : Entry). ChipWired false true (beside half_driven) x (end_of true x) outside inside (λ d. EndWorks world c d (driven input []))) same whole
+      subst (λ (x : Entry). ChipWired false true (beside half_driven) x (end_of Blocks x) outside inside (λ d. EndWorks world c d (driven input []))) same whole
   works world (zero ∷ []) inner e =
       let same : nand ≡ inner = ap (entry_or nand) e in
-      subst (λ (x : Entry). ChipWired false true (beside half_driven) x (end_of true x) (inside 0) (λ i name bit. driven input (0 ∷ i ∷ []) name bit c) (λ d. EndWorks world c d (driven input (0 ∷ [])))) same (sym (nand_low (input c)))
+      subst (λ (x : Entry). ChipWired false true (beside half_driven) x (end_of Blocks x) (inside 0) (λ i name bit. driven input (0 ∷ i ∷ []) name bit c) (λ d. EndWorks world c d (driven input (0 ∷ [])))) same (sym (nand_low (input c)))
   works world (zero ∷ l ∷ path) inner e = absurd (no_entry inner e)
   works world (suc i ∷ path) inner e = absurd (no_entry inner e)
 

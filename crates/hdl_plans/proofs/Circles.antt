@@ -6,7 +6,7 @@ use Rattle.hdl_tree.specs.declared.library.Entry.{Entry}
 use Rattle.hdl_tree.specs.Chips.{Chips}
 use Rattle.hdl_tree.specs.Behaviour.{chip_at, inner_chip}
 use Rattle.hdl_plans.specs.Plans.{is_input}
-use Rattle.hdl_plans.specs.Loops.{BitAt, bit_at, outside_bit, inside_bit, Feeds, down, up, through, IsWalk, IsCircle, IsLoop}
+use Rattle.hdl_plans.specs.Loops.{BitAt, bit_at, outside_bit, inside_bit, Feeds, down, up, through, IsWalk, IsBitCircle, IsLoop}
 use Rattle.hdl_plans.specs.Ways.{Chain, Way, HasBit, JointsFit, TreeFits, Depends, Across, Own, OwnAt, OwnCircle, HasOwnCircle, Circle, CircleAmong, IsOrdered}
 use Rattle.hdl_plans.proofs.Walks.{at_part, part_at, under, shift, Within, Enters, Leaves, Moves, moves_of, join_ways, step_way, one_step, joined_inner}
 use Rattle.hdl_plans.proofs.Simple.{Once, simple_round, once_are, get_among, among_get}
@@ -265,7 +265,7 @@ walk_of chips top ms x f = record {
   feeds = λ k a b e h. step_at (Feeds chips top) ms x x f k a b (nat_eq (suc k) (suc (length ms))) e refl h;
 }
 
-pub circle_of : (chips : Chips) (top : Entry) (ms : List BitAt) (x : BitAt) → Chain (Feeds chips top) x ms x → Once (x ∷ ms) → IsCircle chips top (x ∷ ms)
+pub circle_of : (chips : Chips) (top : Entry) (ms : List BitAt) (x : BitAt) → Chain (Feeds chips top) x ms x → Once (x ∷ ms) → IsBitCircle chips top (x ∷ ms)
 circle_of chips top ms x f o = record { walk = walk_of chips top ms x f; once = once_are (x ∷ ms) o }
 
 -- a walk that comes back has a circle among its bits

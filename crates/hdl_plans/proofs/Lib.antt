@@ -7,4 +7,6 @@ pub mod Simple
 pub mod Circles
 pub mod Fits
 pub mod Rows
+pub mod Rings
 pub mod Behaves
+pub mod Fewer

@@ -1,6 +1,6 @@
 -- What the small chips do, and their loops.
 use Prim.Native.String.{String}
-use Rattle.std.proofs.Common.{◌≡◌, ℕ, zero, suc, ◌<◌, Bool, true, false, List, [], ◌∷◌, ◌++◌, Option, Some, None, codes, refl, sym, ap, ◌∙◌, subst, lit<, arith, if◌then◌else◌}
+use Rattle.std.proofs.Common.{◌≡◌, ℕ, zero, suc, ◌<◌, Bool, true, false, List, [], ◌∷◌, Option, Some, None, codes, refl, sym, ap, ◌∙◌, subst, lit<, arith, if◌then◌else◌}
 use Rattle.std.specs.Prelude.{◌&&◌, not, slice_get}
 use Rattle.std.specs.Str.{bytes_eq}
 use Rattle.std.specs.Cmp.Lexicographic.{bytes_decides}
@@ -11,10 +11,11 @@ use Rattle.hdl_tree.specs.declared.tree.Part.{Part}
 use Rattle.hdl_tree.specs.declared.library.Entry.{Entry}
 use Rattle.hdl_tree.specs.declared.ends.End.{End}
 use Rattle.hdl_tree.specs.declared.ends.End.TheVariants as ends
+use Rattle.hdl_tree.specs.declared.ends.Memories.TheVariants.{Blocks}
 use Rattle.hdl_tree.specs.Chips.{Chips, end_of, find_chip, parts_of, count}
 use Rattle.hdl_tree.specs.Behaviour.{Histories, World, IsBehaviour, Each, chip_at, width_of}
 use Rattle.hdl_plans.specs.Plans.{is_input}
-use Rattle.hdl_plans.specs.Loops.{BitAt, bit_at, outside_bit, inside_bit, IsJoint, Feeds, down, up, through, reaches_out, IsCircle, IsLoop}
+use Rattle.hdl_plans.specs.Loops.{BitAt, bit_at, outside_bit, inside_bit, IsJoint, Feeds, down, up, through, reaches_out, IsBitCircle, IsLoop}
 use Rattle.hdl_plans.specs.Ways.{Chain}
 use Rattle.hdl_plans.specs.Rows.{select, wire, bit_wire, wire_bit, part, nand, dff, ram8, beside, half_driven, gate_ring, address_ring, clocked_rings}
 use Rattle.hdl_plans.proofs.Circles.{chain_round, circle_of}
@@ -45,13 +46,13 @@ module _ (chips : Chips) (top : Entry) (i j : ℕ) (p : Part) (inner : Entry) (c
   joint : (input : Bool) → is_input inner conn.pin.name ≡ input → IsJoint chips top [] i conn w 0 input
   joint input way = record { chip = top; part = p; inner = inner; j = j; at = refl; there = there; found = found; here = here; right = right; way = way; within = within }
 
-  enters : is_input inner conn.pin.name ≡ true → Feeds chips top (outside_bit [] w 0) (inside_bit [] i conn 0)
+  pub enters : is_input inner conn.pin.name ≡ true → Feeds chips top (outside_bit [] w 0) (inside_bit [] i conn 0)
   enters way = down (joint true way)
 
-  leaves : is_input inner conn.pin.name ≡ false → Feeds chips top (inside_bit [] i conn 0) (outside_bit [] w 0)
+  pub leaves : is_input inner conn.pin.name ≡ false → Feeds chips top (inside_bit [] i conn 0) (outside_bit [] w 0)
   leaves way = up (joint false way)
 
-abbrev gate : String → String → Part
+abbrev pub gate : String → String → Part
 gate x y = part "Nand" (wire "a" x ∷ wire "b" x ∷ wire "out" y ∷ [])
 
 pub gate_loop : IsLoop (beside gate_ring) gate_ring (codes "x" ∷ [])
@@ -86,7 +87,7 @@ address_loop =
     record { first = x; rest = a ∷ out ∷ y ∷ address ∷ word ∷ []; last = word; ends = refl; circle = circle_of (beside address_ring) address_ring (a ∷ out ∷ y ∷ address ∷ word ∷ []) x (s1, (s2, (s3, (s4, (s5, s6))))) (once_by (x ∷ a ∷ out ∷ y ∷ address ∷ word ∷ []) refl); named = refl }
 
 -- a circle passes no bit twice
-pub no_bit_twice : (chips : Chips) (top : Entry) (x y z : BitAt) → IsCircle chips top (x ∷ y ∷ x ∷ z ∷ []) → ⊥
+pub no_bit_twice : (chips : Chips) (top : Entry) (x y z : BitAt) → IsBitCircle chips top (x ∷ y ∷ x ∷ z ∷ []) → ⊥
 no_bit_twice chips top x y z c = let e : 0 ≡ 2 = c.once 0 2 x refl refl in absurd (omega (arith, e))
 
 -- ---- no loop: along each step a rank rises, from an address over what comes out and a net to what comes in
@@ -126,13 +127,13 @@ flip_ranked inner f = let same : dff ≡ inner = ap (entry_or dff) f in subst (�
 word_ranked : PartRanked word_part
 word_ranked inner f = let same : ram8 ≡ inner = ap (entry_or ram8) f in subst (λ (e : Entry). Each (Ranked e) word_part.connections) same (refl, (refl, (refl, (refl, tt))))
 
-each_get : {X : Type 0} (P : X → Type 0) (xs : List X) → Each P xs → (i : ℕ) (x : X) → slice_get xs i ≡ Some x → P x
+pub each_get : {X : Type 0} (P : X → Type 0) (xs : List X) → Each P xs → (i : ℕ) (x : X) → slice_get xs i ≡ Some x → P x
 each_get P [] e i x h = absurd cc
 each_get P (y ∷ ys) e zero x h = let same : y ≡ x = cc in subst P same e.0
 each_get P (y ∷ ys) e (suc i) x h = each_get P ys e.1 i x h
 
 -- the way is that of the chip itself
-abbrev OnlyTop : List ℕ → Type 0 → Type 0
+abbrev pub OnlyTop : List ℕ → Type 0 → Type 0
 OnlyTop [] A = A
 OnlyTop (i ∷ path) A = ⊥
 
@@ -165,24 +166,24 @@ up_rises : (path : List ℕ) (i k : ℕ) (conn : Connection) (w : Selection) →
 up_rises [] i k conn w j = let e : name_rank conn.pin.name ≡ 1 = joint_rank [] i k conn w false j in subst (λ (n : ℕ). n < 2) (sym e) (lit< tt)
 up_rises (l ∷ path) i k conn w j = absurd (joint_rank (l ∷ path) i k conn w false j)
 
-abbrev end_or : Option End → End
+abbrev pub end_or : Option End → End
 end_or None = ends.Dff
 end_or (Some e) = e
 
-through_rises : (path : List ℕ) (name : List ℕ) (chip : Entry) (e : End) → chip_at rings clocked_rings path ≡ Some chip → end_of true chip ≡ Some e → reaches_out e name ≡ true → rank_at path name < rank_at path (codes "out")
+through_rises : (path : List ℕ) (name : List ℕ) (chip : Entry) (e : End) → chip_at rings clocked_rings path ≡ Some chip → end_of Blocks chip ≡ Some e → reaches_out e name ≡ true → rank_at path name < rank_at path (codes "out")
 unfolding end_of
 through_rises [] name chip e a is r =
     let same : clocked_rings ≡ chip = ap (entry_or clocked_rings) a in
-    let none : None ≡ Some e = subst (λ (x : Entry). end_of true x ≡ Some e) (sym same) is in
+    let none : None ≡ Some e = subst (λ (x : Entry). end_of Blocks x ≡ Some e) (sym same) is in
     absurd cc
 through_rises (zero ∷ []) name chip e a is r =
     let same : dff ≡ chip = ap (entry_or dff) a in
-    let flip : ends.Dff ≡ e = ap end_or (subst (λ (x : Entry). end_of true x ≡ Some e) (sym same) is) in
+    let flip : ends.Dff ≡ e = ap end_or (subst (λ (x : Entry). end_of Blocks x ≡ Some e) (sym same) is) in
     let no : false ≡ true = subst (λ (x : End). reaches_out x name ≡ true) (sym flip) r in
     absurd cc
 through_rises (suc zero ∷ []) name chip e a is r =
     let same : ram8 ≡ chip = ap (entry_or ram8) a in
-    let block : ends.Block 3 ≡ e = ap end_or (subst (λ (x : Entry). end_of true x ≡ Some e) (sym same) is) in
+    let block : ends.Block 3 ≡ e = ap end_or (subst (λ (x : Entry). end_of Blocks x ≡ Some e) (sym same) is) in
     let named : name ≡ codes "address" = (bytes_decides name (codes "address")).0 (subst (λ (x : End). reaches_out x name ≡ true) (sym block) r) in
     subst (λ (n : List ℕ). name_rank n < 1) (sym named) (lit< tt)
 through_rises (zero ∷ l ∷ path) name chip e a is r = absurd (no_entry chip a)

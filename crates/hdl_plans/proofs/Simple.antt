@@ -4,7 +4,7 @@ use Rattle.std.specs.Prelude.{slice_get, nat_eq, not, ◌&&◌, ◌||◌}
 use Rattle.std.proofs.lemmas.Bool.Decides.{Decides-eqb}
 use Rattle.std.specs.Str.{bytes_eq}
 use Rattle.std.specs.Cmp.Lexicographic.{bytes_decides}
-use Rattle.hdl_plans.specs.Loops.{BitAt, bit_at, AreOnce}
+use Rattle.hdl_plans.specs.Loops.{BitAt, bit_at, AreDistinctBits}
 use Rattle.hdl_plans.specs.Ways.{Chain}
 
 -- ---- equal or not
@@ -48,14 +48,14 @@ get_among [] k x e = absurd cc
 get_among (y ∷ ys) zero x e = inl cc
 get_among (y ∷ ys) (suc k) x e = inr (get_among ys k x e)
 
-pub once_are : (xs : List BitAt) → Once xs → AreOnce xs
+pub once_are : (xs : List BitAt) → Once xs → AreDistinctBits xs
 once_are [] h i j x e f = absurd cc
 once_are (y ∷ ys) h zero zero x e f = refl
 once_are (y ∷ ys) h zero (suc j) x e f = let s : y ≡ x = cc in absurd (h.0 (subst (λ v. Among v ys) (sym s) (get_among ys j x f)))
 once_are (y ∷ ys) h (suc i) zero x e f = let s : y ≡ x = cc in absurd (h.0 (subst (λ v. Among v ys) (sym s) (get_among ys i x e)))
 once_are (y ∷ ys) h (suc i) (suc j) x e f = ap suc (once_are ys h.1 i j x e f)
 
-pub are_once : (xs : List BitAt) → AreOnce xs → Once xs
+pub are_once : (xs : List BitAt) → AreDistinctBits xs → Once xs
 are_once [] h = tt
 are_once (y ∷ ys) h = (
   (λ a. let r = among_get ys y a in let e : 0 ≡ suc r.0 = h 0 (suc r.0) y refl r.1 in absurd (omega (arith, e))),
@@ -94,11 +94,11 @@ all_three false b c e f g = absurd cc
 all_three true false c e f g = absurd cc
 all_three true true false e f g = absurd cc
 
-here_or : (a b : Bool) → a ≡ true → (a || b) ≡ true
+pub here_or : (a b : Bool) → a ≡ true → (a || b) ≡ true
 here_or true b e = refl
 here_or false b e = absurd cc
 
-or_there : (a b : Bool) → b ≡ true → (a || b) ≡ true
+pub or_there : (a b : Bool) → b ≡ true → (a || b) ≡ true
 or_there true b e = refl
 or_there false b e = e
 

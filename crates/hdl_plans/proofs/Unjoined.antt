@@ -25,7 +25,7 @@ use Rattle.hdl_plans.specs.Plans.{Place, Low, is_input, origin_of, IsPlan}
 use Rattle.hdl_plans.specs.Planned.{output_from, output_by, output_among, output_in, output_of, origin_by, origin_among, origin_in, origin_at, plan_of}
 use Rattle.hdl_plans.proofs.Sound.{port_is, as_port, found_ports, plan_output, plan_input}
 
-or_cases : (a b : Bool) → (a || b) ≡ true → (a ≡ true) ⊎ (b ≡ true)
+pub or_cases : (a b : Bool) → (a || b) ≡ true → (a ≡ true) ⊎ (b ≡ true)
 or_cases true b h = inl refl
 or_cases false b h = inr h
 
@@ -179,7 +179,7 @@ not_twice : (b : Bool) (t : NamedFault) → cond b (Some t) None ≡ None → b 
 not_twice true t h = absurd cc
 not_twice false t h = refl
 
-pub output_is_no_input : (chips : Chips) (names : List (List ℕ)) (chip : Entry) → IsFaultless chips names chip → end_of chips.blocks chip ≡ None → (name : List ℕ) (w : ℕ) → width_in chip.chip.outputs name ≡ Some w → is_input chip name ≡ false
+pub output_is_no_input : (chips : Chips) (names : List (List ℕ)) (chip : Entry) → IsFaultless chips names chip → end_of chips.memories chip ≡ None → (name : List ℕ) (w : ℕ) → width_in chip.chip.outputs name ≡ Some w → is_input chip name ≡ false
 output_is_no_input chips names chip faultless no_end name w h =
     let o = pin_of chip.chip.outputs name w h in
     let ins = chip.chip.inputs in
@@ -190,7 +190,7 @@ output_is_no_input chips names chip faultless no_end name w h =
     ap is_some (absent ins (take o.place outs) name (ap (λ n. is_among n (map pin_name (ins ++ take o.place outs))) o.named ∙ new))
 
 -- a chip without faults that is no end has the plan of its text
-pub faultless_plan : (chips : Chips) (names : List (List ℕ)) (chip : Entry) → IsFaultless chips names chip → end_of chips.blocks chip ≡ None → IsPlan chips chip (plan_of chips chip)
+pub faultless_plan : (chips : Chips) (names : List (List ℕ)) (chip : Entry) → IsFaultless chips names chip → end_of chips.memories chip ≡ None → IsPlan chips chip (plan_of chips chip)
 faultless_plan chips names chip faultless no_end = record {
   output = λ i j k part inner conn there find_value here way lt. plan_output chips names chip faultless i j k part inner conn there find_value here way lt;
   input = λ i j k part inner conn there find_value here way lt. plan_input chips names chip faultless i j k part inner conn there find_value here way lt;

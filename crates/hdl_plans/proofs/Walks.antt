@@ -85,10 +85,10 @@ up_moves chips chip (l ∷ path) i k conn w j =
     let r = inner_joint chips chip l path i conn w k false j in
     record { same = refl; inner = r.inner; found = r.found; feeds = up r.joint }
 
-through_moves : (chips : Chips) (chip : Entry) (path : List ℕ) (name : List ℕ) (bit out : ℕ) (c : Entry) (e : End) → chip_at chips chip path ≡ Some c → end_of chips.blocks c ≡ Some e → reaches_out e name ≡ true → Moves chips chip path path name bit (codes "out") out
+through_moves : (chips : Chips) (chip : Entry) (path : List ℕ) (name : List ℕ) (bit out : ℕ) (c : Entry) (e : End) → chip_at chips chip path ≡ Some c → end_of chips.memories c ≡ Some e → reaches_out e name ≡ true → Moves chips chip path path name bit (codes "out") out
 through_moves chips chip [] name bit out c e at is reaches =
     let same : c ≡ chip = cc in
-    record { e = e; is = ap (end_of chips.blocks) (sym same) ∙ is; reaches = reaches; named = refl }
+    record { e = e; is = ap (end_of chips.memories) (sym same) ∙ is; reaches = reaches; named = refl }
 through_moves chips chip (l ∷ path) name bit out c e at is reaches =
     let a = at_part chips chip l path c at in
     record { same = refl; inner = a.inner; found = a.found; feeds = through a.rest is reaches }

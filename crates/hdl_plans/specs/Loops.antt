@@ -55,7 +55,7 @@ reaches_out (ends.Block bits) name = bytes_eq name (codes "address")
 pub data Feeds (chips : Chips) (top : Entry) : BitAt → BitAt → Type 0 where
   down : {path : List ℕ} {i k : ℕ} {conn : Connection} {w : Selection} → IsJoint chips top path i conn w k true → Feeds chips top (outside_bit path w k) (inside_bit path i conn k)
   up : {path : List ℕ} {i k : ℕ} {conn : Connection} {w : Selection} → IsJoint chips top path i conn w k false → Feeds chips top (inside_bit path i conn k) (outside_bit path w k)
-  through : {path : List ℕ} {name : List ℕ} {bit out : ℕ} {chip : Entry} {e : End} → chip_at chips top path ≡ Some chip → end_of chips.blocks chip ≡ Some e → reaches_out e name ≡ true → Feeds chips top (bit_at path name bit) (bit_at path (codes "out") out)
+  through : {path : List ℕ} {name : List ℕ} {bit out : ℕ} {chip : Entry} {e : End} → chip_at chips top path ≡ Some chip → end_of chips.memories chip ≡ Some e → reaches_out e name ≡ true → Feeds chips top (bit_at path name bit) (bit_at path (codes "out") out)
 
 -- the bit that follows, round the circle
 abbrev pub next_bit : List BitAt → ℕ → Option BitAt
@@ -67,13 +67,13 @@ pub record IsWalk (chips : Chips) (top : Entry) (bits : List BitAt) : Type 0 whe
   pub feeds : (k : ℕ) (x y : BitAt) → slice_get bits k ≡ Some x → next_bit bits k ≡ Some y → Feeds chips top x y
 
 -- no bit stands in two places
-abbrev pub AreOnce : List BitAt → Type 0
-AreOnce bits = (i j : ℕ) (x : BitAt) → slice_get bits i ≡ Some x → slice_get bits j ≡ Some x → i ≡ j
+abbrev pub AreDistinctBits : List BitAt → Type 0
+AreDistinctBits bits = (i j : ℕ) (x : BitAt) → slice_get bits i ≡ Some x → slice_get bits j ≡ Some x → i ≡ j
 
 -- a circle: a walk that comes back and passes no bit twice
-pub record IsCircle (chips : Chips) (top : Entry) (bits : List BitAt) : Type 0 where
+pub record IsBitCircle (chips : Chips) (top : Entry) (bits : List BitAt) : Type 0 where
   pub walk : IsWalk chips top bits
-  pub once : AreOnce bits
+  pub once : AreDistinctBits bits
 
 -- A bit of a circle is outermost where the bits before and after it lie in parts of its chip: there the way goes up no further.
 abbrev pub is_peak : BitAt → BitAt → BitAt → Bool
@@ -97,5 +97,5 @@ pub record IsLoop (chips : Chips) (top : Entry) (nets : List (List ℕ)) : Type 
   pub rest : List BitAt
   pub last : BitAt
   pub ends : slice_get (first ∷ rest) (length rest) ≡ Some last
-  pub circle : IsCircle chips top (first ∷ rest)
+  pub circle : IsBitCircle chips top (first ∷ rest)
   pub named : nets ≡ once_more [] (peaks last (first ∷ rest) first)

@@ -58,4 +58,4 @@ EndFits chip (Some (ends.Block bits)) = (is_input chip (codes "in") ≡ true) ×
 -- a chip in which parts nest at most d deep, each with its plan
 abbrev pub IsSound : ℕ → Chips → (Entry → Plan) → Entry → Type 0
 IsSound zero library plan chip = ⊥
-IsSound (suc d) library plan chip = IsPlan library chip (plan chip) × EndFits chip (end_of library.blocks chip) × ((i : ℕ) (inner : Entry) → inner_chip library chip i ≡ Some inner → IsSound d library plan inner)
+IsSound (suc d) library plan chip = IsPlan library chip (plan chip) × EndFits chip (end_of library.memories chip) × ((i : ℕ) (inner : Entry) → inner_chip library chip i ≡ Some inner → IsSound d library plan inner)

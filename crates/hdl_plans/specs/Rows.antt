@@ -12,9 +12,10 @@ use Rattle.hdl_tree.specs.declared.tree.Body.TheVariants.{Parts, Builtin}
 use Rattle.hdl_tree.specs.declared.library.Entry.{Entry}
 use Rattle.hdl_tree.specs.declared.ends.End.{End}
 use Rattle.hdl_tree.specs.declared.ends.End.TheVariants as ends
+use Rattle.hdl_tree.specs.declared.ends.Memories.TheVariants.{Blocks, Gates}
 use Rattle.hdl_tree.specs.Chips.{Chips, end_named}
 use Rattle.hdl_tree.specs.Behaviour.{Histories, World, IsBehaviour}
-use Rattle.hdl_plans.specs.Loops.{BitAt, IsCircle, IsLoop}
+use Rattle.hdl_plans.specs.Loops.{BitAt, IsBitCircle, IsLoop}
 
 -- ---- trees in the words of HDL texts
 
@@ -63,7 +64,7 @@ made_of parts = record { name = codes "F"; chip = record { name = codes "F"; inp
 
 -- the chip beside Nand, DFF and RAM8, which is a block
 abbrev pub beside : Entry → Chips
-beside chip = record { entries = chip ∷ nand ∷ dff ∷ ram8 ∷ []; blocks = true }
+beside chip = record { entries = chip ∷ nand ∷ dff ∷ ram8 ∷ []; memories = Blocks }
 
 -- ---- chips
 
@@ -82,6 +83,10 @@ address_ring = made_of (part "Nand" (wire "a" "x" ∷ wire "b" "x" ∷ wire "out
 -- a flip-flop that is fed with what it gives, and a memory whose word and load are
 abbrev pub clocked_rings : Entry
 clocked_rings = made_of (part "DFF" (wire "in" "x" ∷ wire "out" "x" ∷ []) ∷ part "RAM8" (wire "in" "y" ∷ wire "load" "z" ∷ wire "out" "y" ∷ bit_wire "out" 0 "z" ∷ []) ∷ [])
+
+-- two rings of gates that share a net: x over y, and x over z
+abbrev pub two_rings : Entry
+two_rings = made_of (part "Nand" (wire "a" "y" ∷ wire "b" "z" ∷ wire "out" "x" ∷ []) ∷ part "Nand" (wire "a" "x" ∷ wire "b" "x" ∷ wire "out" "y" ∷ []) ∷ part "Nand" (wire "a" "x" ∷ wire "b" "x" ∷ wire "out" "z" ∷ []) ∷ [])
 
 -- ---- blocks
 
@@ -107,9 +112,9 @@ pub record Behaves (world : World) (n : ℕ) (input : ℕ → Bool) : Type 0 whe
 
 pub record RowsLaw : Type 0 where
   -- a memory has as many words as its name says, and the screen 8,192
-  pub sizes : map (λ name. words (end_named true name)) memories ≡ Some 8 ∷ Some 64 ∷ Some 512 ∷ Some 4096 ∷ Some 16384 ∷ Some 8192 ∷ []
+  pub sizes : map (λ name. words (end_named Blocks name)) memories ≡ Some 8 ∷ Some 64 ∷ Some 512 ∷ Some 4096 ∷ Some 16384 ∷ Some 8192 ∷ []
   -- where memories are no blocks they are no ends
-  pub no_blocks : map (end_named false) memories ≡ None ∷ None ∷ None ∷ None ∷ None ∷ None ∷ []
+  pub no_blocks : map (end_named Gates) memories ≡ None ∷ None ∷ None ∷ None ∷ None ∷ None ∷ []
   -- whatever comes in, there is a behaviour
   pub behaves : (world : World) (n : ℕ) (input : ℕ → Bool) → Behaves world n input
   -- an input that is not joined is 0, so its Nand gives 1
@@ -118,7 +123,12 @@ pub record RowsLaw : Type 0 where
   pub undriven_is_low : Gives (λ first second. second ≡ false)
   pub gate_loop : IsLoop (beside gate_ring) gate_ring (codes "x" ∷ [])
   pub address_loop : IsLoop (beside address_ring) address_ring (codes "x" ∷ codes "y" ∷ [])
+  -- each of two rings that share a net is a loop
+  pub first_ring : IsLoop (beside two_rings) two_rings (codes "x" ∷ codes "y" ∷ [])
+  pub second_ring : IsLoop (beside two_rings) two_rings (codes "x" ∷ codes "z" ∷ [])
+  -- the one walked after the other is none
+  pub no_double_ring : IsLoop (beside two_rings) two_rings (codes "x" ∷ codes "y" ∷ codes "z" ∷ []) → ⊥
   -- two rings that share a bit are no circle
-  pub no_bit_twice : (chips : Chips) (top : Entry) (x y z : BitAt) → IsCircle chips top (x ∷ y ∷ x ∷ z ∷ []) → ⊥
+  pub no_bit_twice : (chips : Chips) (top : Entry) (x y z : BitAt) → IsBitCircle chips top (x ∷ y ∷ x ∷ z ∷ []) → ⊥
   -- no loop goes through a flip-flop, nor through a block by its word or its load
   pub no_clocked_loop : (nets : List (List ℕ)) → IsLoop (beside clocked_rings) clocked_rings nets → ⊥

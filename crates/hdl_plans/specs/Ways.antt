@@ -9,7 +9,7 @@ use Rattle.hdl_tree.specs.Chips.{Chips, end_of, first}
 use Rattle.hdl_tree.specs.Behaviour.{chip_at, inner_chip, width_in}
 use Rattle.hdl_check.specs.Locations.{IsFaultless}
 use Rattle.hdl_plans.specs.Plans.{is_input}
-use Rattle.hdl_plans.specs.Loops.{BitAt, bit_at, IsJoint, outside_bit, inside_bit, reaches_out, Feeds, IsWalk, IsCircle, IsLoop}
+use Rattle.hdl_plans.specs.Loops.{BitAt, bit_at, IsJoint, outside_bit, inside_bit, reaches_out, Feeds, IsWalk, IsBitCircle, IsLoop}
 
 -- ---- ways
 
@@ -57,7 +57,7 @@ FitLaw = (chips : Chips) (names : List (List ℕ)) (top : Entry) → IsFaultless
 -- the chip is an end, and its pin reaches its out
 pub record EndReaches (chips : Chips) (chip : Entry) (pin out : List ℕ) : Type 0 where
   pub e : End
-  pub is : end_of chips.blocks chip ≡ Some e
+  pub is : end_of chips.memories chip ≡ Some e
   pub reaches : reaches_out e pin ≡ true
   pub named : out ≡ codes "out"
 
@@ -106,7 +106,7 @@ pub record HasOwnCircle (chips : Chips) (top : Entry) : Type 0 where
 
 pub record Circle (chips : Chips) (top : Entry) : Type 0 where
   pub bits : List BitAt
-  pub is : IsCircle chips top bits
+  pub is : IsBitCircle chips top bits
 
 -- a circle, each bit of which is one of these
 pub record CircleAmong (chips : Chips) (top : Entry) (bits : List BitAt) : Type 0 where

@@ -131,7 +131,7 @@ ChipWired low high library chip (Some e) wires inside works = works e
 -- numbers are those of the part there, and works says what an end does at a path
 abbrev pub Wired : {X : Type 0} → X → X → Chips → Entry → (List ℕ → End → Type 0) → (List ℕ → Wires X) → Type 0
 Wired low high library chip works wires =
-    (path : List ℕ) (inner : Entry) → chip_at library chip path ≡ Some inner → ChipWired low high library inner (end_of library.blocks inner) (wires path) (λ i. wires (path ++ i ∷ [])) (works path)
+    (path : List ℕ) (inner : Entry) → chip_at library chip path ≡ Some inner → ChipWired low high library inner (end_of library.memories inner) (wires path) (λ i. wires (path ++ i ∷ [])) (works path)
 
 -- ---- behaviours
 

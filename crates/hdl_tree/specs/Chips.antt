@@ -10,33 +10,40 @@ use Rattle.hdl_tree.specs.declared.tree.Body.TheVariants as body
 use Rattle.hdl_tree.specs.declared.library.Entry.{Entry}
 use Rattle.hdl_tree.specs.declared.ends.End.{End}
 use Rattle.hdl_tree.specs.declared.ends.End.TheVariants as ends
+use Rattle.hdl_tree.specs.declared.ends.Memories.{Memories}
+use Rattle.hdl_tree.specs.declared.ends.Memories.TheVariants.{Blocks, Gates}
 
--- chips by name, and whether the shipped memories are blocks
+-- chips by name, and how the shipped memories are simulated
 pub record Chips : Type 0 where
   pub entries : List Entry
-  pub blocks : Bool
+  pub memories : Memories
+
+-- the memories are simulated as blocks of words
+abbrev pub are_blocks : Memories → Bool
+are_blocks Blocks = true
+are_blocks Gates = false
 
 -- the shipped chip of this name, if it is an end; the memories are ends where they are blocks
-abbrev pub end_named : Bool → List ℕ → Option End
-end_named blocks name =
+abbrev pub end_named : Memories → List ℕ → Option End
+end_named memories name =
     if bytes_eq name (codes "Nand") then Some ends.Nand
     else (if bytes_eq name (codes "DFF") then Some ends.Dff
     else (if bytes_eq name (codes "Keyboard") then Some ends.Keyboard
     else (if bytes_eq name (codes "ROM32K") then Some ends.Rom
-    else (if bytes_eq name (codes "RAM8") && blocks then Some (ends.Block 3)
-    else (if bytes_eq name (codes "RAM64") && blocks then Some (ends.Block 6)
-    else (if bytes_eq name (codes "RAM512") && blocks then Some (ends.Block 9)
-    else (if bytes_eq name (codes "RAM4K") && blocks then Some (ends.Block 12)
-    else (if bytes_eq name (codes "RAM16K") && blocks then Some (ends.Block 14)
-    else (if bytes_eq name (codes "Screen") && blocks then Some (ends.Block 13) else None)))))))))
+    else (if bytes_eq name (codes "RAM8") && are_blocks memories then Some (ends.Block 3)
+    else (if bytes_eq name (codes "RAM64") && are_blocks memories then Some (ends.Block 6)
+    else (if bytes_eq name (codes "RAM512") && are_blocks memories then Some (ends.Block 9)
+    else (if bytes_eq name (codes "RAM4K") && are_blocks memories then Some (ends.Block 12)
+    else (if bytes_eq name (codes "RAM16K") && are_blocks memories then Some (ends.Block 14)
+    else (if bytes_eq name (codes "Screen") && are_blocks memories then Some (ends.Block 13) else None)))))))))
 
-abbrev pub end_of_shipped : Bool → Option (List ℕ) → Option End
-end_of_shipped blocks None = None
-end_of_shipped blocks (Some name) = end_named blocks name
+abbrev pub end_of_shipped : Memories → Option (List ℕ) → Option End
+end_of_shipped memories None = None
+end_of_shipped memories (Some name) = end_named memories name
 
 -- what the chip is, if it is an end: it is known by the name that it is shipped under
-unfoldable pub end_of : Bool → Entry → Option End
-end_of blocks entry = end_of_shipped blocks entry.shipped
+unfoldable pub end_of : Memories → Entry → Option End
+end_of memories entry = end_of_shipped memories entry.shipped
 
 abbrev pub find_entry : List Entry → List ℕ → Option Entry
 find_entry [] name = None
@@ -56,7 +63,7 @@ parts_unless (Some e) parts = []
 
 -- the parts of a chip; an end has none
 abbrev pub parts_of : Chips → Entry → List Part
-parts_of chips entry = parts_unless (end_of chips.blocks entry) (parts_of_body entry.chip.body)
+parts_of chips entry = parts_unless (end_of chips.memories entry) (parts_of_body entry.chip.body)
 
 -- ---- bits
 

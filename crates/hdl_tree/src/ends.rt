@@ -1,7 +1,7 @@
 //! Chips that have no parts.
 
 ghost use Rattle.std.specs.Prelude.{◌≡◌};
-ghost use Rattle.hdl_tree.specs.Chips.{end_named, end_of};
+ghost use Rattle.hdl_tree.specs.Chips.{are_blocks, end_named, end_of};
 
 use crate::Entry;
 
@@ -16,9 +16,28 @@ pub enum End {
     Block(u8),
 }
 
-fn named_end(blocks: bool, name: &[u8]) -> Option<End>
-    ensures { result ≡ end_named blocks name.now }
+/// How the memories of a chip are simulated: RAM8 to RAM16K and Screen.
+#[derive(Clone, Copy, Debug, PartialEq, Eq)]
+pub enum Memories {
+    /// As blocks of words.
+    Blocks,
+    /// As chips of gates and flip-flops.
+    Gates,
+}
+
+fn are_blocks(memories: Memories) -> bool
+    ensures { result ≡ are_blocks memories }
 {
+    match memories {
+        Memories::Blocks => true,
+        Memories::Gates => false,
+    }
+}
+
+fn named_end(memories: Memories, name: &[u8]) -> Option<End>
+    ensures { result ≡ end_named memories name.now }
+{
+    let blocks = are_blocks(memories);
     if name == b"Nand".as_slice() {
         Some(End::Nand)
     } else if name == b"DFF".as_slice() {
@@ -47,11 +66,11 @@ fn named_end(blocks: bool, name: &[u8]) -> Option<End>
 /// What the chip is, if it is an end. A chip is an end by the name that it is shipped under; the memories RAM8 to RAM16K and Screen are
 /// ends where they are blocks.
 #[tactic(auto, unfolding(crate::specs::Chips::end_of))]
-pub fn find_end(blocks: bool, entry: &Entry) -> Option<End>
-    ensures { result ≡ end_of blocks entry.now }
+pub fn find_end(memories: Memories, entry: &Entry) -> Option<End>
+    ensures { result ≡ end_of memories entry.now }
 {
     match &entry.shipped {
         None => None,
-        Some(name) => named_end(blocks, name.as_bytes()),
+        Some(name) => named_end(memories, name.as_bytes()),
     }
 }

@@ -10,7 +10,7 @@ mod list;
 mod name;
 mod tree;
 
-pub use ends::{End, find_end};
+pub use ends::{End, Memories, find_end};
 pub use library::{Entry, Library};
 pub use list::List;
 pub use name::Name;

@@ -6,7 +6,7 @@ ghost use Rattle.scan_text.specs.View.{left_bytes, place};
 ghost use Rattle.grammar.specs.Cutting.{TokenBy};
 ghost use Rattle.grammar.specs.Reading.{Gives};
 ghost use Rattle.jack_tree.specs.Tokens.{view, StandIn};
-ghost use Rattle.jack_lexer.specs.Tokens.{tokens_of, finish, number_piece, word_piece, text_piece, symbol_piece, is_letter, is_name_byte, is_text_byte, is_sign, word_kind};
+ghost use Rattle.jack_lexer.specs.Tokens.{tokens_of, finish, number_piece, word_piece, text_piece, symbol_piece, is_letter, is_name_byte, is_text_byte, is_sign};
 
 use grammar::{Cutter, Fault, ReadError, cut_between_blanks};
 use jack_tree::{Keyword, Kind, Token};
@@ -88,17 +88,8 @@ fn word<'a>(scan: &mut Scan<'a>, byte: u8) -> Result<Token<'a>, Fault>
 {
     let place = scan.place();
     let text = scan.take_while(|b| is_name_byte(b));
-    let kind = word_kind(text);
+    let kind = Keyword::of(text).map_or(Kind::Identifier, Kind::Keyword);
     Ok(Token { kind, text, place })
-}
-
-fn word_kind(text: &[u8]) -> Kind
-    ensures { result ≡ word_kind text.now }
-{
-    match Keyword::of(text) {
-        Some(keyword) => Kind::Keyword(keyword),
-        None => Kind::Identifier,
-    }
 }
 
 fn symbol<'a>(scan: &mut Scan<'a>, byte: u8) -> Result<Token<'a>, Fault>

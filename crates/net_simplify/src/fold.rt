@@ -17,7 +17,8 @@ fn put_node(made: &mut Made, node: Node, to: &[u32]) -> Result<u32, AllocError>
     requires fits { (n : ℕ) × (blocks : List Block) × FitsAt (length to.now) n blocks node }
     requires to { (i : ℕ) → i < length to.now → slice_index to.now i < length made.old.nodes.items }
     requires few { length made.old.nodes.items < 2 ^ 32 - 1 }
-    ensures put { IfOk result (λ k. IsPut made.old.nodes.items made.new.nodes.items node (slice_index to.now) k) }
+    ensures put { IfOk result
+        (λ k. IsPut made.old.nodes.items made.new.nodes.items node (slice_index to.now) k) }
     ensures made { OnOk result (IsMade made.new) }
 {
     match node {
@@ -38,7 +39,8 @@ pub(crate) struct Folded {
 pub(crate) fn fold(alloc: Global, nodes: &[Node], blocks: &[Block]) -> Result<Folded, AllocError>
     requires ordered { AreOrdered nodes.now blocks.now }
     requires few { length nodes.now < 2 ^ 32 - 1 }
-    ensures folded { IfOk result (λ f. AreFolded nodes.now f.nodes.items f.to.items (length nodes.now)) }
+    ensures folded { IfOk result
+        (λ f. AreFolded nodes.now f.nodes.items f.to.items (length nodes.now)) }
     ensures normal { IfOk result (λ f. AreNormal f.nodes.items) }
     ensures twins { IfOk result (λ f. HasNoTwins f.nodes.items) }
 {

@@ -28,7 +28,8 @@ fn is_zero(nodes: &[Node], k: u32) -> bool
 fn zero_of_one(nodes: &[Node], k: u32) -> Option<u32>
     requires place { k < length nodes.now }
     requires normal { AreNormal nodes.now }
-    ensures { MatchOption result (IsOne nodes.now k → ⊥) (λ z. (slice_get nodes.now k ≡ Some (Nand z z)) × (slice_get nodes.now z ≡ Some Zero)) }
+    ensures { MatchOption result (IsOne nodes.now k → ⊥)
+        (λ z. (slice_get nodes.now k ≡ Some (Nand z z)) × (slice_get nodes.now z ≡ Some Zero)) }
 {
     if let Node::Nand(i, j) = nodes[k as usize] {
         if i == j && is_zero(nodes, i) {
@@ -121,7 +122,8 @@ impl Made {
         requires made { IsMade self.old }
         requires source { IsSource node }
         requires few { length self.old.nodes.items < 2 ^ 32 - 1 }
-        ensures put { IfOk result (λ k. (k ≡ length self.old.nodes.items) × (self.new.nodes.items ≡ self.old.nodes.items ++ node ∷ [])) }
+        ensures put { IfOk result (λ k. (k ≡ length self.old.nodes.items)
+            × (self.new.nodes.items ≡ self.old.nodes.items ++ node ∷ [])) }
         ensures made { OnOk result (IsMade self.new) }
     {
         let k = self.nodes.len() as u32;

@@ -33,9 +33,11 @@ fn marked_net(
     places: &[u32],
 ) -> Result<Netlist, AllocError>
     requires ordered { AreOrdered nodes.now blocks.now }
-    requires reached { (kept : List ℕ) × AreReached (record { nodes = nodes.now; blocks = blocks.now }) kept marks.now }
+    requires reached { (kept : List ℕ)
+        × AreReached (record { nodes = nodes.now; blocks = blocks.now }) kept marks.now }
     requires places { ArePlaces marks.now places.now }
-    ensures { IfOk result (λ net. HasMarked (record { nodes = nodes.now; blocks = blocks.now }) marks.now places.now net) }
+    ensures { IfOk result (λ net. HasMarked (record { nodes = nodes.now; blocks = blocks.now })
+        marks.now places.now net) }
 {
     let trimmed = trimmed_nodes(alloc, nodes, marks, places)?;
     let moved = moved_blocks(alloc, blocks, places)?;
@@ -54,7 +56,8 @@ fn reached_net(
 ) -> Result<Simple, AllocError>
     requires ordered { AreOrdered nodes.now blocks.now }
     requires kept { All (λ k. k < length nodes.now) kept.now }
-    ensures { IfOk result (λ s. HasReached (record { nodes = nodes.now; blocks = blocks.now }) s.net kept.now s.place.items) }
+    ensures { IfOk result (λ s. HasReached (record { nodes = nodes.now; blocks = blocks.now }) s.net
+        kept.now s.place.items) }
 {
     let marks = reach(alloc, nodes, blocks, kept)?;
     let places = places_of(alloc, &marks)?;
@@ -73,7 +76,8 @@ fn simplified(
     requires ordered { AreOrdered nodes.now blocks.now }
     requires kept { All (λ k. k < length nodes.now) keep.now }
     requires few { length nodes.now < 2 ^ 32 - 1 }
-    ensures { IfOk result (λ s. IsWhole (record { nodes = nodes.now; blocks = blocks.now }) s.net keep.now s.place.items) }
+    ensures { IfOk result (λ s. IsWhole (record { nodes = nodes.now; blocks = blocks.now }) s.net
+        keep.now s.place.items) }
 {
     let middle = folded_net(alloc, nodes, blocks)?;
     let kept = moved_numbers(alloc, keep, &middle.to)?;

@@ -32,7 +32,8 @@ pub(crate) fn places_of(alloc: Global, marks: &[bool]) -> Result<Vec<u32>, Alloc
 }
 
 fn trimmed_node(node: Node, places: &[u32]) -> Node
-    requires nand { (i j : ℕ) → node ≡ Nand i j → (i < length places.now) × (j < length places.now) }
+    requires nand { (i j : ℕ) → node ≡ Nand i j
+        → (i < length places.now) × (j < length places.now) }
     requires flip { (i : ℕ) → node ≡ Flip i → i < length places.now }
     ensures { result ≡ renamed_node places.now node }
 {

@@ -53,7 +53,7 @@ outside chips top input (i ∷ r) name bit = by_parent chips r i name bit (chip_
 
 abbrev pub supply_in : Chips → Entry → (List ℕ → ℕ → Bool) → List ℕ → List ℕ → ℕ → Option Entry → Supply
 supply_in chips top input r name bit None = Given false
-supply_in chips top input r name bit (Some chip) = if is_input chip name then outside chips top input r name bit else inside chips r name bit chip (end_of chips.blocks chip)
+supply_in chips top input r name bit (Some chip) = if is_input chip name then outside chips top input r name bit else inside chips r name bit chip (end_of chips.memories chip)
 
 -- what gives the bit its value, where this comes in
 abbrev pub supply : Chips → Entry → (List ℕ → ℕ → Bool) → List ℕ → List ℕ → ℕ → Supply

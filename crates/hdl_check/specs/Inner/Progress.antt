@@ -3,6 +3,7 @@ use Rattle.std.specs.Prelude.{◌≡◌, ℕ, suc, ◌<◌, ◌++◌, map, take,
 use Rattle.hdl_tree.specs.declared.tree.Pin.{Pin}
 use Rattle.hdl_tree.specs.declared.tree.Part.{Part}
 use Rattle.hdl_tree.specs.declared.library.Entry.{Entry}
+use Rattle.hdl_tree.specs.declared.ends.Memories.{Memories}
 use Rattle.hdl_tree.specs.Chips.{Chips, end_of, find_chip, parts_of}
 use Rattle.name_table.specs.Names.{find_value}
 use Rattle.hdl_tree.specs.Writable.{is_among}
@@ -22,7 +23,7 @@ use Rattle.hdl_check.specs.declared.fault.ElabFault.{ElabFault}
 -- ---- the library as the code has it
 
 abbrev pub chips_of : Catalog → Chips
-chips_of catalog = record { entries = catalog.entries.now; blocks = catalog.blocks }
+chips_of catalog = record { entries = catalog.entries.now; memories = catalog.memories }
 
 abbrev pub numbered_entries : ℕ → List Entry → List (List ℕ × ℕ)
 numbered_entries n [] = []
@@ -37,10 +38,10 @@ pub record IsCatalog (catalog : Catalog) : Type 0 where
   pub named : Finds catalog.names (numbered_entries 0 catalog.entries.now)
   pub ported : ArePorts catalog.entries.now catalog.ports.items
 
-pub record IsCatalogOf (catalog : Catalog) (wanted : List Entry) (wants : Bool) : Type 0 where
+pub record IsCatalogOf (catalog : Catalog) (wanted : List Entry) (wants : Memories) : Type 0 where
   pub right : IsCatalog catalog
   pub entries : catalog.entries.now ≡ wanted
-  pub blocks : catalog.blocks ≡ wants
+  pub memories : catalog.memories ≡ wants
 
 -- the table has the widths of the nets that these drive
 abbrev pub NetsFind : Table ℕ → List Driver → Type 0
@@ -137,8 +138,8 @@ IsDone stages k = (r : ℕ) × (slice_get stages k ≡ Some (Done r))
 
 -- the pins and the body of a chip are right, or it is an end
 pub record HeadIsFine (chips : Chips) (entry : Entry) : Type 0 where
-  pub pins : (k : ℕ) → unless (end_of chips.blocks entry) (pin_fault entry k) ≡ None
-  pub body : unless (end_of chips.blocks entry) (body_fault entry) ≡ None
+  pub pins : (k : ℕ) → unless (end_of chips.memories entry) (pin_fault entry k) ≡ None
+  pub body : unless (end_of chips.memories entry) (body_fault entry) ≡ None
 
 -- the chip of a part is chip k
 pub record IsInner (chips : Chips) (part : Part) (k : ℕ) : Type 0 where
@@ -147,8 +148,8 @@ pub record IsInner (chips : Chips) (part : Part) (k : ℕ) : Type 0 where
 
 -- a chip whose text is right, and whose parts are fine
 pub record ChipIsFine (chips : Chips) (stages : List Stage) (entry : Entry) : Type 0 where
-  pub pins : (k : ℕ) → unless (end_of chips.blocks entry) (pin_fault entry k) ≡ None
-  pub body : unless (end_of chips.blocks entry) (body_fault entry) ≡ None
+  pub pins : (k : ℕ) → unless (end_of chips.memories entry) (pin_fault entry k) ≡ None
+  pub body : unless (end_of chips.memories entry) (body_fault entry) ≡ None
   pub parts : (i : ℕ) (part : Part) → slice_get (parts_of chips entry) i ≡ Some part → PartIsFine chips stages entry i part
 
 -- a pin whose name an earlier pin has, where some pins stand in front

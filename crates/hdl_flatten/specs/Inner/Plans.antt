@@ -136,12 +136,12 @@ own_size chips entry = record { nodes = chip_nodes chips entry; parts = 0 }
 
 -- what feeds each bit of the chip
 abbrev pub own_wires : Chips → Entry → List Plan → List (BitOf × Origin)
-own_wires chips entry inner = numbered_bits Input 0 (all_bits entry.chip.inputs) ++ (end_gates (end_of chips.blocks entry) (all_bits entry.chip.outputs) ++ parts_driven (own_size chips entry) (parts_of chips entry) inner)
+own_wires chips entry inner = numbered_bits Input 0 (all_bits entry.chip.inputs) ++ (end_gates (end_of chips.memories entry) (all_bits entry.chip.outputs) ++ parts_driven (own_size chips entry) (parts_of chips entry) inner)
 
 pub record IsPlanned (chips : Chips) (plans : List Plan) (i : ℕ) (plan : Plan) : Type 0 where
   pub there : slice_get chips.entries plan.number ≡ Some plan.entry.now
   pub fine : IsFine chips plan.entry.now
-  pub is_end : plan.end ≡ end_of chips.blocks plan.entry.now
+  pub is_end : plan.end ≡ end_of chips.memories plan.entry.now
   pub inner : List Plan
   pub placed : HavePlans chips plans i (parts_of chips plan.entry.now) inner (places plan.parts.items)
   pub size : plan.size ≡ all_sized (own_size chips plan.entry.now) inner

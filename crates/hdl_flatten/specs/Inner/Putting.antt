@@ -141,7 +141,7 @@ pub record IsPut (chips : Chips) (plan : Plan) (inputs : List ℕ) (old new : Gr
   pub block : List ℕ → ℕ
   pub at : List ℕ → Wires ℕ
   pub parts : new.parts.items ≡ old.parts.items ++ map (part_at chips at block) tree
-  pub own_block : block_at (end_of chips.blocks plan.entry.now) (block []) ≡ block_at (end_of chips.blocks plan.entry.now) (length old.blocks.items)
+  pub own_block : block_at (end_of chips.memories plan.entry.now) (block []) ≡ block_at (end_of chips.memories plan.entry.now) (length old.blocks.items)
   pub placed : (net : Net) → Longer new.nodes.items net.nodes → Longer new.blocks.items net.blocks → IsPlaced chips net plan (length old.nodes.items) inputs block at
   pub reads : ReadMore plan inputs old new
   pub words : WordsMore old new

@@ -7,8 +7,7 @@ use Rattle.hdl_tree.specs.declared.ends.End.{End}
 use Rattle.hdl_tree.specs.Chips.{Chips, end_of, find_chip, parts_of}
 use Rattle.hdl_tree.specs.Behaviour.{chip_at, inner_chip}
 use Rattle.name_table.specs.Tables.{Finds}
-use Rattle.hdl_check.specs.Inner.Progress.{numbered_entries}
-use Rattle.name_table.specs.declared.Table.{Table}
+use Rattle.hdl_check.specs.Inner.Progress.{numbered_entries, ArePorts}
 use Rattle.hdl_plans.specs.Loops.{BitAt, bit_at, reaches_out}
 use Rattle.hdl_plans.specs.Ways.{Way, Depends, Joined, OwnCircle, JointsFit, TreeFits}
 use Rattle.hdl_loops.specs.Inner.Hops.{bit, input_of, output_of, HasHop, AllIn, IsDirect, IsWay}
@@ -19,6 +18,7 @@ use Rattle.hdl_loops.specs.Inner.Pairs.{has_pair}
 use Rattle.hdl_loops.specs.declared.hops.Hop.{Hop}
 use Rattle.hdl_loops.specs.declared.known.Known.{Known}
 use Rattle.hdl_loops.specs.declared.pairs.Pair.{Pair}
+use Rattle.hdl_loops.specs.declared.places.Places.{Places}
 
 -- ---- which bits of a chip lead to which
 
@@ -39,7 +39,7 @@ crosses_by None known x y = leads_in known x y
 
 abbrev pub crosses_in : Chips → Option Entry → Option (Option Known) → BitAt → BitAt → Bool
 crosses_in chips None known x y = false
-crosses_in chips (Some entry) known x y = crosses_by (end_of chips.blocks entry) known x y
+crosses_in chips (Some entry) known x y = crosses_by (end_of chips.memories entry) known x y
 
 -- the output bit of chip k depends on the input bit, as far as is known
 abbrev pub crosses : Chips → List (Option Known) → ℕ → BitAt → BitAt → Bool
@@ -105,7 +105,7 @@ through_pair turned p = if turned then record { from = p.to; to = p.from } else 
 -- what is known of chip k is this, and it is no end
 pub record KnownAs (chips : Chips) (known : List (Option Known)) (k : ℕ) (inside : Known) : Type 0 where
   pub noted : slice_get known k ≡ Some (Some inside)
-  pub no_end : (chip : Entry) → slice_get chips.entries k ≡ Some chip → end_of chips.blocks chip ≡ None
+  pub no_end : (chip : Entry) → slice_get chips.entries k ≡ Some chip → end_of chips.memories chip ≡ None
 
 abbrev pub next_place : Option ℕ → Option ℕ
 next_place None = None
@@ -116,9 +116,10 @@ abbrev pub place_of : List Entry → List ℕ → Option ℕ
 place_of [] name = None
 place_of (e ∷ es) name = if bytes_eq name e.name then Some 0 else next_place (place_of es name)
 
--- the table finds the chips in their places
-abbrev pub ArePlaces : Table ℕ → List Entry → Type 0
-ArePlaces places entries = Finds places (numbered_entries 0 entries)
+-- the tables find the chips in their places, and the pins of each
+pub record ArePlaces (places : Places) (entries : List Entry) : Type 0 where
+  pub named : Finds places.names (numbered_entries 0 entries)
+  pub pins : ArePorts entries places.pins.items
 
 abbrev pub ties_for : Option Entry → Part → List Tie
 ties_for None part = []
@@ -197,7 +198,7 @@ StaysKnown old new = (k : ℕ) (inside : Known) → slice_get old k ≡ Some (So
 
 -- the chip in this place is known, or is an end
 abbrev pub IsDone : Chips → List (Option Known) → ℕ → Type 0
-IsDone chips known k = (chip : Entry) → slice_get chips.entries k ≡ Some chip → end_of chips.blocks chip ≡ None → IsKnown known k
+IsDone chips known k = (chip : Entry) → slice_get chips.entries k ≡ Some chip → end_of chips.memories chip ≡ None → IsKnown known k
 
 -- and so is the chip of a part
 abbrev pub PartDone : Chips → List (Option Known) → Part → Type 0

@@ -23,7 +23,7 @@ StandsAt fs j k = (f : Frame) × (slice_get fs j ≡ Some f) × (f.chip ≡ k)
 pub record IsFrame (chips : Chips) (known : List (Option Known)) (top : ℕ) (fs : List Frame) (j : ℕ) (f : Frame) : Type 0 where
   pub there : f.chip < length chips.entries
   pub within : f.next ≤ length (parts_at chips f.chip)
-  pub no_end : (chip : Entry) → slice_get chips.entries f.chip ≡ Some chip → end_of chips.blocks chip ≡ None
+  pub no_end : (chip : Entry) → slice_get chips.entries f.chip ≡ Some chip → end_of chips.memories chip ≡ None
   pub outward : (chip outer : Entry) (nets : List (List ℕ)) → slice_get chips.entries f.chip ≡ Some chip → slice_get chips.entries top ≡ Some outer → IsLoop chips chip nets → IsLoop chips outer nets
   pub nests : NestsAt f.depth chips f.chip
   pub done : (i : ℕ) (part : Part) (k : ℕ) → i < f.next → slice_get (parts_at chips f.chip) i ≡ Some part → place_of chips.entries part.chip ≡ Some k → IsDone chips known k ⊎ StandsAt fs (suc j) k
@@ -60,7 +60,7 @@ pub record IsPushed (chips : Chips) (part : Part) (depth : ℕ) (old new : List 
   pub k : ℕ
   pub placed : place_of chips.entries part.chip ≡ Some k
   pub there : k < length chips.entries
-  pub no_end : (chip : Entry) → slice_get chips.entries k ≡ Some chip → end_of chips.blocks chip ≡ None
+  pub no_end : (chip : Entry) → slice_get chips.entries k ≡ Some chip → end_of chips.memories chip ≡ None
   pub more : new ≡ old ++ record { chip = k; next = 0; depth = depth } ∷ []
 
 abbrev pub IsEntered : Chips → List (Option Known) → Part → ℕ → List Frame → List Frame → Type 0

@@ -11,7 +11,7 @@ use Rattle.hdl_tree.specs.Writable.{is_among}
 use Rattle.hdl_tree.specs.Chips.{Chips, first, count}
 use Rattle.hdl_tree.specs.Behaviour.{width_of}
 use Rattle.hdl_plans.specs.Plans.{is_input}
-use Rattle.hdl_plans.specs.Loops.{BitAt, bit_at, AreOnce, Feeds, peaks}
+use Rattle.hdl_plans.specs.Loops.{BitAt, bit_at, AreDistinctBits, Feeds, peaks}
 use Rattle.hdl_plans.specs.Ways.{Chain}
 use Rattle.hdl_loops.specs.declared.told.Passage.{Passage}
 use Rattle.hdl_loops.specs.declared.told.Told.{Told}
@@ -43,7 +43,7 @@ pub record Trip (chips : Chips) (chip : Entry) (x y : BitAt) (names : List (List
   pub over : List BitAt
   pub steps : Chain (Feeds chips chip) x over y
   pub named : peaks x over y ≡ names
-  pub once : AreOnce (x ∷ over)
+  pub once : AreDistinctBits (x ∷ over)
   pub ends : (x ≡ y → ⊥) → (k : ℕ) → slice_get over k ≡ Some y → ⊥
 
 -- ---- what is reported

@@ -18,29 +18,29 @@ use Rattle.hdl_flatten.proofs.flat.flatten.Goals as goal
 pub nest_of-requires-clause-fine : goal.nest_of-requires-clause-fine
 nest_of-requires-clause-fine c =
     let seen = chips_of c.in_ok-catalog.catalog in
-    let chips = chips_in c.args.library.now.entries c.args.blocks in
-    let same : seen ≡ chips = same_chips c.in_ok-catalog.catalog.entries.now c.args.library.now.entries c.in_ok-catalog.catalog.blocks c.args.blocks c.in_ok-catalog.ensures.entries c.in_ok-catalog.ensures.blocks in
+    let chips = chips_in c.args.library.now.entries c.args.memories in
+    let same : seen ≡ chips = same_chips c.in_ok-catalog.catalog.entries.now c.args.library.now.entries c.in_ok-catalog.catalog.memories c.args.memories c.in_ok-catalog.ensures.entries c.in_ok-catalog.ensures.memories in
     subst (λ (name : List ℕ). TopIsFaultless seen name) (sym c.as_bytes.ensures) (subst (λ (x : Chips). TopIsFaultless x c.args.top.now) (sym same) c.requires.fine)
 
 pub nest_of-requires-clause-ends : goal.nest_of-requires-clause-ends
 nest_of-requires-clause-ends c =
     let seen = chips_of c.in_ok-catalog.catalog in
-    let chips = chips_in c.args.library.now.entries c.args.blocks in
-    let same : seen ≡ chips = same_chips c.in_ok-catalog.catalog.entries.now c.args.library.now.entries c.in_ok-catalog.catalog.blocks c.args.blocks c.in_ok-catalog.ensures.entries c.in_ok-catalog.ensures.blocks in
+    let chips = chips_in c.args.library.now.entries c.args.memories in
+    let same : seen ≡ chips = same_chips c.in_ok-catalog.catalog.entries.now c.args.library.now.entries c.in_ok-catalog.catalog.memories c.args.memories c.in_ok-catalog.ensures.entries c.in_ok-catalog.ensures.memories in
     subst EndsHavePins (sym same) c.requires.ends
 
 pub plans_of-requires-clause-ends : goal.plans_of-requires-clause-ends
 plans_of-requires-clause-ends c =
     let seen = chips_of c.in_ok-catalog.catalog in
-    let chips = chips_in c.args.library.now.entries c.args.blocks in
-    let same : seen ≡ chips = same_chips c.in_ok-catalog.catalog.entries.now c.args.library.now.entries c.in_ok-catalog.catalog.blocks c.args.blocks c.in_ok-catalog.ensures.entries c.in_ok-catalog.ensures.blocks in
+    let chips = chips_in c.args.library.now.entries c.args.memories in
+    let same : seen ≡ chips = same_chips c.in_ok-catalog.catalog.entries.now c.args.library.now.entries c.in_ok-catalog.catalog.memories c.args.memories c.in_ok-catalog.ensures.entries c.in_ok-catalog.ensures.memories in
     subst EndsHavePins (sym same) c.requires.ends
 
 pub put-requires-clause-ends : goal.put-requires-clause-ends
 put-requires-clause-ends c =
     let seen = chips_of c.in_ok-catalog.catalog in
-    let chips = chips_in c.args.library.now.entries c.args.blocks in
-    let same : seen ≡ chips = same_chips c.in_ok-catalog.catalog.entries.now c.args.library.now.entries c.in_ok-catalog.catalog.blocks c.args.blocks c.in_ok-catalog.ensures.entries c.in_ok-catalog.ensures.blocks in
+    let chips = chips_in c.args.library.now.entries c.args.memories in
+    let same : seen ≡ chips = same_chips c.in_ok-catalog.catalog.entries.now c.args.library.now.entries c.in_ok-catalog.catalog.memories c.args.memories c.in_ok-catalog.ensures.entries c.in_ok-catalog.ensures.memories in
     subst EndsHavePins (sym same) c.requires.ends
 
 pub index-plan-requires : goal.index-plan-requires
@@ -51,8 +51,8 @@ index-plan-requires c =
 pub input_nodes-requires : goal.input_nodes-requires
 input_nodes-requires c =
     let seen = chips_of c.in_ok-catalog.catalog in
-    let chips = chips_in c.args.library.now.entries c.args.blocks in
-    let same : seen ≡ chips = same_chips c.in_ok-catalog.catalog.entries.now c.args.library.now.entries c.in_ok-catalog.catalog.blocks c.args.blocks c.in_ok-catalog.ensures.entries c.in_ok-catalog.ensures.blocks in
+    let chips = chips_in c.args.library.now.entries c.args.memories in
+    let same : seen ≡ chips = same_chips c.in_ok-catalog.catalog.entries.now c.args.library.now.entries c.in_ok-catalog.catalog.memories c.args.memories c.in_ok-catalog.ensures.entries c.in_ok-catalog.ensures.memories in
     let nest = c.in_ok-nest.nest in
     let plans = c.in_ok-plans.plans.items in
     let plan = c.index-plan.result.now in
@@ -66,8 +66,8 @@ put-requires-clause-plans c = subst (λ (ps : List Plan). ArePlans (chips_of c.i
 pub put-requires-clause-put : goal.put-requires-clause-put
 put-requires-clause-put c =
     let seen = chips_of c.in_ok-catalog.catalog in
-    let chips = chips_in c.args.library.now.entries c.args.blocks in
-    let same : seen ≡ chips = same_chips c.in_ok-catalog.catalog.entries.now c.args.library.now.entries c.in_ok-catalog.catalog.blocks c.args.blocks c.in_ok-catalog.ensures.entries c.in_ok-catalog.ensures.blocks in
+    let chips = chips_in c.args.library.now.entries c.args.memories in
+    let same : seen ≡ chips = same_chips c.in_ok-catalog.catalog.entries.now c.args.library.now.entries c.in_ok-catalog.catalog.memories c.args.memories c.in_ok-catalog.ensures.entries c.in_ok-catalog.ensures.memories in
     let nest = c.in_ok-nest.nest in
     let plans = c.in_ok-plans.plans.items in
     let plan = c.index-plan.result.now in
@@ -83,8 +83,8 @@ put-requires-clause-put c =
 pub directory-requires-clause-base : goal.directory-requires-clause-base
 directory-requires-clause-base c =
     let seen = chips_of c.in_ok-catalog.catalog in
-    let chips = chips_in c.args.library.now.entries c.args.blocks in
-    let same : seen ≡ chips = same_chips c.in_ok-catalog.catalog.entries.now c.args.library.now.entries c.in_ok-catalog.catalog.blocks c.args.blocks c.in_ok-catalog.ensures.entries c.in_ok-catalog.ensures.blocks in
+    let chips = chips_in c.args.library.now.entries c.args.memories in
+    let same : seen ≡ chips = same_chips c.in_ok-catalog.catalog.entries.now c.args.library.now.entries c.in_ok-catalog.catalog.memories c.args.memories c.in_ok-catalog.ensures.entries c.in_ok-catalog.ensures.memories in
     let nest = c.in_ok-nest.nest in
     let plans = c.in_ok-plans.plans.items in
     let plan = c.index-plan.result.now in
@@ -101,8 +101,8 @@ directory-requires-clause-base c =
 pub directory-requires-clause-within : goal.directory-requires-clause-within
 directory-requires-clause-within c =
     let seen = chips_of c.in_ok-catalog.catalog in
-    let chips = chips_in c.args.library.now.entries c.args.blocks in
-    let same : seen ≡ chips = same_chips c.in_ok-catalog.catalog.entries.now c.args.library.now.entries c.in_ok-catalog.catalog.blocks c.args.blocks c.in_ok-catalog.ensures.entries c.in_ok-catalog.ensures.blocks in
+    let chips = chips_in c.args.library.now.entries c.args.memories in
+    let same : seen ≡ chips = same_chips c.in_ok-catalog.catalog.entries.now c.args.library.now.entries c.in_ok-catalog.catalog.memories c.args.memories c.in_ok-catalog.ensures.entries c.in_ok-catalog.ensures.memories in
     let nest = c.in_ok-nest.nest in
     let plans = c.in_ok-plans.plans.items in
     let plan = c.index-plan.result.now in
@@ -115,8 +115,8 @@ directory-requires-clause-within c =
 pub returns : goal.returns
 returns c = λ chip found.
     let seen = chips_of c.in_ok-catalog.catalog in
-    let chips = chips_in c.args.library.now.entries c.args.blocks in
-    let same : seen ≡ chips = same_chips c.in_ok-catalog.catalog.entries.now c.args.library.now.entries c.in_ok-catalog.catalog.blocks c.args.blocks c.in_ok-catalog.ensures.entries c.in_ok-catalog.ensures.blocks in
+    let chips = chips_in c.args.library.now.entries c.args.memories in
+    let same : seen ≡ chips = same_chips c.in_ok-catalog.catalog.entries.now c.args.library.now.entries c.in_ok-catalog.catalog.memories c.args.memories c.in_ok-catalog.ensures.entries c.in_ok-catalog.ensures.memories in
     let nest = c.in_ok-nest.nest in
     let plans = c.in_ok-plans.plans.items in
     let plan = c.index-plan.result.now in

@@ -14,20 +14,20 @@ use Rattle.hdl_flatten.proofs.size.count.Goals as goal
 pub nest_of-requires-clause-fine : goal.nest_of-requires-clause-fine
 nest_of-requires-clause-fine c =
     let seen = chips_of c.in_ok-catalog.catalog in
-    let same : seen ≡ chips_in c.args.library.now.entries c.args.blocks = same_chips c.in_ok-catalog.catalog.entries.now c.args.library.now.entries c.in_ok-catalog.catalog.blocks c.args.blocks c.in_ok-catalog.ensures.entries c.in_ok-catalog.ensures.blocks in
+    let same : seen ≡ chips_in c.args.library.now.entries c.args.memories = same_chips c.in_ok-catalog.catalog.entries.now c.args.library.now.entries c.in_ok-catalog.catalog.memories c.args.memories c.in_ok-catalog.ensures.entries c.in_ok-catalog.ensures.memories in
     subst (λ (name : List ℕ). TopIsFaultless seen name) (sym c.as_bytes.ensures) (subst (λ (x : Chips). TopIsFaultless x c.args.top.now) (sym same) c.requires.fine)
 
 pub nest_of-requires-clause-ends : goal.nest_of-requires-clause-ends
 nest_of-requires-clause-ends c =
     let seen = chips_of c.in_ok-catalog.catalog in
-    let same : seen ≡ chips_in c.args.library.now.entries c.args.blocks = same_chips c.in_ok-catalog.catalog.entries.now c.args.library.now.entries c.in_ok-catalog.catalog.blocks c.args.blocks c.in_ok-catalog.ensures.entries c.in_ok-catalog.ensures.blocks in
+    let same : seen ≡ chips_in c.args.library.now.entries c.args.memories = same_chips c.in_ok-catalog.catalog.entries.now c.args.library.now.entries c.in_ok-catalog.catalog.memories c.args.memories c.in_ok-catalog.ensures.entries c.in_ok-catalog.ensures.memories in
     subst EndsHavePins (sym same) c.requires.ends
 
 pub returns : goal.returns
 returns c = λ chip found.
     let seen = chips_of c.in_ok-catalog.catalog in
     let size = c.index-size.result.now in
-    let same : seen ≡ chips_in c.args.library.now.entries c.args.blocks = same_chips c.in_ok-catalog.catalog.entries.now c.args.library.now.entries c.in_ok-catalog.catalog.blocks c.args.blocks c.in_ok-catalog.ensures.entries c.in_ok-catalog.ensures.blocks in
+    let same : seen ≡ chips_in c.args.library.now.entries c.args.memories = same_chips c.in_ok-catalog.catalog.entries.now c.args.library.now.entries c.in_ok-catalog.catalog.memories c.args.memories c.in_ok-catalog.ensures.entries c.in_ok-catalog.ensures.memories in
     let bits : c.count_bits.result ≡ capped_count (bit_count c.entry_at-entry.result.now.chip.inputs) = c.count_bits.ensures ∙ ap (λ ps. capped_count (bit_count ps)) c.as_slice.ensures in
     let nodes : c.add.result ≡ capped_count (capped_count (c.count_bits.result + size.nodes) + 2) = c.add.ensures ∙ ap (λ (n : ℕ). capped_count (n + 2)) c.add-nodes.ensures in
     let sizes = subst (λ (ns : List Nested). AreSizes seen ns c.in_ok-sizes.sizes.items) c.deref.ensures.value c.in_ok-sizes.ensures in

@@ -10,7 +10,7 @@ use Rattle.hdl_loops.proofs.find.find_here.Goals as goal
 
 pub returns-in-Fine-clause-right : goal.returns-in-Fine-clause-right
 returns-in-Fine-clause-right c =
-    let chips = chips_in c.args.entries.now c.args.blocks in
+    let chips = chips_in c.args.entries.now c.args.memories in
     let es = c.args.entries.now in
     let there : slice_get es c.args.k ≡ Some c.index-entries-k.result = slice_get_read es (length es) c.args.k c.index-entries-k.result refl c.requires.there c.index-entries-k.is in
     let right : IsRight chips c.args.known.now c.index-entries-k.result c.in-Fine.inside = subst (LooksRight chips c.args.known.now c.index-entries-k.result) c.in-Fine.is c.in_ok-nets.ensures in
@@ -18,7 +18,7 @@ returns-in-Fine-clause-right c =
 
 pub returns-in-Loop-clause-told : goal.returns-in-Loop-clause-told
 returns-in-Loop-clause-told c = λ chip at.
-    let chips = chips_in c.args.entries.now c.args.blocks in
+    let chips = chips_in c.args.entries.now c.args.memories in
     let es = c.args.entries.now in
     let there : slice_get es c.args.k ≡ Some c.index-entries-k.result = slice_get_read es (length es) c.args.k c.index-entries-k.result refl c.requires.there c.index-entries-k.is in
     let same : c.index-entries-k.result ≡ chip = cc in

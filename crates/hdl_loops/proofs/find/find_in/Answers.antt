@@ -10,7 +10,7 @@ use Rattle.hdl_loops.proofs.find.find_in.Goals as goal
 
 pub loop-alloc-init : goal.loop-alloc-init
 loop-alloc-init c =
-    let chips = chips_in c.args.entries.now c.args.blocks in
+    let chips = chips_in c.args.entries.now c.args.memories in
     let first : Frame = record { chip = c.args.k; next = 0; depth = c.args.depth } in
     record {
       right = c.requires.right;
@@ -27,7 +27,7 @@ loop-alloc-smaller c = c.in_ok-nets.ensures.less (not_some _ c.in_default.not-So
 
 pub returns-in-Some : goal.returns-in-Some
 returns-in-Some c =
-    let chips = chips_in c.args.entries.now c.args.blocks in
+    let chips = chips_in c.args.entries.now c.args.memories in
     record {
       right = c.in_ok-nets.ensures.right;
       done = λ e. absurd cc;
@@ -39,4 +39,4 @@ returns-clause-done c = λ e.
     let stack = c.loop-alloc.stack in
     let empty : stack.len ≡ 0 = (Decides-eqb stack.len 0).0 (sym c.loop-alloc-test.ensures) in
     let none : length stack.items ≡ 0 = omega (arith, empty) in
-    stack_end (chips_in c.args.entries.now c.args.blocks) c.loop-alloc.known c.args.k stack.items c.loop-alloc.invariant.stack none
+    stack_end (chips_in c.args.entries.now c.args.memories) c.loop-alloc.known c.args.k stack.items c.loop-alloc.invariant.stack none

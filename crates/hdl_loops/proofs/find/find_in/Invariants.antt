@@ -5,9 +5,9 @@ use Rattle.hdl_loops.proofs.find.find_in.Given as goal
 
 abbrev pub invariant-loop-alloc : goal.invariant-loop-alloc
 invariant-loop-alloc l = record {
-  right : AreKnown (chips_in l.entries l.blocks) l.known;
-  stack : IsStack (chips_in l.entries l.blocks) l.known l.k l.stack.items;
+  right : AreKnown (chips_in l.entries l.memories) l.known;
+  stack : IsStack (chips_in l.entries l.memories) l.known l.k l.stack.items;
 }
 
 abbrev pub decreases-loop-alloc : goal.decreases-loop-alloc
-decreases-loop-alloc l = weight (chips_in l.entries l.blocks) l.stack.items
+decreases-loop-alloc l = weight (chips_in l.entries l.memories) l.stack.items

@@ -14,15 +14,15 @@ pub find_in-requires-clause-right : goal.find_in-requires-clause-right
 find_in-requires-clause-right c = λ k chip inside there h. absurd (nothing c.deref_mut.result.now c.in_ok-known.known.items c.deref_mut.ensures.value c.in_ok-known.ensures.none k inside h)
 
 pub find_in-requires-clause-nests : goal.find_in-requires-clause-nests
-find_in-requires-clause-nests c = top_nests c.as_slice-entries.result.now c.args.library.now.entries c.args.blocks c.in-Some.k c.as_bytes.result.now c.args.top.now c.as_slice-entries.ensures c.as_bytes.ensures (c.in-Some.ensures.found c.as_slice-entries.result.now c.in_ok-places.ensures).1 c.requires
+find_in-requires-clause-nests c = top_nests c.as_slice-entries.result.now c.args.library.now.entries c.args.memories c.in-Some.k c.as_bytes.result.now c.args.top.now c.as_slice-entries.ensures c.as_bytes.ensures (c.in-Some.ensures.found c.as_slice-entries.result.now c.in_ok-places.ensures).1 c.requires
 
 pub returns-clause-none : goal.returns-clause-none
 returns-clause-none c =
     none_of c.find_in.result c.find_in.ensures.right c.find_in.ensures.done
-    (top_has_none c.as_slice-entries.result.now c.args.library.now.entries c.args.blocks c.find_in.new.known c.in-Some.k c.as_bytes.result.now c.args.top.now c.as_slice-entries.ensures c.as_bytes.ensures (c.in-Some.ensures.found c.as_slice-entries.result.now c.in_ok-places.ensures).1 c.requires)
+    (top_has_none c.as_slice-entries.result.now c.args.library.now.entries c.args.memories c.find_in.new.known c.in-Some.k c.as_bytes.result.now c.args.top.now c.as_slice-entries.ensures c.as_bytes.ensures (c.in-Some.ensures.found c.as_slice-entries.result.now c.in_ok-places.ensures).1 c.requires)
 
 pub returns-clause-told : goal.returns-clause-told
 returns-clause-told c =
     IfOk-weaker c.find_in.result _ _
-    (top_has_loop c.as_slice-entries.result.now c.args.library.now.entries c.args.blocks c.in-Some.k c.as_bytes.result.now c.args.top.now c.as_slice-entries.ensures c.as_bytes.ensures (c.in-Some.ensures.found c.as_slice-entries.result.now c.in_ok-places.ensures).0 (c.in-Some.ensures.found c.as_slice-entries.result.now c.in_ok-places.ensures).1)
+    (top_has_loop c.as_slice-entries.result.now c.args.library.now.entries c.args.memories c.in-Some.k c.as_bytes.result.now c.args.top.now c.as_slice-entries.ensures c.as_bytes.ensures (c.in-Some.ensures.found c.as_slice-entries.result.now c.in_ok-places.ensures).0 (c.in-Some.ensures.found c.as_slice-entries.result.now c.in_ok-places.ensures).1)
     c.find_in.ensures.told

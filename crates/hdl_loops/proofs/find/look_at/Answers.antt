@@ -16,7 +16,7 @@ use Rattle.hdl_loops.proofs.find.look_at.Goals as goal
 pub returns : goal.returns
 returns c =
     let es = c.args.entries.now in
-    let chips = chips_in es c.args.blocks in
+    let chips = chips_in es c.args.memories in
     let hs = c.in_ok-hops.hops.items in
     let list = c.as_slice-list.result.now in
     let inside = c.in_ok-inside-in-None.inside in
@@ -30,7 +30,7 @@ returns c =
 pub loop_in-requires-clause-hops : goal.loop_in-requires-clause-hops
 loop_in-requires-clause-hops c =
     let es = c.args.entries.now in
-    let chips = chips_in es c.args.blocks in
+    let chips = chips_in es c.args.memories in
     let hs = c.in_ok-hops.hops.items in
     let is : IsGraph chips c.args.known.now c.args.entry.now hs = subst (λ (ps : List Part). AreLeaps hs (gather (part_leaps chips c.args.known.now) ps)) (c.parts_of.ensures es) c.in_ok-hops.ensures in
     subst (AreHops chips c.args.known.now c.args.entry.now) (sym c.as_slice-list.ensures.value) (graph_hops chips c.args.known.now c.args.entry.now hs is)
@@ -38,7 +38,7 @@ loop_in-requires-clause-hops c =
 pub loop_in-requires-clause-full : goal.loop_in-requires-clause-full
 loop_in-requires-clause-full c =
     let es = c.args.entries.now in
-    let chips = chips_in es c.args.blocks in
+    let chips = chips_in es c.args.memories in
     let ks = c.args.known.now in
     let chip = c.args.entry.now in
     let hs = c.in_ok-hops.hops.items in

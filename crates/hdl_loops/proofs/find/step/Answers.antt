@@ -9,7 +9,7 @@ use Rattle.hdl_loops.proofs.find.step.Goals as goal
 
 pub bounds-entries-frame : goal.bounds-entries-frame
 bounds-entries-frame c =
-    let chips = chips_in c.args.entries.now c.args.blocks in
+    let chips = chips_in c.args.entries.now c.args.memories in
     let f = c.in-Some.frame in
     let init = c.pop.new.self.items in
     let old = c.args.stack.now.items in
@@ -22,7 +22,7 @@ offset_bounds-entries-frame c =
 
 pub overflow_sub-frame : goal.overflow_sub-frame
 overflow_sub-frame c =
-    let chips = chips_in c.args.entries.now c.args.blocks in
+    let chips = chips_in c.args.entries.now c.args.memories in
     let f = c.in-Some.frame in
     let init = c.pop.new.self.items in
     let old = c.args.stack.now.items in
@@ -33,7 +33,7 @@ overflow_sub-frame c =
 
 pub returns-then-frame-parts-clause-stack : goal.returns-then-frame-parts-clause-stack
 returns-then-frame-parts-clause-stack c =
-    let chips = chips_in c.args.entries.now c.args.blocks in
+    let chips = chips_in c.args.entries.now c.args.memories in
     let f = c.in-Some.frame in
     let init = c.pop.new.self.items in
     let old = c.args.stack.now.items in
@@ -43,7 +43,7 @@ returns-then-frame-parts-clause-stack c =
 
 pub returns-then-frame-parts-clause-less : goal.returns-then-frame-parts-clause-less
 returns-then-frame-parts-clause-less c =
-    let chips = chips_in c.args.entries.now c.args.blocks in
+    let chips = chips_in c.args.entries.now c.args.memories in
     let f = c.in-Some.frame in
     let init = c.pop.new.self.items in
     let old = c.args.stack.now.items in
@@ -53,7 +53,7 @@ returns-then-frame-parts-clause-less c =
 
 pub find_here-requires-clause-there : goal.find_here-requires-clause-there
 find_here-requires-clause-there c =
-    let chips = chips_in c.args.entries.now c.args.blocks in
+    let chips = chips_in c.args.entries.now c.args.memories in
     let f = c.in-Some.frame in
     let init = c.pop.new.self.items in
     let old = c.args.stack.now.items in
@@ -62,7 +62,7 @@ find_here-requires-clause-there c =
 
 pub find_here-requires-clause-no_end : goal.find_here-requires-clause-no_end
 find_here-requires-clause-no_end c =
-    let chips = chips_in c.args.entries.now c.args.blocks in
+    let chips = chips_in c.args.entries.now c.args.memories in
     let f = c.in-Some.frame in
     let init = c.pop.new.self.items in
     let old = c.args.stack.now.items in
@@ -71,7 +71,7 @@ find_here-requires-clause-no_end c =
 
 pub find_here-requires-clause-done : goal.find_here-requires-clause-done
 find_here-requires-clause-done c =
-    let chips = chips_in c.args.entries.now c.args.blocks in
+    let chips = chips_in c.args.entries.now c.args.memories in
     let f = c.in-Some.frame in
     let init = c.pop.new.self.items in
     let old = c.args.stack.now.items in
@@ -79,7 +79,7 @@ find_here-requires-clause-done c =
 
 pub find_here-requires-clause-nests : goal.find_here-requires-clause-nests
 find_here-requires-clause-nests c =
-    let chips = chips_in c.args.entries.now c.args.blocks in
+    let chips = chips_in c.args.entries.now c.args.memories in
     let f = c.in-Some.frame in
     let init = c.pop.new.self.items in
     let old = c.args.stack.now.items in
@@ -88,7 +88,7 @@ find_here-requires-clause-nests c =
 
 pub returns-clause-stack : goal.returns-clause-stack
 returns-clause-stack c =
-    let chips = chips_in c.args.entries.now c.args.blocks in
+    let chips = chips_in c.args.entries.now c.args.memories in
     let f = c.in-Some.frame in
     let init = c.pop.new.self.items in
     let old = c.args.stack.now.items in
@@ -96,7 +96,7 @@ returns-clause-stack c =
 
 pub returns-clause-less : goal.returns-clause-less
 returns-clause-less c =
-    let chips = chips_in c.args.entries.now c.args.blocks in
+    let chips = chips_in c.args.entries.now c.args.memories in
     let f = c.in-Some.frame in
     let init = c.pop.new.self.items in
     let old = c.args.stack.now.items in
@@ -104,7 +104,7 @@ returns-clause-less c =
 
 pub returns-clause-told : goal.returns-clause-told
 returns-clause-told c =
-    let chips = chips_in c.args.entries.now c.args.blocks in
+    let chips = chips_in c.args.entries.now c.args.memories in
     let f = c.in-Some.frame in
     let init = c.pop.new.self.items in
     let old = c.args.stack.now.items in

@@ -16,10 +16,10 @@ loop-part-preserved c =
     let parts = c.args.parts.now in
     let i = c.loop-part.part-index in
     let there : slice_get parts i ≡ Some c.part-item.result = slice_get_read parts (length parts) i c.part-item.result refl c.loop-part-test.true c.part-item.is in
-    first_next (part_leaps (chips_in c.args.entries.now c.args.blocks) c.args.known.now) parts i c.part-item.result c.loop-part.hops.items c.hops_of_part.new.hops.items there c.loop-part.invariant c.in_ok-hops_of_part.ensures
+    first_next (part_leaps (chips_in c.args.entries.now c.args.memories) c.args.known.now) parts i c.part-item.result c.loop-part.hops.items c.hops_of_part.new.hops.items there c.loop-part.invariant c.in_ok-hops_of_part.ensures
 
 pub returns : goal.returns
 returns c =
     let parts = c.args.parts.now in
     let done : c.loop-part.part-index ≡ length parts = omega arith in
-    first_all (part_leaps (chips_in c.args.entries.now c.args.blocks) c.args.known.now) parts c.loop-part.part-index c.loop-part.hops.items done c.loop-part.invariant
+    first_all (part_leaps (chips_in c.args.entries.now c.args.memories) c.args.known.now) parts c.loop-part.part-index c.loop-part.hops.items done c.loop-part.invariant

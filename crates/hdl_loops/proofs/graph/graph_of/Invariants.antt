@@ -4,4 +4,4 @@ use Rattle.hdl_loops.proofs.Pinning.{AreFirst}
 use Rattle.hdl_loops.proofs.graph.graph_of.Given as goal
 
 abbrev pub invariant-loop-part : goal.invariant-loop-part
-invariant-loop-part l = AreFirst (part_leaps (chips_in l.entries l.blocks) l.known) l.parts l.part-index l.hops.items
+invariant-loop-part l = AreFirst (part_leaps (chips_in l.entries l.memories) l.known) l.parts l.part-index l.hops.items

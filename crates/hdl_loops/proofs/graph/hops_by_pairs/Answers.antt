@@ -14,7 +14,7 @@ loop-found-init c = record { right = only_refl c.args.hops.now.items _; there = 
 
 pub loop-found-preserved : goal.loop-found-preserved
 loop-found-preserved c =
-    let chips = chips_in c.args.entries.now c.args.blocks in
+    let chips = chips_in c.args.entries.now c.args.memories in
     let ks = c.args.known.now in
     let k = c.args.chip in
     let ties = ties_of c.args.joints.now in
@@ -35,5 +35,5 @@ returns c =
     let keys = c.args.inside.now.pairs.keys in
     let long : length c.as_slice-pairs.result.now ≡ length keys = ap (λ (v : List Pair). length v) c.as_slice-pairs.ensures.keys in
     let le : length keys ≤ c.loop-found.found-index = omega arith in
-    pairs_all (chips_in c.args.entries.now c.args.blocks) c.args.known.now c.args.chip c.args.inside.now c.args.joints.now c.args.hops.now.items c.loop-found.hops.items c.requires.there c.requires.inside c.loop-found.invariant.right
+    pairs_all (chips_in c.args.entries.now c.args.memories) c.args.known.now c.args.chip c.args.inside.now c.args.joints.now c.args.hops.now.items c.loop-found.hops.items c.requires.there c.requires.inside c.loop-found.invariant.right
     (λ j pair at. let within = slice_get_within keys j pair at in c.loop-found.invariant.there j (omega (arith, within, le)) pair at)

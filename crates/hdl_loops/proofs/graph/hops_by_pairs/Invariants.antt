@@ -9,6 +9,6 @@ use Rattle.hdl_loops.proofs.graph.hops_by_pairs.Given as goal
 
 abbrev pub invariant-loop-found : goal.invariant-loop-found
 invariant-loop-found l = record {
-  right : AddsOnly l.initial.hops.items l.hops.items (leaps_through (chips_in l.entries l.blocks) l.known l.chip (ties_of l.joints));
-  there : (j : ℕ) → j < l.found-index → (pair : Pair) → slice_get l.inside.pairs.keys j ≡ Some pair → HasLeaps (chips_in l.entries l.blocks) l.known l.chip (ties_of l.joints) l.hops.items (bit (through_pair l.inside.turned pair).from) (bit (through_pair l.inside.turned pair).to);
+  right : AddsOnly l.initial.hops.items l.hops.items (leaps_through (chips_in l.entries l.memories) l.known l.chip (ties_of l.joints));
+  there : (j : ℕ) → j < l.found-index → (pair : Pair) → slice_get l.inside.pairs.keys j ≡ Some pair → HasLeaps (chips_in l.entries l.memories) l.known l.chip (ties_of l.joints) l.hops.items (bit (through_pair l.inside.turned pair).from) (bit (through_pair l.inside.turned pair).to);
 }

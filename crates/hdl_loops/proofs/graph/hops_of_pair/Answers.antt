@@ -9,7 +9,7 @@ use Rattle.hdl_loops.proofs.graph.hops_of_pair.Goals as goal
 
 pub returns-clause-right : goal.returns-clause-right
 returns-clause-right c =
-    let chips = chips_in c.args.entries.now c.args.blocks in
+    let chips = chips_in c.args.entries.now c.args.memories in
     let ks = c.args.known.now in
     let k = c.args.chip in
     let old = c.args.hops.now.items in
@@ -23,7 +23,7 @@ returns-clause-right c =
 
 pub returns-clause-there : goal.returns-clause-there
 returns-clause-there c =
-    let chips = chips_in c.args.entries.now c.args.blocks in
+    let chips = chips_in c.args.entries.now c.args.memories in
     let ks = c.args.known.now in
     let k = c.args.chip in
     let old = c.args.hops.now.items in

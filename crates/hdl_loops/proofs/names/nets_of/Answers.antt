@@ -14,17 +14,17 @@ use Rattle.hdl_loops.proofs.names.nets_of.Goals as goal
 
 pub tell_next-requires-clause-sure : goal.tell_next-requires-clause-sure
 tell_next-requires-clause-sure c =
-    let chips = chips_in c.args.entries.now c.args.blocks in
-    goes_sure chips (IsLoop chips c.args.entry.now) (reverse c.loop-tasks.tasks.items) (names_of c.loop-tasks.told) c.loop-tasks.invariant.goes
+    let chips = chips_in c.args.entries.now c.args.memories in
+    goes_sure chips (IsLoop chips c.args.entry.now) (reverse c.loop-memories.tasks.items) (names_of c.loop-memories.told) c.loop-memories.invariant.goes
 
-pub loop-tasks-preserved : goal.loop-tasks-preserved
-loop-tasks-preserved c =
+pub loop-memories-preserved : goal.loop-memories-preserved
+loop-memories-preserved c =
     let e = c.in_ok-tell_next.ensures in
-    record { right = e.right; tasks = e.tasks; goes = e.goes c.args.entry.now c.loop-tasks.invariant.goes }
+    record { right = e.right; tasks = e.tasks; goes = e.goes c.args.entry.now c.loop-memories.invariant.goes }
 
-pub loop-tasks-init : goal.loop-tasks-init
-loop-tasks-init c =
-    let chips = chips_in c.args.entries.now c.args.blocks in
+pub loop-memories-init : goal.loop-memories-init
+loop-memories-init c =
+    let chips = chips_in c.args.entries.now c.args.memories in
     let ks = c.args.known.now in
     let chip = c.args.entry.now in
     let d = c.args.depth in
@@ -45,9 +45,9 @@ loop-tasks-init c =
 
 pub returns : goal.returns
 returns c =
-    let chips = chips_in c.args.entries.now c.args.blocks in
+    let chips = chips_in c.args.entries.now c.args.memories in
     let right = IsLoop chips c.args.entry.now in
-    let told = names_of c.loop-tasks.told in
-    let empty : c.loop-tasks.tasks.len ≡ 0 = (Decides-eqb c.loop-tasks.tasks.len 0).0 (sym c.loop-tasks-test.ensures) in
-    let none : length c.loop-tasks.tasks.items ≡ 0 = omega (arith, empty) in
-    IfOk-weaker c.copied.result _ _ (λ nets is. subst right (sym is) (goes_end chips right c.loop-tasks.tasks.items told none c.loop-tasks.invariant.goes)) c.copied.ensures
+    let told = names_of c.loop-memories.told in
+    let empty : c.loop-memories.tasks.len ≡ 0 = (Decides-eqb c.loop-memories.tasks.len 0).0 (sym c.loop-memories-test.ensures) in
+    let none : length c.loop-memories.tasks.items ≡ 0 = omega (arith, empty) in
+    IfOk-weaker c.copied.result _ _ (λ nets is. subst right (sym is) (goes_end chips right c.loop-memories.tasks.items told none c.loop-memories.invariant.goes)) c.copied.ensures

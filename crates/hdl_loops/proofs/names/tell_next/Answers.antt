@@ -10,11 +10,11 @@ use Rattle.hdl_loops.proofs.names.tell_next.Goals as goal
 
 pub returns-in_ok-add-in-Some-Net-clause-right : goal.returns-in_ok-add-in-Some-Net-clause-right
 returns-in_ok-add-in-Some-Net-clause-right c =
-    still_told (chips_in c.args.entries.now c.args.blocks) c.args.told.now c.add.new.self (c.in-Some-Net.name.now ∷ []) c.requires.right c.in_ok-add-in-Some-Net.ensures.passed c.in_ok-add-in-Some-Net.ensures.names
+    still_told (chips_in c.args.entries.now c.args.memories) c.args.told.now c.add.new.self (c.in-Some-Net.name.now ∷ []) c.requires.right c.in_ok-add-in-Some-Net.ensures.passed c.in_ok-add-in-Some-Net.ensures.names
 
 pub returns-in_ok-note-in-Some-Passed-clause-right : goal.returns-in_ok-note-in-Some-Passed-clause-right
 returns-in_ok-note-in-Some-Passed-clause-right c =
-    let chips = chips_in c.args.entries.now c.args.blocks in
+    let chips = chips_in c.args.entries.now c.args.memories in
     let p = c.in-Some-Passed.passage in
     let e : c.args.tasks.now.items ≡ c.pop.new.self.items ++ tasks.Passed p ∷ [] = (rw c.in-Some-Passed.field-0-is at c.in-Some-Passed.ensures.items) in
     let top = from_top c.args.tasks.now.items c.pop.new.self.items (tasks.Passed p) e in

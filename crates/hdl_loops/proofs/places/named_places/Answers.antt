@@ -4,13 +4,13 @@ use Rattle.name_table.specs.Names.{find_value}
 use Rattle.name_table.specs.Tables.{table_of}
 use Rattle.hdl_check.specs.Inner.Progress.{numbered_entries}
 use Rattle.name_table.proofs.Entries.{front_next}
-use Rattle.hdl_loops.proofs.places.places_of.Goals as goal
+use Rattle.hdl_loops.proofs.places.named_places.Goals as goal
 
 pub loop-entry-preserved : goal.loop-entry-preserved
 loop-entry-preserved c =
     let rest : c.loop-entry.rest.now ≡ c.in-Some.entry.now ∷ c.in-Some.others.now = c.in-Some.ensures.cases.0 in
     let on : c.loop-entry.k + 1 ≡ suc c.loop-entry.k = omega arith in
-    let t = table_of c.loop-entry.places in
+    let t = table_of c.loop-entry.names in
     record {
       left = λ x.
           ap (λ n. find_value x (table_of c.enter.new.self ++ numbered_entries n c.in-Some.others.now)) on
